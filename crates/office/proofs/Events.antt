@@ -1,0 +1,281 @@
+-- What one more event on a connection changes in what the trace says, and how what is kept follows it.
+use Rattle.std.proofs.Common.{◌≡◌, ℕ, ◌+◌, ◌<◌, ◌≤◌, Bool, true, false, not, ◌&&◌, cond, List, [], ◌∷◌, ◌++◌, drop, length, map, refl, sym, ◌∙◌, ap, ap₂, ⊎_elim, arith, append_assoc, Option, Some, None, IsSome, slice_get, append-nil, eqb, ◌==◌, subst, eq-eqb, ne_eqb, string_bytes, nat_cmp, nat_lt, lt-ltb, le-ltb, length-drop, drop-drop}
+use Rattle.std.proofs.lemmas.List.{drop_all}
+use Rattle.std.proofs.lemmas.Bool.{cases_Bool, cases_eq}
+use Rattle.std.proofs.lemmas.Bool.Decides.{nat_tests}
+use Rattle.std.specs.BTreeMap.{get, is_at}
+use Rattle.popline.specs.Cutting.{Cut, cut_of, cut, pieces, onto_first}
+use Rattle.popline.specs.Cutting.{coming, shown, has_newline, prefixed, begun}
+use Rattle.office.specs.History.{Act, Tag, Done, NoMemory, told, connected, closing, acted, sent, boot_and_host}
+use Rattle.office.specs.Events.{Trace, Bytes, Took, Tagged}
+use Rattle.office.specs.Trace.{opened, idle_seconds, stream, taken, acts, history, line_act, act_of_part, acts_of_piece, acts_of_took, next_line, is_left, is_empty, is_open}
+use Rattle.office.specs.Outcomes.{most_in_a_piece, ignored}
+use Rattle.office.specs.Kept.{Kept, answered}
+use Rattle.office.specs.Stands.{Seen, seen, Matches, IsKeptFor, is_seen_open, untaken_of, StandsFor}
+use Rattle.office.specs.declared.office.Office.{Office}
+use Rattle.office.proofs.Hearing.{streamed, took, lined, at_drop, part_heard, line_heard, acts_next, none_next, Awaits, open_still}
+
+-- what a history says of a connection, and of the office as a whole
+pub record Facts : Type 0 where
+  pub connected : Bool
+  pub closing : Bool
+  pub acted : ℕ
+  pub sent : List ℕ
+  pub office : ℕ × List ℕ
+
+abbrev pub facts : List (Act × Tag) → ℕ → Facts
+facts H q = record { connected = connected (told H) q; closing = closing (told H) q; acted = acted (told H) q; sent = sent (told H) q; office = boot_and_host (told H) }
+
+abbrev seen_by : List ℕ → ℕ → Facts → Seen
+seen_by octets took f = record { connected = f.connected; closing = f.closing; stream = octets; acted = f.acted; sent = f.sent; taken = took }
+
+-- ---- a line is nothing to another connection
+
+line_other : (H : List (Act × Tag)) (c q : ℕ) (t : Tag) (o : Option Cut) → eqb c q ≡ false → facts (line_act c t o ++ H) q ≡ facts H q
+line_other H c q t None e = refl
+line_other H c q Done (Some x) e = rw e refl
+line_other H c q NoMemory (Some x) e = rw e refl
+
+piece_other : (H : List (Act × Tag)) (c q : ℕ) (t : Tag) (o : Option Cut) (b : Bool) → eqb c q ≡ false → facts (acts_of_piece b c t o ++ H) q ≡ facts H q
+piece_other H c q t o true e = line_other H c q t o e
+piece_other H c q t o false e = refl
+
+part_other : (H : List (Act × Tag)) (c q : ℕ) (t : Tag) → eqb c q ≡ false → facts (act_of_part c t ++ H) q ≡ facts H q
+part_other H c q Done e = refl
+part_other H c q NoMemory e = rw e refl
+
+took_other : (H : List (Act × Tag)) (c q : ℕ) (t : Tag) (o : Option Cut) (a b : Bool) → eqb c q ≡ false → facts (acts_of_took a b c t o ++ H) q ≡ facts H q
+took_other H c q t o true b e = part_other H c q t e
+took_other H c q t o false true e = refl
+took_other H c q t o false false e = line_other H c q t o e
+
+-- ---- nor to the office as a whole
+
+line_office : (H : List (Act × Tag)) (c : ℕ) (t : Tag) (o : Option Cut) → boot_and_host (told (line_act c t o ++ H)) ≡ boot_and_host (told H)
+line_office H c t None = refl
+line_office H c t (Some x) = refl
+
+piece_office : (H : List (Act × Tag)) (c : ℕ) (t : Tag) (o : Option Cut) (b : Bool) → boot_and_host (told (acts_of_piece b c t o ++ H)) ≡ boot_and_host (told H)
+piece_office H c t o true = line_office H c t o
+piece_office H c t o false = refl
+
+took_office : (H : List (Act × Tag)) (c : ℕ) (t : Tag) (o : Option Cut) (a b : Bool) → boot_and_host (told (acts_of_took a b c t o ++ H)) ≡ boot_and_host (told H)
+took_office H c Done o true b = refl
+took_office H c NoMemory o true b = refl
+took_office H c t o false true = refl
+took_office H c t o false false = line_office H c t o
+
+-- ---- a piece
+
+pub seen-bytes_other : (T : Trace) (c q : ℕ) (p : List ℕ) (t : Tag) → eqb c q ≡ false → seen ((Bytes c p, Tagged t) ∷ T) q ≡ seen T q
+seen-bytes_other T c q p t e =
+    let s : stream ((Bytes c p, Tagged t) ∷ T) q ≡ stream T q = rw e refl in
+    ap₂ (λ octets f. seen_by octets (taken T q) f) s (piece_other (acts T) c q t (next_line T (history T) c p) (has_newline p) e)
+
+pub office-bytes : (T : Trace) (c : ℕ) (p : List ℕ) (t : Tag) → boot_and_host (history ((Bytes c p, Tagged t) ∷ T)) ≡ boot_and_host (history T)
+office-bytes T c p t = piece_office (acts T) c t (next_line T (history T) c p) (has_newline p)
+
+pub seen-bytes_part : (T : Trace) (c : ℕ) (p : List ℕ) → has_newline p ≡ false → seen ((Bytes c p, Tagged Done) ∷ T) c ≡ streamed (seen T c) p
+seen-bytes_part T c p h = let e = eq-eqb c c refl in rw (h, e) refl
+
+pub seen-bytes_line : (T : Trace) (c : ℕ) (p : List ℕ) (x : Cut) → has_newline p ≡ true → next_line T (history T) c p ≡ Some x
+    → seen ((Bytes c p, Tagged Done) ∷ T) c ≡ lined (streamed (seen T c) p) x
+seen-bytes_line T c p x h n = let e = eq-eqb c c refl in rw (h, n, e) refl
+
+pub closed-bytes : (T : Trace) (c : ℕ) (p : List ℕ) (x : Cut) → has_newline p ≡ true → next_line T (history T) c p ≡ Some x
+    → is_seen_open (seen ((Bytes c p, Tagged NoMemory) ∷ T) c) ≡ false
+closed-bytes T c p x h n = let e = eq-eqb c c refl in rw (h, n, e) refl
+
+-- ---- a LF in a piece makes a line
+
+some_onto : (b : ℕ) (ps : List (List ℕ)) (q : List ℕ) (qs : List (List ℕ)) → ps ≡ q ∷ qs → (r : List ℕ) × (rs : List (List ℕ)) × (onto_first b ps ≡ r ∷ rs)
+some_onto b ps q qs e = rw e (b ∷ q, qs, refl)
+
+some_more : (b : ℕ) (bs : List ℕ) (t : Bool) → cond t true (has_newline bs) ≡ true → (has_newline bs ≡ true → (q : List ℕ) × (qs : List (List ℕ)) × (pieces bs ≡ q ∷ qs))
+    → (r : List ℕ) × (rs : List (List ℕ)) × (cond t ([] ∷ pieces bs) (onto_first b (pieces bs)) ≡ r ∷ rs)
+some_more b bs true e rest = ([], pieces bs, refl)
+some_more b bs false e rest = let h = rest e in some_onto b (pieces bs) h.0 h.1 h.2
+
+pieces_some : (p : List ℕ) → has_newline p ≡ true → (q : List ℕ) × (qs : List (List ℕ)) × (pieces p ≡ q ∷ qs)
+pieces_some [] e = cc
+pieces_some (b ∷ bs) e = some_more b bs (b == 10) e (pieces_some bs)
+
+pub next_there : (s : Seen) (k : Kept) (p : List ℕ) → Awaits s k p → has_newline p ≡ true → (x : Cut) × (slice_get (cut s.stream) s.acted ≡ Some x)
+next_there s k p m h =
+    let q = pieces_some p h in
+    let e : drop s.acted (cut s.stream) ≡ cut_of (begun k.held ++ q.0) ∷ map cut_of q.1 =
+    ap (λ r. drop s.acted (cut r)) (sym (append-nil s.stream)) ∙ (m.lines [] ∙ (ap (λ r. coming k.held r) (append-nil p) ∙ ap (λ ps. map cut_of (prefixed (begun k.held) ps)) q.2)) in
+    (cut_of (begun k.held ++ q.0), (at_drop s.acted (cut s.stream) _ _ e).0)
+
+-- ---- the office as a whole
+
+pub is_apart : (c q : ℕ) → (c ≡ q → ⊥) → is_at (nat_cmp c) q ≡ false
+is_apart c q h = grind (arith, nat_tests)
+
+-- where only one connection changes, it is enough to look at that
+pub moved : {V : Type 0} (o o' : Office V) (T T' : Trace) (c : ℕ) → StandsFor o T → o'.boot ≡ o.boot → string_bytes o'.host ≡ string_bytes o.host → o'.limits ≡ o.limits → o'.opened ≡ o.opened
+    → boot_and_host (history T') ≡ boot_and_host (history T) → idle_seconds T' ≡ idle_seconds T → opened T' ≡ opened T → IsSome (get nat_cmp o.links c)
+    → ((q : ℕ) → eqb c q ≡ false → seen T' q ≡ seen T q) → ((q : ℕ) → (c ≡ q → ⊥) → get nat_cmp o'.links q ≡ get nat_cmp o.links q)
+    → IsKeptFor (seen T' c) (get nat_cmp o'.links c) → StandsFor o' T'
+moved o o' T T' c st b h l n office idle number there others links here = record {
+  boot = b ∙ (st.boot ∙ ap (λ (p : ℕ × List ℕ). p.0) (sym office));
+  host = h ∙ (st.host ∙ ap (λ (p : ℕ × List ℕ). p.1) (sym office));
+  idle = l ∙ (st.idle ∙ sym idle);
+  numbered = λ q. ⊎_elim
+      (λ (e : c ≡ q) some. rw (number, sym e) (st.numbered c there))
+      (λ (ne : c ≡ q → ⊥) some. rw number (st.numbered q (rw (links q ne) at some)))
+      (cases_eq c q);
+  opened = n ∙ (st.opened ∙ sym number);
+  links = λ q. ⊎_elim
+      (λ (e : c ≡ q). subst (λ q. IsKeptFor (seen T' q) (get nat_cmp o'.links q)) e here)
+      (λ (ne : c ≡ q → ⊥). rw (others q (ne_eqb c q ne), links q ne) (st.links q))
+      (cases_eq c q);
+}
+
+-- a piece that comes where nothing is owed
+pub awaits_bytes : (s : Seen) (k : Kept) (p : List ℕ) → Matches s k → k.owed ≡ [] → length p ≤ most_in_a_piece → Awaits (streamed s p) k p
+awaits_bytes s k p m o fits = record {
+  opened = m.opened;
+  taken = m.taken;
+  nothing = o;
+  owed = sym m.owed ∙ o;
+  closing = m.closing;
+  lines = λ more. rw append_assoc (m.lines (p ++ more) ∙ ap (λ q. coming k.held (q ++ (p ++ more))) (m.cut_whole o));
+  piece = fits;
+}
+
+pub heard : (T : Trace) (c : ℕ) (p : List ℕ) (k k' : Kept) → Awaits (streamed (seen T c) p) k p → k' ≡ answered k p
+    → ((more : List ℕ) → coming k.held (p ++ more) ≡ shown k'.held ++ coming k'.held (k'.pending ++ more)) → Matches (seen ((Bytes c p, Tagged Done) ∷ T) c) k'
+heard T c p k k' m e law = let s = streamed (seen T c) p in ⊎_elim
+    (λ h. rw (seen-bytes_line T c p (cut_of k'.held.octets) h (acts_next s k k' p m e law h)) (line_heard s k k' p m e law h))
+    (λ h. rw (seen-bytes_part T c p h) (part_heard s k k' p m e law h))
+    (cases_Bool (has_newline p))
+
+-- ---- a Took
+
+pub seen-took_other : (T : Trace) (c q n : ℕ) (t : Tag) → eqb c q ≡ false → seen ((Took c n, Tagged t) ∷ T) q ≡ seen T q
+seen-took_other T c q n t e =
+    let k : taken ((Took c n, Tagged t) ∷ T) q ≡ taken T q = rw e refl in
+    ap₂ (λ m f. seen_by (stream T q) m f) k (took_other (acts T) c q t (next_line T (history T) c []) (is_left T (history T) c n) (closing (history T) c) e)
+
+pub office-took : (T : Trace) (c n : ℕ) (t : Tag) → boot_and_host (history ((Took c n, Tagged t) ∷ T)) ≡ boot_and_host (history T)
+office-took T c n t = took_office (acts T) c t (next_line T (history T) c []) (is_left T (history T) c n) (closing (history T) c)
+
+-- what the trace says of a connection after its Took, by whether something is left, whether it is closing, and its next line
+abbrev after_took : (T : Trace) (c n : ℕ) (t : Tag) (a b : Bool) (o : Option Cut) → Seen
+after_took T c n t a b o = seen_by (stream T c) (taken T c + n) (facts (acts_of_took a b c t o ++ acts T) c)
+
+module _ (T : Trace) (c n : ℕ) where
+  seen-took : (t : Tag) (a b : Bool) (o : Option Cut) → is_left T (history T) c n ≡ a → closing (history T) c ≡ b
+      → next_line T (history T) c [] ≡ o → seen ((Took c n, Tagged t) ∷ T) c ≡ after_took T c n t a b o
+  seen-took t a b o p q r =
+      let x = is_left T (history T) c n in
+      let y = closing (history T) c in
+      let z = next_line T (history T) c [] in
+      ap (λ k. seen_by (stream T c) (cond k (taken T c + n) (taken T c)) (facts (acts_of_took x y c t z ++ acts T) c)) (eq-eqb c c refl)
+      ∙ (ap (λ a. after_took T c n t a y z) p ∙ (ap (λ b. after_took T c n t a b z) q ∙ ap (λ o. after_took T c n t a b o) r))
+
+  -- some of what is owed is taken
+  pub seen-took_part : is_left T (history T) c n ≡ true → seen ((Took c n, Tagged Done) ∷ T) c ≡ took (seen T c) n
+  seen-took_part h = seen-took Done true (closing (history T) c) (next_line T (history T) c []) h refl refl
+
+  -- all is taken, and no line acts
+  pub seen-took_closing : is_left T (history T) c n ≡ false → closing (history T) c ≡ true → seen ((Took c n, Tagged Done) ∷ T) c ≡ took (seen T c) n
+  seen-took_closing h b = seen-took Done false true (next_line T (history T) c []) h b refl
+
+  pub seen-took_none : is_left T (history T) c n ≡ false → closing (history T) c ≡ false
+      → next_line T (history T) c [] ≡ None → seen ((Took c n, Tagged Done) ∷ T) c ≡ took (seen T c) n
+  seen-took_none h b o = seen-took Done false false None h b o
+
+  -- all is taken, and a line acts
+  pub seen-took_line : (x : Cut) → is_left T (history T) c n ≡ false → closing (history T) c ≡ false
+      → next_line T (history T) c [] ≡ Some x → seen ((Took c n, Tagged Done) ∷ T) c ≡ lined (took (seen T c) n) x
+  seen-took_line x h b o = let e = eq-eqb c c refl in seen-took Done false false (Some x) h b o ∙ rw e refl
+
+  pub closed-took : (x : Cut) → is_left T (history T) c n ≡ false → closing (history T) c ≡ false
+      → next_line T (history T) c [] ≡ Some x → is_seen_open (seen ((Took c n, Tagged NoMemory) ∷ T) c) ≡ false
+  closed-took x h b o = let e = eq-eqb c c refl in ap is_seen_open (seen-took NoMemory false false (Some x) h b o) ∙ rw e refl
+
+-- ---- what is kept, at a Took
+
+taken_fits : (s : Seen) (n : ℕ) → n ≤ length (untaken_of s) → s.taken ≤ length s.sent → s.taken + n ≤ length s.sent
+taken_fits s n h le = omega (arith, h, length-drop s.taken s.sent)
+
+owed_took : (s : Seen) (n : ℕ) → untaken_of (took s n) ≡ drop n (untaken_of s)
+owed_took s n = sym (drop-drop n s.taken s.sent)
+
+open_connected : (a b : Bool) → (a && not b) ≡ true → a ≡ true
+open_connected true b e = refl
+open_connected false b e = e
+
+open_quiet : (a b : Bool) → a ≡ true → (a && not (false && b)) ≡ true
+open_quiet true b e = refl
+open_quiet false b e = e
+
+never : (a : Bool) → (a && false) ≡ false
+never true = refl
+never false = refl
+
+-- a Took of a part
+pub left_over : (s : Seen) (k : Kept) (n : ℕ) → n < length (untaken_of s) → nat_lt (s.taken + n) (length s.sent) ≡ true
+left_over s k n h = lt-ltb (s.taken + n) (length s.sent) (omega (arith, h, length-drop s.taken s.sent))
+
+pub all_over : (s : Seen) (n : ℕ) → length (untaken_of s) ≤ n → nat_lt (s.taken + n) (length s.sent) ≡ false
+all_over s n h = le-ltb (s.taken + n) (length s.sent) (omega (arith, h, length-drop s.taken s.sent))
+
+not_empty : (xs : List ℕ) → 0 < length xs → is_empty xs ≡ false
+not_empty [] h = absurd (omega arith)
+not_empty (x ∷ xs) h = refl
+
+pub part_took : (s : Seen) (k : Kept) (n : ℕ) → Matches s k → n < length (untaken_of s) → Matches (took s n) (record k { owed = drop n k.owed })
+part_took s k n m h =
+    let o = owed_took s n in
+    let some : 0 < length (drop n (untaken_of s)) = omega (arith, h, length-drop n (untaken_of s)) in
+    let e = not_empty (drop n (untaken_of s)) some in
+    record {
+      opened = rw (o, e) (open_still s.connected (s.closing && is_empty (untaken_of s)) s.closing m.opened);
+      taken = taken_fits s n (omega (arith, h)) m.taken;
+      owed = ap (drop n) m.owed ∙ sym o;
+      closing = m.closing;
+      lines = m.lines;
+      cut_whole = λ none. absurd (omega (arith, some, ap length (ap (drop n) (sym m.owed) ∙ none)));
+      line_kept = m.line_kept;
+      piece_kept = m.piece_kept;
+    }
+
+-- all is taken, and the connection isn't closing
+pub awaits_took : (s : Seen) (k : Kept) (n : ℕ) → Matches s k → n ≡ length (untaken_of s) → s.closing ≡ false → Awaits (took s n) (record k { owed = drop n k.owed }) k.pending
+awaits_took s k n m e b =
+    let le : length (untaken_of s) ≤ n = omega (arith, e) in
+    let none : drop n (untaken_of s) ≡ [] = drop_all n (untaken_of s) le in
+    record {
+      opened = rw b (open_quiet s.connected (is_empty (untaken_of (took s n))) (open_connected s.connected (s.closing && is_empty (untaken_of s)) m.opened));
+      taken = taken_fits s n (omega (arith, e)) m.taken;
+      nothing = ap (drop n) m.owed ∙ none;
+      owed = owed_took s n ∙ none;
+      closing = m.closing;
+      lines = m.lines;
+      piece = m.piece_kept;
+    }
+
+-- all is taken, and the connection is closing
+pub closed_took : (s : Seen) (n : ℕ) → length (untaken_of s) ≤ n → s.closing ≡ true → is_seen_open (took s n) ≡ false
+closed_took s n le b = let none : drop n (untaken_of s) ≡ [] = drop_all n (untaken_of s) le in rw (owed_took s n, none, b) (never s.connected)
+
+-- no octet more is no other stream
+pub next_kept : (T : Trace) (c : ℕ) → next_line T (history T) c [] ≡ slice_get (cut (stream T c)) (acted (history T) c)
+next_kept T c = ap (λ octets. slice_get (cut octets) (acted (history T) c)) (append-nil (stream T c))
+
+pub resumed : (T : Trace) (c n : ℕ) (k k' : Kept) → Awaits (took (seen T c) n) k k.pending → is_left T (history T) c n ≡ false → closing (history T) c ≡ false
+    → k' ≡ answered k k.pending → ((more : List ℕ) → coming k.held (k.pending ++ more) ≡ shown k'.held ++ coming k'.held (k'.pending ++ more)) → Matches (seen ((Took c n, Tagged Done) ∷ T) c) k'
+resumed T c n k k' m left open_yet e law = let s = took (seen T c) n in ⊎_elim
+    (λ h. rw (seen-took_line T c n (cut_of k'.held.octets) left open_yet (next_kept T c ∙ acts_next s k k' k.pending m e law h)) (line_heard s k k' k.pending m e law h))
+    (λ h. rw (seen-took_none T c n left open_yet (next_kept T c ∙ none_next s k k' k.pending m e law h)) (part_heard s k k' k.pending m e law h))
+    (cases_Bool (has_newline k.pending))
+
+-- a taking of what is lent is not ignored
+pub took_goes : (T : Trace) (lent : ℕ → ℕ) (c n : ℕ) → is_open T c ≡ true → 0 < n → n ≤ lent c → ignored T lent (Took c n) ≡ None
+took_goes T lent c n o p q =
+    let some : (n == 0) ≡ false = grind (arith, nat_tests, p) in
+    let within : nat_lt (lent c) n ≡ false = le-ltb (lent c) n q in
+    rw (o, some, within) refl

@@ -1,0 +1,4 @@
+mod Hearing
+mod Events
+mod Counting
+mod Running

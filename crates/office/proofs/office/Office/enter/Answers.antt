@@ -1,0 +1,14 @@
+use Rattle.std.proofs.Common.{◌≡◌, is_ok, sym, rules, true}
+use Rattle.office.proofs.Running.{may_lend}
+use Rattle.office.proofs.office.Office.enter.Goals as goal
+
+pub returns-clause-ok : goal.returns-clause-ok
+returns-clause-ok g c = λ T st.
+    let room : is_ok c.push.result ≡ true = c.push.ensures.succeeds (search rules) in
+    let items = c.push.ensures.items in
+    record {
+      step = c.new.result;
+      entered = rw (sym c.in_ok-reserve.ensures.items) (rw room at items);
+      is = record { lent = _; may_lend = may_lend c.args.self.now T st; outcome = rw c.new.ensures (c.step-outcome.ensures.outcome T st); octets = rw c.new.ensures (c.in_ok-octets.ensures T c.step-outcome.result st (c.step-outcome.ensures.outcome T st)) };
+      stands = rw c.new.ensures (c.step-outcome.ensures.stands T st);
+    }

@@ -1,0 +1,81 @@
+-- When an office stands for a trace: what it keeps of each connection and of the whole is what the trace says.
+use Rattle.std.specs.Prelude.{◌≡◌, ℕ, Bool, true, false, ◌≤◌, List, [], ◌++◌, length, drop, Option, Some, None, IsSome, string_bytes}
+use Rattle.std.specs.Ordering.{nat_cmp}
+use Rattle.std.specs.BTreeMap.{get}
+use Rattle.popline.specs.Cutting.{cut}
+use Rattle.popline.specs.Cutting.{coming}
+use Rattle.office.specs.History.{connected, closing, acted, sent, boot_and_host}
+use Rattle.office.specs.Events.{Trace}
+use Rattle.office.specs.Trace.{history, opened, idle_seconds, stream, taken, is_open_by}
+use Rattle.office.specs.Outcomes.{most_in_a_piece}
+use Rattle.office.specs.Kept.{Kept}
+use Rattle.office.specs.declared.office.Office.{Office}
+
+-- what a trace says of one connection
+pub record Seen : Type 0 where
+  pub connected : Bool
+  pub closing : Bool
+  pub stream : List ℕ
+  pub acted : ℕ
+  pub sent : List ℕ
+  pub taken : ℕ
+
+abbrev pub seen : Trace → ℕ → Seen
+seen T c = record {
+  connected = connected (history T) c;
+  closing = closing (history T) c;
+  stream = stream T c;
+  acted = acted (history T) c;
+  sent = sent (history T) c;
+  taken = taken T c;
+}
+
+abbrev pub untaken_of : Seen → List ℕ
+untaken_of s = drop s.taken s.sent
+
+abbrev pub is_seen_open : Seen → Bool
+is_seen_open s = is_open_by s.connected s.closing (untaken_of s)
+
+-- how many octets of a line are kept
+abbrev pub most_in_a_line : ℕ
+most_in_a_line = 255
+
+-- what is kept of an open connection is what the trace says of it
+pub record Matches (s : Seen) (k : Kept) : Type 0 where
+  pub opened : is_seen_open s ≡ true
+  pub taken : s.taken ≤ length s.sent
+  pub owed : k.owed ≡ untaken_of s
+  pub closing : k.closing ≡ s.closing
+  -- however the stream goes on, the lines that are left of it are those that come from what is kept
+  pub lines : (more : List ℕ) → drop s.acted (cut (s.stream ++ more)) ≡ coming k.held (k.pending ++ more)
+  -- what was kept was cut, where nothing is owed
+  pub cut_whole : k.owed ≡ [] → k.pending ≡ []
+  -- it keeps at most a line and a piece of input: 255 + 4,096 octets
+  pub line_kept : length k.held.octets ≤ most_in_a_line
+  pub piece_kept : length k.pending ≤ most_in_a_piece
+
+-- a connection that isn't kept isn't open
+abbrev pub IsKeptFor : Seen → Option Kept → Type 0
+IsKeptFor s None = is_seen_open s ≡ false
+IsKeptFor s (Some k) = Matches s k
+
+pub record StandsFor {V : Type 0} (o : Office V) (T : Trace) : Type 0 where
+  pub boot : o.boot ≡ (boot_and_host (history T)).0
+  pub host : string_bytes o.host ≡ (boot_and_host (history T)).1
+  pub idle : o.limits ≡ idle_seconds T
+  -- an open connection has one of the numbers that were given
+  pub numbered : (c : ℕ) → IsSome (get nat_cmp o.links c) → (1 ≤ c) × (c ≤ opened T)
+  pub opened : o.opened ≡ opened T
+  pub links : (c : ℕ) → IsKeptFor (seen T c) (get nat_cmp o.links c)
+
+-- how many octets an office lends a connection: all that it is owed
+abbrev pub length_of_lent : Option Kept → ℕ
+length_of_lent None = 0
+length_of_lent (Some k) = length k.owed
+
+abbrev pub lent_by : {V : Type 0} → Office V → ℕ → ℕ
+lent_by o c = length_of_lent (get nat_cmp o.links c)
+
+-- the vault that an office was opened over
+abbrev pub vault_of : {V : Type 0} → Office V → V
+vault_of o = o.vault

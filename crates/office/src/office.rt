@@ -1,0 +1,261 @@
+//! An office: one function for each event.
+ghost use Rattle.std.specs.Prelude.{◌≡◌, ◌<◌, ◌∷◌, ◌↔◌, not, true, false, ℕ, List, length, take, IfOk, IfErr, OnOk, OnErr, MatchResult};
+ghost use Rattle.office.specs.Events.{Trace, event_seen};
+ghost use Rattle.office.specs.Events as event;
+ghost use Rattle.office.specs.Trace.{rest, is_open, is_ready};
+ghost use Rattle.office.specs.Outcomes.{IsOutcome, IsLent, given, is_full, mark_of};
+ghost use Rattle.creds.specs.Names.{is_host};
+ghost use Rattle.office.specs.History.{Done};
+ghost use Rattle.office.specs.Stands.{StandsFor, lent_by, vault_of};
+ghost use Rattle.office.specs.Runs.{Step as Shown, Follows, Enters, octets_taken, done_before};
+
+use crate::link::Link;
+use crate::{Event, Limits, Outcome, Reason, RunFault, Step, Transcript, Vault};
+use creds::HostName;
+use std::alloc::{AllocError, Global};
+use std::collections::BTreeMap;
+
+/// How many connections may be open at once.
+const MOST_OPEN: usize = 1;
+/// How many octets a piece may have.
+const MOST_IN_A_PIECE: usize = 4096;
+
+/// Why an office wasn't opened.
+#[derive(Clone, Copy, Debug, PartialEq, Eq)]
+pub enum OpenFault {
+    /// The host's name isn't one.
+    BadHost,
+    NoMemory,
+}
+
+/// An office over a vault.
+#[derive(Drop)]
+pub struct Office<V: Vault> {
+    alloc: Global,
+    vault: V,
+    boot: u64,
+    host: String,
+    limits: Limits,
+    /// How many connections were opened.
+    opened: u64,
+    links: BTreeMap<u64, Link>,
+}
+
+impl<V: Vault> Office<V> {
+    /// Opens an office over a vault, under a host's name and the number of this start. No connection is open.
+    ///
+    /// `BadHost` exactly where the host isn't of 1 to 64 octets of `a-z`, `0-9`, `.` and `-`, no part between dots empty or
+    /// with `-` at an end. After a fault the vault comes back as it was.
+    pub fn open(
+        alloc: Global,
+        vault: V,
+        host: &str,
+        boot: u64,
+        limits: Limits,
+    ) -> Result<Office<V>, (OpenFault, V)>
+        ensures opened { IfOk result (λ office. (T : Trace) → StandsFor office ((event.Start host.now boot limits, event.Tagged Done) ∷ T)) }
+        ensures host { MatchResult result (λ _. is_host host.now ≡ true) (λ e. (e.0 ≡ OpenFault.BadHost) ↔ (is_host host.now ≡ false)) }
+        ensures vault { MatchResult result (λ office. vault_of office ≡ vault) (λ e. e.1 ≡ vault) }
+    {
+        if HostName::read(host.as_bytes()).is_none() {
+            return Err((OpenFault::BadHost, vault));
+        }
+        let Ok(host) = String::from_str(alloc, host) else {
+            return Err((OpenFault::NoMemory, vault));
+        };
+        Ok(Office {
+            alloc,
+            vault,
+            boot,
+            host,
+            limits,
+            opened: 0,
+            links: BTreeMap::new(alloc),
+        })
+    }
+
+    /// Whether no further connection may be opened.
+    fn is_full(&self) -> bool
+        ensures value { (T : Trace) → StandsFor self.now T → result ≡ is_full T }
+        ensures room { result ≡ false → self.now.opened < u64.MAX }
+    {
+        self.links.len() >= MOST_OPEN || self.opened == u64::MAX
+    }
+
+    fn connect(&mut self) -> Outcome
+        ensures stands { (T : Trace) → StandsFor self.old T → StandsFor self.new (given T event.Connect result) }
+        ensures outcome { (T : Trace) → StandsFor self.old T → IsOutcome T (lent_by self.old) event.Connect result }
+        ensures vault { vault_of self.new ≡ vault_of self.old }
+    {
+        if self.is_full() {
+            return Outcome::Ignored(Reason::TooManyConnections);
+        }
+        let c = self.opened + 1;
+        let Ok(link) = Link::open(self.alloc, c, self.boot, self.host.as_str()) else {
+            return Outcome::NoMemory;
+        };
+        if self.links.insert(c, link).is_err() {
+            return Outcome::NoMemory;
+        }
+        self.opened = c;
+        Outcome::Opened(c)
+    }
+
+    fn bytes(&mut self, c: u64, piece: &[u8]) -> Outcome
+        ensures stands { (T : Trace) → StandsFor self.old T → StandsFor self.new (given T (event.Bytes c piece.now) result) }
+        ensures outcome { (T : Trace) → StandsFor self.old T → IsOutcome T (lent_by self.old) (event.Bytes c piece.now) result }
+        ensures vault { vault_of self.new ≡ vault_of self.old }
+    {
+        let Some(link) = self.links.get_mut(&c) else {
+            return Outcome::Ignored(Reason::NoSuchConnection);
+        };
+        if !link.owed().is_empty() {
+            return Outcome::Ignored(Reason::NotReady);
+        }
+        if piece.len() > MOST_IN_A_PIECE {
+            return Outcome::Ignored(Reason::PieceTooLong);
+        }
+        match link.hear(self.alloc, piece) {
+            Ok(()) => Outcome::Done,
+            Err(_) => {
+                let _ = self.links.remove(&c);
+                Outcome::NoMemory
+            }
+        }
+    }
+
+    fn took(&mut self, c: u64, octets: usize) -> Outcome
+        ensures stands { (T : Trace) → StandsFor self.old T → StandsFor self.new (given T (event.Took c octets) result) }
+        ensures outcome { (T : Trace) → StandsFor self.old T → IsOutcome T (lent_by self.old) (event.Took c octets) result }
+        ensures vault { vault_of self.new ≡ vault_of self.old }
+    {
+        let Some(link) = self.links.get_mut(&c) else {
+            return Outcome::Ignored(Reason::NoSuchConnection);
+        };
+        let owed = link.owed().len();
+        if octets == 0 || octets > owed {
+            return Outcome::Ignored(Reason::NotReady);
+        }
+        link.take(octets);
+        if octets < owed {
+            return Outcome::Done;
+        }
+        if link.is_closing() {
+            let _ = self.links.remove(&c);
+            return Outcome::Done;
+        }
+        match link.resume(self.alloc) {
+            Ok(()) => Outcome::Done,
+            Err(_) => {
+                let _ = self.links.remove(&c);
+                Outcome::NoMemory
+            }
+        }
+    }
+
+    fn gone(&mut self, c: u64) -> Outcome
+        ensures stands { (T : Trace) → StandsFor self.old T → StandsFor self.new (given T (event.Gone c) result) }
+        ensures outcome { (T : Trace) → StandsFor self.old T → IsOutcome T (lent_by self.old) (event.Gone c) result }
+        ensures vault { vault_of self.new ≡ vault_of self.old }
+    {
+        match self.links.remove(&c) {
+            None => Outcome::Ignored(Reason::NoSuchConnection),
+            Some(_) => Outcome::Done,
+        }
+    }
+
+    /// Does one event.
+    pub fn step(&mut self, event: Event<'_>) -> Outcome
+        ensures stands { (T : Trace) → StandsFor self.old T → StandsFor self.new (given T (event_seen event.entry) result) }
+        ensures outcome { (T : Trace) → StandsFor self.old T → IsOutcome T (lent_by self.old) (event_seen event.entry) result }
+        ensures vault { vault_of self.new ≡ vault_of self.old }
+    {
+        match event {
+            Event::Connect => self.connect(),
+            Event::Bytes(c, piece) => self.bytes(c, piece),
+            Event::Took(c, octets) => self.took(c, octets),
+            Event::Gone(c) => self.gone(c),
+        }
+    }
+
+    /// Does events in order. The transcript has a step for each: its outcome, and the octets that it took.
+    ///
+    /// `NoMemory(done)` where the transcript couldn't grow: exactly the first `done` events are done.
+    pub fn run(&mut self, events: &[Event<'_>]) -> Result<Transcript, RunFault>
+        ensures ok { IfOk result (λ steps. (T : Trace) → StandsFor self.old T → Follows events.now steps T self.new) }
+        ensures err { IfErr result (λ e. (steps : List Shown) × ((T : Trace) → StandsFor self.old T → Follows (take (done_before e) events.now) steps T self.new)) }
+        ensures vault { vault_of self.new ≡ vault_of self.old }
+    {
+        let mut steps = Vec::new(self.alloc);
+        for (done, event) in events.iter().enumerate() {
+            match self.enter(*event, &mut steps) {
+                Ok(()) => {}
+                Err(_) => return Err(RunFault::NoMemory(done)),
+            }
+        }
+        Ok(Transcript::new(steps))
+    }
+
+    /// Does one event and enters its step; or neither.
+    fn enter(&mut self, event: Event<'_>, steps: &mut Vec<Step>) -> Result<(), AllocError>
+        ensures ok { OnOk result ((T : Trace) → StandsFor self.old T → Enters event.entry steps.old.items steps.new.items T self.new) }
+        ensures err { OnErr result (self.new ≡ self.old) }
+        ensures err_steps { OnErr result (steps.new.items ≡ steps.old.items) }
+        ensures vault { vault_of self.new ≡ vault_of self.old }
+    {
+        steps.reserve(1)?;
+        let octets = self.next_octets(event)?;
+        let outcome = self.step(event);
+        let _ = steps.push(Step::new(outcome, octets));
+        Ok(())
+    }
+
+    /// A copy of the octets that an event would take.
+    fn next_octets(&self, event: Event<'_>) -> Result<Vec<u8>, AllocError>
+        ensures { IfOk result (λ octets. (T : Trace) (outcome : Outcome) → StandsFor self.now T → IsOutcome T (lent_by self.now) (event_seen event.entry) outcome → octets.items ≡ octets_taken T (event_seen event.entry) (mark_of outcome)) }
+    {
+        let mut octets = Vec::new(self.alloc);
+        if let Event::Took(c, count) = event {
+            let lent = self.owed(c);
+            if count <= lent.len() {
+                octets.extend_from_slice(&lent[..count])?;
+            }
+        }
+        Ok(octets)
+    }
+
+    /// What a connection is lent of what it is owed: all of it. Nothing, where it isn't open.
+    pub fn owed(&self, c: u64) -> &[u8]
+        ensures lent { (T : Trace) → StandsFor self.now T → IsLent (rest T c) result.now }
+        ensures count { length result.now ≡ lent_by self.now c }
+    {
+        match self.links.get(&c) {
+            None => &[],
+            Some(link) => link.owed(),
+        }
+    }
+
+    /// Whether a connection is open and owed nothing: octets may come.
+    pub fn ready(&self, c: u64) -> bool
+        ensures { (T : Trace) → StandsFor self.now T → result ≡ is_ready T c }
+    {
+        match self.links.get(&c) {
+            None => false,
+            Some(link) => link.owed().is_empty(),
+        }
+    }
+
+    /// Whether a connection isn't open: it never was, or it ended.
+    pub fn ended(&self, c: u64) -> bool
+        ensures { (T : Trace) → StandsFor self.now T → result ≡ not (is_open T c) }
+    {
+        !self.links.contains_key(&c)
+    }
+
+    /// Ends the office, and gives its vault back.
+    pub fn into_vault(self) -> V
+        ensures { result ≡ vault_of self }
+    {
+        self.vault
+    }
+}

@@ -1,0 +1,41 @@
+//! The command line of popbox: its subcommands, their options and defaults.
+
+use clap::{Arg, Command, value_parser};
+use std::alloc::{AllocError, Global};
+
+/// `--host NAME`: the host name that greetings have.
+fn host<'a>(alloc: Global) -> Arg<'a> {
+    Arg::new(alloc, "host")
+        .long("host")
+        .value_name("NAME")
+        .help("The host name in greetings")
+        .default_value("localhost")
+}
+
+/// `--boot N`: the boot number that greetings have, below 2^64.
+fn boot<'a>(alloc: Global) -> Arg<'a> {
+    Arg::new(alloc, "boot")
+        .long("boot")
+        .value_name("N")
+        .help("The boot number in greetings")
+        .value_parser(value_parser!(u64))
+}
+
+/// `replay [--host NAME] [--boot N] [SCRIPT]`.
+fn replay<'a>(alloc: Global) -> Result<Command<'a>, AllocError> {
+    let script = Arg::new(alloc, "SCRIPT").help("The script's file, else standard input");
+    Command::new(alloc, "replay")
+        .about("Runs the events of a script, and prints what each gives")
+        .arg(host(alloc))?
+        .arg(boot(alloc).default_value("1"))?
+        .arg(script)
+}
+
+/// The whole command line.
+pub fn make_command<'a>(alloc: Global) -> Result<Command<'a>, AllocError> {
+    Command::new(alloc, "popbox")
+        .about("A POP3 server for shared maildrops")
+        .subcommand_required(true)
+        .arg_required_else_help(true)
+        .subcommand(replay(alloc)?)
+}

@@ -1,0 +1,4 @@
+pub mod Cutting
+pub mod Commands
+pub mod Replies
+pub mod Seen
