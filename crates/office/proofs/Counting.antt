@@ -9,8 +9,9 @@ use Rattle.std.specs.Map.{lookup, keys_of}
 use Rattle.std.specs.BTreeMap.{get, is_at, IsOrdered, btree_map_len}
 use Rattle.std.specs.declared.cmp.Ordering.TheVariants.{Less}
 use Rattle.office.specs.Events.{Trace}
-use Rattle.office.specs.Trace.{opened, is_open, open_numbers}
-use Rattle.office.specs.Outcomes.{is_full, most_open, most_number}
+use Rattle.office.specs.Log.{opened}
+use Rattle.office.specs.Trace.{is_open, open_numbers}
+use Rattle.office.specs.Expected.{is_full, most_open, most_number}
 use Rattle.office.specs.Kept.{Kept}
 use Rattle.office.specs.Stands.{Seen, seen, IsKeptFor, is_seen_open, StandsFor}
 use Rattle.office.specs.declared.office.Office.{Office}
@@ -95,7 +96,7 @@ kept_is_open s (Some k) m = sym m.opened
 pub open_numbers-len : {V : Type 0} (o : Office V) (T : Trace) → StandsFor o T → IsOrdered nat_cmp o.links → length (open_numbers T) ≡ btree_map_len o.links
 open_numbers-len o T st ordered =
     let there : (c : ℕ) → is_some (get nat_cmp o.links c) ≡ is_open T c = λ c. kept_is_open (seen T c) (get nat_cmp o.links c) (st.links c) in
-    count_of_keys (is_open T) (opened T) 1 o.links.entries
+    count_of_keys (is_open T) (opened T.log) 1 o.links.entries
     (ascends 1 o.links.entries ordered (λ k some. (st.numbered k some).0))
     (λ c h. there c)
     (λ c h. ⊎_elim (λ (e : is_open T c ≡ true). absurd (omega (arith, h, (st.numbered c (there c ∙ e)).1))) (λ (e : is_open T c ≡ false). e) (cases_Bool (is_open T c)))

@@ -4,87 +4,137 @@ use Rattle.std.proofs.lemmas.List.{drop_all}
 use Rattle.std.proofs.lemmas.Bool.{cases_Bool, cases_eq}
 use Rattle.std.proofs.lemmas.Bool.Decides.{nat_tests}
 use Rattle.std.specs.BTreeMap.{get, is_at}
-use Rattle.popline.specs.Cutting.{Cut, cut_of, cut, pieces, onto_first}
-use Rattle.popline.specs.Cutting.{coming, shown, has_newline, prefixed, begun}
-use Rattle.office.specs.History.{Act, Tag, Done, NoMemory, told, connected, closing, acted, sent, boot_and_host}
-use Rattle.office.specs.Events.{Trace, Bytes, Took, Tagged}
-use Rattle.office.specs.Trace.{opened, idle_seconds, stream, taken, acts, history, line_act, act_of_part, acts_of_piece, acts_of_took, next_line, is_left, is_empty, is_open}
-use Rattle.office.specs.Outcomes.{most_in_a_piece, ignored}
-use Rattle.office.specs.Kept.{Kept, answered}
+use Rattle.creds.specs.declared.login_name.LoginName.{LoginName}
+use Rattle.popline.specs.Cutting.{Cut, cut_of, cut, pieces, onto_first, coming, shown, has_newline, prefixed, begun}
+use Rattle.vault.specs.Records.{Records}
+use Rattle.vault.specs.declared.record.Clerk.{Clerk}
+use Rattle.office.specs.History.{Act, Tag, Done, Failed, NoMemory, clerks}
+use Rattle.office.specs.Connections.{user, failures, boot_and_host, connected, closing, acted, serving, sent}
+use Rattle.office.specs.Sessions.{live}
+use Rattle.office.specs.Replying.{is_empty, reply_to_cut}
+use Rattle.office.specs.Told.{told}
+use Rattle.office.specs.Events.{Trace, Event, Bytes, Took, Mark, Tagged, given}
+use Rattle.office.specs.Log.{opened, idle_seconds, stream, taken}
+use Rattle.office.specs.Trace.{acts, history, line_act, act_of_part, acts_of_piece, acts_of_took, next_line, is_left, is_open}
+use Rattle.office.specs.Expected.{most_in_a_piece, ignored}
+use Rattle.office.specs.Kept.{Kept, answered, spoken}
 use Rattle.office.specs.Stands.{Seen, seen, Matches, IsKeptFor, is_seen_open, untaken_of, StandsFor}
 use Rattle.office.specs.declared.office.Office.{Office}
+use Rattle.office.proofs.Outside.{reply_outside}
 use Rattle.office.proofs.Hearing.{streamed, took, lined, at_drop, part_heard, line_heard, acts_next, none_next, Awaits, open_still}
 
--- what a history says of a connection, and of the office as a whole
+-- what a history says of a connection
 pub record Facts : Type 0 where
   pub connected : Bool
   pub closing : Bool
+  pub live : Bool
   pub acted : ℕ
   pub sent : List ℕ
-  pub office : ℕ × List ℕ
+  pub user : Option LoginName
+  pub failures : ℕ
 
-abbrev pub facts : List (Act × Tag) → ℕ → Facts
-facts H q = record { connected = connected (told H) q; closing = closing (told H) q; acted = acted (told H) q; sent = sent (told H) q; office = boot_and_host (told H) }
+abbrev pub facts : Records → List (Act × Tag) → ℕ → Facts
+facts B H q = record {
+  connected = connected (told B H) q;
+  closing = closing (told B H) q;
+  live = live (told B H) q;
+  acted = acted (told B H) q;
+  sent = sent (told B H) q;
+  user = user (told B H) q;
+  failures = failures (told B H) q;
+}
+
+-- what it says of the office as a whole
+pub record Whole : Type 0 where
+  pub office : ℕ × List ℕ
+  pub clerks : List Clerk
+
+abbrev pub whole : Records → List (Act × Tag) → Whole
+whole B H = record { office = boot_and_host (told B H); clerks = clerks B (told B H) }
 
 abbrev seen_by : List ℕ → ℕ → Facts → Seen
-seen_by octets took f = record { connected = f.connected; closing = f.closing; stream = octets; acted = f.acted; sent = f.sent; taken = took }
+seen_by octets took f = record {
+  connected = f.connected;
+  closing = f.closing;
+  live = f.live;
+  stream = octets;
+  acted = f.acted;
+  sent = f.sent;
+  taken = took;
+  user = f.user;
+  failures = f.failures;
+}
 
--- ---- a line is nothing to another connection
+module _ (B : Records) where
+  -- ---- a line is nothing to another connection
 
-line_other : (H : List (Act × Tag)) (c q : ℕ) (t : Tag) (o : Option Cut) → eqb c q ≡ false → facts (line_act c t o ++ H) q ≡ facts H q
-line_other H c q t None e = refl
-line_other H c q Done (Some x) e = rw e refl
-line_other H c q NoMemory (Some x) e = rw e refl
+  line_other : (H : List (Act × Tag)) (c q : ℕ) (t : Tag) (o : Option Cut) → eqb c q ≡ false → facts B (line_act c t o ++ H) q ≡ facts B H q
+  line_other H c q t None e = refl
+  line_other H c q Done (Some x) e = rw e refl
+  line_other H c q Failed (Some x) e = rw e refl
+  line_other H c q NoMemory (Some x) e = rw e refl
 
-piece_other : (H : List (Act × Tag)) (c q : ℕ) (t : Tag) (o : Option Cut) (b : Bool) → eqb c q ≡ false → facts (acts_of_piece b c t o ++ H) q ≡ facts H q
-piece_other H c q t o true e = line_other H c q t o e
-piece_other H c q t o false e = refl
+  pub piece_other : (H : List (Act × Tag)) (c q : ℕ) (t : Tag) (o : Option Cut) (b : Bool) → eqb c q ≡ false → facts B (acts_of_piece b c t o ++ H) q ≡ facts B H q
+  piece_other H c q t o true e = line_other H c q t o e
+  piece_other H c q t o false e = refl
 
-part_other : (H : List (Act × Tag)) (c q : ℕ) (t : Tag) → eqb c q ≡ false → facts (act_of_part c t ++ H) q ≡ facts H q
-part_other H c q Done e = refl
-part_other H c q NoMemory e = rw e refl
+  part_other : (H : List (Act × Tag)) (c q : ℕ) (s : Bool) (t : Tag) → eqb c q ≡ false → facts B (act_of_part s c t ++ H) q ≡ facts B H q
+  part_other H c q true Done e = refl
+  part_other H c q false Done e = refl
+  part_other H c q true Failed e = rw e refl
+  part_other H c q false Failed e = refl
+  part_other H c q true NoMemory e = rw e refl
+  part_other H c q false NoMemory e = rw e refl
 
-took_other : (H : List (Act × Tag)) (c q : ℕ) (t : Tag) (o : Option Cut) (a b : Bool) → eqb c q ≡ false → facts (acts_of_took a b c t o ++ H) q ≡ facts H q
-took_other H c q t o true b e = part_other H c q t e
-took_other H c q t o false true e = refl
-took_other H c q t o false false e = line_other H c q t o e
+  pub took_other : (H : List (Act × Tag)) (c q : ℕ) (t : Tag) (o : Option Cut) (a s b : Bool) → eqb c q ≡ false → facts B (acts_of_took a s b c t o ++ H) q ≡ facts B H q
+  took_other H c q t o true s b e = part_other H c q s t e
+  took_other H c q t o false s true e = refl
+  took_other H c q t o false s false e = line_other H c q t o e
 
--- ---- nor to the office as a whole
+  -- ---- nor to the office as a whole
 
-line_office : (H : List (Act × Tag)) (c : ℕ) (t : Tag) (o : Option Cut) → boot_and_host (told (line_act c t o ++ H)) ≡ boot_and_host (told H)
-line_office H c t None = refl
-line_office H c t (Some x) = refl
+  line_whole : (H : List (Act × Tag)) (c : ℕ) (t : Tag) (o : Option Cut) → whole B (line_act c t o ++ H) ≡ whole B H
+  line_whole H c t None = refl
+  line_whole H c t (Some x) = refl
 
-piece_office : (H : List (Act × Tag)) (c : ℕ) (t : Tag) (o : Option Cut) (b : Bool) → boot_and_host (told (acts_of_piece b c t o ++ H)) ≡ boot_and_host (told H)
-piece_office H c t o true = line_office H c t o
-piece_office H c t o false = refl
+  pub piece_whole : (H : List (Act × Tag)) (c : ℕ) (t : Tag) (o : Option Cut) (b : Bool) → whole B (acts_of_piece b c t o ++ H) ≡ whole B H
+  piece_whole H c t o true = line_whole H c t o
+  piece_whole H c t o false = refl
 
-took_office : (H : List (Act × Tag)) (c : ℕ) (t : Tag) (o : Option Cut) (a b : Bool) → boot_and_host (told (acts_of_took a b c t o ++ H)) ≡ boot_and_host (told H)
-took_office H c Done o true b = refl
-took_office H c NoMemory o true b = refl
-took_office H c t o false true = refl
-took_office H c t o false false = line_office H c t o
+  part_whole : (H : List (Act × Tag)) (c : ℕ) (s : Bool) (t : Tag) → whole B (act_of_part s c t ++ H) ≡ whole B H
+  part_whole H c true Done = refl
+  part_whole H c false Done = refl
+  part_whole H c true Failed = refl
+  part_whole H c false Failed = refl
+  part_whole H c true NoMemory = refl
+  part_whole H c false NoMemory = refl
+
+  pub took_whole : (H : List (Act × Tag)) (c : ℕ) (t : Tag) (o : Option Cut) (a s b : Bool) → whole B (acts_of_took a s b c t o ++ H) ≡ whole B H
+  took_whole H c t o true s b = part_whole H c s t
+  took_whole H c t o false s true = refl
+  took_whole H c t o false s false = line_whole H c t o
 
 -- ---- a piece
 
-pub seen-bytes_other : (T : Trace) (c q : ℕ) (p : List ℕ) (t : Tag) → eqb c q ≡ false → seen ((Bytes c p, Tagged t) ∷ T) q ≡ seen T q
-seen-bytes_other T c q p t e =
-    let s : stream ((Bytes c p, Tagged t) ∷ T) q ≡ stream T q = rw e refl in
-    ap₂ (λ octets f. seen_by octets (taken T q) f) s (piece_other (acts T) c q t (next_line T (history T) c p) (has_newline p) e)
+module _ (T : Trace) (c : ℕ) (p : List ℕ) where
+  pub seen-bytes_other : (q : ℕ) (t : Tag) → eqb c q ≡ false → seen (given T (Bytes c p) (Tagged t)) q ≡ seen T q
+  seen-bytes_other q t e =
+      let s : stream (given T (Bytes c p) (Tagged t)).log q ≡ stream T.log q = rw e refl in
+      ap₂ (λ octets f. seen_by octets (taken T.log q) f) s (piece_other T.base (acts T) c q t (next_line T.log (history T) c p) (has_newline p) e)
 
-pub office-bytes : (T : Trace) (c : ℕ) (p : List ℕ) (t : Tag) → boot_and_host (history ((Bytes c p, Tagged t) ∷ T)) ≡ boot_and_host (history T)
-office-bytes T c p t = piece_office (acts T) c t (next_line T (history T) c p) (has_newline p)
+  pub whole-bytes : (t : Tag) → whole T.base (acts (given T (Bytes c p) (Tagged t))) ≡ whole T.base (acts T)
+  whole-bytes t = piece_whole T.base (acts T) c t (next_line T.log (history T) c p) (has_newline p)
 
-pub seen-bytes_part : (T : Trace) (c : ℕ) (p : List ℕ) → has_newline p ≡ false → seen ((Bytes c p, Tagged Done) ∷ T) c ≡ streamed (seen T c) p
-seen-bytes_part T c p h = let e = eq-eqb c c refl in rw (h, e) refl
+  pub seen-bytes_part : has_newline p ≡ false → seen (given T (Bytes c p) (Tagged Done)) c ≡ streamed (seen T c) p
+  seen-bytes_part h = let e = eq-eqb c c refl in rw (h, e) refl
 
-pub seen-bytes_line : (T : Trace) (c : ℕ) (p : List ℕ) (x : Cut) → has_newline p ≡ true → next_line T (history T) c p ≡ Some x
-    → seen ((Bytes c p, Tagged Done) ∷ T) c ≡ lined (streamed (seen T c) p) x
-seen-bytes_line T c p x h n = let e = eq-eqb c c refl in rw (h, n, e) refl
+  pub seen-bytes_line : (x : Cut) → has_newline p ≡ true → next_line T.log (history T) c p ≡ Some x
+      → seen (given T (Bytes c p) (Tagged Done)) c ≡ lined (streamed (seen T c) p) x (reply_to_cut T.base (history T) c x Done)
+  seen-bytes_line x h n = let e = eq-eqb c c refl in rw (h, n, e) refl
 
-pub closed-bytes : (T : Trace) (c : ℕ) (p : List ℕ) (x : Cut) → has_newline p ≡ true → next_line T (history T) c p ≡ Some x
-    → is_seen_open (seen ((Bytes c p, Tagged NoMemory) ∷ T) c) ≡ false
-closed-bytes T c p x h n = let e = eq-eqb c c refl in rw (h, n, e) refl
+  pub closed-bytes : (x : Cut) → has_newline p ≡ true → next_line T.log (history T) c p ≡ Some x
+      → is_seen_open (seen (given T (Bytes c p) (Tagged NoMemory)) c) ≡ false
+  closed-bytes x h n = let e = eq-eqb c c refl in rw (h, n, e) refl
 
 -- ---- a LF in a piece makes a line
 
@@ -113,13 +163,15 @@ pub is_apart : (c q : ℕ) → (c ≡ q → ⊥) → is_at (nat_cmp c) q ≡ fal
 is_apart c q h = grind (arith, nat_tests)
 
 -- where only one connection changes, it is enough to look at that
-pub moved : {V : Type 0} (o o' : Office V) (T T' : Trace) (c : ℕ) → StandsFor o T → o'.boot ≡ o.boot → string_bytes o'.host ≡ string_bytes o.host → o'.limits ≡ o.limits → o'.opened ≡ o.opened
-    → boot_and_host (history T') ≡ boot_and_host (history T) → idle_seconds T' ≡ idle_seconds T → opened T' ≡ opened T → IsSome (get nat_cmp o.links c)
-    → ((q : ℕ) → eqb c q ≡ false → seen T' q ≡ seen T q) → ((q : ℕ) → (c ≡ q → ⊥) → get nat_cmp o'.links q ≡ get nat_cmp o.links q)
-    → IsKeptFor (seen T' c) (get nat_cmp o'.links c) → StandsFor o' T'
-moved o o' T T' c st b h l n office idle number there others links here = record {
-  boot = b ∙ (st.boot ∙ ap (λ (p : ℕ × List ℕ). p.0) (sym office));
-  host = h ∙ (st.host ∙ ap (λ (p : ℕ × List ℕ). p.1) (sym office));
+pub moved : {V : Type 0} (o o' : Office V) (T : Trace) (e : Event) (m : Mark) (c : ℕ) → StandsFor o T → o'.boot ≡ o.boot → string_bytes o'.host ≡ string_bytes o.host → o'.limits ≡ o.limits → o'.opened ≡ o.opened
+    → whole T.base (acts (given T e m)) ≡ whole T.base (acts T) → idle_seconds (given T e m).log ≡ idle_seconds T.log → opened (given T e m).log ≡ opened T.log
+    → IsSome (get nat_cmp o.links c)
+    → ((q : ℕ) → eqb c q ≡ false → seen (given T e m) q ≡ seen T q) → ((q : ℕ) → (c ≡ q → ⊥) → get nat_cmp o'.links q ≡ get nat_cmp o.links q)
+    → IsKeptFor (seen (given T e m) c) (get nat_cmp o'.links c) → StandsFor o' (given T e m)
+moved o o' T e m c st b h l n same idle number there others links here = record {
+  no_clerks = ap (λ (w : Whole). w.clerks) same ∙ st.no_clerks;
+  boot = b ∙ (st.boot ∙ ap (λ (w : Whole). w.office.0) (sym same));
+  host = h ∙ (st.host ∙ ap (λ (w : Whole). w.office.1) (sym same));
   idle = l ∙ (st.idle ∙ sym idle);
   numbered = λ q. ⊎_elim
       (λ (e : c ≡ q) some. rw (number, sym e) (st.numbered c there))
@@ -127,7 +179,7 @@ moved o o' T T' c st b h l n office idle number there others links here = record
       (cases_eq c q);
   opened = n ∙ (st.opened ∙ sym number);
   links = λ q. ⊎_elim
-      (λ (e : c ≡ q). subst (λ q. IsKeptFor (seen T' q) (get nat_cmp o'.links q)) e here)
+      (λ (same : c ≡ q). subst (λ q. IsKeptFor (seen (given T e m) q) (get nat_cmp o'.links q)) same here)
       (λ (ne : c ≡ q → ⊥). rw (others q (ne_eqb c q ne), links q ne) (st.links q))
       (cases_eq c q);
 }
@@ -136,64 +188,81 @@ moved o o' T T' c st b h l n office idle number there others links here = record
 pub awaits_bytes : (s : Seen) (k : Kept) (p : List ℕ) → Matches s k → k.owed ≡ [] → length p ≤ most_in_a_piece → Awaits (streamed s p) k p
 awaits_bytes s k p m o fits = record {
   opened = m.opened;
+  outside = m.outside;
   taken = m.taken;
   nothing = o;
   owed = sym m.owed ∙ o;
   closing = m.closing;
+  user = m.user;
+  failures = m.failures;
   lines = λ more. rw append_assoc (m.lines (p ++ more) ∙ ap (λ q. coming k.held (q ++ (p ++ more))) (m.cut_whole o));
   piece = fits;
 }
 
-pub heard : (T : Trace) (c : ℕ) (p : List ℕ) (k k' : Kept) → Awaits (streamed (seen T c) p) k p → k' ≡ answered k p
-    → ((more : List ℕ) → coming k.held (p ++ more) ≡ shown k'.held ++ coming k'.held (k'.pending ++ more)) → Matches (seen ((Bytes c p, Tagged Done) ∷ T) c) k'
-heard T c p k k' m e law = let s = streamed (seen T c) p in ⊎_elim
-    (λ h. rw (seen-bytes_line T c p (cut_of k'.held.octets) h (acts_next s k k' p m e law h)) (line_heard s k k' p m e law h))
-    (λ h. rw (seen-bytes_part T c p h) (part_heard s k k' p m e law h))
-    (cases_Bool (has_newline p))
+module _ (T : Trace) (c : ℕ) (none : clerks T.base (history T) ≡ []) where
+  -- what the history says of a line is what is said by what is kept
+  said : (s : Seen) (k : Kept) (octets : List ℕ) → Awaits s k octets → s.live ≡ live (history T) c → s.user ≡ user (history T) c → s.failures ≡ failures (history T) c
+      → (x : Cut) → reply_to_cut T.base (history T) c x Done ≡ spoken k.talk x
+  said s k octets m l u f x = reply_outside T.base (history T) c k.talk (sym l ∙ m.outside) (m.user ∙ u) (rw (sym f) m.failures) none x
+
+  pub heard : (p : List ℕ) (k k' : Kept) → Awaits (streamed (seen T c) p) k p → k' ≡ answered k p
+      → ((more : List ℕ) → coming k.held (p ++ more) ≡ shown k'.held ++ coming k'.held (k'.pending ++ more)) → Matches (seen (given T (Bytes c p) (Tagged Done)) c) k'
+  heard p k k' m e law = let s = streamed (seen T c) p in ⊎_elim
+      (λ h. rw (seen-bytes_line T c p (cut_of k'.held.octets) h (acts_next s k k' p m e law h), said s k p m refl refl refl (cut_of k'.held.octets)) (line_heard s k k' p m e law h))
+      (λ h. rw (seen-bytes_part T c p h) (part_heard s k k' p m e law h))
+      (cases_Bool (has_newline p))
 
 -- ---- a Took
 
-pub seen-took_other : (T : Trace) (c q n : ℕ) (t : Tag) → eqb c q ≡ false → seen ((Took c n, Tagged t) ∷ T) q ≡ seen T q
-seen-took_other T c q n t e =
-    let k : taken ((Took c n, Tagged t) ∷ T) q ≡ taken T q = rw e refl in
-    ap₂ (λ m f. seen_by (stream T q) m f) k (took_other (acts T) c q t (next_line T (history T) c []) (is_left T (history T) c n) (closing (history T) c) e)
-
-pub office-took : (T : Trace) (c n : ℕ) (t : Tag) → boot_and_host (history ((Took c n, Tagged t) ∷ T)) ≡ boot_and_host (history T)
-office-took T c n t = took_office (acts T) c t (next_line T (history T) c []) (is_left T (history T) c n) (closing (history T) c)
-
--- what the trace says of a connection after its Took, by whether something is left, whether it is closing, and its next line
-abbrev after_took : (T : Trace) (c n : ℕ) (t : Tag) (a b : Bool) (o : Option Cut) → Seen
-after_took T c n t a b o = seen_by (stream T c) (taken T c + n) (facts (acts_of_took a b c t o ++ acts T) c)
-
 module _ (T : Trace) (c n : ℕ) where
-  seen-took : (t : Tag) (a b : Bool) (o : Option Cut) → is_left T (history T) c n ≡ a → closing (history T) c ≡ b
-      → next_line T (history T) c [] ≡ o → seen ((Took c n, Tagged t) ∷ T) c ≡ after_took T c n t a b o
+  abbrev now_left : Bool
+  now_left = is_left T.log (history T) c n
+
+  abbrev next : Option Cut
+  next = next_line T.log (history T) c []
+
+  pub seen-took_other : (q : ℕ) (t : Tag) → eqb c q ≡ false → seen (given T (Took c n) (Tagged t)) q ≡ seen T q
+  seen-took_other q t e =
+      let k : taken (given T (Took c n) (Tagged t)).log q ≡ taken T.log q = rw e refl in
+      ap₂ (λ m f. seen_by (stream T.log q) m f) k (took_other T.base (acts T) c q t next now_left (serving (history T) c) (closing (history T) c) e)
+
+  pub whole-took : (t : Tag) → whole T.base (acts (given T (Took c n) (Tagged t))) ≡ whole T.base (acts T)
+  whole-took t = took_whole T.base (acts T) c t next now_left (serving (history T) c) (closing (history T) c)
+
+  -- what the trace says of a connection after its Took, by whether something is left, whether a message is served, whether it is
+  -- closing, and its next line
+  abbrev after_took : (t : Tag) (a s b : Bool) (o : Option Cut) → Seen
+  after_took t a s b o = seen_by (stream T.log c) (taken T.log c + n) (facts T.base (acts_of_took a s b c t o ++ acts T) c)
+
+  seen-took : (t : Tag) (a b : Bool) (o : Option Cut) → now_left ≡ a → closing (history T) c ≡ b → next ≡ o
+      → seen (given T (Took c n) (Tagged t)) c ≡ after_took t a (serving (history T) c) b o
   seen-took t a b o p q r =
-      let x = is_left T (history T) c n in
+      let s = serving (history T) c in
       let y = closing (history T) c in
-      let z = next_line T (history T) c [] in
-      ap (λ k. seen_by (stream T c) (cond k (taken T c + n) (taken T c)) (facts (acts_of_took x y c t z ++ acts T) c)) (eq-eqb c c refl)
-      ∙ (ap (λ a. after_took T c n t a y z) p ∙ (ap (λ b. after_took T c n t a b z) q ∙ ap (λ o. after_took T c n t a b o) r))
+      ap (λ k. seen_by (stream T.log c) (cond k (taken T.log c + n) (taken T.log c)) (facts T.base (acts_of_took now_left s y c t next ++ acts T) c)) (eq-eqb c c refl)
+      ∙ (ap (λ a. after_took t a s y next) p ∙ (ap (λ b. after_took t a s b next) q ∙ ap (λ o. after_took t a s b o) r))
+
+  part_done : (s b : Bool) (o : Option Cut) → after_took Done true s b o ≡ took (seen T c) n
+  part_done true b o = refl
+  part_done false b o = refl
 
   -- some of what is owed is taken
-  pub seen-took_part : is_left T (history T) c n ≡ true → seen ((Took c n, Tagged Done) ∷ T) c ≡ took (seen T c) n
-  seen-took_part h = seen-took Done true (closing (history T) c) (next_line T (history T) c []) h refl refl
+  pub seen-took_part : now_left ≡ true → seen (given T (Took c n) (Tagged Done)) c ≡ took (seen T c) n
+  seen-took_part h = seen-took Done true (closing (history T) c) next h refl refl ∙ part_done (serving (history T) c) (closing (history T) c) next
 
   -- all is taken, and no line acts
-  pub seen-took_closing : is_left T (history T) c n ≡ false → closing (history T) c ≡ true → seen ((Took c n, Tagged Done) ∷ T) c ≡ took (seen T c) n
-  seen-took_closing h b = seen-took Done false true (next_line T (history T) c []) h b refl
+  pub seen-took_closing : now_left ≡ false → closing (history T) c ≡ true → seen (given T (Took c n) (Tagged Done)) c ≡ took (seen T c) n
+  seen-took_closing h b = seen-took Done false true next h b refl
 
-  pub seen-took_none : is_left T (history T) c n ≡ false → closing (history T) c ≡ false
-      → next_line T (history T) c [] ≡ None → seen ((Took c n, Tagged Done) ∷ T) c ≡ took (seen T c) n
+  pub seen-took_none : now_left ≡ false → closing (history T) c ≡ false → next ≡ None → seen (given T (Took c n) (Tagged Done)) c ≡ took (seen T c) n
   seen-took_none h b o = seen-took Done false false None h b o
 
   -- all is taken, and a line acts
-  pub seen-took_line : (x : Cut) → is_left T (history T) c n ≡ false → closing (history T) c ≡ false
-      → next_line T (history T) c [] ≡ Some x → seen ((Took c n, Tagged Done) ∷ T) c ≡ lined (took (seen T c) n) x
+  pub seen-took_line : (x : Cut) → now_left ≡ false → closing (history T) c ≡ false → next ≡ Some x
+      → seen (given T (Took c n) (Tagged Done)) c ≡ lined (took (seen T c) n) x (reply_to_cut T.base (history T) c x Done)
   seen-took_line x h b o = let e = eq-eqb c c refl in seen-took Done false false (Some x) h b o ∙ rw e refl
 
-  pub closed-took : (x : Cut) → is_left T (history T) c n ≡ false → closing (history T) c ≡ false
-      → next_line T (history T) c [] ≡ Some x → is_seen_open (seen ((Took c n, Tagged NoMemory) ∷ T) c) ≡ false
+  pub closed-took : (x : Cut) → now_left ≡ false → closing (history T) c ≡ false → next ≡ Some x → is_seen_open (seen (given T (Took c n) (Tagged NoMemory)) c) ≡ false
   closed-took x h b o = let e = eq-eqb c c refl in ap is_seen_open (seen-took NoMemory false false (Some x) h b o) ∙ rw e refl
 
 -- ---- what is kept, at a Took
@@ -236,7 +305,10 @@ part_took s k n m h =
       opened = rw (o, e) (open_still s.connected (s.closing && is_empty (untaken_of s)) s.closing m.opened);
       taken = taken_fits s n (omega (arith, h)) m.taken;
       owed = ap (drop n) m.owed ∙ sym o;
+      outside = m.outside;
       closing = m.closing;
+      user = m.user;
+      failures = m.failures;
       lines = m.lines;
       cut_whole = λ none. absurd (omega (arith, some, ap length (ap (drop n) (sym m.owed) ∙ none)));
       line_kept = m.line_kept;
@@ -253,7 +325,10 @@ awaits_took s k n m e b =
       taken = taken_fits s n (omega (arith, e)) m.taken;
       nothing = ap (drop n) m.owed ∙ none;
       owed = owed_took s n ∙ none;
+      outside = m.outside;
       closing = m.closing;
+      user = m.user;
+      failures = m.failures;
       lines = m.lines;
       piece = m.piece_kept;
     }
@@ -263,13 +338,14 @@ pub closed_took : (s : Seen) (n : ℕ) → length (untaken_of s) ≤ n → s.clo
 closed_took s n le b = let none : drop n (untaken_of s) ≡ [] = drop_all n (untaken_of s) le in rw (owed_took s n, none, b) (never s.connected)
 
 -- no octet more is no other stream
-pub next_kept : (T : Trace) (c : ℕ) → next_line T (history T) c [] ≡ slice_get (cut (stream T c)) (acted (history T) c)
-next_kept T c = ap (λ octets. slice_get (cut octets) (acted (history T) c)) (append-nil (stream T c))
+pub next_kept : (T : Trace) (c : ℕ) → next_line T.log (history T) c [] ≡ slice_get (cut (stream T.log c)) (acted (history T) c)
+next_kept T c = ap (λ octets. slice_get (cut octets) (acted (history T) c)) (append-nil (stream T.log c))
 
-pub resumed : (T : Trace) (c n : ℕ) (k k' : Kept) → Awaits (took (seen T c) n) k k.pending → is_left T (history T) c n ≡ false → closing (history T) c ≡ false
-    → k' ≡ answered k k.pending → ((more : List ℕ) → coming k.held (k.pending ++ more) ≡ shown k'.held ++ coming k'.held (k'.pending ++ more)) → Matches (seen ((Took c n, Tagged Done) ∷ T) c) k'
-resumed T c n k k' m left open_yet e law = let s = took (seen T c) n in ⊎_elim
-    (λ h. rw (seen-took_line T c n (cut_of k'.held.octets) left open_yet (next_kept T c ∙ acts_next s k k' k.pending m e law h)) (line_heard s k k' k.pending m e law h))
+pub resumed : (T : Trace) (c n : ℕ) → clerks T.base (history T) ≡ [] → (k k' : Kept) → Awaits (took (seen T c) n) k k.pending → is_left T.log (history T) c n ≡ false → closing (history T) c ≡ false
+    → k' ≡ answered k k.pending → ((more : List ℕ) → coming k.held (k.pending ++ more) ≡ shown k'.held ++ coming k'.held (k'.pending ++ more)) → Matches (seen (given T (Took c n) (Tagged Done)) c) k'
+resumed T c n none k k' m left open_yet e law = let s = took (seen T c) n in ⊎_elim
+    (λ h. rw (seen-took_line T c n (cut_of k'.held.octets) left open_yet (next_kept T c ∙ acts_next s k k' k.pending m e law h), said T c none s k k.pending m refl refl refl (cut_of k'.held.octets))
+    (line_heard s k k' k.pending m e law h))
     (λ h. rw (seen-took_none T c n left open_yet (next_kept T c ∙ none_next s k k' k.pending m e law h)) (part_heard s k k' k.pending m e law h))
     (cases_Bool (has_newline k.pending))
 

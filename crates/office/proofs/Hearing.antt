@@ -1,14 +1,18 @@
--- How what is kept of a connection follows the trace as a piece comes.
-use Rattle.std.proofs.Common.{◌≡◌, ℕ, zero, suc, ◌+◌, ◌≤◌, Bool, true, false, not, ◌||◌, ◌&&◌, cond, List, [], ◌∷◌, ◌++◌, drop, length, map, refl, sym, ◌∙◌, ap, arith, Some, None, slice_get, append-nil, ◌==◌, length-append, add-one, length-drop}
+-- How what is kept of a connection follows the trace as a piece comes or is resumed.
+use Rattle.std.proofs.Common.{◌≡◌, ℕ, zero, suc, ◌+◌, ◌≤◌, Bool, true, false, not, ◌||◌, ◌&&◌, cond, List, [], ◌∷◌, ◌++◌, drop, length, map, refl, sym, ◌∙◌, ap, arith, Some, None, is_some, slice_get, append-nil, ◌==◌, length-append, add-one, length-drop, min}
 use Rattle.std.proofs.lemmas.List.{drop-append-le, length-take}
-use Rattle.popline.specs.Cutting.{Cut, cut_of, cut, pieces, onto_first}
-use Rattle.popline.specs.Cutting.{Held, begun, prefixed, fed, shown, coming, through_newline, has_newline, before_newline}
-use Rattle.popline.specs.Replies.{bytes_of, Reply, Greeting, LineTooLong, UnknownCommand, WrongState, BadArguments, Capabilities, Bye}
-use Rattle.office.specs.History.{reply_to_line, is_quit_line}
-use Rattle.office.specs.Kept.{Kept, answered}
-use Rattle.office.specs.Trace.{is_empty}
+use Rattle.std.specs.Bool.{if◌then◌else◌}
+use Rattle.popline.specs.Cutting.{Cut, cut_of, cut, pieces, onto_first, Held, begun, prefixed, fed, shown, coming, through_newline, has_newline, before_newline}
+use Rattle.popline.specs.Replies.{Reply, Greeting, LineTooLong, UnknownCommand, WrongState, BadArguments, Capabilities, SendPass, LoginFailed, LoginFailedClosing, DeniedBy, NoSuchMaildrop, InUse, MaildropHas, DropListing, ScanListing, ScanLine, UidListing, UidLine, Message, TopPart, Marked, Okay, NoSuchMessage, AlreadyMarked, Bye, RemovalDenied, RemovalFailed, StoreFailed, bytes_of}
+use Rattle.office.specs.History.{Says}
+use Rattle.office.specs.Connections.{reading, closes, is_quit, user_after_line, is_failure}
+use Rattle.office.specs.Sessions.{logs_in}
+use Rattle.office.specs.Replying.{is_empty}
+use Rattle.office.specs.Expected.{most_in_a_piece}
+use Rattle.office.specs.Kept.{Kept, answered, spoken, talk_after}
 use Rattle.office.specs.Stands.{Seen, Matches, is_seen_open, untaken_of, most_in_a_line}
-use Rattle.office.specs.Outcomes.{most_in_a_piece}
+use Rattle.office.specs.declared.talk.Talk.{Talk}
+use Rattle.office.proofs.Outside.{no_login, failures_alike}
 
 -- what stands at a place, and what follows it
 pub at_drop : {A : Type 0} (n : ℕ) (xs : List A) (x : A) (ys : List A) → drop n xs ≡ x ∷ ys → (slice_get xs n ≡ Some x) × (drop (n + 1) xs ≡ ys)
@@ -24,21 +28,24 @@ at_end zero (a ∷ xs) e = cc
 at_end (suc n) [] e = refl
 at_end (suc n) (a ∷ xs) e = at_end n xs e
 
--- what a trace says of a connection after more octets came, after some were taken, and after a line acted
+-- what a trace says of a connection after more octets came, after some were taken, and after a line got this reply
 abbrev pub streamed : Seen → List ℕ → Seen
-streamed s p = record { connected = s.connected; closing = s.closing; stream = s.stream ++ p; acted = s.acted; sent = s.sent; taken = s.taken }
+streamed s p = record { connected = s.connected; closing = s.closing; live = s.live; stream = s.stream ++ p; acted = s.acted; sent = s.sent; taken = s.taken; user = s.user; failures = s.failures }
 
 abbrev pub took : Seen → ℕ → Seen
-took s n = record { connected = s.connected; closing = s.closing; stream = s.stream; acted = s.acted; sent = s.sent; taken = s.taken + n }
+took s n = record { connected = s.connected; closing = s.closing; live = s.live; stream = s.stream; acted = s.acted; sent = s.sent; taken = s.taken + n; user = s.user; failures = s.failures }
 
-abbrev pub lined : Seen → Cut → Seen
-lined s x = record {
+abbrev pub lined : Seen → Cut → Reply → Seen
+lined s x r = record {
   connected = s.connected;
-  closing = is_quit_line x || s.closing;
+  closing = closes (reading x) (Says r) || s.closing;
+  live = not (is_quit (reading x) || false) && (is_some (logs_in (reading x) (Says r) s.user) || s.live);
   stream = s.stream;
   acted = s.acted + 1;
-  sent = s.sent ++ bytes_of (reply_to_line x);
+  sent = s.sent ++ bytes_of r;
   taken = s.taken;
+  user = user_after_line (reading x) (Says r) s.user;
+  failures = if is_failure (Says r) then s.failures + 1 else s.failures;
 }
 
 -- no reply is empty
@@ -49,11 +56,36 @@ says_something UnknownCommand = refl
 says_something WrongState = refl
 says_something BadArguments = refl
 says_something Capabilities = refl
+says_something SendPass = refl
+says_something LoginFailed = refl
+says_something LoginFailedClosing = refl
+says_something (DeniedBy rule) = refl
+says_something NoSuchMaildrop = refl
+says_something InUse = refl
+says_something (MaildropHas n m) = refl
+says_something (DropListing n m) = refl
+says_something (ScanListing rows) = refl
+says_something (ScanLine n m) = refl
+says_something (UidListing rows) = refl
+says_something (UidLine n uid) = refl
+says_something (Message octets lines) = refl
+says_something (TopPart lines) = refl
+says_something (Marked n) = refl
+says_something Okay = refl
+says_something NoSuchMessage = refl
+says_something (AlreadyMarked n) = refl
 says_something Bye = refl
+says_something (RemovalDenied rule) = refl
+says_something RemovalFailed = refl
+says_something StoreFailed = refl
 
 pub not_nil : (xs : List ℕ) → is_empty xs ≡ false → xs ≡ [] → ⊥
 not_nil [] e h = cc
 not_nil (x ∷ xs) e h = cc
+
+never_live : (a : Bool) → (a && (false || false)) ≡ false
+never_live true = refl
+never_live false = refl
 
 pub open_still : (a b c : Bool) → (a && not b) ≡ true → (a && not (c && false)) ≡ true
 open_still true b true h = refl
@@ -61,8 +93,8 @@ open_still true b false h = refl
 open_still false b c h = h
 
 -- what is owed after a reply
-pub owed_more : (s : Seen) (x : Cut) → s.taken ≤ length s.sent → untaken_of s ≡ [] → untaken_of (lined s x) ≡ bytes_of (reply_to_line x)
-owed_more s x le e = drop-append-le s.taken s.sent (bytes_of (reply_to_line x)) le ∙ ap (λ o. o ++ bytes_of (reply_to_line x)) e
+pub owed_more : (s : Seen) (x : Cut) (r : Reply) → s.taken ≤ length s.sent → untaken_of s ≡ [] → untaken_of (lined s x r) ≡ bytes_of r
+owed_more s x r le e = drop-append-le s.taken s.sent (bytes_of r) le ∙ ap (λ o. o ++ bytes_of r) e
 
 -- where there is no LF, all is cut
 one_through : (b : ℕ) (bs : List ℕ) (t : Bool) → cond t true (has_newline bs) ≡ false → (has_newline bs ≡ false → drop (through_newline bs) bs ≡ []) → drop (cond t 1 (through_newline bs + 1)) (b ∷ bs) ≡ []
@@ -87,7 +119,10 @@ pub record Awaits (s : Seen) (k : Kept) (octets : List ℕ) : Type 0 where
   pub taken : s.taken ≤ length s.sent
   pub nothing : k.owed ≡ []
   pub owed : untaken_of s ≡ []
-  pub closing : k.closing ≡ s.closing
+  pub outside : s.live ≡ false
+  pub closing : k.talk.closing ≡ s.closing
+  pub user : k.talk.user ≡ s.user
+  pub failures : min k.talk.failures 2 ≡ min s.failures 2
   pub lines : (more : List ℕ) → drop s.acted (cut (s.stream ++ more)) ≡ coming k.held (octets ++ more)
   pub piece : length octets ≤ most_in_a_piece
 
@@ -114,7 +149,10 @@ module _ (s : Seen) (k k' : Kept) (p : List ℕ) (m : Awaits s k p) (e : k' ≡ 
         opened = m.opened;
         taken = m.taken;
         owed = ap (λ (k : Kept). k.owed) e' ∙ (m.nothing ∙ sym m.owed);
-        closing = ap (λ (k : Kept). k.closing) e' ∙ m.closing;
+        outside = m.outside;
+        closing = ap (λ (k : Kept). k.talk.closing) e' ∙ m.closing;
+        user = ap (λ (k : Kept). k.talk.user) e' ∙ m.user;
+        failures = ap (λ (k : Kept). min k.talk.failures 2) e' ∙ m.failures;
         lines = λ more. left more ∙ ap (λ xs. xs ++ coming k'.held (k'.pending ++ more)) (let q : shown k'.held ≡ [] = rw w refl in q);
         cut_whole = λ _. ap (λ (k : Kept). k.pending) e ∙ through_all p h;
         line_kept = line_fits;
@@ -138,22 +176,31 @@ module _ (s : Seen) (k k' : Kept) (p : List ℕ) (m : Awaits s k p) (e : k' ≡ 
   pub acts_next : has_newline p ≡ true → slice_get (cut s.stream) s.acted ≡ Some acting
   acts_next h = (at_drop s.acted (cut s.stream) acting (coming k'.held (k'.pending ++ [])) (ap (λ q. drop s.acted (cut q)) (sym (append-nil s.stream)) ∙ next h [])).0
 
-  pub line_heard : has_newline p ≡ true → Matches (lined s acting) k'
+  -- what the line is answered
+  abbrev pub answer : Reply
+  answer = spoken k.talk acting
+
+  pub line_heard : has_newline p ≡ true → Matches (lined s acting answer) k'
   line_heard h =
       let e' = rw h at e in
-      let more_owed = owed_more s acting m.taken m.owed in
-      let said = says_something (reply_to_line acting) in
+      let more_owed = owed_more s acting answer m.taken m.owed in
+      let said = says_something answer in
       let held_is : k'.held ≡ fed k.held p = ap (λ (k : Kept). k.held) e in
-      let owed_is : k'.owed ≡ untaken_of (lined s acting) =
-      ap (λ (k : Kept). k.owed) e' ∙ (ap (λ (w : Held). k.owed ++ bytes_of (reply_to_line (cut_of w.octets))) (sym held_is)
-      ∙ (ap (λ q. q ++ bytes_of (reply_to_line acting)) m.nothing ∙ sym more_owed)) in
+      let owed_is : k'.owed ≡ untaken_of (lined s acting answer) =
+      ap (λ (k : Kept). k.owed) e' ∙ (ap (λ (w : Held). k.owed ++ bytes_of (spoken k.talk (cut_of w.octets))) (sym held_is)
+      ∙ (ap (λ q. q ++ bytes_of answer) m.nothing ∙ sym more_owed)) in
+      let talk_is : k'.talk ≡ talk_after acting answer k.talk =
+      ap (λ (k : Kept). k.talk) e' ∙ ap (λ (w : Held). talk_after (cut_of w.octets) (spoken k.talk (cut_of w.octets)) k.talk) (sym held_is) in
       record {
-        opened = rw (more_owed, said) (open_still s.connected (s.closing && is_empty (untaken_of s)) (is_quit_line acting || s.closing) m.opened);
-        taken = omega (arith, m.taken, length-append s.sent (bytes_of (reply_to_line acting)));
+        opened = rw (more_owed, said) (open_still s.connected (s.closing && is_empty (untaken_of s)) (closes (reading acting) (Says answer) || s.closing) m.opened);
+        outside = rw (no_login k.talk s.user acting, m.outside) (never_live (not (is_quit (reading acting) || false)));
+        taken = omega (arith, m.taken, length-append s.sent (bytes_of answer));
         owed = owed_is;
-        closing = ap (λ (k : Kept). k.closing) e' ∙ (ap (λ (w : Held). is_quit_line (cut_of w.octets) || k.closing) (sym held_is) ∙ ap (λ b. is_quit_line acting || b) m.closing);
+        closing = ap (λ (t : Talk). t.closing) talk_is ∙ ap (λ b. closes (reading acting) (Says answer) || b) m.closing;
+        user = ap (λ (t : Talk). t.user) talk_is ∙ ap (user_after_line (reading acting) (Says answer)) m.user;
+        failures = ap (λ (t : Talk). min t.failures 2) talk_is ∙ failures_alike (is_failure (Says answer)) k.talk.failures s.failures m.failures;
         lines = λ more. (at_drop s.acted (cut (s.stream ++ more)) acting (coming k'.held (k'.pending ++ more)) (next h more)).1;
-        cut_whole = λ n. absurd (not_nil (bytes_of (reply_to_line acting)) said (sym more_owed ∙ (sym owed_is ∙ n)));
+        cut_whole = λ n. absurd (not_nil (bytes_of answer) said (sym more_owed ∙ (sym owed_is ∙ n)));
         line_kept = line_fits;
         piece_kept = piece_fits;
       }

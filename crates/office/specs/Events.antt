@@ -1,8 +1,8 @@
 -- What an office is given, and what an event shows in a trace.
-use Rattle.std.specs.Prelude.{ℕ, List}
+use Rattle.std.specs.Prelude.{ℕ, List, ◌∷◌}
+use Rattle.office.specs.Answers.{AdminCommand}
+use Rattle.vault.specs.Records.{Records}
 use Rattle.office.specs.History.{Tag}
-use Rattle.office.specs.declared.event.Event.{Event as Given}
-use Rattle.office.specs.declared.event.Event.TheVariants as given
 
 -- an office's opening stands first; the others are those that `step` takes
 pub data Event : Type 0 where
@@ -11,6 +11,10 @@ pub data Event : Type 0 where
   Bytes : (number : ℕ) (piece : List ℕ) → Event
   Took : (number octets : ℕ) → Event
   Gone : (number : ℕ) → Event
+  Tick : (now : ℕ) → Event
+  Deposit : (maildrop class id text : List ℕ) → Event
+  Admin : AdminCommand → Event
+  Restart : (boot : ℕ) → Event
 
 -- an event that was ignored is no act; any other shows a tag
 pub data Mark : Type 0 where
@@ -18,12 +22,14 @@ pub data Mark : Type 0 where
   Tagged : Tag → Mark
 
 -- events with their marks, the newest first
-abbrev pub Trace : Type 0
-Trace = List (Event × Mark)
+abbrev pub Log : Type 0
+Log = List (Event × Mark)
 
--- what a clause sees of an event, whose octets are lent
-abbrev pub event_seen : Given → Event
-event_seen given.Connect = Connect
-event_seen (given.Bytes c piece) = Bytes c piece.now
-event_seen (given.Took c octets) = Took c octets
-event_seen (given.Gone c) = Gone c
+-- the records of a store, and what its office was given since
+pub record Trace : Type 0 where
+  pub base : Records
+  pub log : Log
+
+-- a trace with one event more
+abbrev pub given : Trace → Event → Mark → Trace
+given T e m = record { base = T.base; log = (e, m) ∷ T.log }

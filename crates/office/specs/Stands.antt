@@ -1,34 +1,48 @@
 -- When an office stands for a trace: what it keeps of each connection and of the whole is what the trace says.
-use Rattle.std.specs.Prelude.{◌≡◌, ℕ, Bool, true, false, ◌≤◌, List, [], ◌++◌, length, drop, Option, Some, None, IsSome, string_bytes}
+use Rattle.std.specs.Prelude.{◌≡◌, ℕ, Bool, true, false, List, [], ◌++◌, length, drop, min, ◌≤◌, Option, Some, None, IsSome, string_bytes}
 use Rattle.std.specs.Ordering.{nat_cmp}
 use Rattle.std.specs.BTreeMap.{get}
-use Rattle.popline.specs.Cutting.{cut}
-use Rattle.popline.specs.Cutting.{coming}
-use Rattle.office.specs.History.{connected, closing, acted, sent, boot_and_host}
-use Rattle.office.specs.Events.{Trace}
-use Rattle.office.specs.Trace.{history, opened, idle_seconds, stream, taken, is_open_by}
-use Rattle.office.specs.Outcomes.{most_in_a_piece}
+use Rattle.creds.specs.declared.login_name.LoginName.{LoginName}
+use Rattle.popline.specs.Cutting.{cut, coming}
+use Rattle.office.specs.History.{Entry, clerks}
+use Rattle.office.specs.Connections.{user, failures, boot_and_host, connected, closing, acted, sent}
+use Rattle.office.specs.Sessions.{live}
+use Rattle.office.specs.Events.{Log, Trace}
+use Rattle.office.specs.Log.{opened, idle_seconds, stream, taken}
+use Rattle.office.specs.Trace.{history, is_open_by}
+use Rattle.office.specs.Expected.{most_in_a_piece}
 use Rattle.office.specs.Kept.{Kept}
 use Rattle.office.specs.declared.office.Office.{Office}
+
+-- ---- one connection
 
 -- what a trace says of one connection
 pub record Seen : Type 0 where
   pub connected : Bool
   pub closing : Bool
+  pub live : Bool
   pub stream : List ℕ
   pub acted : ℕ
   pub sent : List ℕ
   pub taken : ℕ
+  pub user : Option LoginName
+  pub failures : ℕ
+
+abbrev pub seen_at : Log → List Entry → ℕ → Seen
+seen_at T G c = record {
+  connected = connected G c;
+  closing = closing G c;
+  live = live G c;
+  stream = stream T c;
+  acted = acted G c;
+  sent = sent G c;
+  taken = taken T c;
+  user = user G c;
+  failures = failures G c;
+}
 
 abbrev pub seen : Trace → ℕ → Seen
-seen T c = record {
-  connected = connected (history T) c;
-  closing = closing (history T) c;
-  stream = stream T c;
-  acted = acted (history T) c;
-  sent = sent (history T) c;
-  taken = taken T c;
-}
+seen T c = seen_at T.log (history T) c
 
 abbrev pub untaken_of : Seen → List ℕ
 untaken_of s = drop s.taken s.sent
@@ -43,9 +57,14 @@ most_in_a_line = 255
 -- what is kept of an open connection is what the trace says of it
 pub record Matches (s : Seen) (k : Kept) : Type 0 where
   pub opened : is_seen_open s ≡ true
+  -- no connection is logged in yet
+  pub outside : s.live ≡ false
   pub taken : s.taken ≤ length s.sent
   pub owed : k.owed ≡ untaken_of s
-  pub closing : k.closing ≡ s.closing
+  pub closing : k.talk.closing ≡ s.closing
+  pub user : k.talk.user ≡ s.user
+  -- two and more failures are alike: the next one closes
+  pub failures : min k.talk.failures 2 ≡ min s.failures 2
   -- however the stream goes on, the lines that are left of it are those that come from what is kept
   pub lines : (more : List ℕ) → drop s.acted (cut (s.stream ++ more)) ≡ coming k.held (k.pending ++ more)
   -- what was kept was cut, where nothing is owed
@@ -59,13 +78,17 @@ abbrev pub IsKeptFor : Seen → Option Kept → Type 0
 IsKeptFor s None = is_seen_open s ≡ false
 IsKeptFor s (Some k) = Matches s k
 
+-- ---- the office
+
 pub record StandsFor {V : Type 0} (o : Office V) (T : Trace) : Type 0 where
+  -- no clerk has a credential yet
+  pub no_clerks : clerks T.base (history T) ≡ []
   pub boot : o.boot ≡ (boot_and_host (history T)).0
   pub host : string_bytes o.host ≡ (boot_and_host (history T)).1
-  pub idle : o.limits ≡ idle_seconds T
+  pub idle : o.limits ≡ idle_seconds T.log
   -- an open connection has one of the numbers that were given
-  pub numbered : (c : ℕ) → IsSome (get nat_cmp o.links c) → (1 ≤ c) × (c ≤ opened T)
-  pub opened : o.opened ≡ opened T
+  pub numbered : (c : ℕ) → IsSome (get nat_cmp o.links c) → (1 ≤ c) × (c ≤ opened T.log)
+  pub opened : o.opened ≡ opened T.log
   pub links : (c : ℕ) → IsKeptFor (seen T c) (get nat_cmp o.links c)
 
 -- how many octets an office lends a connection: all that it is owed

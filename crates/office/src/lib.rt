@@ -5,18 +5,22 @@
 #![tactic(auto)]
 
 mod event;
+mod history_laws;
 mod limits;
 mod lines;
 mod link;
 mod office;
+mod talk;
 mod transcript;
-mod vault;
 
 pub use event::{Event, Outcome, Reason};
+pub use history_laws::{
+    deposit_ids_act_once, greetings_differ, marks_are_by_view, one_holder, own_records_agree,
+    replies_have_their_form, unique_id_texts_differ, unique_ids_are_unique, view_stays_present,
+};
 pub use limits::Limits;
 pub use office::{Office, OpenFault};
 pub use transcript::{RunFault, Step, Transcript};
-pub use vault::{PlainVault, Vault};
 
 #[cfg(test)]
 mod tests;

@@ -1,10 +1,11 @@
 //! One connection: the input that isn't cut yet, and the octets that it is owed.
 ghost use Rattle.std.specs.Prelude.{◌≡◌, ◌++◌, List, [], ℕ, true, false, OnOk, OnErr, IfOk, drop, length, ◌≤◌};
 ghost use Rattle.popline.specs.Replies.{Greeting, bytes_of};
-ghost use Rattle.popline.specs.Cutting.{has_newline, coming, shown};
-ghost use Rattle.office.specs.Kept.{answered};
+ghost use Rattle.popline.specs.Cutting.{has_newline, coming, shown, nothing_held};
+ghost use Rattle.office.specs.Kept.{answered, nothing_said};
 
 use crate::lines;
+use crate::talk::Talk;
 use popline::{Cutter, Reply};
 use std::alloc::{AllocError, Global};
 use std::marker::Model;
@@ -19,7 +20,7 @@ pub struct Link {
     /// Octets to send, of which the first `taken` were taken.
     owed: Vec<u8>,
     taken: usize,
-    closing: bool,
+    talk: Talk,
 }
 
 impl Model for Link {
@@ -28,7 +29,7 @@ impl Model for Link {
 
     ghost Value = { Kept };
 
-    ghost view = { λ l. record { held = l.cutter; pending = drop l.cut l.pending.items; owed = drop l.taken l.owed.items; closing = l.closing } };
+    ghost view = { λ l. record { held = l.cutter; pending = drop l.cut l.pending.items; owed = drop l.taken l.owed.items; talk = l.talk } };
 
     ghost invariant = { λ l. (l.cut ≤ length l.pending.items) × (l.taken ≤ length l.owed.items) };
 }
@@ -36,7 +37,7 @@ impl Model for Link {
 impl Link {
     /// A connection that is owed its greeting.
     pub fn open(alloc: Global, number: u64, boot: u64, host: &str) -> Result<Link, AllocError>
-        ensures { IfOk result (λ k. k ≡ record { held = record { octets = []; whole = false }; pending = []; owed = bytes_of (Greeting number boot host.now); closing = false }) }
+        ensures { IfOk result (λ k. k ≡ record { held = nothing_held; pending = []; owed = bytes_of (Greeting number boot host.now); talk = nothing_said }) }
     {
         let mut owed = Vec::new(alloc);
         let greeting = Reply::Greeting { number, boot, host };
@@ -47,7 +48,7 @@ impl Link {
             cut: 0,
             owed,
             taken: 0,
-            closing: false,
+            talk: Talk::new(),
         })
     }
 
@@ -59,9 +60,9 @@ impl Link {
     }
 
     pub fn is_closing(&self) -> bool
-        ensures { result ≡ self.now.closing }
+        ensures { result ≡ self.now.talk.closing }
     {
-        self.closing
+        self.talk.closing
     }
 
     /// Takes octets that are owed. Nothing is copied.
@@ -87,7 +88,7 @@ impl Link {
         let n = self.cutter.feed(piece);
         if let Some(cut) = self.cutter.line() {
             self.pending.extend_from_slice(&piece[n..])?;
-            lines::answer(alloc, cut, &mut self.owed, &mut self.closing)?;
+            lines::answer(alloc, cut, &mut self.owed, &mut self.talk)?;
         }
         Ok(())
     }
@@ -103,7 +104,7 @@ impl Link {
         self.taken = 0;
         self.cut += self.cutter.feed(&self.pending[self.cut..]);
         if let Some(cut) = self.cutter.line() {
-            lines::answer(alloc, cut, &mut self.owed, &mut self.closing)?;
+            lines::answer(alloc, cut, &mut self.owed, &mut self.talk)?;
         }
         Ok(())
     }

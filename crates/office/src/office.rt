@@ -1,22 +1,25 @@
 //! An office: one function for each event.
-ghost use Rattle.std.specs.Prelude.{◌≡◌, ◌<◌, ◌∷◌, ◌↔◌, not, true, false, ℕ, List, length, take, IfOk, IfErr, OnOk, OnErr, MatchResult};
-ghost use Rattle.office.specs.Events.{Trace, event_seen};
+ghost use Rattle.std.specs.Prelude.{◌≡◌, ◌<◌, [], ◌↔◌, not, true, false, ℕ, List, length, take, IfOk, IfErr, OnOk, OnErr, MatchResult};
+ghost use Rattle.office.specs.Events.{Trace, given};
+ghost use Rattle.office.specs.Shown.{event_seen, outcome_seen, followed_by};
 ghost use Rattle.office.specs.Events as event;
-ghost use Rattle.office.specs.Trace.{rest, is_open, is_ready};
-ghost use Rattle.office.specs.Outcomes.{IsOutcome, IsLent, given, is_full, mark_of};
+ghost use Rattle.office.specs.Trace.{history, rest, is_open, is_ready, IsLent};
+ghost use Rattle.office.specs.Expected.{IsOutcome, is_full, octets_taken};
+ghost use Rattle.office.specs.Outcomes.{mark_of};
 ghost use Rattle.creds.specs.Names.{is_host};
-ghost use Rattle.office.specs.History.{Done};
+ghost use Rattle.office.specs.History.{Done, clerks};
 ghost use Rattle.office.specs.Stands.{StandsFor, lent_by, vault_of};
-ghost use Rattle.office.specs.Runs.{Step as Shown, Follows, Enters, octets_taken, done_before};
+ghost use Rattle.office.specs.Runs.{Step as Shown, Follows, Enters, done_before};
 
 use crate::link::Link;
-use crate::{Event, Limits, Outcome, Reason, RunFault, Step, Transcript, Vault};
+use crate::{Event, Limits, Outcome, Reason, RunFault, Step, Transcript};
 use creds::HostName;
 use std::alloc::{AllocError, Global};
 use std::collections::BTreeMap;
+use vault::Vault;
 
 /// How many connections may be open at once.
-const MOST_OPEN: usize = 1;
+const MOST_OPEN: usize = 64;
 /// How many octets a piece may have.
 const MOST_IN_A_PIECE: usize = 4096;
 
@@ -53,7 +56,7 @@ impl<V: Vault> Office<V> {
         boot: u64,
         limits: Limits,
     ) -> Result<Office<V>, (OpenFault, V)>
-        ensures opened { IfOk result (λ office. (T : Trace) → StandsFor office ((event.Start host.now boot limits, event.Tagged Done) ∷ T)) }
+        ensures opened { IfOk result (λ office. (T : Trace) → clerks T.base (history T) ≡ [] → StandsFor office (given T (event.Start host.now boot limits) (event.Tagged Done))) }
         ensures host { MatchResult result (λ _. is_host host.now ≡ true) (λ e. (e.0 ≡ OpenFault.BadHost) ↔ (is_host host.now ≡ false)) }
         ensures vault { MatchResult result (λ office. vault_of office ≡ vault) (λ e. e.1 ≡ vault) }
     {
@@ -83,8 +86,8 @@ impl<V: Vault> Office<V> {
     }
 
     fn connect(&mut self) -> Outcome
-        ensures stands { (T : Trace) → StandsFor self.old T → StandsFor self.new (given T event.Connect result) }
-        ensures outcome { (T : Trace) → StandsFor self.old T → IsOutcome T (lent_by self.old) event.Connect result }
+        ensures stands { (T : Trace) → StandsFor self.old T → StandsFor self.new (followed_by T event.Connect result) }
+        ensures outcome { (T : Trace) → StandsFor self.old T → IsOutcome T (lent_by self.old) event.Connect (outcome_seen result) }
         ensures vault { vault_of self.new ≡ vault_of self.old }
     {
         if self.is_full() {
@@ -102,8 +105,8 @@ impl<V: Vault> Office<V> {
     }
 
     fn bytes(&mut self, c: u64, piece: &[u8]) -> Outcome
-        ensures stands { (T : Trace) → StandsFor self.old T → StandsFor self.new (given T (event.Bytes c piece.now) result) }
-        ensures outcome { (T : Trace) → StandsFor self.old T → IsOutcome T (lent_by self.old) (event.Bytes c piece.now) result }
+        ensures stands { (T : Trace) → StandsFor self.old T → StandsFor self.new (followed_by T (event.Bytes c piece.now) result) }
+        ensures outcome { (T : Trace) → StandsFor self.old T → IsOutcome T (lent_by self.old) (event.Bytes c piece.now) (outcome_seen result) }
         ensures vault { vault_of self.new ≡ vault_of self.old }
     {
         let Some(link) = self.links.get_mut(&c) else {
@@ -125,8 +128,8 @@ impl<V: Vault> Office<V> {
     }
 
     fn took(&mut self, c: u64, octets: usize) -> Outcome
-        ensures stands { (T : Trace) → StandsFor self.old T → StandsFor self.new (given T (event.Took c octets) result) }
-        ensures outcome { (T : Trace) → StandsFor self.old T → IsOutcome T (lent_by self.old) (event.Took c octets) result }
+        ensures stands { (T : Trace) → StandsFor self.old T → StandsFor self.new (followed_by T (event.Took c octets) result) }
+        ensures outcome { (T : Trace) → StandsFor self.old T → IsOutcome T (lent_by self.old) (event.Took c octets) (outcome_seen result) }
         ensures vault { vault_of self.new ≡ vault_of self.old }
     {
         let Some(link) = self.links.get_mut(&c) else {
@@ -154,8 +157,8 @@ impl<V: Vault> Office<V> {
     }
 
     fn gone(&mut self, c: u64) -> Outcome
-        ensures stands { (T : Trace) → StandsFor self.old T → StandsFor self.new (given T (event.Gone c) result) }
-        ensures outcome { (T : Trace) → StandsFor self.old T → IsOutcome T (lent_by self.old) (event.Gone c) result }
+        ensures stands { (T : Trace) → StandsFor self.old T → StandsFor self.new (followed_by T (event.Gone c) result) }
+        ensures outcome { (T : Trace) → StandsFor self.old T → IsOutcome T (lent_by self.old) (event.Gone c) (outcome_seen result) }
         ensures vault { vault_of self.new ≡ vault_of self.old }
     {
         match self.links.remove(&c) {
@@ -166,8 +169,8 @@ impl<V: Vault> Office<V> {
 
     /// Does one event.
     pub fn step(&mut self, event: Event<'_>) -> Outcome
-        ensures stands { (T : Trace) → StandsFor self.old T → StandsFor self.new (given T (event_seen event.entry) result) }
-        ensures outcome { (T : Trace) → StandsFor self.old T → IsOutcome T (lent_by self.old) (event_seen event.entry) result }
+        ensures stands { (T : Trace) → StandsFor self.old T → StandsFor self.new (followed_by T (event_seen event.entry) result) }
+        ensures outcome { (T : Trace) → StandsFor self.old T → IsOutcome T (lent_by self.old) (event_seen event.entry) (outcome_seen result) }
         ensures vault { vault_of self.new ≡ vault_of self.old }
     {
         match event {
@@ -183,6 +186,7 @@ impl<V: Vault> Office<V> {
     /// `NoMemory(done)` where the transcript couldn't grow: exactly the first `done` events are done.
     pub fn run(&mut self, events: &[Event<'_>]) -> Result<Transcript, RunFault>
         ensures ok { IfOk result (λ steps. (T : Trace) → StandsFor self.old T → Follows events.now steps T self.new) }
+        ensures err_before_the_end { IfErr result (λ e. done_before e < length events.now) }
         ensures err { IfErr result (λ e. (steps : List Shown) × ((T : Trace) → StandsFor self.old T → Follows (take (done_before e) events.now) steps T self.new)) }
         ensures vault { vault_of self.new ≡ vault_of self.old }
     {
@@ -212,7 +216,7 @@ impl<V: Vault> Office<V> {
 
     /// A copy of the octets that an event would take.
     fn next_octets(&self, event: Event<'_>) -> Result<Vec<u8>, AllocError>
-        ensures { IfOk result (λ octets. (T : Trace) (outcome : Outcome) → StandsFor self.now T → IsOutcome T (lent_by self.now) (event_seen event.entry) outcome → octets.items ≡ octets_taken T (event_seen event.entry) (mark_of outcome)) }
+        ensures { IfOk result (λ octets. (T : Trace) (outcome : Outcome) → StandsFor self.now T → IsOutcome T (lent_by self.now) (event_seen event.entry) (outcome_seen outcome) → octets.items ≡ octets_taken T (event_seen event.entry) (mark_of (outcome_seen outcome))) }
     {
         let mut octets = Vec::new(self.alloc);
         if let Event::Took(c, count) = event {

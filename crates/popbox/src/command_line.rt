@@ -31,11 +31,22 @@ fn replay<'a>(alloc: Global) -> Result<Command<'a>, AllocError> {
         .arg(script)
 }
 
+/// `check-policy FILE`.
+fn check_policy<'a>(alloc: Global) -> Result<Command<'a>, AllocError> {
+    let file = Arg::new(alloc, "FILE")
+        .help("The policy's file")
+        .required(true);
+    Command::new(alloc, "check-policy")
+        .about("Checks a policy, and prints how many rules it has or its first fault")
+        .arg(file)
+}
+
 /// The whole command line.
 pub fn make_command<'a>(alloc: Global) -> Result<Command<'a>, AllocError> {
     Command::new(alloc, "popbox")
         .about("A POP3 server for shared maildrops")
         .subcommand_required(true)
         .arg_required_else_help(true)
-        .subcommand(replay(alloc)?)
+        .subcommand(replay(alloc)?)?
+        .subcommand(check_policy(alloc)?)
 }

@@ -1,22 +1,28 @@
 //! popbox, a POP3 server for shared maildrops: the program.
 #![tactic(auto)]
 
+mod check_policy;
+#[cfg(test)]
+mod check_policy_tests;
 mod command_line;
+mod fault;
 mod replay;
 mod script;
 #[cfg(test)]
 mod tests;
 
+use check_policy::check_policy;
 use clap::ArgMatches;
 use clap::error::ErrorKind;
 use command_line::make_command;
-use office::PlainVault;
-use replay::{Fault, replay, tell_fault};
+use fault::{Fault, read_fault, tell_fault};
+use replay::replay;
 use std::alloc::Global;
 use std::io::{BufWriter, Read, Write};
 use std::process::ExitCode;
 use std::rt::{Env, Files};
 use std::{env, fs, io};
+use vault::PlainVault;
 
 /// The exit status of a command line that can't be read.
 const UNREADABLE: u8 = 2;
@@ -41,12 +47,16 @@ where
         Err(error) if error.kind() == io::ErrorKind::OutOfMemory => {
             return Err(Fault::OutOfMemory);
         }
-        Err(_) => return Ok(UNREADABLE),
+        Err(_) => {
+            let _ = writeln!(err, "popbox: the command line isn't UTF-8");
+            return Ok(UNREADABLE);
+        }
     };
     let command = make_command(rt.alloc())?;
     match command.try_get_matches_from(words.as_slice()) {
         Ok(matches) => match matches.subcommand() {
             Some(("replay", options)) => run_replay(rt, options, err),
+            Some(("check-policy", options)) => run_check_policy(rt, options, err),
             _ => Ok(UNREADABLE),
         },
         Err(error) if error.kind() == ErrorKind::OutOfMemory => Err(Fault::OutOfMemory),
@@ -65,7 +75,7 @@ where
 {
     match options.get_str("SCRIPT") {
         Some(path) => {
-            let mut file = fs::open(rt, path).map_err(|_| Fault::CannotRead)?;
+            let mut file = fs::open(rt, path).map_err(|error| read_fault(&error))?;
             replay_from(rt, &mut file, options, err)
         }
         None => replay_from(rt, &mut rt.reader(), options, err),
@@ -88,7 +98,20 @@ where
     let host = options.get_str("host").unwrap_or("localhost");
     let boot = options.get_one::<u64>("boot").unwrap_or(1);
     let mut out = BufWriter::new(alloc, io::writer(rt)).map_err(|_| Fault::OutOfMemory)?;
-    let vault = PlainVault::new();
+    let vault = PlainVault::new(alloc);
     let (status, _) = replay(alloc, script, vault, host, boot, &mut out, err);
     Ok(status)
+}
+
+/// Runs `popbox check-policy`: prints to standard output how many rules the named file has.
+fn run_check_policy<R, E>(rt: &R, options: &ArgMatches<'_>, err: &mut E) -> Result<u8, Fault>
+where
+    R: Files + Print + AllocGlobal,
+    E: Write,
+{
+    let alloc: Global = rt.alloc();
+    let path = options.get_str("FILE").unwrap_or("");
+    let mut file = fs::open(rt, path).map_err(|error| read_fault(&error))?;
+    let mut out = BufWriter::new(alloc, io::writer(rt)).map_err(|_| Fault::OutOfMemory)?;
+    Ok(check_policy(alloc, &mut file, &mut out, err))
 }

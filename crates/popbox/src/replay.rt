@@ -2,80 +2,16 @@
 
 ghost use Rattle.std.specs.Prelude.{◌≤◌, ◌≡◌};
 
-use crate::script::{Line, ScriptFault, read_script};
-use office::{Event, Limits, Office, OpenFault, Outcome, Reason, Vault};
-use std::alloc::{AllocError, AllocFailed, Global};
-use std::io::{ErrorKind, Read, Write};
-use std::{fmt, io};
+use crate::fault::{Fault, read_fault, tell_fault};
+use crate::script::{Line, read_script};
+use office::{Event, Limits, Office, Outcome, Reason};
+use std::alloc::Global;
+use std::io;
+use std::io::{Read, Write};
+use vault::Vault;
 
 /// Seconds without an act after which a connection is ended.
 const IDLE_SECONDS: u32 = 600;
-
-/// Why a run stopped. Its text is what standard error says behind `popbox: `.
-#[derive(Clone, Copy, Debug, PartialEq, Eq)]
-pub enum Fault {
-    /// The script's file can't be opened or read.
-    CannotRead,
-    /// The script's line of this number, from 1, is no event.
-    BadEvent(u64),
-    /// The host name isn't of its form.
-    BadHost,
-    /// Standard output refuses octets.
-    CannotWrite,
-    /// Memory ran out.
-    OutOfMemory,
-}
-
-impl fmt::Display for Fault {
-    fn fmt<W: fmt::Write>(&self, f: &mut fmt::Formatter<W>) -> fmt::Result {
-        match self {
-            Fault::CannotRead => write!(f, "cannot read file"),
-            Fault::BadEvent(number) => write!(f, "line {number}: bad event"),
-            Fault::BadHost => write!(f, "BadHost"),
-            Fault::CannotWrite => write!(f, "cannot write"),
-            Fault::OutOfMemory => write!(f, "out of memory"),
-        }
-    }
-}
-
-impl From<AllocError> for Fault {
-    fn from(_: AllocError) -> Fault {
-        Fault::OutOfMemory
-    }
-}
-
-impl<T: Drop> From<AllocFailed<T>> for Fault {
-    fn from(_: AllocFailed<T>) -> Fault {
-        Fault::OutOfMemory
-    }
-}
-
-impl From<ScriptFault> for Fault {
-    fn from(fault: ScriptFault) -> Fault {
-        match fault {
-            ScriptFault::BadEvent(number) => Fault::BadEvent(number),
-            ScriptFault::NoMemory => Fault::OutOfMemory,
-        }
-    }
-}
-
-impl From<OpenFault> for Fault {
-    fn from(fault: OpenFault) -> Fault {
-        match fault {
-            OpenFault::BadHost => Fault::BadHost,
-            OpenFault::NoMemory => Fault::OutOfMemory,
-        }
-    }
-}
-
-/// Tells a fault on standard error, and gives the exit status, which is 1.
-/// Where `err` refuses octets the status alone tells it.
-pub fn tell_fault<E: Write>(err: &mut E, fault: Fault) -> u8
-    ensures { result ≡ 1 }
-{
-    let _ = writeln!(err, "popbox: {fault}");
-    1
-}
 
 /// Reads a whole script, opens an office over the vault, does the script's events in it, and
 /// prints the outcome of each to `out`, which is flushed at the end.
@@ -117,8 +53,7 @@ fn read_all<R: Read>(alloc: Global, script: &mut R) -> Result<Vec<Line>, Fault> 
     let mut text = Vec::new(alloc);
     match script.read_to_end(&mut text) {
         Ok(_) => Ok(read_script(alloc, text.as_slice())?),
-        Err(error) if error.kind() == ErrorKind::OutOfMemory => Err(Fault::OutOfMemory),
-        Err(_) => Err(Fault::CannotRead),
+        Err(error) => Err(read_fault(&error)),
     }
 }
 

@@ -3,28 +3,35 @@
 use crate::command_line::make_command;
 use crate::replay::{replay, write_escaped};
 use crate::script::{Line, read_script};
-use office::PlainVault;
 use std::alloc::{AllocError, Global};
 use std::io;
 use std::io::{ErrorKind, Read, Write};
 use std::test::Fail;
+use vault::PlainVault;
 
 const GREETING: &str = r"+OK POP3 server ready";
 
 const CAPABILITIES: &str =
     r"+OK capability list follows\r\nTOP\r\nUSER\r\nUIDL\r\nRESP-CODES\r\nPIPELINING\r\n.\r\n";
 
-/// What a run of a script leaves: the exit status, standard output and standard error.
+/// What a run leaves: the exit status, standard output and standard error.
 #[derive(Debug, PartialEq, Eq, Drop)]
-struct Ran {
+pub struct Ran {
     status: u8,
     out: String,
     err: String,
 }
 
 impl Ran {
+    /// A run with this exit status, standard output and standard error.
+    pub fn new(status: u8, out: Vec<u8>, err: Vec<u8>) -> Result<Ran, Fail> {
+        let out = String::from_utf8(out).map_err(|_| "out")?;
+        let err = String::from_utf8(err).map_err(|_| "err")?;
+        Ok(Ran { status, out, err })
+    }
+
     /// A run that prints `out` and has no fault.
-    fn good(alloc: Global, out: &str) -> Result<Ran, AllocError> {
+    pub fn good(alloc: Global, out: &str) -> Result<Ran, AllocError> {
         Ok(Ran {
             status: 0,
             out: String::from_str(alloc, out)?,
@@ -33,7 +40,7 @@ impl Ran {
     }
 
     /// A run that has a fault, and prints nothing.
-    fn fault(alloc: Global, err: &str) -> Result<Ran, AllocError> {
+    pub fn fault(alloc: Global, err: &str) -> Result<Ran, AllocError> {
         Ok(Ran {
             status: 1,
             out: String::new(alloc),
@@ -47,11 +54,9 @@ fn run_at(alloc: Global, host: &str, script: &[u8]) -> Result<Ran, Fail> {
     let mut script = script;
     let mut out = Vec::new(alloc);
     let mut err = Vec::new(alloc);
-    let vault = PlainVault::new();
+    let vault = PlainVault::new(alloc);
     let (status, _) = replay(alloc, &mut script, vault, host, 7, &mut out, &mut err);
-    let out = String::from_utf8(out).map_err(|_| "out")?;
-    let err = String::from_utf8(err).map_err(|_| "err")?;
-    Ok(Ran { status, out, err })
+    Ran::new(status, out, err)
 }
 
 /// Runs a script at the host name of the worked examples.
@@ -142,6 +147,114 @@ fn outcomes(rt: HostRuntime) -> Result<(), Fail> {
 }
 
 #[test]
+fn two_connections_interleaved(rt: HostRuntime) -> Result<(), Fail> {
+    let alloc = rt.alloc();
+    let script = "connect\nconnect\ndrain 2\nbytes 2 CA\nbytes 1 NOOP\\r\\n\ndrain 1\n\
+        bytes 1 NOOP\\r\\nQUIT\\r\\n\nbytes 2 PA\\r\\nNOOP\\r\\n\ndrain 1\ndrain 1\ndrain 2\ngone 2\ndrain 2\n";
+    let want = format!(in alloc;
+        "opened 1\nopened 2\nsent 2 {GREETING} <2.7@h.test>\\r\\n\ndone\ndone\nignored: NotReady\n\
+        sent 1 {GREETING} <1.7@h.test>\\r\\n\ndone\ndone\ndone\n\
+        sent 1 -ERR wrong state\\r\\n+OK bye\\r\\n\ndone\nended 1\ndone\n"
+    )?;
+    let want = format!(in alloc;
+        "{want}sent 2 {CAPABILITIES}-ERR wrong state\\r\\n\ndone\ndone\nended 2\ndone\n"
+    )?;
+    assert_eq!(rt; run(alloc, script)?, Ran::good(alloc, want.as_str())?);
+    Ok(())
+}
+
+#[test]
+fn too_many_connections(rt: HostRuntime) -> Result<(), Fail> {
+    let alloc = rt.alloc();
+    let mut script = String::new(alloc);
+    let mut want = String::new(alloc);
+    for number in 1..=64 {
+        writeln!(script, "connect")?;
+        writeln!(want, "opened {number}")?;
+    }
+    writeln!(script, "connect\ngone 3\nconnect\nconnect")?;
+    writeln!(
+        want,
+        "ignored: TooManyConnections\ndone\nended 3\nopened 65\nignored: TooManyConnections"
+    )?;
+    assert_eq!(rt;
+        run(alloc, script.as_str())?,
+        Ran::good(alloc, want.as_str())?
+    );
+    Ok(())
+}
+
+/// Gives a connection's lines one at a time, and checks the reply to each. The last one ends it.
+fn converse(alloc: Global, rows: &[(&str, &str)]) -> Result<(Ran, Ran), Fail> {
+    let mut script = String::from_str(alloc, "connect\ndrain 1\n")?;
+    let mut want = format!(in alloc; "opened 1\nsent 1 {GREETING} <1.7@h.test>\\r\\n\ndone\n")?;
+    for (line, reply) in rows {
+        writeln!(script, "bytes 1 {line}\\r\\n\ndrain 1")?;
+        writeln!(want, "done\nsent 1 {reply}\\r\\n\ndone")?;
+    }
+    writeln!(want, "ended 1")?;
+    Ok((
+        run(alloc, script.as_str())?,
+        Ran::good(alloc, want.as_str())?,
+    ))
+}
+
+#[test]
+fn third_failed_login_closes(rt: HostRuntime) -> Result<(), Fail> {
+    let alloc = rt.alloc();
+    let rows = [
+        ("USER ann/orders", "+OK send PASS"),
+        ("PASS wrong", "-ERR login failed"),
+        ("user ann/orders ", "+OK send PASS"),
+        ("PASS wrong", "-ERR login failed"),
+        ("USER ann/orders", "+OK send PASS"),
+        ("PASS wrong", "-ERR login failed, closing"),
+    ];
+    let (ran, want) = converse(alloc, rows.as_slice())?;
+    assert_eq!(rt; ran, want);
+    let rows = [
+        ("USER ann/orders", "+OK send PASS"),
+        ("PASS wrong", "-ERR login failed"),
+        (
+            "APOP mrose/orders c4c9334bac560ecc979e58001b3e22fb",
+            "-ERR login failed",
+        ),
+        (
+            "APOP mrose/orders C4C9334BAC560ECC979E58001B3E22FB",
+            "-ERR login failed, closing",
+        ),
+    ];
+    let (ran, want) = converse(alloc, rows.as_slice())?;
+    assert_eq!(rt; ran, want);
+    Ok(())
+}
+
+#[test]
+fn user_name_in_force(rt: HostRuntime) -> Result<(), Fail> {
+    let alloc = rt.alloc();
+    let capabilities = CAPABILITIES.strip_suffix(r"\r\n").unwrap_or("");
+    let rows = [
+        ("PASS s3 cret", "-ERR wrong state"),
+        ("USER ann", "-ERR bad arguments"),
+        ("PASS s3 cret", "-ERR wrong state"),
+        ("USER ann/orders", "+OK send PASS"),
+        ("XYZZY", "-ERR unknown command"),
+        ("PASS s3 cret", "-ERR wrong state"),
+        ("USER ann/orders", "+OK send PASS"),
+        ("CAPA", capabilities),
+        ("PASS s3 cret", "-ERR login failed"),
+        ("PASS s3 cret", "-ERR wrong state"),
+        ("STAT", "-ERR wrong state"),
+        ("RETR x", "-ERR wrong state"),
+        ("", "-ERR unknown command"),
+        ("QUIT", "+OK bye"),
+    ];
+    let (ran, want) = converse(alloc, rows.as_slice())?;
+    assert_eq!(rt; ran, want);
+    Ok(())
+}
+
+#[test]
 fn piece_too_long(rt: HostRuntime) -> Result<(), Fail> {
     let alloc = rt.alloc();
     let script = format!(in alloc;
@@ -227,7 +340,7 @@ fn bad_host(rt: HostRuntime) -> Result<(), Fail> {
 
 /// Standard output or a file that refuses every call.
 #[derive(Drop)]
-struct Refusing;
+pub struct Refusing;
 
 impl Read for Refusing {
     fn read(&mut self, _: &mut [u8]) -> io::Result<usize> {
@@ -249,7 +362,7 @@ impl Write for Refusing {
 fn refused_files(rt: HostRuntime) -> Result<(), Fail> {
     let alloc = rt.alloc();
     let mut err = Vec::new(alloc);
-    let vault = PlainVault::new();
+    let vault = PlainVault::new(alloc);
     let (status, vault) = replay(alloc, &mut Refusing, vault, "h", 1, &mut Refusing, &mut err);
     assert_eq!(rt; status, 1);
     let mut script = b"connect".as_slice();
@@ -274,6 +387,15 @@ fn command_lines(rt: HostRuntime) -> Result<(), Fail> {
     assert_eq!(rt; options.get_str("host"), Some("localhost"));
     assert_eq!(rt; options.get_one::<u64>("boot"), Some(1));
     assert_eq!(rt; options.get_str("SCRIPT"), None);
+    let command = make_command(alloc)?;
+    let matches = command.try_get_matches_from(&["popbox", "check-policy", "office.toml"])?;
+    let Some(("check-policy", options)) = matches.subcommand() else {
+        return Err(Fail::from("no subcommand"));
+    };
+    assert_eq!(rt; options.get_str("FILE"), Some("office.toml"));
+    let command = make_command(alloc)?;
+    let error = command.try_get_matches_from(&["popbox", "check-policy"]);
+    assert_eq!(rt; error.err().map(|error| error.exit_code()), Some(2));
     let faults = [
         (["popbox", "replay", "--help"], 0),
         (["popbox", "replay", "--turns"], 2),

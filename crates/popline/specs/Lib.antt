@@ -1,4 +1,6 @@
 pub mod Cutting
 pub mod Commands
+pub mod Spelling
 pub mod Replies
+pub mod ReplyForm
 pub mod Seen

@@ -22,9 +22,24 @@ cuts_seen (Some c) = cut_seen c ∷ []
 
 abbrev pub command_seen : Command → commands.Command
 command_seen command.Capa = commands.Capa
+command_seen (command.User name) = commands.User name
+command_seen (command.Pass password) = commands.Pass password.now
+command_seen (command.Apop name digest) = commands.Apop name digest
 command_seen command.Quit = commands.Quit
-command_seen command.List = commands.ListAll
+command_seen command.Stat = commands.Stat
+command_seen (command.List None) = commands.ListAll
+command_seen (command.List (Some n)) = commands.ListOne n
+command_seen (command.Uidl None) = commands.UidlAll
+command_seen (command.Uidl (Some n)) = commands.UidlOne n
+command_seen (command.Retr n) = commands.Retr n
+command_seen (command.Top n lines) = commands.Top n lines
+command_seen (command.Dele n) = commands.Dele n
+command_seen command.Rset = commands.Rset
 command_seen command.Noop = commands.Noop
+
+abbrev pub found_seen : Option Command → Option commands.Command
+found_seen None = None
+found_seen (Some c) = Some (command_seen c)
 
 abbrev pub reading_seen : Result Command LineFault → Result commands.Command LineFault
 reading_seen (Ok c) = Ok (command_seen c)
@@ -37,4 +52,23 @@ reply_seen reply.UnknownCommand = replies.UnknownCommand
 reply_seen reply.WrongState = replies.WrongState
 reply_seen reply.BadArguments = replies.BadArguments
 reply_seen reply.Capabilities = replies.Capabilities
+reply_seen reply.SendPass = replies.SendPass
+reply_seen reply.LoginFailed = replies.LoginFailed
+reply_seen reply.LoginFailedClosing = replies.LoginFailedClosing
+reply_seen (reply.DeniedBy rule) = replies.DeniedBy rule
+reply_seen reply.NoSuchMaildrop = replies.NoSuchMaildrop
+reply_seen reply.InUse = replies.InUse
+reply_seen (reply.MaildropHas messages octets) = replies.MaildropHas messages octets
+reply_seen (reply.DropListing messages octets) = replies.DropListing messages octets
+reply_seen (reply.ScanLine number octets) = replies.ScanLine number octets
+reply_seen (reply.UidLine number uid) = replies.UidLine number uid
+reply_seen (reply.Message octets stuffed_lines) = replies.Message octets stuffed_lines.now
+reply_seen (reply.TopPart stuffed_lines) = replies.TopPart stuffed_lines.now
+reply_seen (reply.Marked number) = replies.Marked number
+reply_seen reply.Okay = replies.Okay
+reply_seen reply.NoSuchMessage = replies.NoSuchMessage
+reply_seen (reply.AlreadyMarked number) = replies.AlreadyMarked number
 reply_seen reply.Bye = replies.Bye
+reply_seen (reply.RemovalDenied rule) = replies.RemovalDenied rule
+reply_seen reply.RemovalFailed = replies.RemovalFailed
+reply_seen reply.StoreFailed = replies.StoreFailed

@@ -1,28 +1,71 @@
-//! What a command line says (RFC 1939, 3 to 7; RFC 2449, 5).
+//! What a command line says (RFC 1939, 3 to 7; RFC 2449, 4 and 5).
 
-ghost use Rattle.std.specs.Prelude.{◌≡◌, ◌==◌, ◌<◌, length, IfSome};
-ghost use Rattle.std.specs.List.{list_all, position, before_first, after_first};
-ghost use Rattle.popline.specs.Commands.{command_of, keywords, keyword_in, alone as alone_of};
-ghost use Rattle.popline.specs.Seen.{reading_seen, command_seen};
+ghost use Rattle.std.specs.Prelude.{◌≡◌};
+ghost use Rattle.popline.specs.Commands.{command_of, command_with, keywords, keyword_in, keyword_of, with_arguments, alone as alone_of, with_one as with_one_of, with_two as with_two_of, with_password};
+ghost use Rattle.popline.specs.Commands.{arguments as arguments_of};
+ghost use Rattle.popline.specs.Seen.{reading_seen, command_seen, found_seen};
 
-/// The first word of a command line, in capitals or small letters.
+use crate::arguments::{read_digest, read_number, split_once, split_word, without_trailing_spaces};
+use creds::LoginName;
+
+/// The first word of a command line, in letters of any case.
 #[derive(Clone, Copy, Debug, PartialEq, Eq)]
 pub enum Keyword {
+    /// Capabilities (RFC 2449, 5).
     Capa,
+    /// A name to log in (RFC 1939, 7).
+    User,
+    /// The password of that name (RFC 1939, 7).
+    Pass,
+    /// A name and a digest to log in (RFC 1939, 7).
+    Apop,
+    /// The end (RFC 1939, 4 and 6).
     Quit,
+    /// Messages and octets (RFC 1939, 5).
+    Stat,
+    /// The scan listing (RFC 1939, 5).
     List,
+    /// Unique-ids (RFC 1939, 7).
+    Uidl,
+    /// A message (RFC 1939, 5).
+    Retr,
+    /// A part of a message (RFC 1939, 7).
+    Top,
+    /// A mark on a message (RFC 1939, 5).
+    Dele,
+    /// No mark on any (RFC 1939, 5).
+    Rset,
+    /// Nothing (RFC 1939, 5).
     Noop,
 }
 
-/// What a command line asks for.
+/// What a command line asks for. A number that is written above 2^64 - 1 counts as that.
 #[derive(Clone, Copy, Debug, PartialEq, Eq)]
-pub enum Command {
+pub enum Command<'a> {
     /// The list of capabilities (RFC 2449, 5).
     Capa,
+    /// The name under which PASS will log in (RFC 1939, 7).
+    User(LoginName),
+    /// The password, of one octet or more, of the name that USER gave (RFC 1939, 7).
+    Pass(&'a [u8]),
+    /// The login by a digest of the timestamp and a secret (RFC 1939, 7).
+    Apop(LoginName, [u8; 16]),
     /// The end of the connection (RFC 1939, 4 and 6).
     Quit,
-    /// A scan listing (RFC 1939, 5).
-    List,
+    /// The number of messages and their octets (RFC 1939, 5).
+    Stat,
+    /// The scan listing of all messages, or of one number (RFC 1939, 5).
+    List(Option<u64>),
+    /// The unique-ids of all messages, or of one number (RFC 1939, 7).
+    Uidl(Option<u64>),
+    /// The message of a number (RFC 1939, 5).
+    Retr(u64),
+    /// Of the message of a number, the header and so many lines of the body (RFC 1939, 7).
+    Top(u64, u64),
+    /// The message of a number, to be removed at QUIT (RFC 1939, 5).
+    Dele(u64),
+    /// No message to be removed at QUIT (RFC 1939, 5).
+    Rset,
     /// Nothing (RFC 1939, 5).
     Noop,
 }
@@ -36,73 +79,150 @@ pub enum LineFault {
     Syntax(Keyword),
 }
 
-impl Command {
-    /// Reads a line, without its end, as a command. The keyword is what stands before the first space; spaces at the end are
-    /// ignored. `Unknown` where there is no such keyword, else `Syntax` where something stands behind it.
-    pub fn read(line: &[u8]) -> Result<Command, LineFault>
+impl<'a> Command<'a> {
+    /// Reads a line, without its end, as a command.
+    ///
+    /// The keyword is what stands before the first space. One space stands before each argument; spaces at the end are
+    /// ignored. Of PASS all that stands behind the first space is the password. `Unknown` comes where there is no such
+    /// keyword, else `Syntax` where the arguments don't fit it.
+    pub fn read(line: &'a [u8]) -> Result<Command<'a>, LineFault>
         ensures { reading_seen result ≡ command_of line.now }
     {
-        let (word, rest) = split_word(line);
-        match keyword_spelled(word) {
-            None => Err(LineFault::Unknown),
-            Some(keyword) if is_blank(rest) => Ok(keyword.alone()),
-            Some(keyword) => Err(LineFault::Syntax(keyword)),
+        let Some(keyword) = Keyword::spelled(split_word(line).0) else {
+            return Err(LineFault::Unknown);
+        };
+        match keyword.command(line) {
+            Some(command) => Ok(command),
+            None => Err(LineFault::Syntax(keyword)),
+        }
+    }
+
+    /// The keyword of a line that spells this command.
+    pub fn keyword(&self) -> Keyword
+        ensures { result ≡ keyword_of (command_seen self.now) }
+    {
+        match self {
+            Command::Capa => Keyword::Capa,
+            Command::User(_) => Keyword::User,
+            Command::Pass(_) => Keyword::Pass,
+            Command::Apop(_, _) => Keyword::Apop,
+            Command::Quit => Keyword::Quit,
+            Command::Stat => Keyword::Stat,
+            Command::List(_) => Keyword::List,
+            Command::Uidl(_) => Keyword::Uidl,
+            Command::Retr(_) => Keyword::Retr,
+            Command::Top(_, _) => Keyword::Top,
+            Command::Dele(_) => Keyword::Dele,
+            Command::Rset => Keyword::Rset,
+            Command::Noop => Keyword::Noop,
         }
     }
 }
 
 impl Keyword {
+    /// The keyword that a word is, in letters of any case.
+    fn spelled(word: &[u8]) -> Option<Keyword>
+        ensures { result ≡ keyword_in keywords word.now }
+    {
+        if word.eq_ignore_ascii_case(b"capa") {
+            Some(Keyword::Capa)
+        } else if word.eq_ignore_ascii_case(b"user") {
+            Some(Keyword::User)
+        } else if word.eq_ignore_ascii_case(b"pass") {
+            Some(Keyword::Pass)
+        } else if word.eq_ignore_ascii_case(b"apop") {
+            Some(Keyword::Apop)
+        } else if word.eq_ignore_ascii_case(b"quit") {
+            Some(Keyword::Quit)
+        } else if word.eq_ignore_ascii_case(b"stat") {
+            Some(Keyword::Stat)
+        } else if word.eq_ignore_ascii_case(b"list") {
+            Some(Keyword::List)
+        } else if word.eq_ignore_ascii_case(b"uidl") {
+            Some(Keyword::Uidl)
+        } else if word.eq_ignore_ascii_case(b"retr") {
+            Some(Keyword::Retr)
+        } else if word.eq_ignore_ascii_case(b"top") {
+            Some(Keyword::Top)
+        } else if word.eq_ignore_ascii_case(b"dele") {
+            Some(Keyword::Dele)
+        } else if word.eq_ignore_ascii_case(b"rset") {
+            Some(Keyword::Rset)
+        } else if word.eq_ignore_ascii_case(b"noop") {
+            Some(Keyword::Noop)
+        } else {
+            None
+        }
+    }
+
+    /// The command that a line of this keyword spells.
+    fn command<'a>(self, line: &'a [u8]) -> Option<Command<'a>>
+        ensures { found_seen result ≡ command_with self line.now }
+    {
+        if self == Keyword::Pass {
+            return password(split_word(line).1);
+        }
+        let trimmed = without_trailing_spaces(line);
+        let Some((_, rest)) = split_once(trimmed) else {
+            return self.alone();
+        };
+        let Some((first, second)) = split_once(rest) else {
+            return self.with_one(rest);
+        };
+        match split_once(second) {
+            None => self.with_two(first, second),
+            Some(_) => None,
+        }
+    }
+
     /// The command of this keyword without arguments.
-    fn alone(self) -> Command
-        ensures { command_seen result ≡ alone_of self }
+    fn alone<'a>(self) -> Option<Command<'a>>
+        ensures { found_seen result ≡ alone_of self }
     {
         match self {
-            Keyword::Capa => Command::Capa,
-            Keyword::Quit => Command::Quit,
-            Keyword::List => Command::List,
-            Keyword::Noop => Command::Noop,
+            Keyword::Capa => Some(Command::Capa),
+            Keyword::Quit => Some(Command::Quit),
+            Keyword::Stat => Some(Command::Stat),
+            Keyword::List => Some(Command::List(None)),
+            Keyword::Uidl => Some(Command::Uidl(None)),
+            Keyword::Rset => Some(Command::Rset),
+            Keyword::Noop => Some(Command::Noop),
+            _ => None,
+        }
+    }
+
+    /// The command of this keyword with one argument.
+    fn with_one<'a>(self, argument: &[u8]) -> Option<Command<'a>>
+        ensures { found_seen result ≡ with_one_of self argument.now }
+    {
+        match self {
+            Keyword::User => Some(Command::User(LoginName::read(argument)?)),
+            Keyword::List => Some(Command::List(Some(read_number(argument)?))),
+            Keyword::Uidl => Some(Command::Uidl(Some(read_number(argument)?))),
+            Keyword::Retr => Some(Command::Retr(read_number(argument)?)),
+            Keyword::Dele => Some(Command::Dele(read_number(argument)?)),
+            _ => None,
+        }
+    }
+
+    /// The command of this keyword with two arguments.
+    fn with_two<'a>(self, first: &[u8], second: &[u8]) -> Option<Command<'a>>
+        ensures { found_seen result ≡ with_two_of self first.now second.now }
+    {
+        match self {
+            Keyword::Apop => Some(Command::Apop(LoginName::read(first)?, read_digest(second)?)),
+            Keyword::Top => Some(Command::Top(read_number(first)?, read_number(second)?)),
+            _ => None,
         }
     }
 }
 
-/// The keyword that a word spells in letters of any case.
-fn keyword_spelled(word: &[u8]) -> Option<Keyword>
-    ensures { result ≡ keyword_in keywords word.now }
+/// The command PASS of a password, which isn't empty.
+fn password(octets: &[u8]) -> Option<Command<'_>>
+    ensures { found_seen result ≡ with_password octets.now }
 {
-    if word.eq_ignore_ascii_case(b"capa") {
-        Some(Keyword::Capa)
-    } else if word.eq_ignore_ascii_case(b"quit") {
-        Some(Keyword::Quit)
-    } else if word.eq_ignore_ascii_case(b"list") {
-        Some(Keyword::List)
-    } else if word.eq_ignore_ascii_case(b"noop") {
-        Some(Keyword::Noop)
-    } else {
-        None
+    match octets {
+        [] => None,
+        _ => Some(Command::Pass(octets)),
     }
-}
-
-/// What stands before the first space, or all, and what stands behind it.
-fn split_word(line: &[u8]) -> (&[u8], &[u8])
-    ensures word { result.0.now ≡ before_first (λ b. b == 32) line.now }
-    ensures rest { result.1.now ≡ after_first (λ b. b == 32) line.now }
-{
-    match first_space(line) {
-        Some(at) => (&line[..at], &line[at + 1..]),
-        None => (line, &[]),
-    }
-}
-
-fn first_space(line: &[u8]) -> Option<usize>
-    ensures value { result ≡ position (λ b. b == 32) line.now }
-    ensures within { IfSome result (λ at. at < length line.now) }
-{
-    line.iter().position(|b| *b == b' ')
-}
-
-/// Whether there are only spaces.
-fn is_blank(rest: &[u8]) -> bool
-    ensures { result ≡ list_all (λ b. b == 32) rest.now }
-{
-    rest.iter().all(|b| *b == b' ')
 }

@@ -1,12 +1,15 @@
-//! What a POP3 server says, octet by octet (RFC 1939, 3; RFC 2449, 5 and 8).
+//! What a POP3 server says, octet by octet (RFC 1939, 3 to 7; RFC 2449, 5 and 8).
 
-ghost use Rattle.std.specs.Prelude.{◌≡◌, ◌++◌, OnOk, OnErr, IfOk, string_bytes};
-ghost use Rattle.popline.specs.Replies.{bytes_of, Greeting};
+ghost use Rattle.std.specs.Prelude.{◌≡◌, ◌++◌, OnOk, OnErr, codes, string_bytes, take, vec_len};
+ghost use Rattle.popline.specs.Replies.{bytes_of};
 ghost use Rattle.popline.specs.Seen.{reply_seen};
 
+use crate::texts;
+use creds::{Name, Uid};
 use std::alloc::{AllocError, Global};
 
-/// A reply, one for each thing that a server has to say.
+/// A reply, one for each thing that a server has to say. Listings are put line by line (`begin_scan_listing`,
+/// `begin_uid_listing`), so that no copy of theirs is made.
 #[derive(Clone, Copy, Debug)]
 pub enum Reply<'a> {
     /// The first line of a connection, with the timestamp that APOP signs (RFC 1939, 4 and 7).
@@ -28,8 +31,74 @@ pub enum Reply<'a> {
     BadArguments,
     /// The list of capabilities (RFC 2449, 5).
     Capabilities,
+    /// A name was given, and its password may follow.
+    SendPass,
+    /// No clerk has that credential.
+    LoginFailed,
+    /// The same, after which the server closes the connection.
+    LoginFailedClosing,
+    /// The rule of this name denies the command, or `default` where no rule allows it.
+    DeniedBy(Name),
+    /// There is no maildrop of that name.
+    NoSuchMaildrop,
+    /// Another session holds the maildrop's lock (RFC 2449, 8.1.2).
+    InUse,
+    /// A login was accepted, or all marks were taken away: what the session sees.
+    MaildropHas {
+        /// How many messages.
+        messages: u64,
+        /// Their octets.
+        octets: u64,
+    },
+    /// The drop listing (RFC 1939, 5).
+    DropListing {
+        /// How many messages aren't marked.
+        messages: u64,
+        /// Their octets.
+        octets: u64,
+    },
+    /// The scan listing of one message (RFC 1939, 5).
+    ScanLine {
+        /// The message's number.
+        number: u64,
+        /// Its octets.
+        octets: u64,
+    },
+    /// The unique-id of one message (RFC 1939, 7).
+    UidLine {
+        /// The message's number.
+        number: u64,
+        /// Its unique-id.
+        uid: Uid,
+    },
+    /// A message (RFC 1939, 5).
+    Message {
+        /// Its octets, added dots not counted.
+        octets: u64,
+        /// Its lines as they are sent, dots added, each with its CRLF.
+        stuffed_lines: &'a [u8],
+    },
+    /// A message's header and the first lines of its body (RFC 1939, 7).
+    TopPart {
+        /// The lines as they are sent, dots added, each with its CRLF.
+        stuffed_lines: &'a [u8],
+    },
+    /// The message of this number is to be removed at QUIT.
+    Marked(u64),
+    /// There is nothing to say.
+    Okay,
+    /// No message has the number.
+    NoSuchMessage,
+    /// The message of this number is marked already.
+    AlreadyMarked(u64),
     /// The farewell.
     Bye,
+    /// The farewell where the rule of this name denies the removal of a marked message.
+    RemovalDenied(Name),
+    /// The farewell where the store refused to remove the marked messages.
+    RemovalFailed,
+    /// The store refused.
+    StoreFailed,
 }
 
 impl Reply<'_> {
@@ -39,8 +108,9 @@ impl Reply<'_> {
         ensures err { OnErr result (out.new.items ≡ out.old.items) }
     {
         match self {
-            Reply::Greeting { number, boot, host } => put_greeting(
-                alloc, out, *number, *boot, *host,
+            Reply::Greeting { number, boot, host } => put_text(
+                out,
+                texts::greeting(alloc, *number, *boot, *host)?,
             ),
             Reply::LineTooLong => out.extend_from_slice(b"-ERR line too long\r\n"),
             Reply::UnknownCommand => out.extend_from_slice(b"-ERR unknown command\r\n"),
@@ -49,27 +119,81 @@ impl Reply<'_> {
             Reply::Capabilities => out.extend_from_slice(
                 b"+OK capability list follows\r\nTOP\r\nUSER\r\nUIDL\r\nRESP-CODES\r\nPIPELINING\r\n.\r\n",
             ),
+            Reply::SendPass => out.extend_from_slice(b"+OK send PASS\r\n"),
+            Reply::LoginFailed => out.extend_from_slice(b"-ERR login failed\r\n"),
+            Reply::LoginFailedClosing => out.extend_from_slice(b"-ERR login failed, closing\r\n"),
+            Reply::DeniedBy(rule) => put_text(out, texts::denied_by(alloc, *rule)?),
+            Reply::NoSuchMaildrop => out.extend_from_slice(b"-ERR no such maildrop\r\n"),
+            Reply::InUse => out.extend_from_slice(b"-ERR [IN-USE] maildrop is in use\r\n"),
+            Reply::MaildropHas { messages, octets } => put_text(
+                out,
+                texts::maildrop_has(alloc, *messages, *octets)?,
+            ),
+            Reply::DropListing { messages, octets } => put_text(
+                out,
+                texts::drop_listing(alloc, *messages, *octets)?,
+            ),
+            Reply::ScanLine { number, octets } => put_text(
+                out,
+                texts::scan_line(alloc, *number, *octets)?,
+            ),
+            Reply::UidLine { number, uid } => put_text(out, texts::uid_line(alloc, *number, *uid)?),
+            Reply::Message {
+                octets,
+                stuffed_lines,
+            } => put_lines(
+                out,
+                texts::message_follows(alloc, *octets)?.as_bytes(),
+                *stuffed_lines,
+            ),
+            Reply::TopPart { stuffed_lines } => put_lines(
+                out,
+                b"+OK top follows\r\n",
+                *stuffed_lines,
+            ),
+            Reply::Marked(number) => put_text(out, texts::marked(alloc, *number)?),
+            Reply::Okay => out.extend_from_slice(b"+OK\r\n"),
+            Reply::NoSuchMessage => out.extend_from_slice(b"-ERR no such message\r\n"),
+            Reply::AlreadyMarked(number) => put_text(out, texts::already_marked(alloc, *number)?),
             Reply::Bye => out.extend_from_slice(b"+OK bye\r\n"),
+            Reply::RemovalDenied(rule) => put_text(out, texts::removal_denied(alloc, *rule)?),
+            Reply::RemovalFailed => out.extend_from_slice(
+                b"-ERR some deleted messages not removed\r\n",
+            ),
+            Reply::StoreFailed => out.extend_from_slice(b"-ERR store failed\r\n"),
         }
     }
 }
 
-fn put_greeting(
-    alloc: Global,
-    out: &mut Vec<u8>,
-    number: u64,
-    boot: u64,
-    host: &str,
-) -> Result<(), AllocError>
-    ensures ok { OnOk result (out.new.items ≡ out.old.items ++ bytes_of (Greeting number boot host.now)) }
+/// Appends a text.
+fn put_text(out: &mut Vec<u8>, text: String) -> Result<(), AllocError>
+    ensures ok { OnOk result (out.new.items ≡ out.old.items ++ string_bytes text) }
     ensures err { OnErr result (out.new.items ≡ out.old.items) }
 {
-    out.extend_from_slice(greeting_text(alloc, number, boot, host)?.as_bytes())
+    out.extend_from_slice(text.as_bytes())
 }
 
-fn greeting_text(alloc: Global, number: u64, boot: u64, host: &str) -> Result<String, AllocError>
-    ensures { IfOk result (λ text. string_bytes text ≡ bytes_of (Greeting number boot host.now)) }
+/// Appends a first line, other lines and the line of the dot. After an error nothing is appended.
+fn put_lines(out: &mut Vec<u8>, first: &[u8], lines: &[u8]) -> Result<(), AllocError>
+    ensures ok { OnOk result (out.new.items ≡ out.old.items ++ (first.now ++ lines.now ++ codes ".\r\n")) }
+    ensures err { OnErr result (out.new.items ≡ out.old.items) }
 {
-    let text = format!(in alloc; "+OK POP3 server ready <{number}.{boot}@{host}>\r\n")?;
-    Ok(text)
+    let before = out.len();
+    match append_lines(out, first, lines) {
+        Ok(()) => Ok(()),
+        Err(error) => {
+            out.truncate(before);
+            Err(error)
+        }
+    }
+}
+
+/// The same, where an error may leave a part of it behind what was there.
+fn append_lines(out: &mut Vec<u8>, first: &[u8], lines: &[u8]) -> Result<(), AllocError>
+    ensures ok { OnOk result (out.new.items ≡ out.old.items ++ (first.now ++ lines.now ++ codes ".\r\n")) }
+    ensures err { OnErr result (take (vec_len out.old) out.new.items ≡ out.old.items) }
+{
+    out.extend_from_slice(first)?;
+    out.extend_from_slice(lines)?;
+    out.extend_from_slice(b".\r\n")
 }

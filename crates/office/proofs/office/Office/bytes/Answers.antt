@@ -1,11 +1,12 @@
-use Rattle.std.proofs.Common.{◌≡◌, ◌≤◌, [], ◌∷◌, length, Some, sym, ◌∙◌, nat_cmp, subst, rules, refl}
+use Rattle.std.proofs.Common.{◌≡◌, ◌≤◌, [], length, Some, sym, ◌∙◌, nat_cmp, subst, rules, refl}
 use Rattle.std.specs.BTreeMap.{get}
-use Rattle.office.specs.Events.{Bytes, Tagged}
+use Rattle.office.specs.Events.{Bytes, Tagged, given}
 use Rattle.office.specs.History.{Done, NoMemory}
-use Rattle.office.specs.Outcomes.{most_in_a_piece}
+use Rattle.office.specs.Expected.{most_in_a_piece}
 use Rattle.office.specs.Kept.{Kept}
 use Rattle.office.specs.Stands.{Matches, IsKeptFor, seen}
-use Rattle.office.proofs.Events.{moved, seen-bytes_other, office-bytes, closed-bytes, next_there, is_apart, heard, awaits_bytes}
+use Rattle.office.proofs.Events.{moved, seen-bytes_other, whole-bytes, closed-bytes, next_there, is_apart, heard, awaits_bytes}
+use Rattle.office.proofs.Keeping.{found_empty}
 use Rattle.office.proofs.Hearing.{streamed}
 use Rattle.office.proofs.office.Office.bytes.Goals as goal
 
@@ -21,23 +22,24 @@ returns-in-Ok-clause-stands g c T st =
     let fits : length p ≤ most_in_a_piece = search rules in
     let updates = (c.get_mut.follows.holds k').3 (search rules) in
     let kept : get nat_cmp (c.get_mut.follows.lender k') n ≡ Some k' = updates.1 in
-    let here : Matches (seen ((Bytes n p, Tagged Done) ∷ T) n) k' = heard T n p k k' (awaits_bytes (seen T n) k p m nothing fits) c.in-Ok.ensures.ok c.in-Ok.ensures.lines in
-    moved c.args.self.now _ T _ n st refl refl refl refl (office-bytes T n p Done) refl refl (rw found refl) (λ q e. seen-bytes_other T n q p Done e) (λ q ne. updates.2 q (is_apart n q ne))
+    let here : Matches (seen (given T (Bytes n p) (Tagged Done)) n) k' = heard T n st.no_clerks p k k' (awaits_bytes (seen T n) k p m nothing fits) c.in-Ok.ensures.ok c.in-Ok.ensures.lines in
+    moved c.args.self.now _ T (Bytes n p) (Tagged Done) n st refl refl refl refl (whole-bytes T n p Done) refl refl (rw found refl) (λ q e. seen-bytes_other T n p q Done e) (λ q ne. updates.2 q (is_apart n q ne))
     (rw kept here)
 
 pub returns-in-Err-clause-stands : goal.returns-in-Err-clause-stands
 returns-in-Err-clause-stands g c T st =
+    let shown : c.owed.result.now ≡ [] = found_empty c.is_empty.result c.owed.result.now c.if-not-is_empty.false c.is_empty.ensures in
+    let nothing : c.in-Some.link.now.owed ≡ [] = sym c.owed.ensures ∙ shown in
     let n = c.args.c in
     let p = c.args.piece.now in
     let k : Kept = c.in-Some.link.now in
     let k' : Kept = c.hear.new.self in
     let found : get nat_cmp c.args.self.now.links n ≡ Some k = sym c.in-Some.ensures.value in
     let m : Matches (seen T n) k = subst (IsKeptFor (seen T n)) found (st.links n) in
-    let nothing : k.owed ≡ [] = search rules in
     let fits : length p ≤ most_in_a_piece = search rules in
     let x = next_there (streamed (seen T n) p) k p (awaits_bytes (seen T n) k p m nothing fits) c.in-Err.ensures.err in
     let first = (c.get_mut.follows.holds k').3 (search rules) in
     let second = c.remove.ensures.updates in
-    moved c.args.self.now _ T _ n st refl refl refl refl (office-bytes T n p NoMemory) refl refl (rw found refl) (λ q e. seen-bytes_other T n q p NoMemory e)
+    moved c.args.self.now _ T (Bytes n p) (Tagged NoMemory) n st refl refl refl refl (whole-bytes T n p NoMemory) refl refl (rw found refl) (λ q e. seen-bytes_other T n p q NoMemory e)
     (λ q ne. second.2 q (is_apart n q ne) ∙ first.2 q (is_apart n q ne))
     (rw second.1 (closed-bytes T n p x.0 c.in-Err.ensures.err x.1))

@@ -1,5 +1,4 @@
 use Rattle.std.proofs.Common.{◌≡◌, is_ok, sym, rules, true}
-use Rattle.office.proofs.Running.{may_lend}
 use Rattle.office.proofs.office.Office.enter.Goals as goal
 
 pub returns-clause-ok : goal.returns-clause-ok
@@ -9,6 +8,6 @@ returns-clause-ok g c = λ T st.
     record {
       step = c.new.result;
       entered = rw (sym c.in_ok-reserve.ensures.items) (rw room at items);
-      is = record { lent = _; may_lend = may_lend c.args.self.now T st; outcome = rw c.new.ensures (c.step-outcome.ensures.outcome T st); octets = rw c.new.ensures (c.in_ok-octets.ensures T c.step-outcome.result st (c.step-outcome.ensures.outcome T st)) };
+      is = record { office = c.args.self.now; stood = st; outcome = rw c.new.ensures (c.step-outcome.ensures.outcome T st); octets = rw c.new.ensures (c.in_ok-octets.ensures T c.step-outcome.result st (c.step-outcome.ensures.outcome T st)) };
       stands = rw c.new.ensures (c.step-outcome.ensures.stands T st);
     }

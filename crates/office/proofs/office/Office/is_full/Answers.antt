@@ -1,5 +1,5 @@
 use Rattle.std.proofs.Common.{◌≤◌, rules}
-use Rattle.office.specs.Outcomes.{most_number}
+use Rattle.office.specs.Expected.{most_number}
 use Rattle.office.proofs.Counting.{full_by_len, full_by_number}
 use Rattle.office.proofs.office.Office.is_full.Goals as goal
 

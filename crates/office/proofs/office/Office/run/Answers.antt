@@ -20,7 +20,7 @@ loop-done-preserved g c =
       follows = λ T st.
           let before = c.loop-done.invariant.follows T st in
           rw (take_more es i Connect c.loop-done-test.true)
-          (follows_more c.loop-done.self c.enter.new.self (take i es) ss c.enter.new.steps.items (get_or es i Connect) T before
+          (follows_more _ c.loop-done.self c.enter.new.self (take i es) ss c.enter.new.steps.items (get_or es i Connect) T before
           (c.in-Ok.ensures.ok (followed T (take i es) ss) before.stands));
       vault = c.enter.ensures.vault ∙ c.loop-done.invariant.vault;
     }

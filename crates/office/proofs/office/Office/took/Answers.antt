@@ -1,10 +1,10 @@
-use Rattle.std.proofs.Common.{◌≡◌, ◌<◌, ◌≤◌, ◌∷◌, false, true, Some, sym, ◌∙◌, ap, length, arith, nat_cmp, subst, rules, refl}
+use Rattle.std.proofs.Common.{◌≡◌, ◌<◌, ◌≤◌, false, true, Some, sym, ◌∙◌, ap, length, arith, nat_cmp, subst, rules, refl}
 use Rattle.std.specs.BTreeMap.{get}
-use Rattle.office.specs.Events.{Took, Tagged}
+use Rattle.office.specs.Events.{Took, Tagged, given}
 use Rattle.office.specs.History.{Done, NoMemory}
 use Rattle.office.specs.Kept.{Kept}
 use Rattle.office.specs.Stands.{Matches, IsKeptFor, seen, is_seen_open, untaken_of, lent_by}
-use Rattle.office.proofs.Events.{moved, seen-took_other, seen-took_part, seen-took_closing, office-took, closed-took, next_there, next_kept, is_apart, left_over, all_over, part_took, awaits_took, closed_took, resumed, took_goes}
+use Rattle.office.proofs.Events.{moved, seen-took_other, seen-took_part, seen-took_closing, whole-took, closed-took, next_there, next_kept, is_apart, left_over, all_over, part_took, awaits_took, closed_took, resumed, took_goes}
 use Rattle.office.proofs.Hearing.{Awaits, took}
 use Rattle.office.proofs.office.Office.took.Goals as goal
 
@@ -20,8 +20,8 @@ returns-then-octets-owed-2-clause-stands g c T st =
     let owed : c.owed-owed.result.now ≡ untaken_of s = c.owed-owed.ensures ∙ m.owed in
     let less : n < length (untaken_of s) = rw owed at c.if-octets-owed-2.true in
     let change = (c.get_mut.follows.holds k').3 (search rules) in
-    let here : Matches (seen ((Took x n, Tagged Done) ∷ T) x) k' = rw (seen-took_part T x n (left_over s k n less), c.take.ensures) (part_took s k n m less) in
-    moved c.args.self.now _ T _ x st refl refl refl refl (office-took T x n Done) refl refl (rw found refl) (λ q e. seen-took_other T x q n Done e) (λ q ne. change.2 q (is_apart x q ne))
+    let here : Matches (seen (given T (Took x n) (Tagged Done)) x) k' = rw (seen-took_part T x n (left_over s k n less), c.take.ensures) (part_took s k n m less) in
+    moved c.args.self.now _ T (Took x n) (Tagged Done) x st refl refl refl refl (whole-took T x n Done) refl refl (rw found refl) (λ q e. seen-took_other T x n q Done e) (λ q ne. change.2 q (is_apart x q ne))
     (rw change.1 here)
 
 pub returns-then-is_closing-clause-stands : goal.returns-then-is_closing-clause-stands
@@ -35,10 +35,10 @@ returns-then-is_closing-clause-stands g c T st =
     let m : Matches s k = subst (IsKeptFor s) found (st.links x) in
     let owed : c.owed-owed.result.now ≡ untaken_of s = c.owed-owed.ensures ∙ m.owed in
     let all : length (untaken_of s) ≤ n = rw owed at c.if-octets-owed-2.false in
-    let closed : s.closing ≡ true = sym m.closing ∙ (sym (ap (λ (k : Kept). k.closing) c.take.ensures) ∙ (sym c.is_closing.ensures ∙ c.if-is_closing.true)) in
+    let closed : s.closing ≡ true = sym m.closing ∙ (sym (ap (λ (k : Kept). k.talk.closing) c.take.ensures) ∙ (sym c.is_closing.ensures ∙ c.if-is_closing.true)) in
     let first = (c.get_mut.follows.holds k').3 (search rules) in
     let second = c.remove.ensures.updates in
-    moved c.args.self.now _ T _ x st refl refl refl refl (office-took T x n Done) refl refl (rw found refl) (λ q e. seen-took_other T x q n Done e)
+    moved c.args.self.now _ T (Took x n) (Tagged Done) x st refl refl refl refl (whole-took T x n Done) refl refl (rw found refl) (λ q e. seen-took_other T x n q Done e)
     (λ q ne. second.2 q (is_apart x q ne) ∙ first.2 q (is_apart x q ne))
     (rw second.1 (ap is_seen_open (seen-took_closing T x n (all_over s n all) closed) ∙ closed_took s n all closed))
 
@@ -55,11 +55,11 @@ returns-in-Ok-clause-stands g c T st =
     let owed : c.owed-owed.result.now ≡ untaken_of s = c.owed-owed.ensures ∙ m.owed in
     let all : length (untaken_of s) ≤ n = rw owed at c.if-octets-owed-2.false in
     let within : n ≤ length (untaken_of s) = rw owed at c.if-octets-owed.false in
-    let open_yet : s.closing ≡ false = sym m.closing ∙ (sym (ap (λ (k : Kept). k.closing) c.take.ensures) ∙ (sym c.is_closing.ensures ∙ c.if-is_closing.false)) in
+    let open_yet : s.closing ≡ false = sym m.closing ∙ (sym (ap (λ (k : Kept). k.talk.closing) c.take.ensures) ∙ (sym c.is_closing.ensures ∙ c.if-is_closing.false)) in
     let change = (c.get_mut.follows.holds k').3 (search rules) in
     let ready : Awaits (took s n) k1 k1.pending = rw c.take.ensures (awaits_took s k n m (omega arith) open_yet) in
-    let here : Matches (seen ((Took x n, Tagged Done) ∷ T) x) k' = resumed T x n k1 k' ready (all_over s n all) open_yet c.in-Ok.ensures.ok c.in-Ok.ensures.lines in
-    moved c.args.self.now _ T _ x st refl refl refl refl (office-took T x n Done) refl refl (rw found refl) (λ q e. seen-took_other T x q n Done e) (λ q ne. change.2 q (is_apart x q ne))
+    let here : Matches (seen (given T (Took x n) (Tagged Done)) x) k' = resumed T x n st.no_clerks k1 k' ready (all_over s n all) open_yet c.in-Ok.ensures.ok c.in-Ok.ensures.lines in
+    moved c.args.self.now _ T (Took x n) (Tagged Done) x st refl refl refl refl (whole-took T x n Done) refl refl (rw found refl) (λ q e. seen-took_other T x n q Done e) (λ q ne. change.2 q (is_apart x q ne))
     (rw change.1 here)
 
 pub returns-in-Err-clause-stands : goal.returns-in-Err-clause-stands
@@ -75,12 +75,12 @@ returns-in-Err-clause-stands g c T st =
     let owed : c.owed-owed.result.now ≡ untaken_of s = c.owed-owed.ensures ∙ m.owed in
     let all : length (untaken_of s) ≤ n = rw owed at c.if-octets-owed-2.false in
     let within : n ≤ length (untaken_of s) = rw owed at c.if-octets-owed.false in
-    let open_yet : s.closing ≡ false = sym m.closing ∙ (sym (ap (λ (k : Kept). k.closing) c.take.ensures) ∙ (sym c.is_closing.ensures ∙ c.if-is_closing.false)) in
+    let open_yet : s.closing ≡ false = sym m.closing ∙ (sym (ap (λ (k : Kept). k.talk.closing) c.take.ensures) ∙ (sym c.is_closing.ensures ∙ c.if-is_closing.false)) in
     let ready : Awaits (took s n) k1 k1.pending = rw c.take.ensures (awaits_took s k n m (omega arith) open_yet) in
     let next = next_there (took s n) k1 k1.pending ready c.in-Err.ensures.err in
     let first = (c.get_mut.follows.holds k').3 (search rules) in
     let second = c.remove-in-Err.ensures.updates in
-    moved c.args.self.now _ T _ x st refl refl refl refl (office-took T x n NoMemory) refl refl (rw found refl) (λ q e. seen-took_other T x q n NoMemory e)
+    moved c.args.self.now _ T (Took x n) (Tagged NoMemory) x st refl refl refl refl (whole-took T x n NoMemory) refl refl (rw found refl) (λ q e. seen-took_other T x n q NoMemory e)
     (λ q ne. second.2 q (is_apart x q ne) ∙ first.2 q (is_apart x q ne))
     (rw second.1 (closed-took T x n next.0 (all_over s n all) open_yet (next_kept T x ∙ next.1)))
 
@@ -96,7 +96,7 @@ returns-in-Err-clause-outcome g c T st =
     let owed : c.owed-owed.result.now ≡ untaken_of s = c.owed-owed.ensures ∙ m.owed in
     let all : length (untaken_of s) ≤ n = rw owed at c.if-octets-owed-2.false in
     let within : n ≤ length (untaken_of s) = rw owed at c.if-octets-owed.false in
-    let open_yet : s.closing ≡ false = sym m.closing ∙ (sym (ap (λ (k : Kept). k.closing) c.take.ensures) ∙ (sym c.is_closing.ensures ∙ c.if-is_closing.false)) in
+    let open_yet : s.closing ≡ false = sym m.closing ∙ (sym (ap (λ (k : Kept). k.talk.closing) c.take.ensures) ∙ (sym c.is_closing.ensures ∙ c.if-is_closing.false)) in
     let ready : Awaits (took s n) k1 k1.pending = rw c.take.ensures (awaits_took s k n m (omega arith) open_yet) in
     let next = next_there (took s n) k1 k1.pending ready c.in-Err.ensures.err in
     let line = next_kept T x ∙ next.1 in

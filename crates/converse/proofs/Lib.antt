@@ -1,0 +1,2 @@
+mod TalkRows
+pub mod Removing

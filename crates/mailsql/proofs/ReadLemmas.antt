@@ -1,0 +1,65 @@
+-- What a query by rowid answers, as records.
+use Rattle.std.proofs.Common.{◌≡◌, ℕ, Bool, true, false, List, [], ◌∷◌, map, filter, find, slice_get, Option, Result, refl, ap, ◌∙◌}
+use Rattle.std.specs.Prelude.{IfOk, Vec}
+use Rattle.std.specs.Option.{option_map}
+use Rattle.sqlite.specs.declared.error.Error.{Error}
+use Rattle.mailsql.proofs.ResultLemmas.{if_ok}
+use Rattle.sqlite_value.specs.Order.{Row}
+use Rattle.sqlite_trees.specs.Tree.{Trees}
+use Rattle.sqlite_sql.specs.Term.{Term, eval_all}
+use Rattle.sqlite_sql.specs.Query.{inner, end}
+use Rattle.sqlite_sql.specs.Program.{overlay}
+use Rattle.sqlite_rules.specs.Lists.{Has}
+use Rattle.sqlite_keyed.proofs.ListLemmas.{map-map, filter_all, all_of}
+use Rattle.sqlite.specs.Effect.{IsDatabase}
+use Rattle.sqlite.specs.Listing.{understood, reads_listing}
+use Rattle.sqlite.specs.State.{State, IsLive, Shown, IsUnchanged}
+use Rattle.sqlite.proofs.Callers.{IsPlain, command_of}
+use Rattle.mailsql.specs.Tables.{mail_schema}
+use Rattle.mailsql.proofs.Statements.{query_of, select_of, by_rowid}
+use Rattle.mailsql.specs.Rows.{AreKeyed, IsKept, HasTables}
+use Rattle.mailsql.proofs.QueryLemmas.{passes, answers, unchanged, shown_open}
+use Rattle.mailsql.proofs.OrderLemmas.{in_order, filter_map, first_is}
+
+-- what the text means under our schema
+pub record Asks (sql : List ℕ) (t : ℕ) (terms project : List Term) (names : List (List ℕ)) : Type 0 where
+  pub is : (command_of (understood mail_schema sql) ≡ select_of (query_of (inner t end) terms project by_rowid) names) × (reads_listing mail_schema sql ≡ false)
+  pub plain : IsPlain (understood mail_schema sql)
+
+module _ (sql : List ℕ) (t : ℕ) (terms project : List Term) (names : List (List ℕ)) (asks : Asks sql t terms project names) (placed : (db : Trees) → overlay db [] t ≡ db t)
+    (old new : State) (params : Row) (rows : List Row) (tables : HasTables old) (h : Shown sql params old new rows) where
+  pub kept : IsKept old.now
+  kept = tables (shown_open sql params old new rows h)
+
+  pub same : IsUnchanged old new
+  same = unchanged sql params old new rows t terms project by_rowid names kept.0 asks.is asks.plain (placed old.now.trees) h
+
+  pub sound : IsLive old → IsDatabase old.now
+  sound live = (live same.0.was_open).0
+
+  shown : AreKeyed (old.now.trees t) → rows ≡ map (λ r. eval_all project (params ∷ r ∷ [])) (filter (passes params terms) (old.now.trees t))
+  shown keyed = in_order t terms project old.now.trees params rows keyed (answers sql params old new rows t terms project by_rowid names kept.0 asks.is asks.plain (placed old.now.trees) h)
+
+  -- the records that pass, each read from its row
+  pub listed : {X : Type 0} (f read : Row → X) (q : X → Bool) → AreKeyed (old.now.trees t) → ((r : Row) → read (eval_all project (params ∷ r ∷ [])) ≡ f r)
+      → ((r : Row) → Has (old.now.trees t) r → passes params terms r ≡ q (f r)) → map read rows ≡ filter q (map f (old.now.trees t))
+  listed f read q keyed reads passing =
+      ap (map read) (shown keyed) ∙ map-map read (λ r. eval_all project (params ∷ r ∷ [])) (filter (passes params terms) (old.now.trees t))
+      ∙ (λ i. map (λ r. reads r i) (filter (passes params terms) (old.now.trees t))) ∙ filter_map f (passes params terms) q (old.now.trees t) passing
+
+  -- every record
+  pub everything_listed : {X : Type 0} (f read : Row → X) → AreKeyed (old.now.trees t) → ((r : Row) → read (eval_all project (params ∷ r ∷ [])) ≡ f r) → ((r : Row) → passes params terms r ≡ true)
+      → map read rows ≡ map f (old.now.trees t)
+  everything_listed f read keyed reads all = listed f read (λ x. true) keyed reads (λ r has. all r) ∙ filter_all (λ x. true) (map f (old.now.trees t)) (all_of (λ x. true ≡ true) (λ x. refl) (map f (old.now.trees t)))
+
+-- what is read of the rows that were shown
+module _ {X : Type 0} (read : Row → X) (lent rows : List Row) (lend : lent ≡ rows) (q : X → Bool) (xs : List X) (is : map read rows ≡ filter q xs) where
+  pub reads_all : {A : Type 0} (r : Result (Vec X A) Error) → IfOk r (λ all. all.items ≡ map read lent) → IfOk r (λ all. all.items ≡ filter q xs)
+  reads_all r h = if_ok r _ _ (λ all e. e ∙ ap (map read) lend ∙ is) h
+
+  pub reads_first : (r : Result (Option X) Error) → IfOk r (λ first. first ≡ option_map read (slice_get lent 0)) → IfOk r (λ found. found ≡ find q xs)
+  reads_first r h = if_ok r _ _ (λ first e. e ∙ ap (λ l. option_map read (slice_get l 0)) lend ∙ first_is read q rows xs is) h
+
+pub reads_every : {X A : Type 0} (read : Row → X) (lent rows : List Row) (lend : lent ≡ rows) (xs : List X) (is : map read rows ≡ xs) (r : Result (Vec X A) Error) → IfOk r (λ all. all.items ≡ map read lent)
+    → IfOk r (λ all. all.items ≡ xs)
+reads_every read lent rows lend xs is r h = if_ok r _ _ (λ all e. e ∙ ap (map read) lend ∙ is) h

@@ -1,0 +1,40 @@
+use Rattle.std.proofs.Common.{◌∙◌, ap, arith, to_z-of_z, ◌++◌, ◌∷◌, []}
+use Rattle.sqlite.specs.Held.{state}
+use Rattle.sqlite.specs.State.{HasCleanDisk}
+use Rattle.mailsql.specs.Rows.{Rows}
+use Rattle.mailsql.specs.Changes.{DropsClerk, AddsClerk, PutsClerk}
+use Rattle.mailsql.proofs.ResultLemmas.{on_ok_then, on_err_then}
+use Rattle.mailsql.proofs.ChainLemmas.{changes_then, stops_then, stops_first, halts_first, halts_then}
+use Rattle.mailsql.proofs.clerks.put_clerk.Goals as goal
+
+pub returns-in-Ok-clause-ok : goal.returns-in-Ok-clause-ok
+returns-in-Ok-clause-ok g c clean ready =
+    let s0 = state g.S.Store c.args.conn.now in
+    let s1 = state g.S.Store c.drop_clerk.new.conn in
+    let s2 = state g.S.Store c.add_clerk.new.conn in
+    let clean1 : HasCleanDisk s1 = omega (arith, c.add_clerk.ensures.survives.clean) in
+    let one = c.in-Ok.ensures.ok clean1 ready in
+    on_ok_then _ (λ two. changes_then (DropsClerk c.args.name.now) (AddsClerk (record { name = c.args.name.now; kind = c.args.kind; secret = c.args.secret.now })) (PutsClerk (record { name = c.args.name.now; kind = c.args.kind; secret = c.args.secret.now })) (λ x y z p q. q ∙ ap (λ (r : Rows). let w : Rows = record r { clerks = r.clerks ++ (record { name = c.args.name.now; kind = c.args.kind; secret = c.args.secret.now }) ∷ [] } in w) p) s0 s1 s2 one (λ _. two))
+    (simp (to_z-of_z, c.ranges.kind) at (c.add_clerk.ensures.ok clean (one.shown.is_open, one.kept)))
+
+pub returns-in-Ok-clause-err : goal.returns-in-Ok-clause-err
+returns-in-Ok-clause-err g c clean ready inside =
+    let s0 = state g.S.Store c.args.conn.now in
+    let s1 = state g.S.Store c.drop_clerk.new.conn in
+    let s2 = state g.S.Store c.add_clerk.new.conn in
+    let clean1 : HasCleanDisk s1 = omega (arith, c.add_clerk.ensures.survives.clean) in
+    let one = c.in-Ok.ensures.ok clean1 ready in
+    on_err_then _ (halts_then (DropsClerk c.args.name.now) s0 s1 s2 inside one) (c.add_clerk.ensures.err clean)
+
+pub returns-in-Ok-clause-survives : goal.returns-in-Ok-clause-survives
+returns-in-Ok-clause-survives g c =
+    let s0 = state g.S.Store c.args.conn.now in
+    let s1 = state g.S.Store c.drop_clerk.new.conn in
+    let s2 = state g.S.Store c.add_clerk.new.conn in
+    stops_then (DropsClerk c.args.name.now) (AddsClerk (record { name = c.args.name.now; kind = c.args.kind; secret = c.args.secret.now })) (PutsClerk (record { name = c.args.name.now; kind = c.args.kind; secret = c.args.secret.now })) (λ x y z p q. q ∙ ap (λ (r : Rows). let w : Rows = record r { clerks = r.clerks ++ (record { name = c.args.name.now; kind = c.args.kind; secret = c.args.secret.now }) ∷ [] } in w) p) s0 s1 s2 (λ clean1 ready. c.in-Ok.ensures.ok clean1 ready) c.drop_clerk.ensures.survives (simp (to_z-of_z, c.ranges.kind) at c.add_clerk.ensures.survives)
+
+pub returns-in-Err-clause-err : goal.returns-in-Err-clause-err
+returns-in-Err-clause-err g c clean ready inside = halts_first (state g.S.Store c.args.conn.now) (state g.S.Store c.drop_clerk.new.conn) inside (c.in-Err.ensures.err clean)
+
+pub returns-in-Err-clause-survives : goal.returns-in-Err-clause-survives
+returns-in-Err-clause-survives g c = stops_first (DropsClerk c.args.name.now) (PutsClerk (record { name = c.args.name.now; kind = c.args.kind; secret = c.args.secret.now })) (state g.S.Store c.args.conn.now) (state g.S.Store c.drop_clerk.new.conn) c.drop_clerk.ensures.survives

@@ -1,0 +1,26 @@
+use Rattle.std.proofs.Common.{inl}
+use Rattle.sqlite.specs.Held.{state}
+use Rattle.mailsql.specs.Rows.{is_mark}
+use Rattle.mailsql.proofs.ResultLemmas.{on_ok, on_err}
+use Rattle.mailsql.proofs.StateLemmas.{query_undone, never}
+use Rattle.mailsql.proofs.ReadLemmas.{reads_first}
+use Rattle.mailsql.proofs.MetaLemmas.{find_mark_asks, find_mark_same, find_mark_shows}
+use Rattle.mailsql.proofs.meta.find_mark.Goals as goal
+
+pub returns-in-Ok-clause-ok : goal.returns-in-Ok-clause-ok
+returns-in-Ok-clause-ok g c clean tables = reads_first _ _ _ c.as_slice.ensures.value (is_mark c.args.name.now) _ (find_mark_shows (state g.S.Store c.args.conn.now) (state g.S.Store c.query_all.new.self) c.args.name.now _ tables (c.in-Ok.ensures.ok clean) c.schema-schema.ensures.live) _ c.read_first.ensures
+
+pub returns-in-Ok-clause-same : goal.returns-in-Ok-clause-same
+returns-in-Ok-clause-same g c clean tables = on_ok _ _ (find_mark_same (state g.S.Store c.args.conn.now) (state g.S.Store c.query_all.new.self) c.args.name.now _ tables (c.in-Ok.ensures.ok clean))
+
+pub returns-in-Ok-clause-err : goal.returns-in-Ok-clause-err
+returns-in-Ok-clause-err g c clean tables = on_err _ _ (inl (find_mark_same (state g.S.Store c.args.conn.now) (state g.S.Store c.query_all.new.self) c.args.name.now _ tables (c.in-Ok.ensures.ok clean)))
+
+pub returns-in-Ok-clause-survives : goal.returns-in-Ok-clause-survives
+returns-in-Ok-clause-survives g c = never _ _ (state g.S.Store c.args.conn.now) (state g.S.Store c.query_all.new.self) find_mark_asks.plain c.query_all.ensures.survives
+
+pub returns-in-Err-clause-err : goal.returns-in-Err-clause-err
+returns-in-Err-clause-err g c clean tables = query_undone (state g.S.Store c.args.conn.now) (state g.S.Store c.query_all.new.self) _ _ _ (c.in-Err.ensures.err clean)
+
+pub returns-in-Err-clause-survives : goal.returns-in-Err-clause-survives
+returns-in-Err-clause-survives g c = never _ _ (state g.S.Store c.args.conn.now) (state g.S.Store c.query_all.new.self) find_mark_asks.plain c.query_all.ensures.survives

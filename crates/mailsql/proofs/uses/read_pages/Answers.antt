@@ -1,0 +1,24 @@
+use Rattle.std.proofs.Common.{◌∙◌, pos, find, ap, to_z-of_z}
+use Rattle.sqlite.specs.Held.{state}
+use Rattle.sqlite.specs.Steps.{over_memory}
+use Rattle.sqlite.proofs.Callers.{memory_is_clean}
+use Rattle.mailsql.specs.Rows.{Rows, is_sheet}
+use Rattle.mailsql.proofs.UsesLemmas.{still}
+use Rattle.mailsql.proofs.uses.read_pages.Goals as goal
+
+pub returns-clause-found : goal.returns-clause-found
+returns-clause-found c rows s =
+    let s0 = state over_memory c.args.conn.now in
+    let s1 = state over_memory c.find_sheet.new.conn in
+    let w1 = still s0 s1 rows (c.in_ok-first.ensures.same (memory_is_clean c.find_sheet.new.conn) (λ _. s.kept)) s in
+    let first = simp (to_z-of_z, c.ranges.key) at (c.in_ok-first.ensures.ok (memory_is_clean c.find_sheet.new.conn) (λ _. s.kept)) in
+    let second = simp (to_z-of_z, c.ranges.key) at (c.in_ok-second.ensures.ok (memory_is_clean c.find_sheet-2.new.conn) (λ _. w1.kept)) in
+    (first ∙ ap (λ (r : Rows). find (is_sheet c.args.key (pos 0)) r.sheets) s.rows_are, second ∙ ap (λ (r : Rows). find (is_sheet c.args.key (pos 1)) r.sheets) w1.rows_are)
+
+pub returns-clause-same : goal.returns-clause-same
+returns-clause-same c rows s =
+    let s0 = state over_memory c.args.conn.now in
+    let s1 = state over_memory c.find_sheet.new.conn in
+    let s2 = state over_memory c.find_sheet-2.new.conn in
+    let w1 = still s0 s1 rows (c.in_ok-first.ensures.same (memory_is_clean c.find_sheet.new.conn) (λ _. s.kept)) s in
+    still s1 s2 rows (c.in_ok-second.ensures.same (memory_is_clean c.find_sheet-2.new.conn) (λ _. w1.kept)) w1

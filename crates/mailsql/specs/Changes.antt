@@ -1,0 +1,81 @@
+-- The changes that the statements make, each of one table or two: a new row comes after the others.
+use Rattle.std.specs.Prelude.{◌≡◌, ℤ, List, [], ◌∷◌, ◌++◌, fold, pos, ◌+ℤ◌, ◌<ℤ◌, bytes_eq, filter, not}
+use Rattle.std.specs.List.{AllByRecursion}
+use Rattle.mailsql.specs.Rows.{Name, Mark, Clerk, Count, Deposit, Message, Sheet, Rule, Rows, is_clerk, is_count, is_message, is_sheet_of, same_int}
+
+-- a mark comes
+abbrev pub AddsMark : Mark → Rows → Rows → Type 0
+AddsMark mark old new = new ≡ record old { marks = old.marks ++ mark ∷ [] }
+
+-- a clerk comes
+abbrev pub AddsClerk : Clerk → Rows → Rows → Type 0
+AddsClerk clerk old new = new ≡ record old { clerks = old.clerks ++ clerk ∷ [] }
+
+-- the clerk of this name goes
+abbrev pub DropsClerk : Name → Rows → Rows → Type 0
+DropsClerk name old new = new ≡ record old { clerks = filter (λ c. not (is_clerk name c)) old.clerks }
+
+-- the clerk comes in place of the one of its name
+abbrev pub PutsClerk : Clerk → Rows → Rows → Type 0
+PutsClerk clerk old new = new ≡ record old { clerks = filter (λ c. not (is_clerk clerk.name c)) old.clerks ++ clerk ∷ [] }
+
+-- a maildrop's name comes
+abbrev pub AddsMaildrop : Name → Rows → Rows → Type 0
+AddsMaildrop name old new = new ≡ record old { maildrops = old.maildrops ++ name ∷ [] }
+
+-- the name goes
+abbrev pub DropsMaildrop : Name → Rows → Rows → Type 0
+DropsMaildrop name old new = new ≡ record old { maildrops = filter (λ n. not (bytes_eq n name)) old.maildrops }
+
+-- a count comes
+abbrev pub AddsCount : Count → Rows → Rows → Type 0
+AddsCount count old new = new ≡ record old { counts = old.counts ++ count ∷ [] }
+
+-- the count of the class goes
+abbrev pub ClearsCount : Name → Name → Rows → Rows → Type 0
+ClearsCount maildrop class old new = new ≡ record old { counts = filter (λ c. not (is_count maildrop class c)) old.counts }
+
+-- the count comes in place of the one of its class
+abbrev pub SetsCount : Count → Rows → Rows → Type 0
+SetsCount count old new = new ≡ record old { counts = filter (λ c. not (is_count count.maildrop count.class c)) old.counts ++ count ∷ [] }
+
+-- a deposit comes
+abbrev pub AddsDeposit : Deposit → Rows → Rows → Type 0
+AddsDeposit deposit old new = new ≡ record old { deposits = old.deposits ++ deposit ∷ [] }
+
+-- the message comes after the others, under a key above theirs
+pub record AddsMessage (message : Message) (old new : Rows) : Type 0 where
+  pub added : new ≡ record old { messages = old.messages ++ message ∷ [] }
+  pub above : AllByRecursion (λ m. m.key <ℤ message.key) old.messages
+
+-- so it comes under some key
+abbrev pub Arrives : Name → Name → ℤ → ℤ → Rows → Rows → Type 0
+Arrives maildrop class k octets old new = (key : ℤ) × AddsMessage (record { key = key; maildrop = maildrop; class = class; k = k; octets = octets }) old new
+
+-- the message goes, and the sheets that were of it
+abbrev pub RemovesMessage : ℤ → Name → Rows → Rows → Type 0
+RemovesMessage key maildrop old new = new ≡ record old {
+  messages = filter (λ m. not (is_message key maildrop m)) old.messages;
+  sheets = filter (λ s. not (is_sheet_of key maildrop old.messages s)) old.sheets;
+}
+
+-- a sheet comes
+abbrev pub AddsSheet : Sheet → Rows → Rows → Type 0
+AddsSheet sheet old new = new ≡ record old { sheets = old.sheets ++ sheet ∷ [] }
+
+-- the sheets of a message go
+abbrev pub RemovesSheets : ℤ → Rows → Rows → Type 0
+RemovesSheets key old new = new ≡ record old { sheets = filter (λ s. not (same_int s.mail key)) old.sheets }
+
+-- one above the last place
+abbrev pub next_place : List Rule → ℤ
+next_place = fold (λ _ r. r.place +ℤ pos 1) (pos 1)
+
+-- a rule comes after the others
+abbrev pub AddsRule : Name → ℤ → Name → Name → Name → ℤ → Rows → Rows → Type 0
+AddsRule name effect clerk maildrop class actions old new =
+    new ≡ record old { rules = old.rules ++ record { place = next_place old.rules; name = name; effect = effect; clerk = clerk; maildrop = maildrop; class = class; actions = actions } ∷ [] }
+
+-- every rule goes
+abbrev pub ClearsRules : Rows → Rows → Type 0
+ClearsRules old new = new ≡ record old { rules = [] }

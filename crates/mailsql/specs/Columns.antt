@@ -1,0 +1,88 @@
+-- The rows of the store's tables as records: which column of a row each field is, and the records of every table.
+use Rattle.std.specs.Prelude.{ℕ, ℤ, List, [], map}
+use Rattle.sqlite_value.specs.Order.{Row, column, bytes}
+use Rattle.sqlite_trees.specs.Tree.{Trees, rowid}
+use Rattle.sqlite_rules.specs.Edit.{id_in}
+pub use Rattle.mailsql.specs.declared.rows.Mark.{Mark}
+pub use Rattle.mailsql.specs.declared.rows.Clerk.{Clerk}
+pub use Rattle.mailsql.specs.declared.rows.Count.{Count}
+pub use Rattle.mailsql.specs.declared.rows.Deposit.{Deposit}
+pub use Rattle.mailsql.specs.declared.rows.Message.{Message}
+pub use Rattle.mailsql.specs.declared.rows.Sheet.{Sheet}
+pub use Rattle.mailsql.specs.declared.rows.Rule.{Rule}
+
+-- a name as its octets
+abbrev pub Name : Type 0
+Name = List ℕ
+
+-- the octets of a column that holds a text or a blob; place 0 is the rowid
+abbrev pub text_at : Row → ℕ → List ℕ
+text_at row at = bytes (column row at)
+
+-- the number of a column that holds an integer
+abbrev pub number_at : Row → ℕ → ℤ
+number_at row at = id_in (column row at)
+
+-- a row of meta, and of sqlite_sequence
+abbrev pub mark_of : Row → Mark
+mark_of row = record { name = text_at row 1; value = number_at row 2 }
+
+-- a row of clerks
+abbrev pub clerk_of : Row → Clerk
+clerk_of row = record { name = text_at row 1; kind = number_at row 2; secret = text_at row 3 }
+
+-- a row of maildrops
+abbrev pub maildrop_of : Row → Name
+maildrop_of row = text_at row 1
+
+-- a row of counts
+abbrev pub count_of : Row → Count
+count_of row = record { maildrop = text_at row 1; class = text_at row 2; k = number_at row 3 }
+
+-- a row of deposits
+abbrev pub deposit_of : Row → Deposit
+deposit_of row = record { maildrop = text_at row 1; id = text_at row 2; class = text_at row 3; k = number_at row 4; digest = text_at row 5 }
+
+-- a row of mail, whose key is its rowid
+abbrev pub message_of : Row → Message
+message_of row = record { key = id_in (rowid row); maildrop = text_at row 2; class = text_at row 3; k = number_at row 4; octets = number_at row 5 }
+
+-- a row of sheets
+abbrev pub sheet_of : Row → Sheet
+sheet_of row = record { mail = number_at row 1; place = number_at row 2; octets = text_at row 3 }
+
+-- a row of rules, whose place is its rowid
+abbrev pub rule_of : Row → Rule
+rule_of row = record { place = id_in (rowid row); name = text_at row 2; effect = number_at row 3; clerk = text_at row 4; maildrop = text_at row 5; class = text_at row 6; actions = number_at row 7 }
+
+-- the records of every table, each in the order of the rowids
+pub record Rows : Type 0 where
+  pub marks : List Mark
+  pub clerks : List Clerk
+  pub maildrops : List Name
+  pub counts : List Count
+  pub deposits : List Deposit
+  pub messages : List Message
+  pub rules : List Rule
+  pub sheets : List Sheet
+
+-- the records that the trees hold
+abbrev pub rows_in : Trees → Rows
+rows_in db = record {
+  marks = map mark_of (db 0);
+  clerks = map clerk_of (db 2);
+  maildrops = map maildrop_of (db 4);
+  counts = map count_of (db 6);
+  deposits = map deposit_of (db 8);
+  messages = map message_of (db 10);
+  rules = map rule_of (db 13);
+  sheets = map sheet_of (db 15);
+}
+
+-- no table has a row
+abbrev pub no_rows : Rows
+no_rows = record { marks = []; clerks = []; maildrops = []; counts = []; deposits = []; messages = []; rules = []; sheets = [] }
+
+-- how far AUTOINCREMENT has counted, for each table that it counts for
+abbrev pub sequences_in : Trees → List Mark
+sequences_in db = map mark_of (db 12)

@@ -1,0 +1,5 @@
+pub mod Tables
+pub mod Columns
+pub mod Rows
+pub mod Changes
+pub mod Uses

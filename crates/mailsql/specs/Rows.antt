@@ -1,0 +1,142 @@
+-- What a statement does to the typed rows of a store, what an error leaves of them, and what a stop may leave.
+use Rattle.std.specs.Prelude.{◌≡◌, ◌⊎◌, ℤ, Bool, true, false, List, [], if◌then◌else◌, IsTrue, bytes_eq, ◌&&◌}
+use Rattle.std.specs.Ordering.{is_eq, int_cmp, nat_cmp}
+use Rattle.std.specs.Cmp.Lexicographic.{slice_cmp}
+use Rattle.std.specs.List.{list_any, AllByRecursion}
+use Rattle.std.specs.List.Sorted.{IsPermutation, IsSorted}
+use Rattle.sqlite_trees.specs.View.{is_int}
+use Rattle.sqlite_trees.specs.Tree.{Trees, rowid, IsTable}
+use Rattle.sqlite_schema.specs.declared.schema.Table.{Table}
+use Rattle.sqlite_schema.specs.declared.schema.Schema.{Schema}
+use Rattle.sqlite_value.specs.Order.{Row}
+use Rattle.sqlite.specs.Effect.{Database}
+use Rattle.sqlite.specs.State.{State, Shows, IsUnchanged, IsRolledBack}
+use Rattle.mailsql.specs.Tables.{mail_schema, no_schema}
+pub use Rattle.mailsql.specs.Columns.{Mark, Clerk, Count, Deposit, Message, Sheet, Rule, Name, text_at, number_at, mark_of, clerk_of, maildrop_of, count_of, deposit_of, message_of, sheet_of, rule_of, Rows, rows_in, no_rows, sequences_in}
+
+-- ---- a store of ours
+
+-- the schema is that of the store's tables
+abbrev pub IsOurs : Database → Type 0
+IsOurs db = db.schema ≡ mail_schema
+
+-- the rowids of a table's rows are integers, and rise
+abbrev pub AreKeyed : List Row → Type 0
+AreKeyed rows = IsTable rows × AllByRecursion (λ r. IsTrue (is_int (rowid r))) rows
+
+-- so it is in each of these tables
+abbrev pub AreKept : List Table → Trees → Type 0
+AreKept tables db = AllByRecursion (λ t. AreKeyed (db t.tree)) tables
+
+-- the tables are ours, and their rows are in order
+abbrev pub IsKept : Database → Type 0
+IsKept db = IsOurs db × AreKept mail_schema.tables db.trees
+
+-- so it is while the connection is open
+abbrev pub HasTables : State → Type 0
+HasTables s = IsTrue s.is_open → IsKept s.now
+
+-- the connection is open, over a store of ours
+abbrev pub IsReady : State → Type 0
+IsReady s = IsTrue s.is_open × IsKept s.now
+
+-- ---- a statement
+
+-- the change is seen at once, and outside a transaction it is committed
+pub record Changes (Change : Rows → Rows → Type 0) (old new : State) : Type 0 where
+  pub change : Change (rows_in old.now.trees) (rows_in new.now.trees)
+  pub kept : IsKept new.now
+  pub shown : Shows old new new.now (if old.in_transaction then old.committed else new.now) old.in_transaction
+
+-- nothing was done, or the transaction was rolled back
+abbrev pub IsUndone : State → State → Type 0
+IsUndone old new = IsUnchanged old new ⊎ IsRolledBack old new
+
+-- what a stop in a call may leave beside what it left before: outside a transaction, the change
+abbrev pub MayLeave : (Rows → Rows → Type 0) → State → Trees → Type 0
+MayLeave Change old db = IsReady old → (old.in_transaction ≡ false) × Change (rows_in old.now.trees) (rows_in db)
+
+-- ---- several statements of one transaction
+
+-- the transaction goes on
+abbrev pub GoesOn : State → State → Type 0
+GoesOn old new = Shows old new new.now old.committed true
+
+-- the transaction is gone, with what it wrote
+pub record IsGone (old new : State) : Type 0 where
+  pub was_open : IsTrue new.is_open → IsTrue old.is_open
+  pub undone : IsTrue new.is_open → (new.now ≡ old.committed) × (new.committed ≡ old.committed)
+  pub autocommit : new.in_transaction ≡ false
+
+-- after an error the transaction is under way still, or gone
+abbrev pub IsHalted : State → State → Type 0
+IsHalted old new = GoesOn old new ⊎ IsGone old new
+
+-- ---- the making of the tables
+
+-- these tables have no row
+abbrev pub AreEmpty : List Table → Trees → Type 0
+AreEmpty tables db = AllByRecursion (λ t. db t.tree ≡ []) tables
+
+-- the schema is this one, and its tables are empty
+abbrev pub IsBare : Schema → Database → Type 0
+IsBare schema db = (db.schema ≡ schema) × AreEmpty schema.tables db.trees
+
+-- a transaction is under way over a store without tables
+pub record IsBegun (s : State) : Type 0 where
+  pub is_open : IsTrue s.is_open
+  pub inside : IsTrue s.in_transaction
+  pub bare : IsBare no_schema s.now
+
+-- the tables are made, and empty
+pub record MakesTables (old new : State) : Type 0 where
+  pub kept : IsKept new.now
+  pub rows : rows_in new.now.trees ≡ no_rows
+  pub on : GoesOn old new
+
+-- ---- what is looked for
+
+-- equal numbers
+abbrev pub same_int : ℤ → ℤ → Bool
+same_int a b = is_eq (int_cmp a b)
+
+-- the mark has this name
+abbrev pub is_mark : Name → Mark → Bool
+is_mark name mark = bytes_eq mark.name name
+
+-- the clerk has this name
+abbrev pub is_clerk : Name → Clerk → Bool
+is_clerk name clerk = bytes_eq clerk.name name
+
+-- the name is among them
+abbrev pub has_name : Name → List Name → Bool
+has_name name names = list_any (λ x. bytes_eq x name) names
+
+-- the count is that of the class in the maildrop
+abbrev pub is_count : Name → Name → Count → Bool
+is_count maildrop class c = bytes_eq c.maildrop maildrop && bytes_eq c.class class
+
+-- the deposit has this id, in the maildrop
+abbrev pub is_deposit : Name → Name → Deposit → Bool
+is_deposit maildrop id d = bytes_eq d.maildrop maildrop && bytes_eq d.id id
+
+-- the message is in the maildrop
+abbrev pub is_in : Name → Message → Bool
+is_in maildrop m = bytes_eq m.maildrop maildrop
+
+-- the message has this key, and is in the maildrop
+abbrev pub is_message : ℤ → Name → Message → Bool
+is_message key maildrop m = same_int m.key key && bytes_eq m.maildrop maildrop
+
+-- the sheet is the message's, at this place
+abbrev pub is_sheet : ℤ → ℤ → Sheet → Bool
+is_sheet mail place s = same_int s.mail mail && same_int s.place place
+
+-- the sheet is of the message that has this key and is in the maildrop
+abbrev pub is_sheet_of : ℤ → Name → List Message → Sheet → Bool
+is_sheet_of key maildrop messages s = list_any (λ m. is_message key maildrop m && same_int s.mail m.key) messages
+
+-- the names, in the order of their octets
+pub record IsByName (names sorted : List Name) : Type 0 where
+  pub same : IsPermutation names sorted
+  pub rise : IsSorted (slice_cmp nat_cmp) sorted

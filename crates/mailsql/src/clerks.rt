@@ -1,0 +1,120 @@
+//! The clerks and their credentials.
+
+ghost use Rattle.std.specs.Prelude.{◌≡◌, ◌⊎◌, IsTrue, min, length, IfOk, OnOk, OnErr};
+ghost use Rattle.std.specs.List.{find};
+ghost use Rattle.sqlite.specs.Held.{state};
+ghost use Rattle.sqlite.specs.State.{HasCleanDisk, IsUnchanged, Survives};
+ghost use Rattle.mailsql.specs.Changes as changes;
+ghost use Rattle.mailsql.specs.Rows as rows;
+ghost use Rattle.mailsql.specs.Rows.{IsOurs, IsReady, HasTables, MayLeave, Changes, IsUndone, IsHalted, rows_in};
+
+use crate::decode::{read_all, read_first};
+use crate::rows::Clerk;
+use sqlite::{Alter, Connection, Error};
+use sqlite_value::value::ValueRef;
+use std::alloc::Global;
+
+/// Adds a clerk whose name is not there.
+pub fn add_clerk<'x, S: Alter>(
+    conn: &mut Connection<S>,
+    name: &'x [u8],
+    kind: i64,
+    secret: &'x [u8],
+) -> Result<(), Error>
+    ensures ok { HasCleanDisk (state S.Store conn.new) → IsReady (state S.Store conn.old) → OnOk result (Changes (changes.AddsClerk (record { name = name.now; kind = kind; secret = secret.now })) (state S.Store conn.old) (state S.Store conn.new)) }
+    ensures err { HasCleanDisk (state S.Store conn.new) → OnErr result (IsUndone (state S.Store conn.old) (state S.Store conn.new)) }
+    ensures survives { Survives (state S.Store conn.old) (state S.Store conn.new) (MayLeave (changes.AddsClerk (record { name = name.now; kind = kind; secret = secret.now })) (state S.Store conn.old)) }
+{
+    let _schema = conn.schema();
+    match conn.execute(
+        "INSERT INTO clerks (name, kind, secret) VALUES (?1, ?2, ?3)",
+        &[
+            ValueRef::Text(name),
+            ValueRef::Int(kind),
+            ValueRef::Blob(secret),
+        ],
+    ) {
+        Ok(_) => Ok(()),
+        Err(error) => Err(error),
+    }
+}
+
+/// Takes out the clerk, if it is there.
+pub fn drop_clerk<S: Alter>(conn: &mut Connection<S>, name: &[u8]) -> Result<(), Error>
+    ensures ok { HasCleanDisk (state S.Store conn.new) → IsReady (state S.Store conn.old) → OnOk result (Changes (changes.DropsClerk name.now) (state S.Store conn.old) (state S.Store conn.new)) }
+    ensures err { HasCleanDisk (state S.Store conn.new) → OnErr result (IsUndone (state S.Store conn.old) (state S.Store conn.new)) }
+    ensures survives { Survives (state S.Store conn.old) (state S.Store conn.new) (MayLeave (changes.DropsClerk name.now) (state S.Store conn.old)) }
+{
+    let _schema = conn.schema();
+    match conn.execute(
+        "DELETE FROM clerks WHERE name = ?1",
+        &[ValueRef::Text(name)],
+    ) {
+        Ok(_) => Ok(()),
+        Err(error) => Err(error),
+    }
+}
+
+/// The clerk of this name, if there is one.
+pub fn find_clerk<S: Alter>(
+    alloc: Global,
+    conn: &mut Connection<S>,
+    name: &[u8],
+) -> Result<Option<Clerk>, Error>
+    ensures ok { HasCleanDisk (state S.Store conn.new) → HasTables (state S.Store conn.old) → IfOk result (λ found. found ≡ find (rows.is_clerk name.now) (rows_in (state S.Store conn.old).now.trees).clerks) }
+    ensures same { HasCleanDisk (state S.Store conn.new) → HasTables (state S.Store conn.old) → OnOk result (IsUnchanged (state S.Store conn.old) (state S.Store conn.new)) }
+    ensures err { HasCleanDisk (state S.Store conn.new) → HasTables (state S.Store conn.old) → OnErr result (IsUndone (state S.Store conn.old) (state S.Store conn.new)) }
+    ensures survives { Survives (state S.Store conn.old) (state S.Store conn.new) (λ _. ¬ IsOurs (state S.Store conn.old).now) }
+{
+    let _schema = conn.schema();
+    match conn.query_all(
+        "SELECT name, kind, secret FROM clerks WHERE name = ?1 ORDER BY rowid",
+        &[ValueRef::Text(name)],
+    ) {
+        Ok(rows) => read_first(alloc, rows.as_slice()),
+        Err(error) => Err(error),
+    }
+}
+
+/// Every clerk, in the order in which they were added.
+pub fn all_clerks<S: Alter>(alloc: Global, conn: &mut Connection<S>) -> Result<Vec<Clerk>, Error>
+    ensures ok { HasCleanDisk (state S.Store conn.new) → HasTables (state S.Store conn.old) → IfOk result (λ all. all.items ≡ (rows_in (state S.Store conn.old).now.trees).clerks) }
+    ensures same { HasCleanDisk (state S.Store conn.new) → HasTables (state S.Store conn.old) → OnOk result (IsUnchanged (state S.Store conn.old) (state S.Store conn.new)) }
+    ensures err { HasCleanDisk (state S.Store conn.new) → HasTables (state S.Store conn.old) → OnErr result (IsUndone (state S.Store conn.old) (state S.Store conn.new)) }
+    ensures survives { Survives (state S.Store conn.old) (state S.Store conn.new) (λ _. ¬ IsOurs (state S.Store conn.old).now) }
+{
+    match conn.query_all("SELECT name, kind, secret FROM clerks ORDER BY rowid", &[]) {
+        Ok(rows) => read_all(alloc, rows.as_slice()),
+        Err(error) => Err(error),
+    }
+}
+
+/// How many clerks there are.
+pub fn clerk_count<S: Alter>(conn: &mut Connection<S>) -> Result<u64, Error>
+    ensures ok { HasCleanDisk (state S.Store conn.new) → HasTables (state S.Store conn.old) → IfOk result (λ count. count ≡ min (length (rows_in (state S.Store conn.old).now.trees).clerks) 9223372036854775807) }
+    ensures same { HasCleanDisk (state S.Store conn.new) → HasTables (state S.Store conn.old) → OnOk result (IsUnchanged (state S.Store conn.old) (state S.Store conn.new)) }
+    ensures err { HasCleanDisk (state S.Store conn.new) → HasTables (state S.Store conn.old) → OnErr result (IsUndone (state S.Store conn.old) (state S.Store conn.new)) }
+    ensures survives { Survives (state S.Store conn.old) (state S.Store conn.new) (λ _. ¬ IsOurs (state S.Store conn.old).now) }
+{
+    match conn.query_row("SELECT count(*) FROM clerks", &[]) {
+        Ok(row) => row.get(0),
+        Err(error) => Err(error),
+    }
+}
+
+/// Puts the clerk in place of the one of its name, if there is one. These are two statements: call it inside a transaction, and an error between them can be rolled back.
+pub fn put_clerk<'x, S: Alter>(
+    conn: &mut Connection<S>,
+    name: &'x [u8],
+    kind: i64,
+    secret: &'x [u8],
+) -> Result<(), Error>
+    ensures ok { HasCleanDisk (state S.Store conn.new) → IsReady (state S.Store conn.old) → OnOk result (Changes (changes.PutsClerk (record { name = name.now; kind = kind; secret = secret.now })) (state S.Store conn.old) (state S.Store conn.new)) }
+    ensures err { HasCleanDisk (state S.Store conn.new) → IsReady (state S.Store conn.old) → IsTrue (state S.Store conn.old).in_transaction → OnErr result (IsHalted (state S.Store conn.old) (state S.Store conn.new)) }
+    ensures survives { Survives (state S.Store conn.old) (state S.Store conn.new) (MayLeave (λ before after. changes.DropsClerk name.now before after ⊎ changes.PutsClerk (record { name = name.now; kind = kind; secret = secret.now }) before after) (state S.Store conn.old)) }
+{
+    match drop_clerk(conn, name) {
+        Ok(()) => add_clerk(conn, name, kind, secret),
+        Err(error) => Err(error),
+    }
+}

@@ -1,0 +1,112 @@
+//! The greatest number given to each class of a maildrop.
+
+ghost use Rattle.std.specs.Prelude.{◌≡◌, ◌⊎◌, IsTrue, IfOk, OnOk, OnErr};
+ghost use Rattle.std.specs.List.{find};
+ghost use Rattle.sqlite.specs.Held.{state};
+ghost use Rattle.sqlite.specs.State.{HasCleanDisk, IsUnchanged, Survives};
+ghost use Rattle.mailsql.specs.Changes as changes;
+ghost use Rattle.mailsql.specs.Rows as rows;
+ghost use Rattle.mailsql.specs.Rows.{IsOurs, IsReady, HasTables, MayLeave, Changes, IsUndone, IsHalted, rows_in};
+
+use crate::decode::{read_all, read_first};
+use crate::rows::Count;
+use sqlite::{Alter, Connection, Error};
+use sqlite_value::value::ValueRef;
+use std::alloc::Global;
+
+/// Sets the count of a class that has none.
+pub fn add_count<'x, S: Alter>(
+    conn: &mut Connection<S>,
+    maildrop: &'x [u8],
+    class: &'x [u8],
+    k: i64,
+) -> Result<(), Error>
+    ensures ok { HasCleanDisk (state S.Store conn.new) → IsReady (state S.Store conn.old) → OnOk result (Changes (changes.AddsCount (record { maildrop = maildrop.now; class = class.now; k = k })) (state S.Store conn.old) (state S.Store conn.new)) }
+    ensures err { HasCleanDisk (state S.Store conn.new) → OnErr result (IsUndone (state S.Store conn.old) (state S.Store conn.new)) }
+    ensures survives { Survives (state S.Store conn.old) (state S.Store conn.new) (MayLeave (changes.AddsCount (record { maildrop = maildrop.now; class = class.now; k = k })) (state S.Store conn.old)) }
+{
+    let _schema = conn.schema();
+    match conn.execute(
+        "INSERT INTO counts (maildrop, class, k) VALUES (?1, ?2, ?3)",
+        &[
+            ValueRef::Text(maildrop),
+            ValueRef::Text(class),
+            ValueRef::Int(k),
+        ],
+    ) {
+        Ok(_) => Ok(()),
+        Err(error) => Err(error),
+    }
+}
+
+/// Takes out the count, if it is there.
+pub fn clear_count<'x, S: Alter>(
+    conn: &mut Connection<S>,
+    maildrop: &'x [u8],
+    class: &'x [u8],
+) -> Result<(), Error>
+    ensures ok { HasCleanDisk (state S.Store conn.new) → IsReady (state S.Store conn.old) → OnOk result (Changes (changes.ClearsCount maildrop.now class.now) (state S.Store conn.old) (state S.Store conn.new)) }
+    ensures err { HasCleanDisk (state S.Store conn.new) → OnErr result (IsUndone (state S.Store conn.old) (state S.Store conn.new)) }
+    ensures survives { Survives (state S.Store conn.old) (state S.Store conn.new) (MayLeave (changes.ClearsCount maildrop.now class.now) (state S.Store conn.old)) }
+{
+    let _schema = conn.schema();
+    match conn.execute(
+        "DELETE FROM counts WHERE maildrop = ?1 AND class = ?2",
+        &[ValueRef::Text(maildrop), ValueRef::Text(class)],
+    ) {
+        Ok(_) => Ok(()),
+        Err(error) => Err(error),
+    }
+}
+
+/// The count of the class in the maildrop, if one was ever set.
+pub fn find_count<'x, S: Alter>(
+    alloc: Global,
+    conn: &mut Connection<S>,
+    maildrop: &'x [u8],
+    class: &'x [u8],
+) -> Result<Option<Count>, Error>
+    ensures ok { HasCleanDisk (state S.Store conn.new) → HasTables (state S.Store conn.old) → IfOk result (λ found. found ≡ find (rows.is_count maildrop.now class.now) (rows_in (state S.Store conn.old).now.trees).counts) }
+    ensures same { HasCleanDisk (state S.Store conn.new) → HasTables (state S.Store conn.old) → OnOk result (IsUnchanged (state S.Store conn.old) (state S.Store conn.new)) }
+    ensures err { HasCleanDisk (state S.Store conn.new) → HasTables (state S.Store conn.old) → OnErr result (IsUndone (state S.Store conn.old) (state S.Store conn.new)) }
+    ensures survives { Survives (state S.Store conn.old) (state S.Store conn.new) (λ _. ¬ IsOurs (state S.Store conn.old).now) }
+{
+    let _schema = conn.schema();
+    match conn.query_all(
+        "SELECT maildrop, class, k FROM counts WHERE maildrop = ?1 AND class = ?2 ORDER BY rowid",
+        &[ValueRef::Text(maildrop), ValueRef::Text(class)],
+    ) {
+        Ok(rows) => read_first(alloc, rows.as_slice()),
+        Err(error) => Err(error),
+    }
+}
+
+/// Every count, in the order in which they were added.
+pub fn all_counts<S: Alter>(alloc: Global, conn: &mut Connection<S>) -> Result<Vec<Count>, Error>
+    ensures ok { HasCleanDisk (state S.Store conn.new) → HasTables (state S.Store conn.old) → IfOk result (λ all. all.items ≡ (rows_in (state S.Store conn.old).now.trees).counts) }
+    ensures same { HasCleanDisk (state S.Store conn.new) → HasTables (state S.Store conn.old) → OnOk result (IsUnchanged (state S.Store conn.old) (state S.Store conn.new)) }
+    ensures err { HasCleanDisk (state S.Store conn.new) → HasTables (state S.Store conn.old) → OnErr result (IsUndone (state S.Store conn.old) (state S.Store conn.new)) }
+    ensures survives { Survives (state S.Store conn.old) (state S.Store conn.new) (λ _. ¬ IsOurs (state S.Store conn.old).now) }
+{
+    match conn.query_all("SELECT maildrop, class, k FROM counts ORDER BY rowid", &[]) {
+        Ok(rows) => read_all(alloc, rows.as_slice()),
+        Err(error) => Err(error),
+    }
+}
+
+/// Raises the count of the class to `k`, or sets it. These are two statements: call it inside a transaction, and an error between them can be rolled back.
+pub fn set_count<'x, S: Alter>(
+    conn: &mut Connection<S>,
+    maildrop: &'x [u8],
+    class: &'x [u8],
+    k: i64,
+) -> Result<(), Error>
+    ensures ok { HasCleanDisk (state S.Store conn.new) → IsReady (state S.Store conn.old) → OnOk result (Changes (changes.SetsCount (record { maildrop = maildrop.now; class = class.now; k = k })) (state S.Store conn.old) (state S.Store conn.new)) }
+    ensures err { HasCleanDisk (state S.Store conn.new) → IsReady (state S.Store conn.old) → IsTrue (state S.Store conn.old).in_transaction → OnErr result (IsHalted (state S.Store conn.old) (state S.Store conn.new)) }
+    ensures survives { Survives (state S.Store conn.old) (state S.Store conn.new) (MayLeave (λ before after. changes.ClearsCount maildrop.now class.now before after ⊎ changes.SetsCount (record { maildrop = maildrop.now; class = class.now; k = k }) before after) (state S.Store conn.old)) }
+{
+    match clear_count(conn, maildrop, class) {
+        Ok(()) => add_count(conn, maildrop, class, k),
+        Err(error) => Err(error),
+    }
+}

@@ -1,0 +1,192 @@
+//! Rows of an answer, read into the crate's types.
+
+ghost use Rattle.std.specs.Prelude.{◌≡◌, map, slice_get, IfOk};
+ghost use Rattle.std.specs.Option.{option_map};
+ghost use Rattle.sqlite_value.specs.Order.{column, bytes};
+ghost use Rattle.sqlite_rules.specs.Edit.{id_in};
+
+use crate::rows::{Clerk, Count, Deposit, Mark, Message, Rule, Sheet};
+use sqlite::types::Type;
+use sqlite::{Error, Row};
+use sqlite_value::value::{Bytes, ValueRef};
+use std::alloc::Global;
+
+/// The octets of a text or a blob.
+fn octets(alloc: Global, row: &Row, at: usize) -> Result<Bytes, Error>
+    ensures { IfOk result (λ octets. octets ≡ bytes (column row.now at)) }
+{
+    match row.get_ref(at)? {
+        ValueRef::Text(octets) => Ok(Bytes::from_slice(alloc, octets)?),
+        ValueRef::Blob(octets) => Ok(Bytes::from_slice(alloc, octets)?),
+        other => Err(Error::InvalidColumnType(at, Type::of(other))),
+    }
+}
+
+fn number(row: &Row, at: usize) -> Result<i64, Error>
+    ensures { IfOk result (λ number. number ≡ id_in (column row.now at)) }
+{
+    row.get(at)
+}
+
+/// What a row of an answer is read into.
+pub(crate) trait Stored: Sized + Drop {
+    ghost use Rattle.sqlite_value.specs.Order.{Row as SqlRow};
+
+    // The value that the row holds.
+    ghost stored: { SqlRow → Self };
+
+    fn read(alloc: Global, row: &Row) -> Result<Self, Error>
+        ensures { IfOk result (λ it. it ≡ stored row.now) };
+}
+
+impl Stored for Mark {
+    ghost use Rattle.std.specs.Prelude.{◌∷◌};
+    ghost use Rattle.sqlite_value.specs.declared.value.Value.TheVariants.{Null};
+    ghost use Rattle.mailsql.specs.Rows.{mark_of};
+
+    ghost stored = { λ row. mark_of (Null ∷ row) };
+
+    fn read(alloc: Global, row: &Row) -> Result<Mark, Error> {
+        Ok(Mark {
+            name: octets(alloc, row, 0)?,
+            value: number(row, 1)?,
+        })
+    }
+}
+
+impl Stored for Clerk {
+    ghost use Rattle.std.specs.Prelude.{◌∷◌};
+    ghost use Rattle.sqlite_value.specs.declared.value.Value.TheVariants.{Null};
+    ghost use Rattle.mailsql.specs.Rows.{clerk_of};
+
+    ghost stored = { λ row. clerk_of (Null ∷ row) };
+
+    fn read(alloc: Global, row: &Row) -> Result<Clerk, Error> {
+        Ok(Clerk {
+            name: octets(alloc, row, 0)?,
+            kind: number(row, 1)?,
+            secret: octets(alloc, row, 2)?,
+        })
+    }
+}
+
+impl Stored for Bytes {
+    ghost use Rattle.std.specs.Prelude.{◌∷◌};
+    ghost use Rattle.sqlite_value.specs.declared.value.Value.TheVariants.{Null};
+    ghost use Rattle.mailsql.specs.Rows.{maildrop_of};
+
+    ghost stored = { λ row. maildrop_of (Null ∷ row) };
+
+    fn read(alloc: Global, row: &Row) -> Result<Bytes, Error> {
+        octets(alloc, row, 0)
+    }
+}
+
+impl Stored for Count {
+    ghost use Rattle.std.specs.Prelude.{◌∷◌};
+    ghost use Rattle.sqlite_value.specs.declared.value.Value.TheVariants.{Null};
+    ghost use Rattle.mailsql.specs.Rows.{count_of};
+
+    ghost stored = { λ row. count_of (Null ∷ row) };
+
+    fn read(alloc: Global, row: &Row) -> Result<Count, Error> {
+        Ok(Count {
+            maildrop: octets(alloc, row, 0)?,
+            class: octets(alloc, row, 1)?,
+            k: number(row, 2)?,
+        })
+    }
+}
+
+impl Stored for Deposit {
+    ghost use Rattle.std.specs.Prelude.{◌∷◌};
+    ghost use Rattle.sqlite_value.specs.declared.value.Value.TheVariants.{Null};
+    ghost use Rattle.mailsql.specs.Rows.{deposit_of};
+
+    ghost stored = { λ row. deposit_of (Null ∷ row) };
+
+    fn read(alloc: Global, row: &Row) -> Result<Deposit, Error> {
+        Ok(Deposit {
+            maildrop: octets(alloc, row, 0)?,
+            id: octets(alloc, row, 1)?,
+            class: octets(alloc, row, 2)?,
+            k: number(row, 3)?,
+            digest: octets(alloc, row, 4)?,
+        })
+    }
+}
+
+impl Stored for Message {
+    ghost use Rattle.std.specs.Prelude.{◌∷◌};
+    ghost use Rattle.sqlite_value.specs.Order.{column};
+    ghost use Rattle.mailsql.specs.Rows.{message_of};
+
+    ghost stored = { λ row. message_of (column row 0 ∷ row) };
+
+    fn read(alloc: Global, row: &Row) -> Result<Message, Error> {
+        Ok(Message {
+            key: number(row, 0)?,
+            maildrop: octets(alloc, row, 1)?,
+            class: octets(alloc, row, 2)?,
+            k: number(row, 3)?,
+            octets: number(row, 4)?,
+        })
+    }
+}
+
+impl Stored for Sheet {
+    ghost use Rattle.std.specs.Prelude.{◌∷◌};
+    ghost use Rattle.sqlite_value.specs.declared.value.Value.TheVariants.{Null};
+    ghost use Rattle.mailsql.specs.Rows.{sheet_of};
+
+    ghost stored = { λ row. sheet_of (Null ∷ row) };
+
+    fn read(alloc: Global, row: &Row) -> Result<Sheet, Error> {
+        Ok(Sheet {
+            mail: number(row, 0)?,
+            place: number(row, 1)?,
+            octets: octets(alloc, row, 2)?,
+        })
+    }
+}
+
+impl Stored for Rule {
+    ghost use Rattle.std.specs.Prelude.{◌∷◌};
+    ghost use Rattle.sqlite_value.specs.Order.{column};
+    ghost use Rattle.mailsql.specs.Rows.{rule_of};
+
+    ghost stored = { λ row. rule_of (column row 0 ∷ row) };
+
+    fn read(alloc: Global, row: &Row) -> Result<Rule, Error> {
+        Ok(Rule {
+            place: number(row, 0)?,
+            name: octets(alloc, row, 1)?,
+            effect: number(row, 2)?,
+            clerk: octets(alloc, row, 3)?,
+            maildrop: octets(alloc, row, 4)?,
+            class: octets(alloc, row, 5)?,
+            actions: number(row, 6)?,
+        })
+    }
+}
+
+/// Each row of the answer.
+pub(crate) fn read_all<T: Stored>(alloc: Global, rows: &[Row]) -> Result<Vec<T>, Error>
+    ensures { IfOk result (λ all. all.items ≡ map T.stored rows.now) }
+{
+    let mut all = Vec::new(alloc);
+    for row in rows {
+        all.push(T::read(alloc, row)?)?;
+    }
+    Ok(all)
+}
+
+/// The first row of the answer.
+pub(crate) fn read_first<T: Stored>(alloc: Global, rows: &[Row]) -> Result<Option<T>, Error>
+    ensures { IfOk result (λ first. first ≡ option_map T.stored (slice_get rows.now 0)) }
+{
+    match rows.first() {
+        Some(row) => Ok(Some(T::read(alloc, row)?)),
+        None => Ok(None),
+    }
+}

@@ -1,0 +1,85 @@
+//! The deposits that were ever accepted.
+
+ghost use Rattle.std.specs.Prelude.{◌≡◌, IfOk, OnOk, OnErr};
+ghost use Rattle.std.specs.List.{find};
+ghost use Rattle.sqlite.specs.Held.{state};
+ghost use Rattle.sqlite.specs.State.{HasCleanDisk, IsUnchanged, Survives};
+ghost use Rattle.mailsql.specs.Changes as changes;
+ghost use Rattle.mailsql.specs.Rows as rows;
+ghost use Rattle.mailsql.specs.Rows.{IsOurs, IsReady, HasTables, MayLeave, Changes, IsUndone, rows_in};
+
+use crate::decode::{read_all, read_first};
+use crate::rows::Deposit;
+use sqlite::{Alter, Connection, Error};
+use sqlite_value::value::ValueRef;
+use std::alloc::Global;
+
+/// Adds a deposit whose id the maildrop has not.
+pub fn add_deposit<'x, S: Alter>(
+    conn: &mut Connection<S>,
+    maildrop: &'x [u8],
+    id: &'x [u8],
+    class: &'x [u8],
+    k: i64,
+    digest: &'x [u8],
+) -> Result<(), Error>
+    ensures ok { HasCleanDisk (state S.Store conn.new) → IsReady (state S.Store conn.old) → OnOk result (Changes (changes.AddsDeposit (record { maildrop = maildrop.now; id = id.now; class = class.now; k = k; digest = digest.now })) (state S.Store conn.old) (state S.Store conn.new)) }
+    ensures err { HasCleanDisk (state S.Store conn.new) → OnErr result (IsUndone (state S.Store conn.old) (state S.Store conn.new)) }
+    ensures survives { Survives (state S.Store conn.old) (state S.Store conn.new) (MayLeave (changes.AddsDeposit (record { maildrop = maildrop.now; id = id.now; class = class.now; k = k; digest = digest.now })) (state S.Store conn.old)) }
+{
+    let _schema = conn.schema();
+    match conn.execute(
+        "INSERT INTO deposits (maildrop, id, class, k, digest) VALUES (?1, ?2, ?3, ?4, ?5)",
+        &[
+            ValueRef::Text(maildrop),
+            ValueRef::Text(id),
+            ValueRef::Text(class),
+            ValueRef::Int(k),
+            ValueRef::Blob(digest),
+        ],
+    ) {
+        Ok(_) => Ok(()),
+        Err(error) => Err(error),
+    }
+}
+
+/// The deposit of this id, if the maildrop has ever accepted it.
+pub fn find_deposit<'x, S: Alter>(
+    alloc: Global,
+    conn: &mut Connection<S>,
+    maildrop: &'x [u8],
+    id: &'x [u8],
+) -> Result<Option<Deposit>, Error>
+    ensures ok { HasCleanDisk (state S.Store conn.new) → HasTables (state S.Store conn.old) → IfOk result (λ found. found ≡ find (rows.is_deposit maildrop.now id.now) (rows_in (state S.Store conn.old).now.trees).deposits) }
+    ensures same { HasCleanDisk (state S.Store conn.new) → HasTables (state S.Store conn.old) → OnOk result (IsUnchanged (state S.Store conn.old) (state S.Store conn.new)) }
+    ensures err { HasCleanDisk (state S.Store conn.new) → HasTables (state S.Store conn.old) → OnErr result (IsUndone (state S.Store conn.old) (state S.Store conn.new)) }
+    ensures survives { Survives (state S.Store conn.old) (state S.Store conn.new) (λ _. ¬ IsOurs (state S.Store conn.old).now) }
+{
+    let _schema = conn.schema();
+    match conn.query_all(
+        "SELECT maildrop, id, class, k, digest FROM deposits WHERE maildrop = ?1 AND id = ?2 ORDER BY rowid",
+        &[ValueRef::Text(maildrop), ValueRef::Text(id)],
+    ) {
+        Ok(rows) => read_first(alloc, rows.as_slice()),
+        Err(error) => Err(error),
+    }
+}
+
+/// Every deposit, in the order in which they were accepted.
+pub fn all_deposits<S: Alter>(
+    alloc: Global,
+    conn: &mut Connection<S>,
+) -> Result<Vec<Deposit>, Error>
+    ensures ok { HasCleanDisk (state S.Store conn.new) → HasTables (state S.Store conn.old) → IfOk result (λ all. all.items ≡ (rows_in (state S.Store conn.old).now.trees).deposits) }
+    ensures same { HasCleanDisk (state S.Store conn.new) → HasTables (state S.Store conn.old) → OnOk result (IsUnchanged (state S.Store conn.old) (state S.Store conn.new)) }
+    ensures err { HasCleanDisk (state S.Store conn.new) → HasTables (state S.Store conn.old) → OnErr result (IsUndone (state S.Store conn.old) (state S.Store conn.new)) }
+    ensures survives { Survives (state S.Store conn.old) (state S.Store conn.new) (λ _. ¬ IsOurs (state S.Store conn.old).now) }
+{
+    match conn.query_all(
+        "SELECT maildrop, id, class, k, digest FROM deposits ORDER BY rowid",
+        &[],
+    ) {
+        Ok(rows) => read_all(alloc, rows.as_slice()),
+        Err(error) => Err(error),
+    }
+}

@@ -1,0 +1,119 @@
+//! The messages, without their pages.
+
+ghost use Rattle.std.specs.Prelude.{◌≡◌, min, length, filter, IfOk, OnOk, OnErr};
+ghost use Rattle.sqlite.specs.Held.{state};
+ghost use Rattle.sqlite.specs.State.{HasCleanDisk, IsUnchanged, Survives};
+ghost use Rattle.mailsql.specs.Changes as changes;
+ghost use Rattle.mailsql.specs.Rows as rows;
+ghost use Rattle.mailsql.specs.Rows.{IsOurs, IsReady, HasTables, MayLeave, Changes, IsUndone, rows_in};
+
+use crate::decode::read_all;
+use crate::rows::Message;
+use sqlite::{Alter, Connection, Error};
+use sqlite_value::value::ValueRef;
+use std::alloc::Global;
+
+/// Adds a message, and tells its key.
+pub fn add_message<'x, S: Alter>(
+    conn: &mut Connection<S>,
+    maildrop: &'x [u8],
+    class: &'x [u8],
+    k: i64,
+    octets: i64,
+) -> Result<i64, Error>
+    ensures ok { HasCleanDisk (state S.Store conn.new) → IsReady (state S.Store conn.old)
+        → IfOk result (λ key. Changes (changes.AddsMessage (record { key = key; maildrop = maildrop.now; class = class.now; k = k; octets = octets })) (state S.Store conn.old) (state S.Store conn.new)) }
+    ensures err { HasCleanDisk (state S.Store conn.new) → OnErr result (IsUndone (state S.Store conn.old) (state S.Store conn.new)) }
+    ensures survives { Survives (state S.Store conn.old) (state S.Store conn.new) (MayLeave (changes.Arrives maildrop.now class.now k octets) (state S.Store conn.old)) }
+{
+    let _schema = conn.schema();
+    match conn.execute(
+        "INSERT INTO mail (maildrop, class, k, octets) VALUES (?1, ?2, ?3, ?4)",
+        &[
+            ValueRef::Text(maildrop),
+            ValueRef::Text(class),
+            ValueRef::Int(k),
+            ValueRef::Int(octets),
+        ],
+    ) {
+        Ok(_) => Ok(conn.last_insert_rowid()),
+        Err(error) => Err(error),
+    }
+}
+
+/// Takes out a message of the maildrop, and its pages.
+pub fn remove_message<'x, S: Alter>(
+    conn: &mut Connection<S>,
+    key: i64,
+    maildrop: &'x [u8],
+) -> Result<(), Error>
+    ensures ok { HasCleanDisk (state S.Store conn.new) → IsReady (state S.Store conn.old) → OnOk result (Changes (changes.RemovesMessage key maildrop.now) (state S.Store conn.old) (state S.Store conn.new)) }
+    ensures err { HasCleanDisk (state S.Store conn.new) → OnErr result (IsUndone (state S.Store conn.old) (state S.Store conn.new)) }
+    ensures survives { Survives (state S.Store conn.old) (state S.Store conn.new) (MayLeave (changes.RemovesMessage key maildrop.now) (state S.Store conn.old)) }
+{
+    let _schema = conn.schema();
+    match conn.execute(
+        "DELETE FROM mail WHERE key = ?1 AND maildrop = ?2",
+        &[ValueRef::Int(key), ValueRef::Text(maildrop)],
+    ) {
+        Ok(_) => Ok(()),
+        Err(error) => Err(error),
+    }
+}
+
+/// The messages of the maildrop, in the order in which they arrived.
+pub fn heads<S: Alter>(
+    alloc: Global,
+    conn: &mut Connection<S>,
+    maildrop: &[u8],
+) -> Result<Vec<Message>, Error>
+    ensures ok { HasCleanDisk (state S.Store conn.new) → HasTables (state S.Store conn.old) → IfOk result (λ all. all.items ≡ filter (rows.is_in maildrop.now) (rows_in (state S.Store conn.old).now.trees).messages) }
+    ensures same { HasCleanDisk (state S.Store conn.new) → HasTables (state S.Store conn.old) → OnOk result (IsUnchanged (state S.Store conn.old) (state S.Store conn.new)) }
+    ensures err { HasCleanDisk (state S.Store conn.new) → HasTables (state S.Store conn.old) → OnErr result (IsUndone (state S.Store conn.old) (state S.Store conn.new)) }
+    ensures survives { Survives (state S.Store conn.old) (state S.Store conn.new) (λ _. ¬ IsOurs (state S.Store conn.old).now) }
+{
+    let _schema = conn.schema();
+    match conn.query_all(
+        "SELECT key, maildrop, class, k, octets FROM mail WHERE maildrop = ?1 ORDER BY key",
+        &[ValueRef::Text(maildrop)],
+    ) {
+        Ok(rows) => read_all(alloc, rows.as_slice()),
+        Err(error) => Err(error),
+    }
+}
+
+/// Every message, in the order in which they arrived.
+pub fn all_messages<S: Alter>(
+    alloc: Global,
+    conn: &mut Connection<S>,
+) -> Result<Vec<Message>, Error>
+    ensures ok { HasCleanDisk (state S.Store conn.new) → HasTables (state S.Store conn.old) → IfOk result (λ all. all.items ≡ (rows_in (state S.Store conn.old).now.trees).messages) }
+    ensures same { HasCleanDisk (state S.Store conn.new) → HasTables (state S.Store conn.old) → OnOk result (IsUnchanged (state S.Store conn.old) (state S.Store conn.new)) }
+    ensures err { HasCleanDisk (state S.Store conn.new) → HasTables (state S.Store conn.old) → OnErr result (IsUndone (state S.Store conn.old) (state S.Store conn.new)) }
+    ensures survives { Survives (state S.Store conn.old) (state S.Store conn.new) (λ _. ¬ IsOurs (state S.Store conn.old).now) }
+{
+    match conn.query_all(
+        "SELECT key, maildrop, class, k, octets FROM mail ORDER BY key",
+        &[],
+    ) {
+        Ok(rows) => read_all(alloc, rows.as_slice()),
+        Err(error) => Err(error),
+    }
+}
+
+/// How many messages the maildrop has.
+pub fn message_count<S: Alter>(conn: &mut Connection<S>, maildrop: &[u8]) -> Result<u64, Error>
+    ensures ok { HasCleanDisk (state S.Store conn.new) → HasTables (state S.Store conn.old) → IfOk result (λ count. count ≡ min (length (filter (rows.is_in maildrop.now) (rows_in (state S.Store conn.old).now.trees).messages)) 9223372036854775807) }
+    ensures same { HasCleanDisk (state S.Store conn.new) → HasTables (state S.Store conn.old) → OnOk result (IsUnchanged (state S.Store conn.old) (state S.Store conn.new)) }
+    ensures err { HasCleanDisk (state S.Store conn.new) → HasTables (state S.Store conn.old) → OnErr result (IsUndone (state S.Store conn.old) (state S.Store conn.new)) }
+    ensures survives { Survives (state S.Store conn.old) (state S.Store conn.new) (λ _. ¬ IsOurs (state S.Store conn.old).now) }
+{
+    let _schema = conn.schema();
+    match conn.query_row(
+        "SELECT count(*) FROM mail WHERE maildrop = ?1",
+        &[ValueRef::Text(maildrop)],
+    ) {
+        Ok(row) => row.get(0),
+        Err(error) => Err(error),
+    }
+}

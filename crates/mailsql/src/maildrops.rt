@@ -1,0 +1,105 @@
+//! The names of the maildrops.
+
+ghost use Rattle.std.specs.Prelude.{◌≡◌, min, length, IfOk, OnOk, OnErr};
+ghost use Rattle.sqlite.specs.Held.{state};
+ghost use Rattle.sqlite.specs.State.{HasCleanDisk, IsUnchanged, Survives};
+ghost use Rattle.mailsql.specs.Changes as changes;
+ghost use Rattle.mailsql.specs.Rows as rows;
+ghost use Rattle.mailsql.specs.Rows.{IsOurs, IsReady, HasTables, MayLeave, Changes, IsUndone, rows_in};
+
+use crate::decode::read_all;
+use sqlite::{Alter, Connection, Error};
+use sqlite_value::value::{Bytes, ValueRef};
+use std::alloc::Global;
+
+/// Adds a name that is not there.
+pub fn add_maildrop<S: Alter>(conn: &mut Connection<S>, name: &[u8]) -> Result<(), Error>
+    ensures ok { HasCleanDisk (state S.Store conn.new) → IsReady (state S.Store conn.old) → OnOk result (Changes (changes.AddsMaildrop name.now) (state S.Store conn.old) (state S.Store conn.new)) }
+    ensures err { HasCleanDisk (state S.Store conn.new) → OnErr result (IsUndone (state S.Store conn.old) (state S.Store conn.new)) }
+    ensures survives { Survives (state S.Store conn.old) (state S.Store conn.new) (MayLeave (changes.AddsMaildrop name.now) (state S.Store conn.old)) }
+{
+    let _schema = conn.schema();
+    match conn.execute(
+        "INSERT INTO maildrops (name) VALUES (?1)",
+        &[ValueRef::Text(name)],
+    ) {
+        Ok(_) => Ok(()),
+        Err(error) => Err(error),
+    }
+}
+
+/// Takes out the name, if it is there. It is refused while a message is in the maildrop.
+pub fn drop_maildrop<S: Alter>(conn: &mut Connection<S>, name: &[u8]) -> Result<(), Error>
+    ensures ok { HasCleanDisk (state S.Store conn.new) → IsReady (state S.Store conn.old) → OnOk result (Changes (changes.DropsMaildrop name.now) (state S.Store conn.old) (state S.Store conn.new)) }
+    ensures err { HasCleanDisk (state S.Store conn.new) → OnErr result (IsUndone (state S.Store conn.old) (state S.Store conn.new)) }
+    ensures survives { Survives (state S.Store conn.old) (state S.Store conn.new) (MayLeave (changes.DropsMaildrop name.now) (state S.Store conn.old)) }
+{
+    let _schema = conn.schema();
+    match conn.execute(
+        "DELETE FROM maildrops WHERE name = ?1",
+        &[ValueRef::Text(name)],
+    ) {
+        Ok(_) => Ok(()),
+        Err(error) => Err(error),
+    }
+}
+
+/// Whether the name is there.
+pub fn has_maildrop<S: Alter>(conn: &mut Connection<S>, name: &[u8]) -> Result<bool, Error>
+    ensures ok { HasCleanDisk (state S.Store conn.new) → HasTables (state S.Store conn.old) → IfOk result (λ there. there ≡ rows.has_name name.now (rows_in (state S.Store conn.old).now.trees).maildrops) }
+    ensures same { HasCleanDisk (state S.Store conn.new) → HasTables (state S.Store conn.old) → OnOk result (IsUnchanged (state S.Store conn.old) (state S.Store conn.new)) }
+    ensures err { HasCleanDisk (state S.Store conn.new) → OnErr result (IsUndone (state S.Store conn.old) (state S.Store conn.new)) }
+    ensures survives { Survives (state S.Store conn.old) (state S.Store conn.new) (λ _. ¬ IsOurs (state S.Store conn.old).now) }
+{
+    let _schema = conn.schema();
+    match conn.query_all(
+        "SELECT name FROM maildrops WHERE name = ?1",
+        &[ValueRef::Text(name)],
+    ) {
+        Ok(rows) => Ok(!rows.is_empty()),
+        Err(error) => Err(error),
+    }
+}
+
+/// How many names there are.
+pub fn maildrop_count<S: Alter>(conn: &mut Connection<S>) -> Result<u64, Error>
+    ensures ok { HasCleanDisk (state S.Store conn.new) → HasTables (state S.Store conn.old) → IfOk result (λ count. count ≡ min (length (rows_in (state S.Store conn.old).now.trees).maildrops) 9223372036854775807) }
+    ensures same { HasCleanDisk (state S.Store conn.new) → HasTables (state S.Store conn.old) → OnOk result (IsUnchanged (state S.Store conn.old) (state S.Store conn.new)) }
+    ensures err { HasCleanDisk (state S.Store conn.new) → HasTables (state S.Store conn.old) → OnErr result (IsUndone (state S.Store conn.old) (state S.Store conn.new)) }
+    ensures survives { Survives (state S.Store conn.old) (state S.Store conn.new) (λ _. ¬ IsOurs (state S.Store conn.old).now) }
+{
+    match conn.query_row("SELECT count(*) FROM maildrops", &[]) {
+        Ok(row) => row.get(0),
+        Err(error) => Err(error),
+    }
+}
+
+/// Every name, in the order of its octets.
+pub fn maildrops_by_name<S: Alter>(
+    alloc: Global,
+    conn: &mut Connection<S>,
+) -> Result<Vec<Bytes>, Error>
+    ensures ok { HasCleanDisk (state S.Store conn.new) → HasTables (state S.Store conn.old) → IfOk result (λ all. rows.IsByName (rows_in (state S.Store conn.old).now.trees).maildrops all.items) }
+    ensures same { HasCleanDisk (state S.Store conn.new) → HasTables (state S.Store conn.old) → OnOk result (IsUnchanged (state S.Store conn.old) (state S.Store conn.new)) }
+    ensures err { HasCleanDisk (state S.Store conn.new) → HasTables (state S.Store conn.old) → OnErr result (IsUndone (state S.Store conn.old) (state S.Store conn.new)) }
+    ensures survives { Survives (state S.Store conn.old) (state S.Store conn.new) (λ _. ¬ IsOurs (state S.Store conn.old).now) }
+{
+    let _schema = conn.schema();
+    match conn.query_all("SELECT name FROM maildrops ORDER BY name", &[]) {
+        Ok(rows) => read_all(alloc, rows.as_slice()),
+        Err(error) => Err(error),
+    }
+}
+
+/// Every name, in the order in which they were added.
+pub fn all_maildrops<S: Alter>(alloc: Global, conn: &mut Connection<S>) -> Result<Vec<Bytes>, Error>
+    ensures ok { HasCleanDisk (state S.Store conn.new) → HasTables (state S.Store conn.old) → IfOk result (λ all. all.items ≡ (rows_in (state S.Store conn.old).now.trees).maildrops) }
+    ensures same { HasCleanDisk (state S.Store conn.new) → HasTables (state S.Store conn.old) → OnOk result (IsUnchanged (state S.Store conn.old) (state S.Store conn.new)) }
+    ensures err { HasCleanDisk (state S.Store conn.new) → HasTables (state S.Store conn.old) → OnErr result (IsUndone (state S.Store conn.old) (state S.Store conn.new)) }
+    ensures survives { Survives (state S.Store conn.old) (state S.Store conn.new) (λ _. ¬ IsOurs (state S.Store conn.old).now) }
+{
+    match conn.query_all("SELECT name FROM maildrops ORDER BY rowid", &[]) {
+        Ok(rows) => read_all(alloc, rows.as_slice()),
+        Err(error) => Err(error),
+    }
+}

@@ -1,0 +1,42 @@
+//! The transaction.
+
+ghost use Rattle.std.specs.Prelude.{◌≡◌, true, false, OnOk, OnErr, IsTrue};
+ghost use Rattle.sqlite.specs.Held.{state};
+ghost use Rattle.sqlite.specs.State.{HasCleanDisk, Shows, IsRolledBack, Survives};
+ghost use Rattle.mailsql.specs.Rows.{IsUndone};
+
+use sqlite::{Alter, Connection, Error};
+
+pub fn begin<S: Alter>(conn: &mut Connection<S>) -> Result<(), Error>
+    ensures ok { HasCleanDisk (state S.Store conn.new) → OnOk result (((state S.Store conn.old).in_transaction ≡ false) × Shows (state S.Store conn.old) (state S.Store conn.new) (state S.Store conn.old).now (state S.Store conn.old).committed true) }
+    ensures err { HasCleanDisk (state S.Store conn.new) → OnErr result (IsUndone (state S.Store conn.old) (state S.Store conn.new)) }
+    ensures survives { Survives (state S.Store conn.old) (state S.Store conn.new) (λ _. ⊥) }
+{
+    match conn.execute("BEGIN", &[]) {
+        Ok(_) => Ok(()),
+        Err(error) => Err(error),
+    }
+}
+
+/// After an error nothing of the transaction is left, or it is still under way.
+pub fn commit<S: Alter>(conn: &mut Connection<S>) -> Result<(), Error>
+    ensures ok { HasCleanDisk (state S.Store conn.new) → OnOk result (IsTrue (state S.Store conn.old).in_transaction × Shows (state S.Store conn.old) (state S.Store conn.new) (state S.Store conn.old).now (state S.Store conn.old).now false) }
+    ensures err { HasCleanDisk (state S.Store conn.new) → OnErr result (IsUndone (state S.Store conn.old) (state S.Store conn.new)) }
+    ensures survives { Survives (state S.Store conn.old) (state S.Store conn.new) (λ db. db ≡ (state S.Store conn.old).now.trees) }
+{
+    match conn.execute("COMMIT", &[]) {
+        Ok(_) => Ok(()),
+        Err(error) => Err(error),
+    }
+}
+
+/// Whatever it answers, nothing of the transaction is left.
+pub fn rollback<S: Alter>(conn: &mut Connection<S>) -> Result<(), Error>
+    ensures undone { HasCleanDisk (state S.Store conn.new) → IsTrue (state S.Store conn.old).in_transaction → IsRolledBack (state S.Store conn.old) (state S.Store conn.new) }
+    ensures survives { Survives (state S.Store conn.old) (state S.Store conn.new) (λ _. ⊥) }
+{
+    match conn.execute("ROLLBACK", &[]) {
+        Ok(_) => Ok(()),
+        Err(error) => Err(error),
+    }
+}

@@ -1,0 +1,74 @@
+//! The rules of the policy, in the order of their places.
+
+ghost use Rattle.std.specs.Prelude.{◌≡◌, IfOk, OnOk, OnErr};
+ghost use Rattle.sqlite.specs.Held.{state};
+ghost use Rattle.sqlite.specs.State.{HasCleanDisk, IsUnchanged, Survives};
+ghost use Rattle.mailsql.specs.Changes as changes;
+ghost use Rattle.mailsql.specs.Rows as rows;
+ghost use Rattle.mailsql.specs.Rows.{IsOurs, IsReady, HasTables, MayLeave, Changes, IsUndone, rows_in};
+
+use crate::decode::read_all;
+use crate::rows::Rule;
+use sqlite::{Alter, Connection, Error};
+use sqlite_value::value::ValueRef;
+use std::alloc::Global;
+
+/// Adds a rule after the others, under a name that none of them has. Its place is one above theirs, or 1.
+pub fn add_rule<'x, S: Alter>(
+    conn: &mut Connection<S>,
+    name: &'x [u8],
+    effect: i64,
+    clerk: &'x [u8],
+    maildrop: &'x [u8],
+    class: &'x [u8],
+    actions: i64,
+) -> Result<(), Error>
+    ensures ok { HasCleanDisk (state S.Store conn.new) → IsReady (state S.Store conn.old) → OnOk result (Changes (changes.AddsRule name.now effect clerk.now maildrop.now class.now actions) (state S.Store conn.old) (state S.Store conn.new)) }
+    ensures err { HasCleanDisk (state S.Store conn.new) → OnErr result (IsUndone (state S.Store conn.old) (state S.Store conn.new)) }
+    ensures survives { Survives (state S.Store conn.old) (state S.Store conn.new) (MayLeave (changes.AddsRule name.now effect clerk.now maildrop.now class.now actions) (state S.Store conn.old)) }
+{
+    let _schema = conn.schema();
+    match conn.execute(
+        "INSERT INTO rules (name, effect, clerk, maildrop, class, actions) VALUES (?1, ?2, ?3, ?4, ?5, ?6)",
+        &[
+            ValueRef::Text(name),
+            ValueRef::Int(effect),
+            ValueRef::Text(clerk),
+            ValueRef::Text(maildrop),
+            ValueRef::Text(class),
+            ValueRef::Int(actions),
+        ],
+    ) {
+        Ok(_) => Ok(()),
+        Err(error) => Err(error),
+    }
+}
+
+/// Takes out every rule.
+pub fn clear_rules<S: Alter>(conn: &mut Connection<S>) -> Result<(), Error>
+    ensures ok { HasCleanDisk (state S.Store conn.new) → IsReady (state S.Store conn.old) → OnOk result (Changes changes.ClearsRules (state S.Store conn.old) (state S.Store conn.new)) }
+    ensures err { HasCleanDisk (state S.Store conn.new) → OnErr result (IsUndone (state S.Store conn.old) (state S.Store conn.new)) }
+    ensures survives { Survives (state S.Store conn.old) (state S.Store conn.new) (MayLeave changes.ClearsRules (state S.Store conn.old)) }
+{
+    let _schema = conn.schema();
+    match conn.execute("DELETE FROM rules", &[]) {
+        Ok(_) => Ok(()),
+        Err(error) => Err(error),
+    }
+}
+
+/// Every rule, in order.
+pub fn all_rules<S: Alter>(alloc: Global, conn: &mut Connection<S>) -> Result<Vec<Rule>, Error>
+    ensures ok { HasCleanDisk (state S.Store conn.new) → HasTables (state S.Store conn.old) → IfOk result (λ all. all.items ≡ (rows_in (state S.Store conn.old).now.trees).rules) }
+    ensures same { HasCleanDisk (state S.Store conn.new) → HasTables (state S.Store conn.old) → OnOk result (IsUnchanged (state S.Store conn.old) (state S.Store conn.new)) }
+    ensures err { HasCleanDisk (state S.Store conn.new) → HasTables (state S.Store conn.old) → OnErr result (IsUndone (state S.Store conn.old) (state S.Store conn.new)) }
+    ensures survives { Survives (state S.Store conn.old) (state S.Store conn.new) (λ _. ¬ IsOurs (state S.Store conn.old).now) }
+{
+    match conn.query_all(
+        "SELECT place, name, effect, clerk, maildrop, class, actions FROM rules ORDER BY place",
+        &[],
+    ) {
+        Ok(rows) => read_all(alloc, rows.as_slice()),
+        Err(error) => Err(error),
+    }
+}

@@ -1,0 +1,90 @@
+//! Callers over a store in memory, which show that the premises of the statements can be met.
+
+ghost use Rattle.std.specs.Prelude.{◌≡◌, pos, IfOk, OnOk};
+ghost use Rattle.std.specs.List.{find};
+ghost use Rattle.sqlite.specs.Held.{state};
+ghost use Rattle.sqlite.specs.Steps.{over_memory};
+ghost use Rattle.mailsql.specs.Rows.{is_sheet};
+ghost use Rattle.mailsql.specs.Uses.{Stands, marked, arrived, paged, Saw};
+
+use crate::rows::{Message, Sheet};
+use crate::{deposits, mail, maildrops, meta, mode, sheets, tables};
+use sqlite::{Connection, Error, MemStore};
+use std::alloc::Global;
+
+/// Makes a store in memory: its tables, which are empty, and the mark of its version.
+pub fn open_new(alloc: Global, version: i64) -> Result<Connection<MemStore>, Error>
+    ensures { IfOk result (λ conn. Stands (state over_memory conn) (marked version)) }
+{
+    let mut conn = Connection::open_in_memory(alloc)?;
+    mode::begin(&mut conn)?;
+    tables::create_tables(&mut conn)?;
+    meta::add_mark(&mut conn, b"popbox", version)?;
+    mode::commit(&mut conn)?;
+    Ok(conn)
+}
+
+/// A maildrop, a deposit into it, and its message, whose key it tells.
+fn arrive(conn: &mut Connection<MemStore>) -> Result<i64, Error>
+    ensures { (rows : _) → Stands (state over_memory conn.old) rows → IfOk result (λ key. Stands (state over_memory conn.new) (arrived key rows)) }
+{
+    maildrops::add_maildrop(conn, b"orders")?;
+    deposits::add_deposit(conn, b"orders", b"d1", b"note", 1, b"digest")?;
+    mail::add_message(conn, b"orders", b"note", 1, 4097)
+}
+
+fn add_pages(
+    conn: &mut Connection<MemStore>,
+    key: i64,
+    first: &[u8],
+    second: &[u8],
+) -> Result<(), Error>
+    ensures { (rows : _) → Stands (state over_memory conn.old) rows → OnOk result (Stands (state over_memory conn.new) (paged key first.now second.now rows)) }
+{
+    sheets::add_sheet(conn, key, 0, first)?;
+    sheets::add_sheet(conn, key, 1, second)
+}
+
+/// The two pages of a message.
+#[derive(Debug, Drop)]
+pub struct Pages {
+    pub first: Option<Sheet>,
+    pub second: Option<Sheet>,
+}
+
+fn read_pages(alloc: Global, conn: &mut Connection<MemStore>, key: i64) -> Result<Pages, Error>
+    ensures found { (rows : _) → Stands (state over_memory conn.old) rows → IfOk result (λ pages. (pages.first ≡ find (is_sheet key (pos 0)) rows.sheets) × (pages.second ≡ find (is_sheet key (pos 1)) rows.sheets)) }
+    ensures same { (rows : _) → Stands (state over_memory conn.old) rows → OnOk result (Stands (state over_memory conn.new) rows) }
+{
+    let first = sheets::find_sheet(alloc, conn, key, 0)?;
+    let second = sheets::find_sheet(alloc, conn, key, 1)?;
+    Ok(Pages { first, second })
+}
+
+/// What `sample` saw: the heads and the pages of its message, and its pages when it was gone.
+#[derive(Debug, Drop)]
+pub struct Seen {
+    pub key: i64,
+    pub heads: Vec<Message>,
+    pub before: Pages,
+    pub after: Pages,
+}
+
+/// Adds a maildrop, a deposit and a message of two pages, reads its head and its pages, removes it, and looks for its pages.
+pub fn sample(alloc: Global, first: &[u8], second: &[u8]) -> Result<Seen, Error>
+    ensures { IfOk result (Saw first.now second.now) }
+{
+    let mut conn = open_new(alloc, 2)?;
+    let key = arrive(&mut conn)?;
+    add_pages(&mut conn, key, first, second)?;
+    let heads = mail::heads(alloc, &mut conn, b"orders")?;
+    let before = read_pages(alloc, &mut conn, key)?;
+    mail::remove_message(&mut conn, key, b"orders")?;
+    let after = read_pages(alloc, &mut conn, key)?;
+    Ok(Seen {
+        key,
+        heads,
+        before,
+        after,
+    })
+}

@@ -1,0 +1,5 @@
+-- The lemmas of mailtext.
+pub mod LineLemmas
+pub mod PartLemmas
+pub mod ReadingLemmas
+pub mod Writing

@@ -1,0 +1,14 @@
+//! Message texts: the form in which they are kept, and the lines of a reply as POP3 sends and reads them
+//! (RFC 1939, sections 3 and 7; RFC 822, section 3.1).
+#![tactic(auto)]
+
+mod kept;
+mod lines;
+mod parts;
+mod stuffing;
+
+pub use kept::{MAX_OCTETS, MailText, TextFault, canon};
+pub use stuffing::{stuff_into, stuffing_is_undone, unstuff};
+
+#[cfg(test)]
+mod tests;

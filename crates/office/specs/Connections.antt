@@ -1,0 +1,165 @@
+-- What a history says of one connection: whether it is connected and closing, which lines acted, what it was sent, and the
+-- login name in force (RFC 1939, 4; RFC 2449, 4).
+use Rattle.std.specs.Prelude.{ℕ, Bool, true, false, ◌&&◌, ◌||◌, ◌+◌, ◌==◌, nat_lt, List, [], ◌∷◌, ◌++◌, Option, Some, None, Result, Ok, Err, if◌then◌else◌}
+use Rattle.creds.specs.declared.login_name.LoginName.{LoginName}
+use Rattle.popline.specs.Cutting.{Cut, TooLong}
+use Rattle.popline.specs.Commands.{Command, Capa, User, Quit, command_of}
+use Rattle.popline.specs.declared.command.LineFault.{LineFault}
+use Rattle.popline.specs.declared.command.LineFault.TheVariants.{Unknown}
+use Rattle.popline.specs.Replies.{LoginFailed, LoginFailedClosing, SendPass, Capabilities, Message, TopPart, bytes_of}
+use Rattle.office.specs.Answers.{EndSession, Ended}
+use Rattle.office.specs.History.{NoMemory, Line, Administer, Tag, Idle, Gone, Says, Restart, Open, Said, Answers, Act, Entry}
+use Rattle.popline.specs.Cutting as cutting
+
+-- ---- connections
+
+-- what a line reads as; one that is too long spells nothing
+abbrev pub reading : Cut → Result Command LineFault
+reading (cutting.Line l) = command_of l
+reading TooLong = Err Unknown
+
+-- a QUIT without arguments
+abbrev pub is_quit : Result Command LineFault → Bool
+is_quit (Ok Quit) = true
+is_quit _ = false
+
+-- an act that opens this connection
+abbrev pub opens : Act → ℕ → Bool
+opens (Open n) c = n == c
+opens _ c = false
+
+-- the number and the host's name of the last restart
+abbrev pub boot_and_host_after : Act → ℕ × List ℕ → ℕ × List ℕ
+boot_and_host_after (Restart boot host) before = (boot, host)
+boot_and_host_after _ before = before
+
+-- the boot number and the host's name that greetings have
+abbrev pub boot_and_host : List Entry → ℕ × List ℕ
+boot_and_host [] = (0, [])
+boot_and_host (e ∷ G) = boot_and_host_after e.act (boot_and_host G)
+
+-- a connection was opened, and nothing but its own closing can have ended it since
+abbrev pub connected_after : Act → Tag → Said → ℕ → Bool → Bool
+connected_after (Open n) t said c before = if n == c then true else before
+connected_after (Line n x) NoMemory said c before = if n == c then false else before
+connected_after (Gone n) t said c before = if n == c then false else before
+connected_after (Idle n) t said c before = if n == c then false else before
+connected_after (Restart boot host) t said c before = false
+connected_after (Administer (EndSession n)) t (Answers Ended) c before = if n == c then false else before
+connected_after _ t said c before = before
+
+-- whether a connection is connected at the end of a history
+abbrev pub connected : List Entry → ℕ → Bool
+connected [] c = false
+connected (e ∷ G) c = connected_after e.act e.tag e.said c (connected G c)
+
+-- its QUIT acted, or its third failed credential
+abbrev pub closes : Result Command LineFault → Said → Bool
+closes r (Says LoginFailedClosing) = true
+closes r _ = is_quit r
+
+-- an opening begins anew; what closes stays so
+abbrev pub closing_after : Act → Said → ℕ → Bool → Bool
+closing_after (Open n) said c before = if n == c then false else before
+closing_after (Line n x) said c before = if n == c then closes (reading x) said || before else before
+closing_after _ said c before = before
+
+-- whether a connection is to end as soon as all is taken
+abbrev pub closing : List Entry → ℕ → Bool
+closing [] c = false
+closing (e ∷ G) c = closing_after e.act e.said c (closing G c)
+
+-- how many of its lines acted
+abbrev pub acted_after : Act → ℕ → ℕ → ℕ
+acted_after (Open n) c before = if n == c then 0 else before
+acted_after (Line n x) c before = if n == c then before + 1 else before
+acted_after _ c before = before
+
+-- the lines that acted since its opening
+abbrev pub acted : List Entry → ℕ → ℕ
+acted [] c = 0
+acted (e ∷ G) c = acted_after e.act c (acted G c)
+
+-- the last reply has a message or a part of one
+abbrev pub has_message : Said → Bool
+has_message (Says (Message octets lines)) = true
+has_message (Says (TopPart lines)) = true
+has_message _ = false
+
+-- each line has the last reply
+abbrev pub serving_after : Act → Said → ℕ → Bool → Bool
+serving_after (Open n) said c before = if n == c then false else before
+serving_after (Line n x) said c before = if n == c then has_message said else before
+serving_after _ said c before = before
+
+-- whether the last reply to a connection has a message's octets
+abbrev pub serving : List Entry → ℕ → Bool
+serving [] c = false
+serving (e ∷ G) c = serving_after e.act e.said c (serving G c)
+
+-- the octets of a reply; an answer goes to its asker and to no connection
+abbrev pub octets_said : Said → List ℕ
+octets_said (Says reply) = bytes_of reply
+octets_said _ = []
+
+-- an opening has the greeting, and each line its reply
+abbrev pub sent_after : Act → Said → ℕ → List ℕ → List ℕ
+sent_after (Open n) said c before = if n == c then octets_said said else before
+sent_after (Line n x) said c before = if n == c then before ++ octets_said said else before
+sent_after _ said c before = before
+
+-- the replies to a connection's last opening and to its acts since, joined
+abbrev pub sent : List Entry → ℕ → List ℕ
+sent [] c = []
+sent (e ∷ G) c = sent_after e.act e.said c (sent G c)
+
+-- a number put in its place, once
+abbrev pub put_number : ℕ → List ℕ → List ℕ
+put_number n [] = n ∷ []
+put_number n (x ∷ xs) = if n == x then x ∷ xs else if nat_lt n x then n ∷ x ∷ xs else x ∷ put_number n xs
+
+-- a line puts its connection's number in its place
+abbrev pub heard_after : Act → List ℕ → List ℕ
+heard_after (Line n x) before = put_number n before
+heard_after _ before = before
+
+-- the numbers of the connections that gave lines, ascending and each once
+abbrev pub heard : List Entry → List ℕ
+heard [] = []
+heard (e ∷ G) = heard_after e.act (heard G)
+
+-- ---- logging in
+
+-- the login name that a line leaves in force: an accepted USER sets it, an answered CAPA passes it over, all else withdraws it
+abbrev pub user_after_line : Result Command LineFault → Said → Option LoginName → Option LoginName
+user_after_line (Ok (User name)) (Says SendPass) before = Some name
+user_after_line (Ok Capa) (Says Capabilities) before = before
+user_after_line _ _ before = None
+
+-- an opening leaves no name in force
+abbrev pub user_after : Act → Said → ℕ → Option LoginName → Option LoginName
+user_after (Open n) said c before = if n == c then None else before
+user_after (Line n x) said c before = if n == c then user_after_line (reading x) said before else before
+user_after _ said c before = before
+
+-- the login name in force on a connection
+abbrev pub user : List Entry → ℕ → Option LoginName
+user [] c = None
+user (e ∷ G) c = user_after e.act e.said c (user G c)
+
+-- a refused credential, closing or not
+abbrev pub is_failure : Said → Bool
+is_failure (Says LoginFailed) = true
+is_failure (Says LoginFailedClosing) = true
+is_failure _ = false
+
+-- an opening begins to count anew
+abbrev pub failures_after : Act → Said → ℕ → ℕ → ℕ
+failures_after (Open n) said c before = if n == c then 0 else before
+failures_after (Line n x) said c before = if n == c && is_failure said then before + 1 else before
+failures_after _ said c before = before
+
+-- how many lines since the opening were answered as failed logins
+abbrev pub failures : List Entry → ℕ → ℕ
+failures [] c = 0
+failures (e ∷ G) c = failures_after e.act e.said c (failures G c)

@@ -1,0 +1,168 @@
+-- Laws on every history, as statements.
+use Rattle.std.specs.Prelude.{◌≡◌, ℕ, Bool, true, false, not, ◌&&◌, ◌⊎◌, ◌==◌, List, [], ◌∷◌, ◌++◌, ⊤, Option, Some, None, Result, Ok, if◌then◌else◌}
+use Rattle.std.specs.Str.{bytes_eq}
+use Rattle.popline.specs.ReplyForm.{IsWellFormed}
+use Rattle.creds.specs.declared.login_name.LoginName.{LoginName}
+use Rattle.popline.specs.Commands.{Command, Rset, Dele}
+use Rattle.popline.specs.declared.command.LineFault.{LineFault}
+use Rattle.creds.specs.Uid.{uid_text}
+use Rattle.policy.specs.Policy.{Policy, are_distinct}
+use Rattle.session.specs.View.{is_marked, at_number, may_remove}
+use Rattle.vault.specs.Records.{Records, IsSound, same_uid, same_id, Agree}
+use Rattle.vault.specs.declared.record.Message.{Message}
+use Rattle.vault.specs.declared.record.Receipt.{Receipt}
+use Rattle.popline.specs.Replies.{Reply, Greeting, timestamp}
+use Rattle.office.specs.History.{Act, Open, Line, Tag, Said, Says, Silence, Answers, Entry, Done, in_force, deposits}
+use Rattle.office.specs.Sessions.{holds, in_session, live, login, login_by, marks, view, present, records}
+use Rattle.office.specs.Connections.{user, reading}
+use Rattle.office.specs.Told.{told}
+use Rattle.office.specs.Replying.{name_or_nobody}
+use Rattle.office.specs.Events.{Event, Mark, Log, Trace, Tagged}
+use Rattle.office.specs.Trace.{history}
+use Rattle.office.specs.Formed.{are_formed}
+use Rattle.office.specs.Events as event
+
+-- x is an element
+abbrev pub In : {A : Type 0} → A → List A → Type 0
+In x [] = ⊥
+In x (y ∷ ys) = (x ≡ y) ⊎ In x ys
+
+-- a maildrop has at most one holder
+abbrev pub OneHolder : Type 0
+OneHolder = (B : Records) (H : List (Act × Tag)) (d : List ℕ) (c q : ℕ) → holds (told B H) d c ≡ true → holds (told B H) d q ≡ true → c ≡ q
+
+-- while a session lives, its messages stay in the maildrop
+abbrev pub ViewStaysPresent : Type 0
+ViewStaysPresent = (B : Records) (H : List (Act × Tag)) (c : ℕ) (name : LoginName) → in_session (told B H) c ≡ Some name
+    → (m : Message) → In m (view B (told B H) c) → In m (present B (told B H) name.maildrop)
+
+-- no two accepted deposits into a maildrop's name have one unique-id
+abbrev pub UniqueIdsAreUnique : Type 0
+UniqueIdsAreUnique = (B : Records) → IsSound B → (H : List (Act × Tag)) (d : List ℕ) → are_distinct same_uid (deposits B (told B H) d) ≡ true
+
+-- a deposit's unique-id as it is written
+abbrev pub uid_text_of : Receipt → List ℕ
+uid_text_of r = uid_text (record { class = r.class; k = r.k })
+
+-- two deposits with one unique-id as it is written
+abbrev pub same_uid_text : Receipt → Receipt → Bool
+same_uid_text r s = bytes_eq (uid_text_of r) (uid_text_of s)
+
+-- over sound records and events of their types, no two accepted deposits into a maildrop's name have one unique-id as it is written
+abbrev pub UniqueIdTextsDiffer : Type 0
+UniqueIdTextsDiffer = (T : Trace) → IsSound T.base → are_formed T.log ≡ true → (d : List ℕ) → are_distinct same_uid_text (deposits T.base (history T) d) ≡ true
+
+-- no two accepted deposits into a maildrop's name have one id, whatever came between
+abbrev pub DepositIdsActOnce : Type 0
+DepositIdsActOnce = (B : Records) → IsSound B → (H : List (Act × Tag)) (d : List ℕ) → are_distinct same_id (deposits B (told B H) d) ≡ true
+
+-- ---- greetings
+
+-- the boot numbers that a trace's openings and restarts set, the newest first
+abbrev pub boots_after : Event → Mark → List ℕ → List ℕ
+boots_after (event.Start host boot idle) (Tagged t) before = boot ∷ before
+boots_after (event.Restart boot) (Tagged t) before = boot ∷ before
+boots_after _ m before = before
+
+-- the boot numbers of all openings and restarts of an office
+abbrev pub boots : Log → List ℕ
+boots [] = []
+boots ((e, m) ∷ T) = boots_after e m (boots T)
+
+-- an opening's greeting has a timestamp
+abbrev pub stamps_after : Act → Said → List (List ℕ) → List (List ℕ)
+stamps_after (Open n) (Says (Greeting c boot host)) before = timestamp c boot host ∷ before
+stamps_after _ _ before = before
+
+-- the timestamps of all greetings, the newest first
+abbrev pub stamps : List Entry → List (List ℕ)
+stamps [] = []
+stamps (e ∷ G) = stamps_after e.act e.said (stamps G)
+
+-- the events begin with an office's opening
+abbrev pub IsStart : Event → Mark → Type 0
+IsStart (event.Start host boot idle) (Tagged t) = ⊤
+IsStart _ m = ⊥
+
+-- the oldest event is an opening
+abbrev pub BeginsWithStart : Log → Type 0
+BeginsWithStart [] = ⊥
+BeginsWithStart ((e, m) ∷ []) = IsStart e m
+BeginsWithStart ((e, m) ∷ x ∷ T) = BeginsWithStart (x ∷ T)
+
+-- where all boot numbers differ, all timestamps differ
+abbrev pub GreetingsDiffer : Type 0
+GreetingsDiffer = (T : Trace) → BeginsWithStart T.log → are_formed T.log ≡ true → are_distinct (λ (n m : ℕ). n == m) (boots T.log) ≡ true → are_distinct bytes_eq (stamps (history T)) ≡ true
+
+-- ---- the form of replies
+
+-- what was said is a reply of which this holds, or no reply
+abbrev pub IfReply : (Reply → Type 0) → Said → Type 0
+IfReply P (Says r) = P r
+IfReply P Silence = ⊤
+IfReply P (Answers a) = ⊤
+
+-- it holds of every reply of a history
+abbrev pub AllReplies : (Reply → Type 0) → List Entry → Type 0
+AllReplies P [] = ⊤
+AllReplies P (e ∷ G) = IfReply P e.said × AllReplies P G
+
+-- over sound records and events of their types, every reply has the form that replies have
+abbrev pub RepliesHaveTheirForm : Type 0
+RepliesHaveTheirForm = (T : Trace) → IsSound T.base → are_formed T.log ≡ true → AllReplies IsWellFormed (history T)
+
+-- ---- marks by the view and the policy
+
+-- a RSET
+abbrev pub is_rset : Result Command LineFault → Bool
+is_rset (Ok Rset) = true
+is_rset _ = false
+
+-- the number that a DELE names
+abbrev pub number_to_mark : Result Command LineFault → Option ℕ
+number_to_mark (Ok (Dele n)) = Some n
+number_to_mark _ = None
+
+-- a message of the view that isn't marked, and that the policy lets the clerk remove
+abbrev pub is_removable : Option Message → Policy → LoginName → Bool
+is_removable None policy name = false
+is_removable (Some m) policy name = may_remove policy name m.class
+
+-- a number may be marked: it isn't yet, and its message may be removed
+abbrev pub may_mark : Records → List Entry → ℕ → LoginName → List ℕ → ℕ → Bool
+may_mark B G c name before n = not (is_marked before n) && is_removable (at_number (view B G c) n) (in_force B G) name
+
+-- the marks with a number more, where it may be marked
+abbrev pub marks_with : Option ℕ → (may_mark : ℕ → Bool) → List ℕ → List ℕ
+marks_with None may_mark before = before
+marks_with (Some n) may_mark before = if may_mark n then before ++ n ∷ [] else before
+
+-- a RSET unmarks all, a DELE marks its number
+abbrev pub marks_by_line : Records → List Entry → ℕ → Result Command LineFault → List ℕ → List ℕ
+marks_by_line B G c r before =
+    if is_rset r then [] else marks_with (number_to_mark r) (may_mark B G c (name_or_nobody (login G c)) before) before
+
+-- only a line of this connection that is done marks or unmarks
+abbrev pub marks_by_act : Records → List Entry → ℕ → Act → Tag → List ℕ → List ℕ
+marks_by_act B G c (Line n x) Done before = if n == c then marks_by_line B G c (reading x) before else before
+marks_by_act B G c _ t before = before
+
+-- a login begins without marks
+abbrev pub marks_unless_login : Option LoginName → List ℕ → List ℕ
+marks_unless_login (Some name) before = []
+marks_unless_login None before = before
+
+-- the numbers of the DELE lines that are done since the login and the last RSET that is done
+abbrev pub marks_by_view : Records → List Entry → ℕ → List ℕ
+marks_by_view B [] c = []
+marks_by_view B (e ∷ G) c = marks_unless_login (login_by e.act e.said c (user G c)) (marks_by_act B G c e.act e.tag (marks_by_view B G c))
+
+-- the marks that the replies tell are these
+abbrev pub MarksAreByView : Type 0
+MarksAreByView = (B : Records) (H : List (Act × Tag)) (c : ℕ) → live (told B H) c ≡ true → marks (told B H) c ≡ marks_by_view B (told B H) c
+
+-- ---- a store of its own
+
+-- every store holds its own records with no acts
+abbrev pub OwnRecordsAgree : Type 0
+OwnRecordsAgree = (B : Records) → Agree B (records B [])

@@ -1,0 +1,182 @@
+-- The reply to a command line, by what one finds in the front before it (RFC 1939, 4 to 7; RFC 2449, 5 and 8).
+use Rattle.std.specs.Prelude.{ℕ, Bool, true, false, not, ◌&&◌, nat_le, List, [], ◌∷◌, length, Option, Some, None, Result, Ok, Err, if◌then◌else◌, is_some}
+use Rattle.mailtext.specs.Text.{lines_of, top_part, stuffed_lines}
+use Rattle.creds.specs.declared.login_name.LoginName.{LoginName}
+use Rattle.creds.specs.Credential.{Shown, ByApop, ByPass, is_admitted}
+use Rattle.popline.specs.Cutting.{Cut, TooLong}
+use Rattle.popline.specs.Commands.{Command, Capa, User, Pass, Apop, Quit, Stat, ListAll, ListOne, UidlAll, UidlOne, Top, Retr, Dele, Rset, Noop, command_of, keyword_of}
+use Rattle.popline.specs.declared.command.Keyword.{Keyword}
+use Rattle.popline.specs.declared.command.LineFault.{LineFault}
+use Rattle.popline.specs.declared.command.LineFault.TheVariants.{Syntax, Unknown}
+use Rattle.popline.specs.declared.command.Keyword.TheVariants as keyword
+use Rattle.popline.specs.Replies.{Reply, LineTooLong, UnknownCommand, WrongState, BadArguments, Capabilities, SendPass, LoginFailed, LoginFailedClosing, DeniedBy, NoSuchMaildrop, InUse, MaildropHas, DropListing, ScanListing, ScanLine, UidListing, UidLine, Message, TopPart, Marked, Okay, NoSuchMessage, AlreadyMarked, Bye, RemovalDenied, RemovalFailed, StoreFailed, timestamp}
+use Rattle.policy.specs.Policy.{Policy, decide}
+use Rattle.policy.specs.declared.decide.Decision.{Decision}
+use Rattle.policy.specs.declared.rule.Action.TheVariants as to
+use Rattle.vault.specs.Records.{Records, uid_of, class_of, octets_of, octets_of_all}
+use Rattle.session.specs.View.{visible, refer, is_marked, at_number, unmarked, removal, to_remove, denying, sizes_of, uids_of, total_of}
+use Rattle.office.specs.History.{Tag, Failed, NoMemory, Said, Silence, Says, Entry, in_force, credential, exists}
+use Rattle.office.specs.Connections.{boot_and_host, user, failures, reading}
+use Rattle.office.specs.Sessions.{login, live, holder, marks, view, present}
+use Rattle.popline.specs.Cutting as cutting
+use Rattle.vault.specs.declared.record.Message as store
+
+-- ---- logging in
+
+-- the timestamp of a connection's greeting; a restart ends every connection, so the last one stands before its opening
+abbrev pub stamp : List Entry → ℕ → List ℕ
+stamp G c = timestamp c (boot_and_host G).0 (boot_and_host G).1
+
+-- the third failure closes
+abbrev pub login_failed : ℕ → Reply
+login_failed failures = if nat_le 2 failures then LoginFailedClosing else LoginFailed
+
+-- how many messages a view has, and their octets
+abbrev pub maildrop_has : List store.Message → Reply
+maildrop_has view = MaildropHas (length view) (octets_of_all view)
+
+-- what a policy says of opening a maildrop; there is no message yet, so no class
+abbrev pub opening : Records → List Entry → LoginName → Decision
+opening B G name = decide (in_force B G) name.clerk name.maildrop [] to.Open
+
+-- the credential, the policy, the maildrop, the lock: the first that fails gives the reply
+abbrev pub logging_in : Records → List Entry → ℕ → LoginName → Shown → Reply
+logging_in B G c name proof =
+    if not (is_admitted (credential B G name.clerk) name.clerk (stamp G c) proof) then login_failed (failures G c)
+    else if not (opening B G name).allowed then DeniedBy (opening B G name).rule
+    else if not (exists B G name.maildrop) then NoSuchMaildrop
+    else if is_some (holder G name.maildrop) then InUse
+    else maildrop_has (visible class_of (in_force B G) name (present B G name.maildrop))
+
+-- ---- commands of a session
+
+-- a reference to a number: it names a message of the view that isn't marked, or is refused
+abbrev pub pick : List ℕ → List store.Message → ℕ → (store.Message → Reply) → Reply
+pick marks view n reply = refer marks view n NoSuchMessage (AlreadyMarked n) reply
+
+-- a number is marked, or the rule that denies it is named
+abbrev pub deleted_if : Decision → ℕ → Reply
+deleted_if d n = if d.allowed then Marked n else DeniedBy d.rule
+
+-- the farewell, or the rule that kept a marked message
+abbrev pub quit_says : Option (List ℕ) → Reply
+quit_says None = Bye
+quit_says (Some rule) = RemovalDenied rule
+
+-- what a session says, by the rules in force, its login, its marks and its view
+abbrev pub session_says : Policy → LoginName → List ℕ → List store.Message → Command → Reply
+session_says policy name marks view Stat = DropListing (length (unmarked marks view)) (total_of octets_of (unmarked marks view))
+session_says policy name marks view ListAll = ScanListing (sizes_of octets_of (unmarked marks view))
+session_says policy name marks view (ListOne n) = pick marks view n (λ m. ScanLine n (octets_of m))
+session_says policy name marks view UidlAll = UidListing (uids_of uid_of (unmarked marks view))
+session_says policy name marks view (UidlOne n) = pick marks view n (λ m. UidLine n (uid_of m))
+session_says policy name marks view (Retr n) = pick marks view n (λ (m : store.Message). Message (octets_of m) (stuffed_lines (lines_of m.text)))
+session_says policy name marks view (Top n k) = pick marks view n (λ (m : store.Message). TopPart (stuffed_lines (top_part (lines_of m.text) k)))
+session_says policy name marks view (Dele n) = pick marks view n (λ (m : store.Message). deleted_if (removal policy name m.class) n)
+session_says policy name marks view Rset = maildrop_has view
+session_says policy name marks view Noop = Okay
+session_says policy name marks view Quit = quit_says (denying class_of policy name marks view)
+session_says policy name marks view _ = WrongState
+
+-- ---- the reply to a line
+
+-- where a keyword may stand: before a login, after it, or in both
+abbrev pub is_allowed : Keyword → (live has_user : Bool) → Bool
+is_allowed keyword.Capa live has_user = true
+is_allowed keyword.Quit live has_user = true
+is_allowed keyword.User live has_user = not live
+is_allowed keyword.Apop live has_user = not live
+is_allowed keyword.Pass live has_user = not live && has_user
+is_allowed _ live has_user = live
+
+-- a keyword may stand at this front
+abbrev pub is_permitted : List Entry → ℕ → Keyword → Bool
+is_permitted G c k = is_allowed k (live G c) (is_some (user G c))
+
+-- a reply, or wrong state
+abbrev pub when_permitted : Bool → Reply → Reply
+when_permitted true reply = reply
+when_permitted false reply = WrongState
+
+-- where the store refused
+abbrev pub refusal : Keyword → Reply
+refusal keyword.Quit = RemovalFailed
+refusal _ = StoreFailed
+
+-- a login name that nobody has
+abbrev pub nobody : LoginName
+nobody = record { clerk = []; maildrop = [] }
+
+-- the login name, where there is one
+abbrev pub name_or_nobody : Option LoginName → LoginName
+name_or_nobody None = nobody
+name_or_nobody (Some name) = name
+
+-- a QUIT before login removes nothing
+abbrev pub bye_unless : (live : Bool) → Reply → Reply
+bye_unless true reply = reply
+bye_unless false reply = Bye
+
+-- what a session says at a front
+abbrev pub reply_in_session : Records → List Entry → ℕ → Command → Reply
+reply_in_session B G c command = session_says (in_force B G) (name_or_nobody (login G c)) (marks G c) (view B G c) command
+
+-- the reply to a command that may stand there and that the store doesn't refuse
+abbrev pub obeyed : Records → List Entry → ℕ → Command → Reply
+obeyed B G c Capa = Capabilities
+obeyed B G c (User name) = SendPass
+obeyed B G c (Pass password) = logging_in B G c (name_or_nobody (user G c)) (ByPass password)
+obeyed B G c (Apop name digest) = logging_in B G c name (ByApop digest)
+obeyed B G c Quit = bye_unless (live G c) (reply_in_session B G c Quit)
+obeyed B G c other = reply_in_session B G c other
+
+-- the reply to a command that may stand there
+abbrev pub reply_to_command : Records → List Entry → ℕ → Command → Tag → Reply
+reply_to_command B G c command Failed = refusal (keyword_of command)
+reply_to_command B G c command _ = obeyed B G c command
+
+-- an unknown keyword, a wrong state, bad arguments: the first that holds
+abbrev pub reply_to_reading : Records → List Entry → ℕ → Result Command LineFault → Tag → Reply
+reply_to_reading B G c (Err Unknown) t = UnknownCommand
+reply_to_reading B G c (Err (Syntax k)) t = when_permitted (is_permitted G c k) BadArguments
+reply_to_reading B G c (Ok command) t = when_permitted (is_permitted G c (keyword_of command)) (reply_to_command B G c command t)
+
+-- the reply to what was cut
+abbrev pub reply_to_cut : Records → List Entry → ℕ → Cut → Tag → Reply
+reply_to_cut B G c TooLong t = LineTooLong
+reply_to_cut B G c (cutting.Line l) t = reply_to_reading B G c (command_of l) t
+
+-- what is said to a line: nothing, where memory was wanting
+abbrev pub said_to_line : Records → List Entry → ℕ → Cut → Tag → Said
+said_to_line B G c x NoMemory = Silence
+said_to_line B G c x t = Says (reply_to_cut B G c x t)
+
+-- ---- which lines the store may refuse
+
+-- a number of the view that isn't marked
+abbrev pub is_pickable : Option store.Message → (is_marked : Bool) → Bool
+is_pickable None is_marked = false
+is_pickable (Some m) is_marked = not is_marked
+
+-- a list without elements
+abbrev pub is_empty : {A : Type 0} → List A → Bool
+is_empty [] = true
+is_empty (x ∷ xs) = false
+
+-- a login, a message's text, a QUIT that would remove something
+abbrev pub asks_store : Records → List Entry → ℕ → Command → Bool
+asks_store B G c (Pass password) = true
+asks_store B G c (Apop name digest) = true
+asks_store B G c (Retr n) = is_pickable (at_number (view B G c) n) (is_marked (marks G c) n)
+asks_store B G c (Top n k) = is_pickable (at_number (view B G c) n) (is_marked (marks G c) n)
+asks_store B G c Quit = live G c && not (is_empty (to_remove class_of (in_force B G) (name_or_nobody (login G c)) (marks G c) (view B G c)))
+asks_store B G c _ = false
+
+-- the store may refuse what a line reads as
+abbrev pub reading_may_fail : Records → List Entry → ℕ → Result Command LineFault → Bool
+reading_may_fail B G c (Err fault) = false
+reading_may_fail B G c (Ok command) = is_permitted G c (keyword_of command) && asks_store B G c command
+
+-- the store may refuse a line
+abbrev pub line_may_fail : Records → List Entry → ℕ → Cut → Bool
+line_may_fail B G c x = reading_may_fail B G c (reading x)

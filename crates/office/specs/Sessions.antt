@@ -1,0 +1,149 @@
+-- What a history says of sessions: logins, the lock, marks, views, what QUIT removed, and the records that are left
+-- (RFC 1939, 4 to 6).
+use Rattle.std.specs.Prelude.{ℕ, Bool, true, false, not, ◌&&◌, ◌||◌, ◌==◌, List, [], ◌∷◌, ◌++◌, Option, Some, None, Result, Ok, if◌then◌else◌, is_some}
+use Rattle.std.specs.List.{find}
+use Rattle.std.specs.Str.{bytes_eq}
+use Rattle.creds.specs.declared.login_name.LoginName.{LoginName}
+use Rattle.popline.specs.Commands.{Command, Pass, Apop}
+use Rattle.popline.specs.declared.command.LineFault.{LineFault}
+use Rattle.popline.specs.Replies.{MaildropHas, Marked}
+use Rattle.vault.specs.Records.{Records, class_of, without, in_maildrop}
+use Rattle.session.specs.View.{visible, to_remove}
+use Rattle.office.specs.Answers.{EndSession, Ended}
+use Rattle.office.specs.History.{Line, Administer, is_no_memory, arrivals, Tag, Idle, in_force, clerks, Gone, Says, Restart, Open, receipts, Said, Answers, maildrops, is_done, Act, Entry, arrived}
+use Rattle.office.specs.Connections.{heard, is_quit, reading, user, opens}
+use Rattle.vault.specs.declared.record.Message as store
+
+-- ---- sessions
+
+-- whom an accepted line logs in; for PASS it is the name that was in force
+abbrev pub logs_in : Result Command LineFault → Said → Option LoginName → Option LoginName
+logs_in (Ok (Pass password)) (Says (MaildropHas n m)) name = name
+logs_in (Ok (Apop name digest)) (Says (MaildropHas n m)) before = Some name
+logs_in _ _ name = None
+
+-- whom an entry logs in on a connection, whose name in force before it is known
+abbrev pub login_by : Act → Said → ℕ → Option LoginName → Option LoginName
+login_by (Line n x) said c name = if n == c then logs_in (reading x) said name else None
+login_by _ said c name = None
+
+-- the clerk and the maildrop of a connection's login since its last opening
+abbrev pub login_after : (opened : Bool) → (logged_in before : Option LoginName) → Option LoginName
+login_after true logged_in before = None
+login_after false None before = before
+login_after false (Some name) before = Some name
+
+-- whom a connection is logged in as since its last opening, whether or not the session lives on
+abbrev pub login : List Entry → ℕ → Option LoginName
+login [] c = None
+login (e ∷ G) c = login_after (opens e.act c) (login_by e.act e.said c (user G c)) (login G c)
+
+-- whether an entry ends a session
+abbrev pub ends_session : Act → Tag → Said → ℕ → Bool
+ends_session (Open n) tag said c = n == c
+ends_session (Line n x) tag said c = n == c && (is_quit (reading x) || is_no_memory tag)
+ends_session (Gone n) tag said c = n == c
+ends_session (Idle n) tag said c = n == c
+ends_session (Restart boot host) tag said c = true
+ends_session (Administer (EndSession n)) tag (Answers Ended) c = n == c
+ends_session _ tag said c = false
+
+-- a connection is logged in and hasn't quit
+abbrev pub live : List Entry → ℕ → Bool
+live [] c = false
+live (e ∷ G) c = not (ends_session e.act e.tag e.said c) && (is_some (login_by e.act e.said c (user G c)) || live G c)
+
+-- the name, where the session lives
+abbrev pub when_live : Bool → Option LoginName → Option LoginName
+when_live true name = name
+when_live false name = None
+
+-- who is in session on a connection
+abbrev pub in_session : List Entry → ℕ → Option LoginName
+in_session G c = when_live (live G c) (login G c)
+
+-- it is a login to this maildrop
+abbrev pub is_login_to : List ℕ → Option LoginName → Bool
+is_login_to d None = false
+is_login_to d (Some name) = bytes_eq name.maildrop d
+
+-- a connection is live and logged in to a maildrop
+abbrev pub holds : List Entry → List ℕ → ℕ → Bool
+holds G d c = live G c && is_login_to d (login G c)
+
+-- the connection that holds a maildrop, where one does
+abbrev pub holder : List Entry → List ℕ → Option ℕ
+holder G d = find (holds G d) (heard G)
+
+-- a DELE that was accepted adds a mark, a login and a RSET leave none
+abbrev pub marks_after_line : Said → List ℕ → List ℕ
+marks_after_line (Says (Marked n)) before = before ++ n ∷ []
+marks_after_line (Says (MaildropHas n m)) before = []
+marks_after_line _ before = before
+
+-- only a connection's own lines change its marks
+abbrev pub marks_after : Act → Said → ℕ → List ℕ → List ℕ
+marks_after (Line n x) said c before = if n == c then marks_after_line said before else before
+marks_after _ said c before = before
+
+-- the numbers that a session has marked
+abbrev pub marks : List Entry → ℕ → List ℕ
+marks [] c = []
+marks (e ∷ G) c = marks_after e.act e.said c (marks G c)
+
+-- the connection that quits by an entry
+abbrev pub quits_if : Bool → ℕ → Option ℕ
+quits_if true n = Some n
+quits_if false n = None
+
+-- a QUIT line that is done quits, and nothing else does
+abbrev pub quits : Act → Tag → Option ℕ
+quits (Line n x) tag = quits_if (is_quit (reading x) && is_done tag) n
+quits _ tag = None
+
+-- ---- what a session sees, and what sessions removed
+
+-- what a login finds, where there is one
+abbrev pub view_after : Option LoginName → (found : LoginName → List store.Message) → (before : List store.Message) → List store.Message
+view_after None found before = before
+view_after (Some name) found before = found name
+
+-- what a session removes; a connection without one removes nothing
+abbrev pub removed_by : Option LoginName → (chosen : LoginName → List store.Message) → List store.Message
+removed_by None chosen = []
+removed_by (Some name) chosen = chosen name
+
+-- what an act removes comes behind what was removed before
+abbrev pub removed_after : Option ℕ → (taken : ℕ → List store.Message) → (before : List store.Message) → List store.Message
+removed_after None taken before = before
+removed_after (Some c) taken before = before ++ taken c
+
+-- A session's view is what its login found. What was removed, a session's QUIT removed.
+abbrev mutual
+  pub view : Records → List Entry → ℕ → List store.Message
+  view B [] c = []
+  view B (e ∷ G) c = view_after (login_by e.act e.said c (user G c))
+      (λ (name : LoginName). visible class_of (in_force B G) name (without (in_maildrop name.maildrop (arrivals B G)) (removed B G)))
+      (view B G c)
+
+  pub removed : Records → List Entry → List store.Message
+  removed B [] = []
+  removed B (e ∷ G) = removed_after (quits e.act e.tag)
+      (λ c. removed_by (in_session G c) (λ (name : LoginName). to_remove class_of (in_force B G) name (marks G c) (view B G c)))
+      (removed B G)
+
+-- the messages that a maildrop has
+abbrev pub present : Records → List Entry → List ℕ → List store.Message
+present B G d = without (arrived B G d) (removed B G)
+
+-- ---- the records of a history
+
+-- what a store that did all this holds
+abbrev pub records : Records → List Entry → Records
+records B G = record {
+  clerks = clerks B G;
+  maildrops = maildrops B G;
+  messages = without (arrivals B G) (removed B G);
+  deposits = receipts B G;
+  policy = in_force B G;
+}

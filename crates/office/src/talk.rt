@@ -1,0 +1,30 @@
+//! What is remembered of a conversation between its lines.
+
+ghost use Rattle.std.specs.Prelude.{◌≡◌};
+ghost use Rattle.office.specs.Kept.{nothing_said};
+
+use creds::LoginName;
+
+/// What the next line is answered by, beside the line itself.
+#[derive(Clone, Copy, Debug)]
+pub struct Talk {
+    /// The login name that the last line left in force.
+    pub user: Option<LoginName>,
+    /// How many credentials were refused; at most 255 are counted.
+    pub failures: u8,
+    /// A QUIT acted, or the third refusal was answered: the connection ends once all is taken.
+    pub closing: bool,
+}
+
+impl Talk {
+    /// Of a connection on which nothing was said yet.
+    pub fn new() -> Talk
+        ensures { result ≡ nothing_said }
+    {
+        Talk {
+            user: None,
+            failures: 0,
+            closing: false,
+        }
+    }
+}

@@ -1,0 +1,3 @@
+pub mod SoundRules
+pub mod Views
+pub mod Written

@@ -1,0 +1,118 @@
+-- A policy that was read is sound.
+use Rattle.std.proofs.Common.{◌≡◌, ℕ, Bool, true, false, not, ◌||◌, List, [], ◌∷◌, ◌++◌, length, Option, Some, None, codes, refl, arith}
+use Rattle.std.specs.Prelude.{option_and_then, nat_le, if◌then◌else◌}
+use Rattle.std.specs.List.{list_any, list_all}
+use Rattle.std.specs.Str.{bytes_eq}
+use Rattle.std.proofs.lemmas.List.Folds.{list_all-append, list_any-append}
+use Rattle.toml.specs.Data.{Data, Items, no_items, item, as_str, as_array}
+use Rattle.creds.specs.Names.{is_name, name_of, text_if}
+use Rattle.policy.specs.declared.rule.Actions.{Actions}
+use Rattle.policy.specs.declared.rule.Action.{Action}
+use Rattle.policy.specs.declared.rule.Action.TheVariants.{Open, Read, Remove}
+use Rattle.policy.specs.declared.rule.Pattern.{Pattern}
+use Rattle.policy.specs.declared.rule.Pattern.TheVariants.{Any, Is}
+use Rattle.policy.specs.declared.rule.Rule.{Rule}
+use Rattle.policy.specs.Policy.{default_rule, are_distinct, same_name, is_any, is_pattern, lists_any, is_sound_rule, are_sound_rules, most_rules}
+use Rattle.policy.specs.PolicyText.{has_name, rule_name_of, named, pattern_of, action_of, with_action, with_item, with_items, no_actions, actions_of_items, actions_of}
+
+-- a chain of two that ends in a value
+and_then-some : {A B : Type 0} (f : A → Option B) (o : Option A) (b : B) → option_and_then f o ≡ Some b → (a : A) × (o ≡ Some a) × (f a ≡ Some b)
+and_then-some f (Some a) b h = (a, refl, h)
+and_then-some f None b h = absurd (cc)
+
+-- ---- the parts of a rule
+
+-- a text that is a name is one
+text_if-some : (b : Bool) (s name : List ℕ) → text_if b s ≡ Some name → (b ≡ true) × (s ≡ name)
+text_if-some true s name h = (refl, cc)
+text_if-some false s name h = absurd (cc)
+
+name_of-some : (s name : List ℕ) → name_of s ≡ Some name → is_name name ≡ true
+name_of-some s name h = let p = text_if-some (is_name s) s name h in rw p.1 at p.0
+
+unless-some : (b : Bool) (o : Option (List ℕ)) (name : List ℕ) → (if b then None else o) ≡ Some name → (b ≡ false) × (o ≡ Some name)
+unless-some true o name h = absurd (cc)
+unless-some false o name h = (refl, h)
+
+-- a rule's name is a name, and not `default`
+pub rule_name_of-some : (d : Data) (name : List ℕ) → rule_name_of d ≡ Some name → (is_name name ≡ true) × (bytes_eq name default_rule ≡ false)
+rule_name_of-some d name h =
+    let p = and_then-some (λ (s : List ℕ). if bytes_eq s default_rule then None else name_of s) (as_str d) name h in
+    let q = unless-some (bytes_eq p.0 default_rule) (name_of p.0) name p.2 in
+    let t = text_if-some (is_name p.0) p.0 name q.1 in
+    (name_of-some p.0 name q.1, rw t.1 at q.0)
+
+-- a pattern is `*` or a name
+named-some : (o : Option (List ℕ)) (p : Pattern) → ((name : List ℕ) → o ≡ Some name → is_name name ≡ true) → named o ≡ Some p → is_pattern p ≡ true
+named-some (Some name) p f h = let e : Is name ≡ p = cc in rw (← e) (f name refl)
+named-some None p f h = absurd (cc)
+
+pattern-some : (any : Bool) (s : List ℕ) (p : Pattern) → (if any then Some Any else named (name_of s)) ≡ Some p → is_pattern p ≡ true
+pattern-some true s p h = let e : Any ≡ p = cc in rw (← e) refl
+pattern-some false s p h = named-some (name_of s) p (name_of-some s) h
+
+pub pattern_of-some : (d : Data) (p : Pattern) → pattern_of d ≡ Some p → is_pattern p ≡ true
+pattern_of-some d p h =
+    let q = and_then-some (λ (s : List ℕ). if bytes_eq s (codes "*") then Some Any else named (name_of s)) (as_str d) p h in
+    pattern-some (bytes_eq q.0 (codes "*")) q.0 p q.2
+
+-- one more action is listed
+with_action-some : (listed more : Actions) (a : Action) → with_action listed a ≡ Some more → lists_any more ≡ true
+with_action-some listed more Open h = grind arith
+with_action-some listed more Read h = grind arith
+with_action-some listed more Remove h = grind arith
+
+with_item-some : (listed more : Actions) (d : Data) → with_item listed d ≡ Some more → lists_any more ≡ true
+with_item-some listed more d h =
+    let p = and_then-some (λ (s : List ℕ). option_and_then (with_action listed) (action_of s)) (as_str d) more h in
+    let q = and_then-some (with_action listed) (action_of p.0) more p.2 in
+    with_action-some listed more q.0 q.2
+
+with_items-some : (listed more : Actions) (ds : Items) → lists_any listed ≡ true → with_items listed ds ≡ Some more → lists_any more ≡ true
+unfolding with_items
+with_items-some listed more no_items l h = let e : listed ≡ more = cc in rw (← e) l
+with_items-some listed more (item d ds) l h =
+    let p = and_then-some (λ (b : Actions). with_items b ds) (with_item listed d) more h in
+    with_items-some p.0 more ds (with_item-some listed p.0 d p.1) p.2
+
+actions_of_items-listed : (ds : Items) (more : Actions) → actions_of_items ds ≡ Some more → lists_any more ≡ true
+unfolding with_items
+actions_of_items-listed no_items more h = absurd (cc)
+actions_of_items-listed (item d ds) more h =
+    let p = and_then-some (λ (b : Actions). with_items b ds) (with_item no_actions d) more h in
+    with_items-some p.0 more ds (with_item-some no_actions p.0 d p.1) p.2
+
+pub actions_of-some : (d : Data) (more : Actions) → actions_of d ≡ Some more → lists_any more ≡ true
+actions_of-some d more h =
+    let p = and_then-some actions_of_items (as_array d) more h in actions_of_items-listed p.0 more p.2
+
+-- ---- rules behind rules
+
+-- a rule of another name
+list_any-push : (q : Rule) (rules : List Rule) (r : Rule) → list_any (same_name q) rules ≡ false → bytes_eq q.name r.name ≡ false → list_any (same_name q) (rules ++ r ∷ []) ≡ false
+list_any-push q rules r n d = rw (list_any-append (same_name q) rules (r ∷ [])) (grind arith)
+
+-- one more rule, whose name is no other's
+pub are_distinct-push : (rules : List Rule) (r : Rule) → are_distinct same_name rules ≡ true → has_name rules r.name ≡ false → are_distinct same_name (rules ++ r ∷ []) ≡ true
+are_distinct-push [] r h n = refl
+are_distinct-push (q ∷ rules) r h n =
+    let later : has_name rules r.name ≡ false = grind arith in
+    let other : bytes_eq q.name r.name ≡ false = grind arith in
+    let own : list_any (same_name q) rules ≡ false = grind arith in
+    let rest : are_distinct same_name rules ≡ true = grind arith in
+    let e1 = list_any-push q rules r own other in
+    let e2 = are_distinct-push rules r rest later in
+    rw (e1, e2) refl
+
+-- one more sound rule
+pub list_all-push : (rules : List Rule) (r : Rule) → list_all is_sound_rule rules ≡ true → is_sound_rule r ≡ true → list_all is_sound_rule (rules ++ r ∷ []) ≡ true
+list_all-push rules r h s = rw (list_all-append is_sound_rule rules (r ∷ []), h, s) refl
+
+-- sound rules of their own names, and not too many
+pub are_sound-by : (rules : List Rule) → list_all is_sound_rule rules ≡ true → are_distinct same_name rules ≡ true → nat_le (length rules) most_rules ≡ true → are_sound_rules rules ≡ true
+are_sound-by rules s d f = rw (s, d, f) refl
+
+-- the parts of a sound rule
+pub is_sound_rule-by : (r : Rule) → is_name r.name ≡ true → bytes_eq r.name default_rule ≡ false → is_pattern r.clerk ≡ true → is_pattern r.maildrop ≡ true → is_pattern r.class ≡ true
+    → lists_any r.actions ≡ true → (not r.actions.open || is_any r.class) ≡ true → is_sound_rule r ≡ true
+is_sound_rule-by r a b c d e f g = rw (a, b, c, d, e, f, g) refl

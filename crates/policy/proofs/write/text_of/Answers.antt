@@ -1,0 +1,15 @@
+use Rattle.std.proofs.Common.{arith}
+use Rattle.policy.proofs.Written.{rules_text-first, rules_text-later}
+use Rattle.policy.proofs.write.text_of.Goals as goal
+use Rattle.policy.proofs.write.text_of.Goals.{then-i-gt0+in_ok-extend_from_slice, else-i-gt0}
+
+pub loop-i-preserved : goal.loop-i-preserved
+loop-i-preserved c =
+    let written = c.in_ok-put_rule.ensures in
+    elim c.if-i-gt0.branch [
+      | then-i-gt0+in_ok-extend_from_slice w ↦
+          let apart = w.in_ok-extend_from_slice.ensures.items in
+          let later = rules_text-later c.args.rules.now c.loop-i.i c.index-rules-i.result (omega arith) (omega arith) in cc
+      | else-i-gt0 w ↦
+          let first = rules_text-first c.args.rules.now c.loop-i.i c.index-rules-i.result (omega arith) (omega arith) in cc
+    ]

@@ -1,0 +1,247 @@
+-- The text of a policy, which is TOML 1.0: its rules or its first fault, and the text that a policy is written as.
+use Rattle.std.specs.Prelude.{ℕ, ◌+◌, ◌&&◌, ◌||◌, not, nat_le, Bool, true, false, List, [], ◌∷◌, ◌++◌, codes, Option, Some, None, option_and_then, is_some, Result, Ok, Err, if◌then◌else◌}
+use Rattle.std.specs.Fmt.{decimal}
+use Rattle.std.specs.List.{list_any}
+use Rattle.std.specs.Str.{bytes_eq}
+use Rattle.toml.specs.Data.{Data, Items, no_items, item, Members, no_members, member, get_member, as_str, as_array, as_table}
+use Rattle.toml.specs.Parse.{parse_document}
+use Rattle.creds.specs.Names.{name_of}
+use Rattle.policy.specs.Policy.{Policy, default_rule, is_any, most_rules}
+use Rattle.policy.specs.declared.fault.PolicyFault.{PolicyFault}
+use Rattle.policy.specs.declared.fault.PolicyFault.TheVariants.{NotToml, MissingKey, UnknownKey, BadName, DoubleName, BadEffect, BadActions, OpenWithClass, TooMany, NoMemory}
+use Rattle.policy.specs.declared.rule.Action.{Action}
+use Rattle.policy.specs.declared.rule.Action.TheVariants.{Open, Read, Remove}
+use Rattle.policy.specs.declared.rule.Actions.{Actions}
+use Rattle.policy.specs.declared.rule.Effect.{Effect}
+use Rattle.policy.specs.declared.rule.Effect.TheVariants.{Allow, Deny}
+use Rattle.policy.specs.declared.rule.Pattern.{Pattern}
+use Rattle.policy.specs.declared.rule.Pattern.TheVariants.{Any, Is}
+use Rattle.policy.specs.declared.rule.Rule.{Rule}
+
+-- the first fault ends the reading
+infixl 10 ◌>>=◌
+abbrev pub ◌>>=◌ : {A B : Type 0} → Result A PolicyFault → (A → Result B PolicyFault) → Result B PolicyFault
+Ok x >>= f = f x
+Err e >>= f = Err e
+
+-- the value, or this fault where there is none
+abbrev pub value_or : {A : Type 0} → Option A → PolicyFault → Result A PolicyFault
+value_or (Some x) e = Ok x
+value_or None e = Err e
+
+-- this fault, unless the test holds
+abbrev pub demand : Bool → PolicyFault → Result (Unit {0}) PolicyFault
+demand true e = Ok tt
+demand false e = Err e
+
+-- each key passes the test
+abbrev pub all_keys : (List ℕ → Bool) → Members → Bool
+all_keys p no_members = true
+all_keys p (member k d ms) = p k && all_keys p ms
+
+-- the keys of a rule
+unfoldable pub is_rule_key : List ℕ → Bool
+is_rule_key k =
+    bytes_eq k (codes "name") || bytes_eq k (codes "effect") || bytes_eq k (codes "clerk")
+    || bytes_eq k (codes "maildrop") || bytes_eq k (codes "class") || bytes_eq k (codes "actions")
+
+-- a rule's name: a text that is a name, and not `default`
+abbrev pub rule_name_of : Data → Option (List ℕ)
+rule_name_of d = option_and_then (λ s. if bytes_eq s default_rule then None else name_of s) (as_str d)
+
+-- the pattern of a name
+abbrev pub named : Option (List ℕ) → Option Pattern
+named None = None
+named (Some name) = Some (Is name)
+
+-- `*`, or a name
+abbrev pub pattern_of : Data → Option Pattern
+pattern_of d = option_and_then (λ s. if bytes_eq s (codes "*") then Some Any else named (name_of s)) (as_str d)
+
+-- `allow` or `deny`
+abbrev pub effect_of : Data → Option Effect
+effect_of d = option_and_then (λ s. if bytes_eq s (codes "allow") then Some Allow else if bytes_eq s (codes "deny") then Some Deny else None) (as_str d)
+
+-- `open`, `read` or `remove`
+abbrev pub action_of : List ℕ → Option Action
+action_of s =
+    if bytes_eq s (codes "open") then Some Open else if bytes_eq s (codes "read") then Some Read
+    else if bytes_eq s (codes "remove") then Some Remove else None
+
+-- the actions with one more, which they lack
+abbrev pub with_action : Actions → Action → Option Actions
+with_action listed Open = if listed.open then None else Some (record listed { «open» = true })
+with_action listed Read = if listed.read then None else Some (record listed { read = true })
+with_action listed Remove = if listed.remove then None else Some (record listed { remove = true })
+
+-- the actions with that of an item
+abbrev pub with_item : Actions → Data → Option Actions
+with_item listed d = option_and_then (λ s. option_and_then (with_action listed) (action_of s)) (as_str d)
+
+-- the actions with those of the items
+unfoldable pub with_items : Actions → Items → Option Actions
+with_items listed no_items = Some listed
+with_items listed (item d ds) = option_and_then (λ more. with_items more ds) (with_item listed d)
+
+abbrev pub no_actions : Actions
+no_actions = record { «open» = false; read = false; remove = false }
+
+-- at least one item, each of them an action, and no two the same
+abbrev pub actions_of_items : Items → Option Actions
+actions_of_items no_items = None
+actions_of_items (item d ds) = with_items no_actions (item d ds)
+
+abbrev pub actions_of : Data → Option Actions
+actions_of d = option_and_then actions_of_items (as_array d)
+
+-- one of the rules has the name
+abbrev pub has_name : List Rule → List ℕ → Bool
+has_name rules name = list_any (λ r. bytes_eq r.name name) rules
+
+-- the rule of number n, behind the rules before it, or its first fault
+unfoldable pub rule_of : ℕ → List Rule → Members → Result Rule PolicyFault
+rule_of n before ms = do
+  name ← value_or (get_member (codes "name") ms) (MissingKey n)
+  effect ← value_or (get_member (codes "effect") ms) (MissingKey n)
+  clerk ← value_or (get_member (codes "clerk") ms) (MissingKey n)
+  maildrop ← value_or (get_member (codes "maildrop") ms) (MissingKey n)
+  class ← value_or (get_member (codes "class") ms) (MissingKey n)
+  actions ← value_or (get_member (codes "actions") ms) (MissingKey n)
+  known ← demand (all_keys is_rule_key ms) (UnknownKey n)
+  rule_name ← value_or (rule_name_of name) (BadName n)
+  rule_clerk ← value_or (pattern_of clerk) (BadName n)
+  rule_maildrop ← value_or (pattern_of maildrop) (BadName n)
+  rule_class ← value_or (pattern_of class) (BadName n)
+  single ← demand (not (has_name before rule_name)) (DoubleName n)
+  rule_effect ← value_or (effect_of effect) (BadEffect n)
+  rule_actions ← value_or (actions_of actions) (BadActions n)
+  general ← demand (not rule_actions.open || is_any rule_class) (OpenWithClass n)
+  Ok (record { name = rule_name; effect = rule_effect; clerk = rule_clerk; maildrop = rule_maildrop; class = rule_class; actions = rule_actions })
+
+-- the rules of the items, the first of them of number n, behind the rules before them
+abbrev pub rule_at : ℕ → List Rule → Data → Result Rule PolicyFault
+rule_at n before d = value_or (as_table d) NotToml >>= rule_of n before
+
+unfoldable pub rules_from : ℕ → List Rule → Items → Result (List Rule) PolicyFault
+rules_from n before no_items = Ok before
+rules_from n before (item d ds) = rule_at n before d >>= (λ r. rules_from (n + 1) (before ++ r ∷ []) ds)
+
+-- each item is a table
+abbrev pub are_tables : Items → Bool
+are_tables no_items = true
+are_tables (item d ds) = is_some (as_table d) && are_tables ds
+
+abbrev pub items_len : Items → ℕ
+items_len no_items = 0
+items_len (item d ds) = 1 + items_len ds
+
+-- the array of tables at `rule`, none where the key is absent
+abbrev pub tables_of : Items → Option Items
+tables_of ds = if are_tables ds then Some ds else None
+
+abbrev pub rule_tables : Option Data → Option Items
+rule_tables None = Some no_items
+rule_tables (Some d) = option_and_then tables_of (as_array d)
+
+-- the one key of a document
+abbrev pub is_top_key : List ℕ → Bool
+is_top_key k = bytes_eq k (codes "rule")
+
+-- the policy of a document
+unfoldable pub rules_in : Members → Result Policy PolicyFault
+rules_in ms = do
+  tables ← value_or (rule_tables (get_member (codes "rule") ms)) NotToml
+  known ← demand (all_keys is_top_key ms) (UnknownKey 0)
+  few ← demand (nat_le (items_len tables) most_rules) TooMany
+  rules ← rules_from 1 [] tables
+  Ok (record { rules = rules })
+
+-- the policy of a text, or its first fault
+unfoldable pub rules_of : List ℕ → Result Policy PolicyFault
+rules_of text = value_or (parse_document text) NotToml >>= rules_in
+
+-- ---- the text of a fault
+
+-- the fault's name
+abbrev pub fault_name : PolicyFault → List ℕ
+fault_name NotToml = codes "NotToml"
+fault_name (MissingKey n) = codes "MissingKey"
+fault_name (UnknownKey n) = codes "UnknownKey"
+fault_name (BadName n) = codes "BadName"
+fault_name (DoubleName n) = codes "DoubleName"
+fault_name (BadEffect n) = codes "BadEffect"
+fault_name (BadActions n) = codes "BadActions"
+fault_name (OpenWithClass n) = codes "OpenWithClass"
+fault_name TooMany = codes "TooMany"
+fault_name NoMemory = codes "NoMemory"
+
+-- the number of the rule that has the fault
+abbrev pub fault_number : PolicyFault → Option ℕ
+fault_number NotToml = None
+fault_number (MissingKey n) = Some n
+fault_number (UnknownKey n) = Some n
+fault_number (BadName n) = Some n
+fault_number (DoubleName n) = Some n
+fault_number (BadEffect n) = Some n
+fault_number (BadActions n) = Some n
+fault_number (OpenWithClass n) = Some n
+fault_number TooMany = None
+fault_number NoMemory = None
+
+-- the fault's name, with its rule's number in front where it has one
+abbrev pub numbered : Option ℕ → List ℕ → List ℕ
+numbered None name = name
+numbered (Some n) name = codes "rule " ++ decimal n ++ codes ": " ++ name
+
+abbrev pub fault_text : PolicyFault → List ℕ
+fault_text f = numbered (fault_number f) (fault_name f)
+
+-- ---- the written text
+
+abbrev pub quoted : List ℕ → List ℕ
+quoted text = codes "\"" ++ text ++ codes "\""
+
+abbrev pub pattern_text : Pattern → List ℕ
+pattern_text Any = codes "*"
+pattern_text (Is name) = name
+
+abbrev pub effect_text : Effect → List ℕ
+effect_text Allow = codes "allow"
+effect_text Deny = codes "deny"
+
+abbrev pub word_if : Bool → List ℕ → List (List ℕ)
+word_if true word = word ∷ []
+word_if false word = []
+
+-- the actions that a rule lists, always in this order
+abbrev pub action_words : Actions → List (List ℕ)
+action_words listed = word_if listed.open (codes "open") ++ word_if listed.read (codes "read") ++ word_if listed.remove (codes "remove")
+
+-- the words in quotes, with a comma and a space between each two
+abbrev pub listing : List (List ℕ) → List ℕ
+listing [] = []
+listing (word ∷ []) = quoted word
+listing (word ∷ following ∷ words) = quoted word ++ codes ", " ++ listing (following ∷ words)
+
+abbrev pub actions_text : Actions → List ℕ
+actions_text listed = codes "[" ++ listing (action_words listed) ++ codes "]"
+
+-- a line of a rule
+unfoldable pub setting : List ℕ → List ℕ → List ℕ
+setting key value = key ++ codes " = " ++ value ++ codes "\n"
+
+unfoldable pub rule_text : Rule → List ℕ
+rule_text r =
+    codes "[[rule]]\n" ++ setting (codes "name") (quoted r.name) ++ setting (codes "effect") (quoted (effect_text r.effect))
+    ++ setting (codes "clerk") (quoted (pattern_text r.clerk)) ++ setting (codes "maildrop") (quoted (pattern_text r.maildrop))
+    ++ setting (codes "class") (quoted (pattern_text r.class))
+    ++ setting (codes "actions") (actions_text r.actions)
+
+-- the rules' texts, with one empty line between each two
+abbrev pub rules_text : List Rule → List ℕ
+rules_text [] = []
+rules_text (r ∷ []) = rule_text r
+rules_text (r ∷ following ∷ rules) = rule_text r ++ codes "\n" ++ rules_text (following ∷ rules)
+
+abbrev pub policy_text : Policy → List ℕ
+policy_text p = rules_text p.rules

@@ -1,0 +1,2 @@
+pub mod PolicyFile
+pub mod Told

@@ -1,0 +1,132 @@
+//! Tests of check_policy: what is printed of good policies, and of each fault.
+
+use crate::check_policy::check_policy;
+use crate::tests::{Ran, Refusing};
+use std::alloc::{AllocError, Global};
+use std::io::{BufWriter, Read};
+use std::test::Fail;
+
+/// The rules of the sample policy: name, effect, clerk, maildrop, class and actions.
+const SAMPLE: [[&str; 6]; 8] = [
+    [
+        "ann-all",
+        "allow",
+        "ann",
+        "orders",
+        "*",
+        "'open', 'read', 'remove'",
+    ],
+    ["bob-open", "allow", "bob", "orders", "*", "'open'"],
+    [
+        "bob-no-pay",
+        "deny",
+        "bob",
+        "orders",
+        "pay",
+        "'read', 'remove'",
+    ],
+    ["bob-read", "allow", "bob", "orders", "*", "'read'"],
+    ["bob-rm", "allow", "bob", "orders", "note", "'remove'"],
+    ["cat-open", "allow", "cat", "orders", "*", "'open'"],
+    ["eve-any", "allow", "eve", "*", "*", "'open'"],
+    ["mrose-open", "allow", "mrose", "*", "*", "'open'"],
+];
+
+/// Checks a file of these octets.
+fn check(alloc: Global, octets: &[u8]) -> Result<Ran, Fail> {
+    let mut file = octets;
+    let mut out = Vec::new(alloc);
+    let mut err = Vec::new(alloc);
+    let status = check_policy(alloc, &mut file, &mut out, &mut err);
+    Ran::new(status, out, err)
+}
+
+/// The text of these rules.
+fn write_rules(alloc: Global, rules: &[[&str; 6]]) -> Result<String, AllocError> {
+    let mut text = String::new(alloc);
+    for rule in rules {
+        let [name, effect, clerk, maildrop, class, actions] = *rule;
+        writeln!(
+            text,
+            "[[rule]]\nname = '{name}'\neffect = '{effect}'\nclerk = '{clerk}'"
+        )?;
+        writeln!(
+            text,
+            "maildrop = '{maildrop}'\nclass = '{class}'\nactions = [{actions}]"
+        )?;
+    }
+    Ok(text)
+}
+
+#[test]
+fn good_policies(rt: HostRuntime) -> Result<(), Fail> {
+    let alloc = rt.alloc();
+    let text = write_rules(alloc, SAMPLE.as_slice())?;
+    let want = Ran::good(alloc, "ok, 8 rules\n")?;
+    assert_eq!(rt; check(alloc, text.as_bytes())?, want);
+    assert_eq!(rt; check(alloc, b"")?, Ran::good(alloc, "ok, 0 rules\n")?);
+    Ok(())
+}
+
+#[test]
+fn policy_text_faults(rt: HostRuntime) -> Result<(), Fail> {
+    let alloc = rt.alloc();
+    let lacks_effect =
+        "[[rule]]\nname = 'a'\nclerk = '*'\nmaildrop = '*'\nclass = '*'\nactions = ['read']\ncolor = 'red'\n";
+    let rows = [
+        (b"x = 1".as_slice(), "rule 0: UnknownKey"),
+        (b"rule = 3".as_slice(), "NotToml"),
+        (b"x".as_slice(), "NotToml"),
+        (b"# \xff\n".as_slice(), "NotToml"),
+        (lacks_effect.as_bytes(), "rule 1: MissingKey"),
+    ];
+    for (octets, fault) in rows {
+        let want = format!(in alloc; "popbox: {fault}\n")?;
+        assert_eq!(rt; check(alloc, octets)?, Ran::fault(alloc, want.as_str())?);
+    }
+    Ok(())
+}
+
+#[test]
+fn rule_faults(rt: HostRuntime) -> Result<(), Fail> {
+    let alloc = rt.alloc();
+    let good = ["a", "allow", "*", "*", "*", "'read'"];
+    let rows = [
+        (true, "default", "*", "'read'", "rule 1: BadName"),
+        (true, "b", "*", "'read', 'read'", "rule 1: BadActions"),
+        (false, "a", "*", "'read'", "rule 2: DoubleName"),
+        (false, "b", "pay", "'open'", "rule 2: OpenWithClass"),
+    ];
+    for (is_first, name, class, actions, fault) in rows {
+        let rules = [good, [name, "deny", "*", "*", class, actions]];
+        let first = usize::from(is_first);
+        let text = write_rules(alloc, &rules[first..])?;
+        let want = format!(in alloc; "popbox: {fault}\n")?;
+        let ran = check(alloc, text.as_bytes())?;
+        assert_eq!(rt; ran, Ran::fault(alloc, want.as_str())?);
+    }
+    Ok(())
+}
+
+#[test]
+fn refused_octets(rt: HostRuntime) -> Result<(), Fail> {
+    let alloc = rt.alloc();
+    let mut out = Vec::new(alloc);
+    let mut err = Vec::new(alloc);
+    let mut file = b"x = 1".as_slice().chain(Refusing);
+    assert_eq!(rt; check_policy(alloc, &mut file, &mut out, &mut err), 1);
+    assert!(rt; out.is_empty());
+    let mut file = b"".as_slice();
+    assert_eq!(rt; check_policy(alloc, &mut file, &mut Refusing, &mut err), 1);
+    let mut late = BufWriter::new(alloc, Refusing)?;
+    assert_eq!(rt; check_policy(alloc, &mut file, &mut late, &mut err), 1);
+    let want = "popbox: cannot read file\npopbox: cannot write\npopbox: cannot write\n";
+    assert_eq!(rt; err.as_slice(), want.as_bytes());
+    let mut faulty = b"x = 1".as_slice();
+    assert_eq!(rt;
+        check_policy(alloc, &mut faulty, &mut out, &mut Refusing),
+        1
+    );
+    assert!(rt; out.is_empty());
+    Ok(())
+}

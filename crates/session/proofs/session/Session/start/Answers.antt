@@ -1,0 +1,27 @@
+use Rattle.std.proofs.Common.{List, sym, ap, subst, ◌∙◌, ◌≡◌, ◌≤◌, map}
+use Rattle.std.specs.Prelude.{sum_by}
+use Rattle.creds.specs.declared.login_name.LoginName.{LoginName}
+use Rattle.vault.specs.declared.answer.Head.{Head}
+use Rattle.session.specs.Session.{class_of, octets_of}
+use Rattle.session.specs.Rows.{heads_of, unmarked_row, session_of}
+use Rattle.session.specs.View.{visible, may_read}
+use Rattle.session.proofs.MarkLemmas.{sum_by-filter-le}
+use Rattle.session.proofs.RowLemmas.{heads_of-unmarked, session_of-unmarked}
+use Rattle.session.proofs.session.Session.start.Goals as goal
+
+pub returns-clause-session : goal.returns-clause-session
+returns-clause-session c =
+    let name : LoginName = record { clerk = c.args.clerk; maildrop = c.args.maildrop } in
+    let seen = visible class_of c.args.policy.now name c.args.heads.now in
+    let rows : c.in_ok-rows.rows.items ≡ map unmarked_row seen = c.in_ok-rows.ensures in
+    ap (session_of name) rows ∙ session_of-unmarked name seen
+
+pub returns-clause-octets : goal.returns-clause-octets
+returns-clause-octets c =
+    let name : LoginName = record { clerk = c.args.clerk; maildrop = c.args.maildrop } in
+    let policy = c.args.policy.now in
+    let heads = c.args.heads.now in
+    let seen = visible class_of policy name heads in
+    let rows : c.in_ok-rows.rows.items ≡ map unmarked_row seen = c.in_ok-rows.ensures in
+    let view : heads_of c.in_ok-rows.rows.items ≡ seen = ap heads_of rows ∙ heads_of-unmarked seen in
+    subst (λ (hs : List Head). sum_by octets_of hs ≤ sum_by octets_of heads) (sym view) (sum_by-filter-le (λ (head : Head). may_read policy name (class_of head)) octets_of heads)

@@ -1,0 +1,4 @@
+pub mod View
+pub mod Session
+pub mod Rows
+pub mod Laws

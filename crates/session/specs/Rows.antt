@@ -1,0 +1,65 @@
+-- A view kept as rows, each with its mark: the heads in order, the numbers of the marked rows, and what a number names.
+use Rattle.std.specs.Prelude.{ℕ, Bool, false, not, ◌&&◌, List, filter, map, Option, Some, None, Result, Ok, Err, if◌then◌else◌}
+use Rattle.std.specs.List.{find}
+use Rattle.std.specs.Option.{option_map}
+use Rattle.creds.specs.declared.login_name.LoginName.{LoginName}
+use Rattle.policy.specs.Policy.{Policy}
+use Rattle.vault.specs.declared.answer.Head.{Head}
+use Rattle.session.specs.declared.pick.Pick.{Pick}
+use Rattle.session.specs.declared.pick.Pick.TheVariants.{NoSuch, Deleted}
+use Rattle.session.specs.declared.row.Row.{Row}
+use Rattle.session.specs.Session.{Session}
+use Rattle.session.specs.View.{numbered_from, at_number, referred, removal, may_remove}
+
+-- the heads, in order
+abbrev pub heads_of : List Row → List Head
+heads_of rows = map (λ (row : Row). row.head) rows
+
+-- the numbers of the marked rows, counting up from this one
+abbrev pub marked_from : ℕ → List Row → List ℕ
+marked_from n rows = map (λ (row : ℕ × Row). row.0) (filter (λ (row : ℕ × Row). row.1.is_marked) (numbered_from n rows))
+
+-- the numbers of the marked rows
+abbrev pub marks_of : List Row → List ℕ
+marks_of rows = marked_from 1 rows
+
+-- the session of who is logged in, whose messages have these rows
+abbrev pub session_of : LoginName → List Row → Session
+session_of name rows = record { name = name; view = heads_of rows; marks = marks_of rows }
+
+-- the heads of the unmarked rows with their numbers, counting up from this one
+abbrev pub unmarked_from : ℕ → List Row → List (ℕ × Head)
+unmarked_from n rows = map (λ (row : ℕ × Row). (row.0, row.1.head)) (filter (λ (row : ℕ × Row). not row.1.is_marked) (numbered_from n rows))
+
+-- a head's row before it is marked
+abbrev pub unmarked_row : Head → Row
+unmarked_row head = record { head = head; is_marked = false }
+
+-- a row's octets where it isn't marked
+abbrev pub octets_unless_marked : Row → ℕ
+octets_unless_marked row = if row.is_marked then 0 else row.head.octets
+
+-- what a reference to a row comes to: there is none, it is marked, or its head is found
+abbrev pub row_referred : {B : Type 0} → Option Row → (no_such deleted : B) → (found : Head → B) → B
+row_referred None no_such deleted found = no_such
+row_referred (Some row) no_such deleted found = referred (Some row.head) row.is_marked no_such deleted found
+
+-- the head of the unmarked row of a number
+abbrev pub row_picked : List Row → ℕ → Result Head Pick
+row_picked rows n = row_referred (at_number rows n) (Err NoSuch) (Err Deleted) (λ head. Ok head)
+
+-- the row is marked, and the policy lets the clerk remove it
+abbrev pub is_removable : Policy → LoginName → Row → Bool
+is_removable policy name row = row.is_marked && may_remove policy name row.head.class
+
+-- the row is marked, and the policy denies its removal
+abbrev pub is_denied : Policy → LoginName → Row → Bool
+is_denied policy name row = row.is_marked && not (may_remove policy name row.head.class)
+
+-- the keys of the rows that are removed
+abbrev pub removable_keys : Policy → LoginName → List Row → List ℕ
+removable_keys policy name rows = map (λ (row : Row). row.head.key) (filter (is_removable policy name) rows)
+
+-- the rule for the first row whose removal is denied
+abbrev pub denying_rule : Policy → LoginName → List Row → Option (List ℕ)
+denying_rule policy name rows = option_map (λ (row : Row). (removal policy name row.head.class).rule) (find (is_denied policy name) rows)

@@ -1,0 +1,50 @@
+-- A logged-in session as contracts see it, and what its calls answer (RFC 1939, 5 and 6).
+use Rattle.std.specs.Prelude.{ℕ, List, [], Result, Ok, Err, if◌then◌else◌}
+use Rattle.creds.specs.declared.uid.Uid.{Uid}
+use Rattle.creds.specs.declared.login_name.LoginName.{LoginName}
+use Rattle.policy.specs.Policy.{Policy}
+use Rattle.policy.specs.declared.decide.Decision.{Decision}
+use Rattle.vault.specs.declared.answer.Head.{Head}
+use Rattle.session.specs.declared.pick.Pick.{Pick}
+use Rattle.session.specs.declared.pick.Pick.TheVariants.{NoSuch, Deleted, Denied}
+use Rattle.session.specs.View.{visible, refer, removal}
+
+-- who is logged in to which maildrop, the messages of the view, and the numbers marked as deleted
+pub record Session : Type 0 where
+  pub name : LoginName
+  pub view : List Head
+  pub marks : List ℕ
+
+-- ---- what is asked of a head
+
+abbrev pub class_of : Head → List ℕ
+class_of head = head.class
+
+abbrev pub octets_of : Head → ℕ
+octets_of head = head.octets
+
+abbrev pub uid_of : Head → Uid
+uid_of head = record { class = head.class; k = head.k }
+
+abbrev pub key_of : Head → ℕ
+key_of head = head.key
+
+-- ---- calls
+
+-- the session of a login: the heads that the policy lets the clerk read, and no mark
+abbrev pub started : Policy → (clerk maildrop : List ℕ) → List Head → Session
+started policy clerk maildrop heads =
+    let name : LoginName = record { clerk = clerk; maildrop = maildrop } in
+    record { name = name; view = visible class_of policy name heads; marks = [] }
+
+-- the head of a number, or why a reference to it is refused
+abbrev pub picked : Session → ℕ → Result Head Pick
+picked s n = refer s.marks s.view n (Err NoSuch) (Err Deleted) (λ head. Ok head)
+
+-- a removal that the policy allows is marked, and the rule that denies one is told
+abbrev pub mark_answer : Decision → Result (Unit {0}) Pick
+mark_answer decision = if decision.allowed then Ok tt else Err (Denied decision.rule)
+
+-- a reference to a number that is to be marked
+abbrev pub marking : Policy → Session → ℕ → Result (Unit {0}) Pick
+marking policy s n = refer s.marks s.view n (Err NoSuch) (Err Deleted) (λ head. mark_answer (removal policy s.name head.class))

@@ -1,0 +1,91 @@
+-- A login's view, its marks, and what QUIT removes (RFC 1939, 5 and 6). The words are of any kind of row: what a row's class, its
+-- octets or its unique-id is, is given as a function, so that a store's heads and a history's messages share each of them.
+use Rattle.std.specs.Prelude.{ℕ, zero, suc, Bool, true, false, not, ◌+◌, ◌==◌, List, [], ◌∷◌, filter, map, sum_by, Option, Some, None, slice_get}
+use Rattle.std.specs.List.{list_any, find}
+use Rattle.std.specs.Option.{option_map}
+use Rattle.policy.specs.Policy.{Policy, decide}
+use Rattle.policy.specs.declared.decide.Decision.{Decision}
+use Rattle.policy.specs.declared.rule.Action.TheVariants as to
+use Rattle.creds.specs.declared.uid.Uid.{Uid}
+use Rattle.creds.specs.declared.login_name.LoginName.{LoginName}
+
+-- ---- the view
+
+-- the policy lets a clerk read a class in a maildrop
+abbrev pub may_read : Policy → LoginName → (class : List ℕ) → Bool
+may_read policy name class = (decide policy name.clerk name.maildrop class to.Read).allowed
+
+-- what the policy lets a clerk read of a maildrop's rows, in order
+abbrev pub visible : {A : Type 0} → (class_of : A → List ℕ) → Policy → LoginName → List A → List A
+visible class_of policy name rows = filter (λ row. may_read policy name (class_of row)) rows
+
+-- rows with numbers, counting up from this one
+abbrev pub numbered_from : {A : Type 0} → ℕ → List A → List (ℕ × A)
+numbered_from n [] = []
+numbered_from n (row ∷ rows) = (n, row) ∷ numbered_from (n + 1) rows
+
+-- the view's rows with their message numbers, from 1
+abbrev pub numbered : {A : Type 0} → List A → List (ℕ × A)
+numbered view = numbered_from 1 view
+
+-- the row of a message number, if it is one of the view's
+abbrev pub at_number : {A : Type 0} → List A → ℕ → Option A
+at_number view zero = None
+at_number view (suc n) = slice_get view n
+
+-- ---- marks
+
+-- a number is among those marked as deleted
+abbrev pub is_marked : List ℕ → ℕ → Bool
+is_marked marks n = list_any (λ m. m == n) marks
+
+-- the rows that aren't marked, with their numbers
+abbrev pub unmarked : {A : Type 0} → List ℕ → List A → List (ℕ × A)
+unmarked marks view = filter (λ row. not (is_marked marks row.0)) (numbered view)
+
+-- the rows that are marked, with their numbers
+abbrev pub marked : {A : Type 0} → List ℕ → List A → List (ℕ × A)
+marked marks view = filter (λ row. is_marked marks row.0) (numbered view)
+
+-- what a reference to a number comes to: no row has it, its row is marked, or it is found
+abbrev pub referred : {A B : Type 0} → Option A → (is_marked : Bool) → (no_such deleted : B) → (found : A → B) → B
+referred None is_marked no_such deleted found = no_such
+referred (Some row) true no_such deleted found = deleted
+referred (Some row) false no_such deleted found = found row
+
+-- a reference to a number of a view with these marks
+abbrev pub refer : {A B : Type 0} → List ℕ → List A → ℕ → (no_such deleted : B) → (found : A → B) → B
+refer marks view n no_such deleted found = referred (at_number view n) (is_marked marks n) no_such deleted found
+
+-- ---- what QUIT removes
+
+-- what the policy says of a clerk's removing a class in a maildrop
+abbrev pub removal : Policy → LoginName → (class : List ℕ) → Decision
+removal policy name class = decide policy name.clerk name.maildrop class to.Remove
+
+-- the policy lets the clerk remove it
+abbrev pub may_remove : Policy → LoginName → (class : List ℕ) → Bool
+may_remove policy name class = (removal policy name class).allowed
+
+-- the marked rows that the policy lets the clerk remove, in order
+abbrev pub to_remove : {A : Type 0} → (class_of : A → List ℕ) → Policy → LoginName → List ℕ → List A → List A
+to_remove class_of policy name marks view = filter (λ row. may_remove policy name (class_of row)) (map (λ row. row.1) (marked marks view))
+
+-- the rule for the denied mark of least number
+abbrev pub denying : {A : Type 0} → (class_of : A → List ℕ) → Policy → LoginName → List ℕ → List A → Option (List ℕ)
+denying {A} class_of policy name marks view =
+    option_map (λ (row : ℕ × A). (removal policy name (class_of row.1)).rule) (find (λ (row : ℕ × A). not (may_remove policy name (class_of row.1))) (marked marks view))
+
+-- ---- what listings say of rows
+
+-- the lines of a scan listing: number and octets
+abbrev pub sizes_of : {A : Type 0} → (octets_of : A → ℕ) → List (ℕ × A) → List (ℕ × ℕ)
+sizes_of octets_of rows = map (λ row. (row.0, octets_of row.1)) rows
+
+-- the lines of a unique-id listing: number and unique-id
+abbrev pub uids_of : {A : Type 0} → (uid_of : A → Uid) → List (ℕ × A) → List (ℕ × Uid)
+uids_of uid_of rows = map (λ row. (row.0, uid_of row.1)) rows
+
+-- the octets of all of them
+abbrev pub total_of : {A : Type 0} → (octets_of : A → ℕ) → List (ℕ × A) → ℕ
+total_of octets_of rows = sum_by (λ row. octets_of row.1) rows

@@ -1,0 +1,15 @@
+//! One logged-in session of a maildrop (RFC 1939, 5 and 6), without a store: its view, its marks, and what QUIT removes.
+#![tactic(auto)]
+
+mod laws;
+mod listing;
+mod pick;
+mod row;
+mod session;
+#[cfg(test)]
+mod tests;
+
+pub use laws::marks_are_asked_by_number;
+pub use listing::{Sizes, Uids};
+pub use pick::Pick;
+pub use session::Session;

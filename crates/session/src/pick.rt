@@ -1,0 +1,13 @@
+//! Why a reference to a message is refused.
+use creds::Name;
+
+/// Why a reference to a message number is refused.
+#[derive(Clone, Copy, PartialEq, Eq, Debug)]
+pub enum Pick {
+    /// No message of the view has the number.
+    NoSuch,
+    /// The message is marked as deleted.
+    Deleted,
+    /// The policy denies the removal, by the rule of this name, or by `default` where none matches.
+    Denied(Name),
+}

@@ -1,0 +1,117 @@
+//! The messages of a view, each with its mark.
+ghost use Rattle.std.specs.Prelude.{◌≡◌, ◌<◌, ◌≤◌, not, length, map, count_by, sum_by, min, IfOk, OnOk};
+ghost use Rattle.session.specs.declared.row.Row.{Row};
+ghost use Rattle.session.specs.Session.{class_of};
+ghost use Rattle.session.specs.Rows.{heads_of, unmarked_row, octets_unless_marked, row_picked, removable_keys, denying_rule};
+ghost use Rattle.session.specs.View.{visible, may_read, removal};
+
+use crate::pick::Pick;
+use creds::{LoginName, Name};
+use policy::{Action, Decision, Policy};
+use std::alloc::{AllocError, Global};
+use vault::{Head, MessageKey};
+
+/// A message of the view, and whether it is marked as deleted.
+#[derive(Clone, Copy, Debug)]
+pub(crate) struct Row {
+    pub(crate) head: Head,
+    pub(crate) is_marked: bool,
+}
+
+fn may_read(policy: &Policy, name: &LoginName, class: &Name) -> bool
+    ensures { result ≡ may_read policy.now name.now class.now }
+{
+    policy
+        .decide(&name.clerk, &name.maildrop, class, Action::Read)
+        .allowed
+}
+
+/// What the policy says of a clerk's removing a class in the maildrop.
+pub(crate) fn removal(policy: &Policy, name: &LoginName, class: &Name) -> Decision
+    ensures { result ≡ removal policy.now name.now class.now }
+{
+    policy.decide(&name.clerk, &name.maildrop, class, Action::Remove)
+}
+
+/// The rows of what the policy lets the clerk read, unmarked.
+pub(crate) fn visible_rows(
+    alloc: Global,
+    policy: &Policy,
+    name: &LoginName,
+    heads: &[Head],
+) -> Result<Vec<Row>, AllocError>
+    ensures { IfOk result (λ rows. rows.items ≡ map unmarked_row (visible class_of policy.now name.now heads.now)) }
+{
+    heads
+        .iter()
+        .filter(|head| may_read(policy, name, &head.class))
+        .map(|head| Row {
+            head: *head,
+            is_marked: false,
+        })
+        .collect(alloc)
+}
+
+/// How many rows are unmarked, and their octets.
+pub(crate) fn totals(rows: &[Row]) -> (u64, u64)
+    ensures messages { result.0 ≡ count_by (λ (row : Row). not row.is_marked) rows.now }
+    ensures octets { result.1 ≡ min (sum_by octets_unless_marked rows.now) u64.MAX }
+{
+    let mut messages = 0u64;
+    let mut octets = 0u64;
+    for row in rows {
+        if !row.is_marked {
+            messages += 1;
+            octets = octets.saturating_add(row.head.octets);
+        }
+    }
+    (messages, octets)
+}
+
+/// The head of the unmarked message of a number.
+pub(crate) fn head_at(rows: &[Row], n: u64) -> Result<Head, Pick>
+    ensures answer { result ≡ row_picked rows.now n }
+    ensures within { OnOk result ((0 < n) × (n ≤ length rows.now)) }
+{
+    if n == 0 {
+        return Err(Pick::NoSuch);
+    }
+    match rows.get(n as usize - 1) {
+        None => Err(Pick::NoSuch),
+        Some(row) if row.is_marked => Err(Pick::Deleted),
+        Some(row) => Ok(row.head),
+    }
+}
+
+/// The keys of the marked messages that the policy lets the clerk remove.
+pub(crate) fn removable_keys(
+    alloc: Global,
+    policy: &Policy,
+    name: &LoginName,
+    rows: &[Row],
+) -> Result<Vec<MessageKey>, AllocError>
+    ensures { IfOk result (λ keys. keys.items ≡ removable_keys policy.now name.now rows.now) }
+{
+    rows.iter()
+        .filter(|row| row.is_marked && removal(policy, name, &row.head.class).allowed)
+        .map(|row| row.head.key)
+        .collect(alloc)
+}
+
+/// The rule that denies the removal of a marked message: of the first, where there are several.
+pub(crate) fn denying_rule(policy: &Policy, name: &LoginName, rows: &[Row]) -> Option<Name>
+    ensures { result ≡ denying_rule policy.now name.now rows.now }
+{
+    rows.iter()
+        .find(|row| row.is_marked && !removal(policy, name, &row.head.class).allowed)
+        .map(|row| removal(policy, name, &row.head.class).rule)
+}
+
+/// Unmarks all rows.
+pub(crate) fn unmark_all(rows: &mut [Row])
+    ensures { rows.new ≡ map unmarked_row (heads_of rows.old) }
+{
+    for row in rows.iter_mut() {
+        row.is_marked = false;
+    }
+}

@@ -1,0 +1,144 @@
+//! A session and its calls.
+ghost use Rattle.std.specs.Prelude.{◌≡◌, ℕ, ◌+◌, ◌-◌, ◌^◌, ◌<◌, ◌≤◌, ◌||◌, ◌==◌, [], length, map, min, sum_by, IfOk, OnOk, OnErr};
+ghost use Rattle.session.specs.Session.{class_of, octets_of, uid_of, key_of, started, picked, marking};
+ghost use Rattle.session.specs.View.{is_marked, numbered, unmarked, sizes_of, uids_of, total_of, to_remove, denying};
+
+use crate::listing::{Sizes, Uids};
+use crate::pick::Pick;
+use crate::row::{
+    Row, denying_rule, head_at, removable_keys, removal, totals, unmark_all, visible_rows,
+};
+use creds::{LoginName, Name};
+use policy::Policy;
+use std::alloc::{AllocError, Global};
+use std::marker::Model;
+use vault::{Head, MessageKey};
+
+/// One logged-in session: the messages that the clerk sees, numbered from 1, and which of them are marked as deleted.
+///
+/// The view is that of the login: what comes into the maildrop or leaves it afterwards changes nothing here.
+#[derive(Drop, Debug)]
+pub struct Session {
+    name: LoginName,
+    rows: Vec<Row>,
+}
+
+impl Model for Session {
+    ghost use Rattle.session.specs.Rows.{session_of};
+    ghost use Rattle.session.specs.Session.{Session};
+
+    ghost Value = { Session };
+
+    ghost view = { λ s. session_of s.name s.rows.items };
+}
+
+impl Session {
+    /// Starts the session of a clerk who logged in to a maildrop whose messages, in order of arrival, have these heads.
+    ///
+    /// The view is what the policy lets the clerk read, in order, numbered from 1, and nothing is marked.
+    /// The room for the marks is made here. An `Err` is want of memory.
+    pub fn start(
+        alloc: Global,
+        clerk: Name,
+        maildrop: Name,
+        heads: &[Head],
+        policy: &Policy,
+    ) -> Result<Session, AllocError>
+        ensures session { IfOk result (λ s. s ≡ started policy.now clerk maildrop heads.now) }
+        ensures octets { IfOk result (λ s. sum_by octets_of s.view ≤ sum_by octets_of heads.now) }
+    {
+        let name = LoginName { clerk, maildrop };
+        let rows = visible_rows(alloc, policy, &name, heads)?;
+        Ok(Session { name, rows })
+    }
+
+    /// The clerk who is logged in.
+    pub fn clerk(&self) -> Name
+        ensures { result ≡ self.now.name.clerk }
+    {
+        self.name.clerk
+    }
+
+    /// The maildrop that the clerk is logged in to.
+    pub fn maildrop(&self) -> Name
+        ensures { result ≡ self.now.name.maildrop }
+    {
+        self.name.maildrop
+    }
+
+    /// How many messages of the view are unmarked, and their octets (RFC 1939, 5: STAT).
+    ///
+    /// A sum that a `u64` can't hold counts as its greatest value. No maildrop has such a sum: the octets of 10,000 messages of
+    /// 26,214,400 octets fit. It takes no memory.
+    pub fn stat(&self) -> (u64, u64)
+        ensures messages { result.0 ≡ length (unmarked self.now.marks self.now.view) }
+        ensures octets { result.1 ≡ min (total_of octets_of (unmarked self.now.marks self.now.view)) u64.MAX }
+        ensures exact { sum_by octets_of self.now.view < 2 ^ 64
+            → result.1 ≡ total_of octets_of (unmarked self.now.marks self.now.view) }
+    {
+        totals(&self.rows)
+    }
+
+    /// The numbers and octets of the unmarked messages, in ascending order of the numbers (RFC 1939, 5: LIST). It takes no memory.
+    pub fn list(&self) -> Sizes<'_>
+        ensures { result ≡ sizes_of octets_of (unmarked self.now.marks self.now.view) }
+    {
+        Sizes::new(&self.rows)
+    }
+
+    /// The numbers and unique-ids of the unmarked messages, in ascending order of the numbers (RFC 1939, 7: UIDL). It takes no
+    /// memory.
+    pub fn uidl(&self) -> Uids<'_>
+        ensures { result ≡ uids_of uid_of (unmarked self.now.marks self.now.view) }
+    {
+        Uids::new(&self.rows)
+    }
+
+    /// The head of the message of a number. `NoSuch` where the view has none, and `Deleted` where it is marked. It takes no memory.
+    pub fn pick(&self, n: u64) -> Result<Head, Pick>
+        ensures { result ≡ picked self.now n }
+    {
+        head_at(&self.rows, n)
+    }
+
+    /// Marks the message of a number as deleted, where the policy lets the clerk remove its class (RFC 1939, 5: DELE).
+    ///
+    /// `NoSuch` where the view has none, `Deleted` where it is marked already, `Denied` where the policy denies it, in this
+    /// order; nothing is marked then. It takes no memory.
+    pub fn mark(&mut self, n: u64, policy: &Policy) -> Result<(), Pick>
+        ensures answer { result ≡ marking policy.now self.old n }
+        ensures kept { self.new ≡ record self.old { marks = self.new.marks } }
+        ensures marked { OnOk result ((m : ℕ) → is_marked self.new.marks m ≡ (is_marked self.old.marks m || m == n)) }
+        ensures err { OnErr result (self.new ≡ self.old) }
+    {
+        let head = head_at(&self.rows, n)?;
+        let decision = removal(policy, &self.name, &head.class);
+        if !decision.allowed {
+            return Err(Pick::Denied(decision.rule));
+        }
+        self.rows[n as usize - 1].is_marked = true;
+        Ok(())
+    }
+
+    /// Unmarks all messages (RFC 1939, 5: RSET). It takes no memory.
+    pub fn reset(&mut self)
+        ensures { self.new ≡ record self.old { marks = [] } }
+    {
+        unmark_all(&mut self.rows);
+    }
+
+    /// What a QUIT removes under this policy: the keys of the marked messages that it lets the clerk remove, in order, and the
+    /// name of the rule that denies the marked message of least number whose removal is denied, if there is one
+    /// (RFC 1939, 6). An `Err` is want of memory.
+    pub fn to_remove(&self, policy: &Policy) -> Result<(Vec<MessageKey>, Option<Name>), AllocError>
+        ensures keys { IfOk result (λ r. r.0.items
+            ≡ map key_of (to_remove class_of policy.now self.now.name self.now.marks self.now.view)) }
+        ensures rule { IfOk result (λ r. r.1
+            ≡ denying class_of policy.now self.now.name self.now.marks self.now.view) }
+    {
+        let alloc = *self.rows.allocator();
+        let keys = removable_keys(alloc, policy, &self.name, &self.rows)?;
+        let rule = denying_rule(policy, &self.name, &self.rows);
+        Ok((keys, rule))
+    }
+}

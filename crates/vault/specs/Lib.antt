@@ -1,0 +1,4 @@
+pub mod Records
+pub mod Changes
+pub mod Calls
+pub mod Plain

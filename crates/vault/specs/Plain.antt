@@ -1,0 +1,35 @@
+-- What a vault in memory holds, and how it finds keys for new messages.
+use Rattle.std.specs.Prelude.{◌≡◌, ◌-◌, ◌^◌, ℕ, Bool, true, nat_le, List, [], ◌∷◌, ◌++◌, length, sum_by, min}
+use Rattle.std.specs.List.{list_all}
+use Rattle.policy.specs.Policy.{Policy}
+use Rattle.vault.specs.declared.answer.Total.{Total}
+use Rattle.vault.specs.declared.record.Keyed.{Keyed}
+use Rattle.vault.specs.declared.record.Message.{Message}
+use Rattle.vault.specs.declared.record.Receipt.{Receipt}
+use Rattle.vault.specs.Changes.{Contents, AreSound, kept_in}
+
+-- no rules
+abbrev pub no_policy : Policy
+no_policy = record { rules = [] }
+
+-- no clerks, no maildrops, no messages, no deposits, no rules
+abbrev pub no_contents : Contents
+no_contents = record { clerks = []; maildrops = []; messages = []; deposits = []; policy = no_policy }
+
+-- a message's key is the number of the deposits when it came, so that a later one's is greater
+abbrev pub have_old_keys : Contents → Bool
+have_old_keys c = list_all (λ (x : Keyed). nat_le x.key (length c.deposits)) c.messages
+
+-- the contents are those kept, and they are sound
+pub record HoldsKept (kept c : Contents) : Type 0 where
+  pub same : c ≡ kept
+  pub sound : AreSound c
+  pub keys : have_old_keys c ≡ true
+
+-- what lies in a maildrop, the octets as far as they can be counted
+abbrev pub capped_total : List Keyed → List ℕ → Total
+capped_total ms d = record { maildrop = d; messages = length (kept_in d ms); octets = min (sum_by (λ (x : Keyed). length x.message.text) (kept_in d ms)) (2 ^ 64 - 1) }
+
+-- a message more, whose key is the number of these deposits
+abbrev pub with_message : Message → List Receipt → List Keyed → List Keyed
+with_message m deposits ms = ms ++ record { key = length deposits; message = m } ∷ []

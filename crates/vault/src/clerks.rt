@@ -1,0 +1,100 @@
+//! Clerks of a store in memory, and their credentials.
+ghost use Rattle.std.specs.Prelude.{◌≡◌, ◌≢◌, ℕ, List, [], ◌∷◌, ◌++◌, length, map, is_ok, is_some, true, if◌then◌else◌, find, option_map};
+ghost use Rattle.std.specs.Str.{bytes_eq};
+ghost use Rattle.creds.specs.Names.{is_name};
+ghost use Rattle.vault.specs.Records.{credential_in, is_sound_credential};
+ghost use Rattle.vault.specs.Changes.{put_clerk_answer, with_credential, with_clerk, without_clerk};
+ghost use Rattle.vault.specs.Calls.{IsAnswer, put_result, drop_clerk_result};
+
+use crate::fault::VaultFault;
+use crate::record::Clerk;
+use creds::{Credential, Name};
+
+/// The greatest number of clerks.
+pub const MAX_CLERKS: usize = 1000;
+
+/// The credential of the clerk.
+pub(crate) fn credential_of(clerks: &[Clerk], name: &Name) -> Option<Credential>
+    ensures { result ≡ credential_in name.now clerks.now }
+{
+    clerks
+        .iter()
+        .find(|clerk| clerk.name == *name)
+        .map(|clerk| clerk.credential)
+}
+
+/// Gives the clerk this credential, where it is the one of that name.
+fn replace_in(clerk: &mut Clerk, name: &Name, credential: &Credential)
+    ensures { clerk.new ≡ with_credential name.now credential.now clerk.old }
+{
+    if clerk.name == *name {
+        clerk.credential = *credential;
+    }
+}
+
+/// Gives each clerk of that name this credential.
+fn replace_credential(clerks: &mut [Clerk], name: &Name, credential: &Credential)
+    ensures { clerks.new ≡ map (with_credential name.now credential.now) clerks.old }
+{
+    for clerk in clerks.iter_mut() {
+        replace_in(clerk, name, credential);
+    }
+}
+
+/// Puts a clerk's credential in place of the one that is there, else behind the other clerks.
+pub(crate) fn put_credential(
+    clerks: &mut Vec<Clerk>,
+    name: &Name,
+    credential: &Credential,
+) -> Result<bool, VaultFault>
+    ensures answer { IsAnswer (put_result (put_clerk_answer name.now clerks.old.items)) result }
+    ensures in_memory { result ≢ Err VaultFault.Store }
+    ensures items { clerks.new.items ≡ (if is_ok result then with_clerk name.now credential.now clerks.old.items else clerks.old.items) }
+    ensures form { is_name name.now ≡ true }
+{
+    let _ = name.as_bytes();
+    if credential_of(clerks, name).is_some() {
+        replace_credential(clerks, name, credential);
+        return Ok(false);
+    }
+    if clerks.len() >= MAX_CLERKS {
+        return Err(VaultFault::Full);
+    }
+    clerks.push(Clerk {
+        name: *name,
+        credential: *credential,
+    })?;
+    Ok(true)
+}
+
+/// Drops the clerk of that name.
+pub(crate) fn drop_credential(clerks: &mut Vec<Clerk>, name: &Name) -> Result<(), VaultFault>
+    ensures answer { IsAnswer (drop_clerk_result name.now clerks.old.items) result }
+    ensures in_memory { result ≢ Err VaultFault.Store }
+    ensures items { clerks.new.items ≡ (if is_ok result then without_clerk name.now clerks.old.items else clerks.old.items) }
+{
+    if credential_of(clerks, name).is_none() {
+        return Err(VaultFault::NoClerk);
+    }
+    clerks.retain(|clerk| clerk.name != *name);
+    Ok(())
+}
+
+/// A digest has 32 octets.
+fn is_whole(digest: [u8; 32])
+    ensures { length digest ≡ 32 }
+{
+    let _ = digest;
+}
+
+/// A credential has its form.
+pub(crate) fn has_form(credential: &Credential)
+    ensures { is_sound_credential credential.now ≡ true }
+{
+    match credential {
+        Credential::Apop(secret) => {
+            let _ = secret.as_bytes();
+        }
+        Credential::Pass(digest) => is_whole(*digest),
+    }
+}

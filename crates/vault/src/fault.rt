@@ -1,0 +1,64 @@
+//! Why a call of a vault is refused.
+ghost use Rattle.vault.specs.declared.fault.VaultFault.TheVariants.{NoMemory};
+ghost use Rattle.std.specs.Prelude.{◌≡◌};
+
+use std::alloc::{AllocError, AllocFailed};
+use std::error::Error;
+use std::fmt;
+
+/// Why a call of a vault is refused. A refused call changes nothing of what the vault holds.
+#[derive(Clone, Copy, PartialEq, Eq, Debug)]
+pub enum VaultFault {
+    /// There is no maildrop of that name.
+    NoMaildrop,
+    /// The deposit id was used before, with another class or another text.
+    Conflict,
+    /// A limit is reached: of the messages in a maildrop, of the deposits of a class, of maildrops or of clerks.
+    Full,
+    /// The store refused a statement.
+    Store,
+    /// Memory was refused.
+    NoMemory,
+    /// The maildrop still has messages.
+    NotEmpty,
+    /// The file is no store of ours.
+    NotOurs,
+    /// The file is a store of another version.
+    OldVersion,
+    /// There is no clerk of that name.
+    NoClerk,
+}
+
+impl fmt::Display for VaultFault {
+    fn fmt<W: fmt::Write>(&self, f: &mut fmt::Formatter<W>) -> fmt::Result {
+        match self {
+            VaultFault::NoMaildrop => write!(f, "no such maildrop"),
+            VaultFault::Conflict => write!(f, "conflict"),
+            VaultFault::Full => write!(f, "full"),
+            VaultFault::Store => write!(f, "store failed"),
+            VaultFault::NoMemory => write!(f, "out of memory"),
+            VaultFault::NotEmpty => write!(f, "not empty"),
+            VaultFault::NotOurs => write!(f, "not ours"),
+            VaultFault::OldVersion => write!(f, "old version"),
+            VaultFault::NoClerk => write!(f, "no such clerk"),
+        }
+    }
+}
+
+impl Error for VaultFault {}
+
+impl From<AllocError> for VaultFault {
+    ghost from_gives = { λ _ fault. fault ≡ NoMemory };
+
+    fn from(_error: AllocError) -> VaultFault {
+        VaultFault::NoMemory
+    }
+}
+
+impl<T: Drop> From<AllocFailed<T>> for VaultFault {
+    ghost from_gives = { λ _ fault. fault ≡ NoMemory };
+
+    fn from(_failed: AllocFailed<T>) -> VaultFault {
+        VaultFault::NoMemory
+    }
+}

@@ -1,0 +1,21 @@
+//! What a mail store keeps (clerks, maildrops, messages, deposits and the policy), the calls by which it is read
+//! and changed, and a store of vectors in memory.
+#![tactic(auto)]
+
+mod answer;
+mod clerks;
+mod deposits;
+mod fault;
+mod lists;
+mod mail;
+mod message_key;
+mod plain;
+mod record;
+mod vault;
+
+pub use answer::{Deposited, Head, Total};
+pub use fault::VaultFault;
+pub use message_key::MessageKey;
+pub use plain::PlainVault;
+pub use record::{Clerk, Keyed, Message, Receipt};
+pub use vault::Vault;

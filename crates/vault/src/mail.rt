@@ -1,0 +1,105 @@
+//! Messages of a store in memory: their heads, their pages, and their removal.
+ghost use Rattle.std.specs.Prelude.{◌≡◌, ◌≢◌, ◌==◌, ◌≤◌, ℕ, [], length, map, min, take, drop, filter, not, ◌&&◌, if◌then◌else◌, IfOk, option_map, option_copied, find};
+ghost use Rattle.std.specs.List.{list_any};
+ghost use Rattle.std.specs.Str.{bytes_eq};
+ghost use Rattle.vault.specs.Records.{is_one_of};
+ghost use Rattle.vault.specs.Changes.{head_of, kept_in, IsPage, is_named, without_keys};
+ghost use Rattle.vault.specs.Calls.{IsAnswer, seen_as, text_under};
+
+use crate::answer::Head;
+use crate::fault::VaultFault;
+use crate::lists::has_name;
+use crate::message_key::MessageKey;
+use crate::record::Keyed;
+use creds::Name;
+use std::alloc::{AllocError, Global};
+
+fn head_of(kept: &Keyed) -> Head
+    ensures { result ≡ head_of kept.now }
+{
+    Head {
+        key: kept.key,
+        class: kept.message.class,
+        k: kept.message.k,
+        octets: kept.message.text.octets() as u64,
+    }
+}
+
+/// The heads of the messages that lie in the maildrop.
+fn heads_in(alloc: Global, messages: &[Keyed], maildrop: &Name) -> Result<Vec<Head>, AllocError>
+    ensures { IfOk result (λ heads. heads.items ≡ map head_of (kept_in maildrop.now messages.now)) }
+{
+    messages
+        .iter()
+        .filter(|kept| kept.message.maildrop == *maildrop)
+        .map(|kept| head_of(kept))
+        .collect(alloc)
+}
+
+/// The heads of the messages of a maildrop that is there.
+pub(crate) fn heads_of(
+    alloc: Global,
+    names: &[Name],
+    messages: &[Keyed],
+    maildrop: &Name,
+) -> Result<Vec<Head>, VaultFault>
+    ensures answer { IsAnswer (if is_one_of maildrop.now names.now then Ok (map head_of (kept_in maildrop.now messages.now)) else Err VaultFault.NoMaildrop) (seen_as result (λ v. v.items)) }
+    ensures in_memory { result ≢ Err VaultFault.Store }
+{
+    if !has_name(names, maildrop) {
+        return Err(VaultFault::NoMaildrop);
+    }
+    Ok(heads_in(alloc, messages, maildrop)?)
+}
+
+/// The message under the key.
+fn message_under(messages: &[Keyed], key: MessageKey) -> Option<&Keyed>
+    ensures { option_copied result ≡ find (λ x. x.key == key) messages.now }
+{
+    messages.iter().find(|kept| kept.key == key)
+}
+
+/// The text of the message under the key; no octets where there is none.
+fn text_of(messages: &[Keyed], key: MessageKey) -> &[u8]
+    ensures { result.now ≡ text_under key messages.now }
+{
+    match message_under(messages, key) {
+        Some(kept) => kept.message.text.bytes(),
+        None => &[],
+    }
+}
+
+/// Copies octets from that place on into the front of the buffer, as many as there are and fit.
+fn copy_page(text: &[u8], from: u64, buffer: &mut [u8]) -> usize
+    ensures within { result ≤ length buffer.new }
+    ensures page { IsPage text.now from (length buffer.new) (take result buffer.new) }
+{
+    if from >= text.len() as u64 {
+        return 0;
+    }
+    let left = &text[from as usize..];
+    let octets = left.len().min(buffer.len());
+    buffer[..octets].copy_from_slice(&left[..octets]);
+    octets
+}
+
+/// Reads octets of the message under the key, from that place on; how many.
+pub(crate) fn read_page(messages: &[Keyed], key: MessageKey, from: u64, buffer: &mut [u8]) -> usize
+    ensures within { result ≤ length buffer.new }
+    ensures page { IsPage (text_under key messages.now) from (length buffer.new) (take result buffer.new) }
+{
+    copy_page(text_of(messages, key), from, buffer)
+}
+
+fn is_named(keys: &[MessageKey], key: MessageKey) -> bool
+    ensures { result ≡ is_named keys.now key }
+{
+    keys.iter().any(|other| *other == key)
+}
+
+/// Removes those of the maildrop's messages that the keys name.
+pub(crate) fn remove_named(messages: &mut Vec<Keyed>, maildrop: &Name, keys: &[MessageKey])
+    ensures { messages.new.items ≡ without_keys maildrop.now keys.now messages.old.items }
+{
+    messages.retain(|kept| !(kept.message.maildrop == *maildrop && is_named(keys, kept.key)));
+}

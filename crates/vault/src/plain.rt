@@ -1,0 +1,141 @@
+//! A mail store in memory.
+ghost use Rattle.vault.specs.Plain.{HoldsKept, no_contents};
+ghost use Rattle.vault.specs.Changes.{Contents};
+
+use crate::answer::{Deposited, Head, Total};
+use crate::clerks::{credential_of, drop_credential, has_form, put_credential};
+use crate::deposits::{accept, ask, judge};
+use crate::fault::VaultFault;
+use crate::lists::{drop_name, put_name, totals_of};
+use crate::mail::{heads_of, read_page, remove_named};
+use crate::message_key::MessageKey;
+use crate::record::{Clerk, Keyed, Receipt};
+use crate::vault::Vault;
+use creds::{Credential, DepositId, Name};
+use mailtext::MailText;
+use policy::Policy;
+use std::alloc::Global;
+use std::marker::Model;
+
+/// A mail store in memory, of vectors. It is always clean, and its count of faults stays 0. Contracts see its contents.
+#[derive(Drop)]
+pub struct PlainVault {
+    alloc: Global,
+    clerks: Vec<Clerk>,
+    maildrops: Vec<Name>,
+    messages: Vec<Keyed>,
+    deposits: Vec<Receipt>,
+    policy: Policy,
+}
+
+impl Model for PlainVault {
+    ghost use Rattle.vault.specs.Changes.{Contents};
+
+    ghost Value = { Contents };
+
+    ghost view = { λ v. record {
+      clerks = v.clerks.items;
+      maildrops = v.maildrops.items;
+      messages = v.messages.items;
+      deposits = v.deposits.items;
+      policy = v.policy;
+    } };
+}
+
+impl PlainVault {
+    /// A store without clerks, maildrops, messages, deposits or rules. It takes no memory.
+    pub fn new(alloc: Global) -> PlainVault
+        ensures { HoldsKept result no_contents }
+    {
+        PlainVault {
+            alloc,
+            clerks: Vec::new(alloc),
+            maildrops: Vec::new(alloc),
+            messages: Vec::new(alloc),
+            deposits: Vec::new(alloc),
+            policy: Policy::new(alloc),
+        }
+    }
+}
+
+impl Vault for PlainVault {
+    ghost holds = { HoldsKept };
+
+    ghost faults = { λ _. 0 };
+
+    ghost is_clean = { λ _. Unit {0} };
+
+    ghost sound = { λ vault c held clean. held.sound };
+
+    fn deposit(
+        &mut self,
+        maildrop: &Name,
+        class: &Name,
+        id: &DepositId,
+        text: &MailText,
+    ) -> Result<Deposited, VaultFault> {
+        let asked = ask(maildrop, class, id, text);
+        match judge(&self.maildrops, &self.messages, &self.deposits, &asked)? {
+            Deposited::Known(uid) => Ok(Deposited::Known(uid)),
+            Deposited::New(uid) => {
+                accept(
+                    self.alloc,
+                    &mut self.messages,
+                    &mut self.deposits,
+                    &asked,
+                    uid.k,
+                    text,
+                )?;
+                Ok(Deposited::New(uid))
+            }
+        }
+    }
+
+    fn heads(&mut self, maildrop: &Name) -> Result<Vec<Head>, VaultFault> {
+        heads_of(self.alloc, &self.maildrops, &self.messages, maildrop)
+    }
+
+    fn page(&mut self, key: MessageKey, from: u64, buffer: &mut [u8]) -> Result<usize, VaultFault> {
+        Ok(read_page(&self.messages, key, from, buffer))
+    }
+
+    fn remove(&mut self, maildrop: &Name, keys: &[MessageKey]) -> Result<(), VaultFault> {
+        remove_named(&mut self.messages, maildrop, keys);
+        Ok(())
+    }
+
+    fn maildrops(&mut self) -> Result<Vec<Total>, VaultFault> {
+        totals_of(self.alloc, &self.maildrops, &self.messages)
+    }
+
+    fn credential(&mut self, clerk: &Name) -> Result<Option<Credential>, VaultFault> {
+        Ok(credential_of(&self.clerks, clerk))
+    }
+
+    fn put_clerk(&mut self, clerk: &Name, credential: &Credential) -> Result<bool, VaultFault> {
+        has_form(credential);
+        put_credential(&mut self.clerks, clerk, credential)
+    }
+
+    fn drop_clerk(&mut self, clerk: &Name) -> Result<(), VaultFault> {
+        drop_credential(&mut self.clerks, clerk)
+    }
+
+    fn add_maildrop(&mut self, maildrop: &Name) -> Result<bool, VaultFault> {
+        put_name(&mut self.maildrops, maildrop)
+    }
+
+    fn drop_maildrop(&mut self, maildrop: &Name) -> Result<(), VaultFault> {
+        drop_name(&mut self.maildrops, &self.messages, maildrop)
+    }
+
+    fn policy(&mut self) -> Result<Policy, VaultFault> {
+        Ok(self.policy.try_copy()?)
+    }
+
+    fn set_policy(&mut self, policy: &Policy) -> Result<(), VaultFault> {
+        let _ = policy.rules();
+        self.policy = policy.try_copy()?;
+        Ok(())
+    }
+}
