@@ -59,10 +59,10 @@ kind_of (Some (kept.Apop secret)) = answer.ByApopSecret
 kind_of (Some (kept.Pass digest)) = answer.ByPassword
 
 -- a vault's answer to a name that was put, and to a maildrop that was dropped
-abbrev pub answer_of_put : (was_there : Answer) → PutAnswer → Answer
-answer_of_put was_there changes.WasNew = answer.Added
-answer_of_put was_there changes.WasThere = was_there
-answer_of_put was_there changes.NoRoom = answer.Full
+abbrev pub answer_of_put : (there_already : Answer) → PutAnswer → Answer
+answer_of_put there_already changes.WasNew = answer.Added
+answer_of_put there_already changes.WasThere = there_already
+answer_of_put there_already changes.NoRoom = answer.Full
 
 -- a vault's answer to a maildrop that was dropped
 abbrev pub answer_of_drop : DropAnswer → Answer
