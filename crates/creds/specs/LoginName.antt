@@ -5,6 +5,7 @@ use Rattle.creds.specs.declared.login_name.LoginName.{LoginName}
 
 -- the ? of the definition
 infixl 10 ◌>>=◌
+-- a reading whose first part is missing has none of the rest
 abbrev pub ◌>>=◌ : {A B : Type 0} → Option A → (A → Option B) → Option B
 o >>= f = option_and_then f o
 

@@ -14,5 +14,6 @@ pub record HoldsText (room : ℕ) (bytes : List ℕ) (len : ℕ) : Type 0 where
   pub padding : bytes ≡ padded room (take len bytes)
   pub ascii : IsAscii (take len bytes)
 
+-- a text that is held has as many octets as are held
 pub length-held : (room : ℕ) (bytes : List ℕ) (len : ℕ) → HoldsText room bytes len → length (take len bytes) ≡ len
 length-held room bytes len h = length-take-le len bytes (rw h.size h.fits)

@@ -141,7 +141,7 @@ fn names_and_deposit_ids(rt: HostRuntime) -> Result<(), Fail> {
 }
 
 #[test]
-fn secrets(rt: HostRuntime) {
+fn secrets(rt: HostRuntime) -> Result<(), Fail> {
     let tildes = [b'~'; 129];
     assert!(rt; Secret::read(&tildes[..1]).is_some());
     assert!(rt; Secret::read(&tildes[..128]).is_some());
@@ -151,6 +151,13 @@ fn secrets(rt: HostRuntime) {
     for octet in [0x00, 0x1f, 0x7f, 0x80, 0xff] {
         assert!(rt; Secret::read(&[b'a', octet]).is_none(), "{octet}");
     }
+    let secret = Secret::read(b"tanstaaf").ok_or("a secret")?;
+    assert_eq!(rt; secret.as_bytes(), b"tanstaaf".as_slice());
+    // what is printed of a credential does not show its secret
+    let credential = Credential::Apop(secret);
+    let shown = format!(in rt.alloc(); "{credential:?}")?;
+    assert_eq!(rt; shown.as_str(), "Apop(Secret(..))");
+    Ok(())
 }
 
 #[test]

@@ -2,7 +2,7 @@
 use Rattle.std.proofs.Common.{◌≡◌, ℕ, ◌+◌, ◌<◌, List, [], ◌∷◌, ◌++◌, codes, length, take, get_or, zero, suc, refl, arith, append_assoc}
 use Rattle.std.proofs.lemmas.List.{take_more}
 use Rattle.policy.specs.declared.rule.Rule.{Rule}
-use Rattle.policy.specs.PolicyText.{rule_text, rules_text}
+use Rattle.policy.specs.WrittenText.{rule_text, rules_text}
 
 -- one more rule behind others
 rules_text-push : (r : Rule) (rules : List Rule) (new : Rule) → rules_text ((r ∷ rules) ++ new ∷ []) ≡ rules_text (r ∷ rules) ++ codes "\n" ++ rule_text new

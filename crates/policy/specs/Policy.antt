@@ -66,6 +66,7 @@ abbrev pub are_distinct : {A : Type 0} → (A → A → Bool) → List A → Boo
 are_distinct same [] = true
 are_distinct same (x ∷ xs) = not (list_any (same x) xs) && are_distinct same xs
 
+-- two rules with one name
 abbrev pub same_name : Rule → Rule → Bool
 same_name r s = bytes_eq r.name s.name
 
@@ -97,6 +98,7 @@ most_rules = 1000
 abbrev pub are_sound_rules : List Rule → Bool
 are_sound_rules rules = list_all is_sound_rule rules && are_distinct same_name rules && nat_le (length rules) most_rules
 
+-- its rules are sound
 abbrev pub is_sound_policy : Policy → Bool
 is_sound_policy p = are_sound_rules p.rules
 

@@ -1,6 +1,5 @@
--- The text of a policy, which is TOML 1.0: its rules or its first fault, and the text that a policy is written as.
+-- The text of a policy, which is TOML 1.0: its rules or its first fault. What is written of a policy stands in WrittenText.
 use Rattle.std.specs.Prelude.{ℕ, ◌+◌, ◌&&◌, ◌||◌, not, nat_le, Bool, true, false, List, [], ◌∷◌, ◌++◌, codes, Option, Some, None, option_and_then, is_some, Result, Ok, Err, if◌then◌else◌}
-use Rattle.std.specs.Fmt.{decimal}
 use Rattle.std.specs.List.{list_any}
 use Rattle.std.specs.Str.{bytes_eq}
 use Rattle.toml.specs.Data.{Data, Items, no_items, item, Members, no_members, member, get_member, as_str, as_array, as_table}
@@ -17,9 +16,11 @@ use Rattle.policy.specs.declared.rule.Effect.TheVariants.{Allow, Deny}
 use Rattle.policy.specs.declared.rule.Pattern.{Pattern}
 use Rattle.policy.specs.declared.rule.Pattern.TheVariants.{Any, Is}
 use Rattle.policy.specs.declared.rule.Rule.{Rule}
+pub use Rattle.policy.specs.WrittenText.{fault_text, policy_text}
 
 -- the first fault ends the reading
 infixl 10 ◌>>=◌
+-- a reading whose first part is faulty has that fault
 abbrev pub ◌>>=◌ : {A B : Type 0} → Result A PolicyFault → (A → Result B PolicyFault) → Result B PolicyFault
 Ok x >>= f = f x
 Err e >>= f = Err e
@@ -83,6 +84,7 @@ unfoldable pub with_items : Actions → Items → Option Actions
 with_items listed no_items = Some listed
 with_items listed (item d ds) = option_and_then (λ more. with_items more ds) (with_item listed d)
 
+-- none of the three
 abbrev pub no_actions : Actions
 no_actions = record { «open» = false; read = false; remove = false }
 
@@ -91,6 +93,7 @@ abbrev pub actions_of_items : Items → Option Actions
 actions_of_items no_items = None
 actions_of_items (item d ds) = with_items no_actions (item d ds)
 
+-- the actions of an array
 abbrev pub actions_of : Data → Option Actions
 actions_of d = option_and_then actions_of_items (as_array d)
 
@@ -118,10 +121,11 @@ rule_of n before ms = do
   general ← demand (not rule_actions.open || is_any rule_class) (OpenWithClass n)
   Ok (record { name = rule_name; effect = rule_effect; clerk = rule_clerk; maildrop = rule_maildrop; class = rule_class; actions = rule_actions })
 
--- the rules of the items, the first of them of number n, behind the rules before them
+-- the rule of an item of number n
 abbrev pub rule_at : ℕ → List Rule → Data → Result Rule PolicyFault
 rule_at n before d = value_or (as_table d) NotToml >>= rule_of n before
 
+-- the rules of the items, the first of them of number n, behind the rules before them
 unfoldable pub rules_from : ℕ → List Rule → Items → Result (List Rule) PolicyFault
 rules_from n before no_items = Ok before
 rules_from n before (item d ds) = rule_at n before d >>= (λ r. rules_from (n + 1) (before ++ r ∷ []) ds)
@@ -131,14 +135,16 @@ abbrev pub are_tables : Items → Bool
 are_tables no_items = true
 are_tables (item d ds) = is_some (as_table d) && are_tables ds
 
+-- how many items there are
 abbrev pub items_len : Items → ℕ
 items_len no_items = 0
 items_len (item d ds) = 1 + items_len ds
 
--- the array of tables at `rule`, none where the key is absent
+-- the items, where each is a table
 abbrev pub tables_of : Items → Option Items
 tables_of ds = if are_tables ds then Some ds else None
 
+-- the array of tables at `rule`; no items where the key is absent
 abbrev pub rule_tables : Option Data → Option Items
 rule_tables None = Some no_items
 rule_tables (Some d) = option_and_then tables_of (as_array d)
@@ -159,89 +165,3 @@ rules_in ms = do
 -- the policy of a text, or its first fault
 unfoldable pub rules_of : List ℕ → Result Policy PolicyFault
 rules_of text = value_or (parse_document text) NotToml >>= rules_in
-
--- ---- the text of a fault
-
--- the fault's name
-abbrev pub fault_name : PolicyFault → List ℕ
-fault_name NotToml = codes "NotToml"
-fault_name (MissingKey n) = codes "MissingKey"
-fault_name (UnknownKey n) = codes "UnknownKey"
-fault_name (BadName n) = codes "BadName"
-fault_name (DoubleName n) = codes "DoubleName"
-fault_name (BadEffect n) = codes "BadEffect"
-fault_name (BadActions n) = codes "BadActions"
-fault_name (OpenWithClass n) = codes "OpenWithClass"
-fault_name TooMany = codes "TooMany"
-fault_name NoMemory = codes "NoMemory"
-
--- the number of the rule that has the fault
-abbrev pub fault_number : PolicyFault → Option ℕ
-fault_number NotToml = None
-fault_number (MissingKey n) = Some n
-fault_number (UnknownKey n) = Some n
-fault_number (BadName n) = Some n
-fault_number (DoubleName n) = Some n
-fault_number (BadEffect n) = Some n
-fault_number (BadActions n) = Some n
-fault_number (OpenWithClass n) = Some n
-fault_number TooMany = None
-fault_number NoMemory = None
-
--- the fault's name, with its rule's number in front where it has one
-abbrev pub numbered : Option ℕ → List ℕ → List ℕ
-numbered None name = name
-numbered (Some n) name = codes "rule " ++ decimal n ++ codes ": " ++ name
-
-abbrev pub fault_text : PolicyFault → List ℕ
-fault_text f = numbered (fault_number f) (fault_name f)
-
--- ---- the written text
-
-abbrev pub quoted : List ℕ → List ℕ
-quoted text = codes "\"" ++ text ++ codes "\""
-
-abbrev pub pattern_text : Pattern → List ℕ
-pattern_text Any = codes "*"
-pattern_text (Is name) = name
-
-abbrev pub effect_text : Effect → List ℕ
-effect_text Allow = codes "allow"
-effect_text Deny = codes "deny"
-
-abbrev pub word_if : Bool → List ℕ → List (List ℕ)
-word_if true word = word ∷ []
-word_if false word = []
-
--- the actions that a rule lists, always in this order
-abbrev pub action_words : Actions → List (List ℕ)
-action_words listed = word_if listed.open (codes "open") ++ word_if listed.read (codes "read") ++ word_if listed.remove (codes "remove")
-
--- the words in quotes, with a comma and a space between each two
-abbrev pub listing : List (List ℕ) → List ℕ
-listing [] = []
-listing (word ∷ []) = quoted word
-listing (word ∷ following ∷ words) = quoted word ++ codes ", " ++ listing (following ∷ words)
-
-abbrev pub actions_text : Actions → List ℕ
-actions_text listed = codes "[" ++ listing (action_words listed) ++ codes "]"
-
--- a line of a rule
-unfoldable pub setting : List ℕ → List ℕ → List ℕ
-setting key value = key ++ codes " = " ++ value ++ codes "\n"
-
-unfoldable pub rule_text : Rule → List ℕ
-rule_text r =
-    codes "[[rule]]\n" ++ setting (codes "name") (quoted r.name) ++ setting (codes "effect") (quoted (effect_text r.effect))
-    ++ setting (codes "clerk") (quoted (pattern_text r.clerk)) ++ setting (codes "maildrop") (quoted (pattern_text r.maildrop))
-    ++ setting (codes "class") (quoted (pattern_text r.class))
-    ++ setting (codes "actions") (actions_text r.actions)
-
--- the rules' texts, with one empty line between each two
-abbrev pub rules_text : List Rule → List ℕ
-rules_text [] = []
-rules_text (r ∷ []) = rule_text r
-rules_text (r ∷ following ∷ rules) = rule_text r ++ codes "\n" ++ rules_text (following ∷ rules)
-
-abbrev pub policy_text : Policy → List ℕ
-policy_text p = rules_text p.rules

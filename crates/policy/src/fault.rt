@@ -1,6 +1,6 @@
 //! Why a text is no policy.
 ghost use Rattle.std.specs.Prelude.{◌≡◌, Some};
-ghost use Rattle.policy.specs.PolicyText.{fault_name, fault_number, fault_text};
+ghost use Rattle.policy.specs.WrittenText.{fault_name, fault_number, fault_text};
 
 use std::error::Error;
 use std::fmt;

@@ -1,7 +1,8 @@
 //! A policy and its calls.
 ghost use Rattle.std.specs.Prelude.{◌≡◌, ◌≢◌, ◌==◌, ◌++◌, [], length, IsTrue, IfOk, IfErr, OnOk, OnErr};
 ghost use Rattle.policy.specs.Policy.{decide, is_sound_policy, policy_of};
-ghost use Rattle.policy.specs.PolicyText.{rules_of, policy_text};
+ghost use Rattle.policy.specs.PolicyText.{rules_of};
+ghost use Rattle.policy.specs.WrittenText.{policy_text};
 
 use crate::decide::{Decision, decide_by};
 use crate::fault::PolicyFault;
@@ -47,8 +48,9 @@ impl Policy {
 
     /// Reads a policy's text, TOML 1.0 with the array of tables `rule`.
     ///
-    /// The faults are looked for in the order of `PolicyFault`'s variants, but `TooMany` comes before those of a rule,
-    /// and the first rule with a fault is told. `NoMemory` may come wherever a growth is refused.
+    /// Of the faults `NotToml` comes first, then `UnknownKey(0)` for another top key, then `TooMany`; then the first rule with a
+    /// fault is told, and of its faults the first in the order of `PolicyFault`'s variants. `NoMemory` may come wherever a growth
+    /// is refused.
     pub fn read(alloc: Global, text: &str) -> Result<Policy, PolicyFault>
         ensures ok { IfOk result (λ policy. rules_of text.now ≡ Ok policy) }
         ensures fault { IfErr result (λ e. e ≢ PolicyFault.NoMemory → rules_of text.now ≡ Err e) }

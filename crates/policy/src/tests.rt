@@ -2,6 +2,7 @@
 use crate::{Action, Policy, PolicyFault};
 use creds::Name;
 use std::alloc::{AllocError, Global};
+use std::str;
 use std::test::Fail;
 
 /// The sample policy, as it is written.
@@ -101,26 +102,62 @@ fn rule_with(alloc: Global, changed: &str, setting: &str) -> Result<String, Allo
     Ok(text)
 }
 
+/// Values of each kind that TOML has, none of which any key of a rule takes.
+static WRONG: [&str; 18] = [
+    " = 3",
+    " = 0x1F",
+    " = -1.5",
+    " = inf",
+    " = true",
+    " = 1979-05-27",
+    " = 07:32:00",
+    " = 1979-05-27T07:32:00",
+    " = 1979-05-27T07:32:00Z",
+    " = []",
+    " = [3]",
+    " = [\"*\", \"allow\", \"open\"]",
+    " = [{}]",
+    " = {}",
+    " = {x = \"a\"}",
+    ".x = \"a\"",
+    " = \"\"",
+    " = \"Open\"",
+];
+
 #[test]
 fn policy_text_faults(rt: HostRuntime) -> Result<(), Fail> {
     for (text, wanted) in [
         ("", "ok, 0 rules"),
         ("rule = []", "ok, 0 rules"),
         ("rule", "NotToml"),
-        ("rule = 3", "NotToml"),
         ("rule = 3\nx = 1", "NotToml"),
-        ("rule = {}", "NotToml"),
-        ("rule = [1]", "NotToml"),
         ("rule = [{}, 1979-05-27]", "NotToml"),
         ("[rule]", "NotToml"),
-        ("rule.x = 1", "NotToml"),
-        ("[[rule]]\nname = \"a\"\nname = \"a\"", "NotToml"),
+        ("rule = []\nrule = []", "NotToml"),
         ("x = 1", "rule 0: UnknownKey"),
         ("rule = [{}]\nx = 1", "rule 0: UnknownKey"),
+        ("[x]", "rule 0: UnknownKey"),
+        ("[[x]]", "rule 0: UnknownKey"),
+        ("x = 1\nx = 1", "NotToml"),
         ("rule = [{}]", "rule 1: MissingKey"),
         ("[[rule]]\nname = \"a\"\nother = 1", "rule 1: MissingKey"),
     ] {
         assert_eq!(rt; answer(rt.alloc(), text)?.as_str(), wanted, "at {text}");
+    }
+    for value in &WRONG {
+        let wanted = match *value {
+            " = []" => "ok, 0 rules",
+            " = [{}]" => "rule 1: MissingKey",
+            _ => "NotToml",
+        };
+        let text = format!(in rt.alloc(); "rule{value}")?;
+        assert_eq!(rt; answer(rt.alloc(), &text)?.as_str(), wanted, "at {text}");
+        let text = format!(in rt.alloc(); "other{value}")?;
+        assert_eq!(rt;
+            answer(rt.alloc(), &text)?.as_str(),
+            "rule 0: UnknownKey",
+            "at {text}"
+        );
     }
     Ok(())
 }
@@ -134,27 +171,33 @@ fn faults_of_a_value(rt: HostRuntime) -> Result<(), Fail> {
         ("class", "rule 1: BadName"),
         ("effect", "rule 1: BadEffect"),
         ("actions", "rule 1: BadActions"),
+        ("other", "rule 1: UnknownKey"),
     ] {
-        for value in [
-            " = 3",
-            " = -1.5",
-            " = true",
-            " = 1979-05-27",
-            " = 07:32:00",
-            " = []",
-            " = [3]",
-            " = {}",
-            ".x = \"a\"",
-            " = \"\"",
-            " = \"Open\"",
-        ] {
+        for value in &WRONG {
             let setting = format!(in rt.alloc(); "{key}{value}")?;
             let text = rule_with(rt.alloc(), key, &setting)?;
             assert_eq!(rt; answer(rt.alloc(), &text)?.as_str(), wanted, "at {setting}");
         }
-        let table = format!(in rt.alloc(); "[rule.{key}]")?;
-        let text = rule_with(rt.alloc(), key, &table)?;
-        assert_eq!(rt; answer(rt.alloc(), &text)?.as_str(), wanted, "at {table}");
+        for (before, behind) in [("[rule.", "]"), ("[[rule.", "]]")] {
+            let table = format!(in rt.alloc(); "{before}{key}{behind}")?;
+            let text = rule_with(rt.alloc(), key, &table)?;
+            assert_eq!(rt; answer(rt.alloc(), &text)?.as_str(), wanted, "at {table}");
+        }
+    }
+    for (key, usual) in &USUAL {
+        let twice = format!(in rt.alloc(); "{key} = {usual}\n{key} = {usual}")?;
+        let text = rule_with(rt.alloc(), key, &twice)?;
+        assert_eq!(rt;
+            answer(rt.alloc(), &text)?.as_str(),
+            "NotToml",
+            "at {twice}"
+        );
+        let text = rule_with(rt.alloc(), key, "other = 1")?;
+        assert_eq!(rt;
+            answer(rt.alloc(), &text)?.as_str(),
+            "rule 1: MissingKey",
+            "without {key}"
+        );
     }
     Ok(())
 }
@@ -196,17 +239,64 @@ fn faults_of_a_rule(rt: HostRuntime) -> Result<(), Fail> {
     Ok(())
 }
 
+/// A second rule behind one that is named `first`, mended one fault at a time, with its first fault.
+static MENDED: [(&str, &str); 11] = [
+    (
+        "name = 3\neffect = 3\nclerk = 3\nmaildrop = 3\nclass = 3\nother = 3",
+        "rule 2: MissingKey",
+    ),
+    (
+        "name = 3\neffect = 3\nclerk = 3\nmaildrop = 3\nclass = 3\nactions = []\nother = 3",
+        "rule 2: UnknownKey",
+    ),
+    (
+        "name = 3\neffect = 3\nclerk = '*'\nmaildrop = '*'\nclass = '*'\nactions = []",
+        "rule 2: BadName",
+    ),
+    (
+        "name = 'first'\neffect = 3\nclerk = 3\nmaildrop = '*'\nclass = '*'\nactions = []",
+        "rule 2: BadName",
+    ),
+    (
+        "name = 'first'\neffect = 3\nclerk = '*'\nmaildrop = 3\nclass = '*'\nactions = []",
+        "rule 2: BadName",
+    ),
+    (
+        "name = 'first'\neffect = 3\nclerk = '*'\nmaildrop = '*'\nclass = 3\nactions = []",
+        "rule 2: BadName",
+    ),
+    (
+        "name = 'first'\neffect = 3\nclerk = '*'\nmaildrop = '*'\nclass = 'pay'\nactions = []",
+        "rule 2: DoubleName",
+    ),
+    (
+        "name = 'a'\neffect = 3\nclerk = '*'\nmaildrop = '*'\nclass = 'pay'\nactions = []",
+        "rule 2: BadEffect",
+    ),
+    (
+        "name = 'a'\neffect = 'deny'\nclerk = '*'\nmaildrop = '*'\nclass = 'pay'\nactions = ['open', 'open']",
+        "rule 2: BadActions",
+    ),
+    (
+        "name = 'a'\neffect = 'deny'\nclerk = '*'\nmaildrop = '*'\nclass = 'pay'\nactions = ['open']",
+        "rule 2: OpenWithClass",
+    ),
+    (
+        "name = 'a'\neffect = 'deny'\nclerk = '*'\nmaildrop = '*'\nclass = '*'\nactions = ['open']",
+        "ok, 2 rules",
+    ),
+];
+
 #[test]
 fn faults_of_a_second_rule(rt: HostRuntime) -> Result<(), Fail> {
-    for (key, setting, wanted) in [
-        ("", "", "ok, 2 rules"),
-        ("name", "name = \"first\"", "rule 2: DoubleName"),
-        ("clerk", "clerk = 3", "rule 2: BadName"),
-        ("actions", "actions = [\"open\"]", "rule 2: OpenWithClass"),
-    ] {
+    for (settings, wanted) in &MENDED {
         let mut text = rule_with(rt.alloc(), "name", "name = \"first\"")?;
-        text.push_str(&rule_with(rt.alloc(), key, setting)?)?;
-        assert_eq!(rt; answer(rt.alloc(), &text)?.as_str(), wanted, "at {setting}");
+        writeln!(text, "[[rule]]\n{settings}")?;
+        assert_eq!(rt;
+            answer(rt.alloc(), &text)?.as_str(),
+            *wanted,
+            "at {settings}"
+        );
     }
     Ok(())
 }
@@ -222,8 +312,10 @@ fn too_many_before_the_faults_of_a_rule(rt: HostRuntime) -> Result<(), Fail> {
         answer(rt.alloc(), &thousand)?.as_str(),
         "rule 1: MissingKey"
     );
-    text.push_str("{}]")?;
+    text.push_str("{}]\n")?;
     assert_eq!(rt; answer(rt.alloc(), &text)?.as_str(), "TooMany");
+    text.push_str("x = 1\n")?;
+    assert_eq!(rt; answer(rt.alloc(), &text)?.as_str(), "rule 0: UnknownKey");
     Ok(())
 }
 
@@ -238,9 +330,15 @@ fn refused_growths(rt: HostRuntime) -> Result<(), Fail> {
         }
     };
     let mut text = Vec::new(rt.alloc());
+    let begun = text.push(b'#').is_ok();
+    let before = if begun {
+        b"#".as_slice()
+    } else {
+        b"".as_slice()
+    };
     match policy.write(&mut text) {
-        Ok(()) => assert_eq!(rt; text.as_slice(), SAMPLE.as_bytes()),
-        Err(_) => assert!(rt; text.is_empty()),
+        Ok(()) => assert!(rt; text.starts_with(before) && text.ends_with(SAMPLE.as_bytes())),
+        Err(_) => assert_eq!(rt; text.as_slice(), before),
     }
     if let Ok(copy) = policy.try_copy() {
         assert_eq!(rt; copy.rules(), policy.rules());
@@ -254,6 +352,10 @@ fn sample_policy(rt: HostRuntime) -> Result<(), Fail> {
     let mut text = Vec::new(rt.alloc());
     policy.write(&mut text)?;
     assert_eq!(rt; text.as_slice(), SAMPLE.as_bytes());
+    let read_again = Policy::read(rt.alloc(), str::from_utf8(&text)?)?;
+    let mut again = Vec::new(rt.alloc());
+    read_again.write(&mut again)?;
+    assert_eq!(rt; again.as_slice(), text.as_slice());
     let mut rules = Vec::new(rt.alloc());
     rules.extend_from_slice(policy.rules())?;
     let policy = Policy::from_rules(rules).ok_or("not sound")?;
@@ -261,11 +363,14 @@ fn sample_policy(rt: HostRuntime) -> Result<(), Fail> {
     assert!(rt; !policy.is_empty() && Policy::new(rt.alloc()).is_empty());
     for (clerk, class, action, allowed, rule) in [
         ("bob", "pay", "read", false, "bob-no-pay"),
+        ("bob", "pay", "remove", false, "bob-no-pay"),
+        ("bob", "note", "read", true, "bob-read"),
         ("bob", "note", "remove", true, "bob-rm"),
         ("bob", "todo", "remove", false, "default"),
         ("bob", "pay", "open", true, "bob-open"),
         ("ann", "pay", "remove", true, "ann-all"),
         ("dan", "note", "open", false, "default"),
+        ("dan", "note", "read", false, "default"),
     ] {
         let clerk = Name::read(clerk.as_bytes()).ok_or("a name")?;
         let maildrop = Name::read(b"orders").ok_or("a name")?;

@@ -1,6 +1,6 @@
 //! The text that a policy is written as.
 ghost use Rattle.std.specs.Prelude.{◌≡◌, ◌++◌, IfOk, OnOk};
-ghost use Rattle.policy.specs.PolicyText.{actions_text, effect_text, pattern_text, quoted, rule_text, rules_text, setting};
+ghost use Rattle.policy.specs.WrittenText.{actions_text, effect_text, pattern_text, quoted, rule_text, rules_text, setting};
 
 use crate::rule::{Actions, Effect, Pattern, Rule};
 use std::alloc::{AllocError, Global};
@@ -38,7 +38,7 @@ fn array_of_actions(actions: Actions) -> &'static str
     }
 }
 
-#[tactic(auto, unfolding(crate::specs::PolicyText::setting))]
+#[tactic(auto, unfolding(crate::specs::WrittenText::setting))]
 fn put_setting(out: &mut Vec<u8>, key: &str, value: &str) -> Result<(), AllocError>
     ensures { OnOk result (out.new.items ≡ out.old.items ++ setting key.now value.now) }
 {
@@ -48,7 +48,7 @@ fn put_setting(out: &mut Vec<u8>, key: &str, value: &str) -> Result<(), AllocErr
     out.extend_from_slice(b"\n")
 }
 
-#[tactic(auto, unfolding(crate::specs::PolicyText::setting))]
+#[tactic(auto, unfolding(crate::specs::WrittenText::setting))]
 fn put_quoted(out: &mut Vec<u8>, key: &str, text: &[u8]) -> Result<(), AllocError>
     ensures { OnOk result (out.new.items ≡ out.old.items ++ setting key.now (quoted text.now)) }
 {
@@ -58,7 +58,7 @@ fn put_quoted(out: &mut Vec<u8>, key: &str, text: &[u8]) -> Result<(), AllocErro
     out.extend_from_slice(b"\"\n")
 }
 
-#[tactic(auto, unfolding(crate::specs::PolicyText::rule_text))]
+#[tactic(auto, unfolding(crate::specs::WrittenText::rule_text))]
 fn put_rule(out: &mut Vec<u8>, rule: &Rule) -> Result<(), AllocError>
     ensures { OnOk result (out.new.items ≡ out.old.items ++ rule_text rule.now) }
 {

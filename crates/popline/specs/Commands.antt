@@ -30,6 +30,7 @@ pub data Command : Type 0 where
   Rset : Command
   Noop : Command
 
+-- the keyword of the lines that spell a command
 abbrev pub keyword_of : Command → Keyword
 keyword_of Capa = keyword.Capa
 keyword_of (User name) = keyword.User
@@ -62,6 +63,7 @@ abbrev pub keyword_in : List (List ℕ × Keyword) → List ℕ → Option Keywo
 keyword_in [] text = None
 keyword_in ((word, k) ∷ table) text = if is_spelled word text then Some k else keyword_in table text
 
+-- the thirteen keywords
 abbrev pub keywords : List (List ℕ × Keyword)
 keywords =
     (codes "capa", keyword.Capa) ∷ (codes "user", keyword.User) ∷ (codes "pass", keyword.Pass) ∷ (codes "apop", keyword.Apop)
@@ -71,6 +73,7 @@ keywords =
 
 -- ---- arguments
 
+-- a space; a tab is none
 abbrev pub is_space : ℕ → Bool
 is_space b = b == 32
 
@@ -128,6 +131,7 @@ with_two keyword.Apop name digits = both Apop (login_name name) (digest_of digit
 with_two keyword.Top n lines = both Top (number_of n) (number_of lines)
 with_two k first second = None
 
+-- the command of a keyword with these arguments; none has three
 abbrev pub with_arguments : Keyword → List (List ℕ) → Option Command
 with_arguments k [] = alone k
 with_arguments k (argument ∷ []) = with_one k argument
@@ -144,6 +148,7 @@ abbrev pub command_with : Keyword → List ℕ → Option Command
 command_with keyword.Pass line = with_password (after_first is_space line)
 command_with k line = with_arguments k (arguments line)
 
+-- the command of a line of this keyword, or which fault the line has
 abbrev pub command_by : Option Keyword → List ℕ → Result Command LineFault
 command_by None line = Err Unknown
 command_by (Some k) line = ok_or (command_with k line) (Syntax k)

@@ -76,6 +76,7 @@ uids_begun rows = begun_listing (codes "+OK unique-id listing follows") uid_row_
 abbrev pub capabilities : List (List ℕ)
 capabilities = codes "TOP" ∷ codes "USER" ∷ codes "UIDL" ∷ codes "RESP-CODES" ∷ codes "PIPELINING" ∷ []
 
+-- the octets of a reply, with the CRLF of each line
 abbrev pub bytes_of : Reply → List ℕ
 bytes_of (Greeting number boot host) = one_line (codes "+OK POP3 server ready " ++ timestamp number boot host)
 bytes_of LineTooLong = one_line (codes "-ERR line too long")

@@ -12,6 +12,7 @@ abbrev pub behind_space : List ℕ → List ℕ
 behind_space [] = []
 behind_space (b ∷ bs) = if b == 10 then [] else if b == 32 then bs else behind_space bs
 
+-- the text begins with `[`
 abbrev pub begins_with_bracket : List ℕ → Bool
 begins_with_bracket [] = false
 begins_with_bracket (b ∷ bs) = b == 91

@@ -11,6 +11,7 @@ use Rattle.popline.specs.declared.command.LineFault.{LineFault}
 use Rattle.popline.specs.declared.reply.Reply.{Reply}
 use Rattle.popline.specs.declared.reply.Reply.TheVariants as reply
 
+-- what was cut, whose octets are lent
 abbrev pub cut_seen : Cut → cutting.Cut
 cut_seen (cut.Line l) = cutting.Line l.now
 cut_seen cut.TooLong = cutting.TooLong
@@ -20,6 +21,7 @@ abbrev pub cuts_seen : Option Cut → List cutting.Cut
 cuts_seen None = []
 cuts_seen (Some c) = cut_seen c ∷ []
 
+-- a command, whose password is lent; LIST and UIDL are with a number or without
 abbrev pub command_seen : Command → commands.Command
 command_seen command.Capa = commands.Capa
 command_seen (command.User name) = commands.User name
@@ -37,14 +39,17 @@ command_seen (command.Dele n) = commands.Dele n
 command_seen command.Rset = commands.Rset
 command_seen command.Noop = commands.Noop
 
+-- a command, where there is one
 abbrev pub found_seen : Option Command → Option commands.Command
 found_seen None = None
 found_seen (Some c) = Some (command_seen c)
 
+-- a command or a fault
 abbrev pub reading_seen : Result Command LineFault → Result commands.Command LineFault
 reading_seen (Ok c) = Ok (command_seen c)
 reading_seen (Err fault) = Err fault
 
+-- a reply, whose texts are lent; listings are put line by line and are no value of the code
 abbrev pub reply_seen : Reply → replies.Reply
 reply_seen (reply.Greeting number boot host) = replies.Greeting number boot host.now
 reply_seen reply.LineTooLong = replies.LineTooLong

@@ -10,6 +10,7 @@ use Rattle.popline.specs.Commands.{Command, User, Pass, Apop, ListOne, UidlOne, 
 use Rattle.popline.specs.declared.command.LineFault.{LineFault}
 use Rattle.popline.specs.declared.command.LineFault.TheVariants.{Unknown, Syntax}
 
+-- the word of a keyword, in small letters
 abbrev pub word_of : Keyword → List ℕ
 word_of keyword.Capa = codes "capa"
 word_of keyword.User = codes "user"

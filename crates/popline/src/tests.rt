@@ -7,50 +7,166 @@ use crate::{
 use creds::{LoginName, Name, Uid};
 use std::test::Fail;
 
-/// Whether `NOOP`, so many spaces and this end are a line of NOOP, cut in two at a place.
-fn is_noop(spaces: usize, end: &[u8], at: usize) -> bool {
-    let mut cutter = Cutter::new();
-    let _ = cutter.feed(b"NOOP");
-    for i in 0..spaces {
-        if i == at {
-            let _ = cutter.feed(b"");
+/// A line of each kind, which spaces at its end leave as it is.
+static COMPLETE: [&[u8]; 14] = [
+    b"CAPA",
+    b"QUIT",
+    b"USER mrose/orders",
+    b"APOP mrose/orders c4c9334bac560ecc979e58001b3e22fb",
+    b"STAT",
+    b"LIST",
+    b"LIST 2",
+    b"UIDL",
+    b"UIDL 2",
+    b"RETR 2",
+    b"DELE 2",
+    b"TOP 3 4",
+    b"RSET",
+    b"NOOP",
+];
+
+/// How many octets a line has, its end counted, the end, and whether it is read.
+static LENGTHS: [(usize, &[u8], bool); 6] = [
+    (254, b"\n", true),
+    (254, b"\r\n", true),
+    (255, b"\n", true),
+    (255, b"\r\n", true),
+    (256, b"\n", false),
+    (256, b"\r\n", false),
+];
+
+/// In front so many octets: the line, spaces or what stands for them, and the end.
+fn filled(line: &[u8], fill: u8, end: &[u8], octets: usize) -> [u8; 256] {
+    let mut filled = [fill; 256];
+    let end_at = octets.saturating_sub(end.len());
+    for (place, octet) in filled.iter_mut().enumerate() {
+        if place < line.len() {
+            *octet = line[place];
+        } else if place >= end_at && place - end_at < end.len() {
+            *octet = end[place - end_at];
         }
-        let _ = cutter.feed(b" ");
     }
-    let _ = cutter.feed(end);
-    matches!(cutter.line(), Some(Cut::Line(line)) if matches!(Command::read(line), Ok(Command::Noop)))
+    filled
+}
+
+/// A cutter that was fed a stream in two pieces, cut at a place before its last octet.
+fn fed(stream: &[u8], at: usize) -> Cutter {
+    let at = at.min(stream.len().saturating_sub(1));
+    let mut cutter = Cutter::new();
+    let _ = cutter.feed(&stream[..at]);
+    let _ = cutter.feed(&stream[at..]);
+    cutter
+}
+
+/// Whether a line, spaces behind it, is this command.
+fn is_same(shown: &[u8], line: &[u8]) -> bool {
+    match Command::read(line) {
+        Ok(command) => matches!(Command::read(shown), Ok(c) if c == command),
+        Err(_) => false,
+    }
+}
+
+/// Whether a cutter shows this command, or that the line is too long.
+fn shows(cutter: &Cutter, line: &[u8], is_read: bool) -> bool {
+    match cutter.line() {
+        Some(Cut::Line(shown)) => is_read && is_same(shown, line),
+        Some(Cut::TooLong) => !is_read,
+        None => false,
+    }
+}
+
+/// Whether a line of so many octets is its command, or too long, wherever its stream is cut in two.
+fn is_cut_at_each_place(line: &[u8], end: &[u8], octets: usize, is_read: bool) -> bool {
+    let stream = filled(line, b' ', end, octets);
+    let octets = octets.min(256);
+    for at in 0..256 {
+        if !shows(&fed(&stream[..octets], at), line, is_read) {
+            return false;
+        }
+    }
+    true
+}
+
+/// Whether a line is its command up to 255 octets, and too long from 256 on.
+fn is_limited(line: &[u8]) -> bool {
+    for (octets, end, is_read) in &LENGTHS {
+        if !is_cut_at_each_place(line, *end, *octets, *is_read) {
+            return false;
+        }
+    }
+    true
+}
+
+/// How many octets the password has on a line of PASS of so many octets, its end counted.
+fn password_len(fill: u8, end: &[u8], octets: usize) -> usize {
+    let stream = filled(b"PASS ", fill, end, octets);
+    let cutter = fed(&stream[..octets.min(256)], 5);
+    match cutter.line() {
+        Some(Cut::Line(line)) => match Command::read(line) {
+            Ok(Command::Pass(password)) => password.len(),
+            _ => 0,
+        },
+        _ => 0,
+    }
 }
 
 #[test]
 fn line_length_limit(rt: HostRuntime) {
-    assert!(rt; is_noop(249, b"\r\n", 0), "255 octets are a line");
-    assert!(rt; is_noop(250, b"\n", 17), "255 octets are a line");
-    assert!(rt; !is_noop(250, b"\r\n", 0), "256 octets are none");
-    assert!(rt; !is_noop(251, b"\n", 250), "256 octets are none");
+    for line in &COMPLETE {
+        assert!(rt; is_limited(*line), "{line:?}");
+    }
+    assert_eq!(rt; password_len(b'x', b"\r\n", 255), 248);
+    assert_eq!(rt; password_len(b' ', b"\n", 254), 248);
+    assert_eq!(rt; password_len(b'x', b"\r\n", 256), 0);
 }
 
-/// Lines that are a keyword with arguments that don't fit it.
-const BAD_ARGUMENTS: [(&[u8], Keyword); 46] = [
+/// Lines of each keyword whose arguments don't fit it: missing, doubled, behind two spaces, or of another form.
+const BAD_ARGUMENTS: [(&[u8], Keyword); 98] = [
     (b"CAPA x", Keyword::Capa),
     (b"CAPA  x", Keyword::Capa),
+    (b"CAPA CAPA", Keyword::Capa),
+    (b"CAPA \t", Keyword::Capa),
     (b"QUIT x", Keyword::Quit),
-    (b"STAT 1", Keyword::Stat),
+    (b"QUIT  x", Keyword::Quit),
+    (b"QUIT QUIT", Keyword::Quit),
+    (b"QUIT \t", Keyword::Quit),
+    (b"STAT x", Keyword::Stat),
+    (b"STAT  x", Keyword::Stat),
+    (b"STAT STAT", Keyword::Stat),
+    (b"STAT \t", Keyword::Stat),
     (b"RSET x", Keyword::Rset),
+    (b"RSET  x", Keyword::Rset),
+    (b"RSET RSET", Keyword::Rset),
+    (b"RSET \t", Keyword::Rset),
     (b"NOOP x", Keyword::Noop),
+    (b"NOOP  x", Keyword::Noop),
+    (b"NOOP NOOP", Keyword::Noop),
+    (b"NOOP \t", Keyword::Noop),
     (b"USER", Keyword::User),
     (b"USER   ", Keyword::User),
     (b"USER ann", Keyword::User),
     (b"USER Ann/orders", Keyword::User),
+    (b"USER ann/Orders", Keyword::User),
     (b"USER ann/", Keyword::User),
     (b"USER /orders", Keyword::User),
+    (b"USER ann/orders/pay", Keyword::User),
+    (b"USER ann orders", Keyword::User),
     (b"USER  ann/orders", Keyword::User),
     (b"USER ann/orders x", Keyword::User),
+    (b"USER ann/orders ann/orders", Keyword::User),
+    (b"USER ann/orders\t", Keyword::User),
     (b"PASS", Keyword::Pass),
     (b"PASS ", Keyword::Pass),
     (b"APOP", Keyword::Apop),
+    (b"APOP  ", Keyword::Apop),
     (b"APOP ann/orders", Keyword::Apop),
+    (b"APOP c4c9334bac560ecc979e58001b3e22fb", Keyword::Apop),
     (
         b"APOP ann/orders c4c9334bac560ecc979e58001b3e22f",
+        Keyword::Apop,
+    ),
+    (
+        b"APOP ann/orders c4c9334bac560ecc979e58001b3e22fbc",
         Keyword::Apop,
     ),
     (
@@ -59,6 +175,15 @@ const BAD_ARGUMENTS: [(&[u8], Keyword); 46] = [
     ),
     (
         b"APOP ann/orders g4c9334bac560ecc979e58001b3e22fb",
+        Keyword::Apop,
+    ),
+    (
+        b"APOP Ann/orders c4c9334bac560ecc979e58001b3e22fb",
+        Keyword::Apop,
+    ),
+    (b"APOP ann c4c9334bac560ecc979e58001b3e22fb", Keyword::Apop),
+    (
+        b"APOP c4c9334bac560ecc979e58001b3e22fb ann/orders",
         Keyword::Apop,
     ),
     (
@@ -73,44 +198,81 @@ const BAD_ARGUMENTS: [(&[u8], Keyword); 46] = [
         b"APOP ann/orders c4c9334bac560ecc979e58001b3e22fb x",
         Keyword::Apop,
     ),
+    (
+        b"APOP ann/orders ann/orders c4c9334bac560ecc979e58001b3e22fb",
+        Keyword::Apop,
+    ),
+    (
+        b"APOP ann/orders c4c9334bac560ecc979e58001b3e22fb c4c9334bac560ecc979e58001b3e22fb",
+        Keyword::Apop,
+    ),
     (b"LIST x", Keyword::List),
     (b"LIST +1", Keyword::List),
+    (b"LIST -1", Keyword::List),
+    (b"LIST 1.", Keyword::List),
     (b"LIST  1", Keyword::List),
     (b"LIST 1 2", Keyword::List),
+    (b"LIST 1 1", Keyword::List),
+    (b"LIST 1  2", Keyword::List),
     (b"UIDL x", Keyword::Uidl),
+    (b"UIDL +1", Keyword::Uidl),
+    (b"UIDL -1", Keyword::Uidl),
+    (b"UIDL 1.", Keyword::Uidl),
     (b"UIDL  1", Keyword::Uidl),
     (b"UIDL 1 2", Keyword::Uidl),
+    (b"UIDL 1 1", Keyword::Uidl),
+    (b"UIDL 1  2", Keyword::Uidl),
     (b"RETR", Keyword::Retr),
+    (b"RETR  ", Keyword::Retr),
+    (b"RETR x", Keyword::Retr),
     (b"RETR 1x", Keyword::Retr),
+    (b"RETR -1", Keyword::Retr),
+    (b"RETR 0x1", Keyword::Retr),
     (b"RETR  1", Keyword::Retr),
     (b"RETR 1 2", Keyword::Retr),
+    (b"RETR 1 1", Keyword::Retr),
     (b"DELE", Keyword::Dele),
+    (b"DELE  ", Keyword::Dele),
+    (b"DELE x", Keyword::Dele),
+    (b"DELE 1x", Keyword::Dele),
     (b"DELE -1", Keyword::Dele),
+    (b"DELE 0x1", Keyword::Dele),
     (b"DELE  1", Keyword::Dele),
     (b"DELE 1 2", Keyword::Dele),
+    (b"DELE 1 1", Keyword::Dele),
     (b"TOP", Keyword::Top),
+    (b"TOP  ", Keyword::Top),
     (b"TOP 1", Keyword::Top),
+    (b"TOP  1", Keyword::Top),
     (b"TOP 1 x", Keyword::Top),
     (b"TOP x 1", Keyword::Top),
+    (b"TOP 1 -1", Keyword::Top),
+    (b"TOP +1 1", Keyword::Top),
     (b"TOP  1 2", Keyword::Top),
     (b"TOP 1  2", Keyword::Top),
     (b"TOP 1 2 3", Keyword::Top),
+    (b"TOP 1 1 2", Keyword::Top),
+    (b"TOP 1 2 2", Keyword::Top),
 ];
 
 /// Lines whose first word is no keyword.
-const UNKNOWN: [&[u8]; 8] = [
-    b"", b" ", b" QUIT", b"NOOP\r", b"XYZZY", b"QUITX", b"QUIT\tx", b"AUTH",
+const UNKNOWN: [&[u8]; 11] = [
+    b"", b" ", b" QUIT", b"NOOP\r", b"XYZZY", b"QUITX", b"QUI", b"QUIT\tx", b"AUTH", b"TOP1 2",
+    b"STLS",
 ];
 
 /// Lines that are read as a command without a name.
-const READ: [(&[u8], Command<'static>); 22] = [
+const READ: [(&[u8], Command<'static>); 32] = [
     (b"capa", Command::Capa),
     (b"CaPa  ", Command::Capa),
+    (b"QUIT", Command::Quit),
     (b"QUIT   ", Command::Quit),
     (b"PASS s3 cret", Command::Pass(b"s3 cret")),
     (b"pass  s3 cret ", Command::Pass(b" s3 cret ")),
     (b"PASS  ", Command::Pass(b" ")),
+    (b"PASS x x", Command::Pass(b"x x")),
     (b"PASS \x00\xff", Command::Pass(b"\x00\xff")),
+    (b"STAT", Command::Stat),
     (b"STAT ", Command::Stat),
     (b"LIST", Command::List(None)),
     (b"LIST  ", Command::List(None)),
@@ -124,20 +286,27 @@ const READ: [(&[u8], Command<'static>); 22] = [
         Command::List(Some(18446744073709551615)),
     ),
     (b"UIDL", Command::Uidl(None)),
+    (b"UIDL   ", Command::Uidl(None)),
     (b"UIDL 2", Command::Uidl(Some(2))),
+    (b"uidl 2 ", Command::Uidl(Some(2))),
     (b"RETR 0", Command::Retr(0)),
+    (b"retr 01 ", Command::Retr(1)),
     (
         b"RETR 99999999999999999999999999999999999999999",
         Command::Retr(18446744073709551615),
     ),
     (b"TOP 1 0", Command::Top(1, 0)),
+    (b"TOP 1 2 ", Command::Top(1, 2)),
     (
         b"top 3 18446744073709551616   ",
         Command::Top(3, 18446744073709551615),
     ),
     (b"DELE 2", Command::Dele(2)),
+    (b"dele 2  ", Command::Dele(2)),
     (b"RSET", Command::Rset),
+    (b"RSET ", Command::Rset),
     (b"noop", Command::Noop),
+    (b"NoOp  ", Command::Noop),
 ];
 
 #[test]
@@ -240,13 +409,25 @@ fn replies_octet_by_octet(rt: HostRuntime) -> Result<(), Fail> {
         Reply::Marked(1),
         Reply::AlreadyMarked(1),
         Reply::RemovalDenied(name(b"freeze-pay")?),
+        Reply::LineTooLong,
+        Reply::UnknownCommand,
+        Reply::WrongState,
+        Reply::BadArguments,
+        Reply::SendPass,
+        Reply::LoginFailed,
+        Reply::LoginFailedClosing,
+        Reply::NoSuchMaildrop,
+        Reply::Okay,
+        Reply::NoSuchMessage,
+        Reply::RemovalFailed,
+        Reply::StoreFailed,
     ];
     let mut out = vec![in rt.alloc()]?;
     for reply in &replies {
         reply.put(rt.alloc(), &mut out)?;
     }
     let wanted =
-        b"-ERR denied by rule default\r\n-ERR [IN-USE] maildrop is in use\r\n+OK maildrop has 4 messages (80 octets)\r\n+OK 3 61\r\n+OK 1 21\r\n+OK 2 note.2\r\n+OK 3 octets\r\n..\r\n.\r\n+OK top follows\r\nx\r\n.\r\n+OK message 1 deleted\r\n-ERR message 1 is deleted\r\n-ERR some deleted messages not removed, denied by rule freeze-pay\r\n";
+        b"-ERR denied by rule default\r\n-ERR [IN-USE] maildrop is in use\r\n+OK maildrop has 4 messages (80 octets)\r\n+OK 3 61\r\n+OK 1 21\r\n+OK 2 note.2\r\n+OK 3 octets\r\n..\r\n.\r\n+OK top follows\r\nx\r\n.\r\n+OK message 1 deleted\r\n-ERR message 1 is deleted\r\n-ERR some deleted messages not removed, denied by rule freeze-pay\r\n-ERR line too long\r\n-ERR unknown command\r\n-ERR wrong state\r\n-ERR bad arguments\r\n+OK send PASS\r\n-ERR login failed\r\n-ERR login failed, closing\r\n-ERR no such maildrop\r\n+OK\r\n-ERR no such message\r\n-ERR some deleted messages not removed\r\n-ERR store failed\r\n";
     assert!(rt; out.as_slice() == wanted.as_slice());
     Ok(())
 }

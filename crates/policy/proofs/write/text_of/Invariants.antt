@@ -1,5 +1,5 @@
 use Rattle.std.proofs.Common.{◌≡◌, take}
-use Rattle.policy.specs.PolicyText.{rules_text}
+use Rattle.policy.specs.WrittenText.{rules_text}
 use Rattle.policy.proofs.write.text_of.Given as goal
 
 abbrev pub invariant-loop-i : goal.invariant-loop-i
