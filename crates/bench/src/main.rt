@@ -1,79 +1,74 @@
-//! How fast message texts are kept, stuffed and read back: `bench OCTETS` prints a row for each of four texts of so
-//! many octets. Without a number it prints nothing.
+//! How fast popbox's layers are. `bench texts OCTETS` is over message texts; `bench rules COUNT` is over a policy;
+//! `bench sheets OCTETS [FILE]`, `bench commits COUNT [FILE]` and `bench heads COUNT [FILE]` are over a store, in memory or
+//! in a file that is not there yet; `bench sample 0 FILE` writes a small store. Without a number it prints nothing.
 #![tactic(auto)]
 
-use mailtext::{canon, stuff_into, unstuff};
-use std::alloc::{AllocError, Global};
+mod calls;
+mod rules;
+mod store;
+mod texts;
+
+use anyhow::{Result, bail};
+use sqlite::{Alter, Connection};
+use std::env;
 use std::rt::{Clock, Env};
-use std::time::{Duration, Instant};
-use std::{env, io};
+use std::time::Duration;
 
-/// A text of at least `octets` octets that repeats a line.
-fn text_of(alloc: Global, line: &[u8], octets: usize) -> Result<Vec<u8>, AllocError> {
-    let mut text = Vec::new(alloc);
-    for _ in 0..octets {
-        if text.len() >= octets {
-            break;
-        }
-        text.extend_from_slice(line)?;
-    }
-    Ok(text)
-}
-
-/// Millions of octets a second.
-fn rate(octets: usize, took: Duration) -> u64 {
+/// Millions a second.
+fn rate(count: usize, took: Duration) -> u64 {
     let micros = u64::try_from(took.as_micros()).unwrap_or(u64::MAX).max(1);
-    octets as u64 / micros
+    count as u64 / micros
 }
 
-fn measure(rt: &(impl Print + AllocGlobal + Clock), name: &str, text: &[u8]) -> io::Result<()> {
-    let start = Instant::now(rt)?;
-    let kept = canon(rt.alloc(), text);
-    let keeping = rate(text.len(), start.elapsed(rt)?);
-    let Ok(kept) = kept else {
-        return println!(rt; "{name}: not kept");
-    };
-    let octets = kept.octets();
-
-    let mut sent = Vec::new(rt.alloc());
-    let start = Instant::now(rt)?;
-    stuff_into(&mut sent, kept.bytes())?;
-    let stuffing = rate(octets, start.elapsed(rt)?);
-
-    sent.extend_from_slice(b".\r\n")?;
-    let start = Instant::now(rt)?;
-    let read = unstuff(rt.alloc(), &sent)?;
-    let reading = rate(sent.len(), start.elapsed(rt)?);
-    let state = if read.is_some() { "read" } else { "not read" };
-    println!(rt;
-        "{name}: canon {keeping} MB/s, stuff_into {stuffing} MB/s, unstuff {reading} MB/s, {state}"
-    )
-}
-
-fn main(rt: HostRuntime) -> io::Result<()> {
-    let mut octets = None;
-    for word in env::args(&rt)? {
-        octets = word.as_str().parse::<usize>().ok();
+fn measure<S: Alter>(
+    rt: &(impl Print + AllocGlobal + Clock),
+    conn: &mut Connection<S>,
+    what: &str,
+    count: u32,
+) -> Result<()> {
+    match what {
+        "sheets" => store::measure_sheets(rt, conn, count),
+        "commits" => store::measure_commits(rt, conn, count),
+        "heads" => store::measure_heads(rt, conn, count),
+        "sample" => store::write_sample(conn),
+        _ => bail!("no measure {what:?}"),
     }
-    let Some(octets) = octets else {
+}
+
+fn in_memory(rt: &HostRuntime, what: &str, count: u32) -> Result<()> {
+    let mut conn = Connection::open_in_memory(rt.alloc())?;
+    measure(rt, &mut conn, what, count)
+}
+
+fn in_file(rt: &HostRuntime, path: &str, what: &str, count: u32) -> Result<()> {
+    let mut conn = Connection::open(rt, path)?;
+    measure(rt, &mut conn, what, count)?;
+    conn.close()?;
+    Ok(())
+}
+
+fn main(rt: HostRuntime) -> Result<()> {
+    let mut words = env::args(&rt)?;
+    let _program = words.next();
+    let Some(what) = words.next() else {
         return Ok(());
     };
-    let alloc = rt.alloc();
-    let rows = [
-        (
-            "lines of 72 octets, LF",
-            b"All other octets are kept, as they are, in each line of the message ..\n".as_slice(),
-        ),
-        (
-            "lines of 73 octets, CRLF",
-            b"All other octets are kept, as they are, in each line of the message ..\r\n".as_slice(),
-        ),
-        ("empty lines, CRLF", b"\r\n".as_slice()),
-        ("lines that are a dot, CRLF", b".\r\n".as_slice()),
-    ];
-    for (name, line) in rows {
-        let text = text_of(alloc, line, octets)?;
-        measure(&rt, name, &text)?;
+    let Some(count) = words
+        .next()
+        .and_then(|word| word.as_str().parse::<u32>().ok())
+    else {
+        return Ok(());
+    };
+    if what.as_str() == "texts" {
+        texts::texts(&rt, count as usize)?;
+        return Ok(());
     }
-    Ok(())
+    if what.as_str() == "rules" {
+        rules::measure(&rt, count as usize)?;
+        return Ok(());
+    }
+    match words.next() {
+        Some(path) => in_file(&rt, path.as_str(), what.as_str(), count),
+        None => in_memory(&rt, what.as_str(), count),
+    }
 }

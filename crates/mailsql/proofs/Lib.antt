@@ -34,3 +34,5 @@ pub mod TallyLemmas
 pub mod NameLemmas
 pub mod UsesLemmas
 pub mod ChainLemmas
+pub mod CutLemmas
+pub mod SheetRunLemmas

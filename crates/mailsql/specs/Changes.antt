@@ -1,7 +1,8 @@
 -- The changes that the statements make, each of one table or two: a new row comes after the others.
-use Rattle.std.specs.Prelude.{◌≡◌, ℤ, List, [], ◌∷◌, ◌++◌, fold, pos, ◌+ℤ◌, ◌<ℤ◌, bytes_eq, filter, not}
+use Rattle.std.specs.Prelude.{◌≡◌, ◌≤◌, ℕ, ℤ, List, [], ◌∷◌, ◌++◌, fold, pos, ◌+ℤ◌, ◌<ℤ◌, bytes_eq, filter, not}
 use Rattle.std.specs.List.{AllByRecursion}
 use Rattle.mailsql.specs.Rows.{Name, Mark, Clerk, Count, Deposit, Message, Sheet, Rule, Rows, is_clerk, is_count, is_message, is_sheet_of, same_int}
+use Rattle.mailsql.specs.Sheets.{first_sheets, sheets_of, sheet_count}
 
 -- a mark comes
 abbrev pub AddsMark : Mark → Rows → Rows → Type 0
@@ -62,6 +63,18 @@ RemovesMessage key maildrop old new = new ≡ record old {
 -- a sheet comes
 abbrev pub AddsSheet : Sheet → Rows → Rows → Type 0
 AddsSheet sheet old new = new ≡ record old { sheets = old.sheets ++ sheet ∷ [] }
+
+-- the first n sheets of a text come
+abbrev pub AddsFirstSheets : ℕ → ℤ → List ℕ → Rows → Rows → Type 0
+AddsFirstSheets n mail text old new = new ≡ record old { sheets = old.sheets ++ first_sheets n mail text }
+
+-- the sheets of a text come
+abbrev pub AddsSheets : ℤ → List ℕ → Rows → Rows → Type 0
+AddsSheets mail text old new = new ≡ record old { sheets = old.sheets ++ sheets_of mail text }
+
+-- some of them come, from the first on
+abbrev pub AddsSomeSheets : ℤ → List ℕ → Rows → Rows → Type 0
+AddsSomeSheets mail text old new = (n : ℕ) × (n ≤ sheet_count text) × AddsFirstSheets n mail text old new
 
 -- the sheets of a message go
 abbrev pub RemovesSheets : ℤ → Rows → Rows → Type 0

@@ -7,6 +7,7 @@ ghost use Rattle.mailsql.specs.Rows.{IsUndone};
 
 use sqlite::{Alter, Connection, Error};
 
+/// Begins a transaction. It is refused where one is under way.
 pub fn begin<S: Alter>(conn: &mut Connection<S>) -> Result<(), Error>
     ensures ok { HasCleanDisk (state S.Store conn.new) → OnOk result (((state S.Store conn.old).in_transaction ≡ false) × Shows (state S.Store conn.old) (state S.Store conn.new) (state S.Store conn.old).now (state S.Store conn.old).committed true) }
     ensures err { HasCleanDisk (state S.Store conn.new) → OnErr result (IsUndone (state S.Store conn.old) (state S.Store conn.new)) }
@@ -18,7 +19,7 @@ pub fn begin<S: Alter>(conn: &mut Connection<S>) -> Result<(), Error>
     }
 }
 
-/// After an error nothing of the transaction is left, or it is still under way.
+/// Commits the transaction. It is refused where none is under way. After an error nothing of the transaction is left, or it is still under way.
 pub fn commit<S: Alter>(conn: &mut Connection<S>) -> Result<(), Error>
     ensures ok { HasCleanDisk (state S.Store conn.new) → OnOk result (IsTrue (state S.Store conn.old).in_transaction × Shows (state S.Store conn.old) (state S.Store conn.new) (state S.Store conn.old).now (state S.Store conn.old).now false) }
     ensures err { HasCleanDisk (state S.Store conn.new) → OnErr result (IsUndone (state S.Store conn.old) (state S.Store conn.new)) }
@@ -30,7 +31,7 @@ pub fn commit<S: Alter>(conn: &mut Connection<S>) -> Result<(), Error>
     }
 }
 
-/// Whatever it answers, nothing of the transaction is left.
+/// Rolls the transaction back. Whatever it answers, nothing of the transaction is left.
 pub fn rollback<S: Alter>(conn: &mut Connection<S>) -> Result<(), Error>
     ensures undone { HasCleanDisk (state S.Store conn.new) → IsTrue (state S.Store conn.old).in_transaction → IsRolledBack (state S.Store conn.old) (state S.Store conn.new) }
     ensures survives { Survives (state S.Store conn.old) (state S.Store conn.new) (λ _. ⊥) }

@@ -1,18 +1,23 @@
 //! The pages of the messages, each of 1 to 4,096 octets.
 
-ghost use Rattle.std.specs.Prelude.{◌≡◌, min, length, IfOk, OnOk, OnErr};
+ghost use Rattle.std.specs.Prelude.{◌≡◌, ◌<◌, IsTrue, min, length, IfOk, OnOk, OnErr};
 ghost use Rattle.std.specs.List.{find};
 ghost use Rattle.sqlite.specs.Held.{state};
 ghost use Rattle.sqlite.specs.State.{HasCleanDisk, IsUnchanged, Survives};
 ghost use Rattle.mailsql.specs.Changes as changes;
 ghost use Rattle.mailsql.specs.Rows as rows;
-ghost use Rattle.mailsql.specs.Rows.{IsOurs, IsReady, HasTables, MayLeave, Changes, IsUndone, rows_in};
+ghost use Rattle.mailsql.specs.Rows.{IsOurs, IsReady, HasTables, MayLeave, Changes, IsUndone, IsHalted, rows_in};
+ghost use Rattle.mailsql.specs.Sheets as cut;
+ghost use Rattle.mailsql.specs.Sheets.{SheetsAreTheText};
 
 use crate::decode::{read_all, read_first};
 use crate::rows::Sheet;
 use sqlite::{Alter, Connection, Error};
 use sqlite_value::value::ValueRef;
 use std::alloc::Global;
+
+/// The octets of a whole sheet: each sheet of a message but its last has so many.
+pub const SHEET_OCTETS: usize = 4096;
 
 /// Adds a page of a message that is there, at a place that it has not.
 pub fn add_sheet<S: Alter>(
@@ -37,6 +42,46 @@ pub fn add_sheet<S: Alter>(
         Ok(_) => Ok(()),
         Err(error) => Err(error),
     }
+}
+
+/// How many sheets a text has.
+fn count_sheets(text: &[u8]) -> usize
+    ensures { result ≡ cut.sheet_count text.now }
+{
+    text.len().div_ceil(SHEET_OCTETS)
+}
+
+/// Adds the sheet of the text at this place, which is below their count.
+fn add_sheet_at<S: Alter>(
+    conn: &mut Connection<S>,
+    mail: i64,
+    text: &[u8],
+    place: usize,
+) -> Result<(), Error>
+    requires { place < cut.sheet_count text.now }
+    ensures ok { HasCleanDisk (state S.Store conn.new) → IsReady (state S.Store conn.old) → OnOk result (Changes (changes.AddsSheet (cut.sheet_at mail text.now place)) (state S.Store conn.old) (state S.Store conn.new)) }
+    ensures err { HasCleanDisk (state S.Store conn.new) → OnErr result (IsUndone (state S.Store conn.old) (state S.Store conn.new)) }
+    ensures survives { Survives (state S.Store conn.old) (state S.Store conn.new) (MayLeave (changes.AddsSheet (cut.sheet_at mail text.now place)) (state S.Store conn.old)) }
+{
+    let start = place * SHEET_OCTETS;
+    let end = text.len().min(start + SHEET_OCTETS);
+    add_sheet(conn, mail, place as i64, &text[start..end])
+}
+
+/// Adds the sheets of a text, of a message that is there and has none: pieces of `SHEET_OCTETS` octets, the last of 1 to `SHEET_OCTETS`, in places counted from 0. Of an empty text there are none. These are as many statements: call it inside a transaction, and an error between them can be rolled back. Outside one, an error or a stop leaves the first of them.
+pub fn add_sheets<S: Alter>(conn: &mut Connection<S>, mail: i64, text: &[u8]) -> Result<(), Error>
+    ensures ok { HasCleanDisk (state S.Store conn.new) → IsReady (state S.Store conn.old) → OnOk result (Changes (changes.AddsSheets mail text.now) (state S.Store conn.old) (state S.Store conn.new)) }
+    ensures err { HasCleanDisk (state S.Store conn.new) → IsReady (state S.Store conn.old) → IsTrue (state S.Store conn.old).in_transaction → OnErr result (IsHalted (state S.Store conn.old) (state S.Store conn.new)) }
+    ensures survives { Survives (state S.Store conn.old) (state S.Store conn.new) (MayLeave (changes.AddsSomeSheets mail text.now) (state S.Store conn.old)) }
+{
+    let _settled = conn.is_autocommit();
+    for place in 0..count_sheets(text) {
+        match add_sheet_at(conn, mail, text, place) {
+            Ok(()) => {}
+            Err(error) => return Err(error),
+        }
+    }
+    Ok(())
 }
 
 /// Takes out the pages of a message.
@@ -99,3 +144,8 @@ pub fn all_sheets<S: Alter>(alloc: Global, conn: &mut Connection<S>) -> Result<V
         Err(error) => Err(error),
     }
 }
+
+/// The sheets of a text, joined, are the text; each but the last has `SHEET_OCTETS` octets, and none is empty.
+pub fn sheets_are_the_text()
+    ensures { SheetsAreTheText }
+{}

@@ -136,6 +136,38 @@ fn pages_of_any_octets(rt: HostRuntime) -> Result<(), Fail> {
     Ok(())
 }
 
+// The message of a text in a store of its own, and its key.
+fn add_text(store: &mut Store, text: &[u8]) -> Result<i64, Error> {
+    let key = mail::add_message(store, b"orders", b"note", 1, 0)?;
+    sheets::add_sheets(store, key, text)?;
+    Ok(key)
+}
+
+fn has_sheet(
+    alloc: Global,
+    store: &mut Store,
+    key: i64,
+    place: i64,
+    octets: &[u8],
+) -> Result<bool, Error> {
+    Ok(sheets::find_sheet(alloc, store, key, place)?.is_some_and(|sheet| sheet.octets.as_slice()
+        == octets))
+}
+
+#[test]
+fn a_text_as_sheets(rt: HostRuntime) -> Result<(), Fail> {
+    let alloc = rt.alloc();
+    let mut store = new_store(alloc)?;
+    add_name(&mut store, b"orders")?;
+    let mut text = [0; 4097];
+    text[4096] = 255;
+    let key = add_text(&mut store, &text)?;
+    assert!(rt; has_sheet(alloc, &mut store, key, 0, &[0; 4096])?);
+    assert!(rt; has_sheet(alloc, &mut store, key, 1, &[255])?);
+    assert_eq!(rt; sheet_numbers(alloc, &mut store)?, (2, 2));
+    Ok(())
+}
+
 fn add_records(store: &mut Store) -> Result<(), Error> {
     counts::set_count(store, b"orders", b"note", 1)?;
     counts::set_count(store, b"orders", b"note", 2)?;

@@ -1,0 +1,80 @@
+//! How long a policy takes: to be read, to decide, to be written and copied.
+
+use creds::Name;
+use policy::{Action, Policy};
+use std::alloc::{AllocError, Global};
+use std::io;
+use std::rt::Clock;
+use std::time::{Duration, Instant};
+
+/// How often the policy is asked.
+const DECISIONS: u32 = 1000;
+
+/// The text of a policy of so many rules, each about a clerk of its own.
+fn text_of(alloc: Global, rules: usize) -> Result<String, AllocError> {
+    let mut text = String::new(alloc);
+    for n in 0..rules {
+        writeln!(
+            text,
+            "[[rule]]\nname = \"rule-{n}\"\neffect = \"allow\"\nclerk = \"clerk-{n}\"\nmaildrop = \"orders\""
+        )?;
+        writeln!(
+            text,
+            "class = \"*\"\nactions = [\"open\", \"read\", \"remove\"]\n"
+        )?;
+    }
+    Ok(text)
+}
+
+/// How many decisions the clerk `nobody` is allowed, whom no rule names.
+fn allowed_decisions(policy: &Policy) -> u32 {
+    let (Some(clerk), Some(maildrop)) = (Name::read(b"nobody"), Name::read(b"orders")) else {
+        return 0;
+    };
+    let mut allowed = 0u32;
+    for _ in 0..DECISIONS {
+        if policy
+            .decide(&clerk, &maildrop, &maildrop, Action::Read)
+            .allowed
+        {
+            allowed = allowed.saturating_add(1);
+        }
+    }
+    allowed
+}
+
+/// Microseconds.
+fn micros(took: Duration) -> u64 {
+    u64::try_from(took.as_micros()).unwrap_or(u64::MAX)
+}
+
+/// Prints how many microseconds a policy of so many rules takes.
+pub fn measure(rt: &(impl Print + AllocGlobal + Clock), rules: usize) -> io::Result<()> {
+    let text = text_of(rt.alloc(), rules)?;
+    let start = Instant::now(rt)?;
+    let read = Policy::read(rt.alloc(), &text);
+    let reading = micros(start.elapsed(rt)?);
+    let Ok(policy) = read else {
+        return println!(rt; "{rules} rules: not read");
+    };
+
+    let start = Instant::now(rt)?;
+    let allowed = allowed_decisions(&policy);
+    let deciding = micros(start.elapsed(rt)?);
+
+    let mut written = Vec::new(rt.alloc());
+    let start = Instant::now(rt)?;
+    policy.write(&mut written)?;
+    let writing = micros(start.elapsed(rt)?);
+
+    let start = Instant::now(rt)?;
+    let copy = policy.try_copy()?;
+    let copying = micros(start.elapsed(rt)?);
+
+    let octets = text.len();
+    let copied = copy.len();
+    println!(rt;
+        "{copied} rules of {octets} octets: read {reading} us, written {writing} us, copied {copying} us"
+    )?;
+    println!(rt; "{DECISIONS} decisions, of which {allowed} allow: {deciding} us")
+}

@@ -1,0 +1,140 @@
+//! How fast the statements of a store are, over a connection whose store has no tables yet.
+
+use crate::texts::text_of;
+use crate::{calls, rate};
+use anyhow::Result;
+use sqlite::{Alter, Connection, Error};
+use std::alloc::Global;
+use std::rt::Clock;
+use std::time::Instant;
+
+/// The maildrops that share the messages of `measure_heads`.
+const NAMES: [&[u8]; 10] = [b"a", b"b", b"c", b"d", b"e", b"f", b"g", b"h", b"i", b"j"];
+
+fn make_tables<S: Alter>(conn: &mut Connection<S>) -> Result<(), Error> {
+    calls::begin(conn)?;
+    calls::create_tables(conn)?;
+    calls::add_mark(conn)?;
+    calls::commit(conn)
+}
+
+/// A message of this text into `orders`, in a transaction of its own; its key.
+fn write_text<S: Alter>(conn: &mut Connection<S>, text: &[u8], octets: u32) -> Result<i64, Error> {
+    calls::begin(conn)?;
+    let key = calls::add_message(conn, b"orders", 1, octets)?;
+    calls::add_sheets(conn, key, text)?;
+    calls::commit(conn)?;
+    Ok(key)
+}
+
+/// How many octets the message's sheets have, read one by one.
+fn octets_of<S: Alter>(alloc: Global, conn: &mut Connection<S>, key: i64) -> Result<usize, Error> {
+    let mut octets = 0usize;
+    for place in 0..i64::MAX {
+        let more = calls::sheet_octets(alloc, conn, key, place)?;
+        if more == 0 {
+            break;
+        }
+        octets = octets.saturating_add(more);
+    }
+    Ok(octets)
+}
+
+/// The sheets of one text, written in one transaction, and read one by one.
+pub fn measure_sheets<S: Alter>(
+    rt: &(impl Print + AllocGlobal + Clock),
+    conn: &mut Connection<S>,
+    octets: u32,
+) -> Result<()> {
+    let text = text_of(rt.alloc(), b"a line of the message ..\r\n", octets as usize)?;
+    make_tables(conn)?;
+    calls::add_maildrop(conn, b"orders")?;
+    let start = Instant::now(rt)?;
+    let key = write_text(conn, &text, octets)?;
+    let writing = rate(text.len(), start.elapsed(rt)?);
+    let start = Instant::now(rt)?;
+    let read = octets_of(rt.alloc(), conn, key)?;
+    let reading = rate(read, start.elapsed(rt)?);
+    println!(rt; "sheets: {read} octets, written {writing} MB/s, read {reading} MB/s")?;
+    Ok(())
+}
+
+fn commit_one<S: Alter>(conn: &mut Connection<S>, k: u32) -> Result<(), Error> {
+    calls::begin(conn)?;
+    calls::set_count(conn, k)?;
+    calls::commit(conn)
+}
+
+/// So many transactions that each raise a count.
+pub fn measure_commits<S: Alter>(
+    rt: &(impl Print + Clock),
+    conn: &mut Connection<S>,
+    count: u32,
+) -> Result<()> {
+    make_tables(conn)?;
+    let start = Instant::now(rt)?;
+    for k in 0..count {
+        commit_one(conn, k)?;
+    }
+    let took = start.elapsed(rt)?.as_millis();
+    println!(rt; "commits: {count} in {took} ms")?;
+    Ok(())
+}
+
+/// So many messages into one maildrop, in a transaction of their own.
+fn fill<S: Alter>(conn: &mut Connection<S>, name: &[u8], count: u32) -> Result<(), Error> {
+    calls::begin(conn)?;
+    calls::add_maildrop(conn, name)?;
+    for k in 0..count {
+        calls::add_message(conn, name, k, 4096)?;
+    }
+    calls::commit(conn)
+}
+
+/// The heads and the count of one of ten maildrops, each of so many messages.
+pub fn measure_heads<S: Alter>(
+    rt: &(impl Print + AllocGlobal + Clock),
+    conn: &mut Connection<S>,
+    count: u32,
+) -> Result<()> {
+    make_tables(conn)?;
+    let start = Instant::now(rt)?;
+    for name in NAMES {
+        fill(conn, name, count)?;
+    }
+    let filling = start.elapsed(rt)?.as_millis();
+    let start = Instant::now(rt)?;
+    let heads = calls::head_count(rt.alloc(), conn, b"e")?;
+    let listing = start.elapsed(rt)?.as_millis();
+    let start = Instant::now(rt)?;
+    let counted = calls::message_count(conn, b"e")?;
+    let counting = start.elapsed(rt)?.as_millis();
+    println!(rt;
+        "heads: ten maildrops filled in {filling} ms, {heads} heads of one in {listing} ms, {counted} counted in {counting} ms"
+    )?;
+    Ok(())
+}
+
+fn write_names<S: Alter>(conn: &mut Connection<S>) -> Result<(), Error> {
+    calls::add_clerk(conn)?;
+    calls::put_clerk(conn)?;
+    calls::add_rule(conn)?;
+    calls::add_maildrop(conn, b"orders")
+}
+
+fn write_mail<S: Alter>(conn: &mut Connection<S>) -> Result<(), Error> {
+    calls::set_count(conn, 1)?;
+    calls::add_deposit(conn)?;
+    let key = calls::add_message(conn, b"orders", 1, 4097)?;
+    let mut text = [0; 4097];
+    text[4096] = 255;
+    calls::add_sheets(conn, key, &text)
+}
+
+/// A row or two in each table, for `tools/check-tables`.
+pub fn write_sample<S: Alter>(conn: &mut Connection<S>) -> Result<()> {
+    make_tables(conn)?;
+    write_names(conn)?;
+    write_mail(conn)?;
+    Ok(())
+}

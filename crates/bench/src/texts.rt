@@ -1,0 +1,65 @@
+//! How fast message texts are kept, stuffed and read back.
+
+use crate::rate;
+use mailtext::{canon, stuff_into, unstuff};
+use std::alloc::{AllocError, Global};
+use std::io;
+use std::rt::Clock;
+use std::time::Instant;
+
+/// A text of at least `octets` octets that repeats a line.
+pub fn text_of(alloc: Global, line: &[u8], octets: usize) -> Result<Vec<u8>, AllocError> {
+    let mut text = Vec::new(alloc);
+    for _ in 0..octets {
+        if text.len() >= octets {
+            break;
+        }
+        text.extend_from_slice(line)?;
+    }
+    Ok(text)
+}
+
+fn measure(rt: &(impl Print + AllocGlobal + Clock), name: &str, text: &[u8]) -> io::Result<()> {
+    let start = Instant::now(rt)?;
+    let kept = canon(rt.alloc(), text);
+    let keeping = rate(text.len(), start.elapsed(rt)?);
+    let Ok(kept) = kept else {
+        return println!(rt; "{name}: not kept");
+    };
+    let octets = kept.octets();
+
+    let mut sent = Vec::new(rt.alloc());
+    let start = Instant::now(rt)?;
+    stuff_into(&mut sent, kept.bytes())?;
+    let stuffing = rate(octets, start.elapsed(rt)?);
+
+    sent.extend_from_slice(b".\r\n")?;
+    let start = Instant::now(rt)?;
+    let read = unstuff(rt.alloc(), &sent)?;
+    let reading = rate(sent.len(), start.elapsed(rt)?);
+    let state = if read.is_some() { "read" } else { "not read" };
+    println!(rt;
+        "{name}: canon {keeping} MB/s, stuff_into {stuffing} MB/s, unstuff {reading} MB/s, {state}"
+    )
+}
+
+/// Prints a row for each of four texts of so many octets.
+pub fn texts(rt: &(impl Print + AllocGlobal + Clock), octets: usize) -> io::Result<()> {
+    let rows = [
+        (
+            "lines of 72 octets, LF",
+            b"All other octets are kept, as they are, in each line of the message ..\n".as_slice(),
+        ),
+        (
+            "lines of 73 octets, CRLF",
+            b"All other octets are kept, as they are, in each line of the message ..\r\n".as_slice(),
+        ),
+        ("empty lines, CRLF", b"\r\n".as_slice()),
+        ("lines that are a dot, CRLF", b".\r\n".as_slice()),
+    ];
+    for (name, line) in rows {
+        let text = text_of(rt.alloc(), line, octets)?;
+        measure(rt, name, &text)?;
+    }
+    Ok(())
+}
