@@ -17,15 +17,19 @@ pub record Session : Type 0 where
 
 -- ---- what is asked of a head
 
+-- its class, by which the policy decides
 abbrev pub class_of : Head → List ℕ
 class_of head = head.class
 
+-- its size
 abbrev pub octets_of : Head → ℕ
 octets_of head = head.octets
 
+-- its unique-id
 abbrev pub uid_of : Head → Uid
 uid_of head = record { class = head.class; k = head.k }
 
+-- the key by which it is removed
 abbrev pub key_of : Head → ℕ
 key_of head = head.key
 

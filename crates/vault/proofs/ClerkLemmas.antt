@@ -1,9 +1,9 @@
 -- Contents stay sound as clerks come and go.
 use Rattle.std.proofs.Common.{◌≡◌, ℕ, ◌+◌, ◌<◌, ◌≤◌, List, [], ◌∷◌, ◌++◌, length, take, drop, set, get_or, suc, zero, refl, sym, ◌∙◌, ap, subst, add-one, arith}
-use Rattle.std.specs.Prelude.{map, is_ok, is_some, nat_le, Bool, true, false, not, ◌&&◌, Result, Ok, Err, if◌then◌else◌}
-use Rattle.std.specs.List.{list_all, list_any}
+use Rattle.std.specs.Prelude.{map, is_ok, is_some, Bool, true, false, not, ◌&&◌, Result, if◌then◌else◌}
+use Rattle.std.specs.List.{list_all}
 use Rattle.std.specs.Str.{bytes_eq}
-use Rattle.std.proofs.Common.{⊎_elim, length-append, true≢false}
+use Rattle.std.proofs.Common.{⊎_elim, length-append}
 use Rattle.std.proofs.lemmas.Bool.{cases_Bool, and_parts}
 use Rattle.std.proofs.lemmas.List.Folds.{list_all-map}
 use Rattle.creds.specs.Names.{is_name}
@@ -11,10 +11,10 @@ use Rattle.creds.specs.declared.credential.Credential.{Credential}
 use Rattle.policy.specs.Policy.{are_distinct, Policy, is_sound_policy}
 use Rattle.vault.specs.declared.fault.VaultFault.{VaultFault}
 use Rattle.vault.specs.declared.record.Clerk.{Clerk}
-use Rattle.vault.specs.Records.{IsSound, credential_in, is_sound_clerk, is_sound_credential, most_clerks}
-use Rattle.vault.specs.Changes.{Contents, AreSound, with_credential, with_clerk, without_clerk, with_clerks, with_policy, put_answer, put_clerk_answer}
+use Rattle.vault.specs.Records.{credential_in, is_sound_clerk, is_sound_credential, most_clerks}
+use Rattle.vault.specs.Changes.{Contents, AreSound, with_credential, with_clerk, without_clerk, with_clerks, with_policy, put_clerk_answer}
 use Rattle.vault.specs.Calls.{IsAnswer, put_result}
-use Rattle.vault.proofs.ListLemmas.{all_last, all_weaker, all_filter, distinct_last, distinct_filter, distinct-map, distinct_alike, filter_fits, length-map, any_in, found_none, In}
+use Rattle.vault.proofs.ListLemmas.{all_last, all_weaker, all_filter, distinct_last, distinct_filter, distinct-map, distinct_alike, filter_fits, length-map, any_in, found_none}
 use Rattle.vault.proofs.MaildropLemmas.{had_room}
 use Rattle.vault.proofs.DoneLemmas.{IsKept}
 

@@ -1,10 +1,10 @@
 -- Lists: what holds of each element, of some element, of no two elements, with one more at the end or with some left out.
-use Rattle.std.proofs.Common.{◌≡◌, ℕ, ◌+◌, ◌<◌, ◌≤◌, Bool, true, false, not, ◌&&◌, ◌||◌, ◌⊎◌, List, [], ◌∷◌, ◌++◌, length, cond, suc, refl, sym, ◌∙◌, ap, subst, ⊎_elim, inl, inr, true≢false, arith}
-use Rattle.std.specs.Prelude.{filter, map, Option, Some, None, is_some}
+use Rattle.std.proofs.Common.{◌≡◌, ℕ, ◌+◌, ◌≤◌, Bool, true, false, not, ◌&&◌, ◌||◌, ◌⊎◌, List, [], ◌∷◌, ◌++◌, length, cond, suc, refl, sym, ◌∙◌, ap, subst, ⊎_elim, inl, inr, true≢false, arith}
+use Rattle.std.specs.Prelude.{filter, map, Option, Some, is_some}
 use Rattle.std.specs.List.{list_any, list_all, find}
 use Rattle.std.specs.Option.{option_map}
 use Rattle.std.specs.Str.{bytes_eq}
-use Rattle.std.proofs.lemmas.Bool.{cases_Bool, and_parts, or_from, or_parts, leb-true}
+use Rattle.std.proofs.lemmas.Bool.{cases_Bool, and_parts, or_from, or_parts}
 use Rattle.std.proofs.lemmas.Slice.Eq.{bytes_eq-Decides}
 use Rattle.policy.specs.Policy.{are_distinct}
 

@@ -1,15 +1,12 @@
 -- Contents stay sound as messages are removed; a page is read of contents that are held.
-use Rattle.std.proofs.Common.{◌≡◌, ℕ, ◌≤◌, Bool, true, false, not, ◌&&◌, List, [], length, take, refl, sym, ◌∙◌, ap, subst, arith, Ok}
+use Rattle.std.proofs.Common.{ℕ, ◌≤◌, Bool, not, ◌&&◌, List, length, sym, ◌∙◌, arith}
 use Rattle.std.specs.Prelude.{map, filter, nat_le, ◌==◌}
-use Rattle.std.specs.List.{list_all}
 use Rattle.std.specs.Str.{bytes_eq}
 use Rattle.std.proofs.lemmas.List.Folds.{list_all-map}
-use Rattle.policy.specs.Policy.{are_distinct}
 use Rattle.vault.specs.declared.record.Keyed.{Keyed}
 use Rattle.vault.specs.declared.record.Message.{Message}
-use Rattle.vault.specs.Records.{IsSound, is_sound_message, same_message, in_maildrop, most_messages}
+use Rattle.vault.specs.Records.{is_sound_message, same_message, in_maildrop}
 use Rattle.vault.specs.Changes.{Contents, AreSound, records_of, kept_in, is_named, without_keys, with_messages}
-use Rattle.vault.specs.Plain.{have_old_keys}
 use Rattle.vault.proofs.ListLemmas.{all_filter, distinct_filter, distinct-map, both_fit, length-map}
 use Rattle.vault.proofs.TotalLemmas.{in_maildrop_is}
 use Rattle.vault.proofs.DoneLemmas.{IsKept}

@@ -1,17 +1,14 @@
 -- Contents stay sound as maildrops come and go.
-use Rattle.std.proofs.Common.{◌≡◌, ℕ, ◌+◌, ◌<◌, ◌≤◌, Bool, true, false, not, ◌&&◌, ◌||◌, ◌⊎◌, List, [], ◌∷◌, ◌++◌, length, Result, Ok, Err, refl, sym, ◌∙◌, ap, subst, eqb-true, ⊎_elim, true≢false, arith, length-append}
+use Rattle.std.proofs.Common.{◌≡◌, ℕ, ◌<◌, ◌≤◌, Bool, true, false, not, List, [], ◌∷◌, ◌++◌, length, Result, Ok, Err, refl, sym, ◌∙◌, ap, subst, eqb-true, ⊎_elim, true≢false, arith, length-append}
 use Rattle.std.specs.Prelude.{is_ok, if◌then◌else◌, nat_le, ◌==◌}
-use Rattle.std.specs.List.{list_any, list_all}
 use Rattle.std.specs.Str.{bytes_eq}
-use Rattle.std.proofs.lemmas.Bool.{cases_Bool, and_parts}
+use Rattle.std.proofs.lemmas.Bool.{cases_Bool}
 use Rattle.std.proofs.lemmas.Bool.Decides.{nat_tests}
-use Rattle.mailtext.specs.Text.{kept_form}
 use Rattle.creds.specs.Names.{is_name}
-use Rattle.policy.specs.Policy.{are_distinct}
 use Rattle.vault.specs.declared.fault.VaultFault.{VaultFault}
 use Rattle.vault.specs.declared.record.Keyed.{Keyed}
 use Rattle.vault.specs.declared.record.Message.{Message}
-use Rattle.vault.specs.Records.{Records, IsSound, is_sound_message, is_one_of, is_receipt_for, octets_of, most_octets, most_maildrops}
+use Rattle.vault.specs.Records.{Records, is_sound_message, is_one_of, most_maildrops}
 use Rattle.vault.specs.Changes.{Contents, AreSound, records_of, with_maildrop, with_maildrops, put_answer, put_maildrop_answer, PutAnswer, WasNew, WasThere, NoRoom, without_maildrop, drop_answer, Gone, kept_in}
 use Rattle.vault.specs.Changes as changes
 use Rattle.vault.specs.Calls.{IsAnswer, put_result, drop_result, present_in}

@@ -1,9 +1,9 @@
 -- Names in order: a name is put in its place, and names are put in one after another, the last one first.
-use Rattle.std.proofs.Common.{◌≡◌, ℕ, ◌+◌, ◌-◌, ◌<◌, ◌≤◌, Bool, true, false, not, List, [], ◌∷◌, ◌++◌, length, take, drop, cond, suc, refl, sym, ◌∙◌, ap, arith, get_or, drop-cons}
-use Rattle.std.specs.Prelude.{insert, position, unwrap_or, nat_lt, if◌then◌else◌, Option, Some, None}
+use Rattle.std.proofs.Common.{◌≡◌, ℕ, ◌+◌, ◌≤◌, Bool, true, false, not, List, [], ◌∷◌, length, cond, suc, refl, sym, ◌∙◌, ap, arith}
+use Rattle.std.specs.Prelude.{insert, position, unwrap_or, nat_lt, if◌then◌else◌, Some, None}
 use Rattle.std.specs.List.{prefix_len, position_or_len}
 use Rattle.std.proofs.lemmas.Bool.Decides.{nat_tests}
-use Rattle.creds.specs.Names.{comes_before, put_by_name, by_name}
+use Rattle.creds.specs.Names.{comes_before, put_by_name}
 
 -- in front of the first that doesn't come before it
 put_at : (x name : List ℕ) (b : Bool) (xs : List (List ℕ)) (n : ℕ) → put_by_name name xs ≡ insert xs n name

@@ -1,17 +1,14 @@
 -- The octets of sound records can be counted, so that the totals are whole.
-use Rattle.std.proofs.Common.{◌≡◌, ℕ, ◌+◌, ◌*◌, ◌-◌, ◌^◌, ◌<◌, ◌≤◌, Bool, true, false, not, ◌&&◌, List, [], ◌∷◌, length, cond, min, suc, inl, inr, refl, sym, ◌∙◌, ap, arith, lit≤}
-use Rattle.std.specs.Prelude.{map, filter, sum_by, nat_le}
-use Rattle.std.specs.List.{list_all}
+use Rattle.std.proofs.Common.{◌≡◌, ℕ, ◌+◌, ◌*◌, ◌-◌, ◌^◌, ◌≤◌, true, List, [], ◌∷◌, length, min, inl, inr, refl, sym, ◌∙◌, ap, arith, lit≤}
+use Rattle.std.specs.Prelude.{map, sum_by}
 use Rattle.std.specs.Str.{bytes_eq}
-use Rattle.std.proofs.lemmas.Bool.{and_parts}
 use Rattle.std.proofs.lemmas.Bool.Decides.{nat_tests}
 use Rattle.std.proofs.Math.Nat.{mul-le-mul_right}
 use Rattle.std.proofs.lemmas.List.Sums.{sum_by-cons}
 use Rattle.creds.specs.Names.{by_name}
-use Rattle.vault.specs.declared.answer.Total.{Total}
 use Rattle.vault.specs.declared.record.Keyed.{Keyed}
 use Rattle.vault.specs.declared.record.Message.{Message}
-use Rattle.vault.specs.Records.{Records, IsSound, is_sound_message, in_maildrop, octets_of, octets_of_all, most_octets, most_messages}
+use Rattle.vault.specs.Records.{Records, is_sound_message, in_maildrop, octets_of, octets_of_all, most_octets, most_messages}
 use Rattle.vault.specs.Changes.{Contents, AreSound, records_of, kept_in, total_in, totals}
 use Rattle.vault.specs.Calls.{present_in}
 use Rattle.vault.specs.Plain.{capped_total}

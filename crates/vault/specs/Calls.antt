@@ -1,7 +1,7 @@
 -- What each call of a vault promises: what it answers of the contents that were held, and what is then held.
 -- A refused call leaves the contents as they were. Want of memory and a store that refuses may stand in place of any
 -- other answer; that the store refuses is answered only where its count of faults grew.
-use Rattle.std.specs.Prelude.{◌≡◌, ◌≤◌, ◌||◌, ℕ, Bool, true, false, nat_le, nat_lt, List, [], ◌==◌, length, take, ⊤, Option, Some, None, is_some, unwrap_or, Result, Ok, Err, is_ok, if◌then◌else◌}
+use Rattle.std.specs.Prelude.{◌≡◌, ◌≤◌, ◌||◌, ℕ, Bool, true, false, nat_le, nat_lt, List, [], ◌==◌, length, take, ⊤, Option, is_some, unwrap_or, Result, Ok, Err, is_ok, if◌then◌else◌}
 use Rattle.std.specs.List.{find}
 use Rattle.std.specs.Option.{option_map}
 use Rattle.creds.specs.declared.credential.Credential.{Credential}
@@ -64,6 +64,7 @@ present_in d c = length (in_maildrop d (records_of c).messages)
 abbrev pub deposit_answer_in : Contents → (maildrop class id text : List ℕ) → DepositAnswer
 deposit_answer_in c d class id text = deposit_answer (is_one_of d c.maildrops) (present_in d c) (receipts_of d c.deposits) class id text
 
+-- the answer of a deposit, as the call gives it
 abbrev pub deposit_result : DepositAnswer → Result Deposited VaultFault
 deposit_result (Accepted uid) = Ok (stored.New uid)
 deposit_result (KnownAs uid) = Ok (stored.Known uid)
@@ -78,15 +79,18 @@ DepositLeft Holds c d class id text (Ok (stored.New uid)) =
 DepositLeft Holds c d class id text (Ok (stored.Known uid)) = Holds c
 DepositLeft Holds c d class id text (Err e) = Holds c
 
+-- a deposit is answered as the contents that were held give it
 pub record IsDeposited (Holds : Contents → Type 0) (c : Contents) (maildrop class id text : List ℕ) (answered : Result Deposited VaultFault) : Type 0 where
   pub answer : IsAnswer (deposit_result (deposit_answer_in c maildrop class id text)) answered
   pub held : DepositLeft Holds c maildrop class id text answered
 
 -- ---- messages
 
+-- the heads of a maildrop that is there
 abbrev pub heads_result : List ℕ → Contents → Result (List Head) VaultFault
 heads_result d c = if is_one_of d c.maildrops then Ok (heads d c) else Err fault.NoMaildrop
 
+-- they are answered, and nothing is changed
 abbrev pub AreHeads : (Contents → Type 0) → Contents → (maildrop : List ℕ) → Result (List Head) VaultFault → Type 0
 AreHeads Holds c d answered = IsDone Holds c c (heads_result d c) answered
 
@@ -99,10 +103,12 @@ abbrev pub IsPageRead : (text : List ℕ) → (from : ℕ) → (buffer : List �
 IsPageRead text from buffer (Ok n) = (n ≤ length buffer) × IsPage text from (length buffer) (take n buffer)
 IsPageRead text from buffer (Err e) = IsRefusal {A = ℕ} (Ok 0) e
 
+-- a page is answered, and nothing is changed
 pub record IsPaged (Holds : Contents → Type 0) (c : Contents) (key from : ℕ) (buffer : List ℕ) (answered : Result ℕ VaultFault) : Type 0 where
   pub answer : IsPageRead (text_under key c.messages) from buffer answered
   pub held : Holds c
 
+-- the named messages are gone, and keys that aren't there are no fault
 abbrev pub AreRemoved : (Contents → Type 0) → Contents → (maildrop keys : List ℕ) → Result (Unit {0}) VaultFault → Type 0
 AreRemoved Holds c d keys answered = IsDone Holds c (with_messages (without_keys d keys c.messages) c) (Ok tt) answered
 
@@ -114,42 +120,52 @@ put_result WasNew = Ok true
 put_result WasThere = Ok false
 put_result NoRoom = Err fault.Full
 
+-- the credential is answered, and nothing is changed
 abbrev pub IsCredential : (Contents → Type 0) → Contents → (clerk : List ℕ) → Result (Option Credential) VaultFault → Type 0
 IsCredential Holds c clerk answered = IsDone Holds c c (Ok (credential_in clerk c.clerks)) answered
 
+-- the credential is put, and whether the clerk was new is answered
 abbrev pub IsClerkPut : (Contents → Type 0) → Contents → (clerk : List ℕ) → Credential → Result Bool VaultFault → Type 0
 IsClerkPut Holds c clerk given answered =
     IsDone Holds c (with_clerks (with_clerk clerk given c.clerks) c) (put_result (put_clerk_answer clerk c.clerks)) answered
 
+-- only a clerk that is there is dropped
 abbrev pub drop_clerk_result : List ℕ → List Clerk → Result (Unit {0}) VaultFault
 drop_clerk_result name clerks = if is_some (credential_in name clerks) then Ok tt else Err fault.NoClerk
 
+-- the clerk is gone
 abbrev pub IsClerkDropped : (Contents → Type 0) → Contents → (clerk : List ℕ) → Result (Unit {0}) VaultFault → Type 0
 IsClerkDropped Holds c clerk answered =
     IsDone Holds c (with_clerks (without_clerk clerk c.clerks) c) (drop_clerk_result clerk c.clerks) answered
 
 -- ---- maildrops
 
+-- the name is put, and whether it was new is answered
 abbrev pub IsMaildropAdded : (Contents → Type 0) → Contents → (maildrop : List ℕ) → Result Bool VaultFault → Type 0
 IsMaildropAdded Holds c d answered =
     IsDone Holds c (with_maildrops (with_maildrop d c.maildrops) c) (put_result (put_maildrop_answer d c.maildrops)) answered
 
+-- the answer of a drop, as the call gives it
 abbrev pub drop_result : DropAnswer → Result (Unit {0}) VaultFault
 drop_result Gone = Ok tt
 drop_result NotThere = Err fault.NoMaildrop
 drop_result changes.NotEmpty = Err fault.NotEmpty
 
+-- the name is gone; the receipts of its deposits stay
 abbrev pub IsMaildropDropped : (Contents → Type 0) → Contents → (maildrop : List ℕ) → Result (Unit {0}) VaultFault → Type 0
 IsMaildropDropped Holds c d answered =
     IsDone Holds c (with_maildrops (without_maildrop d c.maildrops) c) (drop_result (drop_answer (is_one_of d c.maildrops) (present_in d c))) answered
 
+-- the totals are answered, and nothing is changed
 abbrev pub AreTotals : (Contents → Type 0) → Contents → Result (List Total) VaultFault → Type 0
 AreTotals Holds c answered = IsDone Holds c c (Ok (totals (records_of c))) answered
 
 -- ---- the policy
 
+-- the policy is answered, and nothing is changed
 abbrev pub IsPolicy : (Contents → Type 0) → Contents → Result Policy VaultFault → Type 0
 IsPolicy Holds c answered = IsDone Holds c c (Ok c.policy) answered
 
+-- the policy is set
 abbrev pub IsPolicySet : (Contents → Type 0) → Contents → Policy → Result (Unit {0}) VaultFault → Type 0
 IsPolicySet Holds c policy answered = IsDone Holds c (with_policy policy c) (Ok tt) answered

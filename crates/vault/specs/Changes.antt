@@ -120,6 +120,7 @@ is_named keys key = list_any (λ x. x == key) keys
 abbrev pub without_keys : (maildrop keys : List ℕ) → List Keyed → List Keyed
 without_keys d keys ms = filter (λ (x : Keyed). not (bytes_eq x.message.maildrop d && is_named keys x.key)) ms
 
+-- the contents with these messages
 abbrev pub with_messages : List Keyed → Contents → Contents
 with_messages ms c = record { clerks = c.clerks; maildrops = c.maildrops; messages = ms; deposits = c.deposits; policy = c.policy }
 
@@ -135,9 +136,11 @@ with_clerk name given clerks =
     if is_some (credential_in name clerks) then map (with_credential name given) clerks
     else clerks ++ record { name = name; credential = given } ∷ []
 
+-- the clerks without the one of that name
 abbrev pub without_clerk : List ℕ → List Clerk → List Clerk
 without_clerk name clerks = filter (λ (x : Clerk). not (bytes_eq x.name name)) clerks
 
+-- the contents with these clerks
 abbrev pub with_clerks : List Clerk → Contents → Contents
 with_clerks clerks c = record { clerks = clerks; maildrops = c.maildrops; messages = c.messages; deposits = c.deposits; policy = c.policy }
 
@@ -149,13 +152,16 @@ pub data PutAnswer : Type 0 where
   WasThere : PutAnswer
   NoRoom : PutAnswer
 
+-- of a name, where there are so many of at most so many
 abbrev pub put_answer : (is_there : Bool) → (count most : ℕ) → PutAnswer
 put_answer true count most = WasThere
 put_answer false count most = if nat_le most count then NoRoom else WasNew
 
+-- of a clerk's name
 abbrev pub put_clerk_answer : List ℕ → List Clerk → PutAnswer
 put_clerk_answer name clerks = put_answer (is_some (credential_in name clerks)) (length clerks) most_clerks
 
+-- of a maildrop's name
 abbrev pub put_maildrop_answer : List ℕ → List (List ℕ) → PutAnswer
 put_maildrop_answer name maildrops = put_answer (is_one_of name maildrops) (length maildrops) most_maildrops
 
@@ -163,9 +169,11 @@ put_maildrop_answer name maildrops = put_answer (is_one_of name maildrops) (leng
 abbrev pub with_maildrop : List ℕ → List (List ℕ) → List (List ℕ)
 with_maildrop name maildrops = if is_one_of name maildrops then maildrops else maildrops ++ name ∷ []
 
+-- the names without that one
 abbrev pub without_maildrop : List ℕ → List (List ℕ) → List (List ℕ)
 without_maildrop name maildrops = filter (λ d. not (bytes_eq d name)) maildrops
 
+-- the contents with these maildrops
 abbrev pub with_maildrops : List (List ℕ) → Contents → Contents
 with_maildrops maildrops c = record { clerks = c.clerks; maildrops = maildrops; messages = c.messages; deposits = c.deposits; policy = c.policy }
 
@@ -175,6 +183,7 @@ pub data DropAnswer : Type 0 where
   NotThere : DropAnswer
   NotEmpty : DropAnswer
 
+-- `present` is how many messages the maildrop has
 abbrev pub drop_answer : (is_there : Bool) → (present : ℕ) → DropAnswer
 drop_answer false present = NotThere
 drop_answer true present = if present == 0 then Gone else NotEmpty
@@ -189,5 +198,6 @@ totals B = map (λ d. total_in d (in_maildrop d B.messages)) (by_name B.maildrop
 
 -- ---- the policy
 
+-- the contents with this policy
 abbrev pub with_policy : Policy → Contents → Contents
 with_policy policy c = record { clerks = c.clerks; maildrops = c.maildrops; messages = c.messages; deposits = c.deposits; policy = policy }

@@ -2,3 +2,5 @@ pub mod Records
 pub mod Changes
 pub mod Calls
 pub mod Plain
+pub mod Faults
+pub mod Refusals

@@ -1,5 +1,5 @@
 -- What a store holds: clerks, maildrops, messages, deposits and rules, and when they are sound.
-use Rattle.std.specs.Prelude.{◌≡◌, ℕ, Bool, true, false, not, ◌&&◌, ◌||◌, ◌==◌, ◌≤◌, nat_le, nat_lt, List, [], ◌∷◌, length, filter, count_by, map, sum_by, Option}
+use Rattle.std.specs.Prelude.{◌≡◌, ℕ, Bool, true, not, ◌&&◌, ◌==◌, ◌≤◌, nat_le, nat_lt, List, length, filter, count_by, map, sum_by, Option}
 use Rattle.std.specs.List.{find, list_any, list_all}
 use Rattle.std.specs.Option.{option_map}
 use Rattle.std.specs.Str.{bytes_eq}
@@ -13,6 +13,7 @@ use Rattle.vault.specs.declared.record.Clerk.{Clerk}
 use Rattle.vault.specs.declared.record.Message.{Message}
 use Rattle.vault.specs.declared.record.Receipt.{Receipt}
 
+-- the five lists; a deposit's receipt outlives its message and its maildrop
 pub record Records : Type 0 where
   pub clerks : List Clerk
   pub maildrops : List (List ℕ)
@@ -22,35 +23,45 @@ pub record Records : Type 0 where
 
 -- ---- the limits of a store
 
+-- of a message in its kept form
 abbrev pub most_octets : ℕ
 most_octets = 26214400
 
+-- of messages in a maildrop
 abbrev pub most_messages : ℕ
 most_messages = 10000
 
+-- of deposits of a class into a maildrop's name
 abbrev pub most_deposits : ℕ
 most_deposits = 1000000000
 
+-- of maildrops
 abbrev pub most_maildrops : ℕ
 most_maildrops = 1000
 
+-- of clerks
 abbrev pub most_clerks : ℕ
 most_clerks = 1000
 
 -- ---- looking into records
 
+-- a message's unique-id (RFC 1939, 7: UIDL)
 abbrev pub uid_of : Message → Uid
 uid_of m = record { class = m.class; k = m.k }
 
+-- its class, by which the policy decides
 abbrev pub class_of : Message → List ℕ
 class_of m = m.class
 
+-- its size (RFC 1939, 11)
 abbrev pub octets_of : Message → ℕ
 octets_of m = length m.text
 
+-- the octets of all of them
 abbrev pub octets_of_all : List Message → ℕ
 octets_of_all ms = sum_by octets_of ms
 
+-- of one maildrop, with one unique-id
 abbrev pub same_message : Message → Message → Bool
 same_message a b = bytes_eq a.maildrop b.maildrop && bytes_eq a.class b.class && a.k == b.k
 
@@ -58,12 +69,15 @@ same_message a b = bytes_eq a.maildrop b.maildrop && bytes_eq a.class b.class &&
 abbrev pub without : List Message → List Message → List Message
 without ms others = filter (λ m. not (list_any (same_message m) others)) ms
 
+-- the messages of a maildrop, in order of arrival
 abbrev pub in_maildrop : List ℕ → List Message → List Message
 in_maildrop d ms = filter (λ m. bytes_eq m.maildrop d) ms
 
+-- the receipts of a maildrop's name
 abbrev pub receipts_of : List ℕ → List Receipt → List Receipt
 receipts_of d rs = filter (λ r. bytes_eq r.maildrop d) rs
 
+-- the receipt of an id, where the id was used
 abbrev pub receipt_of : List ℕ → List Receipt → Option Receipt
 receipt_of id rs = find (λ r. bytes_eq r.id id) rs
 
@@ -71,21 +85,25 @@ receipt_of id rs = find (λ r. bytes_eq r.id id) rs
 abbrev pub class_count : List ℕ → List Receipt → ℕ
 class_count class rs = count_by (λ r. bytes_eq r.class class) rs
 
+-- a name is among these
 abbrev pub is_one_of : List ℕ → List (List ℕ) → Bool
 is_one_of name names = list_any (λ x. bytes_eq x name) names
 
+-- the credential of the clerk of a name, where there is one
 abbrev pub credential_in : List ℕ → List Clerk → Option Credential
 credential_in name clerks = option_map (λ (x : Clerk). x.credential) (find (λ x. bytes_eq x.name name) clerks)
 
 -- ---- sound records
 
--- two deposits into one maildrop's name, with one id; with one unique-id
+-- two deposits into one maildrop's name, with one id
 abbrev pub same_id : Receipt → Receipt → Bool
 same_id r s = bytes_eq r.maildrop s.maildrop && bytes_eq r.id s.id
 
+-- two deposits into one maildrop's name, with one unique-id
 abbrev pub same_uid : Receipt → Receipt → Bool
 same_uid r s = bytes_eq r.maildrop s.maildrop && bytes_eq r.class s.class && r.k == s.k
 
+-- the receipt of the deposit that brought the message
 abbrev pub is_receipt_for : Message → Receipt → Bool
 is_receipt_for m r = bytes_eq m.maildrop r.maildrop && bytes_eq m.class r.class && m.k == r.k
 
@@ -93,10 +111,12 @@ is_receipt_for m r = bytes_eq m.maildrop r.maildrop && bytes_eq m.class r.class 
 abbrev pub is_counted : List Receipt → Receipt → Bool
 is_counted rs r = nat_lt 0 r.k && nat_le r.k (class_count r.class (receipts_of r.maildrop rs))
 
+-- a secret of its form, or a digest of 32 octets
 abbrev pub is_sound_credential : Credential → Bool
 is_sound_credential (kept.Apop secret) = is_secret secret
 is_sound_credential (kept.Pass digest) = length digest == 32
 
+-- a clerk's name and credential have their forms
 abbrev pub is_sound_clerk : Clerk → Bool
 is_sound_clerk c = is_name c.name && is_sound_credential c.credential
 
@@ -105,10 +125,12 @@ abbrev pub is_sound_message : Records → Message → Bool
 is_sound_message B m = bytes_eq (kept_form m.text) m.text && nat_lt 0 (octets_of m) && nat_le (octets_of m) most_octets
     && is_one_of m.maildrop B.maildrops && list_any (is_receipt_for m) B.deposits
 
+-- names and an id of their forms, a k that is counted, within the limit, a digest of 32 octets
 abbrev pub is_sound_receipt : Records → Receipt → Bool
 is_sound_receipt B r = is_name r.maildrop && is_deposit_id r.id && is_name r.class && is_counted B.deposits r
     && nat_le (class_count r.class (receipts_of r.maildrop B.deposits)) most_deposits && length r.digest == 32
 
+-- each list is sound, and its elements are apart and within the limits
 pub record IsSound (B : Records) : Type 0 where
   pub clerks : list_all is_sound_clerk B.clerks ≡ true
   pub clerks_apart : are_distinct (λ (c e : Clerk). bytes_eq c.name e.name) B.clerks ≡ true

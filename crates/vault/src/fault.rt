@@ -1,6 +1,6 @@
 //! Why a call of a vault is refused.
-ghost use Rattle.vault.specs.declared.fault.VaultFault.TheVariants.{NoMemory};
 ghost use Rattle.std.specs.Prelude.{◌≡◌};
+ghost use Rattle.vault.specs.declared.fault.VaultFault.TheVariants.{NoMemory};
 
 use std::alloc::{AllocError, AllocFailed};
 use std::error::Error;
@@ -30,6 +30,11 @@ pub enum VaultFault {
 }
 
 impl fmt::Display for VaultFault {
+    ghost use Rattle.std.specs.Prelude.{Some};
+    ghost use Rattle.vault.specs.Faults.{fault_text};
+
+    ghost output = { λ fault. Some (fault_text fault) };
+
     fn fmt<W: fmt::Write>(&self, f: &mut fmt::Formatter<W>) -> fmt::Result {
         match self {
             VaultFault::NoMaildrop => write!(f, "no such maildrop"),

@@ -11,6 +11,7 @@ mod mail;
 mod message_key;
 mod plain;
 mod record;
+mod refusing;
 mod vault;
 
 pub use answer::{Deposited, Head, Total};
@@ -18,4 +19,8 @@ pub use fault::VaultFault;
 pub use message_key::MessageKey;
 pub use plain::PlainVault;
 pub use record::{Clerk, Keyed, Message, Receipt};
+pub use refusing::Refusing;
 pub use vault::Vault;
+
+#[cfg(test)]
+mod tests;

@@ -14,7 +14,8 @@ use policy::Policy;
 ///
 /// Contracts see which contents it holds, how often it was refused by what it stands on, and whether it is clean:
 /// what a call promises beyond safety holds where the store is clean as the call ends. A store that is not clean may
-/// hold any contents. The contents that a clean store holds are sound. A refusal changes no content.
+/// hold any contents, and never becomes clean again. The contents that a clean store holds are sound. A refusal changes no
+/// content.
 ///
 /// Beside the refusals that each call names, any call may answer [`VaultFault::NoMemory`] where memory was refused,
 /// and [`VaultFault::Store`] where the store was refused a statement, which its count of faults shows.
@@ -42,57 +43,66 @@ pub trait Vault {
         text: &MailText,
     ) -> Result<Deposited, VaultFault>
         ensures done { (c : Contents) → holds self.old c → is_clean self.new → IsDeposited (holds self.new) c maildrop.now class.now id.now text.now result }
-        ensures counted { CountsFaults (faults self.old) (faults self.new) result };
+        ensures counted { CountsFaults (faults self.old) (faults self.new) result }
+        ensures clean { is_clean self.new → is_clean self.old };
 
     /// The heads of a maildrop's messages, in order of arrival.
     ///
     /// Answers [`VaultFault::NoMaildrop`] where the maildrop is missing.
     fn heads(&mut self, maildrop: &Name) -> Result<Vec<Head>, VaultFault>
         ensures done { (c : Contents) → holds self.old c → is_clean self.new → AreHeads (holds self.new) c maildrop.now (seen_as result (λ v. v.items)) }
-        ensures counted { CountsFaults (faults self.old) (faults self.new) result };
+        ensures counted { CountsFaults (faults self.old) (faults self.new) result }
+        ensures clean { is_clean self.new → is_clean self.old };
 
     /// Reads octets of a message, from that place on, into the front of the buffer; how many: at least one where one
     /// is left and the buffer isn't empty, else 0. Under an unknown key there is none.
     fn page(&mut self, key: MessageKey, from: u64, buffer: &mut [u8]) -> Result<usize, VaultFault>
         ensures done { (c : Contents) → holds self.old c → is_clean self.new → IsPaged (holds self.new) c key from buffer.new result }
-        ensures counted { CountsFaults (faults self.old) (faults self.new) result };
+        ensures counted { CountsFaults (faults self.old) (faults self.new) result }
+        ensures clean { is_clean self.new → is_clean self.old };
 
     /// Removes those of the maildrop's messages that the keys name, all or none. Keys that aren't there are passed
     /// over, in a missing maildrop all.
     fn remove(&mut self, maildrop: &Name, keys: &[MessageKey]) -> Result<(), VaultFault>
         ensures done { (c : Contents) → holds self.old c → is_clean self.new → AreRemoved (holds self.new) c maildrop.now keys.now result }
-        ensures counted { CountsFaults (faults self.old) (faults self.new) result };
+        ensures counted { CountsFaults (faults self.old) (faults self.new) result }
+        ensures clean { is_clean self.new → is_clean self.old };
 
     /// Each maildrop with how many messages it has and their octets, by name, in the order of octets.
     fn maildrops(&mut self) -> Result<Vec<Total>, VaultFault>
         ensures done { (c : Contents) → holds self.old c → is_clean self.new → AreTotals (holds self.new) c (seen_as result (λ v. v.items)) }
-        ensures counted { CountsFaults (faults self.old) (faults self.new) result };
+        ensures counted { CountsFaults (faults self.old) (faults self.new) result }
+        ensures clean { is_clean self.new → is_clean self.old };
 
     /// The credential of a clerk, where there is one of that name.
     fn credential(&mut self, clerk: &Name) -> Result<Option<Credential>, VaultFault>
         ensures done { (c : Contents) → holds self.old c → is_clean self.new → IsCredential (holds self.new) c clerk.now result }
-        ensures counted { CountsFaults (faults self.old) (faults self.new) result };
+        ensures counted { CountsFaults (faults self.old) (faults self.new) result }
+        ensures clean { is_clean self.new → is_clean self.old };
 
     /// Puts a clerk's credential, in place of the one that is there. Answers whether the clerk was new.
     ///
     /// Answers [`VaultFault::Full`] for a new name beyond 1,000.
     fn put_clerk(&mut self, clerk: &Name, credential: &Credential) -> Result<bool, VaultFault>
         ensures done { (c : Contents) → holds self.old c → is_clean self.new → IsClerkPut (holds self.new) c clerk.now credential.now result }
-        ensures counted { CountsFaults (faults self.old) (faults self.new) result };
+        ensures counted { CountsFaults (faults self.old) (faults self.new) result }
+        ensures clean { is_clean self.new → is_clean self.old };
 
     /// Drops a clerk.
     ///
     /// Answers [`VaultFault::NoClerk`] where there is none of that name.
     fn drop_clerk(&mut self, clerk: &Name) -> Result<(), VaultFault>
         ensures done { (c : Contents) → holds self.old c → is_clean self.new → IsClerkDropped (holds self.new) c clerk.now result }
-        ensures counted { CountsFaults (faults self.old) (faults self.new) result };
+        ensures counted { CountsFaults (faults self.old) (faults self.new) result }
+        ensures clean { is_clean self.new → is_clean self.old };
 
     /// Adds a maildrop of this name, with the deposits that its name ever had. Answers whether it was new.
     ///
     /// Answers [`VaultFault::Full`] for a new name beyond 1,000.
     fn add_maildrop(&mut self, maildrop: &Name) -> Result<bool, VaultFault>
         ensures done { (c : Contents) → holds self.old c → is_clean self.new → IsMaildropAdded (holds self.new) c maildrop.now result }
-        ensures counted { CountsFaults (faults self.old) (faults self.new) result };
+        ensures counted { CountsFaults (faults self.old) (faults self.new) result }
+        ensures clean { is_clean self.new → is_clean self.old };
 
     /// Drops an empty maildrop. The deposits of its name stay, so that counts and ids go on where it is added again.
     ///
@@ -100,17 +110,20 @@ pub trait Vault {
     /// message.
     fn drop_maildrop(&mut self, maildrop: &Name) -> Result<(), VaultFault>
         ensures done { (c : Contents) → holds self.old c → is_clean self.new → IsMaildropDropped (holds self.new) c maildrop.now result }
-        ensures counted { CountsFaults (faults self.old) (faults self.new) result };
+        ensures counted { CountsFaults (faults self.old) (faults self.new) result }
+        ensures clean { is_clean self.new → is_clean self.old };
 
     /// A copy of the policy.
     fn policy(&mut self) -> Result<Policy, VaultFault>
         ensures done { (c : Contents) → holds self.old c → is_clean self.new → IsPolicy (holds self.new) c result }
-        ensures counted { CountsFaults (faults self.old) (faults self.new) result };
+        ensures counted { CountsFaults (faults self.old) (faults self.new) result }
+        ensures clean { is_clean self.new → is_clean self.old };
 
     /// Sets the policy to a copy of this one.
     fn set_policy(&mut self, policy: &Policy) -> Result<(), VaultFault>
         ensures done { (c : Contents) → holds self.old c → is_clean self.new → IsPolicySet (holds self.new) c policy.now result }
-        ensures counted { CountsFaults (faults self.old) (faults self.new) result };
+        ensures counted { CountsFaults (faults self.old) (faults self.new) result }
+        ensures clean { is_clean self.new → is_clean self.old };
 
     /// The contents that a clean store holds are sound.
     ghost sound: { (vault : Self) (c : Contents) → holds vault c → is_clean vault → AreSound c };

@@ -1,5 +1,5 @@
 -- The name's place is where it is put.
-use Rattle.std.proofs.Common.{◌∙◌, sym}
+use Rattle.std.proofs.Common.{sym}
 use Rattle.vault.proofs.OrderLemmas.{put_is_insert_at}
 use Rattle.vault.proofs.lists.put_in_order.Goals as goal
 

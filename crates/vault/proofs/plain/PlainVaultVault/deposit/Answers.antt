@@ -1,5 +1,5 @@
 -- A deposit is refused, or accepted, or memory for it is refused.
-use Rattle.std.proofs.Common.{◌∙◌, sym, Ok}
+use Rattle.std.proofs.Common.{◌∙◌, sym}
 use Rattle.vault.specs.contracts.plain.PlainVault.{the_view}
 use Rattle.vault.specs.declared.fault.VaultFault.TheVariants as fault
 use Rattle.vault.proofs.DepositLemmas.{deposit_refused, deposit_accepted, deposit_unkept, deposit_left, judged_by, refused_as, ok_new}

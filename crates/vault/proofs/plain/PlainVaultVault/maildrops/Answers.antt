@@ -1,7 +1,6 @@
 -- The totals are whole, since the contents are sound.
-use Rattle.std.proofs.Common.{Ok, sym, subst}
+use Rattle.std.proofs.Common.{Ok}
 use Rattle.vault.specs.Changes.{totals, records_of}
-use Rattle.vault.specs.Calls.{IsAnswer}
 use Rattle.vault.proofs.DoneLemmas.{looked}
 use Rattle.vault.proofs.TotalLemmas.{totals_are}
 use Rattle.vault.proofs.plain.PlainVaultVault.maildrops.Goals as goal

@@ -1,0 +1,239 @@
+//! A vault that refuses one of its calls, for tests of what stands on a vault.
+ghost use Rattle.std.specs.Prelude.{◌≡◌, ◌-◌, if◌then◌else◌};
+ghost use Rattle.vault.specs.Changes.{Contents};
+ghost use Rattle.vault.specs.Calls.{seen_as, CountsFaults, IsDeposited, AreHeads, IsPaged, AreRemoved, IsCredential, IsClerkPut, IsClerkDropped, IsMaildropAdded, IsMaildropDropped, AreTotals, IsPolicy, IsPolicySet};
+ghost use Rattle.vault.specs.Refusals.{refusing_call, is_next, one_more, faults_of, IsInTurn};
+
+use crate::answer::{Deposited, Head, Total};
+use crate::fault::VaultFault;
+use crate::message_key::MessageKey;
+use crate::vault::Vault;
+use creds::{Credential, DepositId, Name};
+use mailtext::MailText;
+use policy::Policy;
+use std::marker::Model;
+
+/// The calls up to the refused one.
+#[derive(Clone, Copy)]
+struct Countdown {
+    /// How many are to come, the refused one counted; 0 where none will be refused.
+    to_come: u64,
+    /// How many were refused; at 2^64 - 1 the count stays.
+    refusals: u64,
+}
+
+impl Countdown {
+    /// Counts a call. Whether it is the refused one.
+    fn is_due(&mut self) -> bool
+        ensures due { result ≡ is_next self.old.to_come }
+        ensures to_come { self.new.to_come ≡ self.old.to_come - 1 }
+        ensures refusals { self.new.refusals ≡ (if is_next self.old.to_come then one_more self.old.refusals else self.old.refusals) }
+    {
+        let is_due = self.to_come == 1;
+        self.to_come = self.to_come.saturating_sub(1);
+        if is_due {
+            self.refusals = self.refusals.saturating_add(1);
+        }
+        is_due
+    }
+}
+
+/// A vault of which one call is refused: that call changes nothing, counts as a fault and answers
+/// [`VaultFault::Store`]. All others go to the vault inside. Contracts see that vault, how many calls are to come up to
+/// the refused one, and how many were refused.
+#[derive(Drop)]
+pub struct Refusing<V: Vault> {
+    vault: V,
+    countdown: Countdown,
+}
+
+impl<V: Vault> Model for Refusing<V> {
+    ghost use Rattle.vault.specs.Refusals.{Refusals};
+
+    ghost Value = { Refusals V };
+
+    ghost view = { λ r. record { vault = r.vault; to_come = r.countdown.to_come; refusals = r.countdown.refusals } };
+}
+
+impl<V: Vault> Refusing<V> {
+    /// A vault of which call number `n` is refused, counted from 1 over all its calls; 0 refuses none.
+    pub fn new(vault: V, n: u64) -> Refusing<V>
+        ensures { result ≡ refusing_call vault n }
+    {
+        Refusing {
+            vault,
+            countdown: Countdown {
+                to_come: n,
+                refusals: 0,
+            },
+        }
+    }
+
+    /// How many of its calls were refused, which the vault inside knows nothing of.
+    pub fn refusals(&self) -> u64
+        ensures { result ≡ self.now.refusals }
+    {
+        self.countdown.refusals
+    }
+}
+
+/// Each call as in the vault inside, but for the refused one.
+impl<V: Vault> Vault for Refusing<V> {
+    ghost holds = { λ r. V.holds r.vault };
+
+    ghost faults = { faults_of V.faults };
+
+    ghost is_clean = { λ r. V.is_clean r.vault };
+
+    ghost sound = { λ r. V.sound r.vault };
+
+    fn deposit(
+        &mut self,
+        maildrop: &Name,
+        class: &Name,
+        id: &DepositId,
+        text: &MailText,
+    ) -> Result<Deposited, VaultFault>
+        ensures done { (c : Contents) → V.holds self.old.vault c → V.is_clean self.new.vault → IsDeposited (V.holds self.new.vault) c maildrop.now class.now id.now text.now result }
+        ensures counted { CountsFaults (faults_of V.faults self.old) (faults_of V.faults self.new) result }
+        ensures clean { V.is_clean self.new.vault → V.is_clean self.old.vault }
+        ensures turn { IsInTurn V.faults self.old self.new result }
+    {
+        if self.countdown.is_due() {
+            return Err(VaultFault::Store);
+        }
+        self.vault.deposit(maildrop, class, id, text)
+    }
+
+    fn heads(&mut self, maildrop: &Name) -> Result<Vec<Head>, VaultFault>
+        ensures done { (c : Contents) → V.holds self.old.vault c → V.is_clean self.new.vault → AreHeads (V.holds self.new.vault) c maildrop.now (seen_as result (λ v. v.items)) }
+        ensures counted { CountsFaults (faults_of V.faults self.old) (faults_of V.faults self.new) result }
+        ensures clean { V.is_clean self.new.vault → V.is_clean self.old.vault }
+        ensures turn { IsInTurn V.faults self.old self.new result }
+    {
+        if self.countdown.is_due() {
+            return Err(VaultFault::Store);
+        }
+        self.vault.heads(maildrop)
+    }
+
+    fn page(&mut self, key: MessageKey, from: u64, buffer: &mut [u8]) -> Result<usize, VaultFault>
+        ensures done { (c : Contents) → V.holds self.old.vault c → V.is_clean self.new.vault → IsPaged (V.holds self.new.vault) c key from buffer.new result }
+        ensures counted { CountsFaults (faults_of V.faults self.old) (faults_of V.faults self.new) result }
+        ensures clean { V.is_clean self.new.vault → V.is_clean self.old.vault }
+        ensures turn { IsInTurn V.faults self.old self.new result }
+    {
+        if self.countdown.is_due() {
+            return Err(VaultFault::Store);
+        }
+        self.vault.page(key, from, buffer)
+    }
+
+    fn remove(&mut self, maildrop: &Name, keys: &[MessageKey]) -> Result<(), VaultFault>
+        ensures done { (c : Contents) → V.holds self.old.vault c → V.is_clean self.new.vault → AreRemoved (V.holds self.new.vault) c maildrop.now keys.now result }
+        ensures counted { CountsFaults (faults_of V.faults self.old) (faults_of V.faults self.new) result }
+        ensures clean { V.is_clean self.new.vault → V.is_clean self.old.vault }
+        ensures turn { IsInTurn V.faults self.old self.new result }
+    {
+        if self.countdown.is_due() {
+            return Err(VaultFault::Store);
+        }
+        self.vault.remove(maildrop, keys)
+    }
+
+    fn maildrops(&mut self) -> Result<Vec<Total>, VaultFault>
+        ensures done { (c : Contents) → V.holds self.old.vault c → V.is_clean self.new.vault → AreTotals (V.holds self.new.vault) c (seen_as result (λ v. v.items)) }
+        ensures counted { CountsFaults (faults_of V.faults self.old) (faults_of V.faults self.new) result }
+        ensures clean { V.is_clean self.new.vault → V.is_clean self.old.vault }
+        ensures turn { IsInTurn V.faults self.old self.new result }
+    {
+        if self.countdown.is_due() {
+            return Err(VaultFault::Store);
+        }
+        self.vault.maildrops()
+    }
+
+    fn credential(&mut self, clerk: &Name) -> Result<Option<Credential>, VaultFault>
+        ensures done { (c : Contents) → V.holds self.old.vault c → V.is_clean self.new.vault → IsCredential (V.holds self.new.vault) c clerk.now result }
+        ensures counted { CountsFaults (faults_of V.faults self.old) (faults_of V.faults self.new) result }
+        ensures clean { V.is_clean self.new.vault → V.is_clean self.old.vault }
+        ensures turn { IsInTurn V.faults self.old self.new result }
+    {
+        if self.countdown.is_due() {
+            return Err(VaultFault::Store);
+        }
+        self.vault.credential(clerk)
+    }
+
+    fn put_clerk(&mut self, clerk: &Name, credential: &Credential) -> Result<bool, VaultFault>
+        ensures done { (c : Contents) → V.holds self.old.vault c → V.is_clean self.new.vault → IsClerkPut (V.holds self.new.vault) c clerk.now credential.now result }
+        ensures counted { CountsFaults (faults_of V.faults self.old) (faults_of V.faults self.new) result }
+        ensures clean { V.is_clean self.new.vault → V.is_clean self.old.vault }
+        ensures turn { IsInTurn V.faults self.old self.new result }
+    {
+        if self.countdown.is_due() {
+            return Err(VaultFault::Store);
+        }
+        self.vault.put_clerk(clerk, credential)
+    }
+
+    fn drop_clerk(&mut self, clerk: &Name) -> Result<(), VaultFault>
+        ensures done { (c : Contents) → V.holds self.old.vault c → V.is_clean self.new.vault → IsClerkDropped (V.holds self.new.vault) c clerk.now result }
+        ensures counted { CountsFaults (faults_of V.faults self.old) (faults_of V.faults self.new) result }
+        ensures clean { V.is_clean self.new.vault → V.is_clean self.old.vault }
+        ensures turn { IsInTurn V.faults self.old self.new result }
+    {
+        if self.countdown.is_due() {
+            return Err(VaultFault::Store);
+        }
+        self.vault.drop_clerk(clerk)
+    }
+
+    fn add_maildrop(&mut self, maildrop: &Name) -> Result<bool, VaultFault>
+        ensures done { (c : Contents) → V.holds self.old.vault c → V.is_clean self.new.vault → IsMaildropAdded (V.holds self.new.vault) c maildrop.now result }
+        ensures counted { CountsFaults (faults_of V.faults self.old) (faults_of V.faults self.new) result }
+        ensures clean { V.is_clean self.new.vault → V.is_clean self.old.vault }
+        ensures turn { IsInTurn V.faults self.old self.new result }
+    {
+        if self.countdown.is_due() {
+            return Err(VaultFault::Store);
+        }
+        self.vault.add_maildrop(maildrop)
+    }
+
+    fn drop_maildrop(&mut self, maildrop: &Name) -> Result<(), VaultFault>
+        ensures done { (c : Contents) → V.holds self.old.vault c → V.is_clean self.new.vault → IsMaildropDropped (V.holds self.new.vault) c maildrop.now result }
+        ensures counted { CountsFaults (faults_of V.faults self.old) (faults_of V.faults self.new) result }
+        ensures clean { V.is_clean self.new.vault → V.is_clean self.old.vault }
+        ensures turn { IsInTurn V.faults self.old self.new result }
+    {
+        if self.countdown.is_due() {
+            return Err(VaultFault::Store);
+        }
+        self.vault.drop_maildrop(maildrop)
+    }
+
+    fn policy(&mut self) -> Result<Policy, VaultFault>
+        ensures done { (c : Contents) → V.holds self.old.vault c → V.is_clean self.new.vault → IsPolicy (V.holds self.new.vault) c result }
+        ensures counted { CountsFaults (faults_of V.faults self.old) (faults_of V.faults self.new) result }
+        ensures clean { V.is_clean self.new.vault → V.is_clean self.old.vault }
+        ensures turn { IsInTurn V.faults self.old self.new result }
+    {
+        if self.countdown.is_due() {
+            return Err(VaultFault::Store);
+        }
+        self.vault.policy()
+    }
+
+    fn set_policy(&mut self, policy: &Policy) -> Result<(), VaultFault>
+        ensures done { (c : Contents) → V.holds self.old.vault c → V.is_clean self.new.vault → IsPolicySet (V.holds self.new.vault) c policy.now result }
+        ensures counted { CountsFaults (faults_of V.faults self.old) (faults_of V.faults self.new) result }
+        ensures clean { V.is_clean self.new.vault → V.is_clean self.old.vault }
+        ensures turn { IsInTurn V.faults self.old self.new result }
+    {
+        if self.countdown.is_due() {
+            return Err(VaultFault::Store);
+        }
+        self.vault.set_policy(policy)
+    }
+}

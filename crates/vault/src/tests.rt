@@ -1,0 +1,394 @@
+//! What no clause says: that the calls succeed where there is memory, and the sample store's deposits, counts and pages.
+use crate::deposits::{ask, judge};
+use crate::{
+    Deposited, Head, Keyed, Message, MessageKey, PlainVault, Receipt, Refusing, Total, Vault,
+    VaultFault,
+};
+use creds::{Credential, DepositId, Name, Secret, Uid};
+use mailtext::canon;
+use policy::Policy;
+use std::alloc::Global;
+use std::test::Fail;
+
+/// The text of the sample store's first deposit, and what is kept of it.
+static TEXT: &str = "Subject: a\n\nhi\n.\n";
+
+static KEPT: &[u8] = b"Subject: a\r\n\r\nhi\r\n.\r\n";
+
+/// A policy of one rule.
+static RULE: &str = r#"
+[[rule]]
+name = "ann-all"
+effect = "allow"
+clerk = "ann"
+maildrop = "orders"
+class = "*"
+actions = ["open", "read", "remove"]
+"#;
+
+/// A call of a vault. Deposits, of a class, an id and a text, go into the maildrop `orders`, and messages are removed by
+/// their keys from the maildrop that is named.
+#[derive(Clone, Copy)]
+enum Call {
+    Add(&'static str),
+    Drop(&'static str),
+    Maildrops,
+    Deposit(&'static str, &'static str, &'static str),
+    Heads(&'static str),
+    Remove(&'static str, u64),
+    Put(&'static str, &'static str),
+    DropClerk(&'static str),
+}
+
+/// Calls of a new store with their answers.
+static STORY: [(Call, &str); 36] = [
+    (Call::Deposit("note", "d1", "x"), "no such maildrop"),
+    (Call::Heads("orders"), "no such maildrop"),
+    (Call::Drop("orders"), "no such maildrop"),
+    (Call::Add("orders"), "new"),
+    (Call::Add("orders"), "known"),
+    (
+        Call::Deposit("note", "d1", "Subject: a\n\nhi\n.\n"),
+        "new note.1",
+    ),
+    (
+        Call::Deposit("note", "d1", "Subject: a\n\nhi\n.\n"),
+        "known note.1",
+    ),
+    (
+        Call::Deposit("pay", "d1", "Subject: a\n\nhi\n.\n"),
+        "conflict",
+    ),
+    (Call::Deposit("note", "d1", "x"), "conflict"),
+    (Call::Heads("orders"), "note.1 21;"),
+    (Call::Maildrops, "orders 1 21;"),
+    (Call::Drop("orders"), "not empty"),
+    (
+        Call::Deposit("pay", "d2", "Subject: pay\n\nx\n"),
+        "new pay.1",
+    ),
+    (Call::Deposit("note", "d3", "no header end"), "new note.2"),
+    (
+        Call::Deposit("todo", "d4", "A: 1\r\n\r\none\r\ntwo\r\nthree\r\n"),
+        "new todo.1",
+    ),
+    (Call::Add("accounts"), "new"),
+    (Call::Maildrops, "accounts 0 0;orders 4 80;"),
+    (Call::Remove("accounts", 2), "done"),
+    (Call::Remove("nowhere", 2), "done"),
+    (Call::Remove("orders", 99), "done"),
+    (
+        Call::Heads("orders"),
+        "note.1 21;pay.1 19;note.2 15;todo.1 25;",
+    ),
+    (Call::Remove("orders", 2), "done"),
+    (Call::Remove("orders", 3), "done"),
+    (Call::Heads("orders"), "note.1 21;todo.1 25;"),
+    (Call::Remove("orders", 1), "done"),
+    (Call::Remove("orders", 4), "done"),
+    (Call::Drop("orders"), "done"),
+    (Call::Maildrops, "accounts 0 0;"),
+    (Call::Add("orders"), "new"),
+    (
+        Call::Deposit("note", "d1", "Subject: a\n\nhi\n.\n"),
+        "known note.1",
+    ),
+    (Call::Heads("orders"), ""),
+    (Call::Deposit("note", "d5", "x"), "new note.3"),
+    (Call::Put("ann", "s3 cret"), "new"),
+    (Call::Put("ann", "hunter"), "known"),
+    (Call::DropClerk("ann"), "done"),
+    (Call::DropClerk("ann"), "no such clerk"),
+];
+
+fn name(text: &str) -> Result<Name, Fail> {
+    Ok(Name::read(text.as_bytes()).ok_or("a name")?)
+}
+
+fn deposit_id(text: &str) -> Result<DepositId, Fail> {
+    Ok(DepositId::read(text.as_bytes()).ok_or("an id")?)
+}
+
+fn secret(text: &str) -> Result<Credential, Fail> {
+    let secret = Secret::read(text.as_bytes()).ok_or("a secret")?;
+    Ok(Credential::Apop(secret))
+}
+
+/// Deposits a text into the maildrop `orders`.
+fn deposit<V: Vault>(
+    alloc: Global,
+    vault: &mut V,
+    class: &str,
+    id: &str,
+    text: &str,
+) -> Result<Result<Deposited, VaultFault>, Fail> {
+    let orders = name("orders")?;
+    let class = name(class)?;
+    let id = deposit_id(id)?;
+    let text = canon(alloc, text.as_bytes())?;
+    Ok(vault.deposit(&orders, &class, &id, &text))
+}
+
+fn said_of_put(alloc: Global, is_new: bool) -> Result<String, VaultFault> {
+    Ok(String::from_str(alloc, if is_new { "new" } else { "known" })?)
+}
+
+fn said_of_deposit(alloc: Global, deposited: Deposited) -> Result<String, VaultFault> {
+    match deposited {
+        Deposited::New(uid) => Ok(format!(in alloc; "new {uid}")?),
+        Deposited::Known(uid) => Ok(format!(in alloc; "known {uid}")?),
+    }
+}
+
+fn said_of_heads(alloc: Global, heads: &[Head]) -> Result<String, VaultFault> {
+    let mut text = String::new(alloc);
+    for head in heads {
+        let class = head.class;
+        let k = head.k;
+        let octets = head.octets;
+        write!(text, "{class}.{k} {octets};")?;
+    }
+    Ok(text)
+}
+
+fn said_of_totals(alloc: Global, totals: &[Total]) -> Result<String, VaultFault> {
+    let mut text = String::new(alloc);
+    for total in totals {
+        let maildrop = total.maildrop;
+        let messages = total.messages;
+        let octets = total.octets;
+        write!(text, "{maildrop} {messages} {octets};")?;
+    }
+    Ok(text)
+}
+
+fn said_of_done(alloc: Global) -> Result<String, VaultFault> {
+    Ok(String::from_str(alloc, "done")?)
+}
+
+/// Makes the call, and tells in words what it is answered.
+fn said<V: Vault>(alloc: Global, vault: &mut V, call: Call) -> Result<String, Fail> {
+    let said = match call {
+        Call::Add(maildrop) => vault
+            .add_maildrop(&name(maildrop)?)
+            .and_then(|is_new| said_of_put(alloc, is_new)),
+        Call::Drop(maildrop) => vault
+            .drop_maildrop(&name(maildrop)?)
+            .and_then(|()| said_of_done(alloc)),
+        Call::Maildrops => vault
+            .maildrops()
+            .and_then(|totals| said_of_totals(alloc, &totals)),
+        Call::Deposit(class, id, text) => deposit(alloc, vault, class, id, text)?.and_then(
+            |deposited| said_of_deposit(alloc, deposited),
+        ),
+        Call::Heads(maildrop) => vault
+            .heads(&name(maildrop)?)
+            .and_then(|heads| said_of_heads(alloc, &heads)),
+        Call::Remove(maildrop, key) => vault
+            .remove(&name(maildrop)?, &[MessageKey::new(key)])
+            .and_then(|()| said_of_done(alloc)),
+        Call::Put(clerk, text) => vault
+            .put_clerk(&name(clerk)?, &secret(text)?)
+            .and_then(|is_new| said_of_put(alloc, is_new)),
+        Call::DropClerk(clerk) => vault
+            .drop_clerk(&name(clerk)?)
+            .and_then(|()| said_of_done(alloc)),
+    };
+    match said {
+        Ok(text) => Ok(text),
+        Err(fault) => Ok(fault.to_string(alloc)?),
+    }
+}
+
+#[test]
+fn story_of_a_store(rt: HostRuntime) -> Result<(), Fail> {
+    let alloc = rt.alloc();
+    let mut vault = PlainVault::new(alloc);
+    for (call, answer) in STORY {
+        let said = said(alloc, &mut vault, call)?;
+        assert_eq!(rt; said.as_str(), answer);
+    }
+    Ok(())
+}
+
+/// A store with the maildrop `orders` and the sample store's first deposit, put again where memory for it is refused.
+fn with_one_deposit(alloc: Global) -> Result<PlainVault, Fail> {
+    let mut vault = PlainVault::new(alloc);
+    vault.add_maildrop(&name("orders")?)?;
+    if deposit(alloc, &mut vault, "note", "d1", TEXT)? == Err(VaultFault::NoMemory) {
+        if !vault.heads(&name("orders")?)?.is_empty() {
+            return Err(Fail::from("a refused deposit left a message"));
+        }
+        deposit(alloc, &mut vault, "note", "d1", TEXT)??;
+    }
+    Ok(vault)
+}
+
+/// Also where one of the growths that the deposit asks for is refused.
+#[test]
+fn pages_join_to_the_kept_text(rt: HostRuntime) -> Result<(), Fail> {
+    let alloc = rt.alloc();
+    let mut vault = with_one_deposit(alloc)?;
+    let heads = vault.heads(&name("orders")?)?;
+    assert_eq!(rt; heads.len(), 1);
+    let key = heads[0].key;
+    let mut joined = Vec::new(alloc);
+    for _ in 0..KEPT.len() {
+        let mut page = [0; 8];
+        let octets = vault.page(key, joined.len() as u64, &mut page)?;
+        assert!(rt; octets <= page.len());
+        joined.extend_from_slice(&page[..octets])?;
+    }
+    assert!(rt; joined.as_slice() == KEPT);
+    let mut page = [0; 8];
+    assert_eq!(rt; vault.page(MessageKey::new(u64::MAX), 0, &mut page), Ok(0));
+    Ok(())
+}
+
+#[test]
+fn credentials_and_policy(rt: HostRuntime) -> Result<(), Fail> {
+    let alloc = rt.alloc();
+    let mut vault = PlainVault::new(alloc);
+    let ann = name("ann")?;
+    let given = Credential::Pass([7; 32]);
+    assert!(rt; vault.put_clerk(&ann, &secret("s3 cret")?) == Ok(true));
+    assert!(rt; vault.put_clerk(&ann, &given) == Ok(false));
+    assert!(rt; vault.credential(&ann) == Ok(Some(given)));
+    assert!(rt; vault.credential(&name("bob")?) == Ok(None));
+    let policy = Policy::read(alloc, RULE)?;
+    assert!(rt; vault.set_policy(&policy) == Ok(()));
+    assert!(rt; vault.policy()?.rules() == policy.rules());
+    Ok(())
+}
+
+#[test]
+fn maildrops_and_clerks_up_to_a_thousand(rt: HostRuntime) -> Result<(), Fail> {
+    let alloc = rt.alloc();
+    let mut vault = PlainVault::new(alloc);
+    let given = secret("s3 cret")?;
+    for number in 0..1000u64 {
+        let text = format!(in alloc; "n{number}")?;
+        let name = name(text.as_str())?;
+        assert!(rt; vault.add_maildrop(&name) == Ok(true));
+        assert!(rt; vault.put_clerk(&name, &given) == Ok(true));
+    }
+    let one_more = name("n1000")?;
+    assert!(rt; vault.add_maildrop(&one_more) == Err(VaultFault::Full));
+    assert!(rt; vault.put_clerk(&one_more, &given) == Err(VaultFault::Full));
+    let known = name("n999")?;
+    assert!(rt; vault.add_maildrop(&known) == Ok(false));
+    assert!(rt; vault.put_clerk(&known, &given) == Ok(false));
+    Ok(())
+}
+
+/// A message of the class `note` in the maildrop `orders`.
+fn message(alloc: Global, number: u64) -> Result<Keyed, Fail> {
+    Ok(Keyed {
+        key: MessageKey::new(number),
+        message: Message {
+            maildrop: name("orders")?,
+            class: name("note")?,
+            k: number,
+            text: canon(alloc, b"x")?,
+        },
+    })
+}
+
+#[test]
+fn messages_up_to_ten_thousand(rt: HostRuntime) -> Result<(), Fail> {
+    let alloc = rt.alloc();
+    let maildrop = name("orders")?;
+    let class = name("note")?;
+    let text = canon(alloc, b"x")?;
+    let known = ask(&maildrop, &class, &deposit_id("d1")?, &text);
+    let asked = ask(&maildrop, &class, &deposit_id("d2")?, &text);
+    let receipt = Receipt {
+        maildrop,
+        id: known.id,
+        class,
+        k: 1,
+        digest: known.digest,
+    };
+    let mut messages = Vec::new(alloc);
+    for number in 1..10_000u64 {
+        messages.push(message(alloc, number)?)?;
+    }
+    let new = Deposited::New(Uid { class, k: 2 });
+    assert!(rt; judge(&[maildrop], &messages, &[receipt], &asked) == Ok(new));
+    messages.push(message(alloc, 10_000)?)?;
+    let full = Err(VaultFault::Full);
+    assert!(rt; judge(&[maildrop], &messages, &[receipt], &asked) == full);
+    let same = Deposited::Known(Uid { class, k: 1 });
+    assert!(rt; judge(&[maildrop], &messages, &[receipt], &known) == Ok(same));
+    Ok(())
+}
+
+/// Calls 1 to 7 of twelve, a kind each: whether the call answers as it does behind those before it.
+fn is_kept<V: Vault>(
+    alloc: Global,
+    vault: &mut V,
+    call: u64,
+) -> Result<Result<bool, VaultFault>, Fail> {
+    let orders = name("orders")?;
+    let key = MessageKey::new(1);
+    Ok(match call {
+        1 => vault.add_maildrop(&orders),
+        2 => {
+            let class = name("note")?;
+            let new = Deposited::New(Uid { class, k: 1 });
+            deposit(alloc, vault, "note", "d1", TEXT)?.map(|stored| stored == new)
+        }
+        3 => vault.heads(&orders).map(|heads| heads.len() == 1),
+        4 => vault.page(key, 0, &mut [0; 64]).map(|octets| octets == 21),
+        5 => vault.maildrops().map(|totals| totals.len() == 1),
+        6 => vault.remove(&orders, &[key]).map(|()| true),
+        _ => vault.drop_maildrop(&orders).map(|()| true),
+    })
+}
+
+/// Calls 8 to 12.
+fn is_administered<V: Vault>(
+    alloc: Global,
+    vault: &mut V,
+    call: u64,
+) -> Result<Result<bool, VaultFault>, Fail> {
+    let ann = name("ann")?;
+    Ok(match call {
+        8 => vault.put_clerk(&ann, &secret("s3 cret")?),
+        9 => vault.credential(&ann).map(|found| found.is_some()),
+        10 => vault.drop_clerk(&ann).map(|()| true),
+        11 => vault.set_policy(&Policy::read(alloc, RULE)?).map(|()| true),
+        _ => vault.policy().map(|policy| policy.len() == 1),
+    })
+}
+
+fn is_answered<V: Vault>(
+    alloc: Global,
+    vault: &mut V,
+    call: u64,
+) -> Result<Result<bool, VaultFault>, Fail> {
+    if call < 8 {
+        is_kept(alloc, vault, call)
+    } else {
+        is_administered(alloc, vault, call)
+    }
+}
+
+#[test]
+fn one_call_is_refused(rt: HostRuntime) -> Result<(), Fail> {
+    let alloc = rt.alloc();
+    for n in 0..13u64 {
+        let mut vault = Refusing::new(PlainVault::new(alloc), n);
+        for call in 1..13u64 {
+            assert_eq!(rt; vault.refusals(), u64::from(0 < n && n < call));
+            if call == n {
+                let refused = is_answered(alloc, &mut vault, call)?;
+                assert!(rt; refused == Err(VaultFault::Store), "{call}");
+            }
+            let answer = is_answered(alloc, &mut vault, call)?;
+            assert!(rt; answer == Ok(true), "{call} of {n}");
+        }
+        assert_eq!(rt; vault.refusals(), n.min(1));
+    }
+    Ok(())
+}
