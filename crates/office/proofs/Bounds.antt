@@ -45,7 +45,7 @@ all_filter p q (x ∷ xs) h =
     at true e k = rw (e, k) refl
     at false e k = k
 
-any_witness : {A : Type 0} (p : A → Bool) (xs : List A) → list_any p xs ≡ true → (x : A) × In x xs × (p x ≡ true)
+pub any_witness : {A : Type 0} (p : A → Bool) (xs : List A) → list_any p xs ≡ true → (x : A) × In x xs × (p x ≡ true)
 any_witness p [] h = absurd (true≢false (sym h))
 any_witness {A} p (x ∷ xs) h = at (p x) refl h (λ k. any_witness p xs k)
   where

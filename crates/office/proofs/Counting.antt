@@ -8,6 +8,7 @@ use Rattle.std.specs.List.Sorted.{IsStrictlySortedBy}
 use Rattle.std.specs.Map.{lookup, keys_of}
 use Rattle.std.specs.BTreeMap.{get, is_at, IsOrdered, btree_map_len}
 use Rattle.std.specs.declared.cmp.Ordering.TheVariants.{Less}
+use Rattle.vault.specs.Changes.{Contents}
 use Rattle.office.specs.Events.{Trace}
 use Rattle.office.specs.Log.{opened}
 use Rattle.office.specs.Trace.{is_open, open_numbers}
@@ -90,11 +91,11 @@ module _ (p : ℕ → Bool) where
       (cases_eq a k)
 
 kept_is_open : (s : Seen) (o : Option Kept) → IsKeptFor s o → is_some o ≡ is_seen_open s
-kept_is_open s None h = sym h
+kept_is_open s None h = sym h.closed
 kept_is_open s (Some k) m = sym m.opened
 
-pub open_numbers-len : {V : Type 0} (o : Office V) (T : Trace) → StandsFor o T → IsOrdered nat_cmp o.links → length (open_numbers T) ≡ btree_map_len o.links
-open_numbers-len o T st ordered =
+pub open_numbers-len : {V : Type 0} (Holds : V → Contents → Type 0) (o : Office V) (T : Trace) → StandsFor Holds o T → IsOrdered nat_cmp o.links → length (open_numbers T) ≡ btree_map_len o.links
+open_numbers-len Holds o T st ordered =
     let there : (c : ℕ) → is_some (get nat_cmp o.links c) ≡ is_open T c = λ c. kept_is_open (seen T c) (get nat_cmp o.links c) (st.links c) in
     count_of_keys (is_open T) (opened T.log) 1 o.links.entries
     (ascends 1 o.links.entries ordered (λ k some. (st.numbered k some).0))
@@ -104,9 +105,9 @@ open_numbers-len o T st ordered =
 last_number : (most n : ℕ) → n ≤ most → (n == most) ≡ nat_lt most (n + 1)
 last_number most n fits = grind (arith, nat_tests, fits)
 
-module _ {V : Type 0} (o : Office V) (T : Trace) (st : StandsFor o T) (ordered : IsOrdered nat_cmp o.links) (len : ℕ) (counted : len ≡ btree_map_len o.links) where
+module _ {V : Type 0} (Holds : V → Contents → Type 0) (o : Office V) (T : Trace) (st : StandsFor Holds o T) (ordered : IsOrdered nat_cmp o.links) (len : ℕ) (counted : len ≡ btree_map_len o.links) where
   open_len : length (open_numbers T) ≡ len
-  open_len = open_numbers-len o T st ordered ∙ sym counted
+  open_len = open_numbers-len Holds o T st ordered ∙ sym counted
 
   -- as many are open as may be
   pub full_by_len : most_open ≤ len → nat_le most_open len ≡ is_full T

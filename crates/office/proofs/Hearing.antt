@@ -2,17 +2,17 @@
 use Rattle.std.proofs.Common.{◌≡◌, ℕ, zero, suc, ◌+◌, ◌≤◌, Bool, true, false, not, ◌||◌, ◌&&◌, cond, List, [], ◌∷◌, ◌++◌, drop, length, map, refl, sym, ◌∙◌, ap, arith, Some, None, is_some, slice_get, append-nil, ◌==◌, length-append, add-one, length-drop, min}
 use Rattle.std.proofs.lemmas.List.{drop-append-le, length-take}
 use Rattle.std.specs.Bool.{if◌then◌else◌}
-use Rattle.popline.specs.Cutting.{Cut, cut_of, cut, pieces, onto_first, Held, begun, prefixed, fed, shown, coming, through_newline, has_newline, before_newline}
+use Rattle.popline.specs.Cutting.{Cut, cut_of, cut, pieces, onto_first, begun, prefixed, fed, shown, coming, through_newline, has_newline, before_newline}
 use Rattle.popline.specs.Replies.{Reply, Greeting, LineTooLong, UnknownCommand, WrongState, BadArguments, Capabilities, SendPass, LoginFailed, LoginFailedClosing, DeniedBy, NoSuchMaildrop, InUse, MaildropHas, DropListing, ScanListing, ScanLine, UidListing, UidLine, Message, TopPart, Marked, Okay, NoSuchMessage, AlreadyMarked, Bye, RemovalDenied, RemovalFailed, StoreFailed, bytes_of}
 use Rattle.office.specs.History.{Says}
 use Rattle.office.specs.Connections.{reading, closes, is_quit, user_after_line, is_failure}
 use Rattle.office.specs.Sessions.{logs_in}
 use Rattle.office.specs.Replying.{is_empty}
 use Rattle.office.specs.Expected.{most_in_a_piece}
-use Rattle.office.specs.Kept.{Kept, answered, spoken, talk_after}
+use Rattle.office.specs.Kept.{Kept, answered, line_after, talk_after}
 use Rattle.office.specs.Stands.{Seen, Matches, is_seen_open, untaken_of, most_in_a_line}
 use Rattle.office.specs.declared.talk.Talk.{Talk}
-use Rattle.office.proofs.Outside.{no_login, failures_alike}
+use Rattle.office.proofs.Outside.{failures_alike}
 
 -- what stands at a place, and what follows it
 pub at_drop : {A : Type 0} (n : ℕ) (xs : List A) (x : A) (ys : List A) → drop n xs ≡ x ∷ ys → (slice_get xs n ≡ Some x) × (drop (n + 1) xs ≡ ys)
@@ -30,10 +30,10 @@ at_end (suc n) (a ∷ xs) e = at_end n xs e
 
 -- what a trace says of a connection after more octets came, after some were taken, and after a line got this reply
 abbrev pub streamed : Seen → List ℕ → Seen
-streamed s p = record { connected = s.connected; closing = s.closing; live = s.live; stream = s.stream ++ p; acted = s.acted; sent = s.sent; taken = s.taken; user = s.user; failures = s.failures }
+streamed s p = record { connected = s.connected; closing = s.closing; live = s.live; stream = s.stream ++ p; acted = s.acted; sent = s.sent; taken = s.taken; user = s.user; failures = s.failures; stamp = s.stamp }
 
 abbrev pub took : Seen → ℕ → Seen
-took s n = record { connected = s.connected; closing = s.closing; live = s.live; stream = s.stream; acted = s.acted; sent = s.sent; taken = s.taken + n; user = s.user; failures = s.failures }
+took s n = record { connected = s.connected; closing = s.closing; live = s.live; stream = s.stream; acted = s.acted; sent = s.sent; taken = s.taken + n; user = s.user; failures = s.failures; stamp = s.stamp }
 
 abbrev pub lined : Seen → Cut → Reply → Seen
 lined s x r = record {
@@ -46,6 +46,7 @@ lined s x r = record {
   taken = s.taken;
   user = user_after_line (reading x) (Says r) s.user;
   failures = if is_failure (Says r) then s.failures + 1 else s.failures;
+  stamp = s.stamp;
 }
 
 -- no reply is empty
@@ -123,10 +124,12 @@ pub record Awaits (s : Seen) (k : Kept) (octets : List ℕ) : Type 0 where
   pub closing : k.talk.closing ≡ s.closing
   pub user : k.talk.user ≡ s.user
   pub failures : min k.talk.failures 2 ≡ min s.failures 2
+  pub stamp : k.stamp ≡ s.stamp
   pub lines : (more : List ℕ) → drop s.acted (cut (s.stream ++ more)) ≡ coming k.held (octets ++ more)
   pub piece : length octets ≤ most_in_a_piece
 
-module _ (s : Seen) (k k' : Kept) (p : List ℕ) (m : Awaits s k p) (e : k' ≡ answered k p)
+-- `answer` is the reply to the line that is whole, if one is
+module _ (s : Seen) (k k' : Kept) (p : List ℕ) (answer : Reply) (m : Awaits s k p) (e : k' ≡ answered k p answer)
     (law : (more : List ℕ) → coming k.held (p ++ more) ≡ shown k'.held ++ coming k'.held (k'.pending ++ more)) where
   line_fits : length k'.held.octets ≤ most_in_a_line
   line_fits = rw e (omega (arith, length-take most_in_a_line (begun k.held ++ before_newline p)))
@@ -153,6 +156,7 @@ module _ (s : Seen) (k k' : Kept) (p : List ℕ) (m : Awaits s k p) (e : k' ≡ 
         closing = ap (λ (k : Kept). k.talk.closing) e' ∙ m.closing;
         user = ap (λ (k : Kept). k.talk.user) e' ∙ m.user;
         failures = ap (λ (k : Kept). min k.talk.failures 2) e' ∙ m.failures;
+        stamp = ap (λ (k : Kept). k.stamp) e ∙ m.stamp;
         lines = λ more. left more ∙ ap (λ xs. xs ++ coming k'.held (k'.pending ++ more)) (let q : shown k'.held ≡ [] = rw w refl in q);
         cut_whole = λ _. ap (λ (k : Kept). k.pending) e ∙ through_all p h;
         line_kept = line_fits;
@@ -164,8 +168,11 @@ module _ (s : Seen) (k k' : Kept) (p : List ℕ) (m : Awaits s k p) (e : k' ≡ 
       ∙ (ap (λ q. coming k.held q) (append-nil p) ∙ ap (λ ps. map cut_of (prefixed (begun k.held) ps)) (pieces_none p h))))
 
   -- the line that acts
-  abbrev pub acting : Cut
+  abbrev acting : Cut
   acting = cut_of k'.held.octets
+
+  acting_is : acting ≡ line_after k p
+  acting_is = ap (λ (k : Kept). cut_of k.held.octets) e
 
   shown_is : has_newline p ≡ true → shown k'.held ≡ acting ∷ []
   shown_is h = let w : k'.held.whole ≡ true = whole_is ∙ h in rw w refl
@@ -173,34 +180,34 @@ module _ (s : Seen) (k k' : Kept) (p : List ℕ) (m : Awaits s k p) (e : k' ≡ 
   next : has_newline p ≡ true → (more : List ℕ) → drop s.acted (cut (s.stream ++ more)) ≡ acting ∷ coming k'.held (k'.pending ++ more)
   next h more = left more ∙ ap (λ xs. xs ++ coming k'.held (k'.pending ++ more)) (shown_is h)
 
-  pub acts_next : has_newline p ≡ true → slice_get (cut s.stream) s.acted ≡ Some acting
+  pub acts_next : has_newline p ≡ true → slice_get (cut s.stream) s.acted ≡ Some (line_after k p)
   acts_next h = (at_drop s.acted (cut s.stream) acting (coming k'.held (k'.pending ++ [])) (ap (λ q. drop s.acted (cut q)) (sym (append-nil s.stream)) ∙ next h [])).0
+      ∙ ap Some acting_is
 
-  -- what the line is answered
-  abbrev pub answer : Reply
-  answer = spoken k.talk acting
-
-  pub line_heard : has_newline p ≡ true → Matches (lined s acting answer) k'
-  line_heard h =
+  heard_at : (x : Cut) → x ≡ acting → has_newline p ≡ true → logs_in (reading x) (Says answer) s.user ≡ None → Matches (lined s x answer) k'
+  heard_at x same h nobody =
       let e' = rw h at e in
-      let more_owed = owed_more s acting answer m.taken m.owed in
+      let more_owed = owed_more s x answer m.taken m.owed in
       let said = says_something answer in
       let held_is : k'.held ≡ fed k.held p = ap (λ (k : Kept). k.held) e in
-      let owed_is : k'.owed ≡ untaken_of (lined s acting answer) =
-      ap (λ (k : Kept). k.owed) e' ∙ (ap (λ (w : Held). k.owed ++ bytes_of (spoken k.talk (cut_of w.octets))) (sym held_is)
-      ∙ (ap (λ q. q ++ bytes_of answer) m.nothing ∙ sym more_owed)) in
-      let talk_is : k'.talk ≡ talk_after acting answer k.talk =
-      ap (λ (k : Kept). k.talk) e' ∙ ap (λ (w : Held). talk_after (cut_of w.octets) (spoken k.talk (cut_of w.octets)) k.talk) (sym held_is) in
+      let owed_is : k'.owed ≡ untaken_of (lined s x answer) =
+      ap (λ (k : Kept). k.owed) e' ∙ (ap (λ q. q ++ bytes_of answer) m.nothing ∙ sym more_owed) in
+      let talk_is : k'.talk ≡ talk_after x answer k.talk =
+      ap (λ (k : Kept). k.talk) e' ∙ ap (λ y. talk_after y answer k.talk) (sym (same ∙ acting_is)) in
       record {
-        opened = rw (more_owed, said) (open_still s.connected (s.closing && is_empty (untaken_of s)) (closes (reading acting) (Says answer) || s.closing) m.opened);
-        outside = rw (no_login k.talk s.user acting, m.outside) (never_live (not (is_quit (reading acting) || false)));
+        opened = rw (more_owed, said) (open_still s.connected (s.closing && is_empty (untaken_of s)) (closes (reading x) (Says answer) || s.closing) m.opened);
+        outside = rw (nobody, m.outside) (never_live (not (is_quit (reading x) || false)));
         taken = omega (arith, m.taken, length-append s.sent (bytes_of answer));
         owed = owed_is;
-        closing = ap (λ (t : Talk). t.closing) talk_is ∙ ap (λ b. closes (reading acting) (Says answer) || b) m.closing;
-        user = ap (λ (t : Talk). t.user) talk_is ∙ ap (user_after_line (reading acting) (Says answer)) m.user;
+        closing = ap (λ (t : Talk). t.closing) talk_is ∙ ap (λ b. closes (reading x) (Says answer) || b) m.closing;
+        user = ap (λ (t : Talk). t.user) talk_is ∙ ap (user_after_line (reading x) (Says answer)) m.user;
         failures = ap (λ (t : Talk). min t.failures 2) talk_is ∙ failures_alike (is_failure (Says answer)) k.talk.failures s.failures m.failures;
+        stamp = ap (λ (k : Kept). k.stamp) e ∙ m.stamp;
         lines = λ more. (at_drop s.acted (cut (s.stream ++ more)) acting (coming k'.held (k'.pending ++ more)) (next h more)).1;
         cut_whole = λ n. absurd (not_nil (bytes_of answer) said (sym more_owed ∙ (sym owed_is ∙ n)));
         line_kept = line_fits;
         piece_kept = piece_fits;
       }
+
+  pub line_heard : has_newline p ≡ true → logs_in (reading (line_after k p)) (Says answer) s.user ≡ None → Matches (lined s (line_after k p) answer) k'
+  line_heard h nobody = heard_at (line_after k p) (sym acting_is) h nobody

@@ -2,12 +2,12 @@
 use Rattle.std.proofs.Common.{◌≡◌, ℕ, Bool, true, false, cond, List, [], ◌∷◌, ◌++◌, drop, length, ◌==◌, refl, sym, ◌∙◌, ap, arith}
 use Rattle.std.proofs.lemmas.Bool.Decides.{nat_tests}
 use Rattle.popline.specs.Cutting.{Cut, cut_of, Held, fed, shown, through_newline, has_newline}
-use Rattle.popline.specs.Replies.{bytes_of}
-use Rattle.office.specs.Kept.{Kept, answered, spoken, talk_after}
+use Rattle.popline.specs.Replies.{Reply, bytes_of}
+use Rattle.office.specs.Kept.{Kept, answered, line_after, talk_after}
 use Rattle.office.specs.declared.talk.Talk.{Talk}
 
-abbrev kept : Held → List ℕ → List ℕ → Talk → Kept
-kept h p o t = record { held = h; pending = p; owed = o; talk = t }
+abbrev kept : Held → List ℕ → List ℕ → Talk → List ℕ → Kept
+kept h p o t s = record { held = h; pending = p; owed = o; talk = t; stamp = s }
 
 shown_whole : (b : Bool) (x y : Cut) → x ∷ [] ≡ cond b (y ∷ []) [] → b ≡ true
 shown_whole true x y e = refl
@@ -17,15 +17,24 @@ shown_line : (b : Bool) (x y : Cut) → b ≡ true → x ∷ [] ≡ cond b (y �
 shown_line true x y t e = cc
 shown_line false x y t e = cc
 
-pub line_answered : (k : Kept) (w : Held) (p : List ℕ) (x : Cut) (rest owed : List ℕ) (talk : Talk) → w ≡ fed k.held p → x ∷ [] ≡ shown w
-    → rest ≡ drop (through_newline p) p → owed ≡ k.owed ++ bytes_of (spoken k.talk x) → talk ≡ talk_after x (spoken k.talk x) k.talk
-    → kept w rest owed talk ≡ answered k p
-line_answered k w p x rest owed talk e there r o t =
-    let whole : w.whole ≡ true = shown_whole w.whole x (cut_of w.octets) there in
-    let line : x ≡ cut_of w.octets = shown_line w.whole x (cut_of w.octets) whole there in
-    let h : has_newline p ≡ true = sym (ap (λ (v : Held). v.whole) e) ∙ whole in
-    let same : w.octets ≡ (fed k.held p).octets = ap (λ (v : Held). v.octets) e in
-    rw (r, o, t, line, same, e, h) refl
+module _ (k : Kept) (w : Held) (p : List ℕ) (x : Cut) (e : w ≡ fed k.held p) (there : x ∷ [] ≡ shown w) where
+  whole : w.whole ≡ true
+  whole = shown_whole w.whole x (cut_of w.octets) there
+
+  pub has_line : has_newline p ≡ true
+  has_line = sym (ap (λ (v : Held). v.whole) e) ∙ whole
+
+  pub is_line : x ≡ line_after k p
+  is_line = shown_line w.whole x (cut_of w.octets) whole there ∙ ap (λ (v : Held). cut_of v.octets) e
+
+  pub line_answered : (reply : Cut → Reply) (rest owed : List ℕ) (talk : Talk) (stamp : List ℕ) → stamp ≡ k.stamp → rest ≡ drop (through_newline p) p
+      → owed ≡ k.owed ++ bytes_of (reply x) → talk ≡ talk_after x (reply x) k.talk
+      → kept w rest owed talk stamp ≡ answered k p (reply (line_after k p))
+  line_answered reply rest owed talk stamp st r o t =
+      let h = has_line in
+      let owed_is : owed ≡ k.owed ++ bytes_of (reply (line_after k p)) = o ∙ ap (λ y. k.owed ++ bytes_of (reply y)) is_line in
+      let talk_is : talk ≡ talk_after (line_after k p) (reply (line_after k p)) k.talk = t ∙ ap (λ y. talk_after y (reply y) k.talk) is_line in
+      rw (st, r, owed_is, talk_is, e, h) refl
 
 none_of_length : (xs : List ℕ) → (length xs == 0) ≡ true → xs ≡ []
 none_of_length [] e = refl

@@ -21,3 +21,10 @@ mod Hearing
 mod Events
 mod Counting
 mod Running
+mod AdministrationRows
+mod SessionRows
+mod NameOrder
+mod AgreeLists
+mod Quiet
+mod NewMessage
+mod VaultCalls

@@ -39,9 +39,9 @@ not_yet_ended : unstuffed (stuffed_lines (lines_of d1)) ≡ None
 not_yet_ended = refl
 
 -- a reply with a message is the reply of many lines
-message_reply : (n : ℕ) (first : List ℕ) (ls : List (List ℕ)) → bytes_of (Message 21 (stuffed_lines ls)) ≡ multi_line (codes "+OK 21 octets") ls
+message_reply : (ls : List (List ℕ)) → bytes_of (Message 21 (stuffed_lines ls)) ≡ multi_line (codes "+OK 21 octets") ls
 unfolding digits
-message_reply n first ls = refl
+message_reply ls = refl
 
 apop_with_the_rfc_digest : apop_digest (codes "<1896.697170952@dbc.mtview.ca.us>") (codes "tanstaaf")
     ≡ 0xc4 ∷ 0xc9 ∷ 0x33 ∷ 0x4b ∷ 0xac ∷ 0x56 ∷ 0x0e ∷ 0xcc ∷ 0x97 ∷ 0x9e ∷ 0x58 ∷ 0x00 ∷ 0x1b ∷ 0x3e ∷ 0x22 ∷ 0xfb ∷ []

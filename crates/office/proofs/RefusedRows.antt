@@ -1,4 +1,4 @@
--- Worked rows in which the store refuses, and a login on a high number; and the sample store is sound.
+-- Worked rows in which the store refuses, and a login on a high number.
 use Rattle.std.specs.Prelude.{◌≡◌, ℕ, true, false, List, [], ◌∷◌, ◌++◌, refl, codes}
 use Rattle.std.specs.Fmt.{digits}
 use Rattle.creds.specs.LoginName.{login_name}

@@ -1,21 +1,13 @@
 -- The sample store is sound.
-use Rattle.std.specs.Prelude.{◌≤◌, Bool, true, false, cond, List, [], ◌∷◌, length, filter}
+use Rattle.std.specs.Prelude.{length}
 use Rattle.std.proofs.Common.{refl, le_trans}
 use Rattle.std.proofs.lemmas.Bool.{leb-true}
-use native.Mathlib.Omega.{arith}
 use Rattle.std.specs.Str.{bytes_eq}
 use Rattle.sha2.specs.Sha256 as S
 use Rattle.sha2.specs.Sha256.{sha256}
 use Rattle.vault.specs.Records.{IsSound, most_messages, most_clerks, most_maildrops}
+use Rattle.office.proofs.Bounds.{filter_short}
 use Rattle.office.proofs.Sample.{W}
-
-filter_at : {A : Type 0} (b : Bool) (x : A) (xs fs : List A) → length fs ≤ length xs → length (cond b (x ∷ fs) fs) ≤ length (x ∷ xs)
-filter_at true x xs fs h = omega arith
-filter_at false x xs fs h = omega arith
-
-filter_short : {A : Type 0} (p : A → Bool) (xs : List A) → length (filter p xs) ≤ length xs
-filter_short p [] = leb-true 0 0 refl
-filter_short p (x ∷ xs) = filter_at (p x) x xs (filter p xs) (filter_short p xs)
 
 sample_is_sound : IsSound W
 unfolding sha256 S.first_words S.schedule S.digest_bytes S.hash_after S.compress S.rounds

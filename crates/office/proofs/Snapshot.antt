@@ -37,7 +37,7 @@ pub filter_in : {A : Type 0} (p : A → Bool) (xs : List A) (x : A) → In x xs 
 filter_in p [] x h t = absurd h
 filter_in p (y ∷ ys) x h t = filter_at p y (filter p ys) x (p y) refl t (⊎_elim (λ e. inl e) (λ k. inr (filter_in p ys x k t)) h)
 
-in_front : {A : Type 0} (xs ys : List A) (x : A) → In x xs → In x (xs ++ ys)
+pub in_front : {A : Type 0} (xs ys : List A) (x : A) → In x xs → In x (xs ++ ys)
 in_front [] ys x h = absurd h
 in_front (z ∷ zs) ys x h = ⊎_elim (λ e. inl e) (λ k. inr (in_front zs ys x k)) h
 
@@ -58,7 +58,7 @@ in_map [] m h = absurd h
 in_map (r ∷ rs) m h = ⊎_elim (λ e. (r, inl refl, e)) (λ k. let p = in_map rs m k in (p.0, inr p.1, p.2)) h
 
 -- what is removed was in the view
-removed_seen : (policy : Policy) (name : LoginName) (ks : List ℕ) (ms : List Message) (m : Message) → In m (to_remove class_of policy name ks ms) → In m ms
+pub removed_seen : (policy : Policy) (name : LoginName) (ks : List ℕ) (ms : List Message) (m : Message) → In m (to_remove class_of policy name ks ms) → In m ms
 removed_seen policy name ks ms m h =
     let a = in_filter (λ (x : Message). may_remove policy name x.class) (map (λ row. row.1) (marked ks ms)) m h in
     let b = in_map (marked ks ms) m a.0 in
@@ -66,7 +66,7 @@ removed_seen policy name ks ms m h =
     subst (λ x. In x ms) (sym b.2) (in_numbered 1 ms b.0 c.0)
 
 -- what arrived stays
-arrivals_stay : (a : Act) (s : Said) (ms : List Message) (m : Message) → In m ms → In m (arrivals_after a s ms)
+pub arrivals_stay : (a : Act) (s : Said) (ms : List Message) (m : Message) → In m ms → In m (arrivals_after a s ms)
 arrivals_stay (Deposit d class id text) (Answers (New uid)) ms m h = in_front ms (record { maildrop = d; class = class; k = uid.k; text = kept_form text } ∷ []) m h
 arrivals_stay _ s ms m h = h
 
@@ -111,10 +111,10 @@ quit_ends (Administer a) t s q e = absurd (no_some q e)
 quit_ends (Restart b h) t s q e = absurd (no_some q e)
 
 -- a message arrived in a maildrop and wasn't removed
-record IsThere (B : Records) (G : List Entry) (d : List ℕ) (m : Message) : Type 0 where
-  came : In m (arrivals B G)
-  within : m.maildrop ≡ d
-  left : list_any (same_message m) (removed B G) ≡ false
+pub record IsThere (B : Records) (G : List Entry) (d : List ℕ) (m : Message) : Type 0 where
+  pub came : In m (arrivals B G)
+  pub within : m.maildrop ≡ d
+  pub left : list_any (same_message m) (removed B G) ≡ false
 
 not_true : (b : Bool) → not b ≡ true → b ≡ false
 not_true true e = absurd (true≢false (sym e))
@@ -224,7 +224,7 @@ module _ (B : Records) (a : Act) (t : Tag) (H : List (Act × Tag)) (before : Wit
   went_on (Some n) f = arrived n f
   went_on None f = stayed f
 
-snapshot : (B : Records) (H : List (Act × Tag)) → Within B (told B H)
+pub snapshot : (B : Records) (H : List (Act × Tag)) → Within B (told B H)
 snapshot B [] c name s m h = absurd h
 snapshot B ((a, t) ∷ H) c name s m h =
     let parts = session_parts (live (entry B a t H ∷ told B H) c) (login (entry B a t H ∷ told B H) c) name s in

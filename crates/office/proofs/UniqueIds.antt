@@ -132,7 +132,7 @@ all_in p (y ∷ ys) x h i = let r = and_parts (p y) (list_all p ys) h in
 five : (a b c d e f : Bool) → (a && b && c && d && e && f) ≡ true → d ≡ true
 five a b c d e f h = (and_parts (a && b && c) d (and_parts (a && b && c && d) e (and_parts (a && b && c && d && e) f h).0).0).1
 
-numbered : (B : Records) → IsSound B → (H : List (Act × Tag)) → Numbered (receipts B (told B H))
+pub numbered : (B : Records) → IsSound B → (H : List (Act × Tag)) → Numbered (receipts B (told B H))
 numbered B s [] = (
   s.uids_apart,
   λ r i.

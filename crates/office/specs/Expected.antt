@@ -1,5 +1,5 @@
 -- What the next event is answered: why it is ignored, which tags it may show, and its outcome.
-use Rattle.std.specs.Prelude.{◌≡◌, ℕ, Bool, true, false, not, ◌&&◌, ◌||◌, ◌-◌, ◌^◌, ◌==◌, nat_lt, nat_le, List, [], ◌∷◌, length, take, Option, Some, None, if◌then◌else◌}
+use Rattle.std.specs.Prelude.{◌≡◌, ℕ, Bool, true, false, not, ◌&&◌, ◌||◌, ◌-◌, ◌^◌, ◌==◌, nat_lt, nat_le, List, [], length, take, Option, Some, None, is_some, if◌then◌else◌}
 use Rattle.popline.specs.Cutting.{Cut, has_newline}
 use Rattle.vault.specs.Records.{Records}
 use Rattle.office.specs.History.{Tag, Done, Failed, NoMemory, Entry}
@@ -82,11 +82,6 @@ abbrev pub next_may_fail : Records → List Entry → ℕ → Option Cut → Boo
 next_may_fail B G c None = false
 next_may_fail B G c (Some x) = line_may_fail B G c x
 
--- there is one
-abbrev pub is_there : {A : Type 0} → Option A → Bool
-is_there None = false
-is_there (Some x) = true
-
 -- what a Took may meet: while something is left, and after it, where a line is next and the connection isn't closing
 abbrev pub took_may : (left while_left closing at_next : Bool) → Bool
 took_may true while_left closing at_next = while_left
@@ -105,7 +100,7 @@ may_fail_at B T G _ = false
 abbrev pub may_lack_memory_at : Log → List Entry → Event → Bool
 may_lack_memory_at T G event.Connect = true
 may_lack_memory_at T G (event.Bytes c piece) = true
-may_lack_memory_at T G (event.Took c octets) = took_may (is_left T G c octets) true (closing G c) (is_there (next_line T G c []))
+may_lack_memory_at T G (event.Took c octets) = took_may (is_left T G c octets) true (closing G c) (is_some (next_line T G c []))
 may_lack_memory_at T G (event.Deposit d class id text) = true
 may_lack_memory_at T G (event.Admin command) = true
 may_lack_memory_at T G _ = false

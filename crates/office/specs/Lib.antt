@@ -27,4 +27,6 @@ pub mod Stands
 pub mod Laws
 pub mod Shown
 pub mod Kept
+pub mod Answered
 pub mod Runs
+pub mod VaultAnswers

@@ -1,5 +1,6 @@
 -- What an event is answered.
-use Rattle.std.specs.Prelude.{ℕ}
+use Rattle.std.specs.Prelude.{◌≡◌, ℕ, true, ⊤}
+use Rattle.vault.specs.Calls.{has_grown}
 use Rattle.office.specs.Answers.{Answer}
 use Rattle.office.specs.Events.{Mark, Tagged}
 use Rattle.office.specs.History as history
@@ -29,3 +30,8 @@ mark_of Failed = Tagged history.Failed
 mark_of NoMemory = Tagged history.NoMemory
 mark_of (Ignored reason) = event.Ignored
 mark_of (Answered answer) = Tagged history.Done
+
+-- that the store refused is answered only where its count of faults grew
+abbrev pub HasCause : (before now : ℕ) → Outcome → Type 0
+HasCause before now Failed = has_grown before now ≡ true
+HasCause before now _ = ⊤

@@ -1,5 +1,6 @@
 -- A list of events done in order: what each was answered, and the octets that each taking took.
 use Rattle.std.specs.Prelude.{◌≡◌, ℕ, List, [], ◌∷◌, ◌++◌, ⊤}
+use Rattle.vault.specs.Changes.{Contents}
 use Rattle.office.specs.Events.{Event, Trace}
 use Rattle.office.specs.Expected.{IsOutcome, octets_taken}
 use Rattle.office.specs.Outcomes.{mark_of}
@@ -17,9 +18,9 @@ pub record Step : Type 0 where
   pub octets : List ℕ
 
 -- a step is an event's outcome, by what an office that stands for the trace lends, with the octets taken
-pub record IsStep (V : Type 0) (T : Trace) (e : Event) (s : Step) : Type 0 where
+pub record IsStep {V : Type 0} (Holds : V → Contents → Type 0) (T : Trace) (e : Event) (s : Step) : Type 0 where
   pub office : Office V
-  pub stood : StandsFor office T
+  pub stood : StandsFor Holds office T
   pub outcome : IsOutcome T (lent_by office) e (outcome_seen s.outcome)
   pub octets : s.octets ≡ octets_taken T e (mark_of (outcome_seen s.outcome))
 
@@ -31,22 +32,22 @@ followed T (e ∷ es) (s ∷ ss) = followed (followed_by T (event_seen e) s.outc
 followed T _ _ = T
 
 -- each event has its step
-abbrev pub AreSteps : (V : Type 0) → Trace → List Given → List Step → Type 0
-AreSteps V T [] [] = ⊤
-AreSteps V T (e ∷ es) (s ∷ ss) = IsStep V T (event_seen e) s × AreSteps V (followed_by T (event_seen e) s.outcome) es ss
-AreSteps V T _ _ = ⊥
+abbrev pub AreSteps : {V : Type 0} → (Holds : V → Contents → Type 0) → Trace → List Given → List Step → Type 0
+AreSteps Holds T [] [] = ⊤
+AreSteps Holds T (e ∷ es) (s ∷ ss) = IsStep Holds T (event_seen e) s × AreSteps Holds (followed_by T (event_seen e) s.outcome) es ss
+AreSteps Holds T _ _ = ⊥
 
 -- over a trace these events have these steps, and the office then stands for the trace with them
-pub record Follows {V : Type 0} (events : List Given) (steps : List Step) (T : Trace) (o : Office V) : Type 0 where
-  pub each : AreSteps V T events steps
-  pub stands : StandsFor o (followed T events steps)
+pub record Follows {V : Type 0} (Holds : V → Contents → Type 0) (events : List Given) (steps : List Step) (T : Trace) (o : Office V) : Type 0 where
+  pub each : AreSteps Holds T events steps
+  pub stands : StandsFor Holds o (followed T events steps)
 
 -- one event more has its step, and the office then stands for the trace with it
-pub record Enters {V : Type 0} (event : Given) (before after : List Step) (T : Trace) (o : Office V) : Type 0 where
+pub record Enters {V : Type 0} (Holds : V → Contents → Type 0) (event : Given) (before after : List Step) (T : Trace) (o : Office V) : Type 0 where
   pub step : Step
   pub entered : after ≡ before ++ step ∷ []
-  pub is : IsStep V T (event_seen event) step
-  pub stands : StandsFor o (followed_by T (event_seen event) step.outcome)
+  pub is : IsStep Holds T (event_seen event) step
+  pub stands : StandsFor Holds o (followed_by T (event_seen event) step.outcome)
 
 -- how many events were done before a run stopped
 abbrev pub done_before : RunFault → ℕ

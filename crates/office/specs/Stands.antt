@@ -4,15 +4,34 @@ use Rattle.std.specs.Ordering.{nat_cmp}
 use Rattle.std.specs.BTreeMap.{get}
 use Rattle.creds.specs.declared.login_name.LoginName.{LoginName}
 use Rattle.popline.specs.Cutting.{cut, coming}
-use Rattle.office.specs.History.{Entry, clerks}
+use Rattle.vault.specs.Records.{Records, IsSound, Agree}
+use Rattle.vault.specs.Changes.{Contents, records_of}
+use Rattle.office.specs.History.{Entry, in_force}
 use Rattle.office.specs.Connections.{user, failures, boot_and_host, connected, closing, acted, sent}
-use Rattle.office.specs.Sessions.{live}
+use Rattle.office.specs.Sessions.{live, records}
+use Rattle.office.specs.Replying.{stamp}
 use Rattle.office.specs.Events.{Log, Trace}
+use Rattle.office.specs.Formed.{are_formed}
 use Rattle.office.specs.Log.{opened, idle_seconds, stream, taken}
 use Rattle.office.specs.Trace.{history, is_open_by}
 use Rattle.office.specs.Expected.{most_in_a_piece}
 use Rattle.office.specs.Kept.{Kept}
 use Rattle.office.specs.declared.office.Office.{Office}
+
+-- ---- the store
+
+-- A store keeps what a trace says: it holds the records of the trace's history. The records that it began with are sound, and the
+-- events have their form.
+pub record Keeps (Holds : Contents → Type 0) (T : Trace) : Type 0 where
+  pub contents : Contents
+  pub held : Holds contents
+  pub agree : Agree (records_of contents) (records T.base (history T))
+  pub sound : IsSound T.base
+  pub formed : are_formed T.log ≡ true
+
+-- records over which nothing was done
+abbrev pub begun : Records → Trace
+begun B = record { base = B; log = [] }
 
 -- ---- one connection
 
@@ -27,7 +46,9 @@ pub record Seen : Type 0 where
   pub taken : ℕ
   pub user : Option LoginName
   pub failures : ℕ
+  pub stamp : List ℕ
 
+-- the same, of a log and its history
 abbrev pub seen_at : Log → List Entry → ℕ → Seen
 seen_at T G c = record {
   connected = connected G c;
@@ -39,14 +60,18 @@ seen_at T G c = record {
   taken = taken T c;
   user = user G c;
   failures = failures G c;
+  stamp = stamp G c;
 }
 
+-- the same, of a trace
 abbrev pub seen : Trace → ℕ → Seen
 seen T c = seen_at T.log (history T) c
 
+-- what is sent and not taken
 abbrev pub untaken_of : Seen → List ℕ
 untaken_of s = drop s.taken s.sent
 
+-- it is open
 abbrev pub is_seen_open : Seen → Bool
 is_seen_open s = is_open_by s.connected s.closing (untaken_of s)
 
@@ -65,6 +90,7 @@ pub record Matches (s : Seen) (k : Kept) : Type 0 where
   pub user : k.talk.user ≡ s.user
   -- two and more failures are alike: the next one closes
   pub failures : min k.talk.failures 2 ≡ min s.failures 2
+  pub stamp : k.stamp ≡ s.stamp
   -- however the stream goes on, the lines that are left of it are those that come from what is kept
   pub lines : (more : List ℕ) → drop s.acted (cut (s.stream ++ more)) ≡ coming k.held (k.pending ++ more)
   -- what was kept was cut, where nothing is owed
@@ -73,16 +99,28 @@ pub record Matches (s : Seen) (k : Kept) : Type 0 where
   pub line_kept : length k.held.octets ≤ most_in_a_line
   pub piece_kept : length k.pending ≤ most_in_a_piece
 
--- a connection that isn't kept isn't open
+-- a connection that isn't kept isn't open, and nobody is in session on it
+pub record IsOver (s : Seen) : Type 0 where
+  pub closed : is_seen_open s ≡ false
+  pub outside : s.live ≡ false
+
+-- what is kept of a connection, if anything is, is what the trace says of it
 abbrev pub IsKeptFor : Seen → Option Kept → Type 0
-IsKeptFor s None = is_seen_open s ≡ false
+IsKeptFor s None = IsOver s
 IsKeptFor s (Some k) = Matches s k
 
 -- ---- the office
 
-pub record StandsFor {V : Type 0} (o : Office V) (T : Trace) : Type 0 where
-  -- no clerk has a credential yet
-  pub no_clerks : clerks T.base (history T) ≡ []
+-- no rule lets anybody in
+abbrev pub LetsNobodyIn : Trace → Type 0
+LetsNobodyIn T = (in_force T.base (history T)).rules ≡ []
+
+-- `Holds` says which contents a store holds
+pub record StandsFor {V : Type 0} (Holds : V → Contents → Type 0) (o : Office V) (T : Trace) : Type 0 where
+  pub keeps : Keeps (Holds o.vault) T
+  pub policy : o.policy ≡ in_force T.base (history T)
+  -- rules can't be set yet
+  pub no_rules : LetsNobodyIn T
   pub boot : o.boot ≡ (boot_and_host (history T)).0
   pub host : string_bytes o.host ≡ (boot_and_host (history T)).1
   pub idle : o.limits ≡ idle_seconds T.log
@@ -96,6 +134,7 @@ abbrev pub length_of_lent : Option Kept → ℕ
 length_of_lent None = 0
 length_of_lent (Some k) = length k.owed
 
+-- how many octets an office lends a connection of this number
 abbrev pub lent_by : {V : Type 0} → Office V → ℕ → ℕ
 lent_by o c = length_of_lent (get nat_cmp o.links c)
 

@@ -58,7 +58,7 @@ kind_of None = answer.NoSuchClerk
 kind_of (Some (kept.Apop secret)) = answer.ByApopSecret
 kind_of (Some (kept.Pass digest)) = answer.ByPassword
 
--- a vault's answer to a name that was put, and to a maildrop that was dropped
+-- a vault's answer to a name that was put
 abbrev pub answer_of_put : (there_already : Answer) → PutAnswer → Answer
 answer_of_put there_already changes.WasNew = answer.Added
 answer_of_put there_already changes.WasThere = there_already

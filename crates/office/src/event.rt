@@ -1,4 +1,6 @@
 //! What an office is given, and what it answers.
+use crate::{AdminCommand, Answer};
+use creds::{DepositId, Name};
 
 /// What happens to an office, one at a time.
 #[derive(Clone, Copy, Debug)]
@@ -11,6 +13,11 @@ pub enum Event<'a> {
     Took(u64, usize),
     /// A connection is gone: its client closed it, or it broke.
     Gone(u64),
+    /// A message is put into a maildrop, once for each deposit id of the maildrop's name: the maildrop, the message's class, the
+    /// deposit's id, and the message's text as it came.
+    Deposit(&'a Name, &'a Name, &'a DepositId, &'a [u8]),
+    /// An administrator asks for something.
+    Admin(&'a AdminCommand),
 }
 
 /// Why an event is ignored: the first that holds. An ignored event changes nothing.
@@ -27,12 +34,16 @@ pub enum Reason {
 }
 
 /// What an event is answered.
-#[derive(Clone, Copy, Debug, PartialEq, Eq)]
+#[derive(Debug, Drop)]
 pub enum Outcome {
     /// A connection was opened under this number, and is owed its greeting.
     Opened(u64),
     Done,
+    /// The store refused. Of a line its reply says so; of a deposit or a command no record changed.
+    Failed,
     /// Want of memory. A connection whose line it met is ended, as by [`Event::Gone`]; else nothing changed.
     NoMemory,
     Ignored(Reason),
+    /// What a deposit or a command is answered.
+    Answered(Answer),
 }

@@ -1,6 +1,10 @@
 //! Laws over every history, each on a function of its own.
 
 ghost use Rattle.office.specs.Laws.{OneHolder, ViewStaysPresent, UniqueIdsAreUnique, OwnRecordsAgree, MarksAreByView, GreetingsDiffer, DepositIdsActOnce, RepliesHaveTheirForm, UniqueIdTextsDiffer};
+ghost use Rattle.vault.specs.Changes.{Contents, records_of};
+ghost use Rattle.office.specs.Stands.{Keeps, begun};
+
+use vault::Vault;
 
 /// A maildrop has at most one holder, whatever was done.
 pub fn one_holder()
@@ -48,3 +52,10 @@ pub fn deposit_ids_act_once()
 pub fn replies_have_their_form()
     ensures { RepliesHaveTheirForm }
 {}
+
+/// A clean store keeps the trace of its own records in which nothing was done: so an office can be opened over it.
+pub fn own_trace_is_kept<V: Vault>(vault: &V)
+    ensures { (c : Contents) → V.holds vault.now c → V.is_clean vault.now → Keeps (V.holds vault.now) (begun (records_of c)) }
+{
+    let _vault = vault;
+}

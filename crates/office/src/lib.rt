@@ -4,6 +4,10 @@
 //! gives (`specs/`). It owns no socket and no clock: who runs it feeds it what came, and tells it what was taken.
 #![tactic(auto)]
 
+mod administration;
+mod answer;
+mod command;
+mod deposits;
 mod event;
 mod history_laws;
 mod limits;
@@ -13,10 +17,13 @@ mod office;
 mod talk;
 mod transcript;
 
+pub use answer::{Answer, MessageRow, Messages, Totals};
+pub use command::AdminCommand;
 pub use event::{Event, Outcome, Reason};
 pub use history_laws::{
     deposit_ids_act_once, greetings_differ, marks_are_by_view, one_holder, own_records_agree,
-    replies_have_their_form, unique_id_texts_differ, unique_ids_are_unique, view_stays_present,
+    own_trace_is_kept, replies_have_their_form, unique_id_texts_differ, unique_ids_are_unique,
+    view_stays_present,
 };
 pub use limits::Limits;
 pub use office::{Office, OpenFault};

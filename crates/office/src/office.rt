@@ -1,22 +1,27 @@
 //! An office: one function for each event.
-ghost use Rattle.std.specs.Prelude.{◌≡◌, ◌<◌, [], ◌↔◌, not, true, false, ℕ, List, length, take, IfOk, IfErr, OnOk, OnErr, MatchResult};
+ghost use Rattle.std.specs.Prelude.{◌≡◌, ◌<◌, ◌≤◌, ◌↔◌, not, true, false, ℕ, List, length, take, IfOk, IfErr, OnOk, OnErr, MatchResult};
 ghost use Rattle.office.specs.Events.{Trace, given};
 ghost use Rattle.office.specs.Shown.{event_seen, outcome_seen, followed_by};
 ghost use Rattle.office.specs.Events as event;
 ghost use Rattle.office.specs.Trace.{history, rest, is_open, is_ready, IsLent};
 ghost use Rattle.office.specs.Expected.{IsOutcome, is_full, octets_taken};
-ghost use Rattle.office.specs.Outcomes.{mark_of};
+ghost use Rattle.office.specs.Outcomes.{mark_of, HasCause};
 ghost use Rattle.creds.specs.Names.{is_host};
-ghost use Rattle.office.specs.History.{Done, clerks};
-ghost use Rattle.office.specs.Stands.{StandsFor, lent_by, vault_of};
+ghost use Rattle.vault.specs.Changes.{Contents};
+ghost use Rattle.vault.specs.Calls.{has_grown};
+ghost use Rattle.office.specs.History.{Done};
+ghost use Rattle.office.specs.Stands.{StandsFor, Keeps, LetsNobodyIn, lent_by, vault_of};
+ghost use Rattle.office.specs.Answered.{shown_of};
 ghost use Rattle.office.specs.Runs.{Step as Shown, Follows, Enters, done_before};
 
 use crate::link::Link;
+use crate::talk::Acted;
 use crate::{Event, Limits, Outcome, Reason, RunFault, Step, Transcript};
 use creds::HostName;
+use policy::Policy;
 use std::alloc::{AllocError, Global};
 use std::collections::BTreeMap;
-use vault::Vault;
+use vault::{Vault, VaultFault};
 
 /// How many connections may be open at once.
 const MOST_OPEN: usize = 64;
@@ -28,14 +33,18 @@ const MOST_IN_A_PIECE: usize = 4096;
 pub enum OpenFault {
     /// The host's name isn't one.
     BadHost,
+    /// The store refused to tell its policy.
+    Store,
     NoMemory,
 }
 
 /// An office over a vault.
 #[derive(Drop)]
 pub struct Office<V: Vault> {
-    alloc: Global,
-    vault: V,
+    pub(crate) alloc: Global,
+    pub(crate) vault: V,
+    /// The policy in force.
+    pub(crate) policy: Policy,
     boot: u64,
     host: String,
     limits: Limits,
@@ -44,11 +53,22 @@ pub struct Office<V: Vault> {
     links: BTreeMap<u64, Link>,
 }
 
+/// What a line's event shows.
+fn shown(acted: Acted) -> Outcome
+    ensures { outcome_seen result ≡ shown_of acted }
+{
+    match acted {
+        Acted::Done => Outcome::Done,
+        Acted::Failed => Outcome::Failed,
+    }
+}
+
 impl<V: Vault> Office<V> {
-    /// Opens an office over a vault, under a host's name and the number of this start. No connection is open.
+    /// Opens an office over a vault, under a host's name and the number of this start. No connection is open. It reads the
+    /// store's policy.
     ///
     /// `BadHost` exactly where the host isn't of 1 to 64 octets of `a-z`, `0-9`, `.` and `-`, no part between dots empty or
-    /// with `-` at an end. After a fault the vault comes back as it was.
+    /// with `-` at an end. `Store` where the store refused. After a fault the vault comes back with what it held.
     pub fn open(
         alloc: Global,
         vault: V,
@@ -56,9 +76,10 @@ impl<V: Vault> Office<V> {
         boot: u64,
         limits: Limits,
     ) -> Result<Office<V>, (OpenFault, V)>
-        ensures opened { IfOk result (λ office. (T : Trace) → clerks T.base (history T) ≡ [] → StandsFor office (given T (event.Start host.now boot limits) (event.Tagged Done))) }
+        ensures opened { IfOk result (λ office. (T : Trace) → Keeps (V.holds vault) T → LetsNobodyIn T → V.is_clean (vault_of office) → StandsFor V.holds office (given T (event.Start host.now boot limits) (event.Tagged Done))) }
         ensures host { MatchResult result (λ _. is_host host.now ≡ true) (λ e. (e.0 ≡ OpenFault.BadHost) ↔ (is_host host.now ≡ false)) }
-        ensures vault { MatchResult result (λ office. vault_of office ≡ vault) (λ e. e.1 ≡ vault) }
+        ensures kept { IfErr result (λ e. (c : Contents) → V.holds vault c → V.is_clean e.1 → V.holds e.1 c) }
+        ensures cause { IfErr result (λ e. e.0 ≡ OpenFault.Store → (c : Contents) → V.holds vault c → V.is_clean e.1 → has_grown (V.faults vault) (V.faults e.1) ≡ true) }
     {
         if HostName::read(host.as_bytes()).is_none() {
             return Err((OpenFault::BadHost, vault));
@@ -66,29 +87,37 @@ impl<V: Vault> Office<V> {
         let Ok(host) = String::from_str(alloc, host) else {
             return Err((OpenFault::NoMemory, vault));
         };
-        Ok(Office {
-            alloc,
-            vault,
-            boot,
-            host,
-            limits,
-            opened: 0,
-            links: BTreeMap::new(alloc),
-        })
+        let mut vault = vault;
+        match vault.policy() {
+            Err(VaultFault::NoMemory) => Err((OpenFault::NoMemory, vault)),
+            Err(_) => Err((OpenFault::Store, vault)),
+            Ok(policy) => Ok(Office {
+                alloc,
+                vault,
+                policy,
+                boot,
+                host,
+                limits,
+                opened: 0,
+                links: BTreeMap::new(alloc),
+            }),
+        }
     }
 
     /// Whether no further connection may be opened.
     fn is_full(&self) -> bool
-        ensures value { (T : Trace) → StandsFor self.now T → result ≡ is_full T }
+        ensures value { (T : Trace) → StandsFor V.holds self.now T → result ≡ is_full T }
         ensures room { result ≡ false → self.now.opened < u64.MAX }
     {
         self.links.len() >= MOST_OPEN || self.opened == u64::MAX
     }
 
     fn connect(&mut self) -> Outcome
-        ensures stands { (T : Trace) → StandsFor self.old T → StandsFor self.new (followed_by T event.Connect result) }
-        ensures outcome { (T : Trace) → StandsFor self.old T → IsOutcome T (lent_by self.old) event.Connect (outcome_seen result) }
-        ensures vault { vault_of self.new ≡ vault_of self.old }
+        ensures stands { (T : Trace) → StandsFor V.holds self.old T → V.is_clean (vault_of self.new) → StandsFor V.holds self.new (followed_by T event.Connect result) }
+        ensures outcome { (T : Trace) → StandsFor V.holds self.old T → V.is_clean (vault_of self.new) → IsOutcome T (lent_by self.old) event.Connect (outcome_seen result) }
+        ensures cause { (T : Trace) → StandsFor V.holds self.old T → V.is_clean (vault_of self.new) → HasCause (V.faults (vault_of self.old)) (V.faults (vault_of self.new)) (outcome_seen result) }
+        ensures counted { V.faults (vault_of self.old) ≤ V.faults (vault_of self.new) }
+        ensures clean { V.is_clean (vault_of self.new) → V.is_clean (vault_of self.old) }
     {
         if self.is_full() {
             return Outcome::Ignored(Reason::TooManyConnections);
@@ -105,9 +134,11 @@ impl<V: Vault> Office<V> {
     }
 
     fn bytes(&mut self, c: u64, piece: &[u8]) -> Outcome
-        ensures stands { (T : Trace) → StandsFor self.old T → StandsFor self.new (followed_by T (event.Bytes c piece.now) result) }
-        ensures outcome { (T : Trace) → StandsFor self.old T → IsOutcome T (lent_by self.old) (event.Bytes c piece.now) (outcome_seen result) }
-        ensures vault { vault_of self.new ≡ vault_of self.old }
+        ensures stands { (T : Trace) → StandsFor V.holds self.old T → V.is_clean (vault_of self.new) → StandsFor V.holds self.new (followed_by T (event.Bytes c piece.now) result) }
+        ensures outcome { (T : Trace) → StandsFor V.holds self.old T → V.is_clean (vault_of self.new) → IsOutcome T (lent_by self.old) (event.Bytes c piece.now) (outcome_seen result) }
+        ensures cause { (T : Trace) → StandsFor V.holds self.old T → V.is_clean (vault_of self.new) → HasCause (V.faults (vault_of self.old)) (V.faults (vault_of self.new)) (outcome_seen result) }
+        ensures counted { V.faults (vault_of self.old) ≤ V.faults (vault_of self.new) }
+        ensures clean { V.is_clean (vault_of self.new) → V.is_clean (vault_of self.old) }
     {
         let Some(link) = self.links.get_mut(&c) else {
             return Outcome::Ignored(Reason::NoSuchConnection);
@@ -118,8 +149,8 @@ impl<V: Vault> Office<V> {
         if piece.len() > MOST_IN_A_PIECE {
             return Outcome::Ignored(Reason::PieceTooLong);
         }
-        match link.hear(self.alloc, piece) {
-            Ok(()) => Outcome::Done,
+        match link.hear(self.alloc, &mut self.vault, &self.policy, piece) {
+            Ok(acted) => shown(acted),
             Err(_) => {
                 let _ = self.links.remove(&c);
                 Outcome::NoMemory
@@ -128,9 +159,11 @@ impl<V: Vault> Office<V> {
     }
 
     fn took(&mut self, c: u64, octets: usize) -> Outcome
-        ensures stands { (T : Trace) → StandsFor self.old T → StandsFor self.new (followed_by T (event.Took c octets) result) }
-        ensures outcome { (T : Trace) → StandsFor self.old T → IsOutcome T (lent_by self.old) (event.Took c octets) (outcome_seen result) }
-        ensures vault { vault_of self.new ≡ vault_of self.old }
+        ensures stands { (T : Trace) → StandsFor V.holds self.old T → V.is_clean (vault_of self.new) → StandsFor V.holds self.new (followed_by T (event.Took c octets) result) }
+        ensures outcome { (T : Trace) → StandsFor V.holds self.old T → V.is_clean (vault_of self.new) → IsOutcome T (lent_by self.old) (event.Took c octets) (outcome_seen result) }
+        ensures cause { (T : Trace) → StandsFor V.holds self.old T → V.is_clean (vault_of self.new) → HasCause (V.faults (vault_of self.old)) (V.faults (vault_of self.new)) (outcome_seen result) }
+        ensures counted { V.faults (vault_of self.old) ≤ V.faults (vault_of self.new) }
+        ensures clean { V.is_clean (vault_of self.new) → V.is_clean (vault_of self.old) }
     {
         let Some(link) = self.links.get_mut(&c) else {
             return Outcome::Ignored(Reason::NoSuchConnection);
@@ -147,8 +180,8 @@ impl<V: Vault> Office<V> {
             let _ = self.links.remove(&c);
             return Outcome::Done;
         }
-        match link.resume(self.alloc) {
-            Ok(()) => Outcome::Done,
+        match link.resume(self.alloc, &mut self.vault, &self.policy) {
+            Ok(acted) => shown(acted),
             Err(_) => {
                 let _ = self.links.remove(&c);
                 Outcome::NoMemory
@@ -157,9 +190,11 @@ impl<V: Vault> Office<V> {
     }
 
     fn gone(&mut self, c: u64) -> Outcome
-        ensures stands { (T : Trace) → StandsFor self.old T → StandsFor self.new (followed_by T (event.Gone c) result) }
-        ensures outcome { (T : Trace) → StandsFor self.old T → IsOutcome T (lent_by self.old) (event.Gone c) (outcome_seen result) }
-        ensures vault { vault_of self.new ≡ vault_of self.old }
+        ensures stands { (T : Trace) → StandsFor V.holds self.old T → V.is_clean (vault_of self.new) → StandsFor V.holds self.new (followed_by T (event.Gone c) result) }
+        ensures outcome { (T : Trace) → StandsFor V.holds self.old T → V.is_clean (vault_of self.new) → IsOutcome T (lent_by self.old) (event.Gone c) (outcome_seen result) }
+        ensures cause { (T : Trace) → StandsFor V.holds self.old T → V.is_clean (vault_of self.new) → HasCause (V.faults (vault_of self.old)) (V.faults (vault_of self.new)) (outcome_seen result) }
+        ensures counted { V.faults (vault_of self.old) ≤ V.faults (vault_of self.new) }
+        ensures clean { V.is_clean (vault_of self.new) → V.is_clean (vault_of self.old) }
     {
         match self.links.remove(&c) {
             None => Outcome::Ignored(Reason::NoSuchConnection),
@@ -169,15 +204,19 @@ impl<V: Vault> Office<V> {
 
     /// Does one event.
     pub fn step(&mut self, event: Event<'_>) -> Outcome
-        ensures stands { (T : Trace) → StandsFor self.old T → StandsFor self.new (followed_by T (event_seen event.entry) result) }
-        ensures outcome { (T : Trace) → StandsFor self.old T → IsOutcome T (lent_by self.old) (event_seen event.entry) (outcome_seen result) }
-        ensures vault { vault_of self.new ≡ vault_of self.old }
+        ensures stands { (T : Trace) → StandsFor V.holds self.old T → V.is_clean (vault_of self.new) → StandsFor V.holds self.new (followed_by T (event_seen event.entry) result) }
+        ensures outcome { (T : Trace) → StandsFor V.holds self.old T → V.is_clean (vault_of self.new) → IsOutcome T (lent_by self.old) (event_seen event.entry) (outcome_seen result) }
+        ensures cause { (T : Trace) → StandsFor V.holds self.old T → V.is_clean (vault_of self.new) → HasCause (V.faults (vault_of self.old)) (V.faults (vault_of self.new)) (outcome_seen result) }
+        ensures counted { V.faults (vault_of self.old) ≤ V.faults (vault_of self.new) }
+        ensures clean { V.is_clean (vault_of self.new) → V.is_clean (vault_of self.old) }
     {
         match event {
             Event::Connect => self.connect(),
             Event::Bytes(c, piece) => self.bytes(c, piece),
             Event::Took(c, octets) => self.took(c, octets),
             Event::Gone(c) => self.gone(c),
+            Event::Deposit(maildrop, class, id, text) => self.deposit(maildrop, class, id, text),
+            Event::Admin(command) => self.administer(command),
         }
     }
 
@@ -185,10 +224,11 @@ impl<V: Vault> Office<V> {
     ///
     /// `NoMemory(done)` where the transcript couldn't grow: exactly the first `done` events are done.
     pub fn run(&mut self, events: &[Event<'_>]) -> Result<Transcript, RunFault>
-        ensures ok { IfOk result (λ steps. (T : Trace) → StandsFor self.old T → Follows events.now steps T self.new) }
+        ensures ok { IfOk result (λ steps. (T : Trace) → StandsFor V.holds self.old T → V.is_clean (vault_of self.new) → Follows V.holds events.now steps T self.new) }
         ensures err_before_the_end { IfErr result (λ e. done_before e < length events.now) }
-        ensures err { IfErr result (λ e. (steps : List Shown) × ((T : Trace) → StandsFor self.old T → Follows (take (done_before e) events.now) steps T self.new)) }
-        ensures vault { vault_of self.new ≡ vault_of self.old }
+        ensures err { IfErr result (λ e. (steps : List Shown) × ((T : Trace) → StandsFor V.holds self.old T → V.is_clean (vault_of self.new) → Follows V.holds (take (done_before e) events.now) steps T self.new)) }
+        ensures counted { V.faults (vault_of self.old) ≤ V.faults (vault_of self.new) }
+        ensures clean { V.is_clean (vault_of self.new) → V.is_clean (vault_of self.old) }
     {
         let mut steps = Vec::new(self.alloc);
         for (done, event) in events.iter().enumerate() {
@@ -202,10 +242,11 @@ impl<V: Vault> Office<V> {
 
     /// Does one event and enters its step; or neither.
     fn enter(&mut self, event: Event<'_>, steps: &mut Vec<Step>) -> Result<(), AllocError>
-        ensures ok { OnOk result ((T : Trace) → StandsFor self.old T → Enters event.entry steps.old.items steps.new.items T self.new) }
+        ensures ok { OnOk result ((T : Trace) → StandsFor V.holds self.old T → V.is_clean (vault_of self.new) → Enters V.holds event.entry steps.old.items steps.new.items T self.new) }
         ensures err { OnErr result (self.new ≡ self.old) }
         ensures err_steps { OnErr result (steps.new.items ≡ steps.old.items) }
-        ensures vault { vault_of self.new ≡ vault_of self.old }
+        ensures counted { V.faults (vault_of self.old) ≤ V.faults (vault_of self.new) }
+        ensures clean { V.is_clean (vault_of self.new) → V.is_clean (vault_of self.old) }
     {
         steps.reserve(1)?;
         let octets = self.next_octets(event)?;
@@ -216,7 +257,7 @@ impl<V: Vault> Office<V> {
 
     /// A copy of the octets that an event would take.
     fn next_octets(&self, event: Event<'_>) -> Result<Vec<u8>, AllocError>
-        ensures { IfOk result (λ octets. (T : Trace) (outcome : Outcome) → StandsFor self.now T → IsOutcome T (lent_by self.now) (event_seen event.entry) (outcome_seen outcome) → octets.items ≡ octets_taken T (event_seen event.entry) (mark_of (outcome_seen outcome))) }
+        ensures { IfOk result (λ octets. (T : Trace) (outcome : Outcome) → StandsFor V.holds self.now T → IsOutcome T (lent_by self.now) (event_seen event.entry) (outcome_seen outcome) → octets.items ≡ octets_taken T (event_seen event.entry) (mark_of (outcome_seen outcome))) }
     {
         let mut octets = Vec::new(self.alloc);
         if let Event::Took(c, count) = event {
@@ -230,7 +271,7 @@ impl<V: Vault> Office<V> {
 
     /// What a connection is lent of what it is owed: all of it. Nothing, where it isn't open.
     pub fn owed(&self, c: u64) -> &[u8]
-        ensures lent { (T : Trace) → StandsFor self.now T → IsLent (rest T c) result.now }
+        ensures lent { (T : Trace) → StandsFor V.holds self.now T → IsLent (rest T c) result.now }
         ensures count { length result.now ≡ lent_by self.now c }
     {
         match self.links.get(&c) {
@@ -241,7 +282,7 @@ impl<V: Vault> Office<V> {
 
     /// Whether a connection is open and owed nothing: octets may come.
     pub fn ready(&self, c: u64) -> bool
-        ensures { (T : Trace) → StandsFor self.now T → result ≡ is_ready T c }
+        ensures { (T : Trace) → StandsFor V.holds self.now T → result ≡ is_ready T c }
     {
         match self.links.get(&c) {
             None => false,
@@ -251,7 +292,7 @@ impl<V: Vault> Office<V> {
 
     /// Whether a connection isn't open: it never was, or it ended.
     pub fn ended(&self, c: u64) -> bool
-        ensures { (T : Trace) → StandsFor self.now T → result ≡ not (is_open T c) }
+        ensures { (T : Trace) → StandsFor V.holds self.now T → result ≡ not (is_open T c) }
     {
         !self.links.contains_key(&c)
     }

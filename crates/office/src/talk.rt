@@ -1,9 +1,10 @@
-//! What is remembered of a conversation between its lines.
+//! What is remembered of a conversation between its lines, and what a line is judged by.
 
 ghost use Rattle.std.specs.Prelude.{◌≡◌};
 ghost use Rattle.office.specs.Kept.{nothing_said};
 
 use creds::LoginName;
+use policy::Policy;
 
 /// What the next line is answered by, beside the line itself.
 #[derive(Clone, Copy, Debug)]
@@ -27,4 +28,21 @@ impl Talk {
             closing: false,
         }
     }
+}
+
+/// What a line is judged by, beside the store and what is remembered.
+#[derive(Clone, Copy)]
+pub struct Desk<'a> {
+    /// The policy in force.
+    pub policy: &'a Policy,
+    /// The timestamp of the connection's greeting.
+    pub stamp: &'a [u8],
+}
+
+/// What became of a line that was answered.
+#[derive(Clone, Copy, Debug, PartialEq, Eq)]
+pub enum Acted {
+    Done,
+    /// The store refused, and the reply says so.
+    Failed,
 }

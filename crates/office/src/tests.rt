@@ -37,7 +37,8 @@ fn limits_of_idle_seconds(rt: HostRuntime) {
 
 #[test]
 fn greeting_path_as_one_run(rt: HostRuntime) -> Result<(), Fail> {
-    let mut office = opened(rt.alloc(), "h.test")?;
+    let alloc = rt.alloc();
+    let mut office = opened(alloc, "h.test")?;
     let greeting = b"+OK POP3 server ready <1.7@h.test>\r\n";
     let farewell = b"+OK bye\r\n";
     let transcript = office.run(&[
@@ -49,16 +50,16 @@ fn greeting_path_as_one_run(rt: HostRuntime) -> Result<(), Fail> {
         Event::Gone(1),
     ])?;
     let wanted = [
-        (Outcome::Opened(1), b"".as_slice()),
-        (Outcome::Done, greeting.as_slice()),
-        (Outcome::Done, b"".as_slice()),
-        (Outcome::Done, &farewell[..4]),
-        (Outcome::Done, &farewell[4..]),
-        (Outcome::Ignored(Reason::NoSuchConnection), b"".as_slice()),
+        ("Opened(1)", b"".as_slice()),
+        ("Done", greeting.as_slice()),
+        ("Done", b"".as_slice()),
+        ("Done", &farewell[..4]),
+        ("Done", &farewell[4..]),
+        ("Ignored(NoSuchConnection)", b"".as_slice()),
     ];
     assert_eq!(rt; transcript.steps().len(), wanted.len());
     for (step, (outcome, octets)) in transcript.steps().iter().zip(wanted) {
-        assert_eq!(rt; step.outcome(), outcome);
+        assert!(rt; format!(in alloc; "{:?}", step.outcome())?.as_str() == outcome);
         assert!(rt; step.octets() == octets);
     }
     assert!(rt; office.ended(1) && !office.ready(1) && office.owed(1).is_empty());
@@ -70,30 +71,34 @@ fn greeting_path_as_one_run(rt: HostRuntime) -> Result<(), Fail> {
 fn sixty_four_connections(rt: HostRuntime) -> Result<(), Fail> {
     let mut office = opened(rt.alloc(), "h.test")?;
     for number in 1..=64 {
-        assert_eq!(rt; office.step(Event::Connect), Outcome::Opened(number));
+        assert!(rt; matches!(office.step(Event::Connect), Outcome::Opened(n) if n == number));
     }
-    let full = Outcome::Ignored(Reason::TooManyConnections);
-    assert_eq!(rt; office.step(Event::Connect), full);
-    assert_eq!(rt; office.step(Event::Gone(30)), Outcome::Done);
-    assert_eq!(rt; office.step(Event::Connect), Outcome::Opened(65));
+    assert!(rt;
+        matches!(
+            office.step(Event::Connect),
+            Outcome::Ignored(Reason::TooManyConnections)
+        )
+    );
+    assert!(rt; matches!(office.step(Event::Gone(30)), Outcome::Done));
+    assert!(rt; matches!(office.step(Event::Connect), Outcome::Opened(65)));
     Ok(())
 }
 
 /// Gives a line to connection 1, and whether this is its reply, which is then taken.
 fn is_answered(office: &mut Office<PlainVault>, line: &[u8], reply: &[u8]) -> bool {
-    let heard = office.step(Event::Bytes(1, line)) == Outcome::Done;
+    let heard = matches!(office.step(Event::Bytes(1, line)), Outcome::Done);
     let owed = office.owed(1);
     let same = owed == reply;
     let count = owed.len();
-    heard && same && office.step(Event::Took(1, count)) == Outcome::Done
+    heard && same && matches!(office.step(Event::Took(1, count)), Outcome::Done)
 }
 
 #[test]
 fn third_failed_login_closes(rt: HostRuntime) -> Result<(), Fail> {
     let mut office = opened(rt.alloc(), "h.test")?;
     let greeting = b"+OK POP3 server ready <1.7@h.test>\r\n";
-    assert_eq!(rt; office.step(Event::Connect), Outcome::Opened(1));
-    assert_eq!(rt; office.step(Event::Took(1, greeting.len())), Outcome::Done);
+    assert!(rt; matches!(office.step(Event::Connect), Outcome::Opened(1)));
+    assert!(rt; matches!(office.step(Event::Took(1, greeting.len())), Outcome::Done));
     for reply in [
         b"-ERR login failed\r\n".as_slice(),
         b"-ERR login failed\r\n",
@@ -109,9 +114,9 @@ fn third_failed_login_closes(rt: HostRuntime) -> Result<(), Fail> {
 #[test]
 fn user_name_in_force(rt: HostRuntime) -> Result<(), Fail> {
     let mut office = opened(rt.alloc(), "h.test")?;
-    assert_eq!(rt; office.step(Event::Connect), Outcome::Opened(1));
+    assert!(rt; matches!(office.step(Event::Connect), Outcome::Opened(1)));
     let count = office.owed(1).len();
-    assert_eq!(rt; office.step(Event::Took(1, count)), Outcome::Done);
+    assert!(rt; matches!(office.step(Event::Took(1, count)), Outcome::Done));
     for (line, reply) in [
         (b"PASS x\r\n".as_slice(), b"-ERR wrong state\r\n".as_slice()),
         (b"USER Ann/orders\r\n", b"-ERR bad arguments\r\n"),

@@ -27,10 +27,10 @@ impl Step {
     }
 
     /// What the event was answered.
-    pub fn outcome(&self) -> Outcome
-        ensures { result ≡ self.now.outcome }
+    pub fn outcome(&self) -> &Outcome
+        ensures { result.now ≡ self.now.outcome }
     {
-        self.outcome
+        &self.outcome
     }
 
     /// The octets that it took; none for any other event.

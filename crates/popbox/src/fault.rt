@@ -21,6 +21,8 @@ pub enum Fault {
     BadEvent(u64),
     /// The host name isn't of its form.
     BadHost,
+    /// The store refused as an office was opened over it.
+    Store,
     /// The file holds no policy, for this cause, which isn't want of memory.
     NoPolicy(PolicyFault),
     /// Standard output refuses octets.
@@ -37,6 +39,7 @@ impl fmt::Display for Fault {
             Fault::CannotRead => write!(f, "cannot read file"),
             Fault::BadEvent(number) => write!(f, "line {number}: bad event"),
             Fault::BadHost => write!(f, "BadHost"),
+            Fault::Store => write!(f, "Store"),
             Fault::NoPolicy(fault) => write!(f, "{fault}"),
             Fault::CannotWrite => write!(f, "cannot write"),
             Fault::OutOfMemory => write!(f, "out of memory"),
@@ -69,6 +72,7 @@ impl From<OpenFault> for Fault {
     fn from(fault: OpenFault) -> Fault {
         match fault {
             OpenFault::BadHost => Fault::BadHost,
+            OpenFault::Store => Fault::Store,
             OpenFault::NoMemory => Fault::OutOfMemory,
         }
     }

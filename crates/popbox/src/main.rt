@@ -1,11 +1,15 @@
 //! popbox, a POP3 server for shared maildrops: the program.
 #![tactic(auto)]
 
+#[cfg(test)]
+mod administration_tests;
+mod answers;
 mod check_policy;
 #[cfg(test)]
 mod check_policy_tests;
 mod command_line;
 mod fault;
+mod fields;
 mod replay;
 mod script;
 #[cfg(test)]

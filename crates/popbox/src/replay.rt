@@ -1,7 +1,12 @@
 //! `popbox replay`: does the events of a script in an office, and prints what each gives.
 
-ghost use Rattle.std.specs.Prelude.{◌≤◌, ◌≡◌};
+ghost use Rattle.std.specs.Prelude.{◌≤◌, ◌≡◌, ◌∷◌, ◌++◌, [], OnOk, codes, if◌then◌else◌};
+ghost use Rattle.std.specs.Io.KnownBytes.{Appends};
+ghost use Rattle.office.specs.Outcomes.{Ignored};
+ghost use Rattle.office.specs.Shown.{outcome_seen, reason_seen};
+ghost use Rattle.popbox.specs.Told.{outcome_lines, answer_lines, reason_name as name_of_reason};
 
+use crate::answers::answer_body;
 use crate::fault::{Fault, read_fault, tell_fault};
 use crate::script::{Line, read_script};
 use office::{Event, Limits, Office, Outcome, Reason};
@@ -83,10 +88,10 @@ fn play<V: Vault, W: Write>(
     let mut open = Vec::new(alloc);
     for line in lines {
         let outcome = act(office, line, out).map_err(|_| Fault::CannotWrite)?;
-        if let Outcome::Opened(number) = outcome {
-            open.push(number)?;
+        if let Outcome::Opened(number) = &outcome {
+            open.push(*number)?;
         }
-        tell_outcome(out, outcome).map_err(|_| Fault::CannotWrite)?;
+        tell(alloc, out, &outcome)?;
         tell_ended(office, &mut open, out).map_err(|_| Fault::CannotWrite)?;
     }
     Ok(())
@@ -104,6 +109,13 @@ fn act<V: Vault, W: Write>(
         Line::Took(number, count) => take(office, *number, *count, out),
         Line::Drain(number) => drain(office, *number, out),
         Line::Gone(number) => Ok(office.step(Event::Gone(*number))),
+        Line::Deposit {
+            maildrop,
+            class,
+            id,
+            text,
+        } => Ok(office.step(Event::Deposit(maildrop, class, id, text.as_slice()))),
+        Line::Admin(command) => Ok(office.step(Event::Admin(command))),
     }
 }
 
@@ -162,26 +174,63 @@ pub fn write_escaped<W: Write>(out: &mut W, octets: &[u8]) -> io::Result<()> {
 }
 
 /// Prints an outcome.
-fn tell_outcome<W: Write>(out: &mut W, outcome: Outcome) -> io::Result<()> {
-    match outcome {
+pub fn tell<W: Write>(alloc: Global, out: &mut W, outcome: &Outcome) -> Result<(), Fault>
+    ensures { OnOk result (Appends (W.contents out.old) (W.contents out.new) (outcome_lines (outcome_seen outcome.now))) }
+{
+    let told = match outcome {
         Outcome::Opened(number) => writeln!(out, "opened {number}"),
         Outcome::Done => writeln!(out, "done"),
+        Outcome::Failed => writeln!(out, "failed"),
         Outcome::NoMemory => writeln!(out, "no memory"),
-        Outcome::Ignored(reason) => {
-            let name = reason_name(reason);
-            writeln!(out, "ignored: {name}")
-        }
-    }
+        Outcome::Ignored(reason) => tell_reason(out, *reason),
+        Outcome::Answered(answer) => tell_body(out, answer_body(alloc, answer)?.as_bytes()),
+    };
+    told.map_err(|_| Fault::CannotWrite)
+}
+
+/// Prints why an event was ignored.
+fn tell_reason<W: Write>(out: &mut W, reason: Reason) -> io::Result<()>
+    ensures { OnOk result (Appends (W.contents out.old) (W.contents out.new) (outcome_lines (Ignored (reason_seen reason)))) }
+{
+    let name = reason_name(reason);
+    writeln!(out, "ignored: {name}")
 }
 
 /// The name of a reason for which an event is ignored.
-fn reason_name(reason: Reason) -> &'static str {
+fn reason_name(reason: Reason) -> &'static str
+    ensures { result.now ≡ name_of_reason (reason_seen reason) }
+{
     match reason {
         Reason::NoSuchConnection => "NoSuchConnection",
         Reason::NotReady => "NotReady",
         Reason::PieceTooLong => "PieceTooLong",
         Reason::TooManyConnections => "TooManyConnections",
     }
+}
+
+/// Prints each line of an answer's body behind `answer `; of an empty body the word alone.
+fn tell_body<W: Write>(out: &mut W, body: &[u8]) -> io::Result<()>
+    ensures { OnOk result (Appends (W.contents out.old) (W.contents out.new) (answer_lines body.now)) }
+{
+    if body.is_empty() {
+        return out.write_all(b"answer\n");
+    }
+    let mut at_start = true;
+    for octet in body {
+        tell_octet(out, at_start, *octet)?;
+        at_start = *octet == b'\n';
+    }
+    Ok(())
+}
+
+/// Prints an octet of an answer's body, behind the word where it begins a line.
+fn tell_octet<W: Write>(out: &mut W, at_start: bool, octet: u8) -> io::Result<()>
+    ensures { OnOk result (Appends (W.contents out.old) (W.contents out.new) ((if at_start then codes "answer " else []) ++ octet ∷ [])) }
+{
+    if at_start {
+        out.write_all(b"answer ")?;
+    }
+    out.write_all(&[octet])
 }
 
 /// Prints the connections that ended since the last event, ascending, and keeps the others.

@@ -2,25 +2,17 @@
 //!
 //! Lines end at LF; empty lines and lines that begin with `#` are skipped, and counted.
 
-ghost use Rattle.std.specs.Prelude.{◌≡◌, ◌+◌, ◌*◌, ◌^◌, ◌<◌, ◌≤◌, ◌≢◌, ◌∷◌, ◌++◌, [], ℕ, List, Contains, MatchOption, IsSomeAnd, length, vec_len, IfOk, IfSome, SomeIff};
-ghost use Rattle.std.specs.Char.{digit_value};
+ghost use Rattle.std.specs.Prelude.{◌≡◌, ◌+◌, ◌<◌, ◌≤◌, ◌∷◌, ◌++◌, ℕ, length, IfSome};
 ghost use Rattle.popbox.specs.declared.script.ScriptFault.TheVariants.{NoMemory};
-ghost use Rattle.std.specs.Str.Parse.{IsNumeral, digits_value};
 
+use crate::fields::{SPACE, read_number, split_field, take_field, unescape};
+use creds::{Credential, DepositId, Name, Secret, pass_digest};
+use office::AdminCommand;
+use policy::Action;
 use std::alloc::{AllocError, AllocFailed, Global};
-use std::str;
-
-/// The greatest number of digits that a number in a script has.
-const MOST_DIGITS: usize = 20;
-
-/// What stands between two fields.
-const SPACE: u8 = b' ';
-
-/// What an escape begins with.
-const BACKSLASH: u8 = b'\\';
 
 /// What one line of a script asks for. Connections are named by their numbers.
-#[derive(Debug, PartialEq, Eq, Drop)]
+#[derive(Debug, Drop)]
 pub enum Line {
     /// `connect`: a connection is opened.
     Connect,
@@ -32,6 +24,19 @@ pub enum Line {
     Drain(u64),
     /// `gone C`: a connection's client is gone.
     Gone(u64),
+    /// `deposit MAILDROP CLASS ID TEXT`: a message of any octets, also none, is put into a maildrop.
+    Deposit {
+        /// The maildrop's name.
+        maildrop: Name,
+        /// The message's class.
+        class: Name,
+        /// The deposit's id.
+        id: DepositId,
+        /// The message's text.
+        text: Vec<u8>,
+    },
+    /// `maildrops`, `maildrop`, `list`, `clerk` or `explain`: an administrator asks for something.
+    Admin(AdminCommand),
 }
 
 /// Why a text isn't a script.
@@ -91,7 +96,9 @@ fn read_line(alloc: Global, line: &[u8]) -> Result<Option<Line>, AllocError> {
         (b"took", Some(rest)) => Ok(read_took(rest)),
         (b"drain", Some(rest)) => Ok(read_number(rest).map(Line::Drain)),
         (b"gone", Some(rest)) => Ok(read_number(rest).map(Line::Gone)),
-        _ => Ok(None),
+        (b"deposit", Some(rest)) => read_deposit(alloc, rest),
+        (b"clerk", Some(rest)) => Ok(read_clerk(alloc, rest)?.map(Line::Admin)),
+        (keyword, rest) => Ok(read_command(keyword, rest).map(Line::Admin)),
     }
 }
 
@@ -115,68 +122,96 @@ fn read_took(rest: &[u8]) -> Option<Line> {
     Some(Line::Took(number, count as usize))
 }
 
-/// A line's first field, and what follows the space behind it.
-fn split_field(line: &[u8]) -> (&[u8], Option<&[u8]>)
-    ensures field { ¬ (Contains result.0.now SPACE) }
-    ensures parts { MatchOption result.1 (line.now ≡ result.0.now) (λ rest. line.now ≡ result.0.now ++ SPACE ∷ rest.now) }
+/// `MAILDROP CLASS ID TEXT`, behind `deposit`.
+fn read_deposit(alloc: Global, rest: &[u8]) -> Result<Option<Line>, AllocError> {
+    let Some((maildrop, class, id, text)) = split_deposit(rest) else {
+        return Ok(None);
+    };
+    let (Some(maildrop), Some(class), Some(id)) = (
+        Name::read(maildrop),
+        Name::read(class),
+        DepositId::read(id),
+    ) else {
+        return Ok(None);
+    };
+    let text = unescape(alloc, text)?;
+    Ok(text.map(|text| Line::Deposit {
+        maildrop,
+        class,
+        id,
+        text,
+    }))
+}
+
+/// The four fields of `MAILDROP CLASS ID TEXT`.
+fn split_deposit(rest: &[u8]) -> Option<(&[u8], &[u8], &[u8], &[u8])>
+    ensures { IfSome result (λ r. rest.now ≡ r.0.now ++ SPACE ∷ (r.1.now ++ SPACE ∷ (r.2.now ++ SPACE ∷ r.3.now))) }
 {
-    match line.iter().position(|octet| *octet == SPACE) {
-        Some(at) => (&line[..at], Some(&line[at + 1..])),
-        None => (line, None),
+    let (maildrop, rest) = take_field(rest)?;
+    let (class, rest) = take_field(rest)?;
+    let (id, text) = take_field(rest)?;
+    Some((maildrop, class, id, text))
+}
+
+/// `apop NAME TEXT`, `pass NAME TEXT`, `drop NAME` or `show NAME`, behind `clerk`.
+fn read_clerk(alloc: Global, rest: &[u8]) -> Result<Option<AdminCommand>, AllocError> {
+    match split_field(rest) {
+        (b"apop", Some(rest)) => Ok(read_secret(alloc, rest)?.map(|(clerk, secret)| {
+            AdminCommand::PutClerk(clerk, Credential::Apop(secret))
+        })),
+        (b"pass", Some(rest)) => Ok(read_secret(alloc, rest)?.map(|(clerk, password)| {
+            let digest = pass_digest(&clerk, password.as_bytes());
+            AdminCommand::PutClerk(clerk, Credential::Pass(digest))
+        })),
+        (b"drop", Some(name)) => Ok(Name::read(name).map(AdminCommand::DropClerk)),
+        (b"show", Some(name)) => Ok(Name::read(name).map(AdminCommand::ShowClerk)),
+        _ => Ok(None),
     }
 }
 
-/// A number of 1 to 20 decimal digits, below 2^64. Leading zeros are allowed.
-fn read_number(field: &[u8]) -> Option<u64>
-    ensures { SomeIff result (IsNumeral 10 field.now × (length field.now ≤ MOST_DIGITS) × (digits_value 10 field.now < 2 ^ 64)) (digits_value 10 field.now) }
-{
-    if field.len() > MOST_DIGITS || field.starts_with(b"+") {
-        return None;
-    }
-    str::from_utf8(field).ok()?.parse().ok()
-}
-
-/// The octets that a TEXT stands for. `None` where a `\` begins no escape.
-fn unescape(alloc: Global, text: &[u8]) -> Result<Option<Vec<u8>>, AllocError>
-    ensures short { IfOk result (λ octets. IfSome octets (λ v. vec_len v ≤ length text.now)) }
-    ensures plain { ¬ (Contains text.now BACKSLASH) → IfOk result (λ octets. IsSomeAnd octets (λ v. v.items ≡ text.now)) }
-{
-    let mut octets = Vec::new(alloc);
-    let mut rest = text;
-    while !rest.is_empty() {
-        let Some((octet, after)) = next_octet(rest) else {
-            return Ok(None);
-        };
-        octets.push(octet)?;
-        rest = after;
-    }
-    Ok(Some(octets))
-}
-
-/// The octet that a TEXT begins with, and the TEXT behind it.
-fn next_octet(text: &[u8]) -> Option<(u8, &[u8])>
-    ensures shorter { IfSome result (λ r. length r.1.now < length text.now) }
-    ensures plain { (b : ℕ) (after : List ℕ) → text.now ≡ b ∷ after → b ≢ BACKSLASH → IsSomeAnd result (λ r. (r.0 ≡ b) × (r.1.now ≡ after)) }
-    ensures carriage_return { (after : List ℕ) → text.now ≡ BACKSLASH ∷ 114 ∷ after → IsSomeAnd result (λ r. (r.0 ≡ 13) × (r.1.now ≡ after)) }
-    ensures line_feed { (after : List ℕ) → text.now ≡ BACKSLASH ∷ 110 ∷ after → IsSomeAnd result (λ r. (r.0 ≡ 10) × (r.1.now ≡ after)) }
-    ensures hexadecimal { (h l : ℕ) (after : List ℕ) → text.now ≡ BACKSLASH ∷ 120 ∷ h ∷ l ∷ after → digit_value h < 16 → digit_value l < 16 → IsSomeAnd result (λ r. (r.0 ≡ 16 * digit_value h + digit_value l) × (r.1.now ≡ after)) }
-    ensures backslash { (after : List ℕ) → text.now ≡ BACKSLASH ∷ BACKSLASH ∷ after → IsSomeAnd result (λ r. (r.0 ≡ BACKSLASH) × (r.1.now ≡ after)) }
-{
-    match text {
-        [b'\\', b'r', after @ ..] => Some((b'\r', after)),
-        [b'\\', b'n', after @ ..] => Some((b'\n', after)),
-        [b'\\', b'\\', after @ ..] => Some((b'\\', after)),
-        [b'\\', b'x', high, low, after @ ..] => Some((octet_of(*high, *low)?, after)),
-        [b'\\', ..] | [] => None,
-        [octet, after @ ..] => Some((*octet, after)),
+/// `NAME TEXT`, behind `clerk apop` or `clerk pass`: a clerk's name, and a secret or a password.
+fn read_secret(alloc: Global, rest: &[u8]) -> Result<Option<(Name, Secret)>, AllocError> {
+    let Some((clerk, text)) = take_field(rest) else {
+        return Ok(None);
+    };
+    let Some(secret) = unescape(alloc, text)? else {
+        return Ok(None);
+    };
+    match (Name::read(clerk), Secret::read(secret.as_slice())) {
+        (Some(clerk), Some(secret)) => Ok(Some((clerk, secret))),
+        _ => Ok(None),
     }
 }
 
-/// The octet that two hexadecimal digits of either case write.
-fn octet_of(high: u8, low: u8) -> Option<u8>
-    ensures { SomeIff result ((digit_value high < 16) × (digit_value low < 16)) (16 * digit_value high + digit_value low) }
-{
-    let high = char::from(high).to_digit(16)?;
-    let low = char::from(low).to_digit(16)?;
-    Some((16 * high + low) as u8)
+/// A command whose line has no TEXT, by its keyword and what stands behind that.
+fn read_command(keyword: &[u8], rest: Option<&[u8]>) -> Option<AdminCommand> {
+    match (keyword, rest) {
+        (b"maildrops", None) => Some(AdminCommand::ListMaildrops),
+        (b"maildrop", Some(rest)) => read_maildrop(rest),
+        (b"list", Some(name)) => Name::read(name).map(AdminCommand::ShowMaildrop),
+        (b"explain", Some(rest)) => read_explain(rest),
+        _ => None,
+    }
+}
+
+/// `add NAME` or `drop NAME`, behind `maildrop`.
+fn read_maildrop(rest: &[u8]) -> Option<AdminCommand> {
+    match split_field(rest) {
+        (b"add", Some(name)) => Name::read(name).map(AdminCommand::AddMaildrop),
+        (b"drop", Some(name)) => Name::read(name).map(AdminCommand::DropMaildrop),
+        _ => None,
+    }
+}
+
+/// `CLERK MAILDROP CLASS ACTION`, behind `explain`.
+fn read_explain(rest: &[u8]) -> Option<AdminCommand> {
+    let (clerk, rest) = take_field(rest)?;
+    let (maildrop, rest) = take_field(rest)?;
+    let (class, action) = take_field(rest)?;
+    Some(AdminCommand::Explain {
+        clerk: Name::read(clerk)?,
+        maildrop: Name::read(maildrop)?,
+        class: Name::read(class)?,
+        action: Action::read(action)?,
+    })
 }

@@ -49,19 +49,19 @@ impl Ran {
     }
 }
 
-/// Runs a script at a host name, with boot number 7.
-fn run_at(alloc: Global, host: &str, script: &[u8]) -> Result<Ran, Fail> {
-    let mut script = script;
+/// Runs a script over an empty store, at a host name and with a boot number.
+pub fn run_at(alloc: Global, host: &str, boot: u64, script: &str) -> Result<Ran, Fail> {
+    let mut script = script.as_bytes();
     let mut out = Vec::new(alloc);
     let mut err = Vec::new(alloc);
     let vault = PlainVault::new(alloc);
-    let (status, _) = replay(alloc, &mut script, vault, host, 7, &mut out, &mut err);
+    let (status, _) = replay(alloc, &mut script, vault, host, boot, &mut out, &mut err);
     Ran::new(status, out, err)
 }
 
-/// Runs a script at the host name of the worked examples.
-fn run(alloc: Global, script: &str) -> Result<Ran, Fail> {
-    run_at(alloc, "h.test", script.as_bytes())
+/// Runs a script at the host name and with the boot number of the worked examples.
+pub fn run(alloc: Global, script: &str) -> Result<Ran, Fail> {
+    run_at(alloc, "h.test", 7, script)
 }
 
 #[test]
@@ -302,6 +302,39 @@ fn bad_events(rt: HostRuntime) -> Result<(), Fail> {
         "gone x",
         "gone 000000000000000000001",
         "gone 18446744073709551616",
+        "deposit",
+        "deposit orders note d1",
+        "deposit orders note d1\\n x",
+        "deposit Orders note d1 x",
+        "deposit orders  d1 x",
+        "deposit orders note d/1 x",
+        "deposit orders note d1 \\q",
+        "maildrop",
+        "maildrop add",
+        "maildrop add ",
+        "maildrop add Orders",
+        "maildrop add orders ",
+        "maildrop list orders",
+        "maildrops ",
+        "maildrops orders",
+        "list",
+        "list ",
+        "list orders note",
+        "clerk",
+        "clerk ann",
+        "clerk apop ann",
+        "clerk apop ann ",
+        "clerk pass ann ",
+        "clerk apop ann a\\n",
+        "clerk pass ann \\x7f",
+        "clerk pass Ann x",
+        "clerk keep ann x",
+        "clerk show",
+        "clerk drop Ann",
+        "explain ann orders note",
+        "explain ann orders note write",
+        "explain ann orders note read ",
+        "explain ann orders * read",
     ];
     let want = Ran::fault(alloc, "popbox: line 3: bad event\n")?;
     for line in lines {
@@ -317,8 +350,11 @@ fn escapes(rt: HostRuntime) -> Result<(), Fail> {
     let script = b"bytes 1 a \\r\\n\\\\\\x00\\xfF\\x5c\x80 \r\n";
     let octets = b"a \r\n\\\x00\xff\\\x80 \r";
     let octets = Vec::from_slice(alloc, octets)?;
-    let want = vec![in alloc; Line::Bytes(1, octets)]?;
-    assert_eq!(rt; read_script(alloc, script).map_err(|_| "fault")?, want);
+    let lines = read_script(alloc, script).map_err(|_| "fault")?;
+    assert_eq!(rt; lines.len(), 1);
+    assert!(rt;
+        matches!(&lines[0], Line::Bytes(1, piece) if piece.as_slice() == octets.as_slice())
+    );
     let mut out = Vec::new(alloc);
     write_escaped(&mut out, b"a ~\r\n\\\x00\t\x1f\x7f\xff")?;
     assert_eq!(rt;
@@ -332,9 +368,9 @@ fn escapes(rt: HostRuntime) -> Result<(), Fail> {
 fn bad_host(rt: HostRuntime) -> Result<(), Fail> {
     let alloc = rt.alloc();
     let want = Ran::fault(alloc, "popbox: BadHost\n")?;
-    assert_eq!(rt; run_at(alloc, "a..b", b"connect\n")?, want);
+    assert_eq!(rt; run_at(alloc, "a..b", 7, "connect\n")?, want);
     let want = Ran::fault(alloc, "popbox: line 1: bad event\n")?;
-    assert_eq!(rt; run_at(alloc, "a..b", b"hello\n")?, want);
+    assert_eq!(rt; run_at(alloc, "a..b", 7, "hello\n")?, want);
     Ok(())
 }
 

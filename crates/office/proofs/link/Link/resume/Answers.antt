@@ -1,22 +1,29 @@
-use Rattle.std.proofs.Common.{◌≡◌, ◌+◌, ◌-◌, ◌≤◌, ◌++◌, drop, drop-drop, take, take_all, length, length-drop, arith, sym, ◌∙◌, ap, rules}
+use Rattle.std.proofs.Common.{◌≡◌, ◌+◌, ◌-◌, ◌≤◌, ◌++◌, drop, drop-drop, take, take_all, length, length-drop, arith, sym, ◌∙◌, ap, string_bytes}
 use Rattle.popline.specs.Cutting.{fed, through_newline}
 use Rattle.popline.specs.Replies.{bytes_of}
 use Rattle.popline.specs.Seen.{cut_seen}
-use Rattle.office.specs.Kept.{Kept, spoken, talk_after}
+use Rattle.office.specs.Kept.{Kept, Desk, talk_after}
+use Rattle.office.specs.Answered.{judged_at, reply_of}
 use Rattle.office.proofs.Keeping.{line_answered}
 use Rattle.office.proofs.link.Link.resume.Goals as goal
 
-pub returns-in_ok-answer-clause-ok : goal.returns-in_ok-answer-clause-ok
-returns-in_ok-answer-clause-ok c =
+pub returns-clause-ok : goal.returns-clause-ok
+returns-clause-ok g c d held clean =
     let f = c.feed.ensures in
     let v = c.self.view_is in
-    let p = c.args.self.now.pending in
+    let k : Kept = c.args.self.now in
+    let p = k.pending in
     let x = cut_seen c.in-Some.cut in
-    let before : c.self.inside.talk ≡ c.args.self.now.talk = ap (λ (k : Kept). k.talk) v in
-    let said : c.answer.new.owed.items ≡ bytes_of (spoken c.self.inside.talk x) = search rules in
-    let next : c.answer.new.talk ≡ talk_after x (spoken c.self.inside.talk x) c.self.inside.talk = search rules in
-    let owed : c.answer.new.owed.items ≡ c.args.self.now.owed ++ bytes_of (spoken c.args.self.now.talk x) = rw (sym before, c.requires) said in
-    let talk : c.answer.new.talk ≡ talk_after x (spoken c.args.self.now.talk x) c.args.self.now.talk = rw (sym before) next in
+    let w = c.in_ok-acted.acted in
+    let desk : Desk = judged_at d c.args.policy.now k.stamp in
+    let stamped : c.as_bytes.result.now ≡ k.stamp = c.as_bytes.ensures.value ∙ ap (λ (k : Kept). k.stamp) v in
+    let talking : c.self.inside.talk ≡ k.talk = ap (λ (k : Kept). k.talk) v in
+    let over : judged_at d c.args.policy.now c.as_bytes.result.now ≡ desk = ap (λ s. judged_at d c.args.policy.now s) stamped in
+    let given = c.in_ok-acted.ensures.owed d held clean in
+    let after = c.in_ok-acted.ensures.talk d held clean in
+    let said : c.answer.new.owed.items ≡ bytes_of (reply_of w desk k.talk x) = rw (over, talking, c.clear.ensures.items) at given in
+    let next : c.answer.new.talk ≡ talk_after x (reply_of w desk k.talk x) k.talk = rw (over, talking) at after in
+    let owed : c.answer.new.owed.items ≡ k.owed ++ bytes_of (reply_of w desk k.talk x) = rw c.requires said in
     let cut = c.self.inside.cut in
     let octets = c.self.inside.pending.items in
     let left : drop cut octets ≡ p = ap (λ (k : Kept). k.pending) v in
@@ -27,5 +34,5 @@ returns-in_ok-answer-clause-ok c =
     take_all (length c.deref.result.now - cut) (drop cut c.deref.result.now) fits ∙ (ap (drop cut) all ∙ left) in
     let rest : drop (cut + n) octets ≡ drop (through_newline p) p =
     sym (drop-drop n cut octets) ∙ (ap (drop n) left ∙ ap (λ m. drop m p) (f.taken ∙ ap through_newline given)) in
-    line_answered c.args.self.now c.feed.new.self p x (drop (cut + n) octets) c.answer.new.owed.items c.answer.new.talk
-    (f.held ∙ (ap (λ (k : Kept). fed k.held (take (length c.deref.result.now - cut) (drop cut c.deref.result.now))) v ∙ ap (fed c.args.self.now.held) given)) c.in-Some.ensures rest owed talk
+    let fed_is = f.held ∙ (ap (λ (k : Kept). fed k.held (take (length c.deref.result.now - cut) (drop cut c.deref.result.now))) v ∙ ap (fed k.held) given) in
+    line_answered k c.feed.new.self p x fed_is c.in-Some.ensures (λ y. reply_of w desk k.talk y) (drop (cut + n) octets) c.answer.new.owed.items c.answer.new.talk (string_bytes c.self.inside.stamp) (ap (λ (k : Kept). k.stamp) v) rest owed next

@@ -2,12 +2,12 @@ use Rattle.std.proofs.Common.{◌≡◌, is_ok, sym, rules, true}
 use Rattle.office.proofs.office.Office.enter.Goals as goal
 
 pub returns-clause-ok : goal.returns-clause-ok
-returns-clause-ok g c = λ T st.
+returns-clause-ok g c = λ T st clean.
     let room : is_ok c.push.result ≡ true = c.push.ensures.succeeds (search rules) in
     let items = c.push.ensures.items in
     record {
       step = c.new.result;
       entered = rw (sym c.in_ok-reserve.ensures.items) (rw room at items);
-      is = record { office = c.args.self.now; stood = st; outcome = rw c.new.ensures (c.step-outcome.ensures.outcome T st); octets = rw c.new.ensures (c.in_ok-octets.ensures T c.step-outcome.result st (c.step-outcome.ensures.outcome T st)) };
-      stands = rw c.new.ensures (c.step-outcome.ensures.stands T st);
+      is = record { office = c.args.self.now; stood = st; outcome = rw c.new.ensures (c.step-outcome.ensures.outcome T st clean); octets = rw c.new.ensures (c.in_ok-octets.ensures T c.step-outcome.result st (c.step-outcome.ensures.outcome T st clean)) };
+      stands = rw c.new.ensures (c.step-outcome.ensures.stands T st clean);
     }

@@ -1,4 +1,4 @@
-use Rattle.std.proofs.Common.{◌≡◌, take}
+use Rattle.std.proofs.Common.{◌≤◌, take}
 use Rattle.office.specs.Events.{Trace}
 use Rattle.office.specs.Stands.{StandsFor, vault_of}
 use Rattle.office.specs.Runs.{Follows}
@@ -6,6 +6,7 @@ use Rattle.office.proofs.office.Office.run.Given as goal
 
 abbrev pub invariant-loop-done : goal.invariant-loop-done
 invariant-loop-done g l = record {
-  follows : (T : Trace) → StandsFor l.fn.self T → Follows (take l.done l.events) l.steps.items T l.self;
-  vault : vault_of l.self ≡ vault_of l.fn.self;
+  follows : (T : Trace) → StandsFor g.V.Vault.holds l.fn.self T → g.V.Vault.is_clean (vault_of l.self) → Follows g.V.Vault.holds (take l.done l.events) l.steps.items T l.self;
+  counted : g.V.Vault.faults (vault_of l.fn.self) ≤ g.V.Vault.faults (vault_of l.self);
+  clean : g.V.Vault.is_clean (vault_of l.self) → g.V.Vault.is_clean (vault_of l.fn.self);
 }

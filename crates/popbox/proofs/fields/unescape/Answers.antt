@@ -2,7 +2,7 @@ use Rattle.std.proofs.Common.{◌≡◌, ◌≢◌, ◌<◌, ◌++◌, ◌∷◌
 use Rattle.std.proofs.lemmas.Grind.{common_steps}
 use Rattle.std.proofs.lemmas.List.Elements.{Contains-append_right}
 use Rattle.std.specs.Prelude.{Contains}
-use Rattle.popbox.proofs.script.unescape.Goals as goal
+use Rattle.popbox.proofs.fields.unescape.Goals as goal
 
 -- an element that follows others is contained
 contains_next : (before after : List ℕ) (b : ℕ) → Contains (before ++ b ∷ after) b

@@ -1,7 +1,7 @@
 use Rattle.std.proofs.Common.{◌≡◌, ◌++◌, ◌+◌, ◌≤◌, length, vec_len}
 use Rattle.std.specs.Prelude.{Contains}
-use Rattle.popbox.specs.declared.script.TheConstants.{BACKSLASH}
-use Rattle.popbox.proofs.script.unescape.Given as goal
+use Rattle.popbox.specs.declared.fields.TheConstants.{BACKSLASH}
+use Rattle.popbox.proofs.fields.unescape.Given as goal
 
 -- each octet that is read leaves a shorter text, and what holds no escape is read as it stands
 abbrev pub invariant-loop-rest : goal.invariant-loop-rest

@@ -1,0 +1,24 @@
+use Rattle.std.proofs.Common.{refl}
+use Rattle.office.specs.Answers.{ListMaildrops}
+use Rattle.office.specs.Events.{Admin}
+use Rattle.office.specs.Stands.{lent_by}
+use Rattle.office.proofs.Quiet.{became-stands, became-outcome, became-cause}
+use Rattle.office.proofs.VaultCalls.{maildrops_listed, store_seen}
+use Rattle.office.proofs.office.Office.list_maildrops.Goals as goal
+
+pub returns-clause-stands : goal.returns-clause-stands
+returns-clause-stands g c T st clean =
+    rw c.listed.ensures (became-stands _ c.args.self.now _ T (Admin ListMaildrops) _ _ tt st
+    (maildrops_listed _ T st.keeps _ _ (c.maildrops.ensures.done st.keeps.contents st.keeps.held clean) (λ e. c.maildrops.ensures.counted.cause (store_seen _ _ e)))
+    refl refl refl refl refl (λ q. refl))
+
+pub returns-clause-outcome : goal.returns-clause-outcome
+returns-clause-outcome g c T st clean =
+    rw c.listed.ensures (became-outcome T (Admin ListMaildrops) _ _ tt
+    (maildrops_listed _ T st.keeps _ _ (c.maildrops.ensures.done st.keeps.contents st.keeps.held clean) (λ e. c.maildrops.ensures.counted.cause (store_seen _ _ e)))
+    (lent_by c.args.self.now))
+
+pub returns-clause-cause : goal.returns-clause-cause
+returns-clause-cause g c T st clean =
+    rw c.listed.ensures (became-cause T (Admin ListMaildrops) _ tt c.maildrops.ensures.counted
+    (maildrops_listed _ T st.keeps _ _ (c.maildrops.ensures.done st.keeps.contents st.keeps.held clean) (λ e. c.maildrops.ensures.counted.cause (store_seen _ _ e))))

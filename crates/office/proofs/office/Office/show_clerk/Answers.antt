@@ -1,0 +1,24 @@
+use Rattle.std.proofs.Common.{refl}
+use Rattle.office.specs.Answers.{ShowClerk}
+use Rattle.office.specs.Events.{Admin}
+use Rattle.office.specs.Stands.{lent_by}
+use Rattle.office.proofs.Quiet.{became-stands, became-outcome, became-cause}
+use Rattle.office.proofs.VaultCalls.{clerk_shown}
+use Rattle.office.proofs.office.Office.show_clerk.Goals as goal
+
+pub returns-clause-stands : goal.returns-clause-stands
+returns-clause-stands g c T st clean =
+    rw c.credential_told.ensures (became-stands _ c.args.self.now _ T (Admin (ShowClerk c.args.clerk.now)) _ _ tt st
+    (clerk_shown _ T st.keeps _ c.args.clerk.now c.credential.result (c.credential.ensures.done st.keeps.contents st.keeps.held clean) c.credential.ensures.counted.cause)
+    refl refl refl refl refl (λ q. refl))
+
+pub returns-clause-outcome : goal.returns-clause-outcome
+returns-clause-outcome g c T st clean =
+    rw c.credential_told.ensures (became-outcome T (Admin (ShowClerk c.args.clerk.now)) _ _ tt
+    (clerk_shown _ T st.keeps _ c.args.clerk.now c.credential.result (c.credential.ensures.done st.keeps.contents st.keeps.held clean) c.credential.ensures.counted.cause)
+    (lent_by c.args.self.now))
+
+pub returns-clause-cause : goal.returns-clause-cause
+returns-clause-cause g c T st clean =
+    rw c.credential_told.ensures (became-cause T (Admin (ShowClerk c.args.clerk.now)) _ tt c.credential.ensures.counted
+    (clerk_shown _ T st.keeps _ c.args.clerk.now c.credential.result (c.credential.ensures.done st.keeps.contents st.keeps.held clean) c.credential.ensures.counted.cause))

@@ -1,0 +1,273 @@
+//! What an administrator asks for.
+ghost use Rattle.std.specs.Prelude.{◌≡◌, ◌≤◌, ◌⊎◌, true, length, map, IfOk};
+ghost use Rattle.creds.specs.Names.{is_name};
+ghost use Rattle.vault.specs.Records.{is_sound_credential};
+ghost use Rattle.vault.specs.Calls.{seen_as};
+ghost use Rattle.office.specs.Events.{Trace};
+ghost use Rattle.office.specs.Events as event;
+ghost use Rattle.office.specs.Answers as asked;
+ghost use Rattle.office.specs.Shown.{outcome_seen, followed_by, command_seen, row_seen};
+ghost use Rattle.office.specs.Expected.{IsOutcome};
+ghost use Rattle.office.specs.Outcomes.{HasCause};
+ghost use Rattle.office.specs.Outcomes as outcomes;
+ghost use Rattle.office.specs.Stands.{StandsFor, lent_by, vault_of};
+ghost use Rattle.office.specs.VaultAnswers as by_vault;
+
+use crate::deposits::refused;
+use crate::{AdminCommand, Answer, MessageRow, Messages, Office, Outcome, Totals};
+use creds::{Credential, Name, Uid};
+use policy::Action;
+use std::alloc::{AllocError, Global};
+use vault::{Head, Total, Vault, VaultFault};
+
+/// A name has its form.
+fn name_has_form(name: &Name)
+    ensures { is_name name.now ≡ true }
+{
+    let _ = name.as_bytes();
+}
+
+/// A digest has 32 octets.
+fn is_whole(digest: [u8; 32])
+    ensures { length digest ≡ 32 }
+{
+    let _ = digest;
+}
+
+/// A credential has its form.
+fn credential_has_form(credential: &Credential)
+    ensures { is_sound_credential credential.now ≡ true }
+{
+    match credential {
+        Credential::Apop(secret) => {
+            let _ = secret.as_bytes();
+        }
+        Credential::Pass(digest) => is_whole(*digest),
+    }
+}
+
+/// What a list of the maildrops is answered by what the vault answered.
+fn listed(answered: Result<Vec<Total>, VaultFault>) -> Outcome
+    ensures { outcome_seen result ≡ by_vault.listed (seen_as answered (λ v. v.items)) }
+{
+    match answered {
+        Ok(totals) => Outcome::Answered(Answer::Maildrops(Totals::new(totals))),
+        Err(fault) => refused(fault),
+    }
+}
+
+/// What is told of a message.
+fn row_of(head: &Head) -> MessageRow
+    ensures { row_seen result ≡ by_vault.row_of_head head.now }
+{
+    MessageRow {
+        uid: Uid {
+            class: head.class,
+            k: head.k,
+        },
+        octets: head.octets,
+    }
+}
+
+/// What is told of each message.
+fn rows_of(alloc: Global, heads: &[Head]) -> Result<Vec<MessageRow>, AllocError>
+    ensures { IfOk result (λ rows. map row_seen rows.items ≡ map by_vault.row_of_head heads.now) }
+{
+    let mut rows = Vec::with_capacity(alloc, heads.len())?;
+    for head in heads {
+        rows.push(row_of(head))?;
+    }
+    Ok(rows)
+}
+
+/// What a maildrop that was asked for is answered by what the vault answered; or want of memory.
+fn shown(alloc: Global, answered: Result<Vec<Head>, VaultFault>) -> Outcome
+    ensures { (outcome_seen result ≡ by_vault.shown (seen_as answered (λ v. v.items))) ⊎ (outcome_seen result ≡ outcomes.NoMemory) }
+{
+    match answered {
+        Ok(heads) => match rows_of(alloc, &heads) {
+            Ok(rows) => Outcome::Answered(Answer::Messages(Messages::new(rows))),
+            Err(_) => Outcome::NoMemory,
+        },
+        Err(VaultFault::NoMaildrop) => Outcome::Answered(Answer::NoSuchMaildrop),
+        Err(fault) => refused(fault),
+    }
+}
+
+/// What a maildrop that was put is answered by what the vault answered.
+fn added(answered: Result<bool, VaultFault>) -> Outcome
+    ensures { outcome_seen result ≡ by_vault.put asked.WasThere answered }
+{
+    match answered {
+        Ok(true) => Outcome::Answered(Answer::Added),
+        Ok(false) => Outcome::Answered(Answer::WasThere),
+        Err(VaultFault::Full) => Outcome::Answered(Answer::Full),
+        Err(fault) => refused(fault),
+    }
+}
+
+/// What a maildrop that was to be dropped is answered by what the vault answered.
+fn maildrop_dropped(answered: Result<(), VaultFault>) -> Outcome
+    ensures { outcome_seen result ≡ by_vault.maildrop_dropped answered }
+{
+    match answered {
+        Ok(()) => Outcome::Answered(Answer::Dropped),
+        Err(VaultFault::NoMaildrop) => Outcome::Answered(Answer::NoSuchMaildrop),
+        Err(VaultFault::NotEmpty) => Outcome::Answered(Answer::NotEmpty),
+        Err(fault) => refused(fault),
+    }
+}
+
+/// What a clerk that was asked for is answered by what the vault answered.
+fn credential_told(answered: Result<Option<Credential>, VaultFault>) -> Outcome
+    ensures { outcome_seen result ≡ by_vault.credential_told answered }
+{
+    match answered {
+        Ok(None) => Outcome::Answered(Answer::NoSuchClerk),
+        Ok(Some(Credential::Apop(_))) => Outcome::Answered(Answer::ByApopSecret),
+        Ok(Some(Credential::Pass(_))) => Outcome::Answered(Answer::ByPassword),
+        Err(fault) => refused(fault),
+    }
+}
+
+/// What a clerk that was put is answered by what the vault answered.
+fn clerk_put(answered: Result<bool, VaultFault>) -> Outcome
+    ensures { outcome_seen result ≡ by_vault.put asked.Replaced answered }
+{
+    match answered {
+        Ok(true) => Outcome::Answered(Answer::Added),
+        Ok(false) => Outcome::Answered(Answer::Replaced),
+        Err(VaultFault::Full) => Outcome::Answered(Answer::Full),
+        Err(fault) => refused(fault),
+    }
+}
+
+/// What a clerk that was to be dropped is answered by what the vault answered.
+fn clerk_dropped(answered: Result<(), VaultFault>) -> Outcome
+    ensures { outcome_seen result ≡ by_vault.clerk_dropped answered }
+{
+    match answered {
+        Ok(()) => Outcome::Answered(Answer::Dropped),
+        Err(VaultFault::NoClerk) => Outcome::Answered(Answer::NoSuchClerk),
+        Err(fault) => refused(fault),
+    }
+}
+
+impl<V: Vault> Office<V> {
+    /// Each maildrop with what lies in it.
+    fn list_maildrops(&mut self) -> Outcome
+        ensures stands { (T : Trace) → StandsFor V.holds self.old T → V.is_clean (vault_of self.new) → StandsFor V.holds self.new (followed_by T (event.Admin asked.ListMaildrops) result) }
+        ensures outcome { (T : Trace) → StandsFor V.holds self.old T → V.is_clean (vault_of self.new) → IsOutcome T (lent_by self.old) (event.Admin asked.ListMaildrops) (outcome_seen result) }
+        ensures cause { (T : Trace) → StandsFor V.holds self.old T → V.is_clean (vault_of self.new) → HasCause (V.faults (vault_of self.old)) (V.faults (vault_of self.new)) (outcome_seen result) }
+        ensures counted { V.faults (vault_of self.old) ≤ V.faults (vault_of self.new) }
+        ensures clean { V.is_clean (vault_of self.new) → V.is_clean (vault_of self.old) }
+    {
+        listed(self.vault.maildrops())
+    }
+
+    /// A maildrop's messages.
+    fn show_maildrop(&mut self, maildrop: &Name) -> Outcome
+        ensures stands { (T : Trace) → StandsFor V.holds self.old T → V.is_clean (vault_of self.new) → StandsFor V.holds self.new (followed_by T (event.Admin (asked.ShowMaildrop maildrop.now)) result) }
+        ensures outcome { (T : Trace) → StandsFor V.holds self.old T → V.is_clean (vault_of self.new) → IsOutcome T (lent_by self.old) (event.Admin (asked.ShowMaildrop maildrop.now)) (outcome_seen result) }
+        ensures cause { (T : Trace) → StandsFor V.holds self.old T → V.is_clean (vault_of self.new) → HasCause (V.faults (vault_of self.old)) (V.faults (vault_of self.new)) (outcome_seen result) }
+        ensures counted { V.faults (vault_of self.old) ≤ V.faults (vault_of self.new) }
+        ensures clean { V.is_clean (vault_of self.new) → V.is_clean (vault_of self.old) }
+    {
+        shown(self.alloc, self.vault.heads(maildrop))
+    }
+
+    /// Adds a maildrop.
+    fn add_maildrop(&mut self, maildrop: &Name) -> Outcome
+        ensures stands { (T : Trace) → StandsFor V.holds self.old T → V.is_clean (vault_of self.new) → StandsFor V.holds self.new (followed_by T (event.Admin (asked.AddMaildrop maildrop.now)) result) }
+        ensures outcome { (T : Trace) → StandsFor V.holds self.old T → V.is_clean (vault_of self.new) → IsOutcome T (lent_by self.old) (event.Admin (asked.AddMaildrop maildrop.now)) (outcome_seen result) }
+        ensures cause { (T : Trace) → StandsFor V.holds self.old T → V.is_clean (vault_of self.new) → HasCause (V.faults (vault_of self.old)) (V.faults (vault_of self.new)) (outcome_seen result) }
+        ensures counted { V.faults (vault_of self.old) ≤ V.faults (vault_of self.new) }
+        ensures clean { V.is_clean (vault_of self.new) → V.is_clean (vault_of self.old) }
+    {
+        name_has_form(maildrop);
+        added(self.vault.add_maildrop(maildrop))
+    }
+
+    /// Drops an empty maildrop. Nobody is in session.
+    fn drop_maildrop(&mut self, maildrop: &Name) -> Outcome
+        ensures stands { (T : Trace) → StandsFor V.holds self.old T → V.is_clean (vault_of self.new) → StandsFor V.holds self.new (followed_by T (event.Admin (asked.DropMaildrop maildrop.now)) result) }
+        ensures outcome { (T : Trace) → StandsFor V.holds self.old T → V.is_clean (vault_of self.new) → IsOutcome T (lent_by self.old) (event.Admin (asked.DropMaildrop maildrop.now)) (outcome_seen result) }
+        ensures cause { (T : Trace) → StandsFor V.holds self.old T → V.is_clean (vault_of self.new) → HasCause (V.faults (vault_of self.old)) (V.faults (vault_of self.new)) (outcome_seen result) }
+        ensures counted { V.faults (vault_of self.old) ≤ V.faults (vault_of self.new) }
+        ensures clean { V.is_clean (vault_of self.new) → V.is_clean (vault_of self.old) }
+    {
+        maildrop_dropped(self.vault.drop_maildrop(maildrop))
+    }
+
+    /// Which kind of credential a clerk has.
+    fn show_clerk(&mut self, clerk: &Name) -> Outcome
+        ensures stands { (T : Trace) → StandsFor V.holds self.old T → V.is_clean (vault_of self.new) → StandsFor V.holds self.new (followed_by T (event.Admin (asked.ShowClerk clerk.now)) result) }
+        ensures outcome { (T : Trace) → StandsFor V.holds self.old T → V.is_clean (vault_of self.new) → IsOutcome T (lent_by self.old) (event.Admin (asked.ShowClerk clerk.now)) (outcome_seen result) }
+        ensures cause { (T : Trace) → StandsFor V.holds self.old T → V.is_clean (vault_of self.new) → HasCause (V.faults (vault_of self.old)) (V.faults (vault_of self.new)) (outcome_seen result) }
+        ensures counted { V.faults (vault_of self.old) ≤ V.faults (vault_of self.new) }
+        ensures clean { V.is_clean (vault_of self.new) → V.is_clean (vault_of self.old) }
+    {
+        credential_told(self.vault.credential(clerk))
+    }
+
+    /// Puts a clerk's credential.
+    fn put_clerk(&mut self, clerk: &Name, credential: &Credential) -> Outcome
+        ensures stands { (T : Trace) → StandsFor V.holds self.old T → V.is_clean (vault_of self.new) → StandsFor V.holds self.new (followed_by T (event.Admin (asked.PutClerk clerk.now credential.now)) result) }
+        ensures outcome { (T : Trace) → StandsFor V.holds self.old T → V.is_clean (vault_of self.new) → IsOutcome T (lent_by self.old) (event.Admin (asked.PutClerk clerk.now credential.now)) (outcome_seen result) }
+        ensures cause { (T : Trace) → StandsFor V.holds self.old T → V.is_clean (vault_of self.new) → HasCause (V.faults (vault_of self.old)) (V.faults (vault_of self.new)) (outcome_seen result) }
+        ensures counted { V.faults (vault_of self.old) ≤ V.faults (vault_of self.new) }
+        ensures clean { V.is_clean (vault_of self.new) → V.is_clean (vault_of self.old) }
+    {
+        name_has_form(clerk);
+        credential_has_form(credential);
+        clerk_put(self.vault.put_clerk(clerk, credential))
+    }
+
+    /// Drops a clerk.
+    fn drop_clerk(&mut self, clerk: &Name) -> Outcome
+        ensures stands { (T : Trace) → StandsFor V.holds self.old T → V.is_clean (vault_of self.new) → StandsFor V.holds self.new (followed_by T (event.Admin (asked.DropClerk clerk.now)) result) }
+        ensures outcome { (T : Trace) → StandsFor V.holds self.old T → V.is_clean (vault_of self.new) → IsOutcome T (lent_by self.old) (event.Admin (asked.DropClerk clerk.now)) (outcome_seen result) }
+        ensures cause { (T : Trace) → StandsFor V.holds self.old T → V.is_clean (vault_of self.new) → HasCause (V.faults (vault_of self.old)) (V.faults (vault_of self.new)) (outcome_seen result) }
+        ensures counted { V.faults (vault_of self.old) ≤ V.faults (vault_of self.new) }
+        ensures clean { V.is_clean (vault_of self.new) → V.is_clean (vault_of self.old) }
+    {
+        clerk_dropped(self.vault.drop_clerk(clerk))
+    }
+
+    /// What the policy says, and by which rule.
+    fn explain(&mut self, clerk: &Name, maildrop: &Name, class: &Name, action: Action) -> Outcome
+        ensures stands { (T : Trace) → StandsFor V.holds self.old T → V.is_clean (vault_of self.new) → StandsFor V.holds self.new (followed_by T (event.Admin (asked.Explain clerk.now maildrop.now class.now action)) result) }
+        ensures outcome { (T : Trace) → StandsFor V.holds self.old T → V.is_clean (vault_of self.new) → IsOutcome T (lent_by self.old) (event.Admin (asked.Explain clerk.now maildrop.now class.now action)) (outcome_seen result) }
+        ensures cause { (T : Trace) → StandsFor V.holds self.old T → V.is_clean (vault_of self.new) → HasCause (V.faults (vault_of self.old)) (V.faults (vault_of self.new)) (outcome_seen result) }
+        ensures counted { V.faults (vault_of self.old) ≤ V.faults (vault_of self.new) }
+        ensures clean { V.is_clean (vault_of self.new) → V.is_clean (vault_of self.old) }
+    {
+        let decision = self.policy.decide(clerk, maildrop, class, action);
+        Outcome::Answered(Answer::Explained(decision))
+    }
+
+    /// Does a command.
+    pub(crate) fn administer(&mut self, command: &AdminCommand) -> Outcome
+        ensures stands { (T : Trace) → StandsFor V.holds self.old T → V.is_clean (vault_of self.new) → StandsFor V.holds self.new (followed_by T (event.Admin (command_seen command.now)) result) }
+        ensures outcome { (T : Trace) → StandsFor V.holds self.old T → V.is_clean (vault_of self.new) → IsOutcome T (lent_by self.old) (event.Admin (command_seen command.now)) (outcome_seen result) }
+        ensures cause { (T : Trace) → StandsFor V.holds self.old T → V.is_clean (vault_of self.new) → HasCause (V.faults (vault_of self.old)) (V.faults (vault_of self.new)) (outcome_seen result) }
+        ensures counted { V.faults (vault_of self.old) ≤ V.faults (vault_of self.new) }
+        ensures clean { V.is_clean (vault_of self.new) → V.is_clean (vault_of self.old) }
+    {
+        match command {
+            AdminCommand::ListMaildrops => self.list_maildrops(),
+            AdminCommand::ShowMaildrop(maildrop) => self.show_maildrop(maildrop),
+            AdminCommand::AddMaildrop(maildrop) => self.add_maildrop(maildrop),
+            AdminCommand::DropMaildrop(maildrop) => self.drop_maildrop(maildrop),
+            AdminCommand::ShowClerk(clerk) => self.show_clerk(clerk),
+            AdminCommand::PutClerk(clerk, credential) => self.put_clerk(clerk, credential),
+            AdminCommand::DropClerk(clerk) => self.drop_clerk(clerk),
+            AdminCommand::Explain {
+                clerk,
+                maildrop,
+                class,
+                action,
+            } => self.explain(clerk, maildrop, class, *action),
+        }
+    }
+}

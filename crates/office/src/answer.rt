@@ -1,0 +1,119 @@
+//! What a deposit or an administrator's command is answered.
+ghost use Rattle.std.specs.Prelude.{◌≡◌};
+
+use creds::Uid;
+use policy::Decision;
+use std::marker::Model;
+use vault::Total;
+
+/// What a deposit or a command is answered, where the store didn't refuse it.
+#[derive(Debug, Drop)]
+pub enum Answer {
+    /// The deposit was put into the maildrop, under this unique-id.
+    New(Uid),
+    /// The same deposit came before, under this unique-id; nothing was changed.
+    Known(Uid),
+    /// The deposit's text has no octet.
+    EmptyText,
+    /// The deposit's text is over 26,214,400 octets in its kept form.
+    TextTooLarge,
+    /// There is no maildrop of that name.
+    NoSuchMaildrop,
+    /// The deposit's id was used with another class or text.
+    Conflict,
+    /// There is no room: for a message, a maildrop or a clerk.
+    Full,
+    /// The maildrops, by name.
+    Maildrops(Totals),
+    /// The messages of a maildrop, in order of arrival.
+    Messages(Messages),
+    /// The maildrop or the clerk is new.
+    Added,
+    /// The maildrop was there.
+    WasThere,
+    /// The maildrop or the clerk is dropped.
+    Dropped,
+    /// A session holds the maildrop.
+    MaildropInUse,
+    /// The maildrop has a message.
+    NotEmpty,
+    /// The clerk logs in by APOP.
+    ByApopSecret,
+    /// The clerk logs in by USER and PASS.
+    ByPassword,
+    /// There is no clerk of that name.
+    NoSuchClerk,
+    /// The clerk was there and has the new credential.
+    Replaced,
+    /// What the policy says, and by which rule.
+    Explained(Decision),
+}
+
+/// Maildrops with what lies in each.
+#[derive(Debug, Drop)]
+pub struct Totals {
+    rows: Vec<Total>,
+}
+
+impl Model for Totals {
+    ghost use Rattle.std.specs.Prelude.{List};
+    ghost use Rattle.vault.specs.declared.answer.Total.{Total};
+
+    ghost Value = { List Total };
+
+    ghost view = { λ t. t.rows.items };
+}
+
+impl Totals {
+    pub(crate) fn new(rows: Vec<Total>) -> Totals
+        ensures { result ≡ rows.items }
+    {
+        Totals { rows }
+    }
+
+    /// The maildrops, in the order of their names' octets.
+    pub fn rows(&self) -> &[Total]
+        ensures { result.now ≡ self.now }
+    {
+        &self.rows
+    }
+}
+
+/// A message's unique-id and its octets.
+#[derive(Clone, Copy, Debug, PartialEq, Eq)]
+pub struct MessageRow {
+    /// Its unique-id.
+    pub uid: Uid,
+    /// How many octets its kept form has.
+    pub octets: u64,
+}
+
+/// Messages of a maildrop.
+#[derive(Debug, Drop)]
+pub struct Messages {
+    rows: Vec<MessageRow>,
+}
+
+impl Model for Messages {
+    ghost use Rattle.std.specs.Prelude.{List};
+    ghost use Rattle.office.specs.declared.answer.MessageRow.{MessageRow};
+
+    ghost Value = { List MessageRow };
+
+    ghost view = { λ m. m.rows.items };
+}
+
+impl Messages {
+    pub(crate) fn new(rows: Vec<MessageRow>) -> Messages
+        ensures { result ≡ rows.items }
+    {
+        Messages { rows }
+    }
+
+    /// The messages, in order of arrival.
+    pub fn rows(&self) -> &[MessageRow]
+        ensures { result.now ≡ self.now }
+    {
+        &self.rows
+    }
+}

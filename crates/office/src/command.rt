@@ -1,0 +1,33 @@
+//! What an administrator asks for.
+use creds::{Credential, Name};
+use policy::Action;
+
+/// A command of an administrator.
+#[derive(Clone, Copy, Debug)]
+pub enum AdminCommand {
+    /// Each maildrop with how many messages it has and their octets.
+    ListMaildrops,
+    /// The unique-id and the octets of each message of a maildrop, in order of arrival.
+    ShowMaildrop(Name),
+    /// Adds a maildrop; at most 1,000 are kept.
+    AddMaildrop(Name),
+    /// Drops an empty maildrop that no session holds. Its name's deposit ids and counts stay.
+    DropMaildrop(Name),
+    /// Which kind of credential a clerk has.
+    ShowClerk(Name),
+    /// Puts a clerk's credential, in place of the one that is there; at most 1,000 clerks are kept.
+    PutClerk(Name, Credential),
+    /// Drops a clerk.
+    DropClerk(Name),
+    /// What the policy says of a clerk, a maildrop, a class and an action. The names need not exist.
+    Explain {
+        /// The clerk's name.
+        clerk: Name,
+        /// The maildrop's name.
+        maildrop: Name,
+        /// The class of a message.
+        class: Name,
+        /// What the clerk wants to do.
+        action: Action,
+    },
+}

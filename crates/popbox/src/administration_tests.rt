@@ -1,0 +1,158 @@
+//! Tests of a script's deposits and administration: what they are answered, and what clerks' logins are.
+
+use crate::replay::tell;
+use crate::script::{Line, read_script};
+use crate::tests::{Ran, run, run_at};
+use creds::Credential;
+use office::{AdminCommand, Outcome};
+use std::alloc::Global;
+use std::test::Fail;
+
+#[test]
+fn deposits_are_answered(rt: HostRuntime) -> Result<(), Fail> {
+    let alloc = rt.alloc();
+    let script = "maildrops\nmaildrop add orders\nmaildrop add orders\nlist orders\n\
+        deposit orders note d1 Subject: a\\n\\nhi\\n.\\n\ndeposit orders note d1 Subject: a\\n\\nhi\\n.\\n\n\
+        deposit orders pay d1 Subject: a\\n\\nhi\\n.\\n\ndeposit orders note d2 \ndeposit nowhere note d1 x\n\
+        maildrops\nlist orders\nlist nowhere\nmaildrop drop orders\n\
+        deposit orders note D_3 a\\x00\\\\\nlist orders\nmaildrops\n";
+    let want = "answer\nanswer added\nanswer was there\nanswer\n\
+        answer new note.1\nanswer known note.1\n\
+        answer conflict\nanswer empty text\nanswer no such maildrop\n\
+        answer orders 1 21\nanswer note.1 21\nanswer no such maildrop\nanswer not empty\n\
+        answer new note.2\nanswer note.1 21\nanswer note.2 5\nanswer orders 2 26\n";
+    assert_eq!(rt; run(alloc, script)?, Ran::good(alloc, want)?);
+    Ok(())
+}
+
+#[test]
+fn dropped_maildrop_is_added_again(rt: HostRuntime) -> Result<(), Fail> {
+    let alloc = rt.alloc();
+    let script =
+        "maildrop add orders\nmaildrop add billing\nmaildrop drop orders\nmaildrop drop orders\n\
+        maildrops\ndeposit orders note d1 x\nmaildrop add orders\ndeposit orders note d1 x\nmaildrops\n";
+    let want = "answer added\nanswer added\nanswer dropped\nanswer no such maildrop\n\
+        answer billing 0 0\nanswer no such maildrop\nanswer added\nanswer new note.1\n\
+        answer billing 0 0\nanswer orders 1 3\n";
+    assert_eq!(rt; run(alloc, script)?, Ran::good(alloc, want)?);
+    Ok(())
+}
+
+#[test]
+fn clerks_are_answered(rt: HostRuntime) -> Result<(), Fail> {
+    let alloc = rt.alloc();
+    let script = "clerk show ann\nclerk pass ann s3 cret\nclerk show ann\nclerk apop ann tanstaaf\n\
+        clerk show ann\nclerk drop ann\nclerk drop ann\nclerk show ann\nexplain ann orders note open\n";
+    let want = "answer no such clerk\nanswer added\nanswer pass\nanswer replaced\n\
+        answer apop\nanswer dropped\nanswer no such clerk\nanswer no such clerk\n\
+        answer deny by rule default\n";
+    assert_eq!(rt; run(alloc, script)?, Ran::good(alloc, want)?);
+    Ok(())
+}
+
+/// Lines of a connection, each drained, and what is printed of them and their replies.
+fn converse(alloc: Global, number: u64, rows: &[(&str, &str)]) -> Result<(String, String), Fail> {
+    let mut script = String::new(alloc);
+    let mut want = String::new(alloc);
+    for (line, reply) in rows {
+        writeln!(script, "bytes {number} {line}\\r\\n\ndrain {number}")?;
+        writeln!(want, "done\nsent {number} {reply}\\r\\n\ndone")?;
+    }
+    Ok((script, want))
+}
+
+#[test]
+fn credentials_are_judged(rt: HostRuntime) -> Result<(), Fail> {
+    let alloc = rt.alloc();
+    let rows = [
+        ("USER zoe/orders", "+OK send PASS"),
+        ("PASS x", "-ERR login failed"),
+        ("USER ann/orders", "+OK send PASS"),
+        ("PASS s3 cret ", "-ERR login failed"),
+        ("USER ann/orders", "+OK send PASS"),
+        ("PASS s3 cret", "-ERR denied by rule default"),
+        ("USER mrose/orders", "+OK send PASS"),
+        ("PASS tanstaaf", "-ERR login failed, closing"),
+    ];
+    let (lines, replies) = converse(alloc, 1, rows.as_slice())?;
+    let script = format!(in alloc;
+        "clerk pass ann s3 cret\nclerk apop mrose tanstaaf\nconnect\ndrain 1\n{lines}"
+    )?;
+    let want = format!(in alloc;
+        "answer added\nanswer added\nopened 1\n\
+        sent 1 +OK POP3 server ready <1.7@h.test>\\r\\n\ndone\n{replies}ended 1\n"
+    )?;
+    let ran = run(alloc, script.as_str())?;
+    assert_eq!(rt; ran, Ran::good(alloc, want.as_str())?);
+    Ok(())
+}
+
+#[test]
+fn apop_with_the_rfc_digest(rt: HostRuntime) -> Result<(), Fail> {
+    let alloc = rt.alloc();
+    let mut script = String::from_str(
+        alloc,
+        "clerk apop mrose tanstaaf\nclerk pass ann tanstaaf\n",
+    )?;
+    let mut want = String::from_str(alloc, "answer added\nanswer added\n")?;
+    for number in 1..1896 {
+        writeln!(script, "connect\ngone {number}")?;
+        writeln!(want, "opened {number}\ndone\nended {number}")?;
+    }
+    let denied = "-ERR denied by rule default";
+    let rows = [
+        ("APOP mrose/orders c4c9334bac560ecc979e58001b3e22fb", denied),
+        ("APOP mrose/orders C4C9334BAC560ECC979E58001B3E22FB", denied),
+        (
+            "APOP ann/orders c4c9334bac560ecc979e58001b3e22fb",
+            "-ERR login failed",
+        ),
+        (
+            "APOP mrose/orders c4c9334bac560ecc979e58001b3e22fc",
+            "-ERR login failed",
+        ),
+        ("QUIT", "+OK bye"),
+    ];
+    let (lines, replies) = converse(alloc, 1896, rows.as_slice())?;
+    writeln!(script, "connect\ndrain 1896\n{lines}")?;
+    writeln!(
+        want,
+        "opened 1896\n\
+        sent 1896 +OK POP3 server ready <1896.697170952@dbc.mtview.ca.us>\\r\\n\ndone\n{replies}ended 1896"
+    )?;
+    let ran = run_at(alloc, "dbc.mtview.ca.us", 697_170_952, script.as_str())?;
+    assert_eq!(rt; ran, Ran::good(alloc, want.as_str())?);
+    Ok(())
+}
+
+/// SHA-256 of `ann:s3 cret`.
+static ANN_DIGEST: [u8; 32] = [
+    0xb4, 0x3a, 0x46, 0x7a, 0x63, 0xf3, 0xc6, 0xf0, 0x8c, 0xee, 0x5d, 0x50, 0x81, 0xae, 0x0b, 0x9d,
+    0xe2, 0x4a, 0xb8, 0x66, 0x3c, 0xdc, 0xa7, 0x39, 0xaa, 0x85, 0x4a, 0xbb, 0x29, 0x86, 0x18, 0x20,
+];
+
+#[test]
+fn credentials_are_read(rt: HostRuntime) -> Result<(), Fail> {
+    let alloc = rt.alloc();
+    let script = b"clerk pass ann s3 cret\nclerk apop mrose  tan\\x73taaf";
+    let lines = read_script(alloc, script).map_err(|_| "fault")?;
+    assert_eq!(rt; lines.len(), 2);
+    assert!(rt;
+        matches!(&lines[0], Line::Admin(AdminCommand::PutClerk(clerk, Credential::Pass(digest)))
+        if clerk.as_bytes() == b"ann".as_slice() && digest.as_slice() == ANN_DIGEST.as_slice())
+    );
+    assert!(rt;
+        matches!(&lines[1], Line::Admin(AdminCommand::PutClerk(clerk, Credential::Apop(secret)))
+        if clerk.as_bytes() == b"mrose".as_slice() && secret.as_bytes() == b" tanstaaf".as_slice())
+    );
+    Ok(())
+}
+
+#[test]
+fn refused_store_is_told(rt: HostRuntime) -> Result<(), Fail> {
+    let alloc = rt.alloc();
+    let mut out = Vec::new(alloc);
+    tell(alloc, &mut out, &Outcome::Failed).map_err(|_| "fault")?;
+    assert_eq!(rt; out.as_slice(), b"failed\n".as_slice());
+    Ok(())
+}

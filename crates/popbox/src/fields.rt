@@ -1,0 +1,95 @@
+//! The parts of a script's line: fields that one space parts, names, numbers, and a TEXT at the end.
+
+ghost use Rattle.std.specs.Prelude.{◌≡◌, ◌+◌, ◌*◌, ◌^◌, ◌<◌, ◌≤◌, ◌≢◌, ◌∷◌, ◌++◌, ℕ, List, Contains, MatchOption, IsSomeAnd, length, vec_len, IfOk, IfSome, IfNone, SomeIff};
+ghost use Rattle.std.specs.Char.{digit_value};
+ghost use Rattle.std.specs.Str.Parse.{IsNumeral, digits_value};
+
+use std::alloc::{AllocError, Global};
+use std::str;
+
+/// The greatest number of digits that a number in a script has.
+const MOST_DIGITS: usize = 20;
+
+/// What stands between two fields.
+pub const SPACE: u8 = b' ';
+
+/// What an escape begins with.
+const BACKSLASH: u8 = b'\\';
+
+/// A line's first field, and what follows the space behind it.
+pub fn split_field(line: &[u8]) -> (&[u8], Option<&[u8]>)
+    ensures field { ¬ (Contains result.0.now SPACE) }
+    ensures parts { MatchOption result.1 (line.now ≡ result.0.now) (λ rest. line.now ≡ result.0.now ++ SPACE ∷ rest.now) }
+{
+    match line.iter().position(|octet| *octet == SPACE) {
+        Some(at) => (&line[..at], Some(&line[at + 1..])),
+        None => (line, None),
+    }
+}
+
+/// A line's first field, which another one follows, and what stands behind the space between them.
+pub fn take_field(line: &[u8]) -> Option<(&[u8], &[u8])>
+    ensures none { IfNone result (¬ (Contains line.now SPACE)) }
+    ensures field { IfSome result (λ r. ¬ (Contains r.0.now SPACE)) }
+    ensures parts { IfSome result (λ r. line.now ≡ r.0.now ++ SPACE ∷ r.1.now) }
+{
+    match split_field(line) {
+        (field, Some(rest)) => Some((field, rest)),
+        (_, None) => None,
+    }
+}
+
+/// A number of 1 to 20 decimal digits, below 2^64. Leading zeros are allowed.
+pub fn read_number(field: &[u8]) -> Option<u64>
+    ensures { SomeIff result (IsNumeral 10 field.now × (length field.now ≤ MOST_DIGITS) × (digits_value 10 field.now < 2 ^ 64)) (digits_value 10 field.now) }
+{
+    if field.len() > MOST_DIGITS || field.starts_with(b"+") {
+        return None;
+    }
+    str::from_utf8(field).ok()?.parse().ok()
+}
+
+/// The octets that a TEXT stands for. `None` where a `\` begins no escape.
+pub fn unescape(alloc: Global, text: &[u8]) -> Result<Option<Vec<u8>>, AllocError>
+    ensures short { IfOk result (λ octets. IfSome octets (λ v. vec_len v ≤ length text.now)) }
+    ensures plain { ¬ (Contains text.now BACKSLASH) → IfOk result (λ octets. IsSomeAnd octets (λ v. v.items ≡ text.now)) }
+{
+    let mut octets = Vec::new(alloc);
+    let mut rest = text;
+    while !rest.is_empty() {
+        let Some((octet, after)) = next_octet(rest) else {
+            return Ok(None);
+        };
+        octets.push(octet)?;
+        rest = after;
+    }
+    Ok(Some(octets))
+}
+
+/// The octet that a TEXT begins with, and the TEXT behind it.
+fn next_octet(text: &[u8]) -> Option<(u8, &[u8])>
+    ensures shorter { IfSome result (λ r. length r.1.now < length text.now) }
+    ensures plain { (b : ℕ) (after : List ℕ) → text.now ≡ b ∷ after → b ≢ BACKSLASH → IsSomeAnd result (λ r. (r.0 ≡ b) × (r.1.now ≡ after)) }
+    ensures carriage_return { (after : List ℕ) → text.now ≡ BACKSLASH ∷ 114 ∷ after → IsSomeAnd result (λ r. (r.0 ≡ 13) × (r.1.now ≡ after)) }
+    ensures line_feed { (after : List ℕ) → text.now ≡ BACKSLASH ∷ 110 ∷ after → IsSomeAnd result (λ r. (r.0 ≡ 10) × (r.1.now ≡ after)) }
+    ensures hexadecimal { (h l : ℕ) (after : List ℕ) → text.now ≡ BACKSLASH ∷ 120 ∷ h ∷ l ∷ after → digit_value h < 16 → digit_value l < 16 → IsSomeAnd result (λ r. (r.0 ≡ 16 * digit_value h + digit_value l) × (r.1.now ≡ after)) }
+    ensures backslash { (after : List ℕ) → text.now ≡ BACKSLASH ∷ BACKSLASH ∷ after → IsSomeAnd result (λ r. (r.0 ≡ BACKSLASH) × (r.1.now ≡ after)) }
+{
+    match text {
+        [b'\\', b'r', after @ ..] => Some((b'\r', after)),
+        [b'\\', b'n', after @ ..] => Some((b'\n', after)),
+        [b'\\', b'\\', after @ ..] => Some((b'\\', after)),
+        [b'\\', b'x', high, low, after @ ..] => Some((octet_of(*high, *low)?, after)),
+        [b'\\', ..] | [] => None,
+        [octet, after @ ..] => Some((*octet, after)),
+    }
+}
+
+/// The octet that two hexadecimal digits of either case write.
+fn octet_of(high: u8, low: u8) -> Option<u8>
+    ensures { SomeIff result ((digit_value high < 16) × (digit_value low < 16)) (16 * digit_value high + digit_value low) }
+{
+    let high = char::from(high).to_digit(16)?;
+    let low = char::from(low).to_digit(16)?;
+    Some((16 * high + low) as u8)
+}
