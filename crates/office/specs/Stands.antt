@@ -111,7 +111,7 @@ IsKeptFor s (Some k) = Matches s k
 
 -- ---- the office
 
--- no rule lets anybody in
+-- no rule is in force, so that nobody is let in
 abbrev pub LetsNobodyIn : Trace → Type 0
 LetsNobodyIn T = (in_force T.base (history T)).rules ≡ []
 
