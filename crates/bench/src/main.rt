@@ -40,9 +40,19 @@ fn in_memory(rt: &HostRuntime, what: &str, count: u32) -> Result<()> {
     measure(rt, &mut conn, what, count)
 }
 
-fn in_file(rt: &HostRuntime, path: &str, what: &str, count: u32) -> Result<()> {
-    let mut conn = Connection::open(rt, path)?;
+fn measured<S: Alter + Drop>(
+    rt: &(impl Print + AllocGlobal + Clock),
+    mut conn: Connection<S>,
+    what: &str,
+    count: u32,
+) -> Result<Connection<S>> {
     measure(rt, &mut conn, what, count)?;
+    Ok(conn)
+}
+
+fn in_file(rt: &HostRuntime, path: &str, what: &str, count: u32) -> Result<()> {
+    let conn = Connection::open(rt, path)?;
+    let conn = measured(rt, conn, what, count)?;
     conn.close()?;
     Ok(())
 }

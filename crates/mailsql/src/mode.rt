@@ -31,8 +31,9 @@ pub fn commit<S: Alter>(conn: &mut Connection<S>) -> Result<(), Error>
     }
 }
 
-/// Rolls the transaction back. Whatever it answers, nothing of the transaction is left.
+/// Rolls the transaction back. It is refused where none is under way. Whatever it answers, nothing of the transaction is left.
 pub fn rollback<S: Alter>(conn: &mut Connection<S>) -> Result<(), Error>
+    ensures ok { HasCleanDisk (state S.Store conn.new) → OnOk result (IsTrue (state S.Store conn.old).in_transaction) }
     ensures undone { HasCleanDisk (state S.Store conn.new) → IsTrue (state S.Store conn.old).in_transaction → IsRolledBack (state S.Store conn.old) (state S.Store conn.new) }
     ensures survives { Survives (state S.Store conn.old) (state S.Store conn.new) (λ _. ⊥) }
 {
