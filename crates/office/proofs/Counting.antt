@@ -90,13 +90,13 @@ module _ (p : ℕ → Bool) where
       ∙ count_of_keys n (a + 1) ((k, v) ∷ es) (omega (arith, above), up.1) (λ c h. found c (omega (arith, h))) (λ c h. none c (omega (arith, h))))
       (cases_eq a k)
 
-kept_is_open : (s : Seen) (o : Option Kept) → IsKeptFor s o → is_some o ≡ is_seen_open s
-kept_is_open s None h = sym h.closed
-kept_is_open s (Some k) m = sym m.opened
+kept_is_open : (c : Contents) (s : Seen) (o : Option Kept) → IsKeptFor c s o → is_some o ≡ is_seen_open s
+kept_is_open c s None h = sym h.closed
+kept_is_open c s (Some k) m = sym m.opened
 
 pub open_numbers-len : {V : Type 0} (Holds : V → Contents → Type 0) (o : Office V) (T : Trace) → StandsFor Holds o T → IsOrdered nat_cmp o.links → length (open_numbers T) ≡ btree_map_len o.links
 open_numbers-len Holds o T st ordered =
-    let there : (c : ℕ) → is_some (get nat_cmp o.links c) ≡ is_open T c = λ c. kept_is_open (seen T c) (get nat_cmp o.links c) (st.links c) in
+    let there : (c : ℕ) → is_some (get nat_cmp o.links c) ≡ is_open T c = λ c. kept_is_open st.keeps.contents (seen T c) (get nat_cmp o.links c) (st.links c) in
     count_of_keys (is_open T) (opened T.log) 1 o.links.entries
     (ascends 1 o.links.entries ordered (λ k some. (st.numbered k some).0))
     (λ c h. there c)

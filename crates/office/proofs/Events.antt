@@ -1,34 +1,36 @@
 -- What one more event on a connection changes in what the trace says, and how what is kept follows it.
-use Rattle.std.proofs.Common.{◌≡◌, ℕ, ◌+◌, ◌<◌, ◌≤◌, Bool, true, false, not, ◌&&◌, ◌||◌, cond, List, [], ◌∷◌, ◌++◌, drop, length, map, refl, sym, ◌∙◌, ap, ap₂, ⊎_elim, arith, append_assoc, Option, Some, None, IsSome, slice_get, append-nil, eqb, ◌==◌, subst, eq-eqb, ne_eqb, string_bytes, nat_cmp, nat_lt, lt-ltb, le-ltb, length-drop, drop-drop}
+use Rattle.std.proofs.Common.{◌≡◌, ℕ, ◌+◌, ◌<◌, ◌≤◌, Bool, true, false, not, ◌&&◌, ◌||◌, cond, List, [], ◌∷◌, ◌++◌, drop, length, map, refl, sym, ◌∙◌, ap, ap₂, ⊎_elim, arith, append_assoc, Option, Some, None, IsSome, slice_get, append-nil, eqb, ◌==◌, subst, eq-eqb, ne_eqb, string_bytes, nat_cmp, nat_lt, lt-ltb, le-ltb, length-drop, drop-drop, true≢false}
 use Rattle.std.proofs.lemmas.List.{drop_all}
-use Rattle.std.proofs.lemmas.Bool.{cases_Bool, cases_eq}
+use Rattle.std.proofs.lemmas.Bool.{cases_eq}
 use Rattle.std.proofs.lemmas.Bool.Decides.{nat_tests}
 use Rattle.std.specs.BTreeMap.{get, is_at}
-use Rattle.popline.specs.Cutting.{Cut, cut_of, cut, pieces, onto_first, coming, shown, has_newline, prefixed, begun}
+use Rattle.popline.specs.Cutting.{Cut, cut_of, cut, pieces, onto_first, coming, has_newline, prefixed, begun}
 use Rattle.creds.specs.declared.login_name.LoginName.{LoginName}
 use Rattle.policy.specs.Policy.{Policy}
-use Rattle.vault.specs.Records.{Records, class_of}
-use Rattle.vault.specs.Changes.{Contents}
-use Rattle.session.specs.View.{to_remove}
-use Rattle.office.specs.History.{Act, Line, Tag, Done, Failed, NoMemory, Entry, is_done, in_force}
+use Rattle.vault.specs.Records.{Records, Agree, class_of, without, in_maildrop}
+use Rattle.vault.specs.declared.record.Message as store
+use Rattle.session.specs.Session.{Session}
+use Rattle.vault.specs.Changes.{Contents, records_of}
+use Rattle.session.specs.View.{to_remove, visible, is_marked}
+use Rattle.office.specs.History.{Act, Line, Tag, Done, Failed, NoMemory, Entry, in_force, arrivals}
 use Rattle.office.specs.Connections.{user, failures, boot_and_host, connected, closing, acted, serving, sent, reading, is_quit}
-use Rattle.office.specs.Sessions.{live, in_session, marks, view, removed, removed_by, removed_after, quits_if, records}
+use Rattle.office.specs.Sessions.{live, login, in_session, holder, marks, view, removed, removed_by, removed_after, quits_if, records}
 use Rattle.office.specs.Formed.{is_formed}
-use Rattle.office.specs.Replying.{is_empty, reply_to_cut, stamp}
+use Rattle.office.specs.Replying.{is_empty, reply_to_cut, said_to_line, stamp}
 use Rattle.office.specs.Told.{told}
 use Rattle.office.specs.Events.{Trace, Event, Bytes, Took, Mark, Tagged, given}
 use Rattle.office.specs.Log.{opened, idle_seconds, stream, taken}
 use Rattle.office.specs.Trace.{acts, history, line_act, act_of_part, acts_of_piece, acts_of_took, next_line, is_left, is_open, untaken}
-use Rattle.office.specs.Expected.{most_in_a_piece, ignored, IsOutcome}
-use Rattle.office.specs.Kept.{Kept, Desk, answered, line_after, asks}
-use Rattle.office.specs.Answered.{judged_at, reply_of, tag_of, shown_of}
-use Rattle.office.specs.Outcomes.{Outcome, mark_of}
-use Rattle.office.specs.Stands.{Seen, seen, Matches, IsOver, IsKeptFor, is_seen_open, untaken_of, Keeps, StandsFor}
+use Rattle.office.specs.Expected.{most_in_a_piece, ignored}
+use Rattle.office.specs.Kept.{Kept}
+use Rattle.office.specs.Answered.{name_cmp, tag_of, shown_of}
+use Rattle.vault.specs.Calls.{has_grown}
+use Rattle.office.specs.Outcomes.{Outcome, mark_of, HasCause}
+use Rattle.office.specs.Stands.{Seen, seen, Matches, IsSession, IsOver, IsKeptFor, is_seen_open, untaken_of, StandsFor}
 use Rattle.office.specs.declared.office.Office.{Office}
 use Rattle.office.specs.declared.talk.Acted.{Acted}
 use Rattle.office.specs.declared.talk.Acted.TheVariants as acted
-use Rattle.office.proofs.Outside.{Agrees, reply_outside, fails_outside, no_login}
-use Rattle.office.proofs.Hearing.{streamed, took, lined, at_drop, part_heard, line_heard, acts_next, none_next, Awaits, open_still}
+use Rattle.office.proofs.Hearing.{streamed, took, lined, at_drop, Awaits, open_still}
 
 -- what a history says of a connection
 pub record Facts : Type 0 where
@@ -40,6 +42,9 @@ pub record Facts : Type 0 where
   pub user : Option LoginName
   pub failures : ℕ
   pub stamp : List ℕ
+  pub login : Option LoginName
+  pub marks : List ℕ
+  pub view : List store.Message
 
 abbrev pub facts : Records → List (Act × Tag) → ℕ → Facts
 facts B H q = record {
@@ -51,15 +56,18 @@ facts B H q = record {
   user = user (told B H) q;
   failures = failures (told B H) q;
   stamp = stamp (told B H) q;
+  login = login (told B H) q;
+  marks = marks (told B H) q;
+  view = view B (told B H) q;
 }
 
 -- what it says of the office as a whole
 pub record Whole : Type 0 where
   pub office : ℕ × List ℕ
-  pub records : Records
+  pub rules : Policy
 
 abbrev pub whole : Records → List (Act × Tag) → Whole
-whole B H = record { office = boot_and_host (told B H); records = records B (told B H) }
+whole B H = record { office = boot_and_host (told B H); rules = in_force B (told B H) }
 
 abbrev seen_by : List ℕ → ℕ → Facts → Seen
 seen_by octets took f = record {
@@ -73,6 +81,9 @@ seen_by octets took f = record {
   user = f.user;
   failures = f.failures;
   stamp = f.stamp;
+  login = f.login;
+  marks = f.marks;
+  view = f.view;
 }
 
 -- a line that met want of memory ends its session
@@ -112,22 +123,13 @@ module _ (B : Records) where
 
   -- ---- nor to the office as a whole
 
-  -- who isn't in session removes nothing
-  quits_outside : (G : List Entry) (c : ℕ) (b : Bool) → live G c ≡ false
-      → removed_after (quits_if b c) (λ n. removed_by (in_session G n) (λ (name : LoginName). to_remove class_of (in_force B G) name (marks G n) (view B G n))) (removed B G) ≡ removed B G
-  quits_outside G c true lv = rw lv (append-nil (removed B G))
-  quits_outside G c false lv = refl
+  line_whole : (H : List (Act × Tag)) (c : ℕ) (t : Tag) (o : Option Cut) → whole B (line_act c t o ++ H) ≡ whole B H
+  line_whole H c t None = refl
+  line_whole H c t (Some x) = refl
 
-  line_removed : (H : List (Act × Tag)) (c : ℕ) (t : Tag) (x : Cut) → live (told B H) c ≡ false → removed B (told B ((Line c x, t) ∷ H)) ≡ removed B (told B H)
-  line_removed H c t x lv = quits_outside (told B H) c (is_quit (reading x) && is_done t) lv
-
-  line_whole : (H : List (Act × Tag)) (c : ℕ) (t : Tag) (o : Option Cut) → live (told B H) c ≡ false → whole B (line_act c t o ++ H) ≡ whole B H
-  line_whole H c t None lv = refl
-  line_whole H c t (Some x) lv = let r = line_removed H c t x lv in rw r refl
-
-  pub piece_whole : (H : List (Act × Tag)) (c : ℕ) (t : Tag) (o : Option Cut) (b : Bool) → live (told B H) c ≡ false → whole B (acts_of_piece b c t o ++ H) ≡ whole B H
-  piece_whole H c t o true lv = line_whole H c t o lv
-  piece_whole H c t o false lv = refl
+  pub piece_whole : (H : List (Act × Tag)) (c : ℕ) (t : Tag) (o : Option Cut) (b : Bool) → whole B (acts_of_piece b c t o ++ H) ≡ whole B H
+  piece_whole H c t o true = line_whole H c t o
+  piece_whole H c t o false = refl
 
   part_whole : (H : List (Act × Tag)) (c : ℕ) (s : Bool) (t : Tag) → whole B (act_of_part s c t ++ H) ≡ whole B H
   part_whole H c true Done = refl
@@ -137,10 +139,30 @@ module _ (B : Records) where
   part_whole H c true NoMemory = refl
   part_whole H c false NoMemory = refl
 
-  pub took_whole : (H : List (Act × Tag)) (c : ℕ) (t : Tag) (o : Option Cut) (a s b : Bool) → live (told B H) c ≡ false → whole B (acts_of_took a s b c t o ++ H) ≡ whole B H
-  took_whole H c t o true s b lv = part_whole H c s t
-  took_whole H c t o false s true lv = refl
-  took_whole H c t o false s false lv = line_whole H c t o lv
+  pub took_whole : (H : List (Act × Tag)) (c : ℕ) (t : Tag) (o : Option Cut) (a s b : Bool) → whole B (acts_of_took a s b c t o ++ H) ≡ whole B H
+  took_whole H c t o true s b = part_whole H c s t
+  took_whole H c t o false s true = refl
+  took_whole H c t o false s false = line_whole H c t o
+
+  -- ---- what met want of memory changes no record
+
+  lacking_removed : (G : List Entry) (c : ℕ) (b : Bool) (taken_by : ℕ → List store.Message) → removed_after (quits_if (b && false) c) taken_by (removed B G) ≡ removed B G
+  lacking_removed G c true taken_by = refl
+  lacking_removed G c false taken_by = refl
+
+  pub lacking_records : (H : List (Act × Tag)) (c : ℕ) (x : Cut) → records B (told B ((Line c x, NoMemory) ∷ H)) ≡ records B (told B H)
+  lacking_records H c x =
+      let r = lacking_removed (told B H) c (is_quit (reading x))
+      (λ n. removed_by (in_session (told B H) n) (λ (name : LoginName). to_remove class_of (in_force B (told B H)) name (marks (told B H) n) (view B (told B H) n))) in
+      rw r refl
+
+-- what a login would find by a trace
+abbrev pub finds_by : Trace → LoginName → List store.Message
+finds_by T name = visible class_of (in_force T.base (history T)) name (without (in_maildrop name.maildrop (arrivals T.base (history T))) (removed T.base (history T)))
+
+-- the entry of a line
+abbrev pub line_entry : Trace → ℕ → Cut → Acted → Entry
+line_entry T c x w = record { act = Line c x; tag = tag_of w; said = said_to_line T.base (history T) c x (tag_of w) }
 
 -- ---- a piece
 
@@ -150,16 +172,27 @@ module _ (T : Trace) (c : ℕ) (p : List ℕ) where
       let s : stream (given T (Bytes c p) (Tagged t)).log q ≡ stream T.log q = rw e refl in
       ap₂ (λ octets f. seen_by octets (taken T.log q) f) s (piece_other T.base (acts T) c q t (next_line T.log (history T) c p) (has_newline p) e)
 
-  pub whole-bytes : (t : Tag) → live (history T) c ≡ false → whole T.base (acts (given T (Bytes c p) (Tagged t))) ≡ whole T.base (acts T)
-  whole-bytes t lv = piece_whole T.base (acts T) c t (next_line T.log (history T) c p) (has_newline p) lv
+  pub whole-bytes : (t : Tag) → whole T.base (acts (given T (Bytes c p) (Tagged t))) ≡ whole T.base (acts T)
+  whole-bytes t = piece_whole T.base (acts T) c t (next_line T.log (history T) c p) (has_newline p)
 
   pub seen-bytes_part : has_newline p ≡ false → seen (given T (Bytes c p) (Tagged Done)) c ≡ streamed (seen T c) p
   seen-bytes_part h = let e = eq-eqb c c refl in rw (h, e) refl
 
+  pub records-bytes_part : (t : Tag) → has_newline p ≡ false → records T.base (history (given T (Bytes c p) (Tagged t))) ≡ records T.base (history T)
+  records-bytes_part t h = rw h refl
+
   pub seen-bytes_line : (w : Acted) (x : Cut) → has_newline p ≡ true → next_line T.log (history T) c p ≡ Some x
-      → seen (given T (Bytes c p) (Tagged (tag_of w))) c ≡ lined (streamed (seen T c) p) x (reply_to_cut T.base (history T) c x (tag_of w))
+      → seen (given T (Bytes c p) (Tagged (tag_of w))) c ≡ lined (streamed (seen T c) p) x (reply_to_cut T.base (history T) c x (tag_of w)) (finds_by T)
   seen-bytes_line acted.Done x h n = let e = eq-eqb c c refl in rw (h, n, e) refl
   seen-bytes_line acted.Failed x h n = let e = eq-eqb c c refl in rw (h, n, e) refl
+
+  pub records-bytes_line : (w : Acted) (x : Cut) → has_newline p ≡ true → next_line T.log (history T) c p ≡ Some x
+      → records T.base (history (given T (Bytes c p) (Tagged (tag_of w)))) ≡ records T.base (line_entry T c x w ∷ history T)
+  records-bytes_line w x h n = rw (h, n) refl
+
+  pub records-bytes_lacking : (x : Cut) → has_newline p ≡ true → next_line T.log (history T) c p ≡ Some x
+      → records T.base (history (given T (Bytes c p) (Tagged NoMemory))) ≡ records T.base (history T)
+  records-bytes_lacking x h n = rw (h, n) (lacking_records T.base (acts T) c x)
 
   pub over-bytes : (x : Cut) → has_newline p ≡ true → next_line T.log (history T) c p ≡ Some x → IsOver (seen (given T (Bytes c p) (Tagged NoMemory)) c)
   over-bytes x h n = let e = eq-eqb c c refl in record { closed = rw (h, n, e) refl; outside = rw (h, n, e) (never (is_quit (reading x)) _) }
@@ -178,8 +211,8 @@ pieces_some : (p : List ℕ) → has_newline p ≡ true → (q : List ℕ) × (q
 pieces_some [] e = cc
 pieces_some (b ∷ bs) e = some_more b bs (b == 10) e (pieces_some bs)
 
-pub next_there : (s : Seen) (k : Kept) (p : List ℕ) → Awaits s k p → has_newline p ≡ true → (x : Cut) × (slice_get (cut s.stream) s.acted ≡ Some x)
-next_there s k p m h =
+pub next_there : (k' : Contents) (s : Seen) (k : Kept) (p : List ℕ) → Awaits k' s k p → has_newline p ≡ true → (x : Cut) × (slice_get (cut s.stream) s.acted ≡ Some x)
+next_there k' s k p m h =
     let q = pieces_some p h in
     let e : drop s.acted (cut s.stream) ≡ cut_of (begun k.held ++ q.0) ∷ map cut_of q.1 =
     ap (λ r. drop s.acted (cut r)) (sym (append-nil s.stream)) ∙ (m.lines [] ∙ (ap (λ r. coming k.held r) (append-nil p) ∙ ap (λ ps. map cut_of (prefixed (begun k.held) ps)) q.2)) in
@@ -190,30 +223,26 @@ next_there s k p m h =
 pub is_apart : (c q : ℕ) → (c ≡ q → ⊥) → is_at (nat_cmp c) q ≡ false
 is_apart c q h = grind (arith, nat_tests)
 
--- what was kept of the trace is kept of a longer one, where its history has the same records
-pub keeps_on : {Before After : Contents → Type 0} (T : Trace) (e : Event) (t : Tag) → Keeps Before T → ((c : Contents) → Before c → After c)
-    → records T.base (history (given T e (Tagged t))) ≡ records T.base (history T) → is_formed T.log e ≡ true → Keeps After (given T e (Tagged t))
-keeps_on T e t k on same formed = record {
-  contents = k.contents;
-  held = on k.contents k.held;
-  agree = rw same k.agree;
-  sound = k.sound;
-  formed = rw formed k.formed;
-}
+-- What happened on one connection: what the store keeps, what is kept of the connection and of each other, and the locks.
+pub record Moves {V : Type 0} (Holds : V → Contents → Type 0) (o o' : Office V) (T : Trace) (k : Contents) (c : ℕ) (T' : Trace) : Type 0 where
+  pub contents : Contents
+  pub held : Holds o'.vault contents
+  pub agree : Agree (records_of contents) (records T'.base (history T'))
+  pub here : IsKeptFor contents (seen T' c) (get nat_cmp o'.links c)
+  pub carried : (q : ℕ) → eqb c q ≡ false → IsKeptFor k (seen T q) (get nat_cmp o.links q) → IsKeptFor contents (seen T q) (get nat_cmp o.links q)
+  pub locks : (d : List ℕ) → get name_cmp o'.locks d ≡ holder (history T') d
 
-moved_so : {V : Type 0} (Holds : V → Contents → Type 0) (o o' : Office V) (T : Trace) (e : Event) (t : Tag) (c : ℕ) → StandsFor Holds o T
-    → ((k : Contents) → Holds o.vault k → Holds o'.vault k) → is_formed T.log e ≡ true → o'.policy ≡ o.policy
-    → o'.boot ≡ o.boot → string_bytes o'.host ≡ string_bytes o.host → o'.limits ≡ o.limits → o'.opened ≡ o.opened
+moved_so : {V : Type 0} (Holds : V → Contents → Type 0) (o o' : Office V) (T : Trace) (e : Event) (t : Tag) (c : ℕ) → (st : StandsFor Holds o T) → is_formed T.log e ≡ true
+    → o'.policy ≡ o.policy → o'.boot ≡ o.boot → string_bytes o'.host ≡ string_bytes o.host → o'.limits ≡ o.limits → o'.opened ≡ o.opened
     → whole T.base (acts (given T e (Tagged t))) ≡ whole T.base (acts T) → idle_seconds (given T e (Tagged t)).log ≡ idle_seconds T.log
     → opened (given T e (Tagged t)).log ≡ opened T.log → IsSome (get nat_cmp o.links c)
     → ((q : ℕ) → eqb c q ≡ false → seen (given T e (Tagged t)) q ≡ seen T q) → ((q : ℕ) → (c ≡ q → ⊥) → get nat_cmp o'.links q ≡ get nat_cmp o.links q)
-    → IsKeptFor (seen (given T e (Tagged t)) c) (get nat_cmp o'.links c) → StandsFor Holds o' (given T e (Tagged t))
-moved_so Holds o o' T e t c st on formed p b h l n same idle number there others links here =
-    let rules : in_force T.base (history (given T e (Tagged t))) ≡ in_force T.base (history T) = ap (λ (w : Whole). w.records.policy) same in
+    → Moves Holds o o' T st.keeps.contents c (given T e (Tagged t)) → StandsFor Holds o' (given T e (Tagged t))
+moved_so Holds o o' T e t c st formed p b h l n same idle number there others links m =
+    let rules : in_force T.base (history (given T e (Tagged t))) ≡ in_force T.base (history T) = ap (λ (w : Whole). w.rules) same in
     record {
-      keeps = keeps_on T e t st.keeps on (ap (λ (w : Whole). w.records) same) formed;
+      keeps = record { contents = m.contents; held = m.held; agree = m.agree; sound = st.keeps.sound; formed = rw formed st.keeps.formed };
       policy = p ∙ (st.policy ∙ sym rules);
-      no_rules = ap (λ (q : Policy). q.rules) rules ∙ st.no_rules;
       boot = b ∙ (st.boot ∙ ap (λ (w : Whole). w.office.0) (sym same));
       host = h ∙ (st.host ∙ ap (λ (w : Whole). w.office.1) (sym same));
       idle = l ∙ (st.idle ∙ sym idle);
@@ -223,32 +252,51 @@ moved_so Holds o o' T e t c st on formed p b h l n same idle number there others
           (cases_eq c q);
       opened = n ∙ (st.opened ∙ sym number);
       links = λ q. ⊎_elim
-          (λ (same : c ≡ q). subst (λ q. IsKeptFor (seen (given T e (Tagged t)) q) (get nat_cmp o'.links q)) same here)
-          (λ (ne : c ≡ q → ⊥). rw (others q (ne_eqb c q ne), links q ne) (st.links q))
+          (λ (same : c ≡ q). subst (λ q. IsKeptFor m.contents (seen (given T e (Tagged t)) q) (get nat_cmp o'.links q)) same m.here)
+          (λ (ne : c ≡ q → ⊥). rw (others q (ne_eqb c q ne), links q ne) (m.carried q (ne_eqb c q ne) (st.links q)))
           (cases_eq c q);
+      locks = m.locks;
     }
 
 -- where only one connection changes, it is enough to look at that
-pub moved : {V : Type 0} (Holds : V → Contents → Type 0) (o o' : Office V) (T : Trace) (e : Event) (m : Mark) (t : Tag) (c : ℕ) → m ≡ Tagged t → StandsFor Holds o T
-    → ((k : Contents) → Holds o.vault k → Holds o'.vault k) → is_formed T.log e ≡ true → o'.policy ≡ o.policy
-    → o'.boot ≡ o.boot → string_bytes o'.host ≡ string_bytes o.host → o'.limits ≡ o.limits → o'.opened ≡ o.opened
+pub moved : {V : Type 0} (Holds : V → Contents → Type 0) (o o' : Office V) (T : Trace) (e : Event) (m : Mark) (t : Tag) (c : ℕ) → m ≡ Tagged t → (st : StandsFor Holds o T) → is_formed T.log e ≡ true
+    → o'.policy ≡ o.policy → o'.boot ≡ o.boot → string_bytes o'.host ≡ string_bytes o.host → o'.limits ≡ o.limits → o'.opened ≡ o.opened
     → whole T.base (acts (given T e (Tagged t))) ≡ whole T.base (acts T) → idle_seconds (given T e (Tagged t)).log ≡ idle_seconds T.log
     → opened (given T e (Tagged t)).log ≡ opened T.log → IsSome (get nat_cmp o.links c)
     → ((q : ℕ) → eqb c q ≡ false → seen (given T e (Tagged t)) q ≡ seen T q) → ((q : ℕ) → (c ≡ q → ⊥) → get nat_cmp o'.links q ≡ get nat_cmp o.links q)
-    → IsKeptFor (seen (given T e (Tagged t)) c) (get nat_cmp o'.links c) → StandsFor Holds o' (given T e m)
-moved Holds o o' T e m t c mark st on formed p b h l n same idle number there others links here =
-    rw mark (moved_so Holds o o' T e t c st on formed p b h l n same idle number there others links here)
+    → Moves Holds o o' T st.keeps.contents c (given T e (Tagged t)) → StandsFor Holds o' (given T e m)
+moved Holds o o' T e m t c mark st formed p b h l n same idle number there others links moves =
+    rw mark (moved_so Holds o o' T e t c st formed p b h l n same idle number there others links moves)
 
 -- what a line's event shows
 pub marked : (w : Acted) (o : Outcome) → o ≡ shown_of w → mark_of o ≡ Tagged (tag_of w)
 marked acted.Done o e = rw e refl
 marked acted.Failed o e = rw e refl
 
+-- a session that is kept is one of a trace that says the same of it
+pub same_session : (k : Contents) (s s' : Seen) (o : Option Session) → s'.live ≡ s.live → s'.login ≡ s.login → s'.marks ≡ s.marks → s'.view ≡ s.view → IsSession k s o → IsSession k s' o
+same_session k s s' None l n m v i = l ∙ i
+same_session k s s' (Some o) l n m v i = record {
+  live = l ∙ i.live;
+  login = n ∙ i.login;
+  marks = λ q. i.marks q ∙ ap (λ ms. is_marked ms q) (sym m);
+  kept = i.kept;
+  lies = i.lies;
+  view = i.view ∙ sym v;
+}
+
+not_closing : (a b : Bool) (xs : List ℕ) → xs ≡ [] → (a && not (b && is_empty xs)) ≡ true → b ≡ false
+not_closing true true [] e h = absurd (true≢false (sym h))
+not_closing true false xs e h = refl
+not_closing false b xs e h = absurd (true≢false (sym h))
+not_closing true true (x ∷ xs) e h = cc
+
 -- a piece that comes where nothing is owed
-pub awaits_bytes : (s : Seen) (k : Kept) (p : List ℕ) → Matches s k → k.owed ≡ [] → length p ≤ most_in_a_piece → Awaits (streamed s p) k p
-awaits_bytes s k p m o fits = record {
+pub awaits_bytes : (c : Contents) (s : Seen) (k : Kept) (p : List ℕ) → Matches c s k → k.owed ≡ [] → length p ≤ most_in_a_piece → Awaits c (streamed s p) k p
+awaits_bytes c s k p m o fits = record {
   opened = m.opened;
-  outside = m.outside;
+  session = same_session c s (streamed s p) k.session refl refl refl refl m.session;
+  open_yet = not_closing s.connected s.closing (untaken_of s) (sym m.owed ∙ o) m.opened;
   taken = m.taken;
   nothing = o;
   owed = sym m.owed ∙ o;
@@ -260,60 +308,11 @@ awaits_bytes s k p m o fits = record {
   piece = fits;
 }
 
--- ---- a line
-
--- without a line nothing fails
-only_done : {A : Type 0} {b : Bool} (w : Acted) → b ≡ false → (w ≡ acted.Failed → (b ≡ true) × A) → w ≡ acted.Done
-only_done acted.Done h may = refl
-only_done acted.Failed h may = let t = (may refl).0 in cc
-
--- who stands for a trace knows what its lines are judged by
-pub knows : {V : Type 0} (Holds : V → Contents → Type 0) (o : Office V) (T : Trace) (c : ℕ) (st : StandsFor Holds o T) (s : Seen) (k : Kept) (octets : List ℕ) → Awaits s k octets
-    → s.live ≡ live (history T) c → s.user ≡ user (history T) c → s.failures ≡ failures (history T) c → s.stamp ≡ stamp (history T) c
-    → Agrees T.base (history T) c (judged_at st.keeps.contents o.policy k.stamp) k.talk
-knows Holds o T c st s k octets m l u f e = record {
-  outside = sym l ∙ m.outside;
-  user = m.user ∙ u;
-  failures = rw (sym f) m.failures;
-  credentials = st.keeps.agree.credentials;
-  policy = st.policy;
-  no_rules = st.no_rules;
-  stamp = m.stamp ∙ e;
-}
-
-module _ (T : Trace) (c : ℕ) (d : Desk) where
-  pub heard : (p : List ℕ) (k k' : Kept) (w : Acted) → Awaits (streamed (seen T c) p) k p → Agrees T.base (history T) c d k.talk
-      → (w ≡ acted.Failed → (has_newline p ≡ true) × (asks k.talk (reading (line_after k p)) ≡ true))
-      → k' ≡ answered k p (reply_of w d k.talk (line_after k p))
-      → ((more : List ℕ) → coming k.held (p ++ more) ≡ shown k'.held ++ coming k'.held (k'.pending ++ more)) → Matches (seen (given T (Bytes c p) (Tagged (tag_of w))) c) k'
-  heard p k k' w m a may e law =
-      let s = streamed (seen T c) p in
-      let x = line_after k p in
-      let r = reply_of w d k.talk x in
-      ⊎_elim
-      (λ h. rw (seen-bytes_line T c p w x h (acts_next s k k' p r m e law h), reply_outside T.base (history T) c d k.talk a x w (λ f. (may f).1))
-      (line_heard s k k' p r m e law h (no_login d k.talk s.user w x)))
-      (λ h. let done = only_done w h may in rw (done, seen-bytes_part T c p h) (part_heard s k k' p r m e law h))
-      (cases_Bool (has_newline p))
+-- ---- a piece is answered
 
 -- a piece that isn't ignored is answered what became of its line
 pub bytes_goes : (T : Trace) (lent : ℕ → ℕ) (c : ℕ) (p : List ℕ) → is_open T c ≡ true → untaken T.log (history T) c ≡ [] → length p ≤ most_in_a_piece → ignored T lent (Bytes c p) ≡ None
 bytes_goes T lent c p o r fits = let within : nat_lt most_in_a_piece (length p) ≡ false = le-ltb most_in_a_piece (length p) fits in rw (o, r, within) refl
-
-pub bytes_answered : (T : Trace) (lent : ℕ → ℕ) (c : ℕ) (d : Desk) (p : List ℕ) (k k' : Kept) (w : Acted) → Matches (seen T c) k → k.owed ≡ [] → length p ≤ most_in_a_piece → Awaits (streamed (seen T c) p) k p
-    → Agrees T.base (history T) c d k.talk → (w ≡ acted.Failed → (has_newline p ≡ true) × (asks k.talk (reading (line_after k p)) ≡ true))
-    → k' ≡ answered k p (reply_of w d k.talk (line_after k p)) → ((more : List ℕ) → coming k.held (p ++ more) ≡ shown k'.held ++ coming k'.held (k'.pending ++ more))
-    → (o : Outcome) → o ≡ shown_of w → IsOutcome T lent (Bytes c p) o
-bytes_answered T lent c d p k k' acted.Done m nothing fits ready a may e law o is =
-    let goes = bytes_goes T lent c p m.opened (sym m.owed ∙ nothing) fits in
-    record { tag = Done; may = refl; is = is ∙ rw goes refl }
-bytes_answered T lent c d p k k' acted.Failed m nothing fits ready a may e law o is =
-    let goes = bytes_goes T lent c p m.opened (sym m.owed ∙ nothing) fits in
-    let there = may refl in
-    let h = there.0 in
-    let next = acts_next (streamed (seen T c) p) k k' p (reply_of acted.Failed d k.talk (line_after k p)) ready e law h in
-    let fails = fails_outside T.base (history T) c d k.talk a (line_after k p) there.1 in
-    record { tag = Failed; may = rw (h, next, fails) refl; is = is ∙ rw goes refl }
 
 -- ---- a Took
 
@@ -329,8 +328,8 @@ module _ (T : Trace) (c n : ℕ) where
       let k : taken (given T (Took c n) (Tagged t)).log q ≡ taken T.log q = rw e refl in
       ap₂ (λ m f. seen_by (stream T.log q) m f) k (took_other T.base (acts T) c q t next now_left (serving (history T) c) (closing (history T) c) e)
 
-  pub whole-took : (t : Tag) → live (history T) c ≡ false → whole T.base (acts (given T (Took c n) (Tagged t))) ≡ whole T.base (acts T)
-  whole-took t lv = took_whole T.base (acts T) c t next now_left (serving (history T) c) (closing (history T) c) lv
+  pub whole-took : (t : Tag) → whole T.base (acts (given T (Took c n) (Tagged t))) ≡ whole T.base (acts T)
+  whole-took t = took_whole T.base (acts T) c t next now_left (serving (history T) c) (closing (history T) c)
 
   -- what the trace says of a connection after its Took, by whether something is left, whether a message is served, whether it is
   -- closing, and its next line
@@ -362,9 +361,42 @@ module _ (T : Trace) (c n : ℕ) where
 
   -- all is taken, and a line acts
   pub seen-took_line : (w : Acted) (x : Cut) → now_left ≡ false → closing (history T) c ≡ false → next ≡ Some x
-      → seen (given T (Took c n) (Tagged (tag_of w))) c ≡ lined (took (seen T c) n) x (reply_to_cut T.base (history T) c x (tag_of w))
+      → seen (given T (Took c n) (Tagged (tag_of w))) c ≡ lined (took (seen T c) n) x (reply_to_cut T.base (history T) c x (tag_of w)) (finds_by T)
   seen-took_line acted.Done x h b o = let e = eq-eqb c c refl in seen-took Done false false (Some x) h b o ∙ rw e refl
   seen-took_line acted.Failed x h b o = let e = eq-eqb c c refl in seen-took Failed false false (Some x) h b o ∙ rw e refl
+
+  -- the locks where no line acts
+  part_holder : (s : Bool) (d : List ℕ) → holder (told T.base (act_of_part s c Done ++ acts T)) d ≡ holder (history T) d
+  part_holder true d = refl
+  part_holder false d = refl
+
+  pub same_part : now_left ≡ true → (d : List ℕ) → holder (history (given T (Took c n) (Tagged Done))) d ≡ holder (history T) d
+  same_part h d = rw h (part_holder (serving (history T) c) d)
+
+  pub same_closing : now_left ≡ false → closing (history T) c ≡ true → (d : List ℕ) → holder (history (given T (Took c n) (Tagged Done))) d ≡ holder (history T) d
+  same_closing h b d = rw (h, b) refl
+
+  -- the records where no line acts, where one does, and where it met want of memory
+  part_records : (s : Bool) → records T.base (told T.base (act_of_part s c Done ++ acts T)) ≡ records T.base (history T)
+  part_records true = refl
+  part_records false = refl
+
+  pub records-took_part : now_left ≡ true → records T.base (history (given T (Took c n) (Tagged Done))) ≡ records T.base (history T)
+  records-took_part h = rw h (part_records (serving (history T) c))
+
+  pub records-took_closing : now_left ≡ false → closing (history T) c ≡ true → records T.base (history (given T (Took c n) (Tagged Done))) ≡ records T.base (history T)
+  records-took_closing h b = rw (h, b) refl
+
+  pub records-took_none : now_left ≡ false → closing (history T) c ≡ false → next ≡ None → records T.base (history (given T (Took c n) (Tagged Done))) ≡ records T.base (history T)
+  records-took_none h b o = rw (h, b, o) refl
+
+  pub records-took_line : (w : Acted) (x : Cut) → now_left ≡ false → closing (history T) c ≡ false → next ≡ Some x
+      → records T.base (history (given T (Took c n) (Tagged (tag_of w)))) ≡ records T.base (line_entry T c x w ∷ history T)
+  records-took_line w x h b o = rw (h, b, o) refl
+
+  pub records-took_lacking : (x : Cut) → now_left ≡ false → closing (history T) c ≡ false → next ≡ Some x
+      → records T.base (history (given T (Took c n) (Tagged NoMemory))) ≡ records T.base (history T)
+  records-took_lacking x h b o = rw (h, b, o) (lacking_records T.base (acts T) c x)
 
   pub over-took : (x : Cut) → now_left ≡ false → closing (history T) c ≡ false → next ≡ Some x → IsOver (seen (given T (Took c n) (Tagged NoMemory)) c)
   over-took x h b o =
@@ -399,8 +431,8 @@ not_empty : (xs : List ℕ) → 0 < length xs → is_empty xs ≡ false
 not_empty [] h = absurd (omega arith)
 not_empty (x ∷ xs) h = refl
 
-pub part_took : (s : Seen) (k : Kept) (n : ℕ) → Matches s k → n < length (untaken_of s) → Matches (took s n) (record k { owed = drop n k.owed })
-part_took s k n m h =
+pub part_took : (c : Contents) (s : Seen) (k : Kept) (n : ℕ) → Matches c s k → n < length (untaken_of s) → Matches c (took s n) (record k { owed = drop n k.owed })
+part_took c s k n m h =
     let o = owed_took s n in
     let some : 0 < length (drop n (untaken_of s)) = omega (arith, h, length-drop n (untaken_of s)) in
     let e = not_empty (drop n (untaken_of s)) some in
@@ -408,7 +440,8 @@ part_took s k n m h =
       opened = rw (o, e) (open_still s.connected (s.closing && is_empty (untaken_of s)) s.closing m.opened);
       taken = taken_fits s n (omega (arith, h)) m.taken;
       owed = ap (drop n) m.owed ∙ sym o;
-      outside = m.outside;
+      session = same_session c s (took s n) k.session refl refl refl refl m.session;
+      parted = m.parted;
       closing = m.closing;
       user = m.user;
       failures = m.failures;
@@ -420,8 +453,8 @@ part_took s k n m h =
     }
 
 -- all is taken, and the connection isn't closing
-pub awaits_took : (s : Seen) (k : Kept) (n : ℕ) → Matches s k → n ≡ length (untaken_of s) → s.closing ≡ false → Awaits (took s n) (record k { owed = drop n k.owed }) k.pending
-awaits_took s k n m e b =
+pub awaits_took : (c : Contents) (s : Seen) (k : Kept) (n : ℕ) → Matches c s k → n ≡ length (untaken_of s) → s.closing ≡ false → Awaits c (took s n) (record k { owed = drop n k.owed }) k.pending
+awaits_took c s k n m e b =
     let le : length (untaken_of s) ≤ n = omega (arith, e) in
     let none : drop n (untaken_of s) ≡ [] = drop_all n (untaken_of s) le in
     record {
@@ -429,7 +462,8 @@ awaits_took s k n m e b =
       taken = taken_fits s n (omega (arith, e)) m.taken;
       nothing = ap (drop n) m.owed ∙ none;
       owed = owed_took s n ∙ none;
-      outside = m.outside;
+      session = same_session c s (took s n) k.session refl refl refl refl m.session;
+      open_yet = b;
       closing = m.closing;
       user = m.user;
       failures = m.failures;
@@ -446,21 +480,6 @@ closed_took s n le b = let none : drop n (untaken_of s) ≡ [] = drop_all n (unt
 pub next_kept : (T : Trace) (c : ℕ) → next_line T.log (history T) c [] ≡ slice_get (cut (stream T.log c)) (acted (history T) c)
 next_kept T c = ap (λ octets. slice_get (cut octets) (acted (history T) c)) (append-nil (stream T.log c))
 
-module _ (T : Trace) (c n : ℕ) (d : Desk) where
-  pub resumed : (k k' : Kept) (w : Acted) → Awaits (took (seen T c) n) k k.pending → Agrees T.base (history T) c d k.talk → is_left T.log (history T) c n ≡ false → closing (history T) c ≡ false
-      → (w ≡ acted.Failed → (has_newline k.pending ≡ true) × (asks k.talk (reading (line_after k k.pending)) ≡ true))
-      → k' ≡ answered k k.pending (reply_of w d k.talk (line_after k k.pending))
-      → ((more : List ℕ) → coming k.held (k.pending ++ more) ≡ shown k'.held ++ coming k'.held (k'.pending ++ more)) → Matches (seen (given T (Took c n) (Tagged (tag_of w))) c) k'
-  resumed k k' w m a left open_yet may e law =
-      let s = took (seen T c) n in
-      let x = line_after k k.pending in
-      let r = reply_of w d k.talk x in
-      ⊎_elim
-      (λ h. rw (seen-took_line T c n w x left open_yet (next_kept T c ∙ acts_next s k k' k.pending r m e law h), reply_outside T.base (history T) c d k.talk a x w (λ f. (may f).1))
-      (line_heard s k k' k.pending r m e law h (no_login d k.talk s.user w x)))
-      (λ h. let done = only_done w h may in rw (done, seen-took_none T c n left open_yet (next_kept T c ∙ none_next s k k' k.pending r m e law h)) (part_heard s k k' k.pending r m e law h))
-      (cases_Bool (has_newline k.pending))
-
 -- a taking of what is lent is not ignored
 pub took_goes : (T : Trace) (lent : ℕ → ℕ) (c n : ℕ) → is_open T c ≡ true → 0 < n → n ≤ lent c → ignored T lent (Took c n) ≡ None
 took_goes T lent c n o p q =
@@ -468,15 +487,9 @@ took_goes T lent c n o p q =
     let within : nat_lt (lent c) n ≡ false = le-ltb (lent c) n q in
     rw (o, some, within) refl
 
--- a taking after which a line acts is answered what became of it
-pub took_answered : (T : Trace) (lent : ℕ → ℕ) (c n : ℕ) (d : Desk) (k k' : Kept) (w : Acted) → Awaits (took (seen T c) n) k k.pending → Agrees T.base (history T) c d k.talk
-    → is_left T.log (history T) c n ≡ false → closing (history T) c ≡ false
-    → (w ≡ acted.Failed → (has_newline k.pending ≡ true) × (asks k.talk (reading (line_after k k.pending)) ≡ true)) → k' ≡ answered k k.pending (reply_of w d k.talk (line_after k k.pending))
-    → ((more : List ℕ) → coming k.held (k.pending ++ more) ≡ shown k'.held ++ coming k'.held (k'.pending ++ more)) → ignored T lent (Took c n) ≡ None
-    → (o : Outcome) → o ≡ shown_of w → IsOutcome T lent (Took c n) o
-took_answered T lent c n d k k' acted.Done ready a left open_yet may e law goes o is = record { tag = Done; may = refl; is = is ∙ rw goes refl }
-took_answered T lent c n d k k' acted.Failed ready a left open_yet may e law goes o is =
-    let there = may refl in
-    let next = next_kept T c ∙ acts_next (took (seen T c) n) k k' k.pending (reply_of acted.Failed d k.talk (line_after k k.pending)) ready e law there.0 in
-    let fails = fails_outside T.base (history T) c d k.talk a (line_after k k.pending) there.1 in
-    record { tag = Failed; may = rw (left, open_yet, next, fails) refl; is = is ∙ rw goes refl }
+-- ---- refusals and their causes
+
+-- that a line failed has its cause
+pub line_cause : (before now : ℕ) (w : Acted) (o : Outcome) → o ≡ shown_of w → (w ≡ acted.Failed → has_grown before now ≡ true) → HasCause before now o
+line_cause before now acted.Done o e h = subst (HasCause before now) (sym e) tt
+line_cause before now acted.Failed o e h = subst (HasCause before now) (sym e) (h refl)

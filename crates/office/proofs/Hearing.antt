@@ -1,16 +1,19 @@
 -- How what is kept of a connection follows the trace as a piece comes or is resumed.
-use Rattle.std.proofs.Common.{◌≡◌, ℕ, zero, suc, ◌+◌, ◌≤◌, Bool, true, false, not, ◌||◌, ◌&&◌, cond, List, [], ◌∷◌, ◌++◌, drop, length, map, refl, sym, ◌∙◌, ap, arith, Some, None, is_some, slice_get, append-nil, ◌==◌, length-append, add-one, length-drop, min}
+use Rattle.std.proofs.Common.{◌≡◌, ℕ, zero, suc, ◌+◌, ◌≤◌, Bool, true, false, not, ◌||◌, ◌&&◌, cond, List, [], ◌∷◌, ◌++◌, drop, length, map, refl, sym, ◌∙◌, ap, arith, Some, None, is_some, slice_get, append-nil, ◌==◌, length-append, add-one, length-drop, min, subst, true≢false}
 use Rattle.std.proofs.lemmas.List.{drop-append-le, length-take}
 use Rattle.std.specs.Bool.{if◌then◌else◌}
 use Rattle.popline.specs.Cutting.{Cut, cut_of, cut, pieces, onto_first, begun, prefixed, fed, shown, coming, through_newline, has_newline, before_newline}
 use Rattle.popline.specs.Replies.{Reply, Greeting, LineTooLong, UnknownCommand, WrongState, BadArguments, Capabilities, SendPass, LoginFailed, LoginFailedClosing, DeniedBy, NoSuchMaildrop, InUse, MaildropHas, DropListing, ScanListing, ScanLine, UidListing, UidLine, Message, TopPart, Marked, Okay, NoSuchMessage, AlreadyMarked, Bye, RemovalDenied, RemovalFailed, StoreFailed, bytes_of}
 use Rattle.office.specs.History.{Says}
 use Rattle.office.specs.Connections.{reading, closes, is_quit, user_after_line, is_failure}
-use Rattle.office.specs.Sessions.{logs_in}
+use Rattle.creds.specs.declared.login_name.LoginName.{LoginName}
+use Rattle.vault.specs.declared.record.Message as store
+use Rattle.vault.specs.Changes.{Contents}
+use Rattle.office.specs.Sessions.{logs_in, login_after, marks_after_line, view_after}
 use Rattle.office.specs.Replying.{is_empty}
 use Rattle.office.specs.Expected.{most_in_a_piece}
 use Rattle.office.specs.Kept.{Kept, answered, line_after, talk_after}
-use Rattle.office.specs.Stands.{Seen, Matches, is_seen_open, untaken_of, most_in_a_line}
+use Rattle.office.specs.Stands.{Seen, Matches, IsSession, is_seen_open, untaken_of, most_in_a_line}
 use Rattle.office.specs.declared.talk.Talk.{Talk}
 use Rattle.office.proofs.Outside.{failures_alike}
 
@@ -30,13 +33,14 @@ at_end (suc n) (a ∷ xs) e = at_end n xs e
 
 -- what a trace says of a connection after more octets came, after some were taken, and after a line got this reply
 abbrev pub streamed : Seen → List ℕ → Seen
-streamed s p = record { connected = s.connected; closing = s.closing; live = s.live; stream = s.stream ++ p; acted = s.acted; sent = s.sent; taken = s.taken; user = s.user; failures = s.failures; stamp = s.stamp }
+streamed s p = record { connected = s.connected; closing = s.closing; live = s.live; stream = s.stream ++ p; acted = s.acted; sent = s.sent; taken = s.taken; user = s.user; failures = s.failures; stamp = s.stamp; login = s.login; marks = s.marks; view = s.view }
 
 abbrev pub took : Seen → ℕ → Seen
-took s n = record { connected = s.connected; closing = s.closing; live = s.live; stream = s.stream; acted = s.acted; sent = s.sent; taken = s.taken + n; user = s.user; failures = s.failures; stamp = s.stamp }
+took s n = record { connected = s.connected; closing = s.closing; live = s.live; stream = s.stream; acted = s.acted; sent = s.sent; taken = s.taken + n; user = s.user; failures = s.failures; stamp = s.stamp; login = s.login; marks = s.marks; view = s.view }
 
-abbrev pub lined : Seen → Cut → Reply → Seen
-lined s x r = record {
+-- `found` is what a login would find
+abbrev pub lined : Seen → Cut → Reply → (found : LoginName → List store.Message) → Seen
+lined s x r found = record {
   connected = s.connected;
   closing = closes (reading x) (Says r) || s.closing;
   live = not (is_quit (reading x) || false) && (is_some (logs_in (reading x) (Says r) s.user) || s.live);
@@ -47,6 +51,9 @@ lined s x r = record {
   user = user_after_line (reading x) (Says r) s.user;
   failures = if is_failure (Says r) then s.failures + 1 else s.failures;
   stamp = s.stamp;
+  login = login_after false (logs_in (reading x) (Says r) s.user) s.login;
+  marks = marks_after_line (Says r) s.marks;
+  view = view_after (logs_in (reading x) (Says r) s.user) found s.view;
 }
 
 -- no reply is empty
@@ -84,18 +91,18 @@ pub not_nil : (xs : List ℕ) → is_empty xs ≡ false → xs ≡ [] → ⊥
 not_nil [] e h = cc
 not_nil (x ∷ xs) e h = cc
 
-never_live : (a : Bool) → (a && (false || false)) ≡ false
-never_live true = refl
-never_live false = refl
-
 pub open_still : (a b c : Bool) → (a && not b) ≡ true → (a && not (c && false)) ≡ true
 open_still true b true h = refl
 open_still true b false h = refl
 open_still false b c h = h
 
+first_closes : (a b : Bool) → b ≡ false → (a || b) ≡ true → a ≡ true
+first_closes true b e h = refl
+first_closes false b e h = absurd (true≢false (sym h ∙ e))
+
 -- what is owed after a reply
-pub owed_more : (s : Seen) (x : Cut) (r : Reply) → s.taken ≤ length s.sent → untaken_of s ≡ [] → untaken_of (lined s x r) ≡ bytes_of r
-owed_more s x r le e = drop-append-le s.taken s.sent (bytes_of r) le ∙ ap (λ o. o ++ bytes_of r) e
+pub owed_more : (s : Seen) (x : Cut) (r : Reply) (found : LoginName → List store.Message) → s.taken ≤ length s.sent → untaken_of s ≡ [] → untaken_of (lined s x r found) ≡ bytes_of r
+owed_more s x r found le e = drop-append-le s.taken s.sent (bytes_of r) le ∙ ap (λ o. o ++ bytes_of r) e
 
 -- where there is no LF, all is cut
 one_through : (b : ℕ) (bs : List ℕ) (t : Bool) → cond t true (has_newline bs) ≡ false → (has_newline bs ≡ false → drop (through_newline bs) bs ≡ []) → drop (cond t 1 (through_newline bs + 1)) (b ∷ bs) ≡ []
@@ -115,12 +122,13 @@ pieces_none [] e = refl
 pieces_none (b ∷ bs) e = none_more b bs (b == 10) e (pieces_none bs)
 
 -- Before an answer: what is kept owes nothing, and the lines that are left come from what is held and these octets.
-pub record Awaits (s : Seen) (k : Kept) (octets : List ℕ) : Type 0 where
+pub record Awaits (c : Contents) (s : Seen) (k : Kept) (octets : List ℕ) : Type 0 where
   pub opened : is_seen_open s ≡ true
   pub taken : s.taken ≤ length s.sent
   pub nothing : k.owed ≡ []
   pub owed : untaken_of s ≡ []
-  pub outside : s.live ≡ false
+  pub session : IsSession c s k.session
+  pub open_yet : s.closing ≡ false
   pub closing : k.talk.closing ≡ s.closing
   pub user : k.talk.user ≡ s.user
   pub failures : min k.talk.failures 2 ≡ min s.failures 2
@@ -129,7 +137,7 @@ pub record Awaits (s : Seen) (k : Kept) (octets : List ℕ) : Type 0 where
   pub piece : length octets ≤ most_in_a_piece
 
 -- `answer` is the reply to the line that is whole, if one is
-module _ (s : Seen) (k k' : Kept) (p : List ℕ) (answer : Reply) (m : Awaits s k p) (e : k' ≡ answered k p answer)
+module _ (c : Contents) (s : Seen) (k k' : Kept) (p : List ℕ) (answer : Reply) (m : Awaits c s k p) (e : k' ≡ answered k p answer k'.session)
     (law : (more : List ℕ) → coming k.held (p ++ more) ≡ shown k'.held ++ coming k'.held (k'.pending ++ more)) where
   line_fits : length k'.held.octets ≤ most_in_a_line
   line_fits = rw e (omega (arith, length-take most_in_a_line (begun k.held ++ before_newline p)))
@@ -140,19 +148,24 @@ module _ (s : Seen) (k k' : Kept) (p : List ℕ) (answer : Reply) (m : Awaits s 
   whole_is : k'.held.whole ≡ has_newline p
   whole_is = ap (λ (k : Kept). k.held.whole) e
 
+  -- no line closes it, where none acts
+  quiet_yet : s.closing ≡ true → s.live ≡ false
+  quiet_yet h = absurd (true≢false (sym h ∙ m.open_yet))
+
   -- the lines that are left, before and after
   left : (more : List ℕ) → drop s.acted (cut (s.stream ++ more)) ≡ shown k'.held ++ coming k'.held (k'.pending ++ more)
   left more = m.lines more ∙ law more
 
-  pub part_heard : has_newline p ≡ false → Matches s k'
-  part_heard h =
+  pub part_heard : has_newline p ≡ false → k'.session ≡ k.session → Matches c s k'
+  part_heard h same =
       let e' = rw h at e in
       let w : k'.held.whole ≡ false = whole_is ∙ h in
       record {
         opened = m.opened;
         taken = m.taken;
         owed = ap (λ (k : Kept). k.owed) e' ∙ (m.nothing ∙ sym m.owed);
-        outside = m.outside;
+        session = subst (IsSession c s) (sym same) m.session;
+        parted = quiet_yet;
         closing = ap (λ (k : Kept). k.talk.closing) e' ∙ m.closing;
         user = ap (λ (k : Kept). k.talk.user) e' ∙ m.user;
         failures = ap (λ (k : Kept). min k.talk.failures 2) e' ∙ m.failures;
@@ -184,19 +197,21 @@ module _ (s : Seen) (k k' : Kept) (p : List ℕ) (answer : Reply) (m : Awaits s 
   acts_next h = (at_drop s.acted (cut s.stream) acting (coming k'.held (k'.pending ++ [])) (ap (λ q. drop s.acted (cut q)) (sym (append-nil s.stream)) ∙ next h [])).0
       ∙ ap Some acting_is
 
-  heard_at : (x : Cut) → x ≡ acting → has_newline p ≡ true → logs_in (reading x) (Says answer) s.user ≡ None → Matches (lined s x answer) k'
-  heard_at x same h nobody =
+  heard_at : (c' : Contents) (found : LoginName → List store.Message) (x : Cut) → x ≡ acting → has_newline p ≡ true → IsSession c' (lined s x answer found) k'.session
+      → (closes (reading x) (Says answer) ≡ true → (lined s x answer found).live ≡ false) → Matches c' (lined s x answer found) k'
+  heard_at c' found x same h sits parts =
       let e' = rw h at e in
-      let more_owed = owed_more s x answer m.taken m.owed in
+      let more_owed = owed_more s x answer found m.taken m.owed in
       let said = says_something answer in
       let held_is : k'.held ≡ fed k.held p = ap (λ (k : Kept). k.held) e in
-      let owed_is : k'.owed ≡ untaken_of (lined s x answer) =
+      let owed_is : k'.owed ≡ untaken_of (lined s x answer found) =
       ap (λ (k : Kept). k.owed) e' ∙ (ap (λ q. q ++ bytes_of answer) m.nothing ∙ sym more_owed) in
       let talk_is : k'.talk ≡ talk_after x answer k.talk =
       ap (λ (k : Kept). k.talk) e' ∙ ap (λ y. talk_after y answer k.talk) (sym (same ∙ acting_is)) in
       record {
         opened = rw (more_owed, said) (open_still s.connected (s.closing && is_empty (untaken_of s)) (closes (reading x) (Says answer) || s.closing) m.opened);
-        outside = rw (nobody, m.outside) (never_live (not (is_quit (reading x) || false)));
+        session = sits;
+        parted = λ t. parts (first_closes (closes (reading x) (Says answer)) s.closing m.open_yet t);
         taken = omega (arith, m.taken, length-append s.sent (bytes_of answer));
         owed = owed_is;
         closing = ap (λ (t : Talk). t.closing) talk_is ∙ ap (λ b. closes (reading x) (Says answer) || b) m.closing;
@@ -209,5 +224,6 @@ module _ (s : Seen) (k k' : Kept) (p : List ℕ) (answer : Reply) (m : Awaits s 
         piece_kept = piece_fits;
       }
 
-  pub line_heard : has_newline p ≡ true → logs_in (reading (line_after k p)) (Says answer) s.user ≡ None → Matches (lined s (line_after k p) answer) k'
-  line_heard h nobody = heard_at (line_after k p) (sym acting_is) h nobody
+  pub line_heard : (c' : Contents) (found : LoginName → List store.Message) → has_newline p ≡ true → IsSession c' (lined s (line_after k p) answer found) k'.session
+      → (closes (reading (line_after k p)) (Says answer) ≡ true → (lined s (line_after k p) answer found).live ≡ false) → Matches c' (lined s (line_after k p) answer found) k'
+  line_heard c' found h sits parts = heard_at c' found (line_after k p) (sym acting_is) h sits parts

@@ -162,7 +162,7 @@ none_at p x found q among true f e rest m = absurd (no_some x (sym e))
 none_at p x found q among false f e rest m = ⊎_elim (λ h. subst (λ k. p k ≡ false) (eqb-true x q h) f) (λ h. rest e h) m
 
 -- a search that found nothing passes over all
-none_holds : (p : ℕ → Bool) (xs : List ℕ) (q : ℕ) → find p xs ≡ None → list_any (λ n. n == q) xs ≡ true → p q ≡ false
+pub none_holds : (p : ℕ → Bool) (xs : List ℕ) (q : ℕ) → find p xs ≡ None → list_any (λ n. n == q) xs ≡ true → p q ≡ false
 none_holds p [] q e h = absurd (true≢false (sym h))
 none_holds p (x ∷ xs) q e h = none_at p x (find p xs) q (list_any (λ n. n == q) xs) (p x) refl e (λ f m. none_holds p xs q f m) (or_cases (x == q) (list_any (λ n. n == q) xs) h)
 
@@ -207,7 +207,7 @@ heard_now (Deposit a b i x) xs c e = absurd (no_some c e)
 heard_now (Administer a) xs c e = absurd (no_some c e)
 heard_now (Restart b h) xs c e = absurd (no_some c e)
 
-held_heard : (B : Records) (H : List (Act × Tag)) (d : List ℕ) (c : ℕ) → holds (told B H) d c ≡ true → list_any (λ n. n == c) (heard (told B H)) ≡ true
+pub held_heard : (B : Records) (H : List (Act × Tag)) (d : List ℕ) (c : ℕ) → holds (told B H) d c ≡ true → list_any (λ n. n == c) (heard (told B H)) ≡ true
 held_heard B [] d c h = absurd (true≢false (sym h))
 held_heard B ((a, t) ∷ H) d c h = ⊎_elim
     (λ (p : (name : LoginName) × (login_by a (said_to B (told B H) a t) c (user (told B H) c) ≡ Some name) × (is_login_to d (Some name) ≡ true)).

@@ -25,6 +25,30 @@ mod AdministrationRows
 mod SessionRows
 mod NameOrder
 mod AgreeLists
+mod Standing
+mod Coming
 mod Quiet
 mod NewMessage
 mod VaultCalls
+mod PolicyCommands
+pub mod Lying
+pub mod Removing
+mod Entering
+pub mod SessionLines
+pub mod Locked
+pub mod LineRecords
+pub mod GoingOn
+mod Acting
+mod Locking
+mod Judging
+mod LineDone
+mod PieceDone
+mod TakingDone
+mod Alike
+mod Listed
+mod Picking
+mod Quitting
+mod Remembering
+mod Obeying
+mod Texts
+mod Pages

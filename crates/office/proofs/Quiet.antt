@@ -1,17 +1,20 @@
 -- A deposit or a command on a trace: it leaves connections and rules alone, and what comes of it is one of three things.
-use Rattle.std.proofs.Common.{◌≡◌, ℕ, Bool, true, List, ◌∷◌, refl, sym, ◌∙◌, ap, subst, Result, Ok, Err, string_bytes, nat_cmp}
+use Rattle.std.proofs.Common.{◌≡◌, ℕ, Bool, true, false, true≢false, List, [], ◌∷◌, Option, refl, sym, ◌∙◌, ap, subst, Result, Ok, Err, string_bytes, nat_cmp}
 use Rattle.std.specs.Prelude.{⊤}
 use Rattle.std.specs.BTreeMap.{get}
-use Rattle.policy.specs.Policy.{Policy}
+use Rattle.creds.specs.declared.login_name.LoginName.{LoginName}
+use Rattle.vault.specs.declared.record.Message.{Message}
 use Rattle.vault.specs.Records.{Records, Agree}
 use Rattle.vault.specs.Changes.{Contents, records_of}
 use Rattle.vault.specs.Calls.{IsAnswer, has_grown, CountsFaults}
 use Rattle.vault.specs.declared.fault.VaultFault.{VaultFault}
 use Rattle.vault.specs.declared.fault.VaultFault.TheVariants as fault
 use Rattle.office.specs.Answers.{AdminCommand, ListMaildrops, ShowMaildrop, AddMaildrop, DropMaildrop, ShowClerk, PutClerk, DropClerk, ShowPolicy, SetPolicy, ListSessions, EndSession, Explain}
-use Rattle.office.specs.History.{Act, Administer, Tag, Done, Failed, NoMemory, Silence, Entry, in_force}
-use Rattle.office.specs.Connections.{boot_and_host}
-use Rattle.office.specs.Sessions.{records}
+use Rattle.office.specs.History.{Act, Administer, Tag, Done, Failed, NoMemory, Silence, Entry, in_force, is_done}
+use Rattle.office.specs.Connections.{boot_and_host, connected, closing, acted, sent, user, failures}
+use Rattle.office.specs.Sessions.{live, login, marks, view, holder, records}
+use Rattle.office.specs.Replying.{stamp}
+use Rattle.office.specs.Answered.{name_cmp}
 use Rattle.office.specs.Told.{told}
 use Rattle.office.specs.Events.{Event, Mark, Tagged, Trace, given}
 use Rattle.office.specs.Events as event
@@ -23,13 +26,17 @@ use Rattle.office.specs.Outcomes.{Outcome, mark_of, HasCause}
 use Rattle.office.specs.Outcomes as outcome
 use Rattle.office.specs.Stands.{Seen, seen, Keeps, StandsFor}
 use Rattle.office.specs.declared.office.Office.{Office}
-use Rattle.office.proofs.Events.{Facts, facts}
+use Rattle.office.proofs.Standing.{Stays, kept_on}
 
--- a command that leaves connections and rules alone
+-- a command that leaves connections alone
 abbrev pub LeavesAlone : AdminCommand → Type 0
-LeavesAlone (SetPolicy policy) = ⊥
 LeavesAlone (EndSession n) = ⊥
 LeavesAlone _ = ⊤
+
+-- one that leaves the rules alone, too
+abbrev pub LeavesRules : AdminCommand → Type 0
+LeavesRules (SetPolicy policy) = ⊥
+LeavesRules command = LeavesAlone command
 
 -- a deposit, or such a command
 abbrev pub IsQuiet : Event → Type 0
@@ -37,35 +44,68 @@ IsQuiet (event.Deposit d class id text) = ⊤
 IsQuiet (event.Admin command) = LeavesAlone command
 IsQuiet _ = ⊥
 
+-- the same, but the policy isn't set
+abbrev pub IsStill : Event → Type 0
+IsStill (event.Deposit d class id text) = ⊤
+IsStill (event.Admin command) = LeavesRules command
+IsStill _ = ⊥
+
 -- ---- what stays
 
--- what a history says of a connection, of greetings and of rules
+-- what a history says of a connection, of greetings and of a lock
 record Left : Type 0 where
-  facts_of : Facts
+  connected : Bool
+  closing : Bool
+  live : Bool
+  acted : ℕ
+  sent : List ℕ
+  user : Option LoginName
+  failures : ℕ
+  stamp : List ℕ
+  login : Option LoginName
+  marks : List ℕ
+  view : List Message
   office : ℕ × List ℕ
-  rules : Policy
+  lock : Option ℕ
 
-abbrev left : Records → List (Act × Tag) → ℕ → Left
-left B H q = record { facts_of = facts B H q; office = boot_and_host (told B H); rules = in_force B (told B H) }
+abbrev left_at : Records → List Entry → ℕ → List ℕ → Left
+left_at B G q d = record {
+  connected = connected G q;
+  closing = closing G q;
+  live = live G q;
+  acted = acted G q;
+  sent = sent G q;
+  user = user G q;
+  failures = failures G q;
+  stamp = stamp G q;
+  login = login G q;
+  marks = marks G q;
+  view = view B G q;
+  office = boot_and_host G;
+  lock = holder G d;
+}
 
-command_left : (B : Records) (H : List (Act × Tag)) (command : AdminCommand) (t : Tag) (q : ℕ) → LeavesAlone command → left B ((Administer command, t) ∷ H) q ≡ left B H q
-command_left B H ListMaildrops t q h = refl
-command_left B H (ShowMaildrop d) t q h = refl
-command_left B H (AddMaildrop d) t q h = refl
-command_left B H (DropMaildrop d) t q h = refl
-command_left B H (ShowClerk name) t q h = refl
-command_left B H (PutClerk name credential) t q h = refl
-command_left B H (DropClerk name) t q h = refl
-command_left B H ShowPolicy t q h = refl
-command_left B H (SetPolicy policy) t q h = absurd h
-command_left B H ListSessions t q h = refl
-command_left B H (EndSession n) t q h = absurd h
-command_left B H (Explain clerk d class action) t q h = refl
+abbrev left : Records → List (Act × Tag) → ℕ → List ℕ → Left
+left B H q d = left_at B (told B H) q d
 
-event_left : (T : Trace) (e : Event) (t : Tag) (q : ℕ) → IsQuiet e → left T.base (acts (given T e (Tagged t))) q ≡ left T.base (acts T) q
-event_left T (event.Deposit d class id text) t q h = refl
-event_left T (event.Admin command) t q h = command_left T.base (acts T) command t q h
-event_left T _ t q h = absurd h
+command_left : (B : Records) (H : List (Act × Tag)) (command : AdminCommand) (t : Tag) (q : ℕ) (d : List ℕ) → LeavesAlone command → left B ((Administer command, t) ∷ H) q d ≡ left B H q d
+command_left B H ListMaildrops t q m h = refl
+command_left B H (ShowMaildrop d) t q m h = refl
+command_left B H (AddMaildrop d) t q m h = refl
+command_left B H (DropMaildrop d) t q m h = refl
+command_left B H (ShowClerk name) t q m h = refl
+command_left B H (PutClerk name credential) t q m h = refl
+command_left B H (DropClerk name) t q m h = refl
+command_left B H ShowPolicy t q m h = refl
+command_left B H (SetPolicy policy) t q m h = refl
+command_left B H ListSessions t q m h = refl
+command_left B H (EndSession n) t q m h = absurd h
+command_left B H (Explain clerk d class action) t q m h = refl
+
+event_left : (T : Trace) (e : Event) (t : Tag) (q : ℕ) (m : List ℕ) → IsQuiet e → left T.base (acts (given T e (Tagged t))) q m ≡ left T.base (acts T) q m
+event_left T (event.Deposit d class id text) t q m h = refl
+event_left T (event.Admin command) t q m h = command_left T.base (acts T) command t q m h
+event_left T _ t q m h = absurd h
 
 record Heard : Type 0 where
   octets : List ℕ
@@ -83,91 +123,104 @@ event_heard T _ t q h = absurd h
 
 abbrev seen_of : Heard → Left → Seen
 seen_of x l = record {
-  connected = l.facts_of.connected;
-  closing = l.facts_of.closing;
-  live = l.facts_of.live;
+  connected = l.connected;
+  closing = l.closing;
+  live = l.live;
   stream = x.octets;
-  acted = l.facts_of.acted;
-  sent = l.facts_of.sent;
+  acted = l.acted;
+  sent = l.sent;
   taken = x.took;
-  user = l.facts_of.user;
-  failures = l.facts_of.failures;
-  stamp = l.facts_of.stamp;
+  user = l.user;
+  failures = l.failures;
+  stamp = l.stamp;
+  login = l.login;
+  marks = l.marks;
+  view = l.view;
 }
 
 -- what the trace says of each connection
 pub seen-quiet : (T : Trace) (e : Event) (t : Tag) (q : ℕ) → IsQuiet e → seen (given T e (Tagged t)) q ≡ seen T q
 seen-quiet T e t q h =
-    ap (λ x. seen_of x (left T.base (acts (given T e (Tagged t))) q)) (event_heard T e t q h)
-    ∙ ap (λ l. seen_of (heard T q) l) (event_left T e t q h)
+    ap (λ x. seen_of x (left T.base (acts (given T e (Tagged t))) q [])) (event_heard T e t q h)
+    ∙ ap (λ l. seen_of (heard T q) l) (event_left T e t q [] h)
 
--- only the store may have changed
-pub quiet : {V : Type 0} (Holds : V → Contents → Type 0) (o o' : Office V) (T : Trace) (e : Event) (t : Tag) → IsQuiet e → StandsFor Holds o T
-    → Keeps (Holds o'.vault) (given T e (Tagged t)) → o'.policy ≡ o.policy → o'.boot ≡ o.boot → string_bytes o'.host ≡ string_bytes o.host
-    → o'.limits ≡ o.limits → o'.opened ≡ o.opened → ((q : ℕ) → get nat_cmp o'.links q ≡ get nat_cmp o.links q) → StandsFor Holds o' (given T e (Tagged t))
-quiet Holds o o' T e t h st k p b s l n links =
+-- What the store holds after an event: it agrees with the longer trace, and the messages that it held stay.
+pub record Carries (After : Contents → Type 0) (before : Contents) (T : Trace) (e : Event) (t : Tag) : Type 0 where
+  pub keeps : Keeps After (given T e (Tagged t))
+  pub stays : Stays before keeps.contents
+
+-- only the store and the policy may have changed
+pub quiet : {V : Type 0} (Holds : V → Contents → Type 0) (o o' : Office V) (T : Trace) (e : Event) (t : Tag) → IsQuiet e → (st : StandsFor Holds o T)
+    → Carries (Holds o'.vault) st.keeps.contents T e t → o'.policy ≡ in_force T.base (history (given T e (Tagged t))) → o'.boot ≡ o.boot → string_bytes o'.host ≡ string_bytes o.host
+    → o'.limits ≡ o.limits → o'.opened ≡ o.opened → ((q : ℕ) → get nat_cmp o'.links q ≡ get nat_cmp o.links q)
+    → ((d : List ℕ) → get name_cmp o'.locks d ≡ get name_cmp o.locks d) → StandsFor Holds o' (given T e (Tagged t))
+quiet Holds o o' T e t h st k p b s l n links locks =
     let T' = given T e (Tagged t) in
-    let rules : in_force T.base (history T') ≡ in_force T.base (history T) = ap (λ (x : Left). x.rules) (event_left T e t 0 h) in
-    let office : boot_and_host (history T') ≡ boot_and_host (history T) = ap (λ (x : Left). x.office) (event_left T e t 0 h) in
+    let office : boot_and_host (history T') ≡ boot_and_host (history T) = ap (λ (x : Left). x.office) (event_left T e t 0 [] h) in
     let number : opened T'.log ≡ opened T.log = ap (λ (x : Heard). x.number) (event_heard T e t 0 h) in
     let idle : idle_seconds T'.log ≡ idle_seconds T.log = ap (λ (x : Heard). x.idle) (event_heard T e t 0 h) in
     record {
-      keeps = k;
-      policy = p ∙ (st.policy ∙ sym rules);
-      no_rules = ap (λ (q : Policy). q.rules) rules ∙ st.no_rules;
+      keeps = k.keeps;
+      policy = p;
       boot = b ∙ (st.boot ∙ ap (λ (x : ℕ × List ℕ). x.0) (sym office));
       host = s ∙ (st.host ∙ ap (λ (x : ℕ × List ℕ). x.1) (sym office));
       idle = l ∙ (st.idle ∙ sym idle);
       numbered = λ q some. rw number (st.numbered q (rw (links q) at some));
       opened = n ∙ (st.opened ∙ sym number);
-      links = λ q. rw (seen-quiet T e t q h, links q) (st.links q);
+      links = λ q. rw (seen-quiet T e t q h, links q) (kept_on st.keeps.contents k.keeps.contents (seen T q) (get nat_cmp o.links q) k.stays (st.links q));
+      locks = λ d. locks d ∙ (st.locks d ∙ sym (ap (λ (x : Left). x.lock) (event_left T e t 0 d h)));
     }
 
 -- ---- what the store keeps
 
 -- contents that agree with the history of the longer trace
-pub keeps_with : {Before After : Contents → Type 0} (T : Trace) (e : Event) (t : Tag) (c : Contents) → Keeps Before T → After c
-    → Agree (records_of c) (records T.base (history (given T e (Tagged t)))) → is_formed T.log e ≡ true → Keeps After (given T e (Tagged t))
-keeps_with T e t c k h a formed = record { contents = c; held = h; agree = a; sound = k.sound; formed = rw formed k.formed }
+pub keeps_with : {Before After : Contents → Type 0} (T : Trace) (e : Event) (t : Tag) (c : Contents) (k : Keeps Before T) → Stays k.contents c → After c
+    → Agree (records_of c) (records T.base (history (given T e (Tagged t)))) → is_formed T.log e ≡ true → Carries After k.contents T e t
+keeps_with T e t c k stays h a formed = record {
+  keeps = record { contents = c; held = h; agree = a; sound = k.sound; formed = rw formed k.formed };
+  stays = stays;
+}
 
 -- the same contents, where the history has the same records
 pub keeps_same : {Before After : Contents → Type 0} (T : Trace) (e : Event) (t : Tag) (k : Keeps Before T) → After k.contents
-    → records T.base (history (given T e (Tagged t))) ≡ records T.base (history T) → is_formed T.log e ≡ true → Keeps After (given T e (Tagged t))
-keeps_same T e t k h same formed = keeps_with T e t k.contents k h (rw same k.agree) formed
+    → records T.base (history (given T e (Tagged t))) ≡ records T.base (history T) → is_formed T.log e ≡ true → Carries After k.contents T e t
+keeps_same T e t k h same formed = keeps_with T e t k.contents k (λ x i. i) h (rw same k.agree) formed
 
 -- an act that wasn't done changes no record
-silent_command : (B : Records) (G : List Entry) (command : AdminCommand) (t : Tag) → LeavesAlone command
+silent_command : (B : Records) (G : List Entry) (command : AdminCommand) (t : Tag) → LeavesAlone command → is_done t ≡ false
     → records B (record { act = Administer command; tag = t; said = Silence } ∷ G) ≡ records B G
-silent_command B G ListMaildrops t h = refl
-silent_command B G (ShowMaildrop d) t h = refl
-silent_command B G (AddMaildrop d) t h = refl
-silent_command B G (DropMaildrop d) t h = refl
-silent_command B G (ShowClerk name) t h = refl
-silent_command B G (PutClerk name credential) t h = refl
-silent_command B G (DropClerk name) t h = refl
-silent_command B G ShowPolicy t h = refl
-silent_command B G (SetPolicy policy) t h = absurd h
-silent_command B G ListSessions t h = refl
-silent_command B G (EndSession n) t h = absurd h
-silent_command B G (Explain clerk d class action) t h = refl
+silent_command B G ListMaildrops t h f = refl
+silent_command B G (ShowMaildrop d) t h f = refl
+silent_command B G (AddMaildrop d) t h f = refl
+silent_command B G (DropMaildrop d) t h f = refl
+silent_command B G (ShowClerk name) t h f = refl
+silent_command B G (PutClerk name credential) t h f = refl
+silent_command B G (DropClerk name) t h f = refl
+silent_command B G ShowPolicy t h f = refl
+silent_command B G (SetPolicy policy) Done h f = absurd (true≢false f)
+silent_command B G (SetPolicy policy) Failed h f = refl
+silent_command B G (SetPolicy policy) NoMemory h f = refl
+silent_command B G ListSessions t h f = refl
+silent_command B G (EndSession n) t h f = absurd h
+silent_command B G (Explain clerk d class action) t h f = refl
 
 failed_records : (T : Trace) (e : Event) → IsQuiet e → records T.base (history (given T e (Tagged Failed))) ≡ records T.base (history T)
 failed_records T (event.Deposit d class id text) h = refl
-failed_records T (event.Admin command) h = silent_command T.base (history T) command Failed h
+failed_records T (event.Admin command) h = silent_command T.base (history T) command Failed h refl
 failed_records T _ h = absurd h
 
 lacking_records : (T : Trace) (e : Event) → IsQuiet e → records T.base (history (given T e (Tagged NoMemory))) ≡ records T.base (history T)
 lacking_records T (event.Deposit d class id text) h = refl
-lacking_records T (event.Admin command) h = silent_command T.base (history T) command NoMemory h
+lacking_records T (event.Admin command) h = silent_command T.base (history T) command NoMemory h refl
 lacking_records T _ h = absurd h
 
 -- ---- what became of an event
 
 -- it was answered what the trace says for its tag, the store keeps the trace with it, and that it failed has its cause
-pub record Became (After : Contents → Type 0) (T : Trace) (e : Event) (grown : Bool) (o : Outcome) : Type 0 where
+pub record Became (After : Contents → Type 0) (before : Contents) (T : Trace) (e : Event) (grown : Bool) (o : Outcome) : Type 0 where
   pub tag : Tag
   pub is : o ≡ shown_at T.base T.log (history T) e tag
-  pub keeps : Keeps After (given T e (Tagged tag))
+  pub carries : Carries After before T e tag
   pub cause : tag ≡ Failed → grown ≡ true
 
 mark-shown : (T : Trace) (e : Event) (t : Tag) → IsQuiet e → mark_of (shown_at T.base T.log (history T) e t) ≡ Tagged t
@@ -203,21 +256,47 @@ has-cause before now T (event.Admin command) Failed h f = f refl
 has-cause before now T (event.Admin command) NoMemory h f = tt
 has-cause before now T _ t h f = absurd h
 
-module _ {V : Type 0} (Holds : V → Contents → Type 0) (o o' : Office V) (T : Trace) (e : Event) (grown : Bool) (w : Outcome) (h : IsQuiet e) where
-  pub became-stands : StandsFor Holds o T → Became (Holds o'.vault) T e grown w → o'.policy ≡ o.policy → o'.boot ≡ o.boot
-      → string_bytes o'.host ≡ string_bytes o.host → o'.limits ≡ o.limits → o'.opened ≡ o.opened → ((q : ℕ) → get nat_cmp o'.links q ≡ get nat_cmp o.links q)
-      → StandsFor Holds o' (given T e (mark_of w))
-  became-stands st b p boot host l n links =
-      subst (λ (m : Mark). StandsFor Holds o' (given T e m)) (sym (ap mark_of b.is ∙ mark-shown T e b.tag h))
-      (quiet Holds o o' T e b.tag h st b.keeps p boot host l n links)
+-- the rules stay in force
+command_rules : (B : Records) (H : List (Act × Tag)) (command : AdminCommand) (t : Tag) → LeavesRules command → in_force B (told B ((Administer command, t) ∷ H)) ≡ in_force B (told B H)
+command_rules B H (SetPolicy policy) t h = absurd h
+command_rules B H _ t h = refl
 
-module _ {After : Contents → Type 0} (T : Trace) (e : Event) (grown : Bool) (w : Outcome) (h : IsQuiet e) (b : Became After T e grown w) where
+still_rules : (T : Trace) (e : Event) (t : Tag) → IsStill e → in_force T.base (history (given T e (Tagged t))) ≡ in_force T.base (history T)
+still_rules T (event.Deposit d class id text) t h = refl
+still_rules T (event.Admin command) t h = command_rules T.base (acts T) command t h
+still_rules T _ t h = absurd h
+
+leaves_alone : (command : AdminCommand) → LeavesRules command → LeavesAlone command
+leaves_alone (SetPolicy policy) h = absurd h
+leaves_alone _ h = h
+
+still_quiet : (e : Event) → IsStill e → IsQuiet e
+still_quiet (event.Deposit d class id text) h = tt
+still_quiet (event.Admin command) h = leaves_alone command h
+still_quiet _ h = absurd h
+
+module _ {V : Type 0} (Holds : V → Contents → Type 0) (o o' : Office V) (T : Trace) (e : Event) (grown : Bool) (w : Outcome) where
+  -- whatever rules are in force then
+  pub became-ruled : IsQuiet e → (st : StandsFor Holds o T) → Became (Holds o'.vault) st.keeps.contents T e grown w
+      → ((t : Tag) → mark_of w ≡ Tagged t → o'.policy ≡ in_force T.base (history (given T e (Tagged t)))) → o'.boot ≡ o.boot
+      → string_bytes o'.host ≡ string_bytes o.host → o'.limits ≡ o.limits → o'.opened ≡ o.opened → ((q : ℕ) → get nat_cmp o'.links q ≡ get nat_cmp o.links q)
+      → ((d : List ℕ) → get name_cmp o'.locks d ≡ get name_cmp o.locks d) → StandsFor Holds o' (given T e (mark_of w))
+  became-ruled h st b p boot host l n links locks =
+      let m = ap mark_of b.is ∙ mark-shown T e b.tag h in
+      subst (λ (m : Mark). StandsFor Holds o' (given T e m)) (sym m) (quiet Holds o o' T e b.tag h st b.carries (p b.tag m) boot host l n links locks)
+
+  pub became-stands : IsStill e → (st : StandsFor Holds o T) → Became (Holds o'.vault) st.keeps.contents T e grown w → o'.policy ≡ o.policy → o'.boot ≡ o.boot
+      → string_bytes o'.host ≡ string_bytes o.host → o'.limits ≡ o.limits → o'.opened ≡ o.opened → ((q : ℕ) → get nat_cmp o'.links q ≡ get nat_cmp o.links q)
+      → ((d : List ℕ) → get name_cmp o'.locks d ≡ get name_cmp o.locks d) → StandsFor Holds o' (given T e (mark_of w))
+  became-stands h st b p = became-ruled (still_quiet e h) st b (λ t m. p ∙ (st.policy ∙ sym (still_rules T e t h)))
+
+module _ {After : Contents → Type 0} {before : Contents} (T : Trace) (e : Event) (grown : Bool) (w : Outcome) (h : IsQuiet e) (b : Became After before T e grown w) where
   pub became-outcome : (lent : ℕ → ℕ) → IsOutcome T lent e w
   became-outcome lent = record { tag = b.tag; may = may-quiet T e b.tag h; is = b.is ∙ never-ignored T lent e b.tag h }
 
-pub became-cause : {A : Type 0} {After : Contents → Type 0} {before now : ℕ} {answered : Result A VaultFault} (T : Trace) (e : Event) (w : Outcome) → IsQuiet e
-    → CountsFaults before now answered → Became After T e (has_grown before now) w → HasCause before now w
-became-cause {A} {After} {before} {now} T e w h counts b = subst (HasCause before now) (sym b.is) (has-cause before now T e b.tag h b.cause)
+pub became-cause : {A : Type 0} {After : Contents → Type 0} {c : Contents} {before now : ℕ} {answered : Result A VaultFault} (T : Trace) (e : Event) (w : Outcome) → IsQuiet e
+    → CountsFaults before now answered → Became After c T e (has_grown before now) w → HasCause before now w
+became-cause {A} {After} {c} {before} {now} T e w h counts b = subst (HasCause before now) (sym b.is) (has-cause before now T e b.tag h b.cause)
 
 -- ---- a call of the vault
 
@@ -239,40 +318,40 @@ shown-failed T _ h = absurd h
 
 -- want of memory
 pub lacked : {Before After : Contents → Type 0} (T : Trace) (e : Event) (grown : Bool) → IsQuiet e → is_formed T.log e ≡ true → (k : Keeps Before T) → After k.contents
-    → Became After T e grown outcome.NoMemory
+    → Became After k.contents T e grown outcome.NoMemory
 lacked T e grown h formed k held = record {
   tag = NoMemory;
   is = shown-lacking T e h;
-  keeps = keeps_same T e NoMemory k held (lacking_records T e h) formed;
+  carries = keeps_same T e NoMemory k held (lacking_records T e h) formed;
   cause = λ f. absurd (never_failed_here f);
 }
 
 pub refused : {Before After : Contents → Type 0} (T : Trace) (e : Event) (grown : Bool) → IsQuiet e → is_formed T.log e ≡ true → (k : Keeps Before T) → After k.contents
-    → grown ≡ true → Became After T e grown outcome.Failed
+    → grown ≡ true → Became After k.contents T e grown outcome.Failed
 refused T e grown h formed k held g = record {
   tag = Failed;
   is = shown-failed T e h;
-  keeps = keeps_same T e Failed k held (failed_records T e h) formed;
+  carries = keeps_same T e Failed k held (failed_records T e h) formed;
   cause = λ f. g;
 }
 
-pub done : {After : Contents → Type 0} (T : Trace) (e : Event) (grown : Bool) (w : Outcome) → w ≡ shown_at T.base T.log (history T) e Done
-    → Keeps After (given T e (Tagged Done)) → Became After T e grown w
-done T e grown w is k = record { tag = Done; is = is; keeps = k; cause = λ f. absurd (never_failed f) }
+pub done : {After : Contents → Type 0} {before : Contents} (T : Trace) (e : Event) (grown : Bool) (w : Outcome) → w ≡ shown_at T.base T.log (history T) e Done
+    → Carries After before T e Done → Became After before T e grown w
+done T e grown w is k = record { tag = Done; is = is; carries = k; cause = λ f. absurd (never_failed f) }
 
 -- An answered call is the expected one, or the store refused, or memory did.
 pub called : {A : Type 0} {Before After : Contents → Type 0} (T : Trace) (e : Event) (grown : Bool) → IsQuiet e → is_formed T.log e ≡ true → (k : Keeps Before T)
     → (see : Result A VaultFault → Outcome) (held : Result A VaultFault → Type 0) (expected answered : Result A VaultFault)
     → IsAnswer expected answered → held answered → (held (Err fault.Store) → After k.contents) → (held (Err fault.NoMemory) → After k.contents)
     → see (Err fault.Store) ≡ outcome.Failed → see (Err fault.NoMemory) ≡ outcome.NoMemory
-    → see expected ≡ shown_at T.base T.log (history T) e Done → (held expected → Keeps After (given T e (Tagged Done)))
-    → (answered ≡ Err fault.Store → grown ≡ true) → Became After T e grown (see answered)
+    → see expected ≡ shown_at T.base T.log (history T) e Done → (held expected → Carries After k.contents T e Done)
+    → (answered ≡ Err fault.Store → grown ≡ true) → Became After k.contents T e grown (see answered)
 called {A} {Before} {After} T e grown h formed k see held expected answered a l store memory s m x keep cause = at answered a l cause
   where
-    as_expected : (r : Result A VaultFault) → expected ≡ r → held r → Became After T e grown (see r)
+    as_expected : (r : Result A VaultFault) → expected ≡ r → held r → Became After k.contents T e grown (see r)
     as_expected r q l = done T e grown (see r) (ap see (sym q) ∙ x) (keep (subst held (sym q) l))
 
-    at : (r : Result A VaultFault) → IsAnswer expected r → held r → (r ≡ Err fault.Store → grown ≡ true) → Became After T e grown (see r)
+    at : (r : Result A VaultFault) → IsAnswer expected r → held r → (r ≡ Err fault.Store → grown ≡ true) → Became After k.contents T e grown (see r)
     at (Ok y) a l cause = as_expected (Ok y) a l
     at (Err fault.Store) a l cause = rw s (refused T e grown h formed k (store l) (cause refl))
     at (Err fault.NoMemory) a l cause = rw m (lacked T e grown h formed k (memory l))

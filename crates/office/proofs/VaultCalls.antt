@@ -2,7 +2,6 @@
 use Rattle.std.proofs.Common.{◌≡◌, ℕ, ◌+◌, ◌<◌, Bool, true, false, ◌&&◌, ◌||◌, List, [], ◌∷◌, ◌++◌, length, Option, Some, None, Result, Ok, Err, refl, sym, ◌∙◌, ap, ap₂, subst, true≢false, lt-ltb}
 use Rattle.std.proofs.lemmas.Bool.{ltb-true}
 use Rattle.std.specs.Prelude.{map, is_some, is_ok, nat_le, nat_lt, if◌then◌else◌, ◌↔◌}
-use Rattle.std.specs.List.{find}
 use Rattle.std.specs.Str.{bytes_eq}
 use Rattle.mailtext.specs.Text.{kept_form}
 use Rattle.mailtext.specs.declared.kept.TextFault.{TextFault}
@@ -26,33 +25,27 @@ use Rattle.vault.specs.Calls.{IsDeposited, DepositLeft, deposit_result, deposit_
 use Rattle.office.specs.Answers.{Answer, ListMaildrops, ShowMaildrop, AddMaildrop, DropMaildrop, ShowClerk, PutClerk, DropClerk, Explain}
 use Rattle.office.specs.Answers as answer
 use Rattle.office.specs.History.{Deposit, Administer, Done, Answers, in_force, clerks, maildrops, exists, arrivals, receipts, deposits}
-use Rattle.office.specs.Sessions.{holder, holds, live, present, records, removed}
-use Rattle.office.specs.Connections.{heard}
+use Rattle.office.specs.Sessions.{holder, present, records, removed}
 use Rattle.office.specs.Replying.{is_empty}
 use Rattle.office.specs.Told.{deposited, answer_of_deposit, administered, answer_of_put, answer_of_drop, row_of, kind_of}
 use Rattle.office.specs.Events.{Trace, Tagged, given}
 use Rattle.office.specs.Events as event
 use Rattle.office.specs.Trace.{acts, history}
 use Rattle.office.specs.Outcomes as outcome
-use Rattle.office.specs.Kept.{Kept}
-use Rattle.office.specs.Stands.{Seen, seen, IsKeptFor, Keeps, StandsFor}
+use Rattle.office.specs.Stands.{Keeps}
 use Rattle.office.specs.VaultAnswers as by_vault
-use Rattle.office.specs.declared.office.Office.{Office}
 use Rattle.office.proofs.Accepting.{taken}
 use Rattle.office.proofs.NameOrder.{same_any, same_length}
 use Rattle.office.proofs.AgreeLists.{same_with, same_without, agree_maildrops, agree_with_clerk, agree_without_clerk, agree_deposit, in_maildrop-without, without_last, length_names}
 use Rattle.office.proofs.NewMessage.{new_message}
-use Rattle.office.proofs.Quiet.{Became, called, done, lacked, keeps_with, keeps_same}
+use Rattle.office.proofs.Lying.{stays_by_deposit}
+use Rattle.office.proofs.Quiet.{Became, Carries, called, done, lacked, keeps_with, keeps_same}
 
 -- ---- lists
 
 map_alike : {A B : Type 0} (f g : A → B) (xs : List A) → ((x : A) → f x ≡ g x) → map f xs ≡ map g xs
 map_alike f g [] e = refl
 map_alike f g (x ∷ xs) e = ap₂ (λ y ys. y ∷ ys) (e x) (map_alike f g xs e)
-
-find_none : (p : ℕ → Bool) (xs : List ℕ) → ((x : ℕ) → p x ≡ false) → find p xs ≡ None
-find_none p [] h = refl
-find_none p (x ∷ xs) h = let e = h x in rw e (find_none p xs h)
 
 -- the heads' rows are the messages' rows
 rows_at : (d : List ℕ) (ms : List Keyed) → map by_vault.row_of_head (map head_of (kept_in d ms)) ≡ map row_of (in_maildrop d (map (λ (x : Keyed). x.message) ms))
@@ -74,17 +67,6 @@ store_seen (Err f) view e = let s : f ≡ fault.Store = cc in ap (λ x. Err x) s
 still_there : (After : Contents → Type 0) (b : Bool) (c : Contents) → After (if b then c else c) → After c
 still_there After true c h = h
 still_there After false c h = h
-
--- ---- nobody is in session
-
-outside : (s : Seen) (o : Option Kept) → IsKeptFor s o → s.live ≡ false
-outside s None h = h.outside
-outside s (Some k) h = h.outside
-
-pub nobody_holds : {V : Type 0} (Holds : V → Contents → Type 0) (o : Office V) (T : Trace) → StandsFor Holds o T → (d : List ℕ) → holder (history T) d ≡ None
-nobody_holds Holds o T st d = find_none (holds (history T) d) (heard (history T)) (λ c.
-    let e : live (history T) c ≡ false = outside (seen T c) _ (st.links c) in
-    rw e refl)
 
 -- ---- what the vault finds is what the trace says
 
@@ -153,7 +135,7 @@ module _ {Before : Contents → Type 0} (After : Contents → Type 0) (T : Trace
       (count_present T k d) (k.agree.receipts d id) (k.agree.counts d class) (exists T.base (history T) d)
 
   keep_deposit : (x : DepositAnswer) → told_as ≡ answer_of_deposit x → DepositLeft After k.contents d class id (kept_form text) (deposit_result x)
-      → Keeps After (given T put_in (Tagged Done))
+      → Carries After k.contents T put_in Done
   keep_deposit (Accepted uid) e h =
       let m = message_for d class (kept_form text) uid.k in
       let r = receipt_for d class id (kept_form text) uid.k in
@@ -165,7 +147,7 @@ module _ {Before : Contents → Type 0} (After : Contents → Type 0) (T : Trace
       } = ap records_with e
       ∙ ap (λ ms. record (records T.base (history T)) { messages = ms; deposits = receipts T.base (history T) ++ r ∷ [] })
       (without_last (arrivals T.base (history T)) (removed T.base (history T)) m new) in
-      keeps_with T put_in Done (with_deposit h.0 m r k.contents) k h.1
+      keeps_with T put_in Done (with_deposit h.0 m r k.contents) k (stays_by_deposit k.contents h.0 m r) h.1
       (subst (λ R. Agree (records_of (with_deposit h.0 m r k.contents)) R) (sym more) (agree_deposit k.contents (records T.base (history T)) h.0 m r k.agree)) put_formed
   keep_deposit (KnownAs uid) e h = keeps_same T put_in Done k h (ap records_with e) put_formed
   keep_deposit changes.NoMaildrop e h = keeps_same T put_in Done k h (ap records_with e) put_formed
@@ -174,7 +156,7 @@ module _ {Before : Contents → Type 0} (After : Contents → Type 0) (T : Trace
 
   deposit_judged : (answered : Result Deposited VaultFault) → (text ≡ [] → ⊥) → (most_octets < length (kept_form text) → ⊥)
       → IsDeposited After k.contents d class id (kept_form text) answered → (answered ≡ Err fault.Store → grown ≡ true)
-      → Became After T put_in grown (by_vault.deposited answered)
+      → Became After k.contents T put_in grown (by_vault.deposited answered)
   deposit_judged answered some small did cause =
       let x = deposit_answer_in k.contents d class id (kept_form text) in
       let a = some_octet text some in
@@ -185,24 +167,24 @@ module _ {Before : Contents → Type 0} (After : Contents → Type 0) (T : Trace
 
   pub deposit_kept : (kept : List ℕ) (answered : Result Deposited VaultFault) → kept ≡ kept_form text → (text ≡ [] → ⊥) → (most_octets < length (kept_form text) → ⊥)
       → IsDeposited After k.contents d class id kept answered → (answered ≡ Err fault.Store → grown ≡ true)
-      → Became After T put_in grown (by_vault.deposited answered)
+      → Became After k.contents T put_in grown (by_vault.deposited answered)
   deposit_kept kept answered e some small did cause =
       deposit_judged answered some small (subst (λ t. IsDeposited After k.contents d class id t answered) e did) cause
 
-  deposit_empty : text ≡ [] → After k.contents → Became After T put_in grown (outcome.Answered answer.EmptyText)
+  deposit_empty : text ≡ [] → After k.contents → Became After k.contents T put_in grown (outcome.Answered answer.EmptyText)
   deposit_empty none held =
       let a = no_octet text none in
       let e : told_as ≡ answer.EmptyText = rw a refl in
       done T put_in grown (outcome.Answered answer.EmptyText) (ap (λ a. outcome.Answered a) (sym e)) (keeps_same T put_in Done k held (ap records_with e) put_formed)
 
-  deposit_large : (text ≡ [] → ⊥) → most_octets < length (kept_form text) → After k.contents → Became After T put_in grown (outcome.Answered answer.TextTooLarge)
+  deposit_large : (text ≡ [] → ⊥) → most_octets < length (kept_form text) → After k.contents → Became After k.contents T put_in grown (outcome.Answered answer.TextTooLarge)
   deposit_large some large held =
       let a = some_octet text some in
       let b = lt-ltb most_octets (length (kept_form text)) large in
       let e : told_as ≡ answer.TextTooLarge = rw (a, b) refl in
       done T put_in grown (outcome.Answered answer.TextTooLarge) (ap (λ a. outcome.Answered a) (sym e)) (keeps_same T put_in Done k held (ap records_with e) put_formed)
 
-  deposit_lacked : After k.contents → Became After T put_in grown outcome.NoMemory
+  deposit_lacked : After k.contents → Became After k.contents T put_in grown outcome.NoMemory
   deposit_lacked held = lacked T put_in grown tt put_formed k held
 
 -- a text that isn't kept
@@ -212,7 +194,7 @@ not_canon A e = Err e
 pub deposit_not_kept : {A : Type 0} {Before : Contents → Type 0} (T : Trace) (k : Keeps Before T) (grown : Bool) (d class id text : List ℕ)
     → is_name d ≡ true → is_name class ≡ true → is_deposit_id id ≡ true → (e : TextFault)
     → (not_canon A e ≡ not_canon A text_fault.Empty) ↔ (text ≡ []) → (not_canon A e ≡ not_canon A text_fault.TooLarge) ↔ (most_octets < length (kept_form text))
-    → Became Before T (event.Deposit d class id text) grown (by_vault.not_kept e)
+    → Became Before k.contents T (event.Deposit d class id text) grown (by_vault.not_kept e)
 deposit_not_kept {A} {Before} T k grown d class id text f g h text_fault.Empty empty large =
     deposit_empty Before T k grown d class id text f g h (empty.0 refl) k.held
 deposit_not_kept {A} {Before} T k grown d class id text f g h text_fault.TooLarge empty large =
@@ -255,7 +237,7 @@ module _ {Before : Contents → Type 0} (After : Contents → Type 0) (T : Trace
   -- ---- lists and looks, which change nothing
 
   pub maildrops_listed : (answered : Result (List Total) VaultFault) → AreTotals After k.contents answered → (answered ≡ Err fault.Store → grown ≡ true)
-      → Became After T (event.Admin ListMaildrops) grown (by_vault.listed answered)
+      → Became After k.contents T (event.Admin ListMaildrops) grown (by_vault.listed answered)
   maildrops_listed answered did cause =
       let ds = by_name k.contents.maildrops in
       let same : totals (records_of k.contents) ≡ map (λ d. total_in d (present T.base (history T) d)) (by_name (maildrops T.base (history T))) =
@@ -266,7 +248,7 @@ module _ {Before : Contents → Type 0} (After : Contents → Type 0) (T : Trace
       (λ h. keeps_same T (event.Admin ListMaildrops) Done k h refl refl) cause
 
   pub maildrop_shown : (d : List ℕ) (answered : Result (List Head) VaultFault) → AreHeads After k.contents d answered → (answered ≡ Err fault.Store → grown ≡ true)
-      → Became After T (event.Admin (ShowMaildrop d)) grown (by_vault.shown answered)
+      → Became After k.contents T (event.Admin (ShowMaildrop d)) grown (by_vault.shown answered)
   maildrop_shown d answered did cause =
       called T (event.Admin (ShowMaildrop d)) grown tt refl k by_vault.shown (λ r. After (if is_ok r then k.contents else k.contents)) (heads_result d k.contents) answered
       did.answer did.held (λ h. h) (λ h. h) refl refl (at (is_one_of d k.contents.maildrops) (exists T.base (history T) d) (is_there T k d))
@@ -280,11 +262,11 @@ module _ {Before : Contents → Type 0} (After : Contents → Type 0) (T : Trace
       at false false e = refl
 
   pub maildrop_show_lacked : (d : List ℕ) (answered : Result (List Head) VaultFault) → AreHeads After k.contents d answered
-      → Became After T (event.Admin (ShowMaildrop d)) grown outcome.NoMemory
+      → Became After k.contents T (event.Admin (ShowMaildrop d)) grown outcome.NoMemory
   maildrop_show_lacked d answered did = lacked T (event.Admin (ShowMaildrop d)) grown tt refl k (still_there After (is_ok answered) k.contents did.held)
 
   pub clerk_shown : (name : List ℕ) (answered : Result (Option Credential) VaultFault) → IsCredential After k.contents name answered → (answered ≡ Err fault.Store → grown ≡ true)
-      → Became After T (event.Admin (ShowClerk name)) grown (by_vault.credential_told answered)
+      → Became After k.contents T (event.Admin (ShowClerk name)) grown (by_vault.credential_told answered)
   clerk_shown name answered did cause =
       called T (event.Admin (ShowClerk name)) grown tt refl k by_vault.credential_told (λ r. After (if is_ok r then k.contents else k.contents))
       (Ok (credential_in name k.contents.clerks)) answered
@@ -292,7 +274,7 @@ module _ {Before : Contents → Type 0} (After : Contents → Type 0) (T : Trace
       (λ h. keeps_same T (event.Admin (ShowClerk name)) Done k h refl refl) cause
 
 pub explained : {Before : Contents → Type 0} (T : Trace) (k : Keeps Before T) (grown : Bool) (clerk d class : List ℕ) (action : Action)
-    → Became Before T (event.Admin (Explain clerk d class action)) grown (outcome.Answered (answer.Explained (decide (in_force T.base (history T)) clerk d class action)))
+    → Became Before k.contents T (event.Admin (Explain clerk d class action)) grown (outcome.Answered (answer.Explained (decide (in_force T.base (history T)) clerk d class action)))
 explained T k grown clerk d class action =
     done T (event.Admin (Explain clerk d class action)) grown _ refl (keeps_same T (event.Admin (Explain clerk d class action)) Done k k.held refl refl)
 
@@ -321,21 +303,21 @@ module _ {Before : Contents → Type 0} (After : Contents → Type 0) (T : Trace
   add_told x e = ap (answer_of_put answer.WasThere) (sym add_alike ∙ e)
 
   keep_added : (x : PutAnswer) → add_found ≡ x → After (if is_ok (put_result x) then with_maildrops (with_maildrop d names_kept) k.contents else k.contents)
-      → Keeps After (given T add_command (Tagged Done))
+      → Carries After k.contents T add_command Done
   keep_added WasNew e h =
       let s = ap records_added (add_told WasNew e) in
-      keeps_with T add_command Done (with_maildrops (with_maildrop d names_kept) k.contents) k h
+      keeps_with T add_command Done (with_maildrops (with_maildrop d names_kept) k.contents) k (λ x i. i) h
       (subst (λ R. Agree (records_of (with_maildrops (with_maildrop d names_kept) k.contents)) R) (sym s) (agree_maildrops k.contents (records T.base (history T)) (with_maildrop d names_kept) (with_maildrop d names_told) k.agree
       (same_with d names_kept names_told k.agree.maildrops))) form
   keep_added WasThere e h =
       let s = ap records_added (add_told WasThere e) in
       let t = nothing_more d names_kept (found_there (is_one_of d names_kept) (length names_kept) most_maildrops e) in
-      keeps_with T add_command Done (with_maildrops (with_maildrop d names_kept) k.contents) k h
+      keeps_with T add_command Done (with_maildrops (with_maildrop d names_kept) k.contents) k (λ x i. i) h
       (subst (λ R. Agree (records_of (with_maildrops (with_maildrop d names_kept) k.contents)) R) (sym s) (agree_maildrops k.contents (records T.base (history T)) (with_maildrop d names_kept) names_told k.agree (ap by_name t ∙ k.agree.maildrops))) form
   keep_added NoRoom e h = keeps_same T add_command Done k h (ap records_added (add_told NoRoom e)) form
 
   pub maildrop_added : (answered : Result Bool VaultFault) → IsMaildropAdded After k.contents d answered
-      → (answered ≡ Err fault.Store → grown ≡ true) → Became After T (event.Admin (AddMaildrop d)) grown (by_vault.put answer.WasThere answered)
+      → (answered ≡ Err fault.Store → grown ≡ true) → Became After k.contents T (event.Admin (AddMaildrop d)) grown (by_vault.put answer.WasThere answered)
   maildrop_added answered did cause =
       called T add_command grown tt form k (by_vault.put answer.WasThere) (λ r. After (if is_ok r then with_maildrops (with_maildrop d names_kept) k.contents else k.contents))
       (put_result add_found) answered did.answer did.held (λ h. h) (λ h. h) refl refl
@@ -366,21 +348,37 @@ module _ {Before : Contents → Type 0} (After : Contents → Type 0) (T : Trace
   drop_told x e = rw none (ap answer_of_drop (sym drop_alike ∙ e))
 
   keep_dropped : (x : DropAnswer) → drop_found ≡ x → After (if is_ok (drop_result x) then with_maildrops (without_maildrop d before_drop) k.contents else k.contents)
-      → Keeps After (given T drop_command (Tagged Done))
+      → Carries After k.contents T drop_command Done
   keep_dropped Gone e h =
       let s = ap records_dropped (drop_told Gone e) in
-      keeps_with T drop_command Done (with_maildrops (without_maildrop d before_drop) k.contents) k h
+      keeps_with T drop_command Done (with_maildrops (without_maildrop d before_drop) k.contents) k (λ x i. i) h
       (subst (λ R. Agree (records_of (with_maildrops (without_maildrop d before_drop) k.contents)) R) (sym s) (agree_maildrops k.contents (records T.base (history T)) (without_maildrop d before_drop) (without_maildrop d told_before_drop) k.agree
       (same_without d before_drop told_before_drop k.agree.maildrops))) refl
   keep_dropped NotThere e h = keeps_same T drop_command Done k h (ap records_dropped (drop_told NotThere e)) refl
   keep_dropped changes.NotEmpty e h = keeps_same T drop_command Done k h (ap records_dropped (drop_told changes.NotEmpty e)) refl
 
   pub maildrop_dropped : (answered : Result (Unit {0}) VaultFault) → IsMaildropDropped After k.contents d answered
-      → (answered ≡ Err fault.Store → grown ≡ true) → Became After T (event.Admin (DropMaildrop d)) grown (by_vault.maildrop_dropped answered)
+      → (answered ≡ Err fault.Store → grown ≡ true) → Became After k.contents T (event.Admin (DropMaildrop d)) grown (by_vault.maildrop_dropped answered)
   maildrop_dropped answered did cause =
       called T drop_command grown tt refl k by_vault.maildrop_dropped (λ r. After (if is_ok r then with_maildrops (without_maildrop d before_drop) k.contents else k.contents))
       (drop_result drop_found) answered did.answer did.held (λ h. h) (λ h. h) refl refl
       (drop_seen drop_found ∙ ap (λ a. outcome.Answered a) (sym (drop_told drop_found refl))) (keep_dropped drop_found refl) cause
+
+pub not_held : (o : Option ℕ) (found : Bool) → found ≡ is_some o → found ≡ false → o ≡ None
+not_held None found e f = refl
+not_held (Some c) found e f = absurd (true≢false (sym e ∙ f))
+
+pub held_by : (o : Option ℕ) (found : Bool) → found ≡ is_some o → found ≡ true → (c : ℕ) × (o ≡ Some c)
+held_by None found e f = absurd (true≢false (sym f ∙ e))
+held_by (Some c) found e f = (c, refl)
+
+-- a maildrop that a session holds
+pub maildrop_in_use : {Before : Contents → Type 0} (T : Trace) (k : Keeps Before T) (grown : Bool) (d : List ℕ) (c : ℕ) → holder (history T) d ≡ Some c
+    → Became Before k.contents T (event.Admin (DropMaildrop d)) grown (outcome.Answered answer.MaildropInUse)
+maildrop_in_use T k grown d c held =
+    let e : administered T.base (history T) (DropMaildrop d) ≡ answer.MaildropInUse = rw held refl in
+    done T (event.Admin (DropMaildrop d)) grown _ (ap (λ a. outcome.Answered a) (sym e))
+    (keeps_same T (event.Admin (DropMaildrop d)) Done k k.held (ap (λ a. records T.base (record { act = Administer (DropMaildrop d); tag = Done; said = Answers a } ∷ history T)) e) refl)
 
 -- ---- a clerk put
 
@@ -408,19 +406,19 @@ module _ {Before : Contents → Type 0} (After : Contents → Type 0) (T : Trace
   put_told x e = ap (answer_of_put answer.Replaced) (sym put_alike ∙ e)
 
   keep_put : (x : PutAnswer) → put_found ≡ x → After (if is_ok (put_result x) then with_clerks (with_clerk name new clerks_kept) k.contents else k.contents)
-      → Keeps After (given T put_command (Tagged Done))
+      → Carries After k.contents T put_command Done
   keep_put WasNew e h =
       let s = ap records_put (put_told WasNew e) in
-      keeps_with T put_command Done (with_clerks (with_clerk name new clerks_kept) k.contents) k h
+      keeps_with T put_command Done (with_clerks (with_clerk name new clerks_kept) k.contents) k (λ x i. i) h
       (subst (λ R. Agree (records_of (with_clerks (with_clerk name new clerks_kept) k.contents)) R) (sym s) (agree_with_clerk k.contents (records T.base (history T)) name new k.agree)) clerk_formed
   keep_put WasThere e h =
       let s = ap records_put (put_told WasThere e) in
-      keeps_with T put_command Done (with_clerks (with_clerk name new clerks_kept) k.contents) k h
+      keeps_with T put_command Done (with_clerks (with_clerk name new clerks_kept) k.contents) k (λ x i. i) h
       (subst (λ R. Agree (records_of (with_clerks (with_clerk name new clerks_kept) k.contents)) R) (sym s) (agree_with_clerk k.contents (records T.base (history T)) name new k.agree)) clerk_formed
   keep_put NoRoom e h = keeps_same T put_command Done k h (ap records_put (put_told NoRoom e)) clerk_formed
 
   pub clerk_put : (answered : Result Bool VaultFault) → IsClerkPut After k.contents name new answered → (answered ≡ Err fault.Store → grown ≡ true)
-      → Became After T (event.Admin (PutClerk name new)) grown (by_vault.put answer.Replaced answered)
+      → Became After k.contents T (event.Admin (PutClerk name new)) grown (by_vault.put answer.Replaced answered)
   clerk_put answered did cause =
       called T put_command grown tt clerk_formed k (by_vault.put answer.Replaced) (λ r. After (if is_ok r then with_clerks (with_clerk name new clerks_kept) k.contents else k.contents))
       (put_result put_found) answered did.answer did.held (λ h. h) (λ h. h) refl refl
@@ -450,15 +448,15 @@ module _ {Before : Contents → Type 0} (After : Contents → Type 0) (T : Trace
 
   keep_left : (b : Bool) → clerk_found ≡ b
       → After (if is_ok (left_as b) then with_clerks (without_clerk name k.contents.clerks) k.contents else k.contents)
-      → Keeps After (given T leave_command (Tagged Done))
+      → Carries After k.contents T leave_command Done
   keep_left true e h =
       let s = ap records_left (leave_told true e) in
-      keeps_with T leave_command Done (with_clerks (without_clerk name k.contents.clerks) k.contents) k h
+      keeps_with T leave_command Done (with_clerks (without_clerk name k.contents.clerks) k.contents) k (λ x i. i) h
       (subst (λ R. Agree (records_of (with_clerks (without_clerk name k.contents.clerks) k.contents)) R) (sym s) (agree_without_clerk k.contents (records T.base (history T)) name k.agree)) refl
   keep_left false e h = keeps_same T leave_command Done k h (ap records_left (leave_told false e)) refl
 
   pub clerk_dropped : (answered : Result (Unit {0}) VaultFault) → IsClerkDropped After k.contents name answered → (answered ≡ Err fault.Store → grown ≡ true)
-      → Became After T (event.Admin (DropClerk name)) grown (by_vault.clerk_dropped answered)
+      → Became After k.contents T (event.Admin (DropClerk name)) grown (by_vault.clerk_dropped answered)
   clerk_dropped answered did cause =
       called T leave_command grown tt refl k by_vault.clerk_dropped (λ r. After (if is_ok r then with_clerks (without_clerk name k.contents.clerks) k.contents else k.contents))
       (drop_clerk_result name k.contents.clerks) answered did.answer did.held (λ h. h) (λ h. h) refl refl

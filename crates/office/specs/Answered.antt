@@ -1,31 +1,62 @@
--- What becomes of a line that is answered.
-use Rattle.std.specs.Prelude.{ℕ, List}
+-- What becomes of a line that is answered: its reply, the session that it leaves, the locks, and what the store then holds.
+use Rattle.std.specs.Prelude.{◌≡◌, ℕ, Bool, true, false, List, ⊤, Option, Some, None, Result, is_some}
+use Rattle.std.specs.Ordering.{nat_cmp}
+use Rattle.std.specs.declared.cmp.Ordering.{Ordering}
+use Rattle.std.specs.Cmp.Lexicographic.{slice_cmp}
+use Rattle.std.specs.BTreeMap.{BTreeMap, get, Updates}
+use Rattle.creds.specs.declared.login_name.LoginName.{LoginName}
 use Rattle.policy.specs.Policy.{Policy}
-use Rattle.vault.specs.Changes.{Contents}
+use Rattle.popline.specs.Commands.{Command}
+use Rattle.popline.specs.declared.command.LineFault.{LineFault}
+use Rattle.vault.specs.Changes.{Contents, records_of, heads}
 use Rattle.popline.specs.Cutting.{Cut}
+use Rattle.vault.specs.declared.record.Keyed.{Keyed}
 use Rattle.popline.specs.Replies.{Reply, StoreFailed}
+use Rattle.session.specs.Session.{Session, started}
 use Rattle.office.specs.History as history
-use Rattle.office.specs.History.{Tag}
+use Rattle.office.specs.History.{Tag, Says}
 use Rattle.office.specs.Outcomes as outcomes
 use Rattle.office.specs.Outcomes.{Outcome}
-use Rattle.office.specs.Kept.{Desk as Judged, spoken}
+use Rattle.office.specs.Connections.{reading, is_quit}
+use Rattle.office.specs.Sessions.{logs_in}
+use Rattle.office.specs.Sitting.{Sitting, sitting_of, LiesIn, GoesOn, reply_inside, held_after_line}
+use Rattle.office.specs.Kept.{Desk as Judged, line_outside}
 use Rattle.office.specs.declared.talk.Talk.{Talk}
 use Rattle.office.specs.declared.talk.Desk.{Desk}
 use Rattle.office.specs.declared.talk.Acted.{Acted}
 use Rattle.office.specs.declared.talk.Acted.TheVariants as acted
 
--- what a line is judged by, over a store with these contents
-abbrev pub judged_at : Contents → Policy → (stamp : List ℕ) → Judged
-judged_at c policy stamp = record { clerks = c.clerks; policy = policy; stamp = stamp }
+-- ---- what a line is judged by
+
+-- names in the order of their octets
+abbrev pub name_cmp : List ℕ → List ℕ → Ordering
+name_cmp = slice_cmp nat_cmp
+
+-- which maildrops these locks lock
+abbrev pub is_locked_by : BTreeMap (List ℕ) ℕ → List ℕ → Bool
+is_locked_by locks name = is_some (get name_cmp locks name)
+
+-- over a store with these contents, under these locks
+abbrev pub judged_at : Contents → Policy → (stamp : List ℕ) → BTreeMap (List ℕ) ℕ → Judged
+judged_at c policy stamp locks = record { store = records_of c; policy = policy; stamp = stamp; is_locked = is_locked_by locks }
 
 -- the same, of what the code lends
-abbrev pub desk_over : Contents → Desk → Judged
-desk_over c d = judged_at c d.policy.now d.stamp.now
+abbrev pub desk_over : Contents → Desk → BTreeMap (List ℕ) ℕ → Judged
+desk_over c d locks = judged_at c d.policy.now d.stamp.now locks
+
+-- a session that is kept, with its messages as the store holds them
+abbrev pub IsSeated : Contents → Option Session → Option Sitting → Type 0
+IsSeated c None None = ⊤
+IsSeated c (Some s) (Some v) = (kept : List Keyed) × LiesIn c s kept × (v ≡ sitting_of s kept)
+IsSeated c _ _ = ⊥
+
+-- ---- the reply
 
 -- what a line is told: the answer, or that the store refused
-abbrev pub reply_of : Acted → Judged → Talk → Cut → Reply
-reply_of acted.Done d t x = spoken d t x
-reply_of acted.Failed d t x = StoreFailed
+abbrev pub reply_of : Acted → Judged → Talk → Option Sitting → Cut → Reply
+reply_of w d t (Some v) x = reply_inside w d.policy v x
+reply_of acted.Done d t None x = line_outside d t x
+reply_of acted.Failed d t None x = StoreFailed
 
 -- what the line's event shows
 abbrev pub tag_of : Acted → Tag
@@ -36,3 +67,40 @@ tag_of acted.Failed = history.Failed
 abbrev pub shown_of : Acted → Outcome
 shown_of acted.Done = outcomes.Done
 shown_of acted.Failed = outcomes.Failed
+
+-- ---- the session
+
+-- A QUIT ends a session, an accepted login begins one, and else all goes on as it was.
+abbrev pub SessionAfter : (quits : Bool) → (logged_in : Option LoginName) → Contents → Policy → Reply → (old new : Option Session) → Type 0
+SessionAfter true logged_in c p reply old new = new ≡ None
+SessionAfter false (Some name) c p reply old new = new ≡ Some (started p name.clerk name.maildrop (heads name.maildrop c))
+SessionAfter false None c p reply None new = new ≡ None
+SessionAfter false None c p reply (Some s) (Some n) = GoesOn reply s n
+SessionAfter false None c p reply (Some s) None = ⊥
+
+-- the session after a line that got this reply
+abbrev pub Becomes : Contents → Policy → Talk → Cut → Reply → (old new : Option Session) → Type 0
+Becomes c p t x reply old new = SessionAfter (is_quit (reading x)) (logs_in (reading x) (Says reply) t.user) c p reply old new
+
+-- the session after octets: none acts where no line is whole
+abbrev pub BecomesIf : (has_line : Bool) → Contents → Policy → Talk → Cut → Reply → (old new : Option Session) → Type 0
+BecomesIf true c p t x reply old new = Becomes c p t x reply old new
+BecomesIf false c p t x reply old new = new ≡ old
+
+-- the lock of a session that begins is taken for its connection, that of one that ends is let go
+abbrev pub LocksFollow : ℕ → (old new : Option Session) → (before now : BTreeMap (List ℕ) ℕ) → Type 0
+LocksFollow n None (Some s) before now = Updates name_cmp before now s.name.maildrop (Some n)
+LocksFollow n (Some s) None before now = Updates name_cmp before now s.name.maildrop None
+LocksFollow n _ _ before now = (d : List ℕ) → get name_cmp now d ≡ get name_cmp before d
+
+-- ---- the store
+
+-- what the store holds after a line
+abbrev pub held_after : Acted → Policy → Option Session → Result Command LineFault → Contents → Contents
+held_after w p None r c = c
+held_after w p (Some s) r c = held_after_line w p s r c
+
+-- what it holds after octets
+abbrev pub held_if : (has_line : Bool) → Acted → Policy → Option Session → Result Command LineFault → Contents → Contents
+held_if true w p s r c = held_after w p s r c
+held_if false w p s r c = c

@@ -1,5 +1,5 @@
 -- What an office keeps of a connection, and what it keeps after the next line.
-use Rattle.std.specs.Prelude.{ℕ, Bool, true, false, not, ◌||◌, ◌+◌, nat_lt, List, [], ◌++◌, drop, None, Result, Ok, Err, is_some, if◌then◌else◌}
+use Rattle.std.specs.Prelude.{ℕ, Bool, true, false, ◌||◌, ◌+◌, nat_lt, List, [], ◌++◌, drop, Option, Some, None, Result, Ok, Err, is_some, if◌then◌else◌}
 use Rattle.creds.specs.declared.login_name.LoginName.{LoginName}
 use Rattle.creds.specs.Credential.{Shown, ByApop, ByPass, is_admitted}
 use Rattle.popline.specs.Cutting.{Cut, TooLong, cut_of, Held, fed, through_newline}
@@ -7,53 +7,62 @@ use Rattle.popline.specs.Cutting as cutting
 use Rattle.popline.specs.Commands.{Command, Capa, User, Pass, Apop, Quit, command_of, keyword_of}
 use Rattle.popline.specs.declared.command.LineFault.{LineFault}
 use Rattle.popline.specs.declared.command.LineFault.TheVariants.{Unknown, Syntax}
-use Rattle.popline.specs.Replies.{Reply, LineTooLong, UnknownCommand, WrongState, BadArguments, Capabilities, SendPass, DeniedBy, Bye, bytes_of}
+use Rattle.popline.specs.Replies.{Reply, LineTooLong, UnknownCommand, WrongState, BadArguments, Capabilities, SendPass, Bye, bytes_of}
 use Rattle.policy.specs.Policy.{Policy, decide}
 use Rattle.policy.specs.declared.rule.Action.TheVariants as to
-use Rattle.vault.specs.Records.{credential_in}
-use Rattle.vault.specs.declared.record.Clerk.{Clerk}
+use Rattle.vault.specs.Records.{Records, credential_in, is_one_of, in_maildrop, class_of}
+use Rattle.session.specs.View.{visible}
+use Rattle.session.specs.Session.{Session}
 use Rattle.office.specs.History.{Says}
 use Rattle.office.specs.Connections.{reading, closes, user_after_line, is_failure}
-use Rattle.office.specs.Replying.{is_allowed, when_permitted, login_failed, name_or_nobody}
+use Rattle.office.specs.Replying.{is_allowed, when_permitted, login_reply, name_or_nobody}
+use Rattle.office.specs.Sitting.{Sitting, asks_inside}
 use Rattle.office.specs.declared.talk.Talk.{Talk}
 
--- What a line is judged by, beside what is remembered of its connection: the clerks, the policy, and the timestamp of the greeting.
+-- What a line is judged by, beside what is remembered of its connection: the records of the store, the policy, the timestamp of the
+-- greeting, and which maildrops are locked.
 pub record Desk : Type 0 where
-  pub clerks : List Clerk
+  pub store : Records
   pub policy : Policy
   pub stamp : List ℕ
+  pub is_locked : List ℕ → Bool
 
--- the credential, then the policy: no rule lets anybody in yet, so that all are denied
+-- the credential, the policy, the maildrop, the lock
 abbrev pub judged : Desk → (failures : ℕ) → LoginName → Shown → Reply
-judged d failures name proof =
-    if not (is_admitted (credential_in name.clerk d.clerks) name.clerk d.stamp proof) then login_failed failures
-    else DeniedBy (decide d.policy name.clerk name.maildrop [] to.Open).rule
+judged d failures name proof = login_reply (is_admitted (credential_in name.clerk d.store.clerks) name.clerk d.stamp proof) failures
+    (decide d.policy name.clerk name.maildrop [] to.Open) (is_one_of name.maildrop d.store.maildrops) (d.is_locked name.maildrop)
+    (visible class_of d.policy name (in_maildrop name.maildrop d.store.messages))
 
 -- what a command is answered before a login
-abbrev pub obeyed_before_login : Desk → Talk → Command → Reply
-obeyed_before_login d t Capa = Capabilities
-obeyed_before_login d t (User name) = SendPass
-obeyed_before_login d t (Pass password) = judged d t.failures (name_or_nobody t.user) (ByPass password)
-obeyed_before_login d t (Apop name digest) = judged d t.failures name (ByApop digest)
-obeyed_before_login d t Quit = Bye
-obeyed_before_login d t _ = WrongState
+abbrev pub obeyed_outside : Desk → Talk → Command → Reply
+obeyed_outside d t Capa = Capabilities
+obeyed_outside d t (User name) = SendPass
+obeyed_outside d t (Pass password) = judged d t.failures (name_or_nobody t.user) (ByPass password)
+obeyed_outside d t (Apop name digest) = judged d t.failures name (ByApop digest)
+obeyed_outside d t Quit = Bye
+obeyed_outside d t _ = WrongState
 
 -- the reply to what a line reads as
-abbrev pub spoken_to_reading : Desk → Talk → Result Command LineFault → Reply
-spoken_to_reading d t (Err Unknown) = UnknownCommand
-spoken_to_reading d t (Err (Syntax k)) = when_permitted (is_allowed k false (is_some t.user)) BadArguments
-spoken_to_reading d t (Ok command) = when_permitted (is_allowed (keyword_of command) false (is_some t.user)) (obeyed_before_login d t command)
+abbrev pub said_outside : Desk → Talk → Result Command LineFault → Reply
+said_outside d t (Err Unknown) = UnknownCommand
+said_outside d t (Err (Syntax k)) = when_permitted (is_allowed k false (is_some t.user)) BadArguments
+said_outside d t (Ok command) = when_permitted (is_allowed (keyword_of command) false (is_some t.user)) (obeyed_outside d t command)
 
 -- what a line is answered before a login
-abbrev pub spoken : Desk → Talk → Cut → Reply
-spoken d t TooLong = LineTooLong
-spoken d t (cutting.Line l) = spoken_to_reading d t (command_of l)
+abbrev pub line_outside : Desk → Talk → Cut → Reply
+line_outside d t TooLong = LineTooLong
+line_outside d t (cutting.Line l) = said_outside d t (command_of l)
 
 -- a line that asks the store for a credential
-abbrev pub asks : Talk → Result Command LineFault → Bool
-asks t (Ok (Pass password)) = is_some t.user
-asks t (Ok (Apop name digest)) = true
-asks t _ = false
+abbrev pub asks_outside : Talk → Result Command LineFault → Bool
+asks_outside t (Ok (Pass password)) = is_some t.user
+asks_outside t (Ok (Apop name digest)) = true
+asks_outside t _ = false
+
+-- a line that asks the store, in a session or before one
+abbrev pub asks : Policy → Talk → Option Sitting → Result Command LineFault → Bool
+asks p t None r = asks_outside t r
+asks p t (Some v) r = asks_inside p v r
 
 -- before the first line
 abbrev pub nothing_said : Talk
@@ -71,17 +80,24 @@ talk_after x r t = record {
   closing = closes (reading x) (Says r) || t.closing;
 }
 
--- the line that is being cut, octets that weren't cut yet, octets that are owed, what is remembered, and the greeting's timestamp
+-- the line that is being cut, octets that weren't cut yet, octets that are owed, what is remembered, the greeting's timestamp, and who
+-- is in session
 pub record Kept : Type 0 where
   pub held : Held
   pub pending : List ℕ
   pub owed : List ℕ
   pub talk : Talk
   pub stamp : List ℕ
+  pub session : Option Session
 
--- after the first whole line of these octets, which came behind what is held, got this reply
-abbrev pub answered : Kept → List ℕ → Reply → Kept
-answered k octets reply =
+-- the maildrop that a session holds
+abbrev pub maildrop_of : Option Session → Option (List ℕ)
+maildrop_of None = None
+maildrop_of (Some s) = Some s.name.maildrop
+
+-- after the first whole line of these octets, which came behind what is held, got this reply and left this session
+abbrev pub answered : Kept → List ℕ → Reply → Option Session → Kept
+answered k octets reply session =
     let w = fed k.held octets in
     record {
       held = w;
@@ -89,6 +105,7 @@ answered k octets reply =
       owed = if w.whole then k.owed ++ bytes_of reply else k.owed;
       talk = if w.whole then talk_after (cut_of w.octets) reply k.talk else k.talk;
       stamp = k.stamp;
+      session = session;
     }
 
 -- the line that is whole after these octets

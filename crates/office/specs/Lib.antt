@@ -29,4 +29,7 @@ pub mod Shown
 pub mod Kept
 pub mod Answered
 pub mod Runs
+pub mod Sitting
+pub mod Locks
+pub mod Entering
 pub mod VaultAnswers

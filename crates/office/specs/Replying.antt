@@ -39,14 +39,19 @@ maildrop_has view = MaildropHas (length view) (octets_of_all view)
 abbrev pub opening : Records → List Entry → LoginName → Decision
 opening B G name = decide (in_force B G) name.clerk name.maildrop [] to.Open
 
--- the credential, the policy, the maildrop, the lock: the first that fails gives the reply
+-- the credential, the policy, the maildrop, the lock: the first that fails gives the reply; `found` is what is let be read
+abbrev pub login_reply : (admitted : Bool) → (failures : ℕ) → Decision → (there locked : Bool) → (found : List store.Message) → Reply
+login_reply admitted failures opening there locked found =
+    if not admitted then login_failed failures
+    else if not opening.allowed then DeniedBy opening.rule
+    else if not there then NoSuchMaildrop
+    else if locked then InUse
+    else maildrop_has found
+
+-- the reply to a login
 abbrev pub logging_in : Records → List Entry → ℕ → LoginName → Shown → Reply
-logging_in B G c name proof =
-    if not (is_admitted (credential B G name.clerk) name.clerk (stamp G c) proof) then login_failed (failures G c)
-    else if not (opening B G name).allowed then DeniedBy (opening B G name).rule
-    else if not (exists B G name.maildrop) then NoSuchMaildrop
-    else if is_some (holder G name.maildrop) then InUse
-    else maildrop_has (visible class_of (in_force B G) name (present B G name.maildrop))
+logging_in B G c name proof = login_reply (is_admitted (credential B G name.clerk) name.clerk (stamp G c) proof) (failures G c) (opening B G name)
+    (exists B G name.maildrop) (is_some (holder G name.maildrop)) (visible class_of (in_force B G) name (present B G name.maildrop))
 
 -- ---- commands of a session
 

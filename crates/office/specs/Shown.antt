@@ -26,6 +26,8 @@ command_seen (command.DropMaildrop d) = answers.DropMaildrop d
 command_seen (command.ShowClerk name) = answers.ShowClerk name
 command_seen (command.PutClerk name credential) = answers.PutClerk name credential
 command_seen (command.DropClerk name) = answers.DropClerk name
+command_seen command.ShowPolicy = answers.ShowPolicy
+command_seen (command.SetPolicy policy) = answers.SetPolicy policy
 command_seen (command.Explain clerk d class action) = answers.Explain clerk d class action
 
 -- an event, whose octets are lent
@@ -61,6 +63,8 @@ answer_seen answer.ByApopSecret = answers.ByApopSecret
 answer_seen answer.ByPassword = answers.ByPassword
 answer_seen answer.NoSuchClerk = answers.NoSuchClerk
 answer_seen answer.Replaced = answers.Replaced
+answer_seen (answer.PolicyIs policy) = answers.PolicyIs policy
+answer_seen (answer.RuleCount rules) = answers.RuleCount rules
 answer_seen (answer.Explained decision) = answers.Explained decision
 
 -- a reason

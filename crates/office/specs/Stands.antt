@@ -1,5 +1,5 @@
 -- When an office stands for a trace: what it keeps of each connection and of the whole is what the trace says.
-use Rattle.std.specs.Prelude.{◌≡◌, ℕ, Bool, true, false, List, [], ◌++◌, length, drop, min, ◌≤◌, Option, Some, None, IsSome, string_bytes}
+use Rattle.std.specs.Prelude.{◌≡◌, ℕ, Bool, true, false, List, [], ◌++◌, length, drop, map, min, ◌≤◌, Option, Some, None, IsSome, string_bytes}
 use Rattle.std.specs.Ordering.{nat_cmp}
 use Rattle.std.specs.BTreeMap.{get}
 use Rattle.creds.specs.declared.login_name.LoginName.{LoginName}
@@ -8,14 +8,20 @@ use Rattle.vault.specs.Records.{Records, IsSound, Agree}
 use Rattle.vault.specs.Changes.{Contents, records_of}
 use Rattle.office.specs.History.{Entry, in_force}
 use Rattle.office.specs.Connections.{user, failures, boot_and_host, connected, closing, acted, sent}
-use Rattle.office.specs.Sessions.{live, records}
+use Rattle.office.specs.Sessions.{live, login, marks, view, holder, records}
 use Rattle.office.specs.Replying.{stamp}
 use Rattle.office.specs.Events.{Log, Trace}
 use Rattle.office.specs.Formed.{are_formed}
 use Rattle.office.specs.Log.{opened, idle_seconds, stream, taken}
 use Rattle.office.specs.Trace.{history, is_open_by}
 use Rattle.office.specs.Expected.{most_in_a_piece}
+use Rattle.office.specs.Sitting.{LiesIn}
+use Rattle.office.specs.Answered.{name_cmp}
 use Rattle.office.specs.Kept.{Kept}
+use Rattle.session.specs.Session.{Session}
+use Rattle.session.specs.View.{is_marked}
+use Rattle.vault.specs.declared.record.Keyed.{Keyed}
+use Rattle.vault.specs.declared.record.Message as store
 use Rattle.office.specs.declared.office.Office.{Office}
 
 -- ---- the store
@@ -47,10 +53,13 @@ pub record Seen : Type 0 where
   pub user : Option LoginName
   pub failures : ℕ
   pub stamp : List ℕ
+  pub login : Option LoginName
+  pub marks : List ℕ
+  pub view : List store.Message
 
 -- the same, of a log and its history
-abbrev pub seen_at : Log → List Entry → ℕ → Seen
-seen_at T G c = record {
+abbrev pub seen_at : Records → Log → List Entry → ℕ → Seen
+seen_at B T G c = record {
   connected = connected G c;
   closing = closing G c;
   live = live G c;
@@ -61,11 +70,14 @@ seen_at T G c = record {
   user = user G c;
   failures = failures G c;
   stamp = stamp G c;
+  login = login G c;
+  marks = marks G c;
+  view = view B G c;
 }
 
 -- the same, of a trace
 abbrev pub seen : Trace → ℕ → Seen
-seen T c = seen_at T.log (history T) c
+seen T c = seen_at T.base T.log (history T) c
 
 -- what is sent and not taken
 abbrev pub untaken_of : Seen → List ℕ
@@ -79,11 +91,27 @@ is_seen_open s = is_open_by s.connected s.closing (untaken_of s)
 abbrev pub most_in_a_line : ℕ
 most_in_a_line = 255
 
--- what is kept of an open connection is what the trace says of it
-pub record Matches (s : Seen) (k : Kept) : Type 0 where
+-- who is in session by the trace is in the session that is kept: with the same marks, asked by number, and a view of messages that the
+-- store holds
+pub record IsSitting (c : Contents) (s : Seen) (k : Session) : Type 0 where
+  pub live : s.live ≡ true
+  pub login : s.login ≡ Some k.name
+  pub marks : (n : ℕ) → is_marked k.marks n ≡ is_marked s.marks n
+  pub kept : List Keyed
+  pub lies : LiesIn c k kept
+  pub view : map (λ (x : Keyed). x.message) kept ≡ s.view
+
+-- a session is kept exactly where the trace has one
+abbrev pub IsSession : Contents → Seen → Option Session → Type 0
+IsSession c s None = s.live ≡ false
+IsSession c s (Some k) = IsSitting c s k
+
+-- what is kept of an open connection is what the trace says of it, over a store with these contents
+pub record Matches (c : Contents) (s : Seen) (k : Kept) : Type 0 where
   pub opened : is_seen_open s ≡ true
-  -- no connection is logged in yet
-  pub outside : s.live ≡ false
+  pub session : IsSession c s k.session
+  -- what closes a connection ended its session
+  pub parted : s.closing ≡ true → s.live ≡ false
   pub taken : s.taken ≤ length s.sent
   pub owed : k.owed ≡ untaken_of s
   pub closing : k.talk.closing ≡ s.closing
@@ -105,29 +133,25 @@ pub record IsOver (s : Seen) : Type 0 where
   pub outside : s.live ≡ false
 
 -- what is kept of a connection, if anything is, is what the trace says of it
-abbrev pub IsKeptFor : Seen → Option Kept → Type 0
-IsKeptFor s None = IsOver s
-IsKeptFor s (Some k) = Matches s k
+abbrev pub IsKeptFor : Contents → Seen → Option Kept → Type 0
+IsKeptFor c s None = IsOver s
+IsKeptFor c s (Some k) = Matches c s k
 
 -- ---- the office
-
--- no rule is in force, so that nobody is let in
-abbrev pub LetsNobodyIn : Trace → Type 0
-LetsNobodyIn T = (in_force T.base (history T)).rules ≡ []
 
 -- `Holds` says which contents a store holds
 pub record StandsFor {V : Type 0} (Holds : V → Contents → Type 0) (o : Office V) (T : Trace) : Type 0 where
   pub keeps : Keeps (Holds o.vault) T
   pub policy : o.policy ≡ in_force T.base (history T)
-  -- rules can't be set yet
-  pub no_rules : LetsNobodyIn T
   pub boot : o.boot ≡ (boot_and_host (history T)).0
   pub host : string_bytes o.host ≡ (boot_and_host (history T)).1
   pub idle : o.limits ≡ idle_seconds T.log
   -- an open connection has one of the numbers that were given
   pub numbered : (c : ℕ) → IsSome (get nat_cmp o.links c) → (1 ≤ c) × (c ≤ opened T.log)
   pub opened : o.opened ≡ opened T.log
-  pub links : (c : ℕ) → IsKeptFor (seen T c) (get nat_cmp o.links c)
+  pub links : (c : ℕ) → IsKeptFor keeps.contents (seen T c) (get nat_cmp o.links c)
+  -- a maildrop's lock is its holder's
+  pub locks : (d : List ℕ) → get name_cmp o.locks d ≡ holder (history T) d
 
 -- how many octets an office lends a connection: all that it is owed
 abbrev pub length_of_lent : Option Kept → ℕ

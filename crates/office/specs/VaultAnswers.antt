@@ -74,3 +74,8 @@ clerk_dropped (Err e) = refused e
 abbrev pub credential_told : Result (Option Credential) VaultFault → Outcome
 credential_told (Ok credential) = Answered (kind_of credential)
 credential_told (Err e) = refused e
+
+-- a policy of so many rules that was to be set
+abbrev pub policy_set : ℕ → Result (Unit {0}) VaultFault → Outcome
+policy_set rules (Ok done) = Answered (answer.RuleCount rules)
+policy_set rules (Err e) = refused e

@@ -188,7 +188,7 @@ impl<V: Vault> Office<V> {
         added(self.vault.add_maildrop(maildrop))
     }
 
-    /// Drops an empty maildrop. Nobody is in session.
+    /// Drops an empty maildrop that no session holds.
     fn drop_maildrop(&mut self, maildrop: &Name) -> Outcome
         ensures stands { (T : Trace) → StandsFor V.holds self.old T → V.is_clean (vault_of self.new) → StandsFor V.holds self.new (followed_by T (event.Admin (asked.DropMaildrop maildrop.now)) result) }
         ensures outcome { (T : Trace) → StandsFor V.holds self.old T → V.is_clean (vault_of self.new) → IsOutcome T (lent_by self.old) (event.Admin (asked.DropMaildrop maildrop.now)) (outcome_seen result) }
@@ -196,6 +196,9 @@ impl<V: Vault> Office<V> {
         ensures counted { V.faults (vault_of self.old) ≤ V.faults (vault_of self.new) }
         ensures clean { V.is_clean (vault_of self.new) → V.is_clean (vault_of self.old) }
     {
+        if self.locks.contains_key(maildrop) {
+            return Outcome::Answered(Answer::MaildropInUse);
+        }
         maildrop_dropped(self.vault.drop_maildrop(maildrop))
     }
 
@@ -262,6 +265,8 @@ impl<V: Vault> Office<V> {
             AdminCommand::ShowClerk(clerk) => self.show_clerk(clerk),
             AdminCommand::PutClerk(clerk, credential) => self.put_clerk(clerk, credential),
             AdminCommand::DropClerk(clerk) => self.drop_clerk(clerk),
+            AdminCommand::ShowPolicy => self.show_policy(),
+            AdminCommand::SetPolicy(policy) => self.set_policy(policy),
             AdminCommand::Explain {
                 clerk,
                 maildrop,

@@ -2,7 +2,7 @@
 ghost use Rattle.std.specs.Prelude.{◌≡◌};
 
 use creds::Uid;
-use policy::Decision;
+use policy::{Decision, Policy};
 use std::marker::Model;
 use vault::Total;
 
@@ -45,6 +45,10 @@ pub enum Answer {
     NoSuchClerk,
     /// The clerk was there and has the new credential.
     Replaced,
+    /// The policy in force.
+    PolicyIs(Policy),
+    /// The policy is set, and has so many rules.
+    RuleCount(u64),
     /// What the policy says, and by which rule.
     Explained(Decision),
 }

@@ -1,9 +1,9 @@
 //! What an administrator asks for.
 use creds::{Credential, Name};
-use policy::Action;
+use policy::{Action, Policy};
 
 /// A command of an administrator.
-#[derive(Clone, Copy, Debug)]
+#[derive(Debug, Drop)]
 pub enum AdminCommand {
     /// Each maildrop with how many messages it has and their octets.
     ListMaildrops,
@@ -19,6 +19,10 @@ pub enum AdminCommand {
     PutClerk(Name, Credential),
     /// Drops a clerk.
     DropClerk(Name),
+    /// The policy in force.
+    ShowPolicy,
+    /// Sets the policy.
+    SetPolicy(Policy),
     /// What the policy says of a clerk, a maildrop, a class and an action. The names need not exist.
     Explain {
         /// The clerk's name.

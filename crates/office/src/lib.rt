@@ -10,10 +10,18 @@ mod command;
 mod deposits;
 mod event;
 mod history_laws;
+mod inside;
 mod limits;
 mod lines;
 mod link;
+mod listing;
+mod locks;
+mod login;
+mod message;
 mod office;
+mod policy_commands;
+mod quit;
+mod referring;
 mod talk;
 mod transcript;
 
@@ -28,6 +36,3 @@ pub use history_laws::{
 pub use limits::Limits;
 pub use office::{Office, OpenFault};
 pub use transcript::{RunFault, Step, Transcript};
-
-#[cfg(test)]
-mod tests;

@@ -1,37 +1,27 @@
 //! What a line is answered, and what is remembered of it.
-ghost use Rattle.std.specs.Prelude.{◌≡◌, ◌≤◌, ◌++◌, true, [], Ok, OnErr, IfOk};
-ghost use Rattle.creds.specs.Credential.{shown as proof_shown};
+ghost use Rattle.std.specs.Prelude.{◌≡◌, ◌≤◌, ◌++◌, ℕ, List, Option, None, Some, true, Ok, OnOk, OnErr, IfOk};
+ghost use Rattle.std.specs.BTreeMap.{get};
 ghost use Rattle.popline.specs.Replies.{bytes_of};
-ghost use Rattle.popline.specs.Seen.{cut_seen, reading_seen, reply_seen};
-ghost use Rattle.policy.specs.Policy.{decide};
-ghost use Rattle.policy.specs.declared.rule.Action.TheVariants as to;
+ghost use Rattle.popline.specs.Seen.{cut_seen, command_seen, reading_seen, reply_seen};
 ghost use Rattle.vault.specs.Changes.{Contents};
 ghost use Rattle.vault.specs.Calls.{IsDone, CountsFaults, seen_as, has_grown};
 ghost use Rattle.office.specs.History.{Says};
-ghost use Rattle.office.specs.Connections.{reading, user_after_line, closes, is_failure};
-ghost use Rattle.office.specs.Replying.{is_allowed as is_allowed_of, login_failed};
-ghost use Rattle.office.specs.Kept.{judged, spoken, asks, talk_after};
-ghost use Rattle.office.specs.Answered.{desk_over, reply_of};
+ghost use Rattle.office.specs.Connections.{reading, is_quit, user_after_line, closes, is_failure};
+ghost use Rattle.office.specs.Sessions.{logs_in};
+ghost use Rattle.office.specs.Replying.{is_allowed as is_allowed_of};
+ghost use Rattle.office.specs.Sitting.{Sitting};
+ghost use Rattle.office.specs.Kept.{said_outside, line_outside, asks_outside, asks, talk_after};
+ghost use Rattle.office.specs.Answered.{desk_over, reply_of, name_cmp, IsSeated, SessionAfter, Becomes, LocksFollow, held_after};
 
+use crate::inside::{self, is_quitting, read};
+use crate::locks::{Locks, lock, release};
+use crate::login::judge;
 use crate::talk::{Acted, Desk, Talk};
 use creds::{LoginName, Proof};
-use policy::{Action, Decision, Policy};
 use popline::{Command, Cut, Keyword, LineFault, Reply};
+use session::Session;
 use std::alloc::{AllocError, Global};
 use vault::{Vault, VaultFault};
-
-/// How many refused credentials a connection has before the next one closes it.
-const FAILURES_BEFORE_CLOSING: u8 = 2;
-
-/// What a line reads as; one that is too long spells nothing.
-fn read(cut: Cut<'_>) -> Result<Command<'_>, LineFault>
-    ensures { reading_seen result ≡ reading (cut_seen cut.entry) }
-{
-    match cut {
-        Cut::TooLong => Err(LineFault::Unknown),
-        Cut::Line(line) => Command::read(line),
-    }
-}
 
 /// Whether a command may be given now.
 fn is_allowed(keyword: Keyword, live: bool, has_user: bool) -> bool
@@ -45,86 +35,67 @@ fn is_allowed(keyword: Keyword, live: bool, has_user: bool) -> bool
     }
 }
 
-/// The answer to a credential that was refused, after so many others.
-fn refusal(failures: u8) -> Reply<'static>
-    ensures { reply_seen result ≡ login_failed failures }
-{
-    if failures >= FAILURES_BEFORE_CLOSING {
-        Reply::LoginFailedClosing
-    } else {
-        Reply::LoginFailed
-    }
-}
-
-/// What the policy says of a clerk's opening a maildrop.
-fn opening(policy: &Policy, name: &LoginName) -> Decision
-    ensures { result ≡ decide policy.now name.now.clerk name.now.maildrop [] to.Open }
-{
-    // To open a maildrop is about no message, so that the class plays no part.
-    policy.decide(&name.clerk, &name.maildrop, &name.maildrop, Action::Open)
-}
-
-/// What a login is answered: the credential is looked at first, then the policy.
-fn judge<V: Vault>(
+/// What a command is answered before a login, and the session where one begins.
+fn obey<V: Vault>(
+    alloc: Global,
     vault: &mut V,
     desk: Desk<'_>,
-    failures: u8,
-    name: &LoginName,
-    proof: &Proof<'_>,
-) -> Result<Reply<'static>, VaultFault>
-    ensures said { (c : Contents) → V.holds vault.old c → V.is_clean vault.new → IsDone (V.holds vault.new) c c (Ok (judged (desk_over c desk.entry) failures name.now (proof_shown proof.now))) (seen_as result reply_seen) }
+    locks: &Locks,
+    command: &Command<'_>,
+    talk: Talk,
+) -> Result<(Reply<'static>, Option<Session>), VaultFault>
+    ensures said { (c : Contents) → V.holds vault.old c → V.is_clean vault.new → IsDone (V.holds vault.new) c c (Ok (said_outside (desk_over c desk.entry locks.now) talk (Ok (command_seen command.now)))) (seen_as result (λ r. reply_seen r.0)) }
+    ensures session { IfOk result (λ r. (c : Contents) → V.holds vault.old c → V.is_clean vault.new → SessionAfter (is_quit (Ok (command_seen command.now))) (logs_in (Ok (command_seen command.now)) (Says (reply_seen r.0)) talk.user) c desk.entry.policy.now (reply_seen r.0) None r.1) }
+    ensures asked { OnErr result (asks_outside talk (Ok (command_seen command.now)) ≡ true) }
     ensures counted { CountsFaults (V.faults vault.old) (V.faults vault.new) result }
     ensures clean { V.is_clean vault.new → V.is_clean vault.old }
 {
-    let admitted = match vault.credential(&name.clerk)? {
-        None => false,
-        Some(credential) => credential.admits(&name.clerk, desk.stamp, proof),
-    };
-    if !admitted {
-        return Ok(refusal(failures));
+    let user = talk.user;
+    let failures = talk.failures;
+    match command {
+        Command::Capa => Ok((Reply::Capabilities, None)),
+        Command::User(_) => Ok((Reply::SendPass, None)),
+        Command::Pass(password) => match user {
+            None => Ok((Reply::WrongState, None)),
+            Some(name) => {
+                let proof = Proof::Pass(*password);
+                judge(alloc, vault, desk, locks, failures, &name, &proof)
+            }
+        },
+        Command::Apop(name, digest) => {
+            let proof = Proof::Apop(*digest);
+            judge(alloc, vault, desk, locks, failures, name, &proof)
+        }
+        Command::Quit => Ok((Reply::Bye, None)),
+        _ => Ok((Reply::WrongState, None)),
     }
-    // No rule lets anybody in yet.
-    Ok(Reply::DeniedBy(opening(desk.policy, name).rule))
 }
 
-/// What is said to a line.
+/// What is said to a line before a login, and the session where one begins.
 fn reply_to<V: Vault>(
+    alloc: Global,
     vault: &mut V,
     desk: Desk<'_>,
+    locks: &Locks,
     cut: Cut<'_>,
     talk: Talk,
-) -> Result<Reply<'static>, VaultFault>
-    ensures said { (c : Contents) → V.holds vault.old c → V.is_clean vault.new → IsDone (V.holds vault.new) c c (Ok (spoken (desk_over c desk.entry) talk (cut_seen cut.entry))) (seen_as result reply_seen) }
-    ensures asked { OnErr result (asks talk (reading (cut_seen cut.entry)) ≡ true) }
+) -> Result<(Reply<'static>, Option<Session>), VaultFault>
+    ensures said { (c : Contents) → V.holds vault.old c → V.is_clean vault.new → IsDone (V.holds vault.new) c c (Ok (line_outside (desk_over c desk.entry locks.now) talk (cut_seen cut.entry))) (seen_as result (λ r. reply_seen r.0)) }
+    ensures session { IfOk result (λ r. (c : Contents) → V.holds vault.old c → V.is_clean vault.new → Becomes c desk.entry.policy.now talk (cut_seen cut.entry) (reply_seen r.0) None r.1) }
+    ensures asked { OnErr result (asks_outside talk (reading (cut_seen cut.entry)) ≡ true) }
     ensures counted { CountsFaults (V.faults vault.old) (V.faults vault.new) result }
     ensures clean { V.is_clean vault.new → V.is_clean vault.old }
 {
     let Cut::Line(line) = cut else {
-        return Ok(Reply::LineTooLong);
+        return Ok((Reply::LineTooLong, None));
     };
-    let user = talk.user;
-    let has_user = user.is_some();
     match Command::read(line) {
-        Err(LineFault::Unknown) => Ok(Reply::UnknownCommand),
-        Err(LineFault::Syntax(keyword)) => {
-            if is_allowed(keyword, false, has_user) {
-                Ok(Reply::BadArguments)
-            } else {
-                Ok(Reply::WrongState)
-            }
+        Err(LineFault::Unknown) => Ok((Reply::UnknownCommand, None)),
+        Err(LineFault::Syntax(keyword)) if is_allowed(keyword, false, talk.user.is_some()) => {
+            Ok((Reply::BadArguments, None))
         }
-        Ok(command) if !is_allowed(command.keyword(), false, has_user) => Ok(Reply::WrongState),
-        Ok(Command::Capa) => Ok(Reply::Capabilities),
-        Ok(Command::User(_)) => Ok(Reply::SendPass),
-        Ok(Command::Pass(password)) => match user {
-            None => Ok(Reply::WrongState),
-            Some(name) => judge(vault, desk, talk.failures, &name, &Proof::Pass(password)),
-        },
-        Ok(Command::Apop(name, digest)) => {
-            judge(vault, desk, talk.failures, &name, &Proof::Apop(digest))
-        }
-        Ok(Command::Quit) => Ok(Reply::Bye),
-        Ok(_) => Ok(Reply::WrongState),
+        Err(LineFault::Syntax(_)) => Ok((Reply::WrongState, None)),
+        Ok(command) => obey(alloc, vault, desk, locks, &command, talk),
     }
 }
 
@@ -143,7 +114,7 @@ fn next_user(cut: Cut<'_>, reply: &Reply<'_>, user: Option<LoginName>) -> Option
 fn is_closing(cut: Cut<'_>, reply: &Reply<'_>) -> bool
     ensures { result ≡ closes (reading (cut_seen cut.entry)) (Says (reply_seen reply.now)) }
 {
-    matches!(*reply, Reply::LoginFailedClosing) || matches!(read(cut), Ok(Command::Quit))
+    matches!(*reply, Reply::LoginFailedClosing) || is_quitting(cut)
 }
 
 /// Whether a credential was refused.
@@ -168,29 +139,107 @@ fn next_talk(cut: Cut<'_>, reply: &Reply<'_>, talk: Talk) -> Talk
     }
 }
 
-/// Answers a line: its reply is owed, and what it leaves is remembered. A line that the store refuses is told so.
+/// Answers a line before a login: its reply is owed, and what it leaves is remembered. The session is answered where one begins; its
+/// maildrop is locked. A line that the store refuses is told so.
+fn answer_outside<V: Vault>(
+    alloc: Global,
+    vault: &mut V,
+    desk: Desk<'_>,
+    locks: &mut Locks,
+    cut: Cut<'_>,
+    owed: &mut Vec<u8>,
+    talk: &mut Talk,
+) -> Result<(Acted, Option<Session>), AllocError>
+    ensures owed { IfOk result (λ r. (c : Contents) → V.holds vault.old c → V.is_clean vault.new → owed.new.items ≡ owed.old.items ++ bytes_of (reply_of r.0 (desk_over c desk.entry locks.old) talk.old None (cut_seen cut.entry))) }
+    ensures talk { IfOk result (λ r. (c : Contents) → V.holds vault.old c → V.is_clean vault.new → talk.new ≡ talk_after (cut_seen cut.entry) (reply_of r.0 (desk_over c desk.entry locks.old) talk.old None (cut_seen cut.entry)) talk.old) }
+    ensures session { IfOk result (λ r. (c : Contents) → V.holds vault.old c → V.is_clean vault.new → Becomes c desk.entry.policy.now talk.old (cut_seen cut.entry) (reply_of r.0 (desk_over c desk.entry locks.old) talk.old None (cut_seen cut.entry)) None r.1) }
+    ensures locks { IfOk result (λ r. LocksFollow desk.entry.number None r.1 locks.old locks.new) }
+    ensures locks_err { OnErr result ((d : List ℕ) → get name_cmp locks.new d ≡ get name_cmp locks.old d) }
+    ensures held { (c : Contents) → V.holds vault.old c → V.is_clean vault.new → V.holds vault.new c }
+    ensures may { IfOk result (λ r. r.0 ≡ Acted.Failed → asks_outside talk.old (reading (cut_seen cut.entry)) ≡ true) }
+    ensures cause { IfOk result (λ r. r.0 ≡ Acted.Failed → (c : Contents) → V.holds vault.old c → V.is_clean vault.new → has_grown (V.faults vault.old) (V.faults vault.new) ≡ true) }
+    ensures counted { V.faults vault.old ≤ V.faults vault.new }
+    ensures clean { V.is_clean vault.new → V.is_clean vault.old }
+{
+    let (reply, begun, acted) = match reply_to(alloc, vault, desk, locks, cut, *talk) {
+        Ok((reply, begun)) => (reply, begun, Acted::Done),
+        Err(VaultFault::NoMemory) => return Err(AllocError),
+        Err(_) => (Reply::StoreFailed, None, Acted::Failed),
+    };
+    reply.put(alloc, owed)?;
+    lock(locks, desk.number, &begun)?;
+    *talk = next_talk(cut, &reply, *talk);
+    Ok((acted, begun))
+}
+
+/// Answers a line of a session. It is answered back, unless the line is a QUIT: its maildrop's lock is then let go.
+fn answer_inside<V: Vault>(
+    alloc: Global,
+    vault: &mut V,
+    desk: Desk<'_>,
+    locks: &mut Locks,
+    cut: Cut<'_>,
+    owed: &mut Vec<u8>,
+    talk: &mut Talk,
+    session: Session,
+) -> Result<(Acted, Option<Session>), AllocError>
+    ensures owed { IfOk result (λ r. (c : Contents) (v : Sitting) → V.holds vault.old c → V.is_clean vault.new → IsSeated c (Some session) (Some v) → owed.new.items ≡ owed.old.items ++ bytes_of (reply_of r.0 (desk_over c desk.entry locks.old) talk.old (Some v) (cut_seen cut.entry))) }
+    ensures talk { IfOk result (λ r. (c : Contents) (v : Sitting) → V.holds vault.old c → V.is_clean vault.new → IsSeated c (Some session) (Some v) → talk.new ≡ talk_after (cut_seen cut.entry) (reply_of r.0 (desk_over c desk.entry locks.old) talk.old (Some v) (cut_seen cut.entry)) talk.old) }
+    ensures session { IfOk result (λ r. (c : Contents) (v : Sitting) → V.holds vault.old c → V.is_clean vault.new → IsSeated c (Some session) (Some v) → Becomes c desk.entry.policy.now talk.old (cut_seen cut.entry) (reply_of r.0 (desk_over c desk.entry locks.old) talk.old (Some v) (cut_seen cut.entry)) (Some session) r.1) }
+    ensures locks { IfOk result (λ r. LocksFollow desk.entry.number (Some session) r.1 locks.old locks.new) }
+    ensures locks_err { OnErr result ((d : List ℕ) → get name_cmp locks.new d ≡ get name_cmp locks.old d) }
+    ensures held { IfOk result (λ r. (c : Contents) (v : Sitting) → V.holds vault.old c → V.is_clean vault.new → IsSeated c (Some session) (Some v) → V.holds vault.new (held_after r.0 desk.entry.policy.now (Some session) (reading (cut_seen cut.entry)) c)) }
+    ensures err { OnErr result ((c : Contents) → V.holds vault.old c → V.is_clean vault.new → V.holds vault.new c) }
+    ensures may { IfOk result (λ r. r.0 ≡ Acted.Failed → (c : Contents) (v : Sitting) → V.holds vault.old c → V.is_clean vault.new → IsSeated c (Some session) (Some v) → asks desk.entry.policy.now talk.old (Some v) (reading (cut_seen cut.entry)) ≡ true) }
+    ensures cause { IfOk result (λ r. r.0 ≡ Acted.Failed → (c : Contents) (v : Sitting) → V.holds vault.old c → V.is_clean vault.new → IsSeated c (Some session) (Some v) → has_grown (V.faults vault.old) (V.faults vault.new) ≡ true) }
+    ensures counted { V.faults vault.old ≤ V.faults vault.new }
+    ensures clean { V.is_clean vault.new → V.is_clean vault.old }
+{
+    let mut session = session;
+    let maildrop = session.maildrop();
+    let acted = inside::answer(alloc, vault, desk.policy, cut, owed, &mut session)?;
+    *talk = inside::next_talk(cut, acted, *talk);
+    if is_quitting(cut) {
+        release(locks, Some(maildrop));
+        return Ok((acted, None));
+    }
+    Ok((acted, Some(session)))
+}
+
+/// Answers a line: its reply is owed, and what it leaves is remembered, its session and its maildrop's lock with it. A line that the
+/// store refuses is told so.
 pub fn answer<V: Vault>(
     alloc: Global,
     vault: &mut V,
     desk: Desk<'_>,
+    locks: &mut Locks,
     cut: Cut<'_>,
     owed: &mut Vec<u8>,
     talk: &mut Talk,
+    session: &mut Option<Session>,
 ) -> Result<Acted, AllocError>
-    ensures owed { IfOk result (λ acted. (c : Contents) → V.holds vault.old c → V.is_clean vault.new → owed.new.items ≡ owed.old.items ++ bytes_of (reply_of acted (desk_over c desk.entry) talk.old (cut_seen cut.entry))) }
-    ensures talk { IfOk result (λ acted. (c : Contents) → V.holds vault.old c → V.is_clean vault.new → talk.new ≡ talk_after (cut_seen cut.entry) (reply_of acted (desk_over c desk.entry) talk.old (cut_seen cut.entry)) talk.old) }
-    ensures held { (c : Contents) → V.holds vault.old c → V.is_clean vault.new → V.holds vault.new c }
-    ensures may { IfOk result (λ acted. acted ≡ Acted.Failed → asks talk.old (reading (cut_seen cut.entry)) ≡ true) }
-    ensures cause { IfOk result (λ acted. acted ≡ Acted.Failed → (c : Contents) → V.holds vault.old c → V.is_clean vault.new → has_grown (V.faults vault.old) (V.faults vault.new) ≡ true) }
+    ensures owed { IfOk result (λ acted. (c : Contents) (v : Option Sitting) → V.holds vault.old c → V.is_clean vault.new → IsSeated c session.old v → owed.new.items ≡ owed.old.items ++ bytes_of (reply_of acted (desk_over c desk.entry locks.old) talk.old v (cut_seen cut.entry))) }
+    ensures talk { IfOk result (λ acted. (c : Contents) (v : Option Sitting) → V.holds vault.old c → V.is_clean vault.new → IsSeated c session.old v → talk.new ≡ talk_after (cut_seen cut.entry) (reply_of acted (desk_over c desk.entry locks.old) talk.old v (cut_seen cut.entry)) talk.old) }
+    ensures session { IfOk result (λ acted. (c : Contents) (v : Option Sitting) → V.holds vault.old c → V.is_clean vault.new → IsSeated c session.old v → Becomes c desk.entry.policy.now talk.old (cut_seen cut.entry) (reply_of acted (desk_over c desk.entry locks.old) talk.old v (cut_seen cut.entry)) session.old session.new) }
+    ensures locks { OnOk result (LocksFollow desk.entry.number session.old session.new locks.old locks.new) }
+    ensures locks_err { OnErr result ((d : List ℕ) → get name_cmp locks.new d ≡ get name_cmp locks.old d) }
+    ensures held { IfOk result (λ acted. (c : Contents) (v : Option Sitting) → V.holds vault.old c → V.is_clean vault.new → IsSeated c session.old v → V.holds vault.new (held_after acted desk.entry.policy.now session.old (reading (cut_seen cut.entry)) c)) }
+    ensures err { OnErr result ((c : Contents) → V.holds vault.old c → V.is_clean vault.new → V.holds vault.new c) }
+    ensures may { IfOk result (λ acted. acted ≡ Acted.Failed → (c : Contents) (v : Option Sitting) → V.holds vault.old c → V.is_clean vault.new → IsSeated c session.old v → asks desk.entry.policy.now talk.old v (reading (cut_seen cut.entry)) ≡ true) }
+    ensures cause { IfOk result (λ acted. acted ≡ Acted.Failed → (c : Contents) (v : Option Sitting) → V.holds vault.old c → V.is_clean vault.new → IsSeated c session.old v → has_grown (V.faults vault.old) (V.faults vault.new) ≡ true) }
     ensures counted { V.faults vault.old ≤ V.faults vault.new }
     ensures clean { V.is_clean vault.new → V.is_clean vault.old }
 {
-    let (reply, acted) = match reply_to(vault, desk, cut, *talk) {
-        Ok(reply) => (reply, Acted::Done),
-        Err(VaultFault::NoMemory) => return Err(AllocError),
-        Err(_) => (Reply::StoreFailed, Acted::Failed),
-    };
-    reply.put(alloc, owed)?;
-    *talk = next_talk(cut, &reply, *talk);
-    Ok(acted)
+    match session.take() {
+        None => {
+            let (acted, begun) = answer_outside(alloc, vault, desk, locks, cut, owed, talk)?;
+            *session = begun;
+            Ok(acted)
+        }
+        Some(inside) => {
+            let (acted, after) = answer_inside(alloc, vault, desk, locks, cut, owed, talk, inside)?;
+            *session = after;
+            Ok(acted)
+        }
+    }
 }

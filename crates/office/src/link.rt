@@ -1,17 +1,22 @@
 //! One connection: the input that isn't cut yet, and the octets that it is owed.
-ghost use Rattle.std.specs.Prelude.{◌≡◌, ◌++◌, ◌≤◌, List, [], ℕ, true, OnErr, IfOk, drop, length, string_bytes};
+ghost use Rattle.std.specs.Prelude.{◌≡◌, ◌++◌, ◌≤◌, ℕ, List, [], Option, None, true, OnOk, OnErr, IfOk, drop, length, string_bytes};
+ghost use Rattle.std.specs.BTreeMap.{get};
 ghost use Rattle.popline.specs.Replies.{Greeting, bytes_of, timestamp};
 ghost use Rattle.popline.specs.Cutting.{has_newline, coming, shown, nothing_held};
 ghost use Rattle.vault.specs.Changes.{Contents};
 ghost use Rattle.vault.specs.Calls.{has_grown};
-ghost use Rattle.office.specs.Kept.{answered, line_after, asks, nothing_said};
+ghost use Rattle.office.specs.Sitting.{Sitting};
+ghost use Rattle.office.specs.Kept.{answered, line_after, asks, nothing_said, maildrop_of};
 ghost use Rattle.office.specs.Connections.{reading};
-ghost use Rattle.office.specs.Answered.{judged_at, reply_of};
+ghost use Rattle.office.specs.Answered.{judged_at, reply_of, name_cmp, IsSeated, BecomesIf, LocksFollow, held_if};
 
 use crate::lines;
+use crate::locks::Locks;
 use crate::talk::{Acted, Desk, Talk};
+use creds::Name;
 use policy::Policy;
 use popline::{Cutter, Reply};
+use session::Session;
 use std::alloc::{AllocError, Global};
 use std::marker::Model;
 use vault::Vault;
@@ -29,6 +34,7 @@ pub struct Link {
     talk: Talk,
     /// The timestamp of the greeting, which APOP signs.
     stamp: String,
+    session: Option<Session>,
 }
 
 impl Model for Link {
@@ -37,7 +43,7 @@ impl Model for Link {
 
     ghost Value = { Kept };
 
-    ghost view = { λ l. record { held = l.cutter; pending = drop l.cut l.pending.items; owed = drop l.taken l.owed.items; talk = l.talk; stamp = string_bytes l.stamp } };
+    ghost view = { λ l. record { held = l.cutter; pending = drop l.cut l.pending.items; owed = drop l.taken l.owed.items; talk = l.talk; stamp = string_bytes l.stamp; session = l.session } };
 
     ghost invariant = { λ l. (l.cut ≤ length l.pending.items) × (l.taken ≤ length l.owed.items) };
 }
@@ -45,7 +51,7 @@ impl Model for Link {
 impl Link {
     /// A connection that is owed its greeting.
     pub fn open(alloc: Global, number: u64, boot: u64, host: &str) -> Result<Link, AllocError>
-        ensures { IfOk result (λ k. k ≡ record { held = nothing_held; pending = []; owed = bytes_of (Greeting number boot host.now); talk = nothing_said; stamp = timestamp number boot host.now }) }
+        ensures { IfOk result (λ k. k ≡ record { held = nothing_held; pending = []; owed = bytes_of (Greeting number boot host.now); talk = nothing_said; stamp = timestamp number boot host.now; session = None }) }
     {
         let mut owed = Vec::new(alloc);
         let greeting = Reply::Greeting { number, boot, host };
@@ -59,6 +65,7 @@ impl Link {
             taken: 0,
             talk: Talk::new(),
             stamp,
+            session: None,
         })
     }
 
@@ -83,22 +90,38 @@ impl Link {
         self.taken += octets;
     }
 
+    /// The maildrop that the connection's session holds, where it has one.
+    pub fn maildrop(&self) -> Option<Name>
+        ensures { result ≡ maildrop_of self.now.session }
+    {
+        match &self.session {
+            None => None,
+            Some(session) => Some(session.maildrop()),
+        }
+    }
+
     /// Takes the next piece, and answers the first line that is whole now.
     pub fn hear<V: Vault>(
         &mut self,
         alloc: Global,
         vault: &mut V,
         policy: &Policy,
+        locks: &mut Locks,
+        number: u64,
         piece: &[u8],
     ) -> Result<Acted, AllocError>
         requires { self.old.owed ≡ [] }
-        ensures ok { IfOk result (λ acted. (c : Contents) → V.holds vault.old c → V.is_clean vault.new → self.new ≡ answered self.old piece.now (reply_of acted (judged_at c policy.now self.old.stamp) self.old.talk (line_after self.old piece.now))) }
+        ensures ok { IfOk result (λ acted. (c : Contents) (v : Option Sitting) → V.holds vault.old c → V.is_clean vault.new → IsSeated c self.old.session v → self.new ≡ answered self.old piece.now (reply_of acted (judged_at c policy.now self.old.stamp locks.old) self.old.talk v (line_after self.old piece.now)) self.new.session) }
+        ensures session { IfOk result (λ acted. (c : Contents) (v : Option Sitting) → V.holds vault.old c → V.is_clean vault.new → IsSeated c self.old.session v → BecomesIf (has_newline piece.now) c policy.now self.old.talk (line_after self.old piece.now) (reply_of acted (judged_at c policy.now self.old.stamp locks.old) self.old.talk v (line_after self.old piece.now)) self.old.session self.new.session) }
         ensures lines { IfOk result (λ _. (more : List ℕ) → coming self.old.held (piece.now ++ more) ≡ shown self.new.held ++ coming self.new.held (self.new.pending ++ more)) }
         // Only a line takes memory.
         ensures err { OnErr result (has_newline piece.now ≡ true) }
-        ensures held { (c : Contents) → V.holds vault.old c → V.is_clean vault.new → V.holds vault.new c }
-        ensures may { IfOk result (λ acted. acted ≡ Acted.Failed → (has_newline piece.now ≡ true) × (asks self.old.talk (reading (line_after self.old piece.now)) ≡ true)) }
-        ensures cause { IfOk result (λ acted. acted ≡ Acted.Failed → (c : Contents) → V.holds vault.old c → V.is_clean vault.new → has_grown (V.faults vault.old) (V.faults vault.new) ≡ true) }
+        ensures locks { OnOk result (LocksFollow number self.old.session self.new.session locks.old locks.new) }
+        ensures locks_err { OnErr result ((d : List ℕ) → get name_cmp locks.new d ≡ get name_cmp locks.old d) }
+        ensures held { IfOk result (λ acted. (c : Contents) (v : Option Sitting) → V.holds vault.old c → V.is_clean vault.new → IsSeated c self.old.session v → V.holds vault.new (held_if (has_newline piece.now) acted policy.now self.old.session (reading (line_after self.old piece.now)) c)) }
+        ensures held_err { OnErr result ((c : Contents) → V.holds vault.old c → V.is_clean vault.new → V.holds vault.new c) }
+        ensures may { IfOk result (λ acted. acted ≡ Acted.Failed → (c : Contents) (v : Option Sitting) → V.holds vault.old c → V.is_clean vault.new → IsSeated c self.old.session v → (has_newline piece.now ≡ true) × (asks policy.now self.old.talk v (reading (line_after self.old piece.now)) ≡ true)) }
+        ensures cause { IfOk result (λ acted. acted ≡ Acted.Failed → (c : Contents) (v : Option Sitting) → V.holds vault.old c → V.is_clean vault.new → IsSeated c self.old.session v → has_grown (V.faults vault.old) (V.faults vault.new) ≡ true) }
         ensures counted { V.faults vault.old ≤ V.faults vault.new }
         ensures clean { V.is_clean vault.new → V.is_clean vault.old }
     {
@@ -114,8 +137,18 @@ impl Link {
         let desk = Desk {
             policy,
             stamp: self.stamp.as_bytes(),
+            number,
         };
-        let acted = lines::answer(alloc, vault, desk, cut, &mut self.owed, &mut self.talk)?;
+        let acted = lines::answer(
+            alloc,
+            vault,
+            desk,
+            locks,
+            cut,
+            &mut self.owed,
+            &mut self.talk,
+            &mut self.session,
+        )?;
         Ok(acted)
     }
 
@@ -125,14 +158,20 @@ impl Link {
         alloc: Global,
         vault: &mut V,
         policy: &Policy,
+        locks: &mut Locks,
+        number: u64,
     ) -> Result<Acted, AllocError>
         requires { self.old.owed ≡ [] }
-        ensures ok { IfOk result (λ acted. (c : Contents) → V.holds vault.old c → V.is_clean vault.new → self.new ≡ answered self.old self.old.pending (reply_of acted (judged_at c policy.now self.old.stamp) self.old.talk (line_after self.old self.old.pending))) }
+        ensures ok { IfOk result (λ acted. (c : Contents) (v : Option Sitting) → V.holds vault.old c → V.is_clean vault.new → IsSeated c self.old.session v → self.new ≡ answered self.old self.old.pending (reply_of acted (judged_at c policy.now self.old.stamp locks.old) self.old.talk v (line_after self.old self.old.pending)) self.new.session) }
+        ensures session { IfOk result (λ acted. (c : Contents) (v : Option Sitting) → V.holds vault.old c → V.is_clean vault.new → IsSeated c self.old.session v → BecomesIf (has_newline self.old.pending) c policy.now self.old.talk (line_after self.old self.old.pending) (reply_of acted (judged_at c policy.now self.old.stamp locks.old) self.old.talk v (line_after self.old self.old.pending)) self.old.session self.new.session) }
         ensures lines { IfOk result (λ _. (more : List ℕ) → coming self.old.held (self.old.pending ++ more) ≡ shown self.new.held ++ coming self.new.held (self.new.pending ++ more)) }
         ensures err { OnErr result (has_newline self.old.pending ≡ true) }
-        ensures held { (c : Contents) → V.holds vault.old c → V.is_clean vault.new → V.holds vault.new c }
-        ensures may { IfOk result (λ acted. acted ≡ Acted.Failed → (has_newline self.old.pending ≡ true) × (asks self.old.talk (reading (line_after self.old self.old.pending)) ≡ true)) }
-        ensures cause { IfOk result (λ acted. acted ≡ Acted.Failed → (c : Contents) → V.holds vault.old c → V.is_clean vault.new → has_grown (V.faults vault.old) (V.faults vault.new) ≡ true) }
+        ensures locks { OnOk result (LocksFollow number self.old.session self.new.session locks.old locks.new) }
+        ensures locks_err { OnErr result ((d : List ℕ) → get name_cmp locks.new d ≡ get name_cmp locks.old d) }
+        ensures held { IfOk result (λ acted. (c : Contents) (v : Option Sitting) → V.holds vault.old c → V.is_clean vault.new → IsSeated c self.old.session v → V.holds vault.new (held_if (has_newline self.old.pending) acted policy.now self.old.session (reading (line_after self.old self.old.pending)) c)) }
+        ensures held_err { OnErr result ((c : Contents) → V.holds vault.old c → V.is_clean vault.new → V.holds vault.new c) }
+        ensures may { IfOk result (λ acted. acted ≡ Acted.Failed → (c : Contents) (v : Option Sitting) → V.holds vault.old c → V.is_clean vault.new → IsSeated c self.old.session v → (has_newline self.old.pending ≡ true) × (asks policy.now self.old.talk v (reading (line_after self.old self.old.pending)) ≡ true)) }
+        ensures cause { IfOk result (λ acted. acted ≡ Acted.Failed → (c : Contents) (v : Option Sitting) → V.holds vault.old c → V.is_clean vault.new → IsSeated c self.old.session v → has_grown (V.faults vault.old) (V.faults vault.new) ≡ true) }
         ensures counted { V.faults vault.old ≤ V.faults vault.new }
         ensures clean { V.is_clean vault.new → V.is_clean vault.old }
     {
@@ -145,8 +184,18 @@ impl Link {
         let desk = Desk {
             policy,
             stamp: self.stamp.as_bytes(),
+            number,
         };
-        let acted = lines::answer(alloc, vault, desk, cut, &mut self.owed, &mut self.talk)?;
+        let acted = lines::answer(
+            alloc,
+            vault,
+            desk,
+            locks,
+            cut,
+            &mut self.owed,
+            &mut self.talk,
+            &mut self.session,
+        )?;
         Ok(acted)
     }
 }

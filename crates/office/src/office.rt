@@ -10,11 +10,12 @@ ghost use Rattle.creds.specs.Names.{is_host};
 ghost use Rattle.vault.specs.Changes.{Contents};
 ghost use Rattle.vault.specs.Calls.{has_grown};
 ghost use Rattle.office.specs.History.{Done};
-ghost use Rattle.office.specs.Stands.{StandsFor, Keeps, LetsNobodyIn, lent_by, vault_of};
+ghost use Rattle.office.specs.Stands.{StandsFor, Keeps, lent_by, vault_of};
 ghost use Rattle.office.specs.Answered.{shown_of};
 ghost use Rattle.office.specs.Runs.{Step as Shown, Follows, Enters, done_before};
 
 use crate::link::Link;
+use crate::locks::{Locks, release};
 use crate::talk::Acted;
 use crate::{Event, Limits, Outcome, Reason, RunFault, Step, Transcript};
 use creds::HostName;
@@ -51,6 +52,7 @@ pub struct Office<V: Vault> {
     /// How many connections were opened.
     opened: u64,
     links: BTreeMap<u64, Link>,
+    pub(crate) locks: Locks,
 }
 
 /// What a line's event shows.
@@ -76,7 +78,7 @@ impl<V: Vault> Office<V> {
         boot: u64,
         limits: Limits,
     ) -> Result<Office<V>, (OpenFault, V)>
-        ensures opened { IfOk result (λ office. (T : Trace) → Keeps (V.holds vault) T → LetsNobodyIn T → V.is_clean (vault_of office) → StandsFor V.holds office (given T (event.Start host.now boot limits) (event.Tagged Done))) }
+        ensures opened { IfOk result (λ office. (T : Trace) → Keeps (V.holds vault) T → V.is_clean (vault_of office) → StandsFor V.holds office (given T (event.Start host.now boot limits) (event.Tagged Done))) }
         ensures host { MatchResult result (λ _. is_host host.now ≡ true) (λ e. (e.0 ≡ OpenFault.BadHost) ↔ (is_host host.now ≡ false)) }
         ensures kept { IfErr result (λ e. (c : Contents) → V.holds vault c → V.is_clean e.1 → V.holds e.1 c) }
         ensures left { IfOk result (λ office. (c : Contents) → V.holds vault c → V.is_clean (vault_of office) → V.holds (vault_of office) c) }
@@ -101,6 +103,7 @@ impl<V: Vault> Office<V> {
                 limits,
                 opened: 0,
                 links: BTreeMap::new(alloc),
+                locks: BTreeMap::new(alloc),
             }),
         }
     }
@@ -150,10 +153,19 @@ impl<V: Vault> Office<V> {
         if piece.len() > MOST_IN_A_PIECE {
             return Outcome::Ignored(Reason::PieceTooLong);
         }
-        match link.hear(self.alloc, &mut self.vault, &self.policy, piece) {
+        let held = link.maildrop();
+        match link.hear(
+            self.alloc,
+            &mut self.vault,
+            &self.policy,
+            &mut self.locks,
+            c,
+            piece,
+        ) {
             Ok(acted) => shown(acted),
             Err(_) => {
                 let _ = self.links.remove(&c);
+                release(&mut self.locks, held);
                 Outcome::NoMemory
             }
         }
@@ -170,7 +182,10 @@ impl<V: Vault> Office<V> {
             return Outcome::Ignored(Reason::NoSuchConnection);
         };
         let owed = link.owed().len();
-        if octets == 0 || octets > owed {
+        if octets == 0 {
+            return Outcome::Ignored(Reason::NotReady);
+        }
+        if octets > owed {
             return Outcome::Ignored(Reason::NotReady);
         }
         link.take(octets);
@@ -181,10 +196,18 @@ impl<V: Vault> Office<V> {
             let _ = self.links.remove(&c);
             return Outcome::Done;
         }
-        match link.resume(self.alloc, &mut self.vault, &self.policy) {
+        let held = link.maildrop();
+        match link.resume(
+            self.alloc,
+            &mut self.vault,
+            &self.policy,
+            &mut self.locks,
+            c,
+        ) {
             Ok(acted) => shown(acted),
             Err(_) => {
                 let _ = self.links.remove(&c);
+                release(&mut self.locks, held);
                 Outcome::NoMemory
             }
         }
@@ -199,7 +222,10 @@ impl<V: Vault> Office<V> {
     {
         match self.links.remove(&c) {
             None => Outcome::Ignored(Reason::NoSuchConnection),
-            Some(_) => Outcome::Done,
+            Some(link) => {
+                release(&mut self.locks, link.maildrop());
+                Outcome::Done
+            }
         }
     }
 

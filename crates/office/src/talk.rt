@@ -37,6 +37,8 @@ pub struct Desk<'a> {
     pub policy: &'a Policy,
     /// The timestamp of the connection's greeting.
     pub stamp: &'a [u8],
+    /// The connection's number.
+    pub number: u64,
 }
 
 /// What became of a line that was answered.

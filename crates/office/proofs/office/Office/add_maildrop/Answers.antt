@@ -10,7 +10,7 @@ pub returns-clause-stands : goal.returns-clause-stands
 returns-clause-stands g c T st clean =
     rw c.added.ensures (became-stands _ c.args.self.now _ T (Admin (AddMaildrop c.args.maildrop.now)) _ _ tt st
     (maildrop_added _ T st.keeps _ c.args.maildrop.now c.name_has_form.ensures c.add_maildrop.result (c.add_maildrop.ensures.done st.keeps.contents st.keeps.held clean) c.add_maildrop.ensures.counted.cause)
-    refl refl refl refl refl (λ q. refl))
+    refl refl refl refl refl (λ q. refl) (λ d. refl))
 
 pub returns-clause-outcome : goal.returns-clause-outcome
 returns-clause-outcome g c T st clean =

@@ -12,7 +12,7 @@ returns-in-Ok-clause-stands g c T st clean =
     c.have_form.ensures.maildrop c.have_form.ensures.class c.have_form.ensures.id _ c.deposit.result c.in-Ok.ensures.ok
     (λ none. no_fault _ _ (c.in-Ok.ensures.empty.1 none)) (λ large. no_fault _ _ (c.in-Ok.ensures.too_large.1 large))
     (c.deposit.ensures.done st.keeps.contents st.keeps.held clean) c.deposit.ensures.counted.cause)
-    refl refl refl refl refl (λ q. refl))
+    refl refl refl refl refl (λ q. refl) (λ d. refl))
 
 pub returns-in-Ok-clause-outcome : goal.returns-in-Ok-clause-outcome
 returns-in-Ok-clause-outcome g c T st clean =
@@ -36,7 +36,7 @@ returns-in-Err-clause-stands g c T st clean =
     rw c.not_kept.ensures (became-stands _ c.args.self.now _ T (Deposit c.args.maildrop.now c.args.class.now c.args.id.now c.args.text.now) _ _ tt st
     (deposit_not_kept T st.keeps false c.args.maildrop.now c.args.class.now c.args.id.now c.args.text.now
     c.have_form.ensures.maildrop c.have_form.ensures.class c.have_form.ensures.id c.in-Err.fault c.in-Err.ensures.empty c.in-Err.ensures.too_large)
-    refl refl refl refl refl (λ q. refl))
+    refl refl refl refl refl (λ q. refl) (λ d. refl))
 
 pub returns-in-Err-clause-outcome : goal.returns-in-Err-clause-outcome
 returns-in-Err-clause-outcome g c T st clean =

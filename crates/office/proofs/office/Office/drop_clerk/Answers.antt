@@ -10,7 +10,7 @@ pub returns-clause-stands : goal.returns-clause-stands
 returns-clause-stands g c T st clean =
     rw c.clerk_dropped.ensures (became-stands _ c.args.self.now _ T (Admin (DropClerk c.args.clerk.now)) _ _ tt st
     (clerk_dropped _ T st.keeps _ c.args.clerk.now c.drop_clerk.result (c.drop_clerk.ensures.done st.keeps.contents st.keeps.held clean) c.drop_clerk.ensures.counted.cause)
-    refl refl refl refl refl (λ q. refl))
+    refl refl refl refl refl (λ q. refl) (λ d. refl))
 
 pub returns-clause-outcome : goal.returns-clause-outcome
 returns-clause-outcome g c T st clean =

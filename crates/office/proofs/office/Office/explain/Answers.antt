@@ -13,7 +13,7 @@ pub returns-clause-stands : goal.returns-clause-stands
 returns-clause-stands g c T st clean =
     became-stands _ c.args.self.now _ T (Admin (Explain c.args.clerk.now c.args.maildrop.now c.args.class.now c.args.action)) _ _ tt st
     (explained T st.keeps false c.args.clerk.now c.args.maildrop.now c.args.class.now c.args.action)
-    refl refl refl refl refl (λ q. refl)
+    refl refl refl refl refl (λ q. refl) (λ d. refl)
 
 pub returns-clause-outcome : goal.returns-clause-outcome
 returns-clause-outcome g c T st clean =

@@ -10,7 +10,7 @@ pub returns-clause-stands : goal.returns-clause-stands
 returns-clause-stands g c T st clean =
     rw c.listed.ensures (became-stands _ c.args.self.now _ T (Admin ListMaildrops) _ _ tt st
     (maildrops_listed _ T st.keeps _ _ (c.maildrops.ensures.done st.keeps.contents st.keeps.held clean) (λ e. c.maildrops.ensures.counted.cause (store_seen _ _ e)))
-    refl refl refl refl refl (λ q. refl))
+    refl refl refl refl refl (λ q. refl) (λ d. refl))
 
 pub returns-clause-outcome : goal.returns-clause-outcome
 returns-clause-outcome g c T st clean =

@@ -10,7 +10,7 @@ pub returns-clause-stands : goal.returns-clause-stands
 returns-clause-stands g c T st clean =
     rw c.clerk_put.ensures (became-stands _ c.args.self.now _ T (Admin (PutClerk c.args.clerk.now c.args.credential.now)) _ _ tt st
     (clerk_put _ T st.keeps _ c.args.clerk.now c.args.credential.now c.name_has_form.ensures c.credential_has_form.ensures c.put_clerk.result (c.put_clerk.ensures.done st.keeps.contents st.keeps.held clean) c.put_clerk.ensures.counted.cause)
-    refl refl refl refl refl (λ q. refl))
+    refl refl refl refl refl (λ q. refl) (λ d. refl))
 
 pub returns-clause-outcome : goal.returns-clause-outcome
 returns-clause-outcome g c T st clean =

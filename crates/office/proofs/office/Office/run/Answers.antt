@@ -31,3 +31,11 @@ pub returns-clause-ok : goal.returns-clause-ok
 returns-clause-ok g c = λ T st clean.
     let all = take_all c.loop-done.done c.args.events.now c.loop-done-test.false in
     rw c.new.ensures (subst (λ es. Follows g.V.Vault.holds es c.loop-done.steps.items T c.loop-done.self) all (c.loop-done.invariant.follows T st clean))
+
+pub returns-in-Err-clause-err : goal.returns-in-Err-clause-err
+returns-in-Err-clause-err g c = (
+  c.loop-done.steps.items,
+  λ T st clean.
+      subst (λ o. Follows g.V.Vault.holds (take c.loop-done.done c.args.events.now) c.loop-done.steps.items T o) (sym c.in-Err.ensures.err)
+      (c.loop-done.invariant.follows T st (c.enter.ensures.clean clean)),
+)

@@ -10,7 +10,7 @@ pub returns-clause-stands : goal.returns-clause-stands
 returns-clause-stands g c T st clean =
     rw c.credential_told.ensures (became-stands _ c.args.self.now _ T (Admin (ShowClerk c.args.clerk.now)) _ _ tt st
     (clerk_shown _ T st.keeps _ c.args.clerk.now c.credential.result (c.credential.ensures.done st.keeps.contents st.keeps.held clean) c.credential.ensures.counted.cause)
-    refl refl refl refl refl (λ q. refl))
+    refl refl refl refl refl (λ q. refl) (λ d. refl))
 
 pub returns-clause-outcome : goal.returns-clause-outcome
 returns-clause-outcome g c T st clean =

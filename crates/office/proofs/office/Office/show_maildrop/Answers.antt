@@ -8,8 +8,8 @@ use Rattle.office.proofs.office.Office.show_maildrop.Goals as goal
 
 pub returns-clause-stands : goal.returns-clause-stands
 returns-clause-stands g c T st clean = ⊎_elim
-    (λ e. rw e (became-stands _ c.args.self.now _ T (Admin (ShowMaildrop c.args.maildrop.now)) _ _ tt st (maildrop_shown _ T st.keeps _ c.args.maildrop.now _ (c.heads.ensures.done st.keeps.contents st.keeps.held clean) (λ x. c.heads.ensures.counted.cause (store_seen _ _ x))) refl refl refl refl refl (λ q. refl)))
-    (λ e. rw e (became-stands _ c.args.self.now _ T (Admin (ShowMaildrop c.args.maildrop.now)) _ _ tt st (maildrop_show_lacked _ T st.keeps false c.args.maildrop.now _ (c.heads.ensures.done st.keeps.contents st.keeps.held clean)) refl refl refl refl refl (λ q. refl)))
+    (λ e. rw e (became-stands _ c.args.self.now _ T (Admin (ShowMaildrop c.args.maildrop.now)) _ _ tt st (maildrop_shown _ T st.keeps _ c.args.maildrop.now _ (c.heads.ensures.done st.keeps.contents st.keeps.held clean) (λ x. c.heads.ensures.counted.cause (store_seen _ _ x))) refl refl refl refl refl (λ q. refl) (λ d. refl)))
+    (λ e. rw e (became-stands _ c.args.self.now _ T (Admin (ShowMaildrop c.args.maildrop.now)) _ _ tt st (maildrop_show_lacked _ T st.keeps false c.args.maildrop.now _ (c.heads.ensures.done st.keeps.contents st.keeps.held clean)) refl refl refl refl refl (λ q. refl) (λ d. refl)))
     c.shown.ensures
 
 pub returns-clause-outcome : goal.returns-clause-outcome

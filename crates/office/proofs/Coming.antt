@@ -1,0 +1,321 @@
+-- Connections that come and go, and events that nothing comes of.
+use Rattle.std.proofs.Common.{◌≡◌, ℕ, ◌+◌, ◌<◌, ◌≤◌, Bool, true, false, cond, List, [], ◌∷◌, map, refl, sym, ◌∙◌, ap, ap₂, arith, subst, true≢false, Option, Some, None, Result, Ok, Err, lt-ltb, le-leb, ◌^◌, eqb, eqb-true, eq-eqb, ⊎_elim, string_bytes, nat_cmp}
+use Rattle.std.proofs.lemmas.Bool.{cases_Bool}
+use Rattle.std.proofs.lemmas.Bool.Decides.{nat_tests}
+use Rattle.std.proofs.lemmas.Map.Text.{is_eq-slice_cmp}
+use Rattle.std.specs.Prelude.{is_err, OnOk, OnErr}
+use Rattle.std.specs.BTreeMap.{BTreeMap, get, is_at, Updates}
+use Rattle.std.specs.Str.{bytes_eq}
+use Rattle.creds.specs.Names.{is_host}
+use Rattle.popline.specs.Cutting.{cut_of, pieces, prefixed, nothing_held}
+use Rattle.popline.specs.Replies.{Greeting, bytes_of, timestamp}
+use Rattle.vault.specs.Records.{Records}
+use Rattle.vault.specs.Changes.{Contents}
+use Rattle.session.specs.Session.{Session}
+use Rattle.office.specs.History.{Act, Tag, Done, NoMemory, Entry}
+use Rattle.office.specs.Connections.{boot_and_host}
+use Rattle.office.specs.Sessions.{live, login, holds, holder}
+use Rattle.office.specs.Told.{told}
+use Rattle.office.specs.Events.{Event, Mark, Ignored, Tagged, Trace, given}
+use Rattle.office.specs.Events as event
+use Rattle.office.specs.Log.{opened, idle_seconds, stream, taken, next_number}
+use Rattle.office.specs.Trace.{acts, history}
+use Rattle.office.specs.Formed.{is_formed, are_formed, is_u64}
+use Rattle.office.specs.Answered.{name_cmp}
+use Rattle.office.specs.Kept.{Kept, nothing_said, maildrop_of}
+use Rattle.office.specs.Locks.{Released}
+use Rattle.office.specs.Stands.{Seen, seen, seen_at, IsSession, Matches, IsOver, IsKeptFor, Keeps, StandsFor}
+use Rattle.office.specs.declared.office.Office.{Office}
+use Rattle.office.proofs.Laws.{one_holder}
+use Rattle.office.proofs.Locked.{IsLock, lock_found, holder_is}
+
+-- ---- locks
+
+module _ (B : Records) (H H' : List (Act × Tag)) where
+  lock_alike : (d : List ℕ) (o : Option ℕ) → ((q : ℕ) → holds (told B H') d q ≡ holds (told B H) d q) → IsLock (told B H) d o → IsLock (told B H') d o
+  lock_alike d None same h = λ q. same q ∙ h q
+  lock_alike d (Some q) same h = same q ∙ h
+
+  -- who holds a maildrop is found, whatever else was done
+  pub same_holder : (d : List ℕ) → ((q : ℕ) → holds (told B H') d q ≡ holds (told B H) d q) → holder (told B H') d ≡ holder (told B H) d
+  same_holder d same = holder_is B H' d (holder (told B H) d) (lock_alike d (holder (told B H) d) same (lock_found B H d (holder (told B H) d) refl))
+
+  -- one connection holds nothing any more, and the others what they held
+  module _ (c : ℕ) (others : (d : List ℕ) (q : ℕ) → eqb c q ≡ false → holds (told B H') d q ≡ holds (told B H) d q) (none : (d : List ℕ) → holds (told B H') d c ≡ false) where
+    pub still_held : (d : List ℕ) → holds (told B H) d c ≡ false → holder (told B H') d ≡ holder (told B H) d
+    still_held d h = same_holder d (λ q. ⊎_elim
+        (λ e. subst (λ k. holds (told B H') d k ≡ holds (told B H) d k) (eqb-true c q e) (none d ∙ sym h))
+        (λ e. others d q e)
+        (cases_Bool (eqb c q)))
+
+    nobody_else : (d : List ℕ) (q : ℕ) → holds (told B H) d c ≡ true → eqb c q ≡ false → (b : Bool) → holds (told B H) d q ≡ b → b ≡ false
+    nobody_else d q h e true k = absurd (true≢false (sym (eq-eqb c q (one_holder B H d c q h k)) ∙ e))
+    nobody_else d q h e false k = refl
+
+    freed : (d : List ℕ) → holds (told B H) d c ≡ true → holder (told B H') d ≡ None
+    freed d h = holder_is B H' d None (λ q. ⊎_elim
+        (λ e. subst (λ k. holds (told B H') d k ≡ false) (eqb-true c q e) (none d))
+        (λ e. others d q e ∙ nobody_else d q h e (holds (told B H) d q) refl)
+        (cases_Bool (eqb c q)))
+
+    -- its maildrop's lock is let go
+    pub released : (k : Contents) (x : Seen) (s : Option Session) (before now : BTreeMap (List ℕ) ℕ) → IsSession k x s → x.live ≡ live (told B H) c → x.login ≡ login (told B H) c
+        → ((d : List ℕ) → get name_cmp before d ≡ holder (told B H) d) → Released (maildrop_of s) before now → (d : List ℕ) → get name_cmp now d ≡ holder (told B H') d
+    released k x None before now i l n locks r d =
+        let out : live (told B H) c ≡ false = sym l ∙ i in
+        r d ∙ (locks d ∙ sym (still_held d (rw out refl)))
+    released k x (Some s) before now i l n locks u d = at (bytes_eq s.name.maildrop d) refl
+      where
+        in_session : live (told B H) c ≡ true
+        in_session = sym l ∙ i.live
+
+        named : login (told B H) c ≡ Some s.name
+        named = sym n ∙ i.login
+
+        found : (b : Bool) → bytes_eq s.name.maildrop d ≡ b → get name_cmp now d ≡ cond b None (get name_cmp before d)
+        found b e = u.0 d ∙ ap (λ b. cond b None (get name_cmp before d)) (is_eq-slice_cmp s.name.maildrop d ∙ e)
+
+        held : (b : Bool) → bytes_eq s.name.maildrop d ≡ b → holds (told B H) d c ≡ b
+        held b e = let p = in_session in let q = named in rw (p, q) e
+
+        at : (b : Bool) → bytes_eq s.name.maildrop d ≡ b → get name_cmp now d ≡ holder (told B H') d
+        at true e = found true e ∙ sym (freed d (held true e))
+        at false e = found false e ∙ (locks d ∙ sym (still_held d (held false e)))
+
+-- ---- an event that nothing comes of
+
+record Log : Type 0 where
+  octets : List ℕ
+  took : ℕ
+  number : ℕ
+  idle : ℕ
+
+abbrev log : Trace → ℕ → Log
+log T q = record { octets = stream T.log q; took = taken T.log q; number = opened T.log; idle = idle_seconds T.log }
+
+-- no act, and the connections gave and took what they did
+pub record Nothing (T : Trace) (e : Event) (m : Mark) : Type 0 where
+  pub acts : acts (given T e m) ≡ acts T
+  pub log : (q : ℕ) → log (given T e m) q ≡ log T q
+  pub formed : are_formed (given T e m).log ≡ true
+
+pub nothing_stands : {V : Type 0} (Holds : V → Contents → Type 0) (o o' : Office V) (T : Trace) (e : Event) (m : Mark) → (st : StandsFor Holds o T)
+    → Nothing T e m → ((k : Contents) → Holds o.vault k → Holds o'.vault k) → o'.policy ≡ o.policy → o'.boot ≡ o.boot → string_bytes o'.host ≡ string_bytes o.host
+    → o'.limits ≡ o.limits → o'.opened ≡ o.opened → ((q : ℕ) → get nat_cmp o'.links q ≡ get nat_cmp o.links q)
+    → ((d : List ℕ) → get name_cmp o'.locks d ≡ get name_cmp o.locks d) → StandsFor Holds o' (given T e m)
+nothing_stands Holds o o' T e m st n on p b s l k links locks =
+    let T' = given T e m in
+    let same : history T' ≡ history T = ap (told T.base) n.acts in
+    let looks : (q : ℕ) → seen T' q ≡ seen T q = λ q.
+    ap₂ (λ (x : Log) (G : List Entry). record (seen_at T.base T.log G q) { stream = x.octets; taken = x.took }) (n.log q) same in
+    let number : opened T'.log ≡ opened T.log = ap (λ (x : Log). x.number) (n.log 0) in
+    let idle : idle_seconds T'.log ≡ idle_seconds T.log = ap (λ (x : Log). x.idle) (n.log 0) in
+    record {
+      keeps = record { contents = st.keeps.contents; held = on st.keeps.contents st.keeps.held; agree = rw same st.keeps.agree; sound = st.keeps.sound; formed = n.formed };
+      policy = p ∙ rw same st.policy;
+      boot = b ∙ rw same st.boot;
+      host = s ∙ rw same st.host;
+      idle = l ∙ (st.idle ∙ sym idle);
+      numbered = λ q some. rw number (st.numbered q (rw (links q) at some));
+      opened = k ∙ (st.opened ∙ sym number);
+      links = λ q. rw (looks q, links q) (st.links q);
+      locks = λ d. locks d ∙ (st.locks d ∙ ap (λ G. holder G d) (sym same));
+    }
+
+ignored_log : (T : Trace) (e : Event) (q : ℕ) → log (given T e Ignored) q ≡ log T q
+ignored_log T (event.Start host boot idle) q = refl
+ignored_log T event.Connect q = refl
+ignored_log T (event.Bytes c piece) q = refl
+ignored_log T (event.Took c octets) q = refl
+ignored_log T (event.Gone c) q = refl
+ignored_log T (event.Tick now) q = refl
+ignored_log T (event.Deposit d class id text) q = refl
+ignored_log T (event.Admin command) q = refl
+ignored_log T (event.Restart boot) q = refl
+
+-- nothing comes of an event that is ignored
+pub ignored_event : (T : Trace) (e : Event) → are_formed T.log ≡ true → Nothing T e Ignored
+ignored_event T e f = record { acts = refl; log = λ q. ignored_log T e q; formed = f }
+
+pub lacked_connect : (T : Trace) → is_formed T.log event.Connect ≡ true → are_formed T.log ≡ true → Nothing T event.Connect (Tagged NoMemory)
+lacked_connect T n f = record { acts = refl; log = λ q. refl; formed = rw n f }
+
+-- ---- a connection goes
+
+is_apart : (c q : ℕ) → eqb c q ≡ false → is_at (nat_cmp c) q ≡ false
+is_apart c q h = grind (arith, nat_tests, h)
+
+-- what was looked at stands where it stood
+pub put_back : (c : ℕ) (k : Kept) (before now : BTreeMap ℕ Kept) → get nat_cmp before c ≡ Some k → Updates nat_cmp before now c (Some k) → (q : ℕ) → get nat_cmp now q ≡ get nat_cmp before q
+put_back c k before now found u q = ⊎_elim
+    (λ e. subst (λ x. get nat_cmp now x ≡ get nat_cmp before x) (eqb-true c q e) (u.1 ∙ sym found))
+    (λ e. u.2 q (is_apart c q e))
+    (cases_Bool (eqb c q))
+
+module _ {V : Type 0} (Holds : V → Contents → Type 0) (o o' : Office V) (T : Trace) (c : ℕ) where
+  abbrev without : Trace
+  without = given T (event.Gone c) (Tagged Done)
+
+  gone_other : (q : ℕ) → eqb c q ≡ false → seen without q ≡ seen T q
+  gone_other q e = rw e refl
+
+  gone_holds : (d : List ℕ) (q : ℕ) → eqb c q ≡ false → holds (history without) d q ≡ holds (history T) d q
+  gone_holds d q e = rw e refl
+
+  gone_none : (d : List ℕ) → holds (history without) d c ≡ false
+  gone_none d = let e = eq-eqb c c refl in rw e refl
+
+  gone_over : IsOver (seen without c)
+  gone_over = let e = eq-eqb c c refl in record { closed = rw e refl; outside = rw e refl }
+
+  pub gone_stands : (st : StandsFor Holds o T) (k : Kept) → get nat_cmp o.links c ≡ Some k → ((k : Contents) → Holds o.vault k → Holds o'.vault k)
+      → o'.policy ≡ o.policy → o'.boot ≡ o.boot → string_bytes o'.host ≡ string_bytes o.host → o'.limits ≡ o.limits → o'.opened ≡ o.opened
+      → Updates nat_cmp o.links o'.links c None → Released (maildrop_of k.session) o.locks o'.locks → StandsFor Holds o' without
+  gone_stands st k found on p b s l n u r =
+      let m : Matches st.keeps.contents (seen T c) k = subst (IsKeptFor st.keeps.contents (seen T c)) found (st.links c) in
+      let there : (q : ℕ) → eqb c q ≡ false → get nat_cmp o'.links q ≡ get nat_cmp o.links q = λ q e. u.2 q (is_apart c q e) in
+      record {
+        keeps = record { contents = st.keeps.contents; held = on st.keeps.contents st.keeps.held; agree = st.keeps.agree; sound = st.keeps.sound; formed = st.keeps.formed };
+        policy = p ∙ st.policy;
+        boot = b ∙ st.boot;
+        host = s ∙ st.host;
+        idle = l ∙ st.idle;
+        numbered = λ q some. ⊎_elim
+            (λ e. let none : get nat_cmp o'.links q ≡ None = subst (λ x. get nat_cmp o'.links x ≡ None) (eqb-true c q e) u.1 in absurd (true≢false (sym (rw none at some))))
+            (λ e. st.numbered q (rw (there q e) at some))
+            (cases_Bool (eqb c q));
+        opened = n ∙ st.opened;
+        links = λ q. ⊎_elim
+            (λ e. subst (λ x. IsKeptFor st.keeps.contents (seen without x) (get nat_cmp o'.links x)) (eqb-true c q e) (rw u.1 gone_over))
+            (λ e. rw (gone_other q e, there q e) (st.links q))
+            (cases_Bool (eqb c q));
+        locks = released T.base (acts T) (acts without) c gone_holds gone_none st.keeps.contents (seen T c) k.session o.locks o'.locks m.session refl refl st.locks r;
+      }
+
+-- ---- a connection comes
+
+cut_anew : (ps : List (List ℕ)) → map cut_of ps ≡ map cut_of (prefixed [] ps)
+cut_anew [] = refl
+cut_anew (p ∷ ps) = refl
+
+-- what is kept of it is a greeting to send
+abbrev pub greeted : ℕ → ℕ → List ℕ → Kept
+greeted c boot host = record {
+  held = nothing_held;
+  pending = [];
+  owed = bytes_of (Greeting c boot host);
+  talk = nothing_said;
+  stamp = timestamp c boot host;
+  session = None;
+}
+
+module _ {V : Type 0} (Holds : V → Contents → Type 0) (o o' : Office V) (T : Trace) (st : StandsFor Holds o T) where
+  abbrev newest : ℕ
+  newest = next_number T.log
+
+  abbrev with_one : Trace
+  with_one = given T event.Connect (Tagged Done)
+
+  come_other : (q : ℕ) → eqb newest q ≡ false → seen with_one q ≡ seen T q
+  come_other q e = rw e refl
+
+  come_holds : (d : List ℕ) (q : ℕ) → eqb newest q ≡ false → holds (history with_one) d q ≡ holds (history T) d q
+  come_holds d q e = rw e refl
+
+  come_none : (d : List ℕ) → holds (history with_one) d newest ≡ false
+  come_none d = let e = eq-eqb newest newest refl in rw e refl
+
+  unheard : (k : Option Kept) → get nat_cmp o.links newest ≡ k → IsKeptFor st.keeps.contents (seen T newest) k → live (history T) newest ≡ false
+  unheard None e h = h.outside
+  unheard (Some k) e h = absurd (let fits = (st.numbered newest (rw e refl)).1 in omega (arith, fits))
+
+  come_matches : Matches st.keeps.contents (seen with_one newest) (greeted newest (boot_and_host (history T)).0 (boot_and_host (history T)).1)
+  come_matches = let e = eq-eqb newest newest refl in record {
+    opened = rw e refl;
+    session = rw e refl;
+    parted = λ h. rw e refl;
+    taken = rw e (omega arith);
+    owed = rw e refl;
+    closing = rw e refl;
+    user = rw e refl;
+    failures = rw e refl;
+    stamp = refl;
+    lines = λ more. rw e (cut_anew (pieces more));
+    cut_whole = λ h. refl;
+    line_kept = omega arith;
+    piece_kept = omega arith;
+  }
+
+  pub come_stands : (n : ℕ) (k : Kept) → n ≡ newest → k ≡ greeted n o.boot (string_bytes o.host) → is_formed T.log event.Connect ≡ true
+      → ((k : Contents) → Holds o.vault k → Holds o'.vault k) → o'.policy ≡ o.policy → o'.boot ≡ o.boot → string_bytes o'.host ≡ string_bytes o.host → o'.limits ≡ o.limits
+      → o'.opened ≡ n → Updates nat_cmp o.links o'.links n (Some k) → ((d : List ℕ) → get name_cmp o'.locks d ≡ get name_cmp o.locks d) → StandsFor Holds o' with_one
+  come_stands n k number kept formed on p b s l m u locks =
+      let at : Updates nat_cmp o.links o'.links newest (Some k) = subst (λ x. Updates nat_cmp o.links o'.links x (Some k)) number u in
+      let there : (q : ℕ) → eqb newest q ≡ false → get nat_cmp o'.links q ≡ get nat_cmp o.links q = λ q e. at.2 q (is_apart newest q e) in
+      let here : k ≡ greeted newest (boot_and_host (history T)).0 (boot_and_host (history T)).1 =
+      kept ∙ (ap (λ x. greeted x o.boot (string_bytes o.host)) number ∙ (ap (λ x. greeted newest x (string_bytes o.host)) st.boot ∙ ap (greeted newest (boot_and_host (history T)).0) st.host)) in
+      record {
+        keeps = record { contents = st.keeps.contents; held = on st.keeps.contents st.keeps.held; agree = st.keeps.agree; sound = st.keeps.sound; formed = rw formed st.keeps.formed };
+        policy = p ∙ st.policy;
+        boot = b ∙ st.boot;
+        host = s ∙ st.host;
+        idle = l ∙ st.idle;
+        numbered = λ q some. ⊎_elim
+            (λ e. subst (λ x. (1 ≤ x) × (x ≤ newest)) (eqb-true newest q e) (omega arith, omega arith))
+            (λ e. let fits = st.numbered q (rw (there q e) at some) in (fits.0, omega (arith, fits.1)))
+            (cases_Bool (eqb newest q));
+        opened = m ∙ number;
+        links = λ q. ⊎_elim
+            (λ e. subst (λ x. IsKeptFor st.keeps.contents (seen with_one x) (get nat_cmp o'.links x)) (eqb-true newest q e)
+            (subst (IsKeptFor st.keeps.contents (seen with_one newest)) (sym (at.1 ∙ ap Some here)) come_matches))
+            (λ e. rw (come_other q e, there q e) (st.links q))
+            (cases_Bool (eqb newest q));
+        locks = λ d.
+            let out : live (history T) newest ≡ false = unheard (get nat_cmp o.links newest) refl (st.links newest) in
+            locks d ∙ (st.locks d ∙ sym (still_held T.base (acts T) (acts with_one) newest come_holds come_none d (rw out refl)));
+      }
+
+-- a number that is left has its form
+pub number_left : (n m : ℕ) → n ≡ m → n < 18446744073709551615 → is_u64 (m + 1) ≡ true
+number_left n m e h = lt-ltb (m + 1) (2 ^ 64) (omega (arith, e, h))
+
+pub after_ok : {A E P : Type 0} (r : Result A E) → is_err r ≡ false → OnOk r P → P
+after_ok (Ok x) e p = p
+after_ok (Err x) e p = absurd (true≢false e)
+
+pub after_err : {A E P : Type 0} (r : Result A E) → is_err r ≡ true → OnErr r P → P
+after_err (Ok x) e p = absurd (true≢false (sym e))
+after_err (Err x) e p = p
+
+-- ---- an office starts
+
+-- an answer, as a result
+abbrev answered : (A E : Type 0) → A → Result A E
+answered A E x = Ok x
+
+pub same_ok : {A E : Type 0} (x y : A) → answered A E x ≡ answered A E y → y ≡ x
+same_ok x y e = cc
+
+pub start_formed : (T : Trace) (host : List ℕ) (boot idle : ℕ) → is_host host ≡ true → boot < 18446744073709551616 → 600 ≤ idle → idle ≤ 86400
+    → is_formed T.log (event.Start host boot idle) ≡ true
+start_formed T host boot idle h fits low high =
+    let b : is_u64 boot ≡ true = lt-ltb boot (2 ^ 64) (omega (arith, fits)) in
+    rw (h, b, le-leb 600 idle low, le-leb idle 86400 high) refl
+
+pub start_stands : {V : Type 0} (Holds Before : V → Contents → Type 0) (v : V) (o : Office V) (T : Trace) (host : List ℕ) (boot idle : ℕ) → (k : Keeps (Before v) T)
+    → Holds o.vault k.contents → o.policy ≡ k.contents.policy → o.boot ≡ boot → string_bytes o.host ≡ host → o.limits ≡ idle → o.opened ≡ 0
+    → is_formed T.log (event.Start host boot idle) ≡ true → ((q : ℕ) → get nat_cmp o.links q ≡ None) → ((d : List ℕ) → get name_cmp o.locks d ≡ None)
+    → StandsFor Holds o (given T (event.Start host boot idle) (Tagged Done))
+start_stands Holds Before v o T host boot idle k held p b s l n formed links locks =
+    let T' = given T (event.Start host boot idle) (Tagged Done) in
+    record {
+      keeps = record { contents = k.contents; held = held; agree = k.agree; sound = k.sound; formed = rw formed k.formed };
+      policy = p ∙ k.agree.policy;
+      boot = b;
+      host = s;
+      idle = l;
+      numbered = λ q some. let none = links q in absurd (true≢false (sym (rw none at some)));
+      opened = n;
+      links = λ q. let none = links q in rw none (record { closed = refl; outside = refl });
+      locks = λ d. locks d ∙ sym (holder_is T.base (acts T') d None (λ q. refl));
+    }

@@ -1,0 +1,127 @@
+-- What a maildrop that is opened has, by what the session that begins counts.
+use Rattle.std.proofs.Common.{◌≡◌, ℕ, suc, ◌+◌, ◌<◌, ◌^◌, Bool, true, false, not, List, [], ◌∷◌, length, refl, sym, ◌∙◌, ap, ap₂, subst, Option, Some, None, Ok, Err, Result, is_some}
+use Rattle.std.proofs.lemmas.List.Sums.{sum_by-cons}
+use Rattle.std.specs.Prelude.{map, filter, sum_by, if◌then◌else◌}
+use Rattle.std.specs.BTreeMap.{BTreeMap}
+use Rattle.creds.specs.declared.login_name.LoginName.{LoginName}
+use Rattle.policy.specs.Policy.{Policy}
+use Rattle.popline.specs.Commands.{Pass, Apop}
+use Rattle.popline.specs.Replies.{Reply, MaildropHas, NoSuchMaildrop, InUse}
+use Rattle.vault.specs.declared.answer.Head.{Head}
+use Rattle.vault.specs.declared.fault.VaultFault.{VaultFault}
+use Rattle.vault.specs.declared.fault.VaultFault.TheVariants as fault
+use Rattle.vault.specs.declared.record.Keyed.{Keyed}
+use Rattle.vault.specs.Records.{octets_of, octets_of_all, class_of, in_maildrop, is_one_of}
+use Rattle.vault.specs.Changes.{Contents, AreSound, records_of, head_of, heads}
+use Rattle.vault.specs.Calls.{heads_result}
+use Rattle.session.specs.Session.{Session, started}
+use Rattle.session.specs.Session as head
+use Rattle.session.specs.View.{visible, is_marked, numbered_from, unmarked, total_of}
+use Rattle.office.specs.History.{Says}
+use Rattle.office.specs.Answered.{is_locked_by, SessionAfter, IsSeated}
+use Rattle.office.specs.Sitting.{Sitting}
+use Rattle.office.specs.Sessions.{logs_in}
+use Rattle.creds.specs.Credential.{ByPass}
+use Rattle.office.specs.Replying.{when_permitted, name_or_nobody}
+use Rattle.office.specs.Kept.{Desk, said_outside, judged}
+use Rattle.office.specs.declared.talk.Talk.{Talk}
+use Rattle.office.specs.Entering.{entered, began}
+use Rattle.office.proofs.Lying.{found, found_heads, found_messages, found_fit}
+
+-- ---- a view without marks
+
+none_marked : {A : Type 0} (n : ℕ) (xs : List A) → filter (λ (row : ℕ × A). not (is_marked [] row.0)) (numbered_from n xs) ≡ numbered_from n xs
+none_marked n [] = refl
+none_marked n (x ∷ xs) = ap (λ rows. (n, x) ∷ rows) (none_marked (n + 1) xs)
+
+length_numbered : {A : Type 0} (n : ℕ) (xs : List A) → length (numbered_from n xs) ≡ length xs
+length_numbered n [] = refl
+length_numbered n (x ∷ xs) = ap suc (length_numbered (n + 1) xs)
+
+total_numbered : {A : Type 0} (f : A → ℕ) (n : ℕ) (xs : List A) → sum_by (λ (row : ℕ × A). f row.1) (numbered_from n xs) ≡ sum_by f xs
+total_numbered f n [] = refl
+total_numbered {A} f n (x ∷ xs) =
+    sum_by-cons (λ (row : ℕ × A). f row.1) (n, x) (numbered_from (n + 1) xs) ∙ (ap (λ k. f x + k) (total_numbered f (n + 1) xs) ∙ sym (sum_by-cons f x xs))
+
+pub all_counted : {A : Type 0} (xs : List A) → length (unmarked [] xs) ≡ length xs
+all_counted xs = ap length (none_marked 1 xs) ∙ length_numbered 1 xs
+
+pub all_octets : {A : Type 0} (f : A → ℕ) (xs : List A) → total_of f (unmarked [] xs) ≡ sum_by f xs
+all_octets {A} f xs = ap (sum_by (λ (row : ℕ × A). f row.1)) (none_marked 1 xs) ∙ total_numbered f 1 xs
+
+-- the heads of messages have their octets
+same_octets : (kept : List Keyed) → sum_by head.octets_of (map head_of kept) ≡ octets_of_all (map (λ (x : Keyed). x.message) kept)
+same_octets [] = refl
+same_octets (x ∷ xs) =
+    sum_by-cons head.octets_of (head_of x) (map head_of xs) ∙ (ap (λ k. octets_of x.message + k) (same_octets xs) ∙ sym (sum_by-cons octets_of x.message (map (λ (x : Keyed). x.message) xs)))
+
+same_number : (kept : List Keyed) → length (map head_of kept) ≡ length (map (λ (x : Keyed). x.message) kept)
+same_number [] = refl
+same_number (x ∷ xs) = ap suc (same_number xs)
+
+-- ---- a maildrop is opened
+
+module _ (c : Contents) (p : Policy) (name : LoginName) where
+  abbrev begun : Session
+  begun = started p name.clerk name.maildrop (heads name.maildrop c)
+
+  counted : length (unmarked begun.marks begun.view) ≡ length (visible class_of p name (in_maildrop name.maildrop (records_of c).messages))
+  counted = all_counted begun.view ∙ (ap length (found_heads c p name) ∙ (same_number (found c p name) ∙ ap length (found_messages c p name)))
+
+  summed : total_of head.octets_of (unmarked begun.marks begun.view) ≡ octets_of_all (visible class_of p name (in_maildrop name.maildrop (records_of c).messages))
+  summed = all_octets head.octets_of begun.view ∙ (ap (sum_by head.octets_of) (found_heads c p name) ∙ (same_octets (found c p name) ∙ ap octets_of_all (found_messages c p name)))
+
+  fits : AreSound c → sum_by head.octets_of begun.view < 2 ^ 64
+  fits a = subst (λ (view : List Head). sum_by head.octets_of view < 2 ^ 64) (sym (found_heads c p name)) (found_fit c p name a)
+
+  abbrev answer_if : Bool → Result (List Head) VaultFault
+  answer_if b = if b then Ok (heads name.maildrop c) else Err fault.NoMaildrop
+
+  some_there : (hs : List Head) → (b : Bool) → answer_if b ≡ Ok hs → (b ≡ true) × (heads name.maildrop c ≡ hs)
+  some_there hs true e = (refl, cc)
+  some_there hs false e = cc
+
+  -- the maildrop is there, and isn't locked
+  pub opens : (locks : BTreeMap (List ℕ) ℕ) (hs : List Head) (s : Session) (messages octets : ℕ) → AreSound c → heads_result name.maildrop c ≡ Ok hs
+      → is_locked_by locks name.maildrop ≡ false → s ≡ started p name.clerk name.maildrop hs → messages ≡ length (unmarked s.marks s.view)
+      → (sum_by head.octets_of s.view < 2 ^ 64 → octets ≡ total_of head.octets_of (unmarked s.marks s.view))
+      → (entered c p locks name ≡ MaildropHas messages octets) × (s ≡ begun)
+  opens locks hs s messages octets a e free is n o =
+      let there = some_there hs (is_one_of name.maildrop c.maildrops) e in
+      let same : s ≡ begun = is ∙ ap (λ (hs : List Head). started p name.clerk name.maildrop hs) (sym there.1) in
+      let sum = subst (λ (s : Session). sum_by head.octets_of s.view < 2 ^ 64 → octets ≡ total_of head.octets_of (unmarked s.marks s.view)) same o (fits a) in
+      let number = subst (λ (s : Session). messages ≡ length (unmarked s.marks s.view)) same n in
+      (rw (there.0, free) (ap₂ (λ m k. MaildropHas m k) (sym counted ∙ sym number) (sym summed ∙ sym sum)), same)
+
+  -- the maildrop is there, and is locked
+  pub finds_lock : (locks : BTreeMap (List ℕ) ℕ) (hs : List Head) → heads_result name.maildrop c ≡ Ok hs → is_locked_by locks name.maildrop ≡ true → entered c p locks name ≡ InUse
+  finds_lock locks hs e held = let there = (some_there hs (is_one_of name.maildrop c.maildrops) e).0 in rw (there, held) refl
+
+  none_there : (b : Bool) → answer_if b ≡ Err fault.NoMaildrop → b ≡ false
+  none_there true e = cc
+  none_there false e = refl
+
+  -- it isn't there
+  pub finds_none : (locks : BTreeMap (List ℕ) ℕ) → heads_result name.maildrop c ≡ Err fault.NoMaildrop → entered c p locks name ≡ NoSuchMaildrop
+  finds_none locks e = let none = none_there (is_one_of name.maildrop c.maildrops) e in rw none refl
+
+-- ---- the session that an accepted login leaves
+
+pub pass_begins : (c : Contents) (p : Policy) (name : LoginName) (password : List ℕ) (reply : Reply)
+    → SessionAfter false (logs_in (Ok (Pass password)) (Says reply) (Some name)) c p reply None (began reply (started p name.clerk name.maildrop (heads name.maildrop c)))
+pass_begins c p name password (MaildropHas n m) = refl
+pass_begins c p name password _ = refl
+
+pub apop_begins : (c : Contents) (p : Policy) (name : LoginName) (digest : List ℕ) (u : Option LoginName) (reply : Reply)
+    → SessionAfter false (logs_in (Ok (Apop name digest)) (Says reply) u) c p reply None (began reply (started p name.clerk name.maildrop (heads name.maildrop c)))
+apop_begins c p name digest u (MaildropHas n m) = refl
+apop_begins c p name digest u _ = refl
+
+-- a password is given where a login name is in force
+pub pass_said : (d : Desk) (t : Talk) (password : List ℕ) (name : LoginName) → t.user ≡ Some name → said_outside d t (Ok (Pass password)) ≡ judged d t.failures name (ByPass password)
+pass_said d t password name e = ap (λ u. when_permitted (is_some u) (judged d t.failures (name_or_nobody u) (ByPass password))) e
+
+-- a session that is kept has its messages
+pub seated : (c : Contents) (s : Session) (v : Option Sitting) → IsSeated c (Some s) v → (w : Sitting) × IsSeated c (Some s) (Some w)
+seated c s None h = absurd h
+seated c s (Some w) h = (w, h)

@@ -1,0 +1,96 @@
+-- What is kept of a connection judges its next line as the history does, in a session or before one.
+use Rattle.std.proofs.Common.{◌≡◌, ℕ, Bool, true, false, not, ◌||◌, ◌&&◌, List, ◌∷◌, Option, Some, None, refl, sym, ◌∙◌, ap, is_some, Result, Ok, append-nil}
+use Rattle.creds.specs.declared.login_name.LoginName.{LoginName}
+use Rattle.popline.specs.Cutting.{Cut}
+use Rattle.popline.specs.Commands.{Command, Pass, Apop}
+use Rattle.popline.specs.declared.command.LineFault.{LineFault}
+use Rattle.popline.specs.Replies.{Reply, LoginFailedClosing}
+use Rattle.vault.specs.declared.record.Keyed.{Keyed}
+use Rattle.vault.specs.declared.record.Message as store
+use Rattle.vault.specs.Records.{Records, Agree, class_of}
+use Rattle.vault.specs.Changes.{Contents, AreSound, records_of}
+use Rattle.session.specs.Session.{Session}
+use Rattle.session.specs.View.{to_remove}
+use Rattle.office.specs.History.{Act, Line, Tag, Entry, Said, Says, is_done, in_force}
+use Rattle.office.specs.Connections.{reading, is_quit, closes}
+use Rattle.office.specs.Sessions.{live, marks, view, logs_in, in_session, records, removed, removed_after, removed_by, quits_if}
+use Rattle.office.specs.Replying.{reply_to_cut, line_may_fail}
+use Rattle.office.specs.Kept.{Desk, asks}
+use Rattle.office.specs.Sitting.{Sitting, LiesIn, sitting_of}
+use Rattle.office.specs.Answered.{reply_of, tag_of, IsSeated, held_after}
+use Rattle.office.specs.Stands.{Seen}
+use Rattle.office.specs.declared.talk.Talk.{Talk}
+use Rattle.office.specs.declared.talk.Acted.{Acted}
+use Rattle.office.specs.declared.talk.Acted.TheVariants as acted
+use Rattle.office.proofs.Hearing.{lined}
+use Rattle.office.proofs.Outside.{AgreesOutside, reply_outside, fails_outside}
+use Rattle.office.proofs.SessionLines.{AgreesInside, reply_said_inside, fails_inside, no_login_inside, closes_inside}
+use Rattle.office.proofs.LineRecords.{agree_line}
+
+-- A line is answered, may be refused, and leaves the records, as the history says.
+pub record Judges (B : Records) (G : List Entry) (c : ℕ) (k : Contents) (d : Desk) (t : Talk) (old : Option Session) : Type 0 where
+  pub sitting : Option Sitting
+  pub seated : IsSeated k old sitting
+  pub reply : (x : Cut) (w : Acted) → (w ≡ acted.Failed → asks d.policy t sitting (reading x) ≡ true) → reply_to_cut B G c x (tag_of w) ≡ reply_of w d t sitting x
+  pub fails : (x : Cut) → asks d.policy t sitting (reading x) ≡ true → line_may_fail B G c x ≡ true
+  pub agrees : AreSound k → Agree (records_of k) (records B G) → (w : Acted) (x : Cut) (said : Said)
+      → Agree (records_of (held_after w d.policy old (reading x) k)) (records B (record { act = Line c x; tag = tag_of w; said = said } ∷ G))
+  -- who is in session doesn't log in
+  pub stays : (o : Session) → old ≡ Some o → (x : Cut) (w : Acted) (u : Option LoginName) → logs_in (reading x) (Says (reply_of w d t sitting x)) u ≡ None
+  -- what closes a connection ends its session
+  pub parts : (s : Seen) → s.live ≡ live G c → (found : LoginName → List store.Message) (x : Cut) (w : Acted)
+      → closes (reading x) (Says (reply_of w d t sitting x)) ≡ true → (lined s x (reply_of w d t sitting x) found).live ≡ false
+
+-- ---- before a login
+
+and_false : (a : Bool) → (a && false) ≡ false
+and_false true = refl
+and_false false = refl
+
+refused_in : (r : Result Command LineFault) (u : Option LoginName) → logs_in r (Says LoginFailedClosing) u ≡ None
+refused_in (Ok (Pass p)) u = refl
+refused_in (Ok (Apop who d)) u = refl
+refused_in _ u = refl
+
+closed_outside : (r : Result Command LineFault) (reply : Reply) (u : Option LoginName) (l : Bool) → l ≡ false → closes r (Says reply) ≡ true
+    → (not (is_quit r || false) && (is_some (logs_in r (Says reply) u) || l)) ≡ false
+closed_outside r LoginFailedClosing u l e h = let n = refused_in r u in rw (n, e) (and_false (not (is_quit r || false)))
+closed_outside r _ u l e h = rw h refl
+
+-- who isn't in session removes nothing
+records_outside : (B : Records) (G : List Entry) (c : ℕ) (x : Cut) (t : Tag) (said : Said) → live G c ≡ false → records B (record { act = Line c x; tag = t; said = said } ∷ G) ≡ records B G
+records_outside B G c x t said lv = ap (λ rs. record (records B G) { messages = Rattle.vault.specs.Records.without (Rattle.office.specs.History.arrivals B G) rs }) (at (is_quit (reading x) && is_done t))
+  where
+    at : (b : Bool) → removed_after (quits_if b c) (λ n. removed_by (in_session G n) (λ (name : LoginName). to_remove class_of (in_force B G) name (marks G n) (view B G n))) (removed B G) ≡ removed B G
+    at true = rw lv (append-nil (removed B G))
+    at false = refl
+
+pub judges_outside : (B : Records) (G : List Entry) (c : ℕ) (k : Contents) (d : Desk) (t : Talk) → AgreesOutside B G c d t → Judges B G c k d t None
+judges_outside B G c k d t a = record {
+  sitting = None;
+  seated = tt;
+  reply = reply_outside B G c d t a;
+  fails = fails_outside B G c d t a;
+  agrees = λ sound g w x said. rw (records_outside B G c x (tag_of w) said a.outside) g;
+  stays = λ o e x w u. absurd (nobody o e);
+  parts = λ s l found x w h. closed_outside (reading x) (reply_of w d t None x) s.user s.live (l ∙ a.outside) h;
+}
+  where
+    nobody : (o : Session) → None ≡ Some o → ⊥
+    nobody o e = cc
+
+-- ---- in a session
+
+pub judges_inside : (B : Records) (G : List Entry) (c : ℕ) (k : Contents) (d : Desk) (t : Talk) (o : Session) (kept : List Keyed) → LiesIn k o kept
+    → AgreesInside B G c d.policy (sitting_of o kept) → Judges B G c k d t (Some o)
+judges_inside B G c k d t o kept lies a =
+    let v = sitting_of o kept in
+    record {
+      sitting = Some v;
+      seated = (kept, lies, refl);
+      reply = reply_said_inside B G c d.policy v a;
+      fails = fails_inside B G c d.policy v a;
+      agrees = λ sound g w x said. agree_line B G c d.policy o kept a k sound lies g w x said;
+      stays = λ o' e x w u. no_login_inside w d.policy v x u;
+      parts = λ s l found x w h. let q = sym (closes_inside w d.policy v x) ∙ h in rw q refl;
+    }

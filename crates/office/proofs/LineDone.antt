@@ -1,0 +1,255 @@
+-- A line on a trace: what is kept of its connection, of each other, of the locks and of the store is what the trace says with the line.
+use Rattle.std.proofs.Common.{◌≡◌, ℕ, Bool, true, false, List, ◌∷◌, ◌++◌, Option, Some, None, refl, sym, ◌∙◌, ap, subst, true≢false, ⊎_elim, eqb, slice_get, eq-eqb, is_some, Result, Ok}
+use Rattle.std.proofs.lemmas.Bool.{cases_Bool}
+use Rattle.std.proofs.lemmas.Slice.Eq.{bytes_eq-Decides}
+use Rattle.std.specs.BTreeMap.{BTreeMap, get}
+use Rattle.std.specs.Str.{bytes_eq}
+use Rattle.creds.specs.declared.login_name.LoginName.{LoginName}
+use Rattle.popline.specs.Cutting.{Cut, cut, coming, shown, has_newline}
+use Rattle.popline.specs.Commands.{Command, Quit}
+use Rattle.popline.specs.declared.command.LineFault.{LineFault}
+use Rattle.popline.specs.Replies.{Reply}
+use Rattle.policy.specs.Policy.{Policy}
+use Rattle.vault.specs.declared.record.Keyed.{Keyed}
+use Rattle.vault.specs.declared.record.Message as store
+use Rattle.vault.specs.Records.{Agree, class_of, in_maildrop, is_one_of}
+use Rattle.session.specs.View.{is_marked, visible}
+use Rattle.vault.specs.Changes.{Contents, AreSound, records_of}
+use Rattle.session.specs.Session.{Session}
+use Rattle.office.specs.History.{Says, in_force, exists, maildrops, arrivals}
+use Rattle.office.specs.Connections.{reading, is_quit, user, failures}
+use Rattle.office.specs.Sessions.{live, login, marks, view, logs_in, login_after, view_after, holder, present, records, removed}
+use Rattle.office.specs.Replying.{reply_to_cut, stamp}
+use Rattle.office.specs.Events.{Trace, Event, Tagged, given}
+use Rattle.office.specs.Trace.{history, acts}
+use Rattle.office.specs.Formed.{is_formed}
+use Rattle.office.specs.Laws.{In}
+use Rattle.office.specs.Kept.{Kept, Desk, answered, line_after, asks}
+use Rattle.office.specs.Answered.{name_cmp, judged_at, reply_of, tag_of, held_after, held_if, SessionAfter, Becomes, BecomesIf, LocksFollow}
+use Rattle.office.specs.Stands.{Seen, seen, Matches, IsKeptFor, IsSession, IsSitting, Keeps}
+use Rattle.office.specs.declared.talk.Acted.{Acted}
+use Rattle.office.specs.declared.talk.Acted.TheVariants as acted
+use Rattle.office.proofs.NameOrder.{same_any}
+use Rattle.office.proofs.AgreeLists.{in_maildrop-without}
+use Rattle.office.proofs.Laws.{one_holder}
+use Rattle.office.proofs.Lying.{lies_on, stays_by_removal}
+use Rattle.office.proofs.Locked.{lock_found, holder_is}
+use Rattle.office.proofs.Locking.{holds_by, locks_follow}
+use Rattle.office.proofs.Acting.{finds, session_after}
+use Rattle.office.proofs.Outside.{AgreesOutside}
+use Rattle.office.proofs.Judging.{Judges, judges_outside, judges_inside}
+use Rattle.office.proofs.Events.{finds_by, line_entry, same_session}
+use Rattle.office.proofs.Hearing.{lined, Awaits, part_heard, line_heard, acts_next}
+
+-- what a session saw of a store is there after another connection's line
+stays_after : (w : Acted) (p : Policy) (old : Option Session) (r : Result Command LineFault) (c : Contents) (d : List ℕ)
+    → ((o : Session) → old ≡ Some o → o.name.maildrop ≡ d → ⊥) → (x : Keyed) → In x c.messages → x.message.maildrop ≡ d → In x (held_after w p old r c).messages
+stays_after w p None r c d apart x i e = i
+stays_after acted.Failed p (Some o) r c d apart x i e = i
+stays_after acted.Done p (Some o) (Ok Quit) c d apart x i e = stays_by_removal c o.name.maildrop _ x i (λ f. apart o refl (sym f ∙ e))
+stays_after acted.Done p (Some o) _ c d apart x i e = i
+
+carry : (k k' : Contents) (s : Seen) (kq : Kept) → ((o : Session) → kq.session ≡ Some o → IsSitting k s o → (x : Keyed) → In x k.messages → x.message.maildrop ≡ o.name.maildrop → In x k'.messages)
+    → Matches k s kq → Matches k' s kq
+carry k k' s kq stays m = record {
+  opened = m.opened;
+  session = at kq.session (λ o e. stays o e) m.session;
+  parted = m.parted;
+  taken = m.taken;
+  owed = m.owed;
+  closing = m.closing;
+  user = m.user;
+  failures = m.failures;
+  stamp = m.stamp;
+  lines = m.lines;
+  cut_whole = m.cut_whole;
+  line_kept = m.line_kept;
+  piece_kept = m.piece_kept;
+}
+  where
+    at : (o : Option Session) → ((q : Session) → o ≡ Some q → IsSitting k s q → (x : Keyed) → In x k.messages → x.message.maildrop ≡ q.name.maildrop → In x k'.messages) → IsSession k s o → IsSession k' s o
+    at None on i = i
+    at (Some q) on i = record {
+      live = i.live;
+      login = i.login;
+      marks = i.marks;
+      kept = i.kept;
+      lies = lies_on k k' q i.kept i.lies (on q refl i);
+      view = i.view;
+    }
+
+-- a connection that is kept over some contents is kept over others, where the messages of its session stay
+pub carry_kept : (k k' : Contents) (s : Seen) (o : Option Kept) → ((q : Session) → IsSitting k s q → (x : Keyed) → In x k.messages → x.message.maildrop ≡ q.name.maildrop → In x k'.messages)
+    → IsKeptFor k s o → IsKeptFor k' s o
+carry_kept k k' s None stays m = m
+carry_kept k k' s (Some kq) stays m = carry k k' s kq (λ o e i. stays o i) m
+
+view_alike : (o : Option LoginName) (f g : LoginName → List store.Message) (b : List store.Message) → ((name : LoginName) → f name ≡ g name) → view_after o f b ≡ view_after o g b
+view_alike None f g b e = refl
+view_alike (Some name) f g b e = e name
+
+lined_alike : (s : Seen) (x : Cut) (r : Reply) (f g : LoginName → List store.Message) → ((name : LoginName) → f name ≡ g name) → lined s x r f ≡ lined s x r g
+lined_alike s x r f g e = ap (λ v. record (lined s x r f) { view = v }) (view_alike (logs_in (reading x) (Says r) s.user) f g s.view e)
+
+holding : (s : Seen) (d : List ℕ) (name : LoginName) → s.live ≡ true → s.login ≡ Some name → name.maildrop ≡ d → holds_by s d ≡ true
+holding s d name l e m = let t = (bytes_eq-Decides name.maildrop d).1 m in rw (l, e, t) refl
+
+-- ---- who keeps a trace judges its lines
+
+module _ {Before : Contents → Type 0} (T : Trace) (n : ℕ) (keeps : Keeps Before T) (sound : AreSound keeps.contents) (policy : Policy) (rules : policy ≡ in_force T.base (history T))
+    (locks : BTreeMap (List ℕ) ℕ) (held : (d : List ℕ) → get name_cmp locks d ≡ holder (history T) d) where
+  abbrev store_now : Contents
+  store_now = keeps.contents
+
+  abbrev desk : List ℕ → Desk
+  desk stamp = judged_at store_now policy stamp locks
+
+  is_there : (d : List ℕ) → is_one_of d store_now.maildrops ≡ exists T.base (history T) d
+  is_there d = same_any (λ x. bytes_eq x d) store_now.maildrops (maildrops T.base (history T)) keeps.agree.maildrops
+
+  are_present : (d : List ℕ) → in_maildrop d (records_of store_now).messages ≡ present T.base (history T) d
+  are_present d = keeps.agree.messages d ∙ in_maildrop-without d (arrivals T.base (history T)) (removed T.base (history T))
+
+  -- the line's connection, as it waits for an answer
+  module _ (s : Seen) (k : Kept) (p : List ℕ) (m : Awaits store_now s k p) (l : s.live ≡ live (history T) n) (u : s.user ≡ user (history T) n)
+      (f : s.failures ≡ failures (history T) n) (st : s.stamp ≡ stamp (history T) n) (lg : s.login ≡ login (history T) n) (mk : s.marks ≡ marks (history T) n)
+      (vw : s.view ≡ view T.base (history T) n) where
+    outside : IsSession store_now s None → AgreesOutside T.base (history T) n (desk k.stamp) k.talk
+    outside i = record {
+      outside = sym l ∙ i;
+      user = m.user ∙ u;
+      failures = rw (sym f) m.failures;
+      credentials = keeps.agree.credentials;
+      policy = rules;
+      there = is_there;
+      locked = λ d. ap is_some (held d);
+      present = are_present;
+      stamp = m.stamp ∙ st;
+    }
+
+    inside : (o : Session) → (i : IsSession store_now s (Some o)) → Judges T.base (history T) n store_now (desk k.stamp) k.talk (Some o)
+    inside o i = judges_inside T.base (history T) n store_now (desk k.stamp) k.talk o i.kept i.lies (record {
+      live = sym l ∙ i.live;
+      login = sym lg ∙ i.login;
+      marks = λ q. i.marks q ∙ ap (λ ms. is_marked ms q) mk;
+      view = i.view ∙ vw;
+      policy = rules;
+    })
+
+    judged_for : (o : Option Session) → IsSession store_now s o → Judges T.base (history T) n store_now (desk k.stamp) k.talk o
+    judged_for None i = judges_outside T.base (history T) n store_now (desk k.stamp) k.talk (outside i)
+    judged_for (Some o) i = inside o i
+
+    pub judges : Judges T.base (history T) n store_now (desk k.stamp) k.talk k.session
+    judges = judged_for k.session m.session
+
+    -- the reply, where the line's event shows what became of it
+    abbrev reply : Acted → Reply
+    reply w = reply_of w (desk k.stamp) k.talk judges.sitting (line_after k p)
+
+    found_alike : (name : LoginName) → finds_by T name ≡ finds store_now policy name
+    found_alike name =
+        ap (λ q. visible class_of q name (present T.base (history T) name.maildrop)) (sym rules)
+        ∙ ap (λ ms. visible class_of policy name ms) (sym (are_present name.maildrop))
+
+    -- what became of the octets
+    module _ (e : Event) (w : Acted) (k' : Kept) (locks' : BTreeMap (List ℕ) ℕ)
+        (may : w ≡ acted.Failed → (has_newline p ≡ true) × (asks policy k.talk judges.sitting (reading (line_after k p)) ≡ true))
+        (is : k' ≡ answered k p (reply w) k'.session)
+        (law : (more : List ℕ) → coming k.held (p ++ more) ≡ shown k'.held ++ coming k'.held (k'.pending ++ more))
+        (became : BecomesIf (has_newline p) store_now policy k.talk (line_after k p) (reply w) k.session k'.session)
+        (follow : LocksFollow n k.session k'.session locks locks')
+        (formed : is_formed T.log e ≡ true)
+        (line_seen : has_newline p ≡ true → slice_get (cut s.stream) s.acted ≡ Some (line_after k p)
+        → seen (given T e (Tagged (tag_of w))) n ≡ lined s (line_after k p) (reply_to_cut T.base (history T) n (line_after k p) (tag_of w)) (finds_by T))
+        (line_records : has_newline p ≡ true → slice_get (cut s.stream) s.acted ≡ Some (line_after k p)
+        → records T.base (history (given T e (Tagged (tag_of w)))) ≡ records T.base (line_entry T n (line_after k p) w ∷ history T))
+        (part_seen : has_newline p ≡ false → w ≡ acted.Done → seen (given T e (Tagged (tag_of w))) n ≡ s)
+        (part_records : has_newline p ≡ false → w ≡ acted.Done → records T.base (history (given T e (Tagged (tag_of w)))) ≡ records T.base (history T))
+        (others : (q : ℕ) → eqb n q ≡ false → seen (given T e (Tagged (tag_of w))) q ≡ seen T q) where
+      abbrev T' : Trace
+      T' = given T e (Tagged (tag_of w))
+
+      abbrev x : Cut
+      x = line_after k p
+
+      abbrev after : Contents
+      after = held_if (has_newline p) w policy k.session (reading x) store_now
+
+      no_line : has_newline p ≡ false → w ≡ acted.Done
+      no_line h = at w (λ g. (may g).0)
+        where
+          at : (v : Acted) → (v ≡ acted.Failed → has_newline p ≡ true) → v ≡ acted.Done
+          at acted.Done g = refl
+          at acted.Failed g = absurd (true≢false (sym (g refl) ∙ h))
+
+      next : has_newline p ≡ true → slice_get (cut s.stream) s.acted ≡ Some x
+      next h = acts_next store_now s k k' p (reply w) m is law h
+
+      said : reply_to_cut T.base (history T) n x (tag_of w) ≡ reply w
+      said = judges.reply x w (λ g. (may g).1)
+
+      seen_line : has_newline p ≡ true → seen T' n ≡ lined s x (reply w) (finds store_now policy)
+      seen_line h = line_seen h (next h) ∙ (ap (λ r. lined s x r (finds_by T)) said ∙ lined_alike s x (reply w) (finds_by T) (finds store_now policy) found_alike)
+
+      became_line : has_newline p ≡ true → Becomes store_now policy k.talk x (reply w) k.session k'.session
+      became_line h = subst (λ b. BecomesIf b store_now policy k.talk x (reply w) k.session k'.session) h became
+
+      -- the session's own name in force is the trace's
+      sits_line : has_newline p ≡ true → IsSession (held_after w policy k.session (reading x) store_now) (lined s x (reply w) (finds store_now policy)) k'.session
+      sits_line h =
+          session_after store_now policy s x (reply w) w k.session k'.session sound m.session
+          (subst (λ o. SessionAfter (is_quit (reading x)) (logs_in (reading x) (Says (reply w)) o) store_now policy (reply w) k.session k'.session) m.user (became_line h))
+
+      pub here : Matches after (seen T' n) k'
+      here = ⊎_elim
+          (λ h. subst (λ b. Matches (held_if b w policy k.session (reading x) store_now) (seen T' n) k') (sym h)
+          (subst (λ y. Matches (held_after w policy k.session (reading x) store_now) y k') (sym (seen_line h))
+          (line_heard store_now s k k' p (reply w) m is law (held_after w policy k.session (reading x) store_now) (finds store_now policy) h (sits_line h)
+          (judges.parts s l (finds store_now policy) x w))))
+          (λ h. subst (λ b. Matches (held_if b w policy k.session (reading x) store_now) (seen T' n) k') (sym h)
+          (subst (λ y. Matches store_now y k') (sym (part_seen h (no_line h)))
+          (part_heard store_now s k k' p (reply w) m is law h (subst (λ b. BecomesIf b store_now policy k.talk x (reply w) k.session k'.session) h became))))
+          (cases_Bool (has_newline p))
+
+      pub agrees : Agree (records_of after) (records T.base (history T'))
+      agrees = ⊎_elim
+          (λ h. subst (λ b. Agree (records_of (held_if b w policy k.session (reading x) store_now)) (records T.base (history T'))) (sym h)
+          (subst (λ R. Agree (records_of (held_after w policy k.session (reading x) store_now)) R) (sym (line_records h (next h)))
+          (judges.agrees sound keeps.agree w x (line_entry T n x w).said)))
+          (λ h. subst (λ b. Agree (records_of (held_if b w policy k.session (reading x) store_now)) (records T.base (history T'))) (sym h)
+          (subst (λ R. Agree (records_of store_now) R) (sym (part_records h (no_line h))) keeps.agree))
+          (cases_Bool (has_newline p))
+
+      -- ---- other connections
+
+      alone : (d : List ℕ) (q : ℕ) → holds_by (seen T n) d ≡ true → holds_by (seen T q) d ≡ true → n ≡ q
+      alone d q h g = one_holder T.base (acts T) d n q h g
+
+      mine : (o : Session) → k.session ≡ Some o → holds_by (seen T n) o.name.maildrop ≡ true
+      mine o e =
+          let i = subst (IsSession store_now s) e m.session in
+          holding (seen T n) o.name.maildrop o.name (sym l ∙ i.live) (sym lg ∙ i.login) refl
+
+      stays_line : (b : Bool) (d : List ℕ) → ((o : Session) → k.session ≡ Some o → o.name.maildrop ≡ d → ⊥) → (y : Keyed) → In y store_now.messages → y.message.maildrop ≡ d
+          → In y (held_if b w policy k.session (reading x) store_now).messages
+      stays_line true d apart y i f = stays_after w policy k.session (reading x) store_now d apart y i f
+      stays_line false d apart y i f = i
+
+      pub carried : (q : ℕ) → eqb n q ≡ false → (o : Option Kept) → IsKeptFor store_now (seen T q) o → IsKeptFor after (seen T q) o
+      carried q ne o i = carry_kept store_now after (seen T q) o (λ z j. stays_line (has_newline p) z.name.maildrop (λ own e f.
+          let both = alone z.name.maildrop q (subst (λ d. holds_by (seen T n) d ≡ true) f (mine own e)) (holding (seen T q) z.name.maildrop z.name j.live j.login refl) in
+          true≢false (sym (subst (λ y. eqb n y ≡ true) both (eq-eqb n n refl)) ∙ ne))) i
+
+      -- ---- locks
+
+      same_login : (o : Session) → k.session ≡ Some o → (seen T' n).login ≡ (seen T n).login
+      same_login o e = ⊎_elim
+          (λ h. ap (λ (y : Seen). y.login) (seen_line h) ∙ (ap (λ name. login_after false name s.login) (judges.stays o e x w s.user) ∙ lg))
+          (λ h. ap (λ (y : Seen). y.login) (part_seen h (no_line h)) ∙ lg)
+          (cases_Bool (has_newline p))
+
+      pub locked : (d : List ℕ) → get name_cmp locks' d ≡ holder (history T') d
+      locked d = sym (holder_is T.base (acts T') d (get name_cmp locks' d)
+          (locks_follow (seen T) (seen T') n others locks locks' (λ m. lock_found T.base (acts T) m (get name_cmp locks m) (sym (held m))) store_now after k.session k'.session
+          (same_session store_now s (seen T n) k.session (sym l) (sym lg) (sym mk) (sym vw) m.session) here.session alone same_login follow d))

@@ -1,0 +1,121 @@
+-- What a QUIT asks of the store, and what it leaves.
+use Rattle.std.proofs.Common.{◌≡◌, ℕ, ◌==◌, length, arith, Bool, true, false, not, ◌&&◌, List, [], ◌∷◌, ◌++◌, Option, Some, None, Ok, take, refl, sym, ◌∙◌, ap, ap₂}
+use Rattle.std.proofs.Math.Seq.{take-append_seam}
+use Rattle.std.proofs.lemmas.Bool.Decides.{nat_tests}
+use Rattle.std.specs.Prelude.{map}
+use Rattle.std.specs.Str.{bytes_eq}
+use Rattle.popline.specs.Commands.{Quit}
+use Rattle.popline.specs.Replies.{RemovalFailed, bytes_of}
+use Rattle.policy.specs.Policy.{Policy}
+use Rattle.vault.specs.Records as records
+use Rattle.vault.specs.Changes.{Contents, head_of, with_messages, without_keys}
+use Rattle.vault.specs.Calls.{IsRefusal}
+use Rattle.vault.specs.declared.answer.Head.{Head}
+use Rattle.vault.specs.declared.fault.VaultFault.{VaultFault}
+use Rattle.vault.specs.declared.fault.VaultFault.TheVariants as fault
+use Rattle.vault.specs.declared.record.Keyed.{Keyed}
+use Rattle.vault.specs.declared.record.Message.{Message}
+use Rattle.session.specs.Session.{Session}
+use Rattle.session.specs.Session as head
+use Rattle.session.specs.View.{to_remove, denying, is_marked}
+use Rattle.office.specs.History.{Says}
+use Rattle.office.specs.Sessions.{marks_after_line}
+use Rattle.office.specs.Replying.{quit_says, is_empty}
+use Rattle.office.specs.Sitting.{LiesIn, Obeyed, keys_to_remove, without_marked}
+use Rattle.office.specs.declared.talk.Acted.TheVariants as acted
+use Rattle.office.proofs.Alike.{to_remove-map, denying-map}
+use Rattle.office.proofs.Listed.{message_of}
+
+-- ---- no key
+
+and_false : (b : Bool) → (b && false) ≡ false
+and_false true = refl
+and_false false = refl
+
+without_none : (d : List ℕ) (ms : List Keyed) → without_keys d [] ms ≡ ms
+without_none d [] = refl
+without_none d (x ∷ xs) = let e = and_false (bytes_eq x.message.maildrop d) in rw e (ap (λ ms. x ∷ ms) (without_none d xs))
+
+pub nothing_removed : (p : Policy) (s : Session) (c : Contents) → keys_to_remove p s ≡ [] → without_marked p s c ≡ c
+nothing_removed p s c e = ap (λ (keys : List ℕ). with_messages (without_keys s.name.maildrop keys c.messages) c) e
+    ∙ ap (λ (ms : List Keyed). with_messages ms c) (without_none s.name.maildrop c.messages)
+
+-- ---- what the store answers
+
+-- a removal is refused as any call may be
+pub store_refused : (e : VaultFault) → IsRefusal {A = Unit {0}} (Ok tt) e → (e ≡ fault.NoMemory → ⊥) → e ≡ fault.Store
+store_refused fault.Store r n = refl
+store_refused fault.NoMemory r n = absurd (n refl)
+store_refused fault.NoMaildrop r n = cc
+store_refused fault.Conflict r n = cc
+store_refused fault.Full r n = cc
+store_refused fault.NotEmpty r n = cc
+store_refused fault.NotOurs r n = cc
+store_refused fault.OldVersion r n = cc
+store_refused fault.NoClerk r n = cc
+
+-- ---- the marked messages
+
+quit_keeps : (o : Option (List ℕ)) (marks : List ℕ) → marks_after_line (Says (quit_says o)) marks ≡ marks
+quit_keeps None marks = refl
+quit_keeps (Some rule) marks = refl
+
+some_key : (xs : List Keyed) → (map head.key_of (map head_of xs) ≡ [] → ⊥) → not (is_empty (map message_of xs)) ≡ true
+some_key [] n = absurd (n refl)
+some_key (x ∷ xs) n = refl
+
+module _ (c : Contents) (p : Policy) (s : Session) (kept : List Keyed) (lies : LiesIn c s kept) where
+  -- what is chosen of the stored messages
+  abbrev chosen : List Keyed
+  chosen = to_remove (λ (x : Keyed). x.message.class) p s.name s.marks kept
+
+  keys_chosen : keys_to_remove p s ≡ map head.key_of (map head_of chosen)
+  keys_chosen = ap (λ (view : List Head). map head.key_of (to_remove head.class_of p s.name s.marks view)) lies.heads
+      ∙ ap (map head.key_of) (to_remove-map head_of head.class_of p s.name s.marks kept)
+
+  asks_removal : (keys_to_remove p s ≡ [] → ⊥) → not (is_empty (to_remove records.class_of p s.name s.marks (map message_of kept))) ≡ true
+  asks_removal n = ap (λ (ms : List Message). not (is_empty ms)) (to_remove-map message_of records.class_of p s.name s.marks kept)
+      ∙ some_key chosen (λ e. n (keys_chosen ∙ e))
+
+  denying_alike : denying head.class_of p s.name s.marks s.view ≡ denying records.class_of p s.name s.marks (map message_of kept)
+  denying_alike = ap (λ (view : List Head). denying head.class_of p s.name s.marks view) lies.heads
+      ∙ (denying-map head_of head.class_of p s.name s.marks kept ∙ sym (denying-map message_of records.class_of p s.name s.marks kept))
+
+  module _ (After : Contents → Type 0) (grown : Bool) (before after : List ℕ) where
+    pub quit_done : (denied : Option (List ℕ)) → denied ≡ denying head.class_of p s.name s.marks s.view → after ≡ before ++ bytes_of (quit_says denied)
+        → After (without_marked p s c) → Obeyed After grown c p s s kept before after (Ok Quit) acted.Done
+    quit_done denied e said held = record {
+      owed = said ∙ ap (λ (o : Option (List ℕ)). before ++ bytes_of (quit_says o)) (e ∙ denying_alike);
+      session = record {
+        name = refl;
+        view = refl;
+        marks = λ n. ap (λ (ms : List ℕ). is_marked ms n) (sym (quit_keeps (denying records.class_of p s.name s.marks (map message_of kept)) s.marks));
+      };
+      held = held;
+      may = λ e. cc;
+      cause = λ e. cc;
+    }
+
+    pub quit_failed : after ≡ before ++ bytes_of RemovalFailed → (keys_to_remove p s ≡ [] → ⊥) → After c → grown ≡ true
+        → Obeyed After grown c p s s kept before after (Ok Quit) acted.Failed
+    quit_failed said some held grew = record {
+      owed = said;
+      session = record { name = refl; view = refl; marks = λ n. refl };
+      held = held;
+      may = λ e. asks_removal some;
+      cause = λ e. grew;
+    }
+
+-- ---- a list by its length
+
+pub none_left : {A : Type 0} (xs : List A) (n : ℕ) → n ≡ length xs → (n == 0) ≡ true → xs ≡ []
+none_left [] n e t = refl
+none_left (x ∷ xs) n e t = absurd (grind (arith, nat_tests))
+
+pub some_left : {A : Type 0} (xs : List A) (n : ℕ) → n ≡ length xs → (n == 0) ≡ false → xs ≡ [] → ⊥
+some_left [] n e t h = grind (arith, nat_tests)
+some_left (x ∷ xs) n e t h = cc
+
+-- what was said is taken back
+pub cut_back : (xs ys zs : List ℕ) (n : ℕ) → ys ≡ xs ++ zs → n ≡ length xs → take n ys ≡ xs
+cut_back xs ys zs n e f = ap₂ (λ (m : ℕ) (l : List ℕ). take m l) f e ∙ take-append_seam xs zs

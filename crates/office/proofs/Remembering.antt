@@ -1,0 +1,117 @@
+-- What is remembered after a line of a session: no credential is refused in one.
+use Rattle.std.proofs.Common.{◌≡◌, ℕ, Bool, true, false, ◌||◌, List, Option, Some, None, Result, Ok, Err, refl, sym, ◌∙◌, ap}
+use Rattle.std.specs.Prelude.{if◌then◌else◌}
+use Rattle.creds.specs.declared.login_name.LoginName.{LoginName}
+use Rattle.policy.specs.Policy.{Policy}
+use Rattle.policy.specs.declared.decide.Decision.{Decision}
+use Rattle.popline.specs.Cutting.{Cut, TooLong}
+use Rattle.popline.specs.Cutting as cutting
+use Rattle.popline.specs.Commands.{Command, Capa, User, Pass, Apop, Quit, Stat, ListAll, ListOne, UidlAll, UidlOne, Retr, Top, Dele, Rset, Noop, command_of}
+use Rattle.popline.specs.declared.command.LineFault.{LineFault}
+use Rattle.popline.specs.declared.command.LineFault.TheVariants.{Unknown, Syntax}
+use Rattle.popline.specs.Replies.{Reply, LoginFailedClosing, BadArguments, NoSuchMessage, AlreadyMarked, Marked, DeniedBy, ScanLine, UidLine, Message, TopPart}
+use Rattle.vault.specs.declared.record.Message.{Message as Stored}
+use Rattle.vault.specs.Records.{octets_of, uid_of}
+use Rattle.mailtext.specs.Text.{lines_of, top_part, stuffed_lines}
+use Rattle.session.specs.View.{at_number, is_marked, referred, removal, denying}
+use Rattle.vault.specs.Records as records
+use Rattle.office.specs.History.{Says}
+use Rattle.office.specs.Connections.{reading, closes, is_quit, user_after_line, is_failure}
+use Rattle.office.specs.Replying.{is_allowed, when_permitted, quit_says, deleted_if}
+use Rattle.office.specs.Kept.{talk_after, one_more_failure}
+use Rattle.office.specs.Sitting.{Sitting, said_inside, refused_reading, reply_inside, user_inside}
+use Rattle.office.specs.declared.talk.Acted.{Acted}
+use Rattle.office.specs.declared.talk.Acted.TheVariants as acted
+use Rattle.office.specs.declared.talk.Talk.{Talk}
+
+-- ---- no reply refuses a credential
+
+closes_quit : (r : Result Command LineFault) (reply : Reply) → is_failure (Says reply) ≡ false → closes r (Says reply) ≡ is_quit r
+closes_quit r LoginFailedClosing e = cc
+closes_quit r _ e = refl
+
+permitted_fine : (b : Bool) → is_failure (Says (when_permitted b BadArguments)) ≡ false
+permitted_fine true = refl
+permitted_fine false = refl
+
+referred_fine : (o : Option Stored) (b : Bool) (n : ℕ) (f : Stored → Reply) → ((m : Stored) → is_failure (Says (f m)) ≡ false)
+    → is_failure (Says (referred o b NoSuchMessage (AlreadyMarked n) f)) ≡ false
+referred_fine None b n f h = refl
+referred_fine (Some m) true n f h = refl
+referred_fine (Some m) false n f h = h m
+
+deleted_fine : (d : Decision) (n : ℕ) → is_failure (Says (deleted_if d n)) ≡ false
+deleted_fine d n = at d.allowed
+  where
+    at : (b : Bool) → is_failure (Says (if b then Marked n else DeniedBy d.rule)) ≡ false
+    at true = refl
+    at false = refl
+
+quit_fine : (o : Option (List ℕ)) → is_failure (Says (quit_says o)) ≡ false
+quit_fine None = refl
+quit_fine (Some rule) = refl
+
+module _ (p : Policy) (v : Sitting) where
+  said_fine : (r : Result Command LineFault) → is_failure (Says (said_inside p v r)) ≡ false
+  said_fine (Err Unknown) = refl
+  said_fine (Err (Syntax k)) = permitted_fine (is_allowed k true false)
+  said_fine (Ok Capa) = refl
+  said_fine (Ok (User name)) = refl
+  said_fine (Ok (Pass password)) = refl
+  said_fine (Ok (Apop name digest)) = refl
+  said_fine (Ok Quit) = quit_fine (denying records.class_of p v.name v.marks v.view)
+  said_fine (Ok Stat) = refl
+  said_fine (Ok ListAll) = refl
+  said_fine (Ok (ListOne n)) = referred_fine (at_number v.view n) (is_marked v.marks n) n (λ m. ScanLine n (octets_of m)) (λ m. refl)
+  said_fine (Ok UidlAll) = refl
+  said_fine (Ok (UidlOne n)) = referred_fine (at_number v.view n) (is_marked v.marks n) n (λ m. UidLine n (uid_of m)) (λ m. refl)
+  said_fine (Ok (Retr n)) = referred_fine (at_number v.view n) (is_marked v.marks n) n (λ m. Message (octets_of m) (stuffed_lines (lines_of m.text))) (λ m. refl)
+  said_fine (Ok (Top n k)) = referred_fine (at_number v.view n) (is_marked v.marks n) n (λ m. TopPart (stuffed_lines (top_part (lines_of m.text) k))) (λ m. refl)
+  said_fine (Ok (Dele n)) = referred_fine (at_number v.view n) (is_marked v.marks n) n (λ m. deleted_if (removal p v.name m.class) n) (λ m. deleted_fine (removal p v.name m.class) n)
+  said_fine (Ok Rset) = refl
+  said_fine (Ok Noop) = refl
+
+  refused_fine : (r : Result Command LineFault) → is_failure (Says (refused_reading r)) ≡ false
+  refused_fine (Ok Quit) = refl
+  refused_fine (Ok _) = refl
+  refused_fine (Err fault) = refl
+
+  reply_fine : (w : Acted) (x : Cut) → is_failure (Says (reply_inside w p v x)) ≡ false
+  reply_fine acted.Done TooLong = refl
+  reply_fine acted.Done (cutting.Line l) = said_fine (command_of l)
+  reply_fine acted.Failed x = refused_fine (reading x)
+
+  -- ---- the login name in force
+
+  said_user : (r : Result Command LineFault) (u : Option LoginName) → user_after_line r (Says (said_inside p v r)) u ≡ user_inside acted.Done r u
+  said_user (Ok Capa) u = refl
+  said_user (Ok (User name)) u = refl
+  said_user (Ok _) u = refl
+  said_user (Err fault) u = refl
+
+  refused_user : (r : Result Command LineFault) (u : Option LoginName) → user_after_line r (Says (refused_reading r)) u ≡ user_inside acted.Failed r u
+  refused_user (Ok Capa) u = refl
+  refused_user (Ok (User name)) u = refl
+  refused_user (Ok _) u = refl
+  refused_user (Err fault) u = refl
+
+  user_is : (w : Acted) (x : Cut) (u : Option LoginName) → user_after_line (reading x) (Says (reply_inside w p v x)) u ≡ user_inside w (reading x) u
+  user_is acted.Done TooLong u = refl
+  user_is acted.Done (cutting.Line l) u = said_user (command_of l) u
+  user_is acted.Failed x u = refused_user (reading x) u
+
+  abbrev talk_of : Option LoginName → ℕ → Bool → Talk
+  talk_of user failures closing = record { user = user; failures = failures; closing = closing }
+
+  pub remembered : (w : Acted) (x : Cut) (t : Talk) (user : Option LoginName) (closing : Bool) → user ≡ user_inside w (reading x) t.user → closing ≡ (is_quit (reading x) || t.closing)
+      → talk_of user t.failures closing ≡ talk_after x (reply_inside w p v x) t
+  remembered w x t user closing e f =
+      let reply : Reply = reply_inside w p v x in
+      let fine : is_failure (Says reply) ≡ false = reply_fine w x in
+      let named : user ≡ user_after_line (reading x) (Says reply) t.user = e ∙ sym (user_is w x t.user) in
+      let counted : t.failures ≡ (if is_failure (Says reply) then one_more_failure t.failures else t.failures) =
+      sym (ap (λ (b : Bool). if b then one_more_failure t.failures else t.failures) fine) in
+      let closed : closing ≡ (closes (reading x) (Says reply) || t.closing) = f ∙ ap (λ (b : Bool). b || t.closing) (sym (closes_quit (reading x) reply fine)) in
+      ap (λ (u : Option LoginName). talk_of u t.failures closing) named
+      ∙ (ap (λ (n : ℕ). talk_of (user_after_line (reading x) (Says reply) t.user) n closing) counted
+      ∙ ap (λ (b : Bool). talk_of (user_after_line (reading x) (Says reply) t.user) (if is_failure (Says reply) then one_more_failure t.failures else t.failures) b) closed)

@@ -1,0 +1,252 @@
+-- In a live session: what the history says of a line is what the session is told.
+use Rattle.std.proofs.Common.{◌≡◌, ℕ, Bool, true, false, not, List, Option, Some, None, Result, Ok, Err, refl, sym, ◌∙◌, ap, is_some}
+use Rattle.std.proofs.lemmas.List.Elements.{filter_agree}
+use Rattle.std.specs.Prelude.{length, map, filter, if◌then◌else◌}
+use Rattle.std.specs.List.{find}
+use Rattle.std.specs.Option.{option_map}
+use Rattle.creds.specs.declared.login_name.LoginName.{LoginName}
+use Rattle.popline.specs.Cutting.{Cut, TooLong}
+use Rattle.popline.specs.Cutting as cutting
+use Rattle.popline.specs.Commands.{Command, Capa, User, Pass, Apop, Quit, Stat, ListAll, ListOne, UidlAll, UidlOne, Top, Retr, Dele, Rset, Noop, command_of}
+use Rattle.popline.specs.declared.command.Keyword.{Keyword}
+use Rattle.popline.specs.declared.command.Keyword.TheVariants as keyword
+use Rattle.popline.specs.declared.command.LineFault.{LineFault}
+use Rattle.popline.specs.declared.command.LineFault.TheVariants.{Unknown, Syntax}
+use Rattle.popline.specs.Replies.{Reply, DropListing, ScanListing, UidListing, NoSuchMessage, AlreadyMarked, BadArguments, Marked, DeniedBy}
+use Rattle.policy.specs.Policy.{Policy}
+use Rattle.vault.specs.Records.{Records, class_of, octets_of, uid_of}
+use Rattle.vault.specs.declared.record.Message as store
+use Rattle.session.specs.View.{is_marked, marked, unmarked, numbered, at_number, referred, may_remove, removal, to_remove, denying, sizes_of, uids_of, total_of}
+use Rattle.office.specs.History.{Entry, Done, Failed, Says, in_force}
+use Rattle.office.specs.Connections.{reading, user, closes, is_quit}
+use Rattle.policy.specs.declared.decide.Decision.{Decision}
+use Rattle.office.specs.Sessions.{live, login, logs_in, marks, view}
+use Rattle.office.specs.Replying.{session_says, quit_says, is_allowed, when_permitted, name_or_nobody, is_pickable, is_empty, pick, deleted_if, reply_to_reading, reply_to_cut, line_may_fail, reading_may_fail}
+use Rattle.office.specs.Answered.{tag_of}
+use Rattle.office.specs.Sitting.{Sitting, said_inside, refused_reading, asks_inside, reply_inside}
+use Rattle.office.specs.declared.talk.Acted.{Acted}
+use Rattle.office.specs.declared.talk.Acted.TheVariants as acted
+
+-- ---- marks count by number
+
+module _ (ms ns : List ℕ) (same : (n : ℕ) → is_marked ms n ≡ is_marked ns n) where
+  pub marked_alike : {A : Type 0} (rows : List A) → marked ms rows ≡ marked ns rows
+  marked_alike {A} rows = filter_agree (λ (row : ℕ × A). is_marked ms row.0) (λ (row : ℕ × A). is_marked ns row.0) (λ row. same row.0) (numbered rows)
+
+  pub unmarked_alike : {A : Type 0} (rows : List A) → unmarked ms rows ≡ unmarked ns rows
+  unmarked_alike {A} rows =
+      filter_agree (λ (row : ℕ × A). not (is_marked ms row.0)) (λ (row : ℕ × A). not (is_marked ns row.0)) (λ row. ap not (same row.0)) (numbered rows)
+
+  pub to_remove_alike : {A : Type 0} (class_of : A → List ℕ) (p : Policy) (name : LoginName) (rows : List A) → to_remove class_of p name ms rows ≡ to_remove class_of p name ns rows
+  to_remove_alike {A} class_of p name rows =
+      ap (λ (rs : List (ℕ × A)). filter (λ row. may_remove p name (class_of row)) (map (λ (row : ℕ × A). row.1) rs)) (marked_alike rows)
+
+  pub denying_alike : {A : Type 0} (class_of : A → List ℕ) (p : Policy) (name : LoginName) (rows : List A) → denying class_of p name ms rows ≡ denying class_of p name ns rows
+  denying_alike {A} class_of p name rows =
+      ap (λ (rs : List (ℕ × A)). option_map (λ (row : ℕ × A). (removal p name (class_of row.1)).rule) (find (λ (row : ℕ × A). not (may_remove p name (class_of row.1))) rs)) (marked_alike rows)
+
+  pick_alike : (rows : List store.Message) (n : ℕ) (f : store.Message → Reply) → pick ms rows n f ≡ pick ns rows n f
+  pick_alike rows n f = ap (λ b. referred (at_number rows n) b NoSuchMessage (AlreadyMarked n) f) (same n)
+
+  -- what a session says
+  pub says_alike : (p : Policy) (name : LoginName) (rows : List store.Message) (command : Command) → session_says p name ms rows command ≡ session_says p name ns rows command
+  says_alike p name rows Stat = ap (λ rs. DropListing (length rs) (total_of octets_of rs)) (unmarked_alike rows)
+  says_alike p name rows ListAll = ap (λ rs. ScanListing (sizes_of octets_of rs)) (unmarked_alike rows)
+  says_alike p name rows (ListOne n) = pick_alike rows n _
+  says_alike p name rows UidlAll = ap (λ rs. UidListing (uids_of uid_of rs)) (unmarked_alike rows)
+  says_alike p name rows (UidlOne n) = pick_alike rows n _
+  says_alike p name rows (Retr n) = pick_alike rows n _
+  says_alike p name rows (Top n k) = pick_alike rows n _
+  says_alike p name rows (Dele n) = pick_alike rows n _
+  says_alike p name rows Rset = refl
+  says_alike p name rows Noop = refl
+  says_alike p name rows Quit = ap quit_says (denying_alike class_of p name rows)
+  says_alike p name rows Capa = refl
+  says_alike p name rows (User user) = refl
+  says_alike p name rows (Pass password) = refl
+  says_alike p name rows (Apop user digest) = refl
+
+-- ---- a live session
+
+-- What is kept of a session, with its messages and the policy in force, is what the history says.
+pub record AgreesInside (B : Records) (G : List Entry) (c : ℕ) (p : Policy) (v : Sitting) : Type 0 where
+  pub live : live G c ≡ true
+  pub login : login G c ≡ Some v.name
+  pub marks : (n : ℕ) → is_marked v.marks n ≡ is_marked (marks G c) n
+  pub view : v.view ≡ view B G c
+  pub policy : p ≡ in_force B G
+
+-- after a login, what may stand doesn't depend on a name in force
+allowed_inside : (k : Keyword) (has_user : Bool) → is_allowed k true has_user ≡ is_allowed k true false
+allowed_inside keyword.Capa u = refl
+allowed_inside keyword.Quit u = refl
+allowed_inside keyword.User u = refl
+allowed_inside keyword.Apop u = refl
+allowed_inside keyword.Pass u = refl
+allowed_inside _ u = refl
+
+module _ (B : Records) (G : List Entry) (c : ℕ) (p : Policy) (v : Sitting) (a : AgreesInside B G c p v) where
+  pub name_inside : name_or_nobody (login G c) ≡ v.name
+  name_inside = ap name_or_nobody a.login
+
+  pub chosen_alike : to_remove class_of p v.name v.marks v.view ≡ to_remove class_of (in_force B G) (name_or_nobody (login G c)) (marks G c) (view B G c)
+  chosen_alike =
+      let n = name_inside in
+      let w = sym a.view in
+      let q = sym a.policy in
+      rw (n, w, q) (to_remove_alike v.marks (marks G c) a.marks class_of p v.name v.view)
+
+  says_inside : (command : Command) → session_says (in_force B G) (name_or_nobody (login G c)) (marks G c) (view B G c) command ≡ session_says p v.name v.marks v.view command
+  says_inside command =
+      ap (λ q. session_says q (name_or_nobody (login G c)) (marks G c) (view B G c) command) (sym a.policy)
+      ∙ (ap (λ n. session_says p n (marks G c) (view B G c) command) name_inside
+      ∙ (ap (λ rows. session_says p v.name (marks G c) rows command) (sym a.view)
+      ∙ sym (says_alike v.marks (marks G c) a.marks p v.name v.view command)))
+
+  reading_inside : (r : Result Command LineFault) → reply_to_reading B G c r Done ≡ said_inside p v r
+  reading_inside (Err Unknown) = refl
+  reading_inside (Err (Syntax k)) = let lv = a.live in rw lv (ap (λ b. when_permitted b BadArguments) (allowed_inside k (is_some (user G c))))
+  reading_inside (Ok Capa) = refl
+  reading_inside (Ok (User name)) = let lv = a.live in rw lv refl
+  reading_inside (Ok (Pass password)) = let lv = a.live in rw lv refl
+  reading_inside (Ok (Apop name digest)) = let lv = a.live in rw lv refl
+  reading_inside (Ok Quit) = let lv = a.live in rw lv (says_inside Quit)
+  reading_inside (Ok Stat) = let lv = a.live in rw lv (says_inside Stat)
+  reading_inside (Ok ListAll) = let lv = a.live in rw lv (says_inside ListAll)
+  reading_inside (Ok (ListOne n)) = let lv = a.live in rw lv (says_inside (ListOne n))
+  reading_inside (Ok UidlAll) = let lv = a.live in rw lv (says_inside UidlAll)
+  reading_inside (Ok (UidlOne n)) = let lv = a.live in rw lv (says_inside (UidlOne n))
+  reading_inside (Ok (Retr n)) = let lv = a.live in rw lv (says_inside (Retr n))
+  reading_inside (Ok (Top n k)) = let lv = a.live in rw lv (says_inside (Top n k))
+  reading_inside (Ok (Dele n)) = let lv = a.live in rw lv (says_inside (Dele n))
+  reading_inside (Ok Rset) = let lv = a.live in rw lv (says_inside Rset)
+  reading_inside (Ok Noop) = let lv = a.live in rw lv (says_inside Noop)
+
+  refused_inside : (r : Result Command LineFault) → asks_inside p v r ≡ true → reply_to_reading B G c r Failed ≡ refused_reading r
+  refused_inside (Err e) h = cc
+  refused_inside (Ok (Retr n)) h = let lv = a.live in rw lv refl
+  refused_inside (Ok (Top n k)) h = let lv = a.live in rw lv refl
+  refused_inside (Ok Quit) h = refl
+  refused_inside (Ok Capa) h = cc
+  refused_inside (Ok (User name)) h = cc
+  refused_inside (Ok (Pass password)) h = cc
+  refused_inside (Ok (Apop name digest)) h = cc
+  refused_inside (Ok Stat) h = cc
+  refused_inside (Ok ListAll) h = cc
+  refused_inside (Ok (ListOne n)) h = cc
+  refused_inside (Ok UidlAll) h = cc
+  refused_inside (Ok (UidlOne n)) h = cc
+  refused_inside (Ok (Dele n)) h = cc
+  refused_inside (Ok Rset) h = cc
+  refused_inside (Ok Noop) h = cc
+
+  picked_inside : (n : ℕ) → is_pickable (at_number v.view n) (is_marked v.marks n) ≡ true → is_pickable (at_number (view B G c) n) (is_marked (marks G c) n) ≡ true
+  picked_inside n h =
+      ap (λ b. is_pickable (at_number (view B G c) n) b) (sym (a.marks n))
+      ∙ (ap (λ (rows : List store.Message). is_pickable (at_number rows n) (is_marked v.marks n)) (sym a.view) ∙ h)
+
+  may_be_refused : (r : Result Command LineFault) → asks_inside p v r ≡ true → reading_may_fail B G c r ≡ true
+  may_be_refused (Err e) h = cc
+  may_be_refused (Ok (Retr n)) h = let lv = a.live in let k = picked_inside n h in rw (lv, k) refl
+  may_be_refused (Ok (Top n k)) h = let lv = a.live in let e = picked_inside n h in rw (lv, e) refl
+  may_be_refused (Ok Quit) h = let lv = a.live in rw lv (ap (λ (rows : List store.Message). not (is_empty rows)) (sym chosen_alike) ∙ h)
+  may_be_refused (Ok Capa) h = cc
+  may_be_refused (Ok (User name)) h = cc
+  may_be_refused (Ok (Pass password)) h = cc
+  may_be_refused (Ok (Apop name digest)) h = cc
+  may_be_refused (Ok Stat) h = cc
+  may_be_refused (Ok ListAll) h = cc
+  may_be_refused (Ok (ListOne n)) h = cc
+  may_be_refused (Ok UidlAll) h = cc
+  may_be_refused (Ok (UidlOne n)) h = cc
+  may_be_refused (Ok (Dele n)) h = cc
+  may_be_refused (Ok Rset) h = cc
+  may_be_refused (Ok Noop) h = cc
+
+  reply_done : (x : Cut) → reply_to_cut B G c x Done ≡ reply_inside acted.Done p v x
+  reply_done TooLong = refl
+  reply_done (cutting.Line l) = reading_inside (command_of l)
+
+  reply_refused : (x : Cut) → asks_inside p v (reading x) ≡ true → reply_to_cut B G c x Failed ≡ reply_inside acted.Failed p v x
+  reply_refused TooLong h = cc
+  reply_refused (cutting.Line l) h = refused_inside (command_of l) h
+
+  -- what the history says of a line is what it is told
+  pub reply_said_inside : (x : Cut) (w : Acted) → (w ≡ acted.Failed → asks_inside p v (reading x) ≡ true) → reply_to_cut B G c x (tag_of w) ≡ reply_inside w p v x
+  reply_said_inside x acted.Done may = reply_done x
+  reply_said_inside x acted.Failed may = reply_refused x (may refl)
+
+  -- only a line that asks may be refused
+  pub fails_inside : (x : Cut) → asks_inside p v (reading x) ≡ true → line_may_fail B G c x ≡ true
+  fails_inside x h = may_be_refused (reading x) h
+
+-- ---- no line of a session logs in
+
+no_login_read : (p : Policy) (v : Sitting) (r : Result Command LineFault) (u : Option LoginName) → logs_in r (Says (said_inside p v r)) u ≡ None
+no_login_read p v (Err e) u = refl
+no_login_read p v (Ok (Pass password)) u = refl
+no_login_read p v (Ok (Apop name digest)) u = refl
+no_login_read p v _ u = refl
+
+no_login_refused : (r : Result Command LineFault) (u : Option LoginName) → logs_in r (Says (refused_reading r)) u ≡ None
+no_login_refused (Err e) u = refl
+no_login_refused (Ok (Pass password)) u = refl
+no_login_refused (Ok (Apop name digest)) u = refl
+no_login_refused _ u = refl
+
+pub no_login_inside : (w : Acted) (p : Policy) (v : Sitting) (x : Cut) (u : Option LoginName) → logs_in (reading x) (Says (reply_inside w p v x)) u ≡ None
+no_login_inside acted.Done p v TooLong u = refl
+no_login_inside acted.Done p v (cutting.Line l) u = no_login_read p v (command_of l) u
+no_login_inside acted.Failed p v x u = no_login_refused (reading x) u
+
+-- ---- no line of a session but QUIT closes its connection
+
+closes_referred : (r : Result Command LineFault) (o : Option store.Message) (b : Bool) (n : ℕ) (f : store.Message → Reply) → ((m : store.Message) → closes r (Says (f m)) ≡ is_quit r)
+    → closes r (Says (referred o b NoSuchMessage (AlreadyMarked n) f)) ≡ is_quit r
+closes_referred r None b n f h = refl
+closes_referred r (Some m) true n f h = refl
+closes_referred r (Some m) false n f h = h m
+
+closes_deleted : (n : ℕ) (d : Decision) → closes (Ok (Dele n)) (Says (deleted_if d n)) ≡ false
+closes_deleted n d = at d.allowed
+  where
+    at : (b : Bool) → closes (Ok (Dele n)) (Says (if b then Marked n else DeniedBy d.rule)) ≡ false
+    at true = refl
+    at false = refl
+
+closes_quit : (o : Option (List ℕ)) → closes (Ok Quit) (Says (quit_says o)) ≡ true
+closes_quit None = refl
+closes_quit (Some rule) = refl
+
+closes_bad : (b : Bool) (k : Keyword) → closes (Err (Syntax k)) (Says (when_permitted b BadArguments)) ≡ false
+closes_bad true k = refl
+closes_bad false k = refl
+
+closes_read : (p : Policy) (v : Sitting) (r : Result Command LineFault) → closes r (Says (said_inside p v r)) ≡ is_quit r
+closes_read p v (Err Unknown) = refl
+closes_read p v (Err (Syntax k)) = closes_bad (is_allowed k true false) k
+closes_read p v (Ok Capa) = refl
+closes_read p v (Ok (User name)) = refl
+closes_read p v (Ok (Pass password)) = refl
+closes_read p v (Ok (Apop name digest)) = refl
+closes_read p v (Ok Quit) = closes_quit (denying class_of p v.name v.marks v.view)
+closes_read p v (Ok Stat) = refl
+closes_read p v (Ok ListAll) = refl
+closes_read p v (Ok (ListOne n)) = closes_referred (Ok (ListOne n)) (at_number v.view n) (is_marked v.marks n) n _ (λ m. refl)
+closes_read p v (Ok UidlAll) = refl
+closes_read p v (Ok (UidlOne n)) = closes_referred (Ok (UidlOne n)) (at_number v.view n) (is_marked v.marks n) n _ (λ m. refl)
+closes_read p v (Ok (Retr n)) = closes_referred (Ok (Retr n)) (at_number v.view n) (is_marked v.marks n) n _ (λ m. refl)
+closes_read p v (Ok (Top n k)) = closes_referred (Ok (Top n k)) (at_number v.view n) (is_marked v.marks n) n _ (λ m. refl)
+closes_read p v (Ok (Dele n)) = closes_referred (Ok (Dele n)) (at_number v.view n) (is_marked v.marks n) n _ (λ m. closes_deleted n (removal p v.name m.class))
+closes_read p v (Ok Rset) = refl
+closes_read p v (Ok Noop) = refl
+
+closes_refused : (r : Result Command LineFault) → closes r (Says (refused_reading r)) ≡ is_quit r
+closes_refused (Err e) = refl
+closes_refused (Ok Quit) = refl
+closes_refused (Ok _) = refl
+
+pub closes_inside : (w : Acted) (p : Policy) (v : Sitting) (x : Cut) → closes (reading x) (Says (reply_inside w p v x)) ≡ is_quit (reading x)
+closes_inside acted.Done p v TooLong = refl
+closes_inside acted.Done p v (cutting.Line l) = closes_read p v (command_of l)
+closes_inside acted.Failed p v x = closes_refused (reading x)

@@ -1,0 +1,93 @@
+-- A taking of all that is lent, on a trace: what the next line leaves, and what the event is answered.
+use Rattle.std.proofs.Common.{◌≡◌, ℕ, true, false, List, [], ◌++◌, Option, Some, None, refl, ◌∙◌, ap, nat_cmp, eqb}
+use Rattle.std.specs.BTreeMap.{BTreeMap, get}
+use Rattle.popline.specs.Cutting.{coming, shown, has_newline}
+use Rattle.popline.specs.Replies.{Reply}
+use Rattle.policy.specs.Policy.{Policy}
+use Rattle.vault.specs.Changes.{Contents, AreSound, records_of}
+use Rattle.office.specs.History.{Done, Failed, in_force}
+use Rattle.office.specs.Connections.{reading, closing}
+use Rattle.office.specs.Sessions.{holder, records}
+use Rattle.office.specs.Events.{Trace, Took, Tagged, given}
+use Rattle.office.specs.Trace.{history, is_left, next_line}
+use Rattle.office.specs.Expected.{ignored, IsOutcome}
+use Rattle.office.specs.Outcomes.{Outcome}
+use Rattle.office.specs.Kept.{Kept, answered, line_after, asks}
+use Rattle.office.specs.Answered.{name_cmp, judged_at, reply_of, tag_of, shown_of, held_if, BecomesIf, LocksFollow}
+use Rattle.vault.specs.Records.{Agree}
+use Rattle.office.specs.Stands.{seen, Matches, IsKeptFor, Keeps}
+use Rattle.office.specs.declared.office.Office.{Office}
+use Rattle.office.specs.declared.talk.Acted.{Acted}
+use Rattle.office.specs.declared.talk.Acted.TheVariants as acted
+use Rattle.office.proofs.Judging.{Judges}
+use Rattle.office.proofs.Hearing.{took, Awaits, acts_next, none_next}
+use Rattle.office.proofs.Events.{Moves, next_kept, seen-took_line, records-took_line, seen-took_none, records-took_none, seen-took_other}
+use Rattle.office.proofs.LineDone.{judges, here, agrees, carried, locked}
+
+module _ {Before : Contents → Type 0} (T : Trace) (n octets : ℕ) (keeps : Keeps Before T) (sound : AreSound keeps.contents) (policy : Policy) (rules : policy ≡ in_force T.base (history T))
+    (locks : BTreeMap (List ℕ) ℕ) (held : (d : List ℕ) → get name_cmp locks d ≡ holder (history T) d)
+    (k : Kept) (ready : Awaits keeps.contents (took (seen T n) octets) k k.pending) (all : is_left T.log (history T) n octets ≡ false) (open_yet : closing (history T) n ≡ false) where
+  abbrev p : List ℕ
+  p = k.pending
+
+  abbrev pub judged : Judges T.base (history T) n keeps.contents (judged_at keeps.contents policy k.stamp locks) k.talk k.session
+  judged = judges T n keeps sound policy rules locks held (took (seen T n) octets) k p ready refl refl refl refl refl refl refl
+
+  abbrev replied : Acted → Reply
+  replied w = reply_of w (judged_at keeps.contents policy k.stamp locks) k.talk judged.sitting (line_after k p)
+
+  module _ (w : Acted) (k' : Kept) (locks' : BTreeMap (List ℕ) ℕ)
+      (may : w ≡ acted.Failed → (has_newline p ≡ true) × (asks policy k.talk judged.sitting (reading (line_after k p)) ≡ true))
+      (is : k' ≡ answered k p (replied w) k'.session)
+      (law : (more : List ℕ) → coming k.held (p ++ more) ≡ shown k'.held ++ coming k'.held (k'.pending ++ more)) where
+    none : has_newline p ≡ false → next_line T.log (history T) n [] ≡ None
+    none h = next_kept T n ∙ none_next keeps.contents (took (seen T n) octets) k k' p (replied w) ready is law h
+
+    module _ (became : BecomesIf (has_newline p) keeps.contents policy k.talk (line_after k p) (replied w) k.session k'.session)
+        (follow : LocksFollow n k.session k'.session locks locks') where
+      abbrev left : Contents
+      left = held_if (has_newline p) w policy k.session (reading (line_after k p)) keeps.contents
+
+      taking_here : Matches left (seen (given T (Took n octets) (Tagged (tag_of w))) n) k'
+      taking_here = here T n keeps sound policy rules locks held (took (seen T n) octets) k p ready refl refl refl refl refl refl refl (Took n octets) w k' locks' may is law became follow refl
+          (λ h nx. seen-took_line T n octets w (line_after k p) all open_yet (next_kept T n ∙ nx)) (λ h nx. records-took_line T n octets w (line_after k p) all open_yet (next_kept T n ∙ nx))
+          (λ h d. rw d (seen-took_none T n octets all open_yet (none h))) (λ h d. rw d (records-took_none T n octets all open_yet (none h))) (λ q e. seen-took_other T n octets q (tag_of w) e)
+
+      taking_agrees : Agree (records_of left) (records T.base (history (given T (Took n octets) (Tagged (tag_of w)))))
+      taking_agrees = agrees T n keeps sound policy rules locks held (took (seen T n) octets) k p ready refl refl refl refl refl refl refl (Took n octets) w k' locks' may is law became follow refl
+          (λ h nx. seen-took_line T n octets w (line_after k p) all open_yet (next_kept T n ∙ nx)) (λ h nx. records-took_line T n octets w (line_after k p) all open_yet (next_kept T n ∙ nx))
+          (λ h d. rw d (seen-took_none T n octets all open_yet (none h))) (λ h d. rw d (records-took_none T n octets all open_yet (none h))) (λ q e. seen-took_other T n octets q (tag_of w) e)
+
+      taking_carried : (q : ℕ) → eqb n q ≡ false → (o : Option Kept) → IsKeptFor keeps.contents (seen T q) o → IsKeptFor left (seen T q) o
+      taking_carried = carried T n keeps sound policy rules locks held (took (seen T n) octets) k p ready refl refl refl refl refl refl refl (Took n octets) w k' locks' may is law became follow refl
+          (λ h nx. seen-took_line T n octets w (line_after k p) all open_yet (next_kept T n ∙ nx)) (λ h nx. records-took_line T n octets w (line_after k p) all open_yet (next_kept T n ∙ nx))
+          (λ h d. rw d (seen-took_none T n octets all open_yet (none h))) (λ h d. rw d (records-took_none T n octets all open_yet (none h))) (λ q e. seen-took_other T n octets q (tag_of w) e)
+
+      taking_locked : (d : List ℕ) → get name_cmp locks' d ≡ holder (history (given T (Took n octets) (Tagged (tag_of w)))) d
+      taking_locked = locked T n keeps sound policy rules locks held (took (seen T n) octets) k p ready refl refl refl refl refl refl refl (Took n octets) w k' locks' may is law became follow refl
+          (λ h nx. seen-took_line T n octets w (line_after k p) all open_yet (next_kept T n ∙ nx)) (λ h nx. records-took_line T n octets w (line_after k p) all open_yet (next_kept T n ∙ nx))
+          (λ h d. rw d (seen-took_none T n octets all open_yet (none h))) (λ h d. rw d (records-took_none T n octets all open_yet (none h))) (λ q e. seen-took_other T n octets q (tag_of w) e)
+
+      pub taking_moves : {V : Type 0} (Holds : V → Contents → Type 0) (o o' : Office V) → get nat_cmp o'.links n ≡ Some k' → o'.locks ≡ locks' → Holds o'.vault left
+          → Moves Holds o o' T keeps.contents n (given T (Took n octets) (Tagged (tag_of w)))
+      taking_moves Holds o o' kept same put = record {
+        contents = left;
+        held = put;
+        agree = taking_agrees;
+        here = rw kept taking_here;
+        carried = λ q e i. taking_carried q e (get nat_cmp o.links q) i;
+        locks = λ d. ap (λ l. get name_cmp l d) same ∙ taking_locked d;
+      }
+
+    -- a taking after which a line acts is answered what became of it
+    pub taking_answered : (lent : ℕ → ℕ) (o : Outcome) → ignored T lent (Took n octets) ≡ None → o ≡ shown_of w → IsOutcome T lent (Took n octets) o
+    taking_answered lent o goes e = at w may is e
+      where
+        at : (w : Acted) → (w ≡ acted.Failed → (has_newline p ≡ true) × (asks policy k.talk judged.sitting (reading (line_after k p)) ≡ true))
+            → k' ≡ answered k p (replied w) k'.session → o ≡ shown_of w → IsOutcome T lent (Took n octets) o
+        at acted.Done may is e = record { tag = Done; may = refl; is = e ∙ rw goes refl }
+        at acted.Failed may is e =
+            let there = may refl in
+            let next = next_kept T n ∙ acts_next keeps.contents (took (seen T n) octets) k k' p (replied acted.Failed) ready is law there.0 in
+            let fails = judged.fails (line_after k p) there.1 in
+            record { tag = Failed; may = rw (all, open_yet, next, fails) refl; is = e ∙ rw goes refl }

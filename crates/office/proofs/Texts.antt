@@ -1,0 +1,199 @@
+-- The message under a number of a session, and its text under its key.
+use Rattle.std.proofs.Common.{◌≡◌, ◌≤◌, ℕ, zero, suc, Bool, true, false, not, ◌&&◌, ◌==◌, cond, List, [], ◌∷◌, ◌++◌, length, Option, Some, None, Result, Ok, Err, slice_get, refl, sym, ◌∙◌, ap, ap₂, subst, ⊎_elim, inl, inr, true≢false, arith}
+use Rattle.std.proofs.lemmas.Bool.{and_parts, or_parts, eq-eqb}
+use Rattle.std.proofs.lemmas.Bool.Decides.{nat_tests}
+use Rattle.std.proofs.lemmas.Slice.Eq.{bytes_eq-Decides}
+use Rattle.std.specs.Prelude.{map, nat_le, nat_lt, unwrap_or}
+use Rattle.std.specs.List.{list_any, list_all, find}
+use Rattle.std.specs.Option.{option_map}
+use Rattle.std.specs.Str.{bytes_eq}
+use Rattle.mailtext.specs.MailText.{IsMailText}
+use Rattle.mailtext.specs.Text.{kept_form, lines_of, stuffed_lines, top_part}
+use Rattle.policy.specs.Policy.{Policy, are_distinct}
+use Rattle.popline.specs.Commands.{Retr, Top}
+use Rattle.popline.specs.Replies.{Reply, NoSuchMessage, AlreadyMarked, Message, TopPart, StoreFailed, bytes_of}
+use Rattle.vault.specs.Records.{Records, is_sound_message, is_one_of, is_receipt_for, octets_of, most_octets}
+use Rattle.vault.specs.Changes.{Contents, AreSound, records_of, head_of}
+use Rattle.vault.specs.Calls.{text_under}
+use Rattle.vault.specs.declared.answer.Head.{Head}
+use Rattle.vault.specs.declared.record.Keyed.{Keyed}
+use Rattle.vault.specs.declared.record.Message.{Message as Stored}
+use Rattle.session.specs.declared.pick.Pick.{Pick}
+use Rattle.session.specs.declared.pick.Pick.TheVariants.{NoSuch, Deleted}
+use Rattle.session.specs.Session.{Session, picked}
+use Rattle.session.specs.View.{at_number, is_marked, refer, referred}
+use Rattle.office.specs.Laws.{In}
+use Rattle.office.specs.Replying.{is_pickable}
+use Rattle.office.specs.Sitting.{LiesIn, GoesOn, Obeyed, HasText, told_inside}
+use Rattle.office.specs.declared.talk.Acted.TheVariants as acted
+use Rattle.office.proofs.Alike.{refer-map, at_number-map}
+use Rattle.office.proofs.Listed.{message_of}
+
+-- ---- the message under a number
+
+-- a number names a stored message, which isn't marked
+pub record Found (s : Session) (kept : List Keyed) (n : ℕ) (head : Head) : Type 0 where
+  pub stored : Keyed
+  pub there : In stored kept
+  pub head_is : head ≡ head_of stored
+  pub at : at_number kept n ≡ Some stored
+  pub unmarked : is_marked s.marks n ≡ false
+
+there_at : {A : Type 0} (xs : List A) (n : ℕ) (x : A) → slice_get xs n ≡ Some x → In x xs
+there_at [] n x e = cc
+there_at (y ∷ ys) zero x e = inl cc
+there_at (y ∷ ys) (suc n) x e = inr (there_at ys n x e)
+
+in_at_number : {A : Type 0} (xs : List A) (n : ℕ) (x : A) → at_number xs n ≡ Some x → In x xs
+in_at_number xs zero x e = cc
+in_at_number xs (suc n) x e = there_at xs n x e
+
+abbrev head_referred : Option Keyed → Bool → Result Head Pick
+head_referred o b = referred (option_map head_of o) b (Err NoSuch) (Err Deleted) (λ (h : Head). Ok h)
+
+found_at : (s : Session) (kept : List Keyed) (n : ℕ) (head : Head) (o : Option Keyed) → at_number kept n ≡ o → (b : Bool) → is_marked s.marks n ≡ b
+    → ◌≡◌ {A = Result Head Pick} (Ok head) (head_referred o b) → Found s kept n head
+found_at s kept n head None e b f h = absurd (cc)
+found_at s kept n head (Some x) e true f h = absurd (cc)
+found_at s kept n head (Some x) e false f h = record { stored = x; there = in_at_number kept n x e; head_is = cc; at = e; unmarked = f }
+
+pub found : (c : Contents) (s : Session) (kept : List Keyed) → LiesIn c s kept → (n : ℕ) (head : Head) → ◌≡◌ {A = Result Head Pick} (Ok head) (picked s n) → Found s kept n head
+found c s kept lies n head e =
+    let view : at_number s.view n ≡ option_map head_of (at_number kept n) = ap (λ (view : List Head). at_number view n) lies.heads ∙ at_number-map head_of kept n in
+    found_at s kept n head (at_number kept n) refl (is_marked s.marks n) refl
+    (e ∙ ap (λ (o : Option Head). referred {B = Result Head Pick} o (is_marked s.marks n) (Err NoSuch) (Err Deleted) (λ (h : Head). Ok h)) view)
+
+-- ---- what is said of it
+
+module _ (c : Contents) (s : Session) (kept : List Keyed) (n : ℕ) (head : Head) (f : Found s kept n head) where
+  said_of : (reply : Stored → Reply) → refer s.marks (map message_of kept) n NoSuchMessage (AlreadyMarked n) reply ≡ reply f.stored.message
+  said_of reply = refer-map message_of s.marks kept n NoSuchMessage (AlreadyMarked n) reply
+      ∙ ap₂ (λ (o : Option Keyed) (b : Bool). referred o b NoSuchMessage (AlreadyMarked n) (λ (x : Keyed). reply x.message)) f.at f.unmarked
+
+  pub message_said : (p : Policy) → Message (length f.stored.message.text) (stuffed_lines (lines_of f.stored.message.text)) ≡ told_inside p s kept (Retr n)
+  message_said p = sym (said_of (λ (m : Stored). Message (octets_of m) (stuffed_lines (lines_of m.text))))
+
+  pub top_said : (p : Policy) (lines : ℕ) → TopPart (stuffed_lines (top_part (lines_of f.stored.message.text) lines)) ≡ told_inside p s kept (Top n lines)
+  top_said p lines = sym (said_of (λ (m : Stored). TopPart (stuffed_lines (top_part (lines_of m.text) lines))))
+
+  pub is_asked : is_pickable (at_number (map message_of kept) n) (is_marked s.marks n) ≡ true
+  is_asked = ap (λ (o : Option Stored). is_pickable o (is_marked s.marks n)) (at_number-map message_of kept n ∙ ap (option_map message_of) f.at) ∙ ap not f.unmarked
+
+-- ---- the text under a key
+
+find_at : (x : Keyed) (b : Bool) (o : Option Keyed) → b ≡ true → cond b (Some x) o ≡ Some x
+find_at x true o e = refl
+find_at x false o e = absurd (true≢false (sym e))
+
+find_past : (y : Keyed) (b : Bool) (o : Option Keyed) → b ≡ false → cond b (Some y) o ≡ o
+find_past y true o e = absurd (true≢false e)
+find_past y false o e = refl
+
+apart_in : (y : Keyed) (xs : List Keyed) (x : Keyed) → list_any (λ (z : Keyed). y.key == z.key) xs ≡ false → In x xs → (y.key == x.key) ≡ false
+apart_in y [] x e i = absurd i
+apart_in y (z ∷ zs) x e i =
+    let r = or_parts (y.key == z.key) (list_any (λ (z : Keyed). y.key == z.key) zs) e in
+    ⊎_elim (λ (same : x ≡ z). ap (λ (w : Keyed). y.key == w.key) same ∙ r.0) (λ k. apart_in y zs x r.1 k) i
+
+not_true : (b : Bool) → not b ≡ true → b ≡ false
+not_true true e = absurd (true≢false (sym e))
+not_true false e = refl
+
+pub find_key : (xs : List Keyed) → are_distinct (λ (x y : Keyed). x.key == y.key) xs ≡ true → (x : Keyed) → In x xs → find (λ (y : Keyed). y.key == x.key) xs ≡ Some x
+find_key [] d x i = absurd i
+find_key (y ∷ ys) d x i =
+    let r = and_parts (not (list_any (λ (z : Keyed). y.key == z.key) ys)) (are_distinct (λ (x y : Keyed). x.key == y.key) ys) d in
+    let none = not_true (list_any (λ (z : Keyed). y.key == z.key) ys) r.0 in
+    ⊎_elim
+    (λ (same : x ≡ y). find_at y (y.key == x.key) (find (λ (z : Keyed). z.key == x.key) ys) (eq-eqb y.key x.key (ap (λ (w : Keyed). w.key) (sym same))) ∙ ap (λ (w : Keyed). Some w) (sym same))
+    (λ k. find_past y (y.key == x.key) (find (λ (z : Keyed). z.key == x.key) ys) (apart_in y ys x none k) ∙ find_key ys r.1 x k) i
+
+pub text_at : (c : Contents) → AreSound c → (x : Keyed) → In x c.messages → text_under x.key c.messages ≡ x.message.text
+text_at c sound x i = ap (λ (o : Option Keyed). unwrap_or (option_map (λ (y : Keyed). y.message.text) o) []) (find_key c.messages sound.keys x i)
+
+all_in : (p : Stored → Bool) (xs : List Keyed) → list_all p (map message_of xs) ≡ true → (x : Keyed) → In x xs → p x.message ≡ true
+all_in p [] h x i = absurd i
+all_in p (y ∷ ys) h x i =
+    let r = and_parts (p y.message) (list_all p (map message_of ys)) h in
+    ⊎_elim (λ (same : x ≡ y). ap (λ (z : Keyed). p z.message) same ∙ r.0) (λ k. all_in p ys r.1 x k) i
+
+le_true : (m n : ℕ) → nat_le m n ≡ true → m ≤ n
+le_true m n e = grind (arith, nat_tests)
+
+not_empty : (xs : List ℕ) → nat_lt 0 (length xs) ≡ true → xs ≡ [] → ⊥
+not_empty [] e h = absurd (true≢false (sym e))
+not_empty (x ∷ xs) e h = cc
+
+text_form : (B : Records) (m : Stored) → is_sound_message B m ≡ true → IsMailText m.text
+text_form B m h =
+    let a = and_parts (bytes_eq (kept_form m.text) m.text && nat_lt 0 (octets_of m) && nat_le (octets_of m) most_octets && is_one_of m.maildrop B.maildrops) (list_any (is_receipt_for m) B.deposits) h in
+    let b = and_parts (bytes_eq (kept_form m.text) m.text && nat_lt 0 (octets_of m) && nat_le (octets_of m) most_octets) (is_one_of m.maildrop B.maildrops) a.0 in
+    let d = and_parts (bytes_eq (kept_form m.text) m.text && nat_lt 0 (octets_of m)) (nat_le (octets_of m) most_octets) b.0 in
+    let e = and_parts (bytes_eq (kept_form m.text) m.text) (nat_lt 0 (octets_of m)) d.0 in
+    record {
+      nonempty = not_empty m.text e.1;
+      kept = (bytes_eq-Decides (kept_form m.text) m.text).0 e.0;
+      within = le_true (octets_of m) most_octets d.1;
+    }
+
+pub has_text : (c : Contents) → AreSound c → (x : Keyed) → In x c.messages → HasText c x.key (octets_of x.message)
+has_text c sound x i =
+    let same = text_at c sound x i in
+    let form = text_form (records_of c) x.message (all_in (is_sound_message (records_of c)) c.messages sound.records.messages x i) in
+    record { size = ap length same; form = subst (λ (text : List ℕ). IsMailText text) (sym same) form }
+
+-- ---- what becomes of a line that asks for a text
+
+-- the text under a head that a number found
+pub found_text : (c : Contents) → AreSound c → (s : Session) (kept : List Keyed) (lies : LiesIn c s kept) (n : ℕ) (head : Head) (f : Found s kept n head)
+    → HasText c head.key head.octets × (text_under head.key c.messages ≡ f.stored.message.text)
+found_text c sound s kept lies n head f =
+    let there = lies.there f.stored f.there in (
+      subst (λ (h : Head). HasText c h.key h.octets) (sym f.head_is) (has_text c sound f.stored there),
+      ap (λ (h : Head). text_under h.key c.messages) f.head_is ∙ text_at c sound f.stored there,
+    )
+
+module _ (After : Contents → Type 0) (grown : Bool) (c : Contents) (p : Policy) (s : Session) (kept : List Keyed) (n : ℕ) (head : Head) (f : Found s kept n head) (before after : List ℕ) where
+  pub retrieve_failed : after ≡ before ++ bytes_of StoreFailed → After c → grown ≡ true → Obeyed After grown c p s s kept before after (Ok (Retr n)) acted.Failed
+  retrieve_failed said held grew = record {
+    owed = said;
+    session = record { name = refl; view = refl; marks = λ m. refl };
+    held = held;
+    may = λ e. is_asked c s kept n head f;
+    cause = λ e. grew;
+  }
+
+  pub top_failed : (lines : ℕ) → after ≡ before ++ bytes_of StoreFailed → After c → grown ≡ true → Obeyed After grown c p s s kept before after (Ok (Top n lines)) acted.Failed
+  top_failed lines said held grew = record {
+    owed = said;
+    session = record { name = refl; view = refl; marks = λ m. refl };
+    held = held;
+    may = λ e. is_asked c s kept n head f;
+    cause = λ e. grew;
+  }
+
+  pub retrieve_done : (text : List ℕ) → text ≡ f.stored.message.text → after ≡ before ++ bytes_of (Message (length text) (stuffed_lines (lines_of text)))
+      → After c → Obeyed After grown c p s s kept before after (Ok (Retr n)) acted.Done
+  retrieve_done text same said held =
+      let e : Message (length text) (stuffed_lines (lines_of text)) ≡ told_inside p s kept (Retr n) =
+      ap (λ (t : List ℕ). Message (length t) (stuffed_lines (lines_of t))) same ∙ message_said c s kept n head f p in
+      record {
+        owed = said ∙ ap (λ (r : Reply). before ++ bytes_of r) e;
+        session = subst (λ (r : Reply). GoesOn r s s) e (record { name = refl; view = refl; marks = λ m. refl });
+        held = held;
+        may = λ e. cc;
+        cause = λ e. cc;
+      }
+
+  pub top_done : (lines : ℕ) (ls : List (List ℕ)) → ls ≡ lines_of f.stored.message.text → after ≡ before ++ bytes_of (TopPart (stuffed_lines (top_part ls lines)))
+      → After c → Obeyed After grown c p s s kept before after (Ok (Top n lines)) acted.Done
+  top_done lines ls same said held =
+      let e : TopPart (stuffed_lines (top_part ls lines)) ≡ told_inside p s kept (Top n lines) =
+      ap (λ (l : List (List ℕ)). TopPart (stuffed_lines (top_part l lines))) same ∙ top_said c s kept n head f p lines in
+      record {
+        owed = said ∙ ap (λ (r : Reply). before ++ bytes_of r) e;
+        session = subst (λ (r : Reply). GoesOn r s s) e (record { name = refl; view = refl; marks = λ m. refl });
+        held = held;
+        may = λ e. cc;
+        cause = λ e. cc;
+      }

@@ -1,0 +1,22 @@
+use Rattle.std.proofs.Common.{◌∙◌, ap, rules}
+use Rattle.mailtext.specs.Text.{lines_of}
+use Rattle.office.proofs.Texts.{found, found_text, top_failed, top_done}
+use Rattle.office.proofs.message.top.Goals as goal
+
+pub returns-in_default-clause-done : goal.returns-in_default-clause-done
+returns-in_default-clause-done g c = λ p d kept held clean lies.
+    let s = c.args.session.now in
+    let f = found d s kept lies c.args.n c.in-Ok.head c.in-Ok.ensures in
+    let sound = g.met.V.Vault.sound c.args.vault.now d held (c.read_message.ensures.clean clean) in
+    let has = found_text d sound s kept lies c.args.n c.in-Ok.head f in
+    top_failed _ _ d p s kept c.args.n c.in-Ok.head f _ _ c.args.lines c.in_ok-put.ensures.ok (c.read_message.ensures.held d held clean) (c.in_ok-message.ensures.cause (search rules) d held clean has.0)
+
+pub returns-clause-done : goal.returns-clause-done
+returns-clause-done g c = λ p d kept held clean lies.
+    let s = c.args.session.now in
+    let f = found d s kept lies c.args.n c.in-Ok.head c.in-Ok.ensures in
+    let sound = g.met.V.Vault.sound c.args.vault.now d held (c.read_message.ensures.clean clean) in
+    let has = found_text d sound s kept lies c.args.n c.in-Ok.head f in
+    let whole = rw c.in-Some.is at c.in_ok-message.ensures.lines in
+    let ls = whole d held clean has.0 ∙ ap lines_of has.1 in
+    top_done _ _ d p s kept c.args.n c.in-Ok.head f _ _ c.args.lines (lines_of c.in-Some.message) ls c.in_ok-put_top.ensures (c.read_message.ensures.held d held clean)

@@ -1,0 +1,34 @@
+use Rattle.std.proofs.Common.{◌≡◌, ◌+◌, ◌∙◌, false, sym, ap, refl, nat_cmp}
+use Rattle.std.specs.Map.{lookup}
+use Rattle.std.specs.BTreeMap.{is_at}
+use Rattle.office.specs.Expected.{is_full}
+use Rattle.office.specs.History.{NoMemory}
+use Rattle.office.proofs.Coming.{nothing_stands, ignored_event, lacked_connect, number_left, after_ok, after_err, greeted, come_stands}
+use Rattle.office.proofs.office.Office.connect.Goals as goal
+
+pub returns-then-is_full-clause-stands : goal.returns-then-is_full-clause-stands
+returns-then-is_full-clause-stands g c T st clean =
+    nothing_stands g.V.Vault.holds c.args.self.now _ T _ _ st (ignored_event T _ st.keeps.formed) (λ k h. h) refl refl refl refl refl (λ q. refl) (λ d. refl)
+
+pub returns-in_default-clause-stands : goal.returns-in_default-clause-stands
+returns-in_default-clause-stands g c T st clean =
+    nothing_stands g.V.Vault.holds c.args.self.now _ T _ _ st (lacked_connect T (number_left _ _ st.opened (c.is_full.ensures.room c.if-is_full.false)) st.keeps.formed)
+    (λ k h. h) refl refl refl refl refl (λ q. refl) (λ d. refl)
+
+pub returns-then-is_err-clause-stands : goal.returns-then-is_err-clause-stands
+returns-then-is_err-clause-stands g c T st clean =
+    let same = after_err _ (sym c.is_err.ensures.value ∙ c.if-is_err.true) c.insert.ensures.err in
+    nothing_stands g.V.Vault.holds c.args.self.now _ T _ _ st (lacked_connect T (number_left _ _ st.opened (c.is_full.ensures.room c.if-is_full.false)) st.keeps.formed)
+    (λ k h. h) refl refl refl refl refl (λ q. ap (λ es. lookup (is_at (nat_cmp q)) es) same) (λ d. refl)
+
+pub returns-then-is_err-clause-outcome : goal.returns-then-is_err-clause-outcome
+returns-then-is_err-clause-outcome g c T st clean =
+    let room : is_full T ≡ false = sym (c.is_full.ensures.value T st) ∙ c.if-is_full.false in
+    record { tag = NoMemory; may = refl; is = rw room refl }
+
+pub returns-clause-stands : goal.returns-clause-stands
+returns-clause-stands g c T st clean =
+    let change = after_ok _ (sym c.is_err.ensures.value ∙ c.if-is_err.false) c.insert.ensures.updates in
+    come_stands g.V.Vault.holds c.args.self.now _ T st _ c.in-Ok.link (ap (λ n. n + 1) st.opened)
+    (c.in-Ok.ensures ∙ ap (greeted (c.args.self.now.opened + 1) c.args.self.now.boot) c.as_str.ensures.value) (number_left _ _ st.opened (c.is_full.ensures.room c.if-is_full.false))
+    (λ k h. h) refl refl refl refl refl change (λ d. refl)

@@ -1,0 +1,19 @@
+use Rattle.std.proofs.Common.{◌≡◌, Some, sym, ap, refl, subst, nat_cmp}
+use Rattle.std.specs.Map.{lookup}
+use Rattle.std.specs.BTreeMap.{get, is_at}
+use Rattle.office.specs.Kept.{Kept}
+use Rattle.office.specs.Locks.{Released}
+use Rattle.office.proofs.Coming.{nothing_stands, ignored_event, gone_stands}
+use Rattle.office.proofs.office.Office.gone.Goals as goal
+
+pub returns-in-None-clause-stands : goal.returns-in-None-clause-stands
+returns-in-None-clause-stands g c T st clean =
+    nothing_stands g.V.Vault.holds c.args.self.now _ T _ _ st (ignored_event T _ st.keeps.formed) (λ k h. h) refl refl refl refl refl
+    (λ q. ap (λ es. lookup (is_at (nat_cmp q)) es) c.in-None.ensures.unchanged) (λ d. refl)
+
+pub returns-in-Some-clause-stands : goal.returns-in-Some-clause-stands
+returns-in-Some-clause-stands g c T st clean =
+    let k : Kept = c.in-Some.link in
+    let found : get nat_cmp c.args.self.now.links c.args.c ≡ Some k = sym c.in-Some.ensures.value in
+    gone_stands g.V.Vault.holds c.args.self.now _ T c.args.c st k found (λ k h. h) refl refl refl refl refl c.remove.ensures.updates
+    (subst (λ m. Released m c.args.self.now.locks c.release.new.locks) c.maildrop.ensures c.release.ensures)

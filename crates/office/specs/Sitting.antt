@@ -1,0 +1,143 @@
+-- A session over a store: what a line of its connection is answered, what the session is after it, and what the store then holds
+-- (RFC 1939, 5 and 6).
+use Rattle.std.specs.Prelude.{◌≡◌, ℕ, Bool, true, false, not, ◌<◌, ◌^◌, List, ◌++◌, length, take, map, sum_by, Option, None, Result, Ok, Err}
+use Rattle.mailtext.specs.MailText.{IsMailText}
+use Rattle.creds.specs.declared.login_name.LoginName.{LoginName}
+use Rattle.popline.specs.Cutting.{Cut, TooLong}
+use Rattle.popline.specs.Cutting as cutting
+use Rattle.popline.specs.Commands.{Command, Capa, Quit, Retr, Top, command_of, keyword_of}
+use Rattle.popline.specs.declared.command.LineFault.{LineFault}
+use Rattle.popline.specs.declared.command.LineFault.TheVariants.{Unknown, Syntax}
+use Rattle.popline.specs.Replies.{Reply, LineTooLong, UnknownCommand, BadArguments, Capabilities, NoSuchMessage, AlreadyMarked, DeniedBy, StoreFailed, bytes_of}
+use Rattle.policy.specs.Policy.{Policy}
+use Rattle.vault.specs.Changes.{Contents, head_of, with_messages, without_keys}
+use Rattle.vault.specs.Calls.{text_under}
+use Rattle.vault.specs.Records as records
+use Rattle.vault.specs.declared.record.Keyed.{Keyed}
+use Rattle.vault.specs.declared.record.Message as store
+use Rattle.session.specs.declared.pick.Pick.{Pick}
+use Rattle.session.specs.declared.pick.Pick.TheVariants.{NoSuch, Deleted, Denied}
+use Rattle.session.specs.Session.{Session}
+use Rattle.session.specs.Session as head
+use Rattle.session.specs.View.{is_marked, at_number, to_remove}
+use Rattle.office.specs.History.{Says}
+use Rattle.office.specs.Connections.{reading}
+use Rattle.office.specs.Sessions.{marks_after_line}
+use Rattle.office.specs.Replying.{session_says, is_allowed, when_permitted, refusal, is_pickable, is_empty}
+use Rattle.office.specs.Laws.{In}
+use Rattle.office.specs.declared.talk.Acted.{Acted}
+use Rattle.office.specs.declared.talk.Acted.TheVariants as acted
+
+-- ---- a session's messages
+
+-- who is logged in to which maildrop, the marked numbers, and the messages of the view
+pub record Sitting : Type 0 where
+  pub name : LoginName
+  pub marks : List ℕ
+  pub view : List store.Message
+
+-- a session's heads are those of messages that the store holds in its maildrop, and their octets fit 64 bits
+pub record LiesIn (c : Contents) (s : Session) (kept : List Keyed) : Type 0 where
+  pub heads : s.view ≡ map head_of kept
+  pub there : (x : Keyed) → In x kept → In x c.messages
+  pub within : (x : Keyed) → In x kept → x.message.maildrop ≡ s.name.maildrop
+  pub fits : sum_by head.octets_of s.view < 2 ^ 64
+
+-- a session with the messages under its heads
+abbrev pub sitting_of : Session → List Keyed → Sitting
+sitting_of s kept = record { name = s.name; marks = s.marks; view = map (λ (x : Keyed). x.message) kept }
+
+-- what a session with these messages says to a command
+abbrev pub told_inside : Policy → Session → List Keyed → Command → Reply
+told_inside p s kept command = session_says p s.name s.marks (map (λ (x : Keyed). x.message) kept) command
+
+-- under a key lies a message text of so many octets
+pub record HasText (c : Contents) (key octets : ℕ) : Type 0 where
+  pub size : length (text_under key c.messages) ≡ octets
+  pub form : IsMailText (text_under key c.messages)
+
+-- octets begin as a text does, so many of them
+abbrev pub Begins : ℕ → (octets text : List ℕ) → Type 0
+Begins n octets text = take n octets ≡ take n text
+
+-- why a number isn't found in a view, or isn't marked
+abbrev pub refused_pick : ℕ → Pick → Reply
+refused_pick n NoSuch = NoSuchMessage
+refused_pick n Deleted = AlreadyMarked n
+refused_pick n (Denied rule) = DeniedBy rule
+
+-- ---- a line of a session
+
+-- the reply to a command; a login can't be asked for again
+abbrev pub obeyed_inside : Policy → Sitting → Command → Reply
+obeyed_inside p v Capa = Capabilities
+obeyed_inside p v command = session_says p v.name v.marks v.view command
+
+-- the reply to what a line reads as
+abbrev pub said_inside : Policy → Sitting → Result Command LineFault → Reply
+said_inside p v (Err Unknown) = UnknownCommand
+said_inside p v (Err (Syntax k)) = when_permitted (is_allowed k true false) BadArguments
+said_inside p v (Ok command) = when_permitted (is_allowed (keyword_of command) true false) (obeyed_inside p v command)
+
+-- the reply to a line that the store doesn't refuse
+abbrev pub line_inside : Policy → Sitting → Cut → Reply
+line_inside p v TooLong = LineTooLong
+line_inside p v (cutting.Line l) = said_inside p v (command_of l)
+
+-- the reply to a line that the store refused
+abbrev pub refused_reading : Result Command LineFault → Reply
+refused_reading (Ok command) = refusal (keyword_of command)
+refused_reading (Err fault) = StoreFailed
+
+-- the lines that ask the store: for a message's text, or for a removal
+abbrev pub asks_inside : Policy → Sitting → Result Command LineFault → Bool
+asks_inside p v (Ok (Retr n)) = is_pickable (at_number v.view n) (is_marked v.marks n)
+asks_inside p v (Ok (Top n k)) = is_pickable (at_number v.view n) (is_marked v.marks n)
+asks_inside p v (Ok Quit) = not (is_empty (to_remove records.class_of p v.name v.marks v.view))
+asks_inside p v _ = false
+
+-- ---- after it
+
+-- a session goes on: its marks are those that the reply leaves, asked by number
+pub record GoesOn (reply : Reply) (s new : Session) : Type 0 where
+  pub name : new.name ≡ s.name
+  pub view : new.view ≡ s.view
+  pub marks : (n : ℕ) → is_marked new.marks n ≡ is_marked (marks_after_line (Says reply) s.marks) n
+
+-- the login name in force after a line of a session: only an answered CAPA passes it over
+abbrev pub user_inside : Acted → Result Command LineFault → Option LoginName → Option LoginName
+user_inside acted.Done (Ok Capa) user = user
+user_inside _ r user = None
+
+-- the keys of what a QUIT removes
+abbrev pub keys_to_remove : Policy → Session → List ℕ
+keys_to_remove p s = map head.key_of (to_remove head.class_of p s.name s.marks s.view)
+
+-- the contents without what a QUIT removes
+abbrev pub without_marked : Policy → Session → Contents → Contents
+without_marked p s c = with_messages (without_keys s.name.maildrop (keys_to_remove p s) c.messages) c
+
+-- what the store holds after a session's line: a QUIT that is done removes
+abbrev pub held_after_line : Acted → Policy → Session → Result Command LineFault → Contents → Contents
+held_after_line acted.Done p s (Ok Quit) c = without_marked p s c
+held_after_line _ p s r c = c
+
+-- what is told to what a line reads as
+abbrev pub answered_inside : Acted → Policy → Sitting → Result Command LineFault → Reply
+answered_inside acted.Done p v r = said_inside p v r
+answered_inside acted.Failed p v r = refused_reading r
+
+-- what a line of a session is told
+abbrev pub reply_inside : Acted → Policy → Sitting → Cut → Reply
+reply_inside acted.Done p v x = line_inside p v x
+reply_inside acted.Failed p v x = refused_reading (reading x)
+
+-- What became of a line that reads so: its reply is owed, the session goes on, and the store holds what the line leaves. A line that the
+-- store refused is one that may be refused, and the refusal was counted.
+pub record Obeyed (After : Contents → Type 0) (grown : Bool) (c : Contents) (p : Policy) (s new : Session) (kept : List Keyed)
+    (before after : List ℕ) (r : Result Command LineFault) (w : Acted) : Type 0 where
+  pub owed : after ≡ before ++ bytes_of (answered_inside w p (sitting_of s kept) r)
+  pub session : GoesOn (answered_inside w p (sitting_of s kept) r) s new
+  pub held : After (held_after_line w p s r c)
+  pub may : w ≡ acted.Failed → asks_inside p (sitting_of s kept) r ≡ true
+  pub cause : w ≡ acted.Failed → grown ≡ true

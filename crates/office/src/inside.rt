@@ -1,0 +1,149 @@
+//! A line of a session: what it is answered, what it changes, and what is remembered of it (RFC 1939, 5 and 6).
+ghost use Rattle.std.specs.Prelude.{◌≡◌, ◌≤◌, ◌++◌, List, true, false, OnErr, IfOk};
+ghost use Rattle.popline.specs.Commands.{command_of};
+ghost use Rattle.popline.specs.Replies.{bytes_of, BadArguments};
+ghost use Rattle.popline.specs.Seen.{cut_seen, reading_seen, reply_seen};
+ghost use Rattle.policy.specs.Policy.{Policy};
+ghost use Rattle.vault.specs.Changes.{Contents};
+ghost use Rattle.vault.specs.Calls.{has_grown};
+ghost use Rattle.vault.specs.declared.record.Keyed.{Keyed};
+ghost use Rattle.office.specs.Connections.{reading, is_quit};
+ghost use Rattle.office.specs.Replying.{is_allowed, when_permitted};
+ghost use Rattle.office.specs.Kept.{talk_after};
+ghost use Rattle.office.specs.Sitting.{Sitting, sitting_of, LiesIn, GoesOn, Obeyed, reply_inside, asks_inside, held_after_line, user_inside};
+
+use crate::listing::{drop_listing, put_sizes, put_uids};
+use crate::message::{retrieve, top};
+use crate::quit::quit;
+use crate::referring::{delete, reset, scan_line, uid_line};
+use crate::talk::{Acted, Talk};
+use creds::LoginName;
+use policy::Policy;
+use popline::{Command, Cut, Keyword, LineFault, Reply};
+use session::Session;
+use std::alloc::{AllocError, Global};
+use vault::Vault;
+
+/// Puts a reply that needs no store.
+fn say(alloc: Global, owed: &mut Vec<u8>, reply: &Reply<'_>) -> Result<Acted, AllocError>
+    ensures acted { IfOk result (λ acted. acted ≡ Acted.Done) }
+    ensures owed { IfOk result (λ _. owed.new.items ≡ owed.old.items ++ bytes_of (reply_seen reply.now)) }
+{
+    reply.put(alloc, owed)?;
+    Ok(Acted::Done)
+}
+
+/// What is said of arguments that don't fit; a login can't be asked for again, with whatever arguments.
+fn misfit(keyword: Keyword) -> Reply<'static>
+    ensures { reply_seen result ≡ when_permitted (is_allowed keyword true false) BadArguments }
+{
+    match keyword {
+        Keyword::User | Keyword::Pass | Keyword::Apop => Reply::WrongState,
+        _ => Reply::BadArguments,
+    }
+}
+
+/// Does what a line says, and puts the reply.
+fn obey<V: Vault>(
+    alloc: Global,
+    vault: &mut V,
+    policy: &Policy,
+    line: &[u8],
+    owed: &mut Vec<u8>,
+    session: &mut Session,
+) -> Result<Acted, AllocError>
+    ensures done { IfOk result (λ acted. (c : Contents) (kept : List Keyed) → V.holds vault.old c → V.is_clean vault.new → LiesIn c session.old kept → Obeyed (V.holds vault.new) (has_grown (V.faults vault.old) (V.faults vault.new)) c policy.now session.old session.new kept owed.old.items owed.new.items (command_of line.now) acted) }
+    ensures err { OnErr result ((c : Contents) → V.holds vault.old c → V.is_clean vault.new → V.holds vault.new c) }
+    ensures counted { V.faults vault.old ≤ V.faults vault.new }
+    ensures clean { V.is_clean vault.new → V.is_clean vault.old }
+{
+    match Command::read(line) {
+        Err(LineFault::Unknown) => say(alloc, owed, &Reply::UnknownCommand),
+        Err(LineFault::Syntax(keyword)) => say(alloc, owed, &misfit(keyword)),
+        Ok(Command::Capa) => say(alloc, owed, &Reply::Capabilities),
+        Ok(Command::User(_)) => say(alloc, owed, &Reply::WrongState),
+        Ok(Command::Pass(_)) => say(alloc, owed, &Reply::WrongState),
+        Ok(Command::Apop(_, _)) => say(alloc, owed, &Reply::WrongState),
+        Ok(Command::Quit) => quit(alloc, vault, policy, owed, session),
+        Ok(Command::Stat) => say(alloc, owed, &drop_listing(session)),
+        Ok(Command::List(None)) => {
+            put_sizes(alloc, session, owed)?;
+            Ok(Acted::Done)
+        }
+        Ok(Command::List(Some(n))) => say(alloc, owed, &scan_line(session, n)),
+        Ok(Command::Uidl(None)) => {
+            put_uids(alloc, session, owed)?;
+            Ok(Acted::Done)
+        }
+        Ok(Command::Uidl(Some(n))) => say(alloc, owed, &uid_line(session, n)),
+        Ok(Command::Retr(n)) => retrieve(alloc, vault, owed, session, n),
+        Ok(Command::Top(n, lines)) => top(alloc, vault, owed, session, n, lines),
+        Ok(Command::Dele(n)) => say(alloc, owed, &delete(session, policy, n)),
+        Ok(Command::Rset) => say(alloc, owed, &reset(session)),
+        Ok(Command::Noop) => say(alloc, owed, &Reply::Okay),
+    }
+}
+
+/// Answers a line of a session: its reply is owed, and its marks are those that it leaves. A QUIT removes; the session is then over,
+/// which the caller sees to.
+pub(crate) fn answer<V: Vault>(
+    alloc: Global,
+    vault: &mut V,
+    policy: &Policy,
+    cut: Cut<'_>,
+    owed: &mut Vec<u8>,
+    session: &mut Session,
+) -> Result<Acted, AllocError>
+    ensures owed { IfOk result (λ acted. (c : Contents) (kept : List Keyed) → V.holds vault.old c → V.is_clean vault.new → LiesIn c session.old kept → owed.new.items ≡ owed.old.items ++ bytes_of (reply_inside acted policy.now (sitting_of session.old kept) (cut_seen cut.entry))) }
+    ensures session { IfOk result (λ acted. (c : Contents) (kept : List Keyed) → V.holds vault.old c → V.is_clean vault.new → LiesIn c session.old kept → GoesOn (reply_inside acted policy.now (sitting_of session.old kept) (cut_seen cut.entry)) session.old session.new) }
+    ensures held { IfOk result (λ acted. (c : Contents) (kept : List Keyed) → V.holds vault.old c → V.is_clean vault.new → LiesIn c session.old kept → V.holds vault.new (held_after_line acted policy.now session.old (reading (cut_seen cut.entry)) c)) }
+    ensures err { OnErr result ((c : Contents) → V.holds vault.old c → V.is_clean vault.new → V.holds vault.new c) }
+    ensures may { IfOk result (λ acted. acted ≡ Acted.Failed → (c : Contents) (kept : List Keyed) → V.holds vault.old c → V.is_clean vault.new → LiesIn c session.old kept → asks_inside policy.now (sitting_of session.old kept) (reading (cut_seen cut.entry)) ≡ true) }
+    ensures cause { IfOk result (λ acted. acted ≡ Acted.Failed → (c : Contents) (kept : List Keyed) → V.holds vault.old c → V.is_clean vault.new → LiesIn c session.old kept → has_grown (V.faults vault.old) (V.faults vault.new) ≡ true) }
+    ensures counted { V.faults vault.old ≤ V.faults vault.new }
+    ensures clean { V.is_clean vault.new → V.is_clean vault.old }
+{
+    match cut {
+        Cut::TooLong => say(alloc, owed, &Reply::LineTooLong),
+        Cut::Line(line) => obey(alloc, vault, policy, line, owed, session),
+    }
+}
+
+/// What a line reads as; one that is too long spells nothing.
+pub(crate) fn read(cut: Cut<'_>) -> Result<Command<'_>, LineFault>
+    ensures { reading_seen result ≡ reading (cut_seen cut.entry) }
+{
+    match cut {
+        Cut::TooLong => Err(LineFault::Unknown),
+        Cut::Line(line) => Command::read(line),
+    }
+}
+
+/// The login name in force after a line.
+fn next_user(cut: Cut<'_>, acted: Acted, user: Option<LoginName>) -> Option<LoginName>
+    ensures { result ≡ user_inside acted (reading (cut_seen cut.entry)) user }
+{
+    match (acted, read(cut)) {
+        (Acted::Done, Ok(Command::Capa)) => user,
+        _ => None,
+    }
+}
+
+/// Whether a line ends the session.
+pub(crate) fn is_quitting(cut: Cut<'_>) -> bool
+    ensures { result ≡ is_quit (reading (cut_seen cut.entry)) }
+{
+    matches!(read(cut), Ok(Command::Quit))
+}
+
+/// What is remembered after a line of a session of which this became. Only an answered CAPA passes a login name over, no credential
+/// is refused, and a QUIT closes.
+pub(crate) fn next_talk(cut: Cut<'_>, acted: Acted, talk: Talk) -> Talk
+    ensures { (p : Policy) (v : Sitting) → result ≡ talk_after (cut_seen cut.entry) (reply_inside acted p v (cut_seen cut.entry)) talk }
+{
+    Talk {
+        user: next_user(cut, acted, talk.user),
+        failures: talk.failures,
+        closing: is_quitting(cut) || talk.closing,
+    }
+}

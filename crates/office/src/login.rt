@@ -1,0 +1,115 @@
+//! Logging in: the credential is looked at first, then the policy, the maildrop and its lock (RFC 1939, 4 and 7).
+ghost use Rattle.std.specs.Prelude.{◌≡◌, ◌≤◌, true, [], Some, Ok, IfOk};
+ghost use Rattle.creds.specs.Credential.{shown as proof_shown, is_admitted};
+ghost use Rattle.popline.specs.Seen.{reply_seen};
+ghost use Rattle.policy.specs.Policy.{decide};
+ghost use Rattle.policy.specs.declared.rule.Action.TheVariants as to;
+ghost use Rattle.vault.specs.Records.{credential_in};
+ghost use Rattle.vault.specs.Changes.{Contents, heads};
+ghost use Rattle.vault.specs.Calls.{IsDone, CountsFaults, seen_as};
+ghost use Rattle.session.specs.Session.{started};
+ghost use Rattle.office.specs.Replying.{login_failed};
+ghost use Rattle.office.specs.Kept.{judged};
+ghost use Rattle.office.specs.Answered.{desk_over, judged_at};
+ghost use Rattle.office.specs.Entering.{entered, began};
+
+use crate::locks::Locks;
+use crate::talk::Desk;
+use creds::{LoginName, Proof};
+use policy::{Action, Decision, Policy};
+use popline::Reply;
+use session::Session;
+use std::alloc::Global;
+use vault::{Vault, VaultFault};
+
+/// How many refused credentials a connection has before the next one closes it.
+const FAILURES_BEFORE_CLOSING: u8 = 2;
+
+/// The answer to a credential that was refused, after so many others.
+fn refusal(failures: u8) -> Reply<'static>
+    ensures { reply_seen result ≡ login_failed failures }
+{
+    if failures >= FAILURES_BEFORE_CLOSING {
+        Reply::LoginFailedClosing
+    } else {
+        Reply::LoginFailed
+    }
+}
+
+/// What the policy says of a clerk's opening a maildrop.
+fn opening(policy: &Policy, name: &LoginName) -> Decision
+    ensures { result ≡ decide policy.now name.now.clerk name.now.maildrop [] to.Open }
+{
+    // To open a maildrop is about no message, so that the class plays no part.
+    policy.decide(&name.clerk, &name.maildrop, &name.maildrop, Action::Open)
+}
+
+/// Whether a clerk's credential admits a proof.
+fn is_admitted<V: Vault>(
+    vault: &mut V,
+    stamp: &[u8],
+    name: &LoginName,
+    proof: &Proof<'_>,
+) -> Result<bool, VaultFault>
+    ensures said { (c : Contents) → V.holds vault.old c → V.is_clean vault.new → IsDone (V.holds vault.new) c c (Ok (is_admitted (credential_in name.now.clerk c.clerks) name.now.clerk stamp.now (proof_shown proof.now))) result }
+    ensures counted { CountsFaults (V.faults vault.old) (V.faults vault.new) result }
+    ensures clean { V.is_clean vault.new → V.is_clean vault.old }
+{
+    Ok(match vault.credential(&name.clerk)? {
+        None => false,
+        Some(credential) => credential.admits(&name.clerk, stamp, proof),
+    })
+}
+
+/// Opens a maildrop for a clerk whom the policy lets in: the reply, and the session where it begins.
+fn enter<V: Vault>(
+    alloc: Global,
+    vault: &mut V,
+    policy: &Policy,
+    locks: &Locks,
+    name: &LoginName,
+) -> Result<(Reply<'static>, Option<Session>), VaultFault>
+    ensures said { (c : Contents) → V.holds vault.old c → V.is_clean vault.new → IsDone (V.holds vault.new) c c (Ok (entered c policy.now locks.now name.now)) (seen_as result (λ r. reply_seen r.0)) }
+    ensures session { IfOk result (λ r. (c : Contents) → V.holds vault.old c → V.is_clean vault.new → r.1 ≡ began (reply_seen r.0) (started policy.now name.now.clerk name.now.maildrop (heads name.now.maildrop c))) }
+    ensures counted { CountsFaults (V.faults vault.old) (V.faults vault.new) result }
+    ensures clean { V.is_clean vault.new → V.is_clean vault.old }
+{
+    let heads = match vault.heads(&name.maildrop) {
+        Ok(heads) => heads,
+        Err(VaultFault::NoMaildrop) => return Ok((Reply::NoSuchMaildrop, None)),
+        Err(fault) => return Err(fault),
+    };
+    if locks.contains_key(&name.maildrop) {
+        return Ok((Reply::InUse, None));
+    }
+    let Ok(session) = Session::start(alloc, name.clerk, name.maildrop, &heads, policy) else {
+        return Err(VaultFault::NoMemory);
+    };
+    let (messages, octets) = session.stat();
+    Ok((Reply::MaildropHas { messages, octets }, Some(session)))
+}
+
+/// What a login is answered, and the session where one begins.
+pub(crate) fn judge<V: Vault>(
+    alloc: Global,
+    vault: &mut V,
+    desk: Desk<'_>,
+    locks: &Locks,
+    failures: u8,
+    name: &LoginName,
+    proof: &Proof<'_>,
+) -> Result<(Reply<'static>, Option<Session>), VaultFault>
+    ensures said { (c : Contents) → V.holds vault.old c → V.is_clean vault.new → IsDone (V.holds vault.new) c c (Ok (judged (desk_over c desk.entry locks.now) failures name.now (proof_shown proof.now))) (seen_as result (λ r. reply_seen r.0)) }
+    ensures session { IfOk result (λ r. (c : Contents) → V.holds vault.old c → V.is_clean vault.new → r.1 ≡ began (reply_seen r.0) (started desk.entry.policy.now name.now.clerk name.now.maildrop (heads name.now.maildrop c))) }
+    ensures counted { CountsFaults (V.faults vault.old) (V.faults vault.new) result }
+    ensures clean { V.is_clean vault.new → V.is_clean vault.old }
+{
+    if !is_admitted(vault, desk.stamp, name, proof)? {
+        return Ok((refusal(failures), None));
+    }
+    let opening = opening(desk.policy, name);
+    if !opening.allowed {
+        return Ok((Reply::DeniedBy(opening.rule), None));
+    }
+    enter(alloc, vault, desk.policy, locks, name)
+}

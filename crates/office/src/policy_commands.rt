@@ -1,0 +1,51 @@
+//! The policy's commands.
+ghost use Rattle.std.specs.Prelude.{◌≤◌};
+ghost use Rattle.office.specs.Events.{Trace};
+ghost use Rattle.office.specs.Events as event;
+ghost use Rattle.office.specs.Answers as asked;
+ghost use Rattle.office.specs.Shown.{outcome_seen, followed_by};
+ghost use Rattle.office.specs.Expected.{IsOutcome};
+ghost use Rattle.office.specs.Outcomes.{HasCause};
+ghost use Rattle.office.specs.Stands.{StandsFor, lent_by, vault_of};
+
+use crate::deposits::refused;
+use crate::{Answer, Office, Outcome};
+use policy::Policy;
+use vault::Vault;
+
+impl<V: Vault> Office<V> {
+    /// A copy of the policy in force.
+    pub(crate) fn show_policy(&mut self) -> Outcome
+        ensures stands { (T : Trace) → StandsFor V.holds self.old T → V.is_clean (vault_of self.new) → StandsFor V.holds self.new (followed_by T (event.Admin asked.ShowPolicy) result) }
+        ensures outcome { (T : Trace) → StandsFor V.holds self.old T → V.is_clean (vault_of self.new) → IsOutcome T (lent_by self.old) (event.Admin asked.ShowPolicy) (outcome_seen result) }
+        ensures cause { (T : Trace) → StandsFor V.holds self.old T → V.is_clean (vault_of self.new) → HasCause (V.faults (vault_of self.old)) (V.faults (vault_of self.new)) (outcome_seen result) }
+        ensures counted { V.faults (vault_of self.old) ≤ V.faults (vault_of self.new) }
+        ensures clean { V.is_clean (vault_of self.new) → V.is_clean (vault_of self.old) }
+    {
+        match self.policy.try_copy() {
+            Ok(policy) => Outcome::Answered(Answer::PolicyIs(policy)),
+            Err(_) => Outcome::NoMemory,
+        }
+    }
+
+    /// Sets the policy, in the store and then here. Sessions keep what they see.
+    pub(crate) fn set_policy(&mut self, policy: &Policy) -> Outcome
+        ensures stands { (T : Trace) → StandsFor V.holds self.old T → V.is_clean (vault_of self.new) → StandsFor V.holds self.new (followed_by T (event.Admin (asked.SetPolicy policy.now)) result) }
+        ensures outcome { (T : Trace) → StandsFor V.holds self.old T → V.is_clean (vault_of self.new) → IsOutcome T (lent_by self.old) (event.Admin (asked.SetPolicy policy.now)) (outcome_seen result) }
+        ensures cause { (T : Trace) → StandsFor V.holds self.old T → V.is_clean (vault_of self.new) → HasCause (V.faults (vault_of self.old)) (V.faults (vault_of self.new)) (outcome_seen result) }
+        ensures counted { V.faults (vault_of self.old) ≤ V.faults (vault_of self.new) }
+        ensures clean { V.is_clean (vault_of self.new) → V.is_clean (vault_of self.old) }
+    {
+        let rules = policy.len() as u64;
+        let Ok(copy) = policy.try_copy() else {
+            return Outcome::NoMemory;
+        };
+        match self.vault.set_policy(policy) {
+            Ok(()) => {
+                self.policy = copy;
+                Outcome::Answered(Answer::RuleCount(rules))
+            }
+            Err(fault) => refused(fault),
+        }
+    }
+}

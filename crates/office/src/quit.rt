@@ -1,0 +1,62 @@
+//! The end of a session: what its QUIT removes, and the farewell (RFC 1939, 6).
+ghost use Rattle.std.specs.Prelude.{◌≡◌, ◌≤◌, List, Ok, OnErr, IfOk};
+ghost use Rattle.popline.specs.Commands.{Quit};
+ghost use Rattle.popline.specs.Seen.{reply_seen};
+ghost use Rattle.vault.specs.Changes.{Contents};
+ghost use Rattle.vault.specs.Calls.{has_grown};
+ghost use Rattle.vault.specs.declared.record.Keyed.{Keyed};
+ghost use Rattle.office.specs.Replying.{quit_says};
+ghost use Rattle.office.specs.Sitting.{LiesIn, Obeyed};
+
+use crate::talk::Acted;
+use creds::Name;
+use policy::Policy;
+use popline::Reply;
+use session::Session;
+use std::alloc::{AllocError, Global};
+use vault::{Vault, VaultFault};
+
+/// The octets of [`Reply::RemovalFailed`], whose room is made before the store is asked.
+const REFUSAL_OCTETS: usize = 40;
+
+/// The farewell, or the rule that kept a marked message.
+fn farewell(denied: Option<Name>) -> Reply<'static>
+    ensures { reply_seen result ≡ quit_says denied }
+{
+    match denied {
+        None => Reply::Bye,
+        Some(rule) => Reply::RemovalDenied(rule),
+    }
+}
+
+/// Removes the marked messages that the policy lets the clerk remove, all or none, and says farewell. The removal comes last: what can
+/// fail beside it was done before.
+pub(crate) fn quit<V: Vault>(
+    alloc: Global,
+    vault: &mut V,
+    policy: &Policy,
+    owed: &mut Vec<u8>,
+    session: &Session,
+) -> Result<Acted, AllocError>
+    ensures done { IfOk result (λ acted. (c : Contents) (kept : List Keyed) → V.holds vault.old c → V.is_clean vault.new → LiesIn c session.now kept → Obeyed (V.holds vault.new) (has_grown (V.faults vault.old) (V.faults vault.new)) c policy.now session.now session.now kept owed.old.items owed.new.items (Ok Quit) acted) }
+    ensures err { OnErr result ((c : Contents) → V.holds vault.old c → V.is_clean vault.new → V.holds vault.new c) }
+    ensures counted { V.faults vault.old ≤ V.faults vault.new }
+    ensures clean { V.is_clean vault.new → V.is_clean vault.old }
+{
+    let (keys, denied) = session.to_remove(policy)?;
+    owed.reserve(REFUSAL_OCTETS)?;
+    let before = owed.len();
+    farewell(denied).put(alloc, owed)?;
+    if keys.is_empty() {
+        return Ok(Acted::Done);
+    }
+    match vault.remove(&session.maildrop(), &keys) {
+        Ok(()) => Ok(Acted::Done),
+        Err(VaultFault::NoMemory) => Err(AllocError),
+        Err(_) => {
+            owed.truncate(before);
+            Reply::RemovalFailed.put(alloc, owed)?;
+            Ok(Acted::Failed)
+        }
+    }
+}
