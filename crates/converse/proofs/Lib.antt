@@ -1,2 +1,8 @@
 mod TalkRows
 pub mod Removing
+pub mod Lines
+pub mod Saying
+pub mod Events
+pub mod Takings
+pub mod Ends
+pub mod Clauses

@@ -1,17 +1,17 @@
 -- What a conversation removes.
-use Rattle.std.specs.Prelude.{◌≡◌, ℕ, Bool, true, false, not, ◌&&◌, ◌||◌, ◌==◌, List, [], ◌∷◌, ◌++◌, Option, Some, None, filter, cond}
-use Rattle.std.proofs.Common.{refl, sym, ◌∙◌, ap, true≢false, eq-eqb, subst}
+use Rattle.std.specs.Prelude.{◌≡◌, ℕ, Bool, true, false, not, ◌&&◌, ◌||◌, List, [], ◌∷◌, ◌++◌, Option, Some, None, filter, cond}
+use Rattle.std.proofs.Common.{refl, sym, ◌∙◌, ap, eq-eqb, subst}
 use Rattle.std.proofs.lemmas.List.Folds.{list_any-append}
 use Rattle.std.specs.List.{list_any, zip}
 use Rattle.office.specs.Cutting.{Cut, cut}
 use Rattle.office.specs.Replies.{LoginFailedClosing}
 use Rattle.office.specs.Records.{Records, without, same_message}
 use Rattle.vault.specs.declared.record.Message.{Message}
-use Rattle.office.specs.History.{Act, Line, Tag, Entry, Said, Says, is_done, arrivals}
+use Rattle.office.specs.History.{Act, Line, Tag, Said, Says, is_done, arrivals}
 use Rattle.office.specs.Connections.{reading, is_quit, closes, connected, closing}
 use Rattle.office.specs.Sessions.{records, removed, quits, quits_if}
 use Rattle.office.specs.Told.{told, said_to}
-use Rattle.converse.specs.Talk.{acted_on, spoken, opened_on, goes_on, taken_by_quit, removed_last, without_messages, RemovesByQuitAlone}
+use Rattle.converse.specs.Talk.{perhaps_gone, spoken, acted_on, opened_on, goes_on, taken_by_quit, removed_last, without_messages, RemovesByQuitAlone}
 
 -- ---- messages without two lists
 
@@ -106,5 +106,12 @@ took_all B base c ((x, t) ∷ lines) H e k =
     took_if B base (goes_on (told B H) c) H (acted_on B c lines ((Line c x, t) ∷ H)) (took_none B base H e k)
     (took_line B base c x t lines H e (λ f g. took_all B base c lines ((Line c x, t) ∷ H) f g) (quits (Line c x) t) refl)
 
+removed_so : (B base : Records) (c : ℕ) (ends : Bool) (H : List (Act × Tag)) → Took B base H
+    → records B (told B (perhaps_gone c ends H)) ≡ without_messages (removed_last B H) base
+removed_so B base c true H t = t
+removed_so B base c false H t = t
+
 pub removes_by_quit_alone : RemovesByQuitAlone
-removes_by_quit_alone B c octets tags H = took_all B (records B (told B H)) c (zip (cut octets) tags) (opened_on c H) refl refl
+removes_by_quit_alone B c octets tags H ends =
+    removed_so B (records B (told B H)) c ends (spoken B c octets tags H)
+    (took_all B (records B (told B H)) c (zip (cut octets) tags) (opened_on c H) refl refl)

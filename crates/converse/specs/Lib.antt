@@ -1,1 +1,3 @@
 pub mod Talk
+pub mod Talked
+pub mod Conversing

@@ -1,6 +1,6 @@
 -- One conversation: from the octets that a reader tells to the acts of a history, and to the octets that a writer takes
 -- (RFC 1939, 3 to 6). Histories are lists of acts, the newest first, over the records B; c is the connection's number.
-use Rattle.std.specs.Prelude.{◌≡◌, ℕ, Bool, true, false, not, ◌&&◌, ◌+◌, ◌≤◌, ◌<◌, List, [], ◌∷◌, ◌++◌, length, take, drop, map, if◌then◌else◌, Option, Some, None}
+use Rattle.std.specs.Prelude.{◌≡◌, ℕ, Bool, true, false, not, ◌&&◌, ◌+◌, ◌≤◌, ◌<◌, List, [], ◌∷◌, length, take, drop, if◌then◌else◌, Option, Some, None}
 use Rattle.std.specs.List.{zip, list_any}
 use Rattle.popline.specs.Cutting.{Cut, cut}
 use Rattle.vault.specs.Records.{Records, class_of, without}
@@ -76,13 +76,13 @@ pub record NeverBegins (written : List ℕ) (old new : List (Act × Tag)) : Type
 
 -- All was heard and answered: each line of the octets that were read acted, through the one that closed the connection; where none
 -- did, the reader told its end, and the connection is gone. What was written is what the history sends.
-pub record Talks (B : Records) (c : ℕ) (octets written : List ℕ) (at_end : Bool) (old new : List (Act × Tag)) : Type 0 where
+pub record Talks (B : Records) (c : ℕ) (octets written : List ℕ) (AtEnd : Type 0) (old new : List (Act × Tag)) : Type 0 where
   pub tags : List Tag
   pub each : length tags ≡ length (cut octets)
   pub ample : list_any is_no_memory tags ≡ false
   pub fit : are_fit B c octets tags old ≡ true
   pub acts : new ≡ left_unless_closing B c (spoken B c octets tags old)
-  pub ended : closing (told B (spoken B c octets tags old)) c ≡ false → at_end ≡ true
+  pub ended : closing (told B (spoken B c octets tags old)) c ≡ false → AtEnd
   pub replies : written ≡ sent (told B new) c
 
 -- A later part of a message couldn't be read: the lines end with the one that asked for it, and a beginning of the replies was written.
@@ -98,11 +98,12 @@ pub record TalksInPart (B : Records) (c : ℕ) (octets written : List ℕ) (old 
   -- something of the message is left
   pub left : length written < length (sent (told B new) c)
 
--- A fault broke it off after it began: some of the lines acted, and a beginning of the replies was written; where the connection was then still open,
--- it is gone.
-pub record BreaksOff (B : Records) (c : ℕ) (octets written : List ℕ) (old new : List (Act × Tag)) : Type 0 where
+-- A fault broke it off after it began: some of the lines acted, and a beginning of the replies was written; where the connection was then
+-- still open, it is gone. `lacked` says that the fault was want of memory; else no line met it.
+pub record BreaksOff (B : Records) (c : ℕ) (octets written : List ℕ) (lacked : Bool) (old new : List (Act × Tag)) : Type 0 where
   pub tags : List Tag
   pub some : length tags ≤ length (cut octets)
+  pub ample : lacked ≡ false → list_any is_no_memory tags ≡ false
   pub fit : are_fit B c octets tags old ≡ true
   pub acts : new ≡ left_if_open B c (length written) (spoken B c octets tags old)
   pub in_turn : AreInTurn (told B (spoken B c octets tags old)) c written
@@ -120,6 +121,10 @@ pub record BreaksOffReading (B : Records) (c : ℕ) (octets written : List ℕ) 
 
 -- ---- what a conversation does to the records
 
+-- with the connection's end behind them, where it is among the acts
+abbrev pub perhaps_gone : ℕ → (ends : Bool) → List (Act × Tag) → List (Act × Tag)
+perhaps_gone c ends H = if ends then (Gone c, Done) ∷ H else H
+
 -- what an act removes at its front, where it is a QUIT of a session that is done
 abbrev pub taken_by_quit : Records → List Entry → Option ℕ → List Message
 taken_by_quit B G None = []
@@ -134,7 +139,9 @@ removed_last B ((a, t) ∷ H) = taken_by_quit B (told B H) (quits a t)
 abbrev pub without_messages : List Message → Records → Records
 without_messages ms B = record { clerks = B.clerks; maildrops = B.maildrops; messages = without B.messages ms; deposits = B.deposits; policy = B.policy }
 
--- the records after a conversation's lines are the old ones without what its QUIT removed, and the old ones where there was none
+-- the records after a conversation are the old ones without what its QUIT removed, and the old ones where there was none; its end
+-- removes nothing
 abbrev pub RemovesByQuitAlone : Type 0
-RemovesByQuitAlone = (B : Records) (c : ℕ) (octets : List ℕ) (tags : List Tag) (H : List (Act × Tag))
-    → records B (told B (spoken B c octets tags H)) ≡ without_messages (removed_last B (spoken B c octets tags H)) (records B (told B H))
+RemovesByQuitAlone = (B : Records) (c : ℕ) (octets : List ℕ) (tags : List Tag) (H : List (Act × Tag)) (ends : Bool)
+    → records B (told B (perhaps_gone c ends (spoken B c octets tags H)))
+    ≡ without_messages (removed_last B (spoken B c octets tags H)) (records B (told B H))

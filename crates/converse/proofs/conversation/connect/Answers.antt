@@ -1,0 +1,20 @@
+use Rattle.std.proofs.Common.{◌≡◌, ◌∷◌, [], MatchResult, sym, subst}
+use Rattle.office.specs.Events as event
+use Rattle.office.specs.Log.{next_number}
+use Rattle.office.specs.Trace.{acts}
+use Rattle.office.specs.Shown.{outcome_seen}
+use Rattle.office.specs.Outcomes.{mark_of}
+use Rattle.office.specs.Stands.{lent_by}
+use Rattle.converse.specs.Conversing.{GoesOn, Refuses}
+use Rattle.converse.proofs.Ends.{connects}
+use Rattle.converse.proofs.conversation.connect.Goals as goal
+
+pub returns-clause-began : goal.returns-clause-began
+returns-clause-began g c = λ T st clean.
+    (let log = (event.Connect, mark_of (outcome_seen c.step.result)) ∷ T.log in
+    record {
+      log = log;
+      stands = c.step.ensures.stands T st clean;
+      so = subst (λ r. MatchResult r (λ n. (n ≡ next_number T.log) × GoesOn T.base (next_number T.log) (acts T) [] [] log) (λ e. Refuses T e log)) (sym c.opened.ensures)
+          (connects T (lent_by c.args.office.now) (outcome_seen c.step.result) (c.step.ensures.outcome T st clean));
+    })

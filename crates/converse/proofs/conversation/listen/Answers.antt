@@ -1,0 +1,32 @@
+use Rattle.std.proofs.Common.{◌≡◌, [], ◌++◌, ℕ, List, take, cond, MatchResult, Err, sym, subst, append-nil, true, false}
+use Rattle.converse.specs.Conversing.{GoesOn, Waits, IsCut}
+use Rattle.converse.proofs.Clauses.{consumes_none, refused_as, not_ok}
+use Rattle.converse.proofs.conversation.listen.Goals as goal
+
+pub returns-in_default-clause-read : goal.returns-in_default-clause-read
+returns-in_default-clause-read g c = (
+  [],
+  consumes_none _ _ c.in_default.ensures.bytes,
+  (λ e. absurd (cc)),
+  (λ e. absurd (cc)),
+  λ B past octets written clean w.
+      record { log = w.log; stands = w.stands; so = subst (λ (o : List ℕ). Waits B c.args.c past o written w.log) (sym (append-nil octets)) w.so },
+)
+
+pub returns-in_err-hear-clause-read : goal.returns-in_err-hear-clause-read
+returns-in_err-hear-clause-read g c =
+    let f = c.in_err-hear.field-0.0 in
+    let e : c.from_residual.result ≡ Err f = refused_as c.from_residual.result f c.from_residual.ensures.1 in
+    let piece = take c.in-Ok.count c.read.new.buf in (
+      piece,
+      c.in-Ok.ensures.bytes.0,
+      (λ q. absurd (not_ok c.from_residual.result f true e q)),
+      (λ q. absurd (not_ok c.from_residual.result f false e q)),
+      λ B past octets written clean w.
+          (let k = c.in_err-hear.ensures.heard B past octets written clean w in
+          record {
+            log = k.log;
+            stands = k.stands;
+            so = subst (λ r. MatchResult r (λ more. cond more (GoesOn B c.args.c past (octets ++ piece) written k.log) (Waits B c.args.c past (octets ++ piece) written k.log)) (λ x. IsCut x B c.args.c past (octets ++ piece) written k.log)) (sym e) k.so;
+          }),
+    )

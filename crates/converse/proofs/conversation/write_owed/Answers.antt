@@ -1,0 +1,105 @@
+use Rattle.std.proofs.Common.{false, ◌≡◌, ◌++◌, ◌<◌, length, length-append, cond, MatchResult, Err, Ok, sym, ap, subst, arith, true, inr}
+use Rattle.office.specs.Stands.{vault_of}
+use Rattle.converse.specs.Talked.{IsEndless}
+use Rattle.converse.specs.Conversing.{Midway, IsPaid, IsCut, Breaks}
+use Rattle.converse.proofs.Ends.{midway_broken}
+use Rattle.converse.proofs.Clauses.{appends_then, appends_kept, refused_as, so_by, wrote_then, none_written, some_written}
+use Rattle.converse.proofs.conversation.write_owed.Goals as goal
+
+pub returns-in_err-write_some-clause-wrote : goal.returns-in_err-write_some-clause-wrote
+returns-in_err-write_some-clause-wrote g c =
+    let f = c.in_err-write_some.field-0.0 in
+    let e : c.from_residual.result ≡ Err f = refused_as c.from_residual.result f c.from_residual.ensures.1 in
+    let s = c.loop.invariant in
+    let d = c.in_err-write_some.ensures.wrote in
+    let now = g.V.Vault.faults (vault_of c.write_some.new.office) in (
+      s.more ++ d.0,
+      appends_then _ _ _ s.more d.0 s.appends d.1,
+      wrote_then g.V.Vault.holds g.V.Vault.faults g.V.Vault.is_clean c.args.office.now c.loop.office c.write_some.new.office c.args.c _ _ c.loop.counter s d.0
+          (λ before B past octets written L. MatchResult c.from_residual.result (λ _. IsPaid before now B c.args.c past octets written L) (λ x. IsCut x B c.args.c past octets written L))
+          c.in_err-write_some.ensures.clean
+          (λ before B past octets written first clean w. so_by g.V.Vault.holds g.V.Vault.faults g.V.Vault.is_clean c.write_some.new.office B
+          (λ L. IsCut f B c.args.c past octets (written ++ d.0) L)
+          (λ L. MatchResult c.from_residual.result (λ _. IsPaid before now B c.args.c past octets (written ++ d.0) L) (λ x. IsCut x B c.args.c past octets (written ++ d.0) L))
+          (λ L h. subst (λ r. MatchResult r (λ _. IsPaid before now B c.args.c past octets (written ++ d.0) L) (λ x. IsCut x B c.args.c past octets (written ++ d.0) L)) (sym e) h)
+          (d.3 before B past octets written first clean w)),
+    )
+
+pub returns-in_default-clause-wrote : goal.returns-in_default-clause-wrote
+returns-in_default-clause-wrote g c =
+    let b = c.in_ok-write_some.field-0 in
+    let s = c.loop.invariant in
+    let d = c.in_ok-write_some.ensures.wrote in
+    let now = g.V.Vault.faults (vault_of c.write_some.new.office) in (
+      s.more ++ d.0,
+      appends_kept _ _ _ (s.more ++ d.0) (appends_then _ _ _ s.more d.0 s.appends d.1) c.in_default.ensures.bytes,
+      wrote_then g.V.Vault.holds g.V.Vault.faults g.V.Vault.is_clean c.args.office.now c.loop.office c.write_some.new.office c.args.c _ _ c.loop.counter s d.0
+          (λ before B past octets written L. Breaks B c.args.c past octets written false L)
+          c.in_ok-write_some.ensures.clean
+          (λ before B past octets written first clean w. so_by g.V.Vault.holds g.V.Vault.faults g.V.Vault.is_clean c.write_some.new.office B
+          (λ L. cond b (Midway before now B c.args.c past octets (written ++ d.0) L) (IsPaid before now B c.args.c past octets (written ++ d.0) L))
+          (λ L. Breaks B c.args.c past octets (written ++ d.0) false L)
+          (λ L h. midway_broken B c.args.c past octets (written ++ d.0) before now L
+          (none_written b (λ L. Midway before now B c.args.c past octets (written ++ d.0) L) (λ L. IsPaid before now B c.args.c past octets (written ++ d.0) L) L c.if-not-branch.true h).midway)
+          (d.3 before B past octets written first clean w)),
+    )
+
+pub returns-then-not-branch-clause-wrote : goal.returns-then-not-branch-clause-wrote
+returns-then-not-branch-clause-wrote g c =
+    let b = c.in_ok-write_some.field-0 in
+    let s = c.loop.invariant in
+    let d = c.in_ok-write_some.ensures.wrote in
+    let now = g.V.Vault.faults (vault_of c.write_some.new.office) in (
+      s.more ++ d.0,
+      appends_kept _ _ _ (s.more ++ d.0) (appends_then _ _ _ s.more d.0 s.appends d.1) c.in-Ok.ensures.bytes,
+      wrote_then g.V.Vault.holds g.V.Vault.faults g.V.Vault.is_clean c.args.office.now c.loop.office c.write_some.new.office c.args.c _ _ c.loop.counter s d.0
+          (λ before B past octets written L. IsPaid before now B c.args.c past octets written L)
+          c.in_ok-write_some.ensures.clean
+          (λ before B past octets written first clean w. so_by g.V.Vault.holds g.V.Vault.faults g.V.Vault.is_clean c.write_some.new.office B
+          (λ L. cond b (Midway before now B c.args.c past octets (written ++ d.0) L) (IsPaid before now B c.args.c past octets (written ++ d.0) L))
+          (λ L. IsPaid before now B c.args.c past octets (written ++ d.0) L)
+          (λ L h. none_written b (λ L. Midway before now B c.args.c past octets (written ++ d.0) L) (λ L. IsPaid before now B c.args.c past octets (written ++ d.0) L) L c.if-not-branch.true h)
+          (d.3 before B past octets written first clean w)),
+    )
+
+pub loop-preserved : goal.loop-preserved
+loop-preserved g c =
+    let b = c.in_ok-write_some.field-0 in
+    let s = c.loop.invariant in
+    let d = c.in_ok-write_some.ensures.wrote in
+    let now = g.V.Vault.faults (vault_of c.write_some.new.office) in
+    let on : b ≡ true = c.if-not-branch.false in
+    let some : 0 < length d.0 = d.2 (ap (λ x. Ok x) on) in
+    let up = s.counted in
+    let up2 = c.in_ok-write_some.ensures.counted in
+    let long = s.enough in
+    record {
+      more = s.more ++ d.0;
+      appends = appends_then _ _ _ s.more d.0 s.appends d.1;
+      enough = omega (arith, some, long, length-append s.more d.0);
+      stands = wrote_then g.V.Vault.holds g.V.Vault.faults g.V.Vault.is_clean c.args.office.now c.loop.office c.write_some.new.office c.args.c _ _ c.loop.counter s d.0
+          (λ before B past octets written L. Midway before now B c.args.c past octets written L)
+          c.in_ok-write_some.ensures.clean
+          (λ before B past octets written first clean w. so_by g.V.Vault.holds g.V.Vault.faults g.V.Vault.is_clean c.write_some.new.office B
+          (λ L. cond b (Midway before now B c.args.c past octets (written ++ d.0) L) (IsPaid before now B c.args.c past octets (written ++ d.0) L))
+          (λ L. Midway before now B c.args.c past octets (written ++ d.0) L)
+          (λ L h. some_written b (λ L. Midway before now B c.args.c past octets (written ++ d.0) L) (λ L. IsPaid before now B c.args.c past octets (written ++ d.0) L) L on h)
+          (d.3 before B past octets written first clean w));
+      counted = omega (arith, up, up2);
+      clean = λ k. s.clean (c.in_ok-write_some.ensures.clean k);
+    }
+
+pub returns-clause-wrote : goal.returns-clause-wrote
+returns-clause-wrote g c =
+    let s = c.loop.invariant in
+    let now = g.V.Vault.faults (vault_of c.loop.office) in
+    let long = s.enough in
+    let over = c.loop-test.false in (
+      s.more,
+      s.appends,
+      λ before B past octets written first clean w. so_by g.V.Vault.holds g.V.Vault.faults g.V.Vault.is_clean c.loop.office B
+          (λ L. Midway before now B c.args.c past octets (written ++ s.more) L)
+          (λ L. Breaks B c.args.c past octets (written ++ s.more) false L × IsEndless octets (written ++ s.more))
+          (λ L h. (midway_broken B c.args.c past octets (written ++ s.more) before now L h, inr (omega (arith, long, over, length-append written s.more))))
+          (s.stands before B past octets written first clean w),
+    )

@@ -1,0 +1,55 @@
+-- What a call of `talk` leaves: of which trace the office then stands, by what the call answered.
+use Rattle.std.specs.Prelude.{◌≡◌, ℕ, Bool, true, false, ◌≤◌, ◌⊎◌, ◌^◌, ◌-◌, List, ◌∷◌, length, Result, Ok, Err}
+use Rattle.vault.specs.Records.{Records}
+use Rattle.vault.specs.Changes.{Contents}
+use Rattle.office.specs.History.{Act, Tag, NoMemory}
+use Rattle.office.specs.Events.{Event, Mark, Tagged, Log, Trace}
+use Rattle.office.specs.Events as event
+use Rattle.office.specs.Trace.{acts, is_open}
+use Rattle.office.specs.Expected.{is_full}
+use Rattle.office.specs.Stands.{StandsFor}
+use Rattle.office.specs.declared.office.Office.{Office}
+use Rattle.converse.specs.declared.conversation.TalkFault.{TalkFault}
+use Rattle.converse.specs.declared.conversation.TalkFault.TheVariants as fault
+use Rattle.converse.specs.Talk.{NeverBegins, Talks, TalksInPart, BreaksOff, BreaksOffReading}
+
+-- the trace of these records and this log
+abbrev pub trace_of : Records → Log → Trace
+trace_of B L = record { base = B; log = L }
+
+-- an office stands for a trace over these records, of whose log this holds
+pub record StandsSo {V : Type 0} (Holds : V → Contents → Type 0) (o : Office V) (B : Records) (P : Log → Type 0) : Type 0 where
+  pub log : Log
+  pub stands : StandsFor Holds o (trace_of B log)
+  pub so : P log
+
+-- so many octets were read, or so many written
+abbrev pub IsEndless : (octets written : List ℕ) → Type 0
+IsEndless octets written = (2 ^ 64 - 1 ≤ length octets) ⊎ (2 ^ 64 - 1 ≤ length written)
+
+-- the last event of a log met want of memory
+abbrev pub MetLack : Log → Type 0
+MetLack L = (e : Event) × (before : Log) × (L ≡ (e, Tagged NoMemory) ∷ before)
+
+-- the last event but one did, and the last is the connection's end
+abbrev pub MetLackBefore : ℕ → Log → Type 0
+MetLackBefore c L = (m : Mark) × (before : Log) × (L ≡ (event.Gone c, m) ∷ before) × MetLack before
+
+-- the connection isn't open, and of the acts this holds
+abbrev pub Leaves : Records → ℕ → Log → (List (Act × Tag) → Type 0) → Type 0
+Leaves B c L P = (is_open (trace_of B L) c ≡ false) × P (acts (trace_of B L))
+
+-- By what `talk` answered over an office that stood for T: what is said of the log of the trace for which it stands now. `AtEnd` says
+-- that the reader told its end, and `grown` that the store's count of faults grew.
+abbrev pub ComesOut : (AtEnd : Type 0) (grown : Bool) → Trace → ℕ → (octets written : List ℕ) → Result Unit TalkFault → Log → Type 0
+ComesOut AtEnd grown T c octets written (Ok done) L =
+    Leaves T.base c L (λ new. Talks T.base c octets written AtEnd (acts T) new ⊎ (TalksInPart T.base c octets written (acts T) new × (grown ≡ true)))
+ComesOut AtEnd grown T c octets written (Err fault.Read) L = Leaves T.base c L (BreaksOffReading T.base c octets written (acts T))
+ComesOut AtEnd grown T c octets written (Err fault.Write) L = Leaves T.base c L (BreaksOff T.base c octets written false (acts T))
+ComesOut AtEnd grown T c octets written (Err fault.TooManyConnections) L =
+    NeverBegins written (acts T) (acts (trace_of T.base L)) × (is_full T ≡ true)
+ComesOut AtEnd grown T c octets written (Err fault.NoMemory) L =
+    (NeverBegins written (acts T) (acts (trace_of T.base L)) × MetLack L)
+    ⊎ (Leaves T.base c L (BreaksOff T.base c octets written true (acts T)) × MetLackBefore c L)
+ComesOut AtEnd grown T c octets written (Err fault.Endless) L =
+    Leaves T.base c L (BreaksOff T.base c octets written false (acts T)) × IsEndless octets written

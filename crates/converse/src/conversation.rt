@@ -1,0 +1,193 @@
+//! One conversation of a client over an office.
+ghost use Rattle.std.specs.Prelude.{◌≡◌, ◌<◌, ◌≤◌, ◌++◌, ◌⊎◌, ℕ, List, [], true, false, length, Ok, MatchResult, cond};
+ghost use Rattle.std.specs.Io.KnownBytes.{Appends, Consumes, IsAtEnd};
+ghost use Rattle.vault.specs.Records.{Records};
+ghost use Rattle.vault.specs.Calls.{has_grown};
+ghost use Rattle.office.specs.History.{Act, Tag};
+ghost use Rattle.office.specs.Events.{Trace};
+ghost use Rattle.office.specs.Log.{next_number};
+ghost use Rattle.office.specs.Trace.{acts};
+ghost use Rattle.office.specs.Expected.{most_in_a_piece};
+ghost use Rattle.office.specs.Shown.{outcome_seen};
+ghost use Rattle.office.specs.Stands.{StandsFor, vault_of};
+ghost use Rattle.converse.specs.Talked.{StandsSo, ComesOut};
+ghost use Rattle.converse.specs.Conversing.{GoesOn, Waits, Midway, IsPaid, IsOver, IsCut, Refuses, opened_by, memory_by};
+
+use office::{Event, Office, Outcome};
+use std::io::{Read, Write};
+use vault::Vault;
+
+/// How many octets are read at once: as many as an office takes in one piece.
+const MOST_AT_ONCE: usize = 4096;
+
+/// Why a conversation was broken off.
+#[derive(Clone, Copy, Debug, PartialEq, Eq)]
+pub enum TalkFault {
+    /// The reader failed.
+    Read,
+    /// The writer failed, or took no octet.
+    Write,
+    /// The office opens no further connection.
+    TooManyConnections,
+    NoMemory,
+    /// 2^64 - 1 octets were read or written, and there was no end.
+    Endless,
+}
+
+/// Which number was opened, or why none.
+fn opened(outcome: Outcome) -> Result<u64, TalkFault>
+    ensures { result ≡ opened_by (outcome_seen outcome) }
+{
+    match outcome {
+        Outcome::Opened(c) => Ok(c),
+        Outcome::NoMemory => Err(TalkFault::NoMemory),
+        _ => Err(TalkFault::TooManyConnections),
+    }
+}
+
+/// Whether memory was wanting.
+fn had_memory(outcome: Outcome) -> Result<(), TalkFault>
+    ensures { result ≡ memory_by (outcome_seen outcome) }
+{
+    match outcome {
+        Outcome::NoMemory => Err(TalkFault::NoMemory),
+        _ => Ok(()),
+    }
+}
+
+/// Opens a connection.
+fn connect<V: Vault>(office: &mut Office<V>) -> Result<u64, TalkFault>
+    ensures began { (T : Trace) → StandsFor V.holds office.old T → V.is_clean (vault_of office.new) → StandsSo V.holds office.new T.base (λ L. MatchResult result (λ c. (c ≡ next_number T.log) × GoesOn T.base (next_number T.log) (acts T) [] [] L) (λ e. Refuses T e L)) }
+    ensures counted { V.faults (vault_of office.old) ≤ V.faults (vault_of office.new) }
+    ensures clean { V.is_clean (vault_of office.new) → V.is_clean (vault_of office.old) }
+{
+    opened(office.step(Event::Connect))
+}
+
+/// Gives a piece to an office that waits for it.
+fn hear<V: Vault>(office: &mut Office<V>, c: u64, piece: &[u8]) -> Result<(), TalkFault>
+    requires { length piece.now ≤ most_in_a_piece }
+    ensures heard { (B : Records) (past : List (Act × Tag)) (octets written : List ℕ) → V.is_clean (vault_of office.new) → StandsSo V.holds office.old B (Waits B c past octets written) → StandsSo V.holds office.new B (λ L. MatchResult result (λ _. GoesOn B c past (octets ++ piece.now) written L) (λ e. IsCut e B c past (octets ++ piece.now) written L)) }
+    ensures counted { V.faults (vault_of office.old) ≤ V.faults (vault_of office.new) }
+    ensures clean { V.is_clean (vault_of office.new) → V.is_clean (vault_of office.old) }
+{
+    had_memory(office.step(Event::Bytes(c, piece)))
+}
+
+/// Reads once, and gives the piece to an office that waits for it. Whether there was one; else the reader is at its end.
+fn listen<V: Vault, R: Read>(
+    office: &mut Office<V>,
+    c: u64,
+    reader: &mut R,
+) -> Result<bool, TalkFault>
+    ensures read { (piece : List ℕ) × Consumes (R.remaining reader.old) (R.remaining reader.new) piece × (result ≡ Ok true → 0 < length piece) × (result ≡ Ok false → IsAtEnd (R.remaining reader.new))
+        × ((B : Records) (past : List (Act × Tag)) (octets written : List ℕ) → V.is_clean (vault_of office.new) → StandsSo V.holds office.old B (Waits B c past octets written) → StandsSo V.holds office.new B (λ L. MatchResult result (λ more. cond more (GoesOn B c past (octets ++ piece) written L) (Waits B c past (octets ++ piece) written L)) (λ e. IsCut e B c past (octets ++ piece) written L))) }
+    ensures counted { V.faults (vault_of office.old) ≤ V.faults (vault_of office.new) }
+    ensures clean { V.is_clean (vault_of office.new) → V.is_clean (vault_of office.old) }
+{
+    let mut room = [0; MOST_AT_ONCE];
+    let Ok(count) = reader.read(&mut room) else {
+        return Err(TalkFault::Read);
+    };
+    if count == 0 {
+        return Ok(false);
+    }
+    hear(office, c, &room[..count])?;
+    Ok(true)
+}
+
+/// Writes some of what is owed. Whether there was something.
+fn write_some<V: Vault, W: Write>(
+    office: &mut Office<V>,
+    c: u64,
+    writer: &mut W,
+) -> Result<bool, TalkFault>
+    ensures wrote { (more : List ℕ) × Appends (W.contents writer.old) (W.contents writer.new) more × (result ≡ Ok true → 0 < length more)
+        × ((before : ℕ) (B : Records) (past : List (Act × Tag)) (octets written : List ℕ) → before ≤ V.faults (vault_of office.old) → V.is_clean (vault_of office.new)
+        → StandsSo V.holds office.old B (Midway before (V.faults (vault_of office.old)) B c past octets written)
+        → StandsSo V.holds office.new B (λ L. MatchResult result (λ some. cond some (Midway before (V.faults (vault_of office.new)) B c past octets (written ++ more) L) (IsPaid before (V.faults (vault_of office.new)) B c past octets (written ++ more) L)) (λ e. IsCut e B c past octets (written ++ more) L))) }
+    ensures counted { V.faults (vault_of office.old) ≤ V.faults (vault_of office.new) }
+    ensures clean { V.is_clean (vault_of office.new) → V.is_clean (vault_of office.old) }
+{
+    let lent = office.owed(c);
+    if lent.is_empty() {
+        return Ok(false);
+    }
+    let Ok(count) = writer.write(lent) else {
+        return Err(TalkFault::Write);
+    };
+    if count == 0 {
+        return Err(TalkFault::Write);
+    }
+    had_memory(office.step(Event::Took(c, count)))?;
+    Ok(true)
+}
+
+/// Writes all that is owed, and flushes.
+fn write_owed<V: Vault, W: Write>(
+    office: &mut Office<V>,
+    c: u64,
+    writer: &mut W,
+) -> Result<(), TalkFault>
+    ensures wrote { (more : List ℕ) × Appends (W.contents writer.old) (W.contents writer.new) more
+        × ((before : ℕ) (B : Records) (past : List (Act × Tag)) (octets written : List ℕ) → before ≤ V.faults (vault_of office.old) → V.is_clean (vault_of office.new)
+        → StandsSo V.holds office.old B (Midway before (V.faults (vault_of office.old)) B c past octets written)
+        → StandsSo V.holds office.new B (λ L. MatchResult result (λ _. IsPaid before (V.faults (vault_of office.new)) B c past octets (written ++ more) L) (λ e. IsCut e B c past octets (written ++ more) L))) }
+    ensures counted { V.faults (vault_of office.old) ≤ V.faults (vault_of office.new) }
+    ensures clean { V.is_clean (vault_of office.new) → V.is_clean (vault_of office.old) }
+{
+    for _ in 0..u64::MAX {
+        if !write_some(office, c, writer)? {
+            let Ok(()) = writer.flush() else {
+                return Err(TalkFault::Write);
+            };
+            return Ok(());
+        }
+    }
+    Err(TalkFault::Endless)
+}
+
+/// Writes and reads in turn, until the connection is ended or the reader is at its end.
+fn converse<V: Vault, R: Read, W: Write>(
+    office: &mut Office<V>,
+    c: u64,
+    reader: &mut R,
+    writer: &mut W,
+) -> Result<(), TalkFault>
+    ensures talked { (octets written : List ℕ) × Consumes (R.remaining reader.old) (R.remaining reader.new) octets × Appends (W.contents writer.old) (W.contents writer.new) written
+        × ((before : ℕ) (B : Records) (past : List (Act × Tag)) → before ≤ V.faults (vault_of office.old) → V.is_clean (vault_of office.new)
+        → StandsSo V.holds office.old B (GoesOn B c past [] [])
+        → StandsSo V.holds office.new B (λ L. MatchResult result (λ _. (Waits B c past octets written L × IsAtEnd (R.remaining reader.new)) ⊎ IsOver before (V.faults (vault_of office.new)) B c past octets written L) (λ e. IsCut e B c past octets written L))) }
+    ensures counted { V.faults (vault_of office.old) ≤ V.faults (vault_of office.new) }
+    ensures clean { V.is_clean (vault_of office.new) → V.is_clean (vault_of office.old) }
+{
+    for _ in 0..u64::MAX {
+        write_owed(office, c, writer)?;
+        if office.ended(c) {
+            return Ok(());
+        }
+        if !listen(office, c, reader)? {
+            return Ok(());
+        }
+    }
+    Err(TalkFault::Endless)
+}
+
+/// One conversation over an office, from a reader and to a writer: a connection is opened, and all that it is owed is written before
+/// each read, until its last line closed it or the reader told its end. Its connection is then ended, after a fault too.
+pub fn talk<V: Vault, R: Read, W: Write>(
+    office: &mut Office<V>,
+    reader: &mut R,
+    writer: &mut W,
+) -> Result<(), TalkFault>
+    ensures talked { (octets written : List ℕ) × Consumes (R.remaining reader.old) (R.remaining reader.new) octets × Appends (W.contents writer.old) (W.contents writer.new) written
+        × ((T : Trace) → StandsFor V.holds office.old T → V.is_clean (vault_of office.new)
+        → StandsSo V.holds office.new T.base (ComesOut (IsAtEnd (R.remaining reader.new)) (has_grown (V.faults (vault_of office.old)) (V.faults (vault_of office.new))) T (next_number T.log) octets written result)) }
+    ensures counted { V.faults (vault_of office.old) ≤ V.faults (vault_of office.new) }
+    ensures clean { V.is_clean (vault_of office.new) → V.is_clean (vault_of office.old) }
+{
+    let c = connect(office)?;
+    let talked = converse(office, c, reader, writer);
+    let _ = office.step(Event::Gone(c));
+    talked
+}
