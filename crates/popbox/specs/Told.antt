@@ -3,6 +3,7 @@ use Rattle.std.specs.Prelude.{ℕ, Bool, true, List, [], ◌∷◌, ◌++◌, �
 use Rattle.std.specs.Fmt.{decimal}
 use Rattle.policy.specs.Policy.{Policy}
 use Rattle.policy.specs.PolicyText.{fault_text as policy_fault_text}
+use Rattle.policy.specs.declared.fault.PolicyFault.{PolicyFault}
 use Rattle.office.specs.Answers.{body_of}
 use Rattle.office.specs.Outcomes.{Outcome, Reason, NoSuchConnection, NotReady, PieceTooLong, TooManyConnections}
 use Rattle.office.specs.Outcomes as outcome
@@ -45,6 +46,10 @@ led_by word at_start (b ∷ bs) = (if at_start then word else []) ++ b ∷ led_b
 abbrev pub answer_lines : List ℕ → List ℕ
 answer_lines [] = codes "answer\n"
 answer_lines (b ∷ bs) = led_by (codes "answer ") true (b ∷ bs)
+
+-- the line that answers a text that is no policy
+abbrev pub no_policy_line : PolicyFault → List ℕ
+no_policy_line f = codes "answer " ++ policy_fault_text f ++ codes "\n"
 
 -- the lines that tell an outcome
 abbrev pub outcome_lines : Outcome → List ℕ

@@ -2,7 +2,7 @@
 
 use crate::replay::tell;
 use crate::script::{Line, read_script};
-use crate::tests::{Ran, run, run_at};
+use crate::tests::{Ran, expect, expect_output, run_at};
 use creds::Credential;
 use office::{AdminCommand, Outcome};
 use std::alloc::Global;
@@ -21,8 +21,7 @@ fn deposits_are_answered(rt: HostRuntime) -> Result<(), Fail> {
         answer conflict\nanswer empty text\nanswer no such maildrop\n\
         answer orders 1 21\nanswer note.1 21\nanswer no such maildrop\nanswer not empty\n\
         answer new note.2\nanswer note.1 21\nanswer note.2 5\nanswer orders 2 26\n";
-    assert_eq!(rt; run(alloc, script)?, Ran::good(alloc, want)?);
-    Ok(())
+    expect_output(alloc, script, want)
 }
 
 #[test]
@@ -34,8 +33,7 @@ fn dropped_maildrop_is_added_again(rt: HostRuntime) -> Result<(), Fail> {
     let want = "answer added\nanswer added\nanswer dropped\nanswer no such maildrop\n\
         answer billing 0 0\nanswer no such maildrop\nanswer added\nanswer new note.1\n\
         answer billing 0 0\nanswer orders 1 3\n";
-    assert_eq!(rt; run(alloc, script)?, Ran::good(alloc, want)?);
-    Ok(())
+    expect_output(alloc, script, want)
 }
 
 #[test]
@@ -46,12 +44,35 @@ fn clerks_are_answered(rt: HostRuntime) -> Result<(), Fail> {
     let want = "answer no such clerk\nanswer added\nanswer pass\nanswer replaced\n\
         answer apop\nanswer dropped\nanswer no such clerk\nanswer no such clerk\n\
         answer deny by rule default\n";
-    assert_eq!(rt; run(alloc, script)?, Ran::good(alloc, want)?);
-    Ok(())
+    expect_output(alloc, script, want)
+}
+
+#[test]
+fn policies_are_answered(rt: HostRuntime) -> Result<(), Fail> {
+    let alloc = rt.alloc();
+    let rule =
+        "[[rule]]\\nname = \"all\"\\neffect = \"allow\"\\nclerk = \"*\"\\nmaildrop = \"*\"\\n\
+        class = \"*\"\\nactions = [\"open\", \"read\", \"remove\"]\\n";
+    let lines =
+        "answer [[rule]]\nanswer name = \"all\"\nanswer effect = \"allow\"\nanswer clerk = \"*\"\n\
+        answer maildrop = \"*\"\nanswer class = \"*\"\nanswer actions = [\"open\", \"read\", \"remove\"]\n";
+    let script = format!(in alloc;
+        "policy\npolicy {rule}\npolicy\nexplain ann orders note open\npolicy {rule}{rule}\npolicy \\xff\n\
+        explain ann orders note open\npolicy \npolicy\nexplain ann orders note open\n"
+    )?;
+    let want = format!(in alloc;
+        "answer\nanswer 1 rules\n{lines}answer allow by rule all\nanswer rule 2: DoubleName\nanswer NotToml\n\
+        answer allow by rule all\nanswer 0 rules\nanswer\nanswer deny by rule default\n"
+    )?;
+    expect_output(alloc, script.as_str(), want.as_str())
 }
 
 /// Lines of a connection, each drained, and what is printed of them and their replies.
-fn converse(alloc: Global, number: u64, rows: &[(&str, &str)]) -> Result<(String, String), Fail> {
+pub fn converse(
+    alloc: Global,
+    number: u64,
+    rows: &[(&str, &str)],
+) -> Result<(String, String), Fail> {
     let mut script = String::new(alloc);
     let mut want = String::new(alloc);
     for (line, reply) in rows {
@@ -82,38 +103,30 @@ fn credentials_are_judged(rt: HostRuntime) -> Result<(), Fail> {
         "answer added\nanswer added\nopened 1\n\
         sent 1 +OK POP3 server ready <1.7@h.test>\\r\\n\ndone\n{replies}ended 1\n"
     )?;
-    let ran = run(alloc, script.as_str())?;
-    assert_eq!(rt; ran, Ran::good(alloc, want.as_str())?);
-    Ok(())
+    expect_output(alloc, script.as_str(), want.as_str())
 }
 
-#[test]
-fn apop_with_the_rfc_digest(rt: HostRuntime) -> Result<(), Fail> {
-    let alloc = rt.alloc();
+/// A policy that lets mrose open any maildrop.
+static OPENING: &str =
+    r#"policy [[rule]]\nname = "mrose-open"\neffect = "allow"\nclerk = "mrose"\nmaildrop = "*"\nclass = "*"\nactions = ["open"]
+"#;
+
+/// After 1,895 connections that came and went, these lines of the next one have these replies.
+fn with_the_rfc_greeting(alloc: Global, rows: &[(&str, &str)]) -> Result<(), Fail> {
     let mut script = String::from_str(
         alloc,
-        "clerk apop mrose tanstaaf\nclerk pass ann tanstaaf\n",
+        "maildrop add orders\nclerk apop mrose tanstaaf\nclerk pass ann tanstaaf\n",
     )?;
-    let mut want = String::from_str(alloc, "answer added\nanswer added\n")?;
+    script.push_str(OPENING)?;
+    let mut want = String::from_str(
+        alloc,
+        "answer added\nanswer added\nanswer added\nanswer 1 rules\n",
+    )?;
     for number in 1..1896 {
         writeln!(script, "connect\ngone {number}")?;
         writeln!(want, "opened {number}\ndone\nended {number}")?;
     }
-    let denied = "-ERR denied by rule default";
-    let rows = [
-        ("APOP mrose/orders c4c9334bac560ecc979e58001b3e22fb", denied),
-        ("APOP mrose/orders C4C9334BAC560ECC979E58001B3E22FB", denied),
-        (
-            "APOP ann/orders c4c9334bac560ecc979e58001b3e22fb",
-            "-ERR login failed",
-        ),
-        (
-            "APOP mrose/orders c4c9334bac560ecc979e58001b3e22fc",
-            "-ERR login failed",
-        ),
-        ("QUIT", "+OK bye"),
-    ];
-    let (lines, replies) = converse(alloc, 1896, rows.as_slice())?;
+    let (lines, replies) = converse(alloc, 1896, rows)?;
     writeln!(script, "connect\ndrain 1896\n{lines}")?;
     writeln!(
         want,
@@ -121,8 +134,40 @@ fn apop_with_the_rfc_digest(rt: HostRuntime) -> Result<(), Fail> {
         sent 1896 +OK POP3 server ready <1896.697170952@dbc.mtview.ca.us>\\r\\n\ndone\n{replies}ended 1896"
     )?;
     let ran = run_at(alloc, "dbc.mtview.ca.us", 697_170_952, script.as_str())?;
-    assert_eq!(rt; ran, Ran::good(alloc, want.as_str())?);
-    Ok(())
+    expect(ran, &Ran::good(alloc, want.as_str())?)
+}
+
+/// The digits of the RFC in lower case, behind digits of one more and another clerk's.
+static LOWER_CASE: [(&str, &str); 4] = [
+    (
+        "APOP ann/orders c4c9334bac560ecc979e58001b3e22fb",
+        "-ERR login failed",
+    ),
+    (
+        "APOP mrose/orders c4c9334bac560ecc979e58001b3e22fc",
+        "-ERR login failed",
+    ),
+    (
+        "APOP mrose/orders c4c9334bac560ecc979e58001b3e22fb",
+        "+OK maildrop has 0 messages (0 octets)",
+    ),
+    ("QUIT", "+OK bye"),
+];
+
+/// The same digits in upper case.
+static UPPER_CASE: [(&str, &str); 2] = [
+    (
+        "APOP mrose/orders C4C9334BAC560ECC979E58001B3E22FB",
+        "+OK maildrop has 0 messages (0 octets)",
+    ),
+    ("QUIT", "+OK bye"),
+];
+
+#[test]
+fn apop_with_the_rfc_digest(rt: HostRuntime) -> Result<(), Fail> {
+    let alloc = rt.alloc();
+    with_the_rfc_greeting(alloc, LOWER_CASE.as_slice())?;
+    with_the_rfc_greeting(alloc, UPPER_CASE.as_slice())
 }
 
 /// SHA-256 of `ann:s3 cret`.

@@ -55,8 +55,8 @@ fn read_file<R: Read>(alloc: Global, file: &mut R) -> Result<Policy, Fault>
     }
 }
 
-/// The policy that octets spell.
-fn read_octets(alloc: Global, octets: &[u8]) -> Result<Policy, Fault>
+/// The policy that octets spell, or their first fault.
+pub fn read_octets(alloc: Global, octets: &[u8]) -> Result<Policy, Fault>
     ensures ok { IfOk result (λ policy. IsPolicyText octets.now policy) }
     ensures fault { (fault : PolicyFault) → result ≡ Err (Fault.NoPolicy fault) → IsFaultOf octets.now fault }
 {

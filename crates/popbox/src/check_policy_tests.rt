@@ -1,7 +1,7 @@
 //! Tests of check_policy: what is printed of good policies, and of each fault.
 
 use crate::check_policy::check_policy;
-use crate::tests::{Ran, Refusing};
+use crate::tests::{Ran, Refusing, expect};
 use std::alloc::{AllocError, Global};
 use std::io::{BufWriter, Read};
 use std::test::Fail;
@@ -41,6 +41,12 @@ fn check(alloc: Global, octets: &[u8]) -> Result<Ran, Fail> {
     Ran::new(status, out, err)
 }
 
+/// Fails unless a file of these octets has this fault.
+fn expect_policy_fault(alloc: Global, octets: &[u8], fault: &str) -> Result<(), Fail> {
+    let want = format!(in alloc; "popbox: {fault}\n")?;
+    expect(check(alloc, octets)?, &Ran::fault(alloc, want.as_str())?)
+}
+
 /// The text of these rules.
 fn write_rules(alloc: Global, rules: &[[&str; 6]]) -> Result<String, AllocError> {
     let mut text = String::new(alloc);
@@ -63,47 +69,67 @@ fn good_policies(rt: HostRuntime) -> Result<(), Fail> {
     let alloc = rt.alloc();
     let text = write_rules(alloc, SAMPLE.as_slice())?;
     let want = Ran::good(alloc, "ok, 8 rules\n")?;
-    assert_eq!(rt; check(alloc, text.as_bytes())?, want);
-    assert_eq!(rt; check(alloc, b"")?, Ran::good(alloc, "ok, 0 rules\n")?);
-    Ok(())
+    expect(check(alloc, text.as_bytes())?, &want)?;
+    expect(check(alloc, b"")?, &Ran::good(alloc, "ok, 0 rules\n")?)
 }
+
+/// Texts that are no policy, and the fault of each.
+static FAULTY_TEXTS: [(&[u8], &str); 5] = [
+    (b"x = 1", "rule 0: UnknownKey"),
+    (b"rule = 3", "NotToml"),
+    (b"x", "NotToml"),
+    (b"# \xff\n", "NotToml"),
+    (
+        b"[[rule]]\nname = 'a'\nclerk = '*'\nmaildrop = '*'\nclass = '*'\nactions = ['read']\ncolor = 'red'\n",
+        "rule 1: MissingKey",
+    ),
+];
 
 #[test]
 fn policy_text_faults(rt: HostRuntime) -> Result<(), Fail> {
-    let alloc = rt.alloc();
-    let lacks_effect =
-        "[[rule]]\nname = 'a'\nclerk = '*'\nmaildrop = '*'\nclass = '*'\nactions = ['read']\ncolor = 'red'\n";
-    let rows = [
-        (b"x = 1".as_slice(), "rule 0: UnknownKey"),
-        (b"rule = 3".as_slice(), "NotToml"),
-        (b"x".as_slice(), "NotToml"),
-        (b"# \xff\n".as_slice(), "NotToml"),
-        (lacks_effect.as_bytes(), "rule 1: MissingKey"),
-    ];
-    for (octets, fault) in rows {
-        let want = format!(in alloc; "popbox: {fault}\n")?;
-        assert_eq!(rt; check(alloc, octets)?, Ran::fault(alloc, want.as_str())?);
+    for (octets, fault) in FAULTY_TEXTS.as_slice() {
+        expect_policy_fault(rt.alloc(), octets, fault)?;
     }
     Ok(())
 }
 
+/// A good rule.
+const GOOD: [&str; 6] = ["a", "allow", "*", "*", "*", "'read'"];
+
+/// Rules with a fault, each the first rule or behind a good one, and the fault.
+static FAULTY_RULES: [(bool, [&str; 6], &str); 4] = [
+    (
+        true,
+        ["default", "deny", "*", "*", "*", "'read'"],
+        "rule 1: BadName",
+    ),
+    (
+        true,
+        ["b", "deny", "*", "*", "*", "'read', 'read'"],
+        "rule 1: BadActions",
+    ),
+    (
+        false,
+        ["a", "deny", "*", "*", "*", "'read'"],
+        "rule 2: DoubleName",
+    ),
+    (
+        false,
+        ["b", "deny", "*", "*", "pay", "'open'"],
+        "rule 2: OpenWithClass",
+    ),
+];
+
 #[test]
 fn rule_faults(rt: HostRuntime) -> Result<(), Fail> {
     let alloc = rt.alloc();
-    let good = ["a", "allow", "*", "*", "*", "'read'"];
-    let rows = [
-        (true, "default", "*", "'read'", "rule 1: BadName"),
-        (true, "b", "*", "'read', 'read'", "rule 1: BadActions"),
-        (false, "a", "*", "'read'", "rule 2: DoubleName"),
-        (false, "b", "pay", "'open'", "rule 2: OpenWithClass"),
-    ];
-    for (is_first, name, class, actions, fault) in rows {
-        let rules = [good, [name, "deny", "*", "*", class, actions]];
-        let first = usize::from(is_first);
-        let text = write_rules(alloc, &rules[first..])?;
-        let want = format!(in alloc; "popbox: {fault}\n")?;
-        let ran = check(alloc, text.as_bytes())?;
-        assert_eq!(rt; ran, Ran::fault(alloc, want.as_str())?);
+    for (is_first, rule, fault) in FAULTY_RULES.as_slice() {
+        let text = if *is_first {
+            write_rules(alloc, &[*rule])?
+        } else {
+            write_rules(alloc, &[GOOD, *rule])?
+        };
+        expect_policy_fault(alloc, text.as_bytes(), fault)?;
     }
     Ok(())
 }

@@ -10,8 +10,12 @@ mod check_policy_tests;
 mod command_line;
 mod fault;
 mod fields;
+#[cfg(test)]
+mod office_tests;
 mod replay;
 mod script;
+#[cfg(test)]
+mod session_tests;
 #[cfg(test)]
 mod tests;
 

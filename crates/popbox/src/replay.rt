@@ -4,12 +4,13 @@ ghost use Rattle.std.specs.Prelude.{◌≤◌, ◌≡◌, ◌∷◌, ◌++◌, [
 ghost use Rattle.std.specs.Io.KnownBytes.{Appends};
 ghost use Rattle.office.specs.Outcomes.{Ignored};
 ghost use Rattle.office.specs.Shown.{outcome_seen, reason_seen};
-ghost use Rattle.popbox.specs.Told.{outcome_lines, answer_lines, reason_name as name_of_reason};
+ghost use Rattle.popbox.specs.Told.{outcome_lines, answer_lines, no_policy_line, reason_name as name_of_reason};
 
 use crate::answers::answer_body;
 use crate::fault::{Fault, read_fault, tell_fault};
 use crate::script::{Line, read_script};
 use office::{Event, Limits, Office, Outcome, Reason};
+use policy::PolicyFault;
 use std::alloc::Global;
 use std::io;
 use std::io::{Read, Write};
@@ -87,36 +88,50 @@ fn play<V: Vault, W: Write>(
 ) -> Result<(), Fault> {
     let mut open = Vec::new(alloc);
     for line in lines {
-        let outcome = act(office, line, out).map_err(|_| Fault::CannotWrite)?;
-        if let Outcome::Opened(number) = &outcome {
-            open.push(*number)?;
+        if let Some(outcome) = act(office, line, out).map_err(|_| Fault::CannotWrite)? {
+            if let Outcome::Opened(number) = &outcome {
+                open.push(*number)?;
+            }
+            tell(alloc, out, &outcome)?;
+            tell_ended(office, &mut open, out).map_err(|_| Fault::CannotWrite)?;
         }
-        tell(alloc, out, &outcome)?;
-        tell_ended(office, &mut open, out).map_err(|_| Fault::CannotWrite)?;
     }
     Ok(())
 }
 
-/// Does the events of one line, prints the octets that it takes, and gives the last outcome.
+/// Does the events of one line, prints the octets that it takes, and gives the last outcome. A line that is no event
+/// is answered here.
 fn act<V: Vault, W: Write>(
     office: &mut Office<V>,
     line: &Line,
     out: &mut W,
-) -> io::Result<Outcome> {
-    match line {
-        Line::Connect => Ok(office.step(Event::Connect)),
-        Line::Bytes(number, octets) => Ok(office.step(Event::Bytes(*number, octets.as_slice()))),
-        Line::Took(number, count) => take(office, *number, *count, out),
-        Line::Drain(number) => drain(office, *number, out),
-        Line::Gone(number) => Ok(office.step(Event::Gone(*number))),
+) -> io::Result<Option<Outcome>> {
+    let outcome = match line {
+        Line::Connect => office.step(Event::Connect),
+        Line::Bytes(number, octets) => office.step(Event::Bytes(*number, octets.as_slice())),
+        Line::Took(number, count) => take(office, *number, *count, out)?,
+        Line::Drain(number) => drain(office, *number, out)?,
+        Line::Gone(number) => office.step(Event::Gone(*number)),
         Line::Deposit {
             maildrop,
             class,
             id,
             text,
-        } => Ok(office.step(Event::Deposit(maildrop, class, id, text.as_slice()))),
-        Line::Admin(command) => Ok(office.step(Event::Admin(command))),
-    }
+        } => office.step(Event::Deposit(maildrop, class, id, text.as_slice())),
+        Line::Admin(command) => office.step(Event::Admin(command)),
+        Line::NoPolicy(fault) => {
+            tell_no_policy(out, *fault)?;
+            return Ok(None);
+        }
+    };
+    Ok(Some(outcome))
+}
+
+/// Prints the fault of a text that is no policy.
+fn tell_no_policy<W: Write>(out: &mut W, fault: PolicyFault) -> io::Result<()>
+    ensures { OnOk result (Appends (W.contents out.old) (W.contents out.new) (no_policy_line fault)) }
+{
+    writeln!(out, "answer {fault}")
 }
 
 /// Takes `count` octets of what a connection is owed. What is ignored prints no octets.
@@ -183,7 +198,7 @@ pub fn tell<W: Write>(alloc: Global, out: &mut W, outcome: &Outcome) -> Result<(
         Outcome::Failed => writeln!(out, "failed"),
         Outcome::NoMemory => writeln!(out, "no memory"),
         Outcome::Ignored(reason) => tell_reason(out, *reason),
-        Outcome::Answered(answer) => tell_body(out, answer_body(alloc, answer)?.as_bytes()),
+        Outcome::Answered(answer) => tell_body(out, &answer_body(alloc, answer)?),
     };
     told.map_err(|_| Fault::CannotWrite)
 }

@@ -5,10 +5,12 @@
 ghost use Rattle.std.specs.Prelude.{◌≡◌, ◌+◌, ◌<◌, ◌≤◌, ◌∷◌, ◌++◌, ℕ, length, IfSome};
 ghost use Rattle.popbox.specs.declared.script.ScriptFault.TheVariants.{NoMemory};
 
+use crate::check_policy::read_octets;
+use crate::fault::Fault;
 use crate::fields::{SPACE, read_number, split_field, take_field, unescape};
 use creds::{Credential, DepositId, Name, Secret, pass_digest};
 use office::AdminCommand;
-use policy::Action;
+use policy::{Action, PolicyFault};
 use std::alloc::{AllocError, AllocFailed, Global};
 
 /// What one line of a script asks for. Connections are named by their numbers.
@@ -35,8 +37,10 @@ pub enum Line {
         /// The message's text.
         text: Vec<u8>,
     },
-    /// `maildrops`, `maildrop`, `list`, `clerk` or `explain`: an administrator asks for something.
+    /// `maildrops`, `maildrop`, `list`, `clerk`, `policy` or `explain`: an administrator asks for something.
     Admin(AdminCommand),
+    /// `policy TEXT`, where TEXT is no policy: no event, and answered the text's first fault.
+    NoPolicy(PolicyFault),
 }
 
 /// Why a text isn't a script.
@@ -98,6 +102,7 @@ fn read_line(alloc: Global, line: &[u8]) -> Result<Option<Line>, AllocError> {
         (b"gone", Some(rest)) => Ok(read_number(rest).map(Line::Gone)),
         (b"deposit", Some(rest)) => read_deposit(alloc, rest),
         (b"clerk", Some(rest)) => Ok(read_clerk(alloc, rest)?.map(Line::Admin)),
+        (b"policy", Some(text)) => read_policy(alloc, text),
         (keyword, rest) => Ok(read_command(keyword, rest).map(Line::Admin)),
     }
 }
@@ -183,10 +188,23 @@ fn read_secret(alloc: Global, rest: &[u8]) -> Result<Option<(Name, Secret)>, All
     }
 }
 
+/// `TEXT`, behind `policy`: a policy's text, or one with a fault.
+fn read_policy(alloc: Global, text: &[u8]) -> Result<Option<Line>, AllocError> {
+    let Some(octets) = unescape(alloc, text)? else {
+        return Ok(None);
+    };
+    match read_octets(alloc, octets.as_slice()) {
+        Ok(policy) => Ok(Some(Line::Admin(AdminCommand::SetPolicy(policy)))),
+        Err(Fault::NoPolicy(fault)) => Ok(Some(Line::NoPolicy(fault))),
+        Err(_) => Err(AllocError),
+    }
+}
+
 /// A command whose line has no TEXT, by its keyword and what stands behind that.
 fn read_command(keyword: &[u8], rest: Option<&[u8]>) -> Option<AdminCommand> {
     match (keyword, rest) {
         (b"maildrops", None) => Some(AdminCommand::ListMaildrops),
+        (b"policy", None) => Some(AdminCommand::ShowPolicy),
         (b"maildrop", Some(rest)) => read_maildrop(rest),
         (b"list", Some(name)) => Name::read(name).map(AdminCommand::ShowMaildrop),
         (b"explain", Some(rest)) => read_explain(rest),

@@ -30,6 +30,11 @@ impl Ran {
         Ok(Ran { status, out, err })
     }
 
+    /// What was printed on standard output.
+    pub fn printed(&self) -> &str {
+        self.out.as_str()
+    }
+
     /// A run that prints `out` and has no fault.
     pub fn good(alloc: Global, out: &str) -> Result<Ran, AllocError> {
         Ok(Ran {
@@ -64,15 +69,36 @@ pub fn run(alloc: Global, script: &str) -> Result<Ran, Fail> {
     run_at(alloc, "h.test", 7, script)
 }
 
+/// Fails with the run, unless it is the one that is wanted.
+pub fn expect(ran: Ran, want: &Ran) -> Result<(), Fail> {
+    if ran == *want {
+        Ok(())
+    } else {
+        Err(Fail::from(ran))
+    }
+}
+
+/// Fails unless the script prints this, and has no fault.
+pub fn expect_output(alloc: Global, script: &str, out: &str) -> Result<(), Fail> {
+    expect(run(alloc, script)?, &Ran::good(alloc, out)?)
+}
+
+/// Fails unless the script prints nothing, and has this fault.
+fn expect_fault(alloc: Global, host: &str, script: &str, err: &str) -> Result<(), Fail> {
+    expect(run_at(alloc, host, 7, script)?, &Ran::fault(alloc, err)?)
+}
+
+/// The octets of CAPA and of QUIT.
+static CAPA_AND_QUIT: [&str; 12] = [
+    "C", "A", "P", "A", r"\r", r"\n", "Q", "U", "I", "T", r"\r", r"\n",
+];
+
 #[test]
 fn capability_list_octet_by_octet(rt: HostRuntime) -> Result<(), Fail> {
     let alloc = rt.alloc();
     let mut script = String::from_str(alloc, "connect\ndrain 1\n")?;
     let mut want = format!(in alloc; "opened 1\nsent 1 {GREETING} <1.7@h.test>\\r\\n\ndone\n")?;
-    let octets = [
-        "C", "A", "P", "A", r"\r", r"\n", "Q", "U", "I", "T", r"\r", r"\n",
-    ];
-    for (i, octet) in octets.iter().enumerate() {
+    for (i, octet) in CAPA_AND_QUIT.iter().enumerate() {
         writeln!(script, "bytes 1 {octet}\ndrain 1")?;
         match i {
             5 => write!(want, "done\nsent 1 {CAPABILITIES}\ndone\n")?,
@@ -80,20 +106,11 @@ fn capability_list_octet_by_octet(rt: HostRuntime) -> Result<(), Fail> {
             _ => write!(want, "done\ndone\n")?,
         }
     }
-    assert_eq!(rt;
-        run(alloc, script.as_str())?,
-        Ran::good(alloc, want.as_str())?
-    );
-    Ok(())
+    expect_output(alloc, script.as_str(), want.as_str())
 }
 
-/// `NOOP`, so many spaces and a line end, in two pieces that are cut at each place in turn.
-fn cut_everywhere(
-    alloc: Global,
-    spaces: usize,
-    end: &str,
-    reply: &str,
-) -> Result<(Ran, Ran), Fail> {
+/// Gives `NOOP`, so many spaces and a line end, in two pieces that are cut at each place in turn, and expects this reply.
+fn cut_everywhere(alloc: Global, spaces: usize, end: &str, reply: &str) -> Result<(), Fail> {
     let line = format!(in alloc; "NOOP{:spaces$}", "")?;
     let mut script = String::new(alloc);
     let mut want = String::new(alloc);
@@ -112,22 +129,15 @@ fn cut_everywhere(
         )?;
         writeln!(want, "sent {at} {reply}\\r\\n\ndone\ndone\nended {at}")?;
     }
-    Ok((
-        run(alloc, script.as_str())?,
-        Ran::good(alloc, want.as_str())?,
-    ))
+    expect_output(alloc, script.as_str(), want.as_str())
 }
 
 #[test]
 fn line_length_limit(rt: HostRuntime) -> Result<(), Fail> {
     let alloc = rt.alloc();
-    let (ran, want) = cut_everywhere(alloc, 249, r"\r\n", "-ERR wrong state")?;
-    assert_eq!(rt; ran, want);
-    let (ran, want) = cut_everywhere(alloc, 250, r"\r\n", "-ERR line too long")?;
-    assert_eq!(rt; ran, want);
-    let (ran, want) = cut_everywhere(alloc, 250, r"\n", "-ERR wrong state")?;
-    assert_eq!(rt; ran, want);
-    Ok(())
+    cut_everywhere(alloc, 249, r"\r\n", "-ERR wrong state")?;
+    cut_everywhere(alloc, 250, r"\r\n", "-ERR line too long")?;
+    cut_everywhere(alloc, 250, r"\n", "-ERR wrong state")
 }
 
 #[test]
@@ -142,8 +152,7 @@ fn outcomes(rt: HostRuntime) -> Result<(), Fail> {
         sent 1 OP3 server ready <1.7@h.test>\\r\\n\ndone\nignored: NotReady\n\
         done\nsent 1 -ERR wrong state\\r\\n\ndone\ndone\ndone\n\
         done\nignored: NoSuchConnection\ndone\nended 1\nignored: NoSuchConnection\n";
-    assert_eq!(rt; run(alloc, script)?, Ran::good(alloc, want)?);
-    Ok(())
+    expect_output(alloc, script, want)
 }
 
 #[test]
@@ -159,8 +168,7 @@ fn two_connections_interleaved(rt: HostRuntime) -> Result<(), Fail> {
     let want = format!(in alloc;
         "{want}sent 2 {CAPABILITIES}-ERR wrong state\\r\\n\ndone\ndone\nended 2\ndone\n"
     )?;
-    assert_eq!(rt; run(alloc, script)?, Ran::good(alloc, want.as_str())?);
-    Ok(())
+    expect_output(alloc, script, want.as_str())
 }
 
 #[test]
@@ -177,15 +185,11 @@ fn too_many_connections(rt: HostRuntime) -> Result<(), Fail> {
         want,
         "ignored: TooManyConnections\ndone\nended 3\nopened 65\nignored: TooManyConnections"
     )?;
-    assert_eq!(rt;
-        run(alloc, script.as_str())?,
-        Ran::good(alloc, want.as_str())?
-    );
-    Ok(())
+    expect_output(alloc, script.as_str(), want.as_str())
 }
 
-/// Gives a connection's lines one at a time, and checks the reply to each. The last one ends it.
-fn converse(alloc: Global, rows: &[(&str, &str)]) -> Result<(Ran, Ran), Fail> {
+/// Gives a connection's lines one at a time, and expects this reply to each. The last one ends it.
+fn converse(alloc: Global, rows: &[(&str, &str)]) -> Result<(), Fail> {
     let mut script = String::from_str(alloc, "connect\ndrain 1\n")?;
     let mut want = format!(in alloc; "opened 1\nsent 1 {GREETING} <1.7@h.test>\\r\\n\ndone\n")?;
     for (line, reply) in rows {
@@ -193,65 +197,70 @@ fn converse(alloc: Global, rows: &[(&str, &str)]) -> Result<(Ran, Ran), Fail> {
         writeln!(want, "done\nsent 1 {reply}\\r\\n\ndone")?;
     }
     writeln!(want, "ended 1")?;
-    Ok((
-        run(alloc, script.as_str())?,
-        Ran::good(alloc, want.as_str())?,
-    ))
+    expect_output(alloc, script.as_str(), want.as_str())
 }
+
+/// Three refused passwords.
+static WRONG_PASSWORDS: [(&str, &str); 6] = [
+    ("USER ann/orders", "+OK send PASS"),
+    ("PASS wrong", "-ERR login failed"),
+    ("user ann/orders ", "+OK send PASS"),
+    ("PASS wrong", "-ERR login failed"),
+    ("USER ann/orders", "+OK send PASS"),
+    ("PASS wrong", "-ERR login failed, closing"),
+];
+
+/// A refused password, and two refused digests.
+static WRONG_DIGESTS: [(&str, &str); 4] = [
+    ("USER ann/orders", "+OK send PASS"),
+    ("PASS wrong", "-ERR login failed"),
+    (
+        "APOP mrose/orders c4c9334bac560ecc979e58001b3e22fb",
+        "-ERR login failed",
+    ),
+    (
+        "APOP mrose/orders C4C9334BAC560ECC979E58001B3E22FB",
+        "-ERR login failed, closing",
+    ),
+];
 
 #[test]
 fn third_failed_login_closes(rt: HostRuntime) -> Result<(), Fail> {
-    let alloc = rt.alloc();
-    let rows = [
-        ("USER ann/orders", "+OK send PASS"),
-        ("PASS wrong", "-ERR login failed"),
-        ("user ann/orders ", "+OK send PASS"),
-        ("PASS wrong", "-ERR login failed"),
-        ("USER ann/orders", "+OK send PASS"),
-        ("PASS wrong", "-ERR login failed, closing"),
-    ];
-    let (ran, want) = converse(alloc, rows.as_slice())?;
-    assert_eq!(rt; ran, want);
-    let rows = [
-        ("USER ann/orders", "+OK send PASS"),
-        ("PASS wrong", "-ERR login failed"),
-        (
-            "APOP mrose/orders c4c9334bac560ecc979e58001b3e22fb",
-            "-ERR login failed",
-        ),
-        (
-            "APOP mrose/orders C4C9334BAC560ECC979E58001B3E22FB",
-            "-ERR login failed, closing",
-        ),
-    ];
-    let (ran, want) = converse(alloc, rows.as_slice())?;
-    assert_eq!(rt; ran, want);
-    Ok(())
+    converse(rt.alloc(), WRONG_PASSWORDS.as_slice())?;
+    converse(rt.alloc(), WRONG_DIGESTS.as_slice())
 }
+
+/// Lines before a login, and the name that each leaves in force shown by the next.
+static NAMES_IN_FORCE: [(&str, &str); 21] = [
+    ("PASS s3 cret", "-ERR wrong state"),
+    ("USER ann", "-ERR bad arguments"),
+    ("USER Ann/orders", "-ERR bad arguments"),
+    ("PASS s3 cret", "-ERR wrong state"),
+    ("USER zoe/orders", "+OK send PASS"),
+    ("PASS", "-ERR bad arguments"),
+    ("PASS s3 cret", "-ERR wrong state"),
+    ("USER ann/orders", "+OK send PASS"),
+    ("XYZZY", "-ERR unknown command"),
+    ("PASS s3 cret", "-ERR wrong state"),
+    ("USER ann/orders", "+OK send PASS"),
+    ("CAPA x", "-ERR bad arguments"),
+    ("PASS s3 cret", "-ERR wrong state"),
+    ("USER ann/orders", "+OK send PASS"),
+    (
+        "CAPA",
+        r"+OK capability list follows\r\nTOP\r\nUSER\r\nUIDL\r\nRESP-CODES\r\nPIPELINING\r\n.",
+    ),
+    ("PASS s3 cret", "-ERR login failed"),
+    ("PASS s3 cret", "-ERR wrong state"),
+    ("STAT", "-ERR wrong state"),
+    ("RETR x", "-ERR wrong state"),
+    ("", "-ERR unknown command"),
+    ("QUIT", "+OK bye"),
+];
 
 #[test]
 fn user_name_in_force(rt: HostRuntime) -> Result<(), Fail> {
-    let alloc = rt.alloc();
-    let capabilities = CAPABILITIES.strip_suffix(r"\r\n").unwrap_or("");
-    let rows = [
-        ("PASS s3 cret", "-ERR wrong state"),
-        ("USER ann", "-ERR bad arguments"),
-        ("PASS s3 cret", "-ERR wrong state"),
-        ("USER ann/orders", "+OK send PASS"),
-        ("XYZZY", "-ERR unknown command"),
-        ("PASS s3 cret", "-ERR wrong state"),
-        ("USER ann/orders", "+OK send PASS"),
-        ("CAPA", capabilities),
-        ("PASS s3 cret", "-ERR login failed"),
-        ("PASS s3 cret", "-ERR wrong state"),
-        ("STAT", "-ERR wrong state"),
-        ("RETR x", "-ERR wrong state"),
-        ("", "-ERR unknown command"),
-        ("QUIT", "+OK bye"),
-    ];
-    let (ran, want) = converse(alloc, rows.as_slice())?;
-    assert_eq!(rt; ran, want);
-    Ok(())
+    converse(rt.alloc(), NAMES_IN_FORCE.as_slice())
 }
 
 #[test]
@@ -270,76 +279,85 @@ fn piece_too_long(rt: HostRuntime) -> Result<(), Fail> {
     Ok(())
 }
 
+/// Lines that are no event.
+static BAD_EVENTS: [&str; 61] = [
+    "hello",
+    "connect ",
+    "Connect",
+    " connect",
+    " ",
+    "connect\r",
+    "bytes",
+    "bytes 1",
+    "bytes x y",
+    "bytes 1 \\",
+    "bytes 1 a\\q",
+    "bytes 1 \\x1",
+    "bytes 1 \\x1g",
+    "bytes 1 \\X11",
+    "took 1",
+    "took 1 ",
+    "took 1 2 3",
+    "took 1  2",
+    "drain",
+    "drain ",
+    "drain +1",
+    "drain -1",
+    "drain 1 ",
+    "gone",
+    "gone  1",
+    "gone x",
+    "gone 000000000000000000001",
+    "gone 18446744073709551616",
+    "deposit",
+    "deposit orders note d1",
+    "deposit orders note d1\\n x",
+    "deposit Orders note d1 x",
+    "deposit orders  d1 x",
+    "deposit orders note d/1 x",
+    "deposit orders note d1 \\q",
+    "maildrop",
+    "maildrop add",
+    "maildrop add ",
+    "maildrop add Orders",
+    "maildrop add orders ",
+    "maildrop list orders",
+    "maildrops ",
+    "maildrops orders",
+    "list",
+    "list ",
+    "list orders note",
+    "clerk",
+    "clerk ann",
+    "clerk apop ann",
+    "clerk apop ann ",
+    "clerk pass ann ",
+    "clerk apop ann a\\n",
+    "clerk pass ann \\x7f",
+    "clerk pass Ann x",
+    "clerk keep ann x",
+    "clerk show",
+    "clerk drop Ann",
+    "explain ann orders note",
+    "explain ann orders note write",
+    "explain ann orders note read ",
+    "explain ann orders * read",
+];
+
+fn expect_bad_event(alloc: Global, line: &str) -> Result<(), Fail> {
+    let script = format!(in alloc; "connect\n\n{line}\nconnect\n")?;
+    expect_fault(
+        alloc,
+        "h.test",
+        script.as_str(),
+        "popbox: line 3: bad event\n",
+    )
+}
+
 #[test]
 fn bad_events(rt: HostRuntime) -> Result<(), Fail> {
-    let alloc = rt.alloc();
-    let lines = [
-        "hello",
-        "connect ",
-        "Connect",
-        " connect",
-        " ",
-        "connect\r",
-        "bytes",
-        "bytes 1",
-        "bytes x y",
-        "bytes 1 \\",
-        "bytes 1 a\\q",
-        "bytes 1 \\x1",
-        "bytes 1 \\x1g",
-        "bytes 1 \\X11",
-        "took 1",
-        "took 1 ",
-        "took 1 2 3",
-        "took 1  2",
-        "drain",
-        "drain ",
-        "drain +1",
-        "drain -1",
-        "drain 1 ",
-        "gone",
-        "gone  1",
-        "gone x",
-        "gone 000000000000000000001",
-        "gone 18446744073709551616",
-        "deposit",
-        "deposit orders note d1",
-        "deposit orders note d1\\n x",
-        "deposit Orders note d1 x",
-        "deposit orders  d1 x",
-        "deposit orders note d/1 x",
-        "deposit orders note d1 \\q",
-        "maildrop",
-        "maildrop add",
-        "maildrop add ",
-        "maildrop add Orders",
-        "maildrop add orders ",
-        "maildrop list orders",
-        "maildrops ",
-        "maildrops orders",
-        "list",
-        "list ",
-        "list orders note",
-        "clerk",
-        "clerk ann",
-        "clerk apop ann",
-        "clerk apop ann ",
-        "clerk pass ann ",
-        "clerk apop ann a\\n",
-        "clerk pass ann \\x7f",
-        "clerk pass Ann x",
-        "clerk keep ann x",
-        "clerk show",
-        "clerk drop Ann",
-        "explain ann orders note",
-        "explain ann orders note write",
-        "explain ann orders note read ",
-        "explain ann orders * read",
-    ];
-    let want = Ran::fault(alloc, "popbox: line 3: bad event\n")?;
-    for line in lines {
-        let script = format!(in alloc; "connect\n\n{line}\nconnect\n")?;
-        assert_eq!(rt; run(alloc, script.as_str())?, want, "at {line:?}");
+    for line in BAD_EVENTS.as_slice() {
+        expect_bad_event(rt.alloc(), line)?;
     }
     Ok(())
 }
@@ -367,11 +385,8 @@ fn escapes(rt: HostRuntime) -> Result<(), Fail> {
 #[test]
 fn bad_host(rt: HostRuntime) -> Result<(), Fail> {
     let alloc = rt.alloc();
-    let want = Ran::fault(alloc, "popbox: BadHost\n")?;
-    assert_eq!(rt; run_at(alloc, "a..b", 7, "connect\n")?, want);
-    let want = Ran::fault(alloc, "popbox: line 1: bad event\n")?;
-    assert_eq!(rt; run_at(alloc, "a..b", 7, "hello\n")?, want);
-    Ok(())
+    expect_fault(alloc, "a..b", "connect\n", "popbox: BadHost\n")?;
+    expect_fault(alloc, "a..b", "hello\n", "popbox: line 1: bad event\n")
 }
 
 /// Standard output or a file that refuses every call.
@@ -412,36 +427,53 @@ fn refused_files(rt: HostRuntime) -> Result<(), Fail> {
     Ok(())
 }
 
-#[test]
-fn command_lines(rt: HostRuntime) -> Result<(), Fail> {
-    let alloc = rt.alloc();
+/// The exit status of a command line that can't be read, or that asks for help.
+fn refused_status(alloc: Global, words: &[&str]) -> Result<Option<i32>, Fail> {
+    let command = make_command(alloc)?;
+    match command.try_get_matches_from(words) {
+        Ok(_) => Ok(None),
+        Err(error) => Ok(Some(error.exit_code())),
+    }
+}
+
+/// Whether `popbox replay` alone has its host, its boot number and no script.
+fn replay_has_defaults(alloc: Global) -> Result<bool, Fail> {
     let command = make_command(alloc)?;
     let matches = command.try_get_matches_from(&["popbox", "replay"])?;
     let Some(("replay", options)) = matches.subcommand() else {
-        return Err(Fail::from("no subcommand"));
+        return Ok(false);
     };
-    assert_eq!(rt; options.get_str("host"), Some("localhost"));
-    assert_eq!(rt; options.get_one::<u64>("boot"), Some(1));
-    assert_eq!(rt; options.get_str("SCRIPT"), None);
+    Ok(
+        options.get_str("host") == Some("localhost")
+            && options.get_one::<u64>("boot") == Some(1)
+            && options.get_str("SCRIPT").is_none(),
+    )
+}
+
+/// Whether `popbox check-policy` has the file that is named.
+fn check_policy_has_file(alloc: Global) -> Result<bool, Fail> {
     let command = make_command(alloc)?;
     let matches = command.try_get_matches_from(&["popbox", "check-policy", "office.toml"])?;
     let Some(("check-policy", options)) = matches.subcommand() else {
-        return Err(Fail::from("no subcommand"));
+        return Ok(false);
     };
-    assert_eq!(rt; options.get_str("FILE"), Some("office.toml"));
-    let command = make_command(alloc)?;
-    let error = command.try_get_matches_from(&["popbox", "check-policy"]);
-    assert_eq!(rt; error.err().map(|error| error.exit_code()), Some(2));
-    let faults = [
-        (["popbox", "replay", "--help"], 0),
-        (["popbox", "replay", "--turns"], 2),
-        (["popbox", "replay", "--boot=18446744073709551616"], 2),
-        (["popbox", "play", "x"], 2),
-    ];
-    for (words, status) in faults {
-        let command = make_command(alloc)?;
-        let error = command.try_get_matches_from(words.as_slice());
-        assert_eq!(rt; error.err().map(|error| error.exit_code()), Some(status));
-    }
+    Ok(options.get_str("FILE") == Some("office.toml"))
+}
+
+#[test]
+fn command_lines(rt: HostRuntime) -> Result<(), Fail> {
+    let alloc = rt.alloc();
+    assert!(rt; replay_has_defaults(alloc)?);
+    assert!(rt; check_policy_has_file(alloc)?);
+    let status = refused_status(alloc, &["popbox", "check-policy"])?;
+    assert!(rt; status == Some(2));
+    let status = refused_status(alloc, &["popbox", "replay", "--help"])?;
+    assert!(rt; status == Some(0));
+    let status = refused_status(alloc, &["popbox", "replay", "--turns"])?;
+    assert!(rt; status == Some(2));
+    let status = refused_status(alloc, &["popbox", "replay", "--boot=18446744073709551616"])?;
+    assert!(rt; status == Some(2));
+    let status = refused_status(alloc, &["popbox", "play", "x"])?;
+    assert!(rt; status == Some(2));
     Ok(())
 }

@@ -1,8 +1,7 @@
 use Rattle.std.proofs.Common.{◌≡◌, take}
-use Rattle.std.specs.Prelude.{string_bytes}
 use Rattle.office.specs.Answers.{body_lines, total_text}
 use Rattle.popbox.proofs.answers.total_lines.Given as goal
 
 -- the lines of the rows that came
 abbrev pub invariant-loop-row : goal.invariant-loop-row
-invariant-loop-row l = string_bytes l.text ≡ body_lines total_text (take l.row-index l.rows)
+invariant-loop-row l = l.text.items ≡ body_lines total_text (take l.row-index l.rows)
