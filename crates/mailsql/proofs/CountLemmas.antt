@@ -1,6 +1,6 @@
 -- COUNT of the rows that pass.
 use Rattle.std.proofs.Common.{◌≡◌, ◌<◌, inl, inr, ℕ, pos, min, Bool, true, false, List, [], ◌∷◌, map, filter, length, Some, Ok, Err, Result, IsTrue, codes, refl, sym, ap, subst, ◌∙◌}
-use Rattle.std.specs.Prelude.{IfOk}
+use Rattle.std.specs.Prelude.{IfOk, IfErr}
 use Rattle.std.specs.List.{AllZip}
 use Rattle.std.specs.List.Sorted.{IsPermutation}
 use Rattle.std.proofs.lemmas.List.{length-map}
@@ -18,14 +18,15 @@ use Rattle.sqlite_keyed.proofs.ListLemmas.{filter_all, all_of}
 use Rattle.sqlite.specs.declared.error.Error.{Error}
 use Rattle.sqlite.specs.Effect.{IsDatabase}
 use Rattle.sqlite.specs.Listing.{understood, reads_listing}
-use Rattle.sqlite.specs.State.{State, IsLive, QueriesRow, IsUnchanged}
-use Rattle.sqlite.proofs.Callers.{IsPlain, command_of, first_as, one_permutation}
+use Rattle.sqlite.specs.State.{State, IsLive, Shown, QueriesRow, FailsToQuery, IsUnchanged}
+use Rattle.sqlite.proofs.Callers.{IsPlain, command_of, first_as, reads_as, one_permutation}
 use Rattle.mailsql.specs.Tables.{mail_schema}
 use Rattle.mailsql.proofs.Statements.{count_of, count_group, select_of}
 use Rattle.mailsql.specs.Rows.{IsKept, HasTables, IsUndone}
+use Rattle.mailsql.specs.Errors.{IsWantOfMemory, FailsToCount}
 use Rattle.mailsql.proofs.OrderLemmas.{filter_map}
 use Rattle.mailsql.proofs.QueryLemmas.{flat_if, passes, shown_same, shown_open}
-use Rattle.mailsql.proofs.ResultLemmas.{if_ok}
+use Rattle.mailsql.proofs.ResultLemmas.{if_ok, if_err}
 use Rattle.mailsql.proofs.StateLemmas.{query_undone}
 
 values_are : (order : List Env) (values : Row) → AllZip (λ a v. value_over order a ≡ Some v) count_group.aggregates values → values ≡ count (length order) ∷ []
@@ -61,6 +62,9 @@ counted from terms db params rows a =
 one_of : (x y : Row) (xs ys : List Row) → x ∷ xs ≡ y ∷ ys → x ≡ y
 one_of x y xs ys e = cc
 
+none_of : (x : Row) (xs : List Row) → [] ≡ x ∷ xs → ⊥
+none_of x xs e = cc
+
 -- what the text means under our schema
 pub record Tallies (sql : List ℕ) (t : ℕ) (terms : List Term) : Type 0 where
   pub is : (command_of (understood mail_schema sql) ≡ select_of (count_of (inner t end) terms) (codes "count(*)" ∷ [])) × (reads_listing mail_schema sql ≡ false)
@@ -82,6 +86,18 @@ module _ (sql : List ℕ) (t : ℕ) (terms : List Term) (tallies : Tallies sql t
   row_undone e (inl h) = query_undone old new _ _ e h
   row_undone e (inr h) = inl (shown_same sql params old new _ (tables (shown_open sql params old new _ h.1)).0 tallies.plain h.1)
 
+  -- a count shows a row
+  none_shown : Shown sql params old new [] → ⊥
+  none_shown h =
+      let ours = (tables (shown_open sql params old new [] h)).0 in
+      let read = reads_as sql params old new mail_schema ours _ tallies.is.0 tallies.plain tallies.is.1 [] h in
+      none_of _ _ (counted (inner t end) terms (overlay old.now.trees []) params [] (read.answer Null))
+
+  pub row_fails : (e : Error) → QueriesRow sql params old new (Err e) → FailsToQuery sql params old new e
+  unfolding QueriesRow
+  row_fails e (inl h) = h
+  row_fails e (inr h) = absurd (none_shown h.1)
+
   module _ (row : Row) (h : QueriesRow sql params old new (Ok row)) where
     pub tallied_kept : IsKept old.now
     tallied_kept = tables (row_open sql params old new row h)
@@ -95,6 +111,10 @@ module _ (sql : List ℕ) (t : ℕ) (terms : List Term) (tallies : Tallies sql t
         let all = counted (inner t end) terms (overlay old.now.trees []) params _ (first.1 Null) in
         let some = ap length (flat_if (passes params terms) (λ r. params ∷ r ∷ []) (overlay old.now.trees [] t)) ∙ length-map _ _ ∙ ap (λ l. length (filter (passes params terms) l)) (placed old.now.trees) in
         one_of _ _ _ _ all ∙ ap (λ n. count n ∷ []) some
+
+    -- what was shown is a number, so only memory can be wanting
+    pub fails_to_count : (r : Result ℕ Error) → ((n : ℕ) → column row 0 ≡ Int (pos n) → IfErr r IsWantOfMemory) → IfErr r (FailsToCount sql params old new)
+    fails_to_count r wants = if_err r _ _ (λ e want. inr (want, row, h)) (wants _ (ap (λ l. column l 0) tallied))
 
 -- the rows that pass are as many as the records that pass
 pub as_many : {X : Type 0} (f : Row → X) (p : Row → Bool) (q : X → Bool) (rows : List Row) → ((r : Row) → Has rows r → p r ≡ q (f r)) → length (filter p rows) ≡ length (filter q (map f rows))

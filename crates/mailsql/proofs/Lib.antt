@@ -7,6 +7,8 @@ pub mod WriteLemmas
 pub mod StateLemmas
 pub mod QueryLemmas
 pub mod TypedLemmas
+pub mod HeldLemmas
+pub mod ErrorLemmas
 pub mod CastLemmas
 pub mod MaildropLemmas
 pub mod MetaLemmas

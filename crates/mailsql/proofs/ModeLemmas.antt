@@ -1,5 +1,5 @@
 -- BEGIN, COMMIT and ROLLBACK mean the same under every schema.
-use Rattle.std.proofs.Common.{◌≡◌, inl, inr, ℕ, List, [], append-nil, Bool, true, false, None, Ok, Err, Result, codes, IsTrue, refl, sym, ap, subst, subst₂, ◌∙◌}
+use Rattle.std.proofs.Common.{◌≡◌, inl, inr, ℕ, List, [], append-nil, Bool, true, false, None, Ok, Err, Result, IsTrue, refl, sym, ap, subst, subst₂, ◌∙◌}
 use Rattle.sqlite_tied.specs.Compute.{everything}
 use Rattle.sqlite_value.specs.Order.{Row}
 use Rattle.sqlite_trees.specs.Tree.{Trees}
@@ -16,15 +16,7 @@ use Rattle.sqlite.specs.declared.error.Error.{Error}
 use Rattle.sqlite.specs.State.{ExecutesIn, IsNotRun, IsNoStatement, RunsCommand, shows_rows}
 use Rattle.sqlite.specs.State.{State, Executes, CommitsBy, MayCommit, Shows, KeepsCounts, IsRolledBack}
 use Rattle.sqlite.proofs.Callers.{IsPlain, command_of, statement_of, runs_as}
-
-abbrev pub begin_text : List ℕ
-begin_text = codes "BEGIN"
-
-abbrev pub commit_text : List ℕ
-commit_text = codes "COMMIT"
-
-abbrev pub rollback_text : List ℕ
-rollback_text = codes "ROLLBACK"
+use Rattle.mailsql.specs.Statements.{begin_text, commit_text, rollback_text}
 
 begin_is : (schema : Schema) → command_of (understood schema begin_text) ≡ Begin
 unfolding understood everything

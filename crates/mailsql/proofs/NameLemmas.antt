@@ -6,7 +6,7 @@ use Rattle.std.specs.List.Sorted.{IsPermutation, IsSorted}
 use Rattle.std.specs.Ordering.{nat_cmp}
 use Rattle.std.specs.Cmp.Lexicographic.{slice_cmp}
 use Rattle.std.proofs.lemmas.List.{get_or-map, length-map}
-use Rattle.std.proofs.lemmas.List.Elements.{All-from_recursion}
+use Rattle.std.proofs.lemmas.List.Elements.{All-from_recursion, recursion_from_All}
 use Rattle.std.proofs.lemmas.List.Sorted.{IsPermutation-map, All-permutation}
 use Rattle.sqlite_value.specs.declared.value.Value.TheVariants.{Null, Text}
 use Rattle.sqlite_value.specs.Order.{Row, column, bytes, value_cmp}
@@ -16,9 +16,12 @@ use Rattle.sqlite_keyed.proofs.ListLemmas.{map-map, filter_all, all_of}
 use Rattle.sqlite.specs.declared.error.Error.{Error}
 use Rattle.sqlite.specs.State.{State, IsLive, Shown, IsUnchanged}
 use Rattle.mailsql.proofs.Statements.{maildrops_text, maildrops_query, by_name}
-use Rattle.mailsql.specs.Rows.{Name, rows_in, maildrop_of, HasTables, IsByName}
+use Rattle.mailsql.specs.Rows.{Name, rows_in, maildrop_of, HasTables, IsByName, HoldsName}
 use Rattle.mailsql.proofs.Commands.{maildrops_is, maildrops_plain}
-use Rattle.mailsql.proofs.QueryLemmas.{passes, answers, unchanged, shown_open}
+use Rattle.mailsql.proofs.QueryLemmas.{passes, answers, shown_rows, unchanged, shown_open}
+use Rattle.mailsql.proofs.ReadLemmas.{all_of_map}
+use Rattle.mailsql.proofs.HeldLemmas.{names_held}
+use Rattle.sqlite_rules.proofs.ListLemmas.{all_from, has_filtered}
 use Rattle.mailsql.proofs.ResultLemmas.{if_ok}
 use Rattle.mailsql.proofs.TypedLemmas.{IsText, maildrops_typed}
 
@@ -69,6 +72,17 @@ module _ (old new : State) (rows : List Row) (tables : HasTables old) (h : Shown
         same = subst₂ IsPermutation (map-map name_in out stored) (sym names) (IsPermutation-map name_in _ _ same);
         rise = subst (IsSorted (slice_cmp nat_cmp)) (sym names) (names_rise it.ordered (All-permutation IsNamed _ _ same (All-from_recursion IsNamed (map out stored) (all_named stored typed))) it.sorted);
       }
+
+  -- each row that was shown holds a name
+  pub by_name_held : IsLive old → AllByRecursion (λ r. HoldsName (Null ∷ r)) rows
+  by_name_held live =
+      let ours = (tables (shown_open maildrops_text [] old new rows h)).0 in
+      let held = names_held old.now ours (live by_name_same.0.was_open).0 in
+      let it = answers maildrops_text [] old new rows 4 [] _ by_name _ ours maildrops_is maildrops_plain refl h in
+      let same = shown_rows 4 [] _ by_name old.now.trees [] rows it in
+      let P : Row → Type 0 = λ r. HoldsName (Null ∷ r) in
+      let each = all_of_map P (λ r. column r 1 ∷ []) _ (all_from _ _ (λ r has. held r (has_filtered (passes [] []) (old.now.trees 4) r has).0)) in
+      recursion_from_All P rows (All-permutation P _ _ same (All-from_recursion P _ each))
 
 pub reads_names : {A : Type 0} (names : List Name) (lent rows : List Row) (lend : lent ≡ rows) (is : IsByName names (map (λ r. maildrop_of (Null ∷ r)) rows)) (r : Result (Vec Name A) Error)
     → IfOk r (λ all. all.items ≡ map (λ row. maildrop_of (Null ∷ row)) lent) → IfOk r (λ all. IsByName names all.items)

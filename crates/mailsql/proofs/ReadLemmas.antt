@@ -1,5 +1,5 @@
 -- What a query by rowid answers, as records.
-use Rattle.std.proofs.Common.{◌≡◌, ℕ, Bool, true, false, List, [], ◌∷◌, map, filter, find, slice_get, Option, Result, refl, ap, ◌∙◌}
+use Rattle.std.proofs.Common.{◌≡◌, ℕ, Bool, true, false, List, [], ◌∷◌, map, filter, find, slice_get, Option, Result, refl, sym, ap, subst, ◌∙◌}
 use Rattle.std.specs.Prelude.{IfOk, Vec}
 use Rattle.std.specs.Option.{option_map}
 use Rattle.sqlite.specs.declared.error.Error.{Error}
@@ -10,6 +10,8 @@ use Rattle.sqlite_sql.specs.Term.{Term, eval_all}
 use Rattle.sqlite_sql.specs.Query.{inner, end}
 use Rattle.sqlite_sql.specs.Program.{overlay}
 use Rattle.sqlite_rules.specs.Lists.{Has}
+use Rattle.sqlite_rules.proofs.ListLemmas.{all_from, has_filtered}
+use Rattle.std.specs.List.{AllByRecursion}
 use Rattle.sqlite_keyed.proofs.ListLemmas.{map-map, filter_all, all_of}
 use Rattle.sqlite.specs.Effect.{IsDatabase}
 use Rattle.sqlite.specs.Listing.{understood, reads_listing}
@@ -20,6 +22,10 @@ use Rattle.mailsql.proofs.Statements.{query_of, select_of, by_rowid}
 use Rattle.mailsql.specs.Rows.{AreKeyed, IsKept, HasTables}
 use Rattle.mailsql.proofs.QueryLemmas.{passes, answers, unchanged, shown_open}
 use Rattle.mailsql.proofs.OrderLemmas.{in_order, filter_map, first_is}
+
+pub all_of_map : (P : Row → Type 0) (f : Row → Row) (rows : List Row) → AllByRecursion (λ r. P (f r)) rows → AllByRecursion P (map f rows)
+all_of_map P f [] all = tt
+all_of_map P f (r ∷ rows) all = (all.0, all_of_map P f rows all.1)
 
 -- what the text means under our schema
 pub record Asks (sql : List ℕ) (t : ℕ) (terms project : List Term) (names : List (List ℕ)) : Type 0 where
@@ -51,6 +57,10 @@ module _ (sql : List ℕ) (t : ℕ) (terms project : List Term) (names : List (L
   pub everything_listed : {X : Type 0} (f read : Row → X) → AreKeyed (old.now.trees t) → ((r : Row) → read (eval_all project (params ∷ r ∷ [])) ≡ f r) → ((r : Row) → passes params terms r ≡ true)
       → map read rows ≡ map f (old.now.trees t)
   everything_listed f read keyed reads all = listed f read (λ x. true) keyed reads (λ r has. all r) ∙ filter_all (λ x. true) (map f (old.now.trees t)) (all_of (λ x. true ≡ true) (λ x. refl) (map f (old.now.trees t)))
+
+  -- what holds of each row that passes, as it is shown
+  pub each_shown : (Holds : Row → Type 0) → AreKeyed (old.now.trees t) → ((r : Row) → Has (old.now.trees t) r → Holds (eval_all project (params ∷ r ∷ []))) → AllByRecursion Holds rows
+  each_shown Holds keyed held = subst (AllByRecursion Holds) (sym (shown keyed)) (all_of_map Holds (λ r. eval_all project (params ∷ r ∷ [])) _ (all_from _ _ (λ r has. held r (has_filtered (passes params terms) (old.now.trees t) r has).0)))
 
 -- what is read of the rows that were shown
 module _ {X : Type 0} (read : Row → X) (lent rows : List Row) (lend : lent ≡ rows) (q : X → Bool) (xs : List X) (is : map read rows ≡ filter q xs) where

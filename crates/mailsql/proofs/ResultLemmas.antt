@@ -1,6 +1,6 @@
 -- Facts under an Ok or an Err.
 use Rattle.std.proofs.Common.{Ok, Err, Result}
-use Rattle.std.specs.Prelude.{IfOk, OnOk, OnErr}
+use Rattle.std.specs.Prelude.{IfOk, IfErr, OnOk, OnErr}
 
 module _ {X E : Type 0} where
   pub on_ok : (r : Result X E) (P : Type 0) → P → OnOk r P
@@ -22,3 +22,7 @@ module _ {X E : Type 0} where
   pub on_err_then : (r : Result X E) {P Q : Type 0} → (P → Q) → OnErr r P → OnErr r Q
   on_err_then (Ok x) f p = tt
   on_err_then (Err e) f p = f p
+
+  pub if_err : (r : Result X E) (P Q : E → Type 0) → ((e : E) → P e → Q e) → IfErr r P → IfErr r Q
+  if_err (Ok x) P Q f p = tt
+  if_err (Err e) P Q f p = f e p

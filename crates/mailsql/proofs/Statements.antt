@@ -1,4 +1,4 @@
--- The texts of the statements, and the commands and queries that they stand for.
+-- The commands and queries that the texts of the statements stand for.
 use Rattle.std.specs.Prelude.{ℕ, List, [], ◌∷◌, false, Some, None, codes, pos, negsuc}
 use Rattle.sqlite_value.specs.declared.keys.Collation.TheVariants.{Binary}
 use Rattle.sqlite_value.specs.declared.keys.Key.{Key}
@@ -13,6 +13,7 @@ use Rattle.sqlite_sql.specs.Query.{Query, Join, inner, end}
 use Rattle.sqlite_schema.specs.declared.command.Command.{Command}
 use Rattle.sqlite_schema.specs.declared.command.Command.TheVariants.{Select, Insert}
 use Rattle.sqlite_schema.specs.declared.command.Source.TheVariants.{Values}
+pub use Rattle.mailsql.specs.Statements.{add_mark_text, find_mark_text, all_marks_text, add_clerk_text, drop_clerk_text, find_clerk_text, all_clerks_text, clerk_count_text, add_maildrop_text, drop_maildrop_text, find_maildrop_text, all_maildrops_text, maildrops_text, maildrop_count_text, add_count_text, clear_count_text, find_count_text, all_counts_text, add_deposit_text, find_deposit_text, all_deposits_text, add_message_text, remove_message_text, heads_text, all_messages_text, message_count_text, add_sheet_text, remove_sheets_text, find_sheet_text, all_sheets_text, sheet_count_text, add_rule_text, clear_rules_text, all_rules_text, all_sequences_text}
 
 abbrev pub query_of : Join → List Term → List Term → List (Term × Key) → Query
 query_of from filter project order = record {
@@ -45,20 +46,11 @@ mark_columns = col 1 1 ∷ col 1 2 ∷ []
 abbrev pub mark_names : List (List ℕ)
 mark_names = codes "name" ∷ codes "value" ∷ []
 
-abbrev pub add_mark_text : List ℕ
-add_mark_text = codes "INSERT INTO meta (name, value) VALUES (?1, ?2)"
-
 abbrev pub add_mark_command : Command
 add_mark_command = Insert 0 (Values (lit Null ∷ col 0 0 ∷ col 0 1 ∷ []) 3)
 
-abbrev pub find_mark_text : List ℕ
-find_mark_text = codes "SELECT name, value FROM meta WHERE name = ?1 ORDER BY rowid"
-
 abbrev pub find_mark_terms : List Term
 find_mark_terms = eq (col 1 1) (col 0 0) ∷ []
-
-abbrev pub all_marks_text : List ℕ
-all_marks_text = codes "SELECT name, value FROM meta ORDER BY rowid"
 
 -- ---- clerks
 
@@ -68,14 +60,8 @@ clerk_columns = col 1 1 ∷ col 1 2 ∷ col 1 3 ∷ []
 abbrev pub clerk_names : List (List ℕ)
 clerk_names = codes "name" ∷ codes "kind" ∷ codes "secret" ∷ []
 
-abbrev pub add_clerk_text : List ℕ
-add_clerk_text = codes "INSERT INTO clerks (name, kind, secret) VALUES (?1, ?2, ?3)"
-
 abbrev pub add_clerk_command : Command
 add_clerk_command = Insert 1 (Values (lit Null ∷ col 0 0 ∷ col 0 1 ∷ col 0 2 ∷ []) 4)
-
-abbrev pub drop_clerk_text : List ℕ
-drop_clerk_text = codes "DELETE FROM clerks WHERE name = ?1"
 
 abbrev pub drop_clerk_terms : List Term
 drop_clerk_terms = eq (col 1 1) (col 0 0) ∷ []
@@ -83,40 +69,22 @@ drop_clerk_terms = eq (col 1 1) (col 0 0) ∷ []
 abbrev pub drop_clerk_query : Query
 drop_clerk_query = query_of (inner 2 end) drop_clerk_terms (col 1 0 ∷ []) []
 
-abbrev pub find_clerk_text : List ℕ
-find_clerk_text = codes "SELECT name, kind, secret FROM clerks WHERE name = ?1 ORDER BY rowid"
-
 abbrev pub find_clerk_terms : List Term
 find_clerk_terms = eq (col 1 1) (col 0 0) ∷ []
-
-abbrev pub all_clerks_text : List ℕ
-all_clerks_text = codes "SELECT name, kind, secret FROM clerks ORDER BY rowid"
-
-abbrev pub clerk_count_text : List ℕ
-clerk_count_text = codes "SELECT count(*) FROM clerks"
 
 abbrev pub clerk_count_terms : List Term
 clerk_count_terms = []
 
 -- ---- maildrops
 
-abbrev pub add_maildrop_text : List ℕ
-add_maildrop_text = codes "INSERT INTO maildrops (name) VALUES (?1)"
-
 abbrev pub add_maildrop_command : Command
 add_maildrop_command = Insert 2 (Values (lit Null ∷ col 0 0 ∷ []) 2)
-
-abbrev pub drop_maildrop_text : List ℕ
-drop_maildrop_text = codes "DELETE FROM maildrops WHERE name = ?1"
 
 abbrev pub drop_maildrop_terms : List Term
 drop_maildrop_terms = eq (col 1 1) (col 0 0) ∷ []
 
 abbrev pub drop_maildrop_query : Query
 drop_maildrop_query = query_of (inner 4 end) drop_maildrop_terms (col 1 0 ∷ []) []
-
-abbrev pub find_maildrop_text : List ℕ
-find_maildrop_text = codes "SELECT name FROM maildrops WHERE name = ?1"
 
 abbrev pub find_maildrop_query : Query
 find_maildrop_query = query_of (inner 4 end) (eq (col 1 1) (col 0 0) ∷ []) (col 1 1 ∷ []) []
@@ -127,20 +95,11 @@ maildrop_columns = col 1 1 ∷ []
 abbrev pub maildrop_names : List (List ℕ)
 maildrop_names = codes "name" ∷ []
 
-abbrev pub all_maildrops_text : List ℕ
-all_maildrops_text = codes "SELECT name FROM maildrops ORDER BY rowid"
-
-abbrev pub maildrops_text : List ℕ
-maildrops_text = codes "SELECT name FROM maildrops ORDER BY name"
-
 abbrev pub by_name : List (Term × Key)
 by_name = (col 1 1, ascending Binary) ∷ []
 
 abbrev pub maildrops_query : Query
 maildrops_query = query_of (inner 4 end) [] (col 1 1 ∷ []) by_name
-
-abbrev pub maildrop_count_text : List ℕ
-maildrop_count_text = codes "SELECT count(*) FROM maildrops"
 
 abbrev pub maildrop_count_terms : List Term
 maildrop_count_terms = []
@@ -153,14 +112,8 @@ count_columns = col 1 1 ∷ col 1 2 ∷ col 1 3 ∷ []
 abbrev pub count_names : List (List ℕ)
 count_names = codes "maildrop" ∷ codes "class" ∷ codes "k" ∷ []
 
-abbrev pub add_count_text : List ℕ
-add_count_text = codes "INSERT INTO counts (maildrop, class, k) VALUES (?1, ?2, ?3)"
-
 abbrev pub add_count_command : Command
 add_count_command = Insert 3 (Values (lit Null ∷ col 0 0 ∷ col 0 1 ∷ col 0 2 ∷ []) 4)
-
-abbrev pub clear_count_text : List ℕ
-clear_count_text = codes "DELETE FROM counts WHERE maildrop = ?1 AND class = ?2"
 
 abbrev pub clear_count_terms : List Term
 clear_count_terms = eq (col 1 1) (col 0 0) ∷ eq (col 1 2) (col 0 1) ∷ []
@@ -168,14 +121,8 @@ clear_count_terms = eq (col 1 1) (col 0 0) ∷ eq (col 1 2) (col 0 1) ∷ []
 abbrev pub clear_count_query : Query
 clear_count_query = query_of (inner 6 end) clear_count_terms (col 1 0 ∷ []) []
 
-abbrev pub find_count_text : List ℕ
-find_count_text = codes "SELECT maildrop, class, k FROM counts WHERE maildrop = ?1 AND class = ?2 ORDER BY rowid"
-
 abbrev pub find_count_terms : List Term
 find_count_terms = eq (col 1 1) (col 0 0) ∷ eq (col 1 2) (col 0 1) ∷ []
-
-abbrev pub all_counts_text : List ℕ
-all_counts_text = codes "SELECT maildrop, class, k FROM counts ORDER BY rowid"
 
 -- ---- deposits
 
@@ -185,20 +132,11 @@ deposit_columns = col 1 1 ∷ col 1 2 ∷ col 1 3 ∷ col 1 4 ∷ col 1 5 ∷ []
 abbrev pub deposit_names : List (List ℕ)
 deposit_names = codes "maildrop" ∷ codes "id" ∷ codes "class" ∷ codes "k" ∷ codes "digest" ∷ []
 
-abbrev pub add_deposit_text : List ℕ
-add_deposit_text = codes "INSERT INTO deposits (maildrop, id, class, k, digest) VALUES (?1, ?2, ?3, ?4, ?5)"
-
 abbrev pub add_deposit_command : Command
 add_deposit_command = Insert 4 (Values (lit Null ∷ col 0 0 ∷ col 0 1 ∷ col 0 2 ∷ col 0 3 ∷ col 0 4 ∷ []) 6)
 
-abbrev pub find_deposit_text : List ℕ
-find_deposit_text = codes "SELECT maildrop, id, class, k, digest FROM deposits WHERE maildrop = ?1 AND id = ?2 ORDER BY rowid"
-
 abbrev pub find_deposit_terms : List Term
 find_deposit_terms = eq (col 1 1) (col 0 0) ∷ eq (col 1 2) (col 0 1) ∷ []
-
-abbrev pub all_deposits_text : List ℕ
-all_deposits_text = codes "SELECT maildrop, id, class, k, digest FROM deposits ORDER BY rowid"
 
 -- ---- mail
 
@@ -208,14 +146,8 @@ message_columns = col 1 0 ∷ col 1 2 ∷ col 1 3 ∷ col 1 4 ∷ col 1 5 ∷ []
 abbrev pub message_names : List (List ℕ)
 message_names = codes "key" ∷ codes "maildrop" ∷ codes "class" ∷ codes "k" ∷ codes "octets" ∷ []
 
-abbrev pub add_message_text : List ℕ
-add_message_text = codes "INSERT INTO mail (maildrop, class, k, octets) VALUES (?1, ?2, ?3, ?4)"
-
 abbrev pub add_message_command : Command
 add_message_command = Insert 5 (Values (lit Null ∷ lit Null ∷ col 0 0 ∷ col 0 1 ∷ col 0 2 ∷ col 0 3 ∷ []) 6)
-
-abbrev pub remove_message_text : List ℕ
-remove_message_text = codes "DELETE FROM mail WHERE key = ?1 AND maildrop = ?2"
 
 abbrev pub remove_message_terms : List Term
 remove_message_terms = eq (col 1 0) (col 0 0) ∷ eq (col 1 2) (col 0 1) ∷ []
@@ -223,17 +155,8 @@ remove_message_terms = eq (col 1 0) (col 0 0) ∷ eq (col 1 2) (col 0 1) ∷ []
 abbrev pub remove_message_query : Query
 remove_message_query = query_of (inner 10 end) remove_message_terms (col 1 0 ∷ []) []
 
-abbrev pub heads_text : List ℕ
-heads_text = codes "SELECT key, maildrop, class, k, octets FROM mail WHERE maildrop = ?1 ORDER BY key"
-
 abbrev pub heads_terms : List Term
 heads_terms = eq (col 1 2) (col 0 0) ∷ []
-
-abbrev pub all_messages_text : List ℕ
-all_messages_text = codes "SELECT key, maildrop, class, k, octets FROM mail ORDER BY key"
-
-abbrev pub message_count_text : List ℕ
-message_count_text = codes "SELECT count(*) FROM mail WHERE maildrop = ?1"
 
 abbrev pub message_count_terms : List Term
 message_count_terms = eq (col 1 2) (col 0 0) ∷ []
@@ -246,14 +169,8 @@ sheet_columns = col 1 1 ∷ col 1 2 ∷ col 1 3 ∷ []
 abbrev pub sheet_names : List (List ℕ)
 sheet_names = codes "mail" ∷ codes "place" ∷ codes "octets" ∷ []
 
-abbrev pub add_sheet_text : List ℕ
-add_sheet_text = codes "INSERT INTO sheets (mail, place, octets) VALUES (?1, ?2, ?3)"
-
 abbrev pub add_sheet_command : Command
 add_sheet_command = Insert 8 (Values (lit Null ∷ col 0 0 ∷ col 0 1 ∷ col 0 2 ∷ []) 4)
-
-abbrev pub remove_sheets_text : List ℕ
-remove_sheets_text = codes "DELETE FROM sheets WHERE mail = ?1"
 
 abbrev pub remove_sheets_terms : List Term
 remove_sheets_terms = eq (col 1 1) (col 0 0) ∷ []
@@ -261,17 +178,8 @@ remove_sheets_terms = eq (col 1 1) (col 0 0) ∷ []
 abbrev pub remove_sheets_query : Query
 remove_sheets_query = query_of (inner 15 end) remove_sheets_terms (col 1 0 ∷ []) []
 
-abbrev pub find_sheet_text : List ℕ
-find_sheet_text = codes "SELECT mail, place, octets FROM sheets WHERE mail = ?1 AND place = ?2 ORDER BY rowid"
-
 abbrev pub find_sheet_terms : List Term
 find_sheet_terms = eq (col 1 1) (col 0 0) ∷ eq (col 1 2) (col 0 1) ∷ []
-
-abbrev pub all_sheets_text : List ℕ
-all_sheets_text = codes "SELECT mail, place, octets FROM sheets ORDER BY rowid"
-
-abbrev pub sheet_count_text : List ℕ
-sheet_count_text = codes "SELECT count(*) FROM sheets"
 
 abbrev pub sheet_count_terms : List Term
 sheet_count_terms = []
@@ -284,23 +192,14 @@ rule_columns = col 1 0 ∷ col 1 2 ∷ col 1 3 ∷ col 1 4 ∷ col 1 5 ∷ col 1
 abbrev pub rule_names : List (List ℕ)
 rule_names = codes "place" ∷ codes "name" ∷ codes "effect" ∷ codes "clerk" ∷ codes "maildrop" ∷ codes "class" ∷ codes "actions" ∷ []
 
-abbrev pub add_rule_text : List ℕ
-add_rule_text = codes "INSERT INTO rules (name, effect, clerk, maildrop, class, actions) VALUES (?1, ?2, ?3, ?4, ?5, ?6)"
-
 abbrev pub add_rule_command : Command
 add_rule_command = Insert 7 (Values (lit Null ∷ lit Null ∷ col 0 0 ∷ col 0 1 ∷ col 0 2 ∷ col 0 3 ∷ col 0 4 ∷ col 0 5 ∷ []) 8)
-
-abbrev pub clear_rules_text : List ℕ
-clear_rules_text = codes "DELETE FROM rules"
 
 abbrev pub clear_rules_terms : List Term
 clear_rules_terms = []
 
 abbrev pub clear_rules_query : Query
 clear_rules_query = query_of (inner 13 end) clear_rules_terms (col 1 0 ∷ []) []
-
-abbrev pub all_rules_text : List ℕ
-all_rules_text = codes "SELECT place, name, effect, clerk, maildrop, class, actions FROM rules ORDER BY place"
 
 -- ---- sqlite_sequence
 
@@ -309,9 +208,6 @@ sequence_columns = col 1 1 ∷ col 1 2 ∷ []
 
 abbrev pub sequence_names : List (List ℕ)
 sequence_names = codes "name" ∷ codes "seq" ∷ []
-
-abbrev pub all_sequences_text : List ℕ
-all_sequences_text = codes "SELECT name, seq FROM sqlite_sequence ORDER BY rowid"
 
 -- ---- counting
 

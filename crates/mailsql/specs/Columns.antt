@@ -1,8 +1,10 @@
--- The rows of the store's tables as records: which column of a row each field is, and the records of every table.
-use Rattle.std.specs.Prelude.{ℕ, ℤ, List, [], map}
+-- The rows of the store's tables as records: which column of a row each field is, what it must hold, and the records of every table.
+use Rattle.std.specs.Prelude.{◌≡◌, ◌⊎◌, ℕ, ℤ, List, [], map}
+use Rattle.sqlite_value.specs.declared.value.Value.TheVariants.{Text, Blob}
 use Rattle.sqlite_value.specs.Order.{Row, column, bytes}
 use Rattle.sqlite_trees.specs.Tree.{Trees, rowid}
 use Rattle.sqlite_rules.specs.Edit.{id_in}
+use Rattle.sqlite.specs.Values.{IsInt}
 pub use Rattle.mailsql.specs.declared.rows.Mark.{Mark}
 pub use Rattle.mailsql.specs.declared.rows.Clerk.{Clerk}
 pub use Rattle.mailsql.specs.declared.rows.Count.{Count}
@@ -23,37 +25,77 @@ text_at row at = bytes (column row at)
 abbrev pub number_at : Row → ℕ → ℤ
 number_at row at = id_in (column row at)
 
+-- the column holds a text or a blob
+abbrev pub HoldsOctets : Row → ℕ → Type 0
+HoldsOctets row at = (octets : List ℕ) × ((column row at ≡ Text octets) ⊎ (column row at ≡ Blob octets))
+
+-- the column holds an integer
+abbrev pub HoldsNumber : Row → ℕ → Type 0
+HoldsNumber row at = IsInt (column row at)
+
 -- a row of meta, and of sqlite_sequence
 abbrev pub mark_of : Row → Mark
 mark_of row = record { name = text_at row 1; value = number_at row 2 }
+
+-- its columns can be read so
+abbrev pub HoldsMark : Row → Type 0
+HoldsMark row = HoldsOctets row 1 × HoldsNumber row 2
 
 -- a row of clerks
 abbrev pub clerk_of : Row → Clerk
 clerk_of row = record { name = text_at row 1; kind = number_at row 2; secret = text_at row 3 }
 
+-- its columns can be read so
+abbrev pub HoldsClerk : Row → Type 0
+HoldsClerk row = HoldsOctets row 1 × HoldsNumber row 2 × HoldsOctets row 3
+
 -- a row of maildrops
 abbrev pub maildrop_of : Row → Name
 maildrop_of row = text_at row 1
+
+-- its column can be read so
+abbrev pub HoldsName : Row → Type 0
+HoldsName row = HoldsOctets row 1
 
 -- a row of counts
 abbrev pub count_of : Row → Count
 count_of row = record { maildrop = text_at row 1; class = text_at row 2; k = number_at row 3 }
 
+-- its columns can be read so
+abbrev pub HoldsCount : Row → Type 0
+HoldsCount row = HoldsOctets row 1 × HoldsOctets row 2 × HoldsNumber row 3
+
 -- a row of deposits
 abbrev pub deposit_of : Row → Deposit
 deposit_of row = record { maildrop = text_at row 1; id = text_at row 2; class = text_at row 3; k = number_at row 4; digest = text_at row 5 }
+
+-- its columns can be read so
+abbrev pub HoldsDeposit : Row → Type 0
+HoldsDeposit row = HoldsOctets row 1 × HoldsOctets row 2 × HoldsOctets row 3 × HoldsNumber row 4 × HoldsOctets row 5
 
 -- a row of mail, whose key is its rowid
 abbrev pub message_of : Row → Message
 message_of row = record { key = id_in (rowid row); maildrop = text_at row 2; class = text_at row 3; k = number_at row 4; octets = number_at row 5 }
 
+-- its columns can be read so
+abbrev pub HoldsMessage : Row → Type 0
+HoldsMessage row = HoldsNumber row 0 × HoldsOctets row 2 × HoldsOctets row 3 × HoldsNumber row 4 × HoldsNumber row 5
+
 -- a row of sheets
 abbrev pub sheet_of : Row → Sheet
 sheet_of row = record { mail = number_at row 1; place = number_at row 2; octets = text_at row 3 }
 
+-- its columns can be read so
+abbrev pub HoldsSheet : Row → Type 0
+HoldsSheet row = HoldsNumber row 1 × HoldsNumber row 2 × HoldsOctets row 3
+
 -- a row of rules, whose place is its rowid
 abbrev pub rule_of : Row → Rule
 rule_of row = record { place = id_in (rowid row); name = text_at row 2; effect = number_at row 3; clerk = text_at row 4; maildrop = text_at row 5; class = text_at row 6; actions = number_at row 7 }
+
+-- its columns can be read so
+abbrev pub HoldsRule : Row → Type 0
+HoldsRule row = HoldsNumber row 0 × HoldsOctets row 2 × HoldsNumber row 3 × HoldsOctets row 4 × HoldsOctets row 5 × HoldsOctets row 6 × HoldsNumber row 7
 
 -- the records of every table, each in the order of the rowids
 pub record Rows : Type 0 where

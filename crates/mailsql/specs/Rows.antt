@@ -12,7 +12,7 @@ use Rattle.sqlite_value.specs.Order.{Row}
 use Rattle.sqlite.specs.Effect.{Database}
 use Rattle.sqlite.specs.State.{State, Shows, IsUnchanged, IsRolledBack}
 use Rattle.mailsql.specs.Tables.{mail_schema, no_schema}
-pub use Rattle.mailsql.specs.Columns.{Mark, Clerk, Count, Deposit, Message, Sheet, Rule, Name, text_at, number_at, mark_of, clerk_of, maildrop_of, count_of, deposit_of, message_of, sheet_of, rule_of, Rows, rows_in, no_rows, sequences_in}
+pub use Rattle.mailsql.specs.Columns.{Mark, Clerk, Count, Deposit, Message, Sheet, Rule, Name, text_at, number_at, mark_of, clerk_of, maildrop_of, count_of, deposit_of, message_of, sheet_of, rule_of, HoldsOctets, HoldsNumber, HoldsMark, HoldsClerk, HoldsName, HoldsCount, HoldsDeposit, HoldsMessage, HoldsSheet, HoldsRule, Rows, rows_in, no_rows, sequences_in}
 
 -- ---- a store of ours
 

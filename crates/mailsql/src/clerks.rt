@@ -1,14 +1,17 @@
 //! The clerks and their credentials.
 
-ghost use Rattle.std.specs.Prelude.{◌≡◌, ◌⊎◌, IsTrue, min, length, IfOk, OnOk, OnErr};
+ghost use Rattle.std.specs.Prelude.{◌≡◌, ◌⊎◌, IsTrue, min, length, IfOk, IfErr, OnOk, OnErr, [], ◌∷◌};
 ghost use Rattle.std.specs.List.{find};
 ghost use Rattle.sqlite.specs.Held.{state};
 ghost use Rattle.sqlite.specs.State.{HasCleanDisk, IsUnchanged, Survives};
 ghost use Rattle.mailsql.specs.Changes as changes;
 ghost use Rattle.mailsql.specs.Rows as rows;
 ghost use Rattle.mailsql.specs.Rows.{IsOurs, IsReady, HasTables, MayLeave, Changes, IsUndone, IsHalted, rows_in};
+ghost use Rattle.sqlite_value.specs.declared.value.Value.TheVariants.{Int, Text, Blob};
+ghost use Rattle.mailsql.specs.Errors.{FailsToRun, FailsAfter, FailsToRead, FailsToCount};
+ghost use Rattle.mailsql.specs.Statements.{add_clerk_text, drop_clerk_text, find_clerk_text, all_clerks_text, clerk_count_text};
 
-use crate::decode::{read_all, read_first};
+use crate::decode::{read_all, read_count, read_first};
 use crate::rows::Clerk;
 use sqlite::{Alter, Connection, Error};
 use sqlite_value::value::ValueRef;
@@ -23,6 +26,7 @@ pub fn add_clerk<'x, S: Alter>(
 ) -> Result<(), Error>
     ensures ok { HasCleanDisk (state S.Store conn.new) → IsReady (state S.Store conn.old) → OnOk result (Changes (changes.AddsClerk (record { name = name.now; kind = kind; secret = secret.now })) (state S.Store conn.old) (state S.Store conn.new)) }
     ensures err { HasCleanDisk (state S.Store conn.new) → OnErr result (IsUndone (state S.Store conn.old) (state S.Store conn.new)) }
+    ensures cause { HasCleanDisk (state S.Store conn.new) → IfErr result (FailsToRun add_clerk_text (Text name.now ∷ Int kind ∷ Blob secret.now ∷ []) (state S.Store conn.old) (state S.Store conn.new)) }
     ensures survives { Survives (state S.Store conn.old) (state S.Store conn.new) (MayLeave (changes.AddsClerk (record { name = name.now; kind = kind; secret = secret.now })) (state S.Store conn.old)) }
 {
     let _schema = conn.schema();
@@ -43,6 +47,7 @@ pub fn add_clerk<'x, S: Alter>(
 pub fn drop_clerk<S: Alter>(conn: &mut Connection<S>, name: &[u8]) -> Result<(), Error>
     ensures ok { HasCleanDisk (state S.Store conn.new) → IsReady (state S.Store conn.old) → OnOk result (Changes (changes.DropsClerk name.now) (state S.Store conn.old) (state S.Store conn.new)) }
     ensures err { HasCleanDisk (state S.Store conn.new) → OnErr result (IsUndone (state S.Store conn.old) (state S.Store conn.new)) }
+    ensures cause { HasCleanDisk (state S.Store conn.new) → IfErr result (FailsToRun drop_clerk_text (Text name.now ∷ []) (state S.Store conn.old) (state S.Store conn.new)) }
     ensures survives { Survives (state S.Store conn.old) (state S.Store conn.new) (MayLeave (changes.DropsClerk name.now) (state S.Store conn.old)) }
 {
     let _schema = conn.schema();
@@ -64,6 +69,7 @@ pub fn find_clerk<S: Alter>(
     ensures ok { HasCleanDisk (state S.Store conn.new) → HasTables (state S.Store conn.old) → IfOk result (λ found. found ≡ find (rows.is_clerk name.now) (rows_in (state S.Store conn.old).now.trees).clerks) }
     ensures same { HasCleanDisk (state S.Store conn.new) → HasTables (state S.Store conn.old) → OnOk result (IsUnchanged (state S.Store conn.old) (state S.Store conn.new)) }
     ensures err { HasCleanDisk (state S.Store conn.new) → HasTables (state S.Store conn.old) → OnErr result (IsUndone (state S.Store conn.old) (state S.Store conn.new)) }
+    ensures cause { HasCleanDisk (state S.Store conn.new) → HasTables (state S.Store conn.old) → IfErr result (FailsToRead find_clerk_text (Text name.now ∷ []) (state S.Store conn.old) (state S.Store conn.new)) }
     ensures survives { Survives (state S.Store conn.old) (state S.Store conn.new) (λ _. ¬ IsOurs (state S.Store conn.old).now) }
 {
     let _schema = conn.schema();
@@ -81,8 +87,10 @@ pub fn all_clerks<S: Alter>(alloc: Global, conn: &mut Connection<S>) -> Result<V
     ensures ok { HasCleanDisk (state S.Store conn.new) → HasTables (state S.Store conn.old) → IfOk result (λ all. all.items ≡ (rows_in (state S.Store conn.old).now.trees).clerks) }
     ensures same { HasCleanDisk (state S.Store conn.new) → HasTables (state S.Store conn.old) → OnOk result (IsUnchanged (state S.Store conn.old) (state S.Store conn.new)) }
     ensures err { HasCleanDisk (state S.Store conn.new) → HasTables (state S.Store conn.old) → OnErr result (IsUndone (state S.Store conn.old) (state S.Store conn.new)) }
+    ensures cause { HasCleanDisk (state S.Store conn.new) → HasTables (state S.Store conn.old) → IfErr result (FailsToRead all_clerks_text [] (state S.Store conn.old) (state S.Store conn.new)) }
     ensures survives { Survives (state S.Store conn.old) (state S.Store conn.new) (λ _. ¬ IsOurs (state S.Store conn.old).now) }
 {
+    let _schema = conn.schema();
     match conn.query_all("SELECT name, kind, secret FROM clerks ORDER BY rowid", &[]) {
         Ok(rows) => read_all(alloc, rows.as_slice()),
         Err(error) => Err(error),
@@ -94,10 +102,11 @@ pub fn clerk_count<S: Alter>(conn: &mut Connection<S>) -> Result<u64, Error>
     ensures ok { HasCleanDisk (state S.Store conn.new) → HasTables (state S.Store conn.old) → IfOk result (λ count. count ≡ min (length (rows_in (state S.Store conn.old).now.trees).clerks) 9223372036854775807) }
     ensures same { HasCleanDisk (state S.Store conn.new) → HasTables (state S.Store conn.old) → OnOk result (IsUnchanged (state S.Store conn.old) (state S.Store conn.new)) }
     ensures err { HasCleanDisk (state S.Store conn.new) → HasTables (state S.Store conn.old) → OnErr result (IsUndone (state S.Store conn.old) (state S.Store conn.new)) }
+    ensures cause { HasCleanDisk (state S.Store conn.new) → HasTables (state S.Store conn.old) → IfErr result (FailsToCount clerk_count_text [] (state S.Store conn.old) (state S.Store conn.new)) }
     ensures survives { Survives (state S.Store conn.old) (state S.Store conn.new) (λ _. ¬ IsOurs (state S.Store conn.old).now) }
 {
     match conn.query_row("SELECT count(*) FROM clerks", &[]) {
-        Ok(row) => row.get(0),
+        Ok(row) => read_count(&row),
         Err(error) => Err(error),
     }
 }
@@ -111,6 +120,7 @@ pub fn put_clerk<'x, S: Alter>(
 ) -> Result<(), Error>
     ensures ok { HasCleanDisk (state S.Store conn.new) → IsReady (state S.Store conn.old) → OnOk result (Changes (changes.PutsClerk (record { name = name.now; kind = kind; secret = secret.now })) (state S.Store conn.old) (state S.Store conn.new)) }
     ensures err { HasCleanDisk (state S.Store conn.new) → IsReady (state S.Store conn.old) → IsTrue (state S.Store conn.old).in_transaction → OnErr result (IsHalted (state S.Store conn.old) (state S.Store conn.new)) }
+    ensures cause { HasCleanDisk (state S.Store conn.new) → IsReady (state S.Store conn.old) → IfErr result (λ e. FailsToRun drop_clerk_text (Text name.now ∷ []) (state S.Store conn.old) (state S.Store conn.new) e ⊎ FailsAfter S.Store (changes.DropsClerk name.now) add_clerk_text (Text name.now ∷ Int kind ∷ Blob secret.now ∷ []) conn.old conn.new e) }
     ensures survives { Survives (state S.Store conn.old) (state S.Store conn.new) (MayLeave (λ before after. changes.DropsClerk name.now before after ⊎ changes.PutsClerk (record { name = name.now; kind = kind; secret = secret.now }) before after) (state S.Store conn.old)) }
 {
     match drop_clerk(conn, name) {

@@ -1,9 +1,13 @@
 //! Rows of an answer, read into the crate's types.
 
-ghost use Rattle.std.specs.Prelude.{◌≡◌, map, slice_get, IfOk};
+ghost use Rattle.std.specs.Prelude.{◌≡◌, ◌<◌, ℕ, pos, length, map, slice_get, IfOk, IfErr};
 ghost use Rattle.std.specs.Option.{option_map};
+ghost use Rattle.std.specs.List.{AllByRecursion};
+ghost use Rattle.sqlite_value.specs.declared.value.Value.TheVariants.{Int};
 ghost use Rattle.sqlite_value.specs.Order.{column, bytes};
 ghost use Rattle.sqlite_rules.specs.Edit.{id_in};
+ghost use Rattle.mailsql.specs.Rows.{HoldsOctets, HoldsNumber};
+ghost use Rattle.mailsql.specs.Errors.{IsWantOfMemory};
 
 use crate::rows::{Clerk, Count, Deposit, Mark, Message, Rule, Sheet};
 use sqlite::types::Type;
@@ -13,7 +17,8 @@ use std::alloc::Global;
 
 /// The octets of a text or a blob.
 fn octets(alloc: Global, row: &Row, at: usize) -> Result<Bytes, Error>
-    ensures { IfOk result (λ octets. octets ≡ bytes (column row.now at)) }
+    ensures ok { IfOk result (λ octets. octets ≡ bytes (column row.now at)) }
+    ensures memory { HoldsOctets row.now at → IfErr result IsWantOfMemory }
 {
     match row.get_ref(at)? {
         ValueRef::Text(octets) => Ok(Bytes::from_slice(alloc, octets)?),
@@ -23,7 +28,8 @@ fn octets(alloc: Global, row: &Row, at: usize) -> Result<Bytes, Error>
 }
 
 fn number(row: &Row, at: usize) -> Result<i64, Error>
-    ensures { IfOk result (λ number. number ≡ id_in (column row.now at)) }
+    ensures ok { IfOk result (λ number. number ≡ id_in (column row.now at)) }
+    ensures memory { HoldsNumber row.now at → IfErr result IsWantOfMemory }
 {
     row.get(at)
 }
@@ -32,19 +38,24 @@ fn number(row: &Row, at: usize) -> Result<i64, Error>
 pub(crate) trait Stored: Sized + Drop {
     ghost use Rattle.sqlite_value.specs.Order.{Row as SqlRow};
 
-    // The value that the row holds.
+    // The value that the row holds, and whether each column is of its type.
     ghost stored: { SqlRow → Self };
 
+    ghost holds: { SqlRow → Type 0 };
+
     fn read(alloc: Global, row: &Row) -> Result<Self, Error>
-        ensures { IfOk result (λ it. it ≡ stored row.now) };
+        ensures ok { IfOk result (λ it. it ≡ stored row.now) }
+        ensures memory { holds row.now → IfErr result IsWantOfMemory };
 }
 
 impl Stored for Mark {
     ghost use Rattle.std.specs.Prelude.{◌∷◌};
     ghost use Rattle.sqlite_value.specs.declared.value.Value.TheVariants.{Null};
-    ghost use Rattle.mailsql.specs.Rows.{mark_of};
+    ghost use Rattle.mailsql.specs.Rows.{mark_of, HoldsMark};
 
     ghost stored = { λ row. mark_of (Null ∷ row) };
+
+    ghost holds = { λ row. HoldsMark (Null ∷ row) };
 
     fn read(alloc: Global, row: &Row) -> Result<Mark, Error> {
         Ok(Mark {
@@ -57,9 +68,11 @@ impl Stored for Mark {
 impl Stored for Clerk {
     ghost use Rattle.std.specs.Prelude.{◌∷◌};
     ghost use Rattle.sqlite_value.specs.declared.value.Value.TheVariants.{Null};
-    ghost use Rattle.mailsql.specs.Rows.{clerk_of};
+    ghost use Rattle.mailsql.specs.Rows.{clerk_of, HoldsClerk};
 
     ghost stored = { λ row. clerk_of (Null ∷ row) };
+
+    ghost holds = { λ row. HoldsClerk (Null ∷ row) };
 
     fn read(alloc: Global, row: &Row) -> Result<Clerk, Error> {
         Ok(Clerk {
@@ -73,9 +86,11 @@ impl Stored for Clerk {
 impl Stored for Bytes {
     ghost use Rattle.std.specs.Prelude.{◌∷◌};
     ghost use Rattle.sqlite_value.specs.declared.value.Value.TheVariants.{Null};
-    ghost use Rattle.mailsql.specs.Rows.{maildrop_of};
+    ghost use Rattle.mailsql.specs.Rows.{maildrop_of, HoldsName};
 
     ghost stored = { λ row. maildrop_of (Null ∷ row) };
+
+    ghost holds = { λ row. HoldsName (Null ∷ row) };
 
     fn read(alloc: Global, row: &Row) -> Result<Bytes, Error> {
         octets(alloc, row, 0)
@@ -85,9 +100,11 @@ impl Stored for Bytes {
 impl Stored for Count {
     ghost use Rattle.std.specs.Prelude.{◌∷◌};
     ghost use Rattle.sqlite_value.specs.declared.value.Value.TheVariants.{Null};
-    ghost use Rattle.mailsql.specs.Rows.{count_of};
+    ghost use Rattle.mailsql.specs.Rows.{count_of, HoldsCount};
 
     ghost stored = { λ row. count_of (Null ∷ row) };
+
+    ghost holds = { λ row. HoldsCount (Null ∷ row) };
 
     fn read(alloc: Global, row: &Row) -> Result<Count, Error> {
         Ok(Count {
@@ -101,9 +118,11 @@ impl Stored for Count {
 impl Stored for Deposit {
     ghost use Rattle.std.specs.Prelude.{◌∷◌};
     ghost use Rattle.sqlite_value.specs.declared.value.Value.TheVariants.{Null};
-    ghost use Rattle.mailsql.specs.Rows.{deposit_of};
+    ghost use Rattle.mailsql.specs.Rows.{deposit_of, HoldsDeposit};
 
     ghost stored = { λ row. deposit_of (Null ∷ row) };
+
+    ghost holds = { λ row. HoldsDeposit (Null ∷ row) };
 
     fn read(alloc: Global, row: &Row) -> Result<Deposit, Error> {
         Ok(Deposit {
@@ -119,9 +138,11 @@ impl Stored for Deposit {
 impl Stored for Message {
     ghost use Rattle.std.specs.Prelude.{◌∷◌};
     ghost use Rattle.sqlite_value.specs.Order.{column};
-    ghost use Rattle.mailsql.specs.Rows.{message_of};
+    ghost use Rattle.mailsql.specs.Rows.{message_of, HoldsMessage};
 
     ghost stored = { λ row. message_of (column row 0 ∷ row) };
+
+    ghost holds = { λ row. HoldsMessage (column row 0 ∷ row) };
 
     fn read(alloc: Global, row: &Row) -> Result<Message, Error> {
         Ok(Message {
@@ -137,9 +158,11 @@ impl Stored for Message {
 impl Stored for Sheet {
     ghost use Rattle.std.specs.Prelude.{◌∷◌};
     ghost use Rattle.sqlite_value.specs.declared.value.Value.TheVariants.{Null};
-    ghost use Rattle.mailsql.specs.Rows.{sheet_of};
+    ghost use Rattle.mailsql.specs.Rows.{sheet_of, HoldsSheet};
 
     ghost stored = { λ row. sheet_of (Null ∷ row) };
+
+    ghost holds = { λ row. HoldsSheet (Null ∷ row) };
 
     fn read(alloc: Global, row: &Row) -> Result<Sheet, Error> {
         Ok(Sheet {
@@ -153,9 +176,11 @@ impl Stored for Sheet {
 impl Stored for Rule {
     ghost use Rattle.std.specs.Prelude.{◌∷◌};
     ghost use Rattle.sqlite_value.specs.Order.{column};
-    ghost use Rattle.mailsql.specs.Rows.{rule_of};
+    ghost use Rattle.mailsql.specs.Rows.{rule_of, HoldsRule};
 
     ghost stored = { λ row. rule_of (column row 0 ∷ row) };
+
+    ghost holds = { λ row. HoldsRule (column row 0 ∷ row) };
 
     fn read(alloc: Global, row: &Row) -> Result<Rule, Error> {
         Ok(Rule {
@@ -172,7 +197,8 @@ impl Stored for Rule {
 
 /// Each row of the answer.
 pub(crate) fn read_all<T: Stored>(alloc: Global, rows: &[Row]) -> Result<Vec<T>, Error>
-    ensures { IfOk result (λ all. all.items ≡ map T.stored rows.now) }
+    ensures ok { IfOk result (λ all. all.items ≡ map T.stored rows.now) }
+    ensures memory { AllByRecursion T.holds rows.now → IfErr result IsWantOfMemory }
 {
     let mut all = Vec::new(alloc);
     for row in rows {
@@ -183,10 +209,19 @@ pub(crate) fn read_all<T: Stored>(alloc: Global, rows: &[Row]) -> Result<Vec<T>,
 
 /// The first row of the answer.
 pub(crate) fn read_first<T: Stored>(alloc: Global, rows: &[Row]) -> Result<Option<T>, Error>
-    ensures { IfOk result (λ first. first ≡ option_map T.stored (slice_get rows.now 0)) }
+    ensures ok { IfOk result (λ first. first ≡ option_map T.stored (slice_get rows.now 0)) }
+    ensures memory { AllByRecursion T.holds rows.now → IfErr result IsWantOfMemory }
 {
     match rows.first() {
         Some(row) => Ok(Some(T::read(alloc, row)?)),
         None => Ok(None),
     }
+}
+
+/// The number that a count answers.
+pub(crate) fn read_count(row: &Row) -> Result<u64, Error>
+    ensures ok { IfOk result (λ count. (0 < length row.now) × (column row.now 0 ≡ Int (pos count))) }
+    ensures memory { (count : ℕ) → column row.now 0 ≡ Int (pos count) → IfErr result IsWantOfMemory }
+{
+    row.get(0)
 }

@@ -1,12 +1,15 @@
 //! The deposits that were ever accepted.
 
-ghost use Rattle.std.specs.Prelude.{◌≡◌, IfOk, OnOk, OnErr};
+ghost use Rattle.std.specs.Prelude.{◌≡◌, IfOk, IfErr, OnOk, OnErr, [], ◌∷◌};
 ghost use Rattle.std.specs.List.{find};
 ghost use Rattle.sqlite.specs.Held.{state};
 ghost use Rattle.sqlite.specs.State.{HasCleanDisk, IsUnchanged, Survives};
 ghost use Rattle.mailsql.specs.Changes as changes;
 ghost use Rattle.mailsql.specs.Rows as rows;
 ghost use Rattle.mailsql.specs.Rows.{IsOurs, IsReady, HasTables, MayLeave, Changes, IsUndone, rows_in};
+ghost use Rattle.sqlite_value.specs.declared.value.Value.TheVariants.{Int, Text, Blob};
+ghost use Rattle.mailsql.specs.Errors.{FailsToRun, FailsToRead};
+ghost use Rattle.mailsql.specs.Statements.{add_deposit_text, find_deposit_text, all_deposits_text};
 
 use crate::decode::{read_all, read_first};
 use crate::rows::Deposit;
@@ -25,6 +28,7 @@ pub fn add_deposit<'x, S: Alter>(
 ) -> Result<(), Error>
     ensures ok { HasCleanDisk (state S.Store conn.new) → IsReady (state S.Store conn.old) → OnOk result (Changes (changes.AddsDeposit (record { maildrop = maildrop.now; id = id.now; class = class.now; k = k; digest = digest.now })) (state S.Store conn.old) (state S.Store conn.new)) }
     ensures err { HasCleanDisk (state S.Store conn.new) → OnErr result (IsUndone (state S.Store conn.old) (state S.Store conn.new)) }
+    ensures cause { HasCleanDisk (state S.Store conn.new) → IfErr result (FailsToRun add_deposit_text (Text maildrop.now ∷ Text id.now ∷ Text class.now ∷ Int k ∷ Blob digest.now ∷ []) (state S.Store conn.old) (state S.Store conn.new)) }
     ensures survives { Survives (state S.Store conn.old) (state S.Store conn.new) (MayLeave (changes.AddsDeposit (record { maildrop = maildrop.now; id = id.now; class = class.now; k = k; digest = digest.now })) (state S.Store conn.old)) }
 {
     let _schema = conn.schema();
@@ -53,6 +57,7 @@ pub fn find_deposit<'x, S: Alter>(
     ensures ok { HasCleanDisk (state S.Store conn.new) → HasTables (state S.Store conn.old) → IfOk result (λ found. found ≡ find (rows.is_deposit maildrop.now id.now) (rows_in (state S.Store conn.old).now.trees).deposits) }
     ensures same { HasCleanDisk (state S.Store conn.new) → HasTables (state S.Store conn.old) → OnOk result (IsUnchanged (state S.Store conn.old) (state S.Store conn.new)) }
     ensures err { HasCleanDisk (state S.Store conn.new) → HasTables (state S.Store conn.old) → OnErr result (IsUndone (state S.Store conn.old) (state S.Store conn.new)) }
+    ensures cause { HasCleanDisk (state S.Store conn.new) → HasTables (state S.Store conn.old) → IfErr result (FailsToRead find_deposit_text (Text maildrop.now ∷ Text id.now ∷ []) (state S.Store conn.old) (state S.Store conn.new)) }
     ensures survives { Survives (state S.Store conn.old) (state S.Store conn.new) (λ _. ¬ IsOurs (state S.Store conn.old).now) }
 {
     let _schema = conn.schema();
@@ -73,8 +78,10 @@ pub fn all_deposits<S: Alter>(
     ensures ok { HasCleanDisk (state S.Store conn.new) → HasTables (state S.Store conn.old) → IfOk result (λ all. all.items ≡ (rows_in (state S.Store conn.old).now.trees).deposits) }
     ensures same { HasCleanDisk (state S.Store conn.new) → HasTables (state S.Store conn.old) → OnOk result (IsUnchanged (state S.Store conn.old) (state S.Store conn.new)) }
     ensures err { HasCleanDisk (state S.Store conn.new) → HasTables (state S.Store conn.old) → OnErr result (IsUndone (state S.Store conn.old) (state S.Store conn.new)) }
+    ensures cause { HasCleanDisk (state S.Store conn.new) → HasTables (state S.Store conn.old) → IfErr result (FailsToRead all_deposits_text [] (state S.Store conn.old) (state S.Store conn.new)) }
     ensures survives { Survives (state S.Store conn.old) (state S.Store conn.new) (λ _. ¬ IsOurs (state S.Store conn.old).now) }
 {
+    let _schema = conn.schema();
     match conn.query_all(
         "SELECT maildrop, id, class, k, digest FROM deposits ORDER BY rowid",
         &[],

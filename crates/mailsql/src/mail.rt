@@ -1,13 +1,16 @@
 //! The messages, without their pages.
 
-ghost use Rattle.std.specs.Prelude.{◌≡◌, min, length, filter, IfOk, OnOk, OnErr};
+ghost use Rattle.std.specs.Prelude.{◌≡◌, min, length, filter, IfOk, IfErr, OnOk, OnErr, [], ◌∷◌};
 ghost use Rattle.sqlite.specs.Held.{state};
 ghost use Rattle.sqlite.specs.State.{HasCleanDisk, IsUnchanged, Survives};
 ghost use Rattle.mailsql.specs.Changes as changes;
 ghost use Rattle.mailsql.specs.Rows as rows;
 ghost use Rattle.mailsql.specs.Rows.{IsOurs, IsReady, HasTables, MayLeave, Changes, IsUndone, rows_in};
+ghost use Rattle.sqlite_value.specs.declared.value.Value.TheVariants.{Int, Text};
+ghost use Rattle.mailsql.specs.Errors.{FailsToRun, FailsToRead, FailsToCount};
+ghost use Rattle.mailsql.specs.Statements.{add_message_text, remove_message_text, heads_text, all_messages_text, message_count_text};
 
-use crate::decode::read_all;
+use crate::decode::{read_all, read_count};
 use crate::rows::Message;
 use sqlite::{Alter, Connection, Error};
 use sqlite_value::value::ValueRef;
@@ -24,6 +27,7 @@ pub fn add_message<'x, S: Alter>(
     ensures ok { HasCleanDisk (state S.Store conn.new) → IsReady (state S.Store conn.old)
         → IfOk result (λ key. Changes (changes.AddsMessage (record { key = key; maildrop = maildrop.now; class = class.now; k = k; octets = octets })) (state S.Store conn.old) (state S.Store conn.new)) }
     ensures err { HasCleanDisk (state S.Store conn.new) → OnErr result (IsUndone (state S.Store conn.old) (state S.Store conn.new)) }
+    ensures cause { HasCleanDisk (state S.Store conn.new) → IfErr result (FailsToRun add_message_text (Text maildrop.now ∷ Text class.now ∷ Int k ∷ Int octets ∷ []) (state S.Store conn.old) (state S.Store conn.new)) }
     ensures survives { Survives (state S.Store conn.old) (state S.Store conn.new) (MayLeave (changes.Arrives maildrop.now class.now k octets) (state S.Store conn.old)) }
 {
     let _schema = conn.schema();
@@ -49,6 +53,7 @@ pub fn remove_message<'x, S: Alter>(
 ) -> Result<(), Error>
     ensures ok { HasCleanDisk (state S.Store conn.new) → IsReady (state S.Store conn.old) → OnOk result (Changes (changes.RemovesMessage key maildrop.now) (state S.Store conn.old) (state S.Store conn.new)) }
     ensures err { HasCleanDisk (state S.Store conn.new) → OnErr result (IsUndone (state S.Store conn.old) (state S.Store conn.new)) }
+    ensures cause { HasCleanDisk (state S.Store conn.new) → IfErr result (FailsToRun remove_message_text (Int key ∷ Text maildrop.now ∷ []) (state S.Store conn.old) (state S.Store conn.new)) }
     ensures survives { Survives (state S.Store conn.old) (state S.Store conn.new) (MayLeave (changes.RemovesMessage key maildrop.now) (state S.Store conn.old)) }
 {
     let _schema = conn.schema();
@@ -70,6 +75,7 @@ pub fn heads<S: Alter>(
     ensures ok { HasCleanDisk (state S.Store conn.new) → HasTables (state S.Store conn.old) → IfOk result (λ all. all.items ≡ filter (rows.is_in maildrop.now) (rows_in (state S.Store conn.old).now.trees).messages) }
     ensures same { HasCleanDisk (state S.Store conn.new) → HasTables (state S.Store conn.old) → OnOk result (IsUnchanged (state S.Store conn.old) (state S.Store conn.new)) }
     ensures err { HasCleanDisk (state S.Store conn.new) → HasTables (state S.Store conn.old) → OnErr result (IsUndone (state S.Store conn.old) (state S.Store conn.new)) }
+    ensures cause { HasCleanDisk (state S.Store conn.new) → HasTables (state S.Store conn.old) → IfErr result (FailsToRead heads_text (Text maildrop.now ∷ []) (state S.Store conn.old) (state S.Store conn.new)) }
     ensures survives { Survives (state S.Store conn.old) (state S.Store conn.new) (λ _. ¬ IsOurs (state S.Store conn.old).now) }
 {
     let _schema = conn.schema();
@@ -90,8 +96,10 @@ pub fn all_messages<S: Alter>(
     ensures ok { HasCleanDisk (state S.Store conn.new) → HasTables (state S.Store conn.old) → IfOk result (λ all. all.items ≡ (rows_in (state S.Store conn.old).now.trees).messages) }
     ensures same { HasCleanDisk (state S.Store conn.new) → HasTables (state S.Store conn.old) → OnOk result (IsUnchanged (state S.Store conn.old) (state S.Store conn.new)) }
     ensures err { HasCleanDisk (state S.Store conn.new) → HasTables (state S.Store conn.old) → OnErr result (IsUndone (state S.Store conn.old) (state S.Store conn.new)) }
+    ensures cause { HasCleanDisk (state S.Store conn.new) → HasTables (state S.Store conn.old) → IfErr result (FailsToRead all_messages_text [] (state S.Store conn.old) (state S.Store conn.new)) }
     ensures survives { Survives (state S.Store conn.old) (state S.Store conn.new) (λ _. ¬ IsOurs (state S.Store conn.old).now) }
 {
+    let _schema = conn.schema();
     match conn.query_all(
         "SELECT key, maildrop, class, k, octets FROM mail ORDER BY key",
         &[],
@@ -106,6 +114,7 @@ pub fn message_count<S: Alter>(conn: &mut Connection<S>, maildrop: &[u8]) -> Res
     ensures ok { HasCleanDisk (state S.Store conn.new) → HasTables (state S.Store conn.old) → IfOk result (λ count. count ≡ min (length (filter (rows.is_in maildrop.now) (rows_in (state S.Store conn.old).now.trees).messages)) 9223372036854775807) }
     ensures same { HasCleanDisk (state S.Store conn.new) → HasTables (state S.Store conn.old) → OnOk result (IsUnchanged (state S.Store conn.old) (state S.Store conn.new)) }
     ensures err { HasCleanDisk (state S.Store conn.new) → HasTables (state S.Store conn.old) → OnErr result (IsUndone (state S.Store conn.old) (state S.Store conn.new)) }
+    ensures cause { HasCleanDisk (state S.Store conn.new) → HasTables (state S.Store conn.old) → IfErr result (FailsToCount message_count_text (Text maildrop.now ∷ []) (state S.Store conn.old) (state S.Store conn.new)) }
     ensures survives { Survives (state S.Store conn.old) (state S.Store conn.new) (λ _. ¬ IsOurs (state S.Store conn.old).now) }
 {
     let _schema = conn.schema();
@@ -113,7 +122,7 @@ pub fn message_count<S: Alter>(conn: &mut Connection<S>, maildrop: &[u8]) -> Res
         "SELECT count(*) FROM mail WHERE maildrop = ?1",
         &[ValueRef::Text(maildrop)],
     ) {
-        Ok(row) => row.get(0),
+        Ok(row) => read_count(&row),
         Err(error) => Err(error),
     }
 }

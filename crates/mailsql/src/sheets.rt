@@ -1,6 +1,6 @@
 //! The pages of the messages, each of 1 to 4,096 octets.
 
-ghost use Rattle.std.specs.Prelude.{◌≡◌, ◌<◌, IsTrue, min, length, IfOk, OnOk, OnErr};
+ghost use Rattle.std.specs.Prelude.{◌≡◌, ◌<◌, pos, IsTrue, min, length, IfOk, IfErr, OnOk, OnErr, [], ◌∷◌};
 ghost use Rattle.std.specs.List.{find};
 ghost use Rattle.sqlite.specs.Held.{state};
 ghost use Rattle.sqlite.specs.State.{HasCleanDisk, IsUnchanged, Survives};
@@ -9,8 +9,11 @@ ghost use Rattle.mailsql.specs.Rows as rows;
 ghost use Rattle.mailsql.specs.Rows.{IsOurs, IsReady, HasTables, MayLeave, Changes, IsUndone, IsHalted, rows_in};
 ghost use Rattle.mailsql.specs.Sheets as cut;
 ghost use Rattle.mailsql.specs.Sheets.{SheetsAreTheText};
+ghost use Rattle.sqlite_value.specs.declared.value.Value.TheVariants.{Int, Blob};
+ghost use Rattle.mailsql.specs.Errors.{FailsToRun, FailsToAddSheets, FailsToRead, FailsToCount};
+ghost use Rattle.mailsql.specs.Statements.{add_sheet_text, remove_sheets_text, find_sheet_text, all_sheets_text, sheet_count_text};
 
-use crate::decode::{read_all, read_first};
+use crate::decode::{read_all, read_count, read_first};
 use crate::rows::Sheet;
 use sqlite::{Alter, Connection, Error};
 use sqlite_value::value::ValueRef;
@@ -28,6 +31,7 @@ pub fn add_sheet<S: Alter>(
 ) -> Result<(), Error>
     ensures ok { HasCleanDisk (state S.Store conn.new) → IsReady (state S.Store conn.old) → OnOk result (Changes (changes.AddsSheet (record { mail = mail; place = place; octets = octets.now })) (state S.Store conn.old) (state S.Store conn.new)) }
     ensures err { HasCleanDisk (state S.Store conn.new) → OnErr result (IsUndone (state S.Store conn.old) (state S.Store conn.new)) }
+    ensures cause { HasCleanDisk (state S.Store conn.new) → IfErr result (FailsToRun add_sheet_text (Int mail ∷ Int place ∷ Blob octets.now ∷ []) (state S.Store conn.old) (state S.Store conn.new)) }
     ensures survives { Survives (state S.Store conn.old) (state S.Store conn.new) (MayLeave (changes.AddsSheet (record { mail = mail; place = place; octets = octets.now })) (state S.Store conn.old)) }
 {
     let _schema = conn.schema();
@@ -61,6 +65,7 @@ fn add_sheet_at<S: Alter>(
     requires { place < cut.sheet_count text.now }
     ensures ok { HasCleanDisk (state S.Store conn.new) → IsReady (state S.Store conn.old) → OnOk result (Changes (changes.AddsSheet (cut.sheet_at mail text.now place)) (state S.Store conn.old) (state S.Store conn.new)) }
     ensures err { HasCleanDisk (state S.Store conn.new) → OnErr result (IsUndone (state S.Store conn.old) (state S.Store conn.new)) }
+    ensures cause { HasCleanDisk (state S.Store conn.new) → IfErr result (FailsToRun add_sheet_text (Int mail ∷ Int (pos place) ∷ Blob (cut.octets_at text.now place) ∷ []) (state S.Store conn.old) (state S.Store conn.new)) }
     ensures survives { Survives (state S.Store conn.old) (state S.Store conn.new) (MayLeave (changes.AddsSheet (cut.sheet_at mail text.now place)) (state S.Store conn.old)) }
 {
     let start = place * SHEET_OCTETS;
@@ -72,6 +77,7 @@ fn add_sheet_at<S: Alter>(
 pub fn add_sheets<S: Alter>(conn: &mut Connection<S>, mail: i64, text: &[u8]) -> Result<(), Error>
     ensures ok { HasCleanDisk (state S.Store conn.new) → IsReady (state S.Store conn.old) → OnOk result (Changes (changes.AddsSheets mail text.now) (state S.Store conn.old) (state S.Store conn.new)) }
     ensures err { HasCleanDisk (state S.Store conn.new) → IsReady (state S.Store conn.old) → IsTrue (state S.Store conn.old).in_transaction → OnErr result (IsHalted (state S.Store conn.old) (state S.Store conn.new)) }
+    ensures cause { HasCleanDisk (state S.Store conn.new) → IsReady (state S.Store conn.old) → IfErr result (FailsToAddSheets S.Store mail text.now conn.old conn.new) }
     ensures survives { Survives (state S.Store conn.old) (state S.Store conn.new) (MayLeave (changes.AddsSomeSheets mail text.now) (state S.Store conn.old)) }
 {
     let _settled = conn.is_autocommit();
@@ -88,6 +94,7 @@ pub fn add_sheets<S: Alter>(conn: &mut Connection<S>, mail: i64, text: &[u8]) ->
 pub fn remove_sheets<S: Alter>(conn: &mut Connection<S>, mail: i64) -> Result<(), Error>
     ensures ok { HasCleanDisk (state S.Store conn.new) → IsReady (state S.Store conn.old) → OnOk result (Changes (changes.RemovesSheets mail) (state S.Store conn.old) (state S.Store conn.new)) }
     ensures err { HasCleanDisk (state S.Store conn.new) → OnErr result (IsUndone (state S.Store conn.old) (state S.Store conn.new)) }
+    ensures cause { HasCleanDisk (state S.Store conn.new) → IfErr result (FailsToRun remove_sheets_text (Int mail ∷ []) (state S.Store conn.old) (state S.Store conn.new)) }
     ensures survives { Survives (state S.Store conn.old) (state S.Store conn.new) (MayLeave (changes.RemovesSheets mail) (state S.Store conn.old)) }
 {
     let _schema = conn.schema();
@@ -107,6 +114,7 @@ pub fn find_sheet<S: Alter>(
     ensures ok { HasCleanDisk (state S.Store conn.new) → HasTables (state S.Store conn.old) → IfOk result (λ found. found ≡ find (rows.is_sheet mail place) (rows_in (state S.Store conn.old).now.trees).sheets) }
     ensures same { HasCleanDisk (state S.Store conn.new) → HasTables (state S.Store conn.old) → OnOk result (IsUnchanged (state S.Store conn.old) (state S.Store conn.new)) }
     ensures err { HasCleanDisk (state S.Store conn.new) → HasTables (state S.Store conn.old) → OnErr result (IsUndone (state S.Store conn.old) (state S.Store conn.new)) }
+    ensures cause { HasCleanDisk (state S.Store conn.new) → HasTables (state S.Store conn.old) → IfErr result (FailsToRead find_sheet_text (Int mail ∷ Int place ∷ []) (state S.Store conn.old) (state S.Store conn.new)) }
     ensures survives { Survives (state S.Store conn.old) (state S.Store conn.new) (λ _. ¬ IsOurs (state S.Store conn.old).now) }
 {
     let _schema = conn.schema();
@@ -124,10 +132,11 @@ pub fn sheet_count<S: Alter>(conn: &mut Connection<S>) -> Result<u64, Error>
     ensures ok { HasCleanDisk (state S.Store conn.new) → HasTables (state S.Store conn.old) → IfOk result (λ count. count ≡ min (length (rows_in (state S.Store conn.old).now.trees).sheets) 9223372036854775807) }
     ensures same { HasCleanDisk (state S.Store conn.new) → HasTables (state S.Store conn.old) → OnOk result (IsUnchanged (state S.Store conn.old) (state S.Store conn.new)) }
     ensures err { HasCleanDisk (state S.Store conn.new) → HasTables (state S.Store conn.old) → OnErr result (IsUndone (state S.Store conn.old) (state S.Store conn.new)) }
+    ensures cause { HasCleanDisk (state S.Store conn.new) → HasTables (state S.Store conn.old) → IfErr result (FailsToCount sheet_count_text [] (state S.Store conn.old) (state S.Store conn.new)) }
     ensures survives { Survives (state S.Store conn.old) (state S.Store conn.new) (λ _. ¬ IsOurs (state S.Store conn.old).now) }
 {
     match conn.query_row("SELECT count(*) FROM sheets", &[]) {
-        Ok(row) => row.get(0),
+        Ok(row) => read_count(&row),
         Err(error) => Err(error),
     }
 }
@@ -137,8 +146,10 @@ pub fn all_sheets<S: Alter>(alloc: Global, conn: &mut Connection<S>) -> Result<V
     ensures ok { HasCleanDisk (state S.Store conn.new) → HasTables (state S.Store conn.old) → IfOk result (λ all. all.items ≡ (rows_in (state S.Store conn.old).now.trees).sheets) }
     ensures same { HasCleanDisk (state S.Store conn.new) → HasTables (state S.Store conn.old) → OnOk result (IsUnchanged (state S.Store conn.old) (state S.Store conn.new)) }
     ensures err { HasCleanDisk (state S.Store conn.new) → HasTables (state S.Store conn.old) → OnErr result (IsUndone (state S.Store conn.old) (state S.Store conn.new)) }
+    ensures cause { HasCleanDisk (state S.Store conn.new) → HasTables (state S.Store conn.old) → IfErr result (FailsToRead all_sheets_text [] (state S.Store conn.old) (state S.Store conn.new)) }
     ensures survives { Survives (state S.Store conn.old) (state S.Store conn.new) (λ _. ¬ IsOurs (state S.Store conn.old).now) }
 {
+    let _schema = conn.schema();
     match conn.query_all("SELECT mail, place, octets FROM sheets ORDER BY rowid", &[]) {
         Ok(rows) => read_all(alloc, rows.as_slice()),
         Err(error) => Err(error),

@@ -1,10 +1,11 @@
 //! The making of the tables.
 
-ghost use Rattle.std.specs.Prelude.{◌≡◌, ◌<◌, OnOk, OnErr};
+ghost use Rattle.std.specs.Prelude.{◌≡◌, ◌<◌, IfErr, OnOk, OnErr};
 ghost use Rattle.sqlite.specs.Held.{state};
 ghost use Rattle.sqlite.specs.State.{HasCleanDisk, Survives};
 ghost use Rattle.mailsql.specs.Tables.{create_text as text_at};
 ghost use Rattle.mailsql.specs.Rows.{IsBegun, IsHalted, MakesTables};
+ghost use Rattle.mailsql.specs.Errors.{FailsToCreate};
 
 use sqlite::{Alter, Connection, Error};
 
@@ -37,6 +38,7 @@ fn create_text(at: usize) -> &'static str
 pub fn create_tables<S: Alter>(conn: &mut Connection<S>) -> Result<(), Error>
     ensures ok { HasCleanDisk (state S.Store conn.new) → IsBegun (state S.Store conn.old) → OnOk result (MakesTables (state S.Store conn.old) (state S.Store conn.new)) }
     ensures err { HasCleanDisk (state S.Store conn.new) → IsBegun (state S.Store conn.old) → OnErr result (IsHalted (state S.Store conn.old) (state S.Store conn.new)) }
+    ensures cause { HasCleanDisk (state S.Store conn.new) → IsBegun (state S.Store conn.old) → IfErr result (FailsToCreate S.Store conn.old conn.new) }
     ensures survives { Survives (state S.Store conn.old) (state S.Store conn.new) (λ _. ¬ IsBegun (state S.Store conn.old)) }
 {
     for at in 0..TABLES {

@@ -1,9 +1,9 @@
-use Rattle.std.proofs.Common.{◌∙◌, ap, arith, to_z-of_z, ◌++◌, ◌∷◌, []}
+use Rattle.std.proofs.Common.{inl, inr, ◌∙◌, ap, arith, to_z-of_z, ◌++◌, ◌∷◌, []}
 use Rattle.sqlite.specs.Held.{state}
 use Rattle.sqlite.specs.State.{HasCleanDisk}
 use Rattle.mailsql.specs.Rows.{Rows}
 use Rattle.mailsql.specs.Changes.{DropsClerk, AddsClerk, PutsClerk}
-use Rattle.mailsql.proofs.ResultLemmas.{on_ok_then, on_err_then}
+use Rattle.mailsql.proofs.ResultLemmas.{on_ok_then, on_err_then, if_err}
 use Rattle.mailsql.proofs.ChainLemmas.{changes_then, stops_then, stops_first, halts_first, halts_then}
 use Rattle.mailsql.proofs.clerks.put_clerk.Goals as goal
 
@@ -38,3 +38,11 @@ returns-in-Err-clause-err g c clean ready inside = halts_first (state g.S.Store 
 
 pub returns-in-Err-clause-survives : goal.returns-in-Err-clause-survives
 returns-in-Err-clause-survives g c = stops_first (DropsClerk c.args.name.now) (PutsClerk (record { name = c.args.name.now; kind = c.args.kind; secret = c.args.secret.now })) (state g.S.Store c.args.conn.now) (state g.S.Store c.drop_clerk.new.conn) c.drop_clerk.ensures.survives
+
+pub returns-in-Ok-clause-cause : goal.returns-in-Ok-clause-cause
+returns-in-Ok-clause-cause g c clean ready =
+    let clean1 : HasCleanDisk (state g.S.Store c.drop_clerk.new.conn) = omega (arith, c.add_clerk.ensures.survives.clean) in
+    if_err _ _ _ (λ e fails. inr (c.drop_clerk.new.conn, c.in-Ok.ensures.ok clean1 ready, fails)) (simp (to_z-of_z, c.ranges.kind) at (c.add_clerk.ensures.cause clean))
+
+pub returns-in-Err-clause-cause : goal.returns-in-Err-clause-cause
+returns-in-Err-clause-cause g c clean ready = inl (c.in-Err.ensures.cause clean)

@@ -1,9 +1,9 @@
-use Rattle.std.proofs.Common.{◌∙◌, ap, arith, to_z-of_z, ◌++◌, ◌∷◌, []}
+use Rattle.std.proofs.Common.{inl, inr, ◌∙◌, ap, arith, to_z-of_z, ◌++◌, ◌∷◌, []}
 use Rattle.sqlite.specs.Held.{state}
 use Rattle.sqlite.specs.State.{HasCleanDisk}
 use Rattle.mailsql.specs.Rows.{Rows}
 use Rattle.mailsql.specs.Changes.{ClearsCount, AddsCount, SetsCount}
-use Rattle.mailsql.proofs.ResultLemmas.{on_ok_then, on_err_then}
+use Rattle.mailsql.proofs.ResultLemmas.{on_ok_then, on_err_then, if_err}
 use Rattle.mailsql.proofs.ChainLemmas.{changes_then, stops_then, stops_first, halts_first, halts_then}
 use Rattle.mailsql.proofs.counts.set_count.Goals as goal
 
@@ -38,3 +38,11 @@ returns-in-Err-clause-err g c clean ready inside = halts_first (state g.S.Store 
 
 pub returns-in-Err-clause-survives : goal.returns-in-Err-clause-survives
 returns-in-Err-clause-survives g c = stops_first (ClearsCount c.args.maildrop.now c.args.class.now) (SetsCount (record { maildrop = c.args.maildrop.now; class = c.args.class.now; k = c.args.k })) (state g.S.Store c.args.conn.now) (state g.S.Store c.clear_count.new.conn) c.clear_count.ensures.survives
+
+pub returns-in-Ok-clause-cause : goal.returns-in-Ok-clause-cause
+returns-in-Ok-clause-cause g c clean ready =
+    let clean1 : HasCleanDisk (state g.S.Store c.clear_count.new.conn) = omega (arith, c.add_count.ensures.survives.clean) in
+    if_err _ _ _ (λ e fails. inr (c.clear_count.new.conn, c.in-Ok.ensures.ok clean1 ready, fails)) (simp (to_z-of_z, c.ranges.k) at (c.add_count.ensures.cause clean))
+
+pub returns-in-Err-clause-cause : goal.returns-in-Err-clause-cause
+returns-in-Err-clause-cause g c clean ready = inl (c.in-Err.ensures.cause clean)

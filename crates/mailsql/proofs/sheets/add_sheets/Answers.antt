@@ -43,6 +43,15 @@ returns-in-Err-clause-err g c clean ready inside =
     let clean1 : HasCleanDisk s1 = omega (arith, c.add_sheet_at.ensures.survives.clean) in
     halts_then (AddsFirstSheets c.loop-place.place c.args.mail c.args.text.now) s0 s1 s2 inside (inv.1 clean1 ready) (c.in-Err.ensures.err clean)
 
+pub returns-in-Err-clause-cause : goal.returns-in-Err-clause-cause
+returns-in-Err-clause-cause g c clean ready =
+    let s1 = state g.S.Store c.loop-place.conn in
+    let e : to_z w64 (of_z w64 c.args.mail) ≡ c.args.mail = to_z-of_z c.ranges.mail in
+    let inv = subst (λ (m : ℤ). HasAdded m c.args.text.now c.loop-place.place (state g.S.Store c.args.conn.now) (state g.S.Store c.loop-place.conn)) e c.loop-place.invariant in
+    let low : c.loop-place.place < sheet_count c.args.text.now = omega (arith, c.loop-place-test.true, c.count_sheets-place-end.ensures) in
+    let clean1 : HasCleanDisk s1 = omega (arith, c.add_sheet_at.ensures.survives.clean) in
+    (c.loop-place.place, low, (c.loop-place.conn, inv.1 clean1 ready, simp (to_z-of_z, c.ranges.mail) at (c.in-Err.ensures.cause clean)))
+
 pub returns-in-Err-clause-survives : goal.returns-in-Err-clause-survives
 returns-in-Err-clause-survives g c =
     let s0 = state g.S.Store c.args.conn.now in

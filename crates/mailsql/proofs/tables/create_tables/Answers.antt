@@ -36,6 +36,15 @@ returns-in-Err-clause-err g c clean begun =
     let clean1 : HasCleanDisk s1 = omega (arith, c.execute.ensures.survives.clean) in
     stops_making (state g.S.Store c.args.conn.now) s1 s2 (c.loop-at.invariant.1 clean1 begun).1 (error_undone s1 s2 _ _ _ (c.in-Err.ensures.runs clean))
 
+pub returns-in-Err-clause-cause : goal.returns-in-Err-clause-cause
+returns-in-Err-clause-cause g c clean begun =
+    let s1 = state g.S.Store c.loop-at.conn in
+    let low : c.loop-at.at < 8 = c.loop-at-test.true in
+    let clean1 : HasCleanDisk s1 = omega (arith, c.execute.ensures.survives.clean) in
+    let it = c.loop-at.invariant.1 clean1 begun in
+    let runs = rw c.create_text.ensures at c.in-Err.ensures.runs in
+    (c.loop-at.at, low, c.loop-at.conn, it.0, it.1, runs clean)
+
 pub returns-in-Err-clause-survives : goal.returns-in-Err-clause-survives
 returns-in-Err-clause-survives g c =
     let s0 = state g.S.Store c.args.conn.now in

@@ -1,0 +1,50 @@
+-- What an error tells: what the statement itself met, in the state that it found.
+use Rattle.std.specs.Prelude.{◌≡◌, ◌⊎◌, ◌<◌, ℕ, ℤ, pos, List, [], ◌∷◌, length, Err, Ok}
+use Rattle.std.specs.List.{AllByRecursion}
+use Rattle.sqlite_value.specs.declared.value.Value.TheVariants.{Int, Blob}
+use Rattle.sqlite_trees.specs.declared.store.Store.{Ghosts}
+use Rattle.sqlite_value.specs.Order.{Row}
+use Rattle.sqlite.specs.declared.error.ErrorCode.TheVariants.{OutOfMemory}
+use Rattle.sqlite.specs.declared.error.Error.{Error}
+use Rattle.sqlite.specs.declared.error.Error.TheVariants.{SqliteFailure}
+use Rattle.sqlite.specs.Held.{Held, state}
+use Rattle.sqlite.specs.State.{State, Executes, FailsToQuery, Shown, QueriesRow}
+use Rattle.mailsql.specs.Tables.{create_texts, create_text, stage}
+use Rattle.mailsql.specs.Rows.{Rows, Changes, IsBare, GoesOn}
+use Rattle.mailsql.specs.Sheets.{sheet_count, octets_at}
+use Rattle.mailsql.specs.Changes.{AddsFirstSheets}
+use Rattle.mailsql.specs.Statements.{add_sheet_text}
+
+-- there was no memory
+abbrev pub IsWantOfMemory : Error → Type 0
+IsWantOfMemory e = e ≡ SqliteFailure OutOfMemory
+
+-- the statement met this error
+abbrev pub FailsToRun : List ℕ → Row → State → State → Error → Type 0
+FailsToRun text params old new e = Executes text params old new (Err e)
+
+-- the statement met this error, behind others that made a change
+abbrev pub FailsAfter : {S : Type 0} → Ghosts S → (Rows → Rows → Type 0) → List ℕ → Row → Held S → Held S → Error → Type 0
+FailsAfter {S} g Change text params old new e = (between : Held S) × Changes Change (state g old) (state g between) × FailsToRun text params (state g between) (state g new) e
+
+-- one of the texts that make the tables met this error, behind those before it
+abbrev pub FailsToCreate : {S : Type 0} → Ghosts S → Held S → Held S → Error → Type 0
+FailsToCreate {S} g old new e =
+    (at : ℕ) × (at < length create_texts) × (between : Held S) × IsBare (stage at) (state g between).now × GoesOn (state g old) (state g between) × FailsToRun (create_text at) [] (state g between) (state g new) e
+
+-- one of the sheets of a text met this error, behind those before it
+abbrev pub FailsToAddSheets : {S : Type 0} → Ghosts S → ℤ → List ℕ → Held S → Held S → Error → Type 0
+FailsToAddSheets g mail text old new e =
+    (place : ℕ) × (place < sheet_count text) × FailsAfter g (AddsFirstSheets place mail text) add_sheet_text (Int mail ∷ Int (pos place) ∷ Blob (octets_at text place) ∷ []) old new e
+
+-- the query met this error, or showed rows for whose records there was no memory
+abbrev pub FailsToRead : List ℕ → Row → State → State → Error → Type 0
+FailsToRead text params old new e = FailsToQuery text params old new e ⊎ (IsWantOfMemory e × (rows : List Row) × Shown text params old new rows)
+
+-- the query met this error, or showed a number for which there was no memory
+abbrev pub FailsToCount : List ℕ → Row → State → State → Error → Type 0
+FailsToCount text params old new e = FailsToQuery text params old new e ⊎ (IsWantOfMemory e × (row : Row) × QueriesRow text params old new (Ok row))
+
+-- the query met this error, or showed rows; and where each holds what its record is made of, there was no memory for a record
+abbrev pub FailsToReadAs : (Row → Type 0) → List ℕ → Row → State → State → Error → Type 0
+FailsToReadAs Holds text params old new e = FailsToQuery text params old new e ⊎ ((rows : List Row) × Shown text params old new rows × (AllByRecursion Holds rows → IsWantOfMemory e))

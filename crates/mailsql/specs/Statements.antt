@@ -1,0 +1,174 @@
+-- The texts of the statements; ?1 is the first parameter.
+use Rattle.std.specs.Prelude.{ℕ, List, codes}
+
+-- ---- the transaction
+
+-- it begins
+abbrev pub begin_text : List ℕ
+begin_text = codes "BEGIN"
+
+-- it is committed
+abbrev pub commit_text : List ℕ
+commit_text = codes "COMMIT"
+
+-- it is rolled back
+abbrev pub rollback_text : List ℕ
+rollback_text = codes "ROLLBACK"
+
+-- ---- meta
+
+-- a mark comes
+abbrev pub add_mark_text : List ℕ
+add_mark_text = codes "INSERT INTO meta (name, value) VALUES (?1, ?2)"
+
+-- the mark of a name
+abbrev pub find_mark_text : List ℕ
+find_mark_text = codes "SELECT name, value FROM meta WHERE name = ?1 ORDER BY rowid"
+
+-- every mark
+abbrev pub all_marks_text : List ℕ
+all_marks_text = codes "SELECT name, value FROM meta ORDER BY rowid"
+
+-- ---- clerks
+
+-- a clerk comes
+abbrev pub add_clerk_text : List ℕ
+add_clerk_text = codes "INSERT INTO clerks (name, kind, secret) VALUES (?1, ?2, ?3)"
+
+-- the clerk of a name goes
+abbrev pub drop_clerk_text : List ℕ
+drop_clerk_text = codes "DELETE FROM clerks WHERE name = ?1"
+
+-- the clerk of a name
+abbrev pub find_clerk_text : List ℕ
+find_clerk_text = codes "SELECT name, kind, secret FROM clerks WHERE name = ?1 ORDER BY rowid"
+
+-- every clerk
+abbrev pub all_clerks_text : List ℕ
+all_clerks_text = codes "SELECT name, kind, secret FROM clerks ORDER BY rowid"
+
+-- how many clerks there are
+abbrev pub clerk_count_text : List ℕ
+clerk_count_text = codes "SELECT count(*) FROM clerks"
+
+-- ---- maildrops
+
+-- a name comes
+abbrev pub add_maildrop_text : List ℕ
+add_maildrop_text = codes "INSERT INTO maildrops (name) VALUES (?1)"
+
+-- a name goes
+abbrev pub drop_maildrop_text : List ℕ
+drop_maildrop_text = codes "DELETE FROM maildrops WHERE name = ?1"
+
+-- the name, if it is there
+abbrev pub find_maildrop_text : List ℕ
+find_maildrop_text = codes "SELECT name FROM maildrops WHERE name = ?1"
+
+-- every name
+abbrev pub all_maildrops_text : List ℕ
+all_maildrops_text = codes "SELECT name FROM maildrops ORDER BY rowid"
+
+-- every name, in the order of the octets
+abbrev pub maildrops_text : List ℕ
+maildrops_text = codes "SELECT name FROM maildrops ORDER BY name"
+
+-- how many names there are
+abbrev pub maildrop_count_text : List ℕ
+maildrop_count_text = codes "SELECT count(*) FROM maildrops"
+
+-- ---- counts
+
+-- a count comes
+abbrev pub add_count_text : List ℕ
+add_count_text = codes "INSERT INTO counts (maildrop, class, k) VALUES (?1, ?2, ?3)"
+
+-- the count of a class goes
+abbrev pub clear_count_text : List ℕ
+clear_count_text = codes "DELETE FROM counts WHERE maildrop = ?1 AND class = ?2"
+
+-- the count of a class
+abbrev pub find_count_text : List ℕ
+find_count_text = codes "SELECT maildrop, class, k FROM counts WHERE maildrop = ?1 AND class = ?2 ORDER BY rowid"
+
+-- every count
+abbrev pub all_counts_text : List ℕ
+all_counts_text = codes "SELECT maildrop, class, k FROM counts ORDER BY rowid"
+
+-- ---- deposits
+
+-- a deposit comes
+abbrev pub add_deposit_text : List ℕ
+add_deposit_text = codes "INSERT INTO deposits (maildrop, id, class, k, digest) VALUES (?1, ?2, ?3, ?4, ?5)"
+
+-- the deposit of an id
+abbrev pub find_deposit_text : List ℕ
+find_deposit_text = codes "SELECT maildrop, id, class, k, digest FROM deposits WHERE maildrop = ?1 AND id = ?2 ORDER BY rowid"
+
+-- every deposit
+abbrev pub all_deposits_text : List ℕ
+all_deposits_text = codes "SELECT maildrop, id, class, k, digest FROM deposits ORDER BY rowid"
+
+-- ---- mail
+
+-- a message comes
+abbrev pub add_message_text : List ℕ
+add_message_text = codes "INSERT INTO mail (maildrop, class, k, octets) VALUES (?1, ?2, ?3, ?4)"
+
+-- a message of a maildrop goes
+abbrev pub remove_message_text : List ℕ
+remove_message_text = codes "DELETE FROM mail WHERE key = ?1 AND maildrop = ?2"
+
+-- the messages of a maildrop
+abbrev pub heads_text : List ℕ
+heads_text = codes "SELECT key, maildrop, class, k, octets FROM mail WHERE maildrop = ?1 ORDER BY key"
+
+-- every message
+abbrev pub all_messages_text : List ℕ
+all_messages_text = codes "SELECT key, maildrop, class, k, octets FROM mail ORDER BY key"
+
+-- how many messages a maildrop has
+abbrev pub message_count_text : List ℕ
+message_count_text = codes "SELECT count(*) FROM mail WHERE maildrop = ?1"
+
+-- ---- sheets
+
+-- a sheet comes
+abbrev pub add_sheet_text : List ℕ
+add_sheet_text = codes "INSERT INTO sheets (mail, place, octets) VALUES (?1, ?2, ?3)"
+
+-- the sheets of a message go
+abbrev pub remove_sheets_text : List ℕ
+remove_sheets_text = codes "DELETE FROM sheets WHERE mail = ?1"
+
+-- the sheet of a message at a place
+abbrev pub find_sheet_text : List ℕ
+find_sheet_text = codes "SELECT mail, place, octets FROM sheets WHERE mail = ?1 AND place = ?2 ORDER BY rowid"
+
+-- every sheet
+abbrev pub all_sheets_text : List ℕ
+all_sheets_text = codes "SELECT mail, place, octets FROM sheets ORDER BY rowid"
+
+-- how many sheets there are
+abbrev pub sheet_count_text : List ℕ
+sheet_count_text = codes "SELECT count(*) FROM sheets"
+
+-- ---- rules
+
+-- a rule comes
+abbrev pub add_rule_text : List ℕ
+add_rule_text = codes "INSERT INTO rules (name, effect, clerk, maildrop, class, actions) VALUES (?1, ?2, ?3, ?4, ?5, ?6)"
+
+-- every rule goes
+abbrev pub clear_rules_text : List ℕ
+clear_rules_text = codes "DELETE FROM rules"
+
+-- every rule
+abbrev pub all_rules_text : List ℕ
+all_rules_text = codes "SELECT place, name, effect, clerk, maildrop, class, actions FROM rules ORDER BY place"
+
+-- ---- sqlite_sequence
+
+-- how far each table is counted
+abbrev pub all_sequences_text : List ℕ
+all_sequences_text = codes "SELECT name, seq FROM sqlite_sequence ORDER BY rowid"
