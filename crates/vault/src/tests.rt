@@ -1,9 +1,5 @@
 //! What no clause says: that the calls succeed where there is memory, and the sample store's deposits, counts and pages.
-use crate::deposits::{ask, judge};
-use crate::{
-    Deposited, Head, Keyed, Message, MessageKey, PlainVault, Receipt, Refusing, Total, Vault,
-    VaultFault,
-};
+use crate::{Deposited, Head, MessageKey, PlainVault, Refusing, Total, Vault, VaultFault};
 use creds::{Credential, DepositId, Name, Secret, Uid};
 use mailtext::canon;
 use policy::Policy;
@@ -281,45 +277,35 @@ fn maildrops_and_clerks_up_to_a_thousand(rt: HostRuntime) -> Result<(), Fail> {
     Ok(())
 }
 
-/// A message of the class `note` in the maildrop `orders`.
-fn message(alloc: Global, number: u64) -> Result<Keyed, Fail> {
-    Ok(Keyed {
-        key: MessageKey::new(number),
-        message: Message {
-            maildrop: name("orders")?,
-            class: name("note")?,
-            k: number,
-            text: canon(alloc, b"x")?,
-        },
-    })
+/// Deposits of the class `note` under so many ids, each of a new message: whether each was answered its unique-id.
+fn are_new<V: Vault>(alloc: Global, vault: &mut V, count: u64) -> Result<bool, Fail> {
+    let class = name("note")?;
+    for k in 1..=count {
+        let id = format!(in alloc; "d{k}")?;
+        let answer = deposit(alloc, vault, "note", id.as_str(), "x")?;
+        if answer != Ok(Deposited::New(Uid { class, k })) {
+            return Ok(false);
+        }
+    }
+    Ok(true)
 }
 
+/// In a full maildrop a new id is refused, and the ids that it has are still known.
 #[test]
-fn messages_up_to_ten_thousand(rt: HostRuntime) -> Result<(), Fail> {
+fn deposits_up_to_ten_thousand(rt: HostRuntime) -> Result<(), Fail> {
     let alloc = rt.alloc();
-    let maildrop = name("orders")?;
+    let mut vault = PlainVault::new(alloc);
+    vault.add_maildrop(&name("orders")?)?;
+    assert!(rt; are_new(alloc, &mut vault, 10_000)?);
+    let one_more = deposit(alloc, &mut vault, "note", "d10001", "x")?;
+    assert!(rt; one_more == Err(VaultFault::Full));
     let class = name("note")?;
-    let text = canon(alloc, b"x")?;
-    let known = ask(&maildrop, &class, &deposit_id("d1")?, &text);
-    let asked = ask(&maildrop, &class, &deposit_id("d2")?, &text);
-    let receipt = Receipt {
-        maildrop,
-        id: known.id,
-        class,
-        k: 1,
-        digest: known.digest,
-    };
-    let mut messages = Vec::new(alloc);
-    for number in 1..10_000u64 {
-        messages.push(message(alloc, number)?)?;
+    for (id, k) in [("d1", 1), ("d10000", 10_000)] {
+        let known = Deposited::Known(Uid { class, k });
+        let answer = deposit(alloc, &mut vault, "note", id, "x")?;
+        assert!(rt; answer == Ok(known), "{id}");
     }
-    let new = Deposited::New(Uid { class, k: 2 });
-    assert!(rt; judge(&[maildrop], &messages, &[receipt], &asked) == Ok(new));
-    messages.push(message(alloc, 10_000)?)?;
-    let full = Err(VaultFault::Full);
-    assert!(rt; judge(&[maildrop], &messages, &[receipt], &asked) == full);
-    let same = Deposited::Known(Uid { class, k: 1 });
-    assert!(rt; judge(&[maildrop], &messages, &[receipt], &known) == Ok(same));
+    assert_eq!(rt; vault.heads(&name("orders")?)?.len(), 10_000);
     Ok(())
 }
 
