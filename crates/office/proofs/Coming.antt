@@ -1,4 +1,4 @@
--- Connections that come and go, and events that nothing comes of.
+-- Connections that come, locks that are let go, and events that nothing comes of.
 use Rattle.std.proofs.Common.{◌≡◌, ℕ, ◌+◌, ◌<◌, ◌≤◌, Bool, true, false, cond, List, [], ◌∷◌, map, refl, sym, ◌∙◌, ap, ap₂, arith, subst, true≢false, Option, Some, None, Result, Ok, Err, lt-ltb, le-leb, ◌^◌, eqb, eqb-true, eq-eqb, ⊎_elim, string_bytes, nat_cmp}
 use Rattle.std.proofs.lemmas.Bool.{cases_Bool}
 use Rattle.std.proofs.lemmas.Bool.Decides.{nat_tests}
@@ -18,15 +18,16 @@ use Rattle.office.specs.Sessions.{live, login, holds, holder}
 use Rattle.office.specs.Told.{told}
 use Rattle.office.specs.Events.{Event, Mark, Ignored, Tagged, Trace, given}
 use Rattle.office.specs.Events as event
-use Rattle.office.specs.Log.{opened, idle_seconds, stream, taken, next_number}
+use Rattle.office.specs.Log.{opened, idle_seconds, moment, stream, taken, clock, next_number}
 use Rattle.office.specs.Trace.{acts, history}
 use Rattle.office.specs.Formed.{is_formed, are_formed, is_u64}
 use Rattle.office.specs.Answered.{name_cmp}
 use Rattle.office.specs.Kept.{Kept, nothing_said, maildrop_of}
 use Rattle.office.specs.Locks.{Released}
-use Rattle.office.specs.Stands.{Seen, seen, seen_at, IsSession, Matches, IsOver, IsKeptFor, Keeps, StandsFor}
+use Rattle.office.specs.Stands.{Seen, seen, seen_at, IsSession, Matches, IsKeptFor, Keeps, StandsFor}
 use Rattle.office.specs.declared.office.Office.{Office}
 use Rattle.office.proofs.Laws.{one_holder}
+use Rattle.office.proofs.Standing.{counters}
 use Rattle.office.proofs.Locked.{IsLock, lock_found, holder_is}
 
 -- ---- locks
@@ -87,11 +88,12 @@ module _ (B : Records) (H H' : List (Act × Tag)) where
 record Log : Type 0 where
   octets : List ℕ
   took : ℕ
-  number : ℕ
+  clock : ℕ
+  number : ℕ × ℕ
   idle : ℕ
 
 abbrev log : Trace → ℕ → Log
-log T q = record { octets = stream T.log q; took = taken T.log q; number = opened T.log; idle = idle_seconds T.log }
+log T q = record { octets = stream T.log q; took = taken T.log q; clock = clock T.log q; number = (opened T.log, moment T.log); idle = idle_seconds T.log }
 
 -- no act, and the connections gave and took what they did
 pub record Nothing (T : Trace) (e : Event) (m : Mark) : Type 0 where
@@ -101,14 +103,14 @@ pub record Nothing (T : Trace) (e : Event) (m : Mark) : Type 0 where
 
 pub nothing_stands : {V : Type 0} (Holds : V → Contents → Type 0) (o o' : Office V) (T : Trace) (e : Event) (m : Mark) → (st : StandsFor Holds o T)
     → Nothing T e m → ((k : Contents) → Holds o.vault k → Holds o'.vault k) → o'.policy ≡ o.policy → o'.boot ≡ o.boot → string_bytes o'.host ≡ string_bytes o.host
-    → o'.limits ≡ o.limits → o'.opened ≡ o.opened → ((q : ℕ) → get nat_cmp o'.links q ≡ get nat_cmp o.links q)
+    → o'.limits ≡ o.limits → counters o' ≡ counters o → ((q : ℕ) → get nat_cmp o'.links q ≡ get nat_cmp o.links q)
     → ((d : List ℕ) → get name_cmp o'.locks d ≡ get name_cmp o.locks d) → StandsFor Holds o' (given T e m)
 nothing_stands Holds o o' T e m st n on p b s l k links locks =
     let T' = given T e m in
     let same : history T' ≡ history T = ap (told T.base) n.acts in
     let looks : (q : ℕ) → seen T' q ≡ seen T q = λ q.
-    ap₂ (λ (x : Log) (G : List Entry). record (seen_at T.base T.log G q) { stream = x.octets; taken = x.took }) (n.log q) same in
-    let number : opened T'.log ≡ opened T.log = ap (λ (x : Log). x.number) (n.log 0) in
+    ap₂ (λ (x : Log) (G : List Entry). record (seen_at T.base T.log G q) { stream = x.octets; taken = x.took; clock = x.clock }) (n.log q) same in
+    let number : (opened T'.log, moment T'.log) ≡ (opened T.log, moment T.log) = ap (λ (x : Log). x.number) (n.log 0) in
     let idle : idle_seconds T'.log ≡ idle_seconds T.log = ap (λ (x : Log). x.idle) (n.log 0) in
     record {
       keeps = record { contents = st.keeps.contents; held = on st.keeps.contents st.keeps.held; agree = rw same st.keeps.agree; sound = st.keeps.sound; formed = n.formed };
@@ -116,8 +118,9 @@ nothing_stands Holds o o' T e m st n on p b s l k links locks =
       boot = b ∙ rw same st.boot;
       host = s ∙ rw same st.host;
       idle = l ∙ (st.idle ∙ sym idle);
-      numbered = λ q some. rw number (st.numbered q (rw (links q) at some));
-      opened = k ∙ (st.opened ∙ sym number);
+      moment = ap (λ (x : ℕ × ℕ). x.1) k ∙ (st.moment ∙ ap (λ (x : ℕ × ℕ). x.1) (sym number));
+      numbered = λ q some. let same : opened T'.log ≡ opened T.log = ap (λ (x : ℕ × ℕ). x.0) number in rw same (st.numbered q (rw (links q) at some));
+      opened = ap (λ (x : ℕ × ℕ). x.0) k ∙ (st.opened ∙ ap (λ (x : ℕ × ℕ). x.0) (sym number));
       links = λ q. rw (looks q, links q) (st.links q);
       locks = λ d. locks d ∙ (st.locks d ∙ ap (λ G. holder G d) (sym same));
     }
@@ -140,9 +143,9 @@ ignored_event T e f = record { acts = refl; log = λ q. ignored_log T e q; forme
 pub lacked_connect : (T : Trace) → is_formed T.log event.Connect ≡ true → are_formed T.log ≡ true → Nothing T event.Connect (Tagged NoMemory)
 lacked_connect T n f = record { acts = refl; log = λ q. refl; formed = rw n f }
 
--- ---- a connection goes
+-- ---- another connection
 
-is_apart : (c q : ℕ) → eqb c q ≡ false → is_at (nat_cmp c) q ≡ false
+pub is_apart : (c q : ℕ) → eqb c q ≡ false → is_at (nat_cmp c) q ≡ false
 is_apart c q h = grind (arith, nat_tests, h)
 
 -- what was looked at stands where it stood
@@ -152,46 +155,6 @@ put_back c k before now found u q = ⊎_elim
     (λ e. u.2 q (is_apart c q e))
     (cases_Bool (eqb c q))
 
-module _ {V : Type 0} (Holds : V → Contents → Type 0) (o o' : Office V) (T : Trace) (c : ℕ) where
-  abbrev without : Trace
-  without = given T (event.Gone c) (Tagged Done)
-
-  gone_other : (q : ℕ) → eqb c q ≡ false → seen without q ≡ seen T q
-  gone_other q e = rw e refl
-
-  gone_holds : (d : List ℕ) (q : ℕ) → eqb c q ≡ false → holds (history without) d q ≡ holds (history T) d q
-  gone_holds d q e = rw e refl
-
-  gone_none : (d : List ℕ) → holds (history without) d c ≡ false
-  gone_none d = let e = eq-eqb c c refl in rw e refl
-
-  gone_over : IsOver (seen without c)
-  gone_over = let e = eq-eqb c c refl in record { closed = rw e refl; outside = rw e refl }
-
-  pub gone_stands : (st : StandsFor Holds o T) (k : Kept) → get nat_cmp o.links c ≡ Some k → ((k : Contents) → Holds o.vault k → Holds o'.vault k)
-      → o'.policy ≡ o.policy → o'.boot ≡ o.boot → string_bytes o'.host ≡ string_bytes o.host → o'.limits ≡ o.limits → o'.opened ≡ o.opened
-      → Updates nat_cmp o.links o'.links c None → Released (maildrop_of k.session) o.locks o'.locks → StandsFor Holds o' without
-  gone_stands st k found on p b s l n u r =
-      let m : Matches st.keeps.contents (seen T c) k = subst (IsKeptFor st.keeps.contents (seen T c)) found (st.links c) in
-      let there : (q : ℕ) → eqb c q ≡ false → get nat_cmp o'.links q ≡ get nat_cmp o.links q = λ q e. u.2 q (is_apart c q e) in
-      record {
-        keeps = record { contents = st.keeps.contents; held = on st.keeps.contents st.keeps.held; agree = st.keeps.agree; sound = st.keeps.sound; formed = st.keeps.formed };
-        policy = p ∙ st.policy;
-        boot = b ∙ st.boot;
-        host = s ∙ st.host;
-        idle = l ∙ st.idle;
-        numbered = λ q some. ⊎_elim
-            (λ e. let none : get nat_cmp o'.links q ≡ None = subst (λ x. get nat_cmp o'.links x ≡ None) (eqb-true c q e) u.1 in absurd (true≢false (sym (rw none at some))))
-            (λ e. st.numbered q (rw (there q e) at some))
-            (cases_Bool (eqb c q));
-        opened = n ∙ st.opened;
-        links = λ q. ⊎_elim
-            (λ e. subst (λ x. IsKeptFor st.keeps.contents (seen without x) (get nat_cmp o'.links x)) (eqb-true c q e) (rw u.1 gone_over))
-            (λ e. rw (gone_other q e, there q e) (st.links q))
-            (cases_Bool (eqb c q));
-        locks = released T.base (acts T) (acts without) c gone_holds gone_none st.keeps.contents (seen T c) k.session o.locks o'.locks m.session refl refl st.locks r;
-      }
-
 -- ---- a connection comes
 
 cut_anew : (ps : List (List ℕ)) → map cut_of ps ≡ map cut_of (prefixed [] ps)
@@ -199,14 +162,15 @@ cut_anew [] = refl
 cut_anew (p ∷ ps) = refl
 
 -- what is kept of it is a greeting to send
-abbrev pub greeted : ℕ → ℕ → List ℕ → Kept
-greeted c boot host = record {
+abbrev pub greeted : ℕ → ℕ → List ℕ → (now : ℕ) → Kept
+greeted c boot host now = record {
   held = nothing_held;
   pending = [];
   owed = bytes_of (Greeting c boot host);
   talk = nothing_said;
   stamp = timestamp c boot host;
   session = None;
+  clock = now;
 }
 
 module _ {V : Type 0} (Holds : V → Contents → Type 0) (o o' : Office V) (T : Trace) (st : StandsFor Holds o T) where
@@ -229,7 +193,7 @@ module _ {V : Type 0} (Holds : V → Contents → Type 0) (o o' : Office V) (T :
   unheard None e h = h.outside
   unheard (Some k) e h = absurd (let fits = (st.numbered newest (rw e refl)).1 in omega (arith, fits))
 
-  come_matches : Matches st.keeps.contents (seen with_one newest) (greeted newest (boot_and_host (history T)).0 (boot_and_host (history T)).1)
+  come_matches : Matches st.keeps.contents (seen with_one newest) (greeted newest (boot_and_host (history T)).0 (boot_and_host (history T)).1 (moment T.log))
   come_matches = let e = eq-eqb newest newest refl in record {
     opened = rw e refl;
     session = rw e refl;
@@ -240,31 +204,34 @@ module _ {V : Type 0} (Holds : V → Contents → Type 0) (o o' : Office V) (T :
     user = rw e refl;
     failures = rw e refl;
     stamp = refl;
+    clock = rw e refl;
     lines = λ more. rw e (cut_anew (pieces more));
     cut_whole = λ h. refl;
     line_kept = omega arith;
     piece_kept = omega arith;
   }
 
-  pub come_stands : (n : ℕ) (k : Kept) → n ≡ newest → k ≡ greeted n o.boot (string_bytes o.host) → is_formed T.log event.Connect ≡ true
+  pub come_stands : (n : ℕ) (k : Kept) → n ≡ newest → k ≡ greeted n o.boot (string_bytes o.host) o.moment → is_formed T.log event.Connect ≡ true
       → ((k : Contents) → Holds o.vault k → Holds o'.vault k) → o'.policy ≡ o.policy → o'.boot ≡ o.boot → string_bytes o'.host ≡ string_bytes o.host → o'.limits ≡ o.limits
-      → o'.opened ≡ n → Updates nat_cmp o.links o'.links n (Some k) → ((d : List ℕ) → get name_cmp o'.locks d ≡ get name_cmp o.locks d) → StandsFor Holds o' with_one
+      → counters o' ≡ (n, o.moment) → Updates nat_cmp o.links o'.links n (Some k) → ((d : List ℕ) → get name_cmp o'.locks d ≡ get name_cmp o.locks d) → StandsFor Holds o' with_one
   come_stands n k number kept formed on p b s l m u locks =
       let at : Updates nat_cmp o.links o'.links newest (Some k) = subst (λ x. Updates nat_cmp o.links o'.links x (Some k)) number u in
       let there : (q : ℕ) → eqb newest q ≡ false → get nat_cmp o'.links q ≡ get nat_cmp o.links q = λ q e. at.2 q (is_apart newest q e) in
-      let here : k ≡ greeted newest (boot_and_host (history T)).0 (boot_and_host (history T)).1 =
-      kept ∙ (ap (λ x. greeted x o.boot (string_bytes o.host)) number ∙ (ap (λ x. greeted newest x (string_bytes o.host)) st.boot ∙ ap (greeted newest (boot_and_host (history T)).0) st.host)) in
+      let here : k ≡ greeted newest (boot_and_host (history T)).0 (boot_and_host (history T)).1 (moment T.log) =
+      kept ∙ (ap (λ x. greeted x o.boot (string_bytes o.host) o.moment) number ∙ (ap (λ x. greeted newest x (string_bytes o.host) o.moment) st.boot
+      ∙ (ap (λ x. greeted newest (boot_and_host (history T)).0 x o.moment) st.host ∙ ap (greeted newest (boot_and_host (history T)).0 (boot_and_host (history T)).1) st.moment))) in
       record {
         keeps = record { contents = st.keeps.contents; held = on st.keeps.contents st.keeps.held; agree = st.keeps.agree; sound = st.keeps.sound; formed = rw formed st.keeps.formed };
         policy = p ∙ st.policy;
         boot = b ∙ st.boot;
         host = s ∙ st.host;
         idle = l ∙ st.idle;
+        moment = ap (λ (x : ℕ × ℕ). x.1) m ∙ st.moment;
         numbered = λ q some. ⊎_elim
             (λ e. subst (λ x. (1 ≤ x) × (x ≤ newest)) (eqb-true newest q e) (omega arith, omega arith))
             (λ e. let fits = st.numbered q (rw (there q e) at some) in (fits.0, omega (arith, fits.1)))
             (cases_Bool (eqb newest q));
-        opened = m ∙ number;
+        opened = ap (λ (x : ℕ × ℕ). x.0) m ∙ number;
         links = λ q. ⊎_elim
             (λ e. subst (λ x. IsKeptFor st.keeps.contents (seen with_one x) (get nat_cmp o'.links x)) (eqb-true newest q e)
             (subst (IsKeptFor st.keeps.contents (seen with_one newest)) (sym (at.1 ∙ ap Some here)) come_matches))
@@ -303,7 +270,7 @@ start_formed T host boot idle h fits low high =
     rw (h, b, le-leb 600 idle low, le-leb idle 86400 high) refl
 
 pub start_stands : {V : Type 0} (Holds Before : V → Contents → Type 0) (v : V) (o : Office V) (T : Trace) (host : List ℕ) (boot idle : ℕ) → (k : Keeps (Before v) T)
-    → Holds o.vault k.contents → o.policy ≡ k.contents.policy → o.boot ≡ boot → string_bytes o.host ≡ host → o.limits ≡ idle → o.opened ≡ 0
+    → Holds o.vault k.contents → o.policy ≡ k.contents.policy → o.boot ≡ boot → string_bytes o.host ≡ host → o.limits ≡ idle → counters o ≡ (0, 0)
     → is_formed T.log (event.Start host boot idle) ≡ true → ((q : ℕ) → get nat_cmp o.links q ≡ None) → ((d : List ℕ) → get name_cmp o.locks d ≡ None)
     → StandsFor Holds o (given T (event.Start host boot idle) (Tagged Done))
 start_stands Holds Before v o T host boot idle k held p b s l n formed links locks =
@@ -314,8 +281,9 @@ start_stands Holds Before v o T host boot idle k held p b s l n formed links loc
       boot = b;
       host = s;
       idle = l;
+      moment = ap (λ (x : ℕ × ℕ). x.1) n;
       numbered = λ q some. let none = links q in absurd (true≢false (sym (rw none at some)));
-      opened = n;
+      opened = ap (λ (x : ℕ × ℕ). x.0) n;
       links = λ q. let none = links q in rw none (record { closed = refl; outside = refl });
       locks = λ d. locks d ∙ sym (holder_is T.base (acts T') d None (λ q. refl));
     }

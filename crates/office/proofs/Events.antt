@@ -19,10 +19,10 @@ use Rattle.office.specs.Formed.{is_formed}
 use Rattle.office.specs.Replying.{is_empty, reply_to_cut, said_to_line, stamp}
 use Rattle.office.specs.Told.{told}
 use Rattle.office.specs.Events.{Trace, Event, Bytes, Took, Mark, Tagged, given}
-use Rattle.office.specs.Log.{opened, idle_seconds, stream, taken}
+use Rattle.office.specs.Log.{opened, idle_seconds, moment, stream, taken, clock}
 use Rattle.office.specs.Trace.{acts, history, line_act, act_of_part, acts_of_piece, acts_of_took, next_line, is_left, is_open, untaken}
 use Rattle.office.specs.Expected.{most_in_a_piece, ignored}
-use Rattle.office.specs.Kept.{Kept}
+use Rattle.office.specs.Kept.{Kept, clocked}
 use Rattle.office.specs.Answered.{name_cmp, tag_of, shown_of}
 use Rattle.vault.specs.Calls.{has_grown}
 use Rattle.office.specs.Outcomes.{Outcome, mark_of, HasCause}
@@ -30,6 +30,7 @@ use Rattle.office.specs.Stands.{Seen, seen, Matches, IsSession, IsOver, IsKeptFo
 use Rattle.office.specs.declared.office.Office.{Office}
 use Rattle.office.specs.declared.talk.Acted.{Acted}
 use Rattle.office.specs.declared.talk.Acted.TheVariants as acted
+use Rattle.office.proofs.Standing.{counters, counted}
 use Rattle.office.proofs.Hearing.{streamed, took, lined, at_drop, Awaits, open_still}
 
 -- what a history says of a connection
@@ -69,8 +70,9 @@ pub record Whole : Type 0 where
 abbrev pub whole : Records → List (Act × Tag) → Whole
 whole B H = record { office = boot_and_host (told B H); rules = in_force B (told B H) }
 
-abbrev seen_by : List ℕ → ℕ → Facts → Seen
-seen_by octets took f = record {
+-- these with what the log says: the octets, how many were taken, and the clock
+abbrev pub seen_by : List ℕ → ℕ → (clock : ℕ) → Facts → Seen
+seen_by octets took clock f = record {
   connected = f.connected;
   closing = f.closing;
   live = f.live;
@@ -84,6 +86,7 @@ seen_by octets took f = record {
   login = f.login;
   marks = f.marks;
   view = f.view;
+  clock = clock;
 }
 
 -- a line that met want of memory ends its session
@@ -169,22 +172,22 @@ line_entry T c x w = record { act = Line c x; tag = tag_of w; said = said_to_lin
 module _ (T : Trace) (c : ℕ) (p : List ℕ) where
   pub seen-bytes_other : (q : ℕ) (t : Tag) → eqb c q ≡ false → seen (given T (Bytes c p) (Tagged t)) q ≡ seen T q
   seen-bytes_other q t e =
-      let s : stream (given T (Bytes c p) (Tagged t)).log q ≡ stream T.log q = rw e refl in
-      ap₂ (λ octets f. seen_by octets (taken T.log q) f) s (piece_other T.base (acts T) c q t (next_line T.log (history T) c p) (has_newline p) e)
+      let s : (stream (given T (Bytes c p) (Tagged t)).log q, clock (given T (Bytes c p) (Tagged t)).log q) ≡ (stream T.log q, clock T.log q) = rw e refl in
+      ap₂ (λ (x : List ℕ × ℕ) f. seen_by x.0 (taken T.log q) x.1 f) s (piece_other T.base (acts T) c q t (next_line T.log (history T) c p) (has_newline p) e)
 
   pub whole-bytes : (t : Tag) → whole T.base (acts (given T (Bytes c p) (Tagged t))) ≡ whole T.base (acts T)
   whole-bytes t = piece_whole T.base (acts T) c t (next_line T.log (history T) c p) (has_newline p)
 
-  pub seen-bytes_part : has_newline p ≡ false → seen (given T (Bytes c p) (Tagged Done)) c ≡ streamed (seen T c) p
-  seen-bytes_part h = let e = eq-eqb c c refl in rw (h, e) refl
+  pub seen-bytes_part : has_newline p ≡ false → (now : ℕ) → seen (given T (Bytes c p) (Tagged Done)) c ≡ streamed (seen T c) p now
+  seen-bytes_part h now = let e = eq-eqb c c refl in rw (h, e) refl
 
   pub records-bytes_part : (t : Tag) → has_newline p ≡ false → records T.base (history (given T (Bytes c p) (Tagged t))) ≡ records T.base (history T)
   records-bytes_part t h = rw h refl
 
-  pub seen-bytes_line : (w : Acted) (x : Cut) → has_newline p ≡ true → next_line T.log (history T) c p ≡ Some x
-      → seen (given T (Bytes c p) (Tagged (tag_of w))) c ≡ lined (streamed (seen T c) p) x (reply_to_cut T.base (history T) c x (tag_of w)) (finds_by T)
-  seen-bytes_line acted.Done x h n = let e = eq-eqb c c refl in rw (h, n, e) refl
-  seen-bytes_line acted.Failed x h n = let e = eq-eqb c c refl in rw (h, n, e) refl
+  pub seen-bytes_line : (now : ℕ) → now ≡ moment T.log → (w : Acted) (x : Cut) → has_newline p ≡ true → next_line T.log (history T) c p ≡ Some x
+      → seen (given T (Bytes c p) (Tagged (tag_of w))) c ≡ lined (streamed (seen T c) p now) x (reply_to_cut T.base (history T) c x (tag_of w)) (finds_by T)
+  seen-bytes_line now same acted.Done x h n = let e = eq-eqb c c refl in rw (same, h, n, e) refl
+  seen-bytes_line now same acted.Failed x h n = let e = eq-eqb c c refl in rw (same, h, n, e) refl
 
   pub records-bytes_line : (w : Acted) (x : Cut) → has_newline p ≡ true → next_line T.log (history T) c p ≡ Some x
       → records T.base (history (given T (Bytes c p) (Tagged (tag_of w)))) ≡ records T.base (line_entry T c x w ∷ history T)
@@ -233,24 +236,26 @@ pub record Moves {V : Type 0} (Holds : V → Contents → Type 0) (o o' : Office
   pub locks : (d : List ℕ) → get name_cmp o'.locks d ≡ holder (history T') d
 
 moved_so : {V : Type 0} (Holds : V → Contents → Type 0) (o o' : Office V) (T : Trace) (e : Event) (t : Tag) (c : ℕ) → (st : StandsFor Holds o T) → is_formed T.log e ≡ true
-    → o'.policy ≡ o.policy → o'.boot ≡ o.boot → string_bytes o'.host ≡ string_bytes o.host → o'.limits ≡ o.limits → o'.opened ≡ o.opened
+    → o'.policy ≡ o.policy → o'.boot ≡ o.boot → string_bytes o'.host ≡ string_bytes o.host → o'.limits ≡ o.limits → counters o' ≡ counters o
     → whole T.base (acts (given T e (Tagged t))) ≡ whole T.base (acts T) → idle_seconds (given T e (Tagged t)).log ≡ idle_seconds T.log
-    → opened (given T e (Tagged t)).log ≡ opened T.log → IsSome (get nat_cmp o.links c)
+    → counted (given T e (Tagged t)).log ≡ counted T.log → IsSome (get nat_cmp o.links c)
     → ((q : ℕ) → eqb c q ≡ false → seen (given T e (Tagged t)) q ≡ seen T q) → ((q : ℕ) → (c ≡ q → ⊥) → get nat_cmp o'.links q ≡ get nat_cmp o.links q)
     → Moves Holds o o' T st.keeps.contents c (given T e (Tagged t)) → StandsFor Holds o' (given T e (Tagged t))
 moved_so Holds o o' T e t c st formed p b h l n same idle number there others links m =
     let rules : in_force T.base (history (given T e (Tagged t))) ≡ in_force T.base (history T) = ap (λ (w : Whole). w.rules) same in
+    let newest : opened (given T e (Tagged t)).log ≡ opened T.log = ap (λ (x : ℕ × ℕ). x.0) number in
     record {
       keeps = record { contents = m.contents; held = m.held; agree = m.agree; sound = st.keeps.sound; formed = rw formed st.keeps.formed };
       policy = p ∙ (st.policy ∙ sym rules);
       boot = b ∙ (st.boot ∙ ap (λ (w : Whole). w.office.0) (sym same));
       host = h ∙ (st.host ∙ ap (λ (w : Whole). w.office.1) (sym same));
       idle = l ∙ (st.idle ∙ sym idle);
+      moment = ap (λ (x : ℕ × ℕ). x.1) n ∙ (st.moment ∙ ap (λ (x : ℕ × ℕ). x.1) (sym number));
       numbered = λ q. ⊎_elim
-          (λ (e : c ≡ q) some. rw (number, sym e) (st.numbered c there))
-          (λ (ne : c ≡ q → ⊥) some. rw number (st.numbered q (rw (links q ne) at some)))
+          (λ (e : c ≡ q) some. rw (newest, sym e) (st.numbered c there))
+          (λ (ne : c ≡ q → ⊥) some. rw newest (st.numbered q (rw (links q ne) at some)))
           (cases_eq c q);
-      opened = n ∙ (st.opened ∙ sym number);
+      opened = ap (λ (x : ℕ × ℕ). x.0) n ∙ (st.opened ∙ sym newest);
       links = λ q. ⊎_elim
           (λ (same : c ≡ q). subst (λ q. IsKeptFor m.contents (seen (given T e (Tagged t)) q) (get nat_cmp o'.links q)) same m.here)
           (λ (ne : c ≡ q → ⊥). rw (others q (ne_eqb c q ne), links q ne) (m.carried q (ne_eqb c q ne) (st.links q)))
@@ -260,9 +265,9 @@ moved_so Holds o o' T e t c st formed p b h l n same idle number there others li
 
 -- where only one connection changes, it is enough to look at that
 pub moved : {V : Type 0} (Holds : V → Contents → Type 0) (o o' : Office V) (T : Trace) (e : Event) (m : Mark) (t : Tag) (c : ℕ) → m ≡ Tagged t → (st : StandsFor Holds o T) → is_formed T.log e ≡ true
-    → o'.policy ≡ o.policy → o'.boot ≡ o.boot → string_bytes o'.host ≡ string_bytes o.host → o'.limits ≡ o.limits → o'.opened ≡ o.opened
+    → o'.policy ≡ o.policy → o'.boot ≡ o.boot → string_bytes o'.host ≡ string_bytes o.host → o'.limits ≡ o.limits → counters o' ≡ counters o
     → whole T.base (acts (given T e (Tagged t))) ≡ whole T.base (acts T) → idle_seconds (given T e (Tagged t)).log ≡ idle_seconds T.log
-    → opened (given T e (Tagged t)).log ≡ opened T.log → IsSome (get nat_cmp o.links c)
+    → counted (given T e (Tagged t)).log ≡ counted T.log → IsSome (get nat_cmp o.links c)
     → ((q : ℕ) → eqb c q ≡ false → seen (given T e (Tagged t)) q ≡ seen T q) → ((q : ℕ) → (c ≡ q → ⊥) → get nat_cmp o'.links q ≡ get nat_cmp o.links q)
     → Moves Holds o o' T st.keeps.contents c (given T e (Tagged t)) → StandsFor Holds o' (given T e m)
 moved Holds o o' T e m t c mark st formed p b h l n same idle number there others links moves =
@@ -292,10 +297,11 @@ not_closing false b xs e h = absurd (true≢false (sym h))
 not_closing true true (x ∷ xs) e h = cc
 
 -- a piece that comes where nothing is owed
-pub awaits_bytes : (c : Contents) (s : Seen) (k : Kept) (p : List ℕ) → Matches c s k → k.owed ≡ [] → length p ≤ most_in_a_piece → Awaits c (streamed s p) k p
-awaits_bytes c s k p m o fits = record {
+pub awaits_bytes : (c : Contents) (s : Seen) (k : Kept) (p : List ℕ) (now : ℕ) → Matches c s k → k.owed ≡ [] → length p ≤ most_in_a_piece
+    → Awaits c (streamed s p now) (clocked now p k) p
+awaits_bytes c s k p now m o fits = record {
   opened = m.opened;
-  session = same_session c s (streamed s p) k.session refl refl refl refl m.session;
+  session = same_session c s (streamed s p now) k.session refl refl refl refl m.session;
   open_yet = not_closing s.connected s.closing (untaken_of s) (sym m.owed ∙ o) m.opened;
   taken = m.taken;
   nothing = o;
@@ -304,6 +310,7 @@ awaits_bytes c s k p m o fits = record {
   user = m.user;
   failures = m.failures;
   stamp = m.stamp;
+  clock = ap (λ x. cond (has_newline p) now x) m.clock;
   lines = λ more. rw append_assoc (m.lines (p ++ more) ∙ ap (λ q. coming k.held (q ++ (p ++ more))) (m.cut_whole o));
   piece = fits;
 }
@@ -325,8 +332,8 @@ module _ (T : Trace) (c n : ℕ) where
 
   pub seen-took_other : (q : ℕ) (t : Tag) → eqb c q ≡ false → seen (given T (Took c n) (Tagged t)) q ≡ seen T q
   seen-took_other q t e =
-      let k : taken (given T (Took c n) (Tagged t)).log q ≡ taken T.log q = rw e refl in
-      ap₂ (λ m f. seen_by (stream T.log q) m f) k (took_other T.base (acts T) c q t next now_left (serving (history T) c) (closing (history T) c) e)
+      let k : (taken (given T (Took c n) (Tagged t)).log q, clock (given T (Took c n) (Tagged t)).log q) ≡ (taken T.log q, clock T.log q) = rw e refl in
+      ap₂ (λ (x : ℕ × ℕ) f. seen_by (stream T.log q) x.0 x.1 f) k (took_other T.base (acts T) c q t next now_left (serving (history T) c) (closing (history T) c) e)
 
   pub whole-took : (t : Tag) → whole T.base (acts (given T (Took c n) (Tagged t))) ≡ whole T.base (acts T)
   whole-took t = took_whole T.base (acts T) c t next now_left (serving (history T) c) (closing (history T) c)
@@ -334,36 +341,39 @@ module _ (T : Trace) (c n : ℕ) where
   -- what the trace says of a connection after its Took, by whether something is left, whether a message is served, whether it is
   -- closing, and its next line
   abbrev after_took : (t : Tag) (a s b : Bool) (o : Option Cut) → Seen
-  after_took t a s b o = seen_by (stream T.log c) (taken T.log c + n) (facts T.base (acts_of_took a s b c t o ++ acts T) c)
+  after_took t a s b o = seen_by (stream T.log c) (taken T.log c + n) (moment T.log) (facts T.base (acts_of_took a s b c t o ++ acts T) c)
 
   seen-took : (t : Tag) (a b : Bool) (o : Option Cut) → now_left ≡ a → closing (history T) c ≡ b → next ≡ o
       → seen (given T (Took c n) (Tagged t)) c ≡ after_took t a (serving (history T) c) b o
   seen-took t a b o p q r =
       let s = serving (history T) c in
       let y = closing (history T) c in
-      ap (λ k. seen_by (stream T.log c) (cond k (taken T.log c + n) (taken T.log c)) (facts T.base (acts_of_took now_left s y c t next ++ acts T) c)) (eq-eqb c c refl)
+      ap (λ k. seen_by (stream T.log c) (cond k (taken T.log c + n) (taken T.log c)) (cond k (moment T.log) (clock T.log c)) (facts T.base (acts_of_took now_left s y c t next ++ acts T) c)) (eq-eqb c c refl)
       ∙ (ap (λ a. after_took t a s y next) p ∙ (ap (λ b. after_took t a s b next) q ∙ ap (λ o. after_took t a s b o) r))
 
-  part_done : (s b : Bool) (o : Option Cut) → after_took Done true s b o ≡ took (seen T c) n
+  at_moment : (now : ℕ) → now ≡ moment T.log → took (seen T c) n (moment T.log) ≡ took (seen T c) n now
+  at_moment now same = ap (took (seen T c) n) (sym same)
+
+  part_done : (s b : Bool) (o : Option Cut) → after_took Done true s b o ≡ took (seen T c) n (moment T.log)
   part_done true b o = refl
   part_done false b o = refl
 
   -- some of what is owed is taken
-  pub seen-took_part : now_left ≡ true → seen (given T (Took c n) (Tagged Done)) c ≡ took (seen T c) n
-  seen-took_part h = seen-took Done true (closing (history T) c) next h refl refl ∙ part_done (serving (history T) c) (closing (history T) c) next
+  pub seen-took_part : (now : ℕ) → now ≡ moment T.log → now_left ≡ true → seen (given T (Took c n) (Tagged Done)) c ≡ took (seen T c) n now
+  seen-took_part now same h = seen-took Done true (closing (history T) c) next h refl refl ∙ (part_done (serving (history T) c) (closing (history T) c) next ∙ at_moment now same)
 
   -- all is taken, and no line acts
-  pub seen-took_closing : now_left ≡ false → closing (history T) c ≡ true → seen (given T (Took c n) (Tagged Done)) c ≡ took (seen T c) n
-  seen-took_closing h b = seen-took Done false true next h b refl
+  pub seen-took_closing : (now : ℕ) → now ≡ moment T.log → now_left ≡ false → closing (history T) c ≡ true → seen (given T (Took c n) (Tagged Done)) c ≡ took (seen T c) n now
+  seen-took_closing now same h b = seen-took Done false true next h b refl ∙ at_moment now same
 
-  pub seen-took_none : now_left ≡ false → closing (history T) c ≡ false → next ≡ None → seen (given T (Took c n) (Tagged Done)) c ≡ took (seen T c) n
-  seen-took_none h b o = seen-took Done false false None h b o
+  pub seen-took_none : (now : ℕ) → now ≡ moment T.log → now_left ≡ false → closing (history T) c ≡ false → next ≡ None → seen (given T (Took c n) (Tagged Done)) c ≡ took (seen T c) n now
+  seen-took_none now same h b o = seen-took Done false false None h b o ∙ at_moment now same
 
   -- all is taken, and a line acts
-  pub seen-took_line : (w : Acted) (x : Cut) → now_left ≡ false → closing (history T) c ≡ false → next ≡ Some x
-      → seen (given T (Took c n) (Tagged (tag_of w))) c ≡ lined (took (seen T c) n) x (reply_to_cut T.base (history T) c x (tag_of w)) (finds_by T)
-  seen-took_line acted.Done x h b o = let e = eq-eqb c c refl in seen-took Done false false (Some x) h b o ∙ rw e refl
-  seen-took_line acted.Failed x h b o = let e = eq-eqb c c refl in seen-took Failed false false (Some x) h b o ∙ rw e refl
+  pub seen-took_line : (now : ℕ) → now ≡ moment T.log → (w : Acted) (x : Cut) → now_left ≡ false → closing (history T) c ≡ false → next ≡ Some x
+      → seen (given T (Took c n) (Tagged (tag_of w))) c ≡ lined (took (seen T c) n now) x (reply_to_cut T.base (history T) c x (tag_of w)) (finds_by T)
+  seen-took_line now same acted.Done x h b o = let e = eq-eqb c c refl in seen-took Done false false (Some x) h b o ∙ rw (e, same) refl
+  seen-took_line now same acted.Failed x h b o = let e = eq-eqb c c refl in seen-took Failed false false (Some x) h b o ∙ rw (e, same) refl
 
   -- the locks where no line acts
   part_holder : (s : Bool) (d : List ℕ) → holder (told T.base (act_of_part s c Done ++ acts T)) d ≡ holder (history T) d
@@ -409,8 +419,8 @@ module _ (T : Trace) (c n : ℕ) where
 taken_fits : (s : Seen) (n : ℕ) → n ≤ length (untaken_of s) → s.taken ≤ length s.sent → s.taken + n ≤ length s.sent
 taken_fits s n h le = omega (arith, h, length-drop s.taken s.sent)
 
-owed_took : (s : Seen) (n : ℕ) → untaken_of (took s n) ≡ drop n (untaken_of s)
-owed_took s n = sym (drop-drop n s.taken s.sent)
+owed_took : (s : Seen) (n now : ℕ) → untaken_of (took s n now) ≡ drop n (untaken_of s)
+owed_took s n now = sym (drop-drop n s.taken s.sent)
 
 open_connected : (a b : Bool) → (a && not b) ≡ true → a ≡ true
 open_connected true b e = refl
@@ -431,21 +441,22 @@ not_empty : (xs : List ℕ) → 0 < length xs → is_empty xs ≡ false
 not_empty [] h = absurd (omega arith)
 not_empty (x ∷ xs) h = refl
 
-pub part_took : (c : Contents) (s : Seen) (k : Kept) (n : ℕ) → Matches c s k → n < length (untaken_of s) → Matches c (took s n) (record k { owed = drop n k.owed })
-part_took c s k n m h =
-    let o = owed_took s n in
+pub part_took : (c : Contents) (s : Seen) (k : Kept) (n now : ℕ) → Matches c s k → n < length (untaken_of s) → Matches c (took s n now) (record k { owed = drop n k.owed; clock = now })
+part_took c s k n now m h =
+    let o = owed_took s n now in
     let some : 0 < length (drop n (untaken_of s)) = omega (arith, h, length-drop n (untaken_of s)) in
     let e = not_empty (drop n (untaken_of s)) some in
     record {
       opened = rw (o, e) (open_still s.connected (s.closing && is_empty (untaken_of s)) s.closing m.opened);
       taken = taken_fits s n (omega (arith, h)) m.taken;
       owed = ap (drop n) m.owed ∙ sym o;
-      session = same_session c s (took s n) k.session refl refl refl refl m.session;
+      session = same_session c s (took s n now) k.session refl refl refl refl m.session;
       parted = m.parted;
       closing = m.closing;
       user = m.user;
       failures = m.failures;
       stamp = m.stamp;
+      clock = refl;
       lines = m.lines;
       cut_whole = λ none. absurd (omega (arith, some, ap length (ap (drop n) (sym m.owed) ∙ none)));
       line_kept = m.line_kept;
@@ -453,28 +464,30 @@ part_took c s k n m h =
     }
 
 -- all is taken, and the connection isn't closing
-pub awaits_took : (c : Contents) (s : Seen) (k : Kept) (n : ℕ) → Matches c s k → n ≡ length (untaken_of s) → s.closing ≡ false → Awaits c (took s n) (record k { owed = drop n k.owed }) k.pending
-awaits_took c s k n m e b =
+pub awaits_took : (c : Contents) (s : Seen) (k : Kept) (n now : ℕ) → Matches c s k → n ≡ length (untaken_of s) → s.closing ≡ false
+    → Awaits c (took s n now) (record k { owed = drop n k.owed; clock = now }) k.pending
+awaits_took c s k n now m e b =
     let le : length (untaken_of s) ≤ n = omega (arith, e) in
     let none : drop n (untaken_of s) ≡ [] = drop_all n (untaken_of s) le in
     record {
-      opened = rw b (open_quiet s.connected (is_empty (untaken_of (took s n))) (open_connected s.connected (s.closing && is_empty (untaken_of s)) m.opened));
+      opened = rw b (open_quiet s.connected (is_empty (untaken_of (took s n now))) (open_connected s.connected (s.closing && is_empty (untaken_of s)) m.opened));
       taken = taken_fits s n (omega (arith, e)) m.taken;
       nothing = ap (drop n) m.owed ∙ none;
-      owed = owed_took s n ∙ none;
-      session = same_session c s (took s n) k.session refl refl refl refl m.session;
+      owed = owed_took s n now ∙ none;
+      session = same_session c s (took s n now) k.session refl refl refl refl m.session;
       open_yet = b;
       closing = m.closing;
       user = m.user;
       failures = m.failures;
       stamp = m.stamp;
+      clock = refl;
       lines = m.lines;
       piece = m.piece_kept;
     }
 
 -- all is taken, and the connection is closing
-pub closed_took : (s : Seen) (n : ℕ) → length (untaken_of s) ≤ n → s.closing ≡ true → is_seen_open (took s n) ≡ false
-closed_took s n le b = let none : drop n (untaken_of s) ≡ [] = drop_all n (untaken_of s) le in rw (owed_took s n, none, b) (and_false s.connected)
+pub closed_took : (s : Seen) (n now : ℕ) → length (untaken_of s) ≤ n → s.closing ≡ true → is_seen_open (took s n now) ≡ false
+closed_took s n now le b = let none : drop n (untaken_of s) ≡ [] = drop_all n (untaken_of s) le in rw (owed_took s n now, none, b) (and_false s.connected)
 
 -- no octet more is no other stream
 pub next_kept : (T : Trace) (c : ℕ) → next_line T.log (history T) c [] ≡ slice_get (cut (stream T.log c)) (acted (history T) c)

@@ -31,12 +31,12 @@ at_end zero (a ∷ xs) e = cc
 at_end (suc n) [] e = refl
 at_end (suc n) (a ∷ xs) e = at_end n xs e
 
--- what a trace says of a connection after more octets came, after some were taken, and after a line got this reply
-abbrev pub streamed : Seen → List ℕ → Seen
-streamed s p = record { connected = s.connected; closing = s.closing; live = s.live; stream = s.stream ++ p; acted = s.acted; sent = s.sent; taken = s.taken; user = s.user; failures = s.failures; stamp = s.stamp; login = s.login; marks = s.marks; view = s.view }
+-- what a trace says of a connection after more octets came at a moment, after some were taken, and after a line got this reply
+abbrev pub streamed : Seen → List ℕ → (now : ℕ) → Seen
+streamed s p now = record { connected = s.connected; closing = s.closing; live = s.live; stream = s.stream ++ p; acted = s.acted; sent = s.sent; taken = s.taken; user = s.user; failures = s.failures; stamp = s.stamp; login = s.login; marks = s.marks; view = s.view; clock = if has_newline p then now else s.clock }
 
-abbrev pub took : Seen → ℕ → Seen
-took s n = record { connected = s.connected; closing = s.closing; live = s.live; stream = s.stream; acted = s.acted; sent = s.sent; taken = s.taken + n; user = s.user; failures = s.failures; stamp = s.stamp; login = s.login; marks = s.marks; view = s.view }
+abbrev pub took : Seen → ℕ → (now : ℕ) → Seen
+took s n now = record { connected = s.connected; closing = s.closing; live = s.live; stream = s.stream; acted = s.acted; sent = s.sent; taken = s.taken + n; user = s.user; failures = s.failures; stamp = s.stamp; login = s.login; marks = s.marks; view = s.view; clock = now }
 
 -- `found` is what a login would find
 abbrev pub lined : Seen → Cut → Reply → (found : LoginName → List store.Message) → Seen
@@ -54,6 +54,7 @@ lined s x r found = record {
   login = login_after false (logs_in (reading x) (Says r) s.user) s.login;
   marks = marks_after_line (Says r) s.marks;
   view = view_after (logs_in (reading x) (Says r) s.user) found s.view;
+  clock = s.clock;
 }
 
 -- no reply is empty
@@ -133,6 +134,7 @@ pub record Awaits (c : Contents) (s : Seen) (k : Kept) (octets : List ℕ) : Typ
   pub user : k.talk.user ≡ s.user
   pub failures : min k.talk.failures 2 ≡ min s.failures 2
   pub stamp : k.stamp ≡ s.stamp
+  pub clock : k.clock ≡ s.clock
   pub lines : (more : List ℕ) → drop s.acted (cut (s.stream ++ more)) ≡ coming k.held (octets ++ more)
   pub piece : length octets ≤ most_in_a_piece
 
@@ -170,6 +172,7 @@ module _ (c : Contents) (s : Seen) (k k' : Kept) (p : List ℕ) (answer : Reply)
         user = ap (λ (k : Kept). k.talk.user) e' ∙ m.user;
         failures = ap (λ (k : Kept). min k.talk.failures 2) e' ∙ m.failures;
         stamp = ap (λ (k : Kept). k.stamp) e ∙ m.stamp;
+        clock = ap (λ (k : Kept). k.clock) e ∙ m.clock;
         lines = λ more. left more ∙ ap (λ xs. xs ++ coming k'.held (k'.pending ++ more)) (let q : shown k'.held ≡ [] = rw w refl in q);
         cut_whole = λ _. ap (λ (k : Kept). k.pending) e ∙ through_all p h;
         line_kept = line_fits;
@@ -218,6 +221,7 @@ module _ (c : Contents) (s : Seen) (k k' : Kept) (p : List ℕ) (answer : Reply)
         user = ap (λ (t : Talk). t.user) talk_is ∙ ap (user_after_line (reading x) (Says answer)) m.user;
         failures = ap (λ (t : Talk). min t.failures 2) talk_is ∙ failures_alike (is_failure (Says answer)) k.talk.failures s.failures m.failures;
         stamp = ap (λ (k : Kept). k.stamp) e ∙ m.stamp;
+        clock = ap (λ (k : Kept). k.clock) e ∙ m.clock;
         lines = λ more. (at_drop s.acted (cut (s.stream ++ more)) acting (coming k'.held (k'.pending ++ more)) (next h more)).1;
         cut_whole = λ n. absurd (not_nil (bytes_of answer) said (sym more_owed ∙ (sym owed_is ∙ n)));
         line_kept = line_fits;

@@ -4,11 +4,11 @@ use Rattle.std.proofs.lemmas.Bool.Decides.{nat_tests}
 use Rattle.popline.specs.Cutting.{Cut, cut_of, Held, fed, shown, through_newline, has_newline}
 use Rattle.popline.specs.Replies.{Reply, bytes_of}
 use Rattle.session.specs.Session.{Session}
-use Rattle.office.specs.Kept.{Kept, answered, line_after, talk_after}
+use Rattle.office.specs.Kept.{Kept, clocked, answered, line_after, talk_after}
 use Rattle.office.specs.declared.talk.Talk.{Talk}
 
-abbrev kept : Held → List ℕ → List ℕ → Talk → List ℕ → Option Session → Kept
-kept h p o t s session = record { held = h; pending = p; owed = o; talk = t; stamp = s; session = session }
+abbrev kept : Held → List ℕ → List ℕ → Talk → List ℕ → Option Session → ℕ → Kept
+kept h p o t s session clock = record { held = h; pending = p; owed = o; talk = t; stamp = s; session = session; clock = clock }
 
 shown_whole : (b : Bool) (x y : Cut) → x ∷ [] ≡ cond b (y ∷ []) [] → b ≡ true
 shown_whole true x y e = refl
@@ -28,10 +28,20 @@ module _ (k : Kept) (w : Held) (p : List ℕ) (x : Cut) (e : w ≡ fed k.held p)
   pub is_line : x ≡ line_after k p
   is_line = shown_line w.whole x (cut_of w.octets) whole there ∙ ap (λ (v : Held). cut_of v.octets) e
 
-  pub line_answered : (reply : Cut → Reply) (rest owed : List ℕ) (talk : Talk) (stamp : List ℕ) (session : Option Session) → stamp ≡ k.stamp → rest ≡ drop (through_newline p) p
+  pub line_answered : (reply : Cut → Reply) (rest owed : List ℕ) (talk : Talk) (stamp : List ℕ) (session : Option Session) (clock : ℕ) → stamp ≡ k.stamp → clock ≡ k.clock → rest ≡ drop (through_newline p) p
       → owed ≡ k.owed ++ bytes_of (reply x) → talk ≡ talk_after x (reply x) k.talk
-      → kept w rest owed talk stamp session ≡ answered k p (reply (line_after k p)) session
-  line_answered reply rest owed talk stamp session st r o t =
+      → kept w rest owed talk stamp session clock ≡ answered k p (reply (line_after k p)) session
+  line_answered reply rest owed talk stamp session clock st cl r o t =
+      let h = has_line in
+      let owed_is : owed ≡ k.owed ++ bytes_of (reply (line_after k p)) = o ∙ ap (λ y. k.owed ++ bytes_of (reply y)) is_line in
+      let talk_is : talk ≡ talk_after (line_after k p) (reply (line_after k p)) k.talk = t ∙ ap (λ y. talk_after y (reply y) k.talk) is_line in
+      rw (st, cl, r, owed_is, talk_is, e, h) refl
+
+  -- the same, where the octets just came and set the clock
+  pub line_clocked : (now : ℕ) (reply : Cut → Reply) (rest owed : List ℕ) (talk : Talk) (stamp : List ℕ) (session : Option Session) → stamp ≡ k.stamp → rest ≡ drop (through_newline p) p
+      → owed ≡ k.owed ++ bytes_of (reply x) → talk ≡ talk_after x (reply x) k.talk
+      → kept w rest owed talk stamp session now ≡ answered (clocked now p k) p (reply (line_after k p)) session
+  line_clocked now reply rest owed talk stamp session st r o t =
       let h = has_line in
       let owed_is : owed ≡ k.owed ++ bytes_of (reply (line_after k p)) = o ∙ ap (λ y. k.owed ++ bytes_of (reply y)) is_line in
       let talk_is : talk ≡ talk_after (line_after k p) (reply (line_after k p)) k.talk = t ∙ ap (λ y. talk_after y (reply y) k.talk) is_line in

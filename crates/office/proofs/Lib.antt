@@ -23,10 +23,13 @@ mod Counting
 mod Running
 mod AdministrationRows
 mod SessionRows
+mod EndRows
 mod NameOrder
 mod AgreeLists
 mod Standing
 mod Coming
+mod Ending
+mod SessionList
 mod Quiet
 mod NewMessage
 mod VaultCalls
@@ -52,3 +55,5 @@ mod Remembering
 mod Obeying
 mod Texts
 mod Pages
+mod Restarting
+mod Ticking

@@ -61,6 +61,7 @@ carry k k' s kq stays m = record {
   user = m.user;
   failures = m.failures;
   stamp = m.stamp;
+  clock = m.clock;
   lines = m.lines;
   cut_whole = m.cut_whole;
   line_kept = m.line_kept;

@@ -9,10 +9,11 @@ use Rattle.office.specs.History.{Done, Failed, in_force}
 use Rattle.office.specs.Connections.{reading}
 use Rattle.office.specs.Sessions.{holder, records}
 use Rattle.office.specs.Events.{Trace, Bytes, Tagged, given}
+use Rattle.office.specs.Log.{moment}
 use Rattle.office.specs.Trace.{history}
 use Rattle.office.specs.Expected.{most_in_a_piece, IsOutcome}
 use Rattle.office.specs.Outcomes.{Outcome}
-use Rattle.office.specs.Kept.{Kept, answered, line_after, asks}
+use Rattle.office.specs.Kept.{Kept, clocked, answered, line_after, asks}
 use Rattle.office.specs.Answered.{name_cmp, judged_at, reply_of, tag_of, shown_of, held_if, BecomesIf, LocksFollow}
 use Rattle.vault.specs.Records.{Agree}
 use Rattle.office.specs.Stands.{seen, Matches, IsKeptFor, Keeps}
@@ -26,19 +27,23 @@ use Rattle.office.proofs.LineDone.{judges, here, agrees, carried, locked}
 
 module _ {Before : Contents → Type 0} (T : Trace) (n : ℕ) (p : List ℕ) (keeps : Keeps Before T) (sound : AreSound keeps.contents) (policy : Policy) (rules : policy ≡ in_force T.base (history T))
     (locks : BTreeMap (List ℕ) ℕ) (held : (d : List ℕ) → get name_cmp locks d ≡ holder (history T) d)
-    (k : Kept) (m : Matches keeps.contents (seen T n) k) (nothing : k.owed ≡ []) (fits : length p ≤ most_in_a_piece) where
-  abbrev pub ready : Awaits keeps.contents (streamed (seen T n) p) k p
-  ready = awaits_bytes keeps.contents (seen T n) k p m nothing fits
+    (now : ℕ) (moment_is : now ≡ moment T.log) (k : Kept) (m : Matches keeps.contents (seen T n) k) (nothing : k.owed ≡ []) (fits : length p ≤ most_in_a_piece) where
+  -- what is kept as the line is answered
+  abbrev set : Kept
+  set = clocked now p k
+
+  abbrev pub ready : Awaits keeps.contents (streamed (seen T n) p now) set p
+  ready = awaits_bytes keeps.contents (seen T n) k p now m nothing fits
 
   abbrev pub judged : Judges T.base (history T) n keeps.contents (judged_at keeps.contents policy k.stamp locks) k.talk k.session
-  judged = judges T n keeps sound policy rules locks held (streamed (seen T n) p) k p ready refl refl refl refl refl refl refl
+  judged = judges T n keeps sound policy rules locks held (streamed (seen T n) p now) set p ready refl refl refl refl refl refl refl
 
   abbrev replied : Acted → Reply
   replied w = reply_of w (judged_at keeps.contents policy k.stamp locks) k.talk judged.sitting (line_after k p)
 
   module _ (w : Acted) (k' : Kept) (locks' : BTreeMap (List ℕ) ℕ)
       (may : w ≡ acted.Failed → (has_newline p ≡ true) × (asks policy k.talk judged.sitting (reading (line_after k p)) ≡ true))
-      (is : k' ≡ answered k p (replied w) k'.session)
+      (is : k' ≡ answered set p (replied w) k'.session)
       (law : (more : List ℕ) → coming k.held (p ++ more) ≡ shown k'.held ++ coming k'.held (k'.pending ++ more)) where
     module _ (became : BecomesIf (has_newline p) keeps.contents policy k.talk (line_after k p) (replied w) k.session k'.session)
         (follow : LocksFollow n k.session k'.session locks locks') where
@@ -46,24 +51,24 @@ module _ {Before : Contents → Type 0} (T : Trace) (n : ℕ) (p : List ℕ) (ke
       left = held_if (has_newline p) w policy k.session (reading (line_after k p)) keeps.contents
 
       piece_here : Matches left (seen (given T (Bytes n p) (Tagged (tag_of w))) n) k'
-      piece_here = here T n keeps sound policy rules locks held (streamed (seen T n) p) k p ready refl refl refl refl refl refl refl (Bytes n p) w k' locks' may is law became follow refl
-          (λ h nx. seen-bytes_line T n p w (line_after k p) h nx) (λ h nx. records-bytes_line T n p w (line_after k p) h nx)
-          (λ h d. rw d (seen-bytes_part T n p h)) (λ h d. records-bytes_part T n p (tag_of w) h) (λ q e. seen-bytes_other T n p q (tag_of w) e)
+      piece_here = here T n keeps sound policy rules locks held (streamed (seen T n) p now) set p ready refl refl refl refl refl refl refl (Bytes n p) w k' locks' may is law became follow refl
+          (λ h nx. seen-bytes_line T n p now moment_is w (line_after k p) h nx) (λ h nx. records-bytes_line T n p w (line_after k p) h nx)
+          (λ h d. rw d (seen-bytes_part T n p h now)) (λ h d. records-bytes_part T n p (tag_of w) h) (λ q e. seen-bytes_other T n p q (tag_of w) e)
 
       piece_agrees : Agree (records_of left) (records T.base (history (given T (Bytes n p) (Tagged (tag_of w)))))
-      piece_agrees = agrees T n keeps sound policy rules locks held (streamed (seen T n) p) k p ready refl refl refl refl refl refl refl (Bytes n p) w k' locks' may is law became follow refl
-          (λ h nx. seen-bytes_line T n p w (line_after k p) h nx) (λ h nx. records-bytes_line T n p w (line_after k p) h nx)
-          (λ h d. rw d (seen-bytes_part T n p h)) (λ h d. records-bytes_part T n p (tag_of w) h) (λ q e. seen-bytes_other T n p q (tag_of w) e)
+      piece_agrees = agrees T n keeps sound policy rules locks held (streamed (seen T n) p now) set p ready refl refl refl refl refl refl refl (Bytes n p) w k' locks' may is law became follow refl
+          (λ h nx. seen-bytes_line T n p now moment_is w (line_after k p) h nx) (λ h nx. records-bytes_line T n p w (line_after k p) h nx)
+          (λ h d. rw d (seen-bytes_part T n p h now)) (λ h d. records-bytes_part T n p (tag_of w) h) (λ q e. seen-bytes_other T n p q (tag_of w) e)
 
       piece_carried : (q : ℕ) → eqb n q ≡ false → (o : Option Kept) → IsKeptFor keeps.contents (seen T q) o → IsKeptFor left (seen T q) o
-      piece_carried = carried T n keeps sound policy rules locks held (streamed (seen T n) p) k p ready refl refl refl refl refl refl refl (Bytes n p) w k' locks' may is law became follow refl
-          (λ h nx. seen-bytes_line T n p w (line_after k p) h nx) (λ h nx. records-bytes_line T n p w (line_after k p) h nx)
-          (λ h d. rw d (seen-bytes_part T n p h)) (λ h d. records-bytes_part T n p (tag_of w) h) (λ q e. seen-bytes_other T n p q (tag_of w) e)
+      piece_carried = carried T n keeps sound policy rules locks held (streamed (seen T n) p now) set p ready refl refl refl refl refl refl refl (Bytes n p) w k' locks' may is law became follow refl
+          (λ h nx. seen-bytes_line T n p now moment_is w (line_after k p) h nx) (λ h nx. records-bytes_line T n p w (line_after k p) h nx)
+          (λ h d. rw d (seen-bytes_part T n p h now)) (λ h d. records-bytes_part T n p (tag_of w) h) (λ q e. seen-bytes_other T n p q (tag_of w) e)
 
       piece_locked : (d : List ℕ) → get name_cmp locks' d ≡ holder (history (given T (Bytes n p) (Tagged (tag_of w)))) d
-      piece_locked = locked T n keeps sound policy rules locks held (streamed (seen T n) p) k p ready refl refl refl refl refl refl refl (Bytes n p) w k' locks' may is law became follow refl
-          (λ h nx. seen-bytes_line T n p w (line_after k p) h nx) (λ h nx. records-bytes_line T n p w (line_after k p) h nx)
-          (λ h d. rw d (seen-bytes_part T n p h)) (λ h d. records-bytes_part T n p (tag_of w) h) (λ q e. seen-bytes_other T n p q (tag_of w) e)
+      piece_locked = locked T n keeps sound policy rules locks held (streamed (seen T n) p now) set p ready refl refl refl refl refl refl refl (Bytes n p) w k' locks' may is law became follow refl
+          (λ h nx. seen-bytes_line T n p now moment_is w (line_after k p) h nx) (λ h nx. records-bytes_line T n p w (line_after k p) h nx)
+          (λ h d. rw d (seen-bytes_part T n p h now)) (λ h d. records-bytes_part T n p (tag_of w) h) (λ q e. seen-bytes_other T n p q (tag_of w) e)
 
       pub piece_moves : {V : Type 0} (Holds : V → Contents → Type 0) (o o' : Office V) → get nat_cmp o'.links n ≡ Some k' → o'.locks ≡ locks' → Holds o'.vault left
           → Moves Holds o o' T keeps.contents n (given T (Bytes n p) (Tagged (tag_of w)))
@@ -81,7 +86,7 @@ module _ {Before : Contents → Type 0} (T : Trace) (n : ℕ) (p : List ℕ) (ke
     piece_answered lent o e = at w may is e
       where
         at : (w : Acted) → (w ≡ acted.Failed → (has_newline p ≡ true) × (asks policy k.talk judged.sitting (reading (line_after k p)) ≡ true))
-            → k' ≡ answered k p (replied w) k'.session → o ≡ shown_of w → IsOutcome T lent (Bytes n p) o
+            → k' ≡ answered set p (replied w) k'.session → o ≡ shown_of w → IsOutcome T lent (Bytes n p) o
         at acted.Done may is e =
             let goes = bytes_goes T lent n p m.opened (sym m.owed ∙ nothing) fits in
             record { tag = Done; may = refl; is = e ∙ rw goes refl }
@@ -89,6 +94,6 @@ module _ {Before : Contents → Type 0} (T : Trace) (n : ℕ) (p : List ℕ) (ke
             let goes = bytes_goes T lent n p m.opened (sym m.owed ∙ nothing) fits in
             let there = may refl in
             let h = there.0 in
-            let next = acts_next keeps.contents (streamed (seen T n) p) k k' p (replied acted.Failed) ready is law h in
+            let next = acts_next keeps.contents (streamed (seen T n) p now) set k' p (replied acted.Failed) ready is law h in
             let fails = judged.fails (line_after k p) there.1 in
             record { tag = Failed; may = rw (h, next, fails) refl; is = e ∙ rw goes refl }

@@ -18,7 +18,7 @@ use Rattle.office.specs.Answered.{name_cmp}
 use Rattle.office.specs.Told.{told}
 use Rattle.office.specs.Events.{Event, Mark, Tagged, Trace, given}
 use Rattle.office.specs.Events as event
-use Rattle.office.specs.Log.{opened, idle_seconds, stream, taken}
+use Rattle.office.specs.Log.{opened, idle_seconds, moment, stream, taken, clock}
 use Rattle.office.specs.Trace.{acts, history}
 use Rattle.office.specs.Formed.{is_formed}
 use Rattle.office.specs.Expected.{IsOutcome, shown_at, may_show, outcome_of}
@@ -26,7 +26,7 @@ use Rattle.office.specs.Outcomes.{Outcome, mark_of, HasCause}
 use Rattle.office.specs.Outcomes as outcome
 use Rattle.office.specs.Stands.{Seen, seen, Keeps, StandsFor}
 use Rattle.office.specs.declared.office.Office.{Office}
-use Rattle.office.proofs.Standing.{Stays, kept_on}
+use Rattle.office.proofs.Standing.{counters, Stays, kept_on}
 
 -- a command that leaves connections alone
 abbrev pub LeavesAlone : AdminCommand → Type 0
@@ -110,11 +110,12 @@ event_left T _ t q m h = absurd h
 record Heard : Type 0 where
   octets : List ℕ
   took : ℕ
-  number : ℕ
+  clock : ℕ
+  number : ℕ × ℕ
   idle : ℕ
 
 abbrev heard : Trace → ℕ → Heard
-heard T q = record { octets = stream T.log q; took = taken T.log q; number = opened T.log; idle = idle_seconds T.log }
+heard T q = record { octets = stream T.log q; took = taken T.log q; clock = clock T.log q; number = (opened T.log, moment T.log); idle = idle_seconds T.log }
 
 event_heard : (T : Trace) (e : Event) (t : Tag) (q : ℕ) → IsQuiet e → heard (given T e (Tagged t)) q ≡ heard T q
 event_heard T (event.Deposit d class id text) t q h = refl
@@ -136,6 +137,7 @@ seen_of x l = record {
   login = l.login;
   marks = l.marks;
   view = l.view;
+  clock = x.clock;
 }
 
 -- what the trace says of each connection
@@ -152,12 +154,12 @@ pub record Carries (After : Contents → Type 0) (before : Contents) (T : Trace)
 -- only the store and the policy may have changed
 pub quiet : {V : Type 0} (Holds : V → Contents → Type 0) (o o' : Office V) (T : Trace) (e : Event) (t : Tag) → IsQuiet e → (st : StandsFor Holds o T)
     → Carries (Holds o'.vault) st.keeps.contents T e t → o'.policy ≡ in_force T.base (history (given T e (Tagged t))) → o'.boot ≡ o.boot → string_bytes o'.host ≡ string_bytes o.host
-    → o'.limits ≡ o.limits → o'.opened ≡ o.opened → ((q : ℕ) → get nat_cmp o'.links q ≡ get nat_cmp o.links q)
+    → o'.limits ≡ o.limits → counters o' ≡ counters o → ((q : ℕ) → get nat_cmp o'.links q ≡ get nat_cmp o.links q)
     → ((d : List ℕ) → get name_cmp o'.locks d ≡ get name_cmp o.locks d) → StandsFor Holds o' (given T e (Tagged t))
 quiet Holds o o' T e t h st k p b s l n links locks =
     let T' = given T e (Tagged t) in
     let office : boot_and_host (history T') ≡ boot_and_host (history T) = ap (λ (x : Left). x.office) (event_left T e t 0 [] h) in
-    let number : opened T'.log ≡ opened T.log = ap (λ (x : Heard). x.number) (event_heard T e t 0 h) in
+    let number : (opened T'.log, moment T'.log) ≡ (opened T.log, moment T.log) = ap (λ (x : Heard). x.number) (event_heard T e t 0 h) in
     let idle : idle_seconds T'.log ≡ idle_seconds T.log = ap (λ (x : Heard). x.idle) (event_heard T e t 0 h) in
     record {
       keeps = k.keeps;
@@ -165,8 +167,9 @@ quiet Holds o o' T e t h st k p b s l n links locks =
       boot = b ∙ (st.boot ∙ ap (λ (x : ℕ × List ℕ). x.0) (sym office));
       host = s ∙ (st.host ∙ ap (λ (x : ℕ × List ℕ). x.1) (sym office));
       idle = l ∙ (st.idle ∙ sym idle);
-      numbered = λ q some. rw number (st.numbered q (rw (links q) at some));
-      opened = n ∙ (st.opened ∙ sym number);
+      moment = ap (λ (x : ℕ × ℕ). x.1) n ∙ (st.moment ∙ ap (λ (x : ℕ × ℕ). x.1) (sym number));
+      numbered = λ q some. let same : opened T'.log ≡ opened T.log = ap (λ (x : ℕ × ℕ). x.0) number in rw same (st.numbered q (rw (links q) at some));
+      opened = ap (λ (x : ℕ × ℕ). x.0) n ∙ (st.opened ∙ ap (λ (x : ℕ × ℕ). x.0) (sym number));
       links = λ q. rw (seen-quiet T e t q h, links q) (kept_on st.keeps.contents k.keeps.contents (seen T q) (get nat_cmp o.links q) k.stays (st.links q));
       locks = λ d. locks d ∙ (st.locks d ∙ sym (ap (λ (x : Left). x.lock) (event_left T e t 0 d h)));
     }
@@ -279,14 +282,14 @@ module _ {V : Type 0} (Holds : V → Contents → Type 0) (o o' : Office V) (T :
   -- whatever rules are in force then
   pub became-ruled : IsQuiet e → (st : StandsFor Holds o T) → Became (Holds o'.vault) st.keeps.contents T e grown w
       → ((t : Tag) → mark_of w ≡ Tagged t → o'.policy ≡ in_force T.base (history (given T e (Tagged t)))) → o'.boot ≡ o.boot
-      → string_bytes o'.host ≡ string_bytes o.host → o'.limits ≡ o.limits → o'.opened ≡ o.opened → ((q : ℕ) → get nat_cmp o'.links q ≡ get nat_cmp o.links q)
+      → string_bytes o'.host ≡ string_bytes o.host → o'.limits ≡ o.limits → counters o' ≡ counters o → ((q : ℕ) → get nat_cmp o'.links q ≡ get nat_cmp o.links q)
       → ((d : List ℕ) → get name_cmp o'.locks d ≡ get name_cmp o.locks d) → StandsFor Holds o' (given T e (mark_of w))
   became-ruled h st b p boot host l n links locks =
       let m = ap mark_of b.is ∙ mark-shown T e b.tag h in
       subst (λ (m : Mark). StandsFor Holds o' (given T e m)) (sym m) (quiet Holds o o' T e b.tag h st b.carries (p b.tag m) boot host l n links locks)
 
   pub became-stands : IsStill e → (st : StandsFor Holds o T) → Became (Holds o'.vault) st.keeps.contents T e grown w → o'.policy ≡ o.policy → o'.boot ≡ o.boot
-      → string_bytes o'.host ≡ string_bytes o.host → o'.limits ≡ o.limits → o'.opened ≡ o.opened → ((q : ℕ) → get nat_cmp o'.links q ≡ get nat_cmp o.links q)
+      → string_bytes o'.host ≡ string_bytes o.host → o'.limits ≡ o.limits → counters o' ≡ counters o → ((q : ℕ) → get nat_cmp o'.links q ≡ get nat_cmp o.links q)
       → ((d : List ℕ) → get name_cmp o'.locks d ≡ get name_cmp o.locks d) → StandsFor Holds o' (given T e (mark_of w))
   became-stands h st b p = became-ruled (still_quiet e h) st b (λ t m. p ∙ (st.policy ∙ sym (still_rules T e t h)))
 

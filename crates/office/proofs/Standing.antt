@@ -1,12 +1,23 @@
 -- What an office keeps, over other contents of its store.
-use Rattle.std.proofs.Common.{Option, Some, None}
+use Rattle.std.proofs.Common.{ℕ, Option, Some, None}
 use Rattle.vault.specs.declared.record.Keyed.{Keyed}
 use Rattle.vault.specs.Changes.{Contents}
 use Rattle.session.specs.Session.{Session}
 use Rattle.office.specs.Laws.{In}
+use Rattle.office.specs.Events.{Log}
+use Rattle.office.specs.Log.{opened, moment}
 use Rattle.office.specs.Kept.{Kept}
 use Rattle.office.specs.Stands.{Seen, IsSession, Matches, IsKeptFor}
+use Rattle.office.specs.declared.office.Office.{Office}
 use Rattle.office.proofs.Lying.{lies_on}
+
+-- the newest number and the moment
+abbrev pub counters : {V : Type 0} → Office V → ℕ × ℕ
+counters o = (o.opened, o.moment)
+
+-- the same by the events
+abbrev pub counted : Log → ℕ × ℕ
+counted T = (opened T, moment T)
 
 -- the messages of a store are still there
 abbrev pub Stays : (c c' : Contents) → Type 0
@@ -34,6 +45,7 @@ matches_with c c' s k session m = record {
   user = m.user;
   failures = m.failures;
   stamp = m.stamp;
+  clock = m.clock;
   lines = m.lines;
   cut_whole = m.cut_whole;
   line_kept = m.line_kept;

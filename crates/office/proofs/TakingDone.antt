@@ -9,6 +9,7 @@ use Rattle.office.specs.History.{Done, Failed, in_force}
 use Rattle.office.specs.Connections.{reading, closing}
 use Rattle.office.specs.Sessions.{holder, records}
 use Rattle.office.specs.Events.{Trace, Took, Tagged, given}
+use Rattle.office.specs.Log.{moment}
 use Rattle.office.specs.Trace.{history, is_left, next_line}
 use Rattle.office.specs.Expected.{ignored, IsOutcome}
 use Rattle.office.specs.Outcomes.{Outcome}
@@ -26,12 +27,12 @@ use Rattle.office.proofs.LineDone.{judges, here, agrees, carried, locked}
 
 module _ {Before : Contents → Type 0} (T : Trace) (n octets : ℕ) (keeps : Keeps Before T) (sound : AreSound keeps.contents) (policy : Policy) (rules : policy ≡ in_force T.base (history T))
     (locks : BTreeMap (List ℕ) ℕ) (held : (d : List ℕ) → get name_cmp locks d ≡ holder (history T) d)
-    (k : Kept) (ready : Awaits keeps.contents (took (seen T n) octets) k k.pending) (all : is_left T.log (history T) n octets ≡ false) (open_yet : closing (history T) n ≡ false) where
+    (now : ℕ) (moment_is : now ≡ moment T.log) (k : Kept) (ready : Awaits keeps.contents (took (seen T n) octets now) k k.pending) (all : is_left T.log (history T) n octets ≡ false) (open_yet : closing (history T) n ≡ false) where
   abbrev p : List ℕ
   p = k.pending
 
   abbrev pub judged : Judges T.base (history T) n keeps.contents (judged_at keeps.contents policy k.stamp locks) k.talk k.session
-  judged = judges T n keeps sound policy rules locks held (took (seen T n) octets) k p ready refl refl refl refl refl refl refl
+  judged = judges T n keeps sound policy rules locks held (took (seen T n) octets now) k p ready refl refl refl refl refl refl refl
 
   abbrev replied : Acted → Reply
   replied w = reply_of w (judged_at keeps.contents policy k.stamp locks) k.talk judged.sitting (line_after k p)
@@ -41,7 +42,7 @@ module _ {Before : Contents → Type 0} (T : Trace) (n octets : ℕ) (keeps : Ke
       (is : k' ≡ answered k p (replied w) k'.session)
       (law : (more : List ℕ) → coming k.held (p ++ more) ≡ shown k'.held ++ coming k'.held (k'.pending ++ more)) where
     none : has_newline p ≡ false → next_line T.log (history T) n [] ≡ None
-    none h = next_kept T n ∙ none_next keeps.contents (took (seen T n) octets) k k' p (replied w) ready is law h
+    none h = next_kept T n ∙ none_next keeps.contents (took (seen T n) octets now) k k' p (replied w) ready is law h
 
     module _ (became : BecomesIf (has_newline p) keeps.contents policy k.talk (line_after k p) (replied w) k.session k'.session)
         (follow : LocksFollow n k.session k'.session locks locks') where
@@ -49,24 +50,24 @@ module _ {Before : Contents → Type 0} (T : Trace) (n octets : ℕ) (keeps : Ke
       left = held_if (has_newline p) w policy k.session (reading (line_after k p)) keeps.contents
 
       taking_here : Matches left (seen (given T (Took n octets) (Tagged (tag_of w))) n) k'
-      taking_here = here T n keeps sound policy rules locks held (took (seen T n) octets) k p ready refl refl refl refl refl refl refl (Took n octets) w k' locks' may is law became follow refl
-          (λ h nx. seen-took_line T n octets w (line_after k p) all open_yet (next_kept T n ∙ nx)) (λ h nx. records-took_line T n octets w (line_after k p) all open_yet (next_kept T n ∙ nx))
-          (λ h d. rw d (seen-took_none T n octets all open_yet (none h))) (λ h d. rw d (records-took_none T n octets all open_yet (none h))) (λ q e. seen-took_other T n octets q (tag_of w) e)
+      taking_here = here T n keeps sound policy rules locks held (took (seen T n) octets now) k p ready refl refl refl refl refl refl refl (Took n octets) w k' locks' may is law became follow refl
+          (λ h nx. seen-took_line T n octets now moment_is w (line_after k p) all open_yet (next_kept T n ∙ nx)) (λ h nx. records-took_line T n octets w (line_after k p) all open_yet (next_kept T n ∙ nx))
+          (λ h d. rw d (seen-took_none T n octets now moment_is all open_yet (none h))) (λ h d. rw d (records-took_none T n octets all open_yet (none h))) (λ q e. seen-took_other T n octets q (tag_of w) e)
 
       taking_agrees : Agree (records_of left) (records T.base (history (given T (Took n octets) (Tagged (tag_of w)))))
-      taking_agrees = agrees T n keeps sound policy rules locks held (took (seen T n) octets) k p ready refl refl refl refl refl refl refl (Took n octets) w k' locks' may is law became follow refl
-          (λ h nx. seen-took_line T n octets w (line_after k p) all open_yet (next_kept T n ∙ nx)) (λ h nx. records-took_line T n octets w (line_after k p) all open_yet (next_kept T n ∙ nx))
-          (λ h d. rw d (seen-took_none T n octets all open_yet (none h))) (λ h d. rw d (records-took_none T n octets all open_yet (none h))) (λ q e. seen-took_other T n octets q (tag_of w) e)
+      taking_agrees = agrees T n keeps sound policy rules locks held (took (seen T n) octets now) k p ready refl refl refl refl refl refl refl (Took n octets) w k' locks' may is law became follow refl
+          (λ h nx. seen-took_line T n octets now moment_is w (line_after k p) all open_yet (next_kept T n ∙ nx)) (λ h nx. records-took_line T n octets w (line_after k p) all open_yet (next_kept T n ∙ nx))
+          (λ h d. rw d (seen-took_none T n octets now moment_is all open_yet (none h))) (λ h d. rw d (records-took_none T n octets all open_yet (none h))) (λ q e. seen-took_other T n octets q (tag_of w) e)
 
       taking_carried : (q : ℕ) → eqb n q ≡ false → (o : Option Kept) → IsKeptFor keeps.contents (seen T q) o → IsKeptFor left (seen T q) o
-      taking_carried = carried T n keeps sound policy rules locks held (took (seen T n) octets) k p ready refl refl refl refl refl refl refl (Took n octets) w k' locks' may is law became follow refl
-          (λ h nx. seen-took_line T n octets w (line_after k p) all open_yet (next_kept T n ∙ nx)) (λ h nx. records-took_line T n octets w (line_after k p) all open_yet (next_kept T n ∙ nx))
-          (λ h d. rw d (seen-took_none T n octets all open_yet (none h))) (λ h d. rw d (records-took_none T n octets all open_yet (none h))) (λ q e. seen-took_other T n octets q (tag_of w) e)
+      taking_carried = carried T n keeps sound policy rules locks held (took (seen T n) octets now) k p ready refl refl refl refl refl refl refl (Took n octets) w k' locks' may is law became follow refl
+          (λ h nx. seen-took_line T n octets now moment_is w (line_after k p) all open_yet (next_kept T n ∙ nx)) (λ h nx. records-took_line T n octets w (line_after k p) all open_yet (next_kept T n ∙ nx))
+          (λ h d. rw d (seen-took_none T n octets now moment_is all open_yet (none h))) (λ h d. rw d (records-took_none T n octets all open_yet (none h))) (λ q e. seen-took_other T n octets q (tag_of w) e)
 
       taking_locked : (d : List ℕ) → get name_cmp locks' d ≡ holder (history (given T (Took n octets) (Tagged (tag_of w)))) d
-      taking_locked = locked T n keeps sound policy rules locks held (took (seen T n) octets) k p ready refl refl refl refl refl refl refl (Took n octets) w k' locks' may is law became follow refl
-          (λ h nx. seen-took_line T n octets w (line_after k p) all open_yet (next_kept T n ∙ nx)) (λ h nx. records-took_line T n octets w (line_after k p) all open_yet (next_kept T n ∙ nx))
-          (λ h d. rw d (seen-took_none T n octets all open_yet (none h))) (λ h d. rw d (records-took_none T n octets all open_yet (none h))) (λ q e. seen-took_other T n octets q (tag_of w) e)
+      taking_locked = locked T n keeps sound policy rules locks held (took (seen T n) octets now) k p ready refl refl refl refl refl refl refl (Took n octets) w k' locks' may is law became follow refl
+          (λ h nx. seen-took_line T n octets now moment_is w (line_after k p) all open_yet (next_kept T n ∙ nx)) (λ h nx. records-took_line T n octets w (line_after k p) all open_yet (next_kept T n ∙ nx))
+          (λ h d. rw d (seen-took_none T n octets now moment_is all open_yet (none h))) (λ h d. rw d (records-took_none T n octets all open_yet (none h))) (λ q e. seen-took_other T n octets q (tag_of w) e)
 
       pub taking_moves : {V : Type 0} (Holds : V → Contents → Type 0) (o o' : Office V) → get nat_cmp o'.links n ≡ Some k' → o'.locks ≡ locks' → Holds o'.vault left
           → Moves Holds o o' T keeps.contents n (given T (Took n octets) (Tagged (tag_of w)))
@@ -88,6 +89,6 @@ module _ {Before : Contents → Type 0} (T : Trace) (n octets : ℕ) (keeps : Ke
         at acted.Done may is e = record { tag = Done; may = refl; is = e ∙ rw goes refl }
         at acted.Failed may is e =
             let there = may refl in
-            let next = next_kept T n ∙ acts_next keeps.contents (took (seen T n) octets) k k' p (replied acted.Failed) ready is law there.0 in
+            let next = next_kept T n ∙ acts_next keeps.contents (took (seen T n) octets now) k k' p (replied acted.Failed) ready is law there.0 in
             let fails = judged.fails (line_after k p) there.1 in
             record { tag = Failed; may = rw (all, open_yet, next, fails) refl; is = e ∙ rw goes refl }

@@ -1,5 +1,5 @@
 -- What the next event is answered: why it is ignored, which tags it may show, and its outcome.
-use Rattle.std.specs.Prelude.{◌≡◌, ℕ, Bool, true, false, not, ◌&&◌, ◌||◌, ◌-◌, ◌^◌, ◌==◌, nat_lt, nat_le, List, [], length, take, Option, Some, None, is_some, if◌then◌else◌}
+use Rattle.std.specs.Prelude.{◌≡◌, ◌⊎◌, ⊤, ℕ, Bool, true, false, not, ◌&&◌, ◌||◌, ◌-◌, ◌^◌, ◌==◌, nat_lt, nat_le, List, [], length, take, Option, Some, None, is_some, if◌then◌else◌}
 use Rattle.popline.specs.Cutting.{Cut, has_newline}
 use Rattle.vault.specs.Records.{Records}
 use Rattle.office.specs.History.{Tag, Done, Failed, NoMemory, Entry}
@@ -120,6 +120,23 @@ pub record IsOutcome (T : Trace) (lent : ℕ → ℕ) (e : Event) (o : Outcome) 
   pub tag : Tag
   pub may : may_show T e tag ≡ true
   pub is : o ≡ outcome_of T lent e tag
+
+-- ---- what is sure of an event, whatever the store does
+
+-- events that ask nothing of the store
+abbrev pub asks_no_store : Event → Bool
+asks_no_store event.Connect = true
+asks_no_store (event.Gone c) = true
+asks_no_store (event.Tick now) = true
+asks_no_store (event.Restart boot) = true
+asks_no_store _ = false
+
+-- the end of a connection, a tick and a restart never fail, and only the first may be ignored
+abbrev pub Succeeds : Event → Outcome → Type 0
+Succeeds (event.Gone c) o = (o ≡ outcome.Done) ⊎ (o ≡ outcome.Ignored NoSuchConnection)
+Succeeds (event.Tick now) o = o ≡ outcome.Done
+Succeeds (event.Restart boot) o = o ≡ outcome.Done
+Succeeds _ o = ⊤
 
 -- ---- transcripts
 

@@ -2,7 +2,7 @@
 use Rattle.std.specs.Prelude.{ℕ, Bool, true, false, ◌||◌, ◌+◌, nat_lt, List, [], ◌++◌, drop, Option, Some, None, Result, Ok, Err, is_some, if◌then◌else◌}
 use Rattle.creds.specs.declared.login_name.LoginName.{LoginName}
 use Rattle.creds.specs.Credential.{Shown, ByApop, ByPass, is_admitted}
-use Rattle.popline.specs.Cutting.{Cut, TooLong, cut_of, Held, fed, through_newline}
+use Rattle.popline.specs.Cutting.{Cut, TooLong, cut_of, Held, fed, through_newline, has_newline}
 use Rattle.popline.specs.Cutting as cutting
 use Rattle.popline.specs.Commands.{Command, Capa, User, Pass, Apop, Quit, command_of, keyword_of}
 use Rattle.popline.specs.declared.command.LineFault.{LineFault}
@@ -80,8 +80,8 @@ talk_after x r t = record {
   closing = closes (reading x) (Says r) || t.closing;
 }
 
--- the line that is being cut, octets that weren't cut yet, octets that are owed, what is remembered, the greeting's timestamp, and who
--- is in session
+-- the line that is being cut, octets that weren't cut yet, octets that are owed, what is remembered, the greeting's timestamp, who is in
+-- session, and the moment from which idle time is counted
 pub record Kept : Type 0 where
   pub held : Held
   pub pending : List ℕ
@@ -89,11 +89,16 @@ pub record Kept : Type 0 where
   pub talk : Talk
   pub stamp : List ℕ
   pub session : Option Session
+  pub clock : ℕ
 
 -- the maildrop that a session holds
 abbrev pub maildrop_of : Option Session → Option (List ℕ)
 maildrop_of None = None
 maildrop_of (Some s) = Some s.name.maildrop
+
+-- octets with a whole line in them set the clock
+abbrev pub clocked : (now : ℕ) → List ℕ → Kept → Kept
+clocked now octets k = record k { clock = if has_newline octets then now else k.clock }
 
 -- after the first whole line of these octets, which came behind what is held, got this reply and left this session
 abbrev pub answered : Kept → List ℕ → Reply → Option Session → Kept
@@ -106,6 +111,7 @@ answered k octets reply session =
       talk = if w.whole then talk_after (cut_of w.octets) reply k.talk else k.talk;
       stamp = k.stamp;
       session = session;
+      clock = k.clock;
     }
 
 -- the line that is whole after these octets

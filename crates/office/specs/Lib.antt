@@ -31,5 +31,7 @@ pub mod Answered
 pub mod Runs
 pub mod Sitting
 pub mod Locks
+pub mod Idle
 pub mod Entering
 pub mod VaultAnswers
+pub mod InSession

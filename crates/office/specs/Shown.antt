@@ -1,5 +1,6 @@
 -- What a clause sees of the events, commands, answers and outcomes of the code.
 use Rattle.std.specs.Prelude.{ℕ, map}
+use Rattle.creds.specs.declared.login_name.LoginName.{LoginName}
 use Rattle.creds.specs.declared.uid.Uid.{Uid}
 use Rattle.office.specs.Events as events
 use Rattle.office.specs.Answers as answers
@@ -10,6 +11,7 @@ use Rattle.office.specs.declared.command.AdminCommand.TheVariants as command
 use Rattle.office.specs.declared.answer.Answer.{Answer}
 use Rattle.office.specs.declared.answer.Answer.TheVariants as answer
 use Rattle.office.specs.declared.answer.MessageRow.{MessageRow}
+use Rattle.office.specs.declared.answer.SessionRow.{SessionRow}
 use Rattle.office.specs.declared.event.Event.{Event}
 use Rattle.office.specs.declared.event.Event.TheVariants as event
 use Rattle.office.specs.declared.event.Outcome.{Outcome}
@@ -28,6 +30,8 @@ command_seen (command.PutClerk name credential) = answers.PutClerk name credenti
 command_seen (command.DropClerk name) = answers.DropClerk name
 command_seen command.ShowPolicy = answers.ShowPolicy
 command_seen (command.SetPolicy policy) = answers.SetPolicy policy
+command_seen command.ListSessions = answers.ListSessions
+command_seen (command.EndSession c) = answers.EndSession c
 command_seen (command.Explain clerk d class action) = answers.Explain clerk d class action
 
 -- an event, whose octets are lent
@@ -36,12 +40,18 @@ event_seen event.Connect = events.Connect
 event_seen (event.Bytes c piece) = events.Bytes c piece.now
 event_seen (event.Took c octets) = events.Took c octets
 event_seen (event.Gone c) = events.Gone c
+event_seen (event.Tick now) = events.Tick now
 event_seen (event.Deposit d class id text) = events.Deposit d.now class.now id.now text.now
 event_seen (event.Admin command) = events.Admin (command_seen command.now)
+event_seen (event.Restart boot) = events.Restart boot
 
 -- a message's unique-id and octets
 abbrev pub row_seen : MessageRow → Uid × ℕ
 row_seen row = (row.uid, row.octets)
+
+-- a connection with its session
+abbrev pub session_seen : SessionRow → ℕ × LoginName
+session_seen row = (row.number, row.name)
 
 -- an answer
 abbrev pub answer_seen : Answer → answers.Answer
@@ -65,6 +75,9 @@ answer_seen answer.NoSuchClerk = answers.NoSuchClerk
 answer_seen answer.Replaced = answers.Replaced
 answer_seen (answer.PolicyIs policy) = answers.PolicyIs policy
 answer_seen (answer.RuleCount rules) = answers.RuleCount rules
+answer_seen (answer.Sessions rows) = answers.Sessions (map session_seen rows)
+answer_seen answer.Ended = answers.Ended
+answer_seen answer.NoSuchSession = answers.NoSuchSession
 answer_seen (answer.Explained decision) = answers.Explained decision
 
 -- a reason

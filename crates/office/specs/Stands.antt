@@ -12,7 +12,7 @@ use Rattle.office.specs.Sessions.{live, login, marks, view, holder, records}
 use Rattle.office.specs.Replying.{stamp}
 use Rattle.office.specs.Events.{Log, Trace}
 use Rattle.office.specs.Formed.{are_formed}
-use Rattle.office.specs.Log.{opened, idle_seconds, stream, taken}
+use Rattle.office.specs.Log.{opened, idle_seconds, moment, stream, taken, clock}
 use Rattle.office.specs.Trace.{history, is_open_by}
 use Rattle.office.specs.Expected.{most_in_a_piece}
 use Rattle.office.specs.Sitting.{LiesIn}
@@ -56,6 +56,7 @@ pub record Seen : Type 0 where
   pub login : Option LoginName
   pub marks : List ℕ
   pub view : List store.Message
+  pub clock : ℕ
 
 -- the same, of a log and its history
 abbrev pub seen_at : Records → Log → List Entry → ℕ → Seen
@@ -73,6 +74,7 @@ seen_at B T G c = record {
   login = login G c;
   marks = marks G c;
   view = view B G c;
+  clock = clock T c;
 }
 
 -- the same, of a trace
@@ -119,6 +121,7 @@ pub record Matches (c : Contents) (s : Seen) (k : Kept) : Type 0 where
   -- two and more failures are alike: the next one closes
   pub failures : min k.talk.failures 2 ≡ min s.failures 2
   pub stamp : k.stamp ≡ s.stamp
+  pub clock : k.clock ≡ s.clock
   -- however the stream goes on, the lines that are left of it are those that come from what is kept
   pub lines : (more : List ℕ) → drop s.acted (cut (s.stream ++ more)) ≡ coming k.held (k.pending ++ more)
   -- what was kept was cut, where nothing is owed
@@ -146,6 +149,7 @@ pub record StandsFor {V : Type 0} (Holds : V → Contents → Type 0) (o : Offic
   pub boot : o.boot ≡ (boot_and_host (history T)).0
   pub host : string_bytes o.host ≡ (boot_and_host (history T)).1
   pub idle : o.limits ≡ idle_seconds T.log
+  pub moment : o.moment ≡ moment T.log
   -- an open connection has one of the numbers that were given
   pub numbered : (c : ℕ) → IsSome (get nat_cmp o.links c) → (1 ≤ c) × (c ≤ opened T.log)
   pub opened : o.opened ≡ opened T.log

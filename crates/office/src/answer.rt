@@ -1,7 +1,7 @@
 //! What a deposit or an administrator's command is answered.
 ghost use Rattle.std.specs.Prelude.{◌≡◌};
 
-use creds::Uid;
+use creds::{LoginName, Uid};
 use policy::{Decision, Policy};
 use std::marker::Model;
 use vault::Total;
@@ -49,6 +49,12 @@ pub enum Answer {
     PolicyIs(Policy),
     /// The policy is set, and has so many rules.
     RuleCount(u64),
+    /// The sessions, by their connections' numbers.
+    Sessions(Sessions),
+    /// The session is ended, and its connection with it.
+    Ended,
+    /// No connection of that number has a session.
+    NoSuchSession,
     /// What the policy says, and by which rule.
     Explained(Decision),
 }
@@ -116,6 +122,45 @@ impl Messages {
 
     /// The messages, in order of arrival.
     pub fn rows(&self) -> &[MessageRow]
+        ensures { result.now ≡ self.now }
+    {
+        &self.rows
+    }
+}
+
+/// A session: its connection's number, its clerk and its maildrop.
+#[derive(Clone, Copy, Debug, PartialEq, Eq)]
+pub struct SessionRow {
+    /// The number of its connection.
+    pub number: u64,
+    /// Who is logged in to which maildrop.
+    pub name: LoginName,
+}
+
+/// Sessions.
+#[derive(Debug, Drop)]
+pub struct Sessions {
+    rows: Vec<SessionRow>,
+}
+
+impl Model for Sessions {
+    ghost use Rattle.std.specs.Prelude.{List};
+    ghost use Rattle.office.specs.declared.answer.SessionRow.{SessionRow};
+
+    ghost Value = { List SessionRow };
+
+    ghost view = { λ s. s.rows.items };
+}
+
+impl Sessions {
+    pub(crate) fn new(rows: Vec<SessionRow>) -> Sessions
+        ensures { result ≡ rows.items }
+    {
+        Sessions { rows }
+    }
+
+    /// The sessions, by their connections' numbers.
+    pub fn rows(&self) -> &[SessionRow]
         ensures { result.now ≡ self.now }
     {
         &self.rows

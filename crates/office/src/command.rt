@@ -23,6 +23,10 @@ pub enum AdminCommand {
     ShowPolicy,
     /// Sets the policy.
     SetPolicy(Policy),
+    /// The sessions, by their connections' numbers.
+    ListSessions,
+    /// Ends the session of a connection, and the connection with it, as [`crate::Event::Gone`] does.
+    EndSession(u64),
     /// What the policy says of a clerk, a maildrop, a class and an action. The names need not exist.
     Explain {
         /// The clerk's name.

@@ -13,11 +13,17 @@ pub enum Event<'a> {
     Took(u64, usize),
     /// A connection is gone: its client closed it, or it broke.
     Gone(u64),
+    /// The present moment, in seconds; one before the last counts as the last, and 0 is the first after an opening or a restart.
+    /// Connections that have done nothing for the idle seconds are ended, without a reply and with nothing removed.
+    Tick(u64),
     /// A message is put into a maildrop, once for each deposit id of the maildrop's name: the maildrop, the message's class, the
     /// deposit's id, and the message's text as it came.
     Deposit(&'a Name, &'a Name, &'a DepositId, &'a [u8]),
     /// An administrator asks for something.
     Admin(&'a AdminCommand),
+    /// The office starts again under this number: every connection is ended, with nothing removed, and the numbers of connections
+    /// begin at 1 again.
+    Restart(u64),
 }
 
 /// Why an event is ignored: the first that holds. An ignored event changes nothing.

@@ -22,10 +22,12 @@ mod office;
 mod policy_commands;
 mod quit;
 mod referring;
+mod sessions;
 mod talk;
+mod time;
 mod transcript;
 
-pub use answer::{Answer, MessageRow, Messages, Totals};
+pub use answer::{Answer, MessageRow, Messages, SessionRow, Sessions, Totals};
 pub use command::AdminCommand;
 pub use event::{Event, Outcome, Reason};
 pub use history_laws::{

@@ -33,4 +33,11 @@ impl Limits {
             None
         }
     }
+
+    /// The seconds.
+    pub(crate) fn idle(&self) -> u64
+        ensures { result ≡ self.now }
+    {
+        u64::from(self.idle)
+    }
 }

@@ -6,14 +6,17 @@ ghost use Rattle.popline.specs.Cutting.{has_newline, coming, shown, nothing_held
 ghost use Rattle.vault.specs.Changes.{Contents};
 ghost use Rattle.vault.specs.Calls.{has_grown};
 ghost use Rattle.office.specs.Sitting.{Sitting};
-ghost use Rattle.office.specs.Kept.{answered, line_after, asks, nothing_said, maildrop_of};
+ghost use Rattle.office.specs.Kept.{answered, clocked, line_after, asks, nothing_said, maildrop_of};
+ghost use Rattle.office.specs.Idle.{is_idle};
+ghost use Rattle.office.specs.InSession.{name_of};
 ghost use Rattle.office.specs.Connections.{reading};
+ghost use Rattle.office.specs.Expected.{most_in_a_piece};
 ghost use Rattle.office.specs.Answered.{judged_at, reply_of, name_cmp, IsSeated, BecomesIf, LocksFollow, held_if};
 
 use crate::lines;
 use crate::locks::Locks;
 use crate::talk::{Acted, Desk, Talk};
-use creds::Name;
+use creds::{LoginName, Name};
 use policy::Policy;
 use popline::{Cutter, Reply};
 use session::Session;
@@ -21,7 +24,7 @@ use std::alloc::{AllocError, Global};
 use std::marker::Model;
 use vault::Vault;
 
-/// What is kept of a connection.
+/// What is kept of a connection: of its input at most the octets of a piece, 4,096, beside the line that is being cut, 255.
 #[derive(Drop)]
 pub struct Link {
     cutter: Cutter,
@@ -35,23 +38,32 @@ pub struct Link {
     /// The timestamp of the greeting, which APOP signs.
     stamp: String,
     session: Option<Session>,
+    /// The moment of its opening, of its last line that acted or of its last taking, in seconds.
+    clock: u64,
 }
 
 impl Model for Link {
     ghost use Rattle.std.specs.Prelude.{drop, length, string_bytes, ◌≤◌};
+    ghost use Rattle.office.specs.Expected.{most_in_a_piece};
     ghost use Rattle.office.specs.Kept.{Kept};
 
     ghost Value = { Kept };
 
-    ghost view = { λ l. record { held = l.cutter; pending = drop l.cut l.pending.items; owed = drop l.taken l.owed.items; talk = l.talk; stamp = string_bytes l.stamp; session = l.session } };
+    ghost view = { λ l. record { held = l.cutter; pending = drop l.cut l.pending.items; owed = drop l.taken l.owed.items; talk = l.talk; stamp = string_bytes l.stamp; session = l.session; clock = l.clock } };
 
-    ghost invariant = { λ l. (l.cut ≤ length l.pending.items) × (l.taken ≤ length l.owed.items) };
+    ghost invariant = { λ l. (l.cut ≤ length l.pending.items) × (l.taken ≤ length l.owed.items) × (length l.pending.items ≤ most_in_a_piece) };
 }
 
 impl Link {
-    /// A connection that is owed its greeting.
-    pub fn open(alloc: Global, number: u64, boot: u64, host: &str) -> Result<Link, AllocError>
-        ensures { IfOk result (λ k. k ≡ record { held = nothing_held; pending = []; owed = bytes_of (Greeting number boot host.now); talk = nothing_said; stamp = timestamp number boot host.now; session = None }) }
+    /// A connection that is owed its greeting, opened at this moment.
+    pub fn open(
+        alloc: Global,
+        number: u64,
+        boot: u64,
+        host: &str,
+        now: u64,
+    ) -> Result<Link, AllocError>
+        ensures { IfOk result (λ k. k ≡ record { held = nothing_held; pending = []; owed = bytes_of (Greeting number boot host.now); talk = nothing_said; stamp = timestamp number boot host.now; session = None; clock = now }) }
     {
         let mut owed = Vec::new(alloc);
         let greeting = Reply::Greeting { number, boot, host };
@@ -66,6 +78,7 @@ impl Link {
             talk: Talk::new(),
             stamp,
             session: None,
+            clock: now,
         })
     }
 
@@ -82,12 +95,20 @@ impl Link {
         self.talk.closing
     }
 
-    /// Takes octets that are owed. Nothing is copied.
-    pub fn take(&mut self, octets: usize)
+    /// Takes octets that are owed, at this moment. Nothing is copied.
+    pub fn take(&mut self, octets: usize, now: u64)
         requires { octets ≤ length self.old.owed }
-        ensures { self.new ≡ record self.old { owed = drop octets self.old.owed } }
+        ensures { self.new ≡ record self.old { owed = drop octets self.old.owed; clock = now } }
     {
         self.taken += octets;
+        self.clock = now;
+    }
+
+    /// Whether the connection has done nothing for so many seconds at this moment.
+    pub fn is_idle(&self, moment: u64, seconds: u64) -> bool
+        ensures { result ≡ is_idle moment seconds self.now }
+    {
+        moment >= self.clock && moment - self.clock >= seconds
     }
 
     /// The maildrop that the connection's session holds, where it has one.
@@ -100,7 +121,20 @@ impl Link {
         }
     }
 
-    /// Takes the next piece, and answers the first line that is whole now.
+    /// Who is in session on the connection.
+    pub fn login(&self) -> Option<LoginName>
+        ensures { result ≡ name_of self.now.session }
+    {
+        match &self.session {
+            None => None,
+            Some(session) => Some(LoginName {
+                clerk: session.clerk(),
+                maildrop: session.maildrop(),
+            }),
+        }
+    }
+
+    /// Takes the next piece at this moment, and answers the first line that is whole now.
     pub fn hear<V: Vault>(
         &mut self,
         alloc: Global,
@@ -109,9 +143,10 @@ impl Link {
         locks: &mut Locks,
         number: u64,
         piece: &[u8],
+        now: u64,
     ) -> Result<Acted, AllocError>
-        requires { self.old.owed ≡ [] }
-        ensures ok { IfOk result (λ acted. (c : Contents) (v : Option Sitting) → V.holds vault.old c → V.is_clean vault.new → IsSeated c self.old.session v → self.new ≡ answered self.old piece.now (reply_of acted (judged_at c policy.now self.old.stamp locks.old) self.old.talk v (line_after self.old piece.now)) self.new.session) }
+        requires { (self.old.owed ≡ []) × (length piece.now ≤ most_in_a_piece) }
+        ensures ok { IfOk result (λ acted. (c : Contents) (v : Option Sitting) → V.holds vault.old c → V.is_clean vault.new → IsSeated c self.old.session v → self.new ≡ answered (clocked now piece.now self.old) piece.now (reply_of acted (judged_at c policy.now self.old.stamp locks.old) self.old.talk v (line_after self.old piece.now)) self.new.session) }
         ensures session { IfOk result (λ acted. (c : Contents) (v : Option Sitting) → V.holds vault.old c → V.is_clean vault.new → IsSeated c self.old.session v → BecomesIf (has_newline piece.now) c policy.now self.old.talk (line_after self.old piece.now) (reply_of acted (judged_at c policy.now self.old.stamp locks.old) self.old.talk v (line_after self.old piece.now)) self.old.session self.new.session) }
         ensures lines { IfOk result (λ _. (more : List ℕ) → coming self.old.held (piece.now ++ more) ≡ shown self.new.held ++ coming self.new.held (self.new.pending ++ more)) }
         // Only a line takes memory.
@@ -133,6 +168,7 @@ impl Link {
         let Some(cut) = self.cutter.line() else {
             return Ok(Acted::Done);
         };
+        self.clock = now;
         self.pending.extend_from_slice(&piece[n..])?;
         let desk = Desk {
             policy,

@@ -1,10 +1,10 @@
 //! An office: one function for each event.
-ghost use Rattle.std.specs.Prelude.{◌≡◌, ◌<◌, ◌≤◌, ◌↔◌, not, true, false, ℕ, List, length, take, IfOk, IfErr, OnOk, OnErr, MatchResult};
+ghost use Rattle.std.specs.Prelude.{◌≡◌, ◌⊎◌, ◌<◌, ◌≤◌, ◌↔◌, not, true, false, ℕ, List, length, take, IfOk, IfErr, OnOk, OnErr, MatchResult};
 ghost use Rattle.office.specs.Events.{Trace, given};
 ghost use Rattle.office.specs.Shown.{event_seen, outcome_seen, followed_by};
 ghost use Rattle.office.specs.Events as event;
 ghost use Rattle.office.specs.Trace.{history, rest, is_open, is_ready, IsLent};
-ghost use Rattle.office.specs.Expected.{IsOutcome, is_full, octets_taken};
+ghost use Rattle.office.specs.Expected.{IsOutcome, is_full, octets_taken, asks_no_store, Succeeds};
 ghost use Rattle.office.specs.Outcomes.{mark_of, HasCause};
 ghost use Rattle.creds.specs.Names.{is_host};
 ghost use Rattle.vault.specs.Changes.{Contents};
@@ -46,12 +46,14 @@ pub struct Office<V: Vault> {
     pub(crate) vault: V,
     /// The policy in force.
     pub(crate) policy: Policy,
-    boot: u64,
+    pub(crate) boot: u64,
     host: String,
-    limits: Limits,
-    /// How many connections were opened.
-    opened: u64,
-    links: BTreeMap<u64, Link>,
+    pub(crate) limits: Limits,
+    /// How many connections were opened since the last restart.
+    pub(crate) opened: u64,
+    /// The present moment, in seconds.
+    pub(crate) moment: u64,
+    pub(crate) links: BTreeMap<u64, Link>,
     pub(crate) locks: Locks,
 }
 
@@ -102,6 +104,7 @@ impl<V: Vault> Office<V> {
                 host,
                 limits,
                 opened: 0,
+                moment: 0,
                 links: BTreeMap::new(alloc),
                 locks: BTreeMap::new(alloc),
             }),
@@ -122,12 +125,13 @@ impl<V: Vault> Office<V> {
         ensures cause { (T : Trace) → StandsFor V.holds self.old T → V.is_clean (vault_of self.new) → HasCause (V.faults (vault_of self.old)) (V.faults (vault_of self.new)) (outcome_seen result) }
         ensures counted { V.faults (vault_of self.old) ≤ V.faults (vault_of self.new) }
         ensures clean { V.is_clean (vault_of self.new) → V.is_clean (vault_of self.old) }
+        ensures unasked { vault_of self.new ≡ vault_of self.old }
     {
         if self.is_full() {
             return Outcome::Ignored(Reason::TooManyConnections);
         }
         let c = self.opened + 1;
-        let Ok(link) = Link::open(self.alloc, c, self.boot, self.host.as_str()) else {
+        let Ok(link) = Link::open(self.alloc, c, self.boot, self.host.as_str(), self.moment) else {
             return Outcome::NoMemory;
         };
         if self.links.insert(c, link).is_err() {
@@ -161,6 +165,7 @@ impl<V: Vault> Office<V> {
             &mut self.locks,
             c,
             piece,
+            self.moment,
         ) {
             Ok(acted) => shown(acted),
             Err(_) => {
@@ -188,7 +193,7 @@ impl<V: Vault> Office<V> {
         if octets > owed {
             return Outcome::Ignored(Reason::NotReady);
         }
-        link.take(octets);
+        link.take(octets, self.moment);
         if octets < owed {
             return Outcome::Done;
         }
@@ -219,6 +224,8 @@ impl<V: Vault> Office<V> {
         ensures cause { (T : Trace) → StandsFor V.holds self.old T → V.is_clean (vault_of self.new) → HasCause (V.faults (vault_of self.old)) (V.faults (vault_of self.new)) (outcome_seen result) }
         ensures counted { V.faults (vault_of self.old) ≤ V.faults (vault_of self.new) }
         ensures clean { V.is_clean (vault_of self.new) → V.is_clean (vault_of self.old) }
+        ensures unasked { vault_of self.new ≡ vault_of self.old }
+        ensures done { (result ≡ Outcome.Done) ⊎ (result ≡ Outcome.Ignored Reason.NoSuchConnection) }
     {
         match self.links.remove(&c) {
             None => Outcome::Ignored(Reason::NoSuchConnection),
@@ -229,21 +236,26 @@ impl<V: Vault> Office<V> {
         }
     }
 
-    /// Does one event.
+    /// Does one event. An opening, the end of a connection, a tick and a restart ask no store; the last three take no memory and
+    /// never fail.
     pub fn step(&mut self, event: Event<'_>) -> Outcome
         ensures stands { (T : Trace) → StandsFor V.holds self.old T → V.is_clean (vault_of self.new) → StandsFor V.holds self.new (followed_by T (event_seen event.entry) result) }
         ensures outcome { (T : Trace) → StandsFor V.holds self.old T → V.is_clean (vault_of self.new) → IsOutcome T (lent_by self.old) (event_seen event.entry) (outcome_seen result) }
         ensures cause { (T : Trace) → StandsFor V.holds self.old T → V.is_clean (vault_of self.new) → HasCause (V.faults (vault_of self.old)) (V.faults (vault_of self.new)) (outcome_seen result) }
         ensures counted { V.faults (vault_of self.old) ≤ V.faults (vault_of self.new) }
         ensures clean { V.is_clean (vault_of self.new) → V.is_clean (vault_of self.old) }
+        ensures unasked { asks_no_store (event_seen event.entry) ≡ true → vault_of self.new ≡ vault_of self.old }
+        ensures succeeds { Succeeds (event_seen event.entry) (outcome_seen result) }
     {
         match event {
             Event::Connect => self.connect(),
             Event::Bytes(c, piece) => self.bytes(c, piece),
             Event::Took(c, octets) => self.took(c, octets),
             Event::Gone(c) => self.gone(c),
+            Event::Tick(now) => self.tick(now),
             Event::Deposit(maildrop, class, id, text) => self.deposit(maildrop, class, id, text),
             Event::Admin(command) => self.administer(command),
+            Event::Restart(boot) => self.restart(boot),
         }
     }
 

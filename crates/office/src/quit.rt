@@ -1,12 +1,12 @@
 //! The end of a session: what its QUIT removes, and the farewell (RFC 1939, 6).
-ghost use Rattle.std.specs.Prelude.{◌≡◌, ◌≤◌, List, Ok, OnErr, IfOk};
+ghost use Rattle.std.specs.Prelude.{◌≡◌, ◌≤◌, List, [], Ok, OnErr, IfOk};
 ghost use Rattle.popline.specs.Commands.{Quit};
 ghost use Rattle.popline.specs.Seen.{reply_seen};
 ghost use Rattle.vault.specs.Changes.{Contents};
 ghost use Rattle.vault.specs.Calls.{has_grown};
 ghost use Rattle.vault.specs.declared.record.Keyed.{Keyed};
 ghost use Rattle.office.specs.Replying.{quit_says};
-ghost use Rattle.office.specs.Sitting.{LiesIn, Obeyed};
+ghost use Rattle.office.specs.Sitting.{LiesIn, Obeyed, keys_to_remove};
 
 use crate::talk::Acted;
 use creds::Name;
@@ -42,6 +42,8 @@ pub(crate) fn quit<V: Vault>(
     ensures err { OnErr result ((c : Contents) → V.holds vault.old c → V.is_clean vault.new → V.holds vault.new c) }
     ensures counted { V.faults vault.old ≤ V.faults vault.new }
     ensures clean { V.is_clean vault.new → V.is_clean vault.old }
+    // Where nothing is to be removed, no store is asked.
+    ensures unasked { keys_to_remove policy.now session.now ≡ [] → vault.new ≡ vault.old }
 {
     let (keys, denied) = session.to_remove(policy)?;
     owed.reserve(REFUSAL_OCTETS)?;

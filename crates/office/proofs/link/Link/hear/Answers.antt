@@ -4,7 +4,7 @@ use Rattle.popline.specs.Replies.{bytes_of}
 use Rattle.popline.specs.Seen.{cut_seen}
 use Rattle.office.specs.Kept.{Kept, Desk, talk_after, line_after}
 use Rattle.office.specs.Answered.{judged_at, reply_of, IsSeated, Becomes, BecomesIf}
-use Rattle.office.proofs.Keeping.{line_answered, has_line, is_line}
+use Rattle.office.proofs.Keeping.{line_clocked, has_line, is_line}
 use Rattle.office.proofs.link.Link.hear.Goals as goal
 
 pub returns-clause-ok : goal.returns-clause-ok
@@ -25,13 +25,13 @@ returns-clause-ok g c d s held clean sits =
     let after = c.in_ok-acted.ensures.talk d s held clean seat in
     let said : c.answer.new.owed.items ≡ bytes_of (reply_of w desk k.talk s x) = rw (over, talking, c.clear.ensures.items) at given in
     let next : c.answer.new.talk ≡ talk_after x (reply_of w desk k.talk s x) k.talk = rw (over, talking) at after in
-    let owed : c.answer.new.owed.items ≡ k.owed ++ bytes_of (reply_of w desk k.talk s x) = rw c.requires said in
+    let owed : c.answer.new.owed.items ≡ k.owed ++ bytes_of (reply_of w desk k.talk s x) = rw c.requires.0 said in
     let n = c.feed-n.result in
     let slice : take (length p.now - n) (drop n p.now) ≡ drop n p.now = take_all (length p.now - n) (drop n p.now) (omega (arith, length-drop n p.now)) in
     let grown : c.extend_from_slice.new.self.items ≡ take (length p.now - n) (drop n p.now) = search rules in
     let behind : c.extend_from_slice.new.self.items ≡ drop n p.now = grown ∙ slice in
     let rest : c.extend_from_slice.new.self.items ≡ drop (through_newline p.now) p.now = rw (sym f.taken) behind in
-    line_answered k c.feed-n.new.self p.now x fed_is c.in-Some.ensures (λ y. reply_of w desk k.talk s y) c.extend_from_slice.new.self.items c.answer.new.owed.items c.answer.new.talk (string_bytes c.self.inside.stamp) c.answer.new.session (ap (λ (k : Kept). k.stamp) v) rest owed next
+    line_clocked k c.feed-n.new.self p.now x fed_is c.in-Some.ensures c.args.now (λ y. reply_of w desk k.talk s y) c.extend_from_slice.new.self.items c.answer.new.owed.items c.answer.new.talk (string_bytes c.self.inside.stamp) c.answer.new.session (ap (λ (k : Kept). k.stamp) v) rest owed next
 
 pub returns-clause-session : goal.returns-clause-session
 returns-clause-session g c d s held clean sits =

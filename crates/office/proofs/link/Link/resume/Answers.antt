@@ -37,7 +37,7 @@ returns-clause-ok g c d s held clean sits =
     let rest : drop (cut + n) octets ≡ drop (through_newline p) p =
     sym (drop-drop n cut octets) ∙ (ap (drop n) left ∙ ap (λ m. drop m p) (f.taken ∙ ap through_newline given)) in
     let fed_is = f.held ∙ (ap (λ (k : Kept). fed k.held (take (length c.deref.result.now - cut) (drop cut c.deref.result.now))) v ∙ ap (fed k.held) given) in
-    line_answered k c.feed.new.self p x fed_is c.in-Some.ensures (λ y. reply_of w desk k.talk s y) (drop (cut + n) octets) c.answer.new.owed.items c.answer.new.talk (string_bytes c.self.inside.stamp) c.answer.new.session (ap (λ (k : Kept). k.stamp) v) rest owed next
+    line_answered k c.feed.new.self p x fed_is c.in-Some.ensures (λ y. reply_of w desk k.talk s y) (drop (cut + n) octets) c.answer.new.owed.items c.answer.new.talk (string_bytes c.self.inside.stamp) c.answer.new.session c.self.inside.clock (ap (λ (k : Kept). k.stamp) v) (ap (λ (k : Kept). k.clock) v) rest owed next
 
 pub returns-clause-session : goal.returns-clause-session
 returns-clause-session g c d s held clean sits =

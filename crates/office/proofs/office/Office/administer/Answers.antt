@@ -29,3 +29,9 @@ returns-in-ShowPolicy-clause-stands g c T st clean = rw c.in-ShowPolicy.is (c.sh
 
 pub returns-in-SetPolicy-clause-stands : goal.returns-in-SetPolicy-clause-stands
 returns-in-SetPolicy-clause-stands g c T st clean = rw c.in-SetPolicy.is (c.set_policy.ensures.stands T st clean)
+
+pub returns-in-ListSessions-clause-stands : goal.returns-in-ListSessions-clause-stands
+returns-in-ListSessions-clause-stands g c T st clean = rw c.in-ListSessions.is (c.list_sessions.ensures.stands T st clean)
+
+pub returns-in-EndSession-clause-stands : goal.returns-in-EndSession-clause-stands
+returns-in-EndSession-clause-stands g c T st clean = rw c.in-EndSession.is (c.end_session.ensures.stands T st clean)

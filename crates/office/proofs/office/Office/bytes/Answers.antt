@@ -6,7 +6,7 @@ use Rattle.office.specs.History.{NoMemory}
 use Rattle.office.specs.Trace.{acts}
 use Rattle.office.specs.Locks.{Released}
 use Rattle.office.specs.Expected.{most_in_a_piece}
-use Rattle.office.specs.Kept.{Kept}
+use Rattle.office.specs.Kept.{Kept, clocked}
 use Rattle.office.specs.Answered.{tag_of}
 use Rattle.office.specs.Stands.{Matches, IsKeptFor, seen, lent_by}
 use Rattle.office.proofs.Events.{moved, marked, seen-bytes_other, whole-bytes, is_apart, line_cause, next_there, awaits_bytes, records-bytes_lacking, over-bytes, bytes_goes}
@@ -35,14 +35,14 @@ returns-in-Ok-clause-stands g c T st clean =
     let updates = (c.get_mut.follows.holds k').3 (search rules) in
     let kept : get nat_cmp (c.get_mut.follows.lender k') n ≡ Some k' = updates.1 in
     let sound : AreSound ct = g.met.V.Vault.sound o.vault ct st.keeps.held (c.hear.ensures.clean clean) in
-    let j = judged T n p st.keeps sound o.policy st.policy o.locks st.locks k m nothing fits in
+    let j = judged T n p st.keeps sound o.policy st.policy o.locks st.locks o.moment st.moment k m nothing fits in
     let does = c.in-Ok.ensures in
     let may = λ (f : w ≡ acted.Failed). does.may f ct j.sitting st.keeps.held clean j.seated in
     let is = does.ok ct j.sitting st.keeps.held clean j.seated in
     let became = does.session ct j.sitting st.keeps.held clean j.seated in
     moved g.V.Vault.holds o _ T (Bytes n p) _ (tag_of w) n (marked w _ c.shown.ensures) st refl refl refl refl refl refl (whole-bytes T n p (tag_of w)) refl refl
     (rw found refl) (λ q e. seen-bytes_other T n p q (tag_of w) e) (λ q ne. updates.2 q (is_apart n q ne))
-    (piece_moves T n p st.keeps sound o.policy st.policy o.locks st.locks k m nothing fits w k' _ may is does.lines became does.locks g.V.Vault.holds o _ kept refl
+    (piece_moves T n p st.keeps sound o.policy st.policy o.locks st.locks o.moment st.moment k m nothing fits w k' _ may is does.lines became does.locks g.V.Vault.holds o _ kept refl
     (does.held ct j.sitting st.keeps.held clean j.seated))
 
 pub returns-in-Ok-clause-outcome : goal.returns-in-Ok-clause-outcome
@@ -60,9 +60,9 @@ returns-in-Ok-clause-outcome g c T st clean =
     let nothing : k.owed ≡ [] = sym c.owed.ensures ∙ shown in
     let fits : length p ≤ most_in_a_piece = search rules in
     let sound : AreSound ct = g.met.V.Vault.sound o.vault ct st.keeps.held (c.hear.ensures.clean clean) in
-    let j = judged T n p st.keeps sound o.policy st.policy o.locks st.locks k m nothing fits in
+    let j = judged T n p st.keeps sound o.policy st.policy o.locks st.locks o.moment st.moment k m nothing fits in
     let does = c.in-Ok.ensures in
-    piece_answered T n p st.keeps sound o.policy st.policy o.locks st.locks k m nothing fits w k' o.locks
+    piece_answered T n p st.keeps sound o.policy st.policy o.locks st.locks o.moment st.moment k m nothing fits w k' o.locks
     (λ f. does.may f ct j.sitting st.keeps.held clean j.seated) (does.ok ct j.sitting st.keeps.held clean j.seated) does.lines (lent_by o) _ c.shown.ensures
 
 pub returns-in_default-clause-stands : goal.returns-in_default-clause-stands
@@ -102,7 +102,7 @@ returns-in-Ok-clause-cause g c T st clean =
     let nothing : k.owed ≡ [] = sym c.owed.ensures ∙ shown in
     let fits : length p ≤ most_in_a_piece = search rules in
     let sound : AreSound ct = g.met.V.Vault.sound o.vault ct st.keeps.held (c.hear.ensures.clean clean) in
-    let j = judged T n p st.keeps sound o.policy st.policy o.locks st.locks k m nothing fits in
+    let j = judged T n p st.keeps sound o.policy st.policy o.locks st.locks o.moment st.moment k m nothing fits in
     line_cause (g.V.Vault.faults o.vault) (g.V.Vault.faults c.hear.new.vault) w _ c.shown.ensures (λ f. c.in-Ok.ensures.cause f ct j.sitting st.keeps.held clean j.seated)
 
 pub returns-in-Err-clause-stands : goal.returns-in-Err-clause-stands
@@ -119,7 +119,7 @@ returns-in-Err-clause-stands g c T st clean =
     let nothing : k.owed ≡ [] = sym c.owed.ensures ∙ shown in
     let fits : length p ≤ most_in_a_piece = search rules in
     let line = c.in-Err.ensures.err in
-    let x = next_there ct (streamed (seen T n) p) k p (awaits_bytes ct (seen T n) k p m nothing fits) line in
+    let x = next_there ct (streamed (seen T n) p o.moment) (clocked o.moment p k) p (awaits_bytes ct (seen T n) k p o.moment m nothing fits) line in
     let first = (c.get_mut.follows.holds k').3 (search rules) in
     let second = c.remove.ensures.updates in
     moved g.V.Vault.holds o _ T (Bytes n p) _ NoMemory n refl st refl refl refl refl refl refl (whole-bytes T n p NoMemory) refl refl

@@ -3,7 +3,8 @@ use Rattle.std.specs.Map.{lookup}
 use Rattle.std.specs.BTreeMap.{get, is_at}
 use Rattle.office.specs.Kept.{Kept}
 use Rattle.office.specs.Locks.{Released}
-use Rattle.office.proofs.Coming.{nothing_stands, ignored_event, gone_stands}
+use Rattle.office.proofs.Coming.{nothing_stands, ignored_event}
+use Rattle.office.proofs.Ending.{gone_ends, ended_stands}
 use Rattle.office.proofs.office.Office.gone.Goals as goal
 
 pub returns-in-None-clause-stands : goal.returns-in-None-clause-stands
@@ -15,5 +16,5 @@ pub returns-in-Some-clause-stands : goal.returns-in-Some-clause-stands
 returns-in-Some-clause-stands g c T st clean =
     let k : Kept = c.in-Some.link in
     let found : get nat_cmp c.args.self.now.links c.args.c ≡ Some k = sym c.in-Some.ensures.value in
-    gone_stands g.V.Vault.holds c.args.self.now _ T c.args.c st k found (λ k h. h) refl refl refl refl refl c.remove.ensures.updates
+    ended_stands g.V.Vault.holds c.args.self.now _ T _ _ c.args.c (gone_ends T c.args.c) st k found (λ k h. h) refl refl refl refl refl c.remove.ensures.updates
     (subst (λ m. Released m c.args.self.now.locks c.release.new.locks) c.maildrop.ensures c.release.ensures)

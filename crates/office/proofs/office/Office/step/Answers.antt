@@ -17,3 +17,6 @@ returns-in-Deposit-clause-stands g c T st clean = rw c.in-Deposit.is (c.deposit.
 
 pub returns-in-Admin-clause-stands : goal.returns-in-Admin-clause-stands
 returns-in-Admin-clause-stands g c T st clean = rw c.in-Admin.is (c.administer.ensures.stands T st clean)
+
+pub returns-in-Tick-clause-stands : goal.returns-in-Tick-clause-stands
+returns-in-Tick-clause-stands g c T st clean = rw c.in-Tick.is (c.tick.ensures.stands T st clean)

@@ -53,7 +53,7 @@ returns-then-octets-owed-2-clause-stands g c T st clean =
     let owed : c.owed-owed.result.now ≡ untaken_of s = c.owed-owed.ensures ∙ m.owed in
     let less : n < length (untaken_of s) = rw owed at c.if-octets-owed-2.true in
     let change = (c.get_mut.follows.holds k').3 (search rules) in
-    let here : Matches ct (seen (given T (Took x n) (Tagged Done)) x) k' = rw (seen-took_part T x n (left_over s k n less), c.take.ensures) (part_took ct s k n m less) in
+    let here : Matches ct (seen (given T (Took x n) (Tagged Done)) x) k' = rw (seen-took_part T x n o.moment st.moment (left_over s k n less), c.take.ensures) (part_took ct s k n o.moment m less) in
     moved g.V.Vault.holds o _ T (Took x n) _ Done x refl st refl refl refl refl refl refl (whole-took T x n Done) refl refl (rw found refl)
     (λ q e. seen-took_other T x n q Done e) (λ q ne. change.2 q (is_apart x q ne)) (record {
       contents = ct;
@@ -85,7 +85,7 @@ returns-then-is_closing-clause-stands g c T st clean =
       contents = ct;
       held = st.keeps.held;
       agree = rw (records-took_closing T x n (all_over s n all) closed) st.keeps.agree;
-      here = rw (second.1, seen-took_closing T x n (all_over s n all) closed) (record { closed = closed_took s n all closed; outside = m.parted closed });
+      here = rw (second.1, seen-took_closing T x n o.moment st.moment (all_over s n all) closed) (record { closed = closed_took s n o.moment all closed; outside = m.parted closed });
       carried = λ q e i. i;
       locks = λ d. st.locks d ∙ sym (same_closing T x n (all_over s n all) closed d);
     })
@@ -107,15 +107,15 @@ returns-in-Ok-clause-stands g c T st clean =
     let within : n ≤ length (untaken_of s) = rw owed at c.if-octets-owed.false in
     let open_yet : s.closing ≡ false = sym m.closing ∙ (sym (ap (λ (k : Kept). k.talk.closing) c.take.ensures) ∙ (sym c.is_closing.ensures ∙ c.if-is_closing.false)) in
     let change = (c.get_mut.follows.holds k').3 (search rules) in
-    let ready : Awaits ct (took s n) k1 k1.pending = rw c.take.ensures (awaits_took ct s k n m (omega arith) open_yet) in
+    let ready : Awaits ct (took s n o.moment) k1 k1.pending = rw c.take.ensures (awaits_took ct s k n o.moment m (omega arith) open_yet) in
     let w = c.in-Ok.acted in
     let sound : AreSound ct = g.met.V.Vault.sound o.vault ct st.keeps.held (c.resume.ensures.clean clean) in
     let over = all_over s n all in
-    let j = judged T x n st.keeps sound o.policy st.policy o.locks st.locks k1 ready over open_yet in
+    let j = judged T x n st.keeps sound o.policy st.policy o.locks st.locks o.moment st.moment k1 ready over open_yet in
     let does = c.in-Ok.ensures in
     moved g.V.Vault.holds o _ T (Took x n) _ (tag_of w) x (marked w _ c.shown.ensures) st refl refl refl refl refl refl (whole-took T x n (tag_of w)) refl refl
     (rw found refl) (λ q e. seen-took_other T x n q (tag_of w) e) (λ q ne. change.2 q (is_apart x q ne))
-    (taking_moves T x n st.keeps sound o.policy st.policy o.locks st.locks k1 ready over open_yet w k' _ (λ (f : w ≡ acted.Failed). does.may f ct j.sitting st.keeps.held clean j.seated)
+    (taking_moves T x n st.keeps sound o.policy st.policy o.locks st.locks o.moment st.moment k1 ready over open_yet w k' _ (λ (f : w ≡ acted.Failed). does.may f ct j.sitting st.keeps.held clean j.seated)
     (does.ok ct j.sitting st.keeps.held clean j.seated) does.lines (does.session ct j.sitting st.keeps.held clean j.seated) does.locks g.V.Vault.holds o _ change.1 refl
     (does.held ct j.sitting st.keeps.held clean j.seated))
 
@@ -134,10 +134,10 @@ returns-in-Ok-clause-cause g c T st clean =
     let all : length (untaken_of s) ≤ n = rw owed at c.if-octets-owed-2.false in
     let within : n ≤ length (untaken_of s) = rw owed at c.if-octets-owed.false in
     let open_yet : s.closing ≡ false = sym m.closing ∙ (sym (ap (λ (k : Kept). k.talk.closing) c.take.ensures) ∙ (sym c.is_closing.ensures ∙ c.if-is_closing.false)) in
-    let ready : Awaits ct (took s n) k1 k1.pending = rw c.take.ensures (awaits_took ct s k n m (omega arith) open_yet) in
+    let ready : Awaits ct (took s n o.moment) k1 k1.pending = rw c.take.ensures (awaits_took ct s k n o.moment m (omega arith) open_yet) in
     let w = c.in-Ok.acted in
     let sound : AreSound ct = g.met.V.Vault.sound o.vault ct st.keeps.held (c.resume.ensures.clean clean) in
-    let j = judged T x n st.keeps sound o.policy st.policy o.locks st.locks k1 ready (all_over s n all) open_yet in
+    let j = judged T x n st.keeps sound o.policy st.policy o.locks st.locks o.moment st.moment k1 ready (all_over s n all) open_yet in
     line_cause (g.V.Vault.faults o.vault) (g.V.Vault.faults c.resume.new.vault) w _ c.shown.ensures (λ f. c.in-Ok.ensures.cause f ct j.sitting st.keeps.held clean j.seated)
 
 pub returns-in-Ok-clause-outcome : goal.returns-in-Ok-clause-outcome
@@ -156,14 +156,14 @@ returns-in-Ok-clause-outcome g c T st clean =
     let all : length (untaken_of s) ≤ n = rw owed at c.if-octets-owed-2.false in
     let within : n ≤ length (untaken_of s) = rw owed at c.if-octets-owed.false in
     let open_yet : s.closing ≡ false = sym m.closing ∙ (sym (ap (λ (k : Kept). k.talk.closing) c.take.ensures) ∙ (sym c.is_closing.ensures ∙ c.if-is_closing.false)) in
-    let ready : Awaits ct (took s n) k1 k1.pending = rw c.take.ensures (awaits_took ct s k n m (omega arith) open_yet) in
+    let ready : Awaits ct (took s n o.moment) k1 k1.pending = rw c.take.ensures (awaits_took ct s k n o.moment m (omega arith) open_yet) in
     let w = c.in-Ok.acted in
     let sound : AreSound ct = g.met.V.Vault.sound o.vault ct st.keeps.held (c.resume.ensures.clean clean) in
     let over = all_over s n all in
-    let j = judged T x n st.keeps sound o.policy st.policy o.locks st.locks k1 ready over open_yet in
+    let j = judged T x n st.keeps sound o.policy st.policy o.locks st.locks o.moment st.moment k1 ready over open_yet in
     let does = c.in-Ok.ensures in
     let goes = took_goes T (lent_by o) x n m.opened (search rules) (rw (found, m.owed) within) in
-    taking_answered T x n st.keeps sound o.policy st.policy o.locks st.locks k1 ready over open_yet w k' o.locks (λ (f : w ≡ acted.Failed). does.may f ct j.sitting st.keeps.held clean j.seated)
+    taking_answered T x n st.keeps sound o.policy st.policy o.locks st.locks o.moment st.moment k1 ready over open_yet w k' o.locks (λ (f : w ≡ acted.Failed). does.may f ct j.sitting st.keeps.held clean j.seated)
     (does.ok ct j.sitting st.keeps.held clean j.seated) does.lines (lent_by o) _ goes c.shown.ensures
 
 pub returns-in-Err-clause-stands : goal.returns-in-Err-clause-stands
@@ -182,8 +182,8 @@ returns-in-Err-clause-stands g c T st clean =
     let all : length (untaken_of s) ≤ n = rw owed at c.if-octets-owed-2.false in
     let within : n ≤ length (untaken_of s) = rw owed at c.if-octets-owed.false in
     let open_yet : s.closing ≡ false = sym m.closing ∙ (sym (ap (λ (k : Kept). k.talk.closing) c.take.ensures) ∙ (sym c.is_closing.ensures ∙ c.if-is_closing.false)) in
-    let ready : Awaits ct (took s n) k1 k1.pending = rw c.take.ensures (awaits_took ct s k n m (omega arith) open_yet) in
-    let next = next_there ct (took s n) k1 k1.pending ready c.in-Err.ensures.err in
+    let ready : Awaits ct (took s n o.moment) k1 k1.pending = rw c.take.ensures (awaits_took ct s k n o.moment m (omega arith) open_yet) in
+    let next = next_there ct (took s n o.moment) k1 k1.pending ready c.in-Err.ensures.err in
     let first = (c.get_mut.follows.holds k').3 (search rules) in
     let second = c.remove-in-Err.ensures.updates in
     let over = over-took T x n next.0 (all_over s n all) open_yet (next_kept T x ∙ next.1) in
@@ -215,8 +215,8 @@ returns-in-Err-clause-outcome g c T st clean =
     let all : length (untaken_of s) ≤ n = rw owed at c.if-octets-owed-2.false in
     let within : n ≤ length (untaken_of s) = rw owed at c.if-octets-owed.false in
     let open_yet : s.closing ≡ false = sym m.closing ∙ (sym (ap (λ (k : Kept). k.talk.closing) c.take.ensures) ∙ (sym c.is_closing.ensures ∙ c.if-is_closing.false)) in
-    let ready : Awaits ct (took s n) k1 k1.pending = rw c.take.ensures (awaits_took ct s k n m (omega arith) open_yet) in
-    let next = next_there ct (took s n) k1 k1.pending ready c.in-Err.ensures.err in
+    let ready : Awaits ct (took s n o.moment) k1 k1.pending = rw c.take.ensures (awaits_took ct s k n o.moment m (omega arith) open_yet) in
+    let next = next_there ct (took s n o.moment) k1 k1.pending ready c.in-Err.ensures.err in
     let line = next_kept T x ∙ next.1 in
     let goes = took_goes T (lent_by o) x n m.opened (search rules) (rw (found, m.owed) within) in
     record { tag = NoMemory; may = rw (all_over s n all, open_yet, line) refl; is = rw goes refl }

@@ -1,0 +1,89 @@
+//! What an administrator asks about sessions.
+ghost use Rattle.std.specs.Prelude.{◌≡◌, ◌≤◌, ◌∷◌, ◌++◌, [], map, IfOk, OnOk};
+ghost use Rattle.std.specs.List.{filter_map};
+ghost use Rattle.std.specs.Ordering.{nat_cmp};
+ghost use Rattle.std.specs.BTreeMap.{get, IsOrdered};
+ghost use Rattle.office.specs.Events.{Trace};
+ghost use Rattle.office.specs.Events as event;
+ghost use Rattle.office.specs.Answers as asked;
+ghost use Rattle.office.specs.Shown.{outcome_seen, followed_by, session_seen};
+ghost use Rattle.office.specs.Expected.{IsOutcome};
+ghost use Rattle.office.specs.Outcomes.{HasCause};
+ghost use Rattle.office.specs.Stands.{StandsFor, lent_by, vault_of};
+ghost use Rattle.office.specs.InSession.{name_at, kept_row};
+
+use crate::link::Link;
+use crate::locks::release;
+use crate::{Answer, Office, Outcome, SessionRow, Sessions};
+use creds::LoginName;
+use std::alloc::{AllocError, Global};
+use std::collections::BTreeMap;
+use vault::Vault;
+
+/// Puts a connection's session behind the others, where it has one.
+fn put_session(rows: &mut Vec<SessionRow>, number: u64, link: &Link) -> Result<(), AllocError>
+    ensures { OnOk result (map session_seen rows.new.items ≡ map session_seen rows.old.items ++ filter_map kept_row ((number, link.now) ∷ [])) }
+{
+    if let Some(name) = link.login() {
+        rows.push(SessionRow { number, name })?;
+    }
+    Ok(())
+}
+
+/// The sessions of the connections that are kept, by number.
+fn sessions_of(alloc: Global, links: &BTreeMap<u64, Link>) -> Result<Vec<SessionRow>, AllocError>
+    ensures rows { IfOk result (λ rows. map session_seen rows.items ≡ filter_map kept_row links.now.entries) }
+    ensures ordered { IsOrdered nat_cmp links.now }
+{
+    let mut rows = Vec::new(alloc);
+    for (number, link) in links.iter() {
+        put_session(&mut rows, *number, link)?;
+    }
+    Ok(rows)
+}
+
+impl<V: Vault> Office<V> {
+    /// Who is in session on a connection.
+    fn login_at(&self, c: u64) -> Option<LoginName>
+        ensures { result ≡ name_at (get nat_cmp self.now.links c) }
+    {
+        match self.links.get(&c) {
+            None => None,
+            Some(link) => link.login(),
+        }
+    }
+
+    /// The sessions, by their connections' numbers.
+    pub(crate) fn list_sessions(&mut self) -> Outcome
+        ensures stands { (T : Trace) → StandsFor V.holds self.old T → V.is_clean (vault_of self.new) → StandsFor V.holds self.new (followed_by T (event.Admin asked.ListSessions) result) }
+        ensures outcome { (T : Trace) → StandsFor V.holds self.old T → V.is_clean (vault_of self.new) → IsOutcome T (lent_by self.old) (event.Admin asked.ListSessions) (outcome_seen result) }
+        ensures cause { (T : Trace) → StandsFor V.holds self.old T → V.is_clean (vault_of self.new) → HasCause (V.faults (vault_of self.old)) (V.faults (vault_of self.new)) (outcome_seen result) }
+        ensures counted { V.faults (vault_of self.old) ≤ V.faults (vault_of self.new) }
+        ensures clean { V.is_clean (vault_of self.new) → V.is_clean (vault_of self.old) }
+        ensures unasked { vault_of self.new ≡ vault_of self.old }
+    {
+        match sessions_of(self.alloc, &self.links) {
+            Ok(rows) => Outcome::Answered(Answer::Sessions(Sessions::new(rows))),
+            Err(_) => Outcome::NoMemory,
+        }
+    }
+
+    /// Ends a session and its connection, and lets its maildrop go.
+    pub(crate) fn end_session(&mut self, c: u64) -> Outcome
+        ensures stands { (T : Trace) → StandsFor V.holds self.old T → V.is_clean (vault_of self.new) → StandsFor V.holds self.new (followed_by T (event.Admin (asked.EndSession c)) result) }
+        ensures outcome { (T : Trace) → StandsFor V.holds self.old T → V.is_clean (vault_of self.new) → IsOutcome T (lent_by self.old) (event.Admin (asked.EndSession c)) (outcome_seen result) }
+        ensures cause { (T : Trace) → StandsFor V.holds self.old T → V.is_clean (vault_of self.new) → HasCause (V.faults (vault_of self.old)) (V.faults (vault_of self.new)) (outcome_seen result) }
+        ensures counted { V.faults (vault_of self.old) ≤ V.faults (vault_of self.new) }
+        ensures clean { V.is_clean (vault_of self.new) → V.is_clean (vault_of self.old) }
+        ensures unasked { vault_of self.new ≡ vault_of self.old }
+    {
+        match self.login_at(c) {
+            None => Outcome::Answered(Answer::NoSuchSession),
+            Some(name) => {
+                let _ = self.links.remove(&c);
+                release(&mut self.locks, Some(name.maildrop));
+                Outcome::Answered(Answer::Ended)
+            }
+        }
+    }
+}

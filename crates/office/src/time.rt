@@ -1,0 +1,68 @@
+//! The present moment, and restarts.
+ghost use Rattle.std.specs.Prelude.{◌≡◌, ◌≤◌, ℕ, List};
+ghost use Rattle.std.specs.Ordering.{nat_cmp};
+ghost use Rattle.std.specs.BTreeMap.{get};
+ghost use Rattle.office.specs.Answered.{name_cmp};
+ghost use Rattle.office.specs.Idle.{unless_idle, lock_of_kept};
+ghost use Rattle.office.specs.Events.{Trace};
+ghost use Rattle.office.specs.Events as event;
+ghost use Rattle.office.specs.Shown.{outcome_seen, followed_by};
+ghost use Rattle.office.specs.Expected.{IsOutcome};
+ghost use Rattle.office.specs.Outcomes.{HasCause};
+ghost use Rattle.office.specs.Stands.{StandsFor, lent_by, vault_of};
+
+use crate::link::Link;
+use crate::locks::Locks;
+use crate::{Office, Outcome};
+use std::collections::BTreeMap;
+use vault::Vault;
+
+/// Ends the connections that have done nothing for so many seconds at this moment.
+fn end_idle(links: &mut BTreeMap<u64, Link>, moment: u64, seconds: u64)
+    ensures { (c : ℕ) → get nat_cmp links.new c ≡ unless_idle moment seconds (get nat_cmp links.old c) }
+{
+    links.retain(|_, link| !link.is_idle(moment, seconds));
+}
+
+/// Lets go the maildrops of connections that are no more.
+fn release_ended(locks: &mut Locks, links: &BTreeMap<u64, Link>)
+    ensures { (d : List ℕ) → get name_cmp locks.new d ≡ lock_of_kept links.now (get name_cmp locks.old d) }
+{
+    locks.retain(|_, number| links.contains_key(&*number));
+}
+
+impl<V: Vault> Office<V> {
+    /// Sets the moment, and ends each connection that has done nothing for the idle seconds. It takes no memory.
+    pub(crate) fn tick(&mut self, now: u64) -> Outcome
+        ensures stands { (T : Trace) → StandsFor V.holds self.old T → V.is_clean (vault_of self.new) → StandsFor V.holds self.new (followed_by T (event.Tick now) result) }
+        ensures outcome { (T : Trace) → StandsFor V.holds self.old T → V.is_clean (vault_of self.new) → IsOutcome T (lent_by self.old) (event.Tick now) (outcome_seen result) }
+        ensures cause { (T : Trace) → StandsFor V.holds self.old T → V.is_clean (vault_of self.new) → HasCause (V.faults (vault_of self.old)) (V.faults (vault_of self.new)) (outcome_seen result) }
+        ensures counted { V.faults (vault_of self.old) ≤ V.faults (vault_of self.new) }
+        ensures clean { V.is_clean (vault_of self.new) → V.is_clean (vault_of self.old) }
+        ensures unasked { vault_of self.new ≡ vault_of self.old }
+        ensures done { result ≡ Outcome.Done }
+    {
+        self.moment = self.moment.max(now);
+        end_idle(&mut self.links, self.moment, self.limits.idle());
+        release_ended(&mut self.locks, &self.links);
+        Outcome::Done
+    }
+
+    /// Ends every connection, and counts connections anew under another number. It takes no memory.
+    pub(crate) fn restart(&mut self, boot: u64) -> Outcome
+        ensures stands { (T : Trace) → StandsFor V.holds self.old T → V.is_clean (vault_of self.new) → StandsFor V.holds self.new (followed_by T (event.Restart boot) result) }
+        ensures outcome { (T : Trace) → StandsFor V.holds self.old T → V.is_clean (vault_of self.new) → IsOutcome T (lent_by self.old) (event.Restart boot) (outcome_seen result) }
+        ensures cause { (T : Trace) → StandsFor V.holds self.old T → V.is_clean (vault_of self.new) → HasCause (V.faults (vault_of self.old)) (V.faults (vault_of self.new)) (outcome_seen result) }
+        ensures counted { V.faults (vault_of self.old) ≤ V.faults (vault_of self.new) }
+        ensures clean { V.is_clean (vault_of self.new) → V.is_clean (vault_of self.old) }
+        ensures unasked { vault_of self.new ≡ vault_of self.old }
+        ensures done { result ≡ Outcome.Done }
+    {
+        self.links.clear();
+        self.locks.clear();
+        self.opened = 0;
+        self.moment = 0;
+        self.boot = boot;
+        Outcome::Done
+    }
+}
