@@ -1,5 +1,6 @@
 -- What a call of `talk` leaves: of which trace the office then stands, by what the call answered.
-use Rattle.std.specs.Prelude.{◌≡◌, ℕ, Bool, true, false, ◌≤◌, ◌⊎◌, ◌^◌, ◌-◌, List, ◌∷◌, length, Result, Ok, Err}
+use Rattle.std.specs.Prelude.{◌≡◌, ℕ, Bool, true, false, ◌≤◌, ◌⊎◌, ◌^◌, ◌-◌, ◌==◌, List, ◌∷◌, ◌++◌, length, Result, Ok, Err}
+use Rattle.std.specs.List.{list_all}
 use Rattle.vault.specs.Records.{Records}
 use Rattle.vault.specs.Changes.{Contents}
 use Rattle.office.specs.History.{Act, Tag, NoMemory}
@@ -17,17 +18,32 @@ use Rattle.converse.specs.Talk.{NeverBegins, Talks, TalksInPart, BreaksOff, Brea
 abbrev pub trace_of : Records → Log → Trace
 trace_of B L = record { base = B; log = L }
 
--- an office stands for a trace over these records, of whose log this holds
-pub record StandsSo {V : Type 0} (Holds : V → Contents → Type 0) (o : Office V) (B : Records) (P : Log → Type 0) : Type 0 where
+-- an event of connection c, behind its opening
+abbrev pub is_own : ℕ → Event × Mark → Bool
+is_own c (event.Bytes number piece, m) = number == c
+is_own c (event.Took number octets, m) = number == c
+is_own c (event.Gone number, m) = number == c
+is_own c _ = false
+
+-- a log is an older one, an opening (or one that was refused), and events of connection c alone
+pub record Extends (c : ℕ) (older L : Log) : Type 0 where
+  pub opening : Mark
+  pub own : Log
+  pub each : list_all (is_own c) own ≡ true
+  pub is : L ≡ own ++ (event.Connect, opening) ∷ older
+
+-- an office stands for a trace that goes on from T by one opening and the events of connection c, and of its log this holds
+pub record StandsSo {V : Type 0} (Holds : V → Contents → Type 0) (o : Office V) (T : Trace) (c : ℕ) (P : Log → Type 0) : Type 0 where
   pub log : Log
-  pub stands : StandsFor Holds o (trace_of B log)
+  pub stands : StandsFor Holds o (trace_of T.base log)
+  pub own : Extends c T.log log
   pub so : P log
 
 -- so many octets were read, or so many written
 abbrev pub IsEndless : (octets written : List ℕ) → Type 0
 IsEndless octets written = (2 ^ 64 - 1 ≤ length octets) ⊎ (2 ^ 64 - 1 ≤ length written)
 
--- the last event of a log met want of memory
+-- the last event of a log met want of memory; where the log extends an older one, that is the opening or an event of the connection
 abbrev pub MetLack : Log → Type 0
 MetLack L = (e : Event) × (before : Log) × (L ≡ (e, Tagged NoMemory) ∷ before)
 

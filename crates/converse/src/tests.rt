@@ -192,12 +192,14 @@ fn only_a_quit_removes(rt: HostRuntime) -> Result<(), Fail> {
 #[test]
 fn replies_are_written_before_the_next_read(rt: HostRuntime) -> Result<(), Fail> {
     let alloc = rt.alloc();
+    let orders = Name::read(b"orders").ok_or("name")?;
+    let want = format!(in alloc; "{GREETING}{SEND_PASS}{LOGGED_IN}{MARKED}")?;
     for most in [1, 7, 1000] {
-        let mut office = opened(alloc)?;
+        let mut office = with_a_message(alloc, orders)?;
         let written = Cell::new(0);
         let mut reader = Lines {
-            lines: &[b"CAPA\r\n", b"USER ann/orders\r\n", b"QUIT\r\n"],
-            wanted: &[36, 109, 124],
+            lines: &[b"USER ann/orders\n", b"PASS s3 cret\n", b"DELE 1\n"],
+            wanted: &[36, 51, 91],
             told: 0,
             written: &written,
         };
@@ -207,8 +209,8 @@ fn replies_are_written_before_the_next_read(rt: HostRuntime) -> Result<(), Fail>
             written: &written,
         };
         assert!(rt; talk(&mut office, &mut reader, &mut writer).is_ok());
-        let want = format!(in alloc; "{GREETING}{CAPABILITIES}{SEND_PASS}{BYE}")?;
         assert!(rt; writer.text.as_slice() == want.as_bytes());
+        assert!(rt; messages_in(&mut office, orders) == Some(1));
     }
     Ok(())
 }

@@ -1,4 +1,4 @@
-use Rattle.std.proofs.Common.{◌≡◌, ◌∷◌, [], MatchResult, sym, subst}
+use Rattle.std.proofs.Common.{◌≡◌, ◌∷◌, [], MatchResult, refl, sym, subst}
 use Rattle.office.specs.Events as event
 use Rattle.office.specs.Log.{next_number}
 use Rattle.office.specs.Trace.{acts}
@@ -15,6 +15,7 @@ returns-clause-began g c = λ T st clean.
     record {
       log = log;
       stands = c.step.ensures.stands T st clean;
+      own = record { opening = mark_of (outcome_seen c.step.result); own = []; each = refl; is = refl };
       so = subst (λ r. MatchResult r (λ n. (n ≡ next_number T.log) × GoesOn T.base (next_number T.log) (acts T) [] [] log) (λ e. Refuses T e log)) (sym c.opened.ensures)
           (connects T (lent_by c.args.office.now) (outcome_seen c.step.result) (c.step.ensures.outcome T st clean));
     })

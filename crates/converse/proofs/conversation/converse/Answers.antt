@@ -1,5 +1,6 @@
 use Rattle.std.proofs.Common.{◌≡◌, ◌++◌, ◌<◌, length, length-append, cond, MatchResult, Err, Ok, sym, ap, subst, arith, true, false, ◌⊎◌, inl, inr}
 use Rattle.std.specs.Io.KnownBytes.{IsAtEnd}
+use Rattle.office.specs.Trace.{acts}
 use Rattle.office.specs.Stands.{vault_of}
 use Rattle.converse.specs.Talked.{IsEndless}
 use Rattle.converse.specs.Conversing.{GoesOn, Waits, IsOver, IsCut, Breaks}
@@ -18,13 +19,13 @@ returns-in_err-write_owed-clause-talked g c =
       s.consumes,
       appends_then _ _ _ s.written d.0 s.appends d.1,
       talked_then g.V.Vault.holds g.V.Vault.faults g.V.Vault.is_clean c.args.office.now c.loop.office c.write_owed.new.office c.args.c _ _ _ _ c.loop.counter s d.0
-          (λ before B past octets written L. MatchResult c.from_residual.result (λ _. (Waits B c.args.c past octets written L × IsAtEnd (g.R.Read.remaining c.loop.reader)) ⊎ IsOver before (g.V.Vault.faults (vault_of c.write_owed.new.office)) B c.args.c past octets written L) (λ x. IsCut x B c.args.c past octets written L))
+          (λ before T octets written L. MatchResult c.from_residual.result (λ _. (Waits T.base c.args.c (acts T) octets written L × IsAtEnd (g.R.Read.remaining c.loop.reader)) ⊎ IsOver before (g.V.Vault.faults (vault_of c.write_owed.new.office)) T.base c.args.c (acts T) octets written L) (λ x. IsCut x T.base c.args.c (acts T) octets written L))
           c.in_err-write_owed.ensures.clean
-          (λ before B past octets written first clean w. so_by g.V.Vault.holds g.V.Vault.faults g.V.Vault.is_clean c.write_owed.new.office B
-          (λ L. IsCut f B c.args.c past octets (written ++ d.0) L)
-          (λ L. MatchResult c.from_residual.result (λ _. (Waits B c.args.c past octets (written ++ d.0) L × IsAtEnd (g.R.Read.remaining c.loop.reader)) ⊎ IsOver before (g.V.Vault.faults (vault_of c.write_owed.new.office)) B c.args.c past octets (written ++ d.0) L) (λ x. IsCut x B c.args.c past octets (written ++ d.0) L))
-          (λ L h. subst (λ r. MatchResult r (λ _. (Waits B c.args.c past octets (written ++ d.0) L × IsAtEnd (g.R.Read.remaining c.loop.reader)) ⊎ IsOver before (g.V.Vault.faults (vault_of c.write_owed.new.office)) B c.args.c past octets (written ++ d.0) L) (λ x. IsCut x B c.args.c past octets (written ++ d.0) L)) (sym e) h)
-          (d.2 before B past octets written first clean w)),
+          (λ before T octets written first clean w. so_by g.V.Vault.holds g.V.Vault.faults g.V.Vault.is_clean c.write_owed.new.office T c.args.c
+          (λ L. IsCut f T.base c.args.c (acts T) octets (written ++ d.0) L)
+          (λ L. MatchResult c.from_residual.result (λ _. (Waits T.base c.args.c (acts T) octets (written ++ d.0) L × IsAtEnd (g.R.Read.remaining c.loop.reader)) ⊎ IsOver before (g.V.Vault.faults (vault_of c.write_owed.new.office)) T.base c.args.c (acts T) octets (written ++ d.0) L) (λ x. IsCut x T.base c.args.c (acts T) octets (written ++ d.0) L))
+          (λ L h. subst (λ r. MatchResult r (λ _. (Waits T.base c.args.c (acts T) octets (written ++ d.0) L × IsAtEnd (g.R.Read.remaining c.loop.reader)) ⊎ IsOver before (g.V.Vault.faults (vault_of c.write_owed.new.office)) T.base c.args.c (acts T) octets (written ++ d.0) L) (λ x. IsCut x T.base c.args.c (acts T) octets (written ++ d.0) L)) (sym e) h)
+          (d.2 before T octets written first clean w)),
     )
 
 pub returns-then-ended-clause-talked : goal.returns-then-ended-clause-talked
@@ -36,12 +37,12 @@ returns-then-ended-clause-talked g c =
       s.written ++ d.0,
       s.consumes,
       appends_then _ _ _ s.written d.0 s.appends d.1,
-      λ before B past first clean w. so_by g.V.Vault.holds g.V.Vault.faults g.V.Vault.is_clean c.write_owed.new.office B
-          (IsOver before now B c.args.c past s.octets (s.written ++ d.0))
-          (λ L. (Waits B c.args.c past s.octets (s.written ++ d.0) L × IsAtEnd (g.R.Read.remaining c.loop.reader)) ⊎ IsOver before now B c.args.c past s.octets (s.written ++ d.0) L)
+      λ before T first clean w. so_by g.V.Vault.holds g.V.Vault.faults g.V.Vault.is_clean c.write_owed.new.office T c.args.c
+          (IsOver before now T.base c.args.c (acts T) s.octets (s.written ++ d.0))
+          (λ L. (Waits T.base c.args.c (acts T) s.octets (s.written ++ d.0) L × IsAtEnd (g.R.Read.remaining c.loop.reader)) ⊎ IsOver before now T.base c.args.c (acts T) s.octets (s.written ++ d.0) L)
           (λ L h. inr h)
           (talked_over g.V.Vault.holds g.V.Vault.faults g.V.Vault.is_clean c.args.office.now c.loop.office c.write_owed.new.office c.args.c _ _ _ _ c.loop.counter s d.0
-          c.in_ok-write_owed.ensures.clean d.2 c.ended.result c.ended.ensures c.if-ended.true before B past first clean w),
+          c.in_ok-write_owed.ensures.clean d.2 c.ended.result c.ended.ensures c.if-ended.true before T first clean w),
     )
 
 pub returns-in_err-listen-clause-talked : goal.returns-in_err-listen-clause-talked
@@ -56,13 +57,13 @@ returns-in_err-listen-clause-talked g c =
       s.written ++ d.0,
       consumes_then _ _ _ s.octets q.0 s.consumes q.1,
       appends_then _ _ _ s.written d.0 s.appends d.1,
-      λ before B past first clean w. so_by g.V.Vault.holds g.V.Vault.faults g.V.Vault.is_clean c.listen.new.office B
-          (λ L. IsCut f B c.args.c past (s.octets ++ q.0) (s.written ++ d.0) L)
-          (λ L. MatchResult c.from_residual-in_err-listen.result (λ _. (Waits B c.args.c past (s.octets ++ q.0) (s.written ++ d.0) L × IsAtEnd (g.R.Read.remaining c.listen.new.reader)) ⊎ IsOver before now B c.args.c past (s.octets ++ q.0) (s.written ++ d.0) L) (λ x. IsCut x B c.args.c past (s.octets ++ q.0) (s.written ++ d.0) L))
-          (λ L h. subst (λ r. MatchResult r (λ _. (Waits B c.args.c past (s.octets ++ q.0) (s.written ++ d.0) L × IsAtEnd (g.R.Read.remaining c.listen.new.reader)) ⊎ IsOver before now B c.args.c past (s.octets ++ q.0) (s.written ++ d.0) L) (λ x. IsCut x B c.args.c past (s.octets ++ q.0) (s.written ++ d.0) L)) (sym e) h)
-          (q.4 B past s.octets (s.written ++ d.0) clean
+      λ before T first clean w. so_by g.V.Vault.holds g.V.Vault.faults g.V.Vault.is_clean c.listen.new.office T c.args.c
+          (λ L. IsCut f T.base c.args.c (acts T) (s.octets ++ q.0) (s.written ++ d.0) L)
+          (λ L. MatchResult c.from_residual-in_err-listen.result (λ _. (Waits T.base c.args.c (acts T) (s.octets ++ q.0) (s.written ++ d.0) L × IsAtEnd (g.R.Read.remaining c.listen.new.reader)) ⊎ IsOver before now T.base c.args.c (acts T) (s.octets ++ q.0) (s.written ++ d.0) L) (λ x. IsCut x T.base c.args.c (acts T) (s.octets ++ q.0) (s.written ++ d.0) L))
+          (λ L h. subst (λ r. MatchResult r (λ _. (Waits T.base c.args.c (acts T) (s.octets ++ q.0) (s.written ++ d.0) L × IsAtEnd (g.R.Read.remaining c.listen.new.reader)) ⊎ IsOver before now T.base c.args.c (acts T) (s.octets ++ q.0) (s.written ++ d.0) L) (λ x. IsCut x T.base c.args.c (acts T) (s.octets ++ q.0) (s.written ++ d.0) L)) (sym e) h)
+          (q.4 T s.octets (s.written ++ d.0) clean
           (talked_waits g.V.Vault.holds g.V.Vault.faults g.V.Vault.is_clean c.args.office.now c.loop.office c.write_owed.new.office c.args.c _ _ _ _ c.loop.counter s d.0
-          c.in_ok-write_owed.ensures.clean d.2 c.ended.result c.ended.ensures c.if-ended.false before B past first (c.in_err-listen.ensures.clean clean) w)),
+          c.in_ok-write_owed.ensures.clean d.2 c.ended.result c.ended.ensures c.if-ended.false before T first (c.in_err-listen.ensures.clean clean) w)),
     )
 
 pub returns-then-not-branch-clause-talked : goal.returns-then-not-branch-clause-talked
@@ -77,13 +78,13 @@ returns-then-not-branch-clause-talked g c =
       s.written ++ d.0,
       consumes_then _ _ _ s.octets q.0 s.consumes q.1,
       appends_then _ _ _ s.written d.0 s.appends d.1,
-      λ before B past first clean w. so_by g.V.Vault.holds g.V.Vault.faults g.V.Vault.is_clean c.listen.new.office B
-          (λ L. cond b (GoesOn B c.args.c past (s.octets ++ q.0) (s.written ++ d.0) L) (Waits B c.args.c past (s.octets ++ q.0) (s.written ++ d.0) L))
-          (λ L. (Waits B c.args.c past (s.octets ++ q.0) (s.written ++ d.0) L × IsAtEnd (g.R.Read.remaining c.listen.new.reader)) ⊎ IsOver before now B c.args.c past (s.octets ++ q.0) (s.written ++ d.0) L)
-          (λ L h. inl (none_written b (λ L. GoesOn B c.args.c past (s.octets ++ q.0) (s.written ++ d.0) L) (λ L. Waits B c.args.c past (s.octets ++ q.0) (s.written ++ d.0) L) L off h, q.3 (ap (λ x. Ok x) off)))
-          (q.4 B past s.octets (s.written ++ d.0) clean
+      λ before T first clean w. so_by g.V.Vault.holds g.V.Vault.faults g.V.Vault.is_clean c.listen.new.office T c.args.c
+          (λ L. cond b (GoesOn T.base c.args.c (acts T) (s.octets ++ q.0) (s.written ++ d.0) L) (Waits T.base c.args.c (acts T) (s.octets ++ q.0) (s.written ++ d.0) L))
+          (λ L. (Waits T.base c.args.c (acts T) (s.octets ++ q.0) (s.written ++ d.0) L × IsAtEnd (g.R.Read.remaining c.listen.new.reader)) ⊎ IsOver before now T.base c.args.c (acts T) (s.octets ++ q.0) (s.written ++ d.0) L)
+          (λ L h. inl (none_written b (λ L. GoesOn T.base c.args.c (acts T) (s.octets ++ q.0) (s.written ++ d.0) L) (λ L. Waits T.base c.args.c (acts T) (s.octets ++ q.0) (s.written ++ d.0) L) L off h, q.3 (ap (λ x. Ok x) off)))
+          (q.4 T s.octets (s.written ++ d.0) clean
           (talked_waits g.V.Vault.holds g.V.Vault.faults g.V.Vault.is_clean c.args.office.now c.loop.office c.write_owed.new.office c.args.c _ _ _ _ c.loop.counter s d.0
-          c.in_ok-write_owed.ensures.clean d.2 c.ended.result c.ended.ensures c.if-ended.false before B past first (c.in_ok-listen.ensures.clean clean) w)),
+          c.in_ok-write_owed.ensures.clean d.2 c.ended.result c.ended.ensures c.if-ended.false before T first (c.in_ok-listen.ensures.clean clean) w)),
     )
 
 pub loop-preserved : goal.loop-preserved
@@ -104,13 +105,13 @@ loop-preserved g c =
       consumes = consumes_then _ _ _ s.octets q.0 s.consumes q.1;
       appends = appends_then _ _ _ s.written d.0 s.appends d.1;
       enough = omega (arith, some, long, length-append s.octets q.0);
-      stands = λ before B past first clean w. so_by g.V.Vault.holds g.V.Vault.faults g.V.Vault.is_clean c.listen.new.office B
-          (λ L. cond b (GoesOn B c.args.c past (s.octets ++ q.0) (s.written ++ d.0) L) (Waits B c.args.c past (s.octets ++ q.0) (s.written ++ d.0) L))
-          (λ L. GoesOn B c.args.c past (s.octets ++ q.0) (s.written ++ d.0) L)
-          (λ L h. some_written b (λ L. GoesOn B c.args.c past (s.octets ++ q.0) (s.written ++ d.0) L) (λ L. Waits B c.args.c past (s.octets ++ q.0) (s.written ++ d.0) L) L on h)
-          (q.4 B past s.octets (s.written ++ d.0) clean
+      stands = λ before T first clean w. so_by g.V.Vault.holds g.V.Vault.faults g.V.Vault.is_clean c.listen.new.office T c.args.c
+          (λ L. cond b (GoesOn T.base c.args.c (acts T) (s.octets ++ q.0) (s.written ++ d.0) L) (Waits T.base c.args.c (acts T) (s.octets ++ q.0) (s.written ++ d.0) L))
+          (λ L. GoesOn T.base c.args.c (acts T) (s.octets ++ q.0) (s.written ++ d.0) L)
+          (λ L h. some_written b (λ L. GoesOn T.base c.args.c (acts T) (s.octets ++ q.0) (s.written ++ d.0) L) (λ L. Waits T.base c.args.c (acts T) (s.octets ++ q.0) (s.written ++ d.0) L) L on h)
+          (q.4 T s.octets (s.written ++ d.0) clean
           (talked_waits g.V.Vault.holds g.V.Vault.faults g.V.Vault.is_clean c.args.office.now c.loop.office c.write_owed.new.office c.args.c _ _ _ _ c.loop.counter s d.0
-          c.in_ok-write_owed.ensures.clean d.2 c.ended.result c.ended.ensures c.if-ended.false before B past first (c.in_ok-listen.ensures.clean clean) w));
+          c.in_ok-write_owed.ensures.clean d.2 c.ended.result c.ended.ensures c.if-ended.false before T first (c.in_ok-listen.ensures.clean clean) w));
       counted = omega (arith, up, up2, up3);
       clean = λ k. s.clean (c.in_ok-write_owed.ensures.clean (c.in_ok-listen.ensures.clean k));
     }
@@ -124,9 +125,9 @@ returns-clause-talked g c =
       s.written,
       s.consumes,
       s.appends,
-      λ before B past first clean w. so_by g.V.Vault.holds g.V.Vault.faults g.V.Vault.is_clean c.loop.office B
-          (GoesOn B c.args.c past s.octets s.written)
-          (λ L. Breaks B c.args.c past s.octets s.written false L × IsEndless s.octets s.written)
-          (λ L h. (goes_broken B c.args.c past s.octets s.written L h, inl (omega (arith, long, over))))
-          (s.stands before B past first clean w),
+      λ before T first clean w. so_by g.V.Vault.holds g.V.Vault.faults g.V.Vault.is_clean c.loop.office T c.args.c
+          (GoesOn T.base c.args.c (acts T) s.octets s.written)
+          (λ L. Breaks T.base c.args.c (acts T) s.octets s.written false L × IsEndless s.octets s.written)
+          (λ L h. (goes_broken T.base c.args.c (acts T) s.octets s.written L h, inl (omega (arith, long, over))))
+          (s.stands before T first clean w),
     )

@@ -1,4 +1,5 @@
 use Rattle.std.proofs.Common.{◌≡◌, [], ◌++◌, ℕ, List, take, cond, MatchResult, Err, sym, subst, append-nil, true, false}
+use Rattle.office.specs.Trace.{acts}
 use Rattle.converse.specs.Conversing.{GoesOn, Waits, IsCut}
 use Rattle.converse.proofs.Clauses.{consumes_none, refused_as, not_ok}
 use Rattle.converse.proofs.conversation.listen.Goals as goal
@@ -9,8 +10,8 @@ returns-in_default-clause-read g c = (
   consumes_none _ _ c.in_default.ensures.bytes,
   (λ e. absurd (cc)),
   (λ e. absurd (cc)),
-  λ B past octets written clean w.
-      record { log = w.log; stands = w.stands; so = subst (λ (o : List ℕ). Waits B c.args.c past o written w.log) (sym (append-nil octets)) w.so },
+  λ T octets written clean w.
+      record { log = w.log; stands = w.stands; own = w.own; so = subst (λ (o : List ℕ). Waits T.base c.args.c (acts T) o written w.log) (sym (append-nil octets)) w.so },
 )
 
 pub returns-in_err-hear-clause-read : goal.returns-in_err-hear-clause-read
@@ -22,11 +23,12 @@ returns-in_err-hear-clause-read g c =
       c.in-Ok.ensures.bytes.0,
       (λ q. absurd (not_ok c.from_residual.result f true e q)),
       (λ q. absurd (not_ok c.from_residual.result f false e q)),
-      λ B past octets written clean w.
-          (let k = c.in_err-hear.ensures.heard B past octets written clean w in
+      λ T octets written clean w.
+          (let k = c.in_err-hear.ensures.heard T octets written clean w in
           record {
             log = k.log;
             stands = k.stands;
-            so = subst (λ r. MatchResult r (λ more. cond more (GoesOn B c.args.c past (octets ++ piece) written k.log) (Waits B c.args.c past (octets ++ piece) written k.log)) (λ x. IsCut x B c.args.c past (octets ++ piece) written k.log)) (sym e) k.so;
+            own = k.own;
+            so = subst (λ r. MatchResult r (λ more. cond more (GoesOn T.base c.args.c (acts T) (octets ++ piece) written k.log) (Waits T.base c.args.c (acts T) (octets ++ piece) written k.log)) (λ x. IsCut x T.base c.args.c (acts T) (octets ++ piece) written k.log)) (sym e) k.so;
           }),
     )

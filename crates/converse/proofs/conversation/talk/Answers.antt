@@ -7,9 +7,9 @@ use Rattle.office.specs.Trace.{acts}
 use Rattle.office.specs.Shown.{outcome_seen}
 use Rattle.office.specs.Outcomes.{mark_of}
 use Rattle.office.specs.Stands.{vault_of, lent_by}
-use Rattle.converse.specs.Talked.{trace_of, StandsSo, ComesOut}
+use Rattle.converse.specs.Talked.{trace_of, Extends, StandsSo, ComesOut}
 use Rattle.converse.specs.Conversing.{GoesOn, Refuses}
-use Rattle.converse.proofs.Clauses.{appends_none, consumes_none, keeps_same, refused_as, so_by, refused_out, comes_out}
+use Rattle.converse.proofs.Clauses.{appends_none, consumes_none, keeps_same, refused_as, so_by, one_gone, refused_out, comes_out}
 use Rattle.converse.proofs.conversation.talk.Goals as goal
 
 pub returns-in_err-c-clause-talked : goal.returns-in_err-c-clause-talked
@@ -22,7 +22,7 @@ returns-in_err-c-clause-talked g c =
       [],
       consumes_none _ _ (keeps_same _),
       appends_none _ _ (keeps_same _),
-      λ T st clean. so_by g.V.Vault.holds g.V.Vault.faults g.V.Vault.is_clean c.connect.new.office T.base
+      λ T st clean. so_by g.V.Vault.holds g.V.Vault.faults g.V.Vault.is_clean c.connect.new.office T (next_number T.log)
           (λ L. Refuses T f L)
           (λ L. ComesOut AtEnd grown T (next_number T.log) [] [] c.from_residual.result L)
           (λ L h. subst (λ r. ComesOut AtEnd grown T (next_number T.log) [] [] r L) (sym e) (refused_out AtEnd grown T (next_number T.log) f L h))
@@ -46,14 +46,15 @@ returns-clause-talked g c =
           (let clean2 = c.step.ensures.clean clean in
           let k = c.in_ok-c.ensures.began T st (c.converse-talked.ensures.clean clean2) in
           let same : n ≡ next_number T.log = k.so.0 in
-          let w : StandsSo g.V.Vault.holds c.connect.new.office T.base (GoesOn T.base n (acts T) [] []) =
-          record { log = k.log; stands = k.stands; so = subst (λ m. GoesOn T.base m (acts T) [] [] k.log) (sym same) k.so.1 } in
-          let h = d.4 first T.base (acts T) c.in_ok-c.ensures.counted clean2 w in
+          let w : StandsSo g.V.Vault.holds c.connect.new.office T n (GoesOn T.base n (acts T) [] []) =
+          record { log = k.log; stands = k.stands; own = subst (λ m. Extends m T.log k.log) (sym same) k.own; so = subst (λ m. GoesOn T.base m (acts T) [] [] k.log) (sym same) k.so.1 } in
+          let h = d.4 first T c.in_ok-c.ensures.counted clean2 w in
           let o = outcome_seen c.step.result in
           let out = comes_out AtEnd first during now c.step.ensures.counted T n d.0 d.1 r h.log (lent_by c.converse-talked.new.office) o (c.step.ensures.outcome (trace_of T.base h.log) h.stands clean) h.so in
           record {
             log = (event.Gone n, mark_of o) ∷ h.log;
             stands = c.step.ensures.stands (trace_of T.base h.log) h.stands clean;
+            own = subst (λ m. Extends m T.log ((event.Gone n, mark_of o) ∷ h.log)) same (one_gone n T.log h.log (mark_of o) h.own);
             so = subst (λ m. ComesOut AtEnd (has_grown first now) T m d.0 d.1 r ((event.Gone n, mark_of o) ∷ h.log)) same out;
           }),
     )

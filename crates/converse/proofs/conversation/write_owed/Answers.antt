@@ -1,4 +1,5 @@
 use Rattle.std.proofs.Common.{false, ◌≡◌, ◌++◌, ◌<◌, length, length-append, cond, MatchResult, Err, Ok, sym, ap, subst, arith, true, inr}
+use Rattle.office.specs.Trace.{acts}
 use Rattle.office.specs.Stands.{vault_of}
 use Rattle.converse.specs.Talked.{IsEndless}
 use Rattle.converse.specs.Conversing.{Midway, IsPaid, IsCut, Breaks}
@@ -16,13 +17,13 @@ returns-in_err-write_some-clause-wrote g c =
       s.more ++ d.0,
       appends_then _ _ _ s.more d.0 s.appends d.1,
       wrote_then g.V.Vault.holds g.V.Vault.faults g.V.Vault.is_clean c.args.office.now c.loop.office c.write_some.new.office c.args.c _ _ c.loop.counter s d.0
-          (λ before B past octets written L. MatchResult c.from_residual.result (λ _. IsPaid before now B c.args.c past octets written L) (λ x. IsCut x B c.args.c past octets written L))
+          (λ before T octets written L. MatchResult c.from_residual.result (λ _. IsPaid before now T.base c.args.c (acts T) octets written L) (λ x. IsCut x T.base c.args.c (acts T) octets written L))
           c.in_err-write_some.ensures.clean
-          (λ before B past octets written first clean w. so_by g.V.Vault.holds g.V.Vault.faults g.V.Vault.is_clean c.write_some.new.office B
-          (λ L. IsCut f B c.args.c past octets (written ++ d.0) L)
-          (λ L. MatchResult c.from_residual.result (λ _. IsPaid before now B c.args.c past octets (written ++ d.0) L) (λ x. IsCut x B c.args.c past octets (written ++ d.0) L))
-          (λ L h. subst (λ r. MatchResult r (λ _. IsPaid before now B c.args.c past octets (written ++ d.0) L) (λ x. IsCut x B c.args.c past octets (written ++ d.0) L)) (sym e) h)
-          (d.3 before B past octets written first clean w)),
+          (λ before T octets written first clean w. so_by g.V.Vault.holds g.V.Vault.faults g.V.Vault.is_clean c.write_some.new.office T c.args.c
+          (λ L. IsCut f T.base c.args.c (acts T) octets (written ++ d.0) L)
+          (λ L. MatchResult c.from_residual.result (λ _. IsPaid before now T.base c.args.c (acts T) octets (written ++ d.0) L) (λ x. IsCut x T.base c.args.c (acts T) octets (written ++ d.0) L))
+          (λ L h. subst (λ r. MatchResult r (λ _. IsPaid before now T.base c.args.c (acts T) octets (written ++ d.0) L) (λ x. IsCut x T.base c.args.c (acts T) octets (written ++ d.0) L)) (sym e) h)
+          (d.3 before T octets written first clean w)),
     )
 
 pub returns-in_default-clause-wrote : goal.returns-in_default-clause-wrote
@@ -34,14 +35,14 @@ returns-in_default-clause-wrote g c =
       s.more ++ d.0,
       appends_kept _ _ _ (s.more ++ d.0) (appends_then _ _ _ s.more d.0 s.appends d.1) c.in_default.ensures.bytes,
       wrote_then g.V.Vault.holds g.V.Vault.faults g.V.Vault.is_clean c.args.office.now c.loop.office c.write_some.new.office c.args.c _ _ c.loop.counter s d.0
-          (λ before B past octets written L. Breaks B c.args.c past octets written false L)
+          (λ before T octets written L. Breaks T.base c.args.c (acts T) octets written false L)
           c.in_ok-write_some.ensures.clean
-          (λ before B past octets written first clean w. so_by g.V.Vault.holds g.V.Vault.faults g.V.Vault.is_clean c.write_some.new.office B
-          (λ L. cond b (Midway before now B c.args.c past octets (written ++ d.0) L) (IsPaid before now B c.args.c past octets (written ++ d.0) L))
-          (λ L. Breaks B c.args.c past octets (written ++ d.0) false L)
-          (λ L h. midway_broken B c.args.c past octets (written ++ d.0) before now L
-          (none_written b (λ L. Midway before now B c.args.c past octets (written ++ d.0) L) (λ L. IsPaid before now B c.args.c past octets (written ++ d.0) L) L c.if-not-branch.true h).midway)
-          (d.3 before B past octets written first clean w)),
+          (λ before T octets written first clean w. so_by g.V.Vault.holds g.V.Vault.faults g.V.Vault.is_clean c.write_some.new.office T c.args.c
+          (λ L. cond b (Midway before now T.base c.args.c (acts T) octets (written ++ d.0) L) (IsPaid before now T.base c.args.c (acts T) octets (written ++ d.0) L))
+          (λ L. Breaks T.base c.args.c (acts T) octets (written ++ d.0) false L)
+          (λ L h. midway_broken T.base c.args.c (acts T) octets (written ++ d.0) before now L
+          (none_written b (λ L. Midway before now T.base c.args.c (acts T) octets (written ++ d.0) L) (λ L. IsPaid before now T.base c.args.c (acts T) octets (written ++ d.0) L) L c.if-not-branch.true h).midway)
+          (d.3 before T octets written first clean w)),
     )
 
 pub returns-then-not-branch-clause-wrote : goal.returns-then-not-branch-clause-wrote
@@ -53,13 +54,13 @@ returns-then-not-branch-clause-wrote g c =
       s.more ++ d.0,
       appends_kept _ _ _ (s.more ++ d.0) (appends_then _ _ _ s.more d.0 s.appends d.1) c.in-Ok.ensures.bytes,
       wrote_then g.V.Vault.holds g.V.Vault.faults g.V.Vault.is_clean c.args.office.now c.loop.office c.write_some.new.office c.args.c _ _ c.loop.counter s d.0
-          (λ before B past octets written L. IsPaid before now B c.args.c past octets written L)
+          (λ before T octets written L. IsPaid before now T.base c.args.c (acts T) octets written L)
           c.in_ok-write_some.ensures.clean
-          (λ before B past octets written first clean w. so_by g.V.Vault.holds g.V.Vault.faults g.V.Vault.is_clean c.write_some.new.office B
-          (λ L. cond b (Midway before now B c.args.c past octets (written ++ d.0) L) (IsPaid before now B c.args.c past octets (written ++ d.0) L))
-          (λ L. IsPaid before now B c.args.c past octets (written ++ d.0) L)
-          (λ L h. none_written b (λ L. Midway before now B c.args.c past octets (written ++ d.0) L) (λ L. IsPaid before now B c.args.c past octets (written ++ d.0) L) L c.if-not-branch.true h)
-          (d.3 before B past octets written first clean w)),
+          (λ before T octets written first clean w. so_by g.V.Vault.holds g.V.Vault.faults g.V.Vault.is_clean c.write_some.new.office T c.args.c
+          (λ L. cond b (Midway before now T.base c.args.c (acts T) octets (written ++ d.0) L) (IsPaid before now T.base c.args.c (acts T) octets (written ++ d.0) L))
+          (λ L. IsPaid before now T.base c.args.c (acts T) octets (written ++ d.0) L)
+          (λ L h. none_written b (λ L. Midway before now T.base c.args.c (acts T) octets (written ++ d.0) L) (λ L. IsPaid before now T.base c.args.c (acts T) octets (written ++ d.0) L) L c.if-not-branch.true h)
+          (d.3 before T octets written first clean w)),
     )
 
 pub loop-preserved : goal.loop-preserved
@@ -78,13 +79,13 @@ loop-preserved g c =
       appends = appends_then _ _ _ s.more d.0 s.appends d.1;
       enough = omega (arith, some, long, length-append s.more d.0);
       stands = wrote_then g.V.Vault.holds g.V.Vault.faults g.V.Vault.is_clean c.args.office.now c.loop.office c.write_some.new.office c.args.c _ _ c.loop.counter s d.0
-          (λ before B past octets written L. Midway before now B c.args.c past octets written L)
+          (λ before T octets written L. Midway before now T.base c.args.c (acts T) octets written L)
           c.in_ok-write_some.ensures.clean
-          (λ before B past octets written first clean w. so_by g.V.Vault.holds g.V.Vault.faults g.V.Vault.is_clean c.write_some.new.office B
-          (λ L. cond b (Midway before now B c.args.c past octets (written ++ d.0) L) (IsPaid before now B c.args.c past octets (written ++ d.0) L))
-          (λ L. Midway before now B c.args.c past octets (written ++ d.0) L)
-          (λ L h. some_written b (λ L. Midway before now B c.args.c past octets (written ++ d.0) L) (λ L. IsPaid before now B c.args.c past octets (written ++ d.0) L) L on h)
-          (d.3 before B past octets written first clean w));
+          (λ before T octets written first clean w. so_by g.V.Vault.holds g.V.Vault.faults g.V.Vault.is_clean c.write_some.new.office T c.args.c
+          (λ L. cond b (Midway before now T.base c.args.c (acts T) octets (written ++ d.0) L) (IsPaid before now T.base c.args.c (acts T) octets (written ++ d.0) L))
+          (λ L. Midway before now T.base c.args.c (acts T) octets (written ++ d.0) L)
+          (λ L h. some_written b (λ L. Midway before now T.base c.args.c (acts T) octets (written ++ d.0) L) (λ L. IsPaid before now T.base c.args.c (acts T) octets (written ++ d.0) L) L on h)
+          (d.3 before T octets written first clean w));
       counted = omega (arith, up, up2);
       clean = λ k. s.clean (c.in_ok-write_some.ensures.clean k);
     }
@@ -97,9 +98,9 @@ returns-clause-wrote g c =
     let over = c.loop-test.false in (
       s.more,
       s.appends,
-      λ before B past octets written first clean w. so_by g.V.Vault.holds g.V.Vault.faults g.V.Vault.is_clean c.loop.office B
-          (λ L. Midway before now B c.args.c past octets (written ++ s.more) L)
-          (λ L. Breaks B c.args.c past octets (written ++ s.more) false L × IsEndless octets (written ++ s.more))
-          (λ L h. (midway_broken B c.args.c past octets (written ++ s.more) before now L h, inr (omega (arith, long, over, length-append written s.more))))
-          (s.stands before B past octets written first clean w),
+      λ before T octets written first clean w. so_by g.V.Vault.holds g.V.Vault.faults g.V.Vault.is_clean c.loop.office T c.args.c
+          (λ L. Midway before now T.base c.args.c (acts T) octets (written ++ s.more) L)
+          (λ L. Breaks T.base c.args.c (acts T) octets (written ++ s.more) false L × IsEndless octets (written ++ s.more))
+          (λ L h. (midway_broken T.base c.args.c (acts T) octets (written ++ s.more) before now L h, inr (omega (arith, long, over, length-append written s.more))))
+          (s.stands before T octets written first clean w),
     )

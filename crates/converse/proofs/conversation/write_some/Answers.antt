@@ -3,11 +3,12 @@ use Rattle.std.proofs.lemmas.List.{length-take-le}
 use Rattle.office.specs.Events as event
 use Rattle.office.specs.Shown.{outcome_seen}
 use Rattle.office.specs.Outcomes.{mark_of}
+use Rattle.office.specs.Trace.{acts}
 use Rattle.office.specs.Stands.{lent_by, vault_of}
 use Rattle.converse.specs.Talked.{trace_of}
 use Rattle.converse.specs.Conversing.{Midway, IsPaid, IsCut, Breaks}
 use Rattle.converse.proofs.Ends.{midway_broken}
-use Rattle.converse.proofs.Clauses.{appends_none, keeps_same, paid, taking, takes, found_empty, refused_as, not_ok}
+use Rattle.converse.proofs.Clauses.{appends_none, keeps_same, one_taken, paid, taking, takes, found_empty, refused_as, not_ok}
 use Rattle.converse.proofs.conversation.write_some.Goals as goal
 
 pub returns-then-is_empty-clause-wrote : goal.returns-then-is_empty-clause-wrote
@@ -15,12 +16,13 @@ returns-then-is_empty-clause-wrote g c = (
   [],
   appends_none _ _ (keeps_same _),
   (λ e. absurd (cc)),
-  λ before B past octets written first clean w.
+  λ before T octets written first clean w.
       record {
         log = w.log;
         stands = w.stands;
-        so = subst (λ (o : List ℕ). IsPaid before (g.V.Vault.faults (vault_of c.args.office.now)) B c.args.c past octets o w.log) (sym (append-nil written))
-            (paid before (g.V.Vault.faults (vault_of c.args.office.now)) B c.args.c past octets written w.log c.owed-lent.result.now w.so (c.owed-lent.ensures.lent (trace_of B w.log) w.stands)
+        own = w.own;
+        so = subst (λ (o : List ℕ). IsPaid before (g.V.Vault.faults (vault_of c.args.office.now)) T.base c.args.c (acts T) octets o w.log) (sym (append-nil written))
+            (paid before (g.V.Vault.faults (vault_of c.args.office.now)) T.base c.args.c (acts T) octets written w.log c.owed-lent.result.now w.so (c.owed-lent.ensures.lent (trace_of T.base w.log) w.stands)
             (found_empty c.is_empty.result c.owed-lent.result.now c.if-is_empty.true c.is_empty.ensures));
       },
 )
@@ -30,11 +32,12 @@ returns-in_default-clause-wrote g c = (
   [],
   appends_none _ _ c.in_default.ensures.bytes,
   (λ e. absurd (cc)),
-  λ before B past octets written first clean w.
+  λ before T octets written first clean w.
       record {
         log = w.log;
         stands = w.stands;
-        so = subst (λ (o : List ℕ). Breaks B c.args.c past octets o false w.log) (sym (append-nil written)) (midway_broken B c.args.c past octets written before (g.V.Vault.faults (vault_of c.args.office.now)) w.log w.so);
+        own = w.own;
+        so = subst (λ (o : List ℕ). Breaks T.base c.args.c (acts T) octets o false w.log) (sym (append-nil written)) (midway_broken T.base c.args.c (acts T) octets written before (g.V.Vault.faults (vault_of c.args.office.now)) w.log w.so);
       },
 )
 
@@ -52,17 +55,18 @@ returns-in_err-had_memory-clause-wrote g c =
       take n lent,
       c.in-Ok.ensures.bytes,
       (λ q. absurd (not_ok c.from_residual.result f true e q)),
-      λ before B past octets written first clean w.
+      λ before T octets written first clean w.
           (let log = (event.Took c.args.c n, mark_of o) ∷ w.log in
-          let T = trace_of B w.log in
-          let k = taking B c.args.c past octets written w.log n lent before was w.so some fits (c.owed-lent.ensures.lent T w.stands) in
-          let m = takes B c.args.c past octets written w.log n lent k (lent_by c.args.office.now) c.owed-lent.ensures.count before was now first o (c.step.ensures.outcome T w.stands clean) (c.step.ensures.cause T w.stands clean) in
-          let m2 : IsCut f B c.args.c past octets (written ++ take n lent) log =
-          subst (λ r. MatchResult r (λ _. Midway before now B c.args.c past octets (written ++ take n lent) log) (λ x. IsCut x B c.args.c past octets (written ++ take n lent) log)) (sym c.in_err-had_memory.ensures) m in
+          let was_so = trace_of T.base w.log in
+          let k = taking T.base c.args.c (acts T) octets written w.log n lent before was w.so some fits (c.owed-lent.ensures.lent was_so w.stands) in
+          let m = takes T.base c.args.c (acts T) octets written w.log n lent k (lent_by c.args.office.now) c.owed-lent.ensures.count before was now first o (c.step.ensures.outcome was_so w.stands clean) (c.step.ensures.cause was_so w.stands clean) in
+          let m2 : IsCut f T.base c.args.c (acts T) octets (written ++ take n lent) log =
+          subst (λ r. MatchResult r (λ _. Midway before now T.base c.args.c (acts T) octets (written ++ take n lent) log) (λ x. IsCut x T.base c.args.c (acts T) octets (written ++ take n lent) log)) (sym c.in_err-had_memory.ensures) m in
           record {
             log = log;
-            stands = c.step.ensures.stands T w.stands clean;
-            so = subst (λ r. MatchResult r (λ more. cond more (Midway before now B c.args.c past octets (written ++ take n lent) log) (IsPaid before now B c.args.c past octets (written ++ take n lent) log)) (λ x. IsCut x B c.args.c past octets (written ++ take n lent) log)) (sym e) m2;
+            stands = c.step.ensures.stands was_so w.stands clean;
+            own = one_taken c.args.c T.log w.log n (mark_of o) w.own;
+            so = subst (λ r. MatchResult r (λ more. cond more (Midway before now T.base c.args.c (acts T) octets (written ++ take n lent) log) (IsPaid before now T.base c.args.c (acts T) octets (written ++ take n lent) log)) (λ x. IsCut x T.base c.args.c (acts T) octets (written ++ take n lent) log)) (sym e) m2;
           }),
     )
 
@@ -78,14 +82,15 @@ returns-clause-wrote g c =
       take n lent,
       c.in-Ok.ensures.bytes,
       (λ q. omega (arith, some, length-take-le n lent fits)),
-      λ before B past octets written first clean w.
+      λ before T octets written first clean w.
           (let log = (event.Took c.args.c n, mark_of o) ∷ w.log in
-          let T = trace_of B w.log in
-          let k = taking B c.args.c past octets written w.log n lent before was w.so some fits (c.owed-lent.ensures.lent T w.stands) in
-          let m = takes B c.args.c past octets written w.log n lent k (lent_by c.args.office.now) c.owed-lent.ensures.count before was now first o (c.step.ensures.outcome T w.stands clean) (c.step.ensures.cause T w.stands clean) in
+          let was_so = trace_of T.base w.log in
+          let k = taking T.base c.args.c (acts T) octets written w.log n lent before was w.so some fits (c.owed-lent.ensures.lent was_so w.stands) in
+          let m = takes T.base c.args.c (acts T) octets written w.log n lent k (lent_by c.args.office.now) c.owed-lent.ensures.count before was now first o (c.step.ensures.outcome was_so w.stands clean) (c.step.ensures.cause was_so w.stands clean) in
           record {
             log = log;
-            stands = c.step.ensures.stands T w.stands clean;
-            so = subst (λ r. MatchResult r (λ _. Midway before now B c.args.c past octets (written ++ take n lent) log) (λ x. IsCut x B c.args.c past octets (written ++ take n lent) log)) (sym c.in_ok-had_memory.ensures) m;
+            stands = c.step.ensures.stands was_so w.stands clean;
+            own = one_taken c.args.c T.log w.log n (mark_of o) w.own;
+            so = subst (λ r. MatchResult r (λ _. Midway before now T.base c.args.c (acts T) octets (written ++ take n lent) log) (λ x. IsCut x T.base c.args.c (acts T) octets (written ++ take n lent) log)) (sym c.in_ok-had_memory.ensures) m;
           }),
     )
