@@ -1,12 +1,14 @@
 -- What is printed of a run: a policy's count of rules, what a script's event is answered, or the fault that stopped it.
-use Rattle.std.specs.Prelude.{ℕ, Bool, true, List, [], ◌∷◌, ◌++◌, ◌==◌, length, codes, if◌then◌else◌}
+use Rattle.std.specs.Prelude.{ℕ, Bool, true, not, List, [], ◌∷◌, ◌++◌, ◌==◌, codes, if◌then◌else◌}
 use Rattle.std.specs.Fmt.{decimal}
-use Rattle.policy.specs.Policy.{Policy}
+use Rattle.std.specs.List.{flat_map}
 use Rattle.policy.specs.PolicyText.{fault_text as policy_fault_text}
 use Rattle.policy.specs.declared.fault.PolicyFault.{PolicyFault}
 use Rattle.office.specs.Answers.{body_of}
 use Rattle.office.specs.Outcomes.{Outcome, Reason, NoSuchConnection, NotReady, PieceTooLong, TooManyConnections}
 use Rattle.office.specs.Outcomes as outcome
+use Rattle.office.specs.Events.{Trace}
+use Rattle.office.specs.Trace.{is_open}
 use Rattle.popbox.specs.declared.fault.Fault.{Fault}
 use Rattle.popbox.specs.declared.fault.Fault.TheVariants.{CannotRead, BadEvent, BadHost, Store, NoPolicy, CannotWrite, OutOfMemory}
 
@@ -59,3 +61,17 @@ outcome_lines outcome.Failed = codes "failed\n"
 outcome_lines outcome.NoMemory = codes "no memory\n"
 outcome_lines (outcome.Ignored reason) = codes "ignored: " ++ reason_name reason ++ codes "\n"
 outcome_lines (outcome.Answered answer) = answer_lines (body_of answer)
+
+-- ---- connections that ended
+
+-- a connection isn't open
+abbrev pub has_ended : Trace → ℕ → Bool
+has_ended T c = not (is_open T c)
+
+-- the line that tells that a connection ended
+abbrev pub ended_line : ℕ → List ℕ
+ended_line c = codes "ended " ++ decimal c ++ codes "\n"
+
+-- a line for each of them, in their order
+abbrev pub ended_lines : List ℕ → List ℕ
+ended_lines numbers = flat_map ended_line numbers

@@ -1,11 +1,11 @@
 //! The texts of answers: what deposits and an administrator's commands are told.
 
 ghost use Rattle.std.specs.Prelude.{◌≡◌, IfOk, map};
-ghost use Rattle.office.specs.Answers.{body_of, body_line, body_lines, total_text, message_text, New, Known, Explained, PolicyIs, RuleCount};
-ghost use Rattle.office.specs.Shown.{answer_seen, row_seen};
+ghost use Rattle.office.specs.Answers.{body_of, body_line, body_lines, total_text, message_text, session_text, New, Known, Explained, PolicyIs, RuleCount};
+ghost use Rattle.office.specs.Shown.{answer_seen, row_seen, session_seen};
 
 use creds::Uid;
-use office::{Answer, MessageRow};
+use office::{Answer, MessageRow, SessionRow};
 use policy::{Decision, Policy};
 use std::alloc::{AllocError, Global};
 use vault::Total;
@@ -35,6 +35,9 @@ pub fn answer_body(alloc: Global, answer: &Answer) -> Result<Vec<u8>, AllocError
         Answer::Replaced => octets_of(alloc, "replaced\n"),
         Answer::PolicyIs(policy) => written(alloc, policy),
         Answer::RuleCount(rules) => count_line(alloc, *rules),
+        Answer::Sessions(sessions) => session_lines(alloc, sessions.rows()),
+        Answer::Ended => octets_of(alloc, "ended\n"),
+        Answer::NoSuchSession => octets_of(alloc, "no such session\n"),
         Answer::Explained(decision) => decision_line(alloc, *decision),
     }
 }
@@ -137,5 +140,28 @@ fn message_line(alloc: Global, row: MessageRow) -> Result<Vec<u8>, AllocError>
     let uid = row.uid;
     let octets = row.octets;
     let text = format!(in alloc; "{uid} {octets}\n")?;
+    Ok(text.into_bytes())
+}
+
+/// A line for each session.
+fn session_lines(alloc: Global, rows: &[SessionRow]) -> Result<Vec<u8>, AllocError>
+    ensures { IfOk result (λ text. text.items ≡ body_lines session_text (map session_seen rows.now)) }
+{
+    let mut text = Vec::new(alloc);
+    for row in rows {
+        let line = session_line(alloc, *row)?;
+        text.extend_from_slice(&line)?;
+    }
+    Ok(text)
+}
+
+/// The line of a session: its connection's number, its clerk and its maildrop.
+fn session_line(alloc: Global, row: SessionRow) -> Result<Vec<u8>, AllocError>
+    ensures { IfOk result (λ line. line.items ≡ body_line (session_text (session_seen row))) }
+{
+    let number = row.number;
+    let clerk = row.name.clerk;
+    let maildrop = row.name.maildrop;
+    let text = format!(in alloc; "{number} {clerk} {maildrop}\n")?;
     Ok(text.into_bytes())
 }

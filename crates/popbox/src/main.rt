@@ -8,10 +8,14 @@ mod check_policy;
 #[cfg(test)]
 mod check_policy_tests;
 mod command_line;
+#[cfg(test)]
+mod connection_tests;
 mod fault;
 mod fields;
 #[cfg(test)]
 mod office_tests;
+#[cfg(test)]
+mod pipelining_tests;
 mod replay;
 mod script;
 #[cfg(test)]

@@ -2,9 +2,13 @@
 
 ghost use Rattle.std.specs.Prelude.{◌≤◌, ◌≡◌, ◌∷◌, ◌++◌, [], OnOk, codes, if◌then◌else◌};
 ghost use Rattle.std.specs.Io.KnownBytes.{Appends};
+ghost use Rattle.std.specs.List.{filter};
+ghost use Rattle.office.specs.Events.{Trace};
 ghost use Rattle.office.specs.Outcomes.{Ignored};
 ghost use Rattle.office.specs.Shown.{outcome_seen, reason_seen};
-ghost use Rattle.popbox.specs.Told.{outcome_lines, answer_lines, no_policy_line, reason_name as name_of_reason};
+ghost use Rattle.office.specs.Stands.{StandsFor};
+ghost use Rattle.office.specs.Trace.{is_open};
+ghost use Rattle.popbox.specs.Told.{outcome_lines, answer_lines, ended_lines, has_ended, no_policy_line, reason_name as name_of_reason};
 
 use crate::answers::answer_body;
 use crate::fault::{Fault, read_fault, tell_fault};
@@ -112,6 +116,8 @@ fn act<V: Vault, W: Write>(
         Line::Took(number, count) => take(office, *number, *count, out)?,
         Line::Drain(number) => drain(office, *number, out)?,
         Line::Gone(number) => office.step(Event::Gone(*number)),
+        Line::Tick(now) => office.step(Event::Tick(*now)),
+        Line::Restart(boot) => office.step(Event::Restart(*boot)),
         Line::Deposit {
             maildrop,
             class,
@@ -248,17 +254,28 @@ fn tell_octet<W: Write>(out: &mut W, at_start: bool, octet: u8) -> io::Result<()
     out.write_all(&[octet])
 }
 
-/// Prints the connections that ended since the last event, ascending, and keeps the others.
+/// Prints the connections that ended since the last event, ascending as the numbers are, and keeps the others.
 fn tell_ended<V: Vault, W: Write>(
     office: &Office<V>,
-    open: &mut Vec<u64>,
+    connections: &mut Vec<u64>,
     out: &mut W,
-) -> io::Result<()> {
-    for number in open.iter() {
-        if office.ended(*number) {
-            writeln!(out, "ended {number}")?;
-        }
+) -> io::Result<()>
+    ensures told { (T : Trace) → StandsFor V.holds office.now T → OnOk result (Appends (W.contents out.old) (W.contents out.new) (ended_lines (filter (has_ended T) connections.old.items))) }
+    ensures kept { (T : Trace) → StandsFor V.holds office.now T → OnOk result (connections.new.items ≡ filter (is_open T) connections.old.items) }
+{
+    for number in connections.iter() {
+        tell_if_ended(office, *number, out)?;
     }
-    open.retain(|number| !office.ended(*number));
+    connections.retain(|number| !office.ended(*number));
+    Ok(())
+}
+
+/// Prints that a connection ended, if it did.
+fn tell_if_ended<V: Vault, W: Write>(office: &Office<V>, number: u64, out: &mut W) -> io::Result<()>
+    ensures { (T : Trace) → StandsFor V.holds office.now T → OnOk result (Appends (W.contents out.old) (W.contents out.new) (ended_lines (filter (has_ended T) (number ∷ [])))) }
+{
+    if office.ended(number) {
+        writeln!(out, "ended {number}")?;
+    }
     Ok(())
 }

@@ -26,6 +26,10 @@ pub enum Line {
     Drain(u64),
     /// `gone C`: a connection's client is gone.
     Gone(u64),
+    /// `tick N`: the present moment is N seconds.
+    Tick(u64),
+    /// `restart N`: the office starts again under the number N.
+    Restart(u64),
     /// `deposit MAILDROP CLASS ID TEXT`: a message of any octets, also none, is put into a maildrop.
     Deposit {
         /// The maildrop's name.
@@ -37,7 +41,7 @@ pub enum Line {
         /// The message's text.
         text: Vec<u8>,
     },
-    /// `maildrops`, `maildrop`, `list`, `clerk`, `policy` or `explain`: an administrator asks for something.
+    /// `maildrops`, `maildrop`, `list`, `clerk`, `policy`, `sessions`, `end` or `explain`: an administrator asks for something.
     Admin(AdminCommand),
     /// `policy TEXT`, where TEXT is no policy: no event, and answered the text's first fault.
     NoPolicy(PolicyFault),
@@ -100,6 +104,8 @@ fn read_line(alloc: Global, line: &[u8]) -> Result<Option<Line>, AllocError> {
         (b"took", Some(rest)) => Ok(read_took(rest)),
         (b"drain", Some(rest)) => Ok(read_number(rest).map(Line::Drain)),
         (b"gone", Some(rest)) => Ok(read_number(rest).map(Line::Gone)),
+        (b"tick", Some(rest)) => Ok(read_number(rest).map(Line::Tick)),
+        (b"restart", Some(rest)) => Ok(read_number(rest).map(Line::Restart)),
         (b"deposit", Some(rest)) => read_deposit(alloc, rest),
         (b"clerk", Some(rest)) => Ok(read_clerk(alloc, rest)?.map(Line::Admin)),
         (b"policy", Some(text)) => read_policy(alloc, text),
@@ -207,6 +213,8 @@ fn read_command(keyword: &[u8], rest: Option<&[u8]>) -> Option<AdminCommand> {
         (b"policy", None) => Some(AdminCommand::ShowPolicy),
         (b"maildrop", Some(rest)) => read_maildrop(rest),
         (b"list", Some(name)) => Name::read(name).map(AdminCommand::ShowMaildrop),
+        (b"sessions", None) => Some(AdminCommand::ListSessions),
+        (b"end", Some(number)) => read_number(number).map(AdminCommand::EndSession),
         (b"explain", Some(rest)) => read_explain(rest),
         _ => None,
     }

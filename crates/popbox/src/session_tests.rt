@@ -1,14 +1,12 @@
 //! Tests of sessions over the sample store: what a clerk sees, marks and removes (RFC 1939, 5 to 7).
 
 use crate::administration_tests::converse;
-use crate::replay::replay;
-use crate::tests::{Ran, expect_output};
+use crate::tests::expect_output;
 use std::alloc::Global;
 use std::test::Fail;
-use vault::{PlainVault, Refusing};
 
 /// The sample store, as a script.
-static SAMPLE: &str = r#"maildrop add orders
+pub static SAMPLE: &str = r#"maildrop add orders
 clerk pass ann s3 cret
 clerk pass bob hunter
 clerk pass cat meow
@@ -23,7 +21,7 @@ deposit orders todo d4 A: 1\r\n\r\none\r\ntwo\r\nthree\r\n
 "#;
 
 /// What is printed of it.
-static SAMPLE_SAID: &str = "answer added\n\
+pub static SAMPLE_SAID: &str = "answer added\n\
     answer added\n\
     answer added\n\
     answer added\n\
@@ -183,62 +181,6 @@ static QUITTING: [(&str, &str); 1] = [(
     r"-ERR some deleted messages not removed, denied by rule freeze-pay",
 )];
 
-/// Takings of seven octets, or of what is owed if less, and what is looked at between them.
-static TAKINGS: &str = r"took 1 7
-took 1 7
-took 1 7
-deposit orders note d5 x\n
-took 1 7
-took 1 7
-took 1 5
-took 1 7
-took 1 7
-took 1 7
-list orders
-took 1 2
-list orders
-took 1 7
-took 1 2
-";
-
-/// What is printed of them: a line acts once all before it was taken.
-static TAKINGS_SAID: &str = r"sent 1 +OK 21 
-done
-sent 1 octets\r
-done
-sent 1 \nSubjec
-done
-answer new note.3
-sent 1 t: a\r\n\r
-done
-sent 1 \nhi\r\n..
-done
-sent 1 \r\n.\r\n
-done
-sent 1 +OK mes
-done
-sent 1 sage 1 
-done
-sent 1 deleted
-done
-answer note.1 21
-answer pay.1 19
-answer note.2 15
-answer todo.1 25
-answer note.3 3
-sent 1 \r\n
-done
-answer pay.1 19
-answer note.2 15
-answer todo.1 25
-answer note.3 3
-sent 1 +OK bye
-done
-sent 1 \r\n
-done
-ended 1
-";
-
 /// A script over the sample store, and what is to be printed of it.
 #[derive(Drop)]
 struct Scene {
@@ -348,18 +290,6 @@ fn refusals_at_login(rt: HostRuntime) -> Result<(), Fail> {
 }
 
 #[test]
-fn gone_removes_nothing(rt: HostRuntime) -> Result<(), Fail> {
-    let alloc = rt.alloc();
-    let mut scene = Scene::new(alloc)?;
-    scene.come(1)?;
-    scene.say(alloc, 1, HOLDING.as_slice())?;
-    scene.add("bytes 1 DELE 1\\r\\n\ngone 1\n", "done\ndone\nended 1\n")?;
-    scene.come(2)?;
-    scene.say(alloc, 2, FILTERED_VIEW.as_slice())?;
-    scene.play(alloc)
-}
-
-#[test]
 fn deposit_during_a_session(rt: HostRuntime) -> Result<(), Fail> {
     let alloc = rt.alloc();
     let mut scene = Scene::new(alloc)?;
@@ -386,49 +316,4 @@ fn quit_under_a_new_policy(rt: HostRuntime) -> Result<(), Fail> {
         "ended 1\nanswer pay.1 19\nanswer note.2 15\nanswer todo.1 25\n",
     )?;
     scene.play(alloc)
-}
-
-/// The sample store with ann logged in, who says three lines at once.
-fn pipelined(alloc: Global) -> Result<Scene, Fail> {
-    let mut scene = Scene::new(alloc)?;
-    scene.come(1)?;
-    scene.say(alloc, 1, HOLDING.as_slice())?;
-    scene.add("bytes 1 RETR 1\\r\\nDELE 1\\r\\nQUIT\\r\\n\n", "done\n")?;
-    Ok(scene)
-}
-
-#[test]
-fn pipelined_retrieve_delete_quit(rt: HostRuntime) -> Result<(), Fail> {
-    let alloc = rt.alloc();
-    let mut scene = pipelined(alloc)?;
-    scene.add(TAKINGS, TAKINGS_SAID)?;
-    scene.play(alloc)
-}
-
-/// Runs a script over an empty store that refuses one of its calls.
-fn run_refusing(alloc: Global, call: u64, script: &str) -> Result<Ran, Fail> {
-    let mut script = script.as_bytes();
-    let mut out = Vec::new(alloc);
-    let mut err = Vec::new(alloc);
-    let vault = Refusing::new(PlainVault::new(alloc), call);
-    let (status, _) = replay(alloc, &mut script, vault, "h.test", 7, &mut out, &mut err);
-    Ran::new(status, out, err)
-}
-
-/// What is printed of a QUIT whose removal the store refused, and of the messages that are then there.
-static REFUSED_QUIT: &str = "sent 1 -ERR some deleted messages not removed\\r\\n\ndone\nended 1\n\
-    answer note.1 21\nanswer pay.1 19\nanswer note.2 15\nanswer todo.1 25\n";
-
-#[test]
-fn refused_quit_removes_nothing(rt: HostRuntime) -> Result<(), Fail> {
-    let alloc = rt.alloc();
-    let mut scene = pipelined(alloc)?;
-    scene.add("took 1 40\ntook 1 23\ndrain 1\nlist orders\n", "")?;
-    for call in 1..30 {
-        let ran = run_refusing(alloc, call, scene.script.as_str())?;
-        if ran.printed().ends_with(REFUSED_QUIT) {
-            return Ok(());
-        }
-    }
-    Err(Fail::from("no refused QUIT"))
 }

@@ -280,7 +280,7 @@ fn piece_too_long(rt: HostRuntime) -> Result<(), Fail> {
 }
 
 /// Lines that are no event.
-static BAD_EVENTS: [&str; 61] = [
+static BAD_EVENTS: [&str; 69] = [
     "hello",
     "connect ",
     "Connect",
@@ -309,6 +309,14 @@ static BAD_EVENTS: [&str; 61] = [
     "gone x",
     "gone 000000000000000000001",
     "gone 18446744073709551616",
+    "tick",
+    "tick ",
+    "tick 1 2",
+    "restart",
+    "restart 18446744073709551616",
+    "sessions 1",
+    "end",
+    "end x",
     "deposit",
     "deposit orders note d1",
     "deposit orders note d1\\n x",

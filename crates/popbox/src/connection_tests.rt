@@ -1,0 +1,358 @@
+//! Tests of many connections over the sample store: the lock, the idle clock, restarts, and sessions that are ended from outside.
+
+use crate::session_tests::{SAMPLE, SAMPLE_SAID};
+use crate::tests::expect_output;
+use std::alloc::Global;
+use std::test::Fail;
+
+/// The script of a transcript, which are its lines behind `> `, and what is printed of it, which are the others.
+pub fn parts_of(alloc: Global, transcript: &str) -> Result<(String, String), Fail> {
+    let mut script = String::new(alloc);
+    let mut want = String::new(alloc);
+    for line in transcript.lines() {
+        match line.strip_prefix("> ") {
+            Some(event) => writeln!(script, "{event}")?,
+            None => writeln!(want, "{line}")?,
+        }
+    }
+    Ok((script, want))
+}
+
+/// Fails unless a transcript is what comes of its script over the sample store.
+fn plays(alloc: Global, transcript: &str) -> Result<(), Fail> {
+    let (script, want) = parts_of(alloc, transcript)?;
+    let script = format!(in alloc; "{SAMPLE}{script}")?;
+    let want = format!(in alloc; "{SAMPLE_SAID}{want}")?;
+    expect_output(alloc, script.as_str(), want.as_str())
+}
+
+/// Ann marks a message, and is gone: bob is let in, and sees that message.
+static GONE: &str = r"> connect
+opened 1
+> connect
+opened 2
+> drain 1
+sent 1 +OK POP3 server ready <1.7@h.test>\r\n
+done
+> drain 2
+sent 2 +OK POP3 server ready <2.7@h.test>\r\n
+done
+> bytes 1 USER ann/orders\r\nPASS s3 cret\r\nDELE 1\r\n
+done
+> drain 1
+sent 1 +OK send PASS\r\n+OK maildrop has 4 messages (80 octets)\r\n+OK message 1 deleted\r\n
+done
+> bytes 2 USER bob/orders\r\nPASS hunter\r\n
+done
+> drain 2
+sent 2 +OK send PASS\r\n-ERR [IN-USE] maildrop is in use\r\n
+done
+> gone 1
+done
+ended 1
+> bytes 2 USER bob/orders\r\nPASS hunter\r\n
+done
+> drain 2
+sent 2 +OK send PASS\r\n+OK maildrop has 3 messages (61 octets)\r\n
+done
+";
+
+/// Ann marks a message, and is idle for 600 seconds: the same.
+static IDLE: &str = r"> tick 1000
+done
+> connect
+opened 1
+> drain 1
+sent 1 +OK POP3 server ready <1.7@h.test>\r\n
+done
+> bytes 1 USER ann/orders\r\nPASS s3 cret\r\nDELE 1\r\n
+done
+> drain 1
+sent 1 +OK send PASS\r\n+OK maildrop has 4 messages (80 octets)\r\n+OK message 1 deleted\r\n
+done
+> tick 1599
+done
+> sessions
+answer 1 ann orders
+> tick 1600
+done
+ended 1
+> drain 1
+done
+> connect
+opened 2
+> drain 2
+sent 2 +OK POP3 server ready <2.7@h.test>\r\n
+done
+> bytes 2 USER bob/orders\r\nPASS hunter\r\n
+done
+> drain 2
+sent 2 +OK send PASS\r\n+OK maildrop has 3 messages (61 octets)\r\n
+done
+";
+
+#[test]
+fn gone_and_idle_remove_nothing(rt: HostRuntime) -> Result<(), Fail> {
+    let alloc = rt.alloc();
+    plays(alloc, GONE)?;
+    plays(alloc, IDLE)
+}
+
+/// Half a line doesn't set the clock; a taking does, a partial one too, and so does a line that acts. An earlier moment counts
+/// as the last. All that are idle are ended at once.
+static CLOCKS: &str = r"> connect
+opened 1
+> drain 1
+sent 1 +OK POP3 server ready <1.7@h.test>\r\n
+done
+> connect
+opened 2
+> tick 599
+done
+> bytes 1 NO
+done
+> took 2 1
+sent 2 +
+done
+> connect
+opened 3
+> connect
+opened 4
+> drain 3
+sent 3 +OK POP3 server ready <3.7@h.test>\r\n
+done
+> tick 600
+done
+ended 1
+> took 2 0
+ignored: NotReady
+> bytes 3 NOOP\r\n
+done
+> tick 18
+done
+> tick 1198
+done
+> tick 1199
+done
+ended 2
+ended 4
+> gone 4
+ignored: NoSuchConnection
+> tick 1200
+done
+ended 3
+> connect
+opened 5
+> tick 1799
+done
+> tick 18446744073709551615
+done
+ended 5
+> connect
+opened 6
+> tick 0
+done
+> drain 6
+sent 6 +OK POP3 server ready <6.7@h.test>\r\n
+done
+";
+
+#[test]
+fn idle_clocks(rt: HostRuntime) -> Result<(), Fail> {
+    plays(rt.alloc(), CLOCKS)
+}
+
+/// A removed message's deposit id and unique-id stay used, over a restart too.
+static OVER_A_RESTART: &str = r"> connect
+opened 1
+> drain 1
+sent 1 +OK POP3 server ready <1.7@h.test>\r\n
+done
+> bytes 1 USER ann/orders\r\nPASS s3 cret\r\nDELE 4\r\nQUIT\r\n
+done
+> drain 1
+sent 1 +OK send PASS\r\n+OK maildrop has 4 messages (80 octets)\r\n+OK message 4 deleted\r\n+OK bye\r\n
+done
+ended 1
+> restart 8
+done
+> connect
+opened 1
+> drain 1
+sent 1 +OK POP3 server ready <1.8@h.test>\r\n
+done
+> deposit orders todo d6 A: 2\n
+answer new todo.2
+> deposit orders todo d4 A: 1\r\n\r\none\r\ntwo\r\nthree\r\n
+answer known todo.1
+> deposit orders todo d4 A: 3\n
+answer conflict
+> deposit orders note d4 A: 1\r\n\r\none\r\ntwo\r\nthree\r\n
+answer conflict
+> list orders
+answer note.1 21
+answer pay.1 19
+answer note.2 15
+answer todo.2 6
+";
+
+/// A restart ends every connection, whatever it is owed, removes nothing, lets the maildrops go, and begins time anew.
+static WITH_OCTETS_OWED: &str = r"> connect
+opened 1
+> drain 1
+sent 1 +OK POP3 server ready <1.7@h.test>\r\n
+done
+> bytes 1 USER ann/orders\r\nPASS s3 cret\r\nDELE 1\r\n
+done
+> drain 1
+sent 1 +OK send PASS\r\n+OK maildrop has 4 messages (80 octets)\r\n+OK message 1 deleted\r\n
+done
+> connect
+opened 2
+> tick 500
+done
+> bytes 1 RETR 2\r\n
+done
+> took 1 7
+sent 1 +OK 19 
+done
+> restart 8
+done
+ended 1
+ended 2
+> drain 1
+done
+> sessions
+answer
+> connect
+opened 1
+> drain 1
+sent 1 +OK POP3 server ready <1.8@h.test>\r\n
+done
+> tick 599
+done
+> bytes 1 USER bob/orders\r\nPASS hunter\r\n
+done
+> drain 1
+sent 1 +OK send PASS\r\n+OK maildrop has 3 messages (61 octets)\r\n
+done
+> restart 18446744073709551615
+done
+ended 1
+> connect
+opened 1
+> drain 1
+sent 1 +OK POP3 server ready <1.18446744073709551615@h.test>\r\n
+done
+";
+
+#[test]
+fn unique_ids_over_a_restart(rt: HostRuntime) -> Result<(), Fail> {
+    plays(rt.alloc(), OVER_A_RESTART)
+}
+
+#[test]
+fn restart_with_octets_owed(rt: HostRuntime) -> Result<(), Fail> {
+    plays(rt.alloc(), WITH_OCTETS_OWED)
+}
+
+/// Half a line does nothing; of a connection that isn't open nothing is taken, and of an open one not no octet.
+static HALF_A_LINE: &str = r"> connect
+opened 1
+> drain 1
+sent 1 +OK POP3 server ready <1.7@h.test>\r\n
+done
+> bytes 1 USER ann/orders\r\nPASS s3 cret\r\n
+done
+> drain 1
+sent 1 +OK send PASS\r\n+OK maildrop has 4 messages (80 octets)\r\n
+done
+> bytes 1 RETR 1
+done
+> drain 1
+done
+> gone 1
+done
+ended 1
+> took 1 0
+ignored: NoSuchConnection
+> list orders
+answer note.1 21
+answer pay.1 19
+answer note.2 15
+answer todo.1 25
+> connect
+opened 2
+> took 2 0
+ignored: NotReady
+";
+
+#[test]
+fn half_a_line_and_ignored_events(rt: HostRuntime) -> Result<(), Fail> {
+    plays(rt.alloc(), HALF_A_LINE)
+}
+
+/// A session is ended from outside, and with it its connection; one that has said QUIT is none.
+static SESSIONS: &str = r"> sessions
+answer
+> maildrop add sales
+answer added
+> connect
+opened 1
+> connect
+opened 2
+> drain 2
+sent 2 +OK POP3 server ready <2.7@h.test>\r\n
+done
+> bytes 2 USER eve/sales\r\nPASS any one\r\n
+done
+> drain 2
+sent 2 +OK send PASS\r\n+OK maildrop has 0 messages (0 octets)\r\n
+done
+> drain 1
+sent 1 +OK POP3 server ready <1.7@h.test>\r\n
+done
+> end 1
+answer no such session
+> bytes 1 USER ann/orders\r\nPASS s3 cret\r\nDELE 1\r\n
+done
+> drain 1
+sent 1 +OK send PASS\r\n+OK maildrop has 4 messages (80 octets)\r\n+OK message 1 deleted\r\n
+done
+> sessions
+answer 1 ann orders
+answer 2 eve sales
+> end 1
+answer ended
+ended 1
+> end 1
+answer no such session
+> end 3
+answer no such session
+> sessions
+answer 2 eve sales
+> list orders
+answer note.1 21
+answer pay.1 19
+answer note.2 15
+answer todo.1 25
+> maildrop drop sales
+answer in use
+> bytes 2 QUIT\r\n
+done
+> sessions
+answer
+> end 2
+answer no such session
+> maildrop drop sales
+answer dropped
+> drain 2
+sent 2 +OK bye\r\n
+done
+ended 2
+";
+
+#[test]
+fn sessions_ended_from_outside(rt: HostRuntime) -> Result<(), Fail> {
+    plays(rt.alloc(), SESSIONS)
+}
