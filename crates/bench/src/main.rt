@@ -1,10 +1,13 @@
 //! How fast popbox's layers are. `bench texts OCTETS` is over message texts; `bench rules COUNT` is over a policy;
 //! `bench sheets OCTETS [FILE]`, `bench commits COUNT [FILE]` and `bench heads COUNT [FILE]` are over a store, in memory or
-//! in a file that is not there yet; `bench sample 0 FILE` writes a small store. Without a number it prints nothing.
+//! in a file that is not there yet; `bench sample 0 FILE` writes a small store. `bench logins MESSAGES`, `bench listings MESSAGES`,
+//! `bench retrieval OCTETS`, `bench removal MESSAGES`, `bench one TIMES` and `bench many TIMES` are over the sessions of an office.
+//! Without a number it prints nothing.
 #![tactic(auto)]
 
 mod calls;
 mod rules;
+mod sessions;
 mod store;
 mod texts;
 
@@ -76,6 +79,9 @@ fn main(rt: HostRuntime) -> Result<()> {
     if what.as_str() == "rules" {
         rules::measure(&rt, count as usize)?;
         return Ok(());
+    }
+    if sessions::is_measure(what.as_str()) {
+        return sessions::measure(&rt, what.as_str(), count);
     }
     match words.next() {
         Some(path) => in_file(&rt, path.as_str(), what.as_str(), count),
