@@ -3,8 +3,9 @@ use Rattle.std.specs.Prelude.{◌≡◌, ℕ, false, List, [], ◌∷◌, ◌++�
 use Rattle.std.proofs.Common.{refl, arith}
 use Rattle.std.specs.Fmt.{digits}
 use Rattle.office.specs.LoginName.{login_name}
-use Rattle.sha2.specs.Sha256 as S
-use Rattle.sha2.specs.Sha256.{sha256}
+use Rattle.hex.specs.Hex.{decode_pairs}
+use Rattle.md5.specs.Md5 as M
+use Rattle.md5.specs.Md5.{md5}
 use Rattle.office.specs.Cutting as cutting
 use Rattle.office.specs.History.{Act, Open, Line, Gone, Restart, Tag, Done}
 use Rattle.office.proofs.Sample.{W, replies}
@@ -14,17 +15,17 @@ abbrev start : List (Act × Tag)
 start = (Restart 7 (codes "h.test"), Done) ∷ []
 
 abbrev marking : List ℕ
-marking = codes "USER ann/orders\nPASS s3 cret\nDELE 1\n"
+marking = codes "APOP ann/orders 34a3e97880fea19f455051f180c63e15\nDELE 1\n"
 
 abbrev line : List ℕ → Act × Tag
 line text = (Line 1 (cutting.Line text), Done)
 
--- a reader that ends behind a mark: four replies, and the connection is gone
-four_replies : Talks W 1 marking (replies (codes "+OK POP3 server ready <1.7@h.test>" ∷ codes "+OK send PASS" ∷ codes "+OK maildrop has 4 messages (80 octets)" ∷ codes "+OK message 1 deleted" ∷ []))
-    (Unit {0}) start ((Gone 1, Done) ∷ line (codes "DELE 1") ∷ line (codes "PASS s3 cret") ∷ line (codes "USER ann/orders") ∷ (Open 1, Done) ∷ start)
-unfolding digits login_name sha256 S.first_words S.schedule S.digest_bytes S.hash_after S.compress S.rounds
-four_replies = record {
-  tags = Done ∷ Done ∷ Done ∷ [];
+-- a reader that ends behind a mark: three replies, and the connection is gone
+three_replies : Talks W 1 marking (replies (codes "+OK POP3 server ready <1.7@h.test>" ∷ codes "+OK maildrop has 4 messages (80 octets)" ∷ codes "+OK message 1 deleted" ∷ []))
+    (Unit {0}) start ((Gone 1, Done) ∷ line (codes "DELE 1") ∷ line (codes "APOP ann/orders 34a3e97880fea19f455051f180c63e15") ∷ (Open 1, Done) ∷ start)
+unfolding digits login_name decode_pairs md5 M.digest_bytes M.hash_after M.compress M.rounds M.block_words
+three_replies = record {
+  tags = Done ∷ Done ∷ [];
   each = refl;
   ample = refl;
   fit = refl;
@@ -34,8 +35,8 @@ four_replies = record {
 }
 
 -- nothing is removed by it
-nothing_removed : removed_last W (left_unless_closing W 1 (spoken W 1 marking (Done ∷ Done ∷ Done ∷ []) start)) ≡ []
-unfolding digits login_name sha256 S.first_words S.schedule S.digest_bytes S.hash_after S.compress S.rounds
+nothing_removed : removed_last W (left_unless_closing W 1 (spoken W 1 marking (Done ∷ Done ∷ []) start)) ≡ []
+unfolding digits login_name decode_pairs md5 M.digest_bytes M.hash_after M.compress M.rounds M.block_words
 nothing_removed = refl
 
 -- what comes behind a QUIT is dropped

@@ -5,6 +5,9 @@ use Rattle.std.specs.Fmt.{decimal, digits}
 use Rattle.mailtext.specs.Text.{kept_form}
 use Rattle.creds.specs.LoginName.{login_name}
 use Rattle.creds.specs.declared.credential.Credential.TheVariants as kept
+use Rattle.hex.specs.Hex.{decode_pairs}
+use Rattle.md5.specs.Md5 as M
+use Rattle.md5.specs.Md5.{md5}
 use Rattle.sha2.specs.Sha256 as S
 use Rattle.sha2.specs.Sha256.{sha256}
 use Rattle.policy.specs.WrittenText.{setting, rule_text}
@@ -19,7 +22,7 @@ use Rattle.office.specs.Answers.{AdminCommand, ShowMaildrop, AddMaildrop, DropMa
 use Rattle.office.specs.History.{Entry}
 use Rattle.office.specs.Told.{administered, deposited}
 use Rattle.office.specs.Events.{Bytes, Deposit, Admin}
-use Rattle.office.proofs.Sample.{W, w_rules, rule, ord, freeze, d1, Step, Give, run, connect, says, received, replies, answered, deposit, as_ann, as_bob}
+use Rattle.office.proofs.Sample.{W, w_rules, rule, ord, freeze, d1, Step, Give, run, connect, says, received, replies, answered, deposit, as_ann, second_as_ann, second_as_bob}
 
 -- what a command is answered behind these steps
 abbrev told : List Step → AdminCommand → List ℕ
@@ -90,9 +93,9 @@ replaced_among_a_thousand : body_of (administered crowded [] (PutClerk (codes "c
 unfolding digits
 replaced_among_a_thousand = refl
 
-kinds_of_clerks : map (λ name. told (Give (Admin zoe) ∷ []) (ShowClerk name)) (codes "ann" ∷ codes "mrose" ∷ codes "zoe" ∷ codes "nobody" ∷ [])
+kinds_of_clerks : map (λ name. told (Give (Admin zoe) ∷ []) (ShowClerk name)) (codes "eve" ∷ codes "mrose" ∷ codes "zoe" ∷ codes "nobody" ∷ [])
     ≡ codes "pass\n" ∷ codes "apop\n" ∷ codes "apop\n" ∷ codes "no such clerk\n" ∷ []
-unfolding digits sha256 S.first_words S.schedule S.digest_bytes S.hash_after S.compress S.rounds
+unfolding digits
 kinds_of_clerks = refl
 
 clerk_dropped : told [] (DropClerk (codes "ann")) ≡ codes "dropped\n"
@@ -105,22 +108,22 @@ no_clerk_to_drop = refl
 
 -- a session outlives its clerk, who can't log in again
 abbrev without_ann : List Step
-without_ann = connect 1 ++ says 1 as_ann ++ Give (Admin (DropClerk (codes "ann"))) ∷ says 1 (codes "STAT" ∷ codes "QUIT" ∷ []) ++ connect 2 ++ says 2 as_ann
+without_ann = connect 1 ++ says 1 as_ann ++ Give (Admin (DropClerk (codes "ann"))) ∷ says 1 (codes "STAT" ∷ codes "QUIT" ∷ []) ++ connect 2 ++ says 2 second_as_ann
 
 session_of_a_dropped_clerk : received 1 (run without_ann)
-    ≡ replies (codes "+OK POP3 server ready <1.7@h.test>" ∷ codes "+OK send PASS" ∷ codes "+OK maildrop has 4 messages (80 octets)" ∷ codes "+OK 4 80" ∷ codes "+OK bye" ∷ [])
-unfolding digits login_name sha256 S.first_words S.schedule S.digest_bytes S.hash_after S.compress S.rounds
+    ≡ replies (codes "+OK POP3 server ready <1.7@h.test>" ∷ codes "+OK maildrop has 4 messages (80 octets)" ∷ codes "+OK 4 80" ∷ codes "+OK bye" ∷ [])
+unfolding digits login_name decode_pairs md5 M.digest_bytes M.hash_after M.compress M.rounds M.block_words
 session_of_a_dropped_clerk = refl
 
 login_of_a_dropped_clerk : received 2 (run without_ann)
-    ≡ replies (codes "+OK POP3 server ready <2.7@h.test>" ∷ codes "+OK send PASS" ∷ codes "-ERR login failed" ∷ [])
-unfolding digits login_name sha256 S.first_words S.schedule S.digest_bytes S.hash_after S.compress S.rounds
+    ≡ replies (codes "+OK POP3 server ready <2.7@h.test>" ∷ codes "-ERR login failed" ∷ [])
+unfolding digits login_name decode_pairs md5 M.digest_bytes M.hash_after M.compress M.rounds M.block_words
 login_of_a_dropped_clerk = refl
 
 -- the other kind of credential in its place
-login_after_a_replacement : received 1 (run (Give (Admin (PutClerk (codes "ann") (kept.Apop (codes "s3 cret")))) ∷ connect 1 ++ says 1 as_ann))
+login_after_a_replacement : received 1 (run (Give (Admin (PutClerk (codes "eve") (kept.Apop (codes "any one")))) ∷ connect 1 ++ says 1 (codes "USER eve/orders" ∷ codes "PASS any one" ∷ [])))
     ≡ replies (codes "+OK POP3 server ready <1.7@h.test>" ∷ codes "+OK send PASS" ∷ codes "-ERR login failed" ∷ [])
-unfolding digits login_name sha256 S.first_words S.schedule S.digest_bytes S.hash_after S.compress S.rounds
+unfolding digits login_name decode_pairs md5 M.digest_bytes M.hash_after M.compress M.rounds M.block_words
 login_after_a_replacement = refl
 
 -- ---- the policy
@@ -163,10 +166,10 @@ decisions_of_the_sample_policy = refl
 
 -- ann's maildrop is that of the higher number
 abbrev two_sessions : List Step
-two_sessions = Give (Admin (AddMaildrop (codes "alpha"))) ∷ connect 1 ++ connect 2 ++ says 2 as_ann ++ says 1 (codes "USER eve/alpha" ∷ codes "PASS any one" ∷ [])
+two_sessions = Give (Admin (AddMaildrop (codes "alpha"))) ∷ connect 1 ++ connect 2 ++ says 2 second_as_ann ++ says 1 (codes "APOP mrose/alpha 36634ae136f823432b9c0b6e55ce0089" ∷ [])
 
-sessions_by_number : told two_sessions ListSessions ≡ codes "1 eve alpha\n2 ann orders\n"
-unfolding digits login_name sha256 S.first_words S.schedule S.digest_bytes S.hash_after S.compress S.rounds
+sessions_by_number : told two_sessions ListSessions ≡ codes "1 mrose alpha\n2 ann orders\n"
+unfolding digits login_name decode_pairs md5 M.digest_bytes M.hash_after M.compress M.rounds M.block_words
 sessions_by_number = refl
 
 no_session_before_login : told (connect 1) (EndSession 1) ≡ codes "no such session\n"
@@ -178,28 +181,28 @@ abbrev quitting : List Step
 quitting = connect 1 ++ says 1 as_ann ++ Give (Bytes 1 (codes "QUIT\r\n")) ∷ []
 
 no_session_after_quit : told quitting (EndSession 1) ≡ codes "no such session\n"
-unfolding digits login_name sha256 S.first_words S.schedule S.digest_bytes S.hash_after S.compress S.rounds
+unfolding digits login_name decode_pairs md5 M.digest_bytes M.hash_after M.compress M.rounds M.block_words
 no_session_after_quit = refl
 
 none_listed_after_quit : told quitting ListSessions ≡ []
-unfolding digits login_name sha256 S.first_words S.schedule S.digest_bytes S.hash_after S.compress S.rounds
+unfolding digits login_name decode_pairs md5 M.digest_bytes M.hash_after M.compress M.rounds M.block_words
 none_listed_after_quit = refl
 
-lock_free_after_quit : received 2 (run (quitting ++ connect 2 ++ says 2 as_bob))
-    ≡ replies (codes "+OK POP3 server ready <2.7@h.test>" ∷ codes "+OK send PASS" ∷ codes "+OK maildrop has 3 messages (61 octets)" ∷ [])
-unfolding digits login_name sha256 S.first_words S.schedule S.digest_bytes S.hash_after S.compress S.rounds
+lock_free_after_quit : received 2 (run (quitting ++ connect 2 ++ says 2 second_as_bob))
+    ≡ replies (codes "+OK POP3 server ready <2.7@h.test>" ∷ codes "+OK maildrop has 3 messages (61 octets)" ∷ [])
+unfolding digits login_name decode_pairs md5 M.digest_bytes M.hash_after M.compress M.rounds M.block_words
 lock_free_after_quit = refl
 
 -- a session that is ended removes nothing
 ended_session_removes_nothing : told (connect 1 ++ says 1 (as_ann ++ codes "DELE 1" ∷ []) ++ Give (Admin (EndSession 1)) ∷ []) (ShowMaildrop (codes "orders"))
     ≡ codes "note.1 21\npay.1 19\nnote.2 15\ntodo.1 25\n"
-unfolding digits login_name sha256 S.first_words S.schedule S.digest_bytes S.hash_after S.compress S.rounds
+unfolding digits login_name decode_pairs md5 M.digest_bytes M.hash_after M.compress M.rounds M.block_words
 ended_session_removes_nothing = refl
 
 -- ---- deposits
 
 new_deposit : answered (run []) (deposit (codes "note") (codes "d5") (codes "x\n")) ≡ codes "new note.3\n"
-unfolding digits sha256 S.first_words S.schedule S.digest_bytes S.hash_after S.compress S.rounds
+unfolding digits
 new_deposit = refl
 
 known_deposit : answered (run []) (deposit (codes "note") (codes "d1") d1) ≡ codes "known note.1\n"

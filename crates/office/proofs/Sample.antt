@@ -62,13 +62,14 @@ d3 = codes "no header end"
 abbrev pub d4 : List ℕ
 d4 = codes "A: 1" ++ line_end ++ line_end ++ codes "one" ++ line_end ++ codes "two" ++ line_end ++ codes "three" ++ line_end
 
+-- a clerk that logs in by APOP. A digest of MD5 is computed ten times as fast as one of SHA-256, so that only eve has a password.
 abbrev pub clerk : List ℕ → List ℕ → Clerk
-clerk name password = record { name = name; credential = kept.Pass (pass_digest name password) }
+clerk name secret = record { name = name; credential = kept.Apop secret }
 
 abbrev pub W : Records
 W = record {
   clerks = clerk (codes "ann") (codes "s3 cret") ∷ clerk (codes "bob") (codes "hunter") ∷ clerk (codes "cat") (codes "meow") ∷ clerk (codes "dan") (codes "pw")
-      ∷ clerk (codes "eve") (codes "any one") ∷ record { name = codes "mrose"; credential = kept.Apop (codes "tanstaaf") } ∷ [];
+      ∷ record { name = codes "eve"; credential = kept.Pass (pass_digest (codes "eve") (codes "any one")) } ∷ clerk (codes "mrose") (codes "tanstaaf") ∷ [];
   maildrops = codes "orders" ∷ [];
   messages = message (codes "note") 1 d1 ∷ message (codes "pay") 1 d2 ∷ message (codes "note") 2 d3 ∷ message (codes "todo") 1 d4 ∷ [];
   deposits = receipt (codes "d1") (codes "note") 1 d1 ∷ receipt (codes "d2") (codes "pay") 1 d2 ∷ receipt (codes "d3") (codes "note") 2 d3 ∷ receipt (codes "d4") (codes "todo") 1 d4 ∷ [];
@@ -143,18 +144,25 @@ replies ls = flat_map (λ l. l ++ line_end) ls
 
 -- ---- what the rows share
 
+-- a login on the first connection and one on the second, whose timestamps differ
 abbrev pub as_ann : List (List ℕ)
-as_ann = codes "USER ann/orders" ∷ codes "PASS s3 cret" ∷ []
+as_ann = codes "APOP ann/orders 34a3e97880fea19f455051f180c63e15" ∷ []
+
+abbrev pub second_as_ann : List (List ℕ)
+second_as_ann = codes "APOP ann/orders ffcd9cb1893b7195a33ee7404a42c4f5" ∷ []
 
 abbrev pub as_bob : List (List ℕ)
-as_bob = codes "USER bob/orders" ∷ codes "PASS hunter" ∷ []
+as_bob = codes "APOP bob/orders 18f68bd14144b7cabcb6aabe0c722b7e" ∷ []
+
+abbrev pub second_as_bob : List (List ℕ)
+second_as_bob = codes "APOP bob/orders 4913e303168b8637628bee1be5ffa486" ∷ []
 
 -- a connection of ann's that gives these lines, and what it receives
 abbrev pub ann : List (List ℕ) → List ℕ
 ann ls = received 1 (run (connect 1 ++ says 1 (as_ann ++ ls)))
 
 abbrev pub ann_receives : List (List ℕ) → List ℕ
-ann_receives ls = replies (codes "+OK POP3 server ready <1.7@h.test>" ∷ codes "+OK send PASS" ∷ codes "+OK maildrop has 4 messages (80 octets)" ∷ ls)
+ann_receives ls = replies (codes "+OK POP3 server ready <1.7@h.test>" ∷ codes "+OK maildrop has 4 messages (80 octets)" ∷ ls)
 
 abbrev pub kept_ids : Trace → List (List ℕ × ℕ)
 kept_ids T = map (λ (m : Message). (m.class, m.k)) (present W (history T) (codes "orders"))

@@ -16,7 +16,7 @@ use Rattle.office.specs.Events as events
 use Rattle.office.specs.Outcomes as outcomes
 use Rattle.office.specs.Trace.{is_open}
 use Rattle.office.specs.Expected.{outcome_of, may_show}
-use Rattle.office.proofs.Sample.{lent, Step, Give, Drain, Sip, run, ran, connect, says, received, replies, as_ann, as_bob, ann, ann_receives, kept_ids, deposit, answered, pipelined, d1, d4}
+use Rattle.office.proofs.Sample.{lent, Step, Give, Drain, Sip, run, ran, connect, says, received, replies, as_ann, ann, ann_receives, kept_ids, deposit, answered, pipelined, d1, d4, second_as_bob}
 
 -- ---- ids over a drop and a restart
 
@@ -30,38 +30,38 @@ abbrev added_again : List Step
 added_again = dropped ++ Give (Admin (AddMaildrop (codes "orders"))) ∷ Give (Restart 8) ∷ []
 
 dropped_when_empty : answered (run emptied) (Admin (DropMaildrop (codes "orders"))) ≡ codes "dropped\n"
-unfolding digits login_name sha256 S.first_words S.schedule S.digest_bytes S.hash_after S.compress S.rounds
+unfolding digits login_name decode_pairs md5 M.digest_bytes M.hash_after M.compress M.rounds M.block_words
 dropped_when_empty = refl
 
 known_id_while_dropped : answered (run dropped) (deposit (codes "note") (codes "d1") d1) ≡ codes "no such maildrop\n"
-unfolding digits login_name sha256 S.first_words S.schedule S.digest_bytes S.hash_after S.compress S.rounds
+unfolding digits login_name decode_pairs md5 M.digest_bytes M.hash_after M.compress M.rounds M.block_words
 known_id_while_dropped = refl
 
 added_again_after_a_drop : answered (run dropped) (Admin (AddMaildrop (codes "orders"))) ≡ codes "added\n"
-unfolding digits login_name sha256 S.first_words S.schedule S.digest_bytes S.hash_after S.compress S.rounds
+unfolding digits login_name decode_pairs md5 M.digest_bytes M.hash_after M.compress M.rounds M.block_words
 added_again_after_a_drop = refl
 
 empty_over_a_drop : answered (run added_again) (Admin (ShowMaildrop (codes "orders"))) ≡ []
-unfolding digits login_name sha256 S.first_words S.schedule S.digest_bytes S.hash_after S.compress S.rounds
+unfolding digits login_name decode_pairs md5 M.digest_bytes M.hash_after M.compress M.rounds M.block_words
 empty_over_a_drop = refl
 
 deposit_ids_over_a_drop : answered (run added_again) (deposit (codes "note") (codes "d1") d1) ≡ codes "known note.1\n"
-unfolding digits login_name sha256 S.first_words S.schedule S.digest_bytes S.hash_after S.compress S.rounds
+unfolding digits login_name decode_pairs md5 M.digest_bytes M.hash_after M.compress M.rounds M.block_words sha256 S.first_words S.schedule S.digest_bytes S.hash_after S.compress S.rounds
 deposit_ids_over_a_drop = refl
 
 other_class_over_a_drop : answered (run added_again) (deposit (codes "pay") (codes "d1") d1) ≡ codes "conflict\n"
-unfolding digits login_name sha256 S.first_words S.schedule S.digest_bytes S.hash_after S.compress S.rounds
+unfolding digits login_name decode_pairs md5 M.digest_bytes M.hash_after M.compress M.rounds M.block_words
 other_class_over_a_drop = refl
 
 unique_ids_over_a_drop : answered (run added_again) (deposit (codes "note") (codes "d6") (codes "x\n")) ≡ codes "new note.3\n"
-unfolding digits login_name sha256 S.first_words S.schedule S.digest_bytes S.hash_after S.compress S.rounds
+unfolding digits login_name decode_pairs md5 M.digest_bytes M.hash_after M.compress M.rounds M.block_words
 unique_ids_over_a_drop = refl
 
 -- the sample's own text again, behind a new deposit of its class
 sample_text_over_a_restart : answered (run (connect 1 ++ says 1 (as_ann ++ codes "DELE 4" ∷ codes "QUIT" ∷ []) ++ Give (Restart 8) ∷ Give (deposit (codes "todo") (codes "d6") (codes "A: 2\n")) ∷ []))
     (deposit (codes "todo") (codes "d4") d4)
     ≡ codes "known todo.1\n"
-unfolding digits login_name sha256 S.first_words S.schedule S.digest_bytes S.hash_after S.compress S.rounds
+unfolding digits login_name decode_pairs md5 M.digest_bytes M.hash_after M.compress M.rounds M.block_words sha256 S.first_words S.schedule S.digest_bytes S.hash_after S.compress S.rounds
 sample_text_over_a_restart = refl
 
 -- ---- the pipelined QUIT, where the store refuses it
@@ -77,26 +77,26 @@ abbrev failed : Trace → outcomes.Outcome
 failed T = outcome_of T (lent T) tenth Failed
 
 pipelined_quit_may_fail : may_show (pipelined 6) tenth Failed ≡ true
-unfolding digits login_name sha256 S.first_words S.schedule S.digest_bytes S.hash_after S.compress S.rounds
+unfolding digits login_name decode_pairs md5 M.digest_bytes M.hash_after M.compress M.rounds M.block_words
 pipelined_quit_may_fail = refl
 
 pipelined_quit_failed : failed (pipelined 6) ≡ outcomes.Failed
-unfolding digits login_name sha256 S.first_words S.schedule S.digest_bytes S.hash_after S.compress S.rounds
+unfolding digits login_name decode_pairs md5 M.digest_bytes M.hash_after M.compress M.rounds M.block_words
 pipelined_quit_failed = refl
 
 pipelined_quit_that_is_refused : received 1 (refused (pipelined 6))
     ≡ ann_receives (codes "+OK 21 octets" ∷ codes "Subject: a" ∷ [] ∷ codes "hi" ∷ codes ".." ∷ codes "." ∷ codes "+OK message 1 deleted" ∷ codes "-ERR some deleted messages not removed" ∷ [])
-unfolding digits login_name sha256 S.first_words S.schedule S.digest_bytes S.hash_after S.compress S.rounds
+unfolding digits login_name decode_pairs md5 M.digest_bytes M.hash_after M.compress M.rounds M.block_words
 pipelined_quit_that_is_refused = refl
 
 nothing_removed_by_a_refused_pipelined_quit : kept_ids (refused (pipelined 6))
     ≡ (codes "note", 1) ∷ (codes "pay", 1) ∷ (codes "note", 2) ∷ (codes "todo", 1) ∷ (codes "note", 3) ∷ []
-unfolding digits login_name sha256 S.first_words S.schedule S.digest_bytes S.hash_after S.compress S.rounds
+unfolding digits login_name decode_pairs md5 M.digest_bytes M.hash_after M.compress M.rounds M.block_words
 nothing_removed_by_a_refused_pipelined_quit = refl
 
 -- the ninth taking lets nothing act, so that the store can't refuse it
 ninth_taking_may_not_fail : may_show (pipelined 5) (Took 1 7) Failed ≡ false
-unfolding digits login_name sha256 S.first_words S.schedule S.digest_bytes S.hash_after S.compress S.rounds
+unfolding digits login_name decode_pairs md5 M.digest_bytes M.hash_after M.compress M.rounds M.block_words
 ninth_taking_may_not_fail = refl
 
 -- ---- other refusals of the store
@@ -109,27 +109,27 @@ failing steps line = ran (events.given (run steps) (Bytes 1 (line ++ line_end)) 
 login_that_is_refused : received 1 (ran (failing (connect 1 ++ says 1 (codes "USER ann/orders" ∷ [])) (codes "PASS s3 cret"))
     (says 1 (codes "PASS s3 cret" ∷ codes "USER ann/orders" ∷ codes "PASS wrong" ∷ codes "USER ann/orders" ∷ codes "PASS wrong" ∷ as_ann)))
     ≡ replies (codes "+OK POP3 server ready <1.7@h.test>" ∷ codes "+OK send PASS" ∷ codes "-ERR store failed" ∷ codes "-ERR wrong state" ∷ codes "+OK send PASS" ∷ codes "-ERR login failed"
-    ∷ codes "+OK send PASS" ∷ codes "-ERR login failed" ∷ codes "+OK send PASS" ∷ codes "+OK maildrop has 4 messages (80 octets)" ∷ [])
-unfolding digits login_name sha256 S.first_words S.schedule S.digest_bytes S.hash_after S.compress S.rounds
+    ∷ codes "+OK send PASS" ∷ codes "-ERR login failed" ∷ codes "+OK maildrop has 4 messages (80 octets)" ∷ [])
+unfolding digits login_name decode_pairs md5 M.digest_bytes M.hash_after M.compress M.rounds M.block_words
 login_that_is_refused = refl
 
 -- the lock is free after a QUIT that is refused
-lock_free_after_a_refused_quit : received 2 (ran (failing (connect 1 ++ says 1 (as_ann ++ codes "DELE 1" ∷ [])) (codes "QUIT")) (connect 2 ++ says 2 as_bob))
-    ≡ replies (codes "+OK POP3 server ready <2.7@h.test>" ∷ codes "+OK send PASS" ∷ codes "+OK maildrop has 3 messages (61 octets)" ∷ [])
-unfolding digits login_name sha256 S.first_words S.schedule S.digest_bytes S.hash_after S.compress S.rounds
+lock_free_after_a_refused_quit : received 2 (ran (failing (connect 1 ++ says 1 (as_ann ++ codes "DELE 1" ∷ [])) (codes "QUIT")) (connect 2 ++ says 2 second_as_bob))
+    ≡ replies (codes "+OK POP3 server ready <2.7@h.test>" ∷ codes "+OK maildrop has 3 messages (61 octets)" ∷ [])
+unfolding digits login_name decode_pairs md5 M.digest_bytes M.hash_after M.compress M.rounds M.block_words
 lock_free_after_a_refused_quit = refl
 
 message_that_is_refused : received 1 (failing (connect 1 ++ says 1 as_ann) (codes "RETR 1")) ≡ ann_receives (codes "-ERR store failed" ∷ [])
-unfolding digits login_name sha256 S.first_words S.schedule S.digest_bytes S.hash_after S.compress S.rounds
+unfolding digits login_name decode_pairs md5 M.digest_bytes M.hash_after M.compress M.rounds M.block_words
 message_that_is_refused = refl
 
 -- what isn't served can't be refused
 missing_message_may_not_fail : may_show (run (connect 1 ++ says 1 as_ann)) (Bytes 1 (codes "RETR 5\r\n")) Failed ≡ false
-unfolding digits login_name sha256 S.first_words S.schedule S.digest_bytes S.hash_after S.compress S.rounds
+unfolding digits login_name decode_pairs md5 M.digest_bytes M.hash_after M.compress M.rounds M.block_words
 missing_message_may_not_fail = refl
 
 marked_message_may_not_fail : may_show (run (connect 1 ++ says 1 (as_ann ++ codes "DELE 1" ∷ []))) (Bytes 1 (codes "TOP 1 0\r\n")) Failed ≡ false
-unfolding digits login_name sha256 S.first_words S.schedule S.digest_bytes S.hash_after S.compress S.rounds
+unfolding digits login_name decode_pairs md5 M.digest_bytes M.hash_after M.compress M.rounds M.block_words
 marked_message_may_not_fail = refl
 
 -- a later part of a message that can't be read ends the connection, and its maildrop is free
@@ -140,59 +140,54 @@ abbrev cut_short : Trace → Trace
 cut_short T = events.given T (Took 1 7) (Tagged Failed)
 
 later_part_may_fail : may_show (run reading) (Took 1 7) Failed ≡ true
-unfolding digits login_name sha256 S.first_words S.schedule S.digest_bytes S.hash_after S.compress S.rounds
+unfolding digits login_name decode_pairs md5 M.digest_bytes M.hash_after M.compress M.rounds M.block_words
 later_part_may_fail = refl
 
 ended_by_a_later_part : is_open (cut_short (run reading)) 1 ≡ false
-unfolding digits login_name sha256 S.first_words S.schedule S.digest_bytes S.hash_after S.compress S.rounds
+unfolding digits login_name decode_pairs md5 M.digest_bytes M.hash_after M.compress M.rounds M.block_words
 ended_by_a_later_part = refl
 
-lock_free_after_a_later_part : received 2 (ran (cut_short (run reading)) (connect 2 ++ says 2 as_bob))
-    ≡ replies (codes "+OK POP3 server ready <2.7@h.test>" ∷ codes "+OK send PASS" ∷ codes "+OK maildrop has 3 messages (61 octets)" ∷ [])
-unfolding digits login_name sha256 S.first_words S.schedule S.digest_bytes S.hash_after S.compress S.rounds
+lock_free_after_a_later_part : received 2 (ran (cut_short (run reading)) (connect 2 ++ says 2 second_as_bob))
+    ≡ replies (codes "+OK POP3 server ready <2.7@h.test>" ∷ codes "+OK maildrop has 3 messages (61 octets)" ∷ [])
+unfolding digits login_name decode_pairs md5 M.digest_bytes M.hash_after M.compress M.rounds M.block_words
 lock_free_after_a_later_part = refl
 
 -- ---- names in force, and faulty lines
 
 user_name_withdrawn_by_a_faulty_capa : received 1 (run (connect 1 ++ says 1 (codes "USER ann/orders" ∷ codes "CAPA x" ∷ codes "PASS s3 cret" ∷ [])))
     ≡ replies (codes "+OK POP3 server ready <1.7@h.test>" ∷ codes "+OK send PASS" ∷ codes "-ERR bad arguments" ∷ codes "-ERR wrong state" ∷ [])
-unfolding digits login_name sha256 S.first_words S.schedule S.digest_bytes S.hash_after S.compress S.rounds
+unfolding digits login_name decode_pairs md5 M.digest_bytes M.hash_after M.compress M.rounds M.block_words
 user_name_withdrawn_by_a_faulty_capa = refl
 
 user_name_withdrawn_by_a_long_line : received 1 (run (connect 1 ++ says 1 (codes "USER ann/orders" ∷ replicate 254 65 ∷ codes "PASS s3 cret" ∷ [])))
     ≡ replies (codes "+OK POP3 server ready <1.7@h.test>" ∷ codes "+OK send PASS" ∷ codes "-ERR line too long" ∷ codes "-ERR wrong state" ∷ [])
-unfolding digits login_name sha256 S.first_words S.schedule S.digest_bytes S.hash_after S.compress S.rounds
+unfolding digits login_name decode_pairs md5 M.digest_bytes M.hash_after M.compress M.rounds M.block_words
 user_name_withdrawn_by_a_long_line = refl
 
 pass_without_an_argument : received 1 (run (connect 1 ++ says 1 (codes "PASS" ∷ codes "USER ann/orders" ∷ codes "PASS" ∷ codes "PASS s3 cret" ∷ [])))
     ≡ replies (codes "+OK POP3 server ready <1.7@h.test>" ∷ codes "-ERR wrong state" ∷ codes "+OK send PASS" ∷ codes "-ERR bad arguments" ∷ codes "-ERR wrong state" ∷ [])
-unfolding digits login_name sha256 S.first_words S.schedule S.digest_bytes S.hash_after S.compress S.rounds
+unfolding digits login_name decode_pairs md5 M.digest_bytes M.hash_after M.compress M.rounds M.block_words
 pass_without_an_argument = refl
 
-later_user_name_in_force : received 1 (run (connect 1 ++ says 1 (codes "USER bob/orders" ∷ codes "user ann/orders" ∷ codes "pass s3 cret" ∷ [])))
-    ≡ replies (codes "+OK POP3 server ready <1.7@h.test>" ∷ codes "+OK send PASS" ∷ codes "+OK send PASS" ∷ codes "+OK maildrop has 4 messages (80 octets)" ∷ [])
-unfolding digits login_name sha256 S.first_words S.schedule S.digest_bytes S.hash_after S.compress S.rounds
-later_user_name_in_force = refl
-
 -- refused credentials count over both kinds, of clerks that aren't known too; bad arguments don't count
-failed_logins_of_both_kinds : received 1 (run (connect 1 ++ says 1 (codes "APOP ann/orders c4c9334bac560ecc979e58001b3e22fb" ∷ codes "APOP ann/orders c4c9" ∷ codes "USER nobody/orders"
+failed_logins_of_both_kinds : received 1 (run (connect 1 ++ says 1 (codes "APOP eve/orders c4c9334bac560ecc979e58001b3e22fb" ∷ codes "APOP ann/orders c4c9" ∷ codes "USER nobody/orders"
     ∷ codes "PASS x" ∷ codes "APOP mrose/orders c4c9334bac560ecc979e58001b3e22fb" ∷ codes "NOOP" ∷ [])))
     ≡ replies (codes "+OK POP3 server ready <1.7@h.test>" ∷ codes "-ERR login failed" ∷ codes "-ERR bad arguments" ∷ codes "+OK send PASS" ∷ codes "-ERR login failed" ∷ codes "-ERR login failed, closing" ∷ [])
-unfolding digits login_name decode_pairs md5 M.digest_bytes M.hash_after M.compress M.rounds M.block_words sha256 S.first_words S.schedule S.digest_bytes S.hash_after S.compress S.rounds
+unfolding digits login_name decode_pairs md5 M.digest_bytes M.hash_after M.compress M.rounds M.block_words
 failed_logins_of_both_kinds = refl
 
 -- it closes nothing and removes nothing, and the marks stay
 quit_with_an_argument_is_no_quit : ann (codes "DELE 1" ∷ codes "QUIT now" ∷ codes "STAT" ∷ codes "USER ann/orders" ∷ codes "CAPA" ∷ [])
     ≡ ann_receives (codes "+OK message 1 deleted" ∷ codes "-ERR bad arguments" ∷ codes "+OK 3 59" ∷ codes "-ERR wrong state" ∷ codes "+OK capability list follows" ∷ codes "TOP" ∷ codes "USER"
     ∷ codes "UIDL" ∷ codes "RESP-CODES" ∷ codes "PIPELINING" ∷ codes "." ∷ [])
-unfolding digits login_name sha256 S.first_words S.schedule S.digest_bytes S.hash_after S.compress S.rounds
+unfolding digits login_name decode_pairs md5 M.digest_bytes M.hash_after M.compress M.rounds M.block_words
 quit_with_an_argument_is_no_quit = refl
 
 -- listings leave out what is marked; the numbers stay
 marked_numbers_left_out : ann (codes "DELE 2" ∷ codes "LIST" ∷ codes "UIDL" ∷ codes "LIST 03" ∷ codes "NOOP" ∷ [])
     ≡ ann_receives (codes "+OK message 2 deleted" ∷ codes "+OK scan listing follows" ∷ codes "1 21" ∷ codes "3 15" ∷ codes "4 25" ∷ codes "." ∷ codes "+OK unique-id listing follows" ∷ codes "1 note.1"
     ∷ codes "3 note.2" ∷ codes "4 todo.1" ∷ codes "." ∷ codes "+OK 3 15" ∷ codes "+OK" ∷ [])
-unfolding digits login_name sha256 S.first_words S.schedule S.digest_bytes S.hash_after S.compress S.rounds
+unfolding digits login_name decode_pairs md5 M.digest_bytes M.hash_after M.compress M.rounds M.block_words
 marked_numbers_left_out = refl
 
 -- ---- the idle clock
@@ -232,5 +227,5 @@ ended_by_the_octet = refl
 
 -- a number that is given again is no session before its login
 number_given_again : answered (run (connect 1 ++ says 1 as_ann ++ Give (Restart 8) ∷ connect 1)) (Admin (EndSession 1)) ≡ codes "no such session\n"
-unfolding digits login_name sha256 S.first_words S.schedule S.digest_bytes S.hash_after S.compress S.rounds
+unfolding digits login_name decode_pairs md5 M.digest_bytes M.hash_after M.compress M.rounds M.block_words
 number_given_again = refl
