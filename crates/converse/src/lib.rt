@@ -11,6 +11,3 @@ pub use conversation::{TalkFault, talk};
 pub fn removes_by_quit_alone()
     ensures { RemovesByQuitAlone }
 {}
-
-#[cfg(test)]
-mod tests;

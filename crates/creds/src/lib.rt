@@ -19,6 +19,3 @@ pub use login_name::LoginName;
 pub use name::Name;
 pub use secret::Secret;
 pub use uid::Uid;
-
-#[cfg(test)]
-mod tests;

@@ -9,6 +9,3 @@ mod stuffing;
 
 pub use kept::{MAX_OCTETS, MailText, TextFault, canon};
 pub use stuffing::{stuff_into, stuffing_is_undone, unstuff};
-
-#[cfg(test)]
-mod tests;

@@ -10,8 +10,6 @@ mod policy;
 mod read;
 mod rule;
 mod sound;
-#[cfg(test)]
-mod tests;
 mod write;
 
 pub use decide::Decision;

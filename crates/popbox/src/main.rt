@@ -13,6 +13,8 @@ mod connection_tests;
 mod fault;
 mod fields;
 #[cfg(test)]
+mod libraries;
+#[cfg(test)]
 mod office_tests;
 #[cfg(test)]
 mod pipelining_tests;

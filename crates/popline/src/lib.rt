@@ -21,6 +21,3 @@ pub use lines::{
     put_uid_row,
 };
 pub use reply::Reply;
-
-#[cfg(test)]
-mod tests;

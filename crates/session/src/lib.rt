@@ -6,8 +6,6 @@ mod listing;
 mod pick;
 mod row;
 mod session;
-#[cfg(test)]
-mod tests;
 
 pub use laws::marks_are_asked_by_number;
 pub use listing::{Sizes, Uids};

@@ -21,6 +21,3 @@ pub use plain::PlainVault;
 pub use record::{Clerk, Keyed, Message, Receipt};
 pub use refusing::Refusing;
 pub use vault::Vault;
-
-#[cfg(test)]
-mod tests;

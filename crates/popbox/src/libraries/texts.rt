@@ -1,6 +1,6 @@
 //! What no clause says: worked values, that each call succeeds with ample memory, and refused growths.
 
-use super::*;
+use mailtext::{TextFault, canon, stuff_into, unstuff};
 use std::test::Fail;
 
 #[test]

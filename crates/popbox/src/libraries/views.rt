@@ -1,7 +1,7 @@
 //! What no clause says: that the calls succeed, and the sample store's rows of the clerk bob.
-use crate::{Pick, Session};
 use creds::Name;
 use policy::Policy;
+use session::{Pick, Session};
 use std::alloc::{AllocError, Global};
 use std::test::Fail;
 use vault::{Head, MessageKey};

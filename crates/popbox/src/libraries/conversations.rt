@@ -1,6 +1,6 @@
 //! What no clause says: that a conversation comes about, that all replies are written before the next read, and which fault is told.
 
-use crate::{TalkFault, talk};
+use converse::{TalkFault, talk};
 use creds::{Credential, DepositId, Name, pass_digest};
 use office::{AdminCommand, Answer, Event, Limits, Office, OpenFault, Outcome};
 use policy::Policy;

@@ -1,10 +1,10 @@
 //! Lines at the limit of their length, a table of lines with their readings, and the replies octet by octet.
 
-use crate::{
+use creds::{LoginName, Name, Uid};
+use popline::{
     Command, Cut, Cutter, Keyword, LineFault, Reply, begin_message, begin_scan_listing, begin_top,
     begin_uid_listing, end_lines, put_scan_row, put_uid_row,
 };
-use creds::{LoginName, Name, Uid};
 use std::test::Fail;
 
 /// A line of each kind, which spaces at its end leave as it is.

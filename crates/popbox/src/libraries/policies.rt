@@ -1,6 +1,6 @@
 //! What no clause says: that the calls succeed, each fault of a text at each kind of value, and the sample policy.
-use crate::{Action, Policy, PolicyFault};
 use creds::Name;
+use policy::{Action, Policy, PolicyFault};
 use std::alloc::{AllocError, Global};
 use std::str;
 use std::test::Fail;

@@ -1,5 +1,8 @@
 //! The public standards' vectors, and texts at the limits of each form.
-use super::*;
+use creds::{
+    Credential, DepositId, HostName, LoginName, Name, Proof, Secret, Uid, apop_digest, pass_digest,
+    text_digest,
+};
 use std::alloc::{AllocError, Global};
 use std::fmt::Write;
 use std::test::Fail;

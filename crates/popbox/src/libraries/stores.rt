@@ -1,10 +1,10 @@
 //! What no clause says: that the calls succeed where there is memory, and the sample store's deposits, counts and pages.
-use crate::{Deposited, Head, MessageKey, PlainVault, Refusing, Total, Vault, VaultFault};
 use creds::{Credential, DepositId, Name, Secret, Uid};
 use mailtext::canon;
 use policy::Policy;
 use std::alloc::Global;
 use std::test::Fail;
+use vault::{Deposited, Head, MessageKey, PlainVault, Refusing, Total, Vault, VaultFault};
 
 /// The text of the sample store's first deposit, and what is kept of it.
 static TEXT: &str = "Subject: a\n\nhi\n.\n";

@@ -1,0 +1,9 @@
+//! Tests of the libraries below. A library with tests of its own would be proved once more for them.
+
+mod conversations;
+mod credentials;
+mod lines;
+mod policies;
+mod stores;
+mod texts;
+mod views;
