@@ -1,6 +1,6 @@
 -- Facts under an Ok or an Err.
-use Rattle.std.proofs.Common.{Ok, Err, Result}
-use Rattle.std.specs.Prelude.{IfOk, IfErr, OnOk, OnErr}
+use Rattle.std.proofs.Common.{◌≡◌, Ok, Err, Result, sym, subst}
+use Rattle.std.specs.Prelude.{IfOk, IfErr, IsErrAnd, OnOk, OnErr}
 
 module _ {X E : Type 0} where
   pub on_ok : (r : Result X E) (P : Type 0) → P → OnOk r P
@@ -26,3 +26,8 @@ module _ {X E : Type 0} where
   pub if_err : (r : Result X E) (P Q : E → Type 0) → ((e : E) → P e → Q e) → IfErr r P → IfErr r Q
   if_err (Ok x) P Q f p = tt
   if_err (Err e) P Q f p = f e p
+
+  -- an error that `?` passed on is told
+  pub if_passed_on : (r : Result X E) (e : E) (P : E → Type 0) → IsErrAnd r (λ y. y ≡ e) → P e → IfErr r P
+  if_passed_on (Ok x) e P h p = tt
+  if_passed_on (Err y) e P h p = subst P (sym h) p

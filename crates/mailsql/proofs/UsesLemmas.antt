@@ -37,6 +37,10 @@ still old new rows same s =
       rows_are = ap (λ (d : Database). rows_in d.trees) same.0.now_is ∙ s.rows_are;
     }
 
+-- no transaction is under way
+pub at_rest : (s : State) (rows : Rows) → Stands s rows → IsReady s × (s.in_transaction ≡ false)
+at_rest s rows stands = ((stands.is_open, stands.kept), stands.autocommit)
+
 -- ---- the sample's rows
 
 module _ (key version : ℤ) (first second : List ℕ) where

@@ -1,9 +1,16 @@
 -- What the sample callers make of a store's rows.
 use Rattle.std.specs.Prelude.{false, IsTrue}
+use Rattle.sqlite_trees.specs.declared.memory.MemStore.{MemStore}
+use Rattle.sqlite_value.specs.declared.value.Value.TheVariants.{Int, Text, Blob}
+use Rattle.sqlite.specs.declared.error.Error.{Error}
+use Rattle.sqlite.specs.Held.{Held, state}
+use Rattle.sqlite.specs.Steps.{over_memory, IsEmpty}
 use Rattle.sqlite.specs.State.{State}
-use Rattle.std.specs.Prelude.{◌≡◌, Some, None, ℤ, pos, List, ℕ, [], ◌∷◌, ◌++◌, filter, not, codes}
+use Rattle.std.specs.Prelude.{◌≡◌, ◌⊎◌, Some, None, ℤ, pos, List, ℕ, [], ◌∷◌, ◌++◌, filter, not, codes}
 use Rattle.mailsql.specs.declared.uses.Seen.{Seen}
-use Rattle.mailsql.specs.Rows.{Name, Rows, Deposit, Message, Sheet, no_rows, is_message, is_sheet_of, rows_in, IsKept}
+use Rattle.mailsql.specs.Rows.{Name, Rows, Deposit, Message, Sheet, no_rows, is_message, is_sheet_of, rows_in, IsKept, IsReady, IsBegun}
+use Rattle.mailsql.specs.Errors.{IsWantOfMemory, FailsToRun, FailsToRead, FailsToCreate}
+use Rattle.mailsql.specs.Statements.{begin_text, commit_text, add_mark_text, add_maildrop_text, add_deposit_text, add_message_text, add_sheet_text, heads_text, find_sheet_text, remove_message_text}
 
 -- the connection is open, no transaction is under way, and its rows are these
 pub record Stands (s : State) (rows : Rows) : Type 0 where
@@ -54,3 +61,51 @@ pub record Saw (first second : List ℕ) (seen : Seen) : Type 0 where
   pub second_before : seen.before.second ≡ Some (page_of seen.key (pos 1) second)
   pub first_after : seen.after.first ≡ None
   pub second_after : seen.after.second ≡ None
+
+-- ---- which error a sample caller tells
+
+-- a store in memory, of which this held, met this error
+abbrev pub IsMet : (State → Type 0) → (State → State → Error → Type 0) → Error → Type 0
+IsMet Before Fails e = (old : Held MemStore) × (new : Held MemStore) × Before (state over_memory old) × Fails (state over_memory old) (state over_memory new) e
+
+-- a store with our tables met it, and no transaction was under way
+abbrev pub IsMetAtRest : (State → State → Error → Type 0) → Error → Type 0
+IsMetAtRest = IsMet (λ s. IsReady s × (s.in_transaction ≡ false))
+
+-- the tables of a store in memory met this error
+abbrev FailsToMakeTables : Error → Type 0
+FailsToMakeTables e = (old : Held MemStore) × (new : Held MemStore) × IsBegun (state over_memory old) × FailsToCreate over_memory old new e
+
+-- there was no memory for the store, or its beginning, its tables, its mark or its commit met this error
+abbrev pub FailsToOpenNew : ℤ → Error → Type 0
+FailsToOpenNew version e =
+    IsWantOfMemory e
+    ⊎ (IsMet IsEmpty (FailsToRun begin_text []) e
+    ⊎ (FailsToMakeTables e
+    ⊎ (IsMet (λ s. IsReady s × (rows_in s.now.trees ≡ no_rows)) (FailsToRun add_mark_text (Text (codes "popbox") ∷ Int version ∷ [])) e
+    ⊎ IsMet (λ s. IsReady s × IsTrue s.in_transaction) (FailsToRun commit_text []) e)))
+
+-- the maildrop, the deposit or the message met this error
+abbrev pub FailsToArrive : Error → Type 0
+FailsToArrive e =
+    IsMetAtRest (FailsToRun add_maildrop_text (Text orders ∷ [])) e
+    ⊎ (IsMetAtRest (FailsToRun add_deposit_text (Text orders ∷ Text (codes "d1") ∷ Text (codes "note") ∷ Int (pos 1) ∷ Blob (codes "digest") ∷ [])) e
+    ⊎ IsMetAtRest (FailsToRun add_message_text (Text orders ∷ Text (codes "note") ∷ Int (pos 1) ∷ Int (pos 4097) ∷ [])) e)
+
+-- a page that was added met this error
+abbrev pub FailsToAddPages : ℤ → List ℕ → List ℕ → Error → Type 0
+FailsToAddPages key first second e = IsMetAtRest (FailsToRun add_sheet_text (Int key ∷ Int (pos 0) ∷ Blob first ∷ [])) e ⊎ IsMetAtRest (FailsToRun add_sheet_text (Int key ∷ Int (pos 1) ∷ Blob second ∷ [])) e
+
+-- a page that was read met this error
+abbrev pub FailsToReadPages : ℤ → Error → Type 0
+FailsToReadPages key e = IsMetAtRest (FailsToRead find_sheet_text (Int key ∷ Int (pos 0) ∷ [])) e ⊎ IsMetAtRest (FailsToRead find_sheet_text (Int key ∷ Int (pos 1) ∷ [])) e
+
+-- one of the sample's steps met this error
+abbrev pub FailsToSample : List ℕ → List ℕ → Error → Type 0
+FailsToSample first second e =
+    FailsToOpenNew (pos 2) e
+    ⊎ (FailsToArrive e
+    ⊎ ((key : ℤ) × (FailsToAddPages key first second e
+    ⊎ (IsMetAtRest (FailsToRead heads_text (Text orders ∷ [])) e
+    ⊎ (FailsToReadPages key e
+    ⊎ IsMetAtRest (FailsToRun remove_message_text (Int key ∷ Text orders ∷ [])) e)))))

@@ -1,20 +1,21 @@
 //! Callers over a store in memory, which show that the premises of the statements can be met.
 
-ghost use Rattle.std.specs.Prelude.{◌≡◌, pos, IfOk, OnOk};
+ghost use Rattle.std.specs.Prelude.{◌≡◌, pos, IfOk, IfErr, OnOk};
 ghost use Rattle.std.specs.List.{find};
 ghost use Rattle.sqlite.specs.Held.{state};
 ghost use Rattle.sqlite.specs.Steps.{over_memory};
 ghost use Rattle.mailsql.specs.Rows.{is_sheet};
-ghost use Rattle.mailsql.specs.Uses.{Stands, marked, arrived, paged, Saw};
+ghost use Rattle.mailsql.specs.Uses.{Stands, marked, arrived, paged, Saw, FailsToOpenNew, FailsToArrive, FailsToAddPages, FailsToReadPages, FailsToSample};
 
 use crate::rows::{Message, Sheet};
 use crate::{deposits, mail, maildrops, meta, mode, sheets, tables};
 use sqlite::{Connection, Error, MemStore};
 use std::alloc::Global;
 
-/// Makes a store in memory: its tables, which are empty, and the mark of its version.
+/// Makes a store in memory: its tables, which are empty, and the mark of its version. An error is want of memory, or what one of these statements met.
 pub fn open_new(alloc: Global, version: i64) -> Result<Connection<MemStore>, Error>
-    ensures { IfOk result (λ conn. Stands (state over_memory conn) (marked version)) }
+    ensures stands { IfOk result (λ conn. Stands (state over_memory conn) (marked version)) }
+    ensures cause { IfErr result (FailsToOpenNew version) }
 {
     let mut conn = Connection::open_in_memory(alloc)?;
     mode::begin(&mut conn)?;
@@ -26,7 +27,8 @@ pub fn open_new(alloc: Global, version: i64) -> Result<Connection<MemStore>, Err
 
 /// A maildrop, a deposit into it, and its message, whose key it tells.
 fn arrive(conn: &mut Connection<MemStore>) -> Result<i64, Error>
-    ensures { (rows : _) → Stands (state over_memory conn.old) rows → IfOk result (λ key. Stands (state over_memory conn.new) (arrived key rows)) }
+    ensures stands { (rows : _) → Stands (state over_memory conn.old) rows → IfOk result (λ key. Stands (state over_memory conn.new) (arrived key rows)) }
+    ensures cause { (rows : _) → Stands (state over_memory conn.old) rows → IfErr result FailsToArrive }
 {
     maildrops::add_maildrop(conn, b"orders")?;
     deposits::add_deposit(conn, b"orders", b"d1", b"note", 1, b"digest")?;
@@ -39,7 +41,8 @@ fn add_pages(
     first: &[u8],
     second: &[u8],
 ) -> Result<(), Error>
-    ensures { (rows : _) → Stands (state over_memory conn.old) rows → OnOk result (Stands (state over_memory conn.new) (paged key first.now second.now rows)) }
+    ensures stands { (rows : _) → Stands (state over_memory conn.old) rows → OnOk result (Stands (state over_memory conn.new) (paged key first.now second.now rows)) }
+    ensures cause { (rows : _) → Stands (state over_memory conn.old) rows → IfErr result (FailsToAddPages key first.now second.now) }
 {
     sheets::add_sheet(conn, key, 0, first)?;
     sheets::add_sheet(conn, key, 1, second)
@@ -55,6 +58,7 @@ pub struct Pages {
 fn read_pages(alloc: Global, conn: &mut Connection<MemStore>, key: i64) -> Result<Pages, Error>
     ensures found { (rows : _) → Stands (state over_memory conn.old) rows → IfOk result (λ pages. (pages.first ≡ find (is_sheet key (pos 0)) rows.sheets) × (pages.second ≡ find (is_sheet key (pos 1)) rows.sheets)) }
     ensures same { (rows : _) → Stands (state over_memory conn.old) rows → OnOk result (Stands (state over_memory conn.new) rows) }
+    ensures cause { (rows : _) → Stands (state over_memory conn.old) rows → IfErr result (FailsToReadPages key) }
 {
     let first = sheets::find_sheet(alloc, conn, key, 0)?;
     let second = sheets::find_sheet(alloc, conn, key, 1)?;
@@ -70,9 +74,10 @@ pub struct Seen {
     pub after: Pages,
 }
 
-/// Adds a maildrop, a deposit and a message of two pages, reads its head and its pages, removes it, and looks for its pages.
+/// Adds a maildrop, a deposit and a message of two pages, reads its head and its pages, removes it, and looks for its pages. An error is what one of these steps met.
 pub fn sample(alloc: Global, first: &[u8], second: &[u8]) -> Result<Seen, Error>
-    ensures { IfOk result (Saw first.now second.now) }
+    ensures saw { IfOk result (Saw first.now second.now) }
+    ensures cause { IfErr result (FailsToSample first.now second.now) }
 {
     let mut conn = open_new(alloc, 2)?;
     let key = arrive(&mut conn)?;
