@@ -16,6 +16,7 @@ mod vault;
 
 pub use answer::{Deposited, Head, Total};
 pub use fault::VaultFault;
+pub use lists::in_order;
 pub use message_key::MessageKey;
 pub use plain::PlainVault;
 pub use record::{Clerk, Keyed, Message, Receipt};

@@ -92,8 +92,8 @@ fn put_in_order(names: &mut Vec<Name>, name: &Name) -> Result<(), AllocError>
     Ok(())
 }
 
-/// The names in order.
-fn in_order(alloc: Global, names: &[Name]) -> Result<Vec<Name>, AllocError>
+/// The names in the order of their octets. Its error is [`AllocError`], where memory was refused.
+pub fn in_order(alloc: Global, names: &[Name]) -> Result<Vec<Name>, AllocError>
     ensures { IfOk result (λ sorted. sorted.items ≡ by_name names.now) }
 {
     let mut sorted = Vec::new(alloc);
