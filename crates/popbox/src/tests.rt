@@ -7,7 +7,8 @@ use std::alloc::{AllocError, Global};
 use std::io;
 use std::io::{ErrorKind, Read, Write};
 use std::test::Fail;
-use vault::PlainVault;
+use sqlvault::SqlVault;
+use vault::{PlainVault, Vault};
 
 const GREETING: &str = r"+OK POP3 server ready";
 
@@ -54,14 +55,29 @@ impl Ran {
     }
 }
 
-/// Runs a script over an empty store, at a host name and with a boot number.
-pub fn run_at(alloc: Global, host: &str, boot: u64, script: &str) -> Result<Ran, Fail> {
+/// Runs a script over a store, at a host name and with a boot number.
+fn run_over<V: Vault + Drop>(
+    alloc: Global,
+    vault: V,
+    host: &str,
+    boot: u64,
+    script: &str,
+) -> Result<Ran, Fail> {
     let mut script = script.as_bytes();
     let mut out = Vec::new(alloc);
     let mut err = Vec::new(alloc);
-    let vault = PlainVault::new(alloc);
     let (status, _) = replay(alloc, &mut script, vault, host, boot, &mut out, &mut err);
     Ran::new(status, out, err)
+}
+
+/// Runs a script over an empty store, at a host name and with a boot number.
+pub fn run_at(alloc: Global, host: &str, boot: u64, script: &str) -> Result<Ran, Fail> {
+    run_over(alloc, PlainVault::new(alloc), host, boot, script)
+}
+
+/// Runs a script over an empty store of tables in memory, at the host name and with the boot number of the worked examples.
+fn run_over_tables(alloc: Global, script: &str) -> Result<Ran, Fail> {
+    run_over(alloc, SqlVault::in_memory(alloc)?, "h.test", 7, script)
 }
 
 /// Runs a script at the host name and with the boot number of the worked examples.
@@ -78,9 +94,11 @@ pub fn expect(ran: Ran, want: &Ran) -> Result<(), Fail> {
     }
 }
 
-/// Fails unless the script prints this, and has no fault.
+/// Fails unless the script prints this, and has no fault, over a store of vectors and over one of tables.
 pub fn expect_output(alloc: Global, script: &str, out: &str) -> Result<(), Fail> {
-    expect(run(alloc, script)?, &Ran::good(alloc, out)?)
+    let want = Ran::good(alloc, out)?;
+    expect(run(alloc, script)?, &want)?;
+    expect(run_over_tables(alloc, script)?, &want)
 }
 
 /// Fails unless the script prints nothing, and has this fault.

@@ -2,6 +2,7 @@
 use creds::{Credential, DepositId, Name, Secret, Uid};
 use mailtext::canon;
 use policy::Policy;
+use sqlvault::SqlVault;
 use std::alloc::Global;
 use std::test::Fail;
 use vault::{Deposited, Head, MessageKey, PlainVault, Refusing, Total, Vault, VaultFault};
@@ -196,15 +197,29 @@ fn said<V: Vault>(alloc: Global, vault: &mut V, call: Call) -> Result<String, Fa
     }
 }
 
+/// Fails unless each call of the story is answered so, one after the other.
+fn tells_the_story<V: Vault>(alloc: Global, vault: &mut V) -> Result<(), Fail> {
+    for (call, answer) in STORY {
+        let said = said(alloc, vault, call)?;
+        if said.as_str() != answer {
+            return Err(Fail::from(said));
+        }
+    }
+    Ok(())
+}
+
 #[test]
 fn story_of_a_store(rt: HostRuntime) -> Result<(), Fail> {
     let alloc = rt.alloc();
     let mut vault = PlainVault::new(alloc);
-    for (call, answer) in STORY {
-        let said = said(alloc, &mut vault, call)?;
-        assert_eq!(rt; said.as_str(), answer);
-    }
-    Ok(())
+    tells_the_story(alloc, &mut vault)
+}
+
+#[test]
+fn story_of_a_store_over_tables(rt: HostRuntime) -> Result<(), Fail> {
+    let alloc = rt.alloc();
+    let mut vault = SqlVault::in_memory(alloc)?;
+    tells_the_story(alloc, &mut vault)
 }
 
 /// A store with the maildrop `orders` and the sample store's first deposit, put again where memory for it is refused.

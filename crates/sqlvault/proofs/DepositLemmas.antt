@@ -1,0 +1,153 @@
+-- What a deposit is answered of the rows, and what it leaves of them.
+use Rattle.std.proofs.Common.{◌≡◌, ℕ, ℤ, pos, SFits, w64, to_z, of_z, to_z-of_z, subst, ◌+◌, ◌<◌, ◌≤◌, Bool, ◌||◌, true, false, cond, List, [], ◌∷◌, length, min, Option, Some, None, Ok, Err, Result, refl, sym, ap, ◌∙◌, arith}
+use Rattle.std.specs.Prelude.{IfOk, filter, map, nat_le, nat_lt}
+use Rattle.std.specs.List.{find}
+use Rattle.std.specs.Option.{option_map}
+use Rattle.std.specs.Str.{bytes_eq}
+use Rattle.std.proofs.lemmas.Bool.Decides.{nat_tests}
+use Rattle.std.proofs.lemmas.Int.{ints}
+use Rattle.vault.specs.declared.answer.Deposited.{Deposited}
+use Rattle.vault.specs.declared.answer.Deposited.TheVariants as stored
+use Rattle.vault.specs.declared.fault.VaultFault.{VaultFault}
+use Rattle.vault.specs.declared.fault.VaultFault.TheVariants as fault
+use Rattle.vault.specs.declared.record.Receipt.{Receipt}
+use Rattle.vault.specs.Records.{is_one_of, receipts_of, receipt_of, class_count}
+use Rattle.vault.specs.Changes.{Contents, deposit_answered, known_or_conflict, is_full, kept_in}
+use Rattle.vault.specs.Calls.{IsAnswer, IsRefusal, deposit_result, deposit_answer_in, present_in}
+use Rattle.vault.proofs.ListLemmas.{filter-map, length-map, find-filter}
+use Rattle.vault.proofs.TotalLemmas.{present_is}
+use Rattle.sqlite.specs.declared.error.Error.{Error}
+use Rattle.mailsql.specs.declared.rows.Count.{Count}
+use Rattle.mailsql.specs.declared.rows.Deposit.{Deposit}
+use Rattle.mailsql.specs.declared.rows.Message.{Message}
+use Rattle.mailsql.specs.Rows.{Rows, is_in, has_name, is_deposit, is_count}
+use Rattle.mailsql.specs.Changes.{AddsMessage, AddsSheets}
+use Rattle.sqlvault.specs.Keeps.{Keeps, number_in, deposit_row, message_row}
+use Rattle.sqlvault.specs.Deposits.{PutsMessage, message_of}
+
+-- the messages of a maildrop are counted in their rows
+pub present_seen : (rows : Rows) (c : Contents) (d : List ℕ) → Keeps rows c → length (filter (is_in d) rows.messages) ≡ present_in d c
+present_seen rows c d k =
+    ap (λ (ms : List Message). length (filter (is_in d) ms)) k.messages
+    ∙ ap (λ (ms : List Message). length ms) (filter-map message_row (is_in d) c.messages)
+    ∙ length-map message_row (kept_in d c.messages)
+    ∙ present_is d c
+
+-- the count of a class is how many deposits it had
+pub count_seen : (rows : Rows) (c : Contents) (asked d named class : List ℕ) (found : Option Count) → Keeps rows c → asked ≡ d → named ≡ class → found ≡ find (is_count asked named) rows.counts
+    → number_in found ≡ pos (class_count class (receipts_of d c.deposits))
+count_seen rows c asked d named class found k e f is =
+    ap number_in is ∙ k.counts asked named ∙ ap (λ x. pos (class_count named (receipts_of x c.deposits))) e ∙ ap (λ x. pos (class_count x (receipts_of d c.deposits))) f
+
+pub ok_known : (r : Result ℕ Error) (n : ℕ) → r ≡ Ok n → IfOk r (λ m. m ≡ n)
+ok_known r n e = rw e refl
+
+le_test : (m n : ℕ) → m ≤ n → nat_le m n ≡ true
+le_test m n h = grind (arith, nat_tests)
+
+above_test : (m n : ℕ) → n < m → nat_le m n ≡ false
+above_test m n h = grind (arith, nat_tests)
+
+-- a maildrop that has all the messages that it may have
+pub full_of_messages : (class text : List ℕ) (next present seen there cap most : ℕ) (other : Bool) → seen ≡ min there cap → there ≡ present → most ≤ seen
+    → deposit_result (deposit_answered None class text (nat_le most present || other) next) ≡ Err fault.Full
+full_of_messages class text next present seen there cap most other s t h =
+    let e : nat_le most present ≡ true = le_test most present (omega arith) in
+    rw e refl
+
+-- else the class has one deposit more
+pub accepted_next : (class text : List ℕ) (present seen there cap before count most_messages most_deposits : ℕ) → seen ≡ min there cap → there ≡ present → seen < most_messages → most_messages ≤ cap
+    → before ≡ count → before < most_deposits
+    → deposit_result (deposit_answered None class text (nat_le most_messages present || nat_le most_deposits count) (count + 1)) ≡ Ok (stored.New (record { class = class; k = before + 1 }))
+accepted_next class text present seen there cap before count most_messages most_deposits s t room fits counted few =
+    let a : nat_le most_messages present ≡ false = above_test most_messages present (omega arith) in
+    let b : nat_le most_deposits count ≡ false = above_test most_deposits count (omega arith) in
+    rw (a, b, counted) refl
+
+-- ---- an id that was used, or not
+
+-- the maildrop has a row
+pub is_there : (rows : Rows) (c : Contents) (asked d : List ℕ) (there : Bool) → Keeps rows c → asked ≡ d → there ≡ has_name asked rows.maildrops → there ≡ true → is_one_of d c.maildrops ≡ true
+is_there rows c asked d there k is e t = ap (λ x. is_one_of x c.maildrops) (sym is) ∙ ap (λ names. has_name asked names) (sym k.maildrops) ∙ sym e ∙ t
+
+find-map : {A B : Type 0} (f : A → B) (p : B → Bool) (xs : List A) → find p (map f xs) ≡ option_map f (find (λ x. p (f x)) xs)
+find-map f p [] = refl
+find-map f p (x ∷ xs) = at f x (p (f x)) (find p (map f xs)) (find (λ x. p (f x)) xs) (find-map f p xs)
+  where
+    at : {A B : Type 0} (f : A → B) (x : A) (b : Bool) (o : Option B) (r : Option A) → o ≡ option_map f r → cond b (Some (f x)) o ≡ option_map f (cond b (Some x) r)
+    at f x true o r h = refl
+    at f x false o r h = h
+
+receipt_in_rows : (rows : Rows) (c : Contents) (d id : List ℕ) → Keeps rows c → find (is_deposit d id) rows.deposits ≡ option_map deposit_row (receipt_of id (receipts_of d c.deposits))
+receipt_in_rows rows c d id k =
+    ap (λ (rs : List Deposit). find (is_deposit d id) rs) k.deposits
+    ∙ find-map deposit_row (is_deposit d id) c.deposits
+    ∙ ap (λ (o : Option Receipt). option_map deposit_row o) (sym (find-filter (λ (r : Receipt). bytes_eq r.maildrop d) (λ (r : Receipt). bytes_eq r.id id) c.deposits))
+
+receipt_seen : (rows : Rows) (c : Contents) (asked d named id : List ℕ) → Keeps rows c → asked ≡ d → named ≡ id
+    → find (is_deposit asked named) rows.deposits ≡ option_map deposit_row (receipt_of id (receipts_of d c.deposits))
+receipt_seen rows c asked d named id k e f =
+    receipt_in_rows rows c asked named k
+    ∙ ap (λ x. option_map deposit_row (receipt_of named (receipts_of x c.deposits))) e
+    ∙ ap (λ x. option_map deposit_row (receipt_of x (receipts_of d c.deposits))) f
+
+some_receipt : (row : Deposit) (o : Option Receipt) → Some row ≡ option_map deposit_row o → (r : Receipt) × (o ≡ Some r) × (row ≡ deposit_row r)
+some_receipt row (Some r) e = (r, refl, cc)
+some_receipt row None e = absurd (cc)
+
+no_receipt : (o : Option Receipt) → (let r : Option Deposit = None in r) ≡ option_map deposit_row o → o ≡ None
+no_receipt (Some r) e = absurd (cc)
+no_receipt None e = refl
+
+-- the row of an id is that of its receipt
+pub used : (rows : Rows) (c : Contents) (asked d named id : List ℕ) (row : Deposit) → Keeps rows c → asked ≡ d → named ≡ id → Some row ≡ find (is_deposit asked named) rows.deposits
+    → (r : Receipt) × (receipt_of id (receipts_of d c.deposits) ≡ Some r) × (row ≡ deposit_row r)
+used rows c asked d named id row k e f is = some_receipt row (receipt_of id (receipts_of d c.deposits)) (is ∙ receipt_seen rows c asked d named id k e f)
+
+-- and where there is no row, there is no receipt
+pub unused : (rows : Rows) (c : Contents) (asked d named id : List ℕ) → Keeps rows c → asked ≡ d → named ≡ id → (let r : Option Deposit = None in r) ≡ find (is_deposit asked named) rows.deposits
+    → receipt_of id (receipts_of d c.deposits) ≡ None
+unused rows c asked d named id k e f is = no_receipt (receipt_of id (receipts_of d c.deposits)) (is ∙ receipt_seen rows c asked d named id k e f)
+
+same_refusal : (A : Type 0) (e : VaultFault) → (let r : Result A VaultFault = Err e in IsRefusal r e)
+same_refusal A fault.Store = tt
+same_refusal A fault.NoMemory = tt
+same_refusal A e = refl
+
+same_answer : {A : Type 0} (r : Result A VaultFault) → IsAnswer r r
+same_answer {A} (Ok x) = refl
+same_answer {A} (Err e) = same_refusal A e
+
+pub judged_known : (c : Contents) (d class id text : List ℕ) (r : Receipt) (a : Result Deposited VaultFault) → is_one_of d c.maildrops ≡ true
+    → receipt_of id (receipts_of d c.deposits) ≡ Some r → a ≡ deposit_result (known_or_conflict class text r) → IsAnswer (deposit_result (deposit_answer_in c d class id text)) a
+judged_known c d class id text r a there found e = rw (there, found, ← e) (same_answer a)
+
+pub judged_unknown : (c : Contents) (d class id text : List ℕ) (a : Result Deposited VaultFault) → is_one_of d c.maildrops ≡ true → receipt_of id (receipts_of d c.deposits) ≡ None
+    → IsAnswer (deposit_result (deposit_answered None class text (is_full (present_in d c) (receipts_of d c.deposits) class) (class_count class (receipts_of d c.deposits) + 1))) a
+    → IsAnswer (deposit_result (deposit_answer_in c d class id text)) a
+judged_unknown c d class id text a there none h = rw (there, none) h
+
+-- ---- a message that is put under a key
+
+below_64 : (key : ℤ) (most : ℕ) → SFits w64 key → most ≡ 18446744073709551616 → of_z w64 key < most
+below_64 key most fits is = omega (arith, ints)
+
+lt_test : (m n : ℕ) → m < n → nat_lt m n ≡ true
+lt_test m n h = grind (arith, nat_tests)
+
+row_is : (key key' : ℤ) (d d' class class' : List ℕ) (k k' octets octets' : ℤ) → key ≡ key' → d ≡ d' → class ≡ class' → k ≡ k' → octets ≡ octets'
+    → (let row : Message = record { key = key; maildrop = d; class = class; k = k; octets = octets } in row) ≡ record { key = key'; maildrop = d'; class = class'; k = k'; octets = octets' }
+row_is key key' d d' class class' k k' octets octets' a b e f h i = let row : Message = record { key = a i; maildrop = b i; class = e i; k = f i; octets = h i } in row
+
+pub message_put : (r : Receipt) (text d class bytes : List ℕ) (key k octets : ℤ) (rows mid after : Rows) → SFits w64 key → d ≡ r.maildrop → class ≡ r.class → k ≡ pos r.k → octets ≡ pos (length text) → bytes ≡ text
+    → AddsMessage (record { key = key; maildrop = d; class = class; k = k; octets = octets }) rows mid → AddsSheets (to_z w64 (of_z w64 key)) bytes mid after
+    → PutsMessage (message_of r text) rows after
+message_put r text d class bytes key k octets rows mid after fits a b e f h one all = (
+  of_z w64 key,
+  lt_test (of_z w64 key) 18446744073709551616 (below_64 key 18446744073709551616 fits refl),
+  (
+    mid,
+    subst (λ (m : Message). AddsMessage m rows mid) (row_is key (to_z w64 (of_z w64 key)) d r.maildrop class r.class k (pos r.k) octets (pos (length text)) (sym (to_z-of_z fits)) a b e f) one,
+    subst (λ (t : List ℕ). AddsSheets (to_z w64 (of_z w64 key)) t mid after) h all,
+  ),
+)

@@ -1,0 +1,114 @@
+-- Heads as the rows tell them.
+use Rattle.std.proofs.Common.{◌≡◌, ℕ, ◌+◌, ◌<◌, ◌^◌, Bool, true, false, cond, List, [], ◌∷◌, ◌++◌, length, map, take, Some, Result, Ok, Err, ⊎_elim, sym, ap, subst, ◌∙◌, arith, get_or, true≢false}
+use Rattle.std.specs.Prelude.{◌&&◌, ◌==◌, nat_lt, nat_le, filter, unwrap_or}
+use Rattle.std.specs.List.{list_all, list_any}
+use Rattle.std.specs.Str.{bytes_eq}
+use Rattle.std.specs.Result.{IsErrAnd}
+use Rattle.sqlite.specs.declared.error.Error.{Error}
+use Rattle.std.proofs.lemmas.Bool.{cases_Bool, and_parts}
+use Rattle.std.proofs.lemmas.Bool.Decides.{nat_tests}
+use Rattle.std.proofs.lemmas.List as list
+use Rattle.std.proofs.lemmas.List.{take_more}
+use Rattle.std.proofs.lemmas.List.Folds.{list_all_at}
+use Rattle.creds.specs.Names.{is_name}
+use Rattle.vault.specs.declared.answer.Head.{Head}
+use Rattle.vault.specs.declared.fault.VaultFault.TheVariants as fault
+use Rattle.vault.specs.declared.record.Keyed.{Keyed}
+use Rattle.vault.specs.declared.record.Receipt.{Receipt}
+use Rattle.vault.specs.declared.record.Message as vault
+use Rattle.mailtext.specs.Text.{kept_form}
+use Rattle.creds.specs.Names.{is_deposit_id}
+use Rattle.vault.specs.Records.{is_sound_message, is_sound_receipt, is_receipt_for, is_counted, is_one_of, octets_of, most_octets, most_deposits, receipts_of, class_count}
+use Rattle.vault.specs.Changes.{Contents, AreSound, records_of, head_of, heads, kept_in}
+use Rattle.vault.specs.Calls.{IsRefusal, AreHeads, heads_result, seen_as}
+use Rattle.vault.proofs.ListLemmas.{In, length-map, map-append, filter-map, all_in, all_of, all_filter, in_filter, map_in, found, bytes_are}
+use Rattle.mailsql.specs.Rows.{Rows, is_in, has_name}
+use Rattle.mailsql.specs.declared.rows.Message.{Message}
+use Rattle.sqlvault.specs.declared.refusal.Refusal.{Refusal}
+use Rattle.sqlvault.specs.declared.refusal.Refusal.TheVariants.{Met}
+use Rattle.sqlvault.specs.Refusals.{told, answer_of}
+use Rattle.sqlvault.proofs.HoldsLemmas.{met}
+use Rattle.sqlvault.specs.Keeps.{Keeps, message_row}
+
+-- a message that stands where there is none
+nobody : Keyed
+nobody = record { key = 0; message = record { maildrop = []; class = []; k = 0; text = [] } }
+
+all_at : {X : Type 0} (p : X → Bool) (xs : List X) (i : ℕ) (d : X) → i < length xs → list_all p xs ≡ true → p (get_or xs i d) ≡ true
+all_at p xs i d low all = ⊎_elim (λ e. e) (λ (e : p (get_or xs i d) ≡ false). absurd (true≢false (sym all ∙ list_all_at p xs i d low e))) (cases_Bool (p (get_or xs i d)))
+
+below : (m n : ℕ) → nat_lt m n ≡ true → m < n
+below m n h = grind (arith, nat_tests)
+
+-- the row is that of a message, which can be read back
+pub record IsRowOf (i : ℕ) (ms : List Keyed) (row : Message) (x : Keyed) : Type 0 where
+  pub place : take (i + 1) ms ≡ take i ms ++ x ∷ []
+  pub row_is : row ≡ message_row x
+  pub class : is_name x.message.class ≡ true
+  pub key : x.key < 2 ^ 64
+
+pub row_at : (ms : List Keyed) (rows : List Message) (i : ℕ) (row : Message) → rows ≡ map message_row ms → list_all (λ (x : Keyed). is_name x.message.class) ms ≡ true
+    → list_all (λ (x : Keyed). nat_lt x.key (2 ^ 64)) ms ≡ true → i < length rows → row ≡ get_or rows i row → (x : Keyed) × IsRowOf i ms row x
+row_at ms rows i row is classes keys low item =
+    let low2 : i < length ms = omega (arith, low, ap length is, length-map message_row ms) in
+    let x : Keyed = get_or ms i nobody in
+    let fits : nat_lt x.key (2 ^ 64) ≡ true = all_at (λ (y : Keyed). nat_lt y.key (2 ^ 64)) ms i nobody low2 keys in (
+      x,
+      record {
+        place = take_more ms i nobody low2;
+        row_is = item ∙ ap (λ l. get_or l i row) is ∙ list.get_or-map message_row ms i nobody row low2;
+        class = all_at (λ (y : Keyed). is_name y.message.class) ms i nobody low2 classes;
+        key = below x.key (2 ^ 64) fits;
+      },
+    )
+
+pub next_head : (ms : List Keyed) (i : ℕ) (row : Message) (x : Keyed) (heads : List Head) (head : Head) → IsRowOf i ms row x → heads ≡ map head_of (take i ms) → Some head ≡ Some (head_of x) → heads ++ head ∷ [] ≡ map head_of (take (i + 1) ms)
+next_head ms i row x heads head r before is = rw (r.place, before, ap (λ o. unwrap_or o head) is) (sym (map-append head_of (take i ms) (x ∷ [])))
+
+-- ---- what the rows of a store tell
+
+-- a message of a sound store has a class of its form, since the deposit that brought it has
+class_kept : (c : Contents) → AreSound c → (m : vault.Message) → In m (records_of c).messages → is_name m.class ≡ true
+class_kept c s m i =
+    let a = all_in (is_sound_message (records_of c)) (records_of c).messages m s.records.messages i in
+    let q = and_parts (bytes_eq (kept_form m.text) m.text && nat_lt 0 (octets_of m) && nat_le (octets_of m) most_octets && is_one_of m.maildrop c.maildrops) (list_any (is_receipt_for m) c.deposits) a in
+    let f = found (is_receipt_for m) c.deposits q.1 in
+    let r : Receipt = f.0 in
+    let u = and_parts (bytes_eq m.maildrop r.maildrop && bytes_eq m.class r.class) (m.k == r.k) f.2 in
+    let e = bytes_are m.class r.class (and_parts (bytes_eq m.maildrop r.maildrop) (bytes_eq m.class r.class) u.0).1 in
+    let b = all_in (is_sound_receipt (records_of c)) c.deposits r s.records.deposits f.1 in
+    let p = and_parts (is_name r.maildrop && is_deposit_id r.id && is_name r.class && is_counted c.deposits r && nat_le (class_count r.class (receipts_of r.maildrop c.deposits)) most_deposits) (length r.digest == 32) b in
+    let q2 = and_parts (is_name r.maildrop && is_deposit_id r.id && is_name r.class && is_counted c.deposits r) (nat_le (class_count r.class (receipts_of r.maildrop c.deposits)) most_deposits) p.0 in
+    let q3 = and_parts (is_name r.maildrop && is_deposit_id r.id && is_name r.class) (is_counted c.deposits r) q2.0 in
+    ap is_name e ∙ (and_parts (is_name r.maildrop && is_deposit_id r.id) (is_name r.class) q3.0).1
+
+-- the rows of a maildrop's messages, which can be read back
+pub record HaveRows (d : List ℕ) (c : Contents) (rows : List Message) : Type 0 where
+  pub rows_are : rows ≡ map message_row (kept_in d c.messages)
+  pub classes : list_all (λ (x : Keyed). is_name x.message.class) (kept_in d c.messages) ≡ true
+  pub keys : list_all (λ (x : Keyed). nat_lt x.key (2 ^ 64)) (kept_in d c.messages) ≡ true
+
+pub have_rows : (d : List ℕ) (c : Contents) (rows : Rows) (found : List Message) → Keeps rows c → found ≡ filter (is_in d) rows.messages → HaveRows d c found
+have_rows d c rows shown keeps is = record {
+  rows_are = is ∙ ap (filter (is_in d)) keeps.messages ∙ filter-map message_row (is_in d) c.messages;
+  classes = all_of (λ (x : Keyed). is_name x.message.class) (kept_in d c.messages) (λ x i. class_kept c keeps.sound x.message
+      (map_in (λ (y : Keyed). y.message) c.messages x (in_filter (λ (y : Keyed). bytes_eq y.message.maildrop d) c.messages x i).0));
+  keys = all_filter (λ (x : Keyed). nat_lt x.key (2 ^ 64)) (λ (x : Keyed). bytes_eq x.message.maildrop d) c.messages keeps.keys;
+}
+
+pub name_there : (d : List ℕ) (c : Contents) (rows : Rows) (b : Bool) → Keeps rows c → b ≡ has_name d rows.maildrops → is_one_of d c.maildrops ≡ b
+name_there d c rows b keeps is = sym (is ∙ ap (has_name d) keeps.maildrops)
+
+-- ---- the answer
+
+pub no_maildrop : (Held : Contents → Type 0) (d : List ℕ) (c : Contents) → is_one_of d c.maildrops ≡ false → Held c → AreHeads Held c d (Err fault.NoMaildrop)
+no_maildrop Held d c none h = record { answer = ap (λ b. cond b (Ok (heads d c)) (Err fault.NoMaildrop)) none; held = h }
+
+pub shown_heads : (Held : Contents → Type 0) (d : List ℕ) (c : Contents) (shown : List Head) → is_one_of d c.maildrops ≡ true → shown ≡ heads d c → Held c → AreHeads Held c d (Ok shown)
+shown_heads Held d c shown there is h = record { answer = ap (λ b. cond b (Ok (heads d c)) (Err fault.NoMaildrop)) there ∙ ap Ok (sym is); held = h }
+
+-- an error in the reading of rows, where nothing was changed
+pub unread_heads : {V : Type 0} (items : V → List Head) (Held : Contents → Type 0) (d : List ℕ) (c : Contents) (e : Error) (result : Result V Refusal)
+    → IsErrAnd result (λ r. r ≡ Met e) → Held c → AreHeads Held c d (seen_as (answer_of result) items)
+unread_heads items Held d c e (Ok v) is h = absurd is
+unread_heads items Held d c e (Err r) is h = record { answer = subst (λ q. IsRefusal (heads_result d c) (told q)) (sym is) (met (heads_result d c) e); held = h }

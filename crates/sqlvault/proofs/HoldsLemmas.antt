@@ -1,0 +1,70 @@
+-- What each statement outside a transaction leaves of what is held, and how a refusal is answered.
+use Rattle.std.proofs.Common.{◌≡◌, inl, inr, Bool, true, false, cond, IsTrue, Result, Err, sym, ap, subst, ◌∙◌}
+use Rattle.sqlite.specs.Effect.{Database}
+use Rattle.sqlite.specs.declared.error.Error.{Error}
+use Rattle.sqlite.specs.State.{State, IsUnchanged, IsRolledBack}
+use Rattle.vault.specs.declared.fault.VaultFault.{VaultFault}
+use Rattle.vault.specs.declared.fault.VaultFault.TheVariants as fault
+use Rattle.vault.specs.Changes.{Contents}
+use Rattle.vault.specs.Calls.{IsDone, IsRefusal}
+use Rattle.mailsql.specs.Rows.{Rows, rows_in, IsKept, HasTables, Changes, IsUndone}
+use Rattle.sqlvault.specs.Keeps.{Keeps}
+use Rattle.sqlvault.specs.Stands.{Holds}
+use Rattle.sqlvault.specs.Refusals.{is_memory, fault_of}
+
+-- the premise of a query
+pub has_tables : (s : State) (c : Contents) → Holds s c → HasTables s
+has_tables s c h = h.tables
+
+-- the rows that a query saw
+pub seen : (old new : State) (c : Contents) → IsUnchanged old new → Holds old c → Keeps (rows_in old.now.trees) c
+seen old new c same h = h.rows same.0.was_open
+
+pub holds_unchanged : (old new : State) (c : Contents) → IsUnchanged old new → Holds old c → Holds new c
+holds_unchanged old new c same h = record {
+  autocommit = same.0.mode ∙ h.autocommit;
+  tables = λ _. subst IsKept (sym same.0.now_is) (h.tables same.0.was_open);
+  settled = λ _. same.0.committed_is ∙ h.settled same.0.was_open ∙ sym same.0.now_is;
+  rows = λ _. subst (λ (d : Database). Keeps (rows_in d.trees) c) (sym same.0.now_is) (h.rows same.0.was_open);
+  sound = h.sound;
+}
+
+holds_rolled_back : (old new : State) (c : Contents) → IsRolledBack old new → Holds old c → Holds new c
+holds_rolled_back old new c back h =
+    let was : IsTrue new.is_open → new.now ≡ old.now = λ o. (back.undone o).0 ∙ h.settled (back.was_open o) in
+    record {
+      autocommit = back.autocommit;
+      tables = λ o. subst IsKept (sym (was o)) (h.tables (back.was_open o));
+      settled = λ o. (back.undone o).1 ∙ sym (back.undone o).0;
+      rows = λ o. subst (λ (d : Database). Keeps (rows_in d.trees) c) (sym (was o)) (h.rows (back.was_open o));
+      sound = h.sound;
+    }
+
+pub holds_undone : (old new : State) (c : Contents) → IsUndone old new → Holds old c → Holds new c
+holds_undone old new c (inl same) h = holds_unchanged old new c same h
+holds_undone old new c (inr back) h = holds_rolled_back old new c back h
+
+-- a change outside a transaction is committed
+pub holds_changed : (Change : Rows → Rows → Type 0) (old new : State) (c after : Contents) → Changes Change old new
+    → ((from to : Rows) → Change from to → Keeps from c → Keeps to after) → Holds old c → Holds new after
+holds_changed Change old new c after it keeps h = record {
+  autocommit = it.shown.mode ∙ h.autocommit;
+  tables = λ _. it.kept;
+  settled = λ _. it.shown.committed_is ∙ ap (λ b. cond b old.committed new.now) h.autocommit;
+  rows = λ _. keeps (rows_in old.now.trees) (rows_in new.now.trees) it.change (h.rows it.shown.was_open);
+  sound = (keeps (rows_in old.now.trees) (rows_in new.now.trees) it.change (h.rows it.shown.was_open)).sound;
+}
+
+-- ---- refusals
+
+-- a statement's error may stand in place of any answer
+pub met : {A : Type 0} (expected : Result A VaultFault) (e : Error) → IsRefusal expected (fault_of e)
+met {A} expected e = go (is_memory e)
+  where
+    go : (b : Bool) → IsRefusal expected (cond b fault.NoMemory fault.Store)
+    go true = tt
+    go false = tt
+
+-- so a call is done that met an error and changed nothing
+pub refused : {A : Type 0} (Held : Contents → Type 0) (before after : Contents) (expected : Result A VaultFault) (e : Error) → Held before → IsDone Held before after expected (Err (fault_of e))
+refused Held before after expected e h = record { answer = met expected e; held = h }

@@ -1,0 +1,13 @@
+pub mod HoldsLemmas
+pub mod WithinLemmas
+pub mod FaultLemmas
+pub mod NewLemmas
+pub mod PermutationLemmas
+pub mod ClerkLemmas
+pub mod MaildropLemmas
+pub mod DepositLemmas
+pub mod HeadLemmas
+pub mod PageLemmas
+pub mod RemoveLemmas
+pub mod RuleLemmas
+pub mod TotalLemmas

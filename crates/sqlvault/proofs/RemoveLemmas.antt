@@ -1,0 +1,251 @@
+-- What a removal leaves.
+use Rattle.std.proofs.Common.{◌≡◌, inl, inr, ℕ, ◌<◌, ◌≤◌, ◌^◌, ℤ, Bool, true, false, not, cond, List, [], ◌∷◌, ◌++◌, length, map, refl, sym, ap, subst, ◌∙◌, arith, ⊎_elim, true≢false, is_eq, int_cmp, Ordering, w64, ◌<ℤ◌}
+use Rattle.std.specs.Prelude.{◌&&◌, ◌||◌, ◌==◌, nat_lt, filter, flat_map}
+use Rattle.std.specs.declared.cmp.Ordering.TheVariants.{Less, Equal, Greater}
+use Rattle.std.specs.Ordering.{MatchOrdering}
+use Rattle.std.specs.Str.{bytes_eq}
+use Rattle.std.specs.List.{list_any}
+use Rattle.std.specs.List.Sorted.{IsPermutation}
+use Rattle.std.proofs.lemmas.Bool.{and_parts}
+use Rattle.std.proofs.lemmas.Bool.Decides.{nat_tests}
+use Rattle.std.proofs.lemmas.Cmp.{int_ranked}
+use Rattle.std.proofs.Math.Facts.{to_z_inj}
+use Rattle.std.proofs.lemmas.List.Concat.{flat_map-cons}
+use Rattle.std.proofs.lemmas.List.Elements.{filter-append}
+use Rattle.std.proofs.lemmas.List.Folds.{list_all-map, list_any-append}
+use Rattle.sqlite_trees.proofs.ListLemmas.{IsPermutation-filter}
+use Rattle.policy.specs.Policy.{are_distinct}
+use Rattle.vault.specs.declared.record.Keyed.{Keyed}
+use Rattle.vault.specs.declared.record.Message as vault
+use Rattle.vault.specs.Records.{is_sound_message, same_message, in_maildrop}
+use Rattle.vault.specs.Changes.{Contents, AreSound, records_of, kept_in, is_named, without_keys, with_messages}
+use Rattle.vault.proofs.ListLemmas.{In, all_in, any_in, any_of, found, all_filter, distinct_filter, distinct-map, both_fit, length-map, list_any-map, not_true}
+use Rattle.vault.proofs.TotalLemmas.{in_maildrop_is}
+use Rattle.mailsql.specs.declared.rows.Message.{Message}
+use Rattle.mailsql.specs.declared.rows.Sheet.{Sheet}
+use Rattle.mailsql.specs.Columns.{Rows}
+use Rattle.mailsql.specs.Rows.{is_message, same_int}
+use Rattle.mailsql.specs.Changes.{RemovesMessage}
+use Rattle.mailsql.specs.Sheets.{sheet_at}
+use Rattle.mailsql.proofs.EqualLemmas.{same_itself}
+use Rattle.sqlvault.specs.Keeps.{Keeps, row_key, message_row, message_sheets}
+
+-- ---- keys
+
+pub int_same : (a b : ℤ) → same_int a b ≡ true → a ≡ b
+int_same a b same = go (int_cmp a b) (int_ranked a b (int_cmp a b) refl) same
+  where
+    go : (o : Ordering) → MatchOrdering o (a <ℤ b) (a ≡ b) (b <ℤ a) → is_eq o ≡ true → a ≡ b
+    go Less m e = absurd (true≢false (sym e))
+    go Equal m e = m
+    go Greater m e = absurd (true≢false (sym e))
+
+pub num_same : (m n : ℕ) → (m == n) ≡ true → m ≡ n
+num_same m n h = grind (arith, nat_tests)
+
+pub num_itself : (n : ℕ) → (n == n) ≡ true
+num_itself n = grind (arith, nat_tests)
+
+pub low : (m n : ℕ) → nat_lt m n ≡ true → m < n
+low m n h = grind (arith, nat_tests)
+
+tests_agree : (a b : Bool) → (a ≡ true → b ≡ true) → (b ≡ true → a ≡ true) → a ≡ b
+tests_agree true b to from = sym (to refl)
+tests_agree false true to from = absurd (true≢false (sym (from refl)))
+tests_agree false false to from = refl
+
+-- the rows tell keys apart
+pub key_told : (a b : ℕ) → a < 2 ^ 64 → b < 2 ^ 64 → same_int (row_key a) (row_key b) ≡ (b == a)
+key_told a b p q = tests_agree (same_int (row_key a) (row_key b)) (b == a)
+    (λ h. let e : a ≡ b = to_z_inj {w = w64} (record { fits = p }) (record { fits = q }) (int_same (row_key a) (row_key b) h) in subst (λ n. (n == a) ≡ true) e (num_itself a))
+    (λ h. subst (λ n. same_int (row_key a) (row_key n) ≡ true) (sym (num_same b a h)) (same_itself (row_key a)))
+
+-- ---- lists
+
+-- what passes a test, where another says the same of each element
+filter_alike : {X : Type 0} (p q : X → Bool) (xs : List X) → ((x : X) → In x xs → p x ≡ q x) → filter p xs ≡ filter q xs
+filter_alike p q [] same = refl
+filter_alike p q (x ∷ xs) same = rw (same x (inl refl)) (ap (λ l. cond (q x) (x ∷ l) l) (filter_alike p q xs (λ y i. same y (inr i))))
+
+filter_all : {X : Type 0} (p : X → Bool) (xs : List X) → ((x : X) → p x ≡ true) → filter p xs ≡ xs
+filter_all p [] all = refl
+filter_all p (x ∷ xs) all = rw (all x) (ap (λ l. x ∷ l) (filter_all p xs all))
+
+filter_twice : {X : Type 0} (p q : X → Bool) (xs : List X) → filter q (filter p xs) ≡ filter (λ x. p x && q x) xs
+filter_twice p q [] = refl
+filter_twice p q (x ∷ xs) = go (p x) (filter_twice p q xs)
+  where
+    go : (b : Bool) → filter q (filter p xs) ≡ filter (λ y. p y && q y) xs → filter q (cond b (x ∷ filter p xs) (filter p xs)) ≡ cond (b && q x) (x ∷ filter (λ y. p y && q y) xs) (filter (λ y. p y && q y) xs)
+    go true e = ap (λ l. cond (q x) (x ∷ l) l) e
+    go false e = e
+
+-- the images of those that pass
+mapped_left : {X Y : Type 0} (f : X → Y) (p : Y → Bool) (q : X → Bool) (xs : List X) → ((x : X) → In x xs → p (f x) ≡ q x) → filter p (map f xs) ≡ map f (filter q xs)
+mapped_left f p q [] same = refl
+mapped_left f p q (x ∷ xs) same = rw (same x (inl refl)) (go (q x) (mapped_left f p q xs (λ y i. same y (inr i))))
+  where
+    go : (b : Bool) → filter p (map f xs) ≡ map f (filter q xs) → cond b (f x ∷ filter p (map f xs)) (filter p (map f xs)) ≡ map f (cond b (x ∷ filter q xs) (filter q xs))
+    go true e = ap (λ l. f x ∷ l) e
+    go false e = e
+
+no_matter : {X : Type 0} (b : Bool) (xs : List X) → xs ≡ cond b xs xs
+no_matter true xs = refl
+no_matter false xs = refl
+
+-- where all elements of a list pass a test alike
+passes_alike : {X Y : Type 0} (f : X → Y) (p : Y → Bool) (b : Bool) (xs : List X) → ((x : X) → p (f x) ≡ b) → filter p (map f xs) ≡ cond b (map f xs) []
+passes_alike f p b [] same = no_matter b []
+passes_alike f p b (x ∷ xs) same = rw (same x, passes_alike f p b xs same) (go b)
+  where
+    go : (a : Bool) → cond a (f x ∷ cond a (map f xs) []) (cond a (map f xs) []) ≡ cond a (f x ∷ map f xs) []
+    go true = refl
+    go false = refl
+
+-- elements that are apart are the same where they have one key
+pub only_one : (ms : List Keyed) (x y : Keyed) → are_distinct (λ (a b : Keyed). a.key == b.key) ms ≡ true → In x ms → In y ms → x.key ≡ y.key → x ≡ y
+only_one [] x y apart i j same = absurd i
+only_one (m ∷ ms) x y apart i j same =
+    let r = and_parts (not (list_any (λ (b : Keyed). m.key == b.key) ms)) (are_distinct (λ (a b : Keyed). a.key == b.key) ms) apart in
+    let none = not_true (list_any (λ (b : Keyed). m.key == b.key) ms) r.0 in
+    let clash : (z : Keyed) → In z ms → m.key ≡ z.key → ⊥ = λ z k e. true≢false (sym (subst (λ n. (m.key == n) ≡ true) e (num_itself m.key)) ∙ any_in (λ (b : Keyed). m.key == b.key) ms z none k) in
+    ⊎_elim
+    (λ (e : x ≡ m). ⊎_elim (λ (f : y ≡ m). e ∙ sym f) (λ k. absurd (clash y k (sym (ap (λ (z : Keyed). z.key) e) ∙ same))) j)
+    (λ k. ⊎_elim (λ (f : y ≡ m). absurd (clash x k (sym (ap (λ (z : Keyed). z.key) f) ∙ sym same))) (λ l. only_one ms x y r.1 k l same) j)
+    i
+
+-- ---- sheets
+
+-- the sheets that pass a test of their message's key are those of the messages that pass
+sheets_left : (f : ℤ → Bool) (keep : Keyed → Bool) (ms : List Keyed) → ((x : Keyed) → In x ms → f (row_key x.key) ≡ keep x) → filter (λ (s : Sheet). f s.mail) (flat_map message_sheets ms) ≡ flat_map message_sheets (filter keep ms)
+sheets_left f keep [] same = refl
+sheets_left f keep (x ∷ xs) same =
+    let of_first : filter (λ (s : Sheet). f s.mail) (message_sheets x) ≡ cond (keep x) (message_sheets x) [] = passes_alike (sheet_at (row_key x.key) x.message.text) (λ (s : Sheet). f s.mail) (keep x) _ (λ n. same x (inl refl)) in
+    rw (flat_map-cons message_sheets x xs, filter-append (λ (s : Sheet). f s.mail) (message_sheets x) (flat_map message_sheets xs), of_first, sheets_left f keep xs (λ y i. same y (inr i))) (go (keep x))
+  where
+    go : (b : Bool) → cond b (message_sheets x) [] ++ flat_map message_sheets (filter keep xs) ≡ flat_map message_sheets (cond b (x ∷ filter keep xs) (filter keep xs))
+    go true = sym (flat_map-cons message_sheets x (filter keep xs))
+    go false = refl
+
+-- ---- a message goes
+
+-- it is the one
+abbrev is_it : ℕ → List ℕ → Keyed → Bool
+is_it key d x = bytes_eq x.message.maildrop d && is_named (key ∷ []) x.key
+
+module _ (key : ℕ) (d : List ℕ) (ms : List Keyed) (fits : key < 2 ^ 64) (low_keys : (x : Keyed) → In x ms → x.key < 2 ^ 64) where
+  turned : (a b : Bool) → (a && b) ≡ (b && (a || false))
+  turned true true = refl
+  turned true false = refl
+  turned false true = refl
+  turned false false = refl
+
+  -- the row is found by its key and maildrop just where the message is the one
+  row_found : (x : Keyed) → In x ms → is_message (row_key key) d (message_row x) ≡ is_it key d x
+  row_found x i = rw (key_told x.key key (low_keys x i) fits) (turned (key == x.key) (bytes_eq x.message.maildrop d))
+
+  messages_left : filter (λ (m : Message). not (is_message (row_key key) d m)) (map message_row ms) ≡ map message_row (filter (λ x. not (is_it key d x)) ms)
+  messages_left = mapped_left message_row (λ (m : Message). not (is_message (row_key key) d m)) (λ x. not (is_it key d x)) ms (λ x i. ap not (row_found x i))
+
+  -- a sheet is of a message that goes just where its own message goes
+  sheet_goes : are_distinct (λ (a b : Keyed). a.key == b.key) ms ≡ true → (x : Keyed) → In x ms
+      → list_any (λ (m : Message). is_message (row_key key) d m && same_int (row_key x.key) m.key) (map message_row ms) ≡ is_it key d x
+  sheet_goes apart x i =
+      let p : Keyed → Bool = λ (y : Keyed). is_message (row_key key) d (message_row y) && same_int (row_key x.key) (row_key y.key) in
+      list_any-map message_row (λ (m : Message). is_message (row_key key) d m && same_int (row_key x.key) m.key) ms
+      ∙ tests_agree (list_any p ms) (is_it key d x)
+      (λ some.
+      let y = found p ms some in
+      let both = and_parts (is_message (row_key key) d (message_row y.0)) (same_int (row_key x.key) (row_key y.0.key)) y.2 in
+      let same : x.key ≡ y.0.key = sym (num_same y.0.key x.key (sym (key_told x.key y.0.key (low_keys x i) (low_keys y.0 y.1)) ∙ both.1)) in
+      ap (is_it key d) (only_one ms x y.0 apart i y.1 same) ∙ sym (row_found y.0 y.1) ∙ both.0)
+      (λ it. any_of p ms x i (rw (row_found x i, it, same_itself (row_key x.key)) refl))
+
+-- ---- soundness
+
+fewer : (d : List ℕ) (p : Keyed → Bool) (ms : List Keyed) → length (in_maildrop d (map (λ (x : Keyed). x.message) (filter p ms))) ≤ length (in_maildrop d (map (λ (x : Keyed). x.message) ms))
+fewer d p ms = rw (in_maildrop_is d (filter p ms), in_maildrop_is d ms, length-map (λ (x : Keyed). x.message) (kept_in d (filter p ms)), length-map (λ (x : Keyed). x.message) (kept_in d ms))
+    (both_fit (λ (x : Keyed). bytes_eq x.message.maildrop d) p ms)
+
+sound_left : (c : Contents) (p : Keyed → Bool) → AreSound c → AreSound (with_messages (filter p c.messages) c)
+sound_left c p s =
+    let b = s.records in
+    let m : Keyed → vault.Message = λ (x : Keyed). x.message in
+    record {
+      records = record {
+        clerks = b.clerks;
+        clerks_apart = b.clerks_apart;
+        clerks_fit = b.clerks_fit;
+        maildrops = b.maildrops;
+        maildrops_apart = b.maildrops_apart;
+        maildrops_fit = b.maildrops_fit;
+        messages = list_all-map (is_sound_message (records_of c)) m (filter p c.messages)
+            ∙ all_filter (λ x. is_sound_message (records_of c) (m x)) p c.messages (sym (list_all-map (is_sound_message (records_of c)) m c.messages) ∙ b.messages);
+        messages_apart = distinct-map m same_message (filter p c.messages)
+            ∙ distinct_filter (λ x y. same_message (m x) (m y)) p c.messages (sym (distinct-map m same_message c.messages) ∙ b.messages_apart);
+        messages_fit = λ d. let f = fewer d p c.messages in let g = b.messages_fit d in omega (arith, f, g);
+        deposits = b.deposits;
+        ids_apart = b.ids_apart;
+        uids_apart = b.uids_apart;
+        policy = b.policy;
+      };
+      keys = distinct_filter (λ (x y : Keyed). x.key == y.key) p c.messages s.keys;
+    }
+
+-- ---- the rows
+
+-- the named messages are gone from the rows
+abbrev pub Removed : (maildrop keys : List ℕ) → Rows → Rows → Type 0
+Removed d keys rows after = (c : Contents) → Keeps rows c → Keeps after (with_messages (without_keys d keys c.messages) c)
+
+pub none_removed : (d : List ℕ) (rows : Rows) → Removed d [] rows rows
+none_removed d rows c keeps = subst (λ ms. Keeps rows (with_messages ms c)) (sym (filter_all (λ (x : Keyed). not (bytes_eq x.message.maildrop d && is_named [] x.key)) c.messages (λ x. nothing (bytes_eq x.message.maildrop d)))) keeps
+  where
+    nothing : (b : Bool) → not (b && false) ≡ true
+    nothing true = refl
+    nothing false = refl
+
+pub one_removed : (d : List ℕ) (key : ℕ) (rows after : Rows) → key < 2 ^ 64 → RemovesMessage (row_key key) d rows after → Removed d (key ∷ []) rows after
+one_removed d key rows after fits change c keeps =
+    let low_keys : (x : Keyed) → In x c.messages → x.key < 2 ^ 64 = λ x i. low x.key (2 ^ 64) (all_in (λ (y : Keyed). nat_lt y.key (2 ^ 64)) c.messages x keeps.keys i) in
+    let stays : Keyed → Bool = λ x. not (is_it key d x) in
+    let passes : ℤ → Bool = λ z. not (list_any (λ (m : Message). is_message (row_key key) d m && same_int z m.key) rows.messages) in
+    let same : (x : Keyed) → In x c.messages → passes (row_key x.key) ≡ stays x = λ x i.
+    ap not (ap (list_any (λ (m : Message). is_message (row_key key) d m && same_int (row_key x.key) m.key)) keeps.messages ∙ sheet_goes key d c.messages fits low_keys keeps.sound.keys x i) in
+    subst (λ r. Keeps r (with_messages (without_keys d (key ∷ []) c.messages) c)) (sym change) (record {
+      mark = keeps.mark;
+      clerks = keeps.clerks;
+      maildrops = keeps.maildrops;
+      counts = keeps.counts;
+      deposits = keeps.deposits;
+      messages = ap (filter (λ (m : Message). not (is_message (row_key key) d m))) keeps.messages ∙ messages_left key d c.messages fits low_keys;
+      sheets = subst (λ l. IsPermutation l (filter (λ (s : Sheet). passes s.mail) rows.sheets)) (sheets_left passes stays c.messages same)
+          (IsPermutation-filter (λ (s : Sheet). passes s.mail) (flat_map message_sheets c.messages) rows.sheets keeps.sheets);
+      rules = keeps.rules;
+      keys = all_filter (λ (x : Keyed). nat_lt x.key 18446744073709551616) stays c.messages keeps.keys;
+      sound = sound_left c stays keeps.sound;
+    })
+
+joined : (a m n : Bool) → (not (a && m) && not (a && (n || false))) ≡ not (a && (m || n))
+joined true true n = refl
+joined true false true = refl
+joined true false false = refl
+joined false m n = refl
+
+-- what the earlier keys named is gone, and then what this one names
+pub one_more : (d keys : List ℕ) (key : ℕ) (rows mid after : Rows) → key < 2 ^ 64 → Removed d keys rows mid → RemovesMessage (row_key key) d mid after → Removed d (keys ++ key ∷ []) rows after
+one_more d keys key rows mid after fits before change c keeps =
+    let both = one_removed d key mid after fits change (with_messages (without_keys d keys c.messages) c) (before c keeps) in
+    let p : Keyed → Bool = λ x. not (bytes_eq x.message.maildrop d && is_named keys x.key) in
+    let q : Keyed → Bool = λ x. not (is_it key d x) in
+    let e : filter q (filter p c.messages) ≡ without_keys d (keys ++ key ∷ []) c.messages = filter_twice p q c.messages
+    ∙ filter_alike (λ x. p x && q x) (λ (x : Keyed). not (bytes_eq x.message.maildrop d && is_named (keys ++ key ∷ []) x.key)) c.messages
+    (λ x i. joined (bytes_eq x.message.maildrop d) (is_named keys x.key) (key == x.key) ∙ ap (λ b. not (bytes_eq x.message.maildrop d && b)) (last_named x)) in
+    subst (λ ms. Keeps after (with_messages ms c)) e both
+  where
+    or_nothing : (a b : Bool) → (a || b) ≡ (a || (b || false))
+    or_nothing true b = refl
+    or_nothing false true = refl
+    or_nothing false false = refl
+
+    last_named : (x : Keyed) → (is_named keys x.key || (key == x.key)) ≡ is_named (keys ++ key ∷ []) x.key
+    last_named x = or_nothing (is_named keys x.key) (key == x.key) ∙ sym (list_any-append (λ y. y == x.key) keys (key ∷ []))

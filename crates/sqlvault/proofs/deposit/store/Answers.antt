@@ -1,0 +1,62 @@
+use Rattle.std.proofs.Common.{arith}
+use Rattle.sqlite.specs.Held.{state}
+use Rattle.sqlite.specs.State.{HasCleanDisk}
+use Rattle.vault.specs.Changes.{with_deposit}
+use Rattle.sqlvault.specs.Deposits.{message_of}
+use Rattle.sqlvault.proofs.WithinLemmas.{LeavesLast, begun}
+use Rattle.sqlvault.proofs.deposit.KeptLemmas.{kept_after}
+use Rattle.sqlvault.proofs.deposit.store.Goals as goal
+
+pub returns-in-Err-put_receipt-clause-held : goal.returns-in-Err-put_receipt-clause-held
+returns-in-Err-put_receipt-clause-held g c k clean3 h a =
+    let s0 = state g.S.Store c.args.conn.now in
+    let s1 = state g.S.Store c.begin.new.conn in
+    let s2 = state g.S.Store c.put_receipt.new.conn in
+    let clean2 : HasCleanDisk s2 = omega (arith, c.undo.ensures.survives.clean) in
+    let clean1 : HasCleanDisk s1 = c.put_receipt.ensures.clean clean2 in
+    let law0 : LeavesLast s0 = λ d o m. g.met.S.Store.settled c.args.conn.now.store d o m in
+    let b = begun s0 s1 k clean1 law0 (c.in-Ok.ensures.ok clean1).1 c.begin.ensures.survives h in
+    c.undo.ensures.holds k clean3 (c.in-Err-put_receipt.ensures.made clean2 k b.0 b.2).0
+
+pub returns-in-Ok-end-clause-stored : goal.returns-in-Ok-end-clause-stored
+returns-in-Ok-end-clause-stored g c k clean4 h a =
+    let s0 = state g.S.Store c.args.conn.now in
+    let s1 = state g.S.Store c.begin.new.conn in
+    let clean3 = c.end.ensures.clean clean4 in
+    let clean2 = c.put_message.ensures.clean clean3 in
+    let clean1 = c.put_receipt.ensures.clean clean2 in
+    let law0 : LeavesLast s0 = λ d o m. g.met.S.Store.settled c.args.conn.now.store d o m in
+    let b = begun s0 s1 k clean1 law0 (c.in-Ok.ensures.ok clean1).1 c.begin.ensures.survives h in
+    let p = c.in-Ok-put_receipt.ensures.made clean2 k b.0 b.2 in
+    let m = c.in-Ok-put_message.ensures.made clean3 k p.0 p.2 in
+    let r = c.args.receipt.now in
+    let text = c.args.text.now in
+    (m.1.0, c.in-Ok-end.ensures.ended k (with_deposit m.1.0 (message_of r text) r k) m.0 clean4 m.2 (kept_after b.0 p.0 m.0 k r text b.1 a p.1 m.1))
+
+pub returns-in-Err-end-clause-held : goal.returns-in-Err-end-clause-held
+returns-in-Err-end-clause-held g c k clean4 h a =
+    let s0 = state g.S.Store c.args.conn.now in
+    let s1 = state g.S.Store c.begin.new.conn in
+    let clean3 = c.end.ensures.clean clean4 in
+    let clean2 = c.put_message.ensures.clean clean3 in
+    let clean1 = c.put_receipt.ensures.clean clean2 in
+    let law0 : LeavesLast s0 = λ d o m. g.met.S.Store.settled c.args.conn.now.store d o m in
+    let b = begun s0 s1 k clean1 law0 (c.in-Ok.ensures.ok clean1).1 c.begin.ensures.survives h in
+    let p = c.in-Ok-put_receipt.ensures.made clean2 k b.0 b.2 in
+    let m = c.in-Ok-put_message.ensures.made clean3 k p.0 p.2 in
+    let r = c.args.receipt.now in
+    let text = c.args.text.now in
+    c.in-Err-end.ensures.ended k (with_deposit m.1.0 (message_of r text) r k) m.0 clean4 m.2 (kept_after b.0 p.0 m.0 k r text b.1 a p.1 m.1)
+
+pub returns-in-Err-put_message-clause-held : goal.returns-in-Err-put_message-clause-held
+returns-in-Err-put_message-clause-held g c k clean4 h a =
+    let s0 = state g.S.Store c.args.conn.now in
+    let s1 = state g.S.Store c.begin.new.conn in
+    let s3 = state g.S.Store c.put_message.new.conn in
+    let clean3 : HasCleanDisk s3 = omega (arith, c.undo-in-Err-put_message.ensures.survives.clean) in
+    let clean2 = c.put_message.ensures.clean clean3 in
+    let clean1 = c.put_receipt.ensures.clean clean2 in
+    let law0 : LeavesLast s0 = λ d o m. g.met.S.Store.settled c.args.conn.now.store d o m in
+    let b = begun s0 s1 k clean1 law0 (c.in-Ok.ensures.ok clean1).1 c.begin.ensures.survives h in
+    let p = c.in-Ok-put_receipt.ensures.made clean2 k b.0 b.2 in
+    c.undo-in-Err-put_message.ensures.holds k clean4 (c.in-Err-put_message.ensures.made clean3 k p.0 p.2).0

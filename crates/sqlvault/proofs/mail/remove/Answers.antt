@@ -1,0 +1,44 @@
+use Rattle.std.proofs.Common.{refl, arith}
+use Rattle.sqlite.specs.Held.{state}
+use Rattle.sqlite.specs.State.{HasCleanDisk}
+use Rattle.sqlvault.specs.Stands.{Holds}
+use Rattle.sqlvault.proofs.WithinLemmas.{LeavesLast, begun}
+use Rattle.sqlvault.proofs.HoldsLemmas.{refused}
+use Rattle.sqlvault.proofs.mail.remove.Goals as goal
+
+pub returns-in-Err-remove_all-clause-done : goal.returns-in-Err-remove_all-clause-done
+returns-in-Err-remove_all-clause-done g c base clean3 h =
+    let s0 = state g.S.Store c.args.conn.now in
+    let s1 = state g.S.Store c.begin.new.conn in
+    let s2 = state g.S.Store c.remove_all.new.conn in
+    let s3 = state g.S.Store c.undo.new.conn in
+    let clean2 : HasCleanDisk s2 = omega (arith, c.undo.ensures.survives.clean) in
+    let clean1 : HasCleanDisk s1 = c.remove_all.ensures.clean clean2 in
+    let law0 : LeavesLast s0 = λ d o m. g.met.S.Store.settled c.args.conn.now.store d o m in
+    let w1 = begun s0 s1 base clean1 law0 (c.in-Ok.ensures.ok clean1).1 c.begin.ensures.survives h in
+    refused (Holds s3) base _ _ c.undo.result (c.undo.ensures.holds base clean3 (c.in-Err-remove_all.ensures.made clean2 base w1.0 w1.2).0)
+
+pub returns-in-Ok-end-clause-done : goal.returns-in-Ok-end-clause-done
+returns-in-Ok-end-clause-done g c base clean3 h =
+    let s0 = state g.S.Store c.args.conn.now in
+    let s1 = state g.S.Store c.begin.new.conn in
+    let s2 = state g.S.Store c.remove_all.new.conn in
+    let clean2 : HasCleanDisk s2 = c.end.ensures.clean clean3 in
+    let clean1 : HasCleanDisk s1 = c.remove_all.ensures.clean clean2 in
+    let law0 : LeavesLast s0 = λ d o m. g.met.S.Store.settled c.args.conn.now.store d o m in
+    let w1 = begun s0 s1 base clean1 law0 (c.in-Ok.ensures.ok clean1).1 c.begin.ensures.survives h in
+    let r = c.in-Ok-remove_all.ensures.made clean2 base w1.0 w1.2 in
+    record { answer = refl; held = c.in-Ok-end.ensures.ended base _ r.0 clean3 r.2 (r.1 base w1.1) }
+
+pub returns-in-Err-end-clause-done : goal.returns-in-Err-end-clause-done
+returns-in-Err-end-clause-done g c base clean3 h =
+    let s0 = state g.S.Store c.args.conn.now in
+    let s1 = state g.S.Store c.begin.new.conn in
+    let s2 = state g.S.Store c.remove_all.new.conn in
+    let s3 = state g.S.Store c.end.new.conn in
+    let clean2 : HasCleanDisk s2 = c.end.ensures.clean clean3 in
+    let clean1 : HasCleanDisk s1 = c.remove_all.ensures.clean clean2 in
+    let law0 : LeavesLast s0 = λ d o m. g.met.S.Store.settled c.args.conn.now.store d o m in
+    let w1 = begun s0 s1 base clean1 law0 (c.in-Ok.ensures.ok clean1).1 c.begin.ensures.survives h in
+    let r = c.in-Ok-remove_all.ensures.made clean2 base w1.0 w1.2 in
+    refused (Holds s3) base _ _ c.in-Err-end.error (c.in-Err-end.ensures.ended base _ r.0 clean3 r.2 (r.1 base w1.1))

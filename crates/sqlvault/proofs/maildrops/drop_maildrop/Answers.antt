@@ -1,0 +1,79 @@
+use Rattle.std.proofs.Common.{◌≡◌, min, true, Ok, Err, sym, subst, ◌∙◌, arith}
+use Rattle.sqlite.specs.State.{HasCleanDisk, IsUnchanged}
+use Rattle.sqlite.specs.Held.{state}
+use Rattle.vault.specs.declared.fault.VaultFault.TheVariants as fault
+use Rattle.vault.specs.Records.{is_one_of}
+use Rattle.vault.specs.Changes.{without_maildrop, with_maildrops, drop_answer}
+use Rattle.vault.specs.Calls.{IsMaildropDropped, drop_result, present_in}
+use Rattle.mailsql.specs.Rows.{rows_in}
+use Rattle.mailsql.specs.Changes.{DropsMaildrop}
+use Rattle.sqlvault.specs.Stands.{Holds}
+use Rattle.sqlvault.proofs.HoldsLemmas.{seen, holds_unchanged, holds_undone, holds_changed, refused}
+use Rattle.sqlvault.proofs.MaildropLemmas.{there_is, present_rows, keeps_dropped, not_empty, dropped}
+use Rattle.sqlvault.proofs.maildrops.drop_maildrop.Goals as goal
+
+pub returns-then-count-gt0-clause-done : goal.returns-then-count-gt0-clause-done
+returns-then-count-gt0-clause-done g c held clean2 h0 =
+    let text = c.as_bytes-text.result.now in
+    let s0 = state g.S.Store c.args.conn.now in
+    let s1 = state g.S.Store c.has_maildrop.new.conn in
+    let s2 = state g.S.Store c.message_count.new.conn in
+    let clean1 : HasCleanDisk s1 = omega (arith, c.message_count.ensures.survives.clean) in
+    let same1 : IsUnchanged s0 s1 = c.in-Ok-true.ensures.same clean1 h0.tables in
+    let h1 = holds_unchanged s0 s1 held same1 h0 in
+    let same2 : IsUnchanged s1 s2 = c.in-Ok.ensures.same clean2 h1.tables in
+    let h2 = holds_unchanged s1 s2 held same2 h1 in
+    let there : is_one_of text held.maildrops ≡ true =
+    sym (there_is (rows_in s0.now.trees) held text (seen s0 s1 held same1 h0)) ∙ sym (c.in-Ok-true.ensures.ok clean1 h0.tables) ∙ c.in-Ok-true.field-0-test in
+    let count : c.in-Ok.count ≡ min (present_in text held) 9223372036854775807 =
+    present_rows (rows_in s1.now.trees) held text c.in-Ok.count 9223372036854775807 (seen s1 s2 held same2 h1) (c.in-Ok.ensures.ok clean2 h1.tables) in
+    subst (λ name. IsMaildropDropped (Holds s2) held name (Err fault.NotEmpty)) c.as_bytes-text.ensures.value
+    (not_empty (Holds s2) held text there (omega (arith, c.if-count-gt0.true, count)) h2)
+
+pub returns-in-Err-message_count-clause-done : goal.returns-in-Err-message_count-clause-done
+returns-in-Err-message_count-clause-done g c held clean2 h0 =
+    let d = c.args.name.now in
+    let s0 = state g.S.Store c.args.conn.now in
+    let s1 = state g.S.Store c.has_maildrop.new.conn in
+    let s2 = state g.S.Store c.message_count.new.conn in
+    let clean1 : HasCleanDisk s1 = omega (arith, c.message_count.ensures.survives.clean) in
+    let h1 = holds_unchanged s0 s1 held (c.in-Ok-true.ensures.same clean1 h0.tables) h0 in
+    refused (Holds s2) held (with_maildrops (without_maildrop d held.maildrops) held) (drop_result (drop_answer (is_one_of d held.maildrops) (present_in d held))) c.in-Err-message_count.error
+    (holds_undone s1 s2 held (c.in-Err-message_count.ensures.err clean2 h1.tables) h1)
+
+pub returns-in-Ok-drop_maildrop-clause-done : goal.returns-in-Ok-drop_maildrop-clause-done
+returns-in-Ok-drop_maildrop-clause-done g c held clean3 h0 =
+    let text = c.as_bytes-text.result.now in
+    let s0 = state g.S.Store c.args.conn.now in
+    let s1 = state g.S.Store c.has_maildrop.new.conn in
+    let s2 = state g.S.Store c.message_count.new.conn in
+    let s3 = state g.S.Store c.drop_maildrop.new.conn in
+    let clean2 : HasCleanDisk s2 = omega (arith, c.drop_maildrop.ensures.survives.clean) in
+    let clean1 : HasCleanDisk s1 = omega (arith, c.message_count.ensures.survives.clean) in
+    let same1 : IsUnchanged s0 s1 = c.in-Ok-true.ensures.same clean1 h0.tables in
+    let h1 = holds_unchanged s0 s1 held same1 h0 in
+    let same2 : IsUnchanged s1 s2 = c.in-Ok.ensures.same clean2 h1.tables in
+    let h2 = holds_unchanged s1 s2 held same2 h1 in
+    let there : is_one_of text held.maildrops ≡ true =
+    sym (there_is (rows_in s0.now.trees) held text (seen s0 s1 held same1 h0)) ∙ sym (c.in-Ok-true.ensures.ok clean1 h0.tables) ∙ c.in-Ok-true.field-0-test in
+    let count : c.in-Ok.count ≡ min (present_in text held) 9223372036854775807 =
+    present_rows (rows_in s1.now.trees) held text c.in-Ok.count 9223372036854775807 (seen s1 s2 held same2 h1) (c.in-Ok.ensures.ok clean2 h1.tables) in
+    let empty : present_in text held ≡ 0 = omega (arith, c.if-count-gt0.false, count) in
+    subst (λ name. IsMaildropDropped (Holds s3) held name (Ok tt)) c.as_bytes-text.ensures.value
+    (dropped (Holds s3) held text there empty
+    (holds_changed (DropsMaildrop text) s2 s3 held (with_maildrops (without_maildrop text held.maildrops) held) (c.in-Ok-drop_maildrop.ensures.ok clean3 (same2.0.is_open, h2.tables same2.0.is_open))
+    (keeps_dropped held text empty) h2))
+
+pub returns-in-Err-drop_maildrop-clause-done : goal.returns-in-Err-drop_maildrop-clause-done
+returns-in-Err-drop_maildrop-clause-done g c held clean3 h0 =
+    let d = c.args.name.now in
+    let s0 = state g.S.Store c.args.conn.now in
+    let s1 = state g.S.Store c.has_maildrop.new.conn in
+    let s2 = state g.S.Store c.message_count.new.conn in
+    let s3 = state g.S.Store c.drop_maildrop.new.conn in
+    let clean2 : HasCleanDisk s2 = omega (arith, c.drop_maildrop.ensures.survives.clean) in
+    let clean1 : HasCleanDisk s1 = omega (arith, c.message_count.ensures.survives.clean) in
+    let h1 = holds_unchanged s0 s1 held (c.in-Ok-true.ensures.same clean1 h0.tables) h0 in
+    let h2 = holds_unchanged s1 s2 held (c.in-Ok.ensures.same clean2 h1.tables) h1 in
+    refused (Holds s3) held (with_maildrops (without_maildrop d held.maildrops) held) (drop_result (drop_answer (is_one_of d held.maildrops) (present_in d held))) c.in-Err-drop_maildrop.error
+    (holds_undone s2 s3 held (c.in-Err-drop_maildrop.ensures.err clean3) h2)

@@ -1,0 +1,49 @@
+use Rattle.std.proofs.Common.{arith, Ok, refl, subst}
+use Rattle.sqlite.specs.Held.{state}
+use Rattle.sqlite.specs.State.{HasCleanDisk}
+use Rattle.vault.specs.Changes.{with_policy}
+use Rattle.sqlvault.specs.Rules.{SetsRules}
+use Rattle.sqlvault.proofs.HoldsLemmas.{met}
+use Rattle.sqlvault.proofs.WithinLemmas.{LeavesLast, begun}
+use Rattle.sqlvault.proofs.RuleLemmas.{keeps_set}
+use Rattle.sqlvault.proofs.rules.set_policy.Goals as goal
+
+pub returns-in-Ok-end-clause-done : goal.returns-in-Ok-end-clause-done
+returns-in-Ok-end-clause-done g c base clean3 h =
+    let s0 = state g.S.Store c.args.conn.now in
+    let s1 = state g.S.Store c.begin.new.conn in
+    let s2 = state g.S.Store c.replace_rules.new.conn in
+    let clean2 : HasCleanDisk s2 = c.end.ensures.clean clean3 in
+    let clean1 : HasCleanDisk s1 = c.replace_rules.ensures.clean clean2 in
+    let law0 : LeavesLast s0 = λ d o m. g.met.S.Store.settled c.args.conn.now.store d o m in
+    let b = begun s0 s1 base clean1 law0 (c.in-Ok.ensures.ok clean1).1 c.begin.ensures.survives h in
+    let a = c.in-Ok-replace_rules.ensures.made clean2 base b.0 b.2 in
+    let policy = c.args.policy.now in
+    let keeps = keeps_set policy b.0 a.0 base c.rules.ensures.sound (subst (λ rs. SetsRules rs b.0 a.0) c.rules.ensures.value a.1) b.1 in
+    record { answer = refl; held = c.in-Ok-end.ensures.ended base (with_policy policy base) a.0 clean3 a.2 keeps }
+
+pub returns-in-Err-end-clause-done : goal.returns-in-Err-end-clause-done
+returns-in-Err-end-clause-done g c base clean3 h =
+    let s0 = state g.S.Store c.args.conn.now in
+    let s1 = state g.S.Store c.begin.new.conn in
+    let s2 = state g.S.Store c.replace_rules.new.conn in
+    let clean2 : HasCleanDisk s2 = c.end.ensures.clean clean3 in
+    let clean1 : HasCleanDisk s1 = c.replace_rules.ensures.clean clean2 in
+    let law0 : LeavesLast s0 = λ d o m. g.met.S.Store.settled c.args.conn.now.store d o m in
+    let b = begun s0 s1 base clean1 law0 (c.in-Ok.ensures.ok clean1).1 c.begin.ensures.survives h in
+    let a = c.in-Ok-replace_rules.ensures.made clean2 base b.0 b.2 in
+    let policy = c.args.policy.now in
+    let keeps = keeps_set policy b.0 a.0 base c.rules.ensures.sound (subst (λ rs. SetsRules rs b.0 a.0) c.rules.ensures.value a.1) b.1 in
+    record { answer = met (Ok tt) c.in-Err-end.error; held = c.in-Err-end.ensures.ended base (with_policy policy base) a.0 clean3 a.2 keeps }
+
+pub returns-in-Err-replace_rules-clause-done : goal.returns-in-Err-replace_rules-clause-done
+returns-in-Err-replace_rules-clause-done g c base clean3 h =
+    let s0 = state g.S.Store c.args.conn.now in
+    let s1 = state g.S.Store c.begin.new.conn in
+    let s2 = state g.S.Store c.replace_rules.new.conn in
+    let clean2 : HasCleanDisk s2 = omega (arith, c.undo.ensures.survives.clean) in
+    let clean1 : HasCleanDisk s1 = c.replace_rules.ensures.clean clean2 in
+    let law0 : LeavesLast s0 = λ d o m. g.met.S.Store.settled c.args.conn.now.store d o m in
+    let b = begun s0 s1 base clean1 law0 (c.in-Ok.ensures.ok clean1).1 c.begin.ensures.survives h in
+    let x = c.in-Err-replace_rules.ensures.made clean2 base b.0 b.2 in
+    record { answer = met (Ok tt) c.undo.result; held = c.undo.ensures.holds base clean3 x.0 }

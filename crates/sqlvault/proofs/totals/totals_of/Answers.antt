@@ -1,0 +1,29 @@
+use Rattle.std.proofs.Common.{◌<◌, ◌≤◌, length, arith, ◌∙◌}
+use Rattle.vault.specs.Plain.{capped_total}
+use Rattle.sqlvault.proofs.TotalLemmas.{totals_next, mapped_all}
+use Rattle.sqlvault.proofs.totals.totals_of.Goals as goal
+
+pub returns-in_err-total-clause-held : goal.returns-in_err-total-clause-held
+returns-in_err-total-clause-held g c held clean h = c.total_of.ensures.held held clean (c.loop-name.invariant.1 held (c.total_of.ensures.clean clean) h).1
+
+pub returns-in_err-push-clause-held : goal.returns-in_err-push-clause-held
+returns-in_err-push-clause-held g c held clean h = c.total_of.ensures.held held clean (c.loop-name.invariant.1 held (c.total_of.ensures.clean clean) h).1
+
+pub loop-name-preserved : goal.loop-name-preserved
+loop-name-preserved g c = (
+  (λ clean2. c.loop-name.invariant.0 (c.total_of.ensures.clean clean2)),
+  λ held clean h.
+      let i = c.loop-name.name-index in
+      let lt : i < length c.args.names.now = omega (arith, c.loop-name-test.true) in
+      let was = c.loop-name.invariant.1 held (c.total_of.ensures.clean clean) h in
+      let total = c.in_ok-total.ensures.total held clean was.1 in
+      (totals_next held c.args.names.now c.loop-name.totals.items c.push.new.self.items i c.name-item.result c.in_ok-total.total lt c.name-item.is was.0 total c.in_ok-push.ensures.items, c.total_of.ensures.held held clean was.1),
+)
+
+pub returns-clause-held : goal.returns-clause-held
+returns-clause-held g c held clean h = (c.loop-name.invariant.1 held clean h).1
+
+pub returns-clause-totals : goal.returns-clause-totals
+returns-clause-totals g c held clean h =
+    let all : length c.args.names.now ≤ c.loop-name.name-index = omega (arith, c.loop-name-test.false) in
+    (c.loop-name.invariant.1 held clean h).0 ∙ mapped_all (capped_total held.messages) c.args.names.now c.loop-name.name-index all

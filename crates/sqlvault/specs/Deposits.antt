@@ -1,0 +1,45 @@
+-- What a deposit leaves of the rows, and what the contents must say of it before.
+use Rattle.std.specs.Prelude.{◌≡◌, ℕ, true, nat_lt, pos, List, length, Ok}
+use Rattle.mailtext.specs.MailText.{IsMailText}
+use Rattle.creds.specs.Names.{is_name, is_deposit_id}
+use Rattle.creds.specs.Digests.{text_digest}
+use Rattle.vault.specs.declared.answer.Deposited.TheVariants as stored
+use Rattle.vault.specs.declared.record.Keyed.{Keyed}
+use Rattle.vault.specs.declared.record.Message.{Message}
+use Rattle.vault.specs.declared.record.Receipt.{Receipt}
+use Rattle.vault.specs.Changes.{Contents, message_for}
+use Rattle.vault.specs.Calls.{deposit_result, deposit_answer_in}
+use Rattle.mailsql.specs.declared.rows.Count.{Count}
+use Rattle.mailsql.specs.Columns.{Rows}
+use Rattle.mailsql.specs.Changes.{SetsCount, AddsDeposit, AddsMessage, AddsSheets}
+use Rattle.sqlvault.specs.Keeps.{deposit_row, row_key, message_row}
+
+-- the count of a receipt's class, which is the receipt's number
+abbrev pub count_row : Receipt → Count
+count_row r = record { maildrop = r.maildrop; class = r.class; k = pos r.k }
+
+-- the count is set, and the receipt's row comes
+abbrev pub PutsReceipt : Receipt → Rows → Rows → Type 0
+PutsReceipt r old new = (between : Rows) × SetsCount (count_row r) old between × AddsDeposit (deposit_row r) between new
+
+-- the message's row comes, and its sheets
+abbrev pub PutsKeyed : Keyed → Rows → Rows → Type 0
+PutsKeyed x old new = (between : Rows) × AddsMessage (message_row x) old between × AddsSheets (row_key x.key) x.message.text between new
+
+-- so it is under some key
+abbrev pub PutsMessage : Message → Rows → Rows → Type 0
+PutsMessage m old new = (key : ℕ) × (nat_lt key 18446744073709551616 ≡ true) × PutsKeyed (record { key = key; message = m }) old new
+
+-- the message of a receipt
+abbrev pub message_of : Receipt → List ℕ → Message
+message_of r text = message_for r.maildrop r.class text r.k
+
+-- the contents accept a deposit of this text, which gets this receipt
+pub record Accepts (c : Contents) (r : Receipt) (text : List ℕ) : Type 0 where
+  pub maildrop : is_name r.maildrop ≡ true
+  pub id : is_deposit_id r.id ≡ true
+  pub class : is_name r.class ≡ true
+  pub form : IsMailText text
+  pub digest : r.digest ≡ text_digest text
+  pub sized : length r.digest ≡ 32
+  pub answer : deposit_result (deposit_answer_in c r.maildrop r.class r.id text) ≡ Ok (stored.New (record { class = r.class; k = r.k }))

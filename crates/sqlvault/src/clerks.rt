@@ -1,0 +1,216 @@
+//! The clerks.
+ghost use Rattle.std.specs.Prelude.{◌≡◌, length, true, is_some, Some, IfOk, OnOk, OnErr};
+ghost use Rattle.sqlite.specs.Held.{state};
+ghost use Rattle.sqlite.specs.State.{HasCleanDisk, IsUnchanged};
+ghost use Rattle.creds.specs.Names.{is_name};
+ghost use Rattle.vault.specs.declared.record.Clerk as vault;
+ghost use Rattle.vault.specs.Records.{is_sound_credential, credential_in};
+ghost use Rattle.vault.specs.Changes.{Contents, put_clerk_answer};
+ghost use Rattle.vault.specs.Calls.{IsAnswer, put_result, IsCredential, IsClerkPut, IsClerkDropped};
+ghost use Rattle.mailsql.specs.Rows as tables;
+ghost use Rattle.mailsql.specs.Changes as changes;
+ghost use Rattle.sqlvault.specs.Keeps.{Keeps, kind_of, secret_of, clerk_row};
+ghost use Rattle.sqlvault.specs.Refusals.{answer_of};
+ghost use Rattle.sqlvault.specs.Stands.{Holds, WasClean, Ends};
+
+use crate::refusal::{Refusal, unreadable};
+use crate::transaction::{end, undo};
+use creds::{Credential, Name, Secret};
+use mailsql::rows::Clerk;
+use mailsql::{clerks, mode};
+use sqlite::{Alter, Connection, Error};
+use std::alloc::Global;
+use vault::VaultFault;
+
+/// The greatest number of clerks.
+const MAX_CLERKS: u64 = 1000;
+
+/// The kind of a credential, as a row has it.
+fn kind_of(credential: &Credential) -> i64
+    ensures { result ≡ kind_of credential.now }
+{
+    match credential {
+        Credential::Apop(_) => 1,
+        Credential::Pass(_) => 2,
+    }
+}
+
+/// A digest has 32 octets.
+fn is_whole(digest: [u8; 32])
+    ensures { length digest ≡ 32 }
+{
+    let _ = digest;
+}
+
+/// What a row keeps of a credential, which has its form.
+fn secret_of(credential: &Credential) -> &[u8]
+    ensures value { result.now ≡ secret_of credential.now }
+    ensures form { is_sound_credential credential.now ≡ true }
+{
+    match credential {
+        Credential::Apop(secret) => secret.as_bytes(),
+        Credential::Pass(digest) => {
+            is_whole(*digest);
+            digest.as_slice()
+        }
+    }
+}
+
+/// A digest of these octets.
+fn digest_of(octets: &[u8]) -> [u8; 32]
+    requires { length octets.now ≡ 32 }
+    ensures { result ≡ octets.now }
+{
+    let mut digest = [0; 32];
+    digest.copy_from_slice(octets);
+    digest
+}
+
+/// The credential of a clerk's row; `None` where the row is no clerk's.
+fn read_credential(row: &Clerk) -> Option<Credential>
+    ensures { (c : vault.Clerk) → row.now ≡ clerk_row c → is_sound_credential c.credential ≡ true → result ≡ Some c.credential }
+{
+    let octets = row.secret.as_slice();
+    match row.kind {
+        1 => match Secret::read(octets) {
+            Some(secret) => Some(Credential::Apop(secret)),
+            None => None,
+        },
+        2 => {
+            if octets.len() == 32 {
+                Some(Credential::Pass(digest_of(octets)))
+            } else {
+                None
+            }
+        }
+        _ => None,
+    }
+}
+
+/// The credential of a clerk, where there is one of that name.
+pub(crate) fn find_credential<S: Alter>(
+    alloc: Global,
+    conn: &mut Connection<S>,
+    clerk: &Name,
+) -> Result<Option<Credential>, Refusal>
+    ensures done { (c : Contents) → HasCleanDisk (state S.Store conn.new) → Holds (state S.Store conn.old) c → IsCredential (Holds (state S.Store conn.new)) c clerk.now (answer_of result) }
+    ensures clean { WasClean (state S.Store conn.old) (state S.Store conn.new) }
+{
+    match clerks::find_clerk(alloc, conn, clerk.as_bytes()) {
+        Ok(Some(row)) => match read_credential(&row) {
+            Some(credential) => Ok(Some(credential)),
+            None => Err(Refusal::Met(unreadable())),
+        },
+        Ok(None) => Ok(None),
+        Err(error) => Err(Refusal::Met(error)),
+    }
+}
+
+/// Whether there is a clerk of that name.
+fn has_clerk<S: Alter>(alloc: Global, conn: &mut Connection<S>, clerk: &Name) -> Result<bool, Error>
+    ensures there { (c : Contents) → HasCleanDisk (state S.Store conn.new) → Holds (state S.Store conn.old) c → IfOk result (λ there. there ≡ is_some (credential_in clerk.now c.clerks)) }
+    ensures same { HasCleanDisk (state S.Store conn.new) → tables.HasTables (state S.Store conn.old) → OnOk result (IsUnchanged (state S.Store conn.old) (state S.Store conn.new)) }
+    ensures err { HasCleanDisk (state S.Store conn.new) → tables.HasTables (state S.Store conn.old) → OnErr result (tables.IsUndone (state S.Store conn.old) (state S.Store conn.new)) }
+    ensures clean { WasClean (state S.Store conn.old) (state S.Store conn.new) }
+{
+    match clerks::find_clerk(alloc, conn, clerk.as_bytes()) {
+        Ok(found) => Ok(found.is_some()),
+        Err(error) => Err(error),
+    }
+}
+
+/// Puts the clerk's row in place of the one of its name, in a transaction of its own.
+fn write_clerk<S: Alter>(
+    conn: &mut Connection<S>,
+    clerk: &Name,
+    credential: &Credential,
+) -> Result<(), Error>
+    ensures written { (c after : Contents) → HasCleanDisk (state S.Store conn.new) → Holds (state S.Store conn.old) c
+        → ((from to : tables.Rows) → changes.PutsClerk (clerk_row (record { name = clerk.now; credential = credential.now })) from to → Keeps from c → Keeps to after)
+        → Ends c after (state S.Store conn.new) result }
+    ensures name { is_name clerk.now ≡ true }
+    ensures form { is_sound_credential credential.now ≡ true }
+    ensures clean { WasClean (state S.Store conn.old) (state S.Store conn.new) }
+{
+    let name = clerk.as_bytes();
+    let secret = secret_of(credential);
+    match mode::begin(conn) {
+        Ok(()) => {}
+        Err(error) => return Err(error),
+    }
+    match clerks::put_clerk(conn, name, kind_of(credential), secret) {
+        Ok(()) => end(conn),
+        Err(error) => Err(undo(conn, error)),
+    }
+}
+
+/// Whether a clerk of that name would be new.
+///
+/// Answers [`VaultFault::Full`] for a new name beyond 1,000.
+fn judge_clerk<S: Alter>(
+    alloc: Global,
+    conn: &mut Connection<S>,
+    clerk: &Name,
+) -> Result<bool, Refusal>
+    ensures judged { (c : Contents) → HasCleanDisk (state S.Store conn.new) → Holds (state S.Store conn.old) c → Holds (state S.Store conn.new) c × IsAnswer (put_result (put_clerk_answer clerk.now c.clerks)) (answer_of result) }
+    ensures clean { WasClean (state S.Store conn.old) (state S.Store conn.new) }
+{
+    match has_clerk(alloc, conn, clerk) {
+        Ok(true) => return Ok(false),
+        Ok(false) => {}
+        Err(error) => return Err(Refusal::Met(error)),
+    }
+    match clerks::clerk_count(conn) {
+        Ok(count) => {
+            if count >= MAX_CLERKS {
+                Err(Refusal::Answered(VaultFault::Full))
+            } else {
+                Ok(true)
+            }
+        }
+        Err(error) => Err(Refusal::Met(error)),
+    }
+}
+
+/// Puts a clerk's credential, in place of the one that is there. Answers whether the clerk was new.
+///
+/// Answers [`VaultFault::Full`] for a new name beyond 1,000. After any refusal the clerks are as they were.
+pub(crate) fn put_clerk<S: Alter>(
+    alloc: Global,
+    conn: &mut Connection<S>,
+    clerk: &Name,
+    credential: &Credential,
+) -> Result<bool, Refusal>
+    ensures done { (c : Contents) → HasCleanDisk (state S.Store conn.new) → Holds (state S.Store conn.old) c → IsClerkPut (Holds (state S.Store conn.new)) c clerk.now credential.now (answer_of result) }
+    ensures clean { WasClean (state S.Store conn.old) (state S.Store conn.new) }
+{
+    match judge_clerk(alloc, conn, clerk) {
+        Ok(is_new) => match write_clerk(conn, clerk, credential) {
+            Ok(()) => Ok(is_new),
+            Err(error) => Err(Refusal::Met(error)),
+        },
+        Err(refusal) => Err(refusal),
+    }
+}
+
+/// Drops a clerk.
+///
+/// Answers [`VaultFault::NoClerk`] where there is none of that name. After any refusal the clerks are as they were.
+pub(crate) fn drop_clerk<S: Alter>(
+    alloc: Global,
+    conn: &mut Connection<S>,
+    clerk: &Name,
+) -> Result<(), Refusal>
+    ensures done { (c : Contents) → HasCleanDisk (state S.Store conn.new) → Holds (state S.Store conn.old) c → IsClerkDropped (Holds (state S.Store conn.new)) c clerk.now (answer_of result) }
+    ensures clean { WasClean (state S.Store conn.old) (state S.Store conn.new) }
+{
+    match has_clerk(alloc, conn, clerk) {
+        Ok(true) => {}
+        Ok(false) => return Err(Refusal::Answered(VaultFault::NoClerk)),
+        Err(error) => return Err(Refusal::Met(error)),
+    }
+    match clerks::drop_clerk(conn, clerk.as_bytes()) {
+        Ok(()) => Ok(()),
+        Err(error) => Err(Refusal::Met(error)),
+    }
+}

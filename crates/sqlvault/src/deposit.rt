@@ -1,0 +1,291 @@
+//! A deposit, in one transaction.
+ghost use Rattle.std.specs.Prelude.{◌≡◌, ◌≤◌, ◌&&◌, ◌+◌, ℕ, List, length, pos, true, None, Ok, Option, IfOk, OnOk, OnErr};
+ghost use Rattle.std.specs.Str.{bytes_eq};
+ghost use Rattle.mailtext.specs.MailText.{IsMailText};
+ghost use Rattle.creds.specs.Names.{is_name, is_deposit_id};
+ghost use Rattle.creds.specs.Digests.{text_digest};
+ghost use Rattle.creds.specs.declared.uid.Uid as uid;
+ghost use Rattle.sqlite.specs.Held.{state};
+ghost use Rattle.sqlite.specs.State.{HasCleanDisk};
+ghost use Rattle.vault.specs.declared.answer.Deposited.TheVariants as stored;
+ghost use Rattle.vault.specs.declared.record.Receipt as receipt;
+ghost use Rattle.vault.specs.Records.{receipts_of, class_count, most_deposits};
+ghost use Rattle.vault.specs.Changes.{Contents, deposit_answered, is_full, known_or_conflict, with_deposit};
+ghost use Rattle.vault.specs.Calls.{IsAnswer, IsDeposited, deposit_result, deposit_answer_in, present_in};
+ghost use Rattle.sqlvault.specs.Keeps.{deposit_row, number_in};
+ghost use Rattle.sqlvault.specs.Deposits.{PutsReceipt, PutsMessage, Accepts, message_of};
+ghost use Rattle.sqlvault.specs.Refusals.{answer_of};
+ghost use Rattle.sqlvault.specs.Stands.{Holds, WasClean, Makes};
+
+use crate::refusal::{Refusal, unreadable};
+use crate::transaction::{end, undo};
+use creds::{DepositId, Name, Uid};
+use mailsql::{counts, deposits, mail, maildrops, mode, rows, sheets};
+use mailtext::MailText;
+use sqlite::{Alter, Connection, Error};
+use std::alloc::Global;
+use vault::{Deposited, Receipt, VaultFault};
+
+/// The greatest number of messages in a maildrop.
+const MAX_MESSAGES: u64 = 10_000;
+
+/// The greatest number of deposits of a class into a maildrop's name.
+const MAX_DEPOSITS: u64 = 1_000_000_000;
+
+/// The number of a row, which is 0 or more.
+fn read_number(number: i64) -> Result<u64, Error>
+    ensures { (n : ℕ) → number ≡ pos n → result ≡ Ok n }
+{
+    if number < 0 {
+        return Err(unreadable());
+    }
+    Ok(number.cast_unsigned())
+}
+
+/// The number of a count; 0 where there is none.
+fn number_of(count: &Option<rows::Count>) -> Result<u64, Error>
+    ensures { (n : ℕ) → number_in count.now ≡ pos n → result ≡ Ok n }
+{
+    match count {
+        Some(row) => read_number(row.k),
+        None => Ok(0),
+    }
+}
+
+/// Whether the row is of this class and digest.
+fn is_same(row: &rows::Deposit, class: &Name, digest: &[u8; 32]) -> bool
+    ensures { result ≡ (bytes_eq row.now.class class.now && bytes_eq row.now.digest digest.now) }
+{
+    row.class.as_slice() == class.as_bytes() && row.digest.as_slice() == digest.as_slice()
+}
+
+/// What a deposit whose id was used before is answered.
+fn known_or_conflict(
+    row: &rows::Deposit,
+    class: &Name,
+    digest: &[u8; 32],
+) -> Result<Deposited, Refusal>
+    ensures answered { (r : receipt.Receipt) (text : List ℕ) → row.now ≡ deposit_row r → digest.now ≡ text_digest text → answer_of result ≡ deposit_result (known_or_conflict class.now text r) }
+    ensures old { (u : uid.Uid) → ¬ (result ≡ Ok (stored.New u)) }
+{
+    if !is_same(row, class, digest) {
+        return Err(Refusal::Answered(VaultFault::Conflict));
+    }
+    match read_number(row.k) {
+        Ok(k) => Ok(Deposited::Known(Uid { class: *class, k })),
+        Err(error) => Err(Refusal::Met(error)),
+    }
+}
+
+/// How many deposits of the class the maildrop's name had.
+fn find_before<S: Alter>(
+    alloc: Global,
+    conn: &mut Connection<S>,
+    maildrop: &Name,
+    class: &Name,
+) -> Result<u64, Error>
+    ensures answered { (c : Contents) → HasCleanDisk (state S.Store conn.new) → Holds (state S.Store conn.old) c → IfOk result (λ n. n ≡ class_count class.now (receipts_of maildrop.now c.deposits)) }
+    ensures held { (c : Contents) → HasCleanDisk (state S.Store conn.new) → Holds (state S.Store conn.old) c → Holds (state S.Store conn.new) c }
+    ensures clean { WasClean (state S.Store conn.old) (state S.Store conn.new) }
+{
+    match counts::find_count(alloc, conn, maildrop.as_bytes(), class.as_bytes()) {
+        Ok(count) => number_of(&count),
+        Err(error) => Err(error),
+    }
+}
+
+/// What a deposit whose id is new is answered, into a maildrop that is there.
+fn judge_new<S: Alter>(
+    alloc: Global,
+    conn: &mut Connection<S>,
+    maildrop: &Name,
+    class: &Name,
+) -> Result<Deposited, Refusal>
+    ensures answered { (c : Contents) (text : List ℕ) → HasCleanDisk (state S.Store conn.new) → Holds (state S.Store conn.old) c
+        → IsAnswer (deposit_result (deposit_answered None class.now text (is_full (present_in maildrop.now c) (receipts_of maildrop.now c.deposits) class.now) (class_count class.now (receipts_of maildrop.now c.deposits) + 1))) (answer_of result) }
+    ensures held { (c : Contents) → HasCleanDisk (state S.Store conn.new) → Holds (state S.Store conn.old) c → Holds (state S.Store conn.new) c }
+    ensures clean { WasClean (state S.Store conn.old) (state S.Store conn.new) }
+    ensures within { (u : uid.Uid) → result ≡ Ok (stored.New u) → u.k ≤ most_deposits }
+{
+    let present = match mail::message_count(conn, maildrop.as_bytes()) {
+        Ok(present) => present,
+        Err(error) => return Err(Refusal::Met(error)),
+    };
+    if present >= MAX_MESSAGES {
+        return Err(Refusal::Answered(VaultFault::Full));
+    }
+    let before = match find_before(alloc, conn, maildrop, class) {
+        Ok(before) => before,
+        Err(error) => return Err(Refusal::Met(error)),
+    };
+    if before >= MAX_DEPOSITS {
+        return Err(Refusal::Answered(VaultFault::Full));
+    }
+    Ok(Deposited::New(Uid {
+        class: *class,
+        k: before + 1,
+    }))
+}
+
+/// What a deposit of a text with this digest is answered.
+fn judge<S: Alter>(
+    alloc: Global,
+    conn: &mut Connection<S>,
+    maildrop: &Name,
+    class: &Name,
+    id: &DepositId,
+    digest: &[u8; 32],
+) -> Result<Deposited, Refusal>
+    ensures answered { (c : Contents) (text : List ℕ) → HasCleanDisk (state S.Store conn.new) → Holds (state S.Store conn.old) c → digest.now ≡ text_digest text
+        → IsAnswer (deposit_result (deposit_answer_in c maildrop.now class.now id.now text)) (answer_of result) }
+    ensures held { (c : Contents) → HasCleanDisk (state S.Store conn.new) → Holds (state S.Store conn.old) c → Holds (state S.Store conn.new) c }
+    ensures clean { WasClean (state S.Store conn.old) (state S.Store conn.new) }
+    ensures within { (u : uid.Uid) → result ≡ Ok (stored.New u) → u.k ≤ most_deposits }
+{
+    match maildrops::has_maildrop(conn, maildrop.as_bytes()) {
+        Ok(true) => {}
+        Ok(false) => return Err(Refusal::Answered(VaultFault::NoMaildrop)),
+        Err(error) => return Err(Refusal::Met(error)),
+    }
+    match deposits::find_deposit(alloc, conn, maildrop.as_bytes(), id.as_bytes()) {
+        Ok(Some(row)) => known_or_conflict(&row, class, digest),
+        Ok(None) => judge_new(alloc, conn, maildrop, class),
+        Err(error) => Err(Refusal::Met(error)),
+    }
+}
+
+/// The count of the receipt's class, and the receipt, inside a transaction.
+fn put_receipt<S: Alter>(conn: &mut Connection<S>, receipt: &Receipt) -> Result<(), Error>
+    requires { receipt.now.k ≤ most_deposits }
+    ensures made { HasCleanDisk (state S.Store conn.new) → Makes (λ _. PutsReceipt receipt.now) (state S.Store conn.old) (state S.Store conn.new) result }
+    ensures clean { WasClean (state S.Store conn.old) (state S.Store conn.new) }
+{
+    let k = receipt.k as i64;
+    match counts::set_count(
+        conn,
+        receipt.maildrop.as_bytes(),
+        receipt.class.as_bytes(),
+        k,
+    ) {
+        Ok(()) => {}
+        Err(error) => return Err(error),
+    }
+    match deposits::add_deposit(
+        conn,
+        receipt.maildrop.as_bytes(),
+        receipt.id.as_bytes(),
+        receipt.class.as_bytes(),
+        k,
+        receipt.digest.as_slice(),
+    ) {
+        Ok(()) => Ok(()),
+        Err(error) => Err(error),
+    }
+}
+
+/// The message of the receipt, and its sheets, inside a transaction.
+fn put_message<S: Alter>(
+    conn: &mut Connection<S>,
+    receipt: &Receipt,
+    text: &MailText,
+) -> Result<(), Error>
+    requires { receipt.now.k ≤ most_deposits }
+    ensures made { HasCleanDisk (state S.Store conn.new) → Makes (λ _. PutsMessage (message_of receipt.now text.now)) (state S.Store conn.old) (state S.Store conn.new) result }
+    ensures clean { WasClean (state S.Store conn.old) (state S.Store conn.new) }
+{
+    let k = receipt.k as i64;
+    let octets = text.octets() as i64;
+    match mail::add_message(
+        conn,
+        receipt.maildrop.as_bytes(),
+        receipt.class.as_bytes(),
+        k,
+        octets,
+    ) {
+        Ok(key) => match sheets::add_sheets(conn, key, text.bytes()) {
+            Ok(()) => Ok(()),
+            Err(error) => Err(error),
+        },
+        Err(error) => Err(error),
+    }
+}
+
+/// Keeps a deposit that was judged new, in one transaction.
+fn store<S: Alter>(
+    conn: &mut Connection<S>,
+    receipt: &Receipt,
+    text: &MailText,
+) -> Result<(), Error>
+    requires { receipt.now.k ≤ most_deposits }
+    ensures stored { (c : Contents) → HasCleanDisk (state S.Store conn.new) → Holds (state S.Store conn.old) c → Accepts c receipt.now text.now
+        → OnOk result ((key : ℕ) × Holds (state S.Store conn.new) (with_deposit key (message_of receipt.now text.now) receipt.now c)) }
+    ensures held { (c : Contents) → HasCleanDisk (state S.Store conn.new) → Holds (state S.Store conn.old) c → Accepts c receipt.now text.now → OnErr result (Holds (state S.Store conn.new) c) }
+    ensures clean { WasClean (state S.Store conn.old) (state S.Store conn.new) }
+{
+    match mode::begin(conn) {
+        Ok(()) => {}
+        Err(error) => return Err(error),
+    }
+    match put_receipt(conn, receipt) {
+        Ok(()) => {}
+        Err(error) => return Err(undo(conn, error)),
+    }
+    match put_message(conn, receipt, text) {
+        Ok(()) => match end(conn) {
+            Ok(()) => Ok(()),
+            Err(error) => Err(error),
+        },
+        Err(error) => Err(undo(conn, error)),
+    }
+}
+
+/// The receipt of a deposit that gets this number.
+fn receipt_for(maildrop: &Name, class: &Name, id: &DepositId, k: u64, digest: [u8; 32]) -> Receipt
+    ensures value { result ≡ record { maildrop = maildrop.now; id = id.now; class = class.now; k = k; digest = digest } }
+    ensures maildrop_form { is_name maildrop.now ≡ true }
+    ensures id_form { is_deposit_id id.now ≡ true }
+    ensures class_form { is_name class.now ≡ true }
+    ensures sized { length digest ≡ 32 }
+{
+    let _ = maildrop.as_bytes();
+    let _ = id.as_bytes();
+    let _ = class.as_bytes();
+    Receipt {
+        maildrop: *maildrop,
+        id: *id,
+        class: *class,
+        k,
+        digest,
+    }
+}
+
+/// Puts a message into a maildrop, once for each deposit id of the maildrop's name: the message, its sheets, its receipt
+/// and the count of its class are committed together, or nothing is changed.
+///
+/// Answers [`VaultFault::NoMaildrop`] where the maildrop is missing, else [`VaultFault::Conflict`] where the id was used
+/// with another class or text, else [`VaultFault::Full`] where the maildrop has 10,000 messages or its name had
+/// 1,000,000,000 deposits of the class. An error of a statement leaves what was held before.
+pub(crate) fn deposit<S: Alter>(
+    alloc: Global,
+    conn: &mut Connection<S>,
+    maildrop: &Name,
+    class: &Name,
+    id: &DepositId,
+    text: &MailText,
+) -> Result<Deposited, Refusal>
+    ensures done { (c : Contents) → HasCleanDisk (state S.Store conn.new) → Holds (state S.Store conn.old) c → IsDeposited (Holds (state S.Store conn.new)) c maildrop.now class.now id.now text.now (answer_of result) }
+    ensures clean { WasClean (state S.Store conn.old) (state S.Store conn.new) }
+{
+    let digest = creds::text_digest(text.bytes());
+    match judge(alloc, conn, maildrop, class, id, &digest) {
+        Ok(Deposited::New(uid)) => {
+            let receipt = receipt_for(maildrop, class, id, uid.k, digest);
+            match store(conn, &receipt, text) {
+                Ok(()) => Ok(Deposited::New(uid)),
+                Err(error) => Err(Refusal::Met(error)),
+            }
+        }
+        Ok(Deposited::Known(uid)) => Ok(Deposited::Known(uid)),
+        Err(refusal) => Err(refusal),
+    }
+}

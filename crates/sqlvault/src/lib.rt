@@ -1,0 +1,16 @@
+//! A mail store in a SQLite database: every call of a vault over the tables of a store, by the statements of `mailsql` alone.
+#![tactic(auto)]
+
+mod clerks;
+mod deposit;
+mod mail;
+mod maildrops;
+mod pages;
+mod refusal;
+mod rules;
+mod sql_vault;
+mod totals;
+mod transaction;
+
+pub use refusal::Refusal;
+pub use sql_vault::SqlVault;

@@ -1,0 +1,118 @@
+//! The heads of a maildrop's messages, and their removal.
+ghost use Rattle.std.specs.Prelude.{◌≡◌, ◌<◌, ◌^◌, Some, true, List, map, nat_lt, IfOk, IfErr};
+ghost use Rattle.std.specs.List.{list_all};
+ghost use Rattle.sqlite.specs.Held.{state};
+ghost use Rattle.sqlite.specs.State.{HasCleanDisk};
+ghost use Rattle.creds.specs.Names.{is_name};
+ghost use Rattle.mailsql.specs.Errors.{IsWantOfMemory};
+ghost use Rattle.vault.specs.declared.record.Keyed.{Keyed};
+ghost use Rattle.vault.specs.Changes.{Contents, head_of, without_keys, with_messages};
+ghost use Rattle.vault.specs.Calls.{seen_as, AreHeads, AreRemoved};
+ghost use Rattle.sqlvault.specs.Keeps.{Keeps, message_row};
+ghost use Rattle.sqlvault.specs.Refusals.{answer_of};
+ghost use Rattle.sqlvault.specs.Stands.{Holds, WasClean, Makes};
+
+use crate::refusal::{Refusal, unreadable};
+use crate::transaction::{end, undo};
+use creds::Name;
+use mailsql::rows::Message;
+use mailsql::{mail, maildrops, mode};
+use sqlite::{Alter, Connection, Error};
+use std::alloc::Global;
+use vault::{Head, MessageKey, VaultFault};
+
+/// The message of a row, as a login sees it; `None` where its class has not the form of a name.
+fn read_head(row: &Message) -> Option<Head>
+    ensures { (x : Keyed) → row.now ≡ message_row x → is_name x.message.class ≡ true → x.key < 2 ^ 64 → result ≡ Some (head_of x) }
+{
+    match Name::read(row.class.as_slice()) {
+        Some(class) => Some(Head {
+            key: MessageKey::new(row.key.cast_unsigned()),
+            class,
+            k: row.k.cast_unsigned(),
+            octets: row.octets.cast_unsigned(),
+        }),
+        None => None,
+    }
+}
+
+/// The messages of these rows, as a login sees them. Where each row is that of a message, memory alone can be wanting.
+fn read_heads(alloc: Global, rows: &[Message]) -> Result<Vec<Head>, Error>
+    ensures items { (ms : List Keyed) → rows.now ≡ map message_row ms → list_all (λ x. is_name x.message.class) ms ≡ true → list_all (λ x. nat_lt x.key (2 ^ 64)) ms ≡ true → IfOk result (λ heads. heads.items ≡ map head_of ms) }
+    ensures memory { (ms : List Keyed) → rows.now ≡ map message_row ms → list_all (λ x. is_name x.message.class) ms ≡ true → list_all (λ x. nat_lt x.key (2 ^ 64)) ms ≡ true → IfErr result IsWantOfMemory }
+{
+    let mut heads = Vec::new(alloc);
+    for row in rows {
+        match read_head(row) {
+            Some(head) => heads.push(head)?,
+            None => return Err(unreadable()),
+        }
+    }
+    Ok(heads)
+}
+
+/// The heads of a maildrop's messages, in order of arrival. Nothing is changed.
+///
+/// Answers [`VaultFault::NoMaildrop`] where the maildrop is missing, else the error that a query met.
+pub(crate) fn heads<S: Alter>(
+    alloc: Global,
+    conn: &mut Connection<S>,
+    maildrop: &Name,
+) -> Result<Vec<Head>, Refusal>
+    ensures done { (c : Contents) → HasCleanDisk (state S.Store conn.new) → Holds (state S.Store conn.old) c → AreHeads (Holds (state S.Store conn.new)) c maildrop.now (seen_as (answer_of result) (λ v. v.items)) }
+    ensures clean { WasClean (state S.Store conn.old) (state S.Store conn.new) }
+{
+    match maildrops::has_maildrop(conn, maildrop.as_bytes()) {
+        Ok(true) => {}
+        Ok(false) => return Err(Refusal::Answered(VaultFault::NoMaildrop)),
+        Err(error) => return Err(Refusal::Met(error)),
+    }
+    match mail::heads(alloc, conn, maildrop.as_bytes()) {
+        Ok(rows) => Ok(read_heads(alloc, rows.as_slice())?),
+        Err(error) => Err(Refusal::Met(error)),
+    }
+}
+
+/// Removes each of the messages, inside a transaction.
+fn remove_all<S: Alter>(
+    conn: &mut Connection<S>,
+    maildrop: &Name,
+    keys: &[MessageKey],
+) -> Result<(), Error>
+    ensures made { HasCleanDisk (state S.Store conn.new) → Makes (λ _ before after. (c : Contents) → Keeps before c → Keeps after (with_messages (without_keys maildrop.now keys.now c.messages) c)) (state S.Store conn.old) (state S.Store conn.new) result }
+    ensures clean { WasClean (state S.Store conn.old) (state S.Store conn.new) }
+{
+    for key in keys {
+        match mail::remove_message(conn, key.number().cast_signed(), maildrop.as_bytes()) {
+            Ok(()) => {}
+            Err(error) => return Err(error),
+        }
+    }
+    Ok(())
+}
+
+/// Removes those of the maildrop's messages that the keys name, all or none. Keys that aren't there are passed over, in a
+/// missing maildrop all.
+///
+/// Answers the error that a statement met; nothing is then changed.
+pub(crate) fn remove<S: Alter>(
+    conn: &mut Connection<S>,
+    maildrop: &Name,
+    keys: &[MessageKey],
+) -> Result<(), Refusal>
+    ensures done { (c : Contents) → HasCleanDisk (state S.Store conn.new) → Holds (state S.Store conn.old) c → AreRemoved (Holds (state S.Store conn.new)) c maildrop.now keys.now (answer_of result) }
+    ensures clean { WasClean (state S.Store conn.old) (state S.Store conn.new) }
+{
+    match mode::begin(conn) {
+        Ok(()) => {}
+        Err(error) => return Err(Refusal::Met(error)),
+    }
+    match remove_all(conn, maildrop, keys) {
+        Ok(()) => {}
+        Err(error) => return Err(Refusal::Met(undo(conn, error))),
+    }
+    match end(conn) {
+        Ok(()) => Ok(()),
+        Err(error) => Err(Refusal::Met(error)),
+    }
+}

@@ -1,0 +1,71 @@
+//! The names of the maildrops.
+ghost use Rattle.sqlite.specs.Held.{state};
+ghost use Rattle.sqlite.specs.State.{HasCleanDisk};
+ghost use Rattle.vault.specs.Changes.{Contents};
+ghost use Rattle.vault.specs.Calls.{IsMaildropAdded, IsMaildropDropped};
+ghost use Rattle.sqlvault.specs.Refusals.{answer_of};
+ghost use Rattle.sqlvault.specs.Stands.{Holds, WasClean};
+
+use crate::refusal::Refusal;
+use creds::Name;
+use mailsql::{mail, maildrops};
+use sqlite::{Alter, Connection};
+use vault::VaultFault;
+
+/// The greatest number of maildrops.
+const MAX_MAILDROPS: u64 = 1000;
+
+/// Adds a maildrop of this name. Answers whether it was new.
+///
+/// Answers [`VaultFault::Full`] for a new name beyond 1,000. After any refusal the maildrops are as they were.
+pub(crate) fn add_maildrop<S: Alter>(conn: &mut Connection<S>, name: &Name) -> Result<bool, Refusal>
+    ensures done { (c : Contents) → HasCleanDisk (state S.Store conn.new) → Holds (state S.Store conn.old) c → IsMaildropAdded (Holds (state S.Store conn.new)) c name.now (answer_of result) }
+    ensures clean { WasClean (state S.Store conn.old) (state S.Store conn.new) }
+{
+    let text = name.as_bytes();
+    match maildrops::has_maildrop(conn, text) {
+        Ok(true) => return Ok(false),
+        Ok(false) => {}
+        Err(error) => return Err(Refusal::Met(error)),
+    }
+    match maildrops::maildrop_count(conn) {
+        Ok(count) => {
+            if count >= MAX_MAILDROPS {
+                return Err(Refusal::Answered(VaultFault::Full));
+            }
+        }
+        Err(error) => return Err(Refusal::Met(error)),
+    }
+    match maildrops::add_maildrop(conn, text) {
+        Ok(()) => Ok(true),
+        Err(error) => Err(Refusal::Met(error)),
+    }
+}
+
+/// Drops an empty maildrop. The deposits and the counts of its name stay.
+///
+/// Answers [`VaultFault::NoMaildrop`] where the maildrop is missing, else [`VaultFault::NotEmpty`] where it has a message. After any refusal
+/// the maildrops are as they were.
+pub(crate) fn drop_maildrop<S: Alter>(conn: &mut Connection<S>, name: &Name) -> Result<(), Refusal>
+    ensures done { (c : Contents) → HasCleanDisk (state S.Store conn.new) → Holds (state S.Store conn.old) c → IsMaildropDropped (Holds (state S.Store conn.new)) c name.now (answer_of result) }
+    ensures clean { WasClean (state S.Store conn.old) (state S.Store conn.new) }
+{
+    let text = name.as_bytes();
+    match maildrops::has_maildrop(conn, text) {
+        Ok(true) => {}
+        Ok(false) => return Err(Refusal::Answered(VaultFault::NoMaildrop)),
+        Err(error) => return Err(Refusal::Met(error)),
+    }
+    match mail::message_count(conn, text) {
+        Ok(count) => {
+            if count > 0 {
+                return Err(Refusal::Answered(VaultFault::NotEmpty));
+            }
+        }
+        Err(error) => return Err(Refusal::Met(error)),
+    }
+    match maildrops::drop_maildrop(conn, text) {
+        Ok(()) => Ok(()),
+        Err(error) => Err(Refusal::Met(error)),
+    }
+}

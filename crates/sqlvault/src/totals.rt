@@ -1,0 +1,121 @@
+//! The maildrops with what lies in them.
+ghost use Rattle.std.specs.Prelude.{◌≡◌, ◌^◌, ◌-◌, true, List, [], ◌∷◌, ◌++◌, length, map, min, sum_by, IfOk, OnOk};
+ghost use Rattle.std.specs.List.{list_all};
+ghost use Rattle.sqlite.specs.Held.{state};
+ghost use Rattle.sqlite.specs.State.{HasCleanDisk};
+ghost use Rattle.creds.specs.Names.{is_name, by_name};
+ghost use Rattle.vault.specs.declared.record.Keyed.{Keyed};
+ghost use Rattle.vault.specs.Changes.{Contents, AreSound};
+ghost use Rattle.vault.specs.Calls.{AreTotals, seen_as};
+ghost use Rattle.vault.specs.Plain.{capped_total};
+ghost use Rattle.sqlvault.specs.Keeps.{message_row};
+ghost use Rattle.sqlvault.specs.Refusals.{answer_of};
+ghost use Rattle.sqlvault.specs.Stands.{Holds, WasClean};
+
+use crate::refusal::{Refusal, unreadable};
+use creds::Name;
+use mailsql::rows::Message;
+use mailsql::{mail, maildrops};
+use sqlite::{Alter, Connection, Error};
+use sqlite_value::value::Bytes;
+use std::alloc::Global;
+use vault::{Total, in_order};
+
+/// Reads a row behind the names.
+fn push_name(names: &mut Vec<Name>, row: &Bytes) -> Result<(), Error>
+    ensures { is_name row.now ≡ true → OnOk result (names.new.items ≡ names.old.items ++ row.now ∷ []) }
+{
+    let Some(name) = Name::read(row.as_slice()) else {
+        return Err(unreadable());
+    };
+    Ok(names.push(name)?)
+}
+
+/// The names of the rows.
+fn read_names(alloc: Global, rows: &[Bytes]) -> Result<Vec<Name>, Error>
+    ensures { list_all is_name rows.now ≡ true → IfOk result (λ read. read.items ≡ rows.now) }
+{
+    let mut names = Vec::new(alloc);
+    for row in rows {
+        push_name(&mut names, row)?;
+    }
+    Ok(names)
+}
+
+/// The names of the maildrops, in order.
+fn names<S: Alter>(alloc: Global, conn: &mut Connection<S>) -> Result<Vec<Name>, Error>
+    ensures names { (c : Contents) → HasCleanDisk (state S.Store conn.new) → Holds (state S.Store conn.old) c → IfOk result (λ names. names.items ≡ by_name c.maildrops) }
+    ensures sound { (c : Contents) → HasCleanDisk (state S.Store conn.new) → Holds (state S.Store conn.old) c → OnOk result (AreSound c) }
+    ensures held { (c : Contents) → HasCleanDisk (state S.Store conn.new) → Holds (state S.Store conn.old) c → Holds (state S.Store conn.new) c }
+    ensures clean { WasClean (state S.Store conn.old) (state S.Store conn.new) }
+{
+    match maildrops::all_maildrops(alloc, conn) {
+        Ok(rows) => {
+            let names = read_names(alloc, rows.as_slice())?;
+            Ok(in_order(alloc, &names)?)
+        }
+        Err(error) => Err(error),
+    }
+}
+
+/// The octets of the messages of the rows, 2^64 - 1 at most.
+fn octets_of(rows: &[Message]) -> u64
+    ensures { (ms : List Keyed) → rows.now ≡ map message_row ms → result ≡ min (sum_by (λ x. length x.message.text) ms) (2 ^ 64 - 1) }
+{
+    let mut octets: u64 = 0;
+    for row in rows {
+        octets = octets.saturating_add(row.octets.cast_unsigned());
+    }
+    octets
+}
+
+/// What lies in the maildrop; of the octets 2^64 - 1 at most.
+fn total_of<S: Alter>(alloc: Global, conn: &mut Connection<S>, name: &Name) -> Result<Total, Error>
+    ensures total { (c : Contents) → HasCleanDisk (state S.Store conn.new) → Holds (state S.Store conn.old) c → IfOk result (λ total. total ≡ capped_total c.messages name.now) }
+    ensures held { (c : Contents) → HasCleanDisk (state S.Store conn.new) → Holds (state S.Store conn.old) c → Holds (state S.Store conn.new) c }
+    ensures clean { WasClean (state S.Store conn.old) (state S.Store conn.new) }
+{
+    match mail::heads(alloc, conn, name.as_bytes()) {
+        Ok(rows) => Ok(Total {
+            maildrop: *name,
+            messages: rows.len() as u64,
+            octets: octets_of(rows.as_slice()),
+        }),
+        Err(error) => Err(error),
+    }
+}
+
+/// What lies in each of these maildrops; of the octets 2^64 - 1 at most.
+fn totals_of<S: Alter>(
+    alloc: Global,
+    conn: &mut Connection<S>,
+    names: &[Name],
+) -> Result<Vec<Total>, Error>
+    ensures totals { (c : Contents) → HasCleanDisk (state S.Store conn.new) → Holds (state S.Store conn.old) c → IfOk result (λ totals. totals.items ≡ map (capped_total c.messages) names.now) }
+    ensures held { (c : Contents) → HasCleanDisk (state S.Store conn.new) → Holds (state S.Store conn.old) c → Holds (state S.Store conn.new) c }
+    ensures clean { WasClean (state S.Store conn.old) (state S.Store conn.new) }
+{
+    let mut totals = Vec::new(alloc);
+    for name in names {
+        let total = total_of(alloc, conn, name)?;
+        totals.push(total)?;
+    }
+    Ok(totals)
+}
+
+/// Each maildrop with how many messages it has and their octets, by name.
+pub(crate) fn maildrops<S: Alter>(
+    alloc: Global,
+    conn: &mut Connection<S>,
+) -> Result<Vec<Total>, Refusal>
+    ensures done { (c : Contents) → HasCleanDisk (state S.Store conn.new) → Holds (state S.Store conn.old) c → AreTotals (Holds (state S.Store conn.new)) c (seen_as (answer_of result) (λ v. v.items)) }
+    ensures clean { WasClean (state S.Store conn.old) (state S.Store conn.new) }
+{
+    match names(alloc, conn) {
+        Ok(names) => match totals_of(alloc, conn, &names) {
+            Ok(totals) => Ok(totals),
+            Err(error) => Err(Refusal::Met(error)),
+        },
+        Err(error) => Err(Refusal::Met(error)),
+    }
+}

@@ -1,0 +1,40 @@
+//! The end of a transaction.
+ghost use Rattle.std.specs.Prelude.{◌≡◌, ◌⊎◌, IsTrue};
+ghost use Rattle.sqlite.specs.Held.{state};
+ghost use Rattle.sqlite.specs.State.{HasCleanDisk, Survives};
+ghost use Rattle.vault.specs.Changes.{Contents};
+ghost use Rattle.mailsql.specs.Rows.{Rows};
+ghost use Rattle.sqlvault.specs.Keeps.{Keeps};
+ghost use Rattle.sqlvault.specs.Refusals.{is_memory};
+ghost use Rattle.sqlvault.specs.Stands.{Holds, Leaves, WasClean, Within, Halted, Ends};
+
+use crate::refusal::is_memory;
+use mailsql::mode;
+use sqlite::{Alter, Connection, Error};
+
+/// Ends the transaction, if it is not gone, after an error. Tells that error; where it is the want of memory and the end is refused too, the refusal's.
+pub(crate) fn undo<S: Alter>(conn: &mut Connection<S>, error: Error) -> Error
+    ensures holds { (base : Contents) → HasCleanDisk (state S.Store conn.new) → Halted (state S.Store conn.old) base → Holds (state S.Store conn.new) base }
+    ensures told { (result ≡ error) ⊎ IsTrue (is_memory error) }
+    ensures survives { Survives (state S.Store conn.old) (state S.Store conn.new) (λ _. ⊥) }
+{
+    if conn.is_autocommit() {
+        return error;
+    }
+    match mode::rollback(conn) {
+        Ok(()) => error,
+        Err(other) => { if is_memory(&error) { other } else { error } }
+    }
+}
+
+/// Commits the transaction, or undoes it.
+pub(crate) fn end<S: Alter>(conn: &mut Connection<S>) -> Result<(), Error>
+    ensures ended { (base after : Contents) (rows : Rows) → HasCleanDisk (state S.Store conn.new) → Within (state S.Store conn.old) base rows → Keeps rows after → Ends base after (state S.Store conn.new) result }
+    ensures stop { (base after : Contents) (rows : Rows) → HasCleanDisk (state S.Store conn.new) → Within (state S.Store conn.old) base rows → Keeps rows after → Leaves (state S.Store conn.new) (λ left. Keeps left base ⊎ Keeps left after) }
+    ensures clean { WasClean (state S.Store conn.old) (state S.Store conn.new) }
+{
+    match mode::commit(conn) {
+        Ok(()) => Ok(()),
+        Err(error) => Err(undo(conn, error)),
+    }
+}
