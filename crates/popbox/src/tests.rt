@@ -3,11 +3,11 @@
 use crate::command_line::make_command;
 use crate::replay::{replay, write_escaped};
 use crate::script::{Line, read_script};
+use sqlvault::SqlVault;
 use std::alloc::{AllocError, Global};
 use std::io;
 use std::io::{ErrorKind, Read, Write};
 use std::test::Fail;
-use sqlvault::SqlVault;
 use vault::{PlainVault, Vault};
 
 const GREETING: &str = r"+OK POP3 server ready";
