@@ -140,7 +140,7 @@ module _ (db : Database) (ours : IsOurs db) (sound : IsDatabase db) where
   obeys : Obeys mail_schema db.trees
   obeys = subst (λ s. Obeys s db.trees) ours sound.obeys
 
-  row_in : (t : Table) → are_required t.key 0 t.columns ≡ true → AllByRecursion (λ row. passes Datatype mail_schema db.trees t row ≡ true) (db.trees t.tree) → AllByRecursion (λ row. passes NotNull mail_schema db.trees t row ≡ true) (db.trees t.tree)
+  pub row_in : (t : Table) → are_required t.key 0 t.columns ≡ true → AllByRecursion (λ row. passes Datatype mail_schema db.trees t row ≡ true) (db.trees t.tree) → AllByRecursion (λ row. passes NotNull mail_schema db.trees t row ≡ true) (db.trees t.tree)
       → (r : Row) → Has (db.trees t.tree) r → Holds t.key 0 t.columns r
   row_in t required typed present r = all_has _ (db.trees t.tree) r (both (λ row. row_held db.trees t row required) (db.trees t.tree) typed present)
 

@@ -38,3 +38,5 @@ pub mod UsesLemmas
 pub mod ChainLemmas
 pub mod CutLemmas
 pub mod SheetRunLemmas
+pub mod SchemaLemmas
+pub mod KeyLemmas

@@ -6,3 +6,5 @@ pub mod Changes
 pub mod Statements
 pub mod Errors
 pub mod Uses
+pub mod Apart
+pub mod Names

@@ -18,6 +18,7 @@ pub mod meta;
 pub mod mode;
 pub mod rows;
 pub mod rules;
+pub mod schema;
 pub mod sheets;
 pub mod tables;
 #[cfg(test)]

@@ -1,0 +1,7 @@
+use Rattle.std.proofs.Common.{ap, ◌∙◌}
+use Rattle.mailsql.specs.Names.{is_taken}
+use Rattle.mailsql.proofs.SchemaLemmas.{ours_taken}
+use Rattle.mailsql.proofs.schema.is_taken.Goals as goal
+
+pub returns-clause-ours : goal.returns-clause-ours
+returns-clause-ours g c ours = c.takes_our_name.ensures ∙ ap is_taken (c.schema.ensures.value ∙ ours) ∙ ours_taken

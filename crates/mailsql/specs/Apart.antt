@@ -1,0 +1,24 @@
+-- What the keys of the tables and the references between them make sure of in the rows of every store of ours.
+use Rattle.std.specs.Prelude.{◌≡◌, Bool, true, not, ◌&&◌, List, [], ◌∷◌, bytes_eq}
+use Rattle.std.specs.List.{list_any, list_all}
+use Rattle.mailsql.specs.Columns.{Mark, Clerk, Count, Deposit, Message, Sheet, Rule, Rows}
+use Rattle.mailsql.specs.Rows.{same_int, has_name}
+
+-- no two of them are the same, as the test tells it
+abbrev pub are_apart : {X : Type 0} → (X → X → Bool) → List X → Bool
+are_apart same [] = true
+are_apart same (x ∷ xs) = not (list_any (same x) xs) && are_apart same xs
+
+-- No two rows of a table have one key; each message has its maildrop, and each sheet its message.
+pub record AreApart (rows : Rows) : Type 0 where
+  pub marks : are_apart (λ (a b : Mark). bytes_eq a.name b.name) rows.marks ≡ true
+  pub clerks : are_apart (λ (a b : Clerk). bytes_eq a.name b.name) rows.clerks ≡ true
+  pub maildrops : are_apart bytes_eq rows.maildrops ≡ true
+  pub counts : are_apart (λ (a b : Count). bytes_eq a.maildrop b.maildrop && bytes_eq a.class b.class) rows.counts ≡ true
+  pub deposits : are_apart (λ (a b : Deposit). bytes_eq a.maildrop b.maildrop && bytes_eq a.id b.id) rows.deposits ≡ true
+  pub messages : are_apart (λ (a b : Message). bytes_eq a.maildrop b.maildrop && bytes_eq a.class b.class && same_int a.k b.k) rows.messages ≡ true
+  pub keys : are_apart (λ (a b : Message). same_int a.key b.key) rows.messages ≡ true
+  pub rules : are_apart (λ (a b : Rule). bytes_eq a.name b.name) rows.rules ≡ true
+  pub sheets : are_apart (λ (a b : Sheet). same_int a.mail b.mail && same_int a.place b.place) rows.sheets ≡ true
+  pub parents : list_all (λ (m : Message). has_name m.maildrop rows.maildrops) rows.messages ≡ true
+  pub owners : list_all (λ (s : Sheet). list_any (λ (m : Message). same_int m.key s.mail) rows.messages) rows.sheets ≡ true

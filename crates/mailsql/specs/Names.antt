@@ -1,0 +1,48 @@
+-- Which names and columns of a store's schema are those of our tables.
+use Rattle.std.specs.Prelude.{ℕ, Bool, true, false, ◌&&◌, ◌||◌, ◌==◌, List, [], ◌∷◌, bytes_eq, codes}
+use Rattle.std.specs.List.{list_any}
+use Rattle.sqlite_schema.specs.declared.schema.Kind.{Kind}
+use Rattle.sqlite_schema.specs.declared.schema.Column.{Column}
+use Rattle.sqlite_schema.specs.declared.schema.Table.{Table}
+use Rattle.sqlite_schema.specs.declared.schema.Schema.{Schema}
+use Rattle.sqlite_schema.specs.Names.{same_name}
+use Rattle.sqlite_schema.specs.Rules.{kind_code}
+use Rattle.mailsql.specs.Tables.{meta_at, clerks_at, maildrops_at, counts_at, deposits_at, mail_at, rules_at, sheets_at}
+
+-- the name is that of one of our tables, but for the case of ASCII letters
+abbrev pub is_our_name : List ℕ → Bool
+is_our_name name = list_any (same_name name) (codes "meta" ∷ codes "clerks" ∷ codes "maildrops" ∷ codes "counts" ∷ codes "deposits" ∷ codes "mail" ∷ codes "rules" ∷ codes "sheets" ∷ [])
+
+-- a table, an index or a view has such a name
+abbrev pub is_taken : Schema → Bool
+is_taken schema =
+    list_any (λ t. is_our_name t.name) schema.tables || list_any (λ i. is_our_name i.name) schema.indexes || list_any (λ v. is_our_name v.name) schema.views
+
+-- the column is of this kind
+abbrev pub is_kind : Kind → Column → Bool
+is_kind kind c = kind_code c.kind == kind_code kind
+
+-- the column is STRICT, and has this name and this kind
+abbrev pub is_column : List ℕ → Kind → Column → Bool
+is_column name kind c = bytes_eq c.name name && is_kind kind c && c.is_strict
+
+-- STRICT columns of the same names and kinds, in the same order
+abbrev pub are_columns : List Column → List Column → Bool
+are_columns [] [] = true
+are_columns [] (c ∷ cs) = false
+are_columns (o ∷ os) [] = false
+are_columns (o ∷ os) (c ∷ cs) = is_column o.name o.kind c && are_columns os cs
+
+-- the table has the name and the columns of this one
+abbrev pub is_table : Table → Table → Bool
+is_table ours t = bytes_eq t.name ours.name && are_columns ours.columns t.columns
+
+-- the table of marks is among these
+abbrev pub has_marks : List Table → Bool
+has_marks tables = list_any (is_table (meta_at 0)) tables
+
+-- each of our tables is among these
+abbrev pub has_columns : List Table → Bool
+has_columns tables =
+    list_any (is_table (meta_at 0)) tables && list_any (is_table (clerks_at 2)) tables && list_any (is_table (maildrops_at 4)) tables && list_any (is_table (counts_at 6)) tables
+    && list_any (is_table (deposits_at 8)) tables && list_any (is_table (mail_at 10)) tables && list_any (is_table (rules_at 13)) tables && list_any (is_table (sheets_at 15)) tables
