@@ -37,7 +37,7 @@ find_it (m ∷ ms) x key apart i is =
     (λ k. find_it ms x key r.1 k is) i))
     (cases_Bool (m.key == key))
 
-text_is : (ms : List Keyed) (x : Keyed) (key : ℕ) → are_distinct (λ (a b : Keyed). a.key == b.key) ms ≡ true → In x ms → x.key ≡ key → text_under key ms ≡ x.message.text
+pub text_is : (ms : List Keyed) (x : Keyed) (key : ℕ) → are_distinct (λ (a b : Keyed). a.key == b.key) ms ≡ true → In x ms → x.key ≡ key → text_under key ms ≡ x.message.text
 text_is ms x key apart i is = ap (λ o. unwrap_or (option_map (λ (y : Keyed). y.message.text) o) []) (find_it ms x key apart i is)
 
 -- a text that isn't empty is that of a message

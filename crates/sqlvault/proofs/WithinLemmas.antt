@@ -7,13 +7,10 @@ use Rattle.vault.specs.Changes.{Contents}
 use Rattle.mailsql.specs.Rows.{Rows, rows_in, IsKept, IsReady, MayLeave, Changes, IsUndone, IsHalted}
 use Rattle.sqlvault.specs.Keeps.{Keeps}
 use Rattle.sqlvault.specs.Stands.{Holds, Leaves, Within, Under, Halted, Makes}
+use Rattle.sqlvault.specs.Stops.{LeavesLast}
 use Rattle.std.specs.Prelude.{OnOk, OnErr}
 use Rattle.std.proofs.Common.{Result, Ok, Err}
 use Rattle.sqlite.specs.declared.error.Error.{Error}
-
--- what a stop may leave of a connection that is open: a law of every store
-abbrev pub LeavesLast : State → Type 0
-LeavesLast s = (db : Trees) → IsTrue s.is_open → s.may_leave db → db ≡ s.committed.trees
 
 -- ---- a statement
 

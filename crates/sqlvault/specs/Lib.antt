@@ -1,6 +1,13 @@
 pub mod Keeps
+pub mod Parts
+pub mod Adopts
 pub mod Stands
+pub mod Stops
 pub mod Refusals
 pub mod Rules
 pub mod Opened
 pub mod Deposits
+pub mod RowForms
+pub mod Numbers
+pub mod Stored
+pub mod Uses

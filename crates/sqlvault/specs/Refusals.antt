@@ -2,7 +2,7 @@
 use Rattle.std.specs.Prelude.{◌+◌, ℕ, Bool, true, false, Result, Ok, Err, min, if◌then◌else◌}
 use Rattle.sqlite.specs.declared.error.Error.{Error}
 use Rattle.sqlite.specs.declared.error.Error.TheVariants.{SqliteFailure}
-use Rattle.sqlite.specs.declared.error.ErrorCode.TheVariants.{OutOfMemory}
+use Rattle.sqlite.specs.declared.error.ErrorCode.TheVariants.{OutOfMemory, NotADatabase}
 use Rattle.vault.specs.declared.fault.VaultFault.{VaultFault}
 use Rattle.vault.specs.declared.fault.VaultFault.TheVariants as fault
 use Rattle.vault.specs.Calls.{greatest_count}
@@ -17,6 +17,12 @@ is_memory _ = false
 -- a statement's error as the vault's fault
 abbrev pub fault_of : Error → VaultFault
 fault_of e = if is_memory e then fault.NoMemory else fault.Store
+
+-- why a file isn't opened, as the vault's fault
+abbrev pub open_fault : Error → VaultFault
+open_fault (SqliteFailure OutOfMemory) = fault.NoMemory
+open_fault (SqliteFailure NotADatabase) = fault.NotOurs
+open_fault _ = fault.Store
 
 -- a refusal as the vault's fault
 abbrev pub told : Refusal → VaultFault

@@ -20,6 +20,10 @@ pub record Holds (s : State) (c : Contents) : Type 0 where
 abbrev pub Leaves : State → (Rows → Type 0) → Type 0
 Leaves s P = (db : Trees) → s.may_leave db → P (rows_in db)
 
+-- a stop leaves nothing that it couldn't leave before
+abbrev pub LeavesNoMore : State → State → Type 0
+LeavesNoMore old new = (db : Trees) → new.may_leave db → old.may_leave db
+
 -- the connection was clean before
 abbrev pub WasClean : State → State → Type 0
 WasClean old new = HasCleanDisk new → HasCleanDisk old

@@ -1,5 +1,5 @@
 //! The clerks.
-ghost use Rattle.std.specs.Prelude.{◌≡◌, length, true, is_some, Some, IfOk, OnOk, OnErr};
+ghost use Rattle.std.specs.Prelude.{◌≡◌, length, true, is_some, Some, IfOk, OnOk, OnErr, IsTrue};
 ghost use Rattle.sqlite.specs.Held.{state};
 ghost use Rattle.sqlite.specs.State.{HasCleanDisk, IsUnchanged};
 ghost use Rattle.creds.specs.Names.{is_name};
@@ -11,7 +11,9 @@ ghost use Rattle.mailsql.specs.Rows as tables;
 ghost use Rattle.mailsql.specs.Changes as changes;
 ghost use Rattle.sqlvault.specs.Keeps.{Keeps, kind_of, secret_of, clerk_row};
 ghost use Rattle.sqlvault.specs.Refusals.{answer_of};
+ghost use Rattle.sqlvault.specs.RowForms.{is_credential_row};
 ghost use Rattle.sqlvault.specs.Stands.{Holds, WasClean, Ends};
+ghost use Rattle.sqlvault.specs.Stops.{LeavesOr, StopsBefore, StopsEither, IsOpenAfter, StaysOpen};
 
 use crate::refusal::{Refusal, unreadable};
 use crate::transaction::{end, undo};
@@ -23,7 +25,7 @@ use std::alloc::Global;
 use vault::VaultFault;
 
 /// The greatest number of clerks.
-const MAX_CLERKS: u64 = 1000;
+pub(crate) const MAX_CLERKS: u64 = 1000;
 
 /// The kind of a credential, as a row has it.
 fn kind_of(credential: &Credential) -> i64
@@ -67,8 +69,9 @@ fn digest_of(octets: &[u8]) -> [u8; 32]
 }
 
 /// The credential of a clerk's row; `None` where the row is no clerk's.
-fn read_credential(row: &Clerk) -> Option<Credential>
-    ensures { (c : vault.Clerk) → row.now ≡ clerk_row c → is_sound_credential c.credential ≡ true → result ≡ Some c.credential }
+pub(crate) fn read_credential(row: &Clerk) -> Option<Credential>
+    ensures sound { is_some result ≡ is_credential_row row.now }
+    ensures read { (c : vault.Clerk) → row.now ≡ clerk_row c → is_sound_credential c.credential ≡ true → result ≡ Some c.credential }
 {
     let octets = row.secret.as_slice();
     match row.kind {
@@ -95,6 +98,8 @@ pub(crate) fn find_credential<S: Alter>(
 ) -> Result<Option<Credential>, Refusal>
     ensures done { (c : Contents) → HasCleanDisk (state S.Store conn.new) → Holds (state S.Store conn.old) c → IsCredential (Holds (state S.Store conn.new)) c clerk.now (answer_of result) }
     ensures clean { WasClean (state S.Store conn.old) (state S.Store conn.new) }
+    ensures up { StaysOpen (state S.Store conn.old) (state S.Store conn.new) (answer_of result) }
+    ensures stop { StopsBefore (state S.Store conn.old) (state S.Store conn.new) }
 {
     match clerks::find_clerk(alloc, conn, clerk.as_bytes()) {
         Ok(Some(row)) => match read_credential(&row) {
@@ -112,6 +117,7 @@ fn has_clerk<S: Alter>(alloc: Global, conn: &mut Connection<S>, clerk: &Name) ->
     ensures same { HasCleanDisk (state S.Store conn.new) → tables.HasTables (state S.Store conn.old) → OnOk result (IsUnchanged (state S.Store conn.old) (state S.Store conn.new)) }
     ensures err { HasCleanDisk (state S.Store conn.new) → tables.HasTables (state S.Store conn.old) → OnErr result (tables.IsUndone (state S.Store conn.old) (state S.Store conn.new)) }
     ensures clean { WasClean (state S.Store conn.old) (state S.Store conn.new) }
+    ensures stop { StopsBefore (state S.Store conn.old) (state S.Store conn.new) }
 {
     match clerks::find_clerk(alloc, conn, clerk.as_bytes()) {
         Ok(found) => Ok(found.is_some()),
@@ -128,6 +134,10 @@ fn write_clerk<S: Alter>(
     ensures written { (c after : Contents) → HasCleanDisk (state S.Store conn.new) → Holds (state S.Store conn.old) c
         → ((from to : tables.Rows) → changes.PutsClerk (clerk_row (record { name = clerk.now; credential = credential.now })) from to → Keeps from c → Keeps to after)
         → Ends c after (state S.Store conn.new) result }
+    ensures up { IsOpenAfter (state S.Store conn.old) (state S.Store conn.new) result }
+    ensures stop { (c after : Contents) → HasCleanDisk (state S.Store conn.new) → IsTrue (state S.Store conn.old).is_open → Holds (state S.Store conn.old) c
+        → ((from to : tables.Rows) → changes.PutsClerk (clerk_row (record { name = clerk.now; credential = credential.now })) from to → Keeps from c → Keeps to after)
+        → LeavesOr (state S.Store conn.new) c (λ Held. Held after) }
     ensures name { is_name clerk.now ≡ true }
     ensures form { is_sound_credential credential.now ≡ true }
     ensures clean { WasClean (state S.Store conn.old) (state S.Store conn.new) }
@@ -154,6 +164,8 @@ fn judge_clerk<S: Alter>(
 ) -> Result<bool, Refusal>
     ensures judged { (c : Contents) → HasCleanDisk (state S.Store conn.new) → Holds (state S.Store conn.old) c → Holds (state S.Store conn.new) c × IsAnswer (put_result (put_clerk_answer clerk.now c.clerks)) (answer_of result) }
     ensures clean { WasClean (state S.Store conn.old) (state S.Store conn.new) }
+    ensures up { StaysOpen (state S.Store conn.old) (state S.Store conn.new) (answer_of result) }
+    ensures stop { StopsBefore (state S.Store conn.old) (state S.Store conn.new) }
 {
     match has_clerk(alloc, conn, clerk) {
         Ok(true) => return Ok(false),
@@ -183,6 +195,8 @@ pub(crate) fn put_clerk<S: Alter>(
 ) -> Result<bool, Refusal>
     ensures done { (c : Contents) → HasCleanDisk (state S.Store conn.new) → Holds (state S.Store conn.old) c → IsClerkPut (Holds (state S.Store conn.new)) c clerk.now credential.now (answer_of result) }
     ensures clean { WasClean (state S.Store conn.old) (state S.Store conn.new) }
+    ensures up { StaysOpen (state S.Store conn.old) (state S.Store conn.new) (answer_of result) }
+    ensures stop { StopsEither (state S.Store conn.old) (state S.Store conn.new) (λ c Held. IsClerkPut Held c clerk.now credential.now) }
 {
     match judge_clerk(alloc, conn, clerk) {
         Ok(is_new) => match write_clerk(conn, clerk, credential) {
@@ -203,6 +217,8 @@ pub(crate) fn drop_clerk<S: Alter>(
 ) -> Result<(), Refusal>
     ensures done { (c : Contents) → HasCleanDisk (state S.Store conn.new) → Holds (state S.Store conn.old) c → IsClerkDropped (Holds (state S.Store conn.new)) c clerk.now (answer_of result) }
     ensures clean { WasClean (state S.Store conn.old) (state S.Store conn.new) }
+    ensures up { StaysOpen (state S.Store conn.old) (state S.Store conn.new) (answer_of result) }
+    ensures stop { StopsEither (state S.Store conn.old) (state S.Store conn.new) (λ c Held. IsClerkDropped Held c clerk.now) }
 {
     match has_clerk(alloc, conn, clerk) {
         Ok(true) => {}

@@ -1,5 +1,5 @@
 //! A deposit, in one transaction.
-ghost use Rattle.std.specs.Prelude.{◌≡◌, ◌≤◌, ◌&&◌, ◌+◌, ℕ, List, length, pos, true, None, Ok, Option, IfOk, OnOk, OnErr};
+ghost use Rattle.std.specs.Prelude.{◌≡◌, ◌≤◌, ◌&&◌, ◌+◌, ℕ, List, length, pos, true, None, Ok, Option, IfOk, OnOk, OnErr, IsTrue};
 ghost use Rattle.std.specs.Str.{bytes_eq};
 ghost use Rattle.mailtext.specs.MailText.{IsMailText};
 ghost use Rattle.creds.specs.Names.{is_name, is_deposit_id};
@@ -16,6 +16,7 @@ ghost use Rattle.sqlvault.specs.Keeps.{deposit_row, number_in};
 ghost use Rattle.sqlvault.specs.Deposits.{PutsReceipt, PutsMessage, Accepts, message_of};
 ghost use Rattle.sqlvault.specs.Refusals.{answer_of};
 ghost use Rattle.sqlvault.specs.Stands.{Holds, WasClean, Makes};
+ghost use Rattle.sqlvault.specs.Stops.{LeavesOr, StopsBefore, StopsEither, IsOpenAfter, StaysOpen};
 
 use crate::refusal::{Refusal, unreadable};
 use crate::transaction::{end, undo};
@@ -87,6 +88,8 @@ fn find_before<S: Alter>(
     ensures answered { (c : Contents) → HasCleanDisk (state S.Store conn.new) → Holds (state S.Store conn.old) c → IfOk result (λ n. n ≡ class_count class.now (receipts_of maildrop.now c.deposits)) }
     ensures held { (c : Contents) → HasCleanDisk (state S.Store conn.new) → Holds (state S.Store conn.old) c → Holds (state S.Store conn.new) c }
     ensures clean { WasClean (state S.Store conn.old) (state S.Store conn.new) }
+    ensures up { IsOpenAfter (state S.Store conn.old) (state S.Store conn.new) result }
+    ensures stop { StopsBefore (state S.Store conn.old) (state S.Store conn.new) }
 {
     match counts::find_count(alloc, conn, maildrop.as_bytes(), class.as_bytes()) {
         Ok(count) => number_of(&count),
@@ -105,6 +108,8 @@ fn judge_new<S: Alter>(
         → IsAnswer (deposit_result (deposit_answered None class.now text (is_full (present_in maildrop.now c) (receipts_of maildrop.now c.deposits) class.now) (class_count class.now (receipts_of maildrop.now c.deposits) + 1))) (answer_of result) }
     ensures held { (c : Contents) → HasCleanDisk (state S.Store conn.new) → Holds (state S.Store conn.old) c → Holds (state S.Store conn.new) c }
     ensures clean { WasClean (state S.Store conn.old) (state S.Store conn.new) }
+    ensures up { StaysOpen (state S.Store conn.old) (state S.Store conn.new) (answer_of result) }
+    ensures stop { StopsBefore (state S.Store conn.old) (state S.Store conn.new) }
     ensures within { (u : uid.Uid) → result ≡ Ok (stored.New u) → u.k ≤ most_deposits }
 {
     let present = match mail::message_count(conn, maildrop.as_bytes()) {
@@ -140,6 +145,8 @@ fn judge<S: Alter>(
         → IsAnswer (deposit_result (deposit_answer_in c maildrop.now class.now id.now text)) (answer_of result) }
     ensures held { (c : Contents) → HasCleanDisk (state S.Store conn.new) → Holds (state S.Store conn.old) c → Holds (state S.Store conn.new) c }
     ensures clean { WasClean (state S.Store conn.old) (state S.Store conn.new) }
+    ensures up { StaysOpen (state S.Store conn.old) (state S.Store conn.new) (answer_of result) }
+    ensures stop { StopsBefore (state S.Store conn.old) (state S.Store conn.new) }
     ensures within { (u : uid.Uid) → result ≡ Ok (stored.New u) → u.k ≤ most_deposits }
 {
     match maildrops::has_maildrop(conn, maildrop.as_bytes()) {
@@ -221,6 +228,9 @@ fn store<S: Alter>(
         → OnOk result ((key : ℕ) × Holds (state S.Store conn.new) (with_deposit key (message_of receipt.now text.now) receipt.now c)) }
     ensures held { (c : Contents) → HasCleanDisk (state S.Store conn.new) → Holds (state S.Store conn.old) c → Accepts c receipt.now text.now → OnErr result (Holds (state S.Store conn.new) c) }
     ensures clean { WasClean (state S.Store conn.old) (state S.Store conn.new) }
+    ensures up { IsOpenAfter (state S.Store conn.old) (state S.Store conn.new) result }
+    ensures stop { (c : Contents) → HasCleanDisk (state S.Store conn.new) → IsTrue (state S.Store conn.old).is_open → Holds (state S.Store conn.old) c → Accepts c receipt.now text.now
+        → LeavesOr (state S.Store conn.new) c (λ Held. (key : ℕ) × Held (with_deposit key (message_of receipt.now text.now) receipt.now c)) }
 {
     match mode::begin(conn) {
         Ok(()) => {}
@@ -275,6 +285,8 @@ pub(crate) fn deposit<S: Alter>(
 ) -> Result<Deposited, Refusal>
     ensures done { (c : Contents) → HasCleanDisk (state S.Store conn.new) → Holds (state S.Store conn.old) c → IsDeposited (Holds (state S.Store conn.new)) c maildrop.now class.now id.now text.now (answer_of result) }
     ensures clean { WasClean (state S.Store conn.old) (state S.Store conn.new) }
+    ensures up { StaysOpen (state S.Store conn.old) (state S.Store conn.new) (answer_of result) }
+    ensures stop { StopsEither (state S.Store conn.old) (state S.Store conn.new) (λ c Held. IsDeposited Held c maildrop.now class.now id.now text.now) }
 {
     let digest = creds::text_digest(text.bytes());
     match judge(alloc, conn, maildrop, class, id, &digest) {

@@ -1,6 +1,7 @@
 //! A mail store in a SQLite database: every call of a vault over the tables of a store, by the statements of `mailsql` alone.
 #![tactic(auto)]
 
+mod adopt;
 mod clerks;
 mod deposit;
 mod mail;
@@ -8,9 +9,14 @@ mod maildrops;
 mod pages;
 mod refusal;
 mod rules;
+mod sound_clerks;
+mod sound_deposits;
+mod sound_messages;
+mod sound_rules;
 mod sql_vault;
 mod totals;
 mod transaction;
+pub mod uses;
 
 pub use refusal::Refusal;
 pub use sql_vault::SqlVault;

@@ -11,6 +11,7 @@ ghost use Rattle.vault.specs.Calls.{seen_as, AreHeads, AreRemoved};
 ghost use Rattle.sqlvault.specs.Keeps.{Keeps, message_row};
 ghost use Rattle.sqlvault.specs.Refusals.{answer_of};
 ghost use Rattle.sqlvault.specs.Stands.{Holds, WasClean, Makes};
+ghost use Rattle.sqlvault.specs.Stops.{StopsBefore, StopsEither, StaysOpen};
 
 use crate::refusal::{Refusal, unreadable};
 use crate::transaction::{end, undo};
@@ -61,6 +62,8 @@ pub(crate) fn heads<S: Alter>(
 ) -> Result<Vec<Head>, Refusal>
     ensures done { (c : Contents) → HasCleanDisk (state S.Store conn.new) → Holds (state S.Store conn.old) c → AreHeads (Holds (state S.Store conn.new)) c maildrop.now (seen_as (answer_of result) (λ v. v.items)) }
     ensures clean { WasClean (state S.Store conn.old) (state S.Store conn.new) }
+    ensures up { StaysOpen (state S.Store conn.old) (state S.Store conn.new) (answer_of result) }
+    ensures stop { StopsBefore (state S.Store conn.old) (state S.Store conn.new) }
 {
     match maildrops::has_maildrop(conn, maildrop.as_bytes()) {
         Ok(true) => {}
@@ -102,6 +105,8 @@ pub(crate) fn remove<S: Alter>(
 ) -> Result<(), Refusal>
     ensures done { (c : Contents) → HasCleanDisk (state S.Store conn.new) → Holds (state S.Store conn.old) c → AreRemoved (Holds (state S.Store conn.new)) c maildrop.now keys.now (answer_of result) }
     ensures clean { WasClean (state S.Store conn.old) (state S.Store conn.new) }
+    ensures up { StaysOpen (state S.Store conn.old) (state S.Store conn.new) (answer_of result) }
+    ensures stop { StopsEither (state S.Store conn.old) (state S.Store conn.new) (λ c Held. AreRemoved Held c maildrop.now keys.now) }
 {
     match mode::begin(conn) {
         Ok(()) => {}

@@ -5,6 +5,7 @@ ghost use Rattle.vault.specs.Changes.{Contents};
 ghost use Rattle.vault.specs.Calls.{IsMaildropAdded, IsMaildropDropped};
 ghost use Rattle.sqlvault.specs.Refusals.{answer_of};
 ghost use Rattle.sqlvault.specs.Stands.{Holds, WasClean};
+ghost use Rattle.sqlvault.specs.Stops.{StopsEither, StaysOpen};
 
 use crate::refusal::Refusal;
 use creds::Name;
@@ -13,7 +14,7 @@ use sqlite::{Alter, Connection};
 use vault::VaultFault;
 
 /// The greatest number of maildrops.
-const MAX_MAILDROPS: u64 = 1000;
+pub(crate) const MAX_MAILDROPS: u64 = 1000;
 
 /// Adds a maildrop of this name. Answers whether it was new.
 ///
@@ -21,6 +22,8 @@ const MAX_MAILDROPS: u64 = 1000;
 pub(crate) fn add_maildrop<S: Alter>(conn: &mut Connection<S>, name: &Name) -> Result<bool, Refusal>
     ensures done { (c : Contents) → HasCleanDisk (state S.Store conn.new) → Holds (state S.Store conn.old) c → IsMaildropAdded (Holds (state S.Store conn.new)) c name.now (answer_of result) }
     ensures clean { WasClean (state S.Store conn.old) (state S.Store conn.new) }
+    ensures up { StaysOpen (state S.Store conn.old) (state S.Store conn.new) (answer_of result) }
+    ensures stop { StopsEither (state S.Store conn.old) (state S.Store conn.new) (λ c Held. IsMaildropAdded Held c name.now) }
 {
     let text = name.as_bytes();
     match maildrops::has_maildrop(conn, text) {
@@ -49,6 +52,8 @@ pub(crate) fn add_maildrop<S: Alter>(conn: &mut Connection<S>, name: &Name) -> R
 pub(crate) fn drop_maildrop<S: Alter>(conn: &mut Connection<S>, name: &Name) -> Result<(), Refusal>
     ensures done { (c : Contents) → HasCleanDisk (state S.Store conn.new) → Holds (state S.Store conn.old) c → IsMaildropDropped (Holds (state S.Store conn.new)) c name.now (answer_of result) }
     ensures clean { WasClean (state S.Store conn.old) (state S.Store conn.new) }
+    ensures up { StaysOpen (state S.Store conn.old) (state S.Store conn.new) (answer_of result) }
+    ensures stop { StopsEither (state S.Store conn.old) (state S.Store conn.new) (λ c Held. IsMaildropDropped Held c name.now) }
 {
     let text = name.as_bytes();
     match maildrops::has_maildrop(conn, text) {

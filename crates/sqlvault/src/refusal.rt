@@ -42,14 +42,11 @@ pub(crate) fn is_memory(error: &Error) -> bool
     matches!(error, Error::SqliteFailure(ErrorCode::OutOfMemory))
 }
 
-/// Tells the refusal as the vault's fault, and counts it where that is that the store refused.
-pub(crate) fn tell(faults: &mut u64, refusal: Refusal) -> VaultFault
-    ensures told { result ≡ told refusal }
-    ensures counted { faults.new ≡ counted_by (told refusal) faults.old }
-    ensures kept { faults.old ≤ faults.new }
-    ensures grown { told refusal ≡ Store → has_grown faults.old faults.new ≡ true }
+/// The refusal as the vault's fault.
+pub(crate) fn fault_of(refusal: Refusal) -> VaultFault
+    ensures { result ≡ told refusal }
 {
-    let fault = match refusal {
+    match refusal {
         Refusal::Answered(fault) => fault,
         Refusal::Met(error) => {
             if is_memory(&error) {
@@ -58,7 +55,17 @@ pub(crate) fn tell(faults: &mut u64, refusal: Refusal) -> VaultFault
                 VaultFault::Store
             }
         }
-    };
+    }
+}
+
+/// Tells the refusal as the vault's fault, and counts it where that is that the store refused.
+pub(crate) fn tell(faults: &mut u64, refusal: Refusal) -> VaultFault
+    ensures told { result ≡ told refusal }
+    ensures counted { faults.new ≡ counted_by (told refusal) faults.old }
+    ensures kept { faults.old ≤ faults.new }
+    ensures grown { told refusal ≡ Store → has_grown faults.old faults.new ≡ true }
+{
+    let fault = fault_of(refusal);
     if matches!(fault, VaultFault::Store) {
         *faults = faults.saturating_add(1);
     }

@@ -1,5 +1,5 @@
 //! The rules of the policy.
-ghost use Rattle.std.specs.Prelude.{◌≡◌, true, pos, List, [], ◌∷◌, ◌++◌, map, Some, IfOk, OnOk};
+ghost use Rattle.std.specs.Prelude.{◌≡◌, true, pos, List, [], ◌∷◌, ◌++◌, map, Some, IfOk, IfSome, OnOk};
 ghost use Rattle.std.specs.List.{list_all};
 ghost use Rattle.sqlite.specs.Held.{state};
 ghost use Rattle.sqlite.specs.State.{HasCleanDisk};
@@ -13,6 +13,7 @@ ghost use Rattle.sqlvault.specs.Keeps.{pattern_text, effect_number, actions_numb
 ghost use Rattle.sqlvault.specs.Rules.{AddsRules, SetsRules};
 ghost use Rattle.sqlvault.specs.Refusals.{answer_of};
 ghost use Rattle.sqlvault.specs.Stands.{Holds, WasClean, Makes};
+ghost use Rattle.sqlvault.specs.Stops.{StopsBefore, StopsEither, StaysOpen};
 
 use crate::refusal::{Refusal, unreadable};
 use crate::transaction::{end, undo};
@@ -50,7 +51,8 @@ fn actions_number(actions: Actions) -> i64
 }
 
 fn read_pattern(text: &[u8]) -> Option<Pattern>
-    ensures { (p : pattern.Pattern) → is_pattern p ≡ true → text.now ≡ pattern_text p → result ≡ Some p }
+    ensures text { IfSome result (λ p. text.now ≡ pattern_text p) }
+    ensures read { (p : pattern.Pattern) → is_pattern p ≡ true → text.now ≡ pattern_text p → result ≡ Some p }
 {
     if text == b"*".as_slice() {
         Some(Pattern::Any)
@@ -63,7 +65,8 @@ fn read_pattern(text: &[u8]) -> Option<Pattern>
 }
 
 fn read_effect(number: i64) -> Option<Effect>
-    ensures { (e : _) → number ≡ effect_number e → result ≡ Some e }
+    ensures number { IfSome result (λ e. number ≡ effect_number e) }
+    ensures read { (e : _) → number ≡ effect_number e → result ≡ Some e }
 {
     match number {
         0 => Some(Effect::Deny),
@@ -73,7 +76,8 @@ fn read_effect(number: i64) -> Option<Effect>
 }
 
 fn read_actions(number: i64) -> Option<Actions>
-    ensures { (a : actions.Actions) → number ≡ actions_number a → result ≡ Some a }
+    ensures number { IfSome result (λ a. number ≡ actions_number a) }
+    ensures read { (a : actions.Actions) → number ≡ actions_number a → result ≡ Some a }
 {
     let (open, read, remove) = match number {
         0 => (false, false, false),
@@ -90,8 +94,9 @@ fn read_actions(number: i64) -> Option<Actions>
 }
 
 /// The rule of a row, wherever it stands; `None` where the row is no rule's.
-fn read_rule(row: &rows::Rule) -> Option<Rule>
-    ensures { (r : rule.Rule) → is_sound_rule r ≡ true → at_place (pos 0) row.now ≡ rule_row (pos 0) r → result ≡ Some r }
+pub(crate) fn read_rule(row: &rows::Rule) -> Option<Rule>
+    ensures row { IfSome result (λ r. at_place (pos 0) row.now ≡ rule_row (pos 0) r) }
+    ensures read { (r : rule.Rule) → is_sound_rule r ≡ true → at_place (pos 0) row.now ≡ rule_row (pos 0) r → result ≡ Some r }
 {
     Some(Rule {
         name: Name::read(row.name.as_slice())?,
@@ -139,6 +144,8 @@ fn read_policy(alloc: Global, rows: &[rows::Rule]) -> Result<Policy, Error>
 pub(crate) fn policy<S: Alter>(alloc: Global, conn: &mut Connection<S>) -> Result<Policy, Refusal>
     ensures done { (c : Contents) → HasCleanDisk (state S.Store conn.new) → Holds (state S.Store conn.old) c → IsPolicy (Holds (state S.Store conn.new)) c (answer_of result) }
     ensures clean { WasClean (state S.Store conn.old) (state S.Store conn.new) }
+    ensures up { StaysOpen (state S.Store conn.old) (state S.Store conn.new) (answer_of result) }
+    ensures stop { StopsBefore (state S.Store conn.old) (state S.Store conn.new) }
 {
     match rules::all_rules(alloc, conn) {
         Ok(rows) => match read_policy(alloc, rows.as_slice()) {
@@ -194,6 +201,8 @@ fn replace_rules<S: Alter>(conn: &mut Connection<S>, rules: &[Rule]) -> Result<(
 pub(crate) fn set_policy<S: Alter>(conn: &mut Connection<S>, policy: &Policy) -> Result<(), Refusal>
     ensures done { (c : Contents) → HasCleanDisk (state S.Store conn.new) → Holds (state S.Store conn.old) c → IsPolicySet (Holds (state S.Store conn.new)) c policy.now (answer_of result) }
     ensures clean { WasClean (state S.Store conn.old) (state S.Store conn.new) }
+    ensures up { StaysOpen (state S.Store conn.old) (state S.Store conn.new) (answer_of result) }
+    ensures stop { StopsEither (state S.Store conn.old) (state S.Store conn.new) (λ c Held. IsPolicySet Held c policy.now) }
 {
     match mode::begin(conn) {
         Ok(()) => {}

@@ -2,21 +2,18 @@
 ghost use Rattle.std.specs.Prelude.{◌≡◌};
 ghost use Rattle.sqlite.specs.Held.{state};
 ghost use Rattle.vault.specs.Calls.{CountsFaults};
-ghost use Rattle.sqlvault.specs.Refusals.{answer_of, count_after};
+ghost use Rattle.sqlvault.specs.Refusals.{answer_of, count_after, open_fault};
 
-use crate::refusal::{Refusal, is_memory, tell};
+use crate::adopt::settle;
+use crate::refusal::{Refusal, fault_of, tell};
 use crate::{clerks, deposit, mail, maildrops, pages, rules, totals};
 use creds::{Credential, DepositId, Name};
-use mailsql::uses::open_new;
 use mailtext::MailText;
 use policy::Policy;
-use sqlite::{Alter, Connection, MemStore};
+use sqlite::{Alter, Connection, Error, ErrorCode, FileFrom, FileStore, MemStore, Start};
 use std::alloc::Global;
 use std::marker::Model;
 use vault::{Deposited, Head, MessageKey, Total, Vault, VaultFault};
-
-/// The version of the layout of the tables.
-const VERSION: i64 = 2;
 
 /// A mail store over the tables of a connection. Contracts see the connection and its count of faults.
 #[derive(Drop)]
@@ -37,7 +34,8 @@ impl<S: Alter> Model for SqlVault<S> {
 }
 
 impl SqlVault<MemStore> {
-    ghost use Rattle.std.specs.Prelude.{IfOk, IsTrue};
+    ghost use Rattle.std.specs.Prelude.{◌⊎◌, IfOk, IfErr, IsTrue};
+    ghost use Rattle.vault.specs.declared.fault.VaultFault.TheVariants.{Store, NoMemory};
     ghost use Rattle.sqlite.specs.Steps.{over_memory};
     ghost use Rattle.vault.specs.Plain.{no_contents};
     ghost use Rattle.sqlvault.specs.Stands.{Holds};
@@ -48,29 +46,98 @@ impl SqlVault<MemStore> {
     pub fn in_memory(alloc: Global) -> Result<SqlVault<MemStore>, VaultFault>
         ensures empty { IfOk result (λ vault. IsTrue (state over_memory vault.conn).is_open × Holds (state over_memory vault.conn) no_contents) }
         ensures uncounted { IfOk result (λ vault. vault.faults ≡ 0) }
+        ensures refused { IfErr result (λ fault. (fault ≡ Store) ⊎ (fault ≡ NoMemory)) }
     {
-        match open_new(alloc, VERSION) {
-            Ok(conn) => {
-                // (what an open connection outside a transaction shows is committed)
-                let _settled = conn.is_autocommit();
-                Ok(SqlVault {
-                    alloc,
-                    conn,
-                    faults: 0,
-                })
-            }
-            Err(error) => {
-                if is_memory(&error) {
-                    Err(VaultFault::NoMemory)
-                } else {
-                    Err(VaultFault::Store)
-                }
-            }
+        match Connection::open_in_memory(alloc) {
+            Ok(conn) => match SqlVault::adopt(alloc, conn) {
+                Ok(vault) => Ok(vault),
+                Err((fault, _memory)) => Err(fault),
+            },
+            Err(_) => Err(VaultFault::NoMemory),
         }
     }
 }
 
+impl<S: Start> SqlVault<FileStore<FileFrom<S>>> {
+    ghost use Rattle.std.specs.Prelude.{IfOk, IfErr};
+    ghost use Rattle.sqlite_wal.specs.Files.{image_at};
+    ghost use Rattle.sqlvault.specs.Adopts.{OpensIn, IsAdoptFault};
+
+    /// Opens the database file at the path, or makes it, and adopts it as [`SqlVault::adopt`] does. `start` stands for what the files
+    /// hold, as in `open_from` of `sqlite`. An empty file, or none, is a store without a table.
+    ///
+    /// Answers what `adopt` answers; [`VaultFault::NotOurs`] for a file that is no database, [`VaultFault::NoMemory`] where memory was
+    /// refused, and [`VaultFault::Store`] where the file can't be opened for another cause.
+    pub fn open(
+        rt: &HostRuntime,
+        path: &str,
+        start: S,
+    ) -> Result<SqlVault<FileStore<FileFrom<S>>>, VaultFault>
+        ensures opened { OpensIn (image_at S.Start) result }
+        ensures kinds { IfErr result IsAdoptFault }
+        ensures uncounted { IfOk result (λ vault. vault.faults ≡ 0) }
+    {
+        match Connection::open_from(rt, path, false, start) {
+            Ok(conn) => match SqlVault::adopt(rt.alloc(), conn) {
+                Ok(vault) => Ok(vault),
+                Err((fault, _conn)) => Err(fault),
+            },
+            Err((error, _)) => Err(open_fault(&error)),
+        }
+    }
+}
+
+/// Why a file isn't opened, as the vault's fault.
+fn open_fault(error: &Error) -> VaultFault
+    ensures { result ≡ open_fault error.now }
+{
+    match error {
+        Error::SqliteFailure(ErrorCode::OutOfMemory) => VaultFault::NoMemory,
+        Error::SqliteFailure(ErrorCode::NotADatabase) => VaultFault::NotOurs,
+        _ => VaultFault::Store,
+    }
+}
+
 impl<S: Alter> SqlVault<S> {
+    ghost use Rattle.std.specs.Prelude.{IfOk, IfErr, IsTrue, true, false, Err};
+    ghost use Rattle.vault.specs.declared.fault.VaultFault.TheVariants.{NotOurs};
+    ghost use Rattle.mailsql.specs.Names.{is_taken, has_marks};
+    ghost use Rattle.sqlite.specs.State.{HasCleanDisk};
+    ghost use Rattle.sqlvault.specs.Adopts.{Adopts, IsKnown, IsAdoptFault, StaysAs, LeavesEmptyToo};
+    ghost use Rattle.sqlvault.specs.Opened.{conn_of, judged_in};
+    ghost use Rattle.sqlvault.specs.Stands.{WasClean};
+
+    /// Takes over a connection. A store without a table, an index or a view of our names gets our tables and our mark, in one
+    /// transaction, and holds nothing; one with our mark stays as it is, and holds what its tables hold, which are all read once.
+    ///
+    /// Gives the connection back, its tables as they were, with [`VaultFault::NotOurs`] where a transaction is under way, or one of our names
+    /// is taken in a store without our mark, or our tables have other columns, or their rows aren't sound records with counts and octets
+    /// that agree; with [`VaultFault::OldVersion`] where our mark has another version; with [`VaultFault::NoMemory`] where memory was
+    /// refused; and with [`VaultFault::Store`] where SQLite refused a statement for another cause.
+    pub fn adopt(
+        alloc: Global,
+        conn: Connection<S>,
+    ) -> Result<SqlVault<S>, (VaultFault, Connection<S>)>
+        ensures adopted { HasCleanDisk (state S.Store (conn_of result)) → IsKnown (state S.Store conn) → Adopts (state S.Store conn) (state S.Store (conn_of result)) (judged_in result) }
+        ensures inside { IsTrue (state S.Store conn).in_transaction → result ≡ Err (NotOurs, conn) }
+        ensures taken { (state S.Store conn).in_transaction ≡ false → is_taken (state S.Store conn).now.schema ≡ true → has_marks (state S.Store conn).now.schema.tables ≡ false → result ≡ Err (NotOurs, conn) }
+        ensures kinds { IfErr result (λ refused. IsAdoptFault refused.0) }
+        ensures stays { IfErr result (λ refused. HasCleanDisk (state S.Store refused.1) → IsKnown (state S.Store conn) → StaysAs (state S.Store conn) (state S.Store refused.1)) }
+        ensures uncounted { IfOk result (λ vault. vault.faults ≡ 0) }
+        ensures stop { HasCleanDisk (state S.Store (conn_of result)) → IsKnown (state S.Store conn) → IsTrue (state S.Store conn).is_open → LeavesEmptyToo (state S.Store conn) (state S.Store (conn_of result)) }
+        ensures clean { WasClean (state S.Store conn) (state S.Store (conn_of result)) }
+    {
+        let mut conn = conn;
+        match settle(alloc, &mut conn) {
+            Ok(()) => Ok(SqlVault {
+                alloc,
+                conn,
+                faults: 0,
+            }),
+            Err(refusal) => Err((fault_of(refusal), conn)),
+        }
+    }
+
     /// Gives the connection back, its tables as they are. It takes no memory.
     pub fn into_connection(self) -> Connection<S>
         ensures { result ≡ self.conn }
@@ -99,8 +166,10 @@ impl<S: Alter> SqlVault<S> {
 
 /// Each call over the tables of the connection.
 impl<S: Alter> Vault for SqlVault<S> {
+    ghost use Rattle.std.specs.Prelude.{IsTrue};
     ghost use Rattle.sqlite.specs.State.{HasCleanDisk};
     ghost use Rattle.sqlvault.specs.Stands.{Holds};
+    ghost use Rattle.sqlvault.specs.Stops.{MayHold, settled_at};
 
     ghost holds = { λ v. Holds (state S.Store v.conn) };
 
@@ -108,7 +177,13 @@ impl<S: Alter> Vault for SqlVault<S> {
 
     ghost is_clean = { λ v. HasCleanDisk (state S.Store v.conn) };
 
+    ghost is_up = { λ v. IsTrue (state S.Store v.conn).is_open };
+
+    ghost may_leave = { λ v. MayHold (state S.Store v.conn) };
+
     ghost sound = { λ vault c held clean. held.sound };
+
+    ghost settled = { λ vault c clean up held left may. settled_at _ c held up (λ db o m. S.Store.settled vault.conn.store db o m) left may };
 
     fn policy(&mut self) -> Result<Policy, VaultFault> {
         let answer = rules::policy(self.alloc, &mut self.conn);

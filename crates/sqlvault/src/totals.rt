@@ -11,6 +11,7 @@ ghost use Rattle.vault.specs.Plain.{capped_total};
 ghost use Rattle.sqlvault.specs.Keeps.{message_row};
 ghost use Rattle.sqlvault.specs.Refusals.{answer_of};
 ghost use Rattle.sqlvault.specs.Stands.{Holds, WasClean};
+ghost use Rattle.sqlvault.specs.Stops.{StopsBefore, IsOpenAfter, StaysOpen};
 
 use crate::refusal::{Refusal, unreadable};
 use creds::Name;
@@ -48,6 +49,8 @@ fn names<S: Alter>(alloc: Global, conn: &mut Connection<S>) -> Result<Vec<Name>,
     ensures sound { (c : Contents) → HasCleanDisk (state S.Store conn.new) → Holds (state S.Store conn.old) c → OnOk result (AreSound c) }
     ensures held { (c : Contents) → HasCleanDisk (state S.Store conn.new) → Holds (state S.Store conn.old) c → Holds (state S.Store conn.new) c }
     ensures clean { WasClean (state S.Store conn.old) (state S.Store conn.new) }
+    ensures up { IsOpenAfter (state S.Store conn.old) (state S.Store conn.new) result }
+    ensures stop { StopsBefore (state S.Store conn.old) (state S.Store conn.new) }
 {
     match maildrops::all_maildrops(alloc, conn) {
         Ok(rows) => {
@@ -74,6 +77,8 @@ fn total_of<S: Alter>(alloc: Global, conn: &mut Connection<S>, name: &Name) -> R
     ensures total { (c : Contents) → HasCleanDisk (state S.Store conn.new) → Holds (state S.Store conn.old) c → IfOk result (λ total. total ≡ capped_total c.messages name.now) }
     ensures held { (c : Contents) → HasCleanDisk (state S.Store conn.new) → Holds (state S.Store conn.old) c → Holds (state S.Store conn.new) c }
     ensures clean { WasClean (state S.Store conn.old) (state S.Store conn.new) }
+    ensures up { IsOpenAfter (state S.Store conn.old) (state S.Store conn.new) result }
+    ensures stop { StopsBefore (state S.Store conn.old) (state S.Store conn.new) }
 {
     match mail::heads(alloc, conn, name.as_bytes()) {
         Ok(rows) => Ok(Total {
@@ -94,6 +99,8 @@ fn totals_of<S: Alter>(
     ensures totals { (c : Contents) → HasCleanDisk (state S.Store conn.new) → Holds (state S.Store conn.old) c → IfOk result (λ totals. totals.items ≡ map (capped_total c.messages) names.now) }
     ensures held { (c : Contents) → HasCleanDisk (state S.Store conn.new) → Holds (state S.Store conn.old) c → Holds (state S.Store conn.new) c }
     ensures clean { WasClean (state S.Store conn.old) (state S.Store conn.new) }
+    ensures up { IsOpenAfter (state S.Store conn.old) (state S.Store conn.new) result }
+    ensures stop { StopsBefore (state S.Store conn.old) (state S.Store conn.new) }
 {
     let mut totals = Vec::new(alloc);
     for name in names {
@@ -110,6 +117,8 @@ pub(crate) fn maildrops<S: Alter>(
 ) -> Result<Vec<Total>, Refusal>
     ensures done { (c : Contents) → HasCleanDisk (state S.Store conn.new) → Holds (state S.Store conn.old) c → AreTotals (Holds (state S.Store conn.new)) c (seen_as (answer_of result) (λ v. v.items)) }
     ensures clean { WasClean (state S.Store conn.old) (state S.Store conn.new) }
+    ensures up { StaysOpen (state S.Store conn.old) (state S.Store conn.new) (answer_of result) }
+    ensures stop { StopsBefore (state S.Store conn.old) (state S.Store conn.new) }
 {
     match names(alloc, conn) {
         Ok(names) => match totals_of(alloc, conn, &names) {

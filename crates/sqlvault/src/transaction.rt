@@ -1,9 +1,9 @@
 //! The end of a transaction.
-ghost use Rattle.std.specs.Prelude.{◌≡◌, ◌⊎◌, IsTrue};
-ghost use Rattle.sqlite.specs.Held.{state};
+ghost use Rattle.std.specs.Prelude.{◌≡◌, ◌⊎◌, IsTrue, OnOk};
+ghost use Rattle.sqlite.specs.Held.{Held, state};
 ghost use Rattle.sqlite.specs.State.{HasCleanDisk, Survives};
 ghost use Rattle.vault.specs.Changes.{Contents};
-ghost use Rattle.mailsql.specs.Rows.{Rows};
+ghost use Rattle.mailsql.specs.Rows.{Rows, IsHalted, IsGone};
 ghost use Rattle.sqlvault.specs.Keeps.{Keeps};
 ghost use Rattle.sqlvault.specs.Refusals.{is_memory};
 ghost use Rattle.sqlvault.specs.Stands.{Holds, Leaves, WasClean, Within, Halted, Ends};
@@ -15,6 +15,7 @@ use sqlite::{Alter, Connection, Error};
 /// Ends the transaction, if it is not gone, after an error. Tells that error; where it is the want of memory and the end is refused too, the refusal's.
 pub(crate) fn undo<S: Alter>(conn: &mut Connection<S>, error: Error) -> Error
     ensures holds { (base : Contents) → HasCleanDisk (state S.Store conn.new) → Halted (state S.Store conn.old) base → Holds (state S.Store conn.new) base }
+    ensures gone { (first : Held _) → HasCleanDisk (state S.Store conn.new) → IsHalted (state S.Store first) (state S.Store conn.old) → IsGone (state S.Store first) (state S.Store conn.new) }
     ensures told { (result ≡ error) ⊎ IsTrue (is_memory error) }
     ensures survives { Survives (state S.Store conn.old) (state S.Store conn.new) (λ _. ⊥) }
 {
@@ -31,6 +32,7 @@ pub(crate) fn undo<S: Alter>(conn: &mut Connection<S>, error: Error) -> Error
 pub(crate) fn end<S: Alter>(conn: &mut Connection<S>) -> Result<(), Error>
     ensures ended { (base after : Contents) (rows : Rows) → HasCleanDisk (state S.Store conn.new) → Within (state S.Store conn.old) base rows → Keeps rows after → Ends base after (state S.Store conn.new) result }
     ensures stop { (base after : Contents) (rows : Rows) → HasCleanDisk (state S.Store conn.new) → Within (state S.Store conn.old) base rows → Keeps rows after → Leaves (state S.Store conn.new) (λ left. Keeps left base ⊎ Keeps left after) }
+    ensures up { HasCleanDisk (state S.Store conn.new) → OnOk result (IsTrue (state S.Store conn.new).is_open) }
     ensures clean { WasClean (state S.Store conn.old) (state S.Store conn.new) }
 {
     match mode::commit(conn) {

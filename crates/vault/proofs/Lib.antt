@@ -6,3 +6,4 @@ pub mod TotalLemmas
 pub mod ClerkLemmas
 pub mod MailLemmas
 pub mod DepositLemmas
+pub mod StopLemmas

@@ -1,6 +1,7 @@
 pub mod Records
 pub mod Changes
 pub mod Calls
+pub mod Stops
 pub mod Plain
 pub mod Faults
 pub mod Refusals

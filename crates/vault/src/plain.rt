@@ -1,4 +1,7 @@
 //! A mail store in memory.
+ghost use Rattle.std.specs.Prelude.{◌≡◌};
+ghost use Rattle.std.proofs.Common.{◌∙◌, sym};
+ghost use Rattle.vault.specs.Stops.{says_same};
 ghost use Rattle.vault.specs.Plain.{HoldsKept, no_contents};
 ghost use Rattle.vault.specs.Changes.{Contents};
 
@@ -18,6 +21,7 @@ use std::alloc::Global;
 use std::marker::Model;
 
 /// A mail store in memory, of vectors. It is always clean, and its count of faults stays 0. Contracts see its contents.
+/// It stands on no device, so contracts know of no stop that leaves something else; with the process it is gone.
 #[derive(Drop)]
 pub struct PlainVault {
     alloc: Global,
@@ -65,7 +69,13 @@ impl Vault for PlainVault {
 
     ghost is_clean = { λ _. Unit {0} };
 
+    ghost is_up = { λ _. Unit {0} };
+
+    ghost may_leave = { λ vault left. left ≡ vault };
+
     ghost sound = { λ vault c held clean. held.sound };
+
+    ghost settled = { λ vault c clean up held left same. says_same left c (same ∙ sym held.same) };
 
     fn deposit(
         &mut self,

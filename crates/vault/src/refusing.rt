@@ -1,6 +1,7 @@
 //! A vault that refuses one of its calls, for tests of what stands on a vault.
 ghost use Rattle.std.specs.Prelude.{◌≡◌, ◌-◌, if◌then◌else◌};
 ghost use Rattle.vault.specs.Changes.{Contents};
+ghost use Rattle.vault.specs.Stops.{StaysUp, LeavesBefore, LeavesEither};
 ghost use Rattle.vault.specs.Calls.{seen_as, CountsFaults, IsDeposited, AreHeads, IsPaged, AreRemoved, IsCredential, IsClerkPut, IsClerkDropped, IsMaildropAdded, IsMaildropDropped, AreTotals, IsPolicy, IsPolicySet};
 ghost use Rattle.vault.specs.Refusals.{refusing_call, is_next, one_more, faults_of, IsInTurn};
 
@@ -85,7 +86,13 @@ impl<V: Vault> Vault for Refusing<V> {
 
     ghost is_clean = { λ r. V.is_clean r.vault };
 
+    ghost is_up = { λ r. V.is_up r.vault };
+
+    ghost may_leave = { λ r. V.may_leave r.vault };
+
     ghost sound = { λ r. V.sound r.vault };
+
+    ghost settled = { λ r. V.settled r.vault };
 
     fn deposit(
         &mut self,
@@ -97,6 +104,8 @@ impl<V: Vault> Vault for Refusing<V> {
         ensures done { (c : Contents) → V.holds self.old.vault c → V.is_clean self.new.vault → IsDeposited (V.holds self.new.vault) c maildrop.now class.now id.now text.now result }
         ensures counted { CountsFaults (faults_of V.faults self.old) (faults_of V.faults self.new) result }
         ensures clean { V.is_clean self.new.vault → V.is_clean self.old.vault }
+        ensures up { (c : Contents) → V.is_clean self.new.vault → V.holds self.old.vault c → StaysUp (V.is_up self.old.vault) (V.is_up self.new.vault) result }
+        ensures stop { (c : Contents) → V.is_clean self.new.vault → V.is_up self.old.vault → V.holds self.old.vault c → LeavesEither (V.may_leave self.new.vault) c (λ Held. IsDeposited Held c maildrop.now class.now id.now text.now) }
         ensures turn { IsInTurn V.faults self.old self.new result }
     {
         if self.countdown.is_due() {
@@ -109,6 +118,8 @@ impl<V: Vault> Vault for Refusing<V> {
         ensures done { (c : Contents) → V.holds self.old.vault c → V.is_clean self.new.vault → AreHeads (V.holds self.new.vault) c maildrop.now (seen_as result (λ v. v.items)) }
         ensures counted { CountsFaults (faults_of V.faults self.old) (faults_of V.faults self.new) result }
         ensures clean { V.is_clean self.new.vault → V.is_clean self.old.vault }
+        ensures up { (c : Contents) → V.is_clean self.new.vault → V.holds self.old.vault c → StaysUp (V.is_up self.old.vault) (V.is_up self.new.vault) result }
+        ensures stop { (c : Contents) → V.is_clean self.new.vault → V.is_up self.old.vault → V.holds self.old.vault c → LeavesBefore (V.may_leave self.new.vault) c }
         ensures turn { IsInTurn V.faults self.old self.new result }
     {
         if self.countdown.is_due() {
@@ -121,6 +132,8 @@ impl<V: Vault> Vault for Refusing<V> {
         ensures done { (c : Contents) → V.holds self.old.vault c → V.is_clean self.new.vault → IsPaged (V.holds self.new.vault) c key from buffer.new result }
         ensures counted { CountsFaults (faults_of V.faults self.old) (faults_of V.faults self.new) result }
         ensures clean { V.is_clean self.new.vault → V.is_clean self.old.vault }
+        ensures up { (c : Contents) → V.is_clean self.new.vault → V.holds self.old.vault c → StaysUp (V.is_up self.old.vault) (V.is_up self.new.vault) result }
+        ensures stop { (c : Contents) → V.is_clean self.new.vault → V.is_up self.old.vault → V.holds self.old.vault c → LeavesBefore (V.may_leave self.new.vault) c }
         ensures turn { IsInTurn V.faults self.old self.new result }
     {
         if self.countdown.is_due() {
@@ -133,6 +146,8 @@ impl<V: Vault> Vault for Refusing<V> {
         ensures done { (c : Contents) → V.holds self.old.vault c → V.is_clean self.new.vault → AreRemoved (V.holds self.new.vault) c maildrop.now keys.now result }
         ensures counted { CountsFaults (faults_of V.faults self.old) (faults_of V.faults self.new) result }
         ensures clean { V.is_clean self.new.vault → V.is_clean self.old.vault }
+        ensures up { (c : Contents) → V.is_clean self.new.vault → V.holds self.old.vault c → StaysUp (V.is_up self.old.vault) (V.is_up self.new.vault) result }
+        ensures stop { (c : Contents) → V.is_clean self.new.vault → V.is_up self.old.vault → V.holds self.old.vault c → LeavesEither (V.may_leave self.new.vault) c (λ Held. AreRemoved Held c maildrop.now keys.now) }
         ensures turn { IsInTurn V.faults self.old self.new result }
     {
         if self.countdown.is_due() {
@@ -145,6 +160,8 @@ impl<V: Vault> Vault for Refusing<V> {
         ensures done { (c : Contents) → V.holds self.old.vault c → V.is_clean self.new.vault → AreTotals (V.holds self.new.vault) c (seen_as result (λ v. v.items)) }
         ensures counted { CountsFaults (faults_of V.faults self.old) (faults_of V.faults self.new) result }
         ensures clean { V.is_clean self.new.vault → V.is_clean self.old.vault }
+        ensures up { (c : Contents) → V.is_clean self.new.vault → V.holds self.old.vault c → StaysUp (V.is_up self.old.vault) (V.is_up self.new.vault) result }
+        ensures stop { (c : Contents) → V.is_clean self.new.vault → V.is_up self.old.vault → V.holds self.old.vault c → LeavesBefore (V.may_leave self.new.vault) c }
         ensures turn { IsInTurn V.faults self.old self.new result }
     {
         if self.countdown.is_due() {
@@ -157,6 +174,8 @@ impl<V: Vault> Vault for Refusing<V> {
         ensures done { (c : Contents) → V.holds self.old.vault c → V.is_clean self.new.vault → IsCredential (V.holds self.new.vault) c clerk.now result }
         ensures counted { CountsFaults (faults_of V.faults self.old) (faults_of V.faults self.new) result }
         ensures clean { V.is_clean self.new.vault → V.is_clean self.old.vault }
+        ensures up { (c : Contents) → V.is_clean self.new.vault → V.holds self.old.vault c → StaysUp (V.is_up self.old.vault) (V.is_up self.new.vault) result }
+        ensures stop { (c : Contents) → V.is_clean self.new.vault → V.is_up self.old.vault → V.holds self.old.vault c → LeavesBefore (V.may_leave self.new.vault) c }
         ensures turn { IsInTurn V.faults self.old self.new result }
     {
         if self.countdown.is_due() {
@@ -169,6 +188,8 @@ impl<V: Vault> Vault for Refusing<V> {
         ensures done { (c : Contents) → V.holds self.old.vault c → V.is_clean self.new.vault → IsClerkPut (V.holds self.new.vault) c clerk.now credential.now result }
         ensures counted { CountsFaults (faults_of V.faults self.old) (faults_of V.faults self.new) result }
         ensures clean { V.is_clean self.new.vault → V.is_clean self.old.vault }
+        ensures up { (c : Contents) → V.is_clean self.new.vault → V.holds self.old.vault c → StaysUp (V.is_up self.old.vault) (V.is_up self.new.vault) result }
+        ensures stop { (c : Contents) → V.is_clean self.new.vault → V.is_up self.old.vault → V.holds self.old.vault c → LeavesEither (V.may_leave self.new.vault) c (λ Held. IsClerkPut Held c clerk.now credential.now) }
         ensures turn { IsInTurn V.faults self.old self.new result }
     {
         if self.countdown.is_due() {
@@ -181,6 +202,8 @@ impl<V: Vault> Vault for Refusing<V> {
         ensures done { (c : Contents) → V.holds self.old.vault c → V.is_clean self.new.vault → IsClerkDropped (V.holds self.new.vault) c clerk.now result }
         ensures counted { CountsFaults (faults_of V.faults self.old) (faults_of V.faults self.new) result }
         ensures clean { V.is_clean self.new.vault → V.is_clean self.old.vault }
+        ensures up { (c : Contents) → V.is_clean self.new.vault → V.holds self.old.vault c → StaysUp (V.is_up self.old.vault) (V.is_up self.new.vault) result }
+        ensures stop { (c : Contents) → V.is_clean self.new.vault → V.is_up self.old.vault → V.holds self.old.vault c → LeavesEither (V.may_leave self.new.vault) c (λ Held. IsClerkDropped Held c clerk.now) }
         ensures turn { IsInTurn V.faults self.old self.new result }
     {
         if self.countdown.is_due() {
@@ -193,6 +216,8 @@ impl<V: Vault> Vault for Refusing<V> {
         ensures done { (c : Contents) → V.holds self.old.vault c → V.is_clean self.new.vault → IsMaildropAdded (V.holds self.new.vault) c maildrop.now result }
         ensures counted { CountsFaults (faults_of V.faults self.old) (faults_of V.faults self.new) result }
         ensures clean { V.is_clean self.new.vault → V.is_clean self.old.vault }
+        ensures up { (c : Contents) → V.is_clean self.new.vault → V.holds self.old.vault c → StaysUp (V.is_up self.old.vault) (V.is_up self.new.vault) result }
+        ensures stop { (c : Contents) → V.is_clean self.new.vault → V.is_up self.old.vault → V.holds self.old.vault c → LeavesEither (V.may_leave self.new.vault) c (λ Held. IsMaildropAdded Held c maildrop.now) }
         ensures turn { IsInTurn V.faults self.old self.new result }
     {
         if self.countdown.is_due() {
@@ -205,6 +230,8 @@ impl<V: Vault> Vault for Refusing<V> {
         ensures done { (c : Contents) → V.holds self.old.vault c → V.is_clean self.new.vault → IsMaildropDropped (V.holds self.new.vault) c maildrop.now result }
         ensures counted { CountsFaults (faults_of V.faults self.old) (faults_of V.faults self.new) result }
         ensures clean { V.is_clean self.new.vault → V.is_clean self.old.vault }
+        ensures up { (c : Contents) → V.is_clean self.new.vault → V.holds self.old.vault c → StaysUp (V.is_up self.old.vault) (V.is_up self.new.vault) result }
+        ensures stop { (c : Contents) → V.is_clean self.new.vault → V.is_up self.old.vault → V.holds self.old.vault c → LeavesEither (V.may_leave self.new.vault) c (λ Held. IsMaildropDropped Held c maildrop.now) }
         ensures turn { IsInTurn V.faults self.old self.new result }
     {
         if self.countdown.is_due() {
@@ -217,6 +244,8 @@ impl<V: Vault> Vault for Refusing<V> {
         ensures done { (c : Contents) → V.holds self.old.vault c → V.is_clean self.new.vault → IsPolicy (V.holds self.new.vault) c result }
         ensures counted { CountsFaults (faults_of V.faults self.old) (faults_of V.faults self.new) result }
         ensures clean { V.is_clean self.new.vault → V.is_clean self.old.vault }
+        ensures up { (c : Contents) → V.is_clean self.new.vault → V.holds self.old.vault c → StaysUp (V.is_up self.old.vault) (V.is_up self.new.vault) result }
+        ensures stop { (c : Contents) → V.is_clean self.new.vault → V.is_up self.old.vault → V.holds self.old.vault c → LeavesBefore (V.may_leave self.new.vault) c }
         ensures turn { IsInTurn V.faults self.old self.new result }
     {
         if self.countdown.is_due() {
@@ -229,6 +258,8 @@ impl<V: Vault> Vault for Refusing<V> {
         ensures done { (c : Contents) → V.holds self.old.vault c → V.is_clean self.new.vault → IsPolicySet (V.holds self.new.vault) c policy.now result }
         ensures counted { CountsFaults (faults_of V.faults self.old) (faults_of V.faults self.new) result }
         ensures clean { V.is_clean self.new.vault → V.is_clean self.old.vault }
+        ensures up { (c : Contents) → V.is_clean self.new.vault → V.holds self.old.vault c → StaysUp (V.is_up self.old.vault) (V.is_up self.new.vault) result }
+        ensures stop { (c : Contents) → V.is_clean self.new.vault → V.is_up self.old.vault → V.holds self.old.vault c → LeavesEither (V.may_leave self.new.vault) c (λ Held. IsPolicySet Held c policy.now) }
         ensures turn { IsInTurn V.faults self.old self.new result }
     {
         if self.countdown.is_due() {

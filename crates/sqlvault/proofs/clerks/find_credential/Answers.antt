@@ -16,7 +16,7 @@ returns-in-Some-clause-done g c held clean h =
     let s1 = state g.S.Store c.find_clerk.new.conn in
     let same = c.in-Ok-Some.ensures.same clean h.tables in
     let f = is_found (rows_in s0.now.trees) held text c.in-Ok-Some.row (seen s0 s1 held same h) (sym c.in-Ok-Some.field-0-is ∙ c.in-Ok-Some.ensures.ok clean h.tables) in
-    let read = c.in-Some.ensures f.clerk f.row_is f.sound in
+    let read = c.in-Some.ensures.read f.clerk f.row_is f.sound in
     subst (λ name. IsCredential (Holds s1) held name (Ok (Some c.in-Some.credential))) c.as_bytes.ensures.value
     (answered (Holds s1) held text (Some c.in-Some.credential) (f.kept ∙ sym read) (holds_unchanged s0 s1 held same h))
 
@@ -36,3 +36,9 @@ returns-clause-done g c held clean h =
     let s1 = state g.S.Store c.find_clerk.new.conn in
     refused (Holds s1) held held (Ok (credential_in c.args.clerk.now held.clerks)) c.in-Err.error
     (holds_undone s0 s1 held (c.in-Err.ensures.err clean h.tables) h)
+
+pub returns-in-Ok-Some-clause-done : goal.returns-in-Ok-Some-clause-done
+returns-in-Ok-Some-clause-done g c held clean h =
+    let s0 = state g.S.Store c.args.conn.now in
+    let s1 = state g.S.Store c.find_clerk.new.conn in
+    refused (Holds s1) held held (Ok (credential_in c.args.clerk.now held.clerks)) c.unreadable.result (holds_unchanged s0 s1 held (c.in-Ok-Some.ensures.same clean h.tables) h)

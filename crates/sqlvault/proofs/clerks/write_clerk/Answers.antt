@@ -3,8 +3,11 @@ use Rattle.sqlite.specs.Held.{state}
 use Rattle.sqlite.specs.State.{HasCleanDisk}
 use Rattle.mailsql.specs.declared.rows.Clerk.{Clerk}
 use Rattle.mailsql.specs.Changes.{PutsClerk, DropsClerk}
-use Rattle.sqlvault.proofs.WithinLemmas.{LeavesLast, begun, step_ok, part_err, ready}
+use Rattle.sqlvault.specs.Stops.{LeavesLast}
+use Rattle.sqlvault.proofs.WithinLemmas.{begun, step_ok, part_err, ready, leaves_on}
 use Rattle.sqlvault.proofs.ClerkLemmas.{row_made}
+use Rattle.sqlvault.proofs.StopLemmas.{before_or}
+use Rattle.sqlvault.specs.Keeps.{Keeps}
 use Rattle.sqlvault.proofs.clerks.write_clerk.Goals as goal
 
 pub returns-in-Ok-put_clerk-clause-written : goal.returns-in-Ok-put_clerk-clause-written
@@ -39,3 +42,36 @@ returns-in-Err-put_clerk-clause-written g c base after clean3 h keep =
     let a = part_err (λ from to. DropsClerk text from to ⊎ PutsClerk row from to) s1 s2 base b.0 clean2
     (c.in-Err-put_clerk.ensures.err clean2 (ready s1 base b.0 b.2) b.2.inside) c.put_clerk.ensures.survives b.2 in
     c.undo.ensures.holds base clean3 a.0
+
+pub returns-in-Ok-put_clerk-clause-stop : goal.returns-in-Ok-put_clerk-clause-stop
+returns-in-Ok-put_clerk-clause-stop g c base after clean3 up h keep =
+    let text = c.as_bytes-name.result.now in
+    let kind = to_z w64 (of_z w64 c.kind_of.result) in
+    let secret = c.secret_of-secret.result.now in
+    let row : Clerk = record { name = text; kind = kind; secret = secret } in
+    let s0 = state g.S.Store c.args.conn.now in
+    let s1 = state g.S.Store c.begin.new.conn in
+    let s2 = state g.S.Store c.put_clerk.new.conn in
+    let clean2 : HasCleanDisk s2 = c.end.ensures.clean clean3 in
+    let clean1 : HasCleanDisk s1 = omega (arith, c.put_clerk.ensures.survives.clean) in
+    let law0 : LeavesLast s0 = λ d o m. g.met.S.Store.settled c.args.conn.now.store d o m in
+    let b = begun s0 s1 base clean1 law0 (c.in-Ok.ensures.ok clean1).1 c.begin.ensures.survives h in
+    let a = step_ok (PutsClerk row) (λ from to. DropsClerk text from to ⊎ PutsClerk row from to) s1 s2 base b.0 clean2 (c.in-Ok-put_clerk.ensures.ok clean2) c.put_clerk.ensures.survives b.2 in
+    let fits : SFits w64 c.kind_of.result = search rules in
+    let row_is = row_made c.args.clerk.now text secret kind c.args.credential.now c.as_bytes-name.ensures.value (to_z-of_z fits ∙ c.kind_of.ensures) c.secret_of-secret.ensures.value in
+    c.end.ensures.stop base after a.0 clean3 a.2 (keep b.0 a.0 (subst (λ (x : Clerk). PutsClerk x b.0 a.0) row_is a.1) b.1)
+
+pub returns-in-Err-put_clerk-clause-stop : goal.returns-in-Err-put_clerk-clause-stop
+returns-in-Err-put_clerk-clause-stop g c base after clean3 up h keep =
+    let text = c.as_bytes-name.result.now in
+    let row : Clerk = record { name = text; kind = to_z w64 (of_z w64 c.kind_of.result); secret = c.secret_of-secret.result.now } in
+    let s0 = state g.S.Store c.args.conn.now in
+    let s1 = state g.S.Store c.begin.new.conn in
+    let s2 = state g.S.Store c.put_clerk.new.conn in
+    let clean2 : HasCleanDisk s2 = omega (arith, c.undo.ensures.survives.clean) in
+    let clean1 : HasCleanDisk s1 = omega (arith, c.put_clerk.ensures.survives.clean) in
+    let law0 : LeavesLast s0 = λ d o m. g.met.S.Store.settled c.args.conn.now.store d o m in
+    let b = begun s0 s1 base clean1 law0 (c.in-Ok.ensures.ok clean1).1 c.begin.ensures.survives h in
+    let a = part_err (λ from to. DropsClerk text from to ⊎ PutsClerk row from to) s1 s2 base b.0 clean2
+    (c.in-Err-put_clerk.ensures.err clean2 (ready s1 base b.0 b.2) b.2.inside) c.put_clerk.ensures.survives b.2 in
+    before_or (λ Held. Held after) (state g.S.Store c.undo.new.conn) base (leaves_on (λ rows. Keeps rows base) s2 (state g.S.Store c.undo.new.conn) clean3 c.undo.ensures.survives a.1)

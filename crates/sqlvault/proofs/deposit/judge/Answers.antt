@@ -5,6 +5,7 @@ use Rattle.mailsql.specs.Rows.{rows_in}
 use Rattle.sqlvault.specs.Refusals.{answer_of}
 use Rattle.sqlvault.proofs.HoldsLemmas.{seen, holds_unchanged, holds_undone}
 use Rattle.sqlvault.proofs.DepositLemmas.{is_there, used, unused, judged_known, judged_unknown}
+use Rattle.sqlvault.proofs.StopLemmas.{looked}
 use Rattle.sqlvault.proofs.deposit.judge.Goals as goal
 
 pub returns-in-Ok-Some-clause-answered : goal.returns-in-Ok-Some-clause-answered
@@ -58,3 +59,23 @@ returns-in-Err-find_deposit-clause-held g c k clean2 h =
     let clean1 : HasCleanDisk s1 = omega (arith, c.find_deposit.ensures.survives.clean) in
     let h1 = holds_unchanged s0 s1 k (c.in-Ok-true.ensures.same clean1 h.tables) h in
     holds_undone s1 s2 k (c.in-Err-find_deposit.ensures.err clean2 h1.tables) h1
+
+pub returns-in-Ok-None-clause-stop : goal.returns-in-Ok-None-clause-stop
+returns-in-Ok-None-clause-stop g c k clean3 up h =
+    let s0 = state g.S.Store c.args.conn.now in
+    let s1 = state g.S.Store c.has_maildrop.new.conn in
+    let s2 = state g.S.Store c.find_deposit.new.conn in
+    let clean2 = c.judge_new.ensures.clean clean3 in
+    let clean1 : HasCleanDisk s1 = omega (arith, c.find_deposit.ensures.survives.clean) in
+    let h1 = holds_unchanged s0 s1 k (c.in-Ok-true.ensures.same clean1 h.tables) h in
+    let same2 = c.in-Ok-None.ensures.same clean2 h1.tables in
+    c.judge_new.ensures.stop k clean3 same2.0.is_open (holds_unchanged s1 s2 k same2 h1)
+
+pub returns-in-Err-find_deposit-clause-stop : goal.returns-in-Err-find_deposit-clause-stop
+returns-in-Err-find_deposit-clause-stop g c k clean2 up h =
+    let s0 = state g.S.Store c.args.conn.now in
+    let s1 = state g.S.Store c.has_maildrop.new.conn in
+    let s2 = state g.S.Store c.find_deposit.new.conn in
+    let clean1 : HasCleanDisk s1 = omega (arith, c.find_deposit.ensures.survives.clean) in
+    let same1 = c.in-Ok-true.ensures.same clean1 h.tables in
+    looked s1 s2 k (λ d o m. g.met.S.Store.settled c.has_maildrop.new.conn.store d o m) clean2 c.find_deposit.ensures.survives same1.0.is_open (holds_unchanged s0 s1 k same1 h)

@@ -56,3 +56,8 @@ pub returns-clause-held : goal.returns-clause-held
 returns-clause-held g c k clean h =
     let before = c.find_before.ensures.clean clean in
     c.find_before.ensures.held k clean (holds_unchanged (state g.S.Store c.args.conn.now) (state g.S.Store c.message_count.new.conn) k (c.in-Ok.ensures.same before h.tables) h)
+
+pub returns-in-Err-find_before-clause-stop : goal.returns-in-Err-find_before-clause-stop
+returns-in-Err-find_before-clause-stop g c k clean up h =
+    let same = c.in-Ok.ensures.same (c.find_before.ensures.clean clean) h.tables in
+    c.find_before.ensures.stop k clean same.0.is_open (holds_unchanged (state g.S.Store c.args.conn.now) (state g.S.Store c.message_count.new.conn) k same h)

@@ -6,6 +6,7 @@ use Rattle.mailsql.specs.Rows.{rows_in}
 use Rattle.sqlvault.specs.Stands.{Holds}
 use Rattle.sqlvault.proofs.HoldsLemmas.{seen, has_tables, holds_unchanged, holds_undone, refused}
 use Rattle.sqlvault.proofs.HeadLemmas.{have_rows, name_there, shown_heads, unread_heads}
+use Rattle.sqlvault.proofs.StopLemmas.{looked}
 use Rattle.sqlvault.proofs.mail.heads.Goals as goal
 
 pub returns-in_ok-read_heads-in-Ok-clause-done : goal.returns-in_ok-read_heads-in-Ok-clause-done
@@ -44,3 +45,12 @@ returns-in-Err-heads-clause-done g c base clean2 h =
     let same1 : IsUnchanged s0 s1 = c.in-Ok-true.ensures.same clean1 (has_tables s0 base h) in
     let h1 = holds_unchanged s0 s1 base same1 h in
     refused (Holds s2) base base _ c.in-Err-heads.error (holds_undone s1 s2 base (c.in-Err-heads.ensures.err clean2 (has_tables s1 base h1)) h1)
+
+pub returns-in-Err-heads-clause-stop : goal.returns-in-Err-heads-clause-stop
+returns-in-Err-heads-clause-stop g c base clean2 up h =
+    let s0 = state g.S.Store c.args.conn.now in
+    let s1 = state g.S.Store c.has_maildrop.new.conn in
+    let s2 = state g.S.Store c.heads.new.conn in
+    let clean1 : HasCleanDisk s1 = omega (arith, c.heads.ensures.survives.clean) in
+    let same1 : IsUnchanged s0 s1 = c.in-Ok-true.ensures.same clean1 (has_tables s0 base h) in
+    looked s1 s2 base (λ d o m. g.met.S.Store.settled c.has_maildrop.new.conn.store d o m) clean2 c.heads.ensures.survives same1.0.is_open (holds_unchanged s0 s1 base same1 h)

@@ -1,9 +1,14 @@
-use Rattle.std.proofs.Common.{refl, arith}
+use Rattle.std.proofs.Common.{refl, arith, Ok}
 use Rattle.sqlite.specs.Held.{state}
 use Rattle.sqlite.specs.State.{HasCleanDisk}
 use Rattle.sqlvault.specs.Stands.{Holds}
-use Rattle.sqlvault.proofs.WithinLemmas.{LeavesLast, begun}
+use Rattle.sqlvault.specs.Stops.{LeavesLast}
+use Rattle.sqlvault.proofs.WithinLemmas.{begun, leaves_on}
 use Rattle.sqlvault.proofs.HoldsLemmas.{refused}
+use Rattle.sqlvault.proofs.StopLemmas.{or_said, before_or}
+use Rattle.sqlvault.specs.Keeps.{Keeps}
+use Rattle.vault.specs.Changes.{without_keys, with_messages}
+use Rattle.vault.specs.Calls.{AreRemoved}
 use Rattle.sqlvault.proofs.mail.remove.Goals as goal
 
 pub returns-in-Err-remove_all-clause-done : goal.returns-in-Err-remove_all-clause-done
@@ -42,3 +47,49 @@ returns-in-Err-end-clause-done g c base clean3 h =
     let w1 = begun s0 s1 base clean1 law0 (c.in-Ok.ensures.ok clean1).1 c.begin.ensures.survives h in
     let r = c.in-Ok-remove_all.ensures.made clean2 base w1.0 w1.2 in
     refused (Holds s3) base _ _ c.in-Err-end.error (c.in-Err-end.ensures.ended base _ r.0 clean3 r.2 (r.1 base w1.1))
+
+pub returns-in-Ok-end-clause-stop : goal.returns-in-Ok-end-clause-stop
+returns-in-Ok-end-clause-stop g c base clean3 up h =
+    let s0 = state g.S.Store c.args.conn.now in
+    let s1 = state g.S.Store c.begin.new.conn in
+    let s2 = state g.S.Store c.remove_all.new.conn in
+    let clean2 : HasCleanDisk s2 = c.end.ensures.clean clean3 in
+    let clean1 : HasCleanDisk s1 = c.remove_all.ensures.clean clean2 in
+    let law0 : LeavesLast s0 = λ d o m. g.met.S.Store.settled c.args.conn.now.store d o m in
+    let w1 = begun s0 s1 base clean1 law0 (c.in-Ok.ensures.ok clean1).1 c.begin.ensures.survives h in
+    let r = c.in-Ok-remove_all.ensures.made clean2 base w1.0 w1.2 in
+    let d = c.args.maildrop.now in
+    let keys = c.args.keys.now in
+    let after = with_messages (without_keys d keys base.messages) base in
+    or_said (λ Held. Held after) (λ Held. (x : Unit {0}) × AreRemoved Held base d keys (Ok x)) (state g.S.Store c.end.new.conn) base (λ Held m. (tt, record { answer = refl; held = m }))
+    (c.end.ensures.stop base after r.0 clean3 r.2 (r.1 base w1.1))
+
+pub returns-in-Err-end-clause-stop : goal.returns-in-Err-end-clause-stop
+returns-in-Err-end-clause-stop g c base clean3 up h =
+    let s0 = state g.S.Store c.args.conn.now in
+    let s1 = state g.S.Store c.begin.new.conn in
+    let s2 = state g.S.Store c.remove_all.new.conn in
+    let s3 = state g.S.Store c.end.new.conn in
+    let clean2 : HasCleanDisk s2 = c.end.ensures.clean clean3 in
+    let clean1 : HasCleanDisk s1 = c.remove_all.ensures.clean clean2 in
+    let law0 : LeavesLast s0 = λ d o m. g.met.S.Store.settled c.args.conn.now.store d o m in
+    let w1 = begun s0 s1 base clean1 law0 (c.in-Ok.ensures.ok clean1).1 c.begin.ensures.survives h in
+    let r = c.in-Ok-remove_all.ensures.made clean2 base w1.0 w1.2 in
+    let d = c.args.maildrop.now in
+    let keys = c.args.keys.now in
+    let after = with_messages (without_keys d keys base.messages) base in
+    or_said (λ Held. Held after) (λ Held. (x : Unit {0}) × AreRemoved Held base d keys (Ok x)) (state g.S.Store c.end.new.conn) base (λ Held m. (tt, record { answer = refl; held = m }))
+    (c.end.ensures.stop base after r.0 clean3 r.2 (r.1 base w1.1))
+
+pub returns-in-Err-remove_all-clause-stop : goal.returns-in-Err-remove_all-clause-stop
+returns-in-Err-remove_all-clause-stop g c base clean3 up h =
+    let s0 = state g.S.Store c.args.conn.now in
+    let s1 = state g.S.Store c.begin.new.conn in
+    let s2 = state g.S.Store c.remove_all.new.conn in
+    let s3 = state g.S.Store c.undo.new.conn in
+    let clean2 : HasCleanDisk s2 = omega (arith, c.undo.ensures.survives.clean) in
+    let clean1 : HasCleanDisk s1 = c.remove_all.ensures.clean clean2 in
+    let law0 : LeavesLast s0 = λ d o m. g.met.S.Store.settled c.args.conn.now.store d o m in
+    let w1 = begun s0 s1 base clean1 law0 (c.in-Ok.ensures.ok clean1).1 c.begin.ensures.survives h in
+    before_or (λ Held. (x : Unit {0}) × AreRemoved Held base c.args.maildrop.now c.args.keys.now (Ok x)) s3 base
+    (leaves_on (λ rows. Keeps rows base) s2 s3 clean3 c.undo.ensures.survives (c.in-Err-remove_all.ensures.made clean2 base w1.0 w1.2).1)

@@ -1,4 +1,4 @@
-use Rattle.std.proofs.Common.{◌≡◌, ◌<◌, [], ◌∷◌, ◌++◌, min, length, true, false, Ok, Err, sym, subst, ◌∙◌, arith}
+use Rattle.std.proofs.Common.{◌≡◌, ◌<◌, [], ◌∷◌, ◌++◌, min, length, true, false, Ok, Err, sym, subst, ◌∙◌, arith, Bool}
 use Rattle.sqlite.specs.State.{HasCleanDisk, IsUnchanged}
 use Rattle.sqlite.specs.Held.{state}
 use Rattle.creds.specs.Names.{is_name}
@@ -11,6 +11,8 @@ use Rattle.mailsql.specs.Changes.{AddsMaildrop}
 use Rattle.sqlvault.specs.Stands.{Holds}
 use Rattle.sqlvault.proofs.HoldsLemmas.{seen, holds_unchanged, holds_undone, holds_changed, refused}
 use Rattle.sqlvault.proofs.MaildropLemmas.{there_is, count_is, keeps_added, full, added}
+use Rattle.sqlvault.proofs.StopLemmas.{changed}
+use Rattle.sqlvault.specs.Keeps.{Keeps}
 use Rattle.sqlvault.proofs.maildrops.add_maildrop.Goals as goal
 
 pub returns-then-count-ge-MAX_MAILDROPS-clause-done : goal.returns-then-count-ge-MAX_MAILDROPS-clause-done
@@ -77,3 +79,53 @@ returns-in-Err-add_maildrop-clause-done g c held clean3 h0 =
     let h2 = holds_unchanged s1 s2 held (c.in-Ok.ensures.same clean2 h1.tables) h1 in
     refused (Holds s3) held (with_maildrops (with_maildrop c.args.name.now held.maildrops) held) (put_result (put_maildrop_answer c.args.name.now held.maildrops)) c.in-Err-add_maildrop.error
     (holds_undone s2 s3 held (c.in-Err-add_maildrop.ensures.err clean3) h2)
+
+pub returns-in-Ok-add_maildrop-clause-stop : goal.returns-in-Ok-add_maildrop-clause-stop
+returns-in-Ok-add_maildrop-clause-stop g c held clean3 up h0 =
+    let text = c.as_bytes-text.result.now in
+    let form : is_name text ≡ true = subst (λ n. is_name n ≡ true) (sym c.as_bytes-text.ensures.value) c.as_bytes-text.ensures.form in
+    let s0 = state g.S.Store c.args.conn.now in
+    let s1 = state g.S.Store c.has_maildrop.new.conn in
+    let s2 = state g.S.Store c.maildrop_count.new.conn in
+    let s3 = state g.S.Store c.add_maildrop.new.conn in
+    let clean2 : HasCleanDisk s2 = omega (arith, c.add_maildrop.ensures.survives.clean) in
+    let clean1 : HasCleanDisk s1 = omega (arith, c.maildrop_count.ensures.survives.clean) in
+    let same1 : IsUnchanged s0 s1 = c.in-Ok-false.ensures.same clean1 h0.tables in
+    let h1 = holds_unchanged s0 s1 held same1 h0 in
+    let same2 : IsUnchanged s1 s2 = c.in-Ok.ensures.same clean2 h1.tables in
+    let h2 = holds_unchanged s1 s2 held same2 h1 in
+    let new : is_one_of text held.maildrops ≡ false =
+    sym (there_is (rows_in s0.now.trees) held text (seen s0 s1 held same1 h0)) ∙ sym (c.in-Ok-false.ensures.ok clean1 h0.tables) ∙ c.in-Ok-false.field-0-test in
+    let count : c.in-Ok.count ≡ min (length held.maildrops) 9223372036854775807 =
+    count_is (rows_in s1.now.trees) held c.in-Ok.count 9223372036854775807 (seen s1 s2 held same2 h1) (c.in-Ok.ensures.ok clean2 h1.tables) in
+    let fits : length held.maildrops < most_maildrops = omega (arith, c.if-count-ge-MAX_MAILDROPS.false, count) in
+    changed (AddsMaildrop text) (λ Held. (x : Bool) × IsMaildropAdded Held held c.args.name.now (Ok x)) s2 s3 held (λ d o m. g.met.S.Store.settled c.maildrop_count.new.conn.store d o m) clean3 c.add_maildrop.ensures.survives same2.0.is_open
+    (λ from to change k. (
+      true,
+      subst (λ name. IsMaildropAdded (Keeps to) held name (Ok true)) c.as_bytes-text.ensures.value (added (Keeps to) held text new fits (keeps_added held text form new fits from to change k)),
+    )) h2
+
+pub returns-in-Err-add_maildrop-clause-stop : goal.returns-in-Err-add_maildrop-clause-stop
+returns-in-Err-add_maildrop-clause-stop g c held clean3 up h0 =
+    let text = c.as_bytes-text.result.now in
+    let form : is_name text ≡ true = subst (λ n. is_name n ≡ true) (sym c.as_bytes-text.ensures.value) c.as_bytes-text.ensures.form in
+    let s0 = state g.S.Store c.args.conn.now in
+    let s1 = state g.S.Store c.has_maildrop.new.conn in
+    let s2 = state g.S.Store c.maildrop_count.new.conn in
+    let s3 = state g.S.Store c.add_maildrop.new.conn in
+    let clean2 : HasCleanDisk s2 = omega (arith, c.add_maildrop.ensures.survives.clean) in
+    let clean1 : HasCleanDisk s1 = omega (arith, c.maildrop_count.ensures.survives.clean) in
+    let same1 : IsUnchanged s0 s1 = c.in-Ok-false.ensures.same clean1 h0.tables in
+    let h1 = holds_unchanged s0 s1 held same1 h0 in
+    let same2 : IsUnchanged s1 s2 = c.in-Ok.ensures.same clean2 h1.tables in
+    let h2 = holds_unchanged s1 s2 held same2 h1 in
+    let new : is_one_of text held.maildrops ≡ false =
+    sym (there_is (rows_in s0.now.trees) held text (seen s0 s1 held same1 h0)) ∙ sym (c.in-Ok-false.ensures.ok clean1 h0.tables) ∙ c.in-Ok-false.field-0-test in
+    let count : c.in-Ok.count ≡ min (length held.maildrops) 9223372036854775807 =
+    count_is (rows_in s1.now.trees) held c.in-Ok.count 9223372036854775807 (seen s1 s2 held same2 h1) (c.in-Ok.ensures.ok clean2 h1.tables) in
+    let fits : length held.maildrops < most_maildrops = omega (arith, c.if-count-ge-MAX_MAILDROPS.false, count) in
+    changed (AddsMaildrop text) (λ Held. (x : Bool) × IsMaildropAdded Held held c.args.name.now (Ok x)) s2 s3 held (λ d o m. g.met.S.Store.settled c.maildrop_count.new.conn.store d o m) clean3 c.add_maildrop.ensures.survives same2.0.is_open
+    (λ from to change k. (
+      true,
+      subst (λ name. IsMaildropAdded (Keeps to) held name (Ok true)) c.as_bytes-text.ensures.value (added (Keeps to) held text new fits (keeps_added held text form new fits from to change k)),
+    )) h2

@@ -10,6 +10,8 @@ use Rattle.mailsql.specs.Changes.{DropsMaildrop}
 use Rattle.sqlvault.specs.Stands.{Holds}
 use Rattle.sqlvault.proofs.HoldsLemmas.{seen, holds_unchanged, holds_undone, holds_changed, refused}
 use Rattle.sqlvault.proofs.MaildropLemmas.{there_is, present_rows, keeps_dropped, not_empty, dropped}
+use Rattle.sqlvault.proofs.StopLemmas.{changed}
+use Rattle.sqlvault.specs.Keeps.{Keeps}
 use Rattle.sqlvault.proofs.maildrops.drop_maildrop.Goals as goal
 
 pub returns-then-count-gt0-clause-done : goal.returns-then-count-gt0-clause-done
@@ -77,3 +79,51 @@ returns-in-Err-drop_maildrop-clause-done g c held clean3 h0 =
     let h2 = holds_unchanged s1 s2 held (c.in-Ok.ensures.same clean2 h1.tables) h1 in
     refused (Holds s3) held (with_maildrops (without_maildrop d held.maildrops) held) (drop_result (drop_answer (is_one_of d held.maildrops) (present_in d held))) c.in-Err-drop_maildrop.error
     (holds_undone s2 s3 held (c.in-Err-drop_maildrop.ensures.err clean3) h2)
+
+pub returns-in-Ok-drop_maildrop-clause-stop : goal.returns-in-Ok-drop_maildrop-clause-stop
+returns-in-Ok-drop_maildrop-clause-stop g c held clean3 up h0 =
+    let text = c.as_bytes-text.result.now in
+    let s0 = state g.S.Store c.args.conn.now in
+    let s1 = state g.S.Store c.has_maildrop.new.conn in
+    let s2 = state g.S.Store c.message_count.new.conn in
+    let s3 = state g.S.Store c.drop_maildrop.new.conn in
+    let clean2 : HasCleanDisk s2 = omega (arith, c.drop_maildrop.ensures.survives.clean) in
+    let clean1 : HasCleanDisk s1 = omega (arith, c.message_count.ensures.survives.clean) in
+    let same1 : IsUnchanged s0 s1 = c.in-Ok-true.ensures.same clean1 h0.tables in
+    let h1 = holds_unchanged s0 s1 held same1 h0 in
+    let same2 : IsUnchanged s1 s2 = c.in-Ok.ensures.same clean2 h1.tables in
+    let h2 = holds_unchanged s1 s2 held same2 h1 in
+    let there : is_one_of text held.maildrops ≡ true =
+    sym (there_is (rows_in s0.now.trees) held text (seen s0 s1 held same1 h0)) ∙ sym (c.in-Ok-true.ensures.ok clean1 h0.tables) ∙ c.in-Ok-true.field-0-test in
+    let count : c.in-Ok.count ≡ min (present_in text held) 9223372036854775807 =
+    present_rows (rows_in s1.now.trees) held text c.in-Ok.count 9223372036854775807 (seen s1 s2 held same2 h1) (c.in-Ok.ensures.ok clean2 h1.tables) in
+    let empty : present_in text held ≡ 0 = omega (arith, c.if-count-gt0.false, count) in
+    changed (DropsMaildrop text) (λ Held. (x : Unit {0}) × IsMaildropDropped Held held c.args.name.now (Ok x)) s2 s3 held (λ d o m. g.met.S.Store.settled c.message_count.new.conn.store d o m) clean3 c.drop_maildrop.ensures.survives same2.0.is_open
+    (λ from to change k. (
+      tt,
+      subst (λ name. IsMaildropDropped (Keeps to) held name (Ok tt)) c.as_bytes-text.ensures.value (dropped (Keeps to) held text there empty (keeps_dropped held text empty from to change k)),
+    )) h2
+
+pub returns-in-Err-drop_maildrop-clause-stop : goal.returns-in-Err-drop_maildrop-clause-stop
+returns-in-Err-drop_maildrop-clause-stop g c held clean3 up h0 =
+    let text = c.as_bytes-text.result.now in
+    let s0 = state g.S.Store c.args.conn.now in
+    let s1 = state g.S.Store c.has_maildrop.new.conn in
+    let s2 = state g.S.Store c.message_count.new.conn in
+    let s3 = state g.S.Store c.drop_maildrop.new.conn in
+    let clean2 : HasCleanDisk s2 = omega (arith, c.drop_maildrop.ensures.survives.clean) in
+    let clean1 : HasCleanDisk s1 = omega (arith, c.message_count.ensures.survives.clean) in
+    let same1 : IsUnchanged s0 s1 = c.in-Ok-true.ensures.same clean1 h0.tables in
+    let h1 = holds_unchanged s0 s1 held same1 h0 in
+    let same2 : IsUnchanged s1 s2 = c.in-Ok.ensures.same clean2 h1.tables in
+    let h2 = holds_unchanged s1 s2 held same2 h1 in
+    let there : is_one_of text held.maildrops ≡ true =
+    sym (there_is (rows_in s0.now.trees) held text (seen s0 s1 held same1 h0)) ∙ sym (c.in-Ok-true.ensures.ok clean1 h0.tables) ∙ c.in-Ok-true.field-0-test in
+    let count : c.in-Ok.count ≡ min (present_in text held) 9223372036854775807 =
+    present_rows (rows_in s1.now.trees) held text c.in-Ok.count 9223372036854775807 (seen s1 s2 held same2 h1) (c.in-Ok.ensures.ok clean2 h1.tables) in
+    let empty : present_in text held ≡ 0 = omega (arith, c.if-count-gt0.false, count) in
+    changed (DropsMaildrop text) (λ Held. (x : Unit {0}) × IsMaildropDropped Held held c.args.name.now (Ok x)) s2 s3 held (λ d o m. g.met.S.Store.settled c.message_count.new.conn.store d o m) clean3 c.drop_maildrop.ensures.survives same2.0.is_open
+    (λ from to change k. (
+      tt,
+      subst (λ name. IsMaildropDropped (Keeps to) held name (Ok tt)) c.as_bytes-text.ensures.value (dropped (Keeps to) held text there empty (keeps_dropped held text empty from to change k)),
+    )) h2

@@ -8,6 +8,7 @@ use Rattle.mailsql.specs.Rows.{rows_in}
 use Rattle.sqlvault.specs.Keeps.{row_key}
 use Rattle.sqlvault.proofs.HoldsLemmas.{seen, has_tables, holds_unchanged, met, holds_undone}
 use Rattle.sqlvault.proofs.PageLemmas.{sheet_read, no_sheet, page_at, no_page, low_place}
+use Rattle.sqlvault.proofs.StopLemmas.{looked}
 use Rattle.sqlvault.proofs.pages.page.Goals as goal
 
 pub returns-in-Ok-Some-clause-done : goal.returns-in-Ok-Some-clause-done
@@ -47,3 +48,7 @@ returns-in-Err-clause-done g c held clean h = record {
   answer = met (Ok 0) c.in-Err.error;
   held = holds_undone (state g.S.Store c.args.conn.now) (state g.S.Store c.find_sheet.new.conn) held (c.in-Err.ensures.err clean h.tables) h;
 }
+
+pub returns-in-Err-clause-stop : goal.returns-in-Err-clause-stop
+returns-in-Err-clause-stop g c held clean up h =
+    looked (state g.S.Store c.args.conn.now) (state g.S.Store c.find_sheet.new.conn) held (λ d o m. g.met.S.Store.settled c.args.conn.now.store d o m) clean c.find_sheet.ensures.survives up h

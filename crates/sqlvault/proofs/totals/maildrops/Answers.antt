@@ -29,3 +29,8 @@ returns-in-Ok-clause-done g c held clean h =
 pub returns-clause-done : goal.returns-clause-done
 returns-clause-done g c held clean h =
     refused (Holds (state g.S.Store c.names.new.conn)) held held (Ok (totals (records_of held))) c.in-Err.error (c.names.ensures.held held clean h)
+
+pub returns-in-Ok-clause-stop : goal.returns-in-Ok-clause-stop
+returns-in-Ok-clause-stop g c held clean up h =
+    let clean1 : HasCleanDisk (state g.S.Store c.names.new.conn) = c.totals_of.ensures.clean clean in
+    c.totals_of.ensures.stop held clean (c.in-Ok.ensures.up held clean1 up h) (c.names.ensures.held held clean1 h)

@@ -3,9 +3,13 @@ use Rattle.std.proofs.Common.{Ok}
 use Rattle.vault.specs.Changes.{totals, records_of}
 use Rattle.vault.proofs.DoneLemmas.{looked}
 use Rattle.vault.proofs.TotalLemmas.{totals_are}
+use Rattle.vault.proofs.StopLemmas.{left_held}
 use Rattle.vault.proofs.plain.PlainVaultVault.maildrops.Goals as goal
 
 pub returns-clause-done : goal.returns-clause-done
 returns-clause-done c = λ b held clean.
     looked (λ k. Ok (totals (records_of k))) _ _ b _ c.self.view_is held
     (λ k. rw (← totals_are _ k.sound, ← c.deref.ensures.value, ← c.deref-2.ensures.value) c.totals_of.ensures.answer)
+
+pub returns-clause-stop : goal.returns-clause-stop
+returns-clause-stop c b clean up held left may = left_held _ b left may held

@@ -1,0 +1,107 @@
+-- What a stop leaves after each statement of a call, and after the call.
+use Rattle.std.proofs.Common.{◌≡◌, ◌⊎◌, inl, inr, ℕ, List, Bool, true, false, cond, IsTrue, Result, Ok, Err, sym, ap, subst, ◌∙◌}
+use Rattle.sqlite_trees.specs.declared.store.Store.{Ghosts}
+use Rattle.sqlite_trees.specs.Tree.{Trees}
+use Rattle.sqlite.specs.Effect.{Database}
+use Rattle.sqlite.specs.Held.{Held as Conn, state}
+use Rattle.sqlite.specs.declared.error.Error.{Error}
+use Rattle.sqlite.specs.State.{State, HasCleanDisk, Survives}
+use Rattle.vault.specs.declared.answer.Deposited.{Deposited}
+use Rattle.vault.specs.declared.answer.Deposited.TheVariants as stored
+use Rattle.vault.specs.declared.fault.VaultFault.{VaultFault}
+use Rattle.vault.specs.declared.fault.VaultFault.TheVariants as fault
+use Rattle.vault.specs.Changes.{Contents}
+use Rattle.vault.specs.Calls.{IsDone, IsDeposited}
+use Rattle.vault.specs.Stops.{SaySame, IsOwn}
+use Rattle.mailsql.specs.Rows.{Rows, rows_in, IsOurs, MayLeave}
+use Rattle.sqlvault.specs.Keeps.{Keeps}
+use Rattle.sqlvault.specs.Stands.{Holds, Leaves}
+use Rattle.sqlvault.specs.Refusals.{is_memory, fault_of}
+use Rattle.sqlvault.specs.Stops.{MayHold, LeavesLast, LeavesHeld, LeavesOr, StopsBefore, leaves_last}
+use Rattle.sqlvault.proofs.WithinLemmas.{leaves_on}
+
+-- ---- a statement outside a transaction
+
+-- a query commits nothing
+pub looked : (old new : State) (c : Contents) → LeavesLast old → HasCleanDisk new → Survives old new (λ _. IsOurs old.now → ⊥) → IsTrue old.is_open → Holds old c → LeavesHeld new c
+looked old new c law clean s up h db may = elim (s.crash clean db may) [ inl was ↦ leaves_last old c law up h db was | inr none ↦ absurd (none (h.tables up).0) ]
+
+-- nor does the beginning of a transaction
+pub begins : (old new : State) (c : Contents) → LeavesLast old → HasCleanDisk new → Survives old new (λ _. ⊥) → IsTrue old.is_open → Holds old c → LeavesHeld new c
+begins old new c law clean s up h = leaves_on (λ rows. Keeps rows c) old new clean s (leaves_last old c law up h)
+
+-- a change is committed, or it is not
+pub changed : (Change : Rows → Rows → Type 0) (After : (Contents → Type 0) → Type 0) (old new : State) (c : Contents) → LeavesLast old → HasCleanDisk new → Survives old new (MayLeave Change old)
+    → IsTrue old.is_open → ((from to : Rows) → Change from to → Keeps from c → After (Keeps to)) → Holds old c → LeavesOr new c After
+changed Change After old new c law clean s up keeps h db may = elim (s.crash clean db may) [
+  | inl was ↦ inl (leaves_last old c law up h db was)
+  | inr made ↦ inr (keeps (rows_in old.now.trees) (rows_in db) (made (up, h.tables up)).1 (h.rows up))
+]
+
+-- what is left as before is one of the two
+pub before_or : (After : (Contents → Type 0) → Type 0) (s : State) (c : Contents) → LeavesHeld s c → LeavesOr s c After
+before_or After s c left db may = inl (left db may)
+
+-- and what comes of a call may be said in other words
+pub or_said : (After Said : (Contents → Type 0) → Type 0) (s : State) (c : Contents) → ((Held : Contents → Type 0) → After Held → Said Held) → LeavesOr s c After → LeavesOr s c Said
+or_said After Said s c say left db may = elim (left db may) [ inl was ↦ inl was | inr made ↦ inr (say (Keeps (rows_in db)) made) ]
+
+-- a statement's error is no answer of the call's own
+pub not_own : (A : Type 0) (e : Error) → (let r : Result A VaultFault = Err (fault_of e) in IsOwn r) → ⊥
+not_own A e = at (is_memory e)
+  where
+    at : (b : Bool) → (let r : Result A VaultFault = Err (cond b fault.NoMemory fault.Store) in IsOwn r) → ⊥
+    at true own = own
+    at false own = own
+
+-- ---- a call
+
+pub left_as : (s : State) (c left : Contents) → LeavesHeld s c → MayHold s left → SaySame left c
+left_as s c left leaves may = may.2 c (leaves may.0 may.1)
+
+-- a call that changes records
+pub left_done : {A : Type 0} (expected : Result A VaultFault) (s : State) (c after left : Contents) → LeavesOr s c (λ Held. (x : A) × IsDone Held c after expected (Ok x)) → MayHold s left
+    → SaySame left c ⊎ ((x : A) × IsDone (SaySame left) c after expected (Ok x))
+left_done expected s c after left leaves may = elim (leaves may.0 may.1) [
+  | inl was ↦ inl (may.2 c was)
+  | inr made ↦ inr (made.0, record { answer = made.1.answer; held = may.2 after made.1.held })
+]
+
+-- a deposit
+pub left_deposited : (s : State) (c left : Contents) (d class id text : List ℕ) → LeavesOr s c (λ Held. (x : Deposited) × IsDeposited Held c d class id text (Ok x)) → MayHold s left
+    → SaySame left c ⊎ ((x : Deposited) × IsDeposited (SaySame left) c d class id text (Ok x))
+left_deposited s c left d class id text leaves may = elim (leaves may.0 may.1) [
+  | inl was ↦ inl (may.2 c was)
+  | inr made ↦ inr (made.0, at made.0 made.1)
+]
+  where
+    at : (x : Deposited) → IsDeposited (Keeps (rows_in may.0)) c d class id text (Ok x) → IsDeposited (SaySame left) c d class id text (Ok x)
+    at (stored.New uid) k = record { answer = k.answer; held = (k.held.0, may.2 _ k.held.1) }
+    at (stored.Known uid) k = record { answer = k.answer; held = may.2 c k.held }
+
+-- ---- a call of a vault, over the connection inside it
+
+pub looked_as : {S : Type 0} (g : Ghosts S) (old was new now : Conn S) (c left : Contents) → was ≡ old → new ≡ now → StopsBefore (state g was) (state g now) → HasCleanDisk (state g new)
+    → IsTrue (state g old).is_open → Holds (state g old) c → MayHold (state g new) left → SaySame left c
+looked_as {S} g old was new now c left e f stop clean up h may =
+    left_as (state g now) c left
+    (stop c (subst (λ (x : Conn S). HasCleanDisk (state g x)) f clean) (subst (λ (x : Conn S). IsTrue (state g x).is_open) (sym e) up) (subst (λ (x : Conn S). Holds (state g x) c) (sym e) h))
+    (subst (λ (x : Conn S). MayHold (state g x) left) f may)
+
+pub done_as : {A S : Type 0} (g : Ghosts S) (expected : Result A VaultFault) (old was new now : Conn S) (c after left : Contents) → was ≡ old → new ≡ now
+    → (HasCleanDisk (state g now) → IsTrue (state g was).is_open → Holds (state g was) c → LeavesOr (state g now) c (λ Held. (x : A) × IsDone Held c after expected (Ok x)))
+    → HasCleanDisk (state g new) → IsTrue (state g old).is_open → Holds (state g old) c → MayHold (state g new) left
+    → SaySame left c ⊎ ((x : A) × IsDone (SaySame left) c after expected (Ok x))
+done_as {A} {S} g expected old was new now c after left e f stop clean up h may =
+    left_done expected (state g now) c after left
+    (stop (subst (λ (x : Conn S). HasCleanDisk (state g x)) f clean) (subst (λ (x : Conn S). IsTrue (state g x).is_open) (sym e) up) (subst (λ (x : Conn S). Holds (state g x) c) (sym e) h))
+    (subst (λ (x : Conn S). MayHold (state g x) left) f may)
+
+pub deposited_as : {S : Type 0} (g : Ghosts S) (old was new now : Conn S) (c left : Contents) (d class id text : List ℕ) → was ≡ old → new ≡ now
+    → (HasCleanDisk (state g now) → IsTrue (state g was).is_open → Holds (state g was) c → LeavesOr (state g now) c (λ Held. (x : Deposited) × IsDeposited Held c d class id text (Ok x)))
+    → HasCleanDisk (state g new) → IsTrue (state g old).is_open → Holds (state g old) c → MayHold (state g new) left
+    → SaySame left c ⊎ ((x : Deposited) × IsDeposited (SaySame left) c d class id text (Ok x))
+deposited_as {S} g old was new now c left d class id text e f stop clean up h may =
+    left_deposited (state g now) c left d class id text
+    (stop (subst (λ (x : Conn S). HasCleanDisk (state g x)) f clean) (subst (λ (x : Conn S). IsTrue (state g x).is_open) (sym e) up) (subst (λ (x : Conn S). Holds (state g x) c) (sym e) h))
+    (subst (λ (x : Conn S). MayHold (state g x) left) f may)

@@ -1,0 +1,14 @@
+use Rattle.std.proofs.Common.{◌≡◌, pos, length, sym, ap, ◌∙◌, rules, SFits, w64, to_z, of_z, to_z-of_z}
+use Rattle.sqlite.specs.Held.{state}
+use Rattle.mailsql.specs.Rows.{rows_in}
+use Rattle.sqlvault.proofs.PieceLemmas.{piece_found}
+use Rattle.sqlvault.proofs.sound_messages.find_piece.Goals as goal
+
+pub returns-then-as_slice-size-clause-judged : goal.returns-then-as_slice-size-clause-judged
+returns-then-as_slice-size-clause-judged g c clean h =
+    let s0 = state g.S.Store c.args.conn.now in
+    let e = c.in-Ok-Some.ensures.ok clean h in
+    let mail : to_z w64 (of_z w64 c.args.mail) ≡ c.args.mail = (let f : SFits w64 c.args.mail = search rules in to_z-of_z f) in
+    let fits : SFits w64 c.from.result = search rules in
+    let place : to_z w64 (of_z w64 c.from.result) ≡ pos c.args.place = to_z-of_z fits ∙ c.from.ensures in
+    piece_found (rows_in s0.now.trees) c.args.mail c.args.place c.args.size c.in-Ok-Some.sheet (sym c.in-Ok-Some.field-0-is ∙ rw (mail, place) at e) (ap length (sym c.as_slice.ensures) ∙ c.if-as_slice-size.true)

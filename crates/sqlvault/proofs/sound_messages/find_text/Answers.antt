@@ -1,0 +1,40 @@
+use Rattle.std.proofs.Common.{◌≡◌, ◌++◌, rules, ap, ◌∙◌, SFits, w64, to_z, of_z, to_z-of_z}
+use Rattle.sqlite.specs.Held.{state}
+use Rattle.mailsql.specs.Rows.{rows_in}
+use Rattle.sqlvault.proofs.PieceLemmas.{text_lacks, text_more}
+use Rattle.sqlvault.proofs.StayLemmas.{tables_of, leaves_on, stays_more, tables_stay, rows_stay}
+use Rattle.sqlvault.proofs.sound_messages.find_text.Goals as goal
+
+pub returns-in-Ok-None-clause-judged : goal.returns-in-Ok-None-clause-judged
+returns-in-Ok-None-clause-judged g c clean h =
+    let s0 = state g.S.Store c.args.conn.now in
+    let s1 = state g.S.Store c.loop-place.conn in
+    let was = c.loop-place.invariant.1 (c.find_piece.ensures.clean clean) h in
+    let mail : to_z w64 (of_z w64 c.args.mail) ≡ c.args.mail = (let f : SFits w64 c.args.mail = search rules in to_z-of_z f) in
+    let judged = c.in-Ok-None.ensures.judged clean (tables_stay s0 s1 was.0 h) in
+    text_lacks (rows_in s0.now.trees) (rows_in s1.now.trees) c.args.mail (to_z w64 (of_z w64 c.args.mail)) c.args.octets c.loop-place.place c.min-size.result c.div_ceil-place-end.result c.in-Ok-None.field-0
+    (rows_stay s0 s1 was.0) mail c.in-Ok-None.field-0-is c.div_ceil-place-end.ensures c.loop-place-test.true c.min-size.ensures judged
+
+pub loop-place-preserved : goal.loop-place-preserved
+loop-place-preserved g c = (
+  (λ clean. c.loop-place.invariant.0 (c.find_piece.ensures.clean clean)),
+  λ clean h.
+      let s0 = state g.S.Store c.args.conn.now in
+      let s1 = state g.S.Store c.loop-place.conn in
+      let s2 = state g.S.Store c.find_piece.new.conn in
+      let was = c.loop-place.invariant.1 (c.find_piece.ensures.clean clean) h in
+      let mail : to_z w64 (of_z w64 c.args.mail) ≡ to_z w64 (of_z w64 c.args.mail) = λ i. to_z w64 (of_z w64 c.args.mail) in
+      let tables = tables_stay s0 s1 was.0 h in
+      let judged = c.in-Ok-Some.ensures.judged clean tables in (
+        stays_more s0 s1 s2 was.0 (c.in-Ok-Some.ensures.goes clean tables),
+        text_more (rows_in s0.now.trees) (rows_in s1.now.trees) (to_z w64 (of_z w64 c.args.mail)) (to_z w64 (of_z w64 c.args.mail)) c.args.octets c.loop-place.place c.min-size.result c.div_ceil-place-end.result c.in-Ok-Some.field-0 c.in-Ok-Some.sheet
+            c.loop-place.text.items c.extend_from_slice.new.self.items
+            (rows_stay s0 s1 was.0) mail c.in-Ok-Some.field-0-is c.div_ceil-place-end.ensures c.loop-place-test.true c.min-size.ensures judged was.1 (c.in_ok-extend_from_slice-in-Ok-Some.ensures.items ∙ ap (λ l. c.loop-place.text.items ++ l) c.as_slice.ensures),
+      ),
+  λ clean ready.
+      let s0 = state g.S.Store c.args.conn.now in
+      let s1 = state g.S.Store c.loop-place.conn in
+      let s2 = state g.S.Store c.find_piece.new.conn in
+      let clean1 = c.find_piece.ensures.clean clean in
+      leaves_on s0 s1 s2 (c.loop-place.invariant.1 clean1 (tables_of s0 ready)).0 ready (c.loop-place.invariant.2 clean1 ready) (c.find_piece.ensures.stop clean),
+)

@@ -1,0 +1,33 @@
+use Rattle.std.proofs.Common.{ℕ, pos, ◌≤ℤ◌, Vec, Global, nat_abs, arith, rules, subst, SFits, w64, to_z, of_z}
+use Rattle.std.proofs.Math.Facts as back
+use Rattle.std.proofs.lemmas.Int.{ints, to_z-of_z}
+use Rattle.sqlite.specs.Held.{state}
+use Rattle.mailsql.specs.Rows.{rows_in}
+use Rattle.sqlvault.specs.Parts.{Finds}
+use Rattle.sqlvault.specs.Stored.{IsNumber}
+use Rattle.sqlvault.proofs.StayLemmas.{tables_stay, rows_stay}
+use Rattle.sqlvault.proofs.StoredLemmas.{number_stored, kept_judged, text_read, octets_back}
+use Rattle.sqlvault.proofs.sound_messages.is_message_sound.Goals as goal
+
+pub returns-in-Ok-false-clause-judged : goal.returns-in-Ok-false-clause-judged
+returns-in-Ok-false-clause-judged g c deposits clean h d =
+    let s0 = state g.S.Store c.args.conn.now in
+    let none = subst (Finds (IsNumber deposits c.args.row.now)) c.in-Ok-false.field-0-test (c.in-Ok-false.ensures.judged deposits clean h d) in
+    λ x s. none x.message.k (number_stored (rows_in s0.now.trees) deposits c.args.row.now x d s)
+
+pub returns-in-Ok-Some-clause-judged : goal.returns-in-Ok-Some-clause-judged
+returns-in-Ok-Some-clause-judged g c deposits clean h d =
+    let s0 = state g.S.Store c.args.conn.now in
+    let s1 = state g.S.Store c.is_numbered.new.conn in
+    let clean1 = c.find_text.ensures.clean clean in
+    let stays = c.in-Ok-true.ensures.goes clean1 h in
+    let number = subst (Finds (IsNumber deposits c.args.row.now)) c.in-Ok-true.field-0-test (c.in-Ok-true.ensures.judged deposits clean1 h d) in
+    let judged = c.in-Ok-Some.ensures.judged clean (tables_stay s0 s1 stays h) in
+    let f : SFits w64 c.args.row.now.key = search rules in
+    let f2 : SFits w64 c.args.row.now.octets = search rules in
+    let low : pos 0 ≤ℤ c.args.row.now.octets = first_of (omega (arith, ints), grind (arith, ints, to_z-of_z), search (ints, rules)) in
+    let n = nat_abs (to_z w64 (of_z w64 c.args.row.now.octets)) in
+    let stay = rows_stay s0 s1 stays in
+    let text = text_read (λ (v : Vec ℕ Global). v.items) (rows_in s0.now.trees) (rows_in s1.now.trees) c.args.row.now.key (to_z w64 (of_z w64 c.args.row.now.key)) n c.in-Ok-Some.field-0 c.in-Ok-Some.text stay (back.to_z-of_z f) c.in-Ok-Some.field-0-is judged in
+    kept_judged (rows_in s0.now.trees) deposits c.args.row.now n c.in-Ok-Some.text.items c.deref.result.now c.is_kept.result c.is_kept.ensures c.deref.ensures.value text
+    (octets_back c.args.row.now.octets (to_z w64 (of_z w64 c.args.row.now.octets)) (back.to_z-of_z f2) low) f d number

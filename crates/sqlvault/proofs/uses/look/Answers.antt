@@ -1,0 +1,71 @@
+use Rattle.std.proofs.Common.{subst, sym, ap, ◌∙◌, ◌∷◌, []}
+use Rattle.sqlite.proofs.Callers.{memory_is_clean}
+use Rattle.vault.specs.Calls.{IsRefusal}
+use Rattle.mailsql.proofs.ResultLemmas.{if_passed_on}
+use Rattle.sqlvault.specs.Uses.{IsOfAnyCall, filled, head_of}
+use Rattle.sqlvault.proofs.UsesLemmas.{any, same_ok, one_head, one_total, first_key, page_is}
+use Rattle.sqlvault.proofs.uses.look.Goals as goal
+
+pub returns-in_err-totals-clause-cause : goal.returns-in_err-totals-clause-cause
+returns-in_err-totals-clause-cause c key h =
+    let s = c.args.stock.now in
+    let all = filled key s in
+    let e = c.in_err-totals.field-0.0 in
+    let done = c.in_err-totals.ensures.done all h (memory_is_clean c.maildrops.new.self.conn) in
+    if_passed_on c.from_residual.result e IsOfAnyCall c.from_residual.ensures.1 (any _ e done.answer)
+
+pub returns-in_err-heads-clause-cause : goal.returns-in_err-heads-clause-cause
+returns-in_err-heads-clause-cause c key h =
+    let s = c.args.stock.now in
+    let all = filled key s in
+    let counted = c.in_ok-totals.ensures.done all h (memory_is_clean c.maildrops.new.self.conn) in
+    let e = c.in_err-heads.field-0.0 in
+    let done = c.in_err-heads.ensures.done all counted.held (memory_is_clean c.heads.new.self.conn) in
+    if_passed_on c.from_residual-in_err-heads.result e IsOfAnyCall c.from_residual-in_err-heads.ensures.1 (any _ e (subst (λ r. IsRefusal r e) (one_head key s) done.answer))
+
+pub returns-in_err-octets_read-clause-cause : goal.returns-in_err-octets_read-clause-cause
+returns-in_err-octets_read-clause-cause c key h =
+    let s = c.args.stock.now in
+    let all = filled key s in
+    let counted = c.in_ok-totals.ensures.done all h (memory_is_clean c.maildrops.new.self.conn) in
+    let seen = c.in_ok-heads.ensures.done all counted.held (memory_is_clean c.heads.new.self.conn) in
+    let heads = same_ok _ _ (sym (one_head key s) ∙ seen.answer) in
+    let e = c.in_err-octets_read.field-0.0 in
+    let done = c.in_err-octets_read.ensures.done all seen.held (memory_is_clean c.page.new.self.conn) in
+    if_passed_on c.from_residual-in_err-octets_read.result e IsOfAnyCall c.from_residual-in_err-octets_read.ensures.1 (any _ e done.answer)
+
+pub returns-clause-same : goal.returns-clause-same
+returns-clause-same c key h =
+    let s = c.args.stock.now in
+    let all = filled key s in
+    let counted = c.in_ok-totals.ensures.done all h (memory_is_clean c.maildrops.new.self.conn) in
+    let seen = c.in_ok-heads.ensures.done all counted.held (memory_is_clean c.heads.new.self.conn) in
+    let heads = same_ok _ _ (sym (one_head key s) ∙ seen.answer) in
+    let read = c.in_ok-octets_read.ensures.done all seen.held (memory_is_clean c.page.new.self.conn) in
+    read.held
+
+pub returns-clause-key : goal.returns-clause-key
+returns-clause-key c key h =
+    let s = c.args.stock.now in
+    let all = filled key s in
+    let counted = c.in_ok-totals.ensures.done all h (memory_is_clean c.maildrops.new.self.conn) in
+    let seen = c.in_ok-heads.ensures.done all counted.held (memory_is_clean c.heads.new.self.conn) in
+    let heads = same_ok _ _ (sym (one_head key s) ∙ seen.answer) in
+    first_key key s c.deref.result.now c.in_ok-heads.heads.items c.in-Some.head.now c.in-Some.ensures.value c.deref.ensures.value heads
+
+pub returns-clause-shown : goal.returns-clause-shown
+returns-clause-shown c key h =
+    let s = c.args.stock.now in
+    let all = filled key s in
+    let counted = c.in_ok-totals.ensures.done all h (memory_is_clean c.maildrops.new.self.conn) in
+    let seen = c.in_ok-heads.ensures.done all counted.held (memory_is_clean c.heads.new.self.conn) in
+    let heads = same_ok _ _ (sym (one_head key s) ∙ seen.answer) in
+    let read = c.in_ok-octets_read.ensures.done all seen.held (memory_is_clean c.page.new.self.conn) in
+    let named = first_key key s c.deref.result.now c.in_ok-heads.heads.items c.in-Some.head.now c.in-Some.ensures.value c.deref.ensures.value heads in
+    let page = page_is key c.in-Some.head.now.key s c.page.new.buffer c.in_ok-octets_read.octets_read named read.answer in
+    record {
+      total = same_ok _ _ counted.answer ∙ one_total key s;
+      head = heads ∙ ap (λ k. head_of k s ∷ []) (sym named);
+      fits = page.0;
+      page = page.1;
+    }

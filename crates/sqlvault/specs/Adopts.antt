@@ -1,0 +1,116 @@
+-- What adopting a connection comes to: its lists are those that its tables hold, or empty where it had no tables.
+use Rattle.std.specs.Prelude.{◌≡◌, ◌≢◌, ◌⊎◌, false, IsTrue, ⊤, Result, Ok, Err, Some, [], ◌∷◌, codes}
+use Rattle.std.specs.List.{find}
+use Rattle.sqlite_disk.specs.declared.Disk.{Ghosts}
+use Rattle.sqlite_wal.specs.Recovery.{Image}
+use Rattle.sqlite_store.specs.declared.store.FileStore.{FileStore}
+use Rattle.sqlite.specs.declared.error.Error.{Error}
+use Rattle.sqlite.specs.Held.{Held}
+use Rattle.sqlite.specs.Files.{file_state, IsOpened}
+use Rattle.sqlite.specs.Start.{FindsIn}
+use Rattle.sqlite.specs.Opening.{is_open_error}
+use Rattle.sqlite.specs.State.{State, HasCleanDisk}
+use Rattle.vault.specs.declared.fault.VaultFault.{VaultFault}
+use Rattle.vault.specs.declared.fault.VaultFault.TheVariants.{Store, NoMemory, NotOurs, OldVersion}
+use Rattle.vault.specs.Changes.{Contents}
+use Rattle.vault.specs.Plain.{no_contents}
+use Rattle.mailsql.specs.declared.rows.Mark.{Mark}
+use Rattle.sqlite_trees.specs.Tree.{Trees}
+use Rattle.mailsql.specs.Uses.{marked}
+use Rattle.mailsql.specs.Tables.{no_schema}
+use Rattle.mailsql.specs.Rows.{Rows, rows_in, IsKept, IsBare, is_mark}
+use Rattle.sqlvault.specs.Keeps.{Keeps, our_mark, version}
+use Rattle.sqlvault.specs.Opened.{Opened}
+use Rattle.sqlvault.specs.Refusals.{open_fault}
+use Rattle.sqlvault.specs.Stands.{Holds}
+
+-- the store has no table, index or view
+abbrev pub IsBlank : State → Type 0
+IsBlank s = IsBare no_schema s.now
+
+-- its tables are ours, and their rows are these contents
+abbrev pub Stores : State → Contents → Type 0
+Stores s c = IsKept s.now × Keeps (rows_in s.now.trees) c
+
+-- our mark has another version
+abbrev pub IsOfAnotherVersion : Rows → Type 0
+IsOfAnotherVersion rows = (mark : Mark) × (find (is_mark (codes "popbox")) rows.marks ≡ Some mark) × (mark.value ≢ version)
+
+-- A store without a table holds nothing from then on, and one whose tables are ours what they hold.
+pub record IsAdopted (old new : State) : Type 0 where
+  pub autocommit : old.in_transaction ≡ false
+  pub is_open : IsTrue new.is_open
+  pub blank : IsBlank old → Holds new no_contents
+  pub same : IsKept old.now → (new.now ≡ old.now) × (new.committed ≡ old.committed)
+  pub held : IsKept old.now → (c : Contents) × Keeps (rows_in old.now.trees) c
+  pub kept : (c : Contents) → Stores old c → Holds new c
+
+-- The tables aren't ours, or their rows are no contents; or a transaction is under way.
+pub record IsNotOurs (old : State) : Type 0 where
+  pub outside : old.in_transaction ≡ false → (IsBlank old → ⊥) × ((c : Contents) → Stores old c → ⊥)
+  pub version : old.in_transaction ≡ false → IsKept old.now → IsOfAnotherVersion (rows_in old.now.trees) → ⊥
+
+-- The store has no table, index or view, or just our tables. Nothing more is said of any other, which isn't clean.
+abbrev pub IsKnown : State → Type 0
+IsKnown s = IsBlank s ⊎ IsKept s.now
+
+-- why a connection is not adopted
+abbrev pub IsRefused : State → VaultFault → Type 0
+IsRefused old Store = ⊤
+IsRefused old NoMemory = ⊤
+IsRefused old NotOurs = IsNotOurs old
+IsRefused old OldVersion = (old.in_transaction ≡ false) × (IsBlank old → ⊥) × (IsKept old.now → IsOfAnotherVersion (rows_in old.now.trees))
+IsRefused old _ = ⊥
+
+-- the fault is one that adopting may answer
+abbrev pub IsAdoptFault : VaultFault → Type 0
+IsAdoptFault Store = ⊤
+IsAdoptFault NoMemory = ⊤
+IsAdoptFault NotOurs = ⊤
+IsAdoptFault OldVersion = ⊤
+IsAdoptFault _ = ⊥
+
+-- what the answer says
+abbrev pub Adopts : {A : Type 0} → State → State → Result A VaultFault → Type 0
+Adopts old new (Ok _) = IsAdopted old new
+Adopts old new (Err fault) = IsRefused old fault
+
+-- a stop leaves what it could leave before or, of a store without a table, one of ours that holds nothing
+abbrev pub LeavesEmptyToo : State → State → Type 0
+LeavesEmptyToo old new = (db : Trees) → new.may_leave db → old.may_leave db ⊎ (IsBlank old × (rows_in db ≡ marked version))
+
+-- the tables are as they were, and so is the transaction, if one is under way
+abbrev pub StaysAs : State → State → Type 0
+StaysAs old new = IsTrue new.is_open → IsTrue old.is_open × ((new.now ≡ old.now) × (new.committed ≡ old.committed)) × (new.in_transaction ≡ old.in_transaction)
+
+-- what the marks say of the version
+abbrev pub JudgesMarks : Rows → VaultFault → Type 0
+JudgesMarks rows Store = ⊤
+JudgesMarks rows NoMemory = ⊤
+JudgesMarks rows NotOurs = (rows.marks ≢ our_mark ∷ []) × (IsOfAnotherVersion rows → ⊥)
+JudgesMarks rows OldVersion = IsOfAnotherVersion rows
+JudgesMarks rows _ = ⊥
+
+-- the mark of our version is there alone, or why not
+abbrev pub IsMarked : {A : Type 0} → Rows → Result A VaultFault → Type 0
+IsMarked rows (Ok _) = rows.marks ≡ our_mark ∷ []
+IsMarked rows (Err fault) = JudgesMarks rows fault
+
+-- the files held this image: the connection found the database of it, and was then adopted
+pub record IsFoundIn {D : Type 0} {g : Ghosts D} (image : Image) (now : Held (FileStore D g)) : Type 0 where
+  pub first : Held (FileStore D g)
+  pub opened : IsOpened first
+  pub found : FindsIn image (file_state first)
+  pub adopted : IsKnown (file_state first) → IsAdopted (file_state first) (file_state now)
+  pub stop : IsKnown (file_state first) → LeavesEmptyToo (file_state first) (file_state now)
+
+-- the files weren't opened, for an error of the kit's, or they held this image, and the connection that found the database of it was refused
+abbrev pub IsRefusedIn : {D : Type 0} → Ghosts D → Image → VaultFault → Type 0
+IsRefusedIn {D} g image fault =
+    ((e : Error) × IsTrue (is_open_error e) × (fault ≡ open_fault e))
+    ⊎ ((first : Held (FileStore D g)) × (last : Held (FileStore D g)) × (HasCleanDisk (file_state last) → (IsOpened first × FindsIn image (file_state first)) × (IsKnown (file_state first) → IsRefused (file_state first) fault)))
+
+-- what opening files that held this image comes to
+abbrev pub OpensIn : {D : Type 0} {g : Ghosts D} → Image → Result (Opened (FileStore D g)) VaultFault → Type 0
+OpensIn image (Ok vault) = HasCleanDisk (file_state vault.conn) → IsFoundIn image vault.conn
+OpensIn {D} {g} image (Err fault) = IsRefusedIn g image fault

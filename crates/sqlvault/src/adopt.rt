@@ -1,0 +1,213 @@
+//! Taking over the tables of a connection.
+ghost use Rattle.std.specs.Prelude.{◌≡◌, true, false, IsTrue, IfOk, IfErr, OnOk, OnErr, Err, List, ℕ, [], ◌∷◌};
+ghost use Rattle.sqlite.specs.Held.{state};
+ghost use Rattle.sqlite.specs.State.{HasCleanDisk, IsUnchanged};
+ghost use Rattle.policy.specs.Policy.{Policy};
+ghost use Rattle.vault.specs.declared.record.Clerk as vault_clerk;
+ghost use Rattle.vault.specs.declared.record.Keyed as vault_keyed;
+ghost use Rattle.vault.specs.declared.record.Receipt as vault_receipt;
+ghost use Rattle.vault.specs.Plain.{no_contents};
+ghost use Rattle.mailsql.specs.Uses.{marked};
+ghost use Rattle.mailsql.specs.Rows.{HasTables, IsReady, IsUndone, IsHalted, IsBegun, GoesOn, rows_in, IsKept};
+ghost use Rattle.mailsql.specs.Apart.{AreApart};
+ghost use Rattle.sqlvault.specs.Keeps.{Keeps, our_mark, version};
+ghost use Rattle.sqlvault.specs.Parts.{Finds, ClerksAre, MaildropsAre, PolicyIs, DepositsAre, MessagesAre};
+ghost use Rattle.sqlvault.specs.Adopts.{Adopts, IsBlank, IsKnown, StaysAs, LeavesEmptyToo, IsAdoptFault, IsMarked};
+ghost use Rattle.vault.specs.declared.fault.VaultFault.TheVariants.{NotOurs};
+ghost use Rattle.mailsql.specs.Names.{is_taken, has_marks};
+ghost use Rattle.sqlvault.specs.declared.refusal.Refusal.TheVariants.{Answered};
+ghost use Rattle.sqlvault.specs.Refusals.{answer_of, told};
+ghost use Rattle.sqlvault.specs.Stands.{Holds, WasClean, LeavesNoMore};
+
+use crate::refusal::Refusal;
+use crate::sound_clerks::{are_clerks_sound, are_maildrops_sound};
+use crate::sound_deposits::are_deposits_sound;
+use crate::sound_messages::are_messages_sound;
+use crate::sound_rules::are_rules_sound;
+use crate::transaction::undo;
+use mailsql::schema::{has_columns, has_marks, is_taken, keys_hold};
+use mailsql::{meta, mode, tables};
+use sqlite::{Alter, Connection, Error};
+use std::alloc::Global;
+use vault::VaultFault;
+
+/// The version of the layout of the tables.
+const VERSION: i64 = 2;
+
+/// Makes the tables and the mark, inside a transaction.
+fn fill<S: Alter>(conn: &mut Connection<S>) -> Result<(), Error>
+    ensures filled { HasCleanDisk (state S.Store conn.new) → IsBegun (state S.Store conn.old) → OnOk result ((IsKept (state S.Store conn.new).now × (rows_in (state S.Store conn.new).now.trees ≡ marked version)) × GoesOn (state S.Store conn.old) (state S.Store conn.new)) }
+    ensures err { HasCleanDisk (state S.Store conn.new) → IsBegun (state S.Store conn.old) → OnErr result (IsHalted (state S.Store conn.old) (state S.Store conn.new)) }
+    ensures stop { HasCleanDisk (state S.Store conn.new) → IsBegun (state S.Store conn.old) → LeavesNoMore (state S.Store conn.old) (state S.Store conn.new) }
+    ensures clean { WasClean (state S.Store conn.old) (state S.Store conn.new) }
+{
+    match tables::create_tables(conn) {
+        Ok(()) => meta::add_mark(conn, b"popbox", VERSION),
+        Err(error) => Err(error),
+    }
+}
+
+/// Makes a store of a connection without tables, in one transaction.
+fn make<S: Alter>(conn: &mut Connection<S>) -> Result<(), Error>
+    ensures made { HasCleanDisk (state S.Store conn.new) → IsBlank (state S.Store conn.old) → OnOk result (IsTrue (state S.Store conn.new).is_open × Holds (state S.Store conn.new) no_contents) }
+    ensures stays { HasCleanDisk (state S.Store conn.new) → IsBlank (state S.Store conn.old) → (state S.Store conn.old).in_transaction ≡ false → (IsTrue (state S.Store conn.old).is_open → (state S.Store conn.old).now ≡ (state S.Store conn.old).committed) → OnErr result (StaysAs (state S.Store conn.old) (state S.Store conn.new)) }
+    ensures stop { HasCleanDisk (state S.Store conn.new) → IsBlank (state S.Store conn.old) → LeavesEmptyToo (state S.Store conn.old) (state S.Store conn.new) }
+    ensures clean { WasClean (state S.Store conn.old) (state S.Store conn.new) }
+{
+    match mode::begin(conn) {
+        Ok(()) => {}
+        Err(error) => return Err(error),
+    }
+    match fill(conn) {
+        Ok(()) => {}
+        Err(error) => return Err(undo(conn, error)),
+    }
+    match mode::commit(conn) {
+        Ok(()) => Ok(()),
+        Err(error) => Err(undo(conn, error)),
+    }
+}
+
+/// Whether the mark of our version is there, and no other mark.
+fn judge_marks<S: Alter>(alloc: Global, conn: &mut Connection<S>) -> Result<(), Refusal>
+    ensures judged { HasCleanDisk (state S.Store conn.new) → HasTables (state S.Store conn.old) → IsMarked (rows_in (state S.Store conn.old).now.trees) (answer_of result) }
+    ensures same { HasCleanDisk (state S.Store conn.new) → HasTables (state S.Store conn.old) → OnOk result (IsUnchanged (state S.Store conn.old) (state S.Store conn.new)) }
+    ensures err { HasCleanDisk (state S.Store conn.new) → HasTables (state S.Store conn.old) → OnErr result (IsUndone (state S.Store conn.old) (state S.Store conn.new)) }
+    ensures stop { HasCleanDisk (state S.Store conn.new) → IsReady (state S.Store conn.old) → LeavesNoMore (state S.Store conn.old) (state S.Store conn.new) }
+    ensures kinds { IfErr result (λ refusal. IsAdoptFault (told refusal)) }
+    ensures clean { WasClean (state S.Store conn.old) (state S.Store conn.new) }
+{
+    match meta::find_mark(alloc, conn, b"popbox") {
+        Ok(Some(mark)) => {
+            if mark.value != VERSION {
+                return Err(Refusal::Answered(VaultFault::OldVersion));
+            }
+        }
+        Ok(None) => return Err(Refusal::Answered(VaultFault::NotOurs)),
+        Err(error) => return Err(Refusal::Met(error)),
+    }
+    match meta::all_marks(alloc, conn) {
+        Ok(marks) => {
+            if marks.len() == 1 {
+                Ok(())
+            } else {
+                Err(Refusal::Answered(VaultFault::NotOurs))
+            }
+        }
+        Err(error) => Err(Refusal::Met(error)),
+    }
+}
+
+/// Whether the rows of the clerks and of the maildrops are sound.
+fn are_names_sound<S: Alter>(alloc: Global, conn: &mut Connection<S>) -> Result<bool, Error>
+    ensures judged { HasCleanDisk (state S.Store conn.new) → HasTables (state S.Store conn.old) → AreApart (rows_in (state S.Store conn.old).now.trees)
+        → IfOk result (Finds (λ (x : List vault_clerk.Clerk × List (List ℕ)). ClerksAre (rows_in (state S.Store conn.old).now.trees) x.0 × MaildropsAre (rows_in (state S.Store conn.old).now.trees) x.1)) }
+    ensures same { HasCleanDisk (state S.Store conn.new) → HasTables (state S.Store conn.old) → OnOk result (IsUnchanged (state S.Store conn.old) (state S.Store conn.new)) }
+    ensures err { HasCleanDisk (state S.Store conn.new) → HasTables (state S.Store conn.old) → OnErr result (IsUndone (state S.Store conn.old) (state S.Store conn.new)) }
+    ensures stop { HasCleanDisk (state S.Store conn.new) → IsReady (state S.Store conn.old) → LeavesNoMore (state S.Store conn.old) (state S.Store conn.new) }
+    ensures clean { WasClean (state S.Store conn.old) (state S.Store conn.new) }
+{
+    match are_clerks_sound(alloc, conn) {
+        Ok(true) => are_maildrops_sound(alloc, conn),
+        Ok(false) => Ok(false),
+        Err(error) => Err(error),
+    }
+}
+
+/// Whether the rows of the clerks, the maildrops and the rules are sound.
+fn are_lists_sound<S: Alter>(alloc: Global, conn: &mut Connection<S>) -> Result<bool, Error>
+    ensures judged { HasCleanDisk (state S.Store conn.new) → HasTables (state S.Store conn.old) → AreApart (rows_in (state S.Store conn.old).now.trees)
+        → IfOk result (Finds (λ (x : (List vault_clerk.Clerk × List (List ℕ)) × Policy). (ClerksAre (rows_in (state S.Store conn.old).now.trees) x.0.0 × MaildropsAre (rows_in (state S.Store conn.old).now.trees) x.0.1) × PolicyIs (rows_in (state S.Store conn.old).now.trees) x.1)) }
+    ensures same { HasCleanDisk (state S.Store conn.new) → HasTables (state S.Store conn.old) → OnOk result (IsUnchanged (state S.Store conn.old) (state S.Store conn.new)) }
+    ensures err { HasCleanDisk (state S.Store conn.new) → HasTables (state S.Store conn.old) → OnErr result (IsUndone (state S.Store conn.old) (state S.Store conn.new)) }
+    ensures stop { HasCleanDisk (state S.Store conn.new) → IsReady (state S.Store conn.old) → LeavesNoMore (state S.Store conn.old) (state S.Store conn.new) }
+    ensures clean { WasClean (state S.Store conn.old) (state S.Store conn.new) }
+{
+    match are_names_sound(alloc, conn) {
+        Ok(true) => are_rules_sound(alloc, conn),
+        Ok(false) => Ok(false),
+        Err(error) => Err(error),
+    }
+}
+
+/// Whether the rows of the deposits, the counts, the messages and their sheets are sound.
+fn is_mail_sound<S: Alter>(alloc: Global, conn: &mut Connection<S>) -> Result<bool, Error>
+    ensures judged { HasCleanDisk (state S.Store conn.new) → HasTables (state S.Store conn.old) → AreApart (rows_in (state S.Store conn.old).now.trees)
+        → MaildropsAre (rows_in (state S.Store conn.old).now.trees) (rows_in (state S.Store conn.old).now.trees).maildrops
+        → IfOk result (Finds (λ (x : List vault_receipt.Receipt × List vault_keyed.Keyed). DepositsAre (rows_in (state S.Store conn.old).now.trees) x.0 × MessagesAre (rows_in (state S.Store conn.old).now.trees) x.0 x.1)) }
+    ensures same { HasCleanDisk (state S.Store conn.new) → HasTables (state S.Store conn.old) → OnOk result (IsUnchanged (state S.Store conn.old) (state S.Store conn.new)) }
+    ensures err { HasCleanDisk (state S.Store conn.new) → HasTables (state S.Store conn.old) → OnErr result (IsUndone (state S.Store conn.old) (state S.Store conn.new)) }
+    ensures stop { HasCleanDisk (state S.Store conn.new) → IsReady (state S.Store conn.old) → LeavesNoMore (state S.Store conn.old) (state S.Store conn.new) }
+    ensures clean { WasClean (state S.Store conn.old) (state S.Store conn.new) }
+{
+    match are_deposits_sound(alloc, conn) {
+        Ok(true) => are_messages_sound(alloc, conn),
+        Ok(false) => Ok(false),
+        Err(error) => Err(error),
+    }
+}
+
+/// Whether the rows under the mark are sound records.
+fn are_rows_sound<S: Alter>(alloc: Global, conn: &mut Connection<S>) -> Result<bool, Error>
+    ensures judged { HasCleanDisk (state S.Store conn.new) → HasTables (state S.Store conn.old) → (rows_in (state S.Store conn.old).now.trees).marks ≡ our_mark ∷ []
+        → IfOk result (Finds (Keeps (rows_in (state S.Store conn.old).now.trees))) }
+    ensures same { HasCleanDisk (state S.Store conn.new) → HasTables (state S.Store conn.old) → OnOk result (IsUnchanged (state S.Store conn.old) (state S.Store conn.new)) }
+    ensures err { HasCleanDisk (state S.Store conn.new) → HasTables (state S.Store conn.old) → OnErr result (IsUndone (state S.Store conn.old) (state S.Store conn.new)) }
+    ensures stop { HasCleanDisk (state S.Store conn.new) → IsReady (state S.Store conn.old) → LeavesNoMore (state S.Store conn.old) (state S.Store conn.new) }
+    ensures clean { WasClean (state S.Store conn.old) (state S.Store conn.new) }
+{
+    keys_hold(conn);
+    match are_lists_sound(alloc, conn) {
+        Ok(true) => is_mail_sound(alloc, conn),
+        Ok(false) => Ok(false),
+        Err(error) => Err(error),
+    }
+}
+
+/// Judges the tables that a store under our names has.
+fn judge<S: Alter>(alloc: Global, conn: &mut Connection<S>) -> Result<(), Refusal>
+    ensures adopted { HasCleanDisk (state S.Store conn.new) → (state S.Store conn.old).in_transaction ≡ false → (IsTrue (state S.Store conn.old).is_open → (state S.Store conn.old).now ≡ (state S.Store conn.old).committed) → IsKept (state S.Store conn.old).now → Adopts (state S.Store conn.old) (state S.Store conn.new) (answer_of result) }
+    ensures stays { HasCleanDisk (state S.Store conn.new) → (state S.Store conn.old).in_transaction ≡ false → (IsTrue (state S.Store conn.old).is_open → (state S.Store conn.old).now ≡ (state S.Store conn.old).committed) → IsKept (state S.Store conn.old).now → OnErr result (StaysAs (state S.Store conn.old) (state S.Store conn.new)) }
+    ensures stop { HasCleanDisk (state S.Store conn.new) → IsReady (state S.Store conn.old) → LeavesNoMore (state S.Store conn.old) (state S.Store conn.new) }
+    ensures kinds { IfErr result (λ refusal. IsAdoptFault (told refusal)) }
+    ensures clean { WasClean (state S.Store conn.old) (state S.Store conn.new) }
+{
+    match judge_marks(alloc, conn) {
+        Ok(()) => {}
+        Err(refusal) => return Err(refusal),
+    }
+    if !has_columns(conn) {
+        return Err(Refusal::Answered(VaultFault::NotOurs));
+    }
+    match are_rows_sound(alloc, conn) {
+        Ok(true) => Ok(()),
+        Ok(false) => Err(Refusal::Answered(VaultFault::NotOurs)),
+        Err(error) => Err(Refusal::Met(error)),
+    }
+}
+
+/// Makes our tables where the connection has none of our names, else judges those that it has.
+pub(crate) fn settle<S: Alter>(alloc: Global, conn: &mut Connection<S>) -> Result<(), Refusal>
+    ensures adopted { HasCleanDisk (state S.Store conn.new) → IsKnown (state S.Store conn.old) → Adopts (state S.Store conn.old) (state S.Store conn.new) (answer_of result) }
+    ensures stays { HasCleanDisk (state S.Store conn.new) → IsKnown (state S.Store conn.old) → OnErr result (StaysAs (state S.Store conn.old) (state S.Store conn.new)) }
+    ensures stop { HasCleanDisk (state S.Store conn.new) → IsKnown (state S.Store conn.old) → IsTrue (state S.Store conn.old).is_open → LeavesEmptyToo (state S.Store conn.old) (state S.Store conn.new) }
+    ensures inside { IsTrue (state S.Store conn.old).in_transaction → (result ≡ Err (Answered NotOurs)) × (conn.new ≡ conn.old) }
+    ensures taken { (state S.Store conn.old).in_transaction ≡ false → is_taken (state S.Store conn.old).now.schema ≡ true → has_marks (state S.Store conn.old).now.schema.tables ≡ false
+        → (result ≡ Err (Answered NotOurs)) × (conn.new ≡ conn.old) }
+    ensures kinds { IfErr result (λ refusal. IsAdoptFault (told refusal)) }
+    ensures clean { WasClean (state S.Store conn.old) (state S.Store conn.new) }
+{
+    if !conn.is_autocommit() {
+        return Err(Refusal::Answered(VaultFault::NotOurs));
+    }
+    if !is_taken(conn) {
+        return match make(conn) {
+            Ok(()) => Ok(()),
+            Err(error) => Err(Refusal::Met(error)),
+        };
+    }
+    if !has_marks(conn) {
+        return Err(Refusal::Answered(VaultFault::NotOurs));
+    }
+    judge(alloc, conn)
+}

@@ -1,0 +1,247 @@
+//! Whether the rows of the messages and of their sheets are sound records.
+ghost use Rattle.std.specs.Prelude.{◌≡◌, ◌^◌, ◌-◌, IfOk, OnOk, OnErr, List, min, sum_by, All};
+ghost use Rattle.sqlite.specs.Held.{state};
+ghost use Rattle.sqlite.specs.State.{HasCleanDisk, IsUnchanged};
+ghost use Rattle.vault.specs.declared.record.Receipt as vault;
+ghost use Rattle.mailsql.specs.Rows.{HasTables, IsReady, IsUndone, rows_in};
+ghost use Rattle.mailsql.specs.Apart.{AreApart};
+ghost use Rattle.sqlvault.specs.Parts.{Finds, MaildropsAre, DepositsAre, MessagesAre};
+ghost use Rattle.sqlvault.specs.Stands.{WasClean, LeavesNoMore};
+ghost use Rattle.sqlvault.specs.Stored.{Goes, Tells, Counts, Brings, IsPiece, HasText, is_kept_text, IsNumber, IsStored, HasMessage, sheets_in, IsSoundIn, sheets_under};
+
+use mailsql::rows::{Message, Sheet};
+use mailsql::sheets::{self, SHEET_OCTETS};
+use mailsql::{counts, mail, maildrops};
+use mailtext::{MAX_OCTETS, TextFault, canon};
+use sqlite::{Alter, Connection, Error, ErrorCode};
+use sqlite_value::value::Bytes;
+use std::alloc::Global;
+
+/// The greatest number of messages in a maildrop.
+const MAX_MESSAGES: usize = 10_000;
+
+/// The sheet of a message at this place, if it is there and has so many octets.
+fn find_piece<S: Alter>(
+    alloc: Global,
+    conn: &mut Connection<S>,
+    mail: i64,
+    place: u32,
+    size: usize,
+) -> Result<Option<Sheet>, Error>
+    ensures judged { HasCleanDisk (state S.Store conn.new) → HasTables (state S.Store conn.old) → IfOk result (Brings (λ s. s.octets) (IsPiece (rows_in (state S.Store conn.old).now.trees) mail place size)) }
+    ensures goes { HasCleanDisk (state S.Store conn.new) → HasTables (state S.Store conn.old) → Goes (state S.Store conn.old) (state S.Store conn.new) result }
+    ensures stop { HasCleanDisk (state S.Store conn.new) → IsReady (state S.Store conn.old) → LeavesNoMore (state S.Store conn.old) (state S.Store conn.new) }
+    ensures clean { WasClean (state S.Store conn.old) (state S.Store conn.new) }
+{
+    match sheets::find_sheet(alloc, conn, mail, i64::from(place)) {
+        Ok(Some(sheet)) => {
+            if sheet.octets.as_slice().len() == size {
+                Ok(Some(sheet))
+            } else {
+                Ok(None)
+            }
+        }
+        Ok(None) => Ok(None),
+        Err(error) => Err(error),
+    }
+}
+
+/// The text of a message of so many octets, if its sheets are there.
+fn find_text<S: Alter>(
+    alloc: Global,
+    conn: &mut Connection<S>,
+    mail: i64,
+    octets: u32,
+) -> Result<Option<Vec<u8>>, Error>
+    ensures judged { HasCleanDisk (state S.Store conn.new) → HasTables (state S.Store conn.old) → IfOk result (Brings (λ text. text.items) (HasText (rows_in (state S.Store conn.old).now.trees) mail octets)) }
+    ensures goes { HasCleanDisk (state S.Store conn.new) → HasTables (state S.Store conn.old) → Goes (state S.Store conn.old) (state S.Store conn.new) result }
+    ensures stop { HasCleanDisk (state S.Store conn.new) → IsReady (state S.Store conn.old) → LeavesNoMore (state S.Store conn.old) (state S.Store conn.new) }
+    ensures clean { WasClean (state S.Store conn.old) (state S.Store conn.new) }
+{
+    let long = octets as usize;
+    let mut text = Vec::with_capacity(alloc, long)?;
+    for place in 0..long.div_ceil(SHEET_OCTETS) {
+        let size = SHEET_OCTETS.min(long - place * SHEET_OCTETS);
+        match find_piece(alloc, conn, mail, place as u32, size) {
+            Ok(Some(sheet)) => text.extend_from_slice(sheet.octets.as_slice())?,
+            Ok(None) => return Ok(None),
+            Err(error) => return Err(error),
+        }
+    }
+    Ok(Some(text))
+}
+
+/// Whether the octets are a message in its kept form.
+fn is_kept(alloc: Global, text: &[u8]) -> Result<bool, Error>
+    ensures { IfOk result (λ kept. kept ≡ is_kept_text text.now) }
+{
+    match canon(alloc, text) {
+        Ok(kept) => Ok(kept.bytes() == text),
+        Err(TextFault::NoMemory) => Err(Error::SqliteFailure(ErrorCode::OutOfMemory)),
+        Err(TextFault::Empty | TextFault::TooLarge) => Ok(false),
+    }
+}
+
+/// Whether the number of the row is one of those that its class was given.
+fn is_numbered<S: Alter>(
+    alloc: Global,
+    conn: &mut Connection<S>,
+    row: &Message,
+) -> Result<bool, Error>
+    ensures judged { (deposits : List vault.Receipt) → HasCleanDisk (state S.Store conn.new) → HasTables (state S.Store conn.old) → DepositsAre (rows_in (state S.Store conn.old).now.trees) deposits → IfOk result (Finds (IsNumber deposits row.now)) }
+    ensures goes { HasCleanDisk (state S.Store conn.new) → HasTables (state S.Store conn.old) → Goes (state S.Store conn.old) (state S.Store conn.new) result }
+    ensures stop { HasCleanDisk (state S.Store conn.new) → IsReady (state S.Store conn.old) → LeavesNoMore (state S.Store conn.old) (state S.Store conn.new) }
+    ensures clean { WasClean (state S.Store conn.old) (state S.Store conn.new) }
+{
+    match counts::find_count(alloc, conn, row.maildrop.as_slice(), row.class.as_slice()) {
+        Ok(Some(count)) => {
+            if row.k < 1 {
+                return Ok(false);
+            }
+            if row.k > count.k {
+                return Ok(false);
+            }
+            Ok(true)
+        }
+        Ok(None) => Ok(false),
+        Err(error) => Err(error),
+    }
+}
+
+/// Whether the row is that of a message, whose sheets are there.
+fn is_message_sound<S: Alter>(
+    alloc: Global,
+    conn: &mut Connection<S>,
+    row: &Message,
+) -> Result<bool, Error>
+    ensures judged { (deposits : List vault.Receipt) → HasCleanDisk (state S.Store conn.new) → HasTables (state S.Store conn.old) → DepositsAre (rows_in (state S.Store conn.old).now.trees) deposits → IfOk result (Finds (IsStored (rows_in (state S.Store conn.old).now.trees) deposits row.now)) }
+    ensures goes { HasCleanDisk (state S.Store conn.new) → HasTables (state S.Store conn.old) → Goes (state S.Store conn.old) (state S.Store conn.new) result }
+    ensures stop { HasCleanDisk (state S.Store conn.new) → IsReady (state S.Store conn.old) → LeavesNoMore (state S.Store conn.old) (state S.Store conn.new) }
+    ensures clean { WasClean (state S.Store conn.old) (state S.Store conn.new) }
+{
+    match is_numbered(alloc, conn, row) {
+        Ok(true) => {}
+        Ok(false) => return Ok(false),
+        Err(error) => return Err(error),
+    }
+    if row.octets < 0 {
+        return Ok(false);
+    }
+    if row.octets > MAX_OCTETS as i64 {
+        return Ok(false);
+    }
+    match find_text(alloc, conn, row.key, row.octets as u32) {
+        Ok(Some(text)) => is_kept(alloc, &text),
+        Ok(None) => Ok(false),
+        Err(error) => Err(error),
+    }
+}
+
+/// Whether each of these rows is that of a message, whose sheets are there.
+fn are_all_sound<S: Alter>(
+    alloc: Global,
+    conn: &mut Connection<S>,
+    rows: &[Message],
+) -> Result<bool, Error>
+    ensures judged { (deposits : List vault.Receipt) → HasCleanDisk (state S.Store conn.new) → HasTables (state S.Store conn.old) → DepositsAre (rows_in (state S.Store conn.old).now.trees) deposits → IfOk result (Tells (All (HasMessage (rows_in (state S.Store conn.old).now.trees) deposits) rows.now)) }
+    ensures goes { HasCleanDisk (state S.Store conn.new) → HasTables (state S.Store conn.old) → Goes (state S.Store conn.old) (state S.Store conn.new) result }
+    ensures stop { HasCleanDisk (state S.Store conn.new) → IsReady (state S.Store conn.old) → LeavesNoMore (state S.Store conn.old) (state S.Store conn.new) }
+    ensures clean { WasClean (state S.Store conn.old) (state S.Store conn.new) }
+{
+    for row in rows {
+        match is_message_sound(alloc, conn, row) {
+            Ok(true) => {}
+            Ok(false) => return Ok(false),
+            Err(error) => return Err(error),
+        }
+    }
+    Ok(true)
+}
+
+/// How many sheets the messages of the rows have, 2^64 - 1 at most.
+fn count_sheets(rows: &[Message]) -> u64
+    ensures { result ≡ min (sum_by sheets_in rows.now) (2 ^ 64 - 1) }
+{
+    let mut sheets: u64 = 0;
+    for row in rows {
+        let octets = row.octets.cast_unsigned();
+        sheets = sheets.saturating_add(octets.div_ceil(SHEET_OCTETS as u64));
+    }
+    sheets
+}
+
+/// How many sheets the messages of the maildrop have, if its rows are sound.
+fn judge_maildrop<S: Alter>(
+    alloc: Global,
+    conn: &mut Connection<S>,
+    name: &[u8],
+) -> Result<Option<u64>, Error>
+    ensures judged { (deposits : List vault.Receipt) → HasCleanDisk (state S.Store conn.new) → HasTables (state S.Store conn.old) → DepositsAre (rows_in (state S.Store conn.old).now.trees) deposits → IfOk result (Counts (IsSoundIn (rows_in (state S.Store conn.old).now.trees) deposits name.now) (sheets_under (rows_in (state S.Store conn.old).now.trees) name.now)) }
+    ensures goes { HasCleanDisk (state S.Store conn.new) → HasTables (state S.Store conn.old) → Goes (state S.Store conn.old) (state S.Store conn.new) result }
+    ensures stop { HasCleanDisk (state S.Store conn.new) → IsReady (state S.Store conn.old) → LeavesNoMore (state S.Store conn.old) (state S.Store conn.new) }
+    ensures clean { WasClean (state S.Store conn.old) (state S.Store conn.new) }
+{
+    let rows = match mail::heads(alloc, conn, name) {
+        Ok(rows) => rows,
+        Err(error) => return Err(error),
+    };
+    if rows.len() > MAX_MESSAGES {
+        return Ok(None);
+    }
+    match are_all_sound(alloc, conn, rows.as_slice()) {
+        Ok(true) => Ok(Some(count_sheets(rows.as_slice()))),
+        Ok(false) => Ok(None),
+        Err(error) => Err(error),
+    }
+}
+
+/// How many sheets the messages of these maildrops have, 2^64 - 1 at most, if the rows of each are sound.
+fn judge_maildrops<S: Alter>(
+    alloc: Global,
+    conn: &mut Connection<S>,
+    names: &[Bytes],
+) -> Result<Option<u64>, Error>
+    ensures judged { (deposits : List vault.Receipt) → HasCleanDisk (state S.Store conn.new) → HasTables (state S.Store conn.old) → DepositsAre (rows_in (state S.Store conn.old).now.trees) deposits → IfOk result (Counts (All (IsSoundIn (rows_in (state S.Store conn.old).now.trees) deposits) names.now) (sum_by (sheets_under (rows_in (state S.Store conn.old).now.trees)) names.now)) }
+    ensures goes { HasCleanDisk (state S.Store conn.new) → HasTables (state S.Store conn.old) → Goes (state S.Store conn.old) (state S.Store conn.new) result }
+    ensures stop { HasCleanDisk (state S.Store conn.new) → IsReady (state S.Store conn.old) → LeavesNoMore (state S.Store conn.old) (state S.Store conn.new) }
+    ensures clean { WasClean (state S.Store conn.old) (state S.Store conn.new) }
+{
+    let mut sheets: u64 = 0;
+    for name in names {
+        match judge_maildrop(alloc, conn, name.as_slice()) {
+            Ok(Some(more)) => sheets = sheets.saturating_add(more),
+            Ok(None) => return Ok(None),
+            Err(error) => return Err(error),
+        }
+    }
+    Ok(Some(sheets))
+}
+
+/// Whether the rows of the messages are sound: each has a deposit of its class and number, and its sheets are a text in its kept
+/// form, with as many octets as the row says; no maildrop has more than 10,000; and there is no other sheet.
+pub(crate) fn are_messages_sound<S: Alter>(
+    alloc: Global,
+    conn: &mut Connection<S>,
+) -> Result<bool, Error>
+    ensures judged { (deposits : List vault.Receipt) → HasCleanDisk (state S.Store conn.new) → HasTables (state S.Store conn.old) → AreApart (rows_in (state S.Store conn.old).now.trees)
+        → MaildropsAre (rows_in (state S.Store conn.old).now.trees) (rows_in (state S.Store conn.old).now.trees).maildrops → DepositsAre (rows_in (state S.Store conn.old).now.trees) deposits
+        → IfOk result (Finds (MessagesAre (rows_in (state S.Store conn.old).now.trees) deposits)) }
+    ensures same { HasCleanDisk (state S.Store conn.new) → HasTables (state S.Store conn.old) → OnOk result (IsUnchanged (state S.Store conn.old) (state S.Store conn.new)) }
+    ensures err { HasCleanDisk (state S.Store conn.new) → HasTables (state S.Store conn.old) → OnErr result (IsUndone (state S.Store conn.old) (state S.Store conn.new)) }
+    ensures stop { HasCleanDisk (state S.Store conn.new) → IsReady (state S.Store conn.old) → LeavesNoMore (state S.Store conn.old) (state S.Store conn.new) }
+    ensures clean { WasClean (state S.Store conn.old) (state S.Store conn.new) }
+{
+    let names = match maildrops::all_maildrops(alloc, conn) {
+        Ok(names) => names,
+        Err(error) => return Err(error),
+    };
+    let sheets = match judge_maildrops(alloc, conn, names.as_slice()) {
+        Ok(Some(sheets)) => sheets,
+        Ok(None) => return Ok(false),
+        Err(error) => return Err(error),
+    };
+    match sheets::sheet_count(conn) {
+        Ok(count) => Ok(count == sheets),
+        Err(error) => Err(error),
+    }
+}

@@ -1,0 +1,59 @@
+//! Whether the rows of the rules are a policy.
+ghost use Rattle.std.specs.Prelude.{◌≡◌, true, pos, List, map, IfOk, IfSome, IsSomeAnd, OnOk, OnErr};
+ghost use Rattle.std.specs.List.{list_all};
+ghost use Rattle.policy.specs.declared.rule.Rule as rule;
+ghost use Rattle.policy.specs.Policy.{is_sound_rule, is_sound_policy};
+ghost use Rattle.sqlite.specs.Held.{state};
+ghost use Rattle.sqlite.specs.State.{HasCleanDisk, IsUnchanged};
+ghost use Rattle.mailsql.specs.Rows.{HasTables, IsReady, IsUndone, rows_in};
+ghost use Rattle.sqlvault.specs.Keeps.{rule_row, at_place};
+ghost use Rattle.sqlvault.specs.Parts.{Finds, PolicyIs};
+ghost use Rattle.sqlvault.specs.Stands.{WasClean, LeavesNoMore};
+
+use crate::rules::read_rule;
+use mailsql::{rows, rules};
+use policy::{Policy, Rule};
+use sqlite::{Alter, Connection, Error};
+use std::alloc::{AllocError, Global};
+
+/// The rules of the rows, in order; `None` where a row is no sound rule's.
+fn rules_of(alloc: Global, rows: &[rows::Rule]) -> Result<Option<Vec<Rule>>, AllocError>
+    ensures rows { IfOk result (λ read. IfSome read (λ rules. map (at_place (pos 0)) rows.now ≡ map (rule_row (pos 0)) rules.items)) }
+    ensures all { (rs : List rule.Rule) → list_all is_sound_rule rs ≡ true → map (at_place (pos 0)) rows.now ≡ map (rule_row (pos 0)) rs → IfOk result (λ read. IsSomeAnd read (λ rules. rules.items ≡ rs)) }
+{
+    let mut rules = Vec::new(alloc);
+    for row in rows {
+        let Some(rule) = read_rule(row) else {
+            return Ok(None);
+        };
+        rules.extend_from_slice(&[rule])?;
+    }
+    Ok(Some(rules))
+}
+
+/// Whether the rows are those of a policy.
+fn are_rules(alloc: Global, rows: &[rows::Rule]) -> Result<bool, AllocError>
+    ensures { IfOk result (Finds (λ p. (map (at_place (pos 0)) rows.now ≡ map (rule_row (pos 0)) p.rules) × (is_sound_policy p ≡ true))) }
+{
+    match rules_of(alloc, rows)? {
+        Some(rules) => Ok(Policy::from_rules(rules).is_some()),
+        None => Ok(false),
+    }
+}
+
+/// Whether the rows of the rules are those of a policy.
+pub(crate) fn are_rules_sound<S: Alter>(
+    alloc: Global,
+    conn: &mut Connection<S>,
+) -> Result<bool, Error>
+    ensures judged { HasCleanDisk (state S.Store conn.new) → HasTables (state S.Store conn.old) → IfOk result (Finds (PolicyIs (rows_in (state S.Store conn.old).now.trees))) }
+    ensures same { HasCleanDisk (state S.Store conn.new) → HasTables (state S.Store conn.old) → OnOk result (IsUnchanged (state S.Store conn.old) (state S.Store conn.new)) }
+    ensures err { HasCleanDisk (state S.Store conn.new) → HasTables (state S.Store conn.old) → OnErr result (IsUndone (state S.Store conn.old) (state S.Store conn.new)) }
+    ensures stop { HasCleanDisk (state S.Store conn.new) → IsReady (state S.Store conn.old) → LeavesNoMore (state S.Store conn.old) (state S.Store conn.new) }
+    ensures clean { WasClean (state S.Store conn.old) (state S.Store conn.new) }
+{
+    match rules::all_rules(alloc, conn) {
+        Ok(rows) => Ok(are_rules(alloc, rows.as_slice())?),
+        Err(error) => Err(error),
+    }
+}

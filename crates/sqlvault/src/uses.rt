@@ -1,0 +1,182 @@
+//! Callers over a store in memory, which show that the premises of the calls can be met.
+
+ghost use Rattle.std.specs.Prelude.{◌≡◌, ℕ, [], IfOk, IfErr, OnOk};
+ghost use Rattle.sqlite.specs.Held.{state};
+ghost use Rattle.sqlite.specs.Steps.{over_memory};
+ghost use Rattle.vault.specs.Plain.{no_contents};
+ghost use Rattle.sqlvault.specs.Stands.{Holds};
+ghost use Rattle.sqlvault.specs.Uses.{IsOfAnyCall, filled, emptied, WasNew, ShowsMail, ShowsKept, Saw};
+
+use crate::SqlVault;
+use creds::{Credential, DepositId, Name};
+use mailtext::MailText;
+use policy::Policy;
+use sqlite::MemStore;
+use std::alloc::Global;
+use vault::{Deposited, Head, MessageKey, Total, Vault, VaultFault};
+
+/// What the sample puts into a store.
+#[derive(Debug, Drop)]
+pub struct Stock {
+    /// The name of the maildrop.
+    pub maildrop: Name,
+    /// The name of the clerk.
+    pub clerk: Name,
+    /// The clerk's credential.
+    pub credential: Credential,
+    /// The class of the message.
+    pub class: Name,
+    /// The id of its deposit.
+    pub id: DepositId,
+    /// Its text.
+    pub text: MailText,
+    /// The policy.
+    pub policy: Policy,
+}
+
+/// What the calls answered that put the stock into the store.
+#[derive(Debug, Drop)]
+pub struct Filled {
+    /// Whether the maildrop was new.
+    pub maildrop_is_new: bool,
+    /// Whether the clerk was new.
+    pub clerk_is_new: bool,
+    /// What became of the deposit.
+    pub deposited: Deposited,
+}
+
+/// Puts the stock into a store that holds nothing. An error is a refusal of any call.
+fn fill(vault: &mut SqlVault<MemStore>, stock: &Stock) -> Result<Filled, VaultFault>
+    ensures answers { Holds (state over_memory vault.old.conn) no_contents → IfOk result (WasNew stock.now) }
+    ensures held { Holds (state over_memory vault.old.conn) no_contents → OnOk result ((key : ℕ) × Holds (state over_memory vault.new.conn) (filled key stock.now)) }
+    ensures cause { Holds (state over_memory vault.old.conn) no_contents → IfErr result IsOfAnyCall }
+{
+    let maildrop_is_new = vault.add_maildrop(&stock.maildrop)?;
+    let clerk_is_new = vault.put_clerk(&stock.clerk, &stock.credential)?;
+    vault.set_policy(&stock.policy)?;
+    let deposited = vault.deposit(&stock.maildrop, &stock.class, &stock.id, &stock.text)?;
+    Ok(Filled {
+        maildrop_is_new,
+        clerk_is_new,
+        deposited,
+    })
+}
+
+/// What the calls answered that look at the mail.
+#[derive(Debug, Drop)]
+pub struct Mail {
+    /// Each maildrop with its messages and octets.
+    pub totals: Vec<Total>,
+    /// The heads of the stock's maildrop.
+    pub heads: Vec<Head>,
+    /// The key of the first head.
+    pub key: MessageKey,
+    /// How many octets of that message were read.
+    pub octets_read: usize,
+}
+
+/// Looks at the mail, and reads the message into the front of the buffer. An error is a refusal of any call.
+fn look(
+    vault: &mut SqlVault<MemStore>,
+    stock: &Stock,
+    buffer: &mut [u8],
+) -> Result<Mail, VaultFault>
+    ensures shown { (key : ℕ) → Holds (state over_memory vault.old.conn) (filled key stock.now) → IfOk result (ShowsMail stock.now buffer.new) }
+    ensures key { (key : ℕ) → Holds (state over_memory vault.old.conn) (filled key stock.now) → IfOk result (λ mail. mail.key ≡ key) }
+    ensures same { (key : ℕ) → Holds (state over_memory vault.old.conn) (filled key stock.now) → OnOk result (Holds (state over_memory vault.new.conn) (filled key stock.now)) }
+    ensures cause { (key : ℕ) → Holds (state over_memory vault.old.conn) (filled key stock.now) → IfErr result IsOfAnyCall }
+{
+    let totals = vault.maildrops()?;
+    let heads = vault.heads(&stock.maildrop)?;
+    let key = match heads.first() {
+        Some(head) => head.key,
+        None => return Err(VaultFault::Store),
+    };
+    let octets_read = vault.page(key, 0, buffer)?;
+    Ok(Mail {
+        totals,
+        heads,
+        key,
+        octets_read,
+    })
+}
+
+/// What the calls answered that look up the clerk and the policy.
+#[derive(Debug, Drop)]
+pub struct Kept {
+    /// The clerk's credential.
+    pub credential: Option<Credential>,
+    /// The policy.
+    pub policy: Policy,
+}
+
+/// Looks up the clerk's credential and the policy. An error is a refusal of any call.
+fn look_up(vault: &mut SqlVault<MemStore>, stock: &Stock) -> Result<Kept, VaultFault>
+    ensures shown { (key : ℕ) → Holds (state over_memory vault.old.conn) (filled key stock.now) → IfOk result (ShowsKept stock.now) }
+    ensures same { (key : ℕ) → Holds (state over_memory vault.old.conn) (filled key stock.now) → OnOk result (Holds (state over_memory vault.new.conn) (filled key stock.now)) }
+    ensures cause { (key : ℕ) → Holds (state over_memory vault.old.conn) (filled key stock.now) → IfErr result IsOfAnyCall }
+{
+    let credential = vault.credential(&stock.clerk)?;
+    let policy = vault.policy()?;
+    Ok(Kept { credential, policy })
+}
+
+/// Removes the message, and drops the clerk and the maildrop. Answers the heads that were left. An error is a refusal of any call.
+fn empty(
+    vault: &mut SqlVault<MemStore>,
+    stock: &Stock,
+    key: MessageKey,
+) -> Result<Vec<Head>, VaultFault>
+    ensures none { Holds (state over_memory vault.old.conn) (filled key stock.now) → IfOk result (λ left. left.items ≡ []) }
+    ensures held { Holds (state over_memory vault.old.conn) (filled key stock.now) → OnOk result (Holds (state over_memory vault.new.conn) (emptied stock.now)) }
+    ensures cause { Holds (state over_memory vault.old.conn) (filled key stock.now) → IfErr result IsOfAnyCall }
+{
+    vault.remove(&stock.maildrop, &[key])?;
+    let left = vault.heads(&stock.maildrop)?;
+    vault.drop_clerk(&stock.clerk)?;
+    vault.drop_maildrop(&stock.maildrop)?;
+    Ok(left)
+}
+
+/// What `sample` saw.
+#[derive(Debug, Drop)]
+pub struct Seen {
+    /// As the stock was put.
+    pub filled: Filled,
+    /// Of its message.
+    pub mail: Mail,
+    /// Of its clerk and policy.
+    pub kept: Kept,
+    /// The heads of its maildrop when the message was removed.
+    pub left: Vec<Head>,
+}
+
+/// Puts the stock into a store that holds nothing, looks at all of it, and takes it out again. An error is a refusal of any call.
+fn go_through(
+    vault: &mut SqlVault<MemStore>,
+    stock: &Stock,
+    buffer: &mut [u8],
+) -> Result<Seen, VaultFault>
+    ensures saw { Holds (state over_memory vault.old.conn) no_contents → IfOk result (Saw stock.now buffer.new) }
+    ensures left { Holds (state over_memory vault.old.conn) no_contents → OnOk result (Holds (state over_memory vault.new.conn) (emptied stock.now)) }
+    ensures cause { Holds (state over_memory vault.old.conn) no_contents → IfErr result IsOfAnyCall }
+{
+    let filled = fill(vault, stock)?;
+    let mail = look(vault, stock, buffer)?;
+    let kept = look_up(vault, stock)?;
+    let left = empty(vault, stock, mail.key)?;
+    Ok(Seen {
+        filled,
+        mail,
+        kept,
+        left,
+    })
+}
+
+/// Puts the stock into a new store in memory, looks at all of it, and takes it out again, by each call of the store.
+pub fn sample(alloc: Global, stock: &Stock, buffer: &mut [u8]) -> Result<Seen, VaultFault>
+    ensures { IfOk result (Saw stock.now buffer.new) }
+{
+    let mut vault = SqlVault::in_memory(alloc)?;
+    go_through(&mut vault, stock, buffer)
+}
