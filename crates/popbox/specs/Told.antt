@@ -9,16 +9,19 @@ use Rattle.office.specs.Outcomes.{Outcome, Reason, NoSuchConnection, NotReady, P
 use Rattle.office.specs.Outcomes as outcome
 use Rattle.office.specs.Events.{Trace}
 use Rattle.office.specs.Trace.{is_open}
+use Rattle.popbox.specs.FaultNames.{store_fault_name, talk_fault_name}
 use Rattle.popbox.specs.declared.fault.Fault.{Fault}
-use Rattle.popbox.specs.declared.fault.Fault.TheVariants.{CannotRead, BadEvent, BadHost, Store, NoPolicy, CannotWrite, OutOfMemory}
+use Rattle.popbox.specs.declared.fault.Fault.TheVariants.{CannotRead, BadEvent, BadHost, Store, Talk, NoPolicy, NoClock, CannotWrite, OutOfMemory}
 
--- the text of a fault; of a policy's fault its own
+-- the text of a fault; of a policy's fault its own, of a store's and of a conversation's its name
 abbrev pub fault_text : Fault → List ℕ
 fault_text CannotRead = codes "cannot read file"
 fault_text (BadEvent n) = codes "line " ++ decimal n ++ codes ": bad event"
 fault_text BadHost = codes "BadHost"
-fault_text Store = codes "Store"
+fault_text (Store f) = store_fault_name f
+fault_text (Talk f) = talk_fault_name f
 fault_text (NoPolicy f) = policy_fault_text f
+fault_text NoClock = codes "cannot read clock"
 fault_text CannotWrite = codes "cannot write"
 fault_text OutOfMemory = codes "out of memory"
 

@@ -21,14 +21,32 @@ fn boot<'a>(alloc: Global) -> Arg<'a> {
         .value_parser(value_parser!(u64))
 }
 
-/// `replay [--host NAME] [--boot N] [SCRIPT]`.
+/// `--store PATH`: the file of the store.
+fn store<'a>(alloc: Global) -> Arg<'a> {
+    Arg::new(alloc, "store").long("store").value_name("PATH")
+}
+
+/// `replay [--store PATH] [--host NAME] [--boot N] [SCRIPT]`.
 fn replay<'a>(alloc: Global) -> Result<Command<'a>, AllocError> {
     let script = Arg::new(alloc, "SCRIPT").help("The script's file, else standard input");
     Command::new(alloc, "replay")
         .about("Runs the events of a script, and prints what each gives")
+        .arg(store(alloc).help("The store's file, else one in memory"))?
         .arg(host(alloc))?
         .arg(boot(alloc).default_value("1"))?
         .arg(script)
+}
+
+/// `talk --store PATH [--host NAME] [--boot N]`.
+fn talk<'a>(alloc: Global) -> Result<Command<'a>, AllocError> {
+    let store = store(alloc)
+        .help("The store's file, which is made where there is none")
+        .required(true);
+    Command::new(alloc, "talk")
+        .about("Has one conversation with a client, on standard input and output")
+        .arg(store)?
+        .arg(host(alloc))?
+        .arg(boot(alloc))
 }
 
 /// `check-policy FILE`.
@@ -48,5 +66,6 @@ pub fn make_command<'a>(alloc: Global) -> Result<Command<'a>, AllocError> {
         .subcommand_required(true)
         .arg_required_else_help(true)
         .subcommand(replay(alloc)?)?
+        .subcommand(talk(alloc)?)?
         .subcommand(check_policy(alloc)?)
 }

@@ -163,7 +163,7 @@ fn idle_clocks(rt: HostRuntime) -> Result<(), Fail> {
 }
 
 /// A removed message's deposit id and unique-id stay used, over a restart too.
-static OVER_A_RESTART: &str = r"> connect
+pub static OVER_A_RESTART: &str = r"> connect
 opened 1
 > drain 1
 sent 1 +OK POP3 server ready <1.7@h.test>\r\n

@@ -23,7 +23,12 @@ mod script;
 #[cfg(test)]
 mod session_tests;
 #[cfg(test)]
+mod store_tests;
+mod talk;
+#[cfg(test)]
 mod tests;
+#[cfg(test)]
+mod unsound_tests;
 
 use check_policy::check_policy;
 use clap::ArgMatches;
@@ -31,12 +36,19 @@ use clap::error::ErrorKind;
 use command_line::make_command;
 use fault::{Fault, read_fault, tell_fault};
 use replay::replay;
+use sqlite::{FileFrom, FileStore, Wary};
+use sqlvault::SqlVault;
 use std::alloc::Global;
 use std::io::{BufWriter, Read, Write};
 use std::process::ExitCode;
 use std::rt::{Env, Files};
+use std::time::Clock;
 use std::{env, fs, io};
-use vault::PlainVault;
+use talk::talk;
+use vault::{PlainVault, Vault, VaultFault};
+
+/// A store in a file. A torn write may leave any octets in what was being written.
+type StoreFile = SqlVault<FileStore<FileFrom<Wary>>>;
 
 /// The exit status of a command line that can't be read.
 const UNREADABLE: u8 = 2;
@@ -51,11 +63,7 @@ fn main(rt: HostRuntime) -> ExitCode {
 }
 
 /// Reads the command line, does what it asks for, and gives the exit status.
-fn run<R, E>(rt: &R, err: &mut E) -> Result<u8, Fault>
-where
-    R: Env + Files + Input + Print + Eprint + AllocGlobal,
-    E: Write,
-{
+fn run<E: Write>(rt: &HostRuntime, err: &mut E) -> Result<u8, Fault> {
     let words: Vec<String> = match env::args(rt) {
         Ok(words) => words.collect(rt.alloc())?,
         Err(error) if error.kind() == io::ErrorKind::OutOfMemory => {
@@ -70,6 +78,7 @@ where
     match command.try_get_matches_from(words.as_slice()) {
         Ok(matches) => match matches.subcommand() {
             Some(("replay", options)) => run_replay(rt, options, err),
+            Some(("talk", options)) => run_talk(rt, options, err),
             Some(("check-policy", options)) => run_check_policy(rt, options, err),
             _ => Ok(UNREADABLE),
         },
@@ -81,12 +90,12 @@ where
     }
 }
 
-/// Runs `popbox replay`: the script is the file that is named, or standard input.
-fn run_replay<R, E>(rt: &R, options: &ArgMatches<'_>, err: &mut E) -> Result<u8, Fault>
-where
-    R: Files + Input + Print + AllocGlobal,
-    E: Write,
-{
+/// Runs `popbox replay`: the script is the file that is named, which is opened first, or standard input.
+fn run_replay<E: Write>(
+    rt: &HostRuntime,
+    options: &ArgMatches<'_>,
+    err: &mut E,
+) -> Result<u8, Fault> {
     match options.get_str("SCRIPT") {
         Some(path) => {
             let mut file = fs::open(rt, path).map_err(|error| read_fault(&error))?;
@@ -96,33 +105,96 @@ where
     }
 }
 
-/// Runs a script over an empty vault in memory, and prints to standard output.
-fn replay_from<R, S, E>(
-    rt: &R,
+/// Runs a script over the store that is named, or over an empty one in memory.
+fn replay_from<S: Read, E: Write>(
+    rt: &HostRuntime,
     script: &mut S,
     options: &ArgMatches<'_>,
     err: &mut E,
-) -> Result<u8, Fault>
-where
-    R: Print + AllocGlobal,
-    S: Read,
-    E: Write,
-{
+) -> Result<u8, Fault> {
+    match options.get_str("store") {
+        Some(path) => {
+            let vault = open_store(rt, path)?;
+            let (ran, vault) = replay_over(rt, script, vault, options, err);
+            close_store(vault);
+            ran
+        }
+        None => replay_over(rt, script, PlainVault::new(rt.alloc()), options, err).0,
+    }
+}
+
+/// Opens the store in the file at a path, or makes it.
+fn open_store(rt: &HostRuntime, path: &str) -> Result<StoreFile, VaultFault> {
+    SqlVault::open(rt, path, Wary)
+}
+
+/// Closes the store's file. What was done is in it or in the log beside it, so that a failure loses nothing.
+fn close_store(vault: StoreFile) {
+    let _ = vault.into_connection().close();
+}
+
+/// Runs a script over a vault, and prints to standard output. Gives the vault back.
+fn replay_over<V: Vault, S: Read, E: Write>(
+    rt: &HostRuntime,
+    script: &mut S,
+    vault: V,
+    options: &ArgMatches<'_>,
+    err: &mut E,
+) -> (Result<u8, Fault>, V) {
     let alloc: Global = rt.alloc();
     let host = options.get_str("host").unwrap_or("localhost");
     let boot = options.get_one::<u64>("boot").unwrap_or(1);
-    let mut out = BufWriter::new(alloc, io::writer(rt)).map_err(|_| Fault::OutOfMemory)?;
-    let vault = PlainVault::new(alloc);
-    let (status, _) = replay(alloc, script, vault, host, boot, &mut out, err);
+    let Ok(mut out) = BufWriter::new(alloc, io::writer(rt)) else {
+        return (Err(Fault::OutOfMemory), vault);
+    };
+    let (status, vault) = replay(alloc, script, vault, host, boot, &mut out, err);
+    (Ok(status), vault)
+}
+
+/// Runs `popbox talk`: one conversation over the store that is named.
+fn run_talk<E: Write>(
+    rt: &HostRuntime,
+    options: &ArgMatches<'_>,
+    err: &mut E,
+) -> Result<u8, Fault> {
+    let boot = match options.get_one::<u64>("boot") {
+        Some(boot) => boot,
+        None => milliseconds(rt)?,
+    };
+    let vault = open_store(rt, options.get_str("store").unwrap_or(""))?;
+    let (status, vault) = talk_over(rt, vault, boot, options, err);
+    close_store(vault);
     Ok(status)
 }
 
+/// The milliseconds since 1970.
+fn milliseconds(clock: &impl Clock) -> Result<u64, Fault> {
+    let Ok(now) = clock.since_1970() else {
+        return Err(Fault::NoClock);
+    };
+    u64::try_from(now.as_millis()).map_err(|_| Fault::NoClock)
+}
+
+/// Has a conversation over a vault, on standard input and output. Gives the vault back.
+fn talk_over<V: Vault, E: Write>(
+    rt: &HostRuntime,
+    vault: V,
+    boot: u64,
+    options: &ArgMatches<'_>,
+    err: &mut E,
+) -> (u8, V) {
+    let host = options.get_str("host").unwrap_or("localhost");
+    let mut reader = rt.reader();
+    let mut writer = io::writer(rt);
+    talk(rt.alloc(), vault, host, boot, &mut reader, &mut writer, err)
+}
+
 /// Runs `popbox check-policy`: prints to standard output how many rules the named file has.
-fn run_check_policy<R, E>(rt: &R, options: &ArgMatches<'_>, err: &mut E) -> Result<u8, Fault>
-where
-    R: Files + Print + AllocGlobal,
-    E: Write,
-{
+fn run_check_policy<E: Write>(
+    rt: &HostRuntime,
+    options: &ArgMatches<'_>,
+    err: &mut E,
+) -> Result<u8, Fault> {
     let alloc: Global = rt.alloc();
     let path = options.get_str("FILE").unwrap_or("");
     let mut file = fs::open(rt, path).map_err(|error| read_fault(&error))?;

@@ -68,7 +68,7 @@ fn read_all<R: Read>(alloc: Global, script: &mut R) -> Result<Vec<Line>, Fault> 
 }
 
 /// Opens an office with the default idle time.
-fn open_office<V: Vault>(
+pub fn open_office<V: Vault>(
     alloc: Global,
     vault: V,
     host: &str,

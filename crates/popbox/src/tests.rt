@@ -55,6 +55,21 @@ impl Ran {
     }
 }
 
+/// Runs a script over a store, at a host name and with a boot number, and gives the store back.
+pub fn run_on<V: Vault + Drop>(
+    alloc: Global,
+    vault: V,
+    host: &str,
+    boot: u64,
+    script: &str,
+) -> Result<(Ran, V), Fail> {
+    let mut script = script.as_bytes();
+    let mut out = Vec::new(alloc);
+    let mut err = Vec::new(alloc);
+    let (status, vault) = replay(alloc, &mut script, vault, host, boot, &mut out, &mut err);
+    Ok((Ran::new(status, out, err)?, vault))
+}
+
 /// Runs a script over a store, at a host name and with a boot number.
 fn run_over<V: Vault + Drop>(
     alloc: Global,
@@ -63,11 +78,8 @@ fn run_over<V: Vault + Drop>(
     boot: u64,
     script: &str,
 ) -> Result<Ran, Fail> {
-    let mut script = script.as_bytes();
-    let mut out = Vec::new(alloc);
-    let mut err = Vec::new(alloc);
-    let (status, _) = replay(alloc, &mut script, vault, host, boot, &mut out, &mut err);
-    Ran::new(status, out, err)
+    let (ran, _) = run_on(alloc, vault, host, boot, script)?;
+    Ok(ran)
 }
 
 /// Runs a script over an empty store, at a host name and with a boot number.
@@ -127,6 +139,32 @@ fn capability_list_octet_by_octet(rt: HostRuntime) -> Result<(), Fail> {
     expect_output(alloc, script.as_str(), want.as_str())
 }
 
+/// Gives a line on a connection of its own, in two pieces and an end.
+fn write_cut(
+    script: &mut String,
+    at: usize,
+    front: &str,
+    back: &str,
+    end: &str,
+) -> Result<(), AllocError> {
+    writeln!(
+        script,
+        "connect\ndrain {at}\nbytes {at} {front}\nbytes {at} {back}{end}"
+    )?;
+    writeln!(script, "drain {at}\ngone {at}")?;
+    Ok(())
+}
+
+/// What is to be printed of that.
+fn write_cut_said(want: &mut String, at: usize, reply: &str) -> Result<(), AllocError> {
+    writeln!(
+        want,
+        "opened {at}\nsent {at} {GREETING} <{at}.7@h.test>\\r\\n\ndone\ndone\ndone"
+    )?;
+    writeln!(want, "sent {at} {reply}\\r\\n\ndone\ndone\nended {at}")?;
+    Ok(())
+}
+
 /// Gives `NOOP`, so many spaces and a line end, in two pieces that are cut at each place in turn, and expects this reply.
 fn cut_everywhere(alloc: Global, spaces: usize, end: &str, reply: &str) -> Result<(), Fail> {
     let line = format!(in alloc; "NOOP{:spaces$}", "")?;
@@ -136,16 +174,8 @@ fn cut_everywhere(alloc: Global, spaces: usize, end: &str, reply: &str) -> Resul
         let Some((front, back)) = line.as_str().split_at_checked(at) else {
             continue;
         };
-        writeln!(
-            script,
-            "connect\ndrain {at}\nbytes {at} {front}\nbytes {at} {back}{end}"
-        )?;
-        writeln!(script, "drain {at}\ngone {at}")?;
-        writeln!(
-            want,
-            "opened {at}\nsent {at} {GREETING} <{at}.7@h.test>\\r\\n\ndone\ndone\ndone"
-        )?;
-        writeln!(want, "sent {at} {reply}\\r\\n\ndone\ndone\nended {at}")?;
+        write_cut(&mut script, at, front, back, end)?;
+        write_cut_said(&mut want, at, reply)?;
     }
     expect_output(alloc, script.as_str(), want.as_str())
 }
@@ -472,6 +502,7 @@ fn replay_has_defaults(alloc: Global) -> Result<bool, Fail> {
     Ok(
         options.get_str("host") == Some("localhost")
             && options.get_one::<u64>("boot") == Some(1)
+            && options.get_str("store").is_none()
             && options.get_str("SCRIPT").is_none(),
     )
 }
@@ -486,11 +517,28 @@ fn check_policy_has_file(alloc: Global) -> Result<bool, Fail> {
     Ok(options.get_str("FILE") == Some("office.toml"))
 }
 
+/// Whether `popbox talk` has its store and its host, and no boot number.
+fn talk_has_defaults(alloc: Global) -> Result<bool, Fail> {
+    let command = make_command(alloc)?;
+    let matches = command.try_get_matches_from(&["popbox", "talk", "--store", "office.db"])?;
+    let Some(("talk", options)) = matches.subcommand() else {
+        return Ok(false);
+    };
+    Ok(
+        options.get_str("store") == Some("office.db")
+            && options.get_str("host") == Some("localhost")
+            && options.get_one::<u64>("boot").is_none(),
+    )
+}
+
 #[test]
 fn command_lines(rt: HostRuntime) -> Result<(), Fail> {
     let alloc = rt.alloc();
     assert!(rt; replay_has_defaults(alloc)?);
     assert!(rt; check_policy_has_file(alloc)?);
+    assert!(rt; talk_has_defaults(alloc)?);
+    let status = refused_status(alloc, &["popbox", "talk"])?;
+    assert!(rt; status == Some(2));
     let status = refused_status(alloc, &["popbox", "check-policy"])?;
     assert!(rt; status == Some(2));
     let status = refused_status(alloc, &["popbox", "replay", "--help"])?;

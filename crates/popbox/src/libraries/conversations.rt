@@ -142,20 +142,32 @@ class = "*"
 actions = ["open", "read", "remove"]
 "#;
 
+/// Gives a command, of whose outcome nothing is said.
+fn administer(office: &mut Office<PlainVault>, command: &AdminCommand) {
+    let _ = office.step(Event::Admin(command));
+}
+
+/// Gives a deposit, of whose outcome nothing is said.
+fn deposit(office: &mut Office<PlainVault>, orders: Name, id: DepositId) {
+    let _ = office.step(Event::Deposit(&orders, &orders, &id, b"x"));
+}
+
+/// The maildrop orders, and ann by a password.
+fn add(office: &mut Office<PlainVault>, orders: Name, ann: Name) {
+    administer(office, &AdminCommand::AddMaildrop(orders));
+    let credential = Credential::Pass(pass_digest(&ann, b"s3 cret"));
+    administer(office, &AdminCommand::PutClerk(ann, credential));
+}
+
 /// An office whose maildrop orders has a message, which ann may remove.
 fn with_a_message(alloc: Global, orders: Name) -> Result<Office<PlainVault>, Fail> {
     let mut office = opened(alloc).map_err(|_| "opening")?;
     let ann = Name::read(b"ann").ok_or("name")?;
     let id = DepositId::read(b"d1").ok_or("id")?;
     let policy = Policy::read(alloc, ANN_ALL).map_err(|_| "policy")?;
-    for command in [
-        AdminCommand::AddMaildrop(orders),
-        AdminCommand::PutClerk(ann, Credential::Pass(pass_digest(&ann, b"s3 cret"))),
-        AdminCommand::SetPolicy(policy),
-    ] {
-        let _ = office.step(Event::Admin(&command));
-    }
-    let _ = office.step(Event::Deposit(&orders, &orders, &id, b"x"));
+    add(&mut office, orders, ann);
+    administer(&mut office, &AdminCommand::SetPolicy(policy));
+    deposit(&mut office, orders, id);
     Ok(office)
 }
 

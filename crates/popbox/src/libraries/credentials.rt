@@ -17,62 +17,70 @@ fn digits(alloc: Global, digest: &[u8]) -> Result<String, AllocError> {
     Ok(text)
 }
 
+/// Fails with a digest's digits, unless they are these.
+fn expect_digits(alloc: Global, digest: &[u8], want: &str) -> Result<(), Fail> {
+    let said = digits(alloc, digest)?;
+    if said.as_str() == want {
+        Ok(())
+    } else {
+        Err(Fail::from(said))
+    }
+}
+
 // RFC 1321, A.5.
+static MD5: [(&str, &str); 7] = [
+    ("", "d41d8cd98f00b204e9800998ecf8427e"),
+    ("a", "0cc175b9c0f1b6a831c399e269772661"),
+    ("abc", "900150983cd24fb0d6963f7d28e17f72"),
+    ("message digest", "f96b697d7cb7938d525a2f31aaf161d0"),
+    (
+        "abcdefghijklmnopqrstuvwxyz",
+        "c3fcd3d76192e4007dfb496cca67e13b",
+    ),
+    (
+        "ABCDEFGHIJKLMNOPQRSTUVWXYZabcdefghijklmnopqrstuvwxyz0123456789",
+        "d174ab98d277d9f5a5611c2c9f419d9f",
+    ),
+    (
+        "12345678901234567890123456789012345678901234567890123456789012345678901234567890",
+        "57edf4a22be3c955ac49da2e2107b67a",
+    ),
+];
+
+/// A text before a secret, and as one.
+fn expect_md5(alloc: Global, text: &str, want: &str) -> Result<(), Fail> {
+    expect_digits(alloc, &apop_digest(text.as_bytes(), b""), want)?;
+    expect_digits(alloc, &apop_digest(b"", text.as_bytes()), want)
+}
+
 #[test]
 fn md5_vectors(rt: HostRuntime) -> Result<(), Fail> {
-    let rows = [
-        ("", "d41d8cd98f00b204e9800998ecf8427e"),
-        ("a", "0cc175b9c0f1b6a831c399e269772661"),
-        ("abc", "900150983cd24fb0d6963f7d28e17f72"),
-        ("message digest", "f96b697d7cb7938d525a2f31aaf161d0"),
-        (
-            "abcdefghijklmnopqrstuvwxyz",
-            "c3fcd3d76192e4007dfb496cca67e13b",
-        ),
-        (
-            "ABCDEFGHIJKLMNOPQRSTUVWXYZabcdefghijklmnopqrstuvwxyz0123456789",
-            "d174ab98d277d9f5a5611c2c9f419d9f",
-        ),
-        (
-            "12345678901234567890123456789012345678901234567890123456789012345678901234567890",
-            "57edf4a22be3c955ac49da2e2107b67a",
-        ),
-    ];
-    for (text, want) in rows {
-        assert_eq!(rt;
-            digits(rt.alloc(), &apop_digest(text.as_bytes(), b""))?.as_str(),
-            want
-        );
-        assert_eq!(rt;
-            digits(rt.alloc(), &apop_digest(b"", text.as_bytes()))?.as_str(),
-            want
-        );
+    for (text, want) in &MD5 {
+        expect_md5(rt.alloc(), *text, *want)?;
     }
     Ok(())
 }
 
 // The examples of FIPS 180-4 for SHA-256, and the empty message of its validation suite.
+static SHA256: [(&str, &str); 3] = [
+    (
+        "",
+        "e3b0c44298fc1c149afbf4c8996fb92427ae41e4649b934ca495991b7852b855",
+    ),
+    (
+        "abc",
+        "ba7816bf8f01cfea414140de5dae2223b00361a396177a9cb410ff61f20015ad",
+    ),
+    (
+        "abcdbcdecdefdefgefghfghighijhijkijkljklmklmnlmnomnopnopq",
+        "248d6a61d20638b8e5c026930c3e6039a33ce45964ff2167f6ecedd419db06c1",
+    ),
+];
+
 #[test]
 fn sha256_vectors(rt: HostRuntime) -> Result<(), Fail> {
-    let rows = [
-        (
-            "",
-            "e3b0c44298fc1c149afbf4c8996fb92427ae41e4649b934ca495991b7852b855",
-        ),
-        (
-            "abc",
-            "ba7816bf8f01cfea414140de5dae2223b00361a396177a9cb410ff61f20015ad",
-        ),
-        (
-            "abcdbcdecdefdefgefghfghighijhijkijkljklmklmnlmnomnopnopq",
-            "248d6a61d20638b8e5c026930c3e6039a33ce45964ff2167f6ecedd419db06c1",
-        ),
-    ];
-    for (text, want) in rows {
-        assert_eq!(rt;
-            digits(rt.alloc(), &text_digest(text.as_bytes()))?.as_str(),
-            want
-        );
+    for (text, want) in &SHA256 {
+        expect_digits(rt.alloc(), &text_digest(text.as_bytes()), *want)?;
     }
     Ok(())
 }
@@ -81,10 +89,7 @@ fn sha256_vectors(rt: HostRuntime) -> Result<(), Fail> {
 #[test]
 fn admission(rt: HostRuntime) -> Result<(), Fail> {
     let digest = apop_digest(STAMP, b"tanstaaf");
-    assert_eq!(rt;
-        digits(rt.alloc(), &digest)?.as_str(),
-        "c4c9334bac560ecc979e58001b3e22fb"
-    );
+    expect_digits(rt.alloc(), &digest, "c4c9334bac560ecc979e58001b3e22fb")?;
     let mrose = Name::read(b"mrose").ok_or("a name")?;
     let shared = Credential::Apop(Secret::read(b"tanstaaf").ok_or("a secret")?);
     assert!(rt; shared.admits(&mrose, STAMP, &Proof::Apop(digest)));
@@ -93,10 +98,8 @@ fn admission(rt: HostRuntime) -> Result<(), Fail> {
 
     let ann = Name::read(b"ann").ok_or("a name")?;
     let kept = pass_digest(&ann, b"s3 cret");
-    assert_eq!(rt;
-        digits(rt.alloc(), &kept)?.as_str(),
-        "b43a467a63f3c6f08cee5d5081ae0b9de24ab8663cdca739aa854abb29861820"
-    );
+    let digits = "b43a467a63f3c6f08cee5d5081ae0b9de24ab8663cdca739aa854abb29861820";
+    expect_digits(rt.alloc(), &kept, digits)?;
     assert!(rt; Credential::Pass(kept).admits(&ann, STAMP, &Proof::Pass(b"s3 cret")));
     assert!(rt; !Credential::Pass(kept).admits(&ann, STAMP, &Proof::Pass(b"s3 cret ")));
     assert!(rt; !Credential::Pass(kept).admits(&mrose, STAMP, &Proof::Pass(b"s3 cret")));
@@ -106,88 +109,160 @@ fn admission(rt: HostRuntime) -> Result<(), Fail> {
     Ok(())
 }
 
+/// Texts, whether each is a name, and whether it is a deposit's id.
+static TEXTS: [(&str, bool, bool); 9] = [
+    ("a", true, true),
+    ("0-", true, true),
+    ("", false, false),
+    ("Ann", false, true),
+    ("a_b", false, true),
+    ("a.b", false, false),
+    ("a b", false, false),
+    ("a/b", false, false),
+    ("\u{e9}", false, false),
+];
+
+fn is_name(text: &[u8]) -> bool {
+    Name::read(text).is_some()
+}
+
+fn is_deposit_id(text: &[u8]) -> bool {
+    DepositId::read(text).is_some()
+}
+
+fn is_login_name(text: &str) -> bool {
+    LoginName::read(text.as_bytes()).is_some()
+}
+
+/// Fails with the first text that is read in another way.
+fn expect_texts() -> Result<(), Fail> {
+    for (text, of_name, of_id) in &TEXTS {
+        if is_name(text.as_bytes()) != *of_name || is_deposit_id(text.as_bytes()) != *of_id {
+            return Err(Fail::from(*text));
+        }
+    }
+    Ok(())
+}
+
+/// Texts that are no login name.
+static NO_LOGIN_NAMES: [&str; 6] = ["ann", "/orders", "ann/", "Ann/orders", "ann/orders/x", ""];
+
+/// Fails with the first of them that is one.
+fn expect_no_login_names() -> Result<(), Fail> {
+    for text in &NO_LOGIN_NAMES {
+        if is_login_name(*text) {
+            return Err(Fail::from(*text));
+        }
+    }
+    Ok(())
+}
+
+/// Whether a login name has these two names.
+fn has_names(text: &str, clerk: &str, maildrop: &str) -> bool {
+    match LoginName::read(text.as_bytes()) {
+        Some(login) => login.clerk.as_str() == clerk && login.maildrop.as_str() == maildrop,
+        None => false,
+    }
+}
+
+fn is_shown(text: &[u8], shown: &str) -> bool {
+    match DepositId::read(text) {
+        Some(id) => id.as_str() == shown,
+        None => false,
+    }
+}
+
+/// A unique-id as it is written.
+fn uid_text(alloc: Global, class: &[u8], k: u64) -> Result<String, Fail> {
+    let class = Name::read(class).ok_or("a class")?;
+    let uid = Uid { class, k };
+    Ok(format!(in alloc; "{uid}")?)
+}
+
 #[test]
 fn names_and_deposit_ids(rt: HostRuntime) -> Result<(), Fail> {
     let letters = [b'a'; 65];
-    for (text, is_name, is_id) in [
-        ("a", true, true),
-        ("0-", true, true),
-        ("", false, false),
-        ("Ann", false, true),
-        ("a_b", false, true),
-        ("a.b", false, false),
-        ("a b", false, false),
-        ("a/b", false, false),
-        ("\u{e9}", false, false),
-    ] {
-        assert_eq!(rt; Name::read(text.as_bytes()).is_some(), is_name, "{text}");
-        assert_eq!(rt; DepositId::read(text.as_bytes()).is_some(), is_id, "{text}");
-    }
-    assert!(rt; Name::read(&letters[..32]).is_some());
-    assert!(rt; Name::read(&letters[..33]).is_none());
-    assert!(rt; DepositId::read(&letters[..64]).is_some());
-    assert!(rt; DepositId::read(&letters[..65]).is_none());
-    assert_eq!(rt; DepositId::read(b"A-1_b").ok_or("an id")?.as_str(), "A-1_b");
-
-    let login = LoginName::read(b"ann/orders").ok_or("a login name")?;
-    assert_eq!(rt; login.clerk.as_str(), "ann");
-    assert_eq!(rt; login.maildrop.as_str(), "orders");
-    for text in ["ann", "/orders", "ann/", "Ann/orders", "ann/orders/x", ""] {
-        assert!(rt; LoginName::read(text.as_bytes()).is_none(), "{text}");
-    }
-    let uid = Uid {
-        class: Name::read(b"note").ok_or("a class")?,
-        k: 12,
-    };
-    assert_eq!(rt; format!(in rt.alloc(); "{uid}")?.as_str(), "note.12");
+    expect_texts()?;
+    assert!(rt; is_name(&letters[..32]) && !is_name(&letters[..33]));
+    assert!(rt; is_deposit_id(&letters[..64]) && !is_deposit_id(&letters[..65]));
+    assert!(rt; is_shown(b"A-1_b", "A-1_b"));
+    assert!(rt; has_names("ann/orders", "ann", "orders"));
+    expect_no_login_names()?;
+    let text = uid_text(rt.alloc(), b"note", 12)?;
+    assert!(rt; text.as_str() == "note.12");
     Ok(())
+}
+
+fn is_secret(text: &[u8]) -> bool {
+    Secret::read(text).is_some()
+}
+
+/// Whether a secret of an octet that none has is refused, each in turn.
+fn are_refused() -> bool {
+    for octet in [0x00, 0x1f, 0x7f, 0x80, 0xff] {
+        if is_secret(&[b'a', octet]) {
+            return false;
+        }
+    }
+    true
+}
+
+/// What is printed of a credential by a secret.
+fn shown(alloc: Global, secret: Secret) -> Result<String, AllocError> {
+    let credential = Credential::Apop(secret);
+    format!(in alloc; "{credential:?}")
 }
 
 #[test]
 fn secrets(rt: HostRuntime) -> Result<(), Fail> {
     let tildes = [b'~'; 129];
-    assert!(rt; Secret::read(&tildes[..1]).is_some());
-    assert!(rt; Secret::read(&tildes[..128]).is_some());
-    assert!(rt; Secret::read(&tildes[..129]).is_none());
-    assert!(rt; Secret::read(b"").is_none());
-    assert!(rt; Secret::read(b" ").is_some());
-    for octet in [0x00, 0x1f, 0x7f, 0x80, 0xff] {
-        assert!(rt; Secret::read(&[b'a', octet]).is_none(), "{octet}");
-    }
+    assert!(rt; is_secret(&tildes[..1]) && is_secret(&tildes[..128]));
+    assert!(rt; !is_secret(&tildes[..129]));
+    assert!(rt; !is_secret(b"") && is_secret(b" "));
+    assert!(rt; are_refused());
     let secret = Secret::read(b"tanstaaf").ok_or("a secret")?;
-    assert_eq!(rt; secret.as_bytes(), b"tanstaaf".as_slice());
+    assert!(rt; secret.as_bytes() == b"tanstaaf".as_slice());
     // what is printed of a credential does not show its secret
-    let credential = Credential::Apop(secret);
-    let shown = format!(in rt.alloc(); "{credential:?}")?;
-    assert_eq!(rt; shown.as_str(), "Apop(Secret(..))");
+    let shown = shown(rt.alloc(), secret)?;
+    assert!(rt; shown.as_str() == "Apop(Secret(..))");
+    Ok(())
+}
+
+/// Texts, and whether each is a host's name.
+static HOSTS: [(&str, bool); 14] = [
+    ("localhost", true),
+    ("h.test", true),
+    ("dbc.mtview.ca.us", true),
+    ("a-b.1", true),
+    ("", false),
+    (".", false),
+    ("a..b", false),
+    (".a", false),
+    ("a.", false),
+    ("-a.b", false),
+    ("a-.b", false),
+    ("a.b-", false),
+    ("H.test", false),
+    ("a_b", false),
+];
+
+fn is_host_name(text: &[u8]) -> bool {
+    HostName::read(text).is_some()
+}
+
+/// Fails with the first of them that is read in another way.
+fn expect_hosts() -> Result<(), Fail> {
+    for (text, is_host) in &HOSTS {
+        if is_host_name(text.as_bytes()) != *is_host {
+            return Err(Fail::from(*text));
+        }
+    }
     Ok(())
 }
 
 #[test]
-fn host_names(rt: HostRuntime) {
+fn host_names(rt: HostRuntime) -> Result<(), Fail> {
     let letters = [b'a'; 65];
-    assert!(rt; HostName::read(&letters[..64]).is_some());
-    assert!(rt; HostName::read(&letters[..65]).is_none());
-    for (text, is_host) in [
-        ("localhost", true),
-        ("h.test", true),
-        ("dbc.mtview.ca.us", true),
-        ("a-b.1", true),
-        ("", false),
-        (".", false),
-        ("a..b", false),
-        (".a", false),
-        ("a.", false),
-        ("-a.b", false),
-        ("a-.b", false),
-        ("a.b-", false),
-        ("H.test", false),
-        ("a_b", false),
-    ] {
-        assert_eq!(rt;
-            HostName::read(text.as_bytes()).is_some(),
-            is_host,
-            "{text}"
-        );
-    }
+    assert!(rt; is_host_name(&letters[..64]) && !is_host_name(&letters[..65]));
+    expect_hosts()
 }

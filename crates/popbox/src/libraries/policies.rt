@@ -1,6 +1,6 @@
 //! What no clause says: that the calls succeed, each fault of a text at each kind of value, and the sample policy.
 use creds::Name;
-use policy::{Action, Policy, PolicyFault};
+use policy::{Action, Decision, Policy, PolicyFault};
 use std::alloc::{AllocError, Global};
 use std::str;
 use std::test::Fail;
@@ -124,117 +124,148 @@ static WRONG: [&str; 18] = [
     " = \"Open\"",
 ];
 
+/// Fails with what is answered, unless it is what is wanted.
+fn expect(alloc: Global, text: &str, wanted: &str) -> Result<(), Fail> {
+    let said = answer(alloc, text)?;
+    if said.as_str() == wanted {
+        Ok(())
+    } else {
+        Err(Fail::new(format_args!("{said} at {text}")))
+    }
+}
+
+/// Texts that have no table of a rule, or a rule without its keys.
+static TEXTS: [(&str, &str); 14] = [
+    ("", "ok, 0 rules"),
+    ("rule = []", "ok, 0 rules"),
+    ("rule", "NotToml"),
+    ("rule = 3\nx = 1", "NotToml"),
+    ("rule = [{}, 1979-05-27]", "NotToml"),
+    ("[rule]", "NotToml"),
+    ("rule = []\nrule = []", "NotToml"),
+    ("x = 1", "rule 0: UnknownKey"),
+    ("rule = [{}]\nx = 1", "rule 0: UnknownKey"),
+    ("[x]", "rule 0: UnknownKey"),
+    ("[[x]]", "rule 0: UnknownKey"),
+    ("x = 1\nx = 1", "NotToml"),
+    ("rule = [{}]", "rule 1: MissingKey"),
+    ("[[rule]]\nname = \"a\"\nother = 1", "rule 1: MissingKey"),
+];
+
+/// A value in the place of the rules, and of a key that no policy has.
+fn expect_at_the_top(alloc: Global, value: &str) -> Result<(), Fail> {
+    let wanted = match value {
+        " = []" => "ok, 0 rules",
+        " = [{}]" => "rule 1: MissingKey",
+        _ => "NotToml",
+    };
+    let text = format!(in alloc; "rule{value}")?;
+    expect(alloc, text.as_str(), wanted)?;
+    let text = format!(in alloc; "other{value}")?;
+    expect(alloc, text.as_str(), "rule 0: UnknownKey")
+}
+
 #[test]
 fn policy_text_faults(rt: HostRuntime) -> Result<(), Fail> {
-    for (text, wanted) in [
-        ("", "ok, 0 rules"),
-        ("rule = []", "ok, 0 rules"),
-        ("rule", "NotToml"),
-        ("rule = 3\nx = 1", "NotToml"),
-        ("rule = [{}, 1979-05-27]", "NotToml"),
-        ("[rule]", "NotToml"),
-        ("rule = []\nrule = []", "NotToml"),
-        ("x = 1", "rule 0: UnknownKey"),
-        ("rule = [{}]\nx = 1", "rule 0: UnknownKey"),
-        ("[x]", "rule 0: UnknownKey"),
-        ("[[x]]", "rule 0: UnknownKey"),
-        ("x = 1\nx = 1", "NotToml"),
-        ("rule = [{}]", "rule 1: MissingKey"),
-        ("[[rule]]\nname = \"a\"\nother = 1", "rule 1: MissingKey"),
-    ] {
-        assert_eq!(rt; answer(rt.alloc(), text)?.as_str(), wanted, "at {text}");
+    for (text, wanted) in &TEXTS {
+        expect(rt.alloc(), *text, *wanted)?;
     }
     for value in &WRONG {
-        let wanted = match *value {
-            " = []" => "ok, 0 rules",
-            " = [{}]" => "rule 1: MissingKey",
-            _ => "NotToml",
-        };
-        let text = format!(in rt.alloc(); "rule{value}")?;
-        assert_eq!(rt; answer(rt.alloc(), &text)?.as_str(), wanted, "at {text}");
-        let text = format!(in rt.alloc(); "other{value}")?;
-        assert_eq!(rt;
-            answer(rt.alloc(), &text)?.as_str(),
-            "rule 0: UnknownKey",
-            "at {text}"
-        );
+        expect_at_the_top(rt.alloc(), *value)?;
     }
     Ok(())
 }
+
+/// Fails unless a rule with this setting in the place of the usual one of the key is answered so.
+fn expect_with(alloc: Global, key: &str, setting: &str, wanted: &str) -> Result<(), Fail> {
+    let text = rule_with(alloc, key, setting)?;
+    expect(alloc, text.as_str(), wanted)
+}
+
+fn expect_value(alloc: Global, key: &str, value: &str, wanted: &str) -> Result<(), Fail> {
+    let setting = format!(in alloc; "{key}{value}")?;
+    expect_with(alloc, key, setting.as_str(), wanted)
+}
+
+/// A key as the name of a table, and of a table of a list.
+fn expect_tables(alloc: Global, key: &str, wanted: &str) -> Result<(), Fail> {
+    let table = format!(in alloc; "[rule.{key}]")?;
+    expect_with(alloc, key, table.as_str(), wanted)?;
+    let table = format!(in alloc; "[[rule.{key}]]")?;
+    expect_with(alloc, key, table.as_str(), wanted)
+}
+
+fn expect_values(alloc: Global, key: &str, wanted: &str) -> Result<(), Fail> {
+    for value in &WRONG {
+        expect_value(alloc, key, *value, wanted)?;
+    }
+    expect_tables(alloc, key, wanted)
+}
+
+/// A key that stands twice, and one that another stands for.
+fn expect_twice_and_without(alloc: Global, key: &str, usual: &str) -> Result<(), Fail> {
+    let twice = format!(in alloc; "{key} = {usual}\n{key} = {usual}")?;
+    expect_with(alloc, key, twice.as_str(), "NotToml")?;
+    expect_with(alloc, key, "other = 1", "rule 1: MissingKey")
+}
+
+/// The keys, with the fault of each at a value that it doesn't take.
+static FAULTS: [(&str, &str); 7] = [
+    ("name", "rule 1: BadName"),
+    ("clerk", "rule 1: BadName"),
+    ("maildrop", "rule 1: BadName"),
+    ("class", "rule 1: BadName"),
+    ("effect", "rule 1: BadEffect"),
+    ("actions", "rule 1: BadActions"),
+    ("other", "rule 1: UnknownKey"),
+];
 
 #[test]
 fn faults_of_a_value(rt: HostRuntime) -> Result<(), Fail> {
-    for (key, wanted) in [
-        ("name", "rule 1: BadName"),
-        ("clerk", "rule 1: BadName"),
-        ("maildrop", "rule 1: BadName"),
-        ("class", "rule 1: BadName"),
-        ("effect", "rule 1: BadEffect"),
-        ("actions", "rule 1: BadActions"),
-        ("other", "rule 1: UnknownKey"),
-    ] {
-        for value in &WRONG {
-            let setting = format!(in rt.alloc(); "{key}{value}")?;
-            let text = rule_with(rt.alloc(), key, &setting)?;
-            assert_eq!(rt; answer(rt.alloc(), &text)?.as_str(), wanted, "at {setting}");
-        }
-        for (before, behind) in [("[rule.", "]"), ("[[rule.", "]]")] {
-            let table = format!(in rt.alloc(); "{before}{key}{behind}")?;
-            let text = rule_with(rt.alloc(), key, &table)?;
-            assert_eq!(rt; answer(rt.alloc(), &text)?.as_str(), wanted, "at {table}");
-        }
+    for (key, wanted) in &FAULTS {
+        expect_values(rt.alloc(), *key, *wanted)?;
     }
     for (key, usual) in &USUAL {
-        let twice = format!(in rt.alloc(); "{key} = {usual}\n{key} = {usual}")?;
-        let text = rule_with(rt.alloc(), key, &twice)?;
-        assert_eq!(rt;
-            answer(rt.alloc(), &text)?.as_str(),
-            "NotToml",
-            "at {twice}"
-        );
-        let text = rule_with(rt.alloc(), key, "other = 1")?;
-        assert_eq!(rt;
-            answer(rt.alloc(), &text)?.as_str(),
-            "rule 1: MissingKey",
-            "without {key}"
-        );
+        expect_twice_and_without(rt.alloc(), *key, *usual)?;
     }
     Ok(())
 }
 
+/// A setting in the place of a key's usual one, and what is answered.
+static SETTINGS: [(&str, &str, &str); 11] = [
+    ("class", "class = \"*\"", "ok, 1 rules"),
+    ("name", "name = \"default\"", "rule 1: BadName"),
+    ("name", "name = \"*\"", "rule 1: BadName"),
+    (
+        "name",
+        "name = \"a23456789b23456789c23456789d23456\"",
+        "rule 1: BadName",
+    ),
+    ("actions", "actions = \"read\"", "rule 1: BadActions"),
+    (
+        "actions",
+        "actions = [\"read\", \"read\"]",
+        "rule 1: BadActions",
+    ),
+    (
+        "actions",
+        "actions = [\"read\", \"write\"]",
+        "rule 1: BadActions",
+    ),
+    (
+        "actions",
+        "actions = [\"read\", \"open\"]",
+        "rule 1: OpenWithClass",
+    ),
+    ("", "other = 1", "rule 1: UnknownKey"),
+    ("name", "name = 3\nother = 1", "rule 1: UnknownKey"),
+    ("", "[[rule]]", "rule 2: MissingKey"),
+];
+
 #[test]
 fn faults_of_a_rule(rt: HostRuntime) -> Result<(), Fail> {
-    for (key, setting, wanted) in [
-        ("class", "class = \"*\"", "ok, 1 rules"),
-        ("name", "name = \"default\"", "rule 1: BadName"),
-        ("name", "name = \"*\"", "rule 1: BadName"),
-        (
-            "name",
-            "name = \"a23456789b23456789c23456789d23456\"",
-            "rule 1: BadName",
-        ),
-        ("actions", "actions = \"read\"", "rule 1: BadActions"),
-        (
-            "actions",
-            "actions = [\"read\", \"read\"]",
-            "rule 1: BadActions",
-        ),
-        (
-            "actions",
-            "actions = [\"read\", \"write\"]",
-            "rule 1: BadActions",
-        ),
-        (
-            "actions",
-            "actions = [\"read\", \"open\"]",
-            "rule 1: OpenWithClass",
-        ),
-        ("", "other = 1", "rule 1: UnknownKey"),
-        ("name", "name = 3\nother = 1", "rule 1: UnknownKey"),
-        ("", "[[rule]]", "rule 2: MissingKey"),
-    ] {
-        let text = rule_with(rt.alloc(), key, setting)?;
-        assert_eq!(rt; answer(rt.alloc(), &text)?.as_str(), wanted, "at {setting}");
+    for (key, setting, wanted) in &SETTINGS {
+        expect_with(rt.alloc(), *key, *setting, *wanted)?;
     }
     Ok(())
 }
@@ -287,36 +318,38 @@ static MENDED: [(&str, &str); 11] = [
     ),
 ];
 
+fn expect_behind(alloc: Global, settings: &str, wanted: &str) -> Result<(), Fail> {
+    let mut text = rule_with(alloc, "name", "name = \"first\"")?;
+    writeln!(text, "[[rule]]\n{settings}")?;
+    expect(alloc, text.as_str(), wanted)
+}
+
 #[test]
 fn faults_of_a_second_rule(rt: HostRuntime) -> Result<(), Fail> {
     for (settings, wanted) in &MENDED {
-        let mut text = rule_with(rt.alloc(), "name", "name = \"first\"")?;
-        writeln!(text, "[[rule]]\n{settings}")?;
-        assert_eq!(rt;
-            answer(rt.alloc(), &text)?.as_str(),
-            *wanted,
-            "at {settings}"
-        );
+        expect_behind(rt.alloc(), *settings, *wanted)?;
     }
     Ok(())
 }
 
-#[test]
-fn too_many_before_the_faults_of_a_rule(rt: HostRuntime) -> Result<(), Fail> {
-    let mut text = String::from_str(rt.alloc(), "rule = [")?;
+/// A list of a thousand empty rules, without its end.
+fn a_thousand(alloc: Global) -> Result<String, AllocError> {
+    let mut text = String::from_str(alloc, "rule = [")?;
     for _ in 0..1000 {
         text.push_str("{},")?;
     }
+    Ok(text)
+}
+
+#[test]
+fn too_many_before_the_faults_of_a_rule(rt: HostRuntime) -> Result<(), Fail> {
+    let text = a_thousand(rt.alloc())?;
     let thousand = format!(in rt.alloc(); "{text}]")?;
-    assert_eq!(rt;
-        answer(rt.alloc(), &thousand)?.as_str(),
-        "rule 1: MissingKey"
-    );
-    text.push_str("{}]\n")?;
-    assert_eq!(rt; answer(rt.alloc(), &text)?.as_str(), "TooMany");
-    text.push_str("x = 1\n")?;
-    assert_eq!(rt; answer(rt.alloc(), &text)?.as_str(), "rule 0: UnknownKey");
-    Ok(())
+    expect(rt.alloc(), thousand.as_str(), "rule 1: MissingKey")?;
+    let more = format!(in rt.alloc(); "{text}{{}}]\n")?;
+    expect(rt.alloc(), more.as_str(), "TooMany")?;
+    let other = format!(in rt.alloc(); "{more}x = 1\n")?;
+    expect(rt.alloc(), other.as_str(), "rule 0: UnknownKey")
 }
 
 /// Each growth that is refused is told as want of memory, and changes nothing: run with each allocation failing in turn.
@@ -346,39 +379,70 @@ fn refused_growths(rt: HostRuntime) -> Result<(), Fail> {
     Ok(())
 }
 
+fn written(alloc: Global, policy: &Policy) -> Result<Vec<u8>, Fail> {
+    let mut text = Vec::new(alloc);
+    policy.write(&mut text)?;
+    Ok(text)
+}
+
+/// Whether a text is read, what is written of its copy is that text, and what is written of that, read again, is the same.
+fn is_read_and_written(alloc: Global, text: &str) -> Result<bool, Fail> {
+    let policy = Policy::read(alloc, text)?.try_copy()?;
+    let kept = written(alloc, &policy)?;
+    let again = Policy::read(alloc, str::from_utf8(&kept)?)?;
+    Ok(kept.as_slice() == text.as_bytes() && written(alloc, &again)?.as_slice() == kept.as_slice())
+}
+
+/// The policy of the rules that a text has.
+fn rules_of(alloc: Global, text: &str) -> Result<Policy, Fail> {
+    let policy = Policy::read(alloc, text)?.try_copy()?;
+    let mut rules = Vec::new(alloc);
+    rules.extend_from_slice(policy.rules())?;
+    Ok(Policy::from_rules(rules).ok_or("not sound")?)
+}
+
+/// A question to the sample policy: the clerk, the class and the action, whether it is allowed, and by which rule.
+static DECISIONS: [(&str, &str, &str, bool, &str); 9] = [
+    ("bob", "pay", "read", false, "bob-no-pay"),
+    ("bob", "pay", "remove", false, "bob-no-pay"),
+    ("bob", "note", "read", true, "bob-read"),
+    ("bob", "note", "remove", true, "bob-rm"),
+    ("bob", "todo", "remove", false, "default"),
+    ("bob", "pay", "open", true, "bob-open"),
+    ("ann", "pay", "remove", true, "ann-all"),
+    ("dan", "note", "open", false, "default"),
+    ("dan", "note", "read", false, "default"),
+];
+
+fn name(text: &str) -> Result<Name, Fail> {
+    Ok(Name::read(text.as_bytes()).ok_or("a name")?)
+}
+
+fn decision(policy: &Policy, clerk: &str, class: &str, action: &str) -> Result<Decision, Fail> {
+    let clerk = name(clerk)?;
+    let maildrop = name("orders")?;
+    let class = name(class)?;
+    let action = Action::read(action.as_bytes()).ok_or("an action")?;
+    Ok(policy.decide(&clerk, &maildrop, &class, action))
+}
+
+/// Whether each question is decided so.
+fn are_decided(policy: &Policy) -> Result<bool, Fail> {
+    for (clerk, class, action, allowed, rule) in &DECISIONS {
+        let decided = decision(policy, *clerk, *class, *action)?;
+        if decided.allowed != *allowed || decided.rule.as_str() != *rule {
+            return Ok(false);
+        }
+    }
+    Ok(true)
+}
+
 #[test]
 fn sample_policy(rt: HostRuntime) -> Result<(), Fail> {
-    let policy = Policy::read(rt.alloc(), SAMPLE)?.try_copy()?;
-    let mut text = Vec::new(rt.alloc());
-    policy.write(&mut text)?;
-    assert_eq!(rt; text.as_slice(), SAMPLE.as_bytes());
-    let read_again = Policy::read(rt.alloc(), str::from_utf8(&text)?)?;
-    let mut again = Vec::new(rt.alloc());
-    read_again.write(&mut again)?;
-    assert_eq!(rt; again.as_slice(), text.as_slice());
-    let mut rules = Vec::new(rt.alloc());
-    rules.extend_from_slice(policy.rules())?;
-    let policy = Policy::from_rules(rules).ok_or("not sound")?;
-    assert_eq!(rt; policy.len(), 8);
+    assert!(rt; is_read_and_written(rt.alloc(), SAMPLE)?);
+    let policy = rules_of(rt.alloc(), SAMPLE)?;
+    assert!(rt; policy.len() == 8);
     assert!(rt; !policy.is_empty() && Policy::new(rt.alloc()).is_empty());
-    for (clerk, class, action, allowed, rule) in [
-        ("bob", "pay", "read", false, "bob-no-pay"),
-        ("bob", "pay", "remove", false, "bob-no-pay"),
-        ("bob", "note", "read", true, "bob-read"),
-        ("bob", "note", "remove", true, "bob-rm"),
-        ("bob", "todo", "remove", false, "default"),
-        ("bob", "pay", "open", true, "bob-open"),
-        ("ann", "pay", "remove", true, "ann-all"),
-        ("dan", "note", "open", false, "default"),
-        ("dan", "note", "read", false, "default"),
-    ] {
-        let clerk = Name::read(clerk.as_bytes()).ok_or("a name")?;
-        let maildrop = Name::read(b"orders").ok_or("a name")?;
-        let class = Name::read(class.as_bytes()).ok_or("a name")?;
-        let action = Action::read(action.as_bytes()).ok_or("an action")?;
-        let decision = policy.decide(&clerk, &maildrop, &class, action);
-        assert_eq!(rt; decision.allowed, allowed);
-        assert_eq!(rt; decision.rule.as_str(), rule);
-    }
+    assert!(rt; are_decided(&policy)?);
     Ok(())
 }

@@ -197,13 +197,20 @@ fn said<V: Vault>(alloc: Global, vault: &mut V, call: Call) -> Result<String, Fa
     }
 }
 
+/// Makes the call, and fails with what it is answered, unless it is this.
+fn expect<V: Vault>(alloc: Global, vault: &mut V, call: Call, answer: &str) -> Result<(), Fail> {
+    let said = said(alloc, vault, call)?;
+    if said.as_str() == answer {
+        Ok(())
+    } else {
+        Err(Fail::from(said))
+    }
+}
+
 /// Fails unless each call of the story is answered so, one after the other.
 fn tells_the_story<V: Vault>(alloc: Global, vault: &mut V) -> Result<(), Fail> {
-    for (call, answer) in STORY {
-        let said = said(alloc, vault, call)?;
-        if said.as_str() != answer {
-            return Err(Fail::from(said));
-        }
+    for (call, answer) in &STORY {
+        expect(alloc, vault, *call, *answer)?;
     }
     Ok(())
 }
@@ -222,15 +229,53 @@ fn story_of_a_store_over_tables(rt: HostRuntime) -> Result<(), Fail> {
     tells_the_story(alloc, &mut vault)
 }
 
+/// Adds a maildrop, and answers whether it is new.
+fn add<V: Vault>(vault: &mut V, maildrop: &str) -> Result<Result<bool, VaultFault>, Fail> {
+    Ok(vault.add_maildrop(&name(maildrop)?))
+}
+
+/// Stores a clerk by a secret, and answers whether the clerk is new.
+fn put<V: Vault>(vault: &mut V, clerk: &str) -> Result<Result<bool, VaultFault>, Fail> {
+    Ok(vault.put_clerk(&name(clerk)?, &secret("s3 cret")?))
+}
+
+/// The heads of the maildrop `orders`.
+fn heads<V: Vault>(vault: &mut V) -> Result<Vec<Head>, Fail> {
+    Ok(vault.heads(&name("orders")?)?)
+}
+
+/// Deposits the sample store's first text, and answers whether memory was wanted.
+fn is_refused<V: Vault>(alloc: Global, vault: &mut V) -> Result<bool, Fail> {
+    match deposit(alloc, vault, "note", "d1", TEXT)? {
+        Ok(_) => Ok(false),
+        Err(VaultFault::NoMemory) => Ok(true),
+        Err(fault) => Err(Fail::from(fault)),
+    }
+}
+
+/// Whether the maildrop `orders` has no message.
+fn is_bare<V: Vault>(vault: &mut V) -> Result<bool, Fail> {
+    let heads = heads(vault)?;
+    Ok(heads.is_empty())
+}
+
+/// Deposits it again, where nothing is left of the deposit that was refused.
+fn put_again<V: Vault>(alloc: Global, vault: &mut V) -> Result<(), Fail> {
+    if !is_bare(vault)? {
+        return Err(Fail::from("a refused deposit left a message"));
+    }
+    if is_refused(alloc, vault)? {
+        return Err(Fail::from(VaultFault::NoMemory));
+    }
+    Ok(())
+}
+
 /// A store with the maildrop `orders` and the sample store's first deposit, put again where memory for it is refused.
 fn with_one_deposit(alloc: Global) -> Result<PlainVault, Fail> {
     let mut vault = PlainVault::new(alloc);
-    vault.add_maildrop(&name("orders")?)?;
-    if deposit(alloc, &mut vault, "note", "d1", TEXT)? == Err(VaultFault::NoMemory) {
-        if !vault.heads(&name("orders")?)?.is_empty() {
-            return Err(Fail::from("a refused deposit left a message"));
-        }
-        deposit(alloc, &mut vault, "note", "d1", TEXT)??;
+    add(&mut vault, "orders")??;
+    if is_refused(alloc, &mut vault)? {
+        put_again(alloc, &mut vault)?;
     }
     Ok(vault)
 }
@@ -240,8 +285,8 @@ fn with_one_deposit(alloc: Global) -> Result<PlainVault, Fail> {
 fn pages_join_to_the_kept_text(rt: HostRuntime) -> Result<(), Fail> {
     let alloc = rt.alloc();
     let mut vault = with_one_deposit(alloc)?;
-    let heads = vault.heads(&name("orders")?)?;
-    assert_eq!(rt; heads.len(), 1);
+    let heads = heads(&mut vault)?;
+    assert!(rt; heads.len() == 1);
     let key = heads[0].key;
     let mut joined = Vec::new(alloc);
     for _ in 0..KEPT.len() {
@@ -272,33 +317,68 @@ fn credentials_and_policy(rt: HostRuntime) -> Result<(), Fail> {
     Ok(())
 }
 
+/// Adds a maildrop and a clerk of this name: whether both were answered so.
+fn are_put<V: Vault>(
+    vault: &mut V,
+    name: &str,
+    answer: &Result<bool, VaultFault>,
+) -> Result<bool, Fail> {
+    Ok(add(vault, name)? == *answer && put(vault, name)? == *answer)
+}
+
+/// Adds so many maildrops and clerks: whether each was new.
+fn are_all_new<V: Vault>(alloc: Global, vault: &mut V, count: u64) -> Result<bool, Fail> {
+    for number in 0..count {
+        let text = format!(in alloc; "n{number}")?;
+        if !are_put(vault, text.as_str(), &Ok(true))? {
+            return Ok(false);
+        }
+    }
+    Ok(true)
+}
+
 #[test]
 fn maildrops_and_clerks_up_to_a_thousand(rt: HostRuntime) -> Result<(), Fail> {
     let alloc = rt.alloc();
     let mut vault = PlainVault::new(alloc);
-    let given = secret("s3 cret")?;
-    for number in 0..1000u64 {
-        let text = format!(in alloc; "n{number}")?;
-        let name = name(text.as_str())?;
-        assert!(rt; vault.add_maildrop(&name) == Ok(true));
-        assert!(rt; vault.put_clerk(&name, &given) == Ok(true));
-    }
-    let one_more = name("n1000")?;
-    assert!(rt; vault.add_maildrop(&one_more) == Err(VaultFault::Full));
-    assert!(rt; vault.put_clerk(&one_more, &given) == Err(VaultFault::Full));
-    let known = name("n999")?;
-    assert!(rt; vault.add_maildrop(&known) == Ok(false));
-    assert!(rt; vault.put_clerk(&known, &given) == Ok(false));
+    assert!(rt; are_all_new(alloc, &mut vault, 1000)?);
+    assert!(rt; are_put(&mut vault, "n1000", &Err(VaultFault::Full))?);
+    assert!(rt; are_put(&mut vault, "n999", &Ok(false))?);
     Ok(())
+}
+
+/// A deposit of the class `note` under this id: whether it was answered so.
+fn is_deposited<V: Vault>(
+    alloc: Global,
+    vault: &mut V,
+    id: &str,
+    wanted: &Result<Deposited, VaultFault>,
+) -> Result<bool, Fail> {
+    let answer = deposit(alloc, vault, "note", id, "x")?;
+    Ok(answer == *wanted)
+}
+
+/// The unique-id of the class `note` with this number.
+fn note(k: u64) -> Result<Uid, Fail> {
+    let class = name("note")?;
+    Ok(Uid { class, k })
+}
+
+/// Whether a deposit under this id is of a new message with this number.
+fn is_new<V: Vault>(alloc: Global, vault: &mut V, id: &str, k: u64) -> Result<bool, Fail> {
+    is_deposited(alloc, vault, id, &Ok(Deposited::New(note(k)?)))
+}
+
+/// Whether a deposit under this id is of the message with this number, which is there.
+fn is_known<V: Vault>(alloc: Global, vault: &mut V, id: &str, k: u64) -> Result<bool, Fail> {
+    is_deposited(alloc, vault, id, &Ok(Deposited::Known(note(k)?)))
 }
 
 /// Deposits of the class `note` under so many ids, each of a new message: whether each was answered its unique-id.
 fn are_new<V: Vault>(alloc: Global, vault: &mut V, count: u64) -> Result<bool, Fail> {
-    let class = name("note")?;
     for k in 1..=count {
         let id = format!(in alloc; "d{k}")?;
-        let answer = deposit(alloc, vault, "note", id.as_str(), "x")?;
-        if answer != Ok(Deposited::New(Uid { class, k })) {
+        if !is_new(alloc, vault, id.as_str(), k)? {
             return Ok(false);
         }
     }
@@ -310,17 +390,12 @@ fn are_new<V: Vault>(alloc: Global, vault: &mut V, count: u64) -> Result<bool, F
 fn deposits_up_to_ten_thousand(rt: HostRuntime) -> Result<(), Fail> {
     let alloc = rt.alloc();
     let mut vault = PlainVault::new(alloc);
-    vault.add_maildrop(&name("orders")?)?;
+    add(&mut vault, "orders")??;
     assert!(rt; are_new(alloc, &mut vault, 10_000)?);
-    let one_more = deposit(alloc, &mut vault, "note", "d10001", "x")?;
-    assert!(rt; one_more == Err(VaultFault::Full));
-    let class = name("note")?;
-    for (id, k) in [("d1", 1), ("d10000", 10_000)] {
-        let known = Deposited::Known(Uid { class, k });
-        let answer = deposit(alloc, &mut vault, "note", id, "x")?;
-        assert!(rt; answer == Ok(known), "{id}");
-    }
-    assert_eq!(rt; vault.heads(&name("orders")?)?.len(), 10_000);
+    assert!(rt; is_deposited(alloc, &mut vault, "d10001", &Err(VaultFault::Full))?);
+    assert!(rt; is_known(alloc, &mut vault, "d1", 1)?);
+    assert!(rt; is_known(alloc, &mut vault, "d10000", 10_000)?);
+    assert!(rt; heads(&mut vault)?.len() == 10_000);
     Ok(())
 }
 
@@ -375,21 +450,43 @@ fn is_answered<V: Vault>(
     }
 }
 
+/// Makes a call that is refused, where it is the one: whether it was.
+fn is_refused_once<V: Vault>(
+    alloc: Global,
+    vault: &mut V,
+    call: u64,
+    n: u64,
+) -> Result<bool, Fail> {
+    if call != n {
+        return Ok(true);
+    }
+    let refused = is_answered(alloc, vault, call)?;
+    Ok(refused == Err(VaultFault::Store))
+}
+
+/// Makes a call, before it the refused one: whether both were answered so.
+fn is_made<V: Vault>(alloc: Global, vault: &mut V, call: u64, n: u64) -> Result<bool, Fail> {
+    let refused = is_refused_once(alloc, vault, call, n)?;
+    let answer = is_answered(alloc, vault, call)?;
+    Ok(refused && answer == Ok(true))
+}
+
+/// The calls over a store that refuses the one of this number: whether each was answered so, and how many were refused.
+fn refuses(alloc: Global, n: u64) -> Result<bool, Fail> {
+    let mut vault = Refusing::new(PlainVault::new(alloc), n);
+    for call in 1..13u64 {
+        let counted = vault.refusals() == u64::from(0 < n && n < call);
+        if !counted || !is_made(alloc, &mut vault, call, n)? {
+            return Ok(false);
+        }
+    }
+    Ok(vault.refusals() == n.min(1))
+}
+
 #[test]
 fn one_call_is_refused(rt: HostRuntime) -> Result<(), Fail> {
-    let alloc = rt.alloc();
     for n in 0..13u64 {
-        let mut vault = Refusing::new(PlainVault::new(alloc), n);
-        for call in 1..13u64 {
-            assert_eq!(rt; vault.refusals(), u64::from(0 < n && n < call));
-            if call == n {
-                let refused = is_answered(alloc, &mut vault, call)?;
-                assert!(rt; refused == Err(VaultFault::Store), "{call}");
-            }
-            let answer = is_answered(alloc, &mut vault, call)?;
-            assert!(rt; answer == Ok(true), "{call} of {n}");
-        }
-        assert_eq!(rt; vault.refusals(), n.min(1));
+        assert!(rt; refuses(rt.alloc(), n)?, "{n}");
     }
     Ok(())
 }

@@ -1,70 +1,132 @@
 //! What no clause says: worked values, that each call succeeds with ample memory, and refused growths.
 
-use mailtext::{TextFault, canon, stuff_into, unstuff};
+use mailtext::{MailText, TextFault, canon, stuff_into, unstuff};
+use std::alloc::{AllocError, Global};
 use std::test::Fail;
+
+/// What is kept of a text, by a call that says nothing of it.
+fn kept(alloc: Global, text: &[u8]) -> Result<MailText, TextFault> {
+    canon(alloc, text)
+}
+
+/// The octets and lines that are kept of a text, where they are these.
+fn is_kept_as(alloc: Global, text: &[u8], wanted: &[u8]) -> Result<bool, TextFault> {
+    Ok(kept(alloc, text)?.bytes() == wanted)
+}
+
+fn has_counts(alloc: Global, text: &[u8], octets: usize, lines: usize) -> Result<bool, TextFault> {
+    let kept = kept(alloc, text)?;
+    Ok(kept.octets() == octets && kept.lines() == lines)
+}
+
+/// So many octets `a`, and an end.
+fn long(alloc: Global, octets: usize, end: &[u8]) -> Result<Vec<u8>, AllocError> {
+    let mut text = vec![in alloc; b'a'; octets]?;
+    text.extend_from_slice(end)?;
+    Ok(text)
+}
+
+fn is_empty(alloc: Global, text: &[u8]) -> bool {
+    matches!(kept(alloc, text), Err(TextFault::Empty))
+}
+
+fn is_too_large(alloc: Global, text: &[u8]) -> bool {
+    matches!(kept(alloc, text), Err(TextFault::TooLarge))
+}
 
 #[test]
 fn kept_form_limits(rt: HostRuntime) -> Result<(), Fail> {
     let alloc = rt.alloc();
-    assert!(rt; matches!(canon(alloc, b""), Err(TextFault::Empty)));
-    assert_eq!(rt; canon(alloc, b"\n")?.octets(), 2);
-
-    let text = canon(alloc, b"a\r\r\n")?;
-    assert_eq!(rt; text.bytes(), b"a\r\r\n".as_slice());
-    assert_eq!(rt; text.octets(), 4);
-    assert_eq!(rt; text.lines(), 1);
-
+    assert!(rt; is_empty(alloc, b""));
+    assert!(rt; kept(alloc, b"\n")?.octets() == 2);
+    assert!(rt; is_kept_as(alloc, b"a\r\r\n", b"a\r\r\n")?);
+    assert!(rt; has_counts(alloc, b"a\r\r\n", 4, 1)?);
     // a last line without an end keeps its CR
-    assert_eq!(rt; canon(alloc, b"a\r")?.bytes(), b"a\r\r\n".as_slice());
-
-    let mut largest = vec![in alloc; b'a'; 26_214_398]?;
-    largest.extend_from_slice(b"\r\n")?;
-    assert_eq!(rt; canon(alloc, &largest)?.octets(), 26_214_400);
-    let unended = vec![in alloc; b'a'; 26_214_399]?;
-    assert!(rt; matches!(canon(alloc, &unended), Err(TextFault::TooLarge)));
+    assert!(rt; is_kept_as(alloc, b"a\r", b"a\r\r\n")?);
+    let largest = long(alloc, 26_214_398, b"\r\n")?;
+    assert!(rt; kept(alloc, &largest)?.octets() == 26_214_400);
+    let unended = long(alloc, 26_214_399, b"")?;
+    assert!(rt; is_too_large(alloc, &unended));
     Ok(())
+}
+
+/// Whether a text has a header of so many octets, and is sent with so many lines of its body as these octets.
+fn has_top(text: &MailText, header: usize, lines: u64, wanted: &[u8]) -> bool {
+    text.header_len() == header && text.top(lines) == wanted
 }
 
 #[test]
 fn top_line_counts(rt: HostRuntime) -> Result<(), Fail> {
     let alloc = rt.alloc();
-    let text = canon(alloc, b"A: 1\n\none\ntwo\nthree\n")?;
-    assert_eq!(rt; text.header_len(), 8);
-    assert_eq!(rt; text.top(0), b"A: 1\r\n\r\n".as_slice());
-    assert_eq!(rt; text.top(1), b"A: 1\r\n\r\none\r\n".as_slice());
-    assert_eq!(rt; text.top(3), text.bytes());
-    assert_eq!(rt; text.top(u64::MAX), text.bytes());
-
-    let all_header = canon(alloc, b"no header end\n")?;
-    assert_eq!(rt; all_header.header_len(), 15);
-    assert_eq!(rt; all_header.top(0), all_header.bytes());
+    let text = kept(alloc, b"A: 1\n\none\ntwo\nthree\n")?;
+    assert!(rt; has_top(&text, 8, 0, b"A: 1\r\n\r\n"));
+    assert!(rt; has_top(&text, 8, 1, b"A: 1\r\n\r\none\r\n"));
+    assert!(rt; has_top(&text, 8, 3, text.bytes()));
+    assert!(rt; has_top(&text, 8, u64::MAX, text.bytes()));
+    let all_header = kept(alloc, b"no header end\n")?;
+    assert!(rt; has_top(&all_header, 15, 0, all_header.bytes()));
     Ok(())
+}
+
+fn stuffed(alloc: Global, text: &[u8]) -> Result<Vec<u8>, AllocError> {
+    let mut sent = Vec::new(alloc);
+    stuff_into(&mut sent, text)?;
+    Ok(sent)
+}
+
+/// Whether no end of the text is found in what was sent.
+fn has_no_end(alloc: Global, sent: &[u8]) -> Result<bool, Fail> {
+    let read = unstuff(alloc, sent)?;
+    Ok(read.is_none())
+}
+
+/// Whether this text is found in what was sent, and behind how many octets it ends.
+fn ends_at(alloc: Global, sent: &[u8], text: &[u8], end: usize) -> Result<bool, Fail> {
+    match unstuff(alloc, sent)? {
+        Some((read, octets)) => Ok(read.as_slice() == text && octets == end),
+        None => Ok(false),
+    }
 }
 
 #[test]
 fn dots_stuffed_and_unstuffed(rt: HostRuntime) -> Result<(), Fail> {
     let alloc = rt.alloc();
-    let text = canon(alloc, b"Subject: a\n\nhi\n.\n")?;
-    assert_eq!(rt; text.octets(), 21);
-    let mut sent = Vec::new(alloc);
-    stuff_into(&mut sent, text.bytes())?;
-    assert_eq!(rt;
-        sent.as_slice(),
-        b"Subject: a\r\n\r\nhi\r\n..\r\n".as_slice()
-    );
-
-    let none = unstuff(alloc, &sent)?;
-    assert!(rt; none.is_none());
-
+    let text = kept(alloc, b"Subject: a\n\nhi\n.\n")?;
+    assert!(rt; text.octets() == 21);
+    let mut sent = stuffed(alloc, text.bytes())?;
+    assert!(rt; sent.as_slice() == b"Subject: a\r\n\r\nhi\r\n..\r\n".as_slice());
+    assert!(rt; has_no_end(alloc, &sent)?);
     sent.extend_from_slice(b".\r\n+OK bye\r\n")?;
-    match unstuff(alloc, &sent)? {
-        Some((read, octets)) => {
-            assert_eq!(rt; read.as_slice(), text.bytes());
-            assert_eq!(rt; octets, 25);
-        }
-        None => assert!(rt; false, "the dot's line has come"),
-    }
+    assert!(rt; ends_at(alloc, &sent, text.bytes(), 25)?);
     Ok(())
+}
+
+/// Whether a text is kept as this one, or memory is wanted.
+fn is_kept_or_refused(alloc: Global, text: &[u8], wanted: &[u8]) -> bool {
+    match kept(alloc, text) {
+        Ok(kept) => kept.bytes() == wanted,
+        Err(fault) => fault == TextFault::NoMemory,
+    }
+}
+
+/// Whether the text is put behind what was sent, or memory is wanted and what was sent is as before.
+fn is_stuffed_or_refused(alloc: Global, text: &[u8], wanted: &[u8]) -> bool {
+    let mut sent = Vec::new(alloc);
+    let begun = sent.extend_from_slice(b"+OK\r\n").is_ok();
+    let before = if begun { 5 } else { 0 };
+    match stuff_into(&mut sent, text) {
+        Ok(()) => sent.ends_with(wanted),
+        Err(_) => sent.as_slice() == &b"+OK\r\n"[..before],
+    }
+}
+
+/// Whether this text is found in what was sent, ended behind so many octets, or memory is wanted.
+fn is_unstuffed_or_refused(alloc: Global, sent: &[u8], text: &[u8], end: usize) -> bool {
+    match unstuff(alloc, sent) {
+        Ok(Some((read, octets))) => read.as_slice() == text && octets == end,
+        Ok(None) => false,
+        Err(_) => true,
+    }
 }
 
 // Passes with memory and without: each call whose growth is refused says so and changes nothing.
@@ -72,27 +134,7 @@ fn dots_stuffed_and_unstuffed(rt: HostRuntime) -> Result<(), Fail> {
 fn refused_growths_change_nothing(rt: HostRuntime) {
     let alloc = rt.alloc();
     let text = b".\n..\n";
-    match canon(alloc, text) {
-        Ok(kept) => assert_eq!(rt; kept.bytes(), b".\r\n..\r\n".as_slice()),
-        Err(fault) => assert_eq!(rt; fault, TextFault::NoMemory),
-    }
-    let mut sent = Vec::new(alloc);
-    let begun = sent.extend_from_slice(b"+OK\r\n").is_ok();
-    let before = if begun {
-        b"+OK\r\n".as_slice()
-    } else {
-        b"".as_slice()
-    };
-    match stuff_into(&mut sent, text) {
-        Ok(()) => assert!(rt; sent.ends_with(b"..\r\n...\r\n")),
-        Err(_) => assert_eq!(rt; sent.as_slice(), before),
-    }
-    match unstuff(alloc, b"..\r\n.\r\n+OK\r\n") {
-        Ok(Some((read, octets))) => {
-            assert_eq!(rt; read.as_slice(), b".\r\n".as_slice());
-            assert_eq!(rt; octets, 7);
-        }
-        Ok(None) => assert!(rt; false, "the dot's line has come"),
-        Err(_) => {}
-    }
+    assert!(rt; is_kept_or_refused(alloc, text, b".\r\n..\r\n"));
+    assert!(rt; is_stuffed_or_refused(alloc, text, b"..\r\n...\r\n"));
+    assert!(rt; is_unstuffed_or_refused(alloc, b"..\r\n.\r\n+OK\r\n", b".\r\n", 7));
 }

@@ -92,56 +92,104 @@ fn listings(alloc: Global, session: &Session) -> Result<String, AllocError> {
     Ok(text)
 }
 
+/// Whether a number is picked so.
+fn is_picked(session: &Session, number: u64, pick: &Pick) -> bool {
+    match session.pick(number) {
+        Ok(_) => false,
+        Err(refusal) => refusal == *pick,
+    }
+}
+
+/// Marks a number: whether it was answered so.
+fn is_marked(
+    session: &mut Session,
+    number: u64,
+    policy: &Policy,
+    answer: &Result<(), Pick>,
+) -> bool {
+    session.mark(number, policy) == *answer
+}
+
+/// Whether the session shows so many messages of so many octets.
+fn has_total(session: &Session, messages: u64, octets: u64) -> bool {
+    session.stat() == (messages, octets)
+}
+
+/// Whether these keys are removed under a policy, and this rule keeps others.
+fn removes(
+    session: &Session,
+    policy: &Policy,
+    keys: &[MessageKey],
+    rule: Option<Name>,
+) -> Result<bool, Fail> {
+    let (removed, kept) = session.to_remove(policy)?;
+    Ok(removed.as_slice() == keys && kept == rule)
+}
+
+fn name(text: &[u8]) -> Result<Name, Fail> {
+    Ok(Name::read(text).ok_or("a name")?)
+}
+
 #[test]
 fn filtered_view(rt: HostRuntime) -> Result<(), Fail> {
     let policy = Policy::read(rt.alloc(), RULES)?;
     let session = bob_session(rt.alloc(), &policy)?;
-    assert_eq!(rt; session.clerk().as_str(), "bob");
-    assert_eq!(rt; session.maildrop().as_str(), "orders");
-    assert_eq!(rt; session.stat(), (3, 61));
+    assert!(rt; session.clerk().as_str() == "bob" && session.maildrop().as_str() == "orders");
+    assert!(rt; has_total(&session, 3, 61));
     let text = listings(rt.alloc(), &session)?;
-    assert_eq!(rt;
-        text.as_str(),
-        "1 21\n2 15\n3 25\n1 note.1\n2 note.2\n3 todo.1\n"
-    );
+    assert!(rt; text.as_str() == "1 21\n2 15\n3 25\n1 note.1\n2 note.2\n3 todo.1\n");
     Ok(())
+}
+
+/// Whether no number but those of the view is picked.
+fn has_no_others(session: &Session) -> bool {
+    is_picked(session, 0, &Pick::NoSuch)
+        && is_picked(session, 4, &Pick::NoSuch)
+        && is_picked(session, u64::MAX, &Pick::NoSuch)
+}
+
+/// Marks the third and the second number: whether the first of them is denied, and the second is marked once.
+fn marks_one(session: &mut Session, policy: &Policy) -> Result<bool, Fail> {
+    let denied = Pick::Denied(name(b"default")?);
+    Ok(
+        is_marked(session, 3, policy, &Err(denied))
+            && is_marked(session, 2, policy, &Ok(()))
+            && is_marked(session, 2, policy, &Err(Pick::Deleted)),
+    )
 }
 
 #[test]
 fn marked_numbers_and_reset(rt: HostRuntime) -> Result<(), Fail> {
     let policy = Policy::read(rt.alloc(), RULES)?;
     let mut session = bob_session(rt.alloc(), &policy)?;
-    assert_eq!(rt; session.pick(0), Err(Pick::NoSuch));
-    assert_eq!(rt; session.pick(4), Err(Pick::NoSuch));
-    assert_eq!(rt; session.pick(u64::MAX), Err(Pick::NoSuch));
-    let default = Name::read(b"default").ok_or("a rule")?;
-    assert_eq!(rt; session.mark(3, &policy), Err(Pick::Denied(default)));
-    assert_eq!(rt; session.mark(2, &policy), Ok(()));
-    assert_eq!(rt; session.mark(2, &policy), Err(Pick::Deleted));
-    assert_eq!(rt; session.pick(2), Err(Pick::Deleted));
-    assert_eq!(rt; session.stat(), (2, 46));
+    assert!(rt; has_no_others(&session));
+    assert!(rt; marks_one(&mut session, &policy)?);
+    assert!(rt; is_picked(&session, 2, &Pick::Deleted) && has_total(&session, 2, 46));
     session.reset();
-    assert_eq!(rt; session.stat(), (3, 61));
+    assert!(rt; has_total(&session, 3, 61));
     assert!(rt; session.pick(2).is_ok_and(|head| head.k == 2));
     Ok(())
+}
+
+/// Bob's session, with the first two numbers marked, the second before the first.
+fn marked(alloc: Global, policy: &Policy) -> Result<Session, Fail> {
+    let mut session = bob_session(alloc, policy)?;
+    if is_marked(&mut session, 2, policy, &Ok(())) && is_marked(&mut session, 1, policy, &Ok(())) {
+        Ok(session)
+    } else {
+        Err(Fail::from("a mark was refused"))
+    }
 }
 
 #[test]
 fn removals_under_a_new_policy(rt: HostRuntime) -> Result<(), Fail> {
     let policy = Policy::read(rt.alloc(), RULES)?;
-    let mut session = bob_session(rt.alloc(), &policy)?;
-    assert_eq!(rt; session.mark(2, &policy), Ok(()));
-    assert_eq!(rt; session.mark(1, &policy), Ok(()));
-    let (keys, rule) = session.to_remove(&policy)?;
-    assert_eq!(rt;
-        keys.as_slice(),
-        [MessageKey::new(11), MessageKey::new(13)].as_slice()
-    );
-    assert_eq!(rt; rule, None);
+    let session = marked(rt.alloc(), &policy)?;
+    let keys = [MessageKey::new(11), MessageKey::new(13)];
+    assert!(rt; removes(&session, &policy, &keys, None)?);
     let frozen = format!(in rt.alloc(); "{FREEZE}{RULES}")?;
     let policy = Policy::read(rt.alloc(), &frozen)?;
-    let (keys, rule) = session.to_remove(&policy)?;
-    assert!(rt; keys.is_empty());
-    assert_eq!(rt; rule, Some(Name::read(b"freeze").ok_or("a rule")?));
+    let rule = name(b"freeze")?;
+    assert!(rt; removes(&session, &policy, &[], Some(rule))?);
     Ok(())
 }

@@ -1,0 +1,65 @@
+//! Tests of stores with our tables and our mark, whose rows are no contents.
+
+use crate::store_tests::{adopted, changed, is_refused};
+use crate::tests::{Ran, expect, run_on};
+use sqlite::MemStore;
+use sqlvault::SqlVault;
+use std::alloc::Global;
+use std::test::Fail;
+use vault::VaultFault;
+
+/// A maildrop with two messages, a clerk and a rule, and what is printed of it.
+static SOUND: &str = r#"maildrop add orders
+clerk pass ann s3 cret
+policy [[rule]]\nname = "all"\neffect = "allow"\nclerk = "ann"\nmaildrop = "orders"\nclass = "*"\nactions = ["open", "read", "remove"]\n
+deposit orders note d1 hi
+deposit orders note d2 there
+"#;
+
+static SOUND_SAID: &str =
+    "answer added\nanswer added\nanswer 1 rules\nanswer new note.1\nanswer new note.2\n";
+
+/// What makes it unsound. Two equal ids of deposits can't be made: the table's key forbids them.
+static UNSOUND: [(&str, &str); 6] = [
+    (
+        "a hole in k",
+        "DELETE FROM mail WHERE k < 3; UPDATE deposits SET k = 3 WHERE id = 'd2'",
+    ),
+    ("a count less than the deposits", "UPDATE counts SET k = 1"),
+    (
+        "octets that don't agree",
+        "UPDATE mail SET octets = 5 WHERE k = 1",
+    ),
+    ("a sheet missing", "DELETE FROM sheets WHERE mail = 1"),
+    (
+        "a name of 33 characters",
+        "INSERT INTO maildrops (name) VALUES ('aaaaaaaaaaaaaaaaaaaaaaaaaaaaaaaaa')",
+    ),
+    ("a rule out of its form", "UPDATE rules SET effect = 2"),
+];
+
+fn sound_store(alloc: Global) -> Result<SqlVault<MemStore>, Fail> {
+    let (ran, vault) = run_on(alloc, SqlVault::in_memory(alloc)?, "h.test", 7, SOUND)?;
+    expect(ran, &Ran::good(alloc, SOUND_SAID)?)?;
+    Ok(vault)
+}
+
+#[test]
+fn sound_rows_are_adopted(rt: HostRuntime) -> Result<(), Fail> {
+    let alloc = rt.alloc();
+    assert!(rt; adopted(alloc, sound_store(alloc)?.into_connection()).is_ok());
+    Ok(())
+}
+
+#[test]
+fn unsound_rows_are_not_ours(rt: HostRuntime) -> Result<(), Fail> {
+    let alloc = rt.alloc();
+    for (what, sql) in UNSOUND.as_slice() {
+        let conn = changed(sound_store(alloc)?, sql)?;
+        assert!(rt;
+            is_refused(alloc, conn, VaultFault::NotOurs, "NotOurs"),
+            "{what}"
+        );
+    }
+    Ok(())
+}
