@@ -141,6 +141,26 @@ fn other_stores_are_refused(rt: HostRuntime) -> Result<(), Fail> {
     Ok(())
 }
 
+/// The table of marks alone, with the mark of the first version, which had other tables.
+static FIRST_VERSION: &str =
+    "CREATE TABLE meta (name TEXT PRIMARY KEY, value INTEGER NOT NULL) STRICT; INSERT INTO meta (name, value) VALUES ('popbox', 1)";
+
+#[test]
+fn a_store_with_other_tables_is_told_as_of_another_version(rt: HostRuntime) -> Result<(), Fail> {
+    let alloc = rt.alloc();
+    let conn = store_of(alloc, FIRST_VERSION)?;
+    assert!(rt; is_refused(alloc, conn, VaultFault::OldVersion, "OldVersion"));
+    Ok(())
+}
+
+#[test]
+fn a_transaction_under_way_is_refused(rt: HostRuntime) -> Result<(), Fail> {
+    let alloc = rt.alloc();
+    let conn = changed(SqlVault::in_memory(alloc)?, "BEGIN")?;
+    assert!(rt; is_refused(alloc, conn, VaultFault::NotOurs, "NotOurs"));
+    Ok(())
+}
+
 /// A maildrop, a clerk who may do everything in it, and what is printed of it.
 static CLERK: &str = r#"maildrop add orders
 clerk pass ann s3 cret
