@@ -173,9 +173,11 @@ fn go_through(
     })
 }
 
-/// Puts the stock into a new store in memory, looks at all of it, and takes it out again, by each call of the store.
+/// Puts the stock into a new store in memory, looks at all of it, and takes it out again, by each call of the store. An error is want of
+/// memory, or that the store refused a statement.
 pub fn sample(alloc: Global, stock: &Stock, buffer: &mut [u8]) -> Result<Seen, VaultFault>
-    ensures { IfOk result (Saw stock.now buffer.new) }
+    ensures saw { IfOk result (Saw stock.now buffer.new) }
+    ensures cause { IfErr result IsOfAnyCall }
 {
     let mut vault = SqlVault::in_memory(alloc)?;
     go_through(&mut vault, stock, buffer)
