@@ -1,26 +1,38 @@
-//! How fast popbox's layers are. `bench texts OCTETS` is over message texts; `bench rules COUNT` is over a policy;
-//! `bench sheets OCTETS [FILE]`, `bench commits COUNT [FILE]` and `bench heads COUNT [FILE]` are over a store, in memory or
-//! in a file that is not there yet; `bench sample 0 FILE` writes a small store. `bench logins MESSAGES`, `bench listings MESSAGES`,
-//! `bench retrieval OCTETS`, `bench removal MESSAGES`, `bench one TIMES` and `bench many TIMES` are over the sessions of an office.
-//! Without a number it prints nothing.
+//! How fast popbox's layers are. `bench WHAT N [STORE]` prints the measure WHAT of the number N; without a number it prints nothing.
+//!
+//! `texts OCTETS` is over message texts, and `rules COUNT` over a policy. `sheets OCTETS`, `commits COUNT` and `heads COUNT` are over
+//! the tables of a store in memory, or, with `[FILE]`, in a file that is not there yet; `sample 0 FILE` writes a small one.
+//!
+//! The others are over an office: `deposits MESSAGES`, `large OCTETS`, `filling MESSAGES`, `beside MESSAGES`, `logins MESSAGES`,
+//! `listings MESSAGES`, `retrieval OCTETS`, `removal MESSAGES`, `one TIMES` and `many TIMES`. Its store is `plain`, which is vectors in
+//! memory and need not be said, or `tables`, in memory too, or `file PATH`, which is not there yet. `opening MESSAGES file PATH` fills
+//! such a file, and opens it again.
 #![tactic(auto)]
 
+mod acts;
+mod beside;
 mod calls;
+mod fault;
 mod rules;
 mod sessions;
 mod store;
+mod stores;
 mod texts;
 
-use anyhow::{Result, bail};
-use sqlite::{Alter, Connection};
+use fault::Fault;
+use sqlite::{Alter, Connection, FileStore};
+use sqlite_disk::Disk;
 use std::env;
 use std::rt::{Clock, Env};
 use std::time::Duration;
 
+fn micros(took: Duration) -> u64 {
+    u64::try_from(took.as_micros()).unwrap_or(u64::MAX)
+}
+
 /// Millions a second.
 fn rate(count: usize, took: Duration) -> u64 {
-    let micros = u64::try_from(took.as_micros()).unwrap_or(u64::MAX).max(1);
-    count as u64 / micros
+    count as u64 / micros(took).max(1)
 }
 
 fn measure<S: Alter>(
@@ -28,39 +40,81 @@ fn measure<S: Alter>(
     conn: &mut Connection<S>,
     what: &str,
     count: u32,
-) -> Result<()> {
+) -> Result<(), Fault> {
     match what {
         "sheets" => store::measure_sheets(rt, conn, count),
         "commits" => store::measure_commits(rt, conn, count),
         "heads" => store::measure_heads(rt, conn, count),
         "sample" => store::write_sample(conn),
-        _ => bail!("no measure {what:?}"),
+        _ => Err(Fault::NoMeasure),
     }
 }
 
-fn in_memory(rt: &HostRuntime, what: &str, count: u32) -> Result<()> {
+fn in_memory(rt: &HostRuntime, what: &str, count: u32) -> Result<(), Fault> {
     let mut conn = Connection::open_in_memory(rt.alloc())?;
     measure(rt, &mut conn, what, count)
 }
 
-fn measured<S: Alter + Drop>(
+/// Over a file, which is closed at the end.
+fn measure_and_close<D: Disk + Drop>(
     rt: &(impl Print + AllocGlobal + Clock),
-    mut conn: Connection<S>,
+    mut conn: Connection<FileStore<D>>,
     what: &str,
     count: u32,
-) -> Result<Connection<S>> {
-    measure(rt, &mut conn, what, count)?;
-    Ok(conn)
-}
-
-fn in_file(rt: &HostRuntime, path: &str, what: &str, count: u32) -> Result<()> {
-    let conn = Connection::open(rt, path)?;
-    let conn = measured(rt, conn, what, count)?;
-    conn.close()?;
+) -> Result<(), Fault> {
+    let measured = measure(rt, &mut conn, what, count);
+    let closed = conn.close();
+    measured?;
+    closed?;
     Ok(())
 }
 
-fn main(rt: HostRuntime) -> Result<()> {
+fn in_file(rt: &HostRuntime, path: &str, what: &str, count: u32) -> Result<(), Fault> {
+    match Connection::open(rt, path) {
+        Ok(conn) => measure_and_close(rt, conn, what, count),
+        Err(_) => Err(Fault::Statement),
+    }
+}
+
+/// Runs a measure of sessions over the store of this name.
+fn in_office(
+    rt: &HostRuntime,
+    what: &str,
+    count: u32,
+    store: &str,
+    path: &str,
+) -> Result<(), Fault> {
+    match store {
+        "" | "plain" => stores::over_vectors(rt, what, count),
+        "tables" => stores::over_tables(rt, what, count),
+        "file" => stores::over_file(rt, path, what, count),
+        _ => Err(Fault::NoStore),
+    }
+}
+
+/// Runs the measure of this name, whatever it is over.
+fn run(rt: &HostRuntime, what: &str, count: u32, over: &str, path: &str) -> Result<(), Fault> {
+    if what == "texts" {
+        texts::texts(rt, count as usize)?;
+        return Ok(());
+    }
+    if what == "rules" {
+        rules::measure(rt, count as usize)?;
+        return Ok(());
+    }
+    if what == "opening" {
+        return stores::measure_opening(rt, path, count);
+    }
+    if sessions::is_measure(what) {
+        return in_office(rt, what, count, over, path);
+    }
+    if over == "" {
+        return in_memory(rt, what, count);
+    }
+    in_file(rt, over, what, count)
+}
+
+fn main(rt: HostRuntime) -> Result<(), Fault> {
     let mut words = env::args(&rt)?;
     let _program = words.next();
     let Some(what) = words.next() else {
@@ -72,19 +126,9 @@ fn main(rt: HostRuntime) -> Result<()> {
     else {
         return Ok(());
     };
-    if what.as_str() == "texts" {
-        texts::texts(&rt, count as usize)?;
-        return Ok(());
-    }
-    if what.as_str() == "rules" {
-        rules::measure(&rt, count as usize)?;
-        return Ok(());
-    }
-    if sessions::is_measure(what.as_str()) {
-        return sessions::measure(&rt, what.as_str(), count);
-    }
-    match words.next() {
-        Some(path) => in_file(&rt, path.as_str(), what.as_str(), count),
-        None => in_memory(&rt, what.as_str(), count),
-    }
+    let over = words.next();
+    let path = words.next();
+    let over = over.as_ref().map_or("", |word| word.as_str());
+    let path = path.as_ref().map_or("", |word| word.as_str());
+    run(&rt, what.as_str(), count, over, path)
 }

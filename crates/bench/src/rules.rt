@@ -1,11 +1,12 @@
 //! How long a policy takes: to be read, to decide, to be written and copied.
 
+use crate::micros;
 use creds::Name;
 use policy::{Action, Policy};
 use std::alloc::{AllocError, Global};
 use std::io;
 use std::rt::Clock;
-use std::time::{Duration, Instant};
+use std::time::Instant;
 
 /// How often the policy is asked.
 const DECISIONS: u32 = 1000;
@@ -41,11 +42,6 @@ fn allowed_decisions(policy: &Policy) -> u32 {
         }
     }
     allowed
-}
-
-/// Microseconds.
-fn micros(took: Duration) -> u64 {
-    u64::try_from(took.as_micros()).unwrap_or(u64::MAX)
 }
 
 /// Prints how many microseconds a policy of so many rules takes.

@@ -1,18 +1,16 @@
-//! How fast an office's sessions are, over a store in memory with a maildrop that the clerk `ann` may do everything in.
+//! How fast an office's sessions and deposits are, over any store.
 
-use crate::rate;
+use crate::acts::{
+    AT_ONCE, add_maildrop, called, deposit, fill, let_in, log_in, mark, opened, say,
+};
+use crate::fault::Fault;
 use crate::texts::text_of;
-use anyhow::{Result, bail};
-use creds::{Credential, DepositId, Name, pass_digest};
-use office::{AdminCommand, Answer, Event, Limits, Office, Outcome};
-use policy::Policy;
+use crate::{beside, micros, rate};
+use office::Office;
 use std::alloc::Global;
 use std::rt::Clock;
 use std::time::{Duration, Instant};
-use vault::{PlainVault, Vault};
-
-/// How many octets are taken at once, where that isn't what is measured.
-const AT_ONCE: usize = 16_384;
+use vault::Vault;
 
 /// How often ann logs in.
 const LOGINS: u32 = 1000;
@@ -26,20 +24,14 @@ const RETRIEVED: u32 = 40_000_000;
 /// How many connections are open at once.
 const OPEN: u64 = 64;
 
-/// How many messages lie in each of their maildrops, and the octets of each.
+/// How many messages lie in each of their maildrops.
 const FEW: u32 = 10;
 
+/// The octets of a message, where these aren't what is measured.
 const SHORT: usize = 1000;
 
-static POLICY: &str = r#"
-[[rule]]
-name = "ann-all"
-effect = "allow"
-clerk = "ann"
-maildrop = "*"
-class = "*"
-actions = ["open", "read", "remove"]
-"#;
+/// The line that every message repeats.
+const LINE: &[u8] = b"a line of the message ..\r\n";
 
 static LISTINGS: [&str; 3] = ["STAT\r\n", "LIST\r\n", "UIDL\r\n"];
 
@@ -48,124 +40,40 @@ static LINES: [&str; 5] = ["STAT\r\n", "LIST\r\n", "UIDL\r\n", "RETR 1\r\n", "NO
 
 /// So many events in so long a time, a second.
 fn a_second(count: u64, took: Duration) -> u64 {
-    let micros = u64::try_from(took.as_micros()).unwrap_or(u64::MAX).max(1);
-    count.saturating_mul(1_000_000) / micros
+    count.saturating_mul(1_000_000) / micros(took).max(1)
 }
 
-fn micros(took: Duration) -> u64 {
-    u64::try_from(took.as_micros()).unwrap_or(u64::MAX)
-}
-
-fn name(text: &[u8]) -> Result<Name> {
-    match Name::read(text) {
-        Some(name) => Ok(name),
-        None => bail!("no name"),
-    }
-}
-
-fn deposit_id(text: &[u8]) -> Result<DepositId> {
-    match DepositId::read(text) {
-        Some(id) => Ok(id),
-        None => bail!("no deposit id"),
-    }
-}
-
-fn opened(alloc: Global) -> Result<Office<PlainVault>> {
-    let Some(limits) = Limits::new(600) else {
-        bail!("no limits");
-    };
-    match Office::open(alloc, PlainVault::new(alloc), "localhost", 1, limits) {
-        Ok(office) => Ok(office),
-        Err(_) => bail!("not opened"),
-    }
-}
-
-fn administer<V: Vault>(office: &mut Office<V>, command: &AdminCommand) -> Result<()> {
-    match office.step(Event::Admin(command)) {
-        Outcome::Answered(_) => Ok(()),
-        _ => bail!("a command is refused"),
-    }
-}
-
-/// Gives ann a password and a policy.
-fn let_in<V: Vault>(alloc: Global, office: &mut Office<V>) -> Result<()> {
-    let ann = name(b"ann")?;
-    let credential = Credential::Pass(pass_digest(&ann, b"secret"));
-    administer(office, &AdminCommand::PutClerk(ann, credential))?;
-    let policy = Policy::read(alloc, POLICY)?;
-    administer(office, &AdminCommand::SetPolicy(policy))
-}
-
-fn deposit<V: Vault>(
+/// Deposits of short messages into one maildrop.
+fn measure_deposits<V: Vault>(
+    rt: &(impl Print + AllocGlobal + Clock),
     office: &mut Office<V>,
-    maildrop: &Name,
-    id: &DepositId,
-    text: &[u8],
-) -> Result<()> {
-    match office.step(Event::Deposit(maildrop, maildrop, id, text)) {
-        Outcome::Answered(Answer::New(_)) => Ok(()),
-        _ => bail!("a deposit is refused"),
-    }
-}
-
-/// Adds the maildrop of this number, with so many messages of this text.
-fn fill<V: Vault>(
-    alloc: Global,
-    office: &mut Office<V>,
-    number: u64,
     count: u32,
     text: &[u8],
-) -> Result<()> {
-    let called = format!(in alloc; "m{number}")?;
-    let maildrop = name(called.as_bytes())?;
-    administer(office, &AdminCommand::AddMaildrop(maildrop))?;
-    for k in 0..count {
-        let called = format!(in alloc; "d{k}")?;
-        deposit(office, &maildrop, &deposit_id(called.as_bytes())?, text)?;
-    }
+) -> Result<(), Fault> {
+    let start = Instant::now(rt)?;
+    fill(rt.alloc(), office, 0, count, text)?;
+    let deposits = a_second(u64::from(count), start.elapsed(rt)?);
+    println!(rt; "deposits: {deposits} a second, {count} into one maildrop")?;
     Ok(())
 }
 
-/// Takes all that a connection is owed, so many octets at once. How many there were.
-fn take<V: Vault>(office: &mut Office<V>, c: u64, at_once: usize) -> Result<usize> {
-    let mut taken = 0usize;
-    for _ in 0..u64::MAX {
-        let octets = office.owed(c).len().min(at_once);
-        if octets == 0 {
-            break;
-        }
-        if !matches!(office.step(Event::Took(c, octets)), Outcome::Done) {
-            bail!("a taking is refused");
-        }
-        taken = taken.saturating_add(octets);
-    }
-    Ok(taken)
+/// One deposit of so many octets.
+fn measure_large<V: Vault>(
+    rt: &(impl Print + AllocGlobal + Clock),
+    office: &mut Office<V>,
+    octets: u32,
+) -> Result<(), Fault> {
+    let text = text_of(rt.alloc(), LINE, octets as usize)?;
+    let maildrop = called(rt.alloc(), 0)?;
+    add_maildrop(office, &maildrop)?;
+    let start = Instant::now(rt)?;
+    deposit(rt.alloc(), office, &maildrop, 0, &text)?;
+    let speed = rate(text.len(), start.elapsed(rt)?);
+    println!(rt; "large: a deposit of {octets} octets, {speed} MB/s")?;
+    Ok(())
 }
 
-/// Says a line, and takes the reply, so many octets at once. How many it has.
-fn say<V: Vault>(office: &mut Office<V>, c: u64, line: &[u8], at_once: usize) -> Result<usize> {
-    if !matches!(office.step(Event::Bytes(c, line)), Outcome::Done) {
-        bail!("a line is refused");
-    }
-    if !office.owed(c).starts_with(b"+OK") {
-        bail!("a line is answered no");
-    }
-    take(office, c, at_once)
-}
-
-/// Opens a connection, and logs ann in to the maildrop of this number.
-fn log_in<V: Vault>(alloc: Global, office: &mut Office<V>, number: u64) -> Result<u64> {
-    let Outcome::Opened(c) = office.step(Event::Connect) else {
-        bail!("no connection");
-    };
-    take(office, c, AT_ONCE)?;
-    let user = format!(in alloc; "USER ann/m{number}\r\n")?;
-    say(office, c, user.as_bytes(), AT_ONCE)?;
-    say(office, c, b"PASS secret\r\n", AT_ONCE)?;
-    Ok(c)
-}
-
-fn come_and_go<V: Vault>(alloc: Global, office: &mut Office<V>) -> Result<()> {
+fn come_and_go<V: Vault>(alloc: Global, office: &mut Office<V>) -> Result<(), Fault> {
     for _ in 0..LOGINS {
         let c = log_in(alloc, office, 0)?;
         say(office, c, b"QUIT\r\n", AT_ONCE)?;
@@ -178,7 +86,7 @@ fn measure_logins<V: Vault>(
     rt: &(impl Print + AllocGlobal + Clock),
     office: &mut Office<V>,
     count: u32,
-) -> Result<()> {
+) -> Result<(), Fault> {
     fill(rt.alloc(), office, 0, count, b"x")?;
     let start = Instant::now(rt)?;
     come_and_go(rt.alloc(), office)?;
@@ -187,19 +95,18 @@ fn measure_logins<V: Vault>(
     Ok(())
 }
 
-/// Says a line so many times. How many octets its reply has.
+/// Says a line so many times, and once at least. How many octets its reply has.
 fn repeat<V: Vault>(
     office: &mut Office<V>,
     c: u64,
     line: &[u8],
     times: u32,
     at_once: usize,
-) -> Result<usize> {
-    let mut octets = 0usize;
-    for _ in 0..times {
-        octets = say(office, c, line, at_once)?;
+) -> Result<usize, Fault> {
+    for _ in 1..times {
+        say(office, c, line, at_once)?;
     }
-    Ok(octets)
+    say(office, c, line, at_once)
 }
 
 /// The listings of a maildrop of so many messages.
@@ -207,7 +114,7 @@ fn measure_listings<V: Vault>(
     rt: &(impl Print + AllocGlobal + Clock),
     office: &mut Office<V>,
     count: u32,
-) -> Result<()> {
+) -> Result<(), Fault> {
     fill(rt.alloc(), office, 0, count, b"x")?;
     let c = log_in(rt.alloc(), office, 0)?;
     for line in LISTINGS {
@@ -225,8 +132,8 @@ fn measure_retrieval<V: Vault>(
     rt: &(impl Print + AllocGlobal + Clock),
     office: &mut Office<V>,
     octets: u32,
-) -> Result<()> {
-    let text = text_of(rt.alloc(), b"a line of the message ..\r\n", octets as usize)?;
+) -> Result<(), Fault> {
+    let text = text_of(rt.alloc(), LINE, octets as usize)?;
     fill(rt.alloc(), office, 0, 1, &text)?;
     let c = log_in(rt.alloc(), office, 0)?;
     let times = (RETRIEVED / octets.max(1)).saturating_add(1);
@@ -239,24 +146,16 @@ fn measure_retrieval<V: Vault>(
     Ok(())
 }
 
-fn mark<V: Vault>(alloc: Global, office: &mut Office<V>, c: u64, count: u32) -> Result<()> {
-    for number in 1..=count {
-        let line = format!(in alloc; "DELE {number}\r\n")?;
-        say(office, c, line.as_bytes(), AT_ONCE)?;
-    }
-    Ok(())
-}
-
 /// Marks every message of a maildrop of so many, and says QUIT.
 fn measure_removal<V: Vault>(
     rt: &(impl Print + AllocGlobal + Clock),
     office: &mut Office<V>,
     count: u32,
-) -> Result<()> {
+) -> Result<(), Fault> {
     fill(rt.alloc(), office, 0, count, b"x")?;
     let c = log_in(rt.alloc(), office, 0)?;
     let start = Instant::now(rt)?;
-    mark(rt.alloc(), office, c, count)?;
+    mark(rt.alloc(), office, c, 1, count)?;
     let marking = micros(start.elapsed(rt)?);
     let start = Instant::now(rt)?;
     say(office, c, b"QUIT\r\n", AT_ONCE)?;
@@ -266,7 +165,7 @@ fn measure_removal<V: Vault>(
 }
 
 /// Each of the connections says each line in turn, so many times.
-fn say_in_turn<V: Vault>(office: &mut Office<V>, open: u64, times: u32) -> Result<()> {
+fn say_in_turn<V: Vault>(office: &mut Office<V>, open: u64, times: u32) -> Result<(), Fault> {
     for _ in 0..times {
         for line in LINES {
             for c in 1..=open {
@@ -283,8 +182,8 @@ fn measure_interleaved<V: Vault>(
     office: &mut Office<V>,
     open: u64,
     times: u32,
-) -> Result<()> {
-    let text = text_of(rt.alloc(), b"a line of the message ..\r\n", SHORT)?;
+) -> Result<(), Fault> {
+    let text = text_of(rt.alloc(), LINE, SHORT)?;
     for number in 0..open {
         fill(rt.alloc(), office, number, FEW, &text)?;
         log_in(rt.alloc(), office, number)?;
@@ -297,12 +196,37 @@ fn measure_interleaved<V: Vault>(
     Ok(())
 }
 
-/// Whether it is a measure of sessions.
+/// Whether it is a measure of an office.
 pub fn is_measure(what: &str) -> bool {
     matches!(
         what,
-        "logins" | "listings" | "retrieval" | "removal" | "one" | "many"
+        "deposits"
+            | "large"
+            | "filling"
+            | "beside"
+            | "standing"
+            | "logins"
+            | "listings"
+            | "retrieval"
+            | "removal"
+            | "one"
+            | "many"
     )
+}
+
+fn measure_short<V: Vault>(
+    rt: &(impl Print + AllocGlobal + Clock),
+    office: &mut Office<V>,
+    what: &str,
+    count: u32,
+) -> Result<(), Fault> {
+    let text = text_of(rt.alloc(), LINE, SHORT)?;
+    match what {
+        "deposits" => measure_deposits(rt, office, count, &text),
+        "filling" => beside::measure_filling(rt, office, count, &text),
+        "beside" => beside::measure_beside(rt, office, count, &text),
+        _ => Ok(()),
+    }
 }
 
 fn measure_in<V: Vault>(
@@ -310,20 +234,31 @@ fn measure_in<V: Vault>(
     office: &mut Office<V>,
     what: &str,
     count: u32,
-) -> Result<()> {
+) -> Result<(), Fault> {
     let_in(rt.alloc(), office)?;
     match what {
+        "large" => measure_large(rt, office, count),
         "logins" => measure_logins(rt, office, count),
         "listings" => measure_listings(rt, office, count),
         "retrieval" => measure_retrieval(rt, office, count),
         "removal" => measure_removal(rt, office, count),
         "one" => measure_interleaved(rt, office, 1, count),
-        _ => measure_interleaved(rt, office, OPEN, count),
+        "many" => measure_interleaved(rt, office, OPEN, count),
+        _ => measure_short(rt, office, what, count),
     }
 }
 
-/// Runs a measure of sessions in an office of its own.
-pub fn measure(rt: &(impl Print + AllocGlobal + Clock), what: &str, count: u32) -> Result<()> {
-    let mut office = opened(rt.alloc())?;
-    measure_in(rt, &mut office, what, count)
+/// Runs a measure in an office of its own over a vault, which it gives back.
+pub fn measure<V: Vault>(
+    rt: &(impl Print + AllocGlobal + Clock),
+    vault: V,
+    what: &str,
+    count: u32,
+) -> (Result<(), Fault>, V) {
+    let mut office = match opened(rt.alloc(), vault) {
+        Ok(office) => office,
+        Err((fault, vault)) => return (Err(fault), vault),
+    };
+    let measured = measure_in(rt, &mut office, what, count);
+    (measured, office.into_vault())
 }

@@ -1,8 +1,8 @@
 //! How fast the statements of a store are, over a connection whose store has no tables yet.
 
+use crate::fault::Fault;
 use crate::texts::text_of;
 use crate::{calls, rate};
-use anyhow::Result;
 use sqlite::{Alter, Connection, Error};
 use std::alloc::Global;
 use std::rt::Clock;
@@ -45,7 +45,7 @@ pub fn measure_sheets<S: Alter>(
     rt: &(impl Print + AllocGlobal + Clock),
     conn: &mut Connection<S>,
     octets: u32,
-) -> Result<()> {
+) -> Result<(), Fault> {
     let text = text_of(rt.alloc(), b"a line of the message ..\r\n", octets as usize)?;
     make_tables(conn)?;
     calls::add_maildrop(conn, b"orders")?;
@@ -70,7 +70,7 @@ pub fn measure_commits<S: Alter>(
     rt: &(impl Print + Clock),
     conn: &mut Connection<S>,
     count: u32,
-) -> Result<()> {
+) -> Result<(), Fault> {
     make_tables(conn)?;
     let start = Instant::now(rt)?;
     for k in 0..count {
@@ -96,7 +96,7 @@ pub fn measure_heads<S: Alter>(
     rt: &(impl Print + AllocGlobal + Clock),
     conn: &mut Connection<S>,
     count: u32,
-) -> Result<()> {
+) -> Result<(), Fault> {
     make_tables(conn)?;
     let start = Instant::now(rt)?;
     for name in NAMES {
@@ -132,7 +132,7 @@ fn write_mail<S: Alter>(conn: &mut Connection<S>) -> Result<(), Error> {
 }
 
 /// A row or two in each table, for `tools/check-tables`.
-pub fn write_sample<S: Alter>(conn: &mut Connection<S>) -> Result<()> {
+pub fn write_sample<S: Alter>(conn: &mut Connection<S>) -> Result<(), Fault> {
     make_tables(conn)?;
     write_names(conn)?;
     write_mail(conn)?;

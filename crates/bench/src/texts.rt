@@ -1,7 +1,7 @@
 //! How fast message texts are kept, stuffed and read back.
 
 use crate::rate;
-use mailtext::{canon, stuff_into, unstuff};
+use mailtext::{MailText, canon, stuff_into, unstuff};
 use std::alloc::{AllocError, Global};
 use std::io;
 use std::rt::Clock;
@@ -10,34 +10,43 @@ use std::time::Instant;
 /// A text of at least `octets` octets that repeats a line.
 pub fn text_of(alloc: Global, line: &[u8], octets: usize) -> Result<Vec<u8>, AllocError> {
     let mut text = Vec::new(alloc);
-    for _ in 0..octets {
-        if text.len() >= octets {
-            break;
-        }
+    for _ in 0..octets.div_ceil(line.len().max(1)) {
         text.extend_from_slice(line)?;
     }
     Ok(text)
 }
 
+fn keep(alloc: Global, text: &[u8]) -> Option<MailText> {
+    canon(alloc, text).ok()
+}
+
+/// The text's octets as they are sent, with the dot that ends them.
+fn send(alloc: Global, kept: &MailText) -> Result<Vec<u8>, AllocError> {
+    let mut sent = Vec::new(alloc);
+    stuff_into(&mut sent, kept.bytes())?;
+    sent.extend_from_slice(b".\r\n")?;
+    Ok(sent)
+}
+
+/// Whether a text that was sent can be read.
+fn is_read(alloc: Global, sent: &[u8]) -> Result<bool, AllocError> {
+    Ok(unstuff(alloc, sent)?.is_some())
+}
+
 fn measure(rt: &(impl Print + AllocGlobal + Clock), name: &str, text: &[u8]) -> io::Result<()> {
     let start = Instant::now(rt)?;
-    let kept = canon(rt.alloc(), text);
+    let kept = keep(rt.alloc(), text);
     let keeping = rate(text.len(), start.elapsed(rt)?);
-    let Ok(kept) = kept else {
+    let Some(kept) = kept else {
         return println!(rt; "{name}: not kept");
     };
-    let octets = kept.octets();
-
-    let mut sent = Vec::new(rt.alloc());
     let start = Instant::now(rt)?;
-    stuff_into(&mut sent, kept.bytes())?;
-    let stuffing = rate(octets, start.elapsed(rt)?);
-
-    sent.extend_from_slice(b".\r\n")?;
+    let sent = send(rt.alloc(), &kept)?;
+    let stuffing = rate(kept.octets(), start.elapsed(rt)?);
     let start = Instant::now(rt)?;
-    let read = unstuff(rt.alloc(), &sent)?;
+    let is_read = is_read(rt.alloc(), &sent)?;
     let reading = rate(sent.len(), start.elapsed(rt)?);
-    let state = if read.is_some() { "read" } else { "not read" };
+    let state = if is_read { "read" } else { "not read" };
     println!(rt;
         "{name}: canon {keeping} MB/s, stuff_into {stuffing} MB/s, unstuff {reading} MB/s, {state}"
     )
