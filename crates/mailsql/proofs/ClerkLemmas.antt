@@ -12,7 +12,7 @@ use Rattle.sqlite_rules.specs.Edit.{next_rowid}
 use Rattle.sqlite.specs.Effect.{Database, IsDatabase}
 use Rattle.sqlite.specs.Does.{Tally, Does}
 use Rattle.sqlite.specs.Listing.{understood}
-use Rattle.sqlite.specs.State.{State, IsLive, mode_of, Executes, CommitsBy, Shown, IsUnchanged}
+use Rattle.sqlite.specs.State.{State, IsLive, mode_of, Executes, CommitsBy, Shown}
 use Rattle.sqlite.proofs.Callers.{IsPlain, command_of}
 use Rattle.mailsql.specs.Tables as tables
 use Rattle.mailsql.specs.Tables.{mail_schema, to_mail}
@@ -34,7 +34,7 @@ use Rattle.mailsql.proofs.QueryLemmas.{passes, shown_rows}
 use Rattle.mailsql.proofs.RemoveLemmas.{removed}
 use Rattle.mailsql.proofs.WithoutLemmas.{without_shown}
 use Rattle.mailsql.proofs.CascadeLemmas as still
-use Rattle.mailsql.proofs.ReadLemmas.{Asks, same, kept, sound, listed, everything_listed}
+use Rattle.mailsql.proofs.ReadLemmas.{Asks, kept, sound, listed, everything_listed}
 
 pub add_clerk_is : command_of (understood mail_schema st.add_clerk_text) ≡ st.add_clerk_command
 unfolding understood everything
@@ -115,9 +115,6 @@ unfolding understood everything
 find_clerk_asks = record { is = (refl, refl); plain = (refl, refl) }
 
 module _ (old new : State) (name : Name) (rows : List Row) (tables : m.HasTables old) (h : Shown st.find_clerk_text (Text name ∷ []) old new rows) where
-  pub find_clerk_same : IsUnchanged old new
-  find_clerk_same = same _ _ _ _ _ find_clerk_asks (λ db. refl) old new _ rows tables h
-
   pub find_clerk_shows : IsLive old → map (λ r. m.clerk_of (Null ∷ r)) rows ≡ filter (m.is_clerk name) (rows_in old.now.trees).clerks
   find_clerk_shows live =
       let ours = kept _ _ _ _ _ find_clerk_asks (λ db. refl) old new _ rows tables h in
@@ -130,9 +127,6 @@ unfolding understood everything
 all_clerks_asks = record { is = (refl, refl); plain = (refl, refl) }
 
 module _ (old new : State) (rows : List Row) (tables : m.HasTables old) (h : Shown st.all_clerks_text ([]) old new rows) where
-  pub all_clerks_same : IsUnchanged old new
-  all_clerks_same = same _ _ _ _ _ all_clerks_asks (λ db. refl) old new _ rows tables h
-
   pub all_clerks_shows : map (λ r. m.clerk_of (Null ∷ r)) rows ≡ (rows_in old.now.trees).clerks
   all_clerks_shows =
       let ours = kept _ _ _ _ _ all_clerks_asks (λ db. refl) old new _ rows tables h in

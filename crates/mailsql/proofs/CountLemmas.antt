@@ -1,6 +1,6 @@
 -- COUNT of the rows that pass.
 use Rattle.std.proofs.Common.{◌≡◌, ◌<◌, inl, inr, ℕ, pos, min, Bool, true, false, List, [], ◌∷◌, map, filter, length, Some, Ok, Err, Result, IsTrue, codes, refl, sym, ap, subst, ◌∙◌}
-use Rattle.std.specs.Prelude.{IfOk, IfErr}
+use Rattle.std.specs.Prelude.{IfOk, IfErr, OnOk, OnErr}
 use Rattle.std.specs.List.{AllZip}
 use Rattle.std.specs.List.Sorted.{IsPermutation}
 use Rattle.std.proofs.lemmas.List.{length-map}
@@ -23,10 +23,10 @@ use Rattle.sqlite.proofs.Callers.{IsPlain, command_of, first_as, reads_as, one_p
 use Rattle.mailsql.specs.Tables.{mail_schema}
 use Rattle.mailsql.proofs.Statements.{count_of, count_group, select_of}
 use Rattle.mailsql.specs.Rows.{IsKept, HasTables, IsUndone}
-use Rattle.mailsql.specs.Errors.{IsWantOfMemory, FailsToCount}
+use Rattle.mailsql.specs.Errors.{FailsToCount, FailsToCountAs}
 use Rattle.mailsql.proofs.OrderLemmas.{filter_map}
 use Rattle.mailsql.proofs.QueryLemmas.{flat_if, passes, shown_same, shown_open}
-use Rattle.mailsql.proofs.ResultLemmas.{if_ok, if_err}
+use Rattle.mailsql.proofs.ResultLemmas.{if_ok}
 use Rattle.mailsql.proofs.StateLemmas.{query_undone}
 
 values_are : (order : List Env) (values : Row) → AllZip (λ a v. value_over order a ≡ Some v) count_group.aggregates values → values ≡ count (length order) ∷ []
@@ -112,10 +112,6 @@ module _ (sql : List ℕ) (t : ℕ) (terms : List Term) (tallies : Tallies sql t
         let some = ap length (flat_if (passes params terms) (λ r. params ∷ r ∷ []) (overlay old.now.trees [] t)) ∙ length-map _ _ ∙ ap (λ l. length (filter (passes params terms) l)) (placed old.now.trees) in
         one_of _ _ _ _ all ∙ ap (λ n. count n ∷ []) some
 
-    -- what was shown is a number, so only memory can be wanting
-    pub fails_to_count : (r : Result ℕ Error) → ((n : ℕ) → column row 0 ≡ Int (pos n) → IfErr r IsWantOfMemory) → IfErr r (FailsToCount sql params old new)
-    fails_to_count r wants = if_err r _ _ (λ e want. inr (want, row, h)) (wants _ (ap (λ l. column l 0) tallied))
-
 -- the rows that pass are as many as the records that pass
 pub as_many : {X : Type 0} (f : Row → X) (p : Row → Bool) (q : X → Bool) (rows : List Row) → ((r : Row) → Has rows r → p r ≡ q (f r)) → length (filter p rows) ≡ length (filter q (map f rows))
 as_many f p q rows same = sym (length-map (filter p rows) f) ∙ ap length (filter_map f p q rows same)
@@ -129,3 +125,26 @@ same_number x y e = cc
 -- the number that is read of the answer
 pub reads_count : (row : Row) (m n : ℕ) → row ≡ count m ∷ [] → m ≡ n → (r : Result ℕ Error) → IfOk r (λ x. (0 < length row) × (column row 0 ≡ Int (pos x))) → IfOk r (λ x. x ≡ min n 9223372036854775807)
 reads_count row m n is same r h = if_ok r _ _ (λ (x : ℕ) (it : (0 < length row) × (column row 0 ≡ Int (pos x))). same_number _ _ (sym it.1 ∙ ap (λ l. column l 0) is) ∙ ap (λ k. min k 9223372036854775807) same) h
+
+-- what the reading of a count makes of its row
+module _ (sql : List ℕ) (t : ℕ) (terms : List Term) (tallies : Tallies sql t terms) (placed : (db : Trees) → overlay db [] t ≡ db t) (old new : State) (params : Row) (tables : HasTables old) where
+  abbrev Counts : ℕ → Type 0
+  Counts n = (row : Row) × QueriesRow sql params old new (Ok row) × (0 < length row) × (column row 0 ≡ Int (pos n))
+
+  pub counted_same : (r : Result ℕ Error) → IfOk r Counts → OnOk r (IsUnchanged old new)
+  counted_same (Ok n) it = row_same sql t terms tallies placed old new params tables it.0 it.1
+  counted_same (Err e) it = tt
+
+  pub counted_undone : (r : Result ℕ Error) → IfErr r (FailsToCountAs sql params old new) → OnErr r (IsUndone old new)
+  counted_undone (Ok n) h = tt
+  counted_undone (Err e) (inl fails) = row_undone sql t terms tallies placed old new params tables e fails
+  counted_undone (Err e) (inr it) = inl (row_same sql t terms tallies placed old new params tables it.0 it.1)
+
+  pub counted_fails : (r : Result ℕ Error) → IfErr r (FailsToCountAs sql params old new) → IfErr r (FailsToCount sql params old new)
+  counted_fails (Ok n) h = tt
+  counted_fails (Err e) (inl fails) = inl (row_fails sql t terms tallies placed old new params tables e fails)
+  counted_fails (Err e) (inr it) = inr (it.2 _ (ap (λ l. column l 0) (tallied sql t terms tallies placed old new params tables it.0 it.1)), it.0, it.1)
+
+  pub counted_is : (k : ℕ) (r : Result ℕ Error) → ((row : Row) → QueriesRow sql params old new (Ok row) → length (filter (passes params terms) (old.now.trees t)) ≡ k) → IfOk r Counts → IfOk r (λ x. x ≡ min k 9223372036854775807)
+  counted_is k (Ok n) is it = reads_count it.0 _ k (tallied sql t terms tallies placed old new params tables it.0 it.1) (is it.0 it.1) (Ok n) (it.2, it.3)
+  counted_is k (Err e) is it = tt

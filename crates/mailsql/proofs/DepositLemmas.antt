@@ -11,7 +11,7 @@ use Rattle.sqlite_rules.specs.Edit.{next_rowid}
 use Rattle.sqlite.specs.Effect.{Database, IsDatabase}
 use Rattle.sqlite.specs.Does.{Tally, Does}
 use Rattle.sqlite.specs.Listing.{understood}
-use Rattle.sqlite.specs.State.{State, IsLive, mode_of, Executes, CommitsBy, Shown, IsUnchanged}
+use Rattle.sqlite.specs.State.{State, IsLive, mode_of, Executes, CommitsBy, Shown}
 use Rattle.sqlite.proofs.Callers.{IsPlain, command_of}
 use Rattle.mailsql.specs.Tables.{mail_schema}
 use Rattle.mailsql.proofs.Statements as st
@@ -28,7 +28,7 @@ use Rattle.mailsql.proofs.StateLemmas.{changes, commits}
 use Rattle.mailsql.proofs.TypedLemmas as typed
 use Rattle.mailsql.proofs.EqualLemmas.{column_text}
 use Rattle.mailsql.proofs.FindLemmas.{and_true}
-use Rattle.mailsql.proofs.ReadLemmas.{Asks, same, kept, sound, listed, everything_listed}
+use Rattle.mailsql.proofs.ReadLemmas.{Asks, kept, sound, listed, everything_listed}
 
 pub add_deposit_is : command_of (understood mail_schema st.add_deposit_text) ≡ st.add_deposit_command
 unfolding understood everything
@@ -72,9 +72,6 @@ unfolding understood everything
 find_deposit_asks = record { is = (refl, refl); plain = (refl, refl) }
 
 module _ (old new : State) (maildrop : Name) (id : Name) (rows : List Row) (tables : m.HasTables old) (h : Shown st.find_deposit_text (Text maildrop ∷ Text id ∷ []) old new rows) where
-  pub find_deposit_same : IsUnchanged old new
-  find_deposit_same = same _ _ _ _ _ find_deposit_asks (λ db. refl) old new _ rows tables h
-
   pub find_deposit_shows : IsLive old → map (λ r. m.deposit_of (Null ∷ r)) rows ≡ filter (m.is_deposit maildrop id) (rows_in old.now.trees).deposits
   find_deposit_shows live =
       let ours = kept _ _ _ _ _ find_deposit_asks (λ db. refl) old new _ rows tables h in
@@ -87,9 +84,6 @@ unfolding understood everything
 all_deposits_asks = record { is = (refl, refl); plain = (refl, refl) }
 
 module _ (old new : State) (rows : List Row) (tables : m.HasTables old) (h : Shown st.all_deposits_text ([]) old new rows) where
-  pub all_deposits_same : IsUnchanged old new
-  all_deposits_same = same _ _ _ _ _ all_deposits_asks (λ db. refl) old new _ rows tables h
-
   pub all_deposits_shows : map (λ r. m.deposit_of (Null ∷ r)) rows ≡ (rows_in old.now.trees).deposits
   all_deposits_shows =
       let ours = kept _ _ _ _ _ all_deposits_asks (λ db. refl) old new _ rows tables h in

@@ -4,7 +4,7 @@ use Rattle.sqlite_trees.specs.Tree.{Trees}
 use Rattle.sqlite_schema.specs.declared.schema.Keys.TheVariants.{Enforced}
 use Rattle.sqlite_rules.specs.Edit.{Edit, Applies}
 use Rattle.mailsql.specs.Tables.{mail_schema}
-use Rattle.mailsql.specs.Rows.{rows_in, mark_of, clerk_of, maildrop_of, count_of, deposit_of, message_of, rule_of, sheet_of}
+use Rattle.mailsql.specs.Rows.{rows_in, mark_of, clerk_of, maildrop_of, count_of, deposit_of, rule_of, sheet_of}
 
 pub record Frame (at : ℕ) (db next : Trees) : Type 0 where
   pub meta : 0 ≢ at → next 0 ≡ db 0
@@ -77,17 +77,6 @@ deposits_alone db next h =
     let rules : next 13 ≡ db 13 = h.rules (λ e. absurd (omega arith)) in
     let sheets : next 15 ≡ db 15 = h.sheets (λ e. absurd (omega arith)) in
     rw (meta, clerks, maildrops, counts, messages, rules, sheets)
-
-pub messages_alone : (db next : Trees) → Frame 10 db next → rows_in next ≡ record (rows_in db) { messages = map message_of (next 10) }
-messages_alone db next h =
-    let meta : next 0 ≡ db 0 = h.meta (λ e. absurd (omega arith)) in
-    let clerks : next 2 ≡ db 2 = h.clerks (λ e. absurd (omega arith)) in
-    let maildrops : next 4 ≡ db 4 = h.maildrops (λ e. absurd (omega arith)) in
-    let counts : next 6 ≡ db 6 = h.counts (λ e. absurd (omega arith)) in
-    let deposits : next 8 ≡ db 8 = h.deposits (λ e. absurd (omega arith)) in
-    let rules : next 13 ≡ db 13 = h.rules (λ e. absurd (omega arith)) in
-    let sheets : next 15 ≡ db 15 = h.sheets (λ e. absurd (omega arith)) in
-    rw (meta, clerks, maildrops, counts, deposits, rules, sheets)
 
 pub rules_alone : (db next : Trees) → Frame 13 db next → rows_in next ≡ record (rows_in db) { rules = map rule_of (next 13) }
 rules_alone db next h =

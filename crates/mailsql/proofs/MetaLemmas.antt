@@ -10,7 +10,7 @@ use Rattle.sqlite_rules.specs.Edit.{next_rowid}
 use Rattle.sqlite.specs.Effect.{Database, IsDatabase}
 use Rattle.sqlite.specs.Does.{Tally, Does}
 use Rattle.sqlite.specs.Listing.{understood}
-use Rattle.sqlite.specs.State.{State, IsLive, mode_of, Executes, CommitsBy, Shown, IsUnchanged}
+use Rattle.sqlite.specs.State.{State, IsLive, mode_of, Executes, CommitsBy, Shown}
 use Rattle.sqlite.proofs.Callers.{IsPlain, command_of}
 use Rattle.mailsql.specs.Tables.{mail_schema}
 use Rattle.mailsql.proofs.Statements as st
@@ -27,7 +27,7 @@ use Rattle.mailsql.proofs.StateLemmas.{changes, commits}
 use Rattle.mailsql.proofs.TypedLemmas as typed
 use Rattle.mailsql.proofs.EqualLemmas.{column_text}
 use Rattle.mailsql.proofs.FindLemmas.{and_true}
-use Rattle.mailsql.proofs.ReadLemmas.{Asks, same, kept, sound, listed, everything_listed}
+use Rattle.mailsql.proofs.ReadLemmas.{Asks, kept, sound, listed, everything_listed}
 
 pub add_mark_is : command_of (understood mail_schema st.add_mark_text) ≡ st.add_mark_command
 unfolding understood everything
@@ -71,9 +71,6 @@ unfolding understood everything
 find_mark_asks = record { is = (refl, refl); plain = (refl, refl) }
 
 module _ (old new : State) (name : Name) (rows : List Row) (tables : m.HasTables old) (h : Shown st.find_mark_text (Text name ∷ []) old new rows) where
-  pub find_mark_same : IsUnchanged old new
-  find_mark_same = same _ _ _ _ _ find_mark_asks (λ db. refl) old new _ rows tables h
-
   pub find_mark_shows : IsLive old → map (λ r. m.mark_of (Null ∷ r)) rows ≡ filter (m.is_mark name) (rows_in old.now.trees).marks
   find_mark_shows live =
       let ours = kept _ _ _ _ _ find_mark_asks (λ db. refl) old new _ rows tables h in
@@ -86,9 +83,6 @@ unfolding understood everything
 all_marks_asks = record { is = (refl, refl); plain = (refl, refl) }
 
 module _ (old new : State) (rows : List Row) (tables : m.HasTables old) (h : Shown st.all_marks_text ([]) old new rows) where
-  pub all_marks_same : IsUnchanged old new
-  all_marks_same = same _ _ _ _ _ all_marks_asks (λ db. refl) old new _ rows tables h
-
   pub all_marks_shows : map (λ r. m.mark_of (Null ∷ r)) rows ≡ (rows_in old.now.trees).marks
   all_marks_shows =
       let ours = kept _ _ _ _ _ all_marks_asks (λ db. refl) old new _ rows tables h in
@@ -99,9 +93,6 @@ unfolding understood everything
 all_sequences_asks = record { is = (refl, refl); plain = (refl, refl) }
 
 module _ (old new : State) (rows : List Row) (tables : m.HasTables old) (h : Shown st.all_sequences_text ([]) old new rows) where
-  pub all_sequences_same : IsUnchanged old new
-  all_sequences_same = same _ _ _ _ _ all_sequences_asks (λ db. refl) old new _ rows tables h
-
   pub all_sequences_shows : map (λ r. m.mark_of (Null ∷ r)) rows ≡ m.sequences_in old.now.trees
   all_sequences_shows =
       let ours = kept _ _ _ _ _ all_sequences_asks (λ db. refl) old new _ rows tables h in

@@ -8,7 +8,7 @@ use Rattle.sqlite_schema.specs.declared.command.Command.{Command}
 use Rattle.sqlite_schema.specs.declared.command.Command.TheVariants.{Begin, Commit, Rollback}
 use Rattle.sqlite.specs.Listing.{understood}
 use Rattle.std.proofs.Common.{length, true≢false, arith}
-use Rattle.std.specs.Prelude.{MatchBool, IsSome}
+use Rattle.std.specs.Prelude.{MatchBool, IsSome, OnOk, IfErr}
 use Rattle.sqlite_resolve.specs.declared.compiled.Compiled.{Compiled}
 use Rattle.sqlite_resolve.specs.declared.error.CompileError.{CompileError}
 use Rattle.sqlite.specs.Calls.{IsWrite}
@@ -51,6 +51,14 @@ module _ (old new : State) (count : ℕ) where
 
   pub rolls_back : Executes rollback_text [] old new (Ok count) → IsTrue old.in_transaction × IsRolledBack old new × (count ≡ 0)
   rolls_back h = runs_as rollback_text [] old new old.now.schema refl Rollback (rollback_is old.now.schema) (rollback_plain old.now.schema) count h
+
+pub begun : {X : Type 0} (old new : State) (r : Result X Error) → OnOk r ((count : ℕ) × Executes begin_text [] old new (Ok count)) → OnOk r ((old.in_transaction ≡ false) × Shows old new old.now old.committed true)
+begun old new (Ok x) ran = let it = begins old new ran.0 ran.1 in (it.0, it.1)
+begun old new (Err e) ran = tt
+
+pub committed : {X : Type 0} (old new : State) (r : Result X Error) → OnOk r ((count : ℕ) × Executes commit_text [] old new (Ok count)) → OnOk r (IsTrue old.in_transaction × Shows old new old.now old.now false)
+committed old new (Ok x) ran = let it = commits old new ran.0 ran.1 in (it.0, it.1)
+committed old new (Err e) ran = tt
 
 pub commits_as : (params : Row) (sql : List ℕ) (command : Command) (old : State) (db : Trees) → command_of (understood old.now.schema sql) ≡ command → IsPlain (understood old.now.schema sql) → CommitsBy sql params old db
     → MayCommit old None command (statement_of sql (understood old.now.schema sql)) params db
@@ -126,6 +134,12 @@ rollback_fails old new e inside (inr ran) =
     let is = ap command_of (sym ran.1.is) ∙ rollback_is old.now.schema in
     let none = (subst IsPlain ran.1.is (rollback_plain old.now.schema)).0 in
     alone_fails _ old new ran.0 _ e _ (shows_none ran.0 is none) is none inside ran.2
+
+-- so whatever it answers, the transaction is rolled back
+pub rollback_undoes : {X : Type 0} (old new : State) (r : Result X Error) → IsTrue old.in_transaction → OnOk r ((count : ℕ) × Executes rollback_text [] old new (Ok count)) → IfErr r (λ e. Executes rollback_text [] old new (Err e))
+    → IsRolledBack old new
+rollback_undoes old new (Ok x) inside ran fails = (rolls_back old new ran.0 ran.1).1
+rollback_undoes old new (Err e) inside ran fails = rollback_fails old new e inside fails
 
 pub rollback_commits : (old : State) (db : Trees) → ¬ CommitsBy rollback_text [] old db
 rollback_commits old db h = go (commits_as [] rollback_text Rollback old db (rollback_is old.now.schema) (rollback_plain old.now.schema) h)

@@ -1,9 +1,5 @@
 -- What a query by rowid answers, as records.
-use Rattle.std.proofs.Common.{◌≡◌, ℕ, Bool, true, false, List, [], ◌∷◌, map, filter, find, slice_get, Option, Result, refl, sym, ap, subst, ◌∙◌}
-use Rattle.std.specs.Prelude.{IfOk, Vec}
-use Rattle.std.specs.Option.{option_map}
-use Rattle.sqlite.specs.declared.error.Error.{Error}
-use Rattle.mailsql.proofs.ResultLemmas.{if_ok}
+use Rattle.std.proofs.Common.{◌≡◌, ℕ, Bool, true, false, List, [], ◌∷◌, map, filter, refl, sym, ap, subst, ◌∙◌}
 use Rattle.sqlite_value.specs.Order.{Row}
 use Rattle.sqlite_trees.specs.Tree.{Trees}
 use Rattle.sqlite_sql.specs.Term.{Term, eval_all}
@@ -21,7 +17,7 @@ use Rattle.mailsql.specs.Tables.{mail_schema}
 use Rattle.mailsql.proofs.Statements.{query_of, select_of, by_rowid}
 use Rattle.mailsql.specs.Rows.{AreKeyed, IsKept, HasTables}
 use Rattle.mailsql.proofs.QueryLemmas.{passes, answers, unchanged, shown_open}
-use Rattle.mailsql.proofs.OrderLemmas.{in_order, filter_map, first_is}
+use Rattle.mailsql.proofs.OrderLemmas.{in_order, filter_map}
 
 pub all_of_map : (P : Row → Type 0) (f : Row → Row) (rows : List Row) → AllByRecursion (λ r. P (f r)) rows → AllByRecursion P (map f rows)
 all_of_map P f [] all = tt
@@ -61,15 +57,3 @@ module _ (sql : List ℕ) (t : ℕ) (terms project : List Term) (names : List (L
   -- what holds of each row that passes, as it is shown
   pub each_shown : (Holds : Row → Type 0) → AreKeyed (old.now.trees t) → ((r : Row) → Has (old.now.trees t) r → Holds (eval_all project (params ∷ r ∷ []))) → AllByRecursion Holds rows
   each_shown Holds keyed held = subst (AllByRecursion Holds) (sym (shown keyed)) (all_of_map Holds (λ r. eval_all project (params ∷ r ∷ [])) _ (all_from _ _ (λ r has. held r (has_filtered (passes params terms) (old.now.trees t) r has).0)))
-
--- what is read of the rows that were shown
-module _ {X : Type 0} (read : Row → X) (lent rows : List Row) (lend : lent ≡ rows) (q : X → Bool) (xs : List X) (is : map read rows ≡ filter q xs) where
-  pub reads_all : {A : Type 0} (r : Result (Vec X A) Error) → IfOk r (λ all. all.items ≡ map read lent) → IfOk r (λ all. all.items ≡ filter q xs)
-  reads_all r h = if_ok r _ _ (λ all e. e ∙ ap (map read) lend ∙ is) h
-
-  pub reads_first : (r : Result (Option X) Error) → IfOk r (λ first. first ≡ option_map read (slice_get lent 0)) → IfOk r (λ found. found ≡ find q xs)
-  reads_first r h = if_ok r _ _ (λ first e. e ∙ ap (λ l. option_map read (slice_get l 0)) lend ∙ first_is read q rows xs is) h
-
-pub reads_every : {X A : Type 0} (read : Row → X) (lent rows : List Row) (lend : lent ≡ rows) (xs : List X) (is : map read rows ≡ xs) (r : Result (Vec X A) Error) → IfOk r (λ all. all.items ≡ map read lent)
-    → IfOk r (λ all. all.items ≡ xs)
-reads_every read lent rows lend xs is r h = if_ok r _ _ (λ all e. e ∙ ap (map read) lend ∙ is) h

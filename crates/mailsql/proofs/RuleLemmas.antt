@@ -13,7 +13,7 @@ use Rattle.sqlite_rules.specs.Edit.{next_rowid, id_in}
 use Rattle.sqlite.specs.Effect.{Database, IsDatabase}
 use Rattle.sqlite.specs.Does.{Tally, Does}
 use Rattle.sqlite.specs.Listing.{understood}
-use Rattle.sqlite.specs.State.{State, IsLive, mode_of, Executes, CommitsBy, Shown, IsUnchanged}
+use Rattle.sqlite.specs.State.{State, IsLive, mode_of, Executes, CommitsBy, Shown}
 use Rattle.sqlite.proofs.Callers.{IsPlain, command_of}
 use Rattle.mailsql.specs.Tables as tables
 use Rattle.mailsql.specs.Tables.{mail_schema, to_mail}
@@ -33,7 +33,7 @@ use Rattle.mailsql.proofs.QueryLemmas.{passes, shown_rows}
 use Rattle.mailsql.proofs.RemoveLemmas.{removed}
 use Rattle.mailsql.proofs.WithoutLemmas.{without_shown}
 use Rattle.mailsql.proofs.CascadeLemmas as still
-use Rattle.mailsql.proofs.ReadLemmas.{Asks, same, kept, sound, everything_listed}
+use Rattle.mailsql.proofs.ReadLemmas.{Asks, kept, sound, everything_listed}
 
 place_from : (start : ℤ) (rows : List Row) → fold (λ _ (r : m.Rule). r.place +ℤ pos 1) start (map m.rule_of rows) ≡ fold (λ _ r. id_in (rowid r) +ℤ pos 1) start rows
 place_from start [] = refl
@@ -119,9 +119,6 @@ unfolding understood everything
 all_rules_asks = record { is = (refl, refl); plain = (refl, refl) }
 
 module _ (old new : State) (rows : List Row) (tables : m.HasTables old) (h : Shown st.all_rules_text ([]) old new rows) where
-  pub all_rules_same : IsUnchanged old new
-  all_rules_same = same _ _ _ _ _ all_rules_asks (λ db. refl) old new _ rows tables h
-
   pub all_rules_shows : map (λ r. m.rule_of (column r 0 ∷ r)) rows ≡ (rows_in old.now.trees).rules
   all_rules_shows =
       let ours = kept _ _ _ _ _ all_rules_asks (λ db. refl) old new _ rows tables h in

@@ -13,7 +13,7 @@ use Rattle.sqlite_rules.specs.Edit.{next_rowid}
 use Rattle.sqlite.specs.Effect.{Database, IsDatabase}
 use Rattle.sqlite.specs.Does.{Tally, Does}
 use Rattle.sqlite.specs.Listing.{understood}
-use Rattle.sqlite.specs.State.{State, IsLive, mode_of, Executes, CommitsBy, Shown, IsUnchanged}
+use Rattle.sqlite.specs.State.{State, IsLive, mode_of, Executes, CommitsBy, Shown}
 use Rattle.sqlite.proofs.Callers.{IsPlain, command_of}
 use Rattle.mailsql.specs.Tables as tables
 use Rattle.mailsql.specs.Tables.{mail_schema, to_mail}
@@ -35,7 +35,7 @@ use Rattle.mailsql.proofs.QueryLemmas.{passes, shown_rows}
 use Rattle.mailsql.proofs.RemoveLemmas.{removed}
 use Rattle.mailsql.proofs.WithoutLemmas.{without_shown}
 use Rattle.mailsql.proofs.CascadeLemmas as still
-use Rattle.mailsql.proofs.ReadLemmas.{Asks, same, kept, sound, listed, everything_listed}
+use Rattle.mailsql.proofs.ReadLemmas.{Asks, kept, sound, listed, everything_listed}
 
 pub add_sheet_is : command_of (understood mail_schema st.add_sheet_text) ≡ st.add_sheet_command
 unfolding understood everything
@@ -116,9 +116,6 @@ unfolding understood everything
 find_sheet_asks = record { is = (refl, refl); plain = (refl, refl) }
 
 module _ (old new : State) (mail : ℤ) (place : ℤ) (rows : List Row) (tables : m.HasTables old) (h : Shown st.find_sheet_text (Int mail ∷ Int place ∷ []) old new rows) where
-  pub find_sheet_same : IsUnchanged old new
-  find_sheet_same = same _ _ _ _ _ find_sheet_asks (λ db. refl) old new _ rows tables h
-
   pub find_sheet_shows : IsLive old → map (λ r. m.sheet_of (Null ∷ r)) rows ≡ filter (m.is_sheet mail place) (rows_in old.now.trees).sheets
   find_sheet_shows live =
       let ours = kept _ _ _ _ _ find_sheet_asks (λ db. refl) old new _ rows tables h in
@@ -131,9 +128,6 @@ unfolding understood everything
 all_sheets_asks = record { is = (refl, refl); plain = (refl, refl) }
 
 module _ (old new : State) (rows : List Row) (tables : m.HasTables old) (h : Shown st.all_sheets_text ([]) old new rows) where
-  pub all_sheets_same : IsUnchanged old new
-  all_sheets_same = same _ _ _ _ _ all_sheets_asks (λ db. refl) old new _ rows tables h
-
   pub all_sheets_shows : map (λ r. m.sheet_of (Null ∷ r)) rows ≡ (rows_in old.now.trees).sheets
   all_sheets_shows =
       let ours = kept _ _ _ _ _ all_sheets_asks (λ db. refl) old new _ rows tables h in

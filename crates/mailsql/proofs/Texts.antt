@@ -2,9 +2,8 @@
 use Rattle.std.proofs.Common.{◌≡◌, Ok, refl}
 use Rattle.sqlite_tied.specs.Compute.{everything}
 use Rattle.sqlite_resolve.specs.Compile.{table_defined_by}
-use Rattle.sqlite_catalog.specs.Change.{created}
 use Rattle.sqlite.specs.Does.{sequence_text}
-use Rattle.mailsql.specs.Tables.{meta_text, meta_at, clerks_text, clerks_at, maildrops_text, maildrops_at, counts_text, counts_at, deposits_text, deposits_at, mail_text, mail_at, rules_text, rules_at, sheets_text, sheets_at, sequence_at, mail_schema, no_schema, messages_text, messages_at}
+use Rattle.mailsql.specs.Tables.{meta_text, meta_at, clerks_text, clerks_at, maildrops_text, maildrops_at, counts_text, counts_at, deposits_text, deposits_at, mail_text, mail_at, rules_text, rules_at, sheets_text, sheets_at, sequence_at, messages_text, messages_at}
 
 pub meta_is : table_defined_by meta_text ≡ Ok (meta_at 0)
 unfolding everything
@@ -45,7 +44,3 @@ sequence_is = refl
 pub messages_is : table_defined_by messages_text ≡ Ok (messages_at 0)
 unfolding everything
 messages_is = refl
-
-pub schema_is : created (created (created (created (created (created (created (created (created no_schema (meta_at 0)) (clerks_at 0)) (maildrops_at 0)) (counts_at 0)) (deposits_at 0)) (mail_at 0)) (sequence_at 0)) (rules_at 0)) (sheets_at 0) ≡ mail_schema
-unfolding everything
-schema_is = refl

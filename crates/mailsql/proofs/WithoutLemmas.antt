@@ -2,20 +2,19 @@
 use Rattle.std.proofs.Common.{◌≡◌, inl, inr, ℤ, Bool, true, false, not, cond, List, [], ◌∷◌, map, filter, Ordering, Less, Equal, Greater, is_eq, refl, sym, ap, subst, ◌∙◌, true≢false, IsTrue}
 use Rattle.std.specs.Prelude.{◌&&◌, ◌||◌}
 use Rattle.std.specs.List.{AllByRecursion, list_any}
-use Rattle.std.specs.Ordering.{ordering_reverse}
 use Rattle.std.specs.List.Sorted.{IsPermutation}
 use Rattle.std.proofs.lemmas.Cmp.{tied_itself}
 use Rattle.std.proofs.lemmas.List.Sorted.{Contains-permutation, IsPermutation-sym}
 use Rattle.sqlite_value.specs.declared.value.Value.TheVariants.{Int}
 use Rattle.sqlite_value.specs.Order.{Row, value_cmp}
 use Rattle.sqlite_value.proofs.OrderLemmas.{value_cmp_total}
-use Rattle.sqlite_trees.specs.Tree.{rowid, has_rowid, without_rowid, put_row}
+use Rattle.sqlite_trees.specs.Tree.{rowid, has_rowid, without_rowid}
 use Rattle.sqlite_trees.specs.View.{is_int}
 use Rattle.sqlite_rules.specs.Lists.{Has}
 use Rattle.sqlite_rules.specs.Calls.{ids_of}
-use Rattle.sqlite_rules.specs.Edit.{id_in, without_all, is_taken}
+use Rattle.sqlite_rules.specs.Edit.{id_in, without_all}
 use Rattle.sqlite_rules.proofs.ListLemmas.{all_has, has_filtered, has_kept, has_contained, contains_had, some_from, some_has}
-use Rattle.sqlite_rules.proofs.TableLemmas.{int_is, put_has}
+use Rattle.sqlite_rules.proofs.TableLemmas.{int_is}
 
 -- no two rows have one rowid
 abbrev pub AreApart : List Row → Type 0
@@ -94,16 +93,3 @@ module _ (rows : List Row) (p : Row → Bool) (shown : List Row) (keyed : AreApa
 
   pub without_shown : without_all rows (ids_of shown) ≡ filter (λ r. not (p r)) rows
   without_shown = without_all_filters (ids_of shown) rows ∙ filter_same _ _ rows (λ r h. ap not (bool_same (list_any (λ id. has_rowid id r) (ids_of shown)) (p r) (only_if r h) (taken_if r h)))
-
--- a write of one new row keeps it
-pub apart_put : (new : Row) (rows : List Row) → is_taken rows new ≡ false → AreApart rows → AreApart (put_row new rows)
-apart_put new rows free apart a b ha hb tied = elim (put_has new rows a ha) [
-  | inl is ↦ elim (put_has new rows b hb) [ inl other ↦ is ∙ sym other | inr there ↦ absurd (true≢false (sym (some_from _ rows b there (ap is_eq (subst (λ x. value_cmp (rowid b) (rowid x) ≡ Equal) is (back a b tied)))) ∙ free)) ]
-  | inr there ↦ elim (put_has new rows b hb) [ inl other ↦ absurd (true≢false (sym (some_from _ rows a there (ap is_eq (subst (λ x. value_cmp (rowid a) (rowid x) ≡ Equal) other tied))) ∙ free)) | inr also ↦ apart a b there also tied ]
-]
-  where
-    back : (a b : Row) → value_cmp (rowid a) (rowid b) ≡ Equal → value_cmp (rowid b) (rowid a) ≡ Equal
-    back a b h = value_cmp_total.antisymm (rowid b) (rowid a) ∙ ap ordering_reverse h
-
-pub apart_filter : (p : Row → Bool) (rows : List Row) → AreApart rows → AreApart (filter p rows)
-apart_filter p rows apart a b ha hb = apart a b (has_filtered p rows a ha).0 (has_filtered p rows b hb).0

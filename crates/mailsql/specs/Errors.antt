@@ -3,7 +3,7 @@ use Rattle.std.specs.Prelude.{◌≡◌, ◌⊎◌, ◌<◌, ℕ, ℤ, pos, List
 use Rattle.std.specs.List.{AllByRecursion}
 use Rattle.sqlite_value.specs.declared.value.Value.TheVariants.{Int, Blob}
 use Rattle.sqlite_trees.specs.declared.store.Store.{Ghosts}
-use Rattle.sqlite_value.specs.Order.{Row}
+use Rattle.sqlite_value.specs.Order.{Row, column}
 use Rattle.sqlite.specs.declared.error.ErrorCode.TheVariants.{OutOfMemory}
 use Rattle.sqlite.specs.declared.error.Error.{Error}
 use Rattle.sqlite.specs.declared.error.Error.TheVariants.{SqliteFailure}
@@ -48,3 +48,8 @@ FailsToCount text params old new e = FailsToQuery text params old new e ⊎ (IsW
 -- the query met this error, or showed rows; and where each holds what its record is made of, there was no memory for a record
 abbrev pub FailsToReadAs : (Row → Type 0) → List ℕ → Row → State → State → Error → Type 0
 FailsToReadAs Holds text params old new e = FailsToQuery text params old new e ⊎ ((rows : List Row) × Shown text params old new rows × (AllByRecursion Holds rows → IsWantOfMemory e))
+
+-- the query met this error, or showed a row; and where that holds a number, there was no memory for it
+abbrev pub FailsToCountAs : List ℕ → Row → State → State → Error → Type 0
+FailsToCountAs text params old new e =
+    QueriesRow text params old new (Err e) ⊎ ((row : Row) × QueriesRow text params old new (Ok row) × ((count : ℕ) → column row 0 ≡ Int (pos count) → IsWantOfMemory e))

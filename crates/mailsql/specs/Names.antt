@@ -1,6 +1,7 @@
 -- Which names and columns of a store's schema are those of our tables.
-use Rattle.std.specs.Prelude.{ℕ, Bool, true, false, ◌&&◌, ◌||◌, ◌==◌, List, [], ◌∷◌, bytes_eq, codes}
-use Rattle.std.specs.List.{list_any}
+use Rattle.std.specs.Prelude.{ℕ, nat_eq, Bool, true, false, not, ◌&&◌, ◌||◌, ◌==◌, List, [], ◌∷◌, bytes_eq, codes}
+use Rattle.std.specs.List.{list_any, list_all}
+use Rattle.std.specs.Cmp.Lexicographic.{pointwise}
 use Rattle.sqlite_schema.specs.declared.schema.Kind.{Kind}
 use Rattle.sqlite_schema.specs.declared.schema.Column.{Column}
 use Rattle.sqlite_schema.specs.declared.schema.Table.{Table}
@@ -22,20 +23,32 @@ is_taken schema =
 abbrev pub is_kind : Kind → Column → Bool
 is_kind kind c = kind_code c.kind == kind_code kind
 
--- the column is STRICT, and has this name and this kind
-abbrev pub is_column : List ℕ → Kind → Column → Bool
-is_column name kind c = bytes_eq c.name name && is_kind kind c && c.is_strict
+-- the column is STRICT, has this name and this kind, and is NOT NULL where that is asked for
+abbrev pub is_column : List ℕ → Kind → Bool → Column → Bool
+is_column name kind required c = bytes_eq c.name name && is_kind kind c && c.is_strict && (not required || c.not_null)
 
--- STRICT columns of the same names and kinds, in the same order
+-- STRICT columns of the same names and kinds, in the same order, and NOT NULL where these are
 abbrev pub are_columns : List Column → List Column → Bool
 are_columns [] [] = true
 are_columns [] (c ∷ cs) = false
 are_columns (o ∷ os) [] = false
-are_columns (o ∷ os) (c ∷ cs) = is_column o.name o.kind c && are_columns os cs
+are_columns (o ∷ os) (c ∷ cs) = is_column o.name o.kind o.not_null c && are_columns os cs
 
--- the table has the name and the columns of this one
+-- the same columns, by their places in a row, which has its rowid at 0
+abbrev pub are_places : List ℕ → List ℕ → Bool
+are_places = pointwise nat_eq
+
+-- the primary key is over the first columns, and no two rows may be alike in the second
+abbrev pub has_keys : List ℕ → List ℕ → Table → Bool
+has_keys primary unique t = are_places t.primary primary && list_any (λ key. are_places key unique) t.uniques
+
+-- the keys of this table of ours, in which no two rows may be alike in one list of columns
+abbrev pub keeps_apart : Table → Table → Bool
+keeps_apart ours t = list_all (λ unique. has_keys ours.primary unique t) ours.uniques
+
+-- the table has the name, the columns and the keys of this one
 abbrev pub is_table : Table → Table → Bool
-is_table ours t = bytes_eq t.name ours.name && are_columns ours.columns t.columns
+is_table ours t = bytes_eq t.name ours.name && are_columns ours.columns t.columns && keeps_apart ours t
 
 -- the table of marks is among these
 abbrev pub has_marks : List Table → Bool

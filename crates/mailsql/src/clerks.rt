@@ -11,8 +11,8 @@ ghost use Rattle.sqlite_value.specs.declared.value.Value.TheVariants.{Int, Text,
 ghost use Rattle.mailsql.specs.Errors.{FailsToRun, FailsAfter, FailsToRead, FailsToCount};
 ghost use Rattle.mailsql.specs.Statements.{add_clerk_text, drop_clerk_text, find_clerk_text, all_clerks_text, clerk_count_text};
 
-use crate::decode::{read_all, read_count, read_first};
 use crate::rows::Clerk;
+use crate::run::{count, first, list, run};
 use sqlite::{Alter, Connection, Error};
 use sqlite_value::value::ValueRef;
 use std::alloc::Global;
@@ -29,18 +29,15 @@ pub fn add_clerk<'x, S: Alter>(
     ensures cause { HasCleanDisk (state S.Store conn.new) → IfErr result (FailsToRun add_clerk_text (Text name.now ∷ Int kind ∷ Blob secret.now ∷ []) (state S.Store conn.old) (state S.Store conn.new)) }
     ensures survives { Survives (state S.Store conn.old) (state S.Store conn.new) (MayLeave (changes.AddsClerk (record { name = name.now; kind = kind; secret = secret.now })) (state S.Store conn.old)) }
 {
-    let _schema = conn.schema();
-    match conn.execute(
+    run(
+        conn,
         "INSERT INTO clerks (name, kind, secret) VALUES (?1, ?2, ?3)",
         &[
             ValueRef::Text(name),
             ValueRef::Int(kind),
             ValueRef::Blob(secret),
         ],
-    ) {
-        Ok(_) => Ok(()),
-        Err(error) => Err(error),
-    }
+    )
 }
 
 /// Takes out the clerk, if it is there.
@@ -50,14 +47,11 @@ pub fn drop_clerk<S: Alter>(conn: &mut Connection<S>, name: &[u8]) -> Result<(),
     ensures cause { HasCleanDisk (state S.Store conn.new) → IfErr result (FailsToRun drop_clerk_text (Text name.now ∷ []) (state S.Store conn.old) (state S.Store conn.new)) }
     ensures survives { Survives (state S.Store conn.old) (state S.Store conn.new) (MayLeave (changes.DropsClerk name.now) (state S.Store conn.old)) }
 {
-    let _schema = conn.schema();
-    match conn.execute(
+    run(
+        conn,
         "DELETE FROM clerks WHERE name = ?1",
         &[ValueRef::Text(name)],
-    ) {
-        Ok(_) => Ok(()),
-        Err(error) => Err(error),
-    }
+    )
 }
 
 /// The clerk of this name, if there is one.
@@ -72,14 +66,12 @@ pub fn find_clerk<S: Alter>(
     ensures cause { HasCleanDisk (state S.Store conn.new) → HasTables (state S.Store conn.old) → IfErr result (FailsToRead find_clerk_text (Text name.now ∷ []) (state S.Store conn.old) (state S.Store conn.new)) }
     ensures survives { Survives (state S.Store conn.old) (state S.Store conn.new) (λ _. ¬ IsOurs (state S.Store conn.old).now) }
 {
-    let _schema = conn.schema();
-    match conn.query_all(
+    first(
+        alloc,
+        conn,
         "SELECT name, kind, secret FROM clerks WHERE name = ?1 ORDER BY rowid",
         &[ValueRef::Text(name)],
-    ) {
-        Ok(rows) => read_first(alloc, rows.as_slice()),
-        Err(error) => Err(error),
-    }
+    )
 }
 
 /// Every clerk, in the order in which they were added.
@@ -90,11 +82,12 @@ pub fn all_clerks<S: Alter>(alloc: Global, conn: &mut Connection<S>) -> Result<V
     ensures cause { HasCleanDisk (state S.Store conn.new) → HasTables (state S.Store conn.old) → IfErr result (FailsToRead all_clerks_text [] (state S.Store conn.old) (state S.Store conn.new)) }
     ensures survives { Survives (state S.Store conn.old) (state S.Store conn.new) (λ _. ¬ IsOurs (state S.Store conn.old).now) }
 {
-    let _schema = conn.schema();
-    match conn.query_all("SELECT name, kind, secret FROM clerks ORDER BY rowid", &[]) {
-        Ok(rows) => read_all(alloc, rows.as_slice()),
-        Err(error) => Err(error),
-    }
+    list(
+        alloc,
+        conn,
+        "SELECT name, kind, secret FROM clerks ORDER BY rowid",
+        &[],
+    )
 }
 
 /// How many clerks there are.
@@ -105,10 +98,7 @@ pub fn clerk_count<S: Alter>(conn: &mut Connection<S>) -> Result<u64, Error>
     ensures cause { HasCleanDisk (state S.Store conn.new) → HasTables (state S.Store conn.old) → IfErr result (FailsToCount clerk_count_text [] (state S.Store conn.old) (state S.Store conn.new)) }
     ensures survives { Survives (state S.Store conn.old) (state S.Store conn.new) (λ _. ¬ IsOurs (state S.Store conn.old).now) }
 {
-    match conn.query_row("SELECT count(*) FROM clerks", &[]) {
-        Ok(row) => read_count(&row),
-        Err(error) => Err(error),
-    }
+    count(conn, "SELECT count(*) FROM clerks", &[])
 }
 
 /// Puts the clerk in place of the one of its name, if there is one. These are two statements: call it inside a transaction, and an error between them can be rolled back.

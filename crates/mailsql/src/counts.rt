@@ -11,8 +11,8 @@ ghost use Rattle.sqlite_value.specs.declared.value.Value.TheVariants.{Int, Text}
 ghost use Rattle.mailsql.specs.Errors.{FailsToRun, FailsAfter, FailsToRead};
 ghost use Rattle.mailsql.specs.Statements.{add_count_text, clear_count_text, find_count_text, all_counts_text};
 
-use crate::decode::{read_all, read_first};
 use crate::rows::Count;
+use crate::run::{first, list, run};
 use sqlite::{Alter, Connection, Error};
 use sqlite_value::value::ValueRef;
 use std::alloc::Global;
@@ -29,18 +29,15 @@ pub fn add_count<'x, S: Alter>(
     ensures cause { HasCleanDisk (state S.Store conn.new) → IfErr result (FailsToRun add_count_text (Text maildrop.now ∷ Text class.now ∷ Int k ∷ []) (state S.Store conn.old) (state S.Store conn.new)) }
     ensures survives { Survives (state S.Store conn.old) (state S.Store conn.new) (MayLeave (changes.AddsCount (record { maildrop = maildrop.now; class = class.now; k = k })) (state S.Store conn.old)) }
 {
-    let _schema = conn.schema();
-    match conn.execute(
+    run(
+        conn,
         "INSERT INTO counts (maildrop, class, k) VALUES (?1, ?2, ?3)",
         &[
             ValueRef::Text(maildrop),
             ValueRef::Text(class),
             ValueRef::Int(k),
         ],
-    ) {
-        Ok(_) => Ok(()),
-        Err(error) => Err(error),
-    }
+    )
 }
 
 /// Takes out the count, if it is there.
@@ -54,14 +51,11 @@ pub fn clear_count<'x, S: Alter>(
     ensures cause { HasCleanDisk (state S.Store conn.new) → IfErr result (FailsToRun clear_count_text (Text maildrop.now ∷ Text class.now ∷ []) (state S.Store conn.old) (state S.Store conn.new)) }
     ensures survives { Survives (state S.Store conn.old) (state S.Store conn.new) (MayLeave (changes.ClearsCount maildrop.now class.now) (state S.Store conn.old)) }
 {
-    let _schema = conn.schema();
-    match conn.execute(
+    run(
+        conn,
         "DELETE FROM counts WHERE maildrop = ?1 AND class = ?2",
         &[ValueRef::Text(maildrop), ValueRef::Text(class)],
-    ) {
-        Ok(_) => Ok(()),
-        Err(error) => Err(error),
-    }
+    )
 }
 
 /// The count of the class in the maildrop, if one was ever set.
@@ -77,14 +71,12 @@ pub fn find_count<'x, S: Alter>(
     ensures cause { HasCleanDisk (state S.Store conn.new) → HasTables (state S.Store conn.old) → IfErr result (FailsToRead find_count_text (Text maildrop.now ∷ Text class.now ∷ []) (state S.Store conn.old) (state S.Store conn.new)) }
     ensures survives { Survives (state S.Store conn.old) (state S.Store conn.new) (λ _. ¬ IsOurs (state S.Store conn.old).now) }
 {
-    let _schema = conn.schema();
-    match conn.query_all(
+    first(
+        alloc,
+        conn,
         "SELECT maildrop, class, k FROM counts WHERE maildrop = ?1 AND class = ?2 ORDER BY rowid",
         &[ValueRef::Text(maildrop), ValueRef::Text(class)],
-    ) {
-        Ok(rows) => read_first(alloc, rows.as_slice()),
-        Err(error) => Err(error),
-    }
+    )
 }
 
 /// Every count, in the order in which they were added.
@@ -95,11 +87,12 @@ pub fn all_counts<S: Alter>(alloc: Global, conn: &mut Connection<S>) -> Result<V
     ensures cause { HasCleanDisk (state S.Store conn.new) → HasTables (state S.Store conn.old) → IfErr result (FailsToRead all_counts_text [] (state S.Store conn.old) (state S.Store conn.new)) }
     ensures survives { Survives (state S.Store conn.old) (state S.Store conn.new) (λ _. ¬ IsOurs (state S.Store conn.old).now) }
 {
-    let _schema = conn.schema();
-    match conn.query_all("SELECT maildrop, class, k FROM counts ORDER BY rowid", &[]) {
-        Ok(rows) => read_all(alloc, rows.as_slice()),
-        Err(error) => Err(error),
-    }
+    list(
+        alloc,
+        conn,
+        "SELECT maildrop, class, k FROM counts ORDER BY rowid",
+        &[],
+    )
 }
 
 /// Raises the count of the class to `k`, or sets it. These are two statements: call it inside a transaction, and an error between them can be rolled back.

@@ -59,8 +59,8 @@ impl Stored for Mark {
 
     fn read(alloc: Global, row: &Row) -> Result<Mark, Error> {
         Ok(Mark {
-            name: octets(alloc, row, 0)?,
             value: number(row, 1)?,
+            name: octets(alloc, row, 0)?,
         })
     }
 }
@@ -76,8 +76,8 @@ impl Stored for Clerk {
 
     fn read(alloc: Global, row: &Row) -> Result<Clerk, Error> {
         Ok(Clerk {
-            name: octets(alloc, row, 0)?,
             kind: number(row, 1)?,
+            name: octets(alloc, row, 0)?,
             secret: octets(alloc, row, 2)?,
         })
     }
@@ -108,9 +108,9 @@ impl Stored for Count {
 
     fn read(alloc: Global, row: &Row) -> Result<Count, Error> {
         Ok(Count {
+            k: number(row, 2)?,
             maildrop: octets(alloc, row, 0)?,
             class: octets(alloc, row, 1)?,
-            k: number(row, 2)?,
         })
     }
 }
@@ -126,10 +126,10 @@ impl Stored for Deposit {
 
     fn read(alloc: Global, row: &Row) -> Result<Deposit, Error> {
         Ok(Deposit {
+            k: number(row, 3)?,
             maildrop: octets(alloc, row, 0)?,
             id: octets(alloc, row, 1)?,
             class: octets(alloc, row, 2)?,
-            k: number(row, 3)?,
             digest: octets(alloc, row, 4)?,
         })
     }
@@ -147,10 +147,10 @@ impl Stored for Message {
     fn read(alloc: Global, row: &Row) -> Result<Message, Error> {
         Ok(Message {
             key: number(row, 0)?,
-            maildrop: octets(alloc, row, 1)?,
-            class: octets(alloc, row, 2)?,
             k: number(row, 3)?,
             octets: number(row, 4)?,
+            maildrop: octets(alloc, row, 1)?,
+            class: octets(alloc, row, 2)?,
         })
     }
 }
@@ -185,12 +185,12 @@ impl Stored for Rule {
     fn read(alloc: Global, row: &Row) -> Result<Rule, Error> {
         Ok(Rule {
             place: number(row, 0)?,
-            name: octets(alloc, row, 1)?,
             effect: number(row, 2)?,
+            actions: number(row, 6)?,
+            name: octets(alloc, row, 1)?,
             clerk: octets(alloc, row, 3)?,
             maildrop: octets(alloc, row, 4)?,
             class: octets(alloc, row, 5)?,
-            actions: number(row, 6)?,
         })
     }
 }

@@ -11,8 +11,8 @@ ghost use Rattle.sqlite_value.specs.declared.value.Value.TheVariants.{Int, Text,
 ghost use Rattle.mailsql.specs.Errors.{FailsToRun, FailsToRead};
 ghost use Rattle.mailsql.specs.Statements.{add_deposit_text, find_deposit_text, all_deposits_text};
 
-use crate::decode::{read_all, read_first};
 use crate::rows::Deposit;
+use crate::run::{first, list, run};
 use sqlite::{Alter, Connection, Error};
 use sqlite_value::value::ValueRef;
 use std::alloc::Global;
@@ -31,8 +31,8 @@ pub fn add_deposit<'x, S: Alter>(
     ensures cause { HasCleanDisk (state S.Store conn.new) → IfErr result (FailsToRun add_deposit_text (Text maildrop.now ∷ Text id.now ∷ Text class.now ∷ Int k ∷ Blob digest.now ∷ []) (state S.Store conn.old) (state S.Store conn.new)) }
     ensures survives { Survives (state S.Store conn.old) (state S.Store conn.new) (MayLeave (changes.AddsDeposit (record { maildrop = maildrop.now; id = id.now; class = class.now; k = k; digest = digest.now })) (state S.Store conn.old)) }
 {
-    let _schema = conn.schema();
-    match conn.execute(
+    run(
+        conn,
         "INSERT INTO deposits (maildrop, id, class, k, digest) VALUES (?1, ?2, ?3, ?4, ?5)",
         &[
             ValueRef::Text(maildrop),
@@ -41,10 +41,7 @@ pub fn add_deposit<'x, S: Alter>(
             ValueRef::Int(k),
             ValueRef::Blob(digest),
         ],
-    ) {
-        Ok(_) => Ok(()),
-        Err(error) => Err(error),
-    }
+    )
 }
 
 /// The deposit of this id, if the maildrop has ever accepted it.
@@ -60,14 +57,12 @@ pub fn find_deposit<'x, S: Alter>(
     ensures cause { HasCleanDisk (state S.Store conn.new) → HasTables (state S.Store conn.old) → IfErr result (FailsToRead find_deposit_text (Text maildrop.now ∷ Text id.now ∷ []) (state S.Store conn.old) (state S.Store conn.new)) }
     ensures survives { Survives (state S.Store conn.old) (state S.Store conn.new) (λ _. ¬ IsOurs (state S.Store conn.old).now) }
 {
-    let _schema = conn.schema();
-    match conn.query_all(
+    first(
+        alloc,
+        conn,
         "SELECT maildrop, id, class, k, digest FROM deposits WHERE maildrop = ?1 AND id = ?2 ORDER BY rowid",
         &[ValueRef::Text(maildrop), ValueRef::Text(id)],
-    ) {
-        Ok(rows) => read_first(alloc, rows.as_slice()),
-        Err(error) => Err(error),
-    }
+    )
 }
 
 /// Every deposit, in the order in which they were accepted.
@@ -81,12 +76,10 @@ pub fn all_deposits<S: Alter>(
     ensures cause { HasCleanDisk (state S.Store conn.new) → HasTables (state S.Store conn.old) → IfErr result (FailsToRead all_deposits_text [] (state S.Store conn.old) (state S.Store conn.new)) }
     ensures survives { Survives (state S.Store conn.old) (state S.Store conn.new) (λ _. ¬ IsOurs (state S.Store conn.old).now) }
 {
-    let _schema = conn.schema();
-    match conn.query_all(
+    list(
+        alloc,
+        conn,
         "SELECT maildrop, id, class, k, digest FROM deposits ORDER BY rowid",
         &[],
-    ) {
-        Ok(rows) => read_all(alloc, rows.as_slice()),
-        Err(error) => Err(error),
-    }
+    )
 }

@@ -18,9 +18,8 @@ pub mod meta;
 pub mod mode;
 pub mod rows;
 pub mod rules;
+mod run;
 pub mod schema;
 pub mod sheets;
 pub mod tables;
-#[cfg(test)]
-mod tests;
 pub mod uses;

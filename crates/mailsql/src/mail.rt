@@ -10,8 +10,8 @@ ghost use Rattle.sqlite_value.specs.declared.value.Value.TheVariants.{Int, Text}
 ghost use Rattle.mailsql.specs.Errors.{FailsToRun, FailsToRead, FailsToCount};
 ghost use Rattle.mailsql.specs.Statements.{add_message_text, remove_message_text, heads_text, all_messages_text, message_count_text};
 
-use crate::decode::{read_all, read_count};
 use crate::rows::Message;
+use crate::run::{count, list, run};
 use sqlite::{Alter, Connection, Error};
 use sqlite_value::value::ValueRef;
 use std::alloc::Global;
@@ -56,14 +56,11 @@ pub fn remove_message<'x, S: Alter>(
     ensures cause { HasCleanDisk (state S.Store conn.new) → IfErr result (FailsToRun remove_message_text (Int key ∷ Text maildrop.now ∷ []) (state S.Store conn.old) (state S.Store conn.new)) }
     ensures survives { Survives (state S.Store conn.old) (state S.Store conn.new) (MayLeave (changes.RemovesMessage key maildrop.now) (state S.Store conn.old)) }
 {
-    let _schema = conn.schema();
-    match conn.execute(
+    run(
+        conn,
         "DELETE FROM mail WHERE key = ?1 AND maildrop = ?2",
         &[ValueRef::Int(key), ValueRef::Text(maildrop)],
-    ) {
-        Ok(_) => Ok(()),
-        Err(error) => Err(error),
-    }
+    )
 }
 
 /// The messages of the maildrop, in the order in which they arrived.
@@ -78,14 +75,12 @@ pub fn heads<S: Alter>(
     ensures cause { HasCleanDisk (state S.Store conn.new) → HasTables (state S.Store conn.old) → IfErr result (FailsToRead heads_text (Text maildrop.now ∷ []) (state S.Store conn.old) (state S.Store conn.new)) }
     ensures survives { Survives (state S.Store conn.old) (state S.Store conn.new) (λ _. ¬ IsOurs (state S.Store conn.old).now) }
 {
-    let _schema = conn.schema();
-    match conn.query_all(
+    list(
+        alloc,
+        conn,
         "SELECT key, maildrop, class, k, octets FROM mail WHERE maildrop = ?1 ORDER BY key",
         &[ValueRef::Text(maildrop)],
-    ) {
-        Ok(rows) => read_all(alloc, rows.as_slice()),
-        Err(error) => Err(error),
-    }
+    )
 }
 
 /// Every message, in the order in which they arrived.
@@ -99,14 +94,12 @@ pub fn all_messages<S: Alter>(
     ensures cause { HasCleanDisk (state S.Store conn.new) → HasTables (state S.Store conn.old) → IfErr result (FailsToRead all_messages_text [] (state S.Store conn.old) (state S.Store conn.new)) }
     ensures survives { Survives (state S.Store conn.old) (state S.Store conn.new) (λ _. ¬ IsOurs (state S.Store conn.old).now) }
 {
-    let _schema = conn.schema();
-    match conn.query_all(
+    list(
+        alloc,
+        conn,
         "SELECT key, maildrop, class, k, octets FROM mail ORDER BY key",
         &[],
-    ) {
-        Ok(rows) => read_all(alloc, rows.as_slice()),
-        Err(error) => Err(error),
-    }
+    )
 }
 
 /// How many messages the maildrop has.
@@ -117,12 +110,9 @@ pub fn message_count<S: Alter>(conn: &mut Connection<S>, maildrop: &[u8]) -> Res
     ensures cause { HasCleanDisk (state S.Store conn.new) → HasTables (state S.Store conn.old) → IfErr result (FailsToCount message_count_text (Text maildrop.now ∷ []) (state S.Store conn.old) (state S.Store conn.new)) }
     ensures survives { Survives (state S.Store conn.old) (state S.Store conn.new) (λ _. ¬ IsOurs (state S.Store conn.old).now) }
 {
-    let _schema = conn.schema();
-    match conn.query_row(
+    count(
+        conn,
         "SELECT count(*) FROM mail WHERE maildrop = ?1",
         &[ValueRef::Text(maildrop)],
-    ) {
-        Ok(row) => read_count(&row),
-        Err(error) => Err(error),
-    }
+    )
 }

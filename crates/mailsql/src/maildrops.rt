@@ -10,7 +10,8 @@ ghost use Rattle.sqlite_value.specs.declared.value.Value.TheVariants.{Text};
 ghost use Rattle.mailsql.specs.Errors.{FailsToRun, FailsToRead, FailsToCount};
 ghost use Rattle.mailsql.specs.Statements.{add_maildrop_text, drop_maildrop_text, all_maildrops_text, maildrops_text, maildrop_count_text, find_maildrop_text};
 
-use crate::decode::{read_all, read_count};
+use crate::decode::read_all;
+use crate::run::{count, list, run};
 use sqlite::{Alter, Connection, Error};
 use sqlite_value::value::{Bytes, ValueRef};
 use std::alloc::Global;
@@ -22,14 +23,11 @@ pub fn add_maildrop<S: Alter>(conn: &mut Connection<S>, name: &[u8]) -> Result<(
     ensures cause { HasCleanDisk (state S.Store conn.new) → IfErr result (FailsToRun add_maildrop_text (Text name.now ∷ []) (state S.Store conn.old) (state S.Store conn.new)) }
     ensures survives { Survives (state S.Store conn.old) (state S.Store conn.new) (MayLeave (changes.AddsMaildrop name.now) (state S.Store conn.old)) }
 {
-    let _schema = conn.schema();
-    match conn.execute(
+    run(
+        conn,
         "INSERT INTO maildrops (name) VALUES (?1)",
         &[ValueRef::Text(name)],
-    ) {
-        Ok(_) => Ok(()),
-        Err(error) => Err(error),
-    }
+    )
 }
 
 /// Takes out the name, if it is there. It is refused while a message is in the maildrop.
@@ -39,14 +37,11 @@ pub fn drop_maildrop<S: Alter>(conn: &mut Connection<S>, name: &[u8]) -> Result<
     ensures cause { HasCleanDisk (state S.Store conn.new) → IfErr result (FailsToRun drop_maildrop_text (Text name.now ∷ []) (state S.Store conn.old) (state S.Store conn.new)) }
     ensures survives { Survives (state S.Store conn.old) (state S.Store conn.new) (MayLeave (changes.DropsMaildrop name.now) (state S.Store conn.old)) }
 {
-    let _schema = conn.schema();
-    match conn.execute(
+    run(
+        conn,
         "DELETE FROM maildrops WHERE name = ?1",
         &[ValueRef::Text(name)],
-    ) {
-        Ok(_) => Ok(()),
-        Err(error) => Err(error),
-    }
+    )
 }
 
 /// Whether the name is there.
@@ -75,10 +70,7 @@ pub fn maildrop_count<S: Alter>(conn: &mut Connection<S>) -> Result<u64, Error>
     ensures cause { HasCleanDisk (state S.Store conn.new) → HasTables (state S.Store conn.old) → IfErr result (FailsToCount maildrop_count_text [] (state S.Store conn.old) (state S.Store conn.new)) }
     ensures survives { Survives (state S.Store conn.old) (state S.Store conn.new) (λ _. ¬ IsOurs (state S.Store conn.old).now) }
 {
-    match conn.query_row("SELECT count(*) FROM maildrops", &[]) {
-        Ok(row) => read_count(&row),
-        Err(error) => Err(error),
-    }
+    count(conn, "SELECT count(*) FROM maildrops", &[])
 }
 
 /// Every name, in the order of its octets.
@@ -107,9 +99,10 @@ pub fn all_maildrops<S: Alter>(alloc: Global, conn: &mut Connection<S>) -> Resul
     ensures cause { HasCleanDisk (state S.Store conn.new) → HasTables (state S.Store conn.old) → IfErr result (FailsToRead all_maildrops_text [] (state S.Store conn.old) (state S.Store conn.new)) }
     ensures survives { Survives (state S.Store conn.old) (state S.Store conn.new) (λ _. ¬ IsOurs (state S.Store conn.old).now) }
 {
-    let _schema = conn.schema();
-    match conn.query_all("SELECT name FROM maildrops ORDER BY rowid", &[]) {
-        Ok(rows) => read_all(alloc, rows.as_slice()),
-        Err(error) => Err(error),
-    }
+    list(
+        alloc,
+        conn,
+        "SELECT name FROM maildrops ORDER BY rowid",
+        &[],
+    )
 }

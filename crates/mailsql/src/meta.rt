@@ -11,8 +11,8 @@ ghost use Rattle.sqlite_value.specs.declared.value.Value.TheVariants.{Null, Int,
 ghost use Rattle.mailsql.specs.Errors.{FailsToRun, FailsToRead, FailsToReadAs};
 ghost use Rattle.mailsql.specs.Statements.{add_mark_text, find_mark_text, all_marks_text, all_sequences_text};
 
-use crate::decode::{read_all, read_first};
 use crate::rows::Mark;
+use crate::run::{first, list, run};
 use sqlite::{Alter, Connection, Error};
 use sqlite_value::value::ValueRef;
 use std::alloc::Global;
@@ -24,14 +24,11 @@ pub fn add_mark<S: Alter>(conn: &mut Connection<S>, name: &[u8], value: i64) -> 
     ensures cause { HasCleanDisk (state S.Store conn.new) → IfErr result (FailsToRun add_mark_text (Text name.now ∷ Int value ∷ []) (state S.Store conn.old) (state S.Store conn.new)) }
     ensures survives { Survives (state S.Store conn.old) (state S.Store conn.new) (MayLeave (changes.AddsMark (record { name = name.now; value = value })) (state S.Store conn.old)) }
 {
-    let _schema = conn.schema();
-    match conn.execute(
+    run(
+        conn,
         "INSERT INTO meta (name, value) VALUES (?1, ?2)",
         &[ValueRef::Text(name), ValueRef::Int(value)],
-    ) {
-        Ok(_) => Ok(()),
-        Err(error) => Err(error),
-    }
+    )
 }
 
 /// The mark of this name, if there is one.
@@ -46,14 +43,12 @@ pub fn find_mark<S: Alter>(
     ensures cause { HasCleanDisk (state S.Store conn.new) → HasTables (state S.Store conn.old) → IfErr result (FailsToRead find_mark_text (Text name.now ∷ []) (state S.Store conn.old) (state S.Store conn.new)) }
     ensures survives { Survives (state S.Store conn.old) (state S.Store conn.new) (λ _. ¬ IsOurs (state S.Store conn.old).now) }
 {
-    let _schema = conn.schema();
-    match conn.query_all(
+    first(
+        alloc,
+        conn,
         "SELECT name, value FROM meta WHERE name = ?1 ORDER BY rowid",
         &[ValueRef::Text(name)],
-    ) {
-        Ok(rows) => read_first(alloc, rows.as_slice()),
-        Err(error) => Err(error),
-    }
+    )
 }
 
 /// Every mark, in the order in which they were added.
@@ -64,11 +59,12 @@ pub fn all_marks<S: Alter>(alloc: Global, conn: &mut Connection<S>) -> Result<Ve
     ensures cause { HasCleanDisk (state S.Store conn.new) → HasTables (state S.Store conn.old) → IfErr result (FailsToRead all_marks_text [] (state S.Store conn.old) (state S.Store conn.new)) }
     ensures survives { Survives (state S.Store conn.old) (state S.Store conn.new) (λ _. ¬ IsOurs (state S.Store conn.old).now) }
 {
-    let _schema = conn.schema();
-    match conn.query_all("SELECT name, value FROM meta ORDER BY rowid", &[]) {
-        Ok(rows) => read_all(alloc, rows.as_slice()),
-        Err(error) => Err(error),
-    }
+    list(
+        alloc,
+        conn,
+        "SELECT name, value FROM meta ORDER BY rowid",
+        &[],
+    )
 }
 
 /// How far SQLite has counted the keys of each table with AUTOINCREMENT, in the order of the rowids: a new message has a key above that of `mail`.
@@ -79,8 +75,10 @@ pub fn all_sequences<S: Alter>(alloc: Global, conn: &mut Connection<S>) -> Resul
     ensures cause { HasCleanDisk (state S.Store conn.new) → IfErr result (FailsToReadAs (λ row. HoldsMark (Null ∷ row)) all_sequences_text [] (state S.Store conn.old) (state S.Store conn.new)) }
     ensures survives { Survives (state S.Store conn.old) (state S.Store conn.new) (λ _. ¬ IsOurs (state S.Store conn.old).now) }
 {
-    match conn.query_all("SELECT name, seq FROM sqlite_sequence ORDER BY rowid", &[]) {
-        Ok(rows) => read_all(alloc, rows.as_slice()),
-        Err(error) => Err(error),
-    }
+    list(
+        alloc,
+        conn,
+        "SELECT name, seq FROM sqlite_sequence ORDER BY rowid",
+        &[],
+    )
 }

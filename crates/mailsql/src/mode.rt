@@ -7,6 +7,7 @@ ghost use Rattle.mailsql.specs.Rows.{IsUndone};
 ghost use Rattle.mailsql.specs.Errors.{FailsToRun};
 ghost use Rattle.mailsql.specs.Statements.{begin_text, commit_text, rollback_text};
 
+use crate::run::run;
 use sqlite::{Alter, Connection, Error};
 
 /// Begins a transaction. It is refused where one is under way.
@@ -16,10 +17,7 @@ pub fn begin<S: Alter>(conn: &mut Connection<S>) -> Result<(), Error>
     ensures cause { HasCleanDisk (state S.Store conn.new) → IfErr result (FailsToRun begin_text [] (state S.Store conn.old) (state S.Store conn.new)) }
     ensures survives { Survives (state S.Store conn.old) (state S.Store conn.new) (λ _. ⊥) }
 {
-    match conn.execute("BEGIN", &[]) {
-        Ok(_) => Ok(()),
-        Err(error) => Err(error),
-    }
+    run(conn, "BEGIN", &[])
 }
 
 /// Commits the transaction. It is refused where none is under way. After an error nothing of the transaction is left, or it is still under way.
@@ -29,10 +27,7 @@ pub fn commit<S: Alter>(conn: &mut Connection<S>) -> Result<(), Error>
     ensures cause { HasCleanDisk (state S.Store conn.new) → IfErr result (FailsToRun commit_text [] (state S.Store conn.old) (state S.Store conn.new)) }
     ensures survives { Survives (state S.Store conn.old) (state S.Store conn.new) (λ db. db ≡ (state S.Store conn.old).now.trees) }
 {
-    match conn.execute("COMMIT", &[]) {
-        Ok(_) => Ok(()),
-        Err(error) => Err(error),
-    }
+    run(conn, "COMMIT", &[])
 }
 
 /// Rolls the transaction back. It is refused where none is under way. Whatever it answers, nothing of the transaction is left.
@@ -42,8 +37,5 @@ pub fn rollback<S: Alter>(conn: &mut Connection<S>) -> Result<(), Error>
     ensures cause { HasCleanDisk (state S.Store conn.new) → IfErr result (FailsToRun rollback_text [] (state S.Store conn.old) (state S.Store conn.new)) }
     ensures survives { Survives (state S.Store conn.old) (state S.Store conn.new) (λ _. ⊥) }
 {
-    match conn.execute("ROLLBACK", &[]) {
-        Ok(_) => Ok(()),
-        Err(error) => Err(error),
-    }
+    run(conn, "ROLLBACK", &[])
 }

@@ -10,8 +10,8 @@ ghost use Rattle.sqlite_value.specs.declared.value.Value.TheVariants.{Int, Text}
 ghost use Rattle.mailsql.specs.Errors.{FailsToRun, FailsToRead};
 ghost use Rattle.mailsql.specs.Statements.{add_rule_text, clear_rules_text, all_rules_text};
 
-use crate::decode::read_all;
 use crate::rows::Rule;
+use crate::run::{list, run};
 use sqlite::{Alter, Connection, Error};
 use sqlite_value::value::ValueRef;
 use std::alloc::Global;
@@ -31,8 +31,8 @@ pub fn add_rule<'x, S: Alter>(
     ensures cause { HasCleanDisk (state S.Store conn.new) → IfErr result (FailsToRun add_rule_text (Text name.now ∷ Int effect ∷ Text clerk.now ∷ Text maildrop.now ∷ Text class.now ∷ Int actions ∷ []) (state S.Store conn.old) (state S.Store conn.new)) }
     ensures survives { Survives (state S.Store conn.old) (state S.Store conn.new) (MayLeave (changes.AddsRule name.now effect clerk.now maildrop.now class.now actions) (state S.Store conn.old)) }
 {
-    let _schema = conn.schema();
-    match conn.execute(
+    run(
+        conn,
         "INSERT INTO rules (name, effect, clerk, maildrop, class, actions) VALUES (?1, ?2, ?3, ?4, ?5, ?6)",
         &[
             ValueRef::Text(name),
@@ -42,10 +42,7 @@ pub fn add_rule<'x, S: Alter>(
             ValueRef::Text(class),
             ValueRef::Int(actions),
         ],
-    ) {
-        Ok(_) => Ok(()),
-        Err(error) => Err(error),
-    }
+    )
 }
 
 /// Takes out every rule.
@@ -55,11 +52,7 @@ pub fn clear_rules<S: Alter>(conn: &mut Connection<S>) -> Result<(), Error>
     ensures cause { HasCleanDisk (state S.Store conn.new) → IfErr result (FailsToRun clear_rules_text [] (state S.Store conn.old) (state S.Store conn.new)) }
     ensures survives { Survives (state S.Store conn.old) (state S.Store conn.new) (MayLeave changes.ClearsRules (state S.Store conn.old)) }
 {
-    let _schema = conn.schema();
-    match conn.execute("DELETE FROM rules", &[]) {
-        Ok(_) => Ok(()),
-        Err(error) => Err(error),
-    }
+    run(conn, "DELETE FROM rules", &[])
 }
 
 /// Every rule, in order.
@@ -70,12 +63,10 @@ pub fn all_rules<S: Alter>(alloc: Global, conn: &mut Connection<S>) -> Result<Ve
     ensures cause { HasCleanDisk (state S.Store conn.new) → HasTables (state S.Store conn.old) → IfErr result (FailsToRead all_rules_text [] (state S.Store conn.old) (state S.Store conn.new)) }
     ensures survives { Survives (state S.Store conn.old) (state S.Store conn.new) (λ _. ¬ IsOurs (state S.Store conn.old).now) }
 {
-    let _schema = conn.schema();
-    match conn.query_all(
+    list(
+        alloc,
+        conn,
         "SELECT place, name, effect, clerk, maildrop, class, actions FROM rules ORDER BY place",
         &[],
-    ) {
-        Ok(rows) => read_all(alloc, rows.as_slice()),
-        Err(error) => Err(error),
-    }
+    )
 }

@@ -13,8 +13,8 @@ ghost use Rattle.sqlite_value.specs.declared.value.Value.TheVariants.{Int, Blob}
 ghost use Rattle.mailsql.specs.Errors.{FailsToRun, FailsToAddSheets, FailsToRead, FailsToCount};
 ghost use Rattle.mailsql.specs.Statements.{add_sheet_text, remove_sheets_text, find_sheet_text, all_sheets_text, sheet_count_text};
 
-use crate::decode::{read_all, read_count, read_first};
 use crate::rows::Sheet;
+use crate::run::{count, first, list, run};
 use sqlite::{Alter, Connection, Error};
 use sqlite_value::value::ValueRef;
 use std::alloc::Global;
@@ -34,18 +34,15 @@ pub fn add_sheet<S: Alter>(
     ensures cause { HasCleanDisk (state S.Store conn.new) → IfErr result (FailsToRun add_sheet_text (Int mail ∷ Int place ∷ Blob octets.now ∷ []) (state S.Store conn.old) (state S.Store conn.new)) }
     ensures survives { Survives (state S.Store conn.old) (state S.Store conn.new) (MayLeave (changes.AddsSheet (record { mail = mail; place = place; octets = octets.now })) (state S.Store conn.old)) }
 {
-    let _schema = conn.schema();
-    match conn.execute(
+    run(
+        conn,
         "INSERT INTO sheets (mail, place, octets) VALUES (?1, ?2, ?3)",
         &[
             ValueRef::Int(mail),
             ValueRef::Int(place),
             ValueRef::Blob(octets),
         ],
-    ) {
-        Ok(_) => Ok(()),
-        Err(error) => Err(error),
-    }
+    )
 }
 
 /// How many sheets a text has.
@@ -97,11 +94,11 @@ pub fn remove_sheets<S: Alter>(conn: &mut Connection<S>, mail: i64) -> Result<()
     ensures cause { HasCleanDisk (state S.Store conn.new) → IfErr result (FailsToRun remove_sheets_text (Int mail ∷ []) (state S.Store conn.old) (state S.Store conn.new)) }
     ensures survives { Survives (state S.Store conn.old) (state S.Store conn.new) (MayLeave (changes.RemovesSheets mail) (state S.Store conn.old)) }
 {
-    let _schema = conn.schema();
-    match conn.execute("DELETE FROM sheets WHERE mail = ?1", &[ValueRef::Int(mail)]) {
-        Ok(_) => Ok(()),
-        Err(error) => Err(error),
-    }
+    run(
+        conn,
+        "DELETE FROM sheets WHERE mail = ?1",
+        &[ValueRef::Int(mail)],
+    )
 }
 
 /// The page of the message at this place, if there is one.
@@ -117,14 +114,12 @@ pub fn find_sheet<S: Alter>(
     ensures cause { HasCleanDisk (state S.Store conn.new) → HasTables (state S.Store conn.old) → IfErr result (FailsToRead find_sheet_text (Int mail ∷ Int place ∷ []) (state S.Store conn.old) (state S.Store conn.new)) }
     ensures survives { Survives (state S.Store conn.old) (state S.Store conn.new) (λ _. ¬ IsOurs (state S.Store conn.old).now) }
 {
-    let _schema = conn.schema();
-    match conn.query_all(
+    first(
+        alloc,
+        conn,
         "SELECT mail, place, octets FROM sheets WHERE mail = ?1 AND place = ?2 ORDER BY rowid",
         &[ValueRef::Int(mail), ValueRef::Int(place)],
-    ) {
-        Ok(rows) => read_first(alloc, rows.as_slice()),
-        Err(error) => Err(error),
-    }
+    )
 }
 
 /// How many pages there are, of all messages.
@@ -135,10 +130,7 @@ pub fn sheet_count<S: Alter>(conn: &mut Connection<S>) -> Result<u64, Error>
     ensures cause { HasCleanDisk (state S.Store conn.new) → HasTables (state S.Store conn.old) → IfErr result (FailsToCount sheet_count_text [] (state S.Store conn.old) (state S.Store conn.new)) }
     ensures survives { Survives (state S.Store conn.old) (state S.Store conn.new) (λ _. ¬ IsOurs (state S.Store conn.old).now) }
 {
-    match conn.query_row("SELECT count(*) FROM sheets", &[]) {
-        Ok(row) => read_count(&row),
-        Err(error) => Err(error),
-    }
+    count(conn, "SELECT count(*) FROM sheets", &[])
 }
 
 /// Every page of every message, in the order in which they were added. It takes memory for all their octets.
@@ -149,11 +141,12 @@ pub fn all_sheets<S: Alter>(alloc: Global, conn: &mut Connection<S>) -> Result<V
     ensures cause { HasCleanDisk (state S.Store conn.new) → HasTables (state S.Store conn.old) → IfErr result (FailsToRead all_sheets_text [] (state S.Store conn.old) (state S.Store conn.new)) }
     ensures survives { Survives (state S.Store conn.old) (state S.Store conn.new) (λ _. ¬ IsOurs (state S.Store conn.old).now) }
 {
-    let _schema = conn.schema();
-    match conn.query_all("SELECT mail, place, octets FROM sheets ORDER BY rowid", &[]) {
-        Ok(rows) => read_all(alloc, rows.as_slice()),
-        Err(error) => Err(error),
-    }
+    list(
+        alloc,
+        conn,
+        "SELECT mail, place, octets FROM sheets ORDER BY rowid",
+        &[],
+    )
 }
 
 /// The sheets of a text, joined, are the text; each but the last has `SHEET_OCTETS` octets, and none is empty.

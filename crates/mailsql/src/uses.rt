@@ -49,7 +49,7 @@ fn add_pages(
 }
 
 /// The two pages of a message.
-#[derive(Debug, Drop)]
+#[derive(Drop)]
 pub struct Pages {
     pub first: Option<Sheet>,
     pub second: Option<Sheet>,
@@ -66,7 +66,7 @@ fn read_pages(alloc: Global, conn: &mut Connection<MemStore>, key: i64) -> Resul
 }
 
 /// What `sample` saw: the heads and the pages of its message, and its pages when it was gone.
-#[derive(Debug, Drop)]
+#[derive(Drop)]
 pub struct Seen {
     pub key: i64,
     pub heads: Vec<Message>,

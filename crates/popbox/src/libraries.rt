@@ -4,6 +4,7 @@ mod conversations;
 mod credentials;
 mod lines;
 mod policies;
+mod statements;
 mod stores;
 mod texts;
 mod views;

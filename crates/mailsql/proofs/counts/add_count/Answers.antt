@@ -1,18 +1,18 @@
 use Rattle.std.proofs.Common.{to_z-of_z}
 use Rattle.sqlite.specs.Held.{state}
-use Rattle.mailsql.proofs.StateLemmas.{error_undone}
-use Rattle.mailsql.proofs.CountsLemmas.{add_count_ok, add_count_commits}
 use Rattle.sqlite.proofs.StateLemmas.{survives_weaker}
+use Rattle.mailsql.proofs.ResultLemmas.{on_ok_then}
+use Rattle.mailsql.proofs.CountsLemmas.{add_count_ok, add_count_commits}
 use Rattle.mailsql.proofs.counts.add_count.Goals as goal
 
-pub returns-in-Ok-clause-ok : goal.returns-in-Ok-clause-ok
-returns-in-Ok-clause-ok g c clean ready = add_count_ok (state g.S.Store c.args.conn.now) (state g.S.Store c.execute.new.self) c.args.maildrop.now c.args.class.now c.args.k c.schema-schema.ensures.live c.in-Ok.field-0 ready (simp (to_z-of_z, c.ranges.k) at (c.in-Ok.ensures.runs clean))
+pub returns-clause-ok : goal.returns-clause-ok
+returns-clause-ok g c clean ready = on_ok_then _ (λ it. add_count_ok (state g.S.Store c.args.conn.now) (state g.S.Store c.run.new.conn) c.args.maildrop.now c.args.class.now c.args.k c.run.ensures.live it.0 ready it.1) (simp (to_z-of_z, c.ranges.k) at (c.run.ensures.ok clean))
 
-pub returns-in-Ok-clause-survives : goal.returns-in-Ok-clause-survives
-returns-in-Ok-clause-survives g c = survives_weaker _ _ _ _ (λ _ db may. add_count_commits (state g.S.Store c.args.conn.now) (state g.S.Store c.execute.new.self) c.args.maildrop.now c.args.class.now c.args.k c.schema-schema.ensures.live db may) (simp (to_z-of_z, c.ranges.k) at c.execute.ensures.survives)
+pub returns-clause-err : goal.returns-clause-err
+returns-clause-err g c = c.run.ensures.err
 
-pub returns-in-Err-clause-err : goal.returns-in-Err-clause-err
-returns-in-Err-clause-err g c clean = error_undone (state g.S.Store c.args.conn.now) (state g.S.Store c.execute.new.self) _ _ _ (c.in-Err.ensures.runs clean)
+pub returns-clause-cause : goal.returns-clause-cause
+returns-clause-cause g c clean = simp (to_z-of_z, c.ranges.k) at (c.run.ensures.cause clean)
 
-pub returns-in-Err-clause-survives : goal.returns-in-Err-clause-survives
-returns-in-Err-clause-survives g c = survives_weaker _ _ _ _ (λ _ db may. add_count_commits (state g.S.Store c.args.conn.now) (state g.S.Store c.execute.new.self) c.args.maildrop.now c.args.class.now c.args.k c.schema-schema.ensures.live db may) (simp (to_z-of_z, c.ranges.k) at c.execute.ensures.survives)
+pub returns-clause-survives : goal.returns-clause-survives
+returns-clause-survives g c = survives_weaker _ _ _ _ (λ _ db may. add_count_commits (state g.S.Store c.args.conn.now) (state g.S.Store c.run.new.conn) c.args.maildrop.now c.args.class.now c.args.k c.run.ensures.live db may) (simp (to_z-of_z, c.ranges.k) at (c.run.ensures.survives))

@@ -18,3 +18,6 @@ returns-in-Err-clause-err g c clean = error_undone (state g.S.Store c.args.conn.
 
 pub returns-in-Err-clause-survives : goal.returns-in-Err-clause-survives
 returns-in-Err-clause-survives g c = survives_weaker _ _ _ _ (λ _ db may. add_message_commits (state g.S.Store c.args.conn.now) (state g.S.Store c.execute.new.self) c.args.maildrop.now c.args.class.now c.args.k c.args.octets c.schema-schema.ensures.live db may) (simp (to_z-of_z, c.ranges.k, c.ranges.octets) at c.execute.ensures.survives)
+
+pub returns-in-Err-clause-cause : goal.returns-in-Err-clause-cause
+returns-in-Err-clause-cause g c clean = simp (to_z-of_z, c.ranges.k, c.ranges.octets) at (c.in-Err.ensures.runs clean)

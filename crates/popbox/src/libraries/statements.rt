@@ -1,6 +1,6 @@
 //! Each statement once over a store in memory.
 
-use crate::{clerks, counts, deposits, mail, maildrops, meta, mode, rules, sheets, uses};
+use mailsql::{clerks, counts, deposits, mail, maildrops, meta, mode, rules, sheets, uses};
 use sqlite::{Connection, Error, ErrorCode, MemStore};
 use std::alloc::Global;
 use std::test::Fail;

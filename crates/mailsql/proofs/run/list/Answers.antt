@@ -1,0 +1,12 @@
+use Rattle.std.proofs.Common.{◌≡◌, inl, map}
+use Rattle.mailsql.proofs.ErrorLemmas.{reads, fails_to_read_as}
+use Rattle.mailsql.proofs.run.list.Goals as goal
+
+pub returns-in-Ok-clause-ok : goal.returns-in-Ok-clause-ok
+returns-in-Ok-clause-ok g c clean = reads _ _ _ _ _ _ c.as_slice.ensures.value (c.in-Ok.ensures.ok clean) c.read_all.result (λ all rows. all.items ≡ map g.T.Stored.stored rows) c.read_all.ensures.ok
+
+pub returns-in-Ok-clause-err : goal.returns-in-Ok-clause-err
+returns-in-Ok-clause-err g c clean = fails_to_read_as g.T.Stored.holds _ _ _ _ _ _ c.as_slice.ensures.value (c.in-Ok.ensures.ok clean) _ c.read_all.ensures.memory
+
+pub returns-in-Err-clause-err : goal.returns-in-Err-clause-err
+returns-in-Err-clause-err g c clean = inl (c.in-Err.ensures.err clean)
