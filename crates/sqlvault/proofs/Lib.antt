@@ -12,6 +12,7 @@ pub mod RemoveLemmas
 pub mod RuleLemmas
 pub mod TotalLemmas
 pub mod AdoptLemmas
+pub mod TakeLemmas
 pub mod RowFormLemmas
 pub mod NumberLemmas
 pub mod HasNumberLemmas

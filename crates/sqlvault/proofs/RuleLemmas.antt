@@ -32,6 +32,13 @@ some_same {A} o x y a b = ap value (sym a ∙ b)
     value (Some z) = z
     value None = x
 
+-- nothing was read, where something was there to read
+pub never : {A : Type 0} (P : Type 0) (o : Option A) (x : A) → o ≡ None → o ≡ Some x → P
+never P o x none some = absurd (none_some (sym none ∙ some))
+  where
+    none_some : {B : Type 0} {y : B} → (let n : Option B = None in n ≡ Some y) → ⊥
+    none_some e = cc
+
 pub name_read : (text : List ℕ) → is_name text ≡ true → name_of text ≡ Some text
 name_read text e = ap (λ b. cond b (Some text) None) e
 

@@ -1,9 +1,9 @@
 -- Where a connection stands after several queries.
-use Rattle.std.proofs.Common.{◌≡◌, sym, ap, subst, ◌∙◌, ◌≤◌, arith}
+use Rattle.std.proofs.Common.{◌≡◌, ◌⊎◌, inl, inr, sym, ap, subst, ◌∙◌, ◌≤◌, arith}
 use Rattle.sqlite_trees.specs.View.{doubt}
 use Rattle.sqlite.specs.Effect.{Database}
-use Rattle.sqlite.specs.State.{State, HasCleanDisk, IsUnchanged}
-use Rattle.mailsql.specs.Rows.{rows_in, IsKept, IsReady, HasTables}
+use Rattle.sqlite.specs.State.{State, HasCleanDisk, IsUnchanged, IsRolledBack, Survives}
+use Rattle.mailsql.specs.Rows.{rows_in, IsOurs, IsKept, IsReady, HasTables, IsUndone}
 use Rattle.sqlvault.specs.Stands.{LeavesNoMore}
 use Rattle.sqlvault.specs.Stored.{Stays}
 
@@ -30,6 +30,21 @@ stays_more old mid new a b = record {
   marks = b.marks ∙ a.marks;
 }
 
+-- after an error
+pub stays_or_back : (old new : State) → IsUndone old new → Stays old new ⊎ IsRolledBack old new
+stays_or_back old new (inl same) = inl (stays_unchanged old new same)
+stays_or_back old new (inr back) = inr back
+
+pub or_back_after : (old mid new : State) → Stays old mid → Stays mid new ⊎ IsRolledBack mid new → Stays old new ⊎ IsRolledBack old new
+or_back_after old mid new a (inl b) = inl (stays_more old mid new a b)
+or_back_after old mid new a (inr back) = inr (record {
+  was_open = λ o. a.was_open (back.was_open o);
+  undone = λ o. ((back.undone o).0 ∙ a.committed_is, (back.undone o).1 ∙ a.committed_is);
+  autocommit = back.autocommit;
+  unmarked = back.unmarked;
+  counts = record { changes = back.counts.changes ∙ a.counts.changes; last_rowid = back.counts.last_rowid ∙ a.counts.last_rowid };
+})
+
 pub tables_stay : (old new : State) → Stays old new → HasTables old → HasTables new
 tables_stay old new a h = λ o. subst IsKept (sym a.now_is) (h (a.was_open o))
 
@@ -44,6 +59,10 @@ clean_before old new more clean = omega (arith, more, clean)
 
 pub tables_of : (s : State) → IsReady s → HasTables s
 tables_of s ready = λ _. ready.1
+
+-- a query commits nothing
+pub asked : (old new : State) → HasCleanDisk new → Survives old new (λ _. IsOurs old.now → ⊥) → IsReady old → LeavesNoMore old new
+asked old new clean s ready db may = elim (s.crash clean db may) [ inl was ↦ was | inr none ↦ absurd (none ready.1.0) ]
 
 pub leaves_on : (old mid new : State) → Stays old mid → IsReady old → LeavesNoMore old mid → (IsReady mid → LeavesNoMore mid new) → LeavesNoMore old new
 leaves_on old mid new a ready first then db may = first db (then (a.stays_open ready.0, subst IsKept (sym a.now_is) ready.1) db may)

@@ -1,7 +1,9 @@
 //! A mail store over the tables of a connection.
-ghost use Rattle.std.specs.Prelude.{◌≡◌};
-ghost use Rattle.sqlite.specs.Held.{state};
+ghost use Rattle.std.specs.Prelude.{◌≡◌, IfOk, IfErr, IsTrue};
+ghost use Rattle.sqlite.specs.Held.{Held, state};
+ghost use Rattle.sqlite.specs.State.{HasCleanDisk};
 ghost use Rattle.vault.specs.Calls.{CountsFaults};
+ghost use Rattle.sqlvault.specs.Adopts.{IsAdopted, IsKnown, IsRefused, IsAdoptFault, LeavesEmptyToo};
 ghost use Rattle.sqlvault.specs.Refusals.{answer_of, count_after, open_fault};
 
 use crate::adopt::settle;
@@ -34,7 +36,7 @@ impl<S: Alter> Model for SqlVault<S> {
 }
 
 impl SqlVault<MemStore> {
-    ghost use Rattle.std.specs.Prelude.{◌⊎◌, IfOk, IfErr, IsTrue};
+    ghost use Rattle.std.specs.Prelude.{◌⊎◌};
     ghost use Rattle.vault.specs.declared.fault.VaultFault.TheVariants.{Store, NoMemory};
     ghost use Rattle.sqlite.specs.Steps.{over_memory};
     ghost use Rattle.vault.specs.Plain.{no_contents};
@@ -49,40 +51,36 @@ impl SqlVault<MemStore> {
         ensures refused { IfErr result (λ fault. (fault ≡ Store) ⊎ (fault ≡ NoMemory)) }
     {
         match Connection::open_in_memory(alloc) {
-            Ok(conn) => match SqlVault::adopt(alloc, conn) {
-                Ok(vault) => Ok(vault),
-                Err((fault, _memory)) => Err(fault),
-            },
+            Ok(conn) => take(alloc, conn),
             Err(_) => Err(VaultFault::NoMemory),
         }
     }
 }
 
 impl<S: Start> SqlVault<FileStore<FileFrom<S>>> {
-    ghost use Rattle.std.specs.Prelude.{IfOk, IfErr};
+    ghost use Rattle.std.specs.Prelude.{Err, codes};
+    ghost use Rattle.vault.specs.declared.fault.VaultFault.TheVariants.{Store};
     ghost use Rattle.sqlite_wal.specs.Files.{image_at};
-    ghost use Rattle.sqlvault.specs.Adopts.{OpensIn, IsAdoptFault};
+    ghost use Rattle.sqlvault.specs.Adopts.{OpensIn};
 
     /// Opens the database file at the path, or makes it, and adopts it as [`SqlVault::adopt`] does. `start` stands for what the files
     /// hold, as in `open_from` of `sqlite`. An empty file, or none, is a store without a table.
     ///
     /// Answers what `adopt` answers; [`VaultFault::NotOurs`] for a file that is no database, [`VaultFault::NoMemory`] where memory was
-    /// refused, and [`VaultFault::Store`] where the file can't be opened for another cause.
+    /// refused, and [`VaultFault::Store`] where the file can't be opened for another cause: so of the path `:memory:`, which is no file's.
     pub fn open(
         rt: &HostRuntime,
         path: &str,
         start: S,
     ) -> Result<SqlVault<FileStore<FileFrom<S>>>, VaultFault>
         ensures opened { OpensIn (image_at S.Start) result }
+        ensures memory { path.now ≡ codes ":memory:" → result ≡ Err Store }
         ensures kinds { IfErr result IsAdoptFault }
         ensures uncounted { IfOk result (λ vault. vault.faults ≡ 0) }
     {
         match Connection::open_from(rt, path, false, start) {
-            Ok(conn) => match SqlVault::adopt(rt.alloc(), conn) {
-                Ok(vault) => Ok(vault),
-                Err((fault, _conn)) => Err(fault),
-            },
-            Err((error, _)) => Err(open_fault(&error)),
+            Ok(conn) => take(rt.alloc(), conn),
+            Err(refused) => Err(unopened(refused)),
         }
     }
 }
@@ -98,12 +96,32 @@ fn open_fault(error: &Error) -> VaultFault
     }
 }
 
+/// Adopts a connection, and lets it go where it is refused.
+fn take<S: Alter + Drop>(alloc: Global, conn: Connection<S>) -> Result<SqlVault<S>, VaultFault>
+    ensures adopted { IfOk result (λ vault. HasCleanDisk (state S.Store vault.conn) → HasCleanDisk (state S.Store conn) × (IsKnown (state S.Store conn) → IsAdopted (state S.Store conn) (state S.Store vault.conn))) }
+    ensures stop { IfOk result (λ vault. HasCleanDisk (state S.Store vault.conn) → IsKnown (state S.Store conn) → IsTrue (state S.Store conn).is_open → LeavesEmptyToo (state S.Store conn) (state S.Store vault.conn)) }
+    ensures refused { IfErr result (λ fault. (last : Held _) × (HasCleanDisk (state S.Store last) → HasCleanDisk (state S.Store conn) × (IsKnown (state S.Store conn) → IsRefused (state S.Store conn) fault))) }
+    ensures kinds { IfErr result IsAdoptFault }
+    ensures uncounted { IfOk result (λ vault. vault.faults ≡ 0) }
+{
+    match SqlVault::adopt(alloc, conn) {
+        Ok(vault) => Ok(vault),
+        Err((fault, _conn)) => Err(fault),
+    }
+}
+
+/// Why an opening was refused, as the vault's fault; what came with the error is let go.
+fn unopened<T: Drop>(refused: (Error, T)) -> VaultFault
+    ensures { result ≡ open_fault refused.0 }
+{
+    open_fault(&refused.0)
+}
+
 impl<S: Alter> SqlVault<S> {
-    ghost use Rattle.std.specs.Prelude.{IfOk, IfErr, IsTrue, true, false, Err};
+    ghost use Rattle.std.specs.Prelude.{true, false, Err};
     ghost use Rattle.vault.specs.declared.fault.VaultFault.TheVariants.{NotOurs};
     ghost use Rattle.mailsql.specs.Names.{is_taken, has_marks};
-    ghost use Rattle.sqlite.specs.State.{HasCleanDisk};
-    ghost use Rattle.sqlvault.specs.Adopts.{Adopts, IsKnown, IsAdoptFault, StaysAs, LeavesEmptyToo};
+    ghost use Rattle.sqlvault.specs.Adopts.{Adopts, StaysAs};
     ghost use Rattle.sqlvault.specs.Opened.{conn_of, judged_in};
     ghost use Rattle.sqlvault.specs.Stands.{WasClean};
 
@@ -166,8 +184,6 @@ impl<S: Alter> SqlVault<S> {
 
 /// Each call over the tables of the connection.
 impl<S: Alter> Vault for SqlVault<S> {
-    ghost use Rattle.std.specs.Prelude.{IsTrue};
-    ghost use Rattle.sqlite.specs.State.{HasCleanDisk};
     ghost use Rattle.sqlvault.specs.Stands.{Holds};
     ghost use Rattle.sqlvault.specs.Stops.{MayHold, settled_at};
 

@@ -16,7 +16,7 @@ use std::alloc::Global;
 use vault::{Deposited, Head, MessageKey, Total, Vault, VaultFault};
 
 /// What the sample puts into a store.
-#[derive(Debug, Drop)]
+#[derive(Drop)]
 pub struct Stock {
     /// The name of the maildrop.
     pub maildrop: Name,
@@ -35,7 +35,7 @@ pub struct Stock {
 }
 
 /// What the calls answered that put the stock into the store.
-#[derive(Debug, Drop)]
+#[derive(Drop)]
 pub struct Filled {
     /// Whether the maildrop was new.
     pub maildrop_is_new: bool,
@@ -63,7 +63,7 @@ fn fill(vault: &mut SqlVault<MemStore>, stock: &Stock) -> Result<Filled, VaultFa
 }
 
 /// What the calls answered that look at the mail.
-#[derive(Debug, Drop)]
+#[derive(Drop)]
 pub struct Mail {
     /// Each maildrop with its messages and octets.
     pub totals: Vec<Total>,
@@ -102,7 +102,7 @@ fn look(
 }
 
 /// What the calls answered that look up the clerk and the policy.
-#[derive(Debug, Drop)]
+#[derive(Drop)]
 pub struct Kept {
     /// The clerk's credential.
     pub credential: Option<Credential>,
@@ -139,7 +139,7 @@ fn empty(
 }
 
 /// What `sample` saw.
-#[derive(Debug, Drop)]
+#[derive(Drop)]
 pub struct Seen {
     /// As the stock was put.
     pub filled: Filled,

@@ -1,4 +1,4 @@
-use Rattle.std.proofs.Common.{◌≡◌, true, Ok, sym, subst, ap, ◌∙◌, arith}
+use Rattle.std.proofs.Common.{◌≡◌, true, Ok, sym, subst, ap, ◌∙◌}
 use Rattle.std.specs.Prelude.{is_some}
 use Rattle.sqlite.specs.Held.{state}
 use Rattle.sqlite.specs.State.{HasCleanDisk, IsUnchanged}
@@ -11,6 +11,7 @@ use Rattle.sqlvault.proofs.HoldsLemmas.{holds_unchanged, holds_undone, holds_cha
 use Rattle.sqlvault.proofs.ClerkLemmas.{keeps_dropped, dropped}
 use Rattle.sqlvault.proofs.StopLemmas.{changed}
 use Rattle.sqlvault.specs.Keeps.{Keeps}
+use Rattle.sqlvault.proofs.StayLemmas.{clean_before}
 use Rattle.sqlvault.proofs.clerks.drop_clerk.Goals as goal
 
 pub returns-in-Ok-clause-done : goal.returns-in-Ok-clause-done
@@ -19,7 +20,7 @@ returns-in-Ok-clause-done g c held clean2 h0 =
     let s0 = state g.S.Store c.args.conn.now in
     let s1 = state g.S.Store c.has_clerk.new.conn in
     let s2 = state g.S.Store c.drop_clerk.new.conn in
-    let clean1 : HasCleanDisk s1 = omega (arith, c.drop_clerk.ensures.survives.clean) in
+    let clean1 : HasCleanDisk s1 = clean_before s1 s2 c.drop_clerk.ensures.survives.clean clean2 in
     let same1 : IsUnchanged s0 s1 = c.in-Ok-true.ensures.same clean1 h0.tables in
     let h1 = holds_unchanged s0 s1 held same1 h0 in
     let there : is_some (credential_in text held.clerks) ≡ true =
@@ -34,7 +35,7 @@ returns-in-Err-drop_clerk-clause-done g c held clean2 h0 =
     let s0 = state g.S.Store c.args.conn.now in
     let s1 = state g.S.Store c.has_clerk.new.conn in
     let s2 = state g.S.Store c.drop_clerk.new.conn in
-    let clean1 : HasCleanDisk s1 = omega (arith, c.drop_clerk.ensures.survives.clean) in
+    let clean1 : HasCleanDisk s1 = clean_before s1 s2 c.drop_clerk.ensures.survives.clean clean2 in
     let h1 = holds_unchanged s0 s1 held (c.in-Ok-true.ensures.same clean1 h0.tables) h0 in
     refused (Holds s2) held (with_clerks (without_clerk name held.clerks) held) (drop_clerk_result name held.clerks) c.in-Err-drop_clerk.error
     (holds_undone s1 s2 held (c.in-Err-drop_clerk.ensures.err clean2) h1)
@@ -45,7 +46,7 @@ returns-in-Ok-clause-stop g c held clean2 up h0 =
     let s0 = state g.S.Store c.args.conn.now in
     let s1 = state g.S.Store c.has_clerk.new.conn in
     let s2 = state g.S.Store c.drop_clerk.new.conn in
-    let clean1 : HasCleanDisk s1 = omega (arith, c.drop_clerk.ensures.survives.clean) in
+    let clean1 : HasCleanDisk s1 = clean_before s1 s2 c.drop_clerk.ensures.survives.clean clean2 in
     let same1 : IsUnchanged s0 s1 = c.in-Ok-true.ensures.same clean1 h0.tables in
     let h1 = holds_unchanged s0 s1 held same1 h0 in
     let there : is_some (credential_in text held.clerks) ≡ true =
@@ -62,7 +63,7 @@ returns-in-Err-drop_clerk-clause-stop g c held clean2 up h0 =
     let s0 = state g.S.Store c.args.conn.now in
     let s1 = state g.S.Store c.has_clerk.new.conn in
     let s2 = state g.S.Store c.drop_clerk.new.conn in
-    let clean1 : HasCleanDisk s1 = omega (arith, c.drop_clerk.ensures.survives.clean) in
+    let clean1 : HasCleanDisk s1 = clean_before s1 s2 c.drop_clerk.ensures.survives.clean clean2 in
     let same1 : IsUnchanged s0 s1 = c.in-Ok-true.ensures.same clean1 h0.tables in
     let h1 = holds_unchanged s0 s1 held same1 h0 in
     let there : is_some (credential_in text held.clerks) ≡ true =

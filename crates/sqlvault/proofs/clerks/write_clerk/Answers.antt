@@ -8,6 +8,7 @@ use Rattle.sqlvault.proofs.WithinLemmas.{begun, step_ok, part_err, ready, leaves
 use Rattle.sqlvault.proofs.ClerkLemmas.{row_made}
 use Rattle.sqlvault.proofs.StopLemmas.{before_or}
 use Rattle.sqlvault.specs.Keeps.{Keeps}
+use Rattle.sqlvault.proofs.StayLemmas.{clean_before}
 use Rattle.sqlvault.proofs.clerks.write_clerk.Goals as goal
 
 pub returns-in-Ok-put_clerk-clause-written : goal.returns-in-Ok-put_clerk-clause-written
@@ -20,7 +21,7 @@ returns-in-Ok-put_clerk-clause-written g c base after clean3 h keep =
     let s1 = state g.S.Store c.begin.new.conn in
     let s2 = state g.S.Store c.put_clerk.new.conn in
     let clean2 : HasCleanDisk s2 = c.end.ensures.clean clean3 in
-    let clean1 : HasCleanDisk s1 = omega (arith, c.put_clerk.ensures.survives.clean) in
+    let clean1 : HasCleanDisk s1 = clean_before s1 s2 c.put_clerk.ensures.survives.clean clean2 in
     let law0 : LeavesLast s0 = λ d o m. g.met.S.Store.settled c.args.conn.now.store d o m in
     let b = begun s0 s1 base clean1 law0 (c.in-Ok.ensures.ok clean1).1 c.begin.ensures.survives h in
     let a = step_ok (PutsClerk row) (λ from to. DropsClerk text from to ⊎ PutsClerk row from to) s1 s2 base b.0 clean2 (c.in-Ok-put_clerk.ensures.ok clean2) c.put_clerk.ensures.survives b.2 in
@@ -36,7 +37,7 @@ returns-in-Err-put_clerk-clause-written g c base after clean3 h keep =
     let s1 = state g.S.Store c.begin.new.conn in
     let s2 = state g.S.Store c.put_clerk.new.conn in
     let clean2 : HasCleanDisk s2 = omega (arith, c.undo.ensures.survives.clean) in
-    let clean1 : HasCleanDisk s1 = omega (arith, c.put_clerk.ensures.survives.clean) in
+    let clean1 : HasCleanDisk s1 = clean_before s1 s2 c.put_clerk.ensures.survives.clean clean2 in
     let law0 : LeavesLast s0 = λ d o m. g.met.S.Store.settled c.args.conn.now.store d o m in
     let b = begun s0 s1 base clean1 law0 (c.in-Ok.ensures.ok clean1).1 c.begin.ensures.survives h in
     let a = part_err (λ from to. DropsClerk text from to ⊎ PutsClerk row from to) s1 s2 base b.0 clean2
@@ -53,7 +54,7 @@ returns-in-Ok-put_clerk-clause-stop g c base after clean3 up h keep =
     let s1 = state g.S.Store c.begin.new.conn in
     let s2 = state g.S.Store c.put_clerk.new.conn in
     let clean2 : HasCleanDisk s2 = c.end.ensures.clean clean3 in
-    let clean1 : HasCleanDisk s1 = omega (arith, c.put_clerk.ensures.survives.clean) in
+    let clean1 : HasCleanDisk s1 = clean_before s1 s2 c.put_clerk.ensures.survives.clean clean2 in
     let law0 : LeavesLast s0 = λ d o m. g.met.S.Store.settled c.args.conn.now.store d o m in
     let b = begun s0 s1 base clean1 law0 (c.in-Ok.ensures.ok clean1).1 c.begin.ensures.survives h in
     let a = step_ok (PutsClerk row) (λ from to. DropsClerk text from to ⊎ PutsClerk row from to) s1 s2 base b.0 clean2 (c.in-Ok-put_clerk.ensures.ok clean2) c.put_clerk.ensures.survives b.2 in
@@ -69,7 +70,7 @@ returns-in-Err-put_clerk-clause-stop g c base after clean3 up h keep =
     let s1 = state g.S.Store c.begin.new.conn in
     let s2 = state g.S.Store c.put_clerk.new.conn in
     let clean2 : HasCleanDisk s2 = omega (arith, c.undo.ensures.survives.clean) in
-    let clean1 : HasCleanDisk s1 = omega (arith, c.put_clerk.ensures.survives.clean) in
+    let clean1 : HasCleanDisk s1 = clean_before s1 s2 c.put_clerk.ensures.survives.clean clean2 in
     let law0 : LeavesLast s0 = λ d o m. g.met.S.Store.settled c.args.conn.now.store d o m in
     let b = begun s0 s1 base clean1 law0 (c.in-Ok.ensures.ok clean1).1 c.begin.ensures.survives h in
     let a = part_err (λ from to. DropsClerk text from to ⊎ PutsClerk row from to) s1 s2 base b.0 clean2

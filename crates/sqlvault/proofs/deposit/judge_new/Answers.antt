@@ -6,6 +6,8 @@ use Rattle.vault.specs.Calls.{present_in}
 use Rattle.mailsql.specs.Rows.{rows_in, is_in}
 use Rattle.sqlvault.proofs.HoldsLemmas.{seen, holds_unchanged, holds_undone}
 use Rattle.sqlvault.proofs.DepositLemmas.{present_seen, full_of_messages, accepted_next}
+use Rattle.sqlvault.proofs.StayLemmas.{clean_before}
+use Rattle.sqlvault.proofs.StopLemmas.{not_own, looked}
 use Rattle.sqlvault.proofs.deposit.judge_new.Goals as goal
 
 pub returns-in-Err-clause-held : goal.returns-in-Err-clause-held
@@ -61,3 +63,89 @@ pub returns-in-Err-find_before-clause-stop : goal.returns-in-Err-find_before-cla
 returns-in-Err-find_before-clause-stop g c k clean up h =
     let same = c.in-Ok.ensures.same (c.find_before.ensures.clean clean) h.tables in
     c.find_before.ensures.stop k clean same.0.is_open (holds_unchanged (state g.S.Store c.args.conn.now) (state g.S.Store c.message_count.new.conn) k same h)
+
+pub returns-in-Err-clause-clean : goal.returns-in-Err-clause-clean
+returns-in-Err-clause-clean g c clean1 =
+    let s0 = state g.S.Store c.args.conn.now in
+    let s1 = state g.S.Store c.message_count.new.conn in
+    clean_before s0 s1 c.message_count.ensures.survives.clean clean1
+
+pub returns-in-Err-clause-up : goal.returns-in-Err-clause-up
+returns-in-Err-clause-up g c k clean1 up0 h0 own = absurd (not_own (Unit {0}) c.in-Err.error own)
+
+pub returns-in-Err-clause-stop : goal.returns-in-Err-clause-stop
+returns-in-Err-clause-stop g c k clean1 up0 h0 =
+    let s0 = state g.S.Store c.args.conn.now in
+    let s1 = state g.S.Store c.message_count.new.conn in
+    looked s0 s1 k (λ d o m. g.met.S.Store.settled c.args.conn.now.store d o m) clean1 c.message_count.ensures.survives up0 h0
+
+pub returns-then-present-ge-MAX_MESSAGES-clause-clean : goal.returns-then-present-ge-MAX_MESSAGES-clause-clean
+returns-then-present-ge-MAX_MESSAGES-clause-clean g c clean1 =
+    let s0 = state g.S.Store c.args.conn.now in
+    let s1 = state g.S.Store c.message_count.new.conn in
+    clean_before s0 s1 c.message_count.ensures.survives.clean clean1
+
+pub returns-then-present-ge-MAX_MESSAGES-clause-up : goal.returns-then-present-ge-MAX_MESSAGES-clause-up
+returns-then-present-ge-MAX_MESSAGES-clause-up g c k clean1 up0 h0 own = (c.in-Ok.ensures.same clean1 h0.tables).0.is_open
+
+pub returns-then-present-ge-MAX_MESSAGES-clause-stop : goal.returns-then-present-ge-MAX_MESSAGES-clause-stop
+returns-then-present-ge-MAX_MESSAGES-clause-stop g c k clean1 up0 h0 =
+    let s0 = state g.S.Store c.args.conn.now in
+    let s1 = state g.S.Store c.message_count.new.conn in
+    looked s0 s1 k (λ d o m. g.met.S.Store.settled c.args.conn.now.store d o m) clean1 c.message_count.ensures.survives up0 h0
+
+pub returns-in-Err-find_before-clause-clean : goal.returns-in-Err-find_before-clause-clean
+returns-in-Err-find_before-clause-clean g c clean2 =
+    let s0 = state g.S.Store c.args.conn.now in
+    let s1 = state g.S.Store c.message_count.new.conn in
+    let clean1 = c.find_before.ensures.clean clean2 in
+    clean_before s0 s1 c.message_count.ensures.survives.clean clean1
+
+pub returns-in-Err-find_before-clause-up : goal.returns-in-Err-find_before-clause-up
+returns-in-Err-find_before-clause-up g c k clean2 up0 h0 own = absurd (not_own (Unit {0}) c.in-Err-find_before.error own)
+
+pub returns-then-before-ge-MAX_DEPOSITS-clause-clean : goal.returns-then-before-ge-MAX_DEPOSITS-clause-clean
+returns-then-before-ge-MAX_DEPOSITS-clause-clean g c clean2 =
+    let s0 = state g.S.Store c.args.conn.now in
+    let s1 = state g.S.Store c.message_count.new.conn in
+    let clean1 = c.find_before.ensures.clean clean2 in
+    clean_before s0 s1 c.message_count.ensures.survives.clean clean1
+
+pub returns-then-before-ge-MAX_DEPOSITS-clause-up : goal.returns-then-before-ge-MAX_DEPOSITS-clause-up
+returns-then-before-ge-MAX_DEPOSITS-clause-up g c k clean2 up0 h0 own =
+    let s0 = state g.S.Store c.args.conn.now in
+    let s1 = state g.S.Store c.message_count.new.conn in
+    let clean1 = c.find_before.ensures.clean clean2 in
+    let h1 = holds_unchanged s0 s1 k (c.in-Ok.ensures.same clean1 h0.tables) h0 in
+    c.in-Ok-find_before.ensures.up k clean2 (c.in-Ok.ensures.same clean1 h0.tables).0.is_open h1
+
+pub returns-then-before-ge-MAX_DEPOSITS-clause-stop : goal.returns-then-before-ge-MAX_DEPOSITS-clause-stop
+returns-then-before-ge-MAX_DEPOSITS-clause-stop g c k clean2 up0 h0 =
+    let s0 = state g.S.Store c.args.conn.now in
+    let s1 = state g.S.Store c.message_count.new.conn in
+    let clean1 = c.find_before.ensures.clean clean2 in
+    let h1 = holds_unchanged s0 s1 k (c.in-Ok.ensures.same clean1 h0.tables) h0 in
+    c.find_before.ensures.stop k clean2 (c.in-Ok.ensures.same clean1 h0.tables).0.is_open h1
+
+pub returns-clause-clean : goal.returns-clause-clean
+returns-clause-clean g c clean2 =
+    let s0 = state g.S.Store c.args.conn.now in
+    let s1 = state g.S.Store c.message_count.new.conn in
+    let clean1 = c.find_before.ensures.clean clean2 in
+    clean_before s0 s1 c.message_count.ensures.survives.clean clean1
+
+pub returns-clause-up : goal.returns-clause-up
+returns-clause-up g c k clean2 up0 h0 own =
+    let s0 = state g.S.Store c.args.conn.now in
+    let s1 = state g.S.Store c.message_count.new.conn in
+    let clean1 = c.find_before.ensures.clean clean2 in
+    let h1 = holds_unchanged s0 s1 k (c.in-Ok.ensures.same clean1 h0.tables) h0 in
+    c.in-Ok-find_before.ensures.up k clean2 (c.in-Ok.ensures.same clean1 h0.tables).0.is_open h1
+
+pub returns-clause-stop : goal.returns-clause-stop
+returns-clause-stop g c k clean2 up0 h0 =
+    let s0 = state g.S.Store c.args.conn.now in
+    let s1 = state g.S.Store c.message_count.new.conn in
+    let clean1 = c.find_before.ensures.clean clean2 in
+    let h1 = holds_unchanged s0 s1 k (c.in-Ok.ensures.same clean1 h0.tables) h0 in
+    c.find_before.ensures.stop k clean2 (c.in-Ok.ensures.same clean1 h0.tables).0.is_open h1

@@ -5,6 +5,7 @@ use Rattle.sqlite.specs.State.{HasCleanDisk}
 use Rattle.mailsql.specs.Changes.{AddsMessage, Arrives, AddsSheets, AddsSomeSheets}
 use Rattle.sqlvault.proofs.WithinLemmas.{step_ok}
 use Rattle.sqlvault.proofs.DepositLemmas.{message_put}
+use Rattle.sqlvault.proofs.StayLemmas.{clean_before}
 use Rattle.sqlvault.proofs.deposit.put_message.Goals as goal
 
 pub returns-in-Ok-add_sheets-clause-made : goal.returns-in-Ok-add_sheets-clause-made
@@ -19,7 +20,7 @@ returns-in-Ok-add_sheets-clause-made g c clean2 base rows w =
     let k = to_z w64 c.args.receipt.now.k in
     let octets = to_z w64 c.octets-octets.result in
     let text = c.args.text.now in
-    let clean1 : HasCleanDisk s1 = omega (arith, c.add_sheets.ensures.survives.clean) in
+    let clean1 : HasCleanDisk s1 = clean_before s1 s2 c.add_sheets.ensures.survives.clean clean2 in
     let fits : SFits w64 key = search rules in
     let within = c.octets-octets.ensures.kept.within in
     let size = c.octets-octets.ensures.value in

@@ -1,4 +1,4 @@
-use Rattle.std.proofs.Common.{◌∙◌, arith}
+use Rattle.std.proofs.Common.{◌∙◌}
 use Rattle.sqlite.specs.Held.{state}
 use Rattle.sqlite.specs.State.{HasCleanDisk, IsUnchanged}
 use Rattle.vault.specs.Changes.{kept_in}
@@ -6,7 +6,8 @@ use Rattle.mailsql.specs.Rows.{rows_in}
 use Rattle.sqlvault.specs.Stands.{Holds}
 use Rattle.sqlvault.proofs.HoldsLemmas.{seen, has_tables, holds_unchanged, holds_undone, refused}
 use Rattle.sqlvault.proofs.HeadLemmas.{have_rows, name_there, shown_heads, unread_heads}
-use Rattle.sqlvault.proofs.StopLemmas.{looked}
+use Rattle.sqlvault.proofs.StopLemmas.{looked, not_own}
+use Rattle.sqlvault.proofs.StayLemmas.{clean_before}
 use Rattle.sqlvault.proofs.mail.heads.Goals as goal
 
 pub returns-in_ok-read_heads-in-Ok-clause-done : goal.returns-in_ok-read_heads-in-Ok-clause-done
@@ -14,7 +15,7 @@ returns-in_ok-read_heads-in-Ok-clause-done g c base clean2 h =
     let s0 = state g.S.Store c.args.conn.now in
     let s1 = state g.S.Store c.has_maildrop.new.conn in
     let s2 = state g.S.Store c.heads.new.conn in
-    let clean1 : HasCleanDisk s1 = omega (arith, c.heads.ensures.survives.clean) in
+    let clean1 : HasCleanDisk s1 = clean_before s1 s2 c.heads.ensures.survives.clean clean2 in
     let same1 : IsUnchanged s0 s1 = c.in-Ok-true.ensures.same clean1 (has_tables s0 base h) in
     let h1 = holds_unchanged s0 s1 base same1 h in
     let same2 : IsUnchanged s1 s2 = c.in-Ok.ensures.same clean2 (has_tables s1 base h1) in
@@ -30,7 +31,7 @@ returns-in_err-read_heads-in-Ok-clause-done g c base clean2 h =
     let s0 = state g.S.Store c.args.conn.now in
     let s1 = state g.S.Store c.has_maildrop.new.conn in
     let s2 = state g.S.Store c.heads.new.conn in
-    let clean1 : HasCleanDisk s1 = omega (arith, c.heads.ensures.survives.clean) in
+    let clean1 : HasCleanDisk s1 = clean_before s1 s2 c.heads.ensures.survives.clean clean2 in
     let same1 : IsUnchanged s0 s1 = c.in-Ok-true.ensures.same clean1 (has_tables s0 base h) in
     let h1 = holds_unchanged s0 s1 base same1 h in
     let same2 : IsUnchanged s1 s2 = c.in-Ok.ensures.same clean2 (has_tables s1 base h1) in
@@ -41,7 +42,7 @@ returns-in-Err-heads-clause-done g c base clean2 h =
     let s0 = state g.S.Store c.args.conn.now in
     let s1 = state g.S.Store c.has_maildrop.new.conn in
     let s2 = state g.S.Store c.heads.new.conn in
-    let clean1 : HasCleanDisk s1 = omega (arith, c.heads.ensures.survives.clean) in
+    let clean1 : HasCleanDisk s1 = clean_before s1 s2 c.heads.ensures.survives.clean clean2 in
     let same1 : IsUnchanged s0 s1 = c.in-Ok-true.ensures.same clean1 (has_tables s0 base h) in
     let h1 = holds_unchanged s0 s1 base same1 h in
     refused (Holds s2) base base _ c.in-Err-heads.error (holds_undone s1 s2 base (c.in-Err-heads.ensures.err clean2 (has_tables s1 base h1)) h1)
@@ -51,6 +52,99 @@ returns-in-Err-heads-clause-stop g c base clean2 up h =
     let s0 = state g.S.Store c.args.conn.now in
     let s1 = state g.S.Store c.has_maildrop.new.conn in
     let s2 = state g.S.Store c.heads.new.conn in
-    let clean1 : HasCleanDisk s1 = omega (arith, c.heads.ensures.survives.clean) in
+    let clean1 : HasCleanDisk s1 = clean_before s1 s2 c.heads.ensures.survives.clean clean2 in
     let same1 : IsUnchanged s0 s1 = c.in-Ok-true.ensures.same clean1 (has_tables s0 base h) in
     looked s1 s2 base (λ d o m. g.met.S.Store.settled c.has_maildrop.new.conn.store d o m) clean2 c.heads.ensures.survives same1.0.is_open (holds_unchanged s0 s1 base same1 h)
+
+pub returns-in-Ok-false-clause-clean : goal.returns-in-Ok-false-clause-clean
+returns-in-Ok-false-clause-clean g c clean1 =
+    let s0 = state g.S.Store c.args.conn.now in
+    let s1 = state g.S.Store c.has_maildrop.new.conn in
+    clean_before s0 s1 c.has_maildrop.ensures.survives.clean clean1
+
+pub returns-in-Ok-false-clause-up : goal.returns-in-Ok-false-clause-up
+returns-in-Ok-false-clause-up g c k clean1 up0 h0 own = (c.in-Ok-false.ensures.same clean1 h0.tables).0.is_open
+
+pub returns-in-Ok-false-clause-stop : goal.returns-in-Ok-false-clause-stop
+returns-in-Ok-false-clause-stop g c k clean1 up0 h0 =
+    let s0 = state g.S.Store c.args.conn.now in
+    let s1 = state g.S.Store c.has_maildrop.new.conn in
+    looked s0 s1 k (λ d o m. g.met.S.Store.settled c.args.conn.now.store d o m) clean1 c.has_maildrop.ensures.survives up0 h0
+
+pub returns-in-Err-clause-clean : goal.returns-in-Err-clause-clean
+returns-in-Err-clause-clean g c clean1 =
+    let s0 = state g.S.Store c.args.conn.now in
+    let s1 = state g.S.Store c.has_maildrop.new.conn in
+    clean_before s0 s1 c.has_maildrop.ensures.survives.clean clean1
+
+pub returns-in-Err-clause-up : goal.returns-in-Err-clause-up
+returns-in-Err-clause-up g c k clean1 up0 h0 own = absurd (not_own (Unit {0}) c.in-Err.error own)
+
+pub returns-in-Err-clause-stop : goal.returns-in-Err-clause-stop
+returns-in-Err-clause-stop g c k clean1 up0 h0 =
+    let s0 = state g.S.Store c.args.conn.now in
+    let s1 = state g.S.Store c.has_maildrop.new.conn in
+    looked s0 s1 k (λ d o m. g.met.S.Store.settled c.args.conn.now.store d o m) clean1 c.has_maildrop.ensures.survives up0 h0
+
+pub returns-in_ok-read_heads-in-Ok-clause-clean : goal.returns-in_ok-read_heads-in-Ok-clause-clean
+returns-in_ok-read_heads-in-Ok-clause-clean g c clean2 =
+    let s0 = state g.S.Store c.args.conn.now in
+    let s1 = state g.S.Store c.has_maildrop.new.conn in
+    let s2 = state g.S.Store c.heads.new.conn in
+    let clean1 : HasCleanDisk s1 = clean_before s1 s2 c.heads.ensures.survives.clean clean2 in
+    clean_before s0 s1 c.has_maildrop.ensures.survives.clean clean1
+
+pub returns-in_ok-read_heads-in-Ok-clause-up : goal.returns-in_ok-read_heads-in-Ok-clause-up
+returns-in_ok-read_heads-in-Ok-clause-up g c k clean2 up0 h0 own =
+    let s0 = state g.S.Store c.args.conn.now in
+    let s1 = state g.S.Store c.has_maildrop.new.conn in
+    let s2 = state g.S.Store c.heads.new.conn in
+    let clean1 : HasCleanDisk s1 = clean_before s1 s2 c.heads.ensures.survives.clean clean2 in
+    let h1 = holds_unchanged s0 s1 k (c.in-Ok-true.ensures.same clean1 h0.tables) h0 in
+    (c.in-Ok.ensures.same clean2 h1.tables).0.is_open
+
+pub returns-in_ok-read_heads-in-Ok-clause-stop : goal.returns-in_ok-read_heads-in-Ok-clause-stop
+returns-in_ok-read_heads-in-Ok-clause-stop g c k clean2 up0 h0 =
+    let s0 = state g.S.Store c.args.conn.now in
+    let s1 = state g.S.Store c.has_maildrop.new.conn in
+    let s2 = state g.S.Store c.heads.new.conn in
+    let clean1 : HasCleanDisk s1 = clean_before s1 s2 c.heads.ensures.survives.clean clean2 in
+    let h1 = holds_unchanged s0 s1 k (c.in-Ok-true.ensures.same clean1 h0.tables) h0 in
+    looked s1 s2 k (λ d o m. g.met.S.Store.settled c.has_maildrop.new.conn.store d o m) clean2 c.heads.ensures.survives (c.in-Ok-true.ensures.same clean1 h0.tables).0.is_open h1
+
+pub returns-in_err-read_heads-in-Ok-clause-clean : goal.returns-in_err-read_heads-in-Ok-clause-clean
+returns-in_err-read_heads-in-Ok-clause-clean g c clean2 =
+    let s0 = state g.S.Store c.args.conn.now in
+    let s1 = state g.S.Store c.has_maildrop.new.conn in
+    let s2 = state g.S.Store c.heads.new.conn in
+    let clean1 : HasCleanDisk s1 = clean_before s1 s2 c.heads.ensures.survives.clean clean2 in
+    clean_before s0 s1 c.has_maildrop.ensures.survives.clean clean1
+
+pub returns-in_err-read_heads-in-Ok-clause-up : goal.returns-in_err-read_heads-in-Ok-clause-up
+returns-in_err-read_heads-in-Ok-clause-up g c k clean2 up0 h0 own =
+    let s0 = state g.S.Store c.args.conn.now in
+    let s1 = state g.S.Store c.has_maildrop.new.conn in
+    let s2 = state g.S.Store c.heads.new.conn in
+    let clean1 : HasCleanDisk s1 = clean_before s1 s2 c.heads.ensures.survives.clean clean2 in
+    let h1 = holds_unchanged s0 s1 k (c.in-Ok-true.ensures.same clean1 h0.tables) h0 in
+    (c.in-Ok.ensures.same clean2 h1.tables).0.is_open
+
+pub returns-in_err-read_heads-in-Ok-clause-stop : goal.returns-in_err-read_heads-in-Ok-clause-stop
+returns-in_err-read_heads-in-Ok-clause-stop g c k clean2 up0 h0 =
+    let s0 = state g.S.Store c.args.conn.now in
+    let s1 = state g.S.Store c.has_maildrop.new.conn in
+    let s2 = state g.S.Store c.heads.new.conn in
+    let clean1 : HasCleanDisk s1 = clean_before s1 s2 c.heads.ensures.survives.clean clean2 in
+    let h1 = holds_unchanged s0 s1 k (c.in-Ok-true.ensures.same clean1 h0.tables) h0 in
+    looked s1 s2 k (λ d o m. g.met.S.Store.settled c.has_maildrop.new.conn.store d o m) clean2 c.heads.ensures.survives (c.in-Ok-true.ensures.same clean1 h0.tables).0.is_open h1
+
+pub returns-in-Err-heads-clause-clean : goal.returns-in-Err-heads-clause-clean
+returns-in-Err-heads-clause-clean g c clean2 =
+    let s0 = state g.S.Store c.args.conn.now in
+    let s1 = state g.S.Store c.has_maildrop.new.conn in
+    let s2 = state g.S.Store c.heads.new.conn in
+    let clean1 : HasCleanDisk s1 = clean_before s1 s2 c.heads.ensures.survives.clean clean2 in
+    clean_before s0 s1 c.has_maildrop.ensures.survives.clean clean1
+
+pub returns-in-Err-heads-clause-up : goal.returns-in-Err-heads-clause-up
+returns-in-Err-heads-clause-up g c k clean2 up0 h0 own = absurd (not_own (Unit {0}) c.in-Err-heads.error own)

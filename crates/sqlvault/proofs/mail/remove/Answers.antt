@@ -1,4 +1,4 @@
-use Rattle.std.proofs.Common.{refl, arith, Ok}
+use Rattle.std.proofs.Common.{refl, Ok}
 use Rattle.sqlite.specs.Held.{state}
 use Rattle.sqlite.specs.State.{HasCleanDisk}
 use Rattle.sqlvault.specs.Stands.{Holds}
@@ -9,6 +9,7 @@ use Rattle.sqlvault.proofs.StopLemmas.{or_said, before_or}
 use Rattle.sqlvault.specs.Keeps.{Keeps}
 use Rattle.vault.specs.Changes.{without_keys, with_messages}
 use Rattle.vault.specs.Calls.{AreRemoved}
+use Rattle.sqlvault.proofs.StayLemmas.{clean_before}
 use Rattle.sqlvault.proofs.mail.remove.Goals as goal
 
 pub returns-in-Err-remove_all-clause-done : goal.returns-in-Err-remove_all-clause-done
@@ -17,7 +18,7 @@ returns-in-Err-remove_all-clause-done g c base clean3 h =
     let s1 = state g.S.Store c.begin.new.conn in
     let s2 = state g.S.Store c.remove_all.new.conn in
     let s3 = state g.S.Store c.undo.new.conn in
-    let clean2 : HasCleanDisk s2 = omega (arith, c.undo.ensures.survives.clean) in
+    let clean2 : HasCleanDisk s2 = clean_before s2 s3 c.undo.ensures.survives.clean clean3 in
     let clean1 : HasCleanDisk s1 = c.remove_all.ensures.clean clean2 in
     let law0 : LeavesLast s0 = λ d o m. g.met.S.Store.settled c.args.conn.now.store d o m in
     let w1 = begun s0 s1 base clean1 law0 (c.in-Ok.ensures.ok clean1).1 c.begin.ensures.survives h in
@@ -87,7 +88,7 @@ returns-in-Err-remove_all-clause-stop g c base clean3 up h =
     let s1 = state g.S.Store c.begin.new.conn in
     let s2 = state g.S.Store c.remove_all.new.conn in
     let s3 = state g.S.Store c.undo.new.conn in
-    let clean2 : HasCleanDisk s2 = omega (arith, c.undo.ensures.survives.clean) in
+    let clean2 : HasCleanDisk s2 = clean_before s2 s3 c.undo.ensures.survives.clean clean3 in
     let clean1 : HasCleanDisk s1 = c.remove_all.ensures.clean clean2 in
     let law0 : LeavesLast s0 = λ d o m. g.met.S.Store.settled c.args.conn.now.store d o m in
     let w1 = begun s0 s1 base clean1 law0 (c.in-Ok.ensures.ok clean1).1 c.begin.ensures.survives h in

@@ -6,6 +6,7 @@ use Rattle.mailsql.specs.Changes.{RemovesMessage}
 use Rattle.sqlvault.specs.Keeps.{row_key}
 use Rattle.sqlvault.proofs.WithinLemmas.{step_ok, step_err}
 use Rattle.sqlvault.proofs.RemoveLemmas.{none_removed, one_more}
+use Rattle.sqlvault.proofs.StayLemmas.{clean_before}
 use Rattle.sqlvault.proofs.mail.remove_all.Goals as goal
 
 pub loop-key-init : goal.loop-key-init
@@ -21,9 +22,9 @@ loop-key-preserved g c =
     let key : to_z w64 (of_z w64 c.cast_signed.result) ≡ row_key number = to_z-of_z sfits ∙ c.cast_signed.ensures ∙ ap (to_z w64) c.number.ensures in
     let survives = rw (key, c.as_bytes.ensures.value) at c.remove_message.ensures.survives in
     let fits : number < 2 ^ 64 = let e = c.number.ensures in let r : c.number.result < 2 ^ 64 = search rules in omega (arith, e, r) in (
-      (λ clean2. let clean1 : HasCleanDisk s1 = omega (arith, c.remove_message.ensures.survives.clean) in c.loop-key.invariant.0 clean1),
+      (λ clean2. let clean1 : HasCleanDisk s1 = clean_before s1 s2 c.remove_message.ensures.survives.clean clean2 in c.loop-key.invariant.0 clean1),
       λ clean2 base rows w.
-          let clean1 : HasCleanDisk s1 = omega (arith, c.remove_message.ensures.survives.clean) in
+          let clean1 : HasCleanDisk s1 = clean_before s1 s2 c.remove_message.ensures.survives.clean clean2 in
           let r = c.loop-key.invariant.1 clean1 base rows w in
           let a = step_ok (RemovesMessage (row_key number) d) (RemovesMessage (row_key number) d) s1 s2 base r.0 clean2
           (λ ready. rw (key, c.as_bytes.ensures.value) at (c.in-Ok.ensures.ok clean2 ready)) survives r.2 in
@@ -39,7 +40,7 @@ returns-in-Err-clause-made g c clean2 base rows w =
     let sfits : SFits w64 c.cast_signed.result = search rules in
     let key : to_z w64 (of_z w64 c.cast_signed.result) ≡ row_key number = to_z-of_z sfits ∙ c.cast_signed.ensures ∙ ap (to_z w64) c.number.ensures in
     let survives = rw (key, c.as_bytes.ensures.value) at c.remove_message.ensures.survives in
-    let clean1 : HasCleanDisk s1 = omega (arith, c.remove_message.ensures.survives.clean) in
+    let clean1 : HasCleanDisk s1 = clean_before s1 s2 c.remove_message.ensures.survives.clean clean2 in
     let r = c.loop-key.invariant.1 clean1 base rows w in
     step_err (RemovesMessage (row_key number) d) s1 s2 base r.0 clean2 (c.in-Err.ensures.err clean2) survives r.2
 

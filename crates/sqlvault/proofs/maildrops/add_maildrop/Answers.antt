@@ -1,4 +1,4 @@
-use Rattle.std.proofs.Common.{◌≡◌, ◌<◌, [], ◌∷◌, ◌++◌, min, length, true, false, Ok, Err, sym, subst, ◌∙◌, arith, Bool}
+use Rattle.std.proofs.Common.{◌≡◌, ◌<◌, [], ◌∷◌, ◌++◌, min, length, true, false, Ok, Err, sym, subst, ◌∙◌, arith, Bool, inl}
 use Rattle.sqlite.specs.State.{HasCleanDisk, IsUnchanged}
 use Rattle.sqlite.specs.Held.{state}
 use Rattle.creds.specs.Names.{is_name}
@@ -11,8 +11,9 @@ use Rattle.mailsql.specs.Changes.{AddsMaildrop}
 use Rattle.sqlvault.specs.Stands.{Holds}
 use Rattle.sqlvault.proofs.HoldsLemmas.{seen, holds_unchanged, holds_undone, holds_changed, refused}
 use Rattle.sqlvault.proofs.MaildropLemmas.{there_is, count_is, keeps_added, full, added}
-use Rattle.sqlvault.proofs.StopLemmas.{changed}
+use Rattle.sqlvault.proofs.StopLemmas.{changed, looked, not_own}
 use Rattle.sqlvault.specs.Keeps.{Keeps}
+use Rattle.sqlvault.proofs.StayLemmas.{clean_before}
 use Rattle.sqlvault.proofs.maildrops.add_maildrop.Goals as goal
 
 pub returns-then-count-ge-MAX_MAILDROPS-clause-done : goal.returns-then-count-ge-MAX_MAILDROPS-clause-done
@@ -21,7 +22,7 @@ returns-then-count-ge-MAX_MAILDROPS-clause-done g c held clean2 h0 =
     let s0 = state g.S.Store c.args.conn.now in
     let s1 = state g.S.Store c.has_maildrop.new.conn in
     let s2 = state g.S.Store c.maildrop_count.new.conn in
-    let clean1 : HasCleanDisk s1 = omega (arith, c.maildrop_count.ensures.survives.clean) in
+    let clean1 : HasCleanDisk s1 = clean_before s1 s2 c.maildrop_count.ensures.survives.clean clean2 in
     let same1 : IsUnchanged s0 s1 = c.in-Ok-false.ensures.same clean1 h0.tables in
     let h1 = holds_unchanged s0 s1 held same1 h0 in
     let same2 : IsUnchanged s1 s2 = c.in-Ok.ensures.same clean2 h1.tables in
@@ -38,7 +39,7 @@ returns-in-Err-maildrop_count-clause-done g c held clean2 h0 =
     let s0 = state g.S.Store c.args.conn.now in
     let s1 = state g.S.Store c.has_maildrop.new.conn in
     let s2 = state g.S.Store c.maildrop_count.new.conn in
-    let clean1 : HasCleanDisk s1 = omega (arith, c.maildrop_count.ensures.survives.clean) in
+    let clean1 : HasCleanDisk s1 = clean_before s1 s2 c.maildrop_count.ensures.survives.clean clean2 in
     let h1 = holds_unchanged s0 s1 held (c.in-Ok-false.ensures.same clean1 h0.tables) h0 in
     refused (Holds s2) held (with_maildrops (with_maildrop c.args.name.now held.maildrops) held) (put_result (put_maildrop_answer c.args.name.now held.maildrops)) c.in-Err-maildrop_count.error
     (holds_undone s1 s2 held (c.in-Err-maildrop_count.ensures.err clean2 h1.tables) h1)
@@ -51,8 +52,8 @@ returns-in-Ok-add_maildrop-clause-done g c held clean3 h0 =
     let s1 = state g.S.Store c.has_maildrop.new.conn in
     let s2 = state g.S.Store c.maildrop_count.new.conn in
     let s3 = state g.S.Store c.add_maildrop.new.conn in
-    let clean2 : HasCleanDisk s2 = omega (arith, c.add_maildrop.ensures.survives.clean) in
-    let clean1 : HasCleanDisk s1 = omega (arith, c.maildrop_count.ensures.survives.clean) in
+    let clean2 : HasCleanDisk s2 = clean_before s2 s3 c.add_maildrop.ensures.survives.clean clean3 in
+    let clean1 : HasCleanDisk s1 = clean_before s1 s2 c.maildrop_count.ensures.survives.clean clean2 in
     let same1 : IsUnchanged s0 s1 = c.in-Ok-false.ensures.same clean1 h0.tables in
     let h1 = holds_unchanged s0 s1 held same1 h0 in
     let same2 : IsUnchanged s1 s2 = c.in-Ok.ensures.same clean2 h1.tables in
@@ -73,8 +74,8 @@ returns-in-Err-add_maildrop-clause-done g c held clean3 h0 =
     let s1 = state g.S.Store c.has_maildrop.new.conn in
     let s2 = state g.S.Store c.maildrop_count.new.conn in
     let s3 = state g.S.Store c.add_maildrop.new.conn in
-    let clean2 : HasCleanDisk s2 = omega (arith, c.add_maildrop.ensures.survives.clean) in
-    let clean1 : HasCleanDisk s1 = omega (arith, c.maildrop_count.ensures.survives.clean) in
+    let clean2 : HasCleanDisk s2 = clean_before s2 s3 c.add_maildrop.ensures.survives.clean clean3 in
+    let clean1 : HasCleanDisk s1 = clean_before s1 s2 c.maildrop_count.ensures.survives.clean clean2 in
     let h1 = holds_unchanged s0 s1 held (c.in-Ok-false.ensures.same clean1 h0.tables) h0 in
     let h2 = holds_unchanged s1 s2 held (c.in-Ok.ensures.same clean2 h1.tables) h1 in
     refused (Holds s3) held (with_maildrops (with_maildrop c.args.name.now held.maildrops) held) (put_result (put_maildrop_answer c.args.name.now held.maildrops)) c.in-Err-add_maildrop.error
@@ -88,8 +89,8 @@ returns-in-Ok-add_maildrop-clause-stop g c held clean3 up h0 =
     let s1 = state g.S.Store c.has_maildrop.new.conn in
     let s2 = state g.S.Store c.maildrop_count.new.conn in
     let s3 = state g.S.Store c.add_maildrop.new.conn in
-    let clean2 : HasCleanDisk s2 = omega (arith, c.add_maildrop.ensures.survives.clean) in
-    let clean1 : HasCleanDisk s1 = omega (arith, c.maildrop_count.ensures.survives.clean) in
+    let clean2 : HasCleanDisk s2 = clean_before s2 s3 c.add_maildrop.ensures.survives.clean clean3 in
+    let clean1 : HasCleanDisk s1 = clean_before s1 s2 c.maildrop_count.ensures.survives.clean clean2 in
     let same1 : IsUnchanged s0 s1 = c.in-Ok-false.ensures.same clean1 h0.tables in
     let h1 = holds_unchanged s0 s1 held same1 h0 in
     let same2 : IsUnchanged s1 s2 = c.in-Ok.ensures.same clean2 h1.tables in
@@ -113,8 +114,8 @@ returns-in-Err-add_maildrop-clause-stop g c held clean3 up h0 =
     let s1 = state g.S.Store c.has_maildrop.new.conn in
     let s2 = state g.S.Store c.maildrop_count.new.conn in
     let s3 = state g.S.Store c.add_maildrop.new.conn in
-    let clean2 : HasCleanDisk s2 = omega (arith, c.add_maildrop.ensures.survives.clean) in
-    let clean1 : HasCleanDisk s1 = omega (arith, c.maildrop_count.ensures.survives.clean) in
+    let clean2 : HasCleanDisk s2 = clean_before s2 s3 c.add_maildrop.ensures.survives.clean clean3 in
+    let clean1 : HasCleanDisk s1 = clean_before s1 s2 c.maildrop_count.ensures.survives.clean clean2 in
     let same1 : IsUnchanged s0 s1 = c.in-Ok-false.ensures.same clean1 h0.tables in
     let h1 = holds_unchanged s0 s1 held same1 h0 in
     let same2 : IsUnchanged s1 s2 = c.in-Ok.ensures.same clean2 h1.tables in
@@ -129,3 +130,114 @@ returns-in-Err-add_maildrop-clause-stop g c held clean3 up h0 =
       true,
       subst (λ name. IsMaildropAdded (Keeps to) held name (Ok true)) c.as_bytes-text.ensures.value (added (Keeps to) held text new fits (keeps_added held text form new fits from to change k)),
     )) h2
+
+pub returns-in-Ok-true-clause-clean : goal.returns-in-Ok-true-clause-clean
+returns-in-Ok-true-clause-clean g c clean1 =
+    let s0 = state g.S.Store c.args.conn.now in
+    let s1 = state g.S.Store c.has_maildrop.new.conn in
+    clean_before s0 s1 c.has_maildrop.ensures.survives.clean clean1
+
+pub returns-in-Ok-true-clause-up : goal.returns-in-Ok-true-clause-up
+returns-in-Ok-true-clause-up g c k clean1 up0 h0 own = (c.in-Ok-true.ensures.same clean1 h0.tables).0.is_open
+
+pub returns-in-Ok-true-clause-stop : goal.returns-in-Ok-true-clause-stop
+returns-in-Ok-true-clause-stop g c k clean1 up0 h0 =
+    let s0 = state g.S.Store c.args.conn.now in
+    let s1 = state g.S.Store c.has_maildrop.new.conn in
+    λ db may. inl (looked s0 s1 k (λ d o m. g.met.S.Store.settled c.args.conn.now.store d o m) clean1 c.has_maildrop.ensures.survives up0 h0 db may)
+
+pub returns-in-Err-clause-clean : goal.returns-in-Err-clause-clean
+returns-in-Err-clause-clean g c clean1 =
+    let s0 = state g.S.Store c.args.conn.now in
+    let s1 = state g.S.Store c.has_maildrop.new.conn in
+    clean_before s0 s1 c.has_maildrop.ensures.survives.clean clean1
+
+pub returns-in-Err-clause-up : goal.returns-in-Err-clause-up
+returns-in-Err-clause-up g c k clean1 up0 h0 own = absurd (not_own (Unit {0}) c.in-Err.error own)
+
+pub returns-in-Err-clause-stop : goal.returns-in-Err-clause-stop
+returns-in-Err-clause-stop g c k clean1 up0 h0 =
+    let s0 = state g.S.Store c.args.conn.now in
+    let s1 = state g.S.Store c.has_maildrop.new.conn in
+    λ db may. inl (looked s0 s1 k (λ d o m. g.met.S.Store.settled c.args.conn.now.store d o m) clean1 c.has_maildrop.ensures.survives up0 h0 db may)
+
+pub returns-then-count-ge-MAX_MAILDROPS-clause-clean : goal.returns-then-count-ge-MAX_MAILDROPS-clause-clean
+returns-then-count-ge-MAX_MAILDROPS-clause-clean g c clean2 =
+    let s0 = state g.S.Store c.args.conn.now in
+    let s1 = state g.S.Store c.has_maildrop.new.conn in
+    let s2 = state g.S.Store c.maildrop_count.new.conn in
+    let clean1 : HasCleanDisk s1 = clean_before s1 s2 c.maildrop_count.ensures.survives.clean clean2 in
+    clean_before s0 s1 c.has_maildrop.ensures.survives.clean clean1
+
+pub returns-then-count-ge-MAX_MAILDROPS-clause-up : goal.returns-then-count-ge-MAX_MAILDROPS-clause-up
+returns-then-count-ge-MAX_MAILDROPS-clause-up g c k clean2 up0 h0 own =
+    let s0 = state g.S.Store c.args.conn.now in
+    let s1 = state g.S.Store c.has_maildrop.new.conn in
+    let s2 = state g.S.Store c.maildrop_count.new.conn in
+    let clean1 : HasCleanDisk s1 = clean_before s1 s2 c.maildrop_count.ensures.survives.clean clean2 in
+    let h1 = holds_unchanged s0 s1 k (c.in-Ok-false.ensures.same clean1 h0.tables) h0 in
+    (c.in-Ok.ensures.same clean2 h1.tables).0.is_open
+
+pub returns-then-count-ge-MAX_MAILDROPS-clause-stop : goal.returns-then-count-ge-MAX_MAILDROPS-clause-stop
+returns-then-count-ge-MAX_MAILDROPS-clause-stop g c k clean2 up0 h0 =
+    let s0 = state g.S.Store c.args.conn.now in
+    let s1 = state g.S.Store c.has_maildrop.new.conn in
+    let s2 = state g.S.Store c.maildrop_count.new.conn in
+    let clean1 : HasCleanDisk s1 = clean_before s1 s2 c.maildrop_count.ensures.survives.clean clean2 in
+    let h1 = holds_unchanged s0 s1 k (c.in-Ok-false.ensures.same clean1 h0.tables) h0 in
+    λ db may. inl (looked s1 s2 k (λ d o m. g.met.S.Store.settled c.has_maildrop.new.conn.store d o m) clean2 c.maildrop_count.ensures.survives (c.in-Ok-false.ensures.same clean1 h0.tables).0.is_open h1 db may)
+
+pub returns-in-Err-maildrop_count-clause-clean : goal.returns-in-Err-maildrop_count-clause-clean
+returns-in-Err-maildrop_count-clause-clean g c clean2 =
+    let s0 = state g.S.Store c.args.conn.now in
+    let s1 = state g.S.Store c.has_maildrop.new.conn in
+    let s2 = state g.S.Store c.maildrop_count.new.conn in
+    let clean1 : HasCleanDisk s1 = clean_before s1 s2 c.maildrop_count.ensures.survives.clean clean2 in
+    clean_before s0 s1 c.has_maildrop.ensures.survives.clean clean1
+
+pub returns-in-Err-maildrop_count-clause-up : goal.returns-in-Err-maildrop_count-clause-up
+returns-in-Err-maildrop_count-clause-up g c k clean2 up0 h0 own = absurd (not_own (Unit {0}) c.in-Err-maildrop_count.error own)
+
+pub returns-in-Err-maildrop_count-clause-stop : goal.returns-in-Err-maildrop_count-clause-stop
+returns-in-Err-maildrop_count-clause-stop g c k clean2 up0 h0 =
+    let s0 = state g.S.Store c.args.conn.now in
+    let s1 = state g.S.Store c.has_maildrop.new.conn in
+    let s2 = state g.S.Store c.maildrop_count.new.conn in
+    let clean1 : HasCleanDisk s1 = clean_before s1 s2 c.maildrop_count.ensures.survives.clean clean2 in
+    let h1 = holds_unchanged s0 s1 k (c.in-Ok-false.ensures.same clean1 h0.tables) h0 in
+    λ db may. inl (looked s1 s2 k (λ d o m. g.met.S.Store.settled c.has_maildrop.new.conn.store d o m) clean2 c.maildrop_count.ensures.survives (c.in-Ok-false.ensures.same clean1 h0.tables).0.is_open h1 db may)
+
+pub returns-in-Ok-add_maildrop-clause-clean : goal.returns-in-Ok-add_maildrop-clause-clean
+returns-in-Ok-add_maildrop-clause-clean g c clean3 =
+    let s0 = state g.S.Store c.args.conn.now in
+    let s1 = state g.S.Store c.has_maildrop.new.conn in
+    let s2 = state g.S.Store c.maildrop_count.new.conn in
+    let s3 = state g.S.Store c.add_maildrop.new.conn in
+    let clean2 : HasCleanDisk s2 = clean_before s2 s3 c.add_maildrop.ensures.survives.clean clean3 in
+    let clean1 : HasCleanDisk s1 = clean_before s1 s2 c.maildrop_count.ensures.survives.clean clean2 in
+    clean_before s0 s1 c.has_maildrop.ensures.survives.clean clean1
+
+pub returns-in-Ok-add_maildrop-clause-up : goal.returns-in-Ok-add_maildrop-clause-up
+returns-in-Ok-add_maildrop-clause-up g c k clean3 up0 h0 own =
+    let s0 = state g.S.Store c.args.conn.now in
+    let s1 = state g.S.Store c.has_maildrop.new.conn in
+    let s2 = state g.S.Store c.maildrop_count.new.conn in
+    let s3 = state g.S.Store c.add_maildrop.new.conn in
+    let clean2 : HasCleanDisk s2 = clean_before s2 s3 c.add_maildrop.ensures.survives.clean clean3 in
+    let clean1 : HasCleanDisk s1 = clean_before s1 s2 c.maildrop_count.ensures.survives.clean clean2 in
+    let h1 = holds_unchanged s0 s1 k (c.in-Ok-false.ensures.same clean1 h0.tables) h0 in
+    let h2 = holds_unchanged s1 s2 k (c.in-Ok.ensures.same clean2 h1.tables) h1 in
+    (c.in-Ok-add_maildrop.ensures.ok clean3 ((c.in-Ok.ensures.same clean2 h1.tables).0.is_open, h2.tables (c.in-Ok.ensures.same clean2 h1.tables).0.is_open)).shown.is_open
+
+pub returns-in-Err-add_maildrop-clause-clean : goal.returns-in-Err-add_maildrop-clause-clean
+returns-in-Err-add_maildrop-clause-clean g c clean3 =
+    let s0 = state g.S.Store c.args.conn.now in
+    let s1 = state g.S.Store c.has_maildrop.new.conn in
+    let s2 = state g.S.Store c.maildrop_count.new.conn in
+    let s3 = state g.S.Store c.add_maildrop.new.conn in
+    let clean2 : HasCleanDisk s2 = clean_before s2 s3 c.add_maildrop.ensures.survives.clean clean3 in
+    let clean1 : HasCleanDisk s1 = clean_before s1 s2 c.maildrop_count.ensures.survives.clean clean2 in
+    clean_before s0 s1 c.has_maildrop.ensures.survives.clean clean1
+
+pub returns-in-Err-add_maildrop-clause-up : goal.returns-in-Err-add_maildrop-clause-up
+returns-in-Err-add_maildrop-clause-up g c k clean3 up0 h0 own = absurd (not_own (Unit {0}) c.in-Err-add_maildrop.error own)

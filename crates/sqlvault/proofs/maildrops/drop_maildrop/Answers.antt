@@ -1,4 +1,4 @@
-use Rattle.std.proofs.Common.{◌≡◌, min, true, Ok, Err, sym, subst, ◌∙◌, arith}
+use Rattle.std.proofs.Common.{◌≡◌, min, true, Ok, Err, sym, subst, ◌∙◌, arith, inl}
 use Rattle.sqlite.specs.State.{HasCleanDisk, IsUnchanged}
 use Rattle.sqlite.specs.Held.{state}
 use Rattle.vault.specs.declared.fault.VaultFault.TheVariants as fault
@@ -10,8 +10,9 @@ use Rattle.mailsql.specs.Changes.{DropsMaildrop}
 use Rattle.sqlvault.specs.Stands.{Holds}
 use Rattle.sqlvault.proofs.HoldsLemmas.{seen, holds_unchanged, holds_undone, holds_changed, refused}
 use Rattle.sqlvault.proofs.MaildropLemmas.{there_is, present_rows, keeps_dropped, not_empty, dropped}
-use Rattle.sqlvault.proofs.StopLemmas.{changed}
+use Rattle.sqlvault.proofs.StopLemmas.{changed, looked, not_own}
 use Rattle.sqlvault.specs.Keeps.{Keeps}
+use Rattle.sqlvault.proofs.StayLemmas.{clean_before}
 use Rattle.sqlvault.proofs.maildrops.drop_maildrop.Goals as goal
 
 pub returns-then-count-gt0-clause-done : goal.returns-then-count-gt0-clause-done
@@ -20,7 +21,7 @@ returns-then-count-gt0-clause-done g c held clean2 h0 =
     let s0 = state g.S.Store c.args.conn.now in
     let s1 = state g.S.Store c.has_maildrop.new.conn in
     let s2 = state g.S.Store c.message_count.new.conn in
-    let clean1 : HasCleanDisk s1 = omega (arith, c.message_count.ensures.survives.clean) in
+    let clean1 : HasCleanDisk s1 = clean_before s1 s2 c.message_count.ensures.survives.clean clean2 in
     let same1 : IsUnchanged s0 s1 = c.in-Ok-true.ensures.same clean1 h0.tables in
     let h1 = holds_unchanged s0 s1 held same1 h0 in
     let same2 : IsUnchanged s1 s2 = c.in-Ok.ensures.same clean2 h1.tables in
@@ -38,7 +39,7 @@ returns-in-Err-message_count-clause-done g c held clean2 h0 =
     let s0 = state g.S.Store c.args.conn.now in
     let s1 = state g.S.Store c.has_maildrop.new.conn in
     let s2 = state g.S.Store c.message_count.new.conn in
-    let clean1 : HasCleanDisk s1 = omega (arith, c.message_count.ensures.survives.clean) in
+    let clean1 : HasCleanDisk s1 = clean_before s1 s2 c.message_count.ensures.survives.clean clean2 in
     let h1 = holds_unchanged s0 s1 held (c.in-Ok-true.ensures.same clean1 h0.tables) h0 in
     refused (Holds s2) held (with_maildrops (without_maildrop d held.maildrops) held) (drop_result (drop_answer (is_one_of d held.maildrops) (present_in d held))) c.in-Err-message_count.error
     (holds_undone s1 s2 held (c.in-Err-message_count.ensures.err clean2 h1.tables) h1)
@@ -50,8 +51,8 @@ returns-in-Ok-drop_maildrop-clause-done g c held clean3 h0 =
     let s1 = state g.S.Store c.has_maildrop.new.conn in
     let s2 = state g.S.Store c.message_count.new.conn in
     let s3 = state g.S.Store c.drop_maildrop.new.conn in
-    let clean2 : HasCleanDisk s2 = omega (arith, c.drop_maildrop.ensures.survives.clean) in
-    let clean1 : HasCleanDisk s1 = omega (arith, c.message_count.ensures.survives.clean) in
+    let clean2 : HasCleanDisk s2 = clean_before s2 s3 c.drop_maildrop.ensures.survives.clean clean3 in
+    let clean1 : HasCleanDisk s1 = clean_before s1 s2 c.message_count.ensures.survives.clean clean2 in
     let same1 : IsUnchanged s0 s1 = c.in-Ok-true.ensures.same clean1 h0.tables in
     let h1 = holds_unchanged s0 s1 held same1 h0 in
     let same2 : IsUnchanged s1 s2 = c.in-Ok.ensures.same clean2 h1.tables in
@@ -73,8 +74,8 @@ returns-in-Err-drop_maildrop-clause-done g c held clean3 h0 =
     let s1 = state g.S.Store c.has_maildrop.new.conn in
     let s2 = state g.S.Store c.message_count.new.conn in
     let s3 = state g.S.Store c.drop_maildrop.new.conn in
-    let clean2 : HasCleanDisk s2 = omega (arith, c.drop_maildrop.ensures.survives.clean) in
-    let clean1 : HasCleanDisk s1 = omega (arith, c.message_count.ensures.survives.clean) in
+    let clean2 : HasCleanDisk s2 = clean_before s2 s3 c.drop_maildrop.ensures.survives.clean clean3 in
+    let clean1 : HasCleanDisk s1 = clean_before s1 s2 c.message_count.ensures.survives.clean clean2 in
     let h1 = holds_unchanged s0 s1 held (c.in-Ok-true.ensures.same clean1 h0.tables) h0 in
     let h2 = holds_unchanged s1 s2 held (c.in-Ok.ensures.same clean2 h1.tables) h1 in
     refused (Holds s3) held (with_maildrops (without_maildrop d held.maildrops) held) (drop_result (drop_answer (is_one_of d held.maildrops) (present_in d held))) c.in-Err-drop_maildrop.error
@@ -87,8 +88,8 @@ returns-in-Ok-drop_maildrop-clause-stop g c held clean3 up h0 =
     let s1 = state g.S.Store c.has_maildrop.new.conn in
     let s2 = state g.S.Store c.message_count.new.conn in
     let s3 = state g.S.Store c.drop_maildrop.new.conn in
-    let clean2 : HasCleanDisk s2 = omega (arith, c.drop_maildrop.ensures.survives.clean) in
-    let clean1 : HasCleanDisk s1 = omega (arith, c.message_count.ensures.survives.clean) in
+    let clean2 : HasCleanDisk s2 = clean_before s2 s3 c.drop_maildrop.ensures.survives.clean clean3 in
+    let clean1 : HasCleanDisk s1 = clean_before s1 s2 c.message_count.ensures.survives.clean clean2 in
     let same1 : IsUnchanged s0 s1 = c.in-Ok-true.ensures.same clean1 h0.tables in
     let h1 = holds_unchanged s0 s1 held same1 h0 in
     let same2 : IsUnchanged s1 s2 = c.in-Ok.ensures.same clean2 h1.tables in
@@ -111,8 +112,8 @@ returns-in-Err-drop_maildrop-clause-stop g c held clean3 up h0 =
     let s1 = state g.S.Store c.has_maildrop.new.conn in
     let s2 = state g.S.Store c.message_count.new.conn in
     let s3 = state g.S.Store c.drop_maildrop.new.conn in
-    let clean2 : HasCleanDisk s2 = omega (arith, c.drop_maildrop.ensures.survives.clean) in
-    let clean1 : HasCleanDisk s1 = omega (arith, c.message_count.ensures.survives.clean) in
+    let clean2 : HasCleanDisk s2 = clean_before s2 s3 c.drop_maildrop.ensures.survives.clean clean3 in
+    let clean1 : HasCleanDisk s1 = clean_before s1 s2 c.message_count.ensures.survives.clean clean2 in
     let same1 : IsUnchanged s0 s1 = c.in-Ok-true.ensures.same clean1 h0.tables in
     let h1 = holds_unchanged s0 s1 held same1 h0 in
     let same2 : IsUnchanged s1 s2 = c.in-Ok.ensures.same clean2 h1.tables in
@@ -127,3 +128,114 @@ returns-in-Err-drop_maildrop-clause-stop g c held clean3 up h0 =
       tt,
       subst (λ name. IsMaildropDropped (Keeps to) held name (Ok tt)) c.as_bytes-text.ensures.value (dropped (Keeps to) held text there empty (keeps_dropped held text empty from to change k)),
     )) h2
+
+pub returns-in-Ok-false-clause-clean : goal.returns-in-Ok-false-clause-clean
+returns-in-Ok-false-clause-clean g c clean1 =
+    let s0 = state g.S.Store c.args.conn.now in
+    let s1 = state g.S.Store c.has_maildrop.new.conn in
+    clean_before s0 s1 c.has_maildrop.ensures.survives.clean clean1
+
+pub returns-in-Ok-false-clause-up : goal.returns-in-Ok-false-clause-up
+returns-in-Ok-false-clause-up g c k clean1 up0 h0 own = (c.in-Ok-false.ensures.same clean1 h0.tables).0.is_open
+
+pub returns-in-Ok-false-clause-stop : goal.returns-in-Ok-false-clause-stop
+returns-in-Ok-false-clause-stop g c k clean1 up0 h0 =
+    let s0 = state g.S.Store c.args.conn.now in
+    let s1 = state g.S.Store c.has_maildrop.new.conn in
+    λ db may. inl (looked s0 s1 k (λ d o m. g.met.S.Store.settled c.args.conn.now.store d o m) clean1 c.has_maildrop.ensures.survives up0 h0 db may)
+
+pub returns-in-Err-clause-clean : goal.returns-in-Err-clause-clean
+returns-in-Err-clause-clean g c clean1 =
+    let s0 = state g.S.Store c.args.conn.now in
+    let s1 = state g.S.Store c.has_maildrop.new.conn in
+    clean_before s0 s1 c.has_maildrop.ensures.survives.clean clean1
+
+pub returns-in-Err-clause-up : goal.returns-in-Err-clause-up
+returns-in-Err-clause-up g c k clean1 up0 h0 own = absurd (not_own (Unit {0}) c.in-Err.error own)
+
+pub returns-in-Err-clause-stop : goal.returns-in-Err-clause-stop
+returns-in-Err-clause-stop g c k clean1 up0 h0 =
+    let s0 = state g.S.Store c.args.conn.now in
+    let s1 = state g.S.Store c.has_maildrop.new.conn in
+    λ db may. inl (looked s0 s1 k (λ d o m. g.met.S.Store.settled c.args.conn.now.store d o m) clean1 c.has_maildrop.ensures.survives up0 h0 db may)
+
+pub returns-then-count-gt0-clause-clean : goal.returns-then-count-gt0-clause-clean
+returns-then-count-gt0-clause-clean g c clean2 =
+    let s0 = state g.S.Store c.args.conn.now in
+    let s1 = state g.S.Store c.has_maildrop.new.conn in
+    let s2 = state g.S.Store c.message_count.new.conn in
+    let clean1 : HasCleanDisk s1 = clean_before s1 s2 c.message_count.ensures.survives.clean clean2 in
+    clean_before s0 s1 c.has_maildrop.ensures.survives.clean clean1
+
+pub returns-then-count-gt0-clause-up : goal.returns-then-count-gt0-clause-up
+returns-then-count-gt0-clause-up g c k clean2 up0 h0 own =
+    let s0 = state g.S.Store c.args.conn.now in
+    let s1 = state g.S.Store c.has_maildrop.new.conn in
+    let s2 = state g.S.Store c.message_count.new.conn in
+    let clean1 : HasCleanDisk s1 = clean_before s1 s2 c.message_count.ensures.survives.clean clean2 in
+    let h1 = holds_unchanged s0 s1 k (c.in-Ok-true.ensures.same clean1 h0.tables) h0 in
+    (c.in-Ok.ensures.same clean2 h1.tables).0.is_open
+
+pub returns-then-count-gt0-clause-stop : goal.returns-then-count-gt0-clause-stop
+returns-then-count-gt0-clause-stop g c k clean2 up0 h0 =
+    let s0 = state g.S.Store c.args.conn.now in
+    let s1 = state g.S.Store c.has_maildrop.new.conn in
+    let s2 = state g.S.Store c.message_count.new.conn in
+    let clean1 : HasCleanDisk s1 = clean_before s1 s2 c.message_count.ensures.survives.clean clean2 in
+    let h1 = holds_unchanged s0 s1 k (c.in-Ok-true.ensures.same clean1 h0.tables) h0 in
+    λ db may. inl (looked s1 s2 k (λ d o m. g.met.S.Store.settled c.has_maildrop.new.conn.store d o m) clean2 c.message_count.ensures.survives (c.in-Ok-true.ensures.same clean1 h0.tables).0.is_open h1 db may)
+
+pub returns-in-Err-message_count-clause-clean : goal.returns-in-Err-message_count-clause-clean
+returns-in-Err-message_count-clause-clean g c clean2 =
+    let s0 = state g.S.Store c.args.conn.now in
+    let s1 = state g.S.Store c.has_maildrop.new.conn in
+    let s2 = state g.S.Store c.message_count.new.conn in
+    let clean1 : HasCleanDisk s1 = clean_before s1 s2 c.message_count.ensures.survives.clean clean2 in
+    clean_before s0 s1 c.has_maildrop.ensures.survives.clean clean1
+
+pub returns-in-Err-message_count-clause-up : goal.returns-in-Err-message_count-clause-up
+returns-in-Err-message_count-clause-up g c k clean2 up0 h0 own = absurd (not_own (Unit {0}) c.in-Err-message_count.error own)
+
+pub returns-in-Err-message_count-clause-stop : goal.returns-in-Err-message_count-clause-stop
+returns-in-Err-message_count-clause-stop g c k clean2 up0 h0 =
+    let s0 = state g.S.Store c.args.conn.now in
+    let s1 = state g.S.Store c.has_maildrop.new.conn in
+    let s2 = state g.S.Store c.message_count.new.conn in
+    let clean1 : HasCleanDisk s1 = clean_before s1 s2 c.message_count.ensures.survives.clean clean2 in
+    let h1 = holds_unchanged s0 s1 k (c.in-Ok-true.ensures.same clean1 h0.tables) h0 in
+    λ db may. inl (looked s1 s2 k (λ d o m. g.met.S.Store.settled c.has_maildrop.new.conn.store d o m) clean2 c.message_count.ensures.survives (c.in-Ok-true.ensures.same clean1 h0.tables).0.is_open h1 db may)
+
+pub returns-in-Ok-drop_maildrop-clause-clean : goal.returns-in-Ok-drop_maildrop-clause-clean
+returns-in-Ok-drop_maildrop-clause-clean g c clean3 =
+    let s0 = state g.S.Store c.args.conn.now in
+    let s1 = state g.S.Store c.has_maildrop.new.conn in
+    let s2 = state g.S.Store c.message_count.new.conn in
+    let s3 = state g.S.Store c.drop_maildrop.new.conn in
+    let clean2 : HasCleanDisk s2 = clean_before s2 s3 c.drop_maildrop.ensures.survives.clean clean3 in
+    let clean1 : HasCleanDisk s1 = clean_before s1 s2 c.message_count.ensures.survives.clean clean2 in
+    clean_before s0 s1 c.has_maildrop.ensures.survives.clean clean1
+
+pub returns-in-Ok-drop_maildrop-clause-up : goal.returns-in-Ok-drop_maildrop-clause-up
+returns-in-Ok-drop_maildrop-clause-up g c k clean3 up0 h0 own =
+    let s0 = state g.S.Store c.args.conn.now in
+    let s1 = state g.S.Store c.has_maildrop.new.conn in
+    let s2 = state g.S.Store c.message_count.new.conn in
+    let s3 = state g.S.Store c.drop_maildrop.new.conn in
+    let clean2 : HasCleanDisk s2 = clean_before s2 s3 c.drop_maildrop.ensures.survives.clean clean3 in
+    let clean1 : HasCleanDisk s1 = clean_before s1 s2 c.message_count.ensures.survives.clean clean2 in
+    let h1 = holds_unchanged s0 s1 k (c.in-Ok-true.ensures.same clean1 h0.tables) h0 in
+    let h2 = holds_unchanged s1 s2 k (c.in-Ok.ensures.same clean2 h1.tables) h1 in
+    (c.in-Ok-drop_maildrop.ensures.ok clean3 ((c.in-Ok.ensures.same clean2 h1.tables).0.is_open, h2.tables (c.in-Ok.ensures.same clean2 h1.tables).0.is_open)).shown.is_open
+
+pub returns-in-Err-drop_maildrop-clause-clean : goal.returns-in-Err-drop_maildrop-clause-clean
+returns-in-Err-drop_maildrop-clause-clean g c clean3 =
+    let s0 = state g.S.Store c.args.conn.now in
+    let s1 = state g.S.Store c.has_maildrop.new.conn in
+    let s2 = state g.S.Store c.message_count.new.conn in
+    let s3 = state g.S.Store c.drop_maildrop.new.conn in
+    let clean2 : HasCleanDisk s2 = clean_before s2 s3 c.drop_maildrop.ensures.survives.clean clean3 in
+    let clean1 : HasCleanDisk s1 = clean_before s1 s2 c.message_count.ensures.survives.clean clean2 in
+    clean_before s0 s1 c.has_maildrop.ensures.survives.clean clean1
+
+pub returns-in-Err-drop_maildrop-clause-up : goal.returns-in-Err-drop_maildrop-clause-up
+returns-in-Err-drop_maildrop-clause-up g c k clean3 up0 h0 own = absurd (not_own (Unit {0}) c.in-Err-drop_maildrop.error own)

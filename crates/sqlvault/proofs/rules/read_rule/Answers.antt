@@ -2,7 +2,7 @@ use Rattle.std.proofs.Common.{ap, sym, ◌∙◌, to_z-of_z, SFits, w64, rules}
 use Rattle.creds.specs.Names.{name_of}
 use Rattle.policy.specs.declared.rule.Rule as rule
 use Rattle.mailsql.specs.declared.rows.Rule.{Rule}
-use Rattle.sqlvault.proofs.RuleLemmas.{some_same, name_read, parts, rule_is}
+use Rattle.sqlvault.proofs.RuleLemmas.{some_same, never, name_read, parts, rule_is}
 use Rattle.sqlvault.proofs.RowFormLemmas.{name_was, row_read}
 use Rattle.sqlvault.proofs.rules.read_rule.Goals as goal
 
@@ -44,3 +44,33 @@ returns-clause-row c =
     (sym c.as_slice-3.ensures ∙ c.in_ok-read_pattern-2.ensures.text)
     (sym c.as_slice-4.ensures ∙ c.in_ok-read_pattern-3.ensures.text)
     (sym (to_z-of_z fits_actions) ∙ c.in_ok-read_actions.ensures.number)
+
+pub returns-in_err-read-clause-read : goal.returns-in_err-read-clause-read
+returns-in_err-read-clause-read c r sound same =
+    let p = parts r sound in
+    never _ c.read.result r.name c.in_err-read.was (c.read.ensures ∙ ap name_of (c.as_slice.ensures ∙ ap (λ (x : Rule). x.name) same) ∙ name_read r.name p.name)
+
+pub returns-in_err-read_effect-clause-read : goal.returns-in_err-read_effect-clause-read
+returns-in_err-read_effect-clause-read c r sound same =
+    let fits_effect : SFits w64 c.args.row.now.effect = search rules in
+    never _ c.read_effect.result r.effect c.in_err-read_effect.was (c.read_effect.ensures.read r.effect (to_z-of_z fits_effect ∙ ap (λ (x : Rule). x.effect) same))
+
+pub returns-in_err-read_pattern-clause-read : goal.returns-in_err-read_pattern-clause-read
+returns-in_err-read_pattern-clause-read c r sound same =
+    let p = parts r sound in
+    never _ c.read_pattern.result r.clerk c.in_err-read_pattern.was (c.read_pattern.ensures.read r.clerk p.clerk (c.as_slice-2.ensures ∙ ap (λ (x : Rule). x.clerk) same))
+
+pub returns-in_err-read_pattern-2-clause-read : goal.returns-in_err-read_pattern-2-clause-read
+returns-in_err-read_pattern-2-clause-read c r sound same =
+    let p = parts r sound in
+    never _ c.read_pattern-2.result r.maildrop c.in_err-read_pattern-2.was (c.read_pattern-2.ensures.read r.maildrop p.maildrop (c.as_slice-3.ensures ∙ ap (λ (x : Rule). x.maildrop) same))
+
+pub returns-in_err-read_pattern-3-clause-read : goal.returns-in_err-read_pattern-3-clause-read
+returns-in_err-read_pattern-3-clause-read c r sound same =
+    let p = parts r sound in
+    never _ c.read_pattern-3.result r.class c.in_err-read_pattern-3.was (c.read_pattern-3.ensures.read r.class p.class (c.as_slice-4.ensures ∙ ap (λ (x : Rule). x.class) same))
+
+pub returns-in_err-read_actions-clause-read : goal.returns-in_err-read_actions-clause-read
+returns-in_err-read_actions-clause-read c r sound same =
+    let fits_actions : SFits w64 c.args.row.now.actions = search rules in
+    never _ c.read_actions.result r.actions c.in_err-read_actions.was (c.read_actions.ensures.read r.actions (to_z-of_z fits_actions ∙ ap (λ (x : Rule). x.actions) same))

@@ -2,7 +2,7 @@ use Rattle.std.proofs.Common.{◌≡◌, ◌++◌, rules, ap, ◌∙◌, SFits, 
 use Rattle.sqlite.specs.Held.{state}
 use Rattle.mailsql.specs.Rows.{rows_in}
 use Rattle.sqlvault.proofs.PieceLemmas.{text_lacks, text_more}
-use Rattle.sqlvault.proofs.StayLemmas.{tables_of, leaves_on, stays_more, tables_stay, rows_stay}
+use Rattle.sqlvault.proofs.StayLemmas.{tables_of, leaves_on, stays_more, tables_stay, rows_stay, or_back_after}
 use Rattle.sqlvault.proofs.sound_messages.find_text.Goals as goal
 
 pub returns-in-Ok-None-clause-judged : goal.returns-in-Ok-None-clause-judged
@@ -38,3 +38,61 @@ loop-place-preserved g c = (
       let clean1 = c.find_piece.ensures.clean clean in
       leaves_on s0 s1 s2 (c.loop-place.invariant.1 clean1 (tables_of s0 ready)).0 ready (c.loop-place.invariant.2 clean1 ready) (c.find_piece.ensures.stop clean),
 )
+
+pub returns-in-Err-clause-clean : goal.returns-in-Err-clause-clean
+returns-in-Err-clause-clean g c clean2 = c.loop-place.invariant.0 (c.find_piece.ensures.clean clean2)
+
+pub returns-in-Err-clause-goes : goal.returns-in-Err-clause-goes
+returns-in-Err-clause-goes g c clean2 h =
+    let s0 = state g.S.Store c.args.conn.now in
+    let s1 = state g.S.Store c.loop-place.conn in
+    let s2 = state g.S.Store c.find_piece.new.conn in
+    let was = c.loop-place.invariant.1 (c.find_piece.ensures.clean clean2) h in
+    or_back_after s0 s1 s2 was.0 (c.in-Err.ensures.goes clean2 (tables_stay s0 s1 was.0 h))
+
+pub returns-in-Err-clause-stop : goal.returns-in-Err-clause-stop
+returns-in-Err-clause-stop g c clean2 ready =
+    let s0 = state g.S.Store c.args.conn.now in
+    let s1 = state g.S.Store c.loop-place.conn in
+    let s2 = state g.S.Store c.find_piece.new.conn in
+    let clean1 = c.find_piece.ensures.clean clean2 in
+    leaves_on s0 s1 s2 (c.loop-place.invariant.1 clean1 (tables_of s0 ready)).0 ready (c.loop-place.invariant.2 clean1 ready) (c.find_piece.ensures.stop clean2)
+
+pub returns-in-Ok-None-clause-clean : goal.returns-in-Ok-None-clause-clean
+returns-in-Ok-None-clause-clean g c clean2 = c.loop-place.invariant.0 (c.find_piece.ensures.clean clean2)
+
+pub returns-in-Ok-None-clause-goes : goal.returns-in-Ok-None-clause-goes
+returns-in-Ok-None-clause-goes g c clean2 h =
+    let s0 = state g.S.Store c.args.conn.now in
+    let s1 = state g.S.Store c.loop-place.conn in
+    let s2 = state g.S.Store c.find_piece.new.conn in
+    let was = c.loop-place.invariant.1 (c.find_piece.ensures.clean clean2) h in
+    stays_more s0 s1 s2 was.0 (c.in-Ok-None.ensures.goes clean2 (tables_stay s0 s1 was.0 h))
+
+pub returns-in-Ok-None-clause-stop : goal.returns-in-Ok-None-clause-stop
+returns-in-Ok-None-clause-stop g c clean2 ready =
+    let s0 = state g.S.Store c.args.conn.now in
+    let s1 = state g.S.Store c.loop-place.conn in
+    let s2 = state g.S.Store c.find_piece.new.conn in
+    let clean1 = c.find_piece.ensures.clean clean2 in
+    leaves_on s0 s1 s2 (c.loop-place.invariant.1 clean1 (tables_of s0 ready)).0 ready (c.loop-place.invariant.2 clean1 ready) (c.find_piece.ensures.stop clean2)
+
+pub returns-in_err-extend_from_slice-in-Ok-Some-clause-clean : goal.returns-in_err-extend_from_slice-in-Ok-Some-clause-clean
+returns-in_err-extend_from_slice-in-Ok-Some-clause-clean g c clean2 = c.loop-place.invariant.0 (c.find_piece.ensures.clean clean2)
+
+pub returns-in_err-extend_from_slice-in-Ok-Some-clause-stop : goal.returns-in_err-extend_from_slice-in-Ok-Some-clause-stop
+returns-in_err-extend_from_slice-in-Ok-Some-clause-stop g c clean2 ready =
+    let s0 = state g.S.Store c.args.conn.now in
+    let s1 = state g.S.Store c.loop-place.conn in
+    let s2 = state g.S.Store c.find_piece.new.conn in
+    let clean1 = c.find_piece.ensures.clean clean2 in
+    leaves_on s0 s1 s2 (c.loop-place.invariant.1 clean1 (tables_of s0 ready)).0 ready (c.loop-place.invariant.2 clean1 ready) (c.find_piece.ensures.stop clean2)
+
+pub returns-clause-clean : goal.returns-clause-clean
+returns-clause-clean g c clean = c.loop-place.invariant.0 clean
+
+pub returns-clause-goes : goal.returns-clause-goes
+returns-clause-goes g c clean h = (c.loop-place.invariant.1 clean h).0
+
+pub returns-clause-stop : goal.returns-clause-stop
+returns-clause-stop g c clean ready = c.loop-place.invariant.2 clean ready

@@ -1,18 +1,15 @@
-use Rattle.std.proofs.Common.{inl}
 use Rattle.sqlite.specs.Held.{state}
-use Rattle.sqlite.proofs.Callers.{memory_is_clean}
 use Rattle.sqlite.specs.Steps.{over_memory}
 use Rattle.sqlvault.specs.Adopts.{IsBlank}
-use Rattle.sqlvault.proofs.AdoptLemmas.{refused_blank}
+use Rattle.sqlvault.proofs.TakeLemmas.{memory_taken, memory_refused}
 use Rattle.sqlvault.proofs.sql_vault.SqlVault+MemStore.in_memory.Goals as goal
 
-pub returns-in-Ok-adopt-clause-empty : goal.returns-in-Ok-adopt-clause-empty
-returns-in-Ok-adopt-clause-empty c =
+pub returns-in-Ok-clause-empty : goal.returns-in-Ok-clause-empty
+returns-in-Ok-clause-empty c =
     let blank : IsBlank (state over_memory c.in-Ok.conn) = (c.in-Ok.ensures.empty.2, tt) in
-    let adopted = c.in-Ok-adopt.ensures.adopted (memory_is_clean c.in-Ok-adopt.vault.conn) (inl blank) in
-    (adopted.is_open, adopted.blank blank)
+    memory_taken c.in-Ok.conn c.take.result blank c.take.ensures.adopted
 
-pub returns-in-Err-adopt-clause-refused : goal.returns-in-Err-adopt-clause-refused
-returns-in-Err-adopt-clause-refused c =
+pub returns-in-Ok-clause-refused : goal.returns-in-Ok-clause-refused
+returns-in-Ok-clause-refused c =
     let blank : IsBlank (state over_memory c.in-Ok.conn) = (c.in-Ok.ensures.empty.2, tt) in
-    refused_blank (state over_memory c.in-Ok.conn) c.in-Err-adopt.fault blank c.in-Ok.ensures.empty.0.autocommit (c.in-Err-adopt.ensures.adopted (memory_is_clean c.in-Err-adopt._memory) (inl blank))
+    memory_refused c.in-Ok.conn c.take.result blank c.in-Ok.ensures.empty.0.autocommit c.take.ensures.refused

@@ -1,0 +1,16 @@
+use Rattle.sqlvault.proofs.sql_vault.take.Goals as goal
+
+pub returns-in-Ok-clause-adopted : goal.returns-in-Ok-clause-adopted
+returns-in-Ok-clause-adopted g c = λ clean. (c.in-Ok.ensures.clean clean, λ known. c.in-Ok.ensures.adopted clean known)
+
+pub returns-in-Ok-clause-stop : goal.returns-in-Ok-clause-stop
+returns-in-Ok-clause-stop g c = λ clean known up. c.in-Ok.ensures.stop clean known up
+
+pub returns-in-Err-clause-refused : goal.returns-in-Err-clause-refused
+returns-in-Err-clause-refused g c = (c.in-Err._conn, λ clean. (c.in-Err.ensures.clean clean, λ known. c.in-Err.ensures.adopted clean known))
+
+pub returns-in-Err-clause-kinds : goal.returns-in-Err-clause-kinds
+returns-in-Err-clause-kinds g c = c.in-Err.ensures.kinds
+
+pub returns-in-Ok-clause-uncounted : goal.returns-in-Ok-clause-uncounted
+returns-in-Ok-clause-uncounted g c = c.in-Ok.ensures.uncounted
