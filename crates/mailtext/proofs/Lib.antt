@@ -3,3 +3,4 @@ pub mod LineLemmas
 pub mod PartLemmas
 pub mod ReadingLemmas
 pub mod Writing
+mod Rows

@@ -1,8 +1,9 @@
 -- A policy that was read is sound.
-use Rattle.std.proofs.Common.{◌≡◌, ℕ, Bool, true, false, not, ◌||◌, List, [], ◌∷◌, ◌++◌, length, Option, Some, None, codes, refl, arith}
+use Rattle.std.proofs.Common.{◌≡◌, ℕ, Bool, true, false, not, ◌&&◌, ◌||◌, List, [], ◌∷◌, ◌++◌, length, Option, Some, None, codes, refl}
 use Rattle.std.specs.Prelude.{option_and_then, nat_le, if◌then◌else◌}
 use Rattle.std.specs.List.{list_any, list_all}
 use Rattle.std.specs.Str.{bytes_eq}
+use Rattle.std.proofs.lemmas.Bool.{and_parts, or_parts, or_left, or_right, not-true}
 use Rattle.std.proofs.lemmas.List.Folds.{list_all-append, list_any-append}
 use Rattle.toml.specs.Data.{Data, Items, no_items, item, as_str, as_array}
 use Rattle.creds.specs.Names.{is_name, name_of, text_if}
@@ -12,8 +13,9 @@ use Rattle.policy.specs.declared.rule.Action.TheVariants.{Open, Read, Remove}
 use Rattle.policy.specs.declared.rule.Pattern.{Pattern}
 use Rattle.policy.specs.declared.rule.Pattern.TheVariants.{Any, Is}
 use Rattle.policy.specs.declared.rule.Rule.{Rule}
+use Rattle.policy.specs.declared.read.Subject.{Subject}
 use Rattle.policy.specs.Policy.{default_rule, are_distinct, same_name, is_any, is_pattern, lists_any, is_sound_rule, are_sound_rules, most_rules}
-use Rattle.policy.specs.PolicyText.{has_name, rule_name_of, named, pattern_of, action_of, with_action, with_item, with_items, no_actions, actions_of_items, actions_of}
+use Rattle.policy.specs.PolicyText.{is_sound_subject, has_name, rule_name_of, named, pattern_of, action_of, with_action, with_item, with_items, no_actions, actions_of_items, actions_of}
 
 -- a chain of two that ends in a value
 and_then-some : {A B : Type 0} (f : A → Option B) (o : Option A) (b : B) → option_and_then f o ≡ Some b → (a : A) × (o ≡ Some a) × (f a ≡ Some b)
@@ -57,10 +59,14 @@ pattern_of-some d p h =
     pattern-some (bytes_eq q.0 (codes "*")) q.0 p q.2
 
 -- one more action is listed
+added : (there : Bool) (larger more : Actions) → lists_any larger ≡ true → (if there then None else Some larger) ≡ Some more → lists_any more ≡ true
+added true larger more l h = absurd (cc)
+added false larger more l h = let e : larger ≡ more = cc in rw (← e) l
+
 with_action-some : (listed more : Actions) (a : Action) → with_action listed a ≡ Some more → lists_any more ≡ true
-with_action-some listed more Open h = grind arith
-with_action-some listed more Read h = grind arith
-with_action-some listed more Remove h = grind arith
+with_action-some listed more Open h = added listed.open (record listed { «open» = true }) more refl h
+with_action-some listed more Read h = added listed.read (record listed { read = true }) more (or_left (listed.open || true) listed.remove (or_right listed.open true refl)) h
+with_action-some listed more Remove h = added listed.remove (record listed { remove = true }) more (or_right (listed.open || listed.read) true refl) h
 
 with_item-some : (listed more : Actions) (d : Data) → with_item listed d ≡ Some more → lists_any more ≡ true
 with_item-some listed more d h =
@@ -90,18 +96,17 @@ actions_of-some d more h =
 
 -- a rule of another name
 list_any-push : (q : Rule) (rules : List Rule) (r : Rule) → list_any (same_name q) rules ≡ false → bytes_eq q.name r.name ≡ false → list_any (same_name q) (rules ++ r ∷ []) ≡ false
-list_any-push q rules r n d = rw (list_any-append (same_name q) rules (r ∷ [])) (grind arith)
+list_any-push q rules r n d = rw (list_any-append (same_name q) rules (r ∷ []), n, d) refl
 
 -- one more rule, whose name is no other's
 pub are_distinct-push : (rules : List Rule) (r : Rule) → are_distinct same_name rules ≡ true → has_name rules r.name ≡ false → are_distinct same_name (rules ++ r ∷ []) ≡ true
 are_distinct-push [] r h n = refl
 are_distinct-push (q ∷ rules) r h n =
-    let later : has_name rules r.name ≡ false = grind arith in
-    let other : bytes_eq q.name r.name ≡ false = grind arith in
-    let own : list_any (same_name q) rules ≡ false = grind arith in
-    let rest : are_distinct same_name rules ≡ true = grind arith in
-    let e1 = list_any-push q rules r own other in
-    let e2 = are_distinct-push rules r rest later in
+    let named = or_parts (bytes_eq q.name r.name) (has_name rules r.name) n in
+    let apart = and_parts (not (list_any (same_name q) rules)) (are_distinct same_name rules) h in
+    let own = not-true (list_any (same_name q) rules) apart.0 in
+    let e1 = list_any-push q rules r own named.0 in
+    let e2 = are_distinct-push rules r apart.1 named.1 in
     rw (e1, e2) refl
 
 -- one more sound rule
@@ -112,7 +117,22 @@ list_all-push rules r h s = rw (list_all-append is_sound_rule rules (r ∷ []), 
 pub are_sound-by : (rules : List Rule) → list_all is_sound_rule rules ≡ true → are_distinct same_name rules ≡ true → nat_le (length rules) most_rules ≡ true → are_sound_rules rules ≡ true
 are_sound-by rules s d f = rw (s, d, f) refl
 
--- the parts of a sound rule
-pub is_sound_rule-by : (r : Rule) → is_name r.name ≡ true → bytes_eq r.name default_rule ≡ false → is_pattern r.clerk ≡ true → is_pattern r.maildrop ≡ true → is_pattern r.class ≡ true
-    → lists_any r.actions ≡ true → (not r.actions.open || is_any r.class) ≡ true → is_sound_rule r ≡ true
-is_sound_rule-by r a b c d e f g = rw (a, b, c, d, e, f, g) refl
+-- the parts of a sound subject
+pub is_sound_subject-by : (s : Subject) → is_name s.name ≡ true → bytes_eq s.name default_rule ≡ false → is_pattern s.clerk ≡ true → is_pattern s.maildrop ≡ true → is_pattern s.class ≡ true
+    → is_sound_subject s ≡ true
+is_sound_subject-by s a b c d e = rw (a, b, c, d, e) refl
+
+-- five tests together, with two more
+five-first : (a b c d e f g : Bool) → (a && b && c && d && e) ≡ true → f ≡ true → g ≡ true → (a && b && c && d && e && f && g) ≡ true
+five-first true true true true true f g h p q = rw (p, q) refl
+five-first true true true true false f g h p q = absurd (cc)
+five-first true true true false e f g h p q = absurd (cc)
+five-first true true false d e f g h p q = absurd (cc)
+five-first true false c d e f g h p q = absurd (cc)
+five-first false b c d e f g h p q = absurd (cc)
+
+-- a sound rule, from its subject and what it decides
+pub is_sound_rule-by : (s : Subject) (r : Rule) → r.name ≡ s.name → r.clerk ≡ s.clerk → r.maildrop ≡ s.maildrop → r.class ≡ s.class → is_sound_subject s ≡ true → lists_any r.actions ≡ true
+    → (not r.actions.open || is_any s.class) ≡ true → is_sound_rule r ≡ true
+is_sound_rule-by s r n k m c sound f g =
+    rw (n, k, m, c) (five-first (is_name s.name) (not (bytes_eq s.name default_rule)) (is_pattern s.clerk) (is_pattern s.maildrop) (is_pattern s.class) (lists_any r.actions) (not r.actions.open || is_any s.class) sound f g)

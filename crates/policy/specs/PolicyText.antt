@@ -3,11 +3,14 @@ use Rattle.std.specs.Prelude.{ℕ, ◌+◌, ◌&&◌, ◌||◌, not, nat_le, Boo
 use Rattle.std.specs.List.{list_any}
 use Rattle.std.specs.Str.{bytes_eq}
 use Rattle.toml.specs.Data.{Data, Items, no_items, item, Members, no_members, member, get_member, as_str, as_array, as_table}
+use Rattle.toml.specs.View.{view}
 use Rattle.toml.specs.Parse.{parse_document}
-use Rattle.creds.specs.Names.{name_of}
-use Rattle.policy.specs.Policy.{Policy, default_rule, is_any, most_rules}
+use Rattle.creds.specs.Names.{name_of, is_name}
+use Rattle.policy.specs.Policy.{Policy, default_rule, is_any, is_pattern, most_rules}
 use Rattle.policy.specs.declared.fault.PolicyFault.{PolicyFault}
-use Rattle.policy.specs.declared.fault.PolicyFault.TheVariants.{NotToml, MissingKey, UnknownKey, BadName, DoubleName, BadEffect, BadActions, OpenWithClass, TooMany, NoMemory}
+use Rattle.policy.specs.declared.fault.PolicyFault.TheVariants.{NotToml, MissingKey, UnknownKey, BadName, DoubleName, BadEffect, BadActions, OpenWithClass, TooMany}
+use Rattle.policy.specs.declared.read.Settings.{Settings as SettingValues}
+use Rattle.policy.specs.declared.read.Subject.{Subject}
 use Rattle.policy.specs.declared.rule.Action.{Action}
 use Rattle.policy.specs.declared.rule.Action.TheVariants.{Open, Read, Remove}
 use Rattle.policy.specs.declared.rule.Actions.{Actions}
@@ -101,9 +104,22 @@ actions_of d = option_and_then actions_of_items (as_array d)
 abbrev pub has_name : List Rule → List ℕ → Bool
 has_name rules name = list_any (λ r. bytes_eq r.name name) rules
 
--- the rule of number n, behind the rules before it, or its first fault
-unfoldable pub rule_of : ℕ → List Rule → Members → Result Rule PolicyFault
-rule_of n before ms = do
+-- what a rule's table holds at its keys
+pub record Settings : Type 0 where
+  pub name : Data
+  pub effect : Data
+  pub clerk : Data
+  pub maildrop : Data
+  pub class : Data
+  pub actions : Data
+
+-- what the values stand for
+abbrev pub seen : SettingValues → Settings
+seen r = record { name = view r.name.now; effect = view r.effect.now; clerk = view r.clerk.now; maildrop = view r.maildrop.now; class = view r.class.now; actions = view r.actions.now }
+
+-- the six settings of rule n, which are all that its table holds
+unfoldable pub settings_of : ℕ → Members → Result Settings PolicyFault
+settings_of n ms = do
   name ← value_or (get_member (codes "name") ms) (MissingKey n)
   effect ← value_or (get_member (codes "effect") ms) (MissingKey n)
   clerk ← value_or (get_member (codes "clerk") ms) (MissingKey n)
@@ -111,15 +127,36 @@ rule_of n before ms = do
   class ← value_or (get_member (codes "class") ms) (MissingKey n)
   actions ← value_or (get_member (codes "actions") ms) (MissingKey n)
   known ← demand (all_keys is_rule_key ms) (UnknownKey n)
-  rule_name ← value_or (rule_name_of name) (BadName n)
-  rule_clerk ← value_or (pattern_of clerk) (BadName n)
-  rule_maildrop ← value_or (pattern_of maildrop) (BadName n)
-  rule_class ← value_or (pattern_of class) (BadName n)
-  single ← demand (not (has_name before rule_name)) (DoubleName n)
-  rule_effect ← value_or (effect_of effect) (BadEffect n)
-  rule_actions ← value_or (actions_of actions) (BadActions n)
-  general ← demand (not rule_actions.open || is_any rule_class) (OpenWithClass n)
-  Ok (record { name = rule_name; effect = rule_effect; clerk = rule_clerk; maildrop = rule_maildrop; class = rule_class; actions = rule_actions })
+  Ok (record { name = name; effect = effect; clerk = clerk; maildrop = maildrop; class = class; actions = actions })
+
+-- a name but `default`, and patterns
+abbrev pub is_sound_subject : Subject → Bool
+is_sound_subject s = is_name s.name && not (bytes_eq s.name default_rule) && is_pattern s.clerk && is_pattern s.maildrop && is_pattern s.class
+
+-- the names of rule n, behind the rules before it
+unfoldable pub subject_of : ℕ → List Rule → Settings → Result Subject PolicyFault
+subject_of n before settings = do
+  name ← value_or (rule_name_of settings.name) (BadName n)
+  clerk ← value_or (pattern_of settings.clerk) (BadName n)
+  maildrop ← value_or (pattern_of settings.maildrop) (BadName n)
+  class ← value_or (pattern_of settings.class) (BadName n)
+  single ← demand (not (has_name before name)) (DoubleName n)
+  Ok (record { name = name; clerk = clerk; maildrop = maildrop; class = class })
+
+-- what rule n decides about its subject
+unfoldable pub decided : ℕ → Subject → Settings → Result Rule PolicyFault
+decided n subject settings = do
+  effect ← value_or (effect_of settings.effect) (BadEffect n)
+  actions ← value_or (actions_of settings.actions) (BadActions n)
+  general ← demand (not actions.open || is_any subject.class) (OpenWithClass n)
+  Ok (record { name = subject.name; effect = effect; clerk = subject.clerk; maildrop = subject.maildrop; class = subject.class; actions = actions })
+
+-- the rule of number n, behind the rules before it, or its first fault
+unfoldable pub rule_of : ℕ → List Rule → Members → Result Rule PolicyFault
+rule_of n before ms = do
+  settings ← settings_of n ms
+  subject ← subject_of n before settings
+  decided n subject settings
 
 -- the rule of an item of number n
 abbrev pub rule_at : ℕ → List Rule → Data → Result Rule PolicyFault

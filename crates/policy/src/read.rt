@@ -6,7 +6,7 @@ ghost use Rattle.std.specs.BTreeMap.{keys};
 ghost use Rattle.toml.specs.Data.{get_member, as_str, as_array, as_table};
 ghost use Rattle.toml.specs.View.{view, table_view, items_view};
 ghost use Rattle.policy.specs.Policy.{is_sound_rule, are_sound_rules};
-ghost use Rattle.policy.specs.PolicyText.{has_name, rule_of, rules_in, rules_of, rule_name_of, pattern_of, effect_of, actions_of, actions_of_items, with_action, with_item, is_rule_key, all_keys, is_top_key, are_tables, tables_of, rule_tables, rule_at, rules_from};
+ghost use Rattle.policy.specs.PolicyText.{has_name, seen, settings_of, is_sound_subject, subject_of, decided, rule_of, rules_in, rules_of, rule_name_of, pattern_of, effect_of, actions_of, actions_of_items, with_action, with_item, is_rule_key, all_keys, is_top_key, are_tables, tables_of, rule_tables, rule_at, rules_from};
 
 use crate::fault::PolicyFault;
 use crate::policy::MAX_RULES;
@@ -15,6 +15,26 @@ use crate::sound::{is_any_pattern, is_taken};
 use creds::Name;
 use std::alloc::Global;
 use toml::{Table, Value};
+
+/// What the table of a rule holds at its keys.
+#[derive(Drop)]
+struct Settings<'a> {
+    name: &'a Value,
+    effect: &'a Value,
+    clerk: &'a Value,
+    maildrop: &'a Value,
+    class: &'a Value,
+    actions: &'a Value,
+}
+
+/// Whom and what a rule is about, under its own name.
+#[derive(Drop)]
+struct Subject {
+    name: Name,
+    clerk: Pattern,
+    maildrop: Pattern,
+    class: Pattern,
+}
 
 fn field<'a>(table: &'a Table, key: &str, n: usize) -> Result<&'a Value, PolicyFault>
     ensures { MatchResult result (λ v. get_member key.now (table_view table.now) ≡ Some (view v.now))
@@ -120,11 +140,10 @@ fn knows_all_keys(table: &Table) -> bool
     has_rule_keys(table)
 }
 
-#[tactic(auto, unfolding(crate::specs::PolicyText::rule_of))]
-fn read_rule(n: usize, before: &[Rule], table: &Table) -> Result<Rule, PolicyFault>
-    ensures value { result ≡ rule_of n before.now (table_view table.now) }
-    ensures sound { IfOk result (λ r. is_sound_rule r ≡ true) }
-    ensures own_name { IfOk result (λ r. has_name before.now r.name ≡ false) }
+#[tactic(auto, unfolding(crate::specs::PolicyText::settings_of))]
+fn read_settings(n: usize, table: &Table) -> Result<Settings<'_>, PolicyFault>
+    ensures ok { IfOk result (λ s. settings_of n (table_view table.now) ≡ Ok (seen s)) }
+    ensures fault { IfErr result (λ e. settings_of n (table_view table.now) ≡ Err e) }
 {
     let name = field(table, "name", n)?;
     let effect = field(table, "effect", n)?;
@@ -135,19 +154,7 @@ fn read_rule(n: usize, before: &[Rule], table: &Table) -> Result<Rule, PolicyFau
     if !knows_all_keys(table) {
         return Err(PolicyFault::UnknownKey(n));
     }
-    let name = read_rule_name(name).ok_or(PolicyFault::BadName(n))?;
-    let clerk = read_pattern(clerk).ok_or(PolicyFault::BadName(n))?;
-    let maildrop = read_pattern(maildrop).ok_or(PolicyFault::BadName(n))?;
-    let class = read_pattern(class).ok_or(PolicyFault::BadName(n))?;
-    if is_taken(before, &name) {
-        return Err(PolicyFault::DoubleName(n));
-    }
-    let effect = read_effect(effect).ok_or(PolicyFault::BadEffect(n))?;
-    let actions = read_actions(actions).ok_or(PolicyFault::BadActions(n))?;
-    if actions.open && !is_any_pattern(&class) {
-        return Err(PolicyFault::OpenWithClass(n));
-    }
-    Ok(Rule {
+    Ok(Settings {
         name,
         effect,
         clerk,
@@ -155,6 +162,59 @@ fn read_rule(n: usize, before: &[Rule], table: &Table) -> Result<Rule, PolicyFau
         class,
         actions,
     })
+}
+
+#[tactic(auto, unfolding(crate::specs::PolicyText::subject_of))]
+fn read_subject(n: usize, before: &[Rule], settings: &Settings<'_>) -> Result<Subject, PolicyFault>
+    ensures value { result ≡ subject_of n before.now (seen settings.now) }
+    ensures sound { IfOk result (λ s. is_sound_subject s ≡ true) }
+    ensures own_name { IfOk result (λ s. has_name before.now s.name ≡ false) }
+{
+    let name = read_rule_name(settings.name).ok_or(PolicyFault::BadName(n))?;
+    let clerk = read_pattern(settings.clerk).ok_or(PolicyFault::BadName(n))?;
+    let maildrop = read_pattern(settings.maildrop).ok_or(PolicyFault::BadName(n))?;
+    let class = read_pattern(settings.class).ok_or(PolicyFault::BadName(n))?;
+    if is_taken(before, &name) {
+        return Err(PolicyFault::DoubleName(n));
+    }
+    Ok(Subject {
+        name,
+        clerk,
+        maildrop,
+        class,
+    })
+}
+
+#[tactic(auto, unfolding(crate::specs::PolicyText::decided))]
+fn read_decided(n: usize, subject: Subject, settings: &Settings<'_>) -> Result<Rule, PolicyFault>
+    ensures value { result ≡ decided n subject (seen settings.now) }
+    ensures sound { is_sound_subject subject ≡ true → IfOk result (λ r. is_sound_rule r ≡ true) }
+    ensures name { IfOk result (λ r. r.name ≡ subject.name) }
+{
+    let effect = read_effect(settings.effect).ok_or(PolicyFault::BadEffect(n))?;
+    let actions = read_actions(settings.actions).ok_or(PolicyFault::BadActions(n))?;
+    if actions.open && !is_any_pattern(&subject.class) {
+        return Err(PolicyFault::OpenWithClass(n));
+    }
+    Ok(Rule {
+        name: subject.name,
+        effect,
+        clerk: subject.clerk,
+        maildrop: subject.maildrop,
+        class: subject.class,
+        actions,
+    })
+}
+
+#[tactic(auto, unfolding(crate::specs::PolicyText::rule_of))]
+fn read_rule(n: usize, before: &[Rule], table: &Table) -> Result<Rule, PolicyFault>
+    ensures value { result ≡ rule_of n before.now (table_view table.now) }
+    ensures sound { IfOk result (λ r. is_sound_rule r ≡ true) }
+    ensures own_name { IfOk result (λ r. has_name before.now r.name ≡ false) }
+{
+    let settings = read_settings(n, table)?;
+    let subject = read_subject(n, before, &settings)?;
+    read_decided(n, subject, &settings)
 }
 
 fn has_only_rule(table: &Table) -> bool

@@ -38,31 +38,37 @@ fn array_of_actions(actions: Actions) -> &'static str
     }
 }
 
+fn put(out: &mut Vec<u8>, octets: &[u8]) -> Result<(), AllocError>
+    ensures { OnOk result (out.new.items ≡ out.old.items ++ octets.now) }
+{
+    out.extend_from_slice(octets)
+}
+
 #[tactic(auto, unfolding(crate::specs::WrittenText::setting))]
 fn put_setting(out: &mut Vec<u8>, key: &str, value: &str) -> Result<(), AllocError>
     ensures { OnOk result (out.new.items ≡ out.old.items ++ setting key.now value.now) }
 {
-    out.extend_from_slice(key.as_bytes())?;
-    out.extend_from_slice(b" = ")?;
-    out.extend_from_slice(value.as_bytes())?;
-    out.extend_from_slice(b"\n")
+    put(out, key.as_bytes())?;
+    put(out, b" = ")?;
+    put(out, value.as_bytes())?;
+    put(out, b"\n")
 }
 
 #[tactic(auto, unfolding(crate::specs::WrittenText::setting))]
 fn put_quoted(out: &mut Vec<u8>, key: &str, text: &[u8]) -> Result<(), AllocError>
     ensures { OnOk result (out.new.items ≡ out.old.items ++ setting key.now (quoted text.now)) }
 {
-    out.extend_from_slice(key.as_bytes())?;
-    out.extend_from_slice(b" = \"")?;
-    out.extend_from_slice(text)?;
-    out.extend_from_slice(b"\"\n")
+    put(out, key.as_bytes())?;
+    put(out, b" = \"")?;
+    put(out, text)?;
+    put(out, b"\"\n")
 }
 
 #[tactic(auto, unfolding(crate::specs::WrittenText::rule_text))]
 fn put_rule(out: &mut Vec<u8>, rule: &Rule) -> Result<(), AllocError>
     ensures { OnOk result (out.new.items ≡ out.old.items ++ rule_text rule.now) }
 {
-    out.extend_from_slice(b"[[rule]]\n")?;
+    put(out, b"[[rule]]\n")?;
     put_quoted(out, "name", rule.name.as_bytes())?;
     put_quoted(out, "effect", word_of_effect(rule.effect).as_bytes())?;
     put_quoted(out, "clerk", words_of_pattern(&rule.clerk))?;

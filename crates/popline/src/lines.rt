@@ -6,6 +6,7 @@ ghost use Rattle.std.specs.Prelude.{◌≡◌, ◌++◌, OnOk, OnErr, ℕ, List,
 ghost use Rattle.std.specs.Fmt.{decimal};
 ghost use Rattle.popline.specs.Replies.{bytes_of, one_line, scan_text, uid_row_text, scan_begun, uids_begun, ScanListing, UidListing};
 
+use crate::reply::put_octets;
 use crate::texts;
 use creds::Uid;
 use std::alloc::{AllocError, Global};
@@ -15,7 +16,7 @@ pub fn begin_scan_listing(out: &mut Vec<u8>) -> Result<(), AllocError>
     ensures ok { OnOk result (out.new.items ≡ out.old.items ++ scan_begun []) }
     ensures err { OnErr result (out.new.items ≡ out.old.items) }
 {
-    out.extend_from_slice(b"+OK scan listing follows\r\n")
+    put_octets(out, b"+OK scan listing follows\r\n")
 }
 
 /// Appends the line of one message, of its number and its octets, to a scan listing that has begun.
@@ -40,7 +41,7 @@ pub fn begin_uid_listing(out: &mut Vec<u8>) -> Result<(), AllocError>
     ensures ok { OnOk result (out.new.items ≡ out.old.items ++ uids_begun []) }
     ensures err { OnErr result (out.new.items ≡ out.old.items) }
 {
-    out.extend_from_slice(b"+OK unique-id listing follows\r\n")
+    put_octets(out, b"+OK unique-id listing follows\r\n")
 }
 
 /// Appends the line of one message, of its number and its unique-id, to a listing of unique-ids that has begun.
@@ -73,7 +74,7 @@ pub fn begin_top(out: &mut Vec<u8>) -> Result<(), AllocError>
     ensures ok { OnOk result (out.new.items ≡ out.old.items ++ one_line (codes "+OK top follows")) }
     ensures err { OnErr result (out.new.items ≡ out.old.items) }
 {
-    out.extend_from_slice(b"+OK top follows\r\n")
+    put_octets(out, b"+OK top follows\r\n")
 }
 
 /// Appends the line of the dot, which ends a reply of many lines.
@@ -85,5 +86,5 @@ pub fn end_lines(out: &mut Vec<u8>) -> Result<(), AllocError>
         → out.new.items ≡ front ++ bytes_of (UidListing rows)) }
     ensures err { OnErr result (out.new.items ≡ out.old.items) }
 {
-    out.extend_from_slice(b".\r\n")
+    put_octets(out, b".\r\n")
 }

@@ -1,6 +1,6 @@
 //! What a POP3 server says, octet by octet (RFC 1939, 3 to 7; RFC 2449, 5 and 8).
 
-ghost use Rattle.std.specs.Prelude.{◌≡◌, ◌++◌, OnOk, OnErr, codes, string_bytes, take, vec_len};
+ghost use Rattle.std.specs.Prelude.{◌≡◌, ◌++◌, ℕ, List, IfOk, OnOk, OnErr, codes, string_bytes, take, vec_len};
 ghost use Rattle.popline.specs.Replies.{bytes_of};
 ghost use Rattle.popline.specs.Seen.{reply_seen};
 
@@ -110,67 +110,82 @@ impl Reply<'_> {
         match self {
             Reply::Greeting { number, boot, host } => put_text(
                 out,
-                texts::greeting(alloc, *number, *boot, *host)?,
+                texts::greeting(alloc, *number, *boot, *host),
             ),
-            Reply::LineTooLong => out.extend_from_slice(b"-ERR line too long\r\n"),
-            Reply::UnknownCommand => out.extend_from_slice(b"-ERR unknown command\r\n"),
-            Reply::WrongState => out.extend_from_slice(b"-ERR wrong state\r\n"),
-            Reply::BadArguments => out.extend_from_slice(b"-ERR bad arguments\r\n"),
-            Reply::Capabilities => out.extend_from_slice(
+            Reply::LineTooLong => put_octets(out, b"-ERR line too long\r\n"),
+            Reply::UnknownCommand => put_octets(out, b"-ERR unknown command\r\n"),
+            Reply::WrongState => put_octets(out, b"-ERR wrong state\r\n"),
+            Reply::BadArguments => put_octets(out, b"-ERR bad arguments\r\n"),
+            Reply::Capabilities => put_octets(
+                out,
                 b"+OK capability list follows\r\nTOP\r\nUSER\r\nUIDL\r\nRESP-CODES\r\nPIPELINING\r\n.\r\n",
             ),
-            Reply::SendPass => out.extend_from_slice(b"+OK send PASS\r\n"),
-            Reply::LoginFailed => out.extend_from_slice(b"-ERR login failed\r\n"),
-            Reply::LoginFailedClosing => out.extend_from_slice(b"-ERR login failed, closing\r\n"),
-            Reply::DeniedBy(rule) => put_text(out, texts::denied_by(alloc, *rule)?),
-            Reply::NoSuchMaildrop => out.extend_from_slice(b"-ERR no such maildrop\r\n"),
-            Reply::InUse => out.extend_from_slice(b"-ERR [IN-USE] maildrop is in use\r\n"),
+            Reply::SendPass => put_octets(out, b"+OK send PASS\r\n"),
+            Reply::LoginFailed => put_octets(out, b"-ERR login failed\r\n"),
+            Reply::LoginFailedClosing => put_octets(out, b"-ERR login failed, closing\r\n"),
+            Reply::DeniedBy(rule) => put_text(out, texts::denied_by(alloc, *rule)),
+            Reply::NoSuchMaildrop => put_octets(out, b"-ERR no such maildrop\r\n"),
+            Reply::InUse => put_octets(out, b"-ERR [IN-USE] maildrop is in use\r\n"),
             Reply::MaildropHas { messages, octets } => put_text(
                 out,
-                texts::maildrop_has(alloc, *messages, *octets)?,
+                texts::maildrop_has(alloc, *messages, *octets),
             ),
             Reply::DropListing { messages, octets } => put_text(
                 out,
-                texts::drop_listing(alloc, *messages, *octets)?,
+                texts::drop_listing(alloc, *messages, *octets),
             ),
             Reply::ScanLine { number, octets } => put_text(
                 out,
-                texts::scan_line(alloc, *number, *octets)?,
+                texts::scan_line(alloc, *number, *octets),
             ),
-            Reply::UidLine { number, uid } => put_text(out, texts::uid_line(alloc, *number, *uid)?),
+            Reply::UidLine { number, uid } => put_text(out, texts::uid_line(alloc, *number, *uid)),
             Reply::Message {
                 octets,
                 stuffed_lines,
-            } => put_lines(
-                out,
-                texts::message_follows(alloc, *octets)?.as_bytes(),
-                *stuffed_lines,
-            ),
+            } => put_message(out, texts::message_follows(alloc, *octets), *stuffed_lines),
             Reply::TopPart { stuffed_lines } => put_lines(
                 out,
                 b"+OK top follows\r\n",
                 *stuffed_lines,
             ),
-            Reply::Marked(number) => put_text(out, texts::marked(alloc, *number)?),
-            Reply::Okay => out.extend_from_slice(b"+OK\r\n"),
-            Reply::NoSuchMessage => out.extend_from_slice(b"-ERR no such message\r\n"),
-            Reply::AlreadyMarked(number) => put_text(out, texts::already_marked(alloc, *number)?),
-            Reply::Bye => out.extend_from_slice(b"+OK bye\r\n"),
-            Reply::RemovalDenied(rule) => put_text(out, texts::removal_denied(alloc, *rule)?),
-            Reply::RemovalFailed => out.extend_from_slice(
-                b"-ERR some deleted messages not removed\r\n",
-            ),
-            Reply::StoreFailed => out.extend_from_slice(b"-ERR store failed\r\n"),
+            Reply::Marked(number) => put_text(out, texts::marked(alloc, *number)),
+            Reply::Okay => put_octets(out, b"+OK\r\n"),
+            Reply::NoSuchMessage => put_octets(out, b"-ERR no such message\r\n"),
+            Reply::AlreadyMarked(number) => put_text(out, texts::already_marked(alloc, *number)),
+            Reply::Bye => put_octets(out, b"+OK bye\r\n"),
+            Reply::RemovalDenied(rule) => put_text(out, texts::removal_denied(alloc, *rule)),
+            Reply::RemovalFailed => put_octets(out, b"-ERR some deleted messages not removed\r\n"),
+            Reply::StoreFailed => put_octets(out, b"-ERR store failed\r\n"),
         }
     }
 }
 
-/// Appends a text.
-fn put_text(out: &mut Vec<u8>, text: String) -> Result<(), AllocError>
-    ensures ok { OnOk result (out.new.items ≡ out.old.items ++ string_bytes text) }
+/// Appends octets.
+pub(crate) fn put_octets(out: &mut Vec<u8>, octets: &[u8]) -> Result<(), AllocError>
+    ensures ok { OnOk result (out.new.items ≡ out.old.items ++ octets.now) }
     ensures err { OnErr result (out.new.items ≡ out.old.items) }
 {
-    out.extend_from_slice(text.as_bytes())
+    out.extend_from_slice(octets)
+}
+
+/// Appends a text, where memory for it was not refused.
+fn put_text(out: &mut Vec<u8>, text: Result<String, AllocError>) -> Result<(), AllocError>
+    ensures ok { (octets : List ℕ) → IfOk text (λ t. string_bytes t ≡ octets) → OnOk result (out.new.items ≡ out.old.items ++ octets) }
+    ensures err { OnErr result (out.new.items ≡ out.old.items) }
+{
+    out.extend_from_slice(text?.as_bytes())
+}
+
+/// Appends a message's first line, where memory for it was not refused, its lines and the line of the dot.
+fn put_message(
+    out: &mut Vec<u8>,
+    first: Result<String, AllocError>,
+    lines: &[u8],
+) -> Result<(), AllocError>
+    ensures ok { (line : List ℕ) → IfOk first (λ t. string_bytes t ≡ line) → OnOk result (out.new.items ≡ out.old.items ++ (line ++ lines.now ++ codes ".\r\n")) }
+    ensures err { OnErr result (out.new.items ≡ out.old.items) }
+{
+    put_lines(out, first?.as_bytes(), lines)
 }
 
 /// Appends a first line, other lines and the line of the dot. After an error nothing is appended.

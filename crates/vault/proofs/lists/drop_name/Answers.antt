@@ -5,3 +5,6 @@ use Rattle.vault.proofs.lists.drop_name.Goals as goal
 
 pub returns-clause-items : goal.returns-clause-items
 returns-clause-items c = filter_same _ _ _ (λ x b f' k. search rules) _ _ c.retain.ensures.filtered
+
+pub returns-clause-answer : goal.returns-clause-answer
+returns-clause-answer c = search rules

@@ -1,0 +1,6 @@
+-- The octets themselves.
+use Rattle.std.proofs.Common.{rules}
+use Rattle.creds.proofs.name.Name.as_bytes.Goals as goal
+
+pub returns-clause-value : goal.returns-clause-value
+returns-clause-value c = search rules

@@ -1,0 +1,6 @@
+-- How many there are.
+use Rattle.std.proofs.Common.{rules}
+use Rattle.mailtext.proofs.kept.MailText.octets.Goals as goal
+
+pub returns-clause-value : goal.returns-clause-value
+returns-clause-value c = search rules

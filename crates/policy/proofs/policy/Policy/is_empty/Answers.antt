@@ -1,0 +1,6 @@
+-- No rule is there.
+use Rattle.std.proofs.Common.{rules}
+use Rattle.policy.proofs.policy.Policy.is_empty.Goals as goal
+
+pub returns : goal.returns
+returns c = search rules

@@ -1,0 +1,6 @@
+-- The line of the dot.
+use Rattle.std.proofs.Common.{rules}
+use Rattle.popline.proofs.lines.end_lines.Goals as goal
+
+pub returns-clause-ok : goal.returns-clause-ok
+returns-clause-ok c = search rules
