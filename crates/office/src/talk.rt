@@ -7,7 +7,7 @@ use creds::LoginName;
 use policy::Policy;
 
 /// What the next line is answered by, beside the line itself.
-#[derive(Clone, Copy, Debug)]
+#[derive(Clone, Copy)]
 pub struct Talk {
     /// The login name that the last line left in force.
     pub user: Option<LoginName>,
@@ -42,7 +42,7 @@ pub struct Desk<'a> {
 }
 
 /// What became of a line that was answered.
-#[derive(Clone, Copy, Debug, PartialEq, Eq)]
+#[derive(Clone, Copy)]
 pub enum Acted {
     Done,
     /// The store refused, and the reply says so.

@@ -16,3 +16,6 @@ returns-clause-opened g c T k clean =
     start_stands g.V.Vault.holds g.V.Vault.holds c.args.vault _ T c.args.host.now c.args.boot c.args.limits k done.held (same_ok _ _ done.answer) refl c.in-Ok.ensures.ok refl refl
     (start_formed T c.args.host.now c.args.boot c.args.limits h boot low high)
     (λ q. ap (λ es. lookup (is_at (nat_cmp q)) es) c.new.ensures.empty) (λ d. ap (λ es. lookup (is_at (name_cmp d)) es) c.new-in-Ok-policy.ensures.empty)
+
+pub returns-then-is_none-clause-host : goal.returns-then-is_none-clause-host
+returns-then-is_none-clause-host g c = search rules

@@ -1,3 +1,4 @@
+use Rattle.std.proofs.Common.{rules}
 use Rattle.office.proofs.office.Office.step.Goals as goal
 
 pub returns-in-Connect-clause-stands : goal.returns-in-Connect-clause-stands
@@ -20,3 +21,6 @@ returns-in-Admin-clause-stands g c T st clean = rw c.in-Admin.is (c.administer.e
 
 pub returns-in-Tick-clause-stands : goal.returns-in-Tick-clause-stands
 returns-in-Tick-clause-stands g c T st clean = rw c.in-Tick.is (c.tick.ensures.stands T st clean)
+
+pub returns-in-Bytes-clause-outcome : goal.returns-in-Bytes-clause-outcome
+returns-in-Bytes-clause-outcome g c = search rules
