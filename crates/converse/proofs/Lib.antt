@@ -6,3 +6,4 @@ pub mod Events
 pub mod Takings
 pub mod Ends
 pub mod Clauses
+mod Telling

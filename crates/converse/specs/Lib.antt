@@ -1,3 +1,6 @@
 pub mod Talk
 pub mod Talked
 pub mod Conversing
+pub mod FaultNames
+pub mod PolicyFile
+pub mod Told

@@ -1,11 +1,20 @@
-//! One conversation of a client over an office, from a reader and to a writer; and the law on what it removes.
+//! What runs over readers and writers: one conversation of a client over an office, and the law on what it removes; and the
+//! runs that popbox's program makes: a script of events, a conversation over a store, and the check of a policy's file.
 #![tactic(auto)]
 
 ghost use Rattle.converse.specs.Talk.{RemovesByQuitAlone};
 
+mod answers;
+pub mod check_policy;
 mod conversation;
+mod fault;
+mod fields;
+pub mod replay;
+pub mod script;
+pub mod talking;
 
 pub use conversation::{TalkFault, talk};
+pub use fault::{Fault, fault_text, read_fault, tell_fault};
 
 /// A conversation removes what its QUIT removes, and nothing else.
 pub fn removes_by_quit_alone()

@@ -1,8 +1,8 @@
 //! Tests of a script's deposits and administration: what they are answered, and what clerks' logins are.
 
-use crate::replay::tell;
-use crate::script::{Line, read_script};
 use crate::tests::{Ran, expect, expect_output, run_at};
+use converse::replay::tell;
+use converse::script::{Line, read_script};
 use creds::Credential;
 use office::{AdminCommand, Outcome};
 use std::alloc::Global;

@@ -1,7 +1,7 @@
 //! Tests of check_policy: what is printed of good policies, and of each fault.
 
-use crate::check_policy::check_policy;
 use crate::tests::{Ran, Refusing, expect};
+use converse::check_policy::check_policy;
 use std::alloc::{AllocError, Global};
 use std::io::{BufWriter, Read};
 use std::test::Fail;

@@ -3,40 +3,35 @@
 
 #[cfg(test)]
 mod administration_tests;
-mod answers;
-mod check_policy;
 #[cfg(test)]
 mod check_policy_tests;
 mod command_line;
 #[cfg(test)]
 mod connection_tests;
-mod fault;
-mod fields;
 #[cfg(test)]
 mod libraries;
 #[cfg(test)]
 mod office_tests;
 #[cfg(test)]
 mod pipelining_tests;
-mod replay;
-mod script;
 #[cfg(test)]
 mod session_tests;
 #[cfg(test)]
 mod store_tests;
-mod talk;
 #[cfg(test)]
 mod tests;
 #[cfg(test)]
 mod unsound_tests;
 
-use check_policy::check_policy;
 use clap::ArgMatches;
 use clap::error::ErrorKind;
 use command_line::make_command;
-use fault::{Fault, read_fault, tell_fault};
-use replay::replay;
-use sqlite::{FileFrom, FileStore, Wary};
+use converse::check_policy::check_policy;
+use converse::replay::replay;
+use converse::talking::talk;
+use converse::{Fault, read_fault, tell_fault};
+use sqlite::{FileStore, Wary};
+use sqlite_disk::Disk;
 use sqlvault::SqlVault;
 use std::alloc::Global;
 use std::io::{BufWriter, Read, Write};
@@ -44,11 +39,7 @@ use std::process::ExitCode;
 use std::rt::{Env, Files};
 use std::time::Clock;
 use std::{env, fs, io};
-use talk::talk;
-use vault::{PlainVault, Vault, VaultFault};
-
-/// A store in a file. A torn write may leave any octets in what was being written.
-type StoreFile = SqlVault<FileStore<FileFrom<Wary>>>;
+use vault::{PlainVault, Vault};
 
 /// The exit status of a command line that can't be read.
 const UNREADABLE: u8 = 2;
@@ -74,19 +65,33 @@ fn run<E: Write>(rt: &HostRuntime, err: &mut E) -> Result<u8, Fault> {
             return Ok(UNREADABLE);
         }
     };
+    run_words(rt, words.as_slice(), err)
+}
+
+/// Does what the words of a command line ask for.
+fn run_words<E: Write>(rt: &HostRuntime, words: &[String], err: &mut E) -> Result<u8, Fault> {
     let command = make_command(rt.alloc())?;
-    match command.try_get_matches_from(words.as_slice()) {
-        Ok(matches) => match matches.subcommand() {
-            Some(("replay", options)) => run_replay(rt, options, err),
-            Some(("talk", options)) => run_talk(rt, options, err),
-            Some(("check-policy", options)) => run_check_policy(rt, options, err),
-            _ => Ok(UNREADABLE),
-        },
+    match command.try_get_matches_from(words) {
+        Ok(matches) => run_subcommand(rt, &matches, err),
         Err(error) if error.kind() == ErrorKind::OutOfMemory => Err(Fault::OutOfMemory),
         Err(error) => {
             error.print(rt).map_err(|_| Fault::CannotWrite)?;
             Ok(error.exit_code() as u8)
         }
+    }
+}
+
+/// Does what a subcommand asks for.
+fn run_subcommand<E: Write>(
+    rt: &HostRuntime,
+    matches: &ArgMatches<'_>,
+    err: &mut E,
+) -> Result<u8, Fault> {
+    match matches.subcommand() {
+        Some(("replay", options)) => run_replay(rt, options, err),
+        Some(("talk", options)) => run_talk(rt, options, err),
+        Some(("check-policy", options)) => run_check_policy(rt, options, err),
+        _ => Ok(UNREADABLE),
     }
 }
 
@@ -113,23 +118,38 @@ fn replay_from<S: Read, E: Write>(
     err: &mut E,
 ) -> Result<u8, Fault> {
     match options.get_str("store") {
-        Some(path) => {
-            let vault = open_store(rt, path)?;
-            let (ran, vault) = replay_over(rt, script, vault, options, err);
-            close_store(vault);
-            ran
-        }
+        Some(path) => replay_in_file(rt, script, path, options, err),
         None => replay_over(rt, script, PlainVault::new(rt.alloc()), options, err).0,
     }
 }
 
-/// Opens the store in the file at a path, or makes it.
-fn open_store(rt: &HostRuntime, path: &str) -> Result<StoreFile, VaultFault> {
-    SqlVault::open(rt, path, Wary)
+/// Runs a script over the store in the file at a path.
+fn replay_in_file<S: Read, E: Write>(
+    rt: &HostRuntime,
+    script: &mut S,
+    path: &str,
+    options: &ArgMatches<'_>,
+    err: &mut E,
+) -> Result<u8, Fault> {
+    let vault = SqlVault::open(rt, path, Wary)?;
+    replay_and_close(rt, script, vault, options, err)
+}
+
+/// Runs a script over a store, which is then closed.
+fn replay_and_close<D: Disk + Drop, S: Read, E: Write>(
+    rt: &HostRuntime,
+    script: &mut S,
+    vault: SqlVault<FileStore<D>>,
+    options: &ArgMatches<'_>,
+    err: &mut E,
+) -> Result<u8, Fault> {
+    let (ran, vault) = replay_over(rt, script, vault, options, err);
+    close_store(vault);
+    ran
 }
 
 /// Closes the store's file. What was done is in it or in the log beside it, so that a failure loses nothing.
-fn close_store(vault: StoreFile) {
+fn close_store<D: Disk + Drop>(vault: SqlVault<FileStore<D>>) {
     let _ = vault.into_connection().close();
 }
 
@@ -161,10 +181,33 @@ fn run_talk<E: Write>(
         Some(boot) => boot,
         None => milliseconds(rt)?,
     };
-    let vault = open_store(rt, options.get_str("store").unwrap_or(""))?;
+    let path = options.get_str("store").unwrap_or("");
+    talk_in_file(rt, path, boot, options, err)
+}
+
+/// Has a conversation over the store in the file at a path.
+fn talk_in_file<E: Write>(
+    rt: &HostRuntime,
+    path: &str,
+    boot: u64,
+    options: &ArgMatches<'_>,
+    err: &mut E,
+) -> Result<u8, Fault> {
+    let vault = SqlVault::open(rt, path, Wary)?;
+    Ok(talk_and_close(rt, vault, boot, options, err))
+}
+
+/// Has a conversation over a store, which is then closed.
+fn talk_and_close<D: Disk + Drop, E: Write>(
+    rt: &HostRuntime,
+    vault: SqlVault<FileStore<D>>,
+    boot: u64,
+    options: &ArgMatches<'_>,
+    err: &mut E,
+) -> u8 {
     let (status, vault) = talk_over(rt, vault, boot, options, err);
     close_store(vault);
-    Ok(status)
+    status
 }
 
 /// The milliseconds since 1970.

@@ -1,9 +1,9 @@
 //! Tests of a client that doesn't wait for replies: by a script, as one list of events, and over stores that refuse a call.
 
 use crate::connection_tests::parts_of;
-use crate::replay::{replay, tell, write_escaped};
 use crate::session_tests::SAMPLE;
 use crate::tests::{Ran, expect};
+use converse::replay::{replay, tell, write_escaped};
 use creds::{DepositId, Name};
 use office::{AdminCommand, Event, Limits, Office, RunFault, Transcript};
 use std::alloc::Global;
@@ -196,12 +196,24 @@ fn told(alloc: Global, transcript: &Transcript) -> Result<Vec<u8>, Fail> {
     Ok(out)
 }
 
+/// The whole script.
+fn script_of(alloc: Global) -> Result<String, Fail> {
+    let (before, _) = parts_of(alloc, PIPELINED)?;
+    let (after, _) = parts_of(alloc, QUIT)?;
+    Ok(format!(in alloc; "{before}{after}")?)
+}
+
+/// What is printed of it, where the QUIT does this.
+fn said_with(alloc: Global, quit: &str) -> Result<String, Fail> {
+    let (_, before) = parts_of(alloc, PIPELINED)?;
+    let (_, after) = parts_of(alloc, quit)?;
+    Ok(format!(in alloc; "{before}{after}")?)
+}
+
 #[test]
 fn pipelined_as_one_run(rt: HostRuntime) -> Result<(), Fail> {
     let alloc = rt.alloc();
-    let (_, before) = parts_of(alloc, PIPELINED)?;
-    let (_, after) = parts_of(alloc, QUIT)?;
-    let want = format!(in alloc; "{before}{after}")?;
+    let want = said_with(alloc, QUIT)?;
     let transcript = run_as_one_list(alloc)?;
     let mut text = told(alloc, &transcript)?;
     text.extend_from_slice(b"ended 1\n")?;
@@ -229,15 +241,12 @@ fn has_refused_quit(alloc: Global, script: &str, free: &Ran, quit: &Ran) -> Resu
 #[test]
 fn pipelined_retrieve_delete_quit(rt: HostRuntime) -> Result<(), Fail> {
     let alloc = rt.alloc();
-    let (before, before_said) = parts_of(alloc, PIPELINED)?;
-    let (after, said) = parts_of(alloc, QUIT)?;
-    let (_, refused_said) = parts_of(alloc, REFUSED_QUIT)?;
-    let script = format!(in alloc; "{before}{after}")?;
-    let want = format!(in alloc; "{before_said}{said}")?;
+    let script = script_of(alloc)?;
+    let want = said_with(alloc, QUIT)?;
     let free = Ran::good(alloc, want.as_str())?;
     let (ran, _) = run_over(alloc, sample_vault(alloc)?, script.as_str())?;
     expect(ran, &free)?;
-    let want = format!(in alloc; "{before_said}{refused_said}")?;
+    let want = said_with(alloc, REFUSED_QUIT)?;
     let refused = Ran::good(alloc, want.as_str())?;
     assert!(rt; has_refused_quit(alloc, script.as_str(), &free, &refused)?);
     Ok(())

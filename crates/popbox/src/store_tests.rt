@@ -3,19 +3,16 @@ ghost use Rattle.std.specs.Prelude.{IsTrue, IfOk};
 ghost use Rattle.sqlite_disk.specs.Memory.{memory_is_usable};
 
 use crate::connection_tests::{OVER_A_RESTART, parts_of};
-use crate::fault::fault_text;
 use crate::session_tests::{SAMPLE, SAMPLE_SAID};
-use crate::talk::talk;
 use crate::tests::{Ran, Refusing, expect, run_on};
+use converse::fault_text;
+use converse::talking::talk;
 use sqlite::{Alter, Connection, Error, FileStore, Files, MemStore, Options};
-use sqlite_disk::Memory;
+use sqlite_disk::{Disk, Memory};
 use sqlvault::SqlVault;
 use std::alloc::Global;
 use std::test::Fail;
-use vault::{PlainVault, VaultFault};
-
-/// A store in files that are in memory.
-type Kept = SqlVault<FileStore<Memory>>;
+use vault::{PlainVault, Vault, VaultFault};
 
 fn open(alloc: Global, log: Memory, db: Memory) -> Result<Connection<FileStore<Memory>>, Error>
     requires { IsTrue (memory_is_usable log) × IsTrue (memory_is_usable db) }
@@ -26,8 +23,8 @@ fn open(alloc: Global, log: Memory, db: Memory) -> Result<Connection<FileStore<M
     }
 }
 
-fn close(conn: Connection<FileStore<Memory>>) -> Result<Memory, Error>
-    ensures { IfOk result (λ db. IsTrue (memory_is_usable db)) }
+fn close<D: Disk + Drop>(conn: Connection<FileStore<D>>) -> Result<D, Error>
+    ensures { IfOk result (λ db. IsTrue (D.Disk.is_usable db)) }
 {
     match conn.close_files() {
         Ok(Files { log: _, db }) => Ok(db),
@@ -45,48 +42,87 @@ pub fn adopted<S: Alter + Drop>(
     }
 }
 
-fn new_store(alloc: Global) -> Result<Kept, Fail> {
-    let conn = open(alloc, Memory::new(alloc), Memory::new(alloc))?;
-    Ok(adopted(alloc, conn)?)
-}
-
-/// The store, closed and opened again.
-fn reopened(alloc: Global, vault: Kept) -> Result<Kept, Fail> {
-    let db = close(vault.into_connection())?;
-    let conn = open(alloc, Memory::new(alloc), db)?;
-    Ok(adopted(alloc, conn)?)
-}
-
-/// Runs a script over a store, expects what it prints, and gives the store, closed and opened again.
-fn played(alloc: Global, vault: Kept, boot: u64, script: &str, out: &str) -> Result<Kept, Fail> {
+/// Runs a script over a store, expects what it prints, and gives the store back.
+fn played<V: Vault + Drop>(
+    alloc: Global,
+    vault: V,
+    boot: u64,
+    script: &str,
+    out: &str,
+) -> Result<V, Fail> {
     let (ran, vault) = run_on(alloc, vault, "h.test", boot, script)?;
     expect(ran, &Ran::good(alloc, out)?)?;
-    reopened(alloc, vault)
+    Ok(vault)
+}
+
+/// Does the same over a connection's store, and gives the file of the store, which is closed.
+fn played_in<D: Disk + Drop>(
+    alloc: Global,
+    conn: Connection<FileStore<D>>,
+    boot: u64,
+    script: &str,
+    out: &str,
+) -> Result<D, Fail>
+    ensures { IfOk result (λ db. IsTrue (D.Disk.is_usable db)) }
+{
+    let vault = adopted(alloc, conn)?;
+    let vault = played(alloc, vault, boot, script, out)?;
+    let db = close(vault.into_connection())?;
+    Ok(db)
+}
+
+/// Opens the store in a file, runs a script over it, expects what it prints, and gives the file, which is closed.
+fn played_from(
+    alloc: Global,
+    db: Memory,
+    boot: u64,
+    script: &str,
+    out: &str,
+) -> Result<Memory, Fail>
+    requires { IsTrue (memory_is_usable db) }
+    ensures { IfOk result (λ db. IsTrue (memory_is_usable db)) }
+{
+    let conn = open(alloc, Memory::new(alloc), db)?;
+    played_in(alloc, conn, boot, script, out)
 }
 
 #[test]
 fn two_runs_over_one_store(rt: HostRuntime) -> Result<(), Fail> {
     let alloc = rt.alloc();
-    let vault = new_store(alloc)?;
-    let vault = played(
+    let db = played_from(
         alloc,
-        vault,
+        Memory::new(alloc),
         1,
         "maildrop add orders\ndeposit orders note d1 hi\n",
         "answer added\nanswer new note.1\n",
     )?;
-    let _ = played(
+    let db = played_from(
         alloc,
-        vault,
+        db,
         1,
         "list orders\ndeposit orders note d1 hi\\n\n",
         "answer note.1 4\nanswer known note.1\n",
     )?;
+    let _ = played_from(alloc, db, 1, "", "")?;
     Ok(())
 }
 
 /// What stands in the transcript between two runs, where the store is closed and opened again.
 static RESTART: &str = "> restart 8\ndone\n";
+
+/// Plays two scripts over a new store, which is closed and opened again behind each.
+fn plays_in_turn(
+    alloc: Global,
+    first: &str,
+    first_out: &str,
+    second: &str,
+    second_out: &str,
+) -> Result<(), Fail> {
+    let db = played_from(alloc, Memory::new(alloc), 7, first, first_out)?;
+    let db = played_from(alloc, db, 8, second, second_out)?;
+    let _ = played_from(alloc, db, 8, "", "")?;
+    Ok(())
+}
 
 #[test]
 fn unique_ids_over_a_store_opened_again(rt: HostRuntime) -> Result<(), Fail> {
@@ -97,11 +133,14 @@ fn unique_ids_over_a_store_opened_again(rt: HostRuntime) -> Result<(), Fail> {
     let (script, want) = parts_of(alloc, first)?;
     let script = format!(in alloc; "{SAMPLE}{script}")?;
     let want = format!(in alloc; "{SAMPLE_SAID}{want}")?;
-    let vault = new_store(alloc)?;
-    let vault = played(alloc, vault, 7, script.as_str(), want.as_str())?;
-    let (script, want) = parts_of(alloc, second)?;
-    let _ = played(alloc, vault, 8, script.as_str(), want.as_str())?;
-    Ok(())
+    let (script_after, want_after) = parts_of(alloc, second)?;
+    plays_in_turn(
+        alloc,
+        script.as_str(),
+        want.as_str(),
+        script_after.as_str(),
+        want_after.as_str(),
+    )
 }
 
 /// A store in memory in which these statements were run.
@@ -175,19 +214,31 @@ static ROUND: &str = r"USER ann/orders\r\nPASS s3 cret\r\nRETR 1\r\nDELE 1\r\nQU
 static ROUND_SAID: &str =
     r"+OK send PASS\r\n+OK maildrop has 1 messages (4 octets)\r\n+OK 4 octets\r\nhi\r\n.\r\n+OK message 1 deleted\r\n+OK bye\r\n";
 
-/// A script of so many rounds: a deposit, a login, and the reading and the removal of the message. And what is to be printed of it.
+/// A round: a deposit, a login, and the reading and the removal of the message.
+fn write_round(script: &mut String, n: u32) -> Result<(), Fail> {
+    writeln!(script, "deposit orders note d{n} hi\nconnect\ndrain {n}")?;
+    writeln!(script, "bytes {n} {ROUND}\ndrain {n}")?;
+    Ok(())
+}
+
+/// What is to be printed of that.
+fn write_round_said(want: &mut String, n: u32) -> Result<(), Fail> {
+    writeln!(want, "answer new note.{n}\nopened {n}")?;
+    writeln!(
+        want,
+        "sent {n} +OK POP3 server ready <{n}.7@h.test>\\r\\n\ndone\ndone"
+    )?;
+    writeln!(want, "sent {n} {ROUND_SAID}\ndone\nended {n}")?;
+    Ok(())
+}
+
+/// A script of so many rounds, and what is to be printed of it.
 fn rounds(alloc: Global, count: u32) -> Result<(String, String), Fail> {
     let mut script = String::from_str(alloc, CLERK)?;
     let mut want = String::from_str(alloc, CLERK_SAID)?;
     for n in 1..=count {
-        writeln!(script, "deposit orders note d{n} hi\nconnect\ndrain {n}")?;
-        writeln!(script, "bytes {n} {ROUND}\ndrain {n}")?;
-        writeln!(want, "answer new note.{n}\nopened {n}")?;
-        writeln!(
-            want,
-            "sent {n} +OK POP3 server ready <{n}.7@h.test>\\r\\n\ndone\ndone"
-        )?;
-        writeln!(want, "sent {n} {ROUND_SAID}\ndone\nended {n}")?;
+        write_round(&mut script, n)?;
+        write_round_said(&mut want, n)?;
     }
     Ok((script, want))
 }

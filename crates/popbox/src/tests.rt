@@ -1,8 +1,8 @@
 //! Tests of replay: scripts and what they print, and each fault.
 
 use crate::command_line::make_command;
-use crate::replay::{replay, write_escaped};
-use crate::script::{Line, read_script};
+use converse::replay::{replay, write_escaped};
+use converse::script::{Line, read_script};
 use sqlvault::SqlVault;
 use std::alloc::{AllocError, Global};
 use std::io;

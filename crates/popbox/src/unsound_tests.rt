@@ -19,8 +19,8 @@ deposit orders note d2 there
 static SOUND_SAID: &str =
     "answer added\nanswer added\nanswer 1 rules\nanswer new note.1\nanswer new note.2\n";
 
-/// What makes it unsound. Two equal ids of deposits can't be made: the table's key forbids them.
-static UNSOUND: [(&str, &str); 6] = [
+/// What makes it unsound. Two equal ids of deposits take a table that was made without its key.
+static UNSOUND: [(&str, &str); 7] = [
     (
         "a hole in k",
         "DELETE FROM mail WHERE k < 3; UPDATE deposits SET k = 3 WHERE id = 'd2'",
@@ -29,6 +29,10 @@ static UNSOUND: [(&str, &str); 6] = [
     (
         "octets that don't agree",
         "UPDATE mail SET octets = 5 WHERE k = 1",
+    ),
+    (
+        "two equal ids",
+        "DROP TABLE deposits; CREATE TABLE deposits (maildrop TEXT NOT NULL, id TEXT NOT NULL, class TEXT NOT NULL, k INTEGER NOT NULL, digest BLOB NOT NULL) STRICT; INSERT INTO deposits VALUES ('orders', 'd1', 'note', 1, x'0000000000000000000000000000000000000000000000000000000000000000'); INSERT INTO deposits VALUES ('orders', 'd1', 'note', 2, x'0000000000000000000000000000000000000000000000000000000000000000')",
     ),
     ("a sheet missing", "DELETE FROM sheets WHERE mail = 1"),
     (

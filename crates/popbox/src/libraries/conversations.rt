@@ -159,16 +159,27 @@ fn add(office: &mut Office<PlainVault>, orders: Name, ann: Name) {
     administer(office, &AdminCommand::PutClerk(ann, credential));
 }
 
-/// An office whose maildrop orders has a message, which ann may remove.
-fn with_a_message(alloc: Global, orders: Name) -> Result<Office<PlainVault>, Fail> {
-    let mut office = opened(alloc).map_err(|_| "opening")?;
-    let ann = Name::read(b"ann").ok_or("name")?;
-    let id = DepositId::read(b"d1").ok_or("id")?;
-    let policy = Policy::read(alloc, ANN_ALL).map_err(|_| "policy")?;
+/// An office to which a maildrop, a clerk, a policy and a message were given.
+fn filled(
+    mut office: Office<PlainVault>,
+    orders: Name,
+    ann: Name,
+    id: DepositId,
+    policy: Policy,
+) -> Office<PlainVault> {
     add(&mut office, orders, ann);
     administer(&mut office, &AdminCommand::SetPolicy(policy));
     deposit(&mut office, orders, id);
-    Ok(office)
+    office
+}
+
+/// An office whose maildrop orders has a message, which ann may remove.
+fn with_a_message(alloc: Global, orders: Name) -> Result<Office<PlainVault>, Fail> {
+    let ann = Name::read(b"ann").ok_or("name")?;
+    let id = DepositId::read(b"d1").ok_or("id")?;
+    let policy = Policy::read(alloc, ANN_ALL).map_err(|_| "policy")?;
+    let office = opened(alloc).map_err(|_| "opening")?;
+    Ok(filled(office, orders, ann, id, policy))
 }
 
 /// How many messages a maildrop has.

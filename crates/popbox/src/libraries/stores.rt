@@ -301,19 +301,36 @@ fn pages_join_to_the_kept_text(rt: HostRuntime) -> Result<(), Fail> {
     Ok(())
 }
 
+/// Stores a clerk by a secret, then by a password: whether each call, and what is then found, is answered so.
+fn has_credentials<V: Vault>(vault: &mut V) -> Result<bool, Fail> {
+    let ann = name("ann")?;
+    let bob = name("bob")?;
+    let by_secret = secret("s3 cret")?;
+    let given = Credential::Pass([7; 32]);
+    Ok(
+        vault.put_clerk(&ann, &by_secret) == Ok(true)
+            && vault.put_clerk(&ann, &given) == Ok(false)
+            && vault.credential(&ann) == Ok(Some(given))
+            && vault.credential(&bob) == Ok(None),
+    )
+}
+
+/// Sets a policy: whether it is then in force.
+fn has_policy<V: Vault>(vault: &mut V, policy: &Policy) -> Result<bool, Fail> {
+    if vault.set_policy(policy) != Ok(()) {
+        return Ok(false);
+    }
+    let found = vault.policy()?;
+    Ok(found.rules() == policy.rules())
+}
+
 #[test]
 fn credentials_and_policy(rt: HostRuntime) -> Result<(), Fail> {
     let alloc = rt.alloc();
-    let mut vault = PlainVault::new(alloc);
-    let ann = name("ann")?;
-    let given = Credential::Pass([7; 32]);
-    assert!(rt; vault.put_clerk(&ann, &secret("s3 cret")?) == Ok(true));
-    assert!(rt; vault.put_clerk(&ann, &given) == Ok(false));
-    assert!(rt; vault.credential(&ann) == Ok(Some(given)));
-    assert!(rt; vault.credential(&name("bob")?) == Ok(None));
     let policy = Policy::read(alloc, RULE)?;
-    assert!(rt; vault.set_policy(&policy) == Ok(()));
-    assert!(rt; vault.policy()?.rules() == policy.rules());
+    let mut vault = PlainVault::new(alloc);
+    assert!(rt; has_credentials(&mut vault)?);
+    assert!(rt; has_policy(&mut vault, &policy)?);
     Ok(())
 }
 

@@ -1,0 +1,79 @@
+//! `popbox check-policy`: reads a policy's file, and prints how many rules it has or its first fault.
+
+ghost use Rattle.std.specs.Prelude.{◌≡◌, ◌≤◌, IfOk, IfSome, OnOk, OnErr, length};
+ghost use Rattle.std.specs.Io.KnownBytes.{Appends};
+ghost use Rattle.policy.specs.declared.fault.PolicyFault.{PolicyFault};
+ghost use Rattle.converse.specs.PolicyFile.{IsPolicyText, IsFaultOf, IsNoPolicyText, TellsCount};
+ghost use Rattle.converse.specs.Told.{count_line};
+
+use crate::fault::{Fault, read_fault, tell_fault};
+use policy::{Policy, PolicyFault};
+use std::alloc::Global;
+use std::io::{Read, Write};
+use std::{io, str};
+
+/// Reads a policy's file to its end, and prints `ok, N rules` to `out`, which is flushed.
+///
+/// Gives the exit status, 0 or 1. A fault has status 1 and its text on `err`: of a text that is no policy its first
+/// fault, `NotToml` also where it isn't UTF-8. Faults are found in the order: the file can't be read, its policy has a
+/// fault, `out` refuses octets. Before the last of them nothing is on `out`.
+pub fn check_policy<R: Read, W: Write, E: Write>(
+    alloc: Global,
+    file: &mut R,
+    out: &mut W,
+    err: &mut E,
+) -> u8
+    ensures status { result ≤ 1 }
+    ensures silent { result ≡ 0 → err.new ≡ err.old }
+    ensures good { result ≡ 0 → TellsCount (R.remaining file.old) (W.contents out.old) (W.contents out.new) }
+    ensures faulty { IfSome (R.remaining file.old) (λ octets. IsNoPolicyText octets → out.new ≡ out.old) }
+{
+    match tell_count(alloc, file, out) {
+        Ok(()) => 0,
+        Err(fault) => tell_fault(err, fault),
+    }
+}
+
+/// Prints how many rules the policy of a file has.
+fn tell_count<R: Read, W: Write>(alloc: Global, file: &mut R, out: &mut W) -> Result<(), Fault>
+    ensures ok { OnOk result (TellsCount (R.remaining file.old) (W.contents out.old) (W.contents out.new)) }
+    ensures faulty { IfSome (R.remaining file.old) (λ octets. IsNoPolicyText octets → out.new ≡ out.old) }
+{
+    let policy = read_file(alloc, file)?;
+    print_count(out, policy.len()).map_err(|_| Fault::CannotWrite)
+}
+
+/// The policy of a file.
+fn read_file<R: Read>(alloc: Global, file: &mut R) -> Result<Policy, Fault>
+    ensures ok { IfOk result (λ policy. IfSome (R.remaining file.old) (λ octets. IsPolicyText octets policy)) }
+    ensures fault { (fault : PolicyFault) → result ≡ Err (Fault.NoPolicy fault) → IfSome (R.remaining file.old) (λ octets. IsFaultOf octets fault) }
+{
+    let mut octets = Vec::new(alloc);
+    match file.read_to_end(&mut octets) {
+        Ok(_) => read_octets(alloc, octets.as_slice()),
+        Err(error) => Err(read_fault(&error)),
+    }
+}
+
+/// The policy that octets spell, or their first fault.
+pub(crate) fn read_octets(alloc: Global, octets: &[u8]) -> Result<Policy, Fault>
+    ensures ok { IfOk result (λ policy. IsPolicyText octets.now policy) }
+    ensures fault { (fault : PolicyFault) → result ≡ Err (Fault.NoPolicy fault) → IsFaultOf octets.now fault }
+{
+    let Ok(text) = str::from_utf8(octets) else {
+        return Err(Fault::NoPolicy(PolicyFault::NotToml));
+    };
+    match Policy::read(alloc, text) {
+        Ok(policy) => Ok(policy),
+        Err(PolicyFault::NoMemory) => Err(Fault::OutOfMemory),
+        Err(fault) => Err(Fault::NoPolicy(fault)),
+    }
+}
+
+/// Prints a count of rules.
+fn print_count<W: Write>(out: &mut W, count: usize) -> io::Result<()>
+    ensures { OnOk result (Appends (W.contents out.old) (W.contents out.new) (count_line count)) }
+{
+    writeln!(out, "ok, {count} rules")?;
+    out.flush()
+}

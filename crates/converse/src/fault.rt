@@ -1,0 +1,157 @@
+//! Why a run stops, and how that is told on standard error.
+
+ghost use Rattle.std.specs.Prelude.{◌≡◌, ◌↔◌, ◌⊎◌, OnOk, Some};
+ghost use Rattle.std.specs.IoError.{error_kind};
+ghost use Rattle.std.specs.Io.KnownBytes.{Appends};
+ghost use Rattle.converse.specs.Told.{fault_text as text_of, fault_line};
+ghost use Rattle.converse.specs.FaultNames.{store_fault_name, talk_fault_name};
+
+use crate::conversation::TalkFault;
+use crate::script::ScriptFault;
+use office::OpenFault;
+use policy::PolicyFault;
+use std::alloc::{AllocError, AllocFailed};
+use std::io::{ErrorKind, Write};
+use std::{fmt, io};
+use vault::VaultFault;
+
+/// Why a run stopped. Its text is what standard error says behind `popbox: `.
+#[derive(Clone, Copy, Debug, PartialEq, Eq)]
+pub enum Fault {
+    /// The file can't be opened or read.
+    CannotRead,
+    /// The script's line of this number, from 1, is no event.
+    BadEvent(u64),
+    /// The host name isn't of its form.
+    BadHost,
+    /// The store can't be opened, or refused as an office was opened over it.
+    Store(VaultFault),
+    /// The conversation was broken off.
+    Talk(TalkFault),
+    /// The file holds no policy, for this cause, which isn't want of memory.
+    NoPolicy(PolicyFault),
+    /// The clock can't be read.
+    NoClock,
+    /// Standard output refuses octets.
+    CannotWrite,
+    /// Memory ran out.
+    OutOfMemory,
+}
+
+impl fmt::Display for Fault {
+    ghost output = { λ fault. Some (text_of fault) };
+
+    fn fmt<W: fmt::Write>(&self, f: &mut fmt::Formatter<W>) -> fmt::Result {
+        match self {
+            Fault::CannotRead => write!(f, "cannot read file"),
+            Fault::BadEvent(number) => write!(f, "line {number}: bad event"),
+            Fault::BadHost => write!(f, "BadHost"),
+            Fault::Store(fault) => f.write_str(fault_text(fault)),
+            Fault::Talk(fault) => f.write_str(talk_fault_text(fault)),
+            Fault::NoPolicy(fault) => write!(f, "{fault}"),
+            Fault::NoClock => write!(f, "cannot read clock"),
+            Fault::CannotWrite => write!(f, "cannot write"),
+            Fault::OutOfMemory => write!(f, "out of memory"),
+        }
+    }
+}
+
+impl From<AllocError> for Fault {
+    fn from(_: AllocError) -> Fault {
+        Fault::OutOfMemory
+    }
+}
+
+impl<T: Drop> From<AllocFailed<T>> for Fault {
+    fn from(_: AllocFailed<T>) -> Fault {
+        Fault::OutOfMemory
+    }
+}
+
+impl From<ScriptFault> for Fault {
+    fn from(fault: ScriptFault) -> Fault {
+        match fault {
+            ScriptFault::BadEvent(number) => Fault::BadEvent(number),
+            ScriptFault::NoMemory => Fault::OutOfMemory,
+        }
+    }
+}
+
+impl From<OpenFault> for Fault {
+    fn from(fault: OpenFault) -> Fault {
+        match fault {
+            OpenFault::BadHost => Fault::BadHost,
+            OpenFault::Store => Fault::Store(VaultFault::Store),
+            OpenFault::NoMemory => Fault::OutOfMemory,
+        }
+    }
+}
+
+impl From<VaultFault> for Fault {
+    fn from(fault: VaultFault) -> Fault {
+        Fault::Store(fault)
+    }
+}
+
+impl From<TalkFault> for Fault {
+    fn from(fault: TalkFault) -> Fault {
+        Fault::Talk(fault)
+    }
+}
+
+/// The name of a store's fault, as the variant is spelled.
+pub fn fault_text(fault: &VaultFault) -> &'static str
+    ensures { result.now ≡ store_fault_name fault.now }
+{
+    match fault {
+        VaultFault::NoMaildrop => "NoMaildrop",
+        VaultFault::Conflict => "Conflict",
+        VaultFault::Full => "Full",
+        VaultFault::Store => "Store",
+        VaultFault::NoMemory => "NoMemory",
+        VaultFault::NotEmpty => "NotEmpty",
+        VaultFault::NotOurs => "NotOurs",
+        VaultFault::OldVersion => "OldVersion",
+        VaultFault::NoClerk => "NoClerk",
+    }
+}
+
+/// The name of a conversation's fault, as the variant is spelled.
+fn talk_fault_text(fault: &TalkFault) -> &'static str
+    ensures { result.now ≡ talk_fault_name fault.now }
+{
+    match fault {
+        TalkFault::Read => "Read",
+        TalkFault::Write => "Write",
+        TalkFault::TooManyConnections => "TooManyConnections",
+        TalkFault::NoMemory => "NoMemory",
+        TalkFault::Endless => "Endless",
+    }
+}
+
+/// What a file's refusal to be opened or read is told as.
+pub fn read_fault(error: &io::Error) -> Fault
+    ensures memory { (result ≡ Fault.OutOfMemory) ↔ (error_kind error.now ≡ ErrorKind.OutOfMemory) }
+    ensures cause { (result ≡ Fault.CannotRead) ⊎ (result ≡ Fault.OutOfMemory) }
+{
+    match error.kind() {
+        ErrorKind::OutOfMemory => Fault::OutOfMemory,
+        _ => Fault::CannotRead,
+    }
+}
+
+/// Writes the line that tells a fault.
+fn write_fault<E: Write>(err: &mut E, fault: Fault) -> io::Result<()>
+    ensures { OnOk result (Appends (E.contents err.old) (E.contents err.new) (fault_line fault)) }
+{
+    writeln!(err, "popbox: {fault}")
+}
+
+/// Tells a fault on standard error, and gives the exit status, which is 1.
+/// Where `err` refuses octets the status alone tells it.
+pub fn tell_fault<E: Write>(err: &mut E, fault: Fault) -> u8
+    ensures { result ≡ 1 }
+{
+    let _ = write_fault(err, fault);
+    1
+}

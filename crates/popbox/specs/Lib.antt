@@ -1,3 +1,0 @@
-pub mod FaultNames
-pub mod PolicyFile
-pub mod Told
