@@ -1,4 +1,4 @@
-use Rattle.std.proofs.Common.{◌≡◌, true, Ok, sym, subst, ap, ◌∙◌}
+use Rattle.std.proofs.Common.{◌≡◌, true, Ok, sym, subst, ap, ◌∙◌, rules}
 use Rattle.std.specs.Prelude.{is_some}
 use Rattle.sqlite.specs.Held.{state}
 use Rattle.sqlite.specs.State.{HasCleanDisk, IsUnchanged}
@@ -73,3 +73,6 @@ returns-in-Err-drop_clerk-clause-stop g c held clean2 up h0 =
       tt,
       subst (λ name. IsClerkDropped (Keeps to) held name (Ok tt)) c.as_bytes.ensures.value (dropped (Keeps to) held text there (keeps_dropped held text from to change k)),
     )) h1
+
+pub returns-in-Ok-false-clause-done : goal.returns-in-Ok-false-clause-done
+returns-in-Ok-false-clause-done g c = search rules

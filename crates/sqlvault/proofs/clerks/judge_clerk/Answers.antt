@@ -1,4 +1,4 @@
-use Rattle.std.proofs.Common.{◌≡◌, false, min, length, sym, ◌∙◌, arith}
+use Rattle.std.proofs.Common.{◌≡◌, false, min, length, sym, ◌∙◌, arith, rules}
 use Rattle.std.specs.Prelude.{is_some}
 use Rattle.sqlite.specs.Held.{state}
 use Rattle.sqlite.specs.State.{HasCleanDisk, IsUnchanged}
@@ -123,3 +123,6 @@ returns-in-Err-clerk_count-clause-stop g c k clean2 up0 h0 =
     let clean1 : HasCleanDisk s1 = clean_before s1 s2 c.clerk_count.ensures.survives.clean clean2 in
     let h1 = holds_unchanged s0 s1 k (c.in-Ok-false.ensures.same clean1 h0.tables) h0 in
     looked s1 s2 k (λ d o m. g.met.S.Store.settled c.has_clerk.new.conn.store d o m) clean2 c.clerk_count.ensures.survives (c.in-Ok-false.ensures.same clean1 h0.tables).0.is_open h1
+
+pub returns-in-Ok-true-clause-judged : goal.returns-in-Ok-true-clause-judged
+returns-in-Ok-true-clause-judged g c = search rules

@@ -1,4 +1,4 @@
-use Rattle.std.proofs.Common.{◌∙◌}
+use Rattle.std.proofs.Common.{◌∙◌, rules}
 use Rattle.sqlite.specs.Held.{state}
 use Rattle.sqlite.specs.State.{HasCleanDisk, IsUnchanged}
 use Rattle.vault.specs.Changes.{kept_in}
@@ -148,3 +148,6 @@ returns-in-Err-heads-clause-clean g c clean2 =
 
 pub returns-in-Err-heads-clause-up : goal.returns-in-Err-heads-clause-up
 returns-in-Err-heads-clause-up g c k clean2 up0 h0 own = absurd (not_own (Unit {0}) c.in-Err-heads.error own)
+
+pub returns-in-Ok-false-clause-done : goal.returns-in-Ok-false-clause-done
+returns-in-Ok-false-clause-done g c = search rules
