@@ -7,3 +7,4 @@ pub mod Takings
 pub mod Ends
 pub mod Clauses
 mod Telling
+pub mod Escaping

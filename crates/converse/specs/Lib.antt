@@ -4,3 +4,4 @@ pub mod Conversing
 pub mod FaultNames
 pub mod PolicyFile
 pub mod Told
+pub mod Escapes

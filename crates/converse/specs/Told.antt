@@ -9,6 +9,7 @@ use Rattle.office.specs.Outcomes.{Outcome, Reason, NoSuchConnection, NotReady, P
 use Rattle.office.specs.Outcomes as outcome
 use Rattle.office.specs.Events.{Trace}
 use Rattle.office.specs.Trace.{is_open}
+use Rattle.converse.specs.Escapes.{escaped}
 use Rattle.converse.specs.FaultNames.{store_fault_name, talk_fault_name}
 use Rattle.converse.specs.declared.fault.Fault.{Fault}
 use Rattle.converse.specs.declared.fault.Fault.TheVariants.{CannotRead, BadEvent, BadHost, Store, Talk, NoPolicy, NoClock, CannotWrite, OutOfMemory}
@@ -64,6 +65,10 @@ outcome_lines outcome.Failed = codes "failed\n"
 outcome_lines outcome.NoMemory = codes "no memory\n"
 outcome_lines (outcome.Ignored reason) = codes "ignored: " ++ reason_name reason ++ codes "\n"
 outcome_lines (outcome.Answered answer) = answer_lines (body_of answer)
+
+-- the line that tells what a connection was sent
+abbrev pub sent_line : (c : ℕ) (octets : List ℕ) → List ℕ
+sent_line c octets = codes "sent " ++ decimal c ++ codes " " ++ escaped octets ++ codes "\n"
 
 -- ---- connections that ended
 

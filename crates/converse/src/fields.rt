@@ -1,8 +1,9 @@
 //! The parts of a script's line: fields that one space parts, names, numbers, and a TEXT at the end.
 
-ghost use Rattle.std.specs.Prelude.{◌≡◌, ◌+◌, ◌*◌, ◌^◌, ◌<◌, ◌≤◌, ◌≢◌, ◌∷◌, ◌++◌, ℕ, List, Contains, MatchOption, IsSomeAnd, length, vec_len, IfOk, IfSome, IfNone, SomeIff};
+ghost use Rattle.std.specs.Prelude.{◌≡◌, ◌+◌, ◌*◌, ◌^◌, ◌<◌, ◌≤◌, ◌≢◌, ◌∷◌, ◌++◌, ℕ, List, Contains, MatchOption, IsSomeAnd, length, vec_len, IfOk, IfSome, IfNone, SomeIff, option_map, []};
 ghost use Rattle.std.specs.Char.{digit_value};
 ghost use Rattle.std.specs.Str.Parse.{IsNumeral, digits_value};
+ghost use Rattle.converse.specs.Escapes.{led, unescaped};
 
 use std::alloc::{AllocError, Global};
 use std::str;
@@ -52,7 +53,7 @@ pub fn read_number(field: &[u8]) -> Option<u64>
 /// The octets that a TEXT stands for. `None` where a `\` begins no escape.
 pub fn unescape(alloc: Global, text: &[u8]) -> Result<Option<Vec<u8>>, AllocError>
     ensures short { IfOk result (λ octets. IfSome octets (λ v. vec_len v ≤ length text.now)) }
-    ensures plain { ¬ (Contains text.now BACKSLASH) → IfOk result (λ octets. IsSomeAnd octets (λ v. v.items ≡ text.now)) }
+    ensures is { IfOk result (λ octets. unescaped text.now ≡ option_map (λ v. v.items) octets) }
 {
     let mut octets = Vec::new(alloc);
     let mut rest = text;
@@ -68,6 +69,7 @@ pub fn unescape(alloc: Global, text: &[u8]) -> Result<Option<Vec<u8>>, AllocErro
 
 /// The octet that a TEXT begins with, and the TEXT behind it.
 fn next_octet(text: &[u8]) -> Option<(u8, &[u8])>
+    ensures is { MatchOption result (text.now ≢ [] → unescaped text.now ≡ None) (λ r. unescaped text.now ≡ led r.0 (unescaped r.1.now)) }
     ensures shorter { IfSome result (λ r. length r.1.now < length text.now) }
     ensures plain { (b : ℕ) (after : List ℕ) → text.now ≡ b ∷ after → b ≢ BACKSLASH → IsSomeAnd result (λ r. (r.0 ≡ b) × (r.1.now ≡ after)) }
     ensures carriage_return { (after : List ℕ) → text.now ≡ BACKSLASH ∷ 114 ∷ after → IsSomeAnd result (λ r. (r.0 ≡ 13) × (r.1.now ≡ after)) }

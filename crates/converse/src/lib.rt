@@ -2,6 +2,7 @@
 //! runs that popbox's program makes: a script of events, a conversation over a store, and the check of a policy's file.
 #![tactic(auto)]
 
+ghost use Rattle.converse.specs.Escapes.{IsReadBack};
 ghost use Rattle.converse.specs.Talk.{RemovesByQuitAlone};
 
 mod answers;
@@ -19,4 +20,9 @@ pub use fault::{Fault, fault_text, read_fault, tell_fault};
 /// A conversation removes what its QUIT removes, and nothing else.
 pub fn removes_by_quit_alone()
     ensures { RemovesByQuitAlone }
+{}
+
+/// Octets that are written as a script's TEXT are read as these octets.
+pub fn text_is_read_back()
+    ensures { IsReadBack }
 {}

@@ -8,7 +8,8 @@ ghost use Rattle.office.specs.Outcomes.{Ignored};
 ghost use Rattle.office.specs.Shown.{outcome_seen, reason_seen};
 ghost use Rattle.office.specs.Stands.{StandsFor};
 ghost use Rattle.office.specs.Trace.{is_open};
-ghost use Rattle.converse.specs.Told.{outcome_lines, answer_lines, ended_lines, has_ended, no_policy_line, reason_name as name_of_reason};
+ghost use Rattle.converse.specs.Escapes.{by_digits, escape, escaped};
+ghost use Rattle.converse.specs.Told.{sent_line, outcome_lines, answer_lines, ended_lines, has_ended, no_policy_line, reason_name as name_of_reason};
 
 use crate::answers::answer_body;
 use crate::fault::{Fault, read_fault, tell_fault};
@@ -166,7 +167,9 @@ fn take<V: Vault, W: Write>(
 }
 
 /// Prints what a connection was sent.
-fn tell_sent<W: Write>(out: &mut W, number: u64, octets: &[u8]) -> io::Result<()> {
+fn tell_sent<W: Write>(out: &mut W, number: u64, octets: &[u8]) -> io::Result<()>
+    ensures { OnOk result (Appends (W.contents out.old) (W.contents out.new) (sent_line number octets.now)) }
+{
     write!(out, "sent {number} ")?;
     write_escaped(out, octets)?;
     writeln!(out)
@@ -207,17 +210,33 @@ fn take_all<V: Vault, W: Write>(
 }
 
 /// Writes octets as a script's TEXT: printable ASCII as it is, but for `\`.
-pub fn write_escaped<W: Write>(out: &mut W, octets: &[u8]) -> io::Result<()> {
+pub fn write_escaped<W: Write>(out: &mut W, octets: &[u8]) -> io::Result<()>
+    ensures { OnOk result (Appends (W.contents out.old) (W.contents out.new) (escaped octets.now)) }
+{
     for octet in octets {
-        match *octet {
-            b'\r' => out.write_all(b"\\r")?,
-            b'\n' => out.write_all(b"\\n")?,
-            b'\\' => out.write_all(b"\\\\")?,
-            b' '..=b'~' => out.write_all(&[*octet])?,
-            other => write!(out, "\\x{other:02x}")?,
-        }
+        write_octet(out, *octet)?;
     }
     Ok(())
+}
+
+/// Writes an octet as a script's TEXT does.
+fn write_octet<W: Write>(out: &mut W, octet: u8) -> io::Result<()>
+    ensures { OnOk result (Appends (W.contents out.old) (W.contents out.new) (escape octet)) }
+{
+    match octet {
+        b'\r' => out.write_all(b"\\r"),
+        b'\n' => out.write_all(b"\\n"),
+        b'\\' => out.write_all(b"\\\\"),
+        b' '..=b'~' => out.write_all(&[octet]),
+        other => write_digits(out, other),
+    }
+}
+
+/// Writes the escape of an octet by its two hexadecimal digits.
+fn write_digits<W: Write>(out: &mut W, octet: u8) -> io::Result<()>
+    ensures { OnOk result (Appends (W.contents out.old) (W.contents out.new) (by_digits octet)) }
+{
+    write!(out, "\\x{octet:02x}")
 }
 
 /// Prints an outcome.
