@@ -8,3 +8,4 @@ pub mod Ends
 pub mod Clauses
 mod Telling
 pub mod Escaping
+pub mod Reading

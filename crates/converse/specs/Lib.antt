@@ -5,3 +5,4 @@ pub mod FaultNames
 pub mod PolicyFile
 pub mod Told
 pub mod Escapes
+pub mod Script

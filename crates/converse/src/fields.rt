@@ -1,9 +1,11 @@
 //! The parts of a script's line: fields that one space parts, names, numbers, and a TEXT at the end.
 
-ghost use Rattle.std.specs.Prelude.{◌≡◌, ◌+◌, ◌*◌, ◌^◌, ◌<◌, ◌≤◌, ◌≢◌, ◌∷◌, ◌++◌, ℕ, List, Contains, MatchOption, IsSomeAnd, length, vec_len, IfOk, IfSome, IfNone, SomeIff, option_map, []};
+ghost use Rattle.std.specs.Prelude.{◌≡◌, ◌==◌, ◌+◌, ◌*◌, ◌^◌, ◌<◌, ◌≤◌, ◌≢◌, ◌∷◌, ◌++◌, ℕ, List, Contains, MatchOption, IsSomeAnd, length, vec_len, IfOk, IfSome, IfNone, SomeIff, option_map, option_copied, []};
 ghost use Rattle.std.specs.Char.{digit_value};
 ghost use Rattle.std.specs.Str.Parse.{IsNumeral, digits_value};
+ghost use Rattle.std.specs.List.{position};
 ghost use Rattle.converse.specs.Escapes.{led, unescaped};
+ghost use Rattle.converse.specs.Script.{cut_at as parts_at, cut_field, two_fields, four_fields, number_of};
 
 use std::alloc::{AllocError, Global};
 use std::str;
@@ -12,27 +14,39 @@ use std::str;
 const MOST_DIGITS: usize = 20;
 
 /// What stands between two fields.
-pub const SPACE: u8 = b' ';
+const SPACE: u8 = b' ';
 
 /// What an escape begins with.
 const BACKSLASH: u8 = b'\\';
 
+/// What stands before the first octet of this kind, or all, and what stands behind it.
+pub fn cut_at(text: &[u8], end: u8) -> (&[u8], Option<&[u8]>)
+    ensures { (result.0.now, option_copied result.1) ≡ parts_at (λ b. b == end) text.now }
+{
+    match place_of(text, end) {
+        Some(at) => (&text[..at], Some(&text[at + 1..])),
+        None => (text, None),
+    }
+}
+
+/// Where the first octet of this kind stands.
+fn place_of(text: &[u8], sought: u8) -> Option<usize>
+    ensures value { result ≡ position (λ b. b == sought) text.now }
+    ensures within { IfSome result (λ at. at < length text.now) }
+{
+    text.iter().position(|octet| *octet == sought)
+}
+
 /// A line's first field, and what follows the space behind it.
 pub fn split_field(line: &[u8]) -> (&[u8], Option<&[u8]>)
-    ensures field { ¬ (Contains result.0.now SPACE) }
-    ensures parts { MatchOption result.1 (line.now ≡ result.0.now) (λ rest. line.now ≡ result.0.now ++ SPACE ∷ rest.now) }
+    ensures { (result.0.now, option_copied result.1) ≡ cut_field line.now }
 {
-    match line.iter().position(|octet| *octet == SPACE) {
-        Some(at) => (&line[..at], Some(&line[at + 1..])),
-        None => (line, None),
-    }
+    cut_at(line, SPACE)
 }
 
 /// A line's first field, which another one follows, and what stands behind the space between them.
 pub fn take_field(line: &[u8]) -> Option<(&[u8], &[u8])>
-    ensures none { IfNone result (¬ (Contains line.now SPACE)) }
-    ensures field { IfSome result (λ r. ¬ (Contains r.0.now SPACE)) }
-    ensures parts { IfSome result (λ r. line.now ≡ r.0.now ++ SPACE ∷ r.1.now) }
+    ensures { option_map (λ r. (r.0.now, r.1.now)) result ≡ two_fields line.now }
 {
     match split_field(line) {
         (field, Some(rest)) => Some((field, rest)),
@@ -40,8 +54,25 @@ pub fn take_field(line: &[u8]) -> Option<(&[u8], &[u8])>
     }
 }
 
+/// Three fields, and what stands behind the space after the third.
+pub fn take_fields(line: &[u8]) -> Option<(&[u8], &[u8], &[u8], &[u8])>
+    ensures { option_map (λ r. (r.0.now, r.1.now, r.2.now, r.3.now)) result ≡ four_fields line.now }
+{
+    let (first, rest) = take_field(line)?;
+    let (second, rest) = take_field(rest)?;
+    let (third, rest) = take_field(rest)?;
+    Some((first, second, third, rest))
+}
+
 /// A number of 1 to 20 decimal digits, below 2^64. Leading zeros are allowed.
 pub fn read_number(field: &[u8]) -> Option<u64>
+    ensures { result ≡ number_of field.now }
+{
+    parse_number(field)
+}
+
+/// The same, in the words of std.
+fn parse_number(field: &[u8]) -> Option<u64>
     ensures { SomeIff result (IsNumeral 10 field.now × (length field.now ≤ MOST_DIGITS) × (digits_value 10 field.now < 2 ^ 64)) (digits_value 10 field.now) }
 {
     if field.len() > MOST_DIGITS || field.starts_with(b"+") {

@@ -2,12 +2,15 @@
 //!
 //! Lines end at LF; empty lines and lines that begin with `#` are skipped, and counted.
 
-ghost use Rattle.std.specs.Prelude.{◌≡◌, ◌+◌, ◌<◌, ◌≤◌, ◌∷◌, ◌++◌, ℕ, length, IfSome};
+ghost use Rattle.std.specs.Prelude.{◌≡◌, ◌+◌, ◌<◌, ◌≤◌, ◌∷◌, ◌++◌, ℕ, length, map, IfOk, OnOk, IsOkAnd, option_map};
+ghost use Rattle.office.specs.Shown.{command_seen};
+ghost use Rattle.converse.specs.Escapes.{unescaped};
+ghost use Rattle.converse.specs.Script.{script_of, line_asks, line_seen, line_of, word_line, text_line, number_line, bytes_line, took_line, deposit_line, clerk_command, secret_of_clerk, policy_line, command_of, maildrop_command, explain_command, is_skipped as is_line_skipped};
 ghost use Rattle.converse.specs.declared.script.ScriptFault.TheVariants.{NoMemory};
 
 use crate::check_policy::read_octets;
 use crate::fault::Fault;
-use crate::fields::{SPACE, read_number, split_field, take_field, unescape};
+use crate::fields::{cut_at, read_number, split_field, take_field, take_fields, unescape};
 use creds::{Credential, DepositId, Name, Secret, pass_digest};
 use office::AdminCommand;
 use policy::{Action, PolicyFault};
@@ -74,30 +77,56 @@ impl<T: Drop> From<AllocFailed<T>> for ScriptFault {
 
 /// Reads a script. The first line that is of no form is the fault.
 pub fn read_script(alloc: Global, text: &[u8]) -> Result<Vec<Line>, ScriptFault>
+    ensures ok { IfOk result (λ lines. script_of text.now ≡ Ok (map line_seen lines.items)) }
+    ensures fault { (n : ℕ) → result ≡ Err (ScriptFault.BadEvent n) → script_of text.now ≡ Err n }
     ensures from_one { (n : ℕ) → result ≡ Err (ScriptFault.BadEvent n) → 0 < n }
     ensures within { (n : ℕ) → result ≡ Err (ScriptFault.BadEvent n) → n ≤ length text.now + 1 }
 {
     let mut lines = Vec::new(alloc);
     let mut number = 0u64;
-    for line in text.split(|octet| *octet == b'\n') {
+    let mut rest = Some(text);
+    while let Some(left) = rest {
+        let (line, behind) = cut_at(left, b'\n');
         number = number.saturating_add(1);
-        if !is_skipped(line) {
-            match read_line(alloc, line)? {
-                Some(line) => lines.push(line)?,
-                None => return Err(ScriptFault::BadEvent(number)),
-            }
-        }
+        read_into(alloc, &mut lines, line, number)?;
+        rest = behind;
     }
     Ok(lines)
 }
 
+/// Reads the line of this number to the end of the lines before it; nothing where it is skipped.
+fn read_into(
+    alloc: Global,
+    lines: &mut Vec<Line>,
+    line: &[u8],
+    number: u64,
+) -> Result<(), ScriptFault>
+    ensures ok { OnOk result (IsOkAnd (line_asks number line.now) (λ asked. map line_seen lines.new.items ≡ map line_seen lines.old.items ++ asked)) }
+    ensures fault { (n : ℕ) → result ≡ Err (ScriptFault.BadEvent n) → (n ≡ number) × (line_asks number line.now ≡ Err n) }
+{
+    if is_skipped(line) {
+        return Ok(());
+    }
+    match read_line(alloc, line)? {
+        Some(line) => {
+            lines.push(line)?;
+            Ok(())
+        }
+        None => Err(ScriptFault::BadEvent(number)),
+    }
+}
+
 /// Whether a line is empty or a comment.
-fn is_skipped(line: &[u8]) -> bool {
+fn is_skipped(line: &[u8]) -> bool
+    ensures { result ≡ is_line_skipped line.now }
+{
     line.is_empty() || line.starts_with(b"#")
 }
 
 /// Reads a line without its LF. `None` where it is of no form.
-fn read_line(alloc: Global, line: &[u8]) -> Result<Option<Line>, AllocError> {
+fn read_line(alloc: Global, line: &[u8]) -> Result<Option<Line>, AllocError>
+    ensures { IfOk result (λ read. option_map line_seen read ≡ line_of line.now) }
+{
     let (keyword, rest) = split_field(line);
     match rest {
         Some(rest) => read_with_text(alloc, keyword, rest),
@@ -106,73 +135,104 @@ fn read_line(alloc: Global, line: &[u8]) -> Result<Option<Line>, AllocError> {
 }
 
 /// Reads a line that is a keyword alone.
-fn read_word(keyword: &[u8]) -> Option<Line> {
-    match keyword {
-        b"connect" => Some(Line::Connect),
-        b"maildrops" => Some(Line::Admin(AdminCommand::ListMaildrops)),
-        b"policy" => Some(Line::Admin(AdminCommand::ShowPolicy)),
-        b"sessions" => Some(Line::Admin(AdminCommand::ListSessions)),
-        _ => None,
+fn read_word(keyword: &[u8]) -> Option<Line>
+    ensures { option_map line_seen result ≡ word_line keyword.now }
+{
+    if keyword == b"connect".as_slice() {
+        Some(Line::Connect)
+    } else if keyword == b"maildrops".as_slice() {
+        Some(Line::Admin(AdminCommand::ListMaildrops))
+    } else if keyword == b"policy".as_slice() {
+        Some(Line::Admin(AdminCommand::ShowPolicy))
+    } else if keyword == b"sessions".as_slice() {
+        Some(Line::Admin(AdminCommand::ListSessions))
+    } else {
+        None
     }
 }
 
 /// Reads a line by its keyword and what stands behind that, which can end with a TEXT.
-fn read_with_text(alloc: Global, keyword: &[u8], rest: &[u8]) -> Result<Option<Line>, AllocError> {
-    match keyword {
-        b"bytes" => read_bytes(alloc, rest),
-        b"deposit" => read_deposit(alloc, rest),
-        b"clerk" => Ok(read_clerk(alloc, rest)?.map(Line::Admin)),
-        b"policy" => read_policy(alloc, rest),
-        _ => Ok(read_numbers(keyword, rest)),
+fn read_with_text(alloc: Global, keyword: &[u8], rest: &[u8]) -> Result<Option<Line>, AllocError>
+    ensures { IfOk result (λ read. option_map line_seen read ≡ text_line keyword.now rest.now) }
+{
+    if keyword == b"bytes".as_slice() {
+        read_bytes(alloc, rest)
+    } else if keyword == b"deposit".as_slice() {
+        read_deposit(alloc, rest)
+    } else if keyword == b"clerk".as_slice() {
+        Ok(read_clerk(alloc, rest)?.map(Line::Admin))
+    } else if keyword == b"policy".as_slice() {
+        read_policy(alloc, rest)
+    } else {
+        Ok(read_numbers(keyword, rest))
     }
 }
 
 /// Reads a line that has no TEXT.
-fn read_numbers(keyword: &[u8], rest: &[u8]) -> Option<Line> {
-    match keyword {
-        b"took" => read_took(rest),
-        b"drain" => read_number(rest).map(Line::Drain),
-        b"gone" => read_number(rest).map(Line::Gone),
-        b"tick" => read_number(rest).map(Line::Tick),
-        b"restart" => read_number(rest).map(Line::Restart),
-        _ => read_command(keyword, rest).map(Line::Admin),
+fn read_numbers(keyword: &[u8], rest: &[u8]) -> Option<Line>
+    ensures { option_map line_seen result ≡ number_line keyword.now rest.now }
+{
+    if keyword == b"took".as_slice() {
+        read_took(rest)
+    } else if keyword == b"drain".as_slice() {
+        read_number(rest).map(Line::Drain)
+    } else if keyword == b"gone".as_slice() {
+        read_number(rest).map(Line::Gone)
+    } else if keyword == b"tick".as_slice() {
+        read_number(rest).map(Line::Tick)
+    } else if keyword == b"restart".as_slice() {
+        read_number(rest).map(Line::Restart)
+    } else {
+        read_command(keyword, rest).map(Line::Admin)
     }
 }
 
 /// `C TEXT`, behind `bytes`.
-fn read_bytes(alloc: Global, rest: &[u8]) -> Result<Option<Line>, AllocError> {
-    let (number, Some(text)) = split_field(rest) else {
+fn read_bytes(alloc: Global, rest: &[u8]) -> Result<Option<Line>, AllocError>
+    ensures { IfOk result (λ read. option_map line_seen read ≡ bytes_line rest.now) }
+{
+    let Some((number, text)) = take_field(rest) else {
         return Ok(None);
     };
     let Some(number) = read_number(number) else {
         return Ok(None);
     };
-    let octets = unescape(alloc, text)?;
-    Ok(octets.map(|octets| Line::Bytes(number, octets)))
+    let Some(octets) = unescape(alloc, text)? else {
+        return Ok(None);
+    };
+    Ok(Some(Line::Bytes(number, octets)))
 }
 
 /// `C N`, behind `took`.
-fn read_took(rest: &[u8]) -> Option<Line> {
-    let (number, count) = split_field(rest);
+fn read_took(rest: &[u8]) -> Option<Line>
+    ensures { option_map line_seen result ≡ took_line rest.now }
+{
+    let (number, count) = take_field(rest)?;
     let number = read_number(number)?;
-    let count = read_number(count?)?;
+    let count = read_number(count)?;
     Some(Line::Took(number, count as usize))
 }
 
 /// `MAILDROP CLASS ID TEXT`, behind `deposit`.
-fn read_deposit(alloc: Global, rest: &[u8]) -> Result<Option<Line>, AllocError> {
-    let Some((maildrop, class, id, text)) = split_deposit(rest) else {
+fn read_deposit(alloc: Global, rest: &[u8]) -> Result<Option<Line>, AllocError>
+    ensures { IfOk result (λ read. option_map line_seen read ≡ deposit_line rest.now) }
+{
+    let Some((maildrop, class, id, text)) = take_fields(rest) else {
         return Ok(None);
     };
-    let (Some(maildrop), Some(class), Some(id)) = (
-        Name::read(maildrop),
-        Name::read(class),
-        DepositId::read(id),
-    ) else {
+    let Some(maildrop) = Name::read(maildrop) else {
         return Ok(None);
     };
-    let text = unescape(alloc, text)?;
-    Ok(text.map(|text| Line::Deposit {
+    let Some(class) = Name::read(class) else {
+        return Ok(None);
+    };
+    let Some(id) = DepositId::read(id) else {
+        return Ok(None);
+    };
+    let Some(text) = unescape(alloc, text)? else {
+        return Ok(None);
+    };
+    Ok(Some(Line::Deposit {
         maildrop,
         class,
         id,
@@ -180,48 +240,56 @@ fn read_deposit(alloc: Global, rest: &[u8]) -> Result<Option<Line>, AllocError> 
     }))
 }
 
-/// The four fields of `MAILDROP CLASS ID TEXT`.
-fn split_deposit(rest: &[u8]) -> Option<(&[u8], &[u8], &[u8], &[u8])>
-    ensures { IfSome result (λ r. rest.now ≡ r.0.now ++ SPACE ∷ (r.1.now ++ SPACE ∷ (r.2.now ++ SPACE ∷ r.3.now))) }
-{
-    let (maildrop, rest) = take_field(rest)?;
-    let (class, rest) = take_field(rest)?;
-    let (id, text) = take_field(rest)?;
-    Some((maildrop, class, id, text))
-}
-
 /// `apop NAME TEXT`, `pass NAME TEXT`, `drop NAME` or `show NAME`, behind `clerk`.
-fn read_clerk(alloc: Global, rest: &[u8]) -> Result<Option<AdminCommand>, AllocError> {
-    match split_field(rest) {
-        (b"apop", Some(rest)) => Ok(read_secret(alloc, rest)?.map(|(clerk, secret)| {
-            AdminCommand::PutClerk(clerk, Credential::Apop(secret))
-        })),
-        (b"pass", Some(rest)) => Ok(read_secret(alloc, rest)?.map(|(clerk, password)| {
-            let digest = pass_digest(&clerk, password.as_bytes());
-            AdminCommand::PutClerk(clerk, Credential::Pass(digest))
-        })),
-        (b"drop", Some(name)) => Ok(Name::read(name).map(AdminCommand::DropClerk)),
-        (b"show", Some(name)) => Ok(Name::read(name).map(AdminCommand::ShowClerk)),
-        _ => Ok(None),
+fn read_clerk(alloc: Global, rest: &[u8]) -> Result<Option<AdminCommand>, AllocError>
+    ensures { IfOk result (λ read. option_map command_seen read ≡ clerk_command rest.now) }
+{
+    let Some((word, rest)) = take_field(rest) else {
+        return Ok(None);
+    };
+    if word == b"apop".as_slice() {
+        let Some((clerk, secret)) = read_secret(alloc, rest)? else {
+            return Ok(None);
+        };
+        Ok(Some(AdminCommand::PutClerk(clerk, Credential::Apop(secret))))
+    } else if word == b"pass".as_slice() {
+        let Some((clerk, password)) = read_secret(alloc, rest)? else {
+            return Ok(None);
+        };
+        let digest = pass_digest(&clerk, password.as_bytes());
+        Ok(Some(AdminCommand::PutClerk(clerk, Credential::Pass(digest))))
+    } else if word == b"drop".as_slice() {
+        Ok(Name::read(rest).map(AdminCommand::DropClerk))
+    } else if word == b"show".as_slice() {
+        Ok(Name::read(rest).map(AdminCommand::ShowClerk))
+    } else {
+        Ok(None)
     }
 }
 
 /// `NAME TEXT`, behind `clerk apop` or `clerk pass`: a clerk's name, and a secret or a password.
-fn read_secret(alloc: Global, rest: &[u8]) -> Result<Option<(Name, Secret)>, AllocError> {
+fn read_secret(alloc: Global, rest: &[u8]) -> Result<Option<(Name, Secret)>, AllocError>
+    ensures { IfOk result (λ read. read ≡ secret_of_clerk rest.now) }
+{
     let Some((clerk, text)) = take_field(rest) else {
         return Ok(None);
     };
     let Some(secret) = unescape(alloc, text)? else {
         return Ok(None);
     };
-    match (Name::read(clerk), Secret::read(secret.as_slice())) {
-        (Some(clerk), Some(secret)) => Ok(Some((clerk, secret))),
-        _ => Ok(None),
-    }
+    let Some(clerk) = Name::read(clerk) else {
+        return Ok(None);
+    };
+    let Some(secret) = Secret::read(secret.as_slice()) else {
+        return Ok(None);
+    };
+    Ok(Some((clerk, secret)))
 }
 
 /// `TEXT`, behind `policy`: a policy's text, or one with a fault.
-fn read_policy(alloc: Global, text: &[u8]) -> Result<Option<Line>, AllocError> {
+fn read_policy(alloc: Global, text: &[u8]) -> Result<Option<Line>, AllocError>
+    ensures { IfOk result (λ read. option_map line_seen read ≡ option_map policy_line (unescaped text.now)) }
+{
     let Some(octets) = unescape(alloc, text)? else {
         return Ok(None);
     };
@@ -233,30 +301,41 @@ fn read_policy(alloc: Global, text: &[u8]) -> Result<Option<Line>, AllocError> {
 }
 
 /// A command whose line has no TEXT, by its keyword and what stands behind that.
-fn read_command(keyword: &[u8], rest: &[u8]) -> Option<AdminCommand> {
-    match keyword {
-        b"maildrop" => read_maildrop(rest),
-        b"list" => Name::read(rest).map(AdminCommand::ShowMaildrop),
-        b"end" => read_number(rest).map(AdminCommand::EndSession),
-        b"explain" => read_explain(rest),
-        _ => None,
+fn read_command(keyword: &[u8], rest: &[u8]) -> Option<AdminCommand>
+    ensures { option_map command_seen result ≡ command_of keyword.now rest.now }
+{
+    if keyword == b"maildrop".as_slice() {
+        read_maildrop(rest)
+    } else if keyword == b"list".as_slice() {
+        Name::read(rest).map(AdminCommand::ShowMaildrop)
+    } else if keyword == b"end".as_slice() {
+        read_number(rest).map(AdminCommand::EndSession)
+    } else if keyword == b"explain".as_slice() {
+        read_explain(rest)
+    } else {
+        None
     }
 }
 
 /// `add NAME` or `drop NAME`, behind `maildrop`.
-fn read_maildrop(rest: &[u8]) -> Option<AdminCommand> {
-    match split_field(rest) {
-        (b"add", Some(name)) => Name::read(name).map(AdminCommand::AddMaildrop),
-        (b"drop", Some(name)) => Name::read(name).map(AdminCommand::DropMaildrop),
-        _ => None,
+fn read_maildrop(rest: &[u8]) -> Option<AdminCommand>
+    ensures { option_map command_seen result ≡ maildrop_command rest.now }
+{
+    let (word, name) = take_field(rest)?;
+    if word == b"add".as_slice() {
+        Name::read(name).map(AdminCommand::AddMaildrop)
+    } else if word == b"drop".as_slice() {
+        Name::read(name).map(AdminCommand::DropMaildrop)
+    } else {
+        None
     }
 }
 
 /// `CLERK MAILDROP CLASS ACTION`, behind `explain`.
-fn read_explain(rest: &[u8]) -> Option<AdminCommand> {
-    let (clerk, rest) = take_field(rest)?;
-    let (maildrop, rest) = take_field(rest)?;
-    let (class, action) = take_field(rest)?;
+fn read_explain(rest: &[u8]) -> Option<AdminCommand>
+    ensures { option_map command_seen result ≡ explain_command rest.now }
+{
+    let (clerk, maildrop, class, action) = take_fields(rest)?;
     Some(AdminCommand::Explain {
         clerk: Name::read(clerk)?,
         maildrop: Name::read(maildrop)?,
