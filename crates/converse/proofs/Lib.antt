@@ -9,3 +9,4 @@ pub mod Clauses
 mod Telling
 pub mod Escaping
 pub mod Reading
+pub mod Running

@@ -6,3 +6,4 @@ pub mod PolicyFile
 pub mod Told
 pub mod Escapes
 pub mod Script
+pub mod Runs

@@ -1,13 +1,16 @@
 //! `popbox replay`: does the events of a script in an office, and prints what each gives.
 
-ghost use Rattle.std.specs.Prelude.{◌≤◌, ◌≡◌, ◌∷◌, ◌++◌, [], OnOk, codes, if◌then◌else◌};
+ghost use Rattle.std.specs.Prelude.{◌≤◌, ◌≡◌, ◌∷◌, ◌++◌, [], false, true, map, IfErr, IfOk, IfSome, IsErr, IsOk, OnOk, codes, if◌then◌else◌};
 ghost use Rattle.std.specs.Io.KnownBytes.{Appends};
 ghost use Rattle.std.specs.List.{filter};
+ghost use Rattle.creds.specs.Names.{is_host};
 ghost use Rattle.office.specs.Events.{Trace};
 ghost use Rattle.office.specs.Outcomes.{Ignored};
 ghost use Rattle.office.specs.Shown.{outcome_seen, reason_seen};
-ghost use Rattle.office.specs.Stands.{StandsFor};
+ghost use Rattle.office.specs.Stands.{Keeps, StandsFor, vault_of};
 ghost use Rattle.office.specs.Trace.{is_open};
+ghost use Rattle.converse.specs.Runs.{StillHolds, opened_on};
+ghost use Rattle.converse.specs.Script.{line_seen, script_of};
 ghost use Rattle.converse.specs.Escapes.{by_digits, escape, escaped};
 ghost use Rattle.converse.specs.Told.{sent_line, outcome_lines, answer_lines, ended_lines, has_ended, no_policy_line, reason_name as name_of_reason};
 
@@ -41,6 +44,8 @@ pub fn replay<R: Read, V: Vault, W: Write, E: Write>(
 ) -> (u8, V)
     ensures status { result.0 ≤ 1 }
     ensures silent { result.0 ≡ 0 → err.new ≡ err.old }
+    ensures bad_line { IfSome (R.remaining script.old) (λ text. IsErr (script_of text) → (result.0 ≡ 1) × (out.new ≡ out.old) × (result.1 ≡ vault)) }
+    ensures bad_host { is_host host.now ≡ false → (result.0 ≡ 1) × (out.new ≡ out.old) × StillHolds V.holds V.is_clean vault result.1 }
 {
     let lines = match read_all(alloc, script) {
         Ok(lines) => lines,
@@ -60,12 +65,22 @@ pub fn replay<R: Read, V: Vault, W: Write, E: Write>(
 }
 
 /// Reads a script to its end.
-fn read_all<R: Read>(alloc: Global, script: &mut R) -> Result<Vec<Line>, Fault> {
+fn read_all<R: Read>(alloc: Global, script: &mut R) -> Result<Vec<Line>, Fault>
+    ensures { IfOk result (λ lines. IfSome (R.remaining script.old) (λ text. script_of text ≡ Ok (map line_seen lines.items))) }
+{
     let mut text = Vec::new(alloc);
     match script.read_to_end(&mut text) {
-        Ok(_) => Ok(read_script(alloc, text.as_slice())?),
+        Ok(_) => read_lines(alloc, text.as_slice()),
         Err(error) => Err(read_fault(&error)),
     }
+}
+
+/// Reads a script's text.
+fn read_lines(alloc: Global, text: &[u8]) -> Result<Vec<Line>, Fault>
+    ensures { IfOk result (λ lines. script_of text.now ≡ Ok (map line_seen lines.items)) }
+{
+    let lines = read_script(alloc, text)?;
+    Ok(lines)
 }
 
 /// Opens an office with the default idle time.
@@ -74,7 +89,11 @@ pub(crate) fn open_office<V: Vault>(
     vault: V,
     host: &str,
     boot: u64,
-) -> Result<Office<V>, (Fault, V)> {
+) -> Result<Office<V>, (Fault, V)>
+    ensures opened { IfOk result (λ office. (T : Trace) → Keeps (V.holds vault) T → V.is_clean (vault_of office) → StandsFor V.holds office (opened_on T host.now boot)) }
+    ensures host { IsOk result → is_host host.now ≡ true }
+    ensures kept { IfErr result (λ e. StillHolds V.holds V.is_clean vault e.1) }
+{
     let Some(limits) = Limits::new(IDLE_SECONDS) else {
         return Err((Fault::BadHost, vault));
     };

@@ -1,10 +1,16 @@
 //! `popbox talk`: one conversation over a store.
 
-ghost use Rattle.std.specs.Prelude.{◌≡◌, ◌≤◌};
+ghost use Rattle.std.specs.Prelude.{◌≡◌, ◌≤◌, ℕ, List, false};
+ghost use Rattle.std.specs.Io.KnownBytes.{Appends, Consumes, IsAtEnd};
+ghost use Rattle.creds.specs.Names.{is_host};
+ghost use Rattle.office.specs.Events.{Trace};
+ghost use Rattle.office.specs.Stands.{Keeps, StandsFor, vault_of};
+ghost use Rattle.converse.specs.Runs.{HasTalked, StillHolds, opened_on};
 
 use crate::conversation;
 use crate::fault::{Fault, tell_fault};
 use crate::replay::open_office;
+use office::Office;
 use std::alloc::Global;
 use std::io::{Read, Write};
 use vault::Vault;
@@ -25,14 +31,33 @@ pub fn talk<V: Vault, R: Read, W: Write, E: Write>(
 ) -> (u8, V)
     ensures status { result.0 ≤ 1 }
     ensures silent { result.0 ≡ 0 → err.new ≡ err.old }
+    ensures bad_host { is_host host.now ≡ false → (result.0 ≡ 1) × (reader.new ≡ reader.old) × (writer.new ≡ writer.old) × StillHolds V.holds V.is_clean vault result.1 }
+    ensures talked { (octets written : List ℕ) × Consumes (R.remaining reader.old) (R.remaining reader.new) octets × Appends (W.contents writer.old) (W.contents writer.new) written
+        × (result.0 ≡ 0 → (T : Trace) → Keeps (V.holds vault) T → V.is_clean result.1 → HasTalked V.holds result.1 (opened_on T host.now boot) octets written (IsAtEnd (R.remaining reader.new))) }
 {
     let mut office = match open_office(alloc, vault, host, boot) {
         Ok(office) => office,
         Err((fault, vault)) => return (tell_fault(err, fault), vault),
     };
-    let status = match conversation::talk(&mut office, reader, writer) {
+    let status = talk_over(&mut office, reader, writer, err);
+    (status, office.into_vault())
+}
+
+/// Has one conversation in an office, and tells its fault. Gives the exit status.
+fn talk_over<V: Vault, R: Read, W: Write, E: Write>(
+    office: &mut Office<V>,
+    reader: &mut R,
+    writer: &mut W,
+    err: &mut E,
+) -> u8
+    ensures status { result ≤ 1 }
+    ensures silent { result ≡ 0 → err.new ≡ err.old }
+    ensures talked { (octets written : List ℕ) × Consumes (R.remaining reader.old) (R.remaining reader.new) octets × Appends (W.contents writer.old) (W.contents writer.new) written
+        × (result ≡ 0 → (T : Trace) → StandsFor V.holds office.old T → V.is_clean (vault_of office.new) → HasTalked V.holds (vault_of office.new) T octets written (IsAtEnd (R.remaining reader.new))) }
+    ensures clean { V.is_clean (vault_of office.new) → V.is_clean (vault_of office.old) }
+{
+    match conversation::talk(office, reader, writer) {
         Ok(()) => 0,
         Err(fault) => tell_fault(err, Fault::Talk(fault)),
-    };
-    (status, office.into_vault())
+    }
 }
