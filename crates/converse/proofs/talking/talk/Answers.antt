@@ -1,4 +1,4 @@
-use Rattle.std.proofs.Common.{subst, sym}
+use Rattle.std.proofs.Common.{rules, subst, sym}
 use Rattle.std.specs.Io.KnownBytes.{IsAtEnd}
 use Rattle.converse.specs.Runs.{HasTalked, opened_on}
 use Rattle.converse.proofs.talking.talk.Goals as goal
@@ -16,3 +16,6 @@ returns-clause-talked g c =
           subst (λ v. HasTalked g.V.Vault.holds v T2 d.0 d.1 (IsAtEnd (g.R.Read.remaining c.talk_over-status.new.reader))) (sym c.into_vault.ensures)
           (d.4 well T2 (c.in-Ok.ensures.opened T keeps (c.talk_over-status.ensures.clean clean2)) clean2)),
     )
+
+pub returns-clause-silent : goal.returns-clause-silent
+returns-clause-silent g c = search rules
