@@ -12,9 +12,9 @@ returns-clause-talked g c =
       d.3,
       λ well T keeps clean.
           (let clean2 = subst g.V.Vault.is_clean c.into_vault.ensures clean in
-          let T2 = opened_on T c.args.host.now c.args.boot in
-          subst (λ v. HasTalked g.V.Vault.holds v T2 d.0 d.1 (IsAtEnd (g.R.Read.remaining c.talk_over-status.new.reader))) (sym c.into_vault.ensures)
-          (d.4 well T2 (c.in-Ok.ensures.opened T keeps (c.talk_over-status.ensures.clean clean2)) clean2)),
+          let opened = opened_on T c.args.host.now c.args.boot in
+          subst (λ v. HasTalked g.V.Vault.holds v opened d.0 d.1 (IsAtEnd (g.R.Read.remaining c.talk_over-status.new.reader))) (sym c.into_vault.ensures)
+          (d.4 well opened (c.in-Ok.ensures.opened T keeps (c.talk_over-status.ensures.clean clean2)) clean2)),
     )
 
 pub returns-clause-silent : goal.returns-clause-silent
