@@ -6,7 +6,8 @@ use Rattle.std.specs.Char.{digit_value, is_digit}
 use Rattle.std.specs.Fmt.{digit_glyph}
 use Rattle.std.specs.List.{AllByRecursion}
 use Rattle.std.specs.Prelude.{option_map}
-use Rattle.converse.specs.Escapes.{escape, escaped, by_digits, is_printable, led, unescaped, IsReadBack}
+use Rattle.creds.specs.Names.{is_printable}
+use Rattle.converse.specs.Escapes.{escape, escaped, by_digits, led, unescaped, IsReadBack}
 
 -- octets in front of the octets of a rest, where that has octets
 abbrev pub behind : List ℕ → Option (List ℕ) → Option (List ℕ)

@@ -1,4 +1,5 @@
 mod TalkRows
+mod ScriptRows
 pub mod Removing
 pub mod Lines
 pub mod Saying

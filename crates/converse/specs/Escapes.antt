@@ -1,20 +1,17 @@
 -- A script's TEXT: any octets, written in printable ASCII. The escapes are `\r`, `\n`, `\\`, and `\x` with two hexadecimal digits.
-use Rattle.std.specs.Prelude.{◌≡◌, ℕ, ◌+◌, ◌*◌, ◌/◌, ◌%◌, ◌<◌, Bool, false, ◌&&◌, ◌==◌, List, [], ◌∷◌, ◌++◌, Option, Some, None, option_map, codes, nat_le, if◌then◌else◌}
+use Rattle.std.specs.Prelude.{◌≡◌, ℕ, ◌+◌, ◌*◌, ◌/◌, ◌%◌, ◌<◌, false, ◌&&◌, ◌==◌, List, [], ◌∷◌, ◌++◌, Option, Some, None, option_map, codes, if◌then◌else◌}
 use Rattle.std.specs.Char.{digit_value, is_digit}
 use Rattle.std.specs.Fmt.{digit_glyph}
 use Rattle.std.specs.List.{All, flat_map}
+use Rattle.creds.specs.Names.{is_printable}
 
 -- ---- written
-
--- an octet stands for itself: it is printable ASCII
-abbrev pub is_printable : ℕ → Bool
-is_printable b = nat_le 32 b && nat_le b 126
 
 -- an octet by its two lower-case hexadecimal digits
 abbrev pub by_digits : ℕ → List ℕ
 by_digits b = codes "\\x" ++ digit_glyph false (b / 16) ∷ digit_glyph false (b % 16) ∷ []
 
--- an octet as it is written
+-- an octet as it is written: printable ASCII stands for itself, but for `\`
 abbrev pub escape : ℕ → List ℕ
 escape b = if b == 13 then codes "\\r" else (if b == 10 then codes "\\n" else (if b == 92 then codes "\\\\" else (if is_printable b then b ∷ [] else by_digits b)))
 
