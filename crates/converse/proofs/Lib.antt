@@ -11,3 +11,4 @@ mod Telling
 pub mod Escaping
 pub mod Reading
 pub mod Running
+pub mod Playing

@@ -7,3 +7,4 @@ pub mod Told
 pub mod Escapes
 pub mod Script
 pub mod Runs
+pub mod Played

@@ -1,20 +1,22 @@
 //! `popbox replay`: does the events of a script in an office, and prints what each gives.
 
-ghost use Rattle.std.specs.Prelude.{◌≤◌, ◌≡◌, ◌∷◌, ◌++◌, [], false, true, map, IfErr, IfOk, IfSome, IsErr, IsOk, OnOk, codes, if◌then◌else◌};
+ghost use Rattle.std.specs.Prelude.{◌≤◌, ◌≡◌, ◌∷◌, ◌++◌, [], false, true, map, option_map, IfErr, IfOk, IfSome, IsErr, IsOk, List, Ok, OnOk, Some, codes, if◌then◌else◌};
 ghost use Rattle.std.specs.Io.KnownBytes.{Appends};
 ghost use Rattle.std.specs.List.{filter};
 ghost use Rattle.creds.specs.Names.{is_host};
-ghost use Rattle.office.specs.Events.{Trace};
+ghost use Rattle.office.specs.Events.{Trace, Took};
 ghost use Rattle.office.specs.Outcomes.{Ignored};
 ghost use Rattle.office.specs.Shown.{outcome_seen, reason_seen};
 ghost use Rattle.office.specs.Stands.{Keeps, StandsFor, vault_of};
 ghost use Rattle.office.specs.Trace.{is_open};
 ghost use Rattle.converse.specs.Runs.{StillHolds, opened_on};
-ghost use Rattle.converse.specs.Script.{line_seen, script_of};
+ghost use Rattle.converse.specs.Script.{ScriptLine, Does, Drains, line_seen, script_of};
+ghost use Rattle.converse.specs.Played.{Acts, TakesAll, PlaysLine, HasPlayed, ComesTo, HasRun, point, known_with, still_known, told_text, taken_text};
 ghost use Rattle.converse.specs.Escapes.{by_digits, escape, escaped};
 ghost use Rattle.converse.specs.Told.{sent_line, outcome_lines, answer_lines, ended_lines, has_ended, no_policy_line, reason_name as name_of_reason};
 
 use crate::answers::answer_body;
+use crate::conversation::TalkFault;
 use crate::fault::{Fault, read_fault, tell_fault};
 use crate::script::{Line, read_script};
 use office::{Event, Limits, Office, Outcome, Reason};
@@ -46,6 +48,7 @@ pub fn replay<R: Read, V: Vault, W: Write, E: Write>(
     ensures silent { result.0 ≡ 0 → err.new ≡ err.old }
     ensures bad_line { IfSome (R.remaining script.old) (λ text. IsErr (script_of text) → (result.0 ≡ 1) × (out.new ≡ out.old) × (result.1 ≡ vault)) }
     ensures bad_host { is_host host.now ≡ false → (result.0 ≡ 1) × (out.new ≡ out.old) × StillHolds V.holds V.is_clean vault result.1 }
+    ensures told { result.0 ≡ 0 → IfSome (R.remaining script.old) (λ text. (lines : List ScriptLine) → script_of text ≡ Ok lines → (T : Trace) → Keeps (V.holds vault) T → V.is_clean result.1 → HasRun V.holds result.1 (W.contents out.old) (W.contents out.new) (opened_on T host.now boot) lines) }
 {
     let lines = match read_all(alloc, script) {
         Ok(lines) => lines,
@@ -55,13 +58,32 @@ pub fn replay<R: Read, V: Vault, W: Write, E: Write>(
         Ok(office) => office,
         Err((fault, vault)) => return (tell_fault(err, fault), vault),
     };
-    let played = play(alloc, &mut office, lines.as_slice(), out);
-    let flushed = out.flush().map_err(|_| Fault::CannotWrite);
-    let status = match played.and(flushed) {
-        Ok(()) => 0,
-        Err(fault) => tell_fault(err, fault),
-    };
+    let status = play_over(alloc, &mut office, lines.as_slice(), out, err);
     (status, office.into_vault())
+}
+
+/// Does the lines in order in an office, flushes `out`, and tells what stopped it. Gives the exit status.
+fn play_over<V: Vault, W: Write, E: Write>(
+    alloc: Global,
+    office: &mut Office<V>,
+    lines: &[Line],
+    out: &mut W,
+    err: &mut E,
+) -> u8
+    ensures status { result ≤ 1 }
+    ensures silent { result ≡ 0 → err.new ≡ err.old }
+    ensures played { result ≡ 0 → (T : Trace) → StandsFor V.holds office.old T → V.is_clean (vault_of office.new) → ComesTo V.holds office.new (W.contents out.old) (W.contents out.new) (HasPlayed T (map line_seen lines.now)) }
+    ensures clean { V.is_clean (vault_of office.new) → V.is_clean (vault_of office.old) }
+{
+    let played = play(alloc, office, lines, out);
+    let flushed = out.flush();
+    if let Err(fault) = played {
+        return tell_fault(err, fault);
+    }
+    match flushed {
+        Ok(()) => 0,
+        Err(_) => tell_fault(err, Fault::CannotWrite),
+    }
 }
 
 /// Reads a script to its end.
@@ -103,35 +125,73 @@ pub(crate) fn open_office<V: Vault>(
     }
 }
 
-/// Does the events in order.
+/// Does the lines in order.
 fn play<V: Vault, W: Write>(
     alloc: Global,
     office: &mut Office<V>,
     lines: &[Line],
     out: &mut W,
-) -> Result<(), Fault> {
-    let mut open = Vec::new(alloc);
+) -> Result<(), Fault>
+    ensures played { OnOk result ((T : Trace) → StandsFor V.holds office.old T → V.is_clean (vault_of office.new) → ComesTo V.holds office.new (W.contents out.old) (W.contents out.new) (HasPlayed T (map line_seen lines.now))) }
+    ensures clean { V.is_clean (vault_of office.new) → V.is_clean (vault_of office.old) }
+{
+    let mut known = Vec::new(alloc);
     for line in lines {
-        if let Some(outcome) = act(office, line, out).map_err(|_| Fault::CannotWrite)? {
-            tell_whole(alloc, office, &outcome, &mut open, out)?;
-        }
+        play_line(alloc, office, line, &mut known, out)?;
     }
     Ok(())
 }
 
-/// Prints an outcome, and the connections that ended. A connection that it opened is put to those that are open.
+/// Does one line, and prints what comes of it. The connections that were opened and not yet told as ended are `known`.
+fn play_line<V: Vault, W: Write>(
+    alloc: Global,
+    office: &mut Office<V>,
+    line: &Line,
+    known: &mut Vec<u64>,
+    out: &mut W,
+) -> Result<(), Fault>
+    ensures played { OnOk result ((T : Trace) → StandsFor V.holds office.old T → V.is_clean (vault_of office.new) → ComesTo V.holds office.new (W.contents out.old) (W.contents out.new) (λ printed U. PlaysLine (point T known.old.items) (line_seen line.now) printed (point U known.new.items))) }
+    ensures clean { V.is_clean (vault_of office.new) → V.is_clean (vault_of office.old) }
+{
+    match act(office, line, out)? {
+        Some(outcome) => {
+            tell_whole(alloc, office, &outcome, known, out)?;
+            Ok(())
+        }
+        None => Ok(()),
+    }
+}
+
+/// Prints an outcome, and the connections that ended. A connection that it opened is put to those that are known.
 fn tell_whole<V: Vault, W: Write>(
     alloc: Global,
     office: &Office<V>,
     outcome: &Outcome,
-    open: &mut Vec<u64>,
+    known: &mut Vec<u64>,
     out: &mut W,
-) -> Result<(), Fault> {
-    if let Outcome::Opened(number) = outcome {
-        open.push(*number)?;
-    }
+) -> Result<(), Fault>
+    ensures told { (T : Trace) → StandsFor V.holds office.now T → OnOk result (Appends (W.contents out.old) (W.contents out.new) (told_text T known.old.items (Some (outcome_seen outcome.now)))) }
+    ensures kept { (T : Trace) → StandsFor V.holds office.now T → OnOk result (known.new.items ≡ still_known T known.old.items (Some (outcome_seen outcome.now))) }
+{
+    add_opened(outcome, known)?;
     tell(alloc, out, outcome)?;
-    tell_ended(office, open, out).map_err(|_| Fault::CannotWrite)
+    match tell_ended(office, known, out) {
+        Ok(()) => Ok(()),
+        Err(_) => Err(Fault::CannotWrite),
+    }
+}
+
+/// Puts a connection that an outcome opened to those that are known.
+fn add_opened(outcome: &Outcome, known: &mut Vec<u64>) -> Result<(), Fault>
+    ensures { OnOk result (known.new.items ≡ known_with (outcome_seen outcome.now) known.old.items) }
+{
+    match outcome {
+        Outcome::Opened(number) => {
+            known.push(*number)?;
+            Ok(())
+        }
+        _ => Ok(()),
+    }
 }
 
 /// Does the events of one line, prints the octets that it takes, and gives the last outcome. A line that is no event
@@ -140,28 +200,33 @@ fn act<V: Vault, W: Write>(
     office: &mut Office<V>,
     line: &Line,
     out: &mut W,
-) -> io::Result<Option<Outcome>> {
-    let outcome = match line {
-        Line::Connect => office.step(Event::Connect),
-        Line::Bytes(number, octets) => office.step(Event::Bytes(*number, octets.as_slice())),
-        Line::Took(number, count) => take(office, *number, *count, out)?,
-        Line::Drain(number) => drain(office, *number, out)?,
-        Line::Gone(number) => office.step(Event::Gone(*number)),
-        Line::Tick(now) => office.step(Event::Tick(*now)),
-        Line::Restart(boot) => office.step(Event::Restart(*boot)),
+) -> Result<Option<Outcome>, Fault>
+    ensures acted { IfOk result (λ told. (T : Trace) → StandsFor V.holds office.old T → V.is_clean (vault_of office.new) → ComesTo V.holds office.new (W.contents out.old) (W.contents out.new) (Acts T (line_seen line.now) (option_map outcome_seen told))) }
+    ensures clean { V.is_clean (vault_of office.new) → V.is_clean (vault_of office.old) }
+{
+    match line {
+        Line::Connect => Ok(Some(office.step(Event::Connect))),
+        Line::Bytes(number, octets) => Ok(Some(office.step(Event::Bytes(
+            *number,
+            octets.as_slice(),
+        )))),
+        Line::Took(number, count) => Ok(Some(take(office, *number, *count, out)?)),
+        Line::Drain(number) => Ok(Some(drain(office, *number, out)?)),
+        Line::Gone(number) => Ok(Some(office.step(Event::Gone(*number)))),
+        Line::Tick(now) => Ok(Some(office.step(Event::Tick(*now)))),
+        Line::Restart(boot) => Ok(Some(office.step(Event::Restart(*boot)))),
         Line::Deposit {
             maildrop,
             class,
             id,
             text,
-        } => office.step(Event::Deposit(maildrop, class, id, text.as_slice())),
-        Line::Admin(command) => office.step(Event::Admin(command)),
-        Line::NoPolicy(fault) => {
-            tell_no_policy(out, *fault)?;
-            return Ok(None);
-        }
-    };
-    Ok(Some(outcome))
+        } => Ok(Some(office.step(Event::Deposit(maildrop, class, id, text.as_slice())))),
+        Line::Admin(command) => Ok(Some(office.step(Event::Admin(command)))),
+        Line::NoPolicy(fault) => match tell_no_policy(out, *fault) {
+            Ok(()) => Ok(None),
+            Err(_) => Err(Fault::CannotWrite),
+        },
+    }
 }
 
 /// Prints the fault of a text that is no policy.
@@ -177,12 +242,29 @@ fn take<V: Vault, W: Write>(
     number: u64,
     count: usize,
     out: &mut W,
-) -> io::Result<Outcome> {
-    let owed = office.owed(number);
-    if 0 < count && count <= owed.len() {
-        tell_sent(out, number, &owed[..count])?;
+) -> Result<Outcome, Fault>
+    ensures taken { IfOk result (λ outcome. (T : Trace) → StandsFor V.holds office.old T → V.is_clean (vault_of office.new) → ComesTo V.holds office.new (W.contents out.old) (W.contents out.new) (Acts T (Does (Took number count)) (Some (outcome_seen outcome)))) }
+    ensures clean { V.is_clean (vault_of office.new) → V.is_clean (vault_of office.old) }
+{
+    tell_taken(out, number, office.owed(number), count)?;
+    let outcome = office.step(Event::Took(number, count));
+    Ok(outcome)
+}
+
+/// Prints the first `count` octets of what a connection is owed, where there are so many.
+fn tell_taken<W: Write>(out: &mut W, number: u64, owed: &[u8], count: usize) -> Result<(), Fault>
+    ensures { OnOk result (Appends (W.contents out.old) (W.contents out.new) (taken_text number owed.now count)) }
+{
+    if count == 0 {
+        return Ok(());
     }
-    Ok(office.step(Event::Took(number, count)))
+    if owed.len() < count {
+        return Ok(());
+    }
+    match tell_sent(out, number, &owed[..count]) {
+        Ok(()) => Ok(()),
+        Err(_) => Err(Fault::CannotWrite),
+    }
 }
 
 /// Prints what a connection was sent.
@@ -199,33 +281,46 @@ fn drain<V: Vault, W: Write>(
     office: &mut Office<V>,
     number: u64,
     out: &mut W,
-) -> io::Result<Outcome> {
+) -> Result<Outcome, Fault>
+    ensures drained { IfOk result (λ outcome. (T : Trace) → StandsFor V.holds office.old T → V.is_clean (vault_of office.new) → ComesTo V.holds office.new (W.contents out.old) (W.contents out.new) (Acts T (Drains number) (Some (outcome_seen outcome)))) }
+    ensures clean { V.is_clean (vault_of office.new) → V.is_clean (vault_of office.old) }
+{
     if office.owed(number).is_empty() {
         return Ok(Outcome::Done);
     }
-    write!(out, "sent {number} ")?;
+    let Ok(()) = write!(out, "sent {number} ") else {
+        return Err(Fault::CannotWrite);
+    };
     let outcome = take_all(office, number, out)?;
-    writeln!(out)?;
-    Ok(outcome)
+    match writeln!(out) {
+        Ok(()) => Ok(outcome),
+        Err(_) => Err(Fault::CannotWrite),
+    }
 }
 
-/// Takes what a connection is owed, and prints it, again until nothing is owed or it has ended.
+/// Takes what a connection is owed, and prints it, again until nothing is owed or it has ended. `Endless` after
+/// 2^64 - 1 takings.
 fn take_all<V: Vault, W: Write>(
     office: &mut Office<V>,
     number: u64,
     out: &mut W,
-) -> io::Result<Outcome> {
+) -> Result<Outcome, Fault>
+    ensures taken { IfOk result (λ outcome. (T : Trace) → StandsFor V.holds office.old T → V.is_clean (vault_of office.new) → ComesTo V.holds office.new (W.contents out.old) (W.contents out.new) (TakesAll T number (outcome_seen outcome))) }
+    ensures clean { V.is_clean (vault_of office.new) → V.is_clean (vault_of office.old) }
+{
     let mut outcome = Outcome::Done;
     for _ in 0..u64::MAX {
         let owed = office.owed(number);
-        let count = owed.len();
-        if count == 0 {
-            break;
+        if owed.is_empty() {
+            return Ok(outcome);
         }
-        write_escaped(out, owed)?;
+        let count = owed.len();
+        let Ok(()) = write_escaped(out, owed) else {
+            return Err(Fault::CannotWrite);
+        };
         outcome = office.step(Event::Took(number, count));
     }
-    Ok(outcome)
+    Err(Fault::Talk(TalkFault::Endless))
 }
 
 /// Writes octets as a script's TEXT: printable ASCII as it is, but for `\`.

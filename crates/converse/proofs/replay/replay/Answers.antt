@@ -1,5 +1,27 @@
-use Rattle.std.proofs.Common.{rules}
+use Rattle.std.proofs.Common.{◌≡◌, List, Ok, ap, map, rules, subst, ◌∙◌}
+use Rattle.office.specs.Events.{Trace}
+use Rattle.office.specs.Stands.{Keeps}
+use Rattle.converse.specs.Played.{HasRun}
+use Rattle.converse.specs.Runs.{opened_on}
+use Rattle.converse.specs.Script.{ScriptLine, line_seen, script_of}
+use Rattle.converse.proofs.Playing.{has_run, of_known, same_lines}
 use Rattle.converse.proofs.replay.replay.Goals as goal
 
 pub returns-clause-silent : goal.returns-clause-silent
 returns-clause-silent g c = search rules
+
+pub returns-clause-told : goal.returns-clause-told
+returns-clause-told g c =
+    let x = c.play_over-status in
+    let before = g.W.Write.contents c.args.out.now in
+    let after = g.W.Write.contents x.new.out in λ well.
+    of_known (g.R.Read.remaining c.args.script.now) (λ text. script_of text ≡ Ok (map line_seen c.in-Ok.lines.items))
+    (λ text. (lines : List ScriptLine) → script_of text ≡ Ok lines → (T : Trace) → Keeps (g.V.Vault.holds c.args.vault) T → g.V.Vault.is_clean c.into_vault.result
+    → HasRun g.V.Vault.holds c.into_vault.result before after (opened_on T c.args.host.now c.args.boot) lines)
+    (λ text said lines read T keeps clean.
+    (let clean2 = subst g.V.Vault.is_clean c.into_vault.ensures clean in
+    let opened = opened_on T c.args.host.now c.args.boot in
+    has_run g.V.Vault.holds x.new.office c.into_vault.result opened before after (map line_seen c.as_slice.result.now) lines c.into_vault.ensures
+    (ap (map line_seen) c.as_slice.ensures.value ∙ same_lines (script_of text) (map line_seen c.in-Ok.lines.items) lines said read)
+    (x.ensures.played well opened (c.in-Ok-open_office.ensures.opened T keeps (x.ensures.clean clean2)) clean2)))
+    c.in-Ok.ensures

@@ -1,0 +1,220 @@
+-- What lines print one after the other, and what an office lends.
+use Rattle.std.proofs.Common.{◌≡◌, ℕ, ◌<◌, Bool, false, not, ◌||◌, ◌==◌, nat_lt, List, [], ◌∷◌, ◌++◌, ◌+◌, length, take, get_or, map, option_map, Option, Some, None, IfSome, Result, Ok, Err, refl, arith, sym, ◌∙◌, ap, subst, append-nil, append_assoc, if◌then◌else◌}
+use Rattle.std.proofs.KnownBytes.{Appends-nil, Appends-trans}
+use Rattle.std.proofs.lemmas.List.{take_all, take_more, map-append}
+use Rattle.std.proofs.lemmas.Grind.{flat_map-append}
+use Rattle.std.specs.Fmt.{decimal}
+use Rattle.std.specs.Prelude.{codes}
+use Rattle.std.specs.Io.KnownBytes.{Appends, Keeps}
+use Rattle.vault.specs.Changes.{Contents}
+use Rattle.office.specs.Events.{Event, Trace, given}
+use Rattle.office.specs.Events as event
+use Rattle.office.specs.Expected.{IsOutcome, ignored, or_ignored, shown_at, reason_if}
+use Rattle.office.specs.Kept.{Kept}
+use Rattle.office.specs.Outcomes.{Outcome, NoSuchConnection, NotReady, mark_of}
+use Rattle.office.specs.Outcomes as outcome
+use Rattle.office.specs.Stands.{StandsFor, Seen, IsKeptFor, is_seen_open, untaken_of, seen, length_of_lent, lent_by, vault_of}
+use Rattle.office.specs.Stands.{Keeps as Kept_by}
+use Rattle.office.specs.Trace.{history, is_open_at, rest, rest_if, IsLent}
+use Rattle.office.specs.Shown.{outcome_seen}
+use Rattle.office.specs.declared.event.Outcome.{Outcome as Shown}
+use Rattle.office.specs.declared.office.Office.{Office}
+use Rattle.converse.specs.Script.{ScriptLine, Does, Drains, line_seen}
+use Rattle.converse.specs.declared.script.Line.{Line}
+use Rattle.converse.specs.Escapes.{escape, escaped}
+use Rattle.converse.specs.Played.{owed_by, sent_before, TakesAll, Acts, ComesTo, told_text, still_known, drained, drained_octets, AreTakings, Takes, Point, point, PlaysLine, Plays, HasPlayed, HasRun}
+use Rattle.converse.proofs.Clauses.{appends_kept}
+
+-- ---- an office lends all that is owed
+
+lent_of : (contents : Contents) (s : Seen) (k : Option Kept) → IsKeptFor contents s k → length_of_lent k ≡ length (rest_if (is_seen_open s) (untaken_of s))
+lent_of contents s None h = let e = h.closed in rw e refl
+lent_of contents s (Some k) h = let e = h.opened in rw e (ap length h.owed)
+
+pub lent_owed : {V : Type 0} (Holds : V → Contents → Type 0) (o : Office V) (T : Trace) → StandsFor Holds o T → (c : ℕ) → lent_by o c ≡ owed_by T c
+lent_owed Holds o T st c = lent_of st.keeps.contents (seen T c) _ (st.links c)
+
+pub lent_whole : (rest lent : List ℕ) → IsLent rest lent → length lent ≡ length rest → lent ≡ rest
+lent_whole rest lent is e = is.beginning ∙ (ap (λ n. take n rest) e ∙ take_all (length rest) rest (omega (arith)))
+
+-- ---- outcomes
+
+ignored_same : (T : Trace) (lent owed : ℕ → ℕ) → ((c : ℕ) → lent c ≡ owed c) → (e : Event) → ignored T lent e ≡ ignored T owed e
+ignored_same T lent owed same (event.Start host boot idle) = refl
+ignored_same T lent owed same event.Connect = refl
+ignored_same T lent owed same (event.Bytes c piece) = refl
+ignored_same T lent owed same (event.Took c n) =
+    ap (λ k. if not (is_open_at T.log (history T) c) then Some NoSuchConnection else reason_if (n == 0 || nat_lt k n) NotReady) (same c)
+ignored_same T lent owed same (event.Gone c) = refl
+ignored_same T lent owed same (event.Tick now) = refl
+ignored_same T lent owed same (event.Deposit d class id text) = refl
+ignored_same T lent owed same (event.Admin command) = refl
+ignored_same T lent owed same (event.Restart boot) = refl
+
+outcome_same : (T : Trace) (lent owed : ℕ → ℕ) → ((c : ℕ) → lent c ≡ owed c) → (e : Event) (o : Outcome) → IsOutcome T lent e o → IsOutcome T owed e o
+outcome_same T lent owed same e o h = record {
+  tag = h.tag;
+  may = h.may;
+  is = h.is ∙ ap (λ r. or_ignored r (shown_at T.base T.log (history T) e h.tag)) (ignored_same T lent owed same e);
+}
+
+-- by what is owed
+pub by_owed : {V : Type 0} (Holds : V → Contents → Type 0) (o : Office V) (T : Trace) → StandsFor Holds o T → (e : Event) (x : Outcome) → IsOutcome T (lent_by o) e x → IsOutcome T (owed_by T) e x
+by_owed Holds o T st e x h = outcome_same T (lent_by o) (owed_by T) (lent_owed Holds o T st) e x h
+
+-- ---- lines
+
+-- one line more
+pub plays_more : (P M Q : Point) (lines : List ScriptLine) (line : ScriptLine) (printed more : List ℕ) → Plays P lines printed M → PlaysLine M line more Q
+    → Plays P (lines ++ line ∷ []) (printed ++ more) Q
+plays_more P M Q [] line printed more h l =
+    (Q, more, [], subst (λ X. PlaysLine X line more Q) h.0 l, (refl, refl), ap (λ (t : List ℕ). t ++ more) h.1 ∙ sym (append-nil more))
+plays_more P M Q (first ∷ lines) line printed more (N, a, b, x, y, e) l =
+    (N, a, b ++ more, x, plays_more N M Q lines line b more y l, ap (λ (t : List ℕ). t ++ more) e ∙ append_assoc a b more)
+
+-- ---- takings
+
+-- what is lent is all that is owed
+pub owed_whole : {V : Type 0} (Holds : V → Contents → Type 0) (o : Office V) (T : Trace) → StandsFor Holds o T → (c : ℕ) (lent : List ℕ) → IsLent (rest T c) lent → length lent ≡ lent_by o c
+    → lent ≡ rest T c
+owed_whole Holds o T st c lent is count = lent_whole (rest T c) lent is (count ∙ lent_owed Holds o T st c)
+
+-- so much was taken, and is printed as it comes
+abbrev pub TakesSoFar : Trace → ℕ → Outcome → (printed : List ℕ) → Trace → Type 0
+TakesSoFar T c o printed U = (outcomes : List Outcome) × Takes T c outcomes o U × (printed ≡ escaped (drained_octets c T outcomes))
+
+pub takes_none : (T : Trace) (c : ℕ) → TakesSoFar T c outcome.Done [] T
+takes_none T c = ([], record { are = tt; last = refl; behind = refl }, refl)
+
+takes_next : (T : Trace) (c : ℕ) (os : List Outcome) (p : Outcome) → AreTakings c T os → 0 < owed_by (drained c T os) c
+    → IsOutcome (drained c T os) (owed_by (drained c T os)) (event.Took c (owed_by (drained c T os) c)) p
+    → TakesSoFar T c p (escaped (drained_octets c T os) ++ escaped (rest (drained c T os) c)) (given (drained c T os) (event.Took c (owed_by (drained c T os) c)) (mark_of p))
+takes_next T c os p are some is =
+    (p ∷ os, record { are = (are, some, is); last = refl; behind = refl }, sym (flat_map-append escape (drained_octets c T os) (rest (drained c T os) c)))
+
+-- one taking more
+pub takes_more : (T : Trace) (c : ℕ) (o p : Outcome) (printed : List ℕ) (U : Trace) → TakesSoFar T c o printed U → 0 < owed_by U c
+    → IsOutcome U (owed_by U) (event.Took c (owed_by U c)) p → TakesSoFar T c p (printed ++ escaped (rest U c)) (given U (event.Took c (owed_by U c)) (mark_of p))
+takes_more T c o p printed U (os, t, e) =
+    subst (λ (w : List ℕ). 0 < owed_by U c → IsOutcome U (owed_by U) (event.Took c (owed_by U c)) p → TakesSoFar T c p (w ++ escaped (rest U c)) (given U (event.Took c (owed_by U c)) (mark_of p)))
+    (sym e)
+    (subst (λ X. 0 < owed_by X c → IsOutcome X (owed_by X) (event.Took c (owed_by X c)) p → TakesSoFar T c p (escaped (drained_octets c T os) ++ escaped (rest X c)) (given X (event.Took c (owed_by X c)) (mark_of p)))
+    (sym t.behind) (takes_next T c os p t.are))
+
+pub some_owed : (b : Bool) (xs : List ℕ) → b ≡ false → b ≡ (length xs == 0) → 0 < length xs
+some_owed b [] f e = cc
+some_owed b (x ∷ xs) f e = omega (arith)
+
+pub takes_lent : (T : Trace) (c : ℕ) (o p : Outcome) (printed : List ℕ) (U : Trace) (lent : List ℕ) → lent ≡ rest U c → TakesSoFar T c o printed U → 0 < length lent
+    → IsOutcome U (owed_by U) (event.Took c (length lent)) p → TakesSoFar T c p (printed ++ escaped lent) (given U (event.Took c (length lent)) (mark_of p))
+takes_lent T c o p printed U lent e s =
+    subst (λ (r : List ℕ). 0 < length r → IsOutcome U (owed_by U) (event.Took c (length r)) p → TakesSoFar T c p (printed ++ escaped r) (given U (event.Took c (length r)) (mark_of p)))
+    (sym e) (takes_more T c o p printed U s)
+
+owed_none : (T U : Trace) (c : ℕ) → U ≡ T → rest U c ≡ [] → 0 < length (rest T c) → ⊥
+owed_none T U c e f some = let n = ap length (subst (λ X. rest X c ≡ []) e f) in omega (arith, n, some)
+
+-- all was taken, and is printed in one line
+pub drains_all : (T : Trace) (c : ℕ) (o : Outcome) (printed : List ℕ) (U : Trace) → TakesAll T c o printed U → 0 < length (rest T c)
+    → Acts T (Drains c) (Some o) (codes "sent " ++ decimal c ++ codes " " ++ printed ++ codes "\n") U
+drains_all T c o printed U ([], t, e, f) some = absurd (owed_none T U c t.behind e some)
+drains_all T c o printed U (p ∷ os, t, e, f) some = (p ∷ os, t, e, ap (λ (w : List ℕ). codes "sent " ++ decimal c ++ codes " " ++ w ++ codes "\n") f)
+
+-- ---- what comes of a line
+
+module _ {V : Type 0} (Holds : V → Contents → Type 0) (new : Office V) (T : Trace) where
+  -- one event in front of which nothing is printed
+  pub did_one : (old : Office V) (line : ScriptLine) (e : Event) (o : Outcome) (known : Option (List ℕ)) → line ≡ Does e → sent_before T e ≡ [] → StandsFor Holds old T
+      → IsOutcome T (lent_by old) e o → StandsFor Holds new (given T e (mark_of o)) → ComesTo Holds new known known (Acts T line (Some o))
+  did_one old line e o known s none st is stands =
+      subst (λ (l : ScriptLine). ComesTo Holds new known known (Acts T l (Some o))) (sym s) (record {
+        printed = [];
+        trace = given T e (mark_of o);
+        appends = Appends-nil known;
+        stands = stands;
+        is = (by_owed Holds old T st e o is, refl, sym none);
+      })
+
+  -- what comes of a line is said of it
+  pub of_line : (line said : ScriptLine) (o : Option Outcome) (before after : Option (List ℕ)) → line ≡ said → ComesTo Holds new before after (Acts T said o) → ComesTo Holds new before after (Acts T line o)
+  of_line line said o before after s h = subst (λ (l : ScriptLine). ComesTo Holds new before after (Acts T l o)) (sym s) h
+
+  pub by_told : (line : ScriptLine) (told x : Option Shown) (before after : Option (List ℕ)) → told ≡ x → ComesTo Holds new before after (Acts T line (option_map outcome_seen told))
+      → ComesTo Holds new before after (Acts T line (option_map outcome_seen x))
+  by_told line told x before after e h = subst (λ (o : Option Shown). ComesTo Holds new before after (Acts T line (option_map outcome_seen o))) e h
+
+  -- a line that is no event
+  pub line_none : (line : ScriptLine) (before after : Option (List ℕ)) (known : List ℕ) → ComesTo Holds new before after (Acts T line None)
+      → ComesTo Holds new before after (λ printed U. PlaysLine (point T known) line printed (point U known))
+  line_none line before after known h = record {
+    printed = h.printed;
+    trace = h.trace;
+    appends = h.appends;
+    stands = h.stands;
+    is = record { sent = h.printed; told = None; acts = h.is; text = sym (append-nil h.printed); left = refl };
+  }
+
+  -- a line whose outcome is told
+  pub line_some : (line : ScriptLine) (o : Outcome) (before during after : Option (List ℕ)) (known left : List ℕ) (h : ComesTo Holds new before during (Acts T line (Some o)))
+      → Appends during after (told_text h.trace known (Some o)) → left ≡ still_known h.trace known (Some o)
+      → ComesTo Holds new before after (λ printed U. PlaysLine (point T known) line printed (point U left))
+  line_some line o before during after known left h told kept = record {
+    printed = h.printed ++ told_text h.trace known (Some o);
+    trace = h.trace;
+    appends = Appends-trans before during after h.printed (told_text h.trace known (Some o)) h.appends told;
+    stands = h.stands;
+    is = record { sent = h.printed; told = Some o; acts = h.is; text = refl; left = kept };
+  }
+
+-- one line more of a list of lines
+pub played_more : {V : Type 0} (Holds : V → Contents → Type 0) (mid new : Office V) (P : Point) (lines : List Line) (i : ℕ) (x : Line) → i < length lines → x ≡ get_or lines i x
+    → (before during after : Option (List ℕ)) (known left : List ℕ) (s : ComesTo Holds mid before during (λ printed U. Plays P (map line_seen (take i lines)) printed (point U known)))
+    → ComesTo Holds new during after (λ printed U. PlaysLine (point s.trace known) (line_seen x) printed (point U left))
+    → ComesTo Holds new before after (λ printed U. Plays P (map line_seen (take (i + 1) lines)) printed (point U left))
+played_more Holds mid new P lines i x lt is before during after known left s l =
+    let seen : map line_seen (take (i + 1) lines) ≡ map line_seen (take i lines) ++ line_seen x ∷ [] =
+    ap (map line_seen) (take_more lines i x lt) ∙ (map-append line_seen (take i lines) (get_or lines i x ∷ []) ∙ ap (λ y. map line_seen (take i lines) ++ line_seen y ∷ []) (sym is)) in
+    record {
+      printed = s.printed ++ l.printed;
+      trace = l.trace;
+      appends = Appends-trans before during after s.printed l.printed s.appends l.appends;
+      stands = l.stands;
+      is = subst (λ (asked : List ScriptLine). Plays P asked (s.printed ++ l.printed) (point l.trace left)) (sym seen)
+          (plays_more P (point s.trace known) (point l.trace left) (map line_seen (take i lines)) (line_seen x) s.printed l.printed s.is l.is);
+    }
+
+-- three texts, one after the other
+pub appends_three : (a b c d : Option (List ℕ)) (x y z whole : List ℕ) → Appends a b x → Appends b c y → Appends c d z → x ++ y ++ z ≡ whole → Appends a d whole
+appends_three a b c d x y z whole p q r e =
+    subst (λ (t : List ℕ). Appends a d t) e (Appends-trans a c d (x ++ y) z (Appends-trans a b c x y p q) r)
+
+-- ---- a whole script
+
+-- what is said of a known text
+pub of_known : (known : Option (List ℕ)) (P Q : List ℕ → Type 0) → ((text : List ℕ) → P text → Q text) → IfSome known P → IfSome known Q
+of_known None P Q f h = tt
+of_known (Some text) P Q f h = f text h
+
+abbrev asked : Result (List ScriptLine) ℕ → List ScriptLine
+asked (Ok lines) = lines
+asked (Err n) = []
+
+pub same_lines : (r : Result (List ScriptLine) ℕ) (a b : List ScriptLine) → r ≡ Ok a → r ≡ Ok b → a ≡ b
+same_lines r a b p q = ap asked (sym p ∙ q)
+
+-- nothing more was printed
+pub comes_kept : {V : Type 0} (Holds : V → Contents → Type 0) (o : Office V) (before during after : Option (List ℕ)) (Is : List ℕ → Trace → Type 0) → Keeps during after
+    → ComesTo Holds o before during Is → ComesTo Holds o before after Is
+comes_kept Holds o before during after Is k h =
+    record { printed = h.printed; trace = h.trace; appends = appends_kept before during after h.printed h.appends k; stands = h.stands; is = h.is }
+
+-- what the store keeps
+pub has_run : {V : Type 0} (Holds : V → Contents → Type 0) (o : Office V) (v : V) (T : Trace) (before after : Option (List ℕ)) (given lines : List ScriptLine) → v ≡ vault_of o → given ≡ lines
+    → ComesTo Holds o before after (HasPlayed T given) → HasRun Holds v before after T lines
+has_run Holds o v T before after given lines e same h = record {
+  printed = h.printed;
+  trace = h.trace;
+  appends = h.appends;
+  keeps = subst (λ w. Kept_by (Holds w) h.trace) (sym e) h.stands.keeps;
+  plays = subst (λ (ls : List ScriptLine). HasPlayed T ls h.printed h.trace) same h.is;
+}

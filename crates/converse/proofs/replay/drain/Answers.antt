@@ -1,0 +1,39 @@
+use Rattle.std.proofs.Common.{◌≡◌, ◌<◌, [], ◌++◌, codes, length, refl, subst, sym, ◌∙◌}
+use Rattle.std.specs.Fmt.{decimal}
+use Rattle.std.proofs.KnownBytes.{Appends-nil}
+use Rattle.office.specs.Shown.{outcome_seen}
+use Rattle.office.specs.Trace.{rest}
+use Rattle.converse.proofs.Clauses.{found_empty}
+use Rattle.converse.proofs.Playing.{owed_whole, drains_all, some_owed, appends_three}
+use Rattle.converse.proofs.replay.drain.Goals as goal
+
+pub returns-then-is_empty-clause-drained : goal.returns-then-is_empty-clause-drained
+returns-then-is_empty-clause-drained g c =
+    let n = c.args.number in
+    let lent = c.owed.result.now in λ T st clean. record {
+      printed = [];
+      trace = T;
+      appends = Appends-nil _;
+      stands = st;
+      is = (
+        [],
+        record { are = tt; last = refl; behind = refl },
+        sym (owed_whole g.V.Vault.holds c.args.office.now T st n lent (c.owed.ensures.lent T st) c.owed.ensures.count) ∙ found_empty c.is_empty.result lent c.if-is_empty.true c.is_empty.ensures,
+        refl,
+      );
+    }
+
+pub returns-in-Ok-writeln-clause-drained : goal.returns-in-Ok-writeln-clause-drained
+returns-in-Ok-writeln-clause-drained g c =
+    let n = c.args.number in
+    let lent = c.owed.result.now in λ T st clean.
+    (let s = c.in_ok-outcome.ensures.taken T st clean in
+    let whole : lent ≡ rest T n = owed_whole g.V.Vault.holds c.args.office.now T st n lent (c.owed.ensures.lent T st) c.owed.ensures.count in
+    let some : 0 < length lent = some_owed c.is_empty.result lent c.if-is_empty.false c.is_empty.ensures in
+    record {
+      printed = codes "sent " ++ decimal n ++ codes " " ++ s.printed ++ codes "\n";
+      trace = s.trace;
+      appends = appends_three _ _ _ _ _ s.printed _ _ c.in-Ok.ensures.bytes s.appends c.in-Ok-writeln.ensures.bytes refl;
+      stands = s.stands;
+      is = drains_all T n (outcome_seen c.in_ok-outcome.outcome) s.printed s.trace s.is (subst (λ r. 0 < length r) whole some);
+    })

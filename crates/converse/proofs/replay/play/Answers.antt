@@ -1,0 +1,30 @@
+use Rattle.std.proofs.Common.{[], map, subst, take_all}
+use Rattle.converse.specs.Played.{Plays, point}
+use Rattle.converse.specs.Script.{line_seen}
+use Rattle.converse.proofs.Playing.{played_more}
+use Rattle.converse.proofs.replay.play.Goals as goal
+
+pub loop-line-preserved : goal.loop-line-preserved
+loop-line-preserved g c =
+    let x = c.play_line in record {
+      played = λ T st clean.
+          (let s = c.loop-line.invariant.played T st (x.ensures.clean clean) in
+          played_more g.V.Vault.holds c.loop-line.office x.new.office (point T []) c.args.lines.now c.loop-line.line-index c.line-item.result c.loop-line-test.true c.line-item.is _ _ _ _ _ s
+          (c.in_ok-play_line.ensures.played s.trace s.stands clean));
+      clean = λ clean. c.loop-line.invariant.clean (x.ensures.clean clean);
+    }
+
+pub returns-clause-played : goal.returns-clause-played
+returns-clause-played g c = λ T st clean.
+    (let s = c.loop-line.invariant.played T st clean in
+    let known = c.loop-line.known.items in
+    record {
+      printed = s.printed;
+      trace = s.trace;
+      appends = s.appends;
+      stands = s.stands;
+      is = (
+        known,
+        subst (λ lines. Plays (point T []) (map line_seen lines) s.printed (point s.trace known)) (take_all c.loop-line.line-index c.args.lines.now c.loop-line-test.false) s.is,
+      );
+    })

@@ -1,0 +1,50 @@
+use Rattle.std.proofs.Common.{◌≡◌, ◌++◌, [], length, sym, ◌∙◌}
+use Rattle.std.proofs.KnownBytes.{Appends-nil, Appends-trans}
+use Rattle.office.specs.Events.{Took}
+use Rattle.office.specs.Shown.{outcome_seen, followed_by}
+use Rattle.office.specs.Trace.{rest}
+use Rattle.converse.specs.Escapes.{escaped}
+use Rattle.converse.proofs.Clauses.{found_empty}
+use Rattle.converse.proofs.Playing.{by_owed, owed_whole, takes_none, takes_lent, some_owed}
+use Rattle.converse.proofs.replay.take_all.Goals as goal
+
+pub loop-init : goal.loop-init
+loop-init g c = record {
+  taken = λ T st clean. record { printed = []; trace = T; appends = Appends-nil _; stands = st; is = takes_none T c.args.number };
+  clean = λ clean. clean;
+}
+
+pub loop-preserved : goal.loop-preserved
+loop-preserved g c =
+    let n = c.args.number in
+    let lent = c.owed-owed.result.now in
+    let e = Took n (length lent) in
+    let x = c.step-outcome in record {
+      taken = λ T st clean.
+          (let s = c.loop.invariant.taken T st (x.ensures.clean clean) in
+          let whole : lent ≡ rest s.trace n = owed_whole g.V.Vault.holds c.loop.office s.trace s.stands n lent (c.owed-owed.ensures.lent s.trace s.stands) c.owed-owed.ensures.count in
+          record {
+            printed = s.printed ++ escaped lent;
+            trace = followed_by s.trace e x.result;
+            appends = Appends-trans _ _ _ s.printed (escaped lent) s.appends c.in-Ok.ensures;
+            stands = x.ensures.stands s.trace s.stands clean;
+            is = takes_lent T n (outcome_seen c.loop.outcome) (outcome_seen x.result) s.printed s.trace lent whole s.is
+                (some_owed c.is_empty.result lent c.if-is_empty.false c.is_empty.ensures)
+                (by_owed g.V.Vault.holds c.loop.office s.trace s.stands e (outcome_seen x.result) (x.ensures.outcome s.trace s.stands clean));
+          });
+      clean = λ clean. c.loop.invariant.clean (x.ensures.clean clean);
+    }
+
+pub returns-then-is_empty-clause-taken : goal.returns-then-is_empty-clause-taken
+returns-then-is_empty-clause-taken g c =
+    let n = c.args.number in
+    let lent = c.owed-owed.result.now in λ T st clean.
+    (let s = c.loop.invariant.taken T st clean in
+    let whole : lent ≡ rest s.trace n = owed_whole g.V.Vault.holds c.loop.office s.trace s.stands n lent (c.owed-owed.ensures.lent s.trace s.stands) c.owed-owed.ensures.count in
+    record {
+      printed = s.printed;
+      trace = s.trace;
+      appends = s.appends;
+      stands = s.stands;
+      is = (s.is.0, s.is.1, sym whole ∙ found_empty c.is_empty.result lent c.if-is_empty.true c.is_empty.ensures, s.is.2);
+    })

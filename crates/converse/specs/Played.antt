@@ -1,0 +1,134 @@
+-- What the lines of a script print in an office, and the trace that they lead to.
+use Rattle.std.specs.Prelude.{◌≡◌, ℕ, ◌<◌, ⊤, nat_lt, List, [], ◌∷◌, ◌++◌, ◌==◌, ◌||◌, length, take, filter, Option, Some, None, if◌then◌else◌}
+use Rattle.std.specs.Io.KnownBytes.{Appends}
+use Rattle.vault.specs.Changes.{Contents}
+use Rattle.office.specs.Events.{Event, Took, Trace, given}
+use Rattle.office.specs.Expected.{IsOutcome}
+use Rattle.office.specs.Outcomes.{Outcome, Opened, Done, mark_of}
+use Rattle.office.specs.Stands.{Keeps, StandsFor}
+use Rattle.office.specs.Trace.{is_open, rest}
+use Rattle.office.specs.declared.office.Office.{Office}
+use Rattle.converse.specs.Escapes.{escaped}
+use Rattle.converse.specs.Script.{ScriptLine, Does, Drains, NoPolicy}
+use Rattle.converse.specs.Told.{sent_line, outcome_lines, ended_lines, has_ended, no_policy_line}
+
+-- ---- one event
+
+-- how many octets each connection is owed
+abbrev pub owed_by : Trace → ℕ → ℕ
+owed_by T c = length (rest T c)
+
+-- what is printed of the first n octets that are owed: nothing, where none is asked for, or more than are owed
+abbrev pub taken_text : (c : ℕ) (owed : List ℕ) (n : ℕ) → List ℕ
+taken_text c owed n = if n == 0 || nat_lt (length owed) n then [] else sent_line c (take n owed)
+
+-- what is printed in front of an event's outcome: the octets that a client took
+abbrev pub sent_before : Trace → Event → List ℕ
+sent_before T (Took c n) = taken_text c (rest T c) n
+sent_before T _ = []
+
+-- ---- takings of all that is owed, one after the other; their outcomes, the newest first
+
+-- the trace with these takings
+abbrev pub drained : ℕ → Trace → List Outcome → Trace
+drained c T [] = T
+drained c T (o ∷ os) = given (drained c T os) (Took c (owed_by (drained c T os) c)) (mark_of o)
+
+-- the octets that they took
+abbrev pub drained_octets : ℕ → Trace → List Outcome → List ℕ
+drained_octets c T [] = []
+drained_octets c T (o ∷ os) = drained_octets c T os ++ rest (drained c T os) c
+
+-- each has an outcome of its own, and something was owed
+abbrev pub AreTakings : ℕ → Trace → List Outcome → Type 0
+AreTakings c T [] = ⊤
+AreTakings c T (o ∷ os) =
+    AreTakings c T os × (0 < owed_by (drained c T os) c) × IsOutcome (drained c T os) (owed_by (drained c T os)) (Took c (owed_by (drained c T os) c)) o
+
+-- the last outcome; `done` where there was no taking
+abbrev pub last_of : List Outcome → Outcome
+last_of [] = Done
+last_of (o ∷ os) = o
+
+-- what is printed of them: one line, and none where there was no taking
+abbrev pub drained_text : ℕ → Trace → List Outcome → List ℕ
+drained_text c T [] = []
+drained_text c T (o ∷ os) = sent_line c (drained_octets c T (o ∷ os))
+
+-- U is T with these takings, of which the last is answered this
+pub record Takes (T : Trace) (c : ℕ) (outcomes : List Outcome) (o : Outcome) (U : Trace) : Type 0 where
+  pub are : AreTakings c T outcomes
+  pub last : o ≡ last_of outcomes
+  pub behind : U ≡ drained c T outcomes
+
+-- all is taken, and these octets are printed of it as they come
+abbrev pub TakesAll : Trace → ℕ → Outcome → (printed : List ℕ) → Trace → Type 0
+TakesAll T c o printed U = (outcomes : List Outcome) × Takes T c outcomes o U × (rest U c ≡ []) × (printed ≡ escaped (drained_octets c T outcomes))
+
+-- ---- lines
+
+-- What a line does to T: what is printed before an outcome is told, that outcome, and the trace behind it. A text that is no policy is no event.
+abbrev pub Acts : Trace → ScriptLine → Option Outcome → (printed : List ℕ) → Trace → Type 0
+Acts T (Does e) (Some o) printed U = IsOutcome T (owed_by T) e o × (U ≡ given T e (mark_of o)) × (printed ≡ sent_before T e)
+Acts T (Drains c) (Some o) printed U = (outcomes : List Outcome) × Takes T c outcomes o U × (rest U c ≡ []) × (printed ≡ drained_text c T outcomes)
+Acts T (NoPolicy f) None printed U = (U ≡ T) × (printed ≡ no_policy_line f)
+Acts T _ _ printed U = ⊥
+
+-- the connections that were opened and not yet told as ended, with one that an outcome opened
+abbrev pub known_with : Outcome → List ℕ → List ℕ
+known_with (Opened c) known = known ++ c ∷ []
+known_with _ known = known
+
+-- what is told of an outcome: its lines, and behind them each of these connections that ended
+abbrev pub told_text : Trace → (known : List ℕ) → Option Outcome → List ℕ
+told_text U known None = []
+told_text U known (Some o) = outcome_lines o ++ ended_lines (filter (has_ended U) (known_with o known))
+
+-- those of them that are still open
+abbrev pub still_known : Trace → (known : List ℕ) → Option Outcome → List ℕ
+still_known U known None = known
+still_known U known (Some o) = filter (is_open U) (known_with o known)
+
+-- where a run stands: its trace, and the connections that were opened and not yet told as ended
+pub record Point : Type 0 where
+  pub trace : Trace
+  pub known : List ℕ
+
+abbrev pub point : Trace → (known : List ℕ) → Point
+point T known = record { trace = T; known = known }
+
+-- what one line prints, and where it leads
+pub record PlaysLine (P : Point) (line : ScriptLine) (printed : List ℕ) (Q : Point) : Type 0 where
+  pub sent : List ℕ
+  pub told : Option Outcome
+  pub acts : Acts P.trace line told sent Q.trace
+  pub text : printed ≡ sent ++ told_text Q.trace P.known told
+  pub left : Q.known ≡ still_known Q.trace P.known told
+
+-- what lines print one after the other, and where they lead
+abbrev pub Plays : Point → List ScriptLine → (printed : List ℕ) → Point → Type 0
+Plays P [] printed Q = (Q ≡ P) × (printed ≡ [])
+Plays P (line ∷ lines) printed Q =
+    (M : Point) × (first : List ℕ) × (others : List ℕ) × PlaysLine P line first M × Plays M lines others Q × (printed ≡ first ++ others)
+
+-- the same from a trace in which no connection is known, to a trace
+abbrev pub HasPlayed : Trace → List ScriptLine → (printed : List ℕ) → Trace → Type 0
+HasPlayed T lines printed U = (known : List ℕ) × Plays (point T []) lines printed (point U known)
+
+-- ---- what is left
+
+-- some text was printed, and the office stands for some trace, of which this holds
+pub record ComesTo {V : Type 0} (Holds : V → Contents → Type 0) (o : Office V) (before after : Option (List ℕ)) (Is : List ℕ → Trace → Type 0) : Type 0 where
+  pub printed : List ℕ
+  pub trace : Trace
+  pub appends : Appends before after printed
+  pub stands : StandsFor Holds o trace
+  pub is : Is printed trace
+
+-- the lines were played from T: what they print was printed, and the store keeps what the trace says to which they lead
+pub record HasRun {V : Type 0} (Holds : V → Contents → Type 0) (new : V) (before after : Option (List ℕ)) (T : Trace) (lines : List ScriptLine) : Type 0 where
+  pub printed : List ℕ
+  pub trace : Trace
+  pub appends : Appends before after printed
+  pub keeps : Keeps (Holds new) trace
+  pub plays : HasPlayed T lines printed trace
