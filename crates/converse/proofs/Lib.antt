@@ -1,5 +1,6 @@
 mod TalkRows
 mod ScriptRows
+mod PlayedRows
 pub mod Removing
 pub mod Lines
 pub mod Saying

@@ -1,0 +1,64 @@
+-- A worked row of what a script prints, on the sample store.
+use Rattle.std.specs.Prelude.{[], ◌∷◌, codes, Some}
+use Rattle.std.proofs.Common.{refl, arith}
+use Rattle.std.specs.Fmt.{digits}
+use Rattle.office.specs.Events.{Trace, Tagged, given}
+use Rattle.office.specs.Events as event
+use Rattle.office.specs.History.{Done}
+use Rattle.office.specs.Outcomes as outcome
+use Rattle.office.specs.Stands.{begun}
+use Rattle.office.proofs.Sample.{W}
+use Rattle.converse.specs.Script.{Does, Drains}
+use Rattle.converse.specs.Played.{PlaysLine, Plays, point}
+use Rattle.converse.specs.Runs.{opened_on}
+
+abbrev start : Trace
+start = opened_on (begun W) (codes "h.test") 7
+
+abbrev connected : Trace
+connected = given start event.Connect (Tagged Done)
+
+abbrev greeted : Trace
+greeted = given connected (event.Took 1 36) (Tagged Done)
+
+abbrev left : Trace
+left = given greeted (event.Gone 1) (Tagged Done)
+
+opening : PlaysLine (point start []) (Does event.Connect) (codes "opened 1\n") (point connected (1 ∷ []))
+unfolding digits
+opening = record { sent = []; told = Some (outcome.Opened 1); acts = (record { tag = Done; may = refl; is = refl }, refl, refl); text = refl; left = refl }
+
+-- the greeting is taken at once, in front of the outcome
+draining : PlaysLine (point connected (1 ∷ [])) (Drains 1) (codes "sent 1 +OK POP3 server ready <1.7@h.test>\\r\\n\ndone\n") (point greeted (1 ∷ []))
+unfolding digits
+draining = record {
+  sent = codes "sent 1 +OK POP3 server ready <1.7@h.test>\\r\\n\n";
+  told = Some outcome.Done;
+  acts = (outcome.Done ∷ [], record { are = (tt, omega arith, record { tag = Done; may = refl; is = refl }); last = refl; behind = refl }, refl, refl);
+  text = refl;
+  left = refl;
+}
+
+-- a connection that ended is told behind the outcome
+going : PlaysLine (point greeted (1 ∷ [])) (Does (event.Gone 1)) (codes "done\nended 1\n") (point left [])
+unfolding digits
+going = record { sent = []; told = Some outcome.Done; acts = (record { tag = Done; may = refl; is = refl }, refl, refl); text = refl; left = refl }
+
+-- three lines, one after the other
+three_lines : Plays (point start []) (Does event.Connect ∷ Drains 1 ∷ Does (event.Gone 1) ∷ [])
+    (codes "opened 1\nsent 1 +OK POP3 server ready <1.7@h.test>\\r\\n\ndone\ndone\nended 1\n") (point left [])
+three_lines = (
+  point connected (1 ∷ []),
+  codes "opened 1\n",
+  codes "sent 1 +OK POP3 server ready <1.7@h.test>\\r\\n\ndone\ndone\nended 1\n",
+  opening,
+  (
+    point greeted (1 ∷ []),
+    codes "sent 1 +OK POP3 server ready <1.7@h.test>\\r\\n\ndone\n",
+    codes "done\nended 1\n",
+    draining,
+    (point left [], codes "done\nended 1\n", [], going, (refl, refl), refl),
+    refl,
+  ),
+  refl,
+)
