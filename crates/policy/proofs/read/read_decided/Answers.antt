@@ -1,7 +1,8 @@
-use Rattle.std.proofs.Common.{◌≡◌, true, not, ◌||◌, ◌∙◌, sym, refl, arith}
+use Rattle.std.proofs.Common.{rules, ◌≡◌, true, not, ◌||◌, ◌∙◌, sym, refl, arith}
 use Rattle.toml.specs.View.{view}
 use Rattle.policy.specs.declared.rule.Rule.{Rule}
 use Rattle.policy.specs.Policy.{is_any}
+use Rattle.policy.specs.PolicyText.{decided}
 use Rattle.policy.proofs.SoundRules.{actions_of-some, is_sound_rule-by}
 use Rattle.policy.proofs.read.read_decided.Goals as goal
 use Rattle.policy.proofs.read.read_decided.Goals.{else-actions-via-then-actions+else-not-is_any_pattern, else-actions-via-else-actions}
@@ -14,3 +15,7 @@ returns-clause-sound c sound =
     let general : (not rule.actions.open || is_any rule.class) ≡ true =
     elim c.else-actions.branch [ else-actions-via-then-actions+else-not-is_any_pattern w ↦ grind arith | else-actions-via-else-actions w ↦ grind arith ] in
     is_sound_rule-by subject rule refl refl refl refl sound actions general
+
+pub returns-in_err-actions-clause-value : goal.returns-in_err-actions-clause-value
+unfolding decided
+returns-in_err-actions-clause-value c = search rules
