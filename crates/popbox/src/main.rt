@@ -95,80 +95,30 @@ fn run_subcommand<E: Write>(
     }
 }
 
-/// Runs `popbox replay`: the script is the file that is named, which is opened first, or standard input.
+/// What runs over a store, each under an office's boot number.
+#[derive(Clone, Copy)]
+enum Job {
+    /// `popbox replay`: a script.
+    Replay(u64),
+    /// `popbox talk`: one conversation.
+    Talk(u64),
+}
+
+/// Runs `popbox replay`: the script is the file that is named, which is opened first, or standard input. Its store is the
+/// one that is named, or an empty one in memory.
 fn run_replay<E: Write>(
     rt: &HostRuntime,
     options: &ArgMatches<'_>,
     err: &mut E,
 ) -> Result<u8, Fault> {
+    let job = Job::Replay(options.get_one::<u64>("boot").unwrap_or(1));
     match options.get_str("SCRIPT") {
         Some(path) => {
             let mut file = fs::open(rt, path).map_err(|error| read_fault(&error))?;
-            replay_from(rt, &mut file, options, err)
+            run_job(rt, job, &mut file, options, err)
         }
-        None => replay_from(rt, &mut rt.reader(), options, err),
+        None => run_job(rt, job, &mut rt.reader(), options, err),
     }
-}
-
-/// Runs a script over the store that is named, or over an empty one in memory.
-fn replay_from<S: Read, E: Write>(
-    rt: &HostRuntime,
-    script: &mut S,
-    options: &ArgMatches<'_>,
-    err: &mut E,
-) -> Result<u8, Fault> {
-    match options.get_str("store") {
-        Some(path) => replay_in_file(rt, script, path, options, err),
-        None => replay_over(rt, script, PlainVault::new(rt.alloc()), options, err).0,
-    }
-}
-
-/// Runs a script over the store in the file at a path.
-fn replay_in_file<S: Read, E: Write>(
-    rt: &HostRuntime,
-    script: &mut S,
-    path: &str,
-    options: &ArgMatches<'_>,
-    err: &mut E,
-) -> Result<u8, Fault> {
-    let vault = SqlVault::open(rt, path, Wary)?;
-    replay_and_close(rt, script, vault, options, err)
-}
-
-/// Runs a script over a store, which is then closed.
-fn replay_and_close<D: Disk + Drop, S: Read, E: Write>(
-    rt: &HostRuntime,
-    script: &mut S,
-    vault: SqlVault<FileStore<D>>,
-    options: &ArgMatches<'_>,
-    err: &mut E,
-) -> Result<u8, Fault> {
-    let (ran, vault) = replay_over(rt, script, vault, options, err);
-    close_store(vault);
-    ran
-}
-
-/// Closes the store's file. What was done is in it or in the log beside it, so that a failure loses nothing.
-fn close_store<D: Disk + Drop>(vault: SqlVault<FileStore<D>>) {
-    let _ = vault.into_connection().close();
-}
-
-/// Runs a script over a vault, and prints to standard output. Gives the vault back.
-fn replay_over<V: Vault, S: Read, E: Write>(
-    rt: &HostRuntime,
-    script: &mut S,
-    vault: V,
-    options: &ArgMatches<'_>,
-    err: &mut E,
-) -> (Result<u8, Fault>, V) {
-    let alloc: Global = rt.alloc();
-    let host = options.get_str("host").unwrap_or("localhost");
-    let boot = options.get_one::<u64>("boot").unwrap_or(1);
-    let Ok(mut out) = BufWriter::new(alloc, io::writer(rt)) else {
-        return (Err(Fault::OutOfMemory), vault);
-    };
-    let (status, vault) = replay(alloc, script, vault, host, boot, &mut out, err);
-    (Ok(status), vault)
 }
 
 /// Runs `popbox talk`: one conversation over the store that is named.
@@ -181,33 +131,7 @@ fn run_talk<E: Write>(
         Some(boot) => boot,
         None => milliseconds(rt)?,
     };
-    let path = options.get_str("store").unwrap_or("");
-    talk_in_file(rt, path, boot, options, err)
-}
-
-/// Has a conversation over the store in the file at a path.
-fn talk_in_file<E: Write>(
-    rt: &HostRuntime,
-    path: &str,
-    boot: u64,
-    options: &ArgMatches<'_>,
-    err: &mut E,
-) -> Result<u8, Fault> {
-    let vault = SqlVault::open(rt, path, Wary)?;
-    Ok(talk_and_close(rt, vault, boot, options, err))
-}
-
-/// Has a conversation over a store, which is then closed.
-fn talk_and_close<D: Disk + Drop, E: Write>(
-    rt: &HostRuntime,
-    vault: SqlVault<FileStore<D>>,
-    boot: u64,
-    options: &ArgMatches<'_>,
-    err: &mut E,
-) -> u8 {
-    let (status, vault) = talk_over(rt, vault, boot, options, err);
-    close_store(vault);
-    status
+    run_job(rt, Job::Talk(boot), &mut rt.reader(), options, err)
 }
 
 /// The milliseconds since 1970.
@@ -218,18 +142,83 @@ fn milliseconds(clock: &impl Clock) -> Result<u64, Fault> {
     u64::try_from(now.as_millis()).map_err(|_| Fault::NoClock)
 }
 
-/// Has a conversation over a vault, on standard input and output. Gives the vault back.
-fn talk_over<V: Vault, E: Write>(
+/// Runs a job over the store that is named, or over an empty one in memory.
+fn run_job<S: Read, E: Write>(
     rt: &HostRuntime,
-    vault: V,
-    boot: u64,
+    job: Job,
+    input: &mut S,
     options: &ArgMatches<'_>,
     err: &mut E,
-) -> (u8, V) {
+) -> Result<u8, Fault> {
+    match options.get_str("store") {
+        Some(path) => run_in_file(rt, job, input, path, options, err),
+        None => run_over(rt, job, input, PlainVault::new(rt.alloc()), options, err).0,
+    }
+}
+
+/// Runs a job over the store in the file at a path.
+fn run_in_file<S: Read, E: Write>(
+    rt: &HostRuntime,
+    job: Job,
+    input: &mut S,
+    path: &str,
+    options: &ArgMatches<'_>,
+    err: &mut E,
+) -> Result<u8, Fault> {
+    let vault = SqlVault::open(rt, path, Wary)?;
+    run_and_close(rt, job, input, vault, options, err)
+}
+
+/// Runs a job over a store in a file, which is then closed. What was done is in the file or in the log beside it, so
+/// that a failure to close loses nothing.
+fn run_and_close<D: Disk + Drop, S: Read, E: Write>(
+    rt: &HostRuntime,
+    job: Job,
+    input: &mut S,
+    vault: SqlVault<FileStore<D>>,
+    options: &ArgMatches<'_>,
+    err: &mut E,
+) -> Result<u8, Fault> {
+    let (ran, vault) = run_over(rt, job, input, vault, options, err);
+    let _ = vault.into_connection().close();
+    ran
+}
+
+/// Runs a job over a vault, and gives the vault back.
+fn run_over<V: Vault, S: Read, E: Write>(
+    rt: &HostRuntime,
+    job: Job,
+    input: &mut S,
+    vault: V,
+    options: &ArgMatches<'_>,
+    err: &mut E,
+) -> (Result<u8, Fault>, V) {
     let host = options.get_str("host").unwrap_or("localhost");
-    let mut reader = rt.reader();
-    let mut writer = io::writer(rt);
-    talk(rt.alloc(), vault, host, boot, &mut reader, &mut writer, err)
+    match job {
+        Job::Replay(boot) => replay_over(rt, input, vault, host, boot, err),
+        Job::Talk(boot) => {
+            let mut out = io::writer(rt);
+            let (status, vault) = talk(rt.alloc(), vault, host, boot, input, &mut out, err);
+            (Ok(status), vault)
+        }
+    }
+}
+
+/// Runs a script over a vault, and prints to standard output. Gives the vault back.
+fn replay_over<V: Vault, S: Read, E: Write>(
+    rt: &HostRuntime,
+    script: &mut S,
+    vault: V,
+    host: &str,
+    boot: u64,
+    err: &mut E,
+) -> (Result<u8, Fault>, V) {
+    let alloc: Global = rt.alloc();
+    let Ok(mut out) = BufWriter::new(alloc, io::writer(rt)) else {
+        return (Err(Fault::OutOfMemory), vault);
+    };
+    let (status, vault) = replay(alloc, script, vault, host, boot, &mut out, err);
+    (Ok(status), vault)
 }
 
 /// Runs `popbox check-policy`: prints to standard output how many rules the named file has.
