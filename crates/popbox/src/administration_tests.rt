@@ -5,7 +5,7 @@ use converse::replay::tell;
 use converse::script::{Line, read_script};
 use creds::Credential;
 use office::{AdminCommand, Outcome};
-use std::alloc::Global;
+use std::alloc::{AllocError, Global};
 use std::test::Fail;
 
 #[test]
@@ -111,28 +111,39 @@ static OPENING: &str =
     r#"policy [[rule]]\nname = "mrose-open"\neffect = "allow"\nclerk = "mrose"\nmaildrop = "*"\nclass = "*"\nactions = ["open"]
 "#;
 
-/// After 1,895 connections that came and went, these lines of the next one have these replies.
-fn with_the_rfc_greeting(alloc: Global, rows: &[(&str, &str)]) -> Result<(), Fail> {
-    let mut script = String::from_str(
-        alloc,
-        "maildrop add orders\nclerk apop mrose tanstaaf\nclerk pass ann tanstaaf\n",
-    )?;
-    script.push_str(OPENING)?;
-    let mut want = String::from_str(
-        alloc,
-        "answer added\nanswer added\nanswer added\nanswer 1 rules\n",
-    )?;
-    for number in 1..1896 {
+/// So many connections that come and go, and what is printed of them.
+fn comings(alloc: Global, count: u64) -> Result<(String, String), Fail> {
+    let mut script = String::new(alloc);
+    let mut want = String::new(alloc);
+    for number in 1..=count {
         writeln!(script, "connect\ngone {number}")?;
         writeln!(want, "opened {number}\ndone\nended {number}")?;
     }
+    Ok((script, want))
+}
+
+/// A script with a maildrop, two clerks and the policy, then 1,895 connections that come and go, and these lines of the next one.
+fn rfc_script(alloc: Global, comings: &str, lines: &str) -> Result<String, AllocError> {
+    format!(in alloc;
+        "maildrop add orders\nclerk apop mrose tanstaaf\nclerk pass ann tanstaaf\n{OPENING}\
+        {comings}connect\ndrain 1896\n{lines}"
+    )
+}
+
+/// What is printed of it, where the lines have these replies.
+fn rfc_said(alloc: Global, said: &str, replies: &str) -> Result<String, AllocError> {
+    format!(in alloc;
+        "answer added\nanswer added\nanswer added\nanswer 1 rules\n{said}opened 1896\n\
+        sent 1896 +OK POP3 server ready <1896.697170952@dbc.mtview.ca.us>\\r\\n\ndone\n{replies}ended 1896\n"
+    )
+}
+
+/// After 1,895 connections that came and went, these lines of the next one have these replies.
+fn with_the_rfc_greeting(alloc: Global, rows: &[(&str, &str)]) -> Result<(), Fail> {
     let (lines, replies) = converse(alloc, 1896, rows)?;
-    writeln!(script, "connect\ndrain 1896\n{lines}")?;
-    writeln!(
-        want,
-        "opened 1896\n\
-        sent 1896 +OK POP3 server ready <1896.697170952@dbc.mtview.ca.us>\\r\\n\ndone\n{replies}ended 1896"
-    )?;
+    let (comings, said) = comings(alloc, 1895)?;
+    let script = rfc_script(alloc, comings.as_str(), lines.as_str())?;
+    let want = rfc_said(alloc, said.as_str(), replies.as_str())?;
     let ran = run_at(alloc, "dbc.mtview.ca.us", 697_170_952, script.as_str())?;
     expect(ran, &Ran::good(alloc, want.as_str())?)
 }
@@ -176,20 +187,33 @@ static ANN_DIGEST: [u8; 32] = [
     0xe2, 0x4a, 0xb8, 0x66, 0x3c, 0xdc, 0xa7, 0x39, 0xaa, 0x85, 0x4a, 0xbb, 0x29, 0x86, 0x18, 0x20,
 ];
 
+/// Whether a line gives ann her password's digest.
+fn is_pass_of_ann(line: &Line) -> bool {
+    match line {
+        Line::Admin(AdminCommand::PutClerk(clerk, Credential::Pass(digest))) => {
+            clerk.as_str() == "ann" && digest.as_slice() == ANN_DIGEST.as_slice()
+        }
+        _ => false,
+    }
+}
+
+/// Whether a line gives mrose a secret that begins with a space.
+fn is_apop_of_mrose(line: &Line) -> bool {
+    match line {
+        Line::Admin(AdminCommand::PutClerk(clerk, Credential::Apop(secret))) => {
+            clerk.as_str() == "mrose" && secret.as_bytes() == b" tanstaaf".as_slice()
+        }
+        _ => false,
+    }
+}
+
 #[test]
 fn credentials_are_read(rt: HostRuntime) -> Result<(), Fail> {
-    let alloc = rt.alloc();
     let script = b"clerk pass ann s3 cret\nclerk apop mrose  tan\\x73taaf";
-    let lines = read_script(alloc, script).map_err(|_| "fault")?;
-    assert_eq!(rt; lines.len(), 2);
-    assert!(rt;
-        matches!(&lines[0], Line::Admin(AdminCommand::PutClerk(clerk, Credential::Pass(digest)))
-        if clerk.as_bytes() == b"ann".as_slice() && digest.as_slice() == ANN_DIGEST.as_slice())
-    );
-    assert!(rt;
-        matches!(&lines[1], Line::Admin(AdminCommand::PutClerk(clerk, Credential::Apop(secret)))
-        if clerk.as_bytes() == b"mrose".as_slice() && secret.as_bytes() == b" tanstaaf".as_slice())
-    );
+    let lines = read_script(rt.alloc(), script).map_err(|_| "fault")?;
+    assert!(rt; lines.len() == 2);
+    assert!(rt; is_pass_of_ann(&lines[0]));
+    assert!(rt; is_apop_of_mrose(&lines[1]));
     Ok(())
 }
 

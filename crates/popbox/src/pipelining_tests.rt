@@ -159,27 +159,47 @@ fn run_lent(office: &mut Office<PlainVault>, lent: Lent<'_>) -> Result<Transcrip
     ])
 }
 
-/// The same over the sample store.
-fn run_as_one_list(alloc: Global) -> Result<Transcript, Fail> {
+/// An office over the sample store.
+fn opened(alloc: Global) -> Result<Office<PlainVault>, Fail> {
     let limits = Limits::new(600).ok_or("limits")?;
     let vault = sample_vault(alloc)?;
-    let opened = Office::open(alloc, vault, "h.test", 7, limits);
-    let mut office = opened.map_err(|_| "opening")?;
-    let orders = Name::read(b"orders").ok_or("maildrop")?;
-    let note = Name::read(b"note").ok_or("class")?;
-    let id = DepositId::read(b"d5").ok_or("id")?;
-    let list = AdminCommand::ShowMaildrop(orders);
+    match Office::open(alloc, vault, "h.test", 7, limits) {
+        Ok(office) => Ok(office),
+        Err(_) => Err(Fail::from("opening")),
+    }
+}
+
+/// The list over an office, by the names of a maildrop, a class and a deposit.
+fn run_named(
+    office: &mut Office<PlainVault>,
+    orders: &Name,
+    note: &Name,
+    id: &DepositId,
+) -> Result<Transcript, RunFault> {
+    let list = AdminCommand::ShowMaildrop(*orders);
     let lent = Lent {
-        orders: &orders,
-        note: &note,
-        id: &id,
+        orders,
+        note,
+        id,
         text: b"x\n",
         list: &list,
         user: b"USER ann/orders\r\n",
         pass: b"PASS s3 cret\r\n",
         lines: b"RETR 1\r\nDELE 1\r\nQUIT\r\n",
     };
-    Ok(run_lent(&mut office, lent).map_err(|_| "run")?)
+    run_lent(office, lent)
+}
+
+/// The same over the sample store.
+fn run_as_one_list(alloc: Global) -> Result<Transcript, Fail> {
+    let orders = Name::read(b"orders").ok_or("maildrop")?;
+    let note = Name::read(b"note").ok_or("class")?;
+    let id = DepositId::read(b"d5").ok_or("id")?;
+    let mut office = opened(alloc)?;
+    match run_named(&mut office, &orders, &note, &id) {
+        Ok(transcript) => Ok(transcript),
+        Err(_) => Err(Fail::from("run")),
+    }
 }
 
 /// A transcript as replay prints it, but for the ending of a connection.
@@ -238,16 +258,25 @@ fn has_refused_quit(alloc: Global, script: &str, free: &Ran, quit: &Ran) -> Resu
     Err(Fail::from("each run was refused"))
 }
 
+/// A good run of the script, where the QUIT does this.
+fn ran_with(alloc: Global, quit: &str) -> Result<Ran, Fail> {
+    let want = said_with(alloc, quit)?;
+    Ok(Ran::good(alloc, want.as_str())?)
+}
+
+/// Fails unless the script runs so over the sample store.
+fn runs_freely(alloc: Global, script: &str, free: &Ran) -> Result<(), Fail> {
+    let (ran, _) = run_over(alloc, sample_vault(alloc)?, script)?;
+    expect(ran, free)
+}
+
 #[test]
 fn pipelined_retrieve_delete_quit(rt: HostRuntime) -> Result<(), Fail> {
     let alloc = rt.alloc();
     let script = script_of(alloc)?;
-    let want = said_with(alloc, QUIT)?;
-    let free = Ran::good(alloc, want.as_str())?;
-    let (ran, _) = run_over(alloc, sample_vault(alloc)?, script.as_str())?;
-    expect(ran, &free)?;
-    let want = said_with(alloc, REFUSED_QUIT)?;
-    let refused = Ran::good(alloc, want.as_str())?;
+    let free = ran_with(alloc, QUIT)?;
+    runs_freely(alloc, script.as_str(), &free)?;
+    let refused = ran_with(alloc, REFUSED_QUIT)?;
     assert!(rt; has_refused_quit(alloc, script.as_str(), &free, &refused)?);
     Ok(())
 }

@@ -11,6 +11,7 @@ use sqlite::{Alter, Connection, Error, FileStore, Files, MemStore, Options};
 use sqlite_disk::{Disk, Memory};
 use sqlvault::SqlVault;
 use std::alloc::Global;
+use std::io::Write;
 use std::test::Fail;
 use vault::{PlainVault, Vault, VaultFault};
 
@@ -262,6 +263,22 @@ fn talked(alloc: Global, host: &str, octets: &[u8]) -> Result<Ran, Fail> {
     Ran::new(status, out, err)
 }
 
+/// Whether a conversation with a reader that refuses has status 1. Its fault goes to `err`.
+fn is_broken_off<W: Write>(alloc: Global, writer: &mut W, err: &mut Vec<u8>) -> bool {
+    let vault = PlainVault::new(alloc);
+    let (status, _) = talk(alloc, vault, "h", 1, &mut Refusing, writer, err);
+    status == 1
+}
+
+/// Whether the first refusal is told, of the reader, or of the writer, which is asked before it.
+fn are_broken_off(alloc: Global) -> bool {
+    let mut out = Vec::new(alloc);
+    let mut err = Vec::new(alloc);
+    is_broken_off(alloc, &mut out, &mut err)
+        && is_broken_off(alloc, &mut Refusing, &mut err)
+        && err.as_slice() == b"popbox: Read\npopbox: Write\n".as_slice()
+}
+
 #[test]
 fn conversations(rt: HostRuntime) -> Result<(), Fail> {
     let alloc = rt.alloc();
@@ -274,13 +291,6 @@ fn conversations(rt: HostRuntime) -> Result<(), Fail> {
         talked(alloc, "a..b", b"QUIT\r\n")?,
         &Ran::fault(alloc, "popbox: BadHost\n")?,
     )?;
-    let mut out = Vec::new(alloc);
-    let mut err = Vec::new(alloc);
-    let vault = PlainVault::new(alloc);
-    let (status, vault) = talk(alloc, vault, "h", 1, &mut Refusing, &mut out, &mut err);
-    assert!(rt; status == 1);
-    let (status, _) = talk(alloc, vault, "h", 1, &mut Refusing, &mut Refusing, &mut err);
-    assert!(rt; status == 1);
-    assert!(rt; err.as_slice() == b"popbox: Read\npopbox: Write\n".as_slice());
+    assert!(rt; are_broken_off(alloc));
     Ok(())
 }

@@ -1,6 +1,7 @@
 //! Tests of replay: scripts and what they print, and each fault.
 
 use crate::command_line::make_command;
+use clap::ArgMatches;
 use converse::replay::{replay, write_escaped};
 use converse::script::{Line, read_script};
 use sqlvault::SqlVault;
@@ -418,23 +419,24 @@ fn bad_events(rt: HostRuntime) -> Result<(), Fail> {
     Ok(())
 }
 
+/// Whether the escapes of a line are read.
+fn are_read(alloc: Global) -> Result<bool, Fail> {
+    let script = b"bytes 1 a \\r\\n\\\\\\x00\\xfF\\x5c\x80 \r\n";
+    let octets = b"a \r\n\\\x00\xff\\\x80 \r".as_slice();
+    let lines = read_script(alloc, script).map_err(|_| "fault")?;
+    match lines.as_slice() {
+        [Line::Bytes(1, piece)] => Ok(piece.as_slice() == octets),
+        _ => Ok(false),
+    }
+}
+
 #[test]
 fn escapes(rt: HostRuntime) -> Result<(), Fail> {
     let alloc = rt.alloc();
-    let script = b"bytes 1 a \\r\\n\\\\\\x00\\xfF\\x5c\x80 \r\n";
-    let octets = b"a \r\n\\\x00\xff\\\x80 \r";
-    let octets = Vec::from_slice(alloc, octets)?;
-    let lines = read_script(alloc, script).map_err(|_| "fault")?;
-    assert_eq!(rt; lines.len(), 1);
-    assert!(rt;
-        matches!(&lines[0], Line::Bytes(1, piece) if piece.as_slice() == octets.as_slice())
-    );
+    assert!(rt; are_read(alloc)?);
     let mut out = Vec::new(alloc);
     write_escaped(&mut out, b"a ~\r\n\\\x00\t\x1f\x7f\xff")?;
-    assert_eq!(rt;
-        out.as_slice(),
-        b"a ~\\r\\n\\\\\\x00\\x09\\x1f\\x7f\\xff".as_slice()
-    );
+    assert!(rt; out.as_slice() == b"a ~\\r\\n\\\\\\x00\\x09\\x1f\\x7f\\xff".as_slice());
     Ok(())
 }
 
@@ -465,21 +467,23 @@ impl Write for Refusing {
     }
 }
 
+/// Whether a run of a script has status 1, whose output is refused. What it tells goes to `err`.
+fn is_refused<R: Read>(alloc: Global, script: &mut R, err: &mut Vec<u8>) -> bool {
+    let vault = PlainVault::new(alloc);
+    let (status, _) = replay(alloc, script, vault, "h", 1, &mut Refusing, err);
+    status == 1
+}
+
 #[test]
 fn refused_files(rt: HostRuntime) -> Result<(), Fail> {
     let alloc = rt.alloc();
     let mut err = Vec::new(alloc);
-    let vault = PlainVault::new(alloc);
-    let (status, vault) = replay(alloc, &mut Refusing, vault, "h", 1, &mut Refusing, &mut err);
-    assert_eq!(rt; status, 1);
-    let mut script = b"connect".as_slice();
-    let (status, vault) = replay(alloc, &mut script, vault, "h", 1, &mut Refusing, &mut err);
-    assert_eq!(rt; status, 1);
-    let mut empty = b"".as_slice();
-    let (status, _) = replay(alloc, &mut empty, vault, "h", 1, &mut Refusing, &mut err);
-    assert_eq!(rt; status, 1);
-    let want = "popbox: cannot read file\npopbox: cannot write\npopbox: cannot write\n";
-    assert_eq!(rt; err.as_slice(), want.as_bytes());
+    let (mut script, mut empty) = (b"connect".as_slice(), b"".as_slice());
+    let are_refused = is_refused(alloc, &mut Refusing, &mut err)
+        && is_refused(alloc, &mut script, &mut err)
+        && is_refused(alloc, &mut empty, &mut err);
+    let want = b"popbox: cannot read file\npopbox: cannot write\npopbox: cannot write\n";
+    assert!(rt; are_refused && err.as_slice() == want.as_slice());
     Ok(())
 }
 
@@ -492,62 +496,66 @@ fn refused_status(alloc: Global, words: &[&str]) -> Result<Option<i32>, Fail> {
     }
 }
 
-/// Whether `popbox replay` alone has its host, its boot number and no script.
-fn replay_has_defaults(alloc: Global) -> Result<bool, Fail> {
-    let command = make_command(alloc)?;
-    let matches = command.try_get_matches_from(&["popbox", "replay"])?;
-    let Some(("replay", options)) = matches.subcommand() else {
-        return Ok(false);
-    };
-    Ok(
-        options.get_str("host") == Some("localhost")
-            && options.get_one::<u64>("boot") == Some(1)
-            && options.get_str("store").is_none()
-            && options.get_str("SCRIPT").is_none(),
-    )
+/// Whether the matches are of a subcommand, and have the options that `replay` has by default, those that `check-policy` was
+/// given, or those of `talk`, without a boot number.
+fn are_as_wanted(matches: &ArgMatches<'_>) -> bool {
+    match matches.subcommand() {
+        Some(("replay", options)) => has_defaults(options),
+        Some(("check-policy", options)) => options.get_str("FILE") == Some("office.toml"),
+        Some(("talk", options)) => has_store_alone(options),
+        _ => false,
+    }
 }
 
-/// Whether `popbox check-policy` has the file that is named.
-fn check_policy_has_file(alloc: Global) -> Result<bool, Fail> {
-    let command = make_command(alloc)?;
-    let matches = command.try_get_matches_from(&["popbox", "check-policy", "office.toml"])?;
-    let Some(("check-policy", options)) = matches.subcommand() else {
-        return Ok(false);
-    };
-    Ok(options.get_str("FILE") == Some("office.toml"))
+/// Whether `replay` has its host, its boot number and no script.
+fn has_defaults(options: &ArgMatches<'_>) -> bool {
+    options.get_str("host") == Some("localhost")
+        && options.get_one::<u64>("boot") == Some(1)
+        && options.get_str("store").is_none()
+        && options.get_str("SCRIPT").is_none()
 }
 
-/// Whether `popbox talk` has its store and its host, and no boot number.
-fn talk_has_defaults(alloc: Global) -> Result<bool, Fail> {
+/// Whether `talk` has its store and its host, and no boot number.
+fn has_store_alone(options: &ArgMatches<'_>) -> bool {
+    options.get_str("store") == Some("office.db")
+        && options.get_str("host") == Some("localhost")
+        && options.get_one::<u64>("boot").is_none()
+}
+
+/// Command lines that are read.
+static GOOD_WORDS: [&[&str]; 3] = [
+    &["popbox", "replay"],
+    &["popbox", "check-policy", "office.toml"],
+    &["popbox", "talk", "--store", "office.db"],
+];
+
+/// Command lines that ask for help, or can't be read, and the exit status of each.
+static OTHER_WORDS: [(&[&str], i32); 6] = [
+    (&["popbox", "talk"], 2),
+    (&["popbox", "check-policy"], 2),
+    (&["popbox", "replay", "--help"], 0),
+    (&["popbox", "replay", "--turns"], 2),
+    (&["popbox", "replay", "--boot=18446744073709551616"], 2),
+    (&["popbox", "play", "x"], 2),
+];
+
+/// Whether a command line is read, and has the options of its subcommand.
+fn is_read(alloc: Global, words: &[&str]) -> Result<bool, Fail> {
     let command = make_command(alloc)?;
-    let matches = command.try_get_matches_from(&["popbox", "talk", "--store", "office.db"])?;
-    let Some(("talk", options)) = matches.subcommand() else {
-        return Ok(false);
-    };
-    Ok(
-        options.get_str("store") == Some("office.db")
-            && options.get_str("host") == Some("localhost")
-            && options.get_one::<u64>("boot").is_none(),
-    )
+    match command.try_get_matches_from(words) {
+        Ok(matches) => Ok(are_as_wanted(&matches)),
+        Err(_) => Ok(false),
+    }
 }
 
 #[test]
 fn command_lines(rt: HostRuntime) -> Result<(), Fail> {
     let alloc = rt.alloc();
-    assert!(rt; replay_has_defaults(alloc)?);
-    assert!(rt; check_policy_has_file(alloc)?);
-    assert!(rt; talk_has_defaults(alloc)?);
-    let status = refused_status(alloc, &["popbox", "talk"])?;
-    assert!(rt; status == Some(2));
-    let status = refused_status(alloc, &["popbox", "check-policy"])?;
-    assert!(rt; status == Some(2));
-    let status = refused_status(alloc, &["popbox", "replay", "--help"])?;
-    assert!(rt; status == Some(0));
-    let status = refused_status(alloc, &["popbox", "replay", "--turns"])?;
-    assert!(rt; status == Some(2));
-    let status = refused_status(alloc, &["popbox", "replay", "--boot=18446744073709551616"])?;
-    assert!(rt; status == Some(2));
-    let status = refused_status(alloc, &["popbox", "play", "x"])?;
-    assert!(rt; status == Some(2));
+    for words in &GOOD_WORDS {
+        assert!(rt; is_read(alloc, *words)?);
+    }
+    for (words, status) in &OTHER_WORDS {
+        assert!(rt; refused_status(alloc, *words)? == Some(*status));
+    }
     Ok(())
 }

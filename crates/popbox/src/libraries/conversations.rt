@@ -118,15 +118,20 @@ impl Write for Refusing<'_> {
     }
 }
 
+/// Whether a client that says these lines, and then nothing more, is told this text.
+fn says(alloc: Global, office: &mut Office<PlainVault>, lines: &[u8], want: &[u8]) -> bool {
+    let mut text = Vec::new(alloc);
+    let mut reader = lines;
+    talk(office, &mut reader, &mut text).is_ok() && text.as_slice() == want
+}
+
 #[test]
 fn a_reader_that_ends(rt: HostRuntime) -> Result<(), Fail> {
     let alloc = rt.alloc();
-    let mut office = opened(alloc)?;
-    let mut text = Vec::new(alloc);
-    let mut reader = b"CAPA\r\nUSER ann/orders\nNOO".as_slice();
-    assert!(rt; talk(&mut office, &mut reader, &mut text).is_ok());
     let want = format!(in alloc; "{GREETING}{CAPABILITIES}{SEND_PASS}")?;
-    assert!(rt; text.as_slice() == want.as_bytes());
+    let mut office = opened(alloc)?;
+    let lines = b"CAPA\r\nUSER ann/orders\nNOO";
+    assert!(rt; says(alloc, &mut office, lines, want.as_bytes()));
     assert!(rt; office.ended(1));
     Ok(())
 }
@@ -195,19 +200,23 @@ const LOGGED_IN: &str = "+OK maildrop has 1 messages (3 octets)\r\n";
 
 const MARKED: &str = "+OK message 1 deleted\r\n";
 
+/// Whether a client that marks the message and quits is served.
+fn quits(alloc: Global, office: &mut Office<PlainVault>) -> bool {
+    let mut text = Vec::new(alloc);
+    let mut reader = b"USER ann/orders\nPASS s3 cret\nDELE 1\nQUIT\n".as_slice();
+    talk(office, &mut reader, &mut text).is_ok()
+}
+
 #[test]
 fn only_a_quit_removes(rt: HostRuntime) -> Result<(), Fail> {
     let alloc = rt.alloc();
     let orders = Name::read(b"orders").ok_or("name")?;
-    let mut office = with_a_message(alloc, orders)?;
-    let mut text = Vec::new(alloc);
-    let mut reader = b"USER ann/orders\nPASS s3 cret\nDELE 1\n".as_slice();
-    assert!(rt; talk(&mut office, &mut reader, &mut text).is_ok());
     let want = format!(in alloc; "{GREETING}{SEND_PASS}{LOGGED_IN}{MARKED}")?;
-    assert!(rt; text.as_slice() == want.as_bytes());
+    let mut office = with_a_message(alloc, orders)?;
+    let lines = b"USER ann/orders\nPASS s3 cret\nDELE 1\n";
+    assert!(rt; says(alloc, &mut office, lines, want.as_bytes()));
     assert!(rt; messages_in(&mut office, orders) == Some(1));
-    let mut reader = b"USER ann/orders\nPASS s3 cret\nDELE 1\nQUIT\n".as_slice();
-    assert!(rt; talk(&mut office, &mut reader, &mut text).is_ok());
+    assert!(rt; quits(alloc, &mut office));
     assert!(rt; messages_in(&mut office, orders) == Some(0));
     Ok(())
 }
@@ -259,39 +268,56 @@ fn a_writer_that_takes_nothing(rt: HostRuntime) -> Result<(), Fail> {
     Ok(())
 }
 
+/// How many calls of a reader and of a writer are met before one is refused, and the fault.
+static REFUSED: [(usize, usize, Option<TalkFault>); 8] = [
+    (0, 100, Some(TalkFault::Read)),
+    (1, 100, Some(TalkFault::Read)),
+    (6, 100, Some(TalkFault::Read)),
+    (7, 100, None),
+    (100, 0, Some(TalkFault::Write)),
+    (100, 1, Some(TalkFault::Write)),
+    (100, 7, Some(TalkFault::Write)),
+    (100, 8, None),
+];
+
+/// Meets so many calls.
+fn make_refusing<'a>(alloc: Global, text: &'a [u8], calls: usize) -> Refusing<'a> {
+    Refusing {
+        text,
+        told: 0,
+        taken: Vec::new(alloc),
+        calls,
+    }
+}
+
+/// The fault of a conversation with a reader that meets so many calls.
+fn is_told(
+    alloc: Global,
+    office: &mut Office<PlainVault>,
+    reads: usize,
+    writer: &mut Refusing<'_>,
+) -> Option<TalkFault> {
+    let mut reader = make_refusing(alloc, b"CAPA\nUSER ann/orders\nQUIT\n", reads);
+    talk(office, &mut reader, writer).err()
+}
+
+/// Whether what was written is a beginning of a text, or the whole.
+fn is_beginning(writer: &Refusing<'_>, text: &[u8], is_whole: bool) -> bool {
+    text.starts_with(writer.taken.as_slice()) && (!is_whole || writer.taken.len() == text.len())
+}
+
 #[test]
 fn each_call_refused(rt: HostRuntime) -> Result<(), Fail> {
     let alloc = rt.alloc();
     let want = format!(in alloc; "{GREETING}{CAPABILITIES}{SEND_PASS}{BYE}")?;
-    for (reads, writes, fault) in [
-        (0, 100, Some(TalkFault::Read)),
-        (1, 100, Some(TalkFault::Read)),
-        (6, 100, Some(TalkFault::Read)),
-        (7, 100, None),
-        (100, 0, Some(TalkFault::Write)),
-        (100, 1, Some(TalkFault::Write)),
-        (100, 7, Some(TalkFault::Write)),
-        (100, 8, None),
-    ] {
+    for (reads, writes, fault) in &REFUSED {
         let mut office = opened(alloc)?;
-        let mut reader = Refusing {
-            text: b"CAPA\nUSER ann/orders\nQUIT\n",
-            told: 0,
-            taken: Vec::new(alloc),
-            calls: reads,
-        };
-        let mut writer = Refusing {
-            text: b"",
-            told: 0,
-            taken: Vec::new(alloc),
-            calls: writes,
-        };
+        let mut writer = make_refusing(alloc, b"", *writes);
         assert!(rt;
-            talk(&mut office, &mut reader, &mut writer).err() == fault,
+            is_told(alloc, &mut office, *reads, &mut writer) == *fault,
             "{reads} {writes}"
         );
-        assert!(rt; want.as_bytes().starts_with(writer.taken.as_slice()));
-        assert!(rt; fault.is_some() || writer.taken.len() == want.len());
+        assert!(rt; is_beginning(&writer, want.as_bytes(), fault.is_none()));
         assert!(rt; office.ended(1));
     }
     Ok(())

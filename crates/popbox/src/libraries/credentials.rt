@@ -85,27 +85,35 @@ fn sha256_vectors(rt: HostRuntime) -> Result<(), Fail> {
     Ok(())
 }
 
+/// Whether the secret `tanstaaf` admits by this digest under the RFC's timestamp, and under no other, and not as a password.
+fn is_by_secret(shared: &Credential, mrose: &Name, digest: [u8; 16]) -> bool {
+    shared.admits(mrose, STAMP, &Proof::Apop(digest))
+        && !shared.admits(mrose, b"<1.7@h.test>", &Proof::Apop(digest))
+        && !shared.admits(mrose, STAMP, &Proof::Pass(b"tanstaaf"))
+}
+
+/// Whether the password `s3 cret` admits ann, and not with a space behind it, not another clerk, and not as a secret.
+fn is_by_password(kept: &Credential, ann: &Name, mrose: &Name) -> bool {
+    let digest = apop_digest(STAMP, b"s3 cret");
+    kept.admits(ann, STAMP, &Proof::Pass(b"s3 cret"))
+        && !kept.admits(ann, STAMP, &Proof::Pass(b"s3 cret "))
+        && !kept.admits(mrose, STAMP, &Proof::Pass(b"s3 cret"))
+        && !kept.admits(ann, STAMP, &Proof::Apop(digest))
+}
+
 // RFC 1939, 7: the example of APOP. The clerk of a password has its digest by coreutils' sha256sum.
 #[test]
 fn admission(rt: HostRuntime) -> Result<(), Fail> {
     let digest = apop_digest(STAMP, b"tanstaaf");
     expect_digits(rt.alloc(), &digest, "c4c9334bac560ecc979e58001b3e22fb")?;
     let mrose = Name::read(b"mrose").ok_or("a name")?;
-    let shared = Credential::Apop(Secret::read(b"tanstaaf").ok_or("a secret")?);
-    assert!(rt; shared.admits(&mrose, STAMP, &Proof::Apop(digest)));
-    assert!(rt; !shared.admits(&mrose, b"<1.7@h.test>", &Proof::Apop(digest)));
-    assert!(rt; !shared.admits(&mrose, STAMP, &Proof::Pass(b"tanstaaf")));
-
+    let secret = Secret::read(b"tanstaaf").ok_or("a secret")?;
+    assert!(rt; is_by_secret(&Credential::Apop(secret), &mrose, digest));
     let ann = Name::read(b"ann").ok_or("a name")?;
     let kept = pass_digest(&ann, b"s3 cret");
     let digits = "b43a467a63f3c6f08cee5d5081ae0b9de24ab8663cdca739aa854abb29861820";
     expect_digits(rt.alloc(), &kept, digits)?;
-    assert!(rt; Credential::Pass(kept).admits(&ann, STAMP, &Proof::Pass(b"s3 cret")));
-    assert!(rt; !Credential::Pass(kept).admits(&ann, STAMP, &Proof::Pass(b"s3 cret ")));
-    assert!(rt; !Credential::Pass(kept).admits(&mrose, STAMP, &Proof::Pass(b"s3 cret")));
-    assert!(rt;
-        !Credential::Pass(kept).admits(&ann, STAMP, &Proof::Apop(apop_digest(STAMP, b"s3 cret")))
-    );
+    assert!(rt; is_by_password(&Credential::Pass(kept), &ann, &mrose));
     Ok(())
 }
 

@@ -44,18 +44,27 @@ fn drop_ann(store: &mut Store) -> Result<(), Error> {
     clerks::drop_clerk(store, b"ann")
 }
 
+// Adds the clerks: whether each has its credential.
+fn has_both(alloc: Global, store: &mut Store) -> Result<bool, Error> {
+    add_clerks(store)?;
+    let ann = holds_clerk(alloc, store, b"ann", 2, &[200; 32])?;
+    Ok(ann && holds_clerk(alloc, store, b"mrose", 1, b"tanstaaf")?)
+}
+
+// Gives ann another credential: whether she has it, and there are two clerks.
+fn has_ann_anew(alloc: Global, store: &mut Store) -> Result<bool, Error> {
+    put_ann(store)?;
+    let ann = holds_clerk(alloc, store, b"ann", 1, b"s3 cret")?;
+    Ok(ann && clerk_numbers(alloc, store)? == (2, 2))
+}
+
 #[test]
 fn credentials_of_both_kinds(rt: HostRuntime) -> Result<(), Fail> {
-    let alloc = rt.alloc();
-    let mut store = new_store(alloc)?;
-    add_clerks(&mut store)?;
-    assert!(rt; holds_clerk(alloc, &mut store, b"ann", 2, &[200; 32])?);
-    assert!(rt; holds_clerk(alloc, &mut store, b"mrose", 1, b"tanstaaf")?);
-    put_ann(&mut store)?;
-    assert!(rt; holds_clerk(alloc, &mut store, b"ann", 1, b"s3 cret")?);
-    assert_eq!(rt; clerk_numbers(alloc, &mut store)?, (2, 2));
+    let mut store = new_store(rt.alloc())?;
+    assert!(rt; has_both(rt.alloc(), &mut store)?);
+    assert!(rt; has_ann_anew(rt.alloc(), &mut store)?);
     drop_ann(&mut store)?;
-    assert!(rt; !holds_clerk(alloc, &mut store, b"ann", 1, b"s3 cret")?);
+    assert!(rt; !holds_clerk(rt.alloc(), &mut store, b"ann", 1, b"s3 cret")?);
     Ok(())
 }
 
@@ -92,24 +101,30 @@ fn starts_with(
     )
 }
 
+// Adds two names: whether the first is then refused, and there are two.
+fn is_taken_once(store: &mut Store) -> Result<bool, Error> {
+    add_name(store, b"orders")?;
+    add_name(store, b"Books")?;
+    let is_refused = matches!(
+        add_name(store, b"orders"),
+        Err(Error::SqliteFailure(ErrorCode::ConstraintViolation(_)))
+    );
+    Ok(is_refused && name_count(store)? == 2)
+}
+
+// Drops the first name: whether it alone is gone.
+fn is_dropped(store: &mut Store) -> Result<bool, Error> {
+    drop_name(store, b"orders")?;
+    let is_there = has_name(store, b"orders")?;
+    Ok(!is_there && has_name(store, b"Books")?)
+}
+
 #[test]
 fn a_name_taken_twice(rt: HostRuntime) -> Result<(), Fail> {
-    let alloc = rt.alloc();
-    let mut store = new_store(alloc)?;
-    add_name(&mut store, b"orders")?;
-    add_name(&mut store, b"Books")?;
-    let again = add_name(&mut store, b"orders");
-    assert!(rt;
-        matches!(
-            again,
-            Err(Error::SqliteFailure(ErrorCode::ConstraintViolation(_)))
-        )
-    );
-    assert_eq!(rt; name_count(&mut store)?, 2);
-    assert!(rt; starts_with(alloc, &mut store, b"Books", b"orders")?);
-    drop_name(&mut store, b"orders")?;
-    assert!(rt; !has_name(&mut store, b"orders")?);
-    assert!(rt; has_name(&mut store, b"Books")?);
+    let mut store = new_store(rt.alloc())?;
+    assert!(rt; is_taken_once(&mut store)?);
+    assert!(rt; starts_with(rt.alloc(), &mut store, b"Books", b"orders")?);
+    assert!(rt; is_dropped(&mut store)?);
     Ok(())
 }
 
@@ -219,22 +234,41 @@ fn remove_pages(store: &mut Store, key: i64) -> Result<(), Error> {
     sheets::remove_sheets(store, key)
 }
 
+// The maildrop `orders` with its records and a message, whose key it gives.
+fn add_message(store: &mut Store) -> Result<i64, Error> {
+    add_name(store, b"orders")?;
+    add_records(store)?;
+    add_mail(store)
+}
+
+// Whether the records are one of each kind, with what was written.
+fn are_records(alloc: Global, store: &mut Store) -> Result<bool, Error> {
+    let count = count_of(alloc, store)? == Some(2);
+    let numbers = record_numbers(alloc, store)? == (1, 1);
+    Ok(count && numbers && holds_deposit(alloc, store)?)
+}
+
+// Whether there is one message with one sheet, under this key.
+fn is_mail(alloc: Global, store: &mut Store, key: i64) -> Result<bool, Error> {
+    let mail = mail_numbers(alloc, store)? == (1, 0, 1);
+    let sheets = sheet_numbers(alloc, store)? == (1, 1);
+    Ok(mail && sheets && counted_up_to(alloc, store)? == Some(key))
+}
+
+// Whether a maildrop with a message isn't dropped, and the message's sheets go.
+fn loses_pages(alloc: Global, store: &mut Store, key: i64) -> Result<bool, Error> {
+    let is_kept = drop_name(store, b"orders").is_err();
+    remove_pages(store, key)?;
+    Ok(is_kept && sheet_numbers(alloc, store)? == (0, 0))
+}
+
 #[test]
 fn a_message_and_its_deposit(rt: HostRuntime) -> Result<(), Fail> {
-    let alloc = rt.alloc();
-    let mut store = new_store(alloc)?;
-    add_name(&mut store, b"orders")?;
-    add_records(&mut store)?;
-    let key = add_mail(&mut store)?;
-    assert_eq!(rt; count_of(alloc, &mut store)?, Some(2));
-    assert!(rt; holds_deposit(alloc, &mut store)?);
-    assert_eq!(rt; record_numbers(alloc, &mut store)?, (1, 1));
-    assert_eq!(rt; mail_numbers(alloc, &mut store)?, (1, 0, 1));
-    assert_eq!(rt; sheet_numbers(alloc, &mut store)?, (1, 1));
-    assert_eq!(rt; counted_up_to(alloc, &mut store)?, Some(key));
-    assert!(rt; drop_name(&mut store, b"orders").is_err());
-    remove_pages(&mut store, key)?;
-    assert_eq!(rt; sheet_numbers(alloc, &mut store)?, (0, 0));
+    let mut store = new_store(rt.alloc())?;
+    let key = add_message(&mut store)?;
+    assert!(rt; are_records(rt.alloc(), &mut store)?);
+    assert!(rt; is_mail(rt.alloc(), &mut store, key)?);
+    assert!(rt; loses_pages(rt.alloc(), &mut store, key)?);
     Ok(())
 }
 
@@ -268,18 +302,27 @@ fn rules_up_to(alloc: Global, store: &mut Store, last: &[u8]) -> Result<Option<u
     })
 }
 
+// Whether the mark is of version 2, and the only one.
+fn is_marked(alloc: Global, store: &mut Store) -> Result<bool, Error> {
+    let is_ours = version(alloc, store)? == Some(2);
+    Ok(is_ours && mark_number(alloc, store)? == 1)
+}
+
+fn add_rules(alloc: Global, store: &mut Store, count: u32) -> Result<(), Fail> {
+    for n in 0..count {
+        let name = format!(in alloc; "rule{n}")?;
+        add_rule(store, name.as_bytes())?;
+    }
+    Ok(())
+}
+
 #[test]
 fn rules_in_order_and_a_rollback(rt: HostRuntime) -> Result<(), Fail> {
-    let alloc = rt.alloc();
-    let mut store = new_store(alloc)?;
-    assert_eq!(rt; version(alloc, &mut store)?, Some(2));
-    assert_eq!(rt; mark_number(alloc, &mut store)?, 1);
-    for n in 0..1000 {
-        let name = format!(in alloc; "rule{n}")?;
-        add_rule(&mut store, name.as_bytes())?;
-    }
-    assert_eq!(rt; rules_up_to(alloc, &mut store, b"rule999")?, Some(1000));
+    let mut store = new_store(rt.alloc())?;
+    assert!(rt; is_marked(rt.alloc(), &mut store)?);
+    add_rules(rt.alloc(), &mut store, 1000)?;
+    assert!(rt; rules_up_to(rt.alloc(), &mut store, b"rule999")? == Some(1000));
     clear_and_roll_back(&mut store)?;
-    assert_eq!(rt; rules_up_to(alloc, &mut store, b"rule999")?, Some(1000));
+    assert!(rt; rules_up_to(rt.alloc(), &mut store, b"rule999")? == Some(1000));
     Ok(())
 }

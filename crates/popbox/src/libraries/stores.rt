@@ -280,24 +280,47 @@ fn with_one_deposit(alloc: Global) -> Result<PlainVault, Fail> {
     Ok(vault)
 }
 
+/// The key of the one message of the maildrop `orders`.
+fn only_key<V: Vault>(vault: &mut V) -> Result<MessageKey, Fail> {
+    let heads = heads(vault)?;
+    match heads.as_slice() {
+        [head] => Ok(head.key),
+        _ => Err(Fail::from("not one message")),
+    }
+}
+
+/// Puts the next page of at most eight octets to a text.
+fn join_page<V: Vault>(vault: &mut V, key: MessageKey, text: &mut Vec<u8>) -> Result<(), Fail> {
+    let mut page = [0; 8];
+    let octets = vault.page(key, text.len() as u64, &mut page)?;
+    match page.get(..octets) {
+        Some(read) => Ok(text.extend_from_slice(read)?),
+        None => Err(Fail::from("more octets than a page has")),
+    }
+}
+
+/// Whether the pages of the one message join to its kept text.
+fn joins_to_kept<V: Vault>(alloc: Global, vault: &mut V) -> Result<bool, Fail> {
+    let key = only_key(vault)?;
+    let mut joined = Vec::new(alloc);
+    for _ in 0..KEPT.len() {
+        join_page(vault, key, &mut joined)?;
+    }
+    Ok(joined.as_slice() == KEPT)
+}
+
+/// Whether a key of no message has no page.
+fn has_no_page<V: Vault>(vault: &mut V) -> bool {
+    let mut page = [0; 8];
+    vault.page(MessageKey::new(u64::MAX), 0, &mut page) == Ok(0)
+}
+
 /// Also where one of the growths that the deposit asks for is refused.
 #[test]
 fn pages_join_to_the_kept_text(rt: HostRuntime) -> Result<(), Fail> {
-    let alloc = rt.alloc();
-    let mut vault = with_one_deposit(alloc)?;
-    let heads = heads(&mut vault)?;
-    assert!(rt; heads.len() == 1);
-    let key = heads[0].key;
-    let mut joined = Vec::new(alloc);
-    for _ in 0..KEPT.len() {
-        let mut page = [0; 8];
-        let octets = vault.page(key, joined.len() as u64, &mut page)?;
-        assert!(rt; octets <= page.len());
-        joined.extend_from_slice(&page[..octets])?;
-    }
-    assert!(rt; joined.as_slice() == KEPT);
-    let mut page = [0; 8];
-    assert_eq!(rt; vault.page(MessageKey::new(u64::MAX), 0, &mut page), Ok(0));
+    let mut vault = with_one_deposit(rt.alloc())?;
+    assert!(rt; joins_to_kept(rt.alloc(), &mut vault)?);
+    assert!(rt; has_no_page(&mut vault));
     Ok(())
 }
 
@@ -402,16 +425,26 @@ fn are_new<V: Vault>(alloc: Global, vault: &mut V, count: u64) -> Result<bool, F
     Ok(true)
 }
 
+/// Fills the maildrop `orders`: whether each deposit was of a new message.
+fn is_filled<V: Vault>(alloc: Global, vault: &mut V) -> Result<bool, Fail> {
+    add(vault, "orders")??;
+    are_new(alloc, vault, 10_000)
+}
+
+/// Whether a new id is refused, and the first and the last are still known.
+fn is_full<V: Vault>(alloc: Global, vault: &mut V) -> Result<bool, Fail> {
+    let is_refused = is_deposited(alloc, vault, "d10001", &Err(VaultFault::Full))?;
+    let first = is_known(alloc, vault, "d1", 1)?;
+    let last = is_known(alloc, vault, "d10000", 10_000)?;
+    Ok(is_refused && first && last)
+}
+
 /// In a full maildrop a new id is refused, and the ids that it has are still known.
 #[test]
 fn deposits_up_to_ten_thousand(rt: HostRuntime) -> Result<(), Fail> {
-    let alloc = rt.alloc();
-    let mut vault = PlainVault::new(alloc);
-    add(&mut vault, "orders")??;
-    assert!(rt; are_new(alloc, &mut vault, 10_000)?);
-    assert!(rt; is_deposited(alloc, &mut vault, "d10001", &Err(VaultFault::Full))?);
-    assert!(rt; is_known(alloc, &mut vault, "d1", 1)?);
-    assert!(rt; is_known(alloc, &mut vault, "d10000", 10_000)?);
+    let mut vault = PlainVault::new(rt.alloc());
+    assert!(rt; is_filled(rt.alloc(), &mut vault)?);
+    assert!(rt; is_full(rt.alloc(), &mut vault)?);
     assert!(rt; heads(&mut vault)?.len() == 10_000);
     Ok(())
 }

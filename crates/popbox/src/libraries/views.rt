@@ -181,15 +181,20 @@ fn marked(alloc: Global, policy: &Policy) -> Result<Session, Fail> {
     }
 }
 
+/// The policy behind a rule that lets nobody remove anything.
+fn frozen(alloc: Global) -> Result<Policy, Fail> {
+    let text = format!(in alloc; "{FREEZE}{RULES}")?;
+    Ok(Policy::read(alloc, &text)?)
+}
+
 #[test]
 fn removals_under_a_new_policy(rt: HostRuntime) -> Result<(), Fail> {
+    let freeze = name(b"freeze")?;
     let policy = Policy::read(rt.alloc(), RULES)?;
     let session = marked(rt.alloc(), &policy)?;
     let keys = [MessageKey::new(11), MessageKey::new(13)];
     assert!(rt; removes(&session, &policy, &keys, None)?);
-    let frozen = format!(in rt.alloc(); "{FREEZE}{RULES}")?;
-    let policy = Policy::read(rt.alloc(), &frozen)?;
-    let rule = name(b"freeze")?;
-    assert!(rt; removes(&session, &policy, &[], Some(rule))?);
+    let frozen = frozen(rt.alloc())?;
+    assert!(rt; removes(&session, &frozen, &[], Some(freeze))?);
     Ok(())
 }
