@@ -25,6 +25,48 @@ struct Spent {
     removals: u64,
 }
 
+/// Microseconds of a deposit.
+fn depositing<V: Vault>(
+    rt: &(impl AllocGlobal + Clock),
+    office: &mut Office<V>,
+    maildrop: &Name,
+    k: u32,
+    text: &[u8],
+) -> Result<u64, Fault> {
+    let start = Instant::now(rt)?;
+    deposit(rt.alloc(), office, maildrop, k, text)?;
+    Ok(micros(start.elapsed(rt)?))
+}
+
+/// A connection that logs in, and its microseconds.
+fn coming<V: Vault>(
+    rt: &(impl AllocGlobal + Clock),
+    office: &mut Office<V>,
+) -> Result<(u64, u64), Fault> {
+    let start = Instant::now(rt)?;
+    let c = log_in(rt.alloc(), office, 0)?;
+    Ok((c, micros(start.elapsed(rt)?)))
+}
+
+/// Microseconds of a retrieval.
+fn retrieving<V: Vault>(rt: &impl Clock, office: &mut Office<V>, c: u64) -> Result<u64, Fault> {
+    let start = Instant::now(rt)?;
+    say(office, c, b"RETR 1\r\n", AT_ONCE)?;
+    Ok(micros(start.elapsed(rt)?))
+}
+
+/// Microseconds of a mark and the QUIT that removes the new message.
+fn removing<V: Vault>(
+    rt: &(impl AllocGlobal + Clock),
+    office: &mut Office<V>,
+    c: u64,
+) -> Result<u64, Fault> {
+    let start = Instant::now(rt)?;
+    mark(rt.alloc(), office, c, FEW + 1, FEW + 1)?;
+    say(office, c, b"QUIT\r\n", AT_ONCE)?;
+    Ok(micros(start.elapsed(rt)?))
+}
+
 /// Deposits a message, retrieves another in a session, and removes the new one.
 fn turn<V: Vault>(
     rt: &(impl AllocGlobal + Clock),
@@ -34,19 +76,14 @@ fn turn<V: Vault>(
     text: &[u8],
     spent: &mut Spent,
 ) -> Result<(), Fault> {
-    let start = Instant::now(rt)?;
-    deposit(rt.alloc(), office, maildrop, k, text)?;
-    spent.deposits = spent.deposits.saturating_add(micros(start.elapsed(rt)?));
-    let start = Instant::now(rt)?;
-    let c = log_in(rt.alloc(), office, 0)?;
-    spent.logins = spent.logins.saturating_add(micros(start.elapsed(rt)?));
-    let start = Instant::now(rt)?;
-    say(office, c, b"RETR 1\r\n", AT_ONCE)?;
-    spent.retrievals = spent.retrievals.saturating_add(micros(start.elapsed(rt)?));
-    let start = Instant::now(rt)?;
-    mark(rt.alloc(), office, c, FEW + 1, FEW + 1)?;
-    say(office, c, b"QUIT\r\n", AT_ONCE)?;
-    spent.removals = spent.removals.saturating_add(micros(start.elapsed(rt)?));
+    let depositing = depositing(rt, office, maildrop, k, text)?;
+    let (c, coming) = coming(rt, office)?;
+    let retrieving = retrieving(rt, office, c)?;
+    let removing = removing(rt, office, c)?;
+    spent.deposits = spent.deposits.saturating_add(depositing);
+    spent.logins = spent.logins.saturating_add(coming);
+    spent.retrievals = spent.retrievals.saturating_add(retrieving);
+    spent.removals = spent.removals.saturating_add(removing);
     Ok(())
 }
 

@@ -44,33 +44,53 @@ fn allowed_decisions(policy: &Policy) -> u32 {
     allowed
 }
 
+/// How many decisions are allowed, and how many microseconds they take.
+fn decisions(rt: &impl Clock, policy: &Policy) -> io::Result<(u32, u64)> {
+    let start = Instant::now(rt)?;
+    let allowed = allowed_decisions(policy);
+    Ok((allowed, micros(start.elapsed(rt)?)))
+}
+
+/// How many microseconds the policy takes to be written.
+fn writing(rt: &(impl AllocGlobal + Clock), policy: &Policy) -> io::Result<u64> {
+    let mut written = Vec::new(rt.alloc());
+    let start = Instant::now(rt)?;
+    policy.write(&mut written)?;
+    Ok(micros(start.elapsed(rt)?))
+}
+
+/// How many rules a copy has, and how many microseconds it takes.
+fn copying(rt: &impl Clock, policy: &Policy) -> io::Result<(usize, u64)> {
+    let start = Instant::now(rt)?;
+    let copy = policy.try_copy()?;
+    let took = micros(start.elapsed(rt)?);
+    Ok((copy.len(), took))
+}
+
+/// Prints what the policy's uses take, of a text of so many octets that took so many microseconds to be read.
+fn tell(
+    rt: &(impl Print + AllocGlobal + Clock),
+    policy: &Policy,
+    octets: usize,
+    reading: u64,
+) -> io::Result<()> {
+    let writing = writing(rt, policy)?;
+    let (copied, copying) = copying(rt, policy)?;
+    let (allowed, deciding) = decisions(rt, policy)?;
+    println!(rt;
+        "{copied} rules of {octets} octets: read {reading} us, written {writing} us, copied {copying} us"
+    )?;
+    println!(rt; "{DECISIONS} decisions, of which {allowed} allow: {deciding} us")
+}
+
 /// Prints how many microseconds a policy of so many rules takes.
 pub fn measure(rt: &(impl Print + AllocGlobal + Clock), rules: usize) -> io::Result<()> {
     let text = text_of(rt.alloc(), rules)?;
     let start = Instant::now(rt)?;
     let read = Policy::read(rt.alloc(), &text);
     let reading = micros(start.elapsed(rt)?);
-    let Ok(policy) = read else {
-        return println!(rt; "{rules} rules: not read");
-    };
-
-    let start = Instant::now(rt)?;
-    let allowed = allowed_decisions(&policy);
-    let deciding = micros(start.elapsed(rt)?);
-
-    let mut written = Vec::new(rt.alloc());
-    let start = Instant::now(rt)?;
-    policy.write(&mut written)?;
-    let writing = micros(start.elapsed(rt)?);
-
-    let start = Instant::now(rt)?;
-    let copy = policy.try_copy()?;
-    let copying = micros(start.elapsed(rt)?);
-
-    let octets = text.len();
-    let copied = copy.len();
-    println!(rt;
-        "{copied} rules of {octets} octets: read {reading} us, written {writing} us, copied {copying} us"
-    )?;
-    println!(rt; "{DECISIONS} decisions, of which {allowed} allow: {deciding} us")
+    match read {
+        Ok(policy) => tell(rt, &policy, text.len(), reading),
+        Err(_) => println!(rt; "{rules} rules: not read"),
+    }
 }

@@ -109,6 +109,22 @@ fn repeat<V: Vault>(
     say(office, c, line, at_once)
 }
 
+/// A listing of so many messages.
+fn measure_listing<V: Vault>(
+    rt: &(impl Print + Clock),
+    office: &mut Office<V>,
+    c: u64,
+    line: &str,
+    count: u32,
+) -> Result<(), Fault> {
+    let start = Instant::now(rt)?;
+    let octets = repeat(office, c, line.as_bytes(), ASKED, AT_ONCE)?;
+    let each = micros(start.elapsed(rt)?) / u64::from(ASKED);
+    let line = line.trim_end();
+    println!(rt; "{line}: {octets} octets of {count} messages in {each} us")?;
+    Ok(())
+}
+
 /// The listings of a maildrop of so many messages.
 fn measure_listings<V: Vault>(
     rt: &(impl Print + AllocGlobal + Clock),
@@ -118,13 +134,34 @@ fn measure_listings<V: Vault>(
     fill(rt.alloc(), office, 0, count, b"x")?;
     let c = log_in(rt.alloc(), office, 0)?;
     for line in LISTINGS {
-        let start = Instant::now(rt)?;
-        let octets = repeat(office, c, line.as_bytes(), ASKED, AT_ONCE)?;
-        let each = micros(start.elapsed(rt)?) / u64::from(ASKED);
-        let line = line.trim_end();
-        println!(rt; "{line}: {octets} octets of {count} messages in {each} us")?;
+        measure_listing(rt, office, c, line, count)?;
     }
     Ok(())
+}
+
+/// A retrieval, so many times, taken in pieces of so many octets.
+fn measure_pieces<V: Vault>(
+    rt: &(impl Print + Clock),
+    office: &mut Office<V>,
+    c: u64,
+    times: u32,
+    at_once: usize,
+) -> Result<(), Fault> {
+    let start = Instant::now(rt)?;
+    let reply = repeat(office, c, b"RETR 1\r\n", times, at_once)?;
+    let speed = rate(reply.saturating_mul(times as usize), start.elapsed(rt)?);
+    println!(rt; "RETR: {reply} octets, {times} times, {at_once} at once: {speed} MB/s")?;
+    Ok(())
+}
+
+/// Fills a maildrop with a message of so many octets.
+fn fill_with_one<V: Vault>(
+    alloc: Global,
+    office: &mut Office<V>,
+    octets: u32,
+) -> Result<(), Fault> {
+    let text = text_of(alloc, LINE, octets as usize)?;
+    fill(alloc, office, 0, 1, &text)
 }
 
 /// A message of so many octets, again and again, taken in small and in large pieces.
@@ -133,17 +170,30 @@ fn measure_retrieval<V: Vault>(
     office: &mut Office<V>,
     octets: u32,
 ) -> Result<(), Fault> {
-    let text = text_of(rt.alloc(), LINE, octets as usize)?;
-    fill(rt.alloc(), office, 0, 1, &text)?;
+    fill_with_one(rt.alloc(), office, octets)?;
     let c = log_in(rt.alloc(), office, 0)?;
     let times = (RETRIEVED / octets.max(1)).saturating_add(1);
-    for at_once in [512, AT_ONCE] {
-        let start = Instant::now(rt)?;
-        let reply = repeat(office, c, b"RETR 1\r\n", times, at_once)?;
-        let speed = rate(reply.saturating_mul(times as usize), start.elapsed(rt)?);
-        println!(rt; "RETR: {reply} octets, {times} times, {at_once} at once: {speed} MB/s")?;
-    }
-    Ok(())
+    measure_pieces(rt, office, c, times, 512)?;
+    measure_pieces(rt, office, c, times, AT_ONCE)
+}
+
+/// How many microseconds it takes to mark the first so many messages.
+fn marking<V: Vault>(
+    rt: &(impl AllocGlobal + Clock),
+    office: &mut Office<V>,
+    c: u64,
+    count: u32,
+) -> Result<u64, Fault> {
+    let start = Instant::now(rt)?;
+    mark(rt.alloc(), office, c, 1, count)?;
+    Ok(micros(start.elapsed(rt)?))
+}
+
+/// How many microseconds QUIT takes.
+fn quitting<V: Vault>(rt: &impl Clock, office: &mut Office<V>, c: u64) -> Result<u64, Fault> {
+    let start = Instant::now(rt)?;
+    say(office, c, b"QUIT\r\n", AT_ONCE)?;
+    Ok(micros(start.elapsed(rt)?))
 }
 
 /// Marks every message of a maildrop of so many, and says QUIT.
@@ -154,12 +204,8 @@ fn measure_removal<V: Vault>(
 ) -> Result<(), Fault> {
     fill(rt.alloc(), office, 0, count, b"x")?;
     let c = log_in(rt.alloc(), office, 0)?;
-    let start = Instant::now(rt)?;
-    mark(rt.alloc(), office, c, 1, count)?;
-    let marking = micros(start.elapsed(rt)?);
-    let start = Instant::now(rt)?;
-    say(office, c, b"QUIT\r\n", AT_ONCE)?;
-    let quitting = micros(start.elapsed(rt)?);
+    let marking = marking(rt, office, c, count)?;
+    let quitting = quitting(rt, office, c)?;
     println!(rt; "QUIT: {count} marks set in {marking} us, removed in {quitting} us")?;
     Ok(())
 }
@@ -176,6 +222,16 @@ fn say_in_turn<V: Vault>(office: &mut Office<V>, open: u64, times: u32) -> Resul
     Ok(())
 }
 
+/// Logs so many connections in, each into a maildrop of its own, which it fills.
+fn let_all_in<V: Vault>(alloc: Global, office: &mut Office<V>, open: u64) -> Result<(), Fault> {
+    let text = text_of(alloc, LINE, SHORT)?;
+    for number in 0..open {
+        fill(alloc, office, number, FEW, &text)?;
+        log_in(alloc, office, number)?;
+    }
+    Ok(())
+}
+
 /// So many connections, each in a maildrop of its own, interleaved line by line.
 fn measure_interleaved<V: Vault>(
     rt: &(impl Print + AllocGlobal + Clock),
@@ -183,11 +239,7 @@ fn measure_interleaved<V: Vault>(
     open: u64,
     times: u32,
 ) -> Result<(), Fault> {
-    let text = text_of(rt.alloc(), LINE, SHORT)?;
-    for number in 0..open {
-        fill(rt.alloc(), office, number, FEW, &text)?;
-        log_in(rt.alloc(), office, number)?;
-    }
+    let_all_in(rt.alloc(), office, open)?;
     let start = Instant::now(rt)?;
     say_in_turn(office, open, times)?;
     let lines = u64::from(times).saturating_mul(5).saturating_mul(open);

@@ -40,21 +40,40 @@ fn octets_of<S: Alter>(alloc: Global, conn: &mut Connection<S>, key: i64) -> Res
     Ok(octets)
 }
 
+/// The key of a message of this text, and how many octets of it are written in a microsecond.
+fn writing<S: Alter>(
+    rt: &impl Clock,
+    conn: &mut Connection<S>,
+    text: &[u8],
+    octets: u32,
+) -> Result<(i64, u64), Fault> {
+    let start = Instant::now(rt)?;
+    let key = write_text(conn, text, octets)?;
+    Ok((key, rate(text.len(), start.elapsed(rt)?)))
+}
+
+/// How many octets the message's sheets have, and how many of them are read in a microsecond.
+fn reading<S: Alter>(
+    rt: &(impl AllocGlobal + Clock),
+    conn: &mut Connection<S>,
+    key: i64,
+) -> Result<(usize, u64), Fault> {
+    let start = Instant::now(rt)?;
+    let octets = octets_of(rt.alloc(), conn, key)?;
+    Ok((octets, rate(octets, start.elapsed(rt)?)))
+}
+
 /// The sheets of one text, written in one transaction, and read one by one.
 pub fn measure_sheets<S: Alter>(
     rt: &(impl Print + AllocGlobal + Clock),
     conn: &mut Connection<S>,
     octets: u32,
 ) -> Result<(), Fault> {
-    let text = text_of(rt.alloc(), b"a line of the message ..\r\n", octets as usize)?;
     make_tables(conn)?;
     calls::add_maildrop(conn, b"orders")?;
-    let start = Instant::now(rt)?;
-    let key = write_text(conn, &text, octets)?;
-    let writing = rate(text.len(), start.elapsed(rt)?);
-    let start = Instant::now(rt)?;
-    let read = octets_of(rt.alloc(), conn, key)?;
-    let reading = rate(read, start.elapsed(rt)?);
+    let text = text_of(rt.alloc(), b"a line of the message ..\r\n", octets as usize)?;
+    let (key, writing) = writing(rt, conn, &text, octets)?;
+    let (read, reading) = reading(rt, conn, key)?;
     println!(rt; "sheets: {read} octets, written {writing} MB/s, read {reading} MB/s")?;
     Ok(())
 }
@@ -91,6 +110,32 @@ fn fill<S: Alter>(conn: &mut Connection<S>, name: &[u8], count: u32) -> Result<(
     calls::commit(conn)
 }
 
+/// How many milliseconds ten maildrops of so many messages take to be filled.
+fn filling<S: Alter>(rt: &impl Clock, conn: &mut Connection<S>, count: u32) -> Result<u128, Fault> {
+    let start = Instant::now(rt)?;
+    for name in NAMES {
+        fill(conn, name, count)?;
+    }
+    Ok(start.elapsed(rt)?.as_millis())
+}
+
+/// How many heads one of them lists, and how many milliseconds that takes.
+fn listing<S: Alter>(
+    rt: &(impl AllocGlobal + Clock),
+    conn: &mut Connection<S>,
+) -> Result<(usize, u128), Fault> {
+    let start = Instant::now(rt)?;
+    let heads = calls::head_count(rt.alloc(), conn, b"e")?;
+    Ok((heads, start.elapsed(rt)?.as_millis()))
+}
+
+/// How many messages are counted in one of them, and how many milliseconds that takes.
+fn counting<S: Alter>(rt: &impl Clock, conn: &mut Connection<S>) -> Result<(u64, u128), Fault> {
+    let start = Instant::now(rt)?;
+    let counted = calls::message_count(conn, b"e")?;
+    Ok((counted, start.elapsed(rt)?.as_millis()))
+}
+
 /// The heads and the count of one of ten maildrops, each of so many messages.
 pub fn measure_heads<S: Alter>(
     rt: &(impl Print + AllocGlobal + Clock),
@@ -98,17 +143,9 @@ pub fn measure_heads<S: Alter>(
     count: u32,
 ) -> Result<(), Fault> {
     make_tables(conn)?;
-    let start = Instant::now(rt)?;
-    for name in NAMES {
-        fill(conn, name, count)?;
-    }
-    let filling = start.elapsed(rt)?.as_millis();
-    let start = Instant::now(rt)?;
-    let heads = calls::head_count(rt.alloc(), conn, b"e")?;
-    let listing = start.elapsed(rt)?.as_millis();
-    let start = Instant::now(rt)?;
-    let counted = calls::message_count(conn, b"e")?;
-    let counting = start.elapsed(rt)?.as_millis();
+    let filling = filling(rt, conn, count)?;
+    let (heads, listing) = listing(rt, conn)?;
+    let (counted, counting) = counting(rt, conn)?;
     println!(rt;
         "heads: ten maildrops filled in {filling} ms, {heads} heads of one in {listing} ms, {counted} counted in {counting} ms"
     )?;
