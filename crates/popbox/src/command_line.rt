@@ -26,70 +26,51 @@ fn store<'a>(alloc: Global) -> Arg<'a> {
     Arg::new(alloc, "store").long("store").value_name("PATH")
 }
 
-/// A subcommand with a store and a host.
-fn with_store_and_host<'a>(
-    alloc: Global,
-    command: Command<'a>,
-    store: Arg<'a>,
-) -> Result<Command<'a>, AllocError> {
-    command.arg(store)?.arg(host(alloc))
-}
-
 /// `replay [--store PATH] [--host NAME] [--boot N] [SCRIPT]`.
 fn replay<'a>(alloc: Global) -> Result<Command<'a>, AllocError> {
-    let store = store(alloc).help("The store's file, else one in memory");
-    let command = Command::new(alloc, "replay").about(
-        "Runs the events of a script, and prints what each gives",
-    );
-    let command = with_store_and_host(alloc, command, store)?;
-    with_boot_and_script(alloc, command)
-}
-
-/// The rest of the line of `replay`.
-fn with_boot_and_script<'a>(
-    alloc: Global,
-    command: Command<'a>,
-) -> Result<Command<'a>, AllocError> {
-    let script = Arg::new(alloc, "SCRIPT").help("The script's file, else standard input");
-    command.arg(boot(alloc).default_value("1"))?.arg(script)
+    let arguments = vec![in alloc;
+        store(alloc).help("The store's file, else one in memory"),
+        host(alloc),
+        boot(alloc).default_value("1"),
+        Arg::new(alloc, "SCRIPT").help("The script's file, else standard input"),
+    ]?;
+    Command::new(alloc, "replay")
+        .about("Runs the events of a script, and prints what each gives")
+        .args(arguments)
 }
 
 /// `talk --store PATH [--host NAME] [--boot N]`.
 fn talk<'a>(alloc: Global) -> Result<Command<'a>, AllocError> {
-    let store = store(alloc)
-        .help("The store's file, which is made where there is none")
-        .required(true);
-    let command = Command::new(alloc, "talk").about(
-        "Has one conversation with a client, on standard input and output",
-    );
-    with_store_and_host(alloc, command, store)?.arg(boot(alloc))
+    let store = store(alloc).help("The store's file, which is made where there is none");
+    let arguments = vec![in alloc; store.required(true), host(alloc), boot(alloc)]?;
+    Command::new(alloc, "talk")
+        .about("Has one conversation with a client, on standard input and output")
+        .args(arguments)
 }
 
 /// `check-policy FILE`.
 fn check_policy<'a>(alloc: Global) -> Result<Command<'a>, AllocError> {
-    let file = Arg::new(alloc, "FILE")
-        .help("The policy's file")
-        .required(true);
+    let file = Arg::new(alloc, "FILE").help("The policy's file");
     Command::new(alloc, "check-policy")
         .about("Checks a policy, and prints how many rules it has or its first fault")
-        .arg(file)
+        .arg(file.required(true))
+}
+
+/// The subcommands, as a usage lists them.
+fn subcommands<'a>(alloc: Global) -> Result<Vec<Command<'a>>, AllocError> {
+    let mut subcommands = Vec::new(alloc);
+    subcommands.push(replay(alloc)?)?;
+    subcommands.push(talk(alloc)?)?;
+    subcommands.push(check_policy(alloc)?)?;
+    Ok(subcommands)
 }
 
 /// The whole command line.
 pub fn make_command<'a>(alloc: Global) -> Result<Command<'a>, AllocError> {
-    let command = Command::new(alloc, "popbox")
+    let subcommands = subcommands(alloc)?;
+    Command::new(alloc, "popbox")
         .about("A POP3 server for shared maildrops")
         .subcommand_required(true)
-        .arg_required_else_help(true);
-    let command = with_replay(alloc, command)?;
-    let command = with_talk(alloc, command)?;
-    command.subcommand(check_policy(alloc)?)
-}
-
-fn with_replay<'a>(alloc: Global, command: Command<'a>) -> Result<Command<'a>, AllocError> {
-    command.subcommand(replay(alloc)?)
-}
-
-fn with_talk<'a>(alloc: Global, command: Command<'a>) -> Result<Command<'a>, AllocError> {
-    command.subcommand(talk(alloc)?)
+        .arg_required_else_help(true)
+        .subcommands(subcommands)
 }

@@ -56,7 +56,20 @@ fn played<V: Vault + Drop>(
     Ok(vault)
 }
 
-/// Does the same over a connection's store, and gives the file of the store, which is closed.
+/// Does the same over a connection's store, and gives the connection back.
+fn played_over<S: Alter + Drop>(
+    alloc: Global,
+    conn: Connection<S>,
+    boot: u64,
+    script: &str,
+    out: &str,
+) -> Result<Connection<S>, Fail> {
+    let vault = adopted(alloc, conn)?;
+    let vault = played(alloc, vault, boot, script, out)?;
+    Ok(vault.into_connection())
+}
+
+/// Does the same over a store in a file, and gives the file, which is closed.
 fn played_in<D: Disk + Drop>(
     alloc: Global,
     conn: Connection<FileStore<D>>,
@@ -66,10 +79,8 @@ fn played_in<D: Disk + Drop>(
 ) -> Result<D, Fail>
     ensures { IfOk result (λ db. IsTrue (D.Disk.is_usable db)) }
 {
-    let vault = adopted(alloc, conn)?;
-    let vault = played(alloc, vault, boot, script, out)?;
-    let db = close(vault.into_connection())?;
-    Ok(db)
+    let conn = played_over(alloc, conn, boot, script, out)?;
+    Ok(close(conn)?)
 }
 
 /// Opens the store in a file, runs a script over it, expects what it prints, and gives the file, which is closed.
