@@ -223,7 +223,8 @@ impl<V: Vault> Office<V> {
     {
         name_has_form(clerk);
         credential_has_form(credential);
-        clerk_put(self.vault.put_clerk(clerk, credential))
+        let put = self.vault.put_clerk(clerk, credential);
+        clerk_put(put)
     }
 
     /// Drops a clerk.
