@@ -292,9 +292,9 @@ some_written false P Q L e h = cc
 
 pub refused_out : (AtEnd : Type 0) (grown : Bool) (T : Trace) (c : ℕ) (e : TalkFault) (L : Log) → Refuses T e L → ComesOut AtEnd grown T c [] [] (Err e) L
 refused_out AtEnd grown T c e L r = ⊎_elim
-    (λ (k : (e ≡ fault.NoMemory) × MetLack L). subst (λ x. ComesOut AtEnd grown T c [] [] (Err x) L) (sym k.0) (inl (record { acts = r.same; replies = refl }, k.1)))
+    (λ (k : (e ≡ fault.NoMemory) × MetLack L). subst (λ x. ComesOut AtEnd grown T c [] [] (Err x) L) (sym k.0) (inl (record { acts = r.same; unread = refl; replies = refl }, k.1)))
     (λ (k : (e ≡ fault.TooManyConnections) × (is_full T ≡ true)).
-    subst (λ x. ComesOut AtEnd grown T c [] [] (Err x) L) (sym k.0) (record { acts = r.same; replies = refl }, k.1))
+    subst (λ x. ComesOut AtEnd grown T c [] [] (Err x) L) (sym k.0) (record { acts = r.same; unread = refl; replies = refl }, k.1))
     r.cause
 
 pub comes_out : (AtEnd : Type 0) (before during now : ℕ) → during ≤ now → (T : Trace) (c : ℕ) (octets written : List ℕ) (r : Result Unit TalkFault) (L : Log) (lent : ℕ → ℕ) (o : Outcome)

@@ -1,5 +1,5 @@
 -- What lines print one after the other, and what an office lends.
-use Rattle.std.proofs.Common.{◌≡◌, ℕ, ◌<◌, Bool, false, not, ◌||◌, ◌==◌, nat_lt, List, [], ◌∷◌, ◌++◌, ◌+◌, length, take, get_or, map, option_map, Option, Some, None, IfSome, Result, Ok, Err, refl, arith, sym, ◌∙◌, ap, subst, append-nil, append_assoc, if◌then◌else◌}
+use Rattle.std.proofs.Common.{◌≡◌, ℕ, ◌<◌, ◌≤◌, ltb-true, ltb-false, Bool, true, false, not, ◌||◌, ◌==◌, nat_lt, List, [], ◌∷◌, ◌++◌, ◌+◌, length, take, get_or, map, option_map, Option, Some, None, IfSome, Result, Ok, Err, refl, arith, sym, ◌∙◌, ap, subst, append-nil, append_assoc, if◌then◌else◌}
 use Rattle.std.proofs.KnownBytes.{Appends-nil, Appends-trans}
 use Rattle.std.proofs.lemmas.List.{take_all, take_more, map-append}
 use Rattle.std.proofs.lemmas.Grind.{flat_map-append}
@@ -22,8 +22,10 @@ use Rattle.office.specs.declared.office.Office.{Office}
 use Rattle.converse.specs.Script.{ScriptLine, Does, Drains, line_seen}
 use Rattle.converse.specs.declared.script.Line.{Line}
 use Rattle.converse.specs.Escapes.{escape, escaped}
-use Rattle.converse.specs.Played.{owed_by, sent_before, TakesAll, Acts, ComesTo, told_text, still_known, drained, drained_octets, AreTakings, Takes, Point, point, PlaysLine, Plays, HasPlayed, HasRun}
-use Rattle.converse.proofs.Clauses.{appends_kept}
+use Rattle.converse.specs.Played.{owed_by, sent_before, TakesAll, Acts, ComesTo, WithCause, Caused, failures, told_text, still_known, drained, drained_octets, AreTakings, Takes, Point, point, PlaysLine, Plays, HasPlayed, HasRun}
+use Rattle.vault.specs.Calls.{has_grown}
+use Rattle.office.specs.Outcomes.{HasCause}
+use Rattle.converse.proofs.Clauses.{appends_kept, grown_since, grown_still}
 
 -- ---- an office lends all that is owed
 
@@ -120,58 +122,82 @@ pub drains_all : (T : Trace) (c : ℕ) (o : Outcome) (printed : List ℕ) (U : T
 drains_all T c o printed U ([], t, e, f) some = absurd (owed_none T U c t.behind e some)
 drains_all T c o printed U (p ∷ os, t, e, f) some = (p ∷ os, t, e, ap (λ (w : List ℕ). codes "sent " ++ decimal c ++ codes " " ++ w ++ codes "\n") f)
 
+-- ---- what failed
+
+pub caused_none : (first now : ℕ) (T : Trace) → Caused first now T T
+caused_none first now T lt = absurd (omega (arith, lt))
+
+pub caused_one : (first now : ℕ) (T : Trace) (e : Event) (o : Outcome) → HasCause first now o → Caused first now T (given T e (mark_of o))
+caused_one first now T e (outcome.Opened c) h lt = absurd (omega (arith, lt))
+caused_one first now T e outcome.Done h lt = absurd (omega (arith, lt))
+caused_one first now T e outcome.Failed h lt = h
+caused_one first now T e outcome.NoMemory h lt = absurd (omega (arith, lt))
+caused_one first now T e (outcome.Ignored reason) h lt = absurd (omega (arith, lt))
+caused_one first now T e (outcome.Answered answer) h lt = absurd (omega (arith, lt))
+
+caused_at : (a b c : ℕ) (T M U : Trace) → a ≤ b → b ≤ c → Caused a b T M → Caused b c M U → failures T.log < failures U.log → (x : Bool) → nat_lt (failures T.log) (failures M.log) ≡ x
+    → has_grown a c ≡ true
+caused_at a b c T M U h k p q lt true e = grown_still a b c k (p (ltb-true (failures T.log) (failures M.log) e))
+caused_at a b c T M U h k p q lt false e = grown_since a b c h (q (let n = ltb-false (failures T.log) (failures M.log) e in omega (arith, n, lt)))
+
+-- of events one after the other
+pub caused_more : (a b c : ℕ) (T M U : Trace) → a ≤ b → b ≤ c → Caused a b T M → Caused b c M U → Caused a c T U
+caused_more a b c T M U h k p q lt = caused_at a b c T M U h k p q lt (nat_lt (failures T.log) (failures M.log)) refl
+
 -- ---- what comes of a line
 
-module _ {V : Type 0} (Holds : V → Contents → Type 0) (new : Office V) (T : Trace) where
+module _ {V : Type 0} (Holds : V → Contents → Type 0) (new : Office V) (T : Trace) (first now : ℕ) where
   -- one event in front of which nothing is printed
   pub did_one : (old : Office V) (line : ScriptLine) (e : Event) (o : Outcome) (known : Option (List ℕ)) → line ≡ Does e → sent_before T e ≡ [] → StandsFor Holds old T
-      → IsOutcome T (lent_by old) e o → StandsFor Holds new (given T e (mark_of o)) → ComesTo Holds new known known (Acts T line (Some o))
-  did_one old line e o known s none st is stands =
-      subst (λ (l : ScriptLine). ComesTo Holds new known known (Acts T l (Some o))) (sym s) (record {
+      → IsOutcome T (lent_by old) e o → HasCause first now o → StandsFor Holds new (given T e (mark_of o)) → ComesTo Holds new known known (WithCause first now T (Acts T line (Some o)))
+  did_one old line e o known s none st is cause stands =
+      subst (λ (l : ScriptLine). ComesTo Holds new known known (WithCause first now T (Acts T l (Some o)))) (sym s) (record {
         printed = [];
         trace = given T e (mark_of o);
         appends = Appends-nil known;
         stands = stands;
-        is = (by_owed Holds old T st e o is, refl, sym none);
+        is = ((by_owed Holds old T st e o is, refl, sym none), caused_one first now T e o cause);
       })
 
   -- what comes of a line is said of it
-  pub of_line : (line said : ScriptLine) (o : Option Outcome) (before after : Option (List ℕ)) → line ≡ said → ComesTo Holds new before after (Acts T said o) → ComesTo Holds new before after (Acts T line o)
-  of_line line said o before after s h = subst (λ (l : ScriptLine). ComesTo Holds new before after (Acts T l o)) (sym s) h
+  pub of_line : (line said : ScriptLine) (o : Option Outcome) (before after : Option (List ℕ)) → line ≡ said → ComesTo Holds new before after (WithCause first now T (Acts T said o))
+      → ComesTo Holds new before after (WithCause first now T (Acts T line o))
+  of_line line said o before after s h = subst (λ (l : ScriptLine). ComesTo Holds new before after (WithCause first now T (Acts T l o))) (sym s) h
 
-  pub by_told : (line : ScriptLine) (told x : Option Shown) (before after : Option (List ℕ)) → told ≡ x → ComesTo Holds new before after (Acts T line (option_map outcome_seen told))
-      → ComesTo Holds new before after (Acts T line (option_map outcome_seen x))
-  by_told line told x before after e h = subst (λ (o : Option Shown). ComesTo Holds new before after (Acts T line (option_map outcome_seen o))) e h
+  pub by_told : (line : ScriptLine) (told x : Option Shown) (before after : Option (List ℕ)) → told ≡ x → ComesTo Holds new before after (WithCause first now T (Acts T line (option_map outcome_seen told)))
+      → ComesTo Holds new before after (WithCause first now T (Acts T line (option_map outcome_seen x)))
+  by_told line told x before after e h = subst (λ (o : Option Shown). ComesTo Holds new before after (WithCause first now T (Acts T line (option_map outcome_seen o)))) e h
 
   -- a line that is no event
-  pub line_none : (line : ScriptLine) (before after : Option (List ℕ)) (known : List ℕ) → ComesTo Holds new before after (Acts T line None)
-      → ComesTo Holds new before after (λ printed U. PlaysLine (point T known) line printed (point U known))
+  pub line_none : (line : ScriptLine) (before after : Option (List ℕ)) (known : List ℕ) → ComesTo Holds new before after (WithCause first now T (Acts T line None))
+      → ComesTo Holds new before after (WithCause first now T (λ printed U. PlaysLine (point T known) line printed (point U known)))
   line_none line before after known h = record {
     printed = h.printed;
     trace = h.trace;
     appends = h.appends;
     stands = h.stands;
-    is = record { sent = h.printed; told = None; acts = h.is; text = sym (append-nil h.printed); left = refl };
+    is = (record { sent = h.printed; told = None; acts = h.is.0; text = sym (append-nil h.printed); left = refl }, h.is.1);
   }
 
   -- a line whose outcome is told
-  pub line_some : (line : ScriptLine) (o : Outcome) (before during after : Option (List ℕ)) (known left : List ℕ) (h : ComesTo Holds new before during (Acts T line (Some o)))
+  pub line_some : (line : ScriptLine) (o : Outcome) (before during after : Option (List ℕ)) (known left : List ℕ) (h : ComesTo Holds new before during (WithCause first now T (Acts T line (Some o))))
       → Appends during after (told_text h.trace known (Some o)) → left ≡ still_known h.trace known (Some o)
-      → ComesTo Holds new before after (λ printed U. PlaysLine (point T known) line printed (point U left))
+      → ComesTo Holds new before after (WithCause first now T (λ printed U. PlaysLine (point T known) line printed (point U left)))
   line_some line o before during after known left h told kept = record {
     printed = h.printed ++ told_text h.trace known (Some o);
     trace = h.trace;
     appends = Appends-trans before during after h.printed (told_text h.trace known (Some o)) h.appends told;
     stands = h.stands;
-    is = record { sent = h.printed; told = Some o; acts = h.is; text = refl; left = kept };
+    is = (record { sent = h.printed; told = Some o; acts = h.is.0; text = refl; left = kept }, h.is.1);
   }
 
 -- one line more of a list of lines
 pub played_more : {V : Type 0} (Holds : V → Contents → Type 0) (mid new : Office V) (P : Point) (lines : List Line) (i : ℕ) (x : Line) → i < length lines → x ≡ get_or lines i x
-    → (before during after : Option (List ℕ)) (known left : List ℕ) (s : ComesTo Holds mid before during (λ printed U. Plays P (map line_seen (take i lines)) printed (point U known)))
-    → ComesTo Holds new during after (λ printed U. PlaysLine (point s.trace known) (line_seen x) printed (point U left))
-    → ComesTo Holds new before after (λ printed U. Plays P (map line_seen (take (i + 1) lines)) printed (point U left))
-played_more Holds mid new P lines i x lt is before during after known left s l =
+    → (a b c : ℕ) → a ≤ b → b ≤ c → (before during after : Option (List ℕ)) (known left : List ℕ)
+    (s : ComesTo Holds mid before during (WithCause a b P.trace (λ printed U. Plays P (map line_seen (take i lines)) printed (point U known))))
+    → ComesTo Holds new during after (WithCause b c s.trace (λ printed U. PlaysLine (point s.trace known) (line_seen x) printed (point U left)))
+    → ComesTo Holds new before after (WithCause a c P.trace (λ printed U. Plays P (map line_seen (take (i + 1) lines)) printed (point U left)))
+played_more Holds mid new P lines i x lt is a b c ab bc before during after known left s l =
     let seen : map line_seen (take (i + 1) lines) ≡ map line_seen (take i lines) ++ line_seen x ∷ [] =
     ap (map line_seen) (take_more lines i x lt) ∙ (map-append line_seen (take i lines) (get_or lines i x ∷ []) ∙ ap (λ y. map line_seen (take i lines) ++ line_seen y ∷ []) (sym is)) in
     record {
@@ -179,8 +205,11 @@ played_more Holds mid new P lines i x lt is before during after known left s l =
       trace = l.trace;
       appends = Appends-trans before during after s.printed l.printed s.appends l.appends;
       stands = l.stands;
-      is = subst (λ (asked : List ScriptLine). Plays P asked (s.printed ++ l.printed) (point l.trace left)) (sym seen)
-          (plays_more P (point s.trace known) (point l.trace left) (map line_seen (take i lines)) (line_seen x) s.printed l.printed s.is l.is);
+      is = (
+        subst (λ (asked : List ScriptLine). Plays P asked (s.printed ++ l.printed) (point l.trace left)) (sym seen)
+            (plays_more P (point s.trace known) (point l.trace left) (map line_seen (take i lines)) (line_seen x) s.printed l.printed s.is.0 l.is.0),
+        caused_more a b c P.trace s.trace l.trace ab bc s.is.1 l.is.1,
+      );
     }
 
 -- three texts, one after the other
@@ -209,12 +238,13 @@ comes_kept Holds o before during after Is k h =
     record { printed = h.printed; trace = h.trace; appends = appends_kept before during after h.printed h.appends k; stands = h.stands; is = h.is }
 
 -- what the store keeps
-pub has_run : {V : Type 0} (Holds : V → Contents → Type 0) (o : Office V) (v : V) (T : Trace) (before after : Option (List ℕ)) (given lines : List ScriptLine) → v ≡ vault_of o → given ≡ lines
-    → ComesTo Holds o before after (HasPlayed T given) → HasRun Holds v before after T lines
-has_run Holds o v T before after given lines e same h = record {
+pub has_run : {V : Type 0} (Holds : V → Contents → Type 0) (o : Office V) (v : V) (T : Trace) (first opened now : ℕ) → first ≤ opened → (before after : Option (List ℕ)) (given lines : List ScriptLine) → v ≡ vault_of o → given ≡ lines
+    → ComesTo Holds o before after (WithCause opened now T (HasPlayed T given)) → HasRun Holds v first now before after T lines
+has_run Holds o v T first opened now le before after given lines e same h = record {
   printed = h.printed;
   trace = h.trace;
   appends = h.appends;
   keeps = subst (λ w. Kept_by (Holds w) h.trace) (sym e) h.stands.keeps;
-  plays = subst (λ (ls : List ScriptLine). HasPlayed T ls h.printed h.trace) same h.is;
+  plays = subst (λ (ls : List ScriptLine). HasPlayed T ls h.printed h.trace) same h.is.0;
+  caused = λ lt. grown_since first opened now le (h.is.1 lt);
 }

@@ -2,6 +2,7 @@ pub mod Talk
 pub mod Talked
 pub mod Conversing
 pub mod FaultNames
+pub mod Causes
 pub mod PolicyFile
 pub mod Told
 pub mod Escapes

@@ -1,8 +1,10 @@
 -- What the lines of a script print in an office, and the trace that they lead to.
-use Rattle.std.specs.Prelude.{◌≡◌, ℕ, ◌<◌, ⊤, nat_lt, List, [], ◌∷◌, ◌++◌, ◌==◌, ◌||◌, length, take, filter, Option, Some, None, if◌then◌else◌}
+use Rattle.std.specs.Prelude.{◌≡◌, ℕ, Bool, true, false, ◌+◌, ◌<◌, ⊤, nat_lt, List, [], ◌∷◌, ◌++◌, ◌==◌, ◌||◌, length, take, filter, Option, Some, None, if◌then◌else◌}
 use Rattle.std.specs.Io.KnownBytes.{Appends}
+use Rattle.vault.specs.Calls.{has_grown}
 use Rattle.vault.specs.Changes.{Contents}
-use Rattle.office.specs.Events.{Event, Took, Trace, given}
+use Rattle.office.specs.Events.{Event, Mark, Tagged, Log, Took, Trace, given}
+use Rattle.office.specs.History.{Failed}
 use Rattle.office.specs.Expected.{IsOutcome}
 use Rattle.office.specs.Outcomes.{Outcome, Opened, Done, mark_of}
 use Rattle.office.specs.Stands.{Keeps, StandsFor}
@@ -115,6 +117,25 @@ Plays P (line ∷ lines) printed Q =
 abbrev pub HasPlayed : Trace → List ScriptLine → (printed : List ℕ) → Trace → Type 0
 HasPlayed T lines printed U = (known : List ℕ) × Plays (point T []) lines printed (point U known)
 
+-- ---- what failed
+
+abbrev pub is_failed : Mark → Bool
+is_failed (Tagged Failed) = true
+is_failed _ = false
+
+-- how many events of a log the store failed
+abbrev pub failures : Log → ℕ
+failures [] = 0
+failures ((e, m) ∷ L) = (if is_failed m then 1 else 0) + failures L
+
+-- of the events that U has beyond T one failed only where the store's count of faults grew
+abbrev pub Caused : (before now : ℕ) → Trace → Trace → Type 0
+Caused before now T U = failures T.log < failures U.log → has_grown before now ≡ true
+
+-- this holds of what was printed and of U, and what failed had its cause
+abbrev pub WithCause : (before now : ℕ) → Trace → (List ℕ → Trace → Type 0) → List ℕ → Trace → Type 0
+WithCause before now T Is printed U = Is printed U × Caused before now T U
+
 -- ---- what is left
 
 -- some text was printed, and the office stands for some trace, of which this holds
@@ -125,10 +146,12 @@ pub record ComesTo {V : Type 0} (Holds : V → Contents → Type 0) (o : Office 
   pub stands : StandsFor Holds o trace
   pub is : Is printed trace
 
--- the lines were played from T: what they print was printed, and the store keeps what the trace says to which they lead
-pub record HasRun {V : Type 0} (Holds : V → Contents → Type 0) (new : V) (before after : Option (List ℕ)) (T : Trace) (lines : List ScriptLine) : Type 0 where
+-- the lines were played from T: what they print was printed, the store keeps what the trace says to which they lead, and an event failed
+-- only where the store's count of faults grew from `first` to `now`
+pub record HasRun {V : Type 0} (Holds : V → Contents → Type 0) (new : V) (first now : ℕ) (before after : Option (List ℕ)) (T : Trace) (lines : List ScriptLine) : Type 0 where
   pub printed : List ℕ
   pub trace : Trace
   pub appends : Appends before after printed
   pub keeps : Keeps (Holds new) trace
   pub plays : HasPlayed T lines printed trace
+  pub caused : Caused first now T trace

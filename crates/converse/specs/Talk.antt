@@ -69,9 +69,10 @@ AreInTurn G c written = length (sent G c) ≤ length written + length (said_last
 
 -- ---- how a conversation may come out
 
--- No connection was opened: nothing acted, and nothing was written.
-pub record NeverBegins (written : List ℕ) (old new : List (Act × Tag)) : Type 0 where
+-- No connection was opened: nothing acted, and nothing was read or written.
+pub record NeverBegins (octets written : List ℕ) (old new : List (Act × Tag)) : Type 0 where
   pub acts : new ≡ old
+  pub unread : octets ≡ []
   pub replies : written ≡ []
 
 -- All was heard and answered: each line of the octets that were read acted, through the one that closed the connection; where none

@@ -63,9 +63,9 @@ ComesOut AtEnd grown T c octets written (Ok done) L =
 ComesOut AtEnd grown T c octets written (Err fault.Read) L = Leaves T.base c L (BreaksOffReading T.base c octets written (acts T))
 ComesOut AtEnd grown T c octets written (Err fault.Write) L = Leaves T.base c L (BreaksOff T.base c octets written false (acts T))
 ComesOut AtEnd grown T c octets written (Err fault.TooManyConnections) L =
-    NeverBegins written (acts T) (acts (trace_of T.base L)) × (is_full T ≡ true)
+    NeverBegins octets written (acts T) (acts (trace_of T.base L)) × (is_full T ≡ true)
 ComesOut AtEnd grown T c octets written (Err fault.NoMemory) L =
-    (NeverBegins written (acts T) (acts (trace_of T.base L)) × MetLack L)
+    (NeverBegins octets written (acts T) (acts (trace_of T.base L)) × MetLack L)
     ⊎ (Leaves T.base c L (BreaksOff T.base c octets written true (acts T)) × MetLackBefore c L)
 ComesOut AtEnd grown T c octets written (Err fault.Endless) L =
     Leaves T.base c L (BreaksOff T.base c octets written false (acts T)) × IsEndless octets written

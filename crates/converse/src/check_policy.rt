@@ -1,7 +1,7 @@
 //! `popbox check-policy`: reads a policy's file, and prints how many rules it has or its first fault.
 
-ghost use Rattle.std.specs.Prelude.{◌≡◌, ◌≤◌, IfOk, IfSome, OnOk, OnErr, length};
-ghost use Rattle.std.specs.Io.KnownBytes.{Appends};
+ghost use Rattle.std.specs.Prelude.{◌≡◌, ◌≤◌, IfOk, IsErr, IsOk, IfSome, OnOk, OnErr, length};
+ghost use Rattle.std.specs.Io.KnownBytes.{Appends, IsAtEnd};
 ghost use Rattle.policy.specs.declared.fault.PolicyFault.{PolicyFault};
 ghost use Rattle.converse.specs.PolicyFile.{IsPolicyText, IsFaultOf, IsNoPolicyText, TellsCount};
 ghost use Rattle.converse.specs.Told.{count_line};
@@ -25,6 +25,7 @@ pub fn check_policy<R: Read, W: Write, E: Write>(
 ) -> u8
     ensures status { result ≤ 1 }
     ensures silent { result ≡ 0 → err.new ≡ err.old }
+    ensures unread { (IsAtEnd (R.remaining file.new) → ⊥) → (result ≡ 1) × (out.new ≡ out.old) }
     ensures good { result ≡ 0 → TellsCount (R.remaining file.old) (W.contents out.old) (W.contents out.new) }
     ensures faulty { IfSome (R.remaining file.old) (λ octets. IsNoPolicyText octets → out.new ≡ out.old) }
 {
@@ -36,6 +37,7 @@ pub fn check_policy<R: Read, W: Write, E: Write>(
 
 /// Prints how many rules the policy of a file has.
 fn tell_count<R: Read, W: Write>(alloc: Global, file: &mut R, out: &mut W) -> Result<(), Fault>
+    ensures unread { (IsAtEnd (R.remaining file.new) → ⊥) → IsErr result × (out.new ≡ out.old) }
     ensures ok { OnOk result (TellsCount (R.remaining file.old) (W.contents out.old) (W.contents out.new)) }
     ensures faulty { IfSome (R.remaining file.old) (λ octets. IsNoPolicyText octets → out.new ≡ out.old) }
 {
@@ -45,6 +47,7 @@ fn tell_count<R: Read, W: Write>(alloc: Global, file: &mut R, out: &mut W) -> Re
 
 /// The policy of a file.
 fn read_file<R: Read>(alloc: Global, file: &mut R) -> Result<Policy, Fault>
+    ensures end { IsOk result → IsAtEnd (R.remaining file.new) }
     ensures ok { IfOk result (λ policy. IfSome (R.remaining file.old) (λ octets. IsPolicyText octets policy)) }
     ensures fault { (fault : PolicyFault) → result ≡ Err (Fault.NoPolicy fault) → IfSome (R.remaining file.old) (λ octets. IsFaultOf octets fault) }
 {

@@ -5,6 +5,8 @@ ghost use Rattle.std.specs.IoError.{error_kind};
 ghost use Rattle.std.specs.Io.KnownBytes.{Appends};
 ghost use Rattle.converse.specs.Told.{fault_text as text_of, fault_line};
 ghost use Rattle.converse.specs.FaultNames.{store_fault_name, talk_fault_name};
+ghost use Rattle.converse.specs.Causes.{of_script, of_opening};
+ghost use Rattle.converse.specs.declared.fault.Fault.TheVariants.{OutOfMemory, Store, Talk};
 
 use crate::conversation::TalkFault;
 use crate::script::ScriptFault;
@@ -57,18 +59,24 @@ impl fmt::Display for Fault {
 }
 
 impl From<AllocError> for Fault {
+    ghost from_gives = { λ _ fault. fault ≡ OutOfMemory };
+
     fn from(_: AllocError) -> Fault {
         Fault::OutOfMemory
     }
 }
 
 impl<T: Drop> From<AllocFailed<T>> for Fault {
+    ghost from_gives = { λ _ fault. fault ≡ OutOfMemory };
+
     fn from(_: AllocFailed<T>) -> Fault {
         Fault::OutOfMemory
     }
 }
 
 impl From<ScriptFault> for Fault {
+    ghost from_gives = { λ met fault. fault ≡ of_script met };
+
     fn from(fault: ScriptFault) -> Fault {
         match fault {
             ScriptFault::BadEvent(number) => Fault::BadEvent(number),
@@ -78,6 +86,8 @@ impl From<ScriptFault> for Fault {
 }
 
 impl From<OpenFault> for Fault {
+    ghost from_gives = { λ met fault. fault ≡ of_opening met };
+
     fn from(fault: OpenFault) -> Fault {
         match fault {
             OpenFault::BadHost => Fault::BadHost,
@@ -88,12 +98,16 @@ impl From<OpenFault> for Fault {
 }
 
 impl From<VaultFault> for Fault {
+    ghost from_gives = { λ met fault. fault ≡ Store met };
+
     fn from(fault: VaultFault) -> Fault {
         Fault::Store(fault)
     }
 }
 
 impl From<TalkFault> for Fault {
+    ghost from_gives = { λ met fault. fault ≡ Talk met };
+
     fn from(fault: TalkFault) -> Fault {
         Fault::Talk(fault)
     }

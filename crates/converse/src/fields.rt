@@ -1,6 +1,6 @@
 //! The parts of a script's line: fields that one space parts, names, numbers, and a TEXT at the end.
 
-ghost use Rattle.std.specs.Prelude.{◌≡◌, ◌==◌, ◌+◌, ◌*◌, ◌^◌, ◌<◌, ◌≤◌, ◌≢◌, ◌∷◌, ◌++◌, ℕ, List, Contains, MatchOption, IsSomeAnd, length, vec_len, IfOk, IfSome, IfNone, SomeIff, option_map, option_copied, []};
+ghost use Rattle.std.specs.Prelude.{◌≡◌, ◌==◌, ◌+◌, ◌*◌, ◌^◌, ◌<◌, ◌≤◌, ◌≢◌, ℕ, MatchOption, length, vec_len, IfOk, IfSome, IfNone, SomeIff, option_map, option_copied, []};
 ghost use Rattle.std.specs.Char.{digit_value};
 ghost use Rattle.std.specs.Str.Parse.{IsNumeral, digits_value};
 ghost use Rattle.std.specs.List.{position};
@@ -15,9 +15,6 @@ const MOST_DIGITS: usize = 20;
 
 /// What stands between two fields.
 const SPACE: u8 = b' ';
-
-/// What an escape begins with.
-const BACKSLASH: u8 = b'\\';
 
 /// What stands before the first octet of this kind, or all, and what stands behind it.
 pub fn cut_at(text: &[u8], end: u8) -> (&[u8], Option<&[u8]>)
@@ -102,11 +99,6 @@ pub fn unescape(alloc: Global, text: &[u8]) -> Result<Option<Vec<u8>>, AllocErro
 fn next_octet(text: &[u8]) -> Option<(u8, &[u8])>
     ensures is { MatchOption result (text.now ≢ [] → unescaped text.now ≡ None) (λ r. unescaped text.now ≡ led r.0 (unescaped r.1.now)) }
     ensures shorter { IfSome result (λ r. length r.1.now < length text.now) }
-    ensures plain { (b : ℕ) (after : List ℕ) → text.now ≡ b ∷ after → b ≢ BACKSLASH → IsSomeAnd result (λ r. (r.0 ≡ b) × (r.1.now ≡ after)) }
-    ensures carriage_return { (after : List ℕ) → text.now ≡ BACKSLASH ∷ 114 ∷ after → IsSomeAnd result (λ r. (r.0 ≡ 13) × (r.1.now ≡ after)) }
-    ensures line_feed { (after : List ℕ) → text.now ≡ BACKSLASH ∷ 110 ∷ after → IsSomeAnd result (λ r. (r.0 ≡ 10) × (r.1.now ≡ after)) }
-    ensures hexadecimal { (h l : ℕ) (after : List ℕ) → text.now ≡ BACKSLASH ∷ 120 ∷ h ∷ l ∷ after → digit_value h < 16 → digit_value l < 16 → IsSomeAnd result (λ r. (r.0 ≡ 16 * digit_value h + digit_value l) × (r.1.now ≡ after)) }
-    ensures backslash { (after : List ℕ) → text.now ≡ BACKSLASH ∷ BACKSLASH ∷ after → IsSomeAnd result (λ r. (r.0 ≡ BACKSLASH) × (r.1.now ≡ after)) }
 {
     match text {
         [b'\\', b'r', after @ ..] => Some((b'\r', after)),

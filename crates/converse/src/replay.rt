@@ -1,7 +1,7 @@
 //! `popbox replay`: does the events of a script in an office, and prints what each gives.
 
 ghost use Rattle.std.specs.Prelude.{◌≤◌, ◌≡◌, ◌∷◌, ◌++◌, [], false, true, map, option_map, IfErr, IfOk, IfSome, IsErr, IsOk, List, Ok, OnOk, Some, codes, if◌then◌else◌};
-ghost use Rattle.std.specs.Io.KnownBytes.{Appends};
+ghost use Rattle.std.specs.Io.KnownBytes.{Appends, IsAtEnd};
 ghost use Rattle.std.specs.List.{filter};
 ghost use Rattle.creds.specs.Names.{is_host};
 ghost use Rattle.office.specs.Events.{Trace, Took};
@@ -11,7 +11,7 @@ ghost use Rattle.office.specs.Stands.{Keeps, StandsFor, vault_of};
 ghost use Rattle.office.specs.Trace.{is_open};
 ghost use Rattle.converse.specs.Runs.{StillHolds, opened_on};
 ghost use Rattle.converse.specs.Script.{ScriptLine, Does, Drains, line_seen, script_of};
-ghost use Rattle.converse.specs.Played.{Acts, TakesAll, PlaysLine, HasPlayed, ComesTo, HasRun, point, known_with, still_known, told_text, taken_text};
+ghost use Rattle.converse.specs.Played.{Acts, TakesAll, PlaysLine, HasPlayed, ComesTo, WithCause, HasRun, point, known_with, still_known, told_text, taken_text};
 ghost use Rattle.converse.specs.Escapes.{by_digits, escape, escaped};
 ghost use Rattle.converse.specs.Told.{sent_line, outcome_lines, answer_lines, ended_lines, has_ended, no_policy_line, reason_name as name_of_reason};
 
@@ -46,9 +46,10 @@ pub fn replay<R: Read, V: Vault, W: Write, E: Write>(
 ) -> (u8, V)
     ensures status { result.0 ≤ 1 }
     ensures silent { result.0 ≡ 0 → err.new ≡ err.old }
+    ensures unread { (IsAtEnd (R.remaining script.new) → ⊥) → (result.0 ≡ 1) × (out.new ≡ out.old) × (result.1 ≡ vault) }
     ensures bad_line { IfSome (R.remaining script.old) (λ text. IsErr (script_of text) → (result.0 ≡ 1) × (out.new ≡ out.old) × (result.1 ≡ vault)) }
     ensures bad_host { is_host host.now ≡ false → (result.0 ≡ 1) × (out.new ≡ out.old) × StillHolds V.holds V.is_clean vault result.1 }
-    ensures told { result.0 ≡ 0 → IfSome (R.remaining script.old) (λ text. (lines : List ScriptLine) → script_of text ≡ Ok lines → (T : Trace) → Keeps (V.holds vault) T → V.is_clean result.1 → HasRun V.holds result.1 (W.contents out.old) (W.contents out.new) (opened_on T host.now boot) lines) }
+    ensures told { result.0 ≡ 0 → IfSome (R.remaining script.old) (λ text. (lines : List ScriptLine) → script_of text ≡ Ok lines → (T : Trace) → Keeps (V.holds vault) T → V.is_clean result.1 → HasRun V.holds result.1 (V.faults vault) (V.faults result.1) (W.contents out.old) (W.contents out.new) (opened_on T host.now boot) lines) }
 {
     let lines = match read_all(alloc, script) {
         Ok(lines) => lines,
@@ -72,7 +73,8 @@ fn play_over<V: Vault, W: Write, E: Write>(
 ) -> u8
     ensures status { result ≤ 1 }
     ensures silent { result ≡ 0 → err.new ≡ err.old }
-    ensures played { result ≡ 0 → (T : Trace) → StandsFor V.holds office.old T → V.is_clean (vault_of office.new) → ComesTo V.holds office.new (W.contents out.old) (W.contents out.new) (HasPlayed T (map line_seen lines.now)) }
+    ensures played { result ≡ 0 → (T : Trace) → StandsFor V.holds office.old T → V.is_clean (vault_of office.new) → ComesTo V.holds office.new (W.contents out.old) (W.contents out.new) (WithCause (V.faults (vault_of office.old)) (V.faults (vault_of office.new)) T (HasPlayed T (map line_seen lines.now))) }
+    ensures counted { V.faults (vault_of office.old) ≤ V.faults (vault_of office.new) }
     ensures clean { V.is_clean (vault_of office.new) → V.is_clean (vault_of office.old) }
 {
     let played = play(alloc, office, lines, out);
@@ -88,7 +90,8 @@ fn play_over<V: Vault, W: Write, E: Write>(
 
 /// Reads a script to its end.
 fn read_all<R: Read>(alloc: Global, script: &mut R) -> Result<Vec<Line>, Fault>
-    ensures { IfOk result (λ lines. IfSome (R.remaining script.old) (λ text. script_of text ≡ Ok (map line_seen lines.items))) }
+    ensures end { IsOk result → IsAtEnd (R.remaining script.new) }
+    ensures lines { IfOk result (λ lines. IfSome (R.remaining script.old) (λ text. script_of text ≡ Ok (map line_seen lines.items))) }
 {
     let mut text = Vec::new(alloc);
     match script.read_to_end(&mut text) {
@@ -115,6 +118,7 @@ pub(crate) fn open_office<V: Vault>(
     ensures opened { IfOk result (λ office. (T : Trace) → Keeps (V.holds vault) T → V.is_clean (vault_of office) → StandsFor V.holds office (opened_on T host.now boot)) }
     ensures host { IsOk result → is_host host.now ≡ true }
     ensures kept { IfErr result (λ e. StillHolds V.holds V.is_clean vault e.1) }
+    ensures counted { IfOk result (λ office. V.faults vault ≤ V.faults (vault_of office)) }
 {
     let Some(limits) = Limits::new(IDLE_SECONDS) else {
         return Err((Fault::BadHost, vault));
@@ -132,7 +136,8 @@ fn play<V: Vault, W: Write>(
     lines: &[Line],
     out: &mut W,
 ) -> Result<(), Fault>
-    ensures played { OnOk result ((T : Trace) → StandsFor V.holds office.old T → V.is_clean (vault_of office.new) → ComesTo V.holds office.new (W.contents out.old) (W.contents out.new) (HasPlayed T (map line_seen lines.now))) }
+    ensures played { OnOk result ((T : Trace) → StandsFor V.holds office.old T → V.is_clean (vault_of office.new) → ComesTo V.holds office.new (W.contents out.old) (W.contents out.new) (WithCause (V.faults (vault_of office.old)) (V.faults (vault_of office.new)) T (HasPlayed T (map line_seen lines.now)))) }
+    ensures counted { V.faults (vault_of office.old) ≤ V.faults (vault_of office.new) }
     ensures clean { V.is_clean (vault_of office.new) → V.is_clean (vault_of office.old) }
 {
     let mut known = Vec::new(alloc);
@@ -150,7 +155,8 @@ fn play_line<V: Vault, W: Write>(
     known: &mut Vec<u64>,
     out: &mut W,
 ) -> Result<(), Fault>
-    ensures played { OnOk result ((T : Trace) → StandsFor V.holds office.old T → V.is_clean (vault_of office.new) → ComesTo V.holds office.new (W.contents out.old) (W.contents out.new) (λ printed U. PlaysLine (point T known.old.items) (line_seen line.now) printed (point U known.new.items))) }
+    ensures played { OnOk result ((T : Trace) → StandsFor V.holds office.old T → V.is_clean (vault_of office.new) → ComesTo V.holds office.new (W.contents out.old) (W.contents out.new) (WithCause (V.faults (vault_of office.old)) (V.faults (vault_of office.new)) T (λ printed U. PlaysLine (point T known.old.items) (line_seen line.now) printed (point U known.new.items)))) }
+    ensures counted { V.faults (vault_of office.old) ≤ V.faults (vault_of office.new) }
     ensures clean { V.is_clean (vault_of office.new) → V.is_clean (vault_of office.old) }
 {
     match act(office, line, out)? {
@@ -201,7 +207,8 @@ fn act<V: Vault, W: Write>(
     line: &Line,
     out: &mut W,
 ) -> Result<Option<Outcome>, Fault>
-    ensures acted { IfOk result (λ told. (T : Trace) → StandsFor V.holds office.old T → V.is_clean (vault_of office.new) → ComesTo V.holds office.new (W.contents out.old) (W.contents out.new) (Acts T (line_seen line.now) (option_map outcome_seen told))) }
+    ensures acted { IfOk result (λ told. (T : Trace) → StandsFor V.holds office.old T → V.is_clean (vault_of office.new) → ComesTo V.holds office.new (W.contents out.old) (W.contents out.new) (WithCause (V.faults (vault_of office.old)) (V.faults (vault_of office.new)) T (Acts T (line_seen line.now) (option_map outcome_seen told)))) }
+    ensures counted { V.faults (vault_of office.old) ≤ V.faults (vault_of office.new) }
     ensures clean { V.is_clean (vault_of office.new) → V.is_clean (vault_of office.old) }
 {
     match line {
@@ -243,7 +250,8 @@ fn take<V: Vault, W: Write>(
     count: usize,
     out: &mut W,
 ) -> Result<Outcome, Fault>
-    ensures taken { IfOk result (λ outcome. (T : Trace) → StandsFor V.holds office.old T → V.is_clean (vault_of office.new) → ComesTo V.holds office.new (W.contents out.old) (W.contents out.new) (Acts T (Does (Took number count)) (Some (outcome_seen outcome)))) }
+    ensures taken { IfOk result (λ outcome. (T : Trace) → StandsFor V.holds office.old T → V.is_clean (vault_of office.new) → ComesTo V.holds office.new (W.contents out.old) (W.contents out.new) (WithCause (V.faults (vault_of office.old)) (V.faults (vault_of office.new)) T (Acts T (Does (Took number count)) (Some (outcome_seen outcome))))) }
+    ensures counted { V.faults (vault_of office.old) ≤ V.faults (vault_of office.new) }
     ensures clean { V.is_clean (vault_of office.new) → V.is_clean (vault_of office.old) }
 {
     tell_taken(out, number, office.owed(number), count)?;
@@ -282,7 +290,8 @@ fn drain<V: Vault, W: Write>(
     number: u64,
     out: &mut W,
 ) -> Result<Outcome, Fault>
-    ensures drained { IfOk result (λ outcome. (T : Trace) → StandsFor V.holds office.old T → V.is_clean (vault_of office.new) → ComesTo V.holds office.new (W.contents out.old) (W.contents out.new) (Acts T (Drains number) (Some (outcome_seen outcome)))) }
+    ensures drained { IfOk result (λ outcome. (T : Trace) → StandsFor V.holds office.old T → V.is_clean (vault_of office.new) → ComesTo V.holds office.new (W.contents out.old) (W.contents out.new) (WithCause (V.faults (vault_of office.old)) (V.faults (vault_of office.new)) T (Acts T (Drains number) (Some (outcome_seen outcome))))) }
+    ensures counted { V.faults (vault_of office.old) ≤ V.faults (vault_of office.new) }
     ensures clean { V.is_clean (vault_of office.new) → V.is_clean (vault_of office.old) }
 {
     if office.owed(number).is_empty() {
@@ -305,7 +314,8 @@ fn take_all<V: Vault, W: Write>(
     number: u64,
     out: &mut W,
 ) -> Result<Outcome, Fault>
-    ensures taken { IfOk result (λ outcome. (T : Trace) → StandsFor V.holds office.old T → V.is_clean (vault_of office.new) → ComesTo V.holds office.new (W.contents out.old) (W.contents out.new) (TakesAll T number (outcome_seen outcome))) }
+    ensures taken { IfOk result (λ outcome. (T : Trace) → StandsFor V.holds office.old T → V.is_clean (vault_of office.new) → ComesTo V.holds office.new (W.contents out.old) (W.contents out.new) (WithCause (V.faults (vault_of office.old)) (V.faults (vault_of office.new)) T (TakesAll T number (outcome_seen outcome)))) }
+    ensures counted { V.faults (vault_of office.old) ≤ V.faults (vault_of office.new) }
     ensures clean { V.is_clean (vault_of office.new) → V.is_clean (vault_of office.old) }
 {
     let mut outcome = Outcome::Done;

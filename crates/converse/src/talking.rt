@@ -3,9 +3,10 @@
 ghost use Rattle.std.specs.Prelude.{◌≡◌, ◌≤◌, ℕ, List, false};
 ghost use Rattle.std.specs.Io.KnownBytes.{Appends, Consumes, IsAtEnd};
 ghost use Rattle.creds.specs.Names.{is_host};
+ghost use Rattle.vault.specs.Calls.{has_grown};
 ghost use Rattle.office.specs.Events.{Trace};
 ghost use Rattle.office.specs.Stands.{Keeps, StandsFor, vault_of};
-ghost use Rattle.converse.specs.Runs.{HasTalked, StillHolds, opened_on};
+ghost use Rattle.converse.specs.Runs.{HasTalked, HasBroken, HasStopped, StillHolds, opened_on};
 
 use crate::conversation;
 use crate::fault::{Fault, tell_fault};
@@ -33,7 +34,8 @@ pub fn talk<V: Vault, R: Read, W: Write, E: Write>(
     ensures silent { result.0 ≡ 0 → err.new ≡ err.old }
     ensures bad_host { is_host host.now ≡ false → (result.0 ≡ 1) × (reader.new ≡ reader.old) × (writer.new ≡ writer.old) × StillHolds V.holds V.is_clean vault result.1 }
     ensures talked { (octets written : List ℕ) × Consumes (R.remaining reader.old) (R.remaining reader.new) octets × Appends (W.contents writer.old) (W.contents writer.new) written
-        × (result.0 ≡ 0 → (T : Trace) → Keeps (V.holds vault) T → V.is_clean result.1 → HasTalked V.holds result.1 (opened_on T host.now boot) octets written (IsAtEnd (R.remaining reader.new))) }
+        × (result.0 ≡ 0 → (T : Trace) → Keeps (V.holds vault) T → V.is_clean result.1 → HasTalked V.holds result.1 (has_grown (V.faults vault) (V.faults result.1)) (opened_on T host.now boot) octets written (IsAtEnd (R.remaining reader.new)))
+        × (result.0 ≡ 1 → (T : Trace) → Keeps (V.holds vault) T → V.is_clean result.1 → HasStopped V.holds result.1 T (opened_on T host.now boot) octets written (IsAtEnd (R.remaining reader.new))) }
 {
     let mut office = match open_office(alloc, vault, host, boot) {
         Ok(office) => office,
@@ -53,7 +55,8 @@ fn talk_over<V: Vault, R: Read, W: Write, E: Write>(
     ensures status { result ≤ 1 }
     ensures silent { result ≡ 0 → err.new ≡ err.old }
     ensures talked { (octets written : List ℕ) × Consumes (R.remaining reader.old) (R.remaining reader.new) octets × Appends (W.contents writer.old) (W.contents writer.new) written
-        × (result ≡ 0 → (T : Trace) → StandsFor V.holds office.old T → V.is_clean (vault_of office.new) → HasTalked V.holds (vault_of office.new) T octets written (IsAtEnd (R.remaining reader.new))) }
+        × (result ≡ 0 → (T : Trace) → StandsFor V.holds office.old T → V.is_clean (vault_of office.new) → HasTalked V.holds (vault_of office.new) (has_grown (V.faults (vault_of office.old)) (V.faults (vault_of office.new))) T octets written (IsAtEnd (R.remaining reader.new)))
+        × (result ≡ 1 → (T : Trace) → StandsFor V.holds office.old T → V.is_clean (vault_of office.new) → HasBroken V.holds (vault_of office.new) T octets written (IsAtEnd (R.remaining reader.new))) }
     ensures clean { V.is_clean (vault_of office.new) → V.is_clean (vault_of office.old) }
 {
     match conversation::talk(office, reader, writer) {

@@ -84,6 +84,7 @@ impl<V: Vault> Office<V> {
         ensures host { MatchResult result (λ _. is_host host.now ≡ true) (λ e. (e.0 ≡ OpenFault.BadHost) ↔ (is_host host.now ≡ false)) }
         ensures kept { IfErr result (λ e. (c : Contents) → V.holds vault c → V.is_clean e.1 → V.holds e.1 c) }
         ensures left { IfOk result (λ office. (c : Contents) → V.holds vault c → V.is_clean (vault_of office) → V.holds (vault_of office) c) }
+        ensures counted { MatchResult result (λ office. V.faults vault ≤ V.faults (vault_of office)) (λ e. V.faults vault ≤ V.faults e.1) }
         ensures cause { IfErr result (λ e. e.0 ≡ OpenFault.Store → (c : Contents) → V.holds vault c → V.is_clean e.1 → has_grown (V.faults vault) (V.faults e.1) ≡ true) }
     {
         if HostName::read(host.as_bytes()).is_none() {

@@ -4,6 +4,3 @@ use Rattle.converse.proofs.fields.next_octet.Goals as goal
 
 pub returns-in-92-clause-is : goal.returns-in-92-clause-is
 returns-in-92-clause-is c = grind (arith, common_steps)
-
-pub returns-in-92-clause-carriage_return : goal.returns-in-92-clause-carriage_return
-returns-in-92-clause-carriage_return c = grind (arith, common_steps)

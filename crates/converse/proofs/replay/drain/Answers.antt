@@ -2,9 +2,10 @@ use Rattle.std.proofs.Common.{◌≡◌, ◌<◌, [], ◌++◌, codes, length, r
 use Rattle.std.specs.Fmt.{decimal}
 use Rattle.std.proofs.KnownBytes.{Appends-nil}
 use Rattle.office.specs.Shown.{outcome_seen}
+use Rattle.office.specs.Stands.{vault_of}
 use Rattle.office.specs.Trace.{rest}
 use Rattle.converse.proofs.Clauses.{found_empty}
-use Rattle.converse.proofs.Playing.{owed_whole, drains_all, some_owed, appends_three}
+use Rattle.converse.proofs.Playing.{caused_none, owed_whole, drains_all, some_owed, appends_three}
 use Rattle.converse.proofs.replay.drain.Goals as goal
 
 pub returns-then-is_empty-clause-drained : goal.returns-then-is_empty-clause-drained
@@ -16,10 +17,13 @@ returns-then-is_empty-clause-drained g c =
       appends = Appends-nil _;
       stands = st;
       is = (
-        [],
-        record { are = tt; last = refl; behind = refl },
-        sym (owed_whole g.V.Vault.holds c.args.office.now T st n lent (c.owed.ensures.lent T st) c.owed.ensures.count) ∙ found_empty c.is_empty.result lent c.if-is_empty.true c.is_empty.ensures,
-        refl,
+        (
+          [],
+          record { are = tt; last = refl; behind = refl },
+          sym (owed_whole g.V.Vault.holds c.args.office.now T st n lent (c.owed.ensures.lent T st) c.owed.ensures.count) ∙ found_empty c.is_empty.result lent c.if-is_empty.true c.is_empty.ensures,
+          refl,
+        ),
+        caused_none (g.V.Vault.faults (vault_of c.args.office.now)) (g.V.Vault.faults (vault_of c.args.office.now)) T,
       );
     }
 
@@ -35,5 +39,5 @@ returns-in-Ok-writeln-clause-drained g c =
       trace = s.trace;
       appends = appends_three _ _ _ _ _ s.printed _ _ c.in-Ok.ensures.bytes s.appends c.in-Ok-writeln.ensures.bytes refl;
       stands = s.stands;
-      is = drains_all T n (outcome_seen c.in_ok-outcome.outcome) s.printed s.trace s.is (subst (λ r. 0 < length r) whole some);
+      is = (drains_all T n (outcome_seen c.in_ok-outcome.outcome) s.printed s.trace s.is.0 (subst (λ r. 0 < length r) whole some), s.is.1);
     })

@@ -1,4 +1,5 @@
-use Rattle.std.proofs.Common.{[], map, subst, take_all}
+use Rattle.std.proofs.Common.{arith, [], map, subst, take_all}
+use Rattle.office.specs.Stands.{vault_of}
 use Rattle.converse.specs.Played.{Plays, point}
 use Rattle.converse.specs.Script.{line_seen}
 use Rattle.converse.proofs.Playing.{played_more}
@@ -9,8 +10,9 @@ loop-line-preserved g c =
     let x = c.play_line in record {
       played = λ T st clean.
           (let s = c.loop-line.invariant.played T st (x.ensures.clean clean) in
-          played_more g.V.Vault.holds c.loop-line.office x.new.office (point T []) c.args.lines.now c.loop-line.line-index c.line-item.result c.loop-line-test.true c.line-item.is _ _ _ _ _ s
+          played_more g.V.Vault.holds c.loop-line.office x.new.office (point T []) c.args.lines.now c.loop-line.line-index c.line-item.result c.loop-line-test.true c.line-item.is (g.V.Vault.faults (vault_of c.args.office.now)) (g.V.Vault.faults (vault_of c.loop-line.office)) (g.V.Vault.faults (vault_of x.new.office)) c.loop-line.invariant.counted x.ensures.counted _ _ _ _ _ s
           (c.in_ok-play_line.ensures.played s.trace s.stands clean));
+      counted = omega (arith, c.loop-line.invariant.counted, x.ensures.counted);
       clean = λ clean. c.loop-line.invariant.clean (x.ensures.clean clean);
     }
 
@@ -24,7 +26,7 @@ returns-clause-played g c = λ T st clean.
       appends = s.appends;
       stands = s.stands;
       is = (
-        known,
-        subst (λ lines. Plays (point T []) (map line_seen lines) s.printed (point s.trace known)) (take_all c.loop-line.line-index c.args.lines.now c.loop-line-test.false) s.is,
+        (known, subst (λ lines. Plays (point T []) (map line_seen lines) s.printed (point s.trace known)) (take_all c.loop-line.line-index c.args.lines.now c.loop-line-test.false) s.is.0),
+        s.is.1,
       );
     })

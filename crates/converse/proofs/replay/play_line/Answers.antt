@@ -1,15 +1,16 @@
 use Rattle.office.specs.Shown.{outcome_seen}
+use Rattle.office.specs.Stands.{vault_of}
 use Rattle.converse.specs.Script.{line_seen}
 use Rattle.converse.proofs.Playing.{by_told, line_none, line_some}
 use Rattle.converse.proofs.replay.play_line.Goals as goal
 
 pub returns-in-None-clause-played : goal.returns-in-None-clause-played
 returns-in-None-clause-played g c = λ T st clean.
-    line_none g.V.Vault.holds c.act.new.office T (line_seen c.args.line.now) _ _ c.args.known.now.items
-    (by_told g.V.Vault.holds c.act.new.office T (line_seen c.args.line.now) _ _ _ _ c.in-None.is (c.in_ok-outcome.ensures.acted T st clean))
+    line_none g.V.Vault.holds c.act.new.office T (g.V.Vault.faults (vault_of c.args.office.now)) (g.V.Vault.faults (vault_of c.act.new.office)) (line_seen c.args.line.now) _ _ c.args.known.now.items
+    (by_told g.V.Vault.holds c.act.new.office T (g.V.Vault.faults (vault_of c.args.office.now)) (g.V.Vault.faults (vault_of c.act.new.office)) (line_seen c.args.line.now) _ _ _ _ c.in-None.is (c.in_ok-outcome.ensures.acted T st clean))
 
 pub returns-in_ok-tell_whole-in-Some-clause-played : goal.returns-in_ok-tell_whole-in-Some-clause-played
 returns-in_ok-tell_whole-in-Some-clause-played g c = λ T st clean.
-    (let h = by_told g.V.Vault.holds c.act.new.office T (line_seen c.args.line.now) _ _ _ _ c.in-Some.is (c.in_ok-outcome.ensures.acted T st clean) in
-    line_some g.V.Vault.holds c.act.new.office T (line_seen c.args.line.now) (outcome_seen c.in-Some.outcome) _ _ _ c.args.known.now.items _ h
+    (let h = by_told g.V.Vault.holds c.act.new.office T (g.V.Vault.faults (vault_of c.args.office.now)) (g.V.Vault.faults (vault_of c.act.new.office)) (line_seen c.args.line.now) _ _ _ _ c.in-Some.is (c.in_ok-outcome.ensures.acted T st clean) in
+    line_some g.V.Vault.holds c.act.new.office T (g.V.Vault.faults (vault_of c.args.office.now)) (g.V.Vault.faults (vault_of c.act.new.office)) (line_seen c.args.line.now) (outcome_seen c.in-Some.outcome) _ _ _ c.args.known.now.items _ h
     (c.in_ok-tell_whole-in-Some.ensures.told h.trace h.stands) (c.in_ok-tell_whole-in-Some.ensures.kept h.trace h.stands))

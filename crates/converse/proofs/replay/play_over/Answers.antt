@@ -1,12 +1,13 @@
 use Rattle.std.proofs.Common.{map, rules}
-use Rattle.converse.specs.Played.{HasPlayed}
+use Rattle.office.specs.Stands.{vault_of}
+use Rattle.converse.specs.Played.{HasPlayed, WithCause}
 use Rattle.converse.specs.Script.{line_seen}
 use Rattle.converse.proofs.Playing.{comes_kept}
 use Rattle.converse.proofs.replay.play_over.Goals as goal
 
 pub returns-in-Ok-clause-played : goal.returns-in-Ok-clause-played
 returns-in-Ok-clause-played g c = λ well T st clean.
-    comes_kept g.V.Vault.holds c.play-played.new.office _ _ _ (HasPlayed T (map line_seen c.args.lines.now)) c.in-Ok.ensures.bytes (c.in_default.ensures.played T st clean)
+    comes_kept g.V.Vault.holds c.play-played.new.office _ _ _ (WithCause (g.V.Vault.faults (vault_of c.args.office.now)) (g.V.Vault.faults (vault_of c.play-played.new.office)) T (HasPlayed T (map line_seen c.args.lines.now))) c.in-Ok.ensures.bytes (c.in_default.ensures.played T st clean)
 
 pub returns-in-Ok-clause-silent : goal.returns-in-Ok-clause-silent
 returns-in-Ok-clause-silent g c = search rules

@@ -1,6 +1,6 @@
-use Rattle.std.proofs.Common.{◌≡◌, List, Ok, ap, map, rules, subst, ◌∙◌}
+use Rattle.std.proofs.Common.{◌≡◌, List, Ok, ap, map, rules, subst, sym, ◌∙◌}
 use Rattle.office.specs.Events.{Trace}
-use Rattle.office.specs.Stands.{Keeps}
+use Rattle.office.specs.Stands.{Keeps, vault_of}
 use Rattle.converse.specs.Played.{HasRun}
 use Rattle.converse.specs.Runs.{opened_on}
 use Rattle.converse.specs.Script.{ScriptLine, line_seen, script_of}
@@ -17,11 +17,14 @@ returns-clause-told g c =
     let after = g.W.Write.contents x.new.out in λ well.
     of_known (g.R.Read.remaining c.args.script.now) (λ text. script_of text ≡ Ok (map line_seen c.in-Ok.lines.items))
     (λ text. (lines : List ScriptLine) → script_of text ≡ Ok lines → (T : Trace) → Keeps (g.V.Vault.holds c.args.vault) T → g.V.Vault.is_clean c.into_vault.result
-    → HasRun g.V.Vault.holds c.into_vault.result before after (opened_on T c.args.host.now c.args.boot) lines)
+    → HasRun g.V.Vault.holds c.into_vault.result (g.V.Vault.faults c.args.vault) (g.V.Vault.faults c.into_vault.result) before after (opened_on T c.args.host.now c.args.boot) lines)
     (λ text said lines read T keeps clean.
     (let clean2 = subst g.V.Vault.is_clean c.into_vault.ensures clean in
     let opened = opened_on T c.args.host.now c.args.boot in
-    has_run g.V.Vault.holds x.new.office c.into_vault.result opened before after (map line_seen c.as_slice.result.now) lines c.into_vault.ensures
+    let first = g.V.Vault.faults c.args.vault in
+    let now = g.V.Vault.faults (vault_of x.new.office) in
+    subst (λ n. HasRun g.V.Vault.holds c.into_vault.result first n before after opened lines) (sym (ap g.V.Vault.faults c.into_vault.ensures))
+    (has_run g.V.Vault.holds x.new.office c.into_vault.result opened first (g.V.Vault.faults (vault_of c.in-Ok-open_office.office)) now c.in-Ok-open_office.ensures.counted before after (map line_seen c.as_slice.result.now) lines c.into_vault.ensures
     (ap (map line_seen) c.as_slice.ensures.value ∙ same_lines (script_of text) (map line_seen c.in-Ok.lines.items) lines said read)
-    (x.ensures.played well opened (c.in-Ok-open_office.ensures.opened T keeps (x.ensures.clean clean2)) clean2)))
-    c.in-Ok.ensures
+    (x.ensures.played well opened (c.in-Ok-open_office.ensures.opened T keeps (x.ensures.clean clean2)) clean2))))
+    c.in-Ok.ensures.lines

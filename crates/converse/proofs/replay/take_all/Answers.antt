@@ -1,16 +1,18 @@
-use Rattle.std.proofs.Common.{◌≡◌, ◌++◌, [], length, sym, ◌∙◌}
+use Rattle.std.proofs.Common.{arith, ◌≡◌, ◌++◌, [], length, sym, ◌∙◌}
 use Rattle.std.proofs.KnownBytes.{Appends-nil, Appends-trans}
 use Rattle.office.specs.Events.{Took}
 use Rattle.office.specs.Shown.{outcome_seen, followed_by}
+use Rattle.office.specs.Stands.{vault_of}
 use Rattle.office.specs.Trace.{rest}
 use Rattle.converse.specs.Escapes.{escaped}
 use Rattle.converse.proofs.Clauses.{found_empty}
-use Rattle.converse.proofs.Playing.{by_owed, owed_whole, takes_none, takes_lent, some_owed}
+use Rattle.converse.proofs.Playing.{by_owed, caused_none, caused_one, caused_more, owed_whole, takes_none, takes_lent, some_owed}
 use Rattle.converse.proofs.replay.take_all.Goals as goal
 
 pub loop-init : goal.loop-init
 loop-init g c = record {
-  taken = λ T st clean. record { printed = []; trace = T; appends = Appends-nil _; stands = st; is = takes_none T c.args.number };
+  taken = λ T st clean. record { printed = []; trace = T; appends = Appends-nil _; stands = st; is = (takes_none T c.args.number, caused_none (g.V.Vault.faults (vault_of c.args.office.now)) (g.V.Vault.faults (vault_of c.args.office.now)) T) };
+  counted = omega (arith);
   clean = λ clean. clean;
 }
 
@@ -28,10 +30,15 @@ loop-preserved g c =
             trace = followed_by s.trace e x.result;
             appends = Appends-trans _ _ _ s.printed (escaped lent) s.appends c.in-Ok.ensures;
             stands = x.ensures.stands s.trace s.stands clean;
-            is = takes_lent T n (outcome_seen c.loop.outcome) (outcome_seen x.result) s.printed s.trace lent whole s.is
-                (some_owed c.is_empty.result lent c.if-is_empty.false c.is_empty.ensures)
-                (by_owed g.V.Vault.holds c.loop.office s.trace s.stands e (outcome_seen x.result) (x.ensures.outcome s.trace s.stands clean));
+            is = (
+              takes_lent T n (outcome_seen c.loop.outcome) (outcome_seen x.result) s.printed s.trace lent whole s.is.0
+                  (some_owed c.is_empty.result lent c.if-is_empty.false c.is_empty.ensures)
+                  (by_owed g.V.Vault.holds c.loop.office s.trace s.stands e (outcome_seen x.result) (x.ensures.outcome s.trace s.stands clean)),
+              caused_more (g.V.Vault.faults (vault_of c.args.office.now)) (g.V.Vault.faults (vault_of c.loop.office)) (g.V.Vault.faults (vault_of x.new.self)) T s.trace (followed_by s.trace e x.result) c.loop.invariant.counted x.ensures.counted s.is.1
+                  (caused_one (g.V.Vault.faults (vault_of c.loop.office)) (g.V.Vault.faults (vault_of x.new.self)) s.trace e (outcome_seen x.result) (x.ensures.cause s.trace s.stands clean)),
+            );
           });
+      counted = omega (arith, c.loop.invariant.counted, x.ensures.counted);
       clean = λ clean. c.loop.invariant.clean (x.ensures.clean clean);
     }
 
@@ -46,5 +53,5 @@ returns-then-is_empty-clause-taken g c =
       trace = s.trace;
       appends = s.appends;
       stands = s.stands;
-      is = (s.is.0, s.is.1, sym whole ∙ found_empty c.is_empty.result lent c.if-is_empty.true c.is_empty.ensures, s.is.2);
+      is = ((s.is.0.0, s.is.0.1, sym whole ∙ found_empty c.is_empty.result lent c.if-is_empty.true c.is_empty.ensures, s.is.0.2), s.is.1);
     })
