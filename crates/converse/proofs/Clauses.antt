@@ -205,7 +205,7 @@ module _ {V : Type 0} (Holds : V → Contents → Type 0) (faults : V → ℕ) (
     pub appends : Appends held holds more
     pub enough : turns ≤ length more
     pub stands : (before : ℕ) (T : Trace) (octets written : List ℕ) → before ≤ faults (vault_of old) → IsClean (vault_of new)
-        → StandsSo Holds old T c (Midway before (faults (vault_of old)) T.base c (acts T) octets written) → StandsSo Holds new T c (Midway before (faults (vault_of new)) T.base c (acts T) octets (written ++ more))
+        → StandsSo Holds faults before old T c (Midway before (faults (vault_of old)) T.base c (acts T) octets written) → StandsSo Holds faults before new T c (Midway before (faults (vault_of new)) T.base c (acts T) octets (written ++ more))
     pub counted : faults (vault_of old) ≤ faults (vault_of new)
     pub clean : IsClean (vault_of new) → IsClean (vault_of old)
 
@@ -217,35 +217,35 @@ module _ {V : Type 0} (Holds : V → Contents → Type 0) (faults : V → ℕ) (
     pub appends : Appends held holds written
     pub enough : turns ≤ length octets
     pub stands : (before : ℕ) (T : Trace) → before ≤ faults (vault_of old) → IsClean (vault_of new)
-        → StandsSo Holds old T c (GoesOn T.base c (acts T) [] []) → StandsSo Holds new T c (GoesOn T.base c (acts T) octets written)
+        → StandsSo Holds faults before old T c (GoesOn T.base c (acts T) [] []) → StandsSo Holds faults before new T c (GoesOn T.base c (acts T) octets written)
     pub counted : faults (vault_of old) ≤ faults (vault_of new)
     pub clean : IsClean (vault_of new) → IsClean (vault_of old)
 
-  pub so_by : (o : Office V) (T : Trace) (c : ℕ) (P Q : Log → Type 0) → ((L : Log) → P L → Q L) → StandsSo Holds o T c P → StandsSo Holds o T c Q
-  so_by o T c P Q f w = record { log = w.log; stands = w.stands; own = w.own; so = f w.log w.so }
+  pub so_by : {before : ℕ} (o : Office V) (T : Trace) (c : ℕ) (P Q : Log → Type 0) → ((L : Log) → P L → Q L) → StandsSo Holds faults before o T c P → StandsSo Holds faults before o T c Q
+  so_by o T c P Q f w = record { log = w.log; stands = w.stands; own = w.own; caused = w.caused; so = f w.log w.so }
 
   -- what comes of writing more, where so much was written
   pub wrote_then : (old mid new : Office V) (c : ℕ) (held holds : Option (List ℕ)) (turns : ℕ) (s : WroteSoFar old mid c held holds turns) (more : List ℕ)
       (P : (before : ℕ) → Trace → (octets written : List ℕ) → Log → Type 0) → (IsClean (vault_of new) → IsClean (vault_of mid))
       → ((before : ℕ) (T : Trace) (octets written : List ℕ) → before ≤ faults (vault_of mid) → IsClean (vault_of new)
-      → StandsSo Holds mid T c (Midway before (faults (vault_of mid)) T.base c (acts T) octets written) → StandsSo Holds new T c (P before T octets (written ++ more)))
+      → StandsSo Holds faults before mid T c (Midway before (faults (vault_of mid)) T.base c (acts T) octets written) → StandsSo Holds faults before new T c (P before T octets (written ++ more)))
       → (before : ℕ) (T : Trace) (octets written : List ℕ) → before ≤ faults (vault_of old) → IsClean (vault_of new)
-      → StandsSo Holds old T c (Midway before (faults (vault_of old)) T.base c (acts T) octets written) → StandsSo Holds new T c (P before T octets (written ++ (s.more ++ more)))
+      → StandsSo Holds faults before old T c (Midway before (faults (vault_of old)) T.base c (acts T) octets written) → StandsSo Holds faults before new T c (P before T octets (written ++ (s.more ++ more)))
   wrote_then old mid new c held holds turns s more P back next before T octets written first clean w =
       let up = s.counted in
-      subst (λ (o : List ℕ). StandsSo Holds new T c (P before T octets o)) (append_assoc written s.more more)
+      subst (λ (o : List ℕ). StandsSo Holds faults before new T c (P before T octets o)) (append_assoc written s.more more)
       (next before T octets (written ++ s.more) (omega (arith, first, up)) clean (s.stands before T octets written first (back clean) w))
 
-  pub so_with : (o : Office V) (T : Trace) (c : ℕ) (P Q : Log → Type 0) → ((L : Log) → StandsFor Holds o (trace_of T.base L) → P L → Q L) → StandsSo Holds o T c P → StandsSo Holds o T c Q
-  so_with o T c P Q f w = record { log = w.log; stands = w.stands; own = w.own; so = f w.log w.stands w.so }
+  pub so_with : {before : ℕ} (o : Office V) (T : Trace) (c : ℕ) (P Q : Log → Type 0) → ((L : Log) → StandsFor Holds o (trace_of T.base L) → P L → Q L) → StandsSo Holds faults before o T c P → StandsSo Holds faults before o T c Q
+  so_with o T c P Q f w = record { log = w.log; stands = w.stands; own = w.own; caused = w.caused; so = f w.log w.stands w.so }
 
   -- what comes of writing, where so much was read and written
   pub talked_then : (old mid new : Office V) (c : ℕ) (was_left left held holds : Option (List ℕ)) (turns : ℕ) (s : TalkedSoFar old mid c was_left left held holds turns) (more : List ℕ)
       (P : (before : ℕ) → Trace → (octets written : List ℕ) → Log → Type 0) → (IsClean (vault_of new) → IsClean (vault_of mid))
       → ((before : ℕ) (T : Trace) (octets written : List ℕ) → before ≤ faults (vault_of mid) → IsClean (vault_of new)
-      → StandsSo Holds mid T c (Midway before (faults (vault_of mid)) T.base c (acts T) octets written) → StandsSo Holds new T c (P before T octets (written ++ more)))
+      → StandsSo Holds faults before mid T c (Midway before (faults (vault_of mid)) T.base c (acts T) octets written) → StandsSo Holds faults before new T c (P before T octets (written ++ more)))
       → (before : ℕ) (T : Trace) → before ≤ faults (vault_of old) → IsClean (vault_of new)
-      → StandsSo Holds old T c (GoesOn T.base c (acts T) [] []) → StandsSo Holds new T c (P before T s.octets (s.written ++ more))
+      → StandsSo Holds faults before old T c (GoesOn T.base c (acts T) [] []) → StandsSo Holds faults before new T c (P before T s.octets (s.written ++ more))
   talked_then old mid new c was_left left held holds turns s more P back next before T first clean w =
       let up = s.counted in
       next before T s.octets s.written (omega (arith, first, up)) clean
@@ -256,14 +256,14 @@ module _ {V : Type 0} (Holds : V → Contents → Type 0) (faults : V → ℕ) (
 
   abbrev Pays : Office V → Office V → ℕ → List ℕ → Type 0
   Pays mid new c more = (before : ℕ) (T : Trace) (octets written : List ℕ) → before ≤ faults (vault_of mid) → IsClean (vault_of new)
-      → StandsSo Holds mid T c (Midway before (faults (vault_of mid)) T.base c (acts T) octets written)
-      → StandsSo Holds new T c (λ L. IsPaid before (faults (vault_of new)) T.base c (acts T) octets (written ++ more) L)
+      → StandsSo Holds faults before mid T c (Midway before (faults (vault_of mid)) T.base c (acts T) octets written)
+      → StandsSo Holds faults before new T c (λ L. IsPaid before (faults (vault_of new)) T.base c (acts T) octets (written ++ more) L)
 
   -- nothing is owed, and it is open: it waits
   pub talked_waits : (old mid new : Office V) (c : ℕ) (was_left left held holds : Option (List ℕ)) (turns : ℕ) (s : TalkedSoFar old mid c was_left left held holds turns) (more : List ℕ)
       → (IsClean (vault_of new) → IsClean (vault_of mid)) → Pays mid new c more → (ended : Bool) → IsTold new c ended → ended ≡ false
       → (before : ℕ) (T : Trace) → before ≤ faults (vault_of old) → IsClean (vault_of new)
-      → StandsSo Holds old T c (GoesOn T.base c (acts T) [] []) → StandsSo Holds new T c (Waits T.base c (acts T) s.octets (s.written ++ more))
+      → StandsSo Holds faults before old T c (GoesOn T.base c (acts T) [] []) → StandsSo Holds faults before new T c (Waits T.base c (acts T) s.octets (s.written ++ more))
   talked_waits old mid new c was_left left held holds turns s more back next ended told off before T first clean w =
       so_with new T c (IsPaid before (faults (vault_of new)) T.base c (acts T) s.octets (s.written ++ more)) (Waits T.base c (acts T) s.octets (s.written ++ more))
       (λ L st p. waits_now before (faults (vault_of new)) T.base c (acts T) s.octets (s.written ++ more) L p (open_by ended (is_open (trace_of T.base L) c) (told (trace_of T.base L) st) off))
@@ -273,7 +273,7 @@ module _ {V : Type 0} (Holds : V → Contents → Type 0) (faults : V → ℕ) (
   pub talked_over : (old mid new : Office V) (c : ℕ) (was_left left held holds : Option (List ℕ)) (turns : ℕ) (s : TalkedSoFar old mid c was_left left held holds turns) (more : List ℕ)
       → (IsClean (vault_of new) → IsClean (vault_of mid)) → Pays mid new c more → (ended : Bool) → IsTold new c ended → ended ≡ true
       → (before : ℕ) (T : Trace) → before ≤ faults (vault_of old) → IsClean (vault_of new)
-      → StandsSo Holds old T c (GoesOn T.base c (acts T) [] []) → StandsSo Holds new T c (IsOver before (faults (vault_of new)) T.base c (acts T) s.octets (s.written ++ more))
+      → StandsSo Holds faults before old T c (GoesOn T.base c (acts T) [] []) → StandsSo Holds faults before new T c (IsOver before (faults (vault_of new)) T.base c (acts T) s.octets (s.written ++ more))
   talked_over old mid new c was_left left held holds turns s more back next ended told off before T first clean w =
       so_with new T c (IsPaid before (faults (vault_of new)) T.base c (acts T) s.octets (s.written ++ more)) (IsOver before (faults (vault_of new)) T.base c (acts T) s.octets (s.written ++ more))
       (λ L st p. record { midway = p.midway; shut = shut_by ended (is_open (trace_of T.base L) c) (told (trace_of T.base L) st) off })

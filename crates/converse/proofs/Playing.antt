@@ -7,7 +7,7 @@ use Rattle.std.specs.Fmt.{decimal}
 use Rattle.std.specs.Prelude.{codes}
 use Rattle.std.specs.Io.KnownBytes.{Appends, Keeps}
 use Rattle.vault.specs.Changes.{Contents}
-use Rattle.office.specs.Events.{Event, Trace, given}
+use Rattle.office.specs.Events.{Event, Log, Trace, given}
 use Rattle.office.specs.Events as event
 use Rattle.office.specs.Expected.{IsOutcome, ignored, or_ignored, shown_at, reason_if}
 use Rattle.office.specs.Kept.{Kept}
@@ -22,6 +22,7 @@ use Rattle.office.specs.declared.office.Office.{Office}
 use Rattle.converse.specs.Script.{ScriptLine, Does, Drains, line_seen}
 use Rattle.converse.specs.declared.script.Line.{Line}
 use Rattle.converse.specs.Escapes.{escape, escaped}
+use Rattle.converse.specs.Talked.{trace_of}
 use Rattle.converse.specs.Played.{owed_by, sent_before, TakesAll, Acts, ComesTo, WithCause, Caused, failures, told_text, still_known, drained, drained_octets, AreTakings, Takes, Point, point, PlaysLine, Plays, HasPlayed, HasRun}
 use Rattle.vault.specs.Calls.{has_grown}
 use Rattle.office.specs.Outcomes.{HasCause}
@@ -143,6 +144,12 @@ caused_at a b c T M U h k p q lt false e = grown_since a b c h (q (let n = ltb-f
 -- of events one after the other
 pub caused_more : (a b c : ℕ) (T M U : Trace) → a ≤ b → b ≤ c → Caused a b T M → Caused b c M U → Caused a c T U
 caused_more a b c T M U h k p q lt = caused_at a b c T M U h k p q lt (nat_lt (failures T.log) (failures M.log)) refl
+
+-- one event more
+pub caused_next : (first was now : ℕ) (T : Trace) (L : Log) (e : Event) (o : Outcome) → first ≤ was → was ≤ now → Caused first was T (trace_of T.base L) → HasCause was now o
+    → Caused first now T (trace_of T.base ((e, mark_of o) ∷ L))
+caused_next first was now T L e o a b k h =
+    caused_more first was now T (trace_of T.base L) (trace_of T.base ((e, mark_of o) ∷ L)) a b k (caused_one was now (trace_of T.base L) e o h)
 
 -- ---- what comes of a line
 

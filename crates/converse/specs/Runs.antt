@@ -1,5 +1,5 @@
 -- What the runs of a script and of a conversation leave in the store that they were given.
-use Rattle.std.specs.Prelude.{◌≡◌, ℕ, Bool, true, List, [], ◌⊎◌, Err}
+use Rattle.std.specs.Prelude.{◌≡◌, ◌<◌, ℕ, Bool, true, List, [], ◌⊎◌, Err}
 use Rattle.vault.specs.Changes.{Contents}
 use Rattle.office.specs.Events.{Trace, Log, Tagged, given}
 use Rattle.office.specs.Events as event
@@ -7,6 +7,7 @@ use Rattle.office.specs.History.{Done}
 use Rattle.office.specs.Log.{next_number}
 use Rattle.office.specs.Stands.{Keeps}
 use Rattle.office.specs.Trace.{acts}
+use Rattle.converse.specs.Played.{failures}
 use Rattle.converse.specs.Talk.{Talks, TalksInPart}
 use Rattle.converse.specs.Talked.{trace_of, Extends, Leaves, ComesOut}
 use Rattle.converse.specs.declared.conversation.TalkFault.{TalkFault}
@@ -24,25 +25,28 @@ abbrev pub opened_on : Trace → (host : List ℕ) (boot : ℕ) → Trace
 opened_on T host boot = given T (event.Start host boot idle_seconds) (Tagged Done)
 
 -- A conversation came out well over an office that stood for T: the store keeps what a trace says that goes on from T by it alone. All was
--- heard and answered, or a later part of a message couldn't be read, since the store refused a call: `grown` says that it counted a refusal.
+-- heard and answered, or a later part of a message couldn't be read, since the store refused a call; and an event failed for that alone:
+-- `grown` says that it counted a refusal.
 pub record HasTalked {V : Type 0} (Holds : V → Contents → Type 0) (new : V) (grown : Bool) (T : Trace) (octets written : List ℕ) (AtEnd : Type 0) : Type 0 where
   pub log : Log
   pub keeps : Keeps (Holds new) (trace_of T.base log)
   pub own : Extends (next_number T.log) T.log log
+  pub caused : failures T.log < failures log → grown ≡ true
   pub came_out : Leaves T.base (next_number T.log) log (λ history.
       Talks T.base (next_number T.log) octets written AtEnd (acts T) history ⊎ (TalksInPart T.base (next_number T.log) octets written (acts T) history × (grown ≡ true)))
 
 -- A fault broke a conversation off over an office that stood for T: the store keeps what a trace says that goes on from T by it alone, and
--- of which that holds which holds at this fault.
-pub record HasBroken {V : Type 0} (Holds : V → Contents → Type 0) (new : V) (T : Trace) (octets written : List ℕ) (AtEnd : Type 0) : Type 0 where
+-- of which that holds which holds at this fault; an event failed only where the store counted a refusal.
+pub record HasBroken {V : Type 0} (Holds : V → Contents → Type 0) (new : V) (grown : Bool) (T : Trace) (octets written : List ℕ) (AtEnd : Type 0) : Type 0 where
   pub fault : TalkFault
   pub log : Log
   pub keeps : Keeps (Holds new) (trace_of T.base log)
   pub own : Extends (next_number T.log) T.log log
+  pub caused : failures T.log < failures log → grown ≡ true
   pub came_out : ComesOut AtEnd true T (next_number T.log) octets written (Err fault) log
 
 -- No office was opened over a store that kept what T says, nothing was read or written, and it keeps that; or one was opened, and the
 -- conversation in it was broken off.
-abbrev pub HasStopped : {V : Type 0} (Holds : V → Contents → Type 0) (new : V) (T opened : Trace) (octets written : List ℕ) (AtEnd : Type 0) → Type 0
-HasStopped Holds new T opened octets written AtEnd =
-    (Keeps (Holds new) T × (octets ≡ []) × (written ≡ [])) ⊎ HasBroken Holds new opened octets written AtEnd
+abbrev pub HasStopped : {V : Type 0} (Holds : V → Contents → Type 0) (new : V) (grown : Bool) (T opened : Trace) (octets written : List ℕ) (AtEnd : Type 0) → Type 0
+HasStopped Holds new grown T opened octets written AtEnd =
+    (Keeps (Holds new) T × (octets ≡ []) × (written ≡ [])) ⊎ HasBroken Holds new grown opened octets written AtEnd

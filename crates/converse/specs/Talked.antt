@@ -8,10 +8,11 @@ use Rattle.office.specs.Events.{Event, Mark, Tagged, Log, Trace}
 use Rattle.office.specs.Events as event
 use Rattle.office.specs.Trace.{acts, is_open}
 use Rattle.office.specs.Expected.{is_full}
-use Rattle.office.specs.Stands.{StandsFor}
+use Rattle.office.specs.Stands.{StandsFor, vault_of}
 use Rattle.office.specs.declared.office.Office.{Office}
 use Rattle.converse.specs.declared.conversation.TalkFault.{TalkFault}
 use Rattle.converse.specs.declared.conversation.TalkFault.TheVariants as fault
+use Rattle.converse.specs.Played.{Caused}
 use Rattle.converse.specs.Talk.{NeverBegins, Talks, TalksInPart, BreaksOff, BreaksOffReading}
 
 -- the trace of these records and this log
@@ -32,11 +33,13 @@ pub record Extends (c : ℕ) (older L : Log) : Type 0 where
   pub each : list_all (is_own c) own ≡ true
   pub is : L ≡ own ++ (event.Connect, opening) ∷ older
 
--- an office stands for a trace that goes on from T by one opening and the events of connection c, and of its log this holds
-pub record StandsSo {V : Type 0} (Holds : V → Contents → Type 0) (o : Office V) (T : Trace) (c : ℕ) (P : Log → Type 0) : Type 0 where
+-- An office stands for a trace that goes on from T by one opening and the events of connection c, and of its log this holds. What failed in it
+-- had its cause: the store's count of faults grew since it was `before`.
+pub record StandsSo {V : Type 0} (Holds : V → Contents → Type 0) (faults : V → ℕ) (before : ℕ) (o : Office V) (T : Trace) (c : ℕ) (P : Log → Type 0) : Type 0 where
   pub log : Log
   pub stands : StandsFor Holds o (trace_of T.base log)
   pub own : Extends c T.log log
+  pub caused : Caused before (faults (vault_of o)) T (trace_of T.base log)
   pub so : P log
 
 -- so many octets were read, or so many written

@@ -55,7 +55,7 @@ fn had_memory(outcome: Outcome) -> Result<(), TalkFault>
 
 /// Opens a connection.
 fn connect<V: Vault>(office: &mut Office<V>) -> Result<u64, TalkFault>
-    ensures began { (T : Trace) → StandsFor V.holds office.old T → V.is_clean (vault_of office.new) → StandsSo V.holds office.new T (next_number T.log) (λ L. MatchResult result (λ c. (c ≡ next_number T.log) × GoesOn T.base (next_number T.log) (acts T) [] [] L) (λ e. Refuses T e L)) }
+    ensures began { (T : Trace) → StandsFor V.holds office.old T → V.is_clean (vault_of office.new) → StandsSo V.holds V.faults (V.faults (vault_of office.old)) office.new T (next_number T.log) (λ L. MatchResult result (λ c. (c ≡ next_number T.log) × GoesOn T.base (next_number T.log) (acts T) [] [] L) (λ e. Refuses T e L)) }
     ensures counted { V.faults (vault_of office.old) ≤ V.faults (vault_of office.new) }
     ensures clean { V.is_clean (vault_of office.new) → V.is_clean (vault_of office.old) }
 {
@@ -65,7 +65,7 @@ fn connect<V: Vault>(office: &mut Office<V>) -> Result<u64, TalkFault>
 /// Gives a piece to an office that waits for it.
 fn hear<V: Vault>(office: &mut Office<V>, c: u64, piece: &[u8]) -> Result<(), TalkFault>
     requires { length piece.now ≤ most_in_a_piece }
-    ensures heard { (T : Trace) (octets written : List ℕ) → V.is_clean (vault_of office.new) → StandsSo V.holds office.old T c (Waits T.base c (acts T) octets written) → StandsSo V.holds office.new T c (λ L. MatchResult result (λ _. GoesOn T.base c (acts T) (octets ++ piece.now) written L) (λ e. IsCut e T.base c (acts T) (octets ++ piece.now) written L)) }
+    ensures heard { (before : ℕ) (T : Trace) (octets written : List ℕ) → before ≤ V.faults (vault_of office.old) → V.is_clean (vault_of office.new) → StandsSo V.holds V.faults before office.old T c (Waits T.base c (acts T) octets written) → StandsSo V.holds V.faults before office.new T c (λ L. MatchResult result (λ _. GoesOn T.base c (acts T) (octets ++ piece.now) written L) (λ e. IsCut e T.base c (acts T) (octets ++ piece.now) written L)) }
     ensures counted { V.faults (vault_of office.old) ≤ V.faults (vault_of office.new) }
     ensures clean { V.is_clean (vault_of office.new) → V.is_clean (vault_of office.old) }
 {
@@ -79,7 +79,7 @@ fn listen<V: Vault, R: Read>(
     reader: &mut R,
 ) -> Result<bool, TalkFault>
     ensures read { (piece : List ℕ) × Consumes (R.remaining reader.old) (R.remaining reader.new) piece × (result ≡ Ok true → 0 < length piece) × (result ≡ Ok false → IsAtEnd (R.remaining reader.new))
-        × ((T : Trace) (octets written : List ℕ) → V.is_clean (vault_of office.new) → StandsSo V.holds office.old T c (Waits T.base c (acts T) octets written) → StandsSo V.holds office.new T c (λ L. MatchResult result (λ more. cond more (GoesOn T.base c (acts T) (octets ++ piece) written L) (Waits T.base c (acts T) (octets ++ piece) written L)) (λ e. IsCut e T.base c (acts T) (octets ++ piece) written L))) }
+        × ((before : ℕ) (T : Trace) (octets written : List ℕ) → before ≤ V.faults (vault_of office.old) → V.is_clean (vault_of office.new) → StandsSo V.holds V.faults before office.old T c (Waits T.base c (acts T) octets written) → StandsSo V.holds V.faults before office.new T c (λ L. MatchResult result (λ more. cond more (GoesOn T.base c (acts T) (octets ++ piece) written L) (Waits T.base c (acts T) (octets ++ piece) written L)) (λ e. IsCut e T.base c (acts T) (octets ++ piece) written L))) }
     ensures counted { V.faults (vault_of office.old) ≤ V.faults (vault_of office.new) }
     ensures clean { V.is_clean (vault_of office.new) → V.is_clean (vault_of office.old) }
 {
@@ -102,8 +102,8 @@ fn write_some<V: Vault, W: Write>(
 ) -> Result<bool, TalkFault>
     ensures wrote { (more : List ℕ) × Appends (W.contents writer.old) (W.contents writer.new) more × (result ≡ Ok true → 0 < length more)
         × ((before : ℕ) (T : Trace) (octets written : List ℕ) → before ≤ V.faults (vault_of office.old) → V.is_clean (vault_of office.new)
-        → StandsSo V.holds office.old T c (Midway before (V.faults (vault_of office.old)) T.base c (acts T) octets written)
-        → StandsSo V.holds office.new T c (λ L. MatchResult result (λ some. cond some (Midway before (V.faults (vault_of office.new)) T.base c (acts T) octets (written ++ more) L) (IsPaid before (V.faults (vault_of office.new)) T.base c (acts T) octets (written ++ more) L)) (λ e. IsCut e T.base c (acts T) octets (written ++ more) L))) }
+        → StandsSo V.holds V.faults before office.old T c (Midway before (V.faults (vault_of office.old)) T.base c (acts T) octets written)
+        → StandsSo V.holds V.faults before office.new T c (λ L. MatchResult result (λ some. cond some (Midway before (V.faults (vault_of office.new)) T.base c (acts T) octets (written ++ more) L) (IsPaid before (V.faults (vault_of office.new)) T.base c (acts T) octets (written ++ more) L)) (λ e. IsCut e T.base c (acts T) octets (written ++ more) L))) }
     ensures counted { V.faults (vault_of office.old) ≤ V.faults (vault_of office.new) }
     ensures clean { V.is_clean (vault_of office.new) → V.is_clean (vault_of office.old) }
 {
@@ -129,8 +129,8 @@ fn write_owed<V: Vault, W: Write>(
 ) -> Result<(), TalkFault>
     ensures wrote { (more : List ℕ) × Appends (W.contents writer.old) (W.contents writer.new) more
         × ((before : ℕ) (T : Trace) (octets written : List ℕ) → before ≤ V.faults (vault_of office.old) → V.is_clean (vault_of office.new)
-        → StandsSo V.holds office.old T c (Midway before (V.faults (vault_of office.old)) T.base c (acts T) octets written)
-        → StandsSo V.holds office.new T c (λ L. MatchResult result (λ _. IsPaid before (V.faults (vault_of office.new)) T.base c (acts T) octets (written ++ more) L) (λ e. IsCut e T.base c (acts T) octets (written ++ more) L))) }
+        → StandsSo V.holds V.faults before office.old T c (Midway before (V.faults (vault_of office.old)) T.base c (acts T) octets written)
+        → StandsSo V.holds V.faults before office.new T c (λ L. MatchResult result (λ _. IsPaid before (V.faults (vault_of office.new)) T.base c (acts T) octets (written ++ more) L) (λ e. IsCut e T.base c (acts T) octets (written ++ more) L))) }
     ensures counted { V.faults (vault_of office.old) ≤ V.faults (vault_of office.new) }
     ensures clean { V.is_clean (vault_of office.new) → V.is_clean (vault_of office.old) }
 {
@@ -154,8 +154,8 @@ fn converse<V: Vault, R: Read, W: Write>(
 ) -> Result<(), TalkFault>
     ensures talked { (octets written : List ℕ) × Consumes (R.remaining reader.old) (R.remaining reader.new) octets × Appends (W.contents writer.old) (W.contents writer.new) written
         × ((before : ℕ) (T : Trace) → before ≤ V.faults (vault_of office.old) → V.is_clean (vault_of office.new)
-        → StandsSo V.holds office.old T c (GoesOn T.base c (acts T) [] [])
-        → StandsSo V.holds office.new T c (λ L. MatchResult result (λ _. (Waits T.base c (acts T) octets written L × IsAtEnd (R.remaining reader.new)) ⊎ IsOver before (V.faults (vault_of office.new)) T.base c (acts T) octets written L) (λ e. IsCut e T.base c (acts T) octets written L))) }
+        → StandsSo V.holds V.faults before office.old T c (GoesOn T.base c (acts T) [] [])
+        → StandsSo V.holds V.faults before office.new T c (λ L. MatchResult result (λ _. (Waits T.base c (acts T) octets written L × IsAtEnd (R.remaining reader.new)) ⊎ IsOver before (V.faults (vault_of office.new)) T.base c (acts T) octets written L) (λ e. IsCut e T.base c (acts T) octets written L))) }
     ensures counted { V.faults (vault_of office.old) ≤ V.faults (vault_of office.new) }
     ensures clean { V.is_clean (vault_of office.new) → V.is_clean (vault_of office.old) }
 {
@@ -180,7 +180,7 @@ pub fn talk<V: Vault, R: Read, W: Write>(
 ) -> Result<(), TalkFault>
     ensures talked { (octets written : List ℕ) × Consumes (R.remaining reader.old) (R.remaining reader.new) octets × Appends (W.contents writer.old) (W.contents writer.new) written
         × ((T : Trace) → StandsFor V.holds office.old T → V.is_clean (vault_of office.new)
-        → StandsSo V.holds office.new T (next_number T.log) (ComesOut (IsAtEnd (R.remaining reader.new)) (has_grown (V.faults (vault_of office.old)) (V.faults (vault_of office.new))) T (next_number T.log) octets written result)) }
+        → StandsSo V.holds V.faults (V.faults (vault_of office.old)) office.new T (next_number T.log) (ComesOut (IsAtEnd (R.remaining reader.new)) (has_grown (V.faults (vault_of office.old)) (V.faults (vault_of office.new))) T (next_number T.log) octets written result)) }
     ensures counted { V.faults (vault_of office.old) ≤ V.faults (vault_of office.new) }
     ensures clean { V.is_clean (vault_of office.new) → V.is_clean (vault_of office.old) }
 {

@@ -35,7 +35,7 @@ pub fn talk<V: Vault, R: Read, W: Write, E: Write>(
     ensures bad_host { is_host host.now ≡ false → (result.0 ≡ 1) × (reader.new ≡ reader.old) × (writer.new ≡ writer.old) × StillHolds V.holds V.is_clean vault result.1 }
     ensures talked { (octets written : List ℕ) × Consumes (R.remaining reader.old) (R.remaining reader.new) octets × Appends (W.contents writer.old) (W.contents writer.new) written
         × (result.0 ≡ 0 → (T : Trace) → Keeps (V.holds vault) T → V.is_clean result.1 → HasTalked V.holds result.1 (has_grown (V.faults vault) (V.faults result.1)) (opened_on T host.now boot) octets written (IsAtEnd (R.remaining reader.new)))
-        × (result.0 ≡ 1 → (T : Trace) → Keeps (V.holds vault) T → V.is_clean result.1 → HasStopped V.holds result.1 T (opened_on T host.now boot) octets written (IsAtEnd (R.remaining reader.new))) }
+        × (result.0 ≡ 1 → (T : Trace) → Keeps (V.holds vault) T → V.is_clean result.1 → HasStopped V.holds result.1 (has_grown (V.faults vault) (V.faults result.1)) T (opened_on T host.now boot) octets written (IsAtEnd (R.remaining reader.new))) }
 {
     let mut office = match open_office(alloc, vault, host, boot) {
         Ok(office) => office,
@@ -56,7 +56,7 @@ fn talk_over<V: Vault, R: Read, W: Write, E: Write>(
     ensures silent { result ≡ 0 → err.new ≡ err.old }
     ensures talked { (octets written : List ℕ) × Consumes (R.remaining reader.old) (R.remaining reader.new) octets × Appends (W.contents writer.old) (W.contents writer.new) written
         × (result ≡ 0 → (T : Trace) → StandsFor V.holds office.old T → V.is_clean (vault_of office.new) → HasTalked V.holds (vault_of office.new) (has_grown (V.faults (vault_of office.old)) (V.faults (vault_of office.new))) T octets written (IsAtEnd (R.remaining reader.new)))
-        × (result ≡ 1 → (T : Trace) → StandsFor V.holds office.old T → V.is_clean (vault_of office.new) → HasBroken V.holds (vault_of office.new) T octets written (IsAtEnd (R.remaining reader.new))) }
+        × (result ≡ 1 → (T : Trace) → StandsFor V.holds office.old T → V.is_clean (vault_of office.new) → HasBroken V.holds (vault_of office.new) (has_grown (V.faults (vault_of office.old)) (V.faults (vault_of office.new))) T octets written (IsAtEnd (R.remaining reader.new))) }
     ensures clean { V.is_clean (vault_of office.new) → V.is_clean (vault_of office.old) }
 {
     match conversation::talk(office, reader, writer) {

@@ -52,6 +52,8 @@ returns-in_err-listen-clause-talked g c =
     let s = c.loop.invariant in
     let d = c.in_ok-write_owed.ensures.wrote in
     let q = c.in_err-listen.ensures.read in
+    let up = s.counted in
+    let up2 = c.in_ok-write_owed.ensures.counted in
     let now = g.V.Vault.faults (vault_of c.listen.new.office) in (
       s.octets ++ q.0,
       s.written ++ d.0,
@@ -61,7 +63,7 @@ returns-in_err-listen-clause-talked g c =
           (λ L. IsCut f T.base c.args.c (acts T) (s.octets ++ q.0) (s.written ++ d.0) L)
           (λ L. MatchResult c.from_residual-in_err-listen.result (λ _. (Waits T.base c.args.c (acts T) (s.octets ++ q.0) (s.written ++ d.0) L × IsAtEnd (g.R.Read.remaining c.listen.new.reader)) ⊎ IsOver before now T.base c.args.c (acts T) (s.octets ++ q.0) (s.written ++ d.0) L) (λ x. IsCut x T.base c.args.c (acts T) (s.octets ++ q.0) (s.written ++ d.0) L))
           (λ L h. subst (λ r. MatchResult r (λ _. (Waits T.base c.args.c (acts T) (s.octets ++ q.0) (s.written ++ d.0) L × IsAtEnd (g.R.Read.remaining c.listen.new.reader)) ⊎ IsOver before now T.base c.args.c (acts T) (s.octets ++ q.0) (s.written ++ d.0) L) (λ x. IsCut x T.base c.args.c (acts T) (s.octets ++ q.0) (s.written ++ d.0) L)) (sym e) h)
-          (q.4 T s.octets (s.written ++ d.0) clean
+          (q.4 before T s.octets (s.written ++ d.0) (omega (arith, first, up, up2)) clean
           (talked_waits g.V.Vault.holds g.V.Vault.faults g.V.Vault.is_clean c.args.office.now c.loop.office c.write_owed.new.office c.args.c _ _ _ _ c.loop.counter s d.0
           c.in_ok-write_owed.ensures.clean d.2 c.ended.result c.ended.ensures c.if-ended.false before T first (c.in_err-listen.ensures.clean clean) w)),
     )
@@ -73,6 +75,8 @@ returns-then-not-branch-clause-talked g c =
     let s = c.loop.invariant in
     let d = c.in_ok-write_owed.ensures.wrote in
     let q = c.in_ok-listen.ensures.read in
+    let up = s.counted in
+    let up2 = c.in_ok-write_owed.ensures.counted in
     let now = g.V.Vault.faults (vault_of c.listen.new.office) in (
       s.octets ++ q.0,
       s.written ++ d.0,
@@ -82,7 +86,7 @@ returns-then-not-branch-clause-talked g c =
           (λ L. cond b (GoesOn T.base c.args.c (acts T) (s.octets ++ q.0) (s.written ++ d.0) L) (Waits T.base c.args.c (acts T) (s.octets ++ q.0) (s.written ++ d.0) L))
           (λ L. (Waits T.base c.args.c (acts T) (s.octets ++ q.0) (s.written ++ d.0) L × IsAtEnd (g.R.Read.remaining c.listen.new.reader)) ⊎ IsOver before now T.base c.args.c (acts T) (s.octets ++ q.0) (s.written ++ d.0) L)
           (λ L h. inl (none_written b (λ L. GoesOn T.base c.args.c (acts T) (s.octets ++ q.0) (s.written ++ d.0) L) (λ L. Waits T.base c.args.c (acts T) (s.octets ++ q.0) (s.written ++ d.0) L) L off h, q.3 (ap (λ x. Ok x) off)))
-          (q.4 T s.octets (s.written ++ d.0) clean
+          (q.4 before T s.octets (s.written ++ d.0) (omega (arith, first, up, up2)) clean
           (talked_waits g.V.Vault.holds g.V.Vault.faults g.V.Vault.is_clean c.args.office.now c.loop.office c.write_owed.new.office c.args.c _ _ _ _ c.loop.counter s d.0
           c.in_ok-write_owed.ensures.clean d.2 c.ended.result c.ended.ensures c.if-ended.false before T first (c.in_ok-listen.ensures.clean clean) w)),
     )
@@ -109,7 +113,7 @@ loop-preserved g c =
           (λ L. cond b (GoesOn T.base c.args.c (acts T) (s.octets ++ q.0) (s.written ++ d.0) L) (Waits T.base c.args.c (acts T) (s.octets ++ q.0) (s.written ++ d.0) L))
           (λ L. GoesOn T.base c.args.c (acts T) (s.octets ++ q.0) (s.written ++ d.0) L)
           (λ L h. some_written b (λ L. GoesOn T.base c.args.c (acts T) (s.octets ++ q.0) (s.written ++ d.0) L) (λ L. Waits T.base c.args.c (acts T) (s.octets ++ q.0) (s.written ++ d.0) L) L on h)
-          (q.4 T s.octets (s.written ++ d.0) clean
+          (q.4 before T s.octets (s.written ++ d.0) (omega (arith, first, up, up2)) clean
           (talked_waits g.V.Vault.holds g.V.Vault.faults g.V.Vault.is_clean c.args.office.now c.loop.office c.write_owed.new.office c.args.c _ _ _ _ c.loop.counter s d.0
           c.in_ok-write_owed.ensures.clean d.2 c.ended.result c.ended.ensures c.if-ended.false before T first (c.in_ok-listen.ensures.clean clean) w));
       counted = omega (arith, up, up2, up3);

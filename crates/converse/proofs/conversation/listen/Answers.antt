@@ -10,8 +10,8 @@ returns-in_default-clause-read g c = (
   consumes_none _ _ c.in_default.ensures.bytes,
   (λ e. absurd (cc)),
   (λ e. absurd (cc)),
-  λ T octets written clean w.
-      record { log = w.log; stands = w.stands; own = w.own; so = subst (λ (o : List ℕ). Waits T.base c.args.c (acts T) o written w.log) (sym (append-nil octets)) w.so },
+  λ before T octets written first clean w.
+      record { log = w.log; stands = w.stands; own = w.own; caused = w.caused; so = subst (λ (o : List ℕ). Waits T.base c.args.c (acts T) o written w.log) (sym (append-nil octets)) w.so },
 )
 
 pub returns-in_err-hear-clause-read : goal.returns-in_err-hear-clause-read
@@ -23,12 +23,13 @@ returns-in_err-hear-clause-read g c =
       c.in-Ok.ensures.bytes.0,
       (λ q. absurd (not_ok c.from_residual.result f true e q)),
       (λ q. absurd (not_ok c.from_residual.result f false e q)),
-      λ T octets written clean w.
-          (let k = c.in_err-hear.ensures.heard T octets written clean w in
+      λ before T octets written first clean w.
+          (let k = c.in_err-hear.ensures.heard before T octets written first clean w in
           record {
             log = k.log;
             stands = k.stands;
             own = k.own;
+            caused = k.caused;
             so = subst (λ r. MatchResult r (λ more. cond more (GoesOn T.base c.args.c (acts T) (octets ++ piece) written k.log) (Waits T.base c.args.c (acts T) (octets ++ piece) written k.log)) (λ x. IsCut x T.base c.args.c (acts T) (octets ++ piece) written k.log)) (sym e) k.so;
           }),
     )

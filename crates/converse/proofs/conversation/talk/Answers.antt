@@ -1,4 +1,4 @@
-use Rattle.std.proofs.Common.{◌≡◌, ◌∷◌, [], Err, sym, subst}
+use Rattle.std.proofs.Common.{◌≡◌, ◌≤◌, arith, ◌∷◌, [], Err, sym, subst}
 use Rattle.std.specs.Io.KnownBytes.{IsAtEnd}
 use Rattle.vault.specs.Calls.{has_grown}
 use Rattle.office.specs.Events as event
@@ -9,6 +9,7 @@ use Rattle.office.specs.Outcomes.{mark_of}
 use Rattle.office.specs.Stands.{vault_of, lent_by}
 use Rattle.converse.specs.Talked.{trace_of, Extends, StandsSo, ComesOut}
 use Rattle.converse.specs.Conversing.{GoesOn, Refuses}
+use Rattle.converse.proofs.Playing.{caused_next}
 use Rattle.converse.proofs.Clauses.{appends_none, consumes_none, keeps_same, refused_as, so_by, one_gone, refused_out, comes_out}
 use Rattle.converse.proofs.conversation.talk.Goals as goal
 
@@ -46,15 +47,19 @@ returns-clause-talked g c =
           (let clean2 = c.step.ensures.clean clean in
           let k = c.in_ok-c.ensures.began T st (c.converse-talked.ensures.clean clean2) in
           let same : n ≡ next_number T.log = k.so.0 in
-          let w : StandsSo g.V.Vault.holds c.connect.new.office T n (GoesOn T.base n (acts T) [] []) =
-          record { log = k.log; stands = k.stands; own = subst (λ m. Extends m T.log k.log) (sym same) k.own; so = subst (λ m. GoesOn T.base m (acts T) [] [] k.log) (sym same) k.so.1 } in
+          let w : StandsSo g.V.Vault.holds g.V.Vault.faults first c.connect.new.office T n (GoesOn T.base n (acts T) [] []) =
+          record { log = k.log; stands = k.stands; own = subst (λ m. Extends m T.log k.log) (sym same) k.own; caused = k.caused; so = subst (λ m. GoesOn T.base m (acts T) [] [] k.log) (sym same) k.so.1 } in
           let h = d.4 first T c.in_ok-c.ensures.counted clean2 w in
           let o = outcome_seen c.step.result in
+          let up = c.in_ok-c.ensures.counted in
+          let up2 = c.converse-talked.ensures.counted in
+          let longer : first ≤ during = omega (arith, up, up2) in
           let out = comes_out AtEnd first during now c.step.ensures.counted T n d.0 d.1 r h.log (lent_by c.converse-talked.new.office) o (c.step.ensures.outcome (trace_of T.base h.log) h.stands clean) h.so in
           record {
             log = (event.Gone n, mark_of o) ∷ h.log;
             stands = c.step.ensures.stands (trace_of T.base h.log) h.stands clean;
             own = subst (λ m. Extends m T.log ((event.Gone n, mark_of o) ∷ h.log)) same (one_gone n T.log h.log (mark_of o) h.own);
+            caused = caused_next first during now T h.log (event.Gone n) o longer c.step.ensures.counted h.caused (c.step.ensures.cause (trace_of T.base h.log) h.stands clean);
             so = subst (λ m. ComesOut AtEnd (has_grown first now) T m d.0 d.1 r ((event.Gone n, mark_of o) ∷ h.log)) same out;
           }),
     )

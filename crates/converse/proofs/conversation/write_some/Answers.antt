@@ -8,6 +8,7 @@ use Rattle.office.specs.Stands.{lent_by, vault_of}
 use Rattle.converse.specs.Talked.{trace_of}
 use Rattle.converse.specs.Conversing.{Midway, IsPaid, IsCut, Breaks}
 use Rattle.converse.proofs.Ends.{midway_broken}
+use Rattle.converse.proofs.Playing.{caused_next}
 use Rattle.converse.proofs.Clauses.{appends_none, keeps_same, one_taken, paid, taking, takes, found_empty, refused_as, not_ok}
 use Rattle.converse.proofs.conversation.write_some.Goals as goal
 
@@ -21,6 +22,7 @@ returns-then-is_empty-clause-wrote g c = (
         log = w.log;
         stands = w.stands;
         own = w.own;
+        caused = w.caused;
         so = subst (λ (o : List ℕ). IsPaid before (g.V.Vault.faults (vault_of c.args.office.now)) T.base c.args.c (acts T) octets o w.log) (sym (append-nil written))
             (paid before (g.V.Vault.faults (vault_of c.args.office.now)) T.base c.args.c (acts T) octets written w.log c.owed-lent.result.now w.so (c.owed-lent.ensures.lent (trace_of T.base w.log) w.stands)
             (found_empty c.is_empty.result c.owed-lent.result.now c.if-is_empty.true c.is_empty.ensures));
@@ -37,6 +39,7 @@ returns-in_default-clause-wrote g c = (
         log = w.log;
         stands = w.stands;
         own = w.own;
+        caused = w.caused;
         so = subst (λ (o : List ℕ). Breaks T.base c.args.c (acts T) octets o false w.log) (sym (append-nil written)) (midway_broken T.base c.args.c (acts T) octets written before (g.V.Vault.faults (vault_of c.args.office.now)) w.log w.so);
       },
 )
@@ -66,6 +69,7 @@ returns-in_err-had_memory-clause-wrote g c =
             log = log;
             stands = c.step.ensures.stands was_so w.stands clean;
             own = one_taken c.args.c T.log w.log n (mark_of o) w.own;
+            caused = caused_next before was now T w.log (event.Took c.args.c n) o first c.step.ensures.counted w.caused (c.step.ensures.cause was_so w.stands clean);
             so = subst (λ r. MatchResult r (λ more. cond more (Midway before now T.base c.args.c (acts T) octets (written ++ take n lent) log) (IsPaid before now T.base c.args.c (acts T) octets (written ++ take n lent) log)) (λ x. IsCut x T.base c.args.c (acts T) octets (written ++ take n lent) log)) (sym e) m2;
           }),
     )
@@ -91,6 +95,7 @@ returns-clause-wrote g c =
             log = log;
             stands = c.step.ensures.stands was_so w.stands clean;
             own = one_taken c.args.c T.log w.log n (mark_of o) w.own;
+            caused = caused_next before was now T w.log (event.Took c.args.c n) o first c.step.ensures.counted w.caused (c.step.ensures.cause was_so w.stands clean);
             so = subst (λ r. MatchResult r (λ _. Midway before now T.base c.args.c (acts T) octets (written ++ take n lent) log) (λ x. IsCut x T.base c.args.c (acts T) octets (written ++ take n lent) log)) (sym c.in_ok-had_memory.ensures) m;
           }),
     )

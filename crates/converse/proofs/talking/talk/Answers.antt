@@ -4,7 +4,7 @@ use Rattle.vault.specs.Calls.{has_grown}
 use Rattle.office.specs.Stands.{vault_of}
 use Rattle.converse.specs.Runs.{HasTalked, HasStopped, opened_on}
 use Rattle.converse.proofs.Clauses.{grown_since}
-use Rattle.converse.proofs.Running.{talked_since, keeps_still}
+use Rattle.converse.proofs.Running.{talked_since, broken_since, keeps_still}
 use Rattle.converse.proofs.talking.talk.Goals as goal
 
 pub returns-clause-talked : goal.returns-clause-talked
@@ -27,9 +27,13 @@ returns-clause-talked g c =
       λ ill T keeps clean.
           (let clean2 = subst g.V.Vault.is_clean c.into_vault.ensures clean in
           let opened = opened_on T c.args.host.now c.args.boot in
+          let first = g.V.Vault.faults c.args.vault in
+          let before = g.V.Vault.faults (vault_of c.in-Ok.office) in
+          let now = g.V.Vault.faults (vault_of c.talk_over-status.new.office) in
           let at_end = IsAtEnd (g.R.Read.remaining c.talk_over-status.new.reader) in
-          subst (λ v. HasStopped g.V.Vault.holds v T opened d.0 d.1 at_end) (sym c.into_vault.ensures)
-          (inr (d.5 ill opened (c.in-Ok.ensures.opened T keeps (c.talk_over-status.ensures.clean clean2)) clean2))),
+          subst (λ v. HasStopped g.V.Vault.holds v (has_grown first (g.V.Vault.faults v)) T opened d.0 d.1 at_end) (sym c.into_vault.ensures)
+          (inr (broken_since g.V.Vault.holds (vault_of c.talk_over-status.new.office) opened d.0 d.1 at_end (has_grown before now) (has_grown first now)
+          (grown_since first before now c.in-Ok.ensures.counted) (d.5 ill opened (c.in-Ok.ensures.opened T keeps (c.talk_over-status.ensures.clean clean2)) clean2)))),
     )
 
 pub returns-in-Err-clause-talked : goal.returns-in-Err-clause-talked

@@ -1,6 +1,5 @@
 use Rattle.std.proofs.Common.{◌≡◌, arith}
 use Rattle.std.specs.Io.KnownBytes.{IsAtEnd}
-use Rattle.vault.specs.Calls.{has_grown}
 use Rattle.office.specs.Stands.{vault_of}
 use Rattle.converse.proofs.Running.{has_talked, has_broken}
 use Rattle.converse.proofs.talking.talk_over.Goals as goal
@@ -8,23 +7,23 @@ use Rattle.converse.proofs.talking.talk_over.Goals as goal
 pub returns-in-Ok-clause-talked : goal.returns-in-Ok-clause-talked
 returns-in-Ok-clause-talked g c =
     let d = c.in-Ok.ensures.talked in
-    let grown = has_grown (g.V.Vault.faults (vault_of c.args.office.now)) (g.V.Vault.faults (vault_of c.talk.new.office)) in (
+    let first = g.V.Vault.faults (vault_of c.args.office.now) in (
       d.0,
       d.1,
       d.2,
       d.3,
-      λ _ T stands clean. has_talked g.V.Vault.holds c.talk.new.office T d.0 d.1 (IsAtEnd (g.R.Read.remaining c.talk.new.reader)) grown c.in-Ok.field-0 (d.4 T stands clean),
+      λ _ T stands clean. has_talked g.V.Vault.holds g.V.Vault.faults first c.talk.new.office T d.0 d.1 (IsAtEnd (g.R.Read.remaining c.talk.new.reader)) c.in-Ok.field-0 (d.4 T stands clean),
       λ (one : 0 ≡ 1). cc,
     )
 
 pub returns-in-Err-clause-talked : goal.returns-in-Err-clause-talked
 returns-in-Err-clause-talked g c =
     let d = c.in-Err.ensures.talked in
-    let grown = has_grown (g.V.Vault.faults (vault_of c.args.office.now)) (g.V.Vault.faults (vault_of c.talk.new.office)) in (
+    let first = g.V.Vault.faults (vault_of c.args.office.now) in (
       d.0,
       d.1,
       d.2,
       d.3,
       λ well T stands clean. absurd (omega (arith, well, c.tell_fault.ensures)),
-      λ _ T stands clean. has_broken g.V.Vault.holds c.talk.new.office T d.0 d.1 (IsAtEnd (g.R.Read.remaining c.talk.new.reader)) grown c.in-Err.fault (d.4 T stands clean),
+      λ _ T stands clean. has_broken g.V.Vault.holds g.V.Vault.faults first c.talk.new.office T d.0 d.1 (IsAtEnd (g.R.Read.remaining c.talk.new.reader)) c.in-Err.fault (d.4 T stands clean),
     )
