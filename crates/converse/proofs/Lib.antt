@@ -13,3 +13,4 @@ pub mod Escaping
 pub mod Reading
 pub mod Running
 pub mod Playing
+pub mod Stopping

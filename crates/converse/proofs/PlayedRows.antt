@@ -1,6 +1,6 @@
--- A worked row of what a script prints, on the sample store.
+-- Worked rows of what a script prints and does, on the sample store.
 use Rattle.std.specs.Prelude.{[], ◌∷◌, codes, Some}
-use Rattle.std.proofs.Common.{refl, arith}
+use Rattle.std.proofs.Common.{inl, inr, refl, arith}
 use Rattle.std.specs.Fmt.{digits}
 use Rattle.office.specs.Events.{Trace, Tagged, given}
 use Rattle.office.specs.Events as event
@@ -9,8 +9,9 @@ use Rattle.office.specs.Outcomes as outcome
 use Rattle.office.specs.Stands.{begun}
 use Rattle.office.proofs.Sample.{W}
 use Rattle.converse.specs.Script.{Does, Drains}
-use Rattle.converse.specs.Played.{PlaysLine, Plays, point}
+use Rattle.converse.specs.Played.{PlaysLine, Plays, PlaysInPart, point}
 use Rattle.converse.specs.Runs.{opened_on}
+use Rattle.converse.proofs.Stopping.{begun_none, begun_acted}
 
 abbrev start : Trace
 start = opened_on (begun W) (codes "h.test") 7
@@ -62,3 +63,11 @@ three_lines = (
   ),
   refl,
 )
+
+-- they are broken off at the second, before the greeting is taken
+stopped_before : PlaysInPart (point start []) (Does event.Connect ∷ Drains 1 ∷ Does (event.Gone 1) ∷ []) connected
+stopped_before = inr (point connected (1 ∷ []), codes "opened 1\n", opening, inl (begun_none connected (Drains 1)))
+
+-- and behind it
+stopped_behind : PlaysInPart (point start []) (Does event.Connect ∷ Drains 1 ∷ Does (event.Gone 1) ∷ []) greeted
+stopped_behind = inr (point connected (1 ∷ []), codes "opened 1\n", opening, inl (begun_acted connected (Drains 1) draining.told draining.sent greeted draining.acts))

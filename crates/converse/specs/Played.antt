@@ -1,5 +1,5 @@
 -- What the lines of a script print in an office, and the trace that they lead to.
-use Rattle.std.specs.Prelude.{◌≡◌, ℕ, Bool, true, false, ◌+◌, ◌<◌, ⊤, nat_lt, List, [], ◌∷◌, ◌++◌, ◌==◌, ◌||◌, length, take, filter, Option, Some, None, if◌then◌else◌}
+use Rattle.std.specs.Prelude.{◌≡◌, ℕ, Bool, true, false, ◌+◌, ◌<◌, ⊤, nat_lt, List, [], ◌∷◌, ◌++◌, ◌==◌, ◌||◌, ◌⊎◌, length, take, filter, Option, Some, None, if◌then◌else◌}
 use Rattle.std.specs.Io.KnownBytes.{Appends}
 use Rattle.vault.specs.Calls.{has_grown}
 use Rattle.vault.specs.Changes.{Contents}
@@ -117,6 +117,19 @@ Plays P (line ∷ lines) printed Q =
 abbrev pub HasPlayed : Trace → List ScriptLine → (printed : List ℕ) → Trace → Type 0
 HasPlayed T lines printed U = (known : List ℕ) × Plays (point T []) lines printed (point U known)
 
+-- ---- lines that were broken off
+
+-- What a line that was broken off did to T: nothing, or its event; of takings one after the other some, or all.
+abbrev pub Begun : Trace → ScriptLine → Trace → Type 0
+Begun T (Does e) U = (U ≡ T) ⊎ ((o : Outcome) × IsOutcome T (owed_by T) e o × (U ≡ given T e (mark_of o)))
+Begun T (Drains c) U = (outcomes : List Outcome) × AreTakings c T outcomes × (U ≡ drained c T outcomes)
+Begun T (NoPolicy f) U = U ≡ T
+
+-- of lines one after the other the first ones were played, and one more at most was begun
+abbrev pub PlaysInPart : Point → List ScriptLine → Trace → Type 0
+PlaysInPart P [] U = U ≡ P.trace
+PlaysInPart P (line ∷ lines) U = Begun P.trace line U ⊎ ((M : Point) × (printed : List ℕ) × PlaysLine P line printed M × PlaysInPart M lines U)
+
 -- ---- what failed
 
 abbrev pub is_failed : Mark → Bool
@@ -145,6 +158,21 @@ pub record ComesTo {V : Type 0} (Holds : V → Contents → Type 0) (o : Office 
   pub appends : Appends before after printed
   pub stands : StandsFor Holds o trace
   pub is : Is printed trace
+
+-- the office stands for some trace, of which this holds, and what failed since T had its cause
+pub record Reaches {V : Type 0} (Holds : V → Contents → Type 0) (o : Office V) (before now : ℕ) (T : Trace) (Is : Trace → Type 0) : Type 0 where
+  pub trace : Trace
+  pub stands : StandsFor Holds o trace
+  pub is : Is trace
+  pub caused : Caused before now T trace
+
+-- Of the lines the first ones were played from T, all or none of them too, and one more at most was begun: the store keeps what the trace
+-- says to which they lead, and an event failed only where the store's count of faults grew from `first` to `now`.
+pub record HasRunInPart {V : Type 0} (Holds : V → Contents → Type 0) (new : V) (first now : ℕ) (T : Trace) (lines : List ScriptLine) : Type 0 where
+  pub trace : Trace
+  pub keeps : Keeps (Holds new) trace
+  pub plays : PlaysInPart (point T []) lines trace
+  pub caused : Caused first now T trace
 
 -- the lines were played from T: what they print was printed, the store keeps what the trace says to which they lead, and an event failed
 -- only where the store's count of faults grew from `first` to `now`

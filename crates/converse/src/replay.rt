@@ -1,6 +1,6 @@
 //! `popbox replay`: does the events of a script in an office, and prints what each gives.
 
-ghost use Rattle.std.specs.Prelude.{◌≤◌, ◌≡◌, ◌∷◌, ◌++◌, [], false, true, map, option_map, IfErr, IfOk, IfSome, IsErr, IsOk, List, Ok, OnOk, Some, codes, if◌then◌else◌};
+ghost use Rattle.std.specs.Prelude.{◌≤◌, ◌≡◌, ◌∷◌, ◌++◌, [], false, true, map, option_map, IfErr, IfOk, IfSome, IsErr, IsOk, List, Ok, OnErr, OnOk, Some, codes, if◌then◌else◌, ◌⊎◌};
 ghost use Rattle.std.specs.Io.KnownBytes.{Appends, IsAtEnd};
 ghost use Rattle.std.specs.List.{filter};
 ghost use Rattle.creds.specs.Names.{is_host};
@@ -11,7 +11,7 @@ ghost use Rattle.office.specs.Stands.{Keeps, StandsFor, vault_of};
 ghost use Rattle.office.specs.Trace.{is_open};
 ghost use Rattle.converse.specs.Runs.{StillHolds, opened_on};
 ghost use Rattle.converse.specs.Script.{ScriptLine, Does, Drains, line_seen, script_of};
-ghost use Rattle.converse.specs.Played.{Acts, TakesAll, PlaysLine, HasPlayed, ComesTo, WithCause, HasRun, point, known_with, still_known, told_text, taken_text};
+ghost use Rattle.converse.specs.Played.{Acts, Begun, TakesAll, PlaysLine, HasPlayed, PlaysInPart, ComesTo, WithCause, Reaches, HasRun, HasRunInPart, point, known_with, still_known, told_text, taken_text};
 ghost use Rattle.converse.specs.Escapes.{by_digits, escape, escaped};
 ghost use Rattle.converse.specs.Told.{sent_line, outcome_lines, answer_lines, ended_lines, has_ended, no_policy_line, reason_name as name_of_reason};
 
@@ -34,7 +34,8 @@ const IDLE_SECONDS: u32 = 600;
 ///
 /// Gives the exit status, 0 or 1, and the vault, as the events left it. A fault has status 1 and
 /// its text on `err`. Where the script can't be read, has a line that is no event, or the host is
-/// bad, no event is done and nothing is on `out`; faults are found in that order.
+/// bad, no event is done and nothing is on `out`; faults are found in that order. What was done
+/// before another fault stays done, and no line behind it is begun.
 pub fn replay<R: Read, V: Vault, W: Write, E: Write>(
     alloc: Global,
     script: &mut R,
@@ -50,6 +51,7 @@ pub fn replay<R: Read, V: Vault, W: Write, E: Write>(
     ensures bad_line { IfSome (R.remaining script.old) (λ text. IsErr (script_of text) → (result.0 ≡ 1) × (out.new ≡ out.old) × (result.1 ≡ vault)) }
     ensures bad_host { is_host host.now ≡ false → (result.0 ≡ 1) × (out.new ≡ out.old) × StillHolds V.holds V.is_clean vault result.1 }
     ensures told { result.0 ≡ 0 → IfSome (R.remaining script.old) (λ text. (lines : List ScriptLine) → script_of text ≡ Ok lines → (T : Trace) → Keeps (V.holds vault) T → V.is_clean result.1 → HasRun V.holds result.1 (V.faults vault) (V.faults result.1) (W.contents out.old) (W.contents out.new) (opened_on T host.now boot) lines) }
+    ensures kept { (T : Trace) → Keeps (V.holds vault) T → V.is_clean result.1 → Keeps (V.holds result.1) T ⊎ ((lines : List ScriptLine) × IfSome (R.remaining script.old) (λ text. script_of text ≡ Ok lines) × HasRunInPart V.holds result.1 (V.faults vault) (V.faults result.1) (opened_on T host.now boot) lines) }
 {
     let lines = match read_all(alloc, script) {
         Ok(lines) => lines,
@@ -74,6 +76,7 @@ fn play_over<V: Vault, W: Write, E: Write>(
     ensures status { result ≤ 1 }
     ensures silent { result ≡ 0 → err.new ≡ err.old }
     ensures played { result ≡ 0 → (T : Trace) → StandsFor V.holds office.old T → V.is_clean (vault_of office.new) → ComesTo V.holds office.new (W.contents out.old) (W.contents out.new) (WithCause (V.faults (vault_of office.old)) (V.faults (vault_of office.new)) T (HasPlayed T (map line_seen lines.now))) }
+    ensures kept { (T : Trace) → StandsFor V.holds office.old T → V.is_clean (vault_of office.new) → Reaches V.holds office.new (V.faults (vault_of office.old)) (V.faults (vault_of office.new)) T (PlaysInPart (point T []) (map line_seen lines.now)) }
     ensures counted { V.faults (vault_of office.old) ≤ V.faults (vault_of office.new) }
     ensures clean { V.is_clean (vault_of office.new) → V.is_clean (vault_of office.old) }
 {
@@ -137,6 +140,7 @@ fn play<V: Vault, W: Write>(
     out: &mut W,
 ) -> Result<(), Fault>
     ensures played { OnOk result ((T : Trace) → StandsFor V.holds office.old T → V.is_clean (vault_of office.new) → ComesTo V.holds office.new (W.contents out.old) (W.contents out.new) (WithCause (V.faults (vault_of office.old)) (V.faults (vault_of office.new)) T (HasPlayed T (map line_seen lines.now)))) }
+    ensures broken { OnErr result ((T : Trace) → StandsFor V.holds office.old T → V.is_clean (vault_of office.new) → Reaches V.holds office.new (V.faults (vault_of office.old)) (V.faults (vault_of office.new)) T (PlaysInPart (point T []) (map line_seen lines.now))) }
     ensures counted { V.faults (vault_of office.old) ≤ V.faults (vault_of office.new) }
     ensures clean { V.is_clean (vault_of office.new) → V.is_clean (vault_of office.old) }
 {
@@ -156,6 +160,7 @@ fn play_line<V: Vault, W: Write>(
     out: &mut W,
 ) -> Result<(), Fault>
     ensures played { OnOk result ((T : Trace) → StandsFor V.holds office.old T → V.is_clean (vault_of office.new) → ComesTo V.holds office.new (W.contents out.old) (W.contents out.new) (WithCause (V.faults (vault_of office.old)) (V.faults (vault_of office.new)) T (λ printed U. PlaysLine (point T known.old.items) (line_seen line.now) printed (point U known.new.items)))) }
+    ensures broken { OnErr result ((T : Trace) → StandsFor V.holds office.old T → V.is_clean (vault_of office.new) → Reaches V.holds office.new (V.faults (vault_of office.old)) (V.faults (vault_of office.new)) T (Begun T (line_seen line.now))) }
     ensures counted { V.faults (vault_of office.old) ≤ V.faults (vault_of office.new) }
     ensures clean { V.is_clean (vault_of office.new) → V.is_clean (vault_of office.old) }
 {
@@ -208,6 +213,7 @@ fn act<V: Vault, W: Write>(
     out: &mut W,
 ) -> Result<Option<Outcome>, Fault>
     ensures acted { IfOk result (λ told. (T : Trace) → StandsFor V.holds office.old T → V.is_clean (vault_of office.new) → ComesTo V.holds office.new (W.contents out.old) (W.contents out.new) (WithCause (V.faults (vault_of office.old)) (V.faults (vault_of office.new)) T (Acts T (line_seen line.now) (option_map outcome_seen told)))) }
+    ensures broken { OnErr result ((T : Trace) → StandsFor V.holds office.old T → V.is_clean (vault_of office.new) → Reaches V.holds office.new (V.faults (vault_of office.old)) (V.faults (vault_of office.new)) T (Begun T (line_seen line.now))) }
     ensures counted { V.faults (vault_of office.old) ≤ V.faults (vault_of office.new) }
     ensures clean { V.is_clean (vault_of office.new) → V.is_clean (vault_of office.old) }
 {
@@ -251,6 +257,7 @@ fn take<V: Vault, W: Write>(
     out: &mut W,
 ) -> Result<Outcome, Fault>
     ensures taken { IfOk result (λ outcome. (T : Trace) → StandsFor V.holds office.old T → V.is_clean (vault_of office.new) → ComesTo V.holds office.new (W.contents out.old) (W.contents out.new) (WithCause (V.faults (vault_of office.old)) (V.faults (vault_of office.new)) T (Acts T (Does (Took number count)) (Some (outcome_seen outcome))))) }
+    ensures broken { OnErr result ((T : Trace) → StandsFor V.holds office.old T → V.is_clean (vault_of office.new) → Reaches V.holds office.new (V.faults (vault_of office.old)) (V.faults (vault_of office.new)) T (Begun T (Does (Took number count)))) }
     ensures counted { V.faults (vault_of office.old) ≤ V.faults (vault_of office.new) }
     ensures clean { V.is_clean (vault_of office.new) → V.is_clean (vault_of office.old) }
 {
@@ -291,6 +298,7 @@ fn drain<V: Vault, W: Write>(
     out: &mut W,
 ) -> Result<Outcome, Fault>
     ensures drained { IfOk result (λ outcome. (T : Trace) → StandsFor V.holds office.old T → V.is_clean (vault_of office.new) → ComesTo V.holds office.new (W.contents out.old) (W.contents out.new) (WithCause (V.faults (vault_of office.old)) (V.faults (vault_of office.new)) T (Acts T (Drains number) (Some (outcome_seen outcome))))) }
+    ensures broken { OnErr result ((T : Trace) → StandsFor V.holds office.old T → V.is_clean (vault_of office.new) → Reaches V.holds office.new (V.faults (vault_of office.old)) (V.faults (vault_of office.new)) T (Begun T (Drains number))) }
     ensures counted { V.faults (vault_of office.old) ≤ V.faults (vault_of office.new) }
     ensures clean { V.is_clean (vault_of office.new) → V.is_clean (vault_of office.old) }
 {
@@ -315,6 +323,7 @@ fn take_all<V: Vault, W: Write>(
     out: &mut W,
 ) -> Result<Outcome, Fault>
     ensures taken { IfOk result (λ outcome. (T : Trace) → StandsFor V.holds office.old T → V.is_clean (vault_of office.new) → ComesTo V.holds office.new (W.contents out.old) (W.contents out.new) (WithCause (V.faults (vault_of office.old)) (V.faults (vault_of office.new)) T (TakesAll T number (outcome_seen outcome)))) }
+    ensures broken { OnErr result ((T : Trace) → StandsFor V.holds office.old T → V.is_clean (vault_of office.new) → Reaches V.holds office.new (V.faults (vault_of office.old)) (V.faults (vault_of office.new)) T (Begun T (Drains number))) }
     ensures counted { V.faults (vault_of office.old) ≤ V.faults (vault_of office.new) }
     ensures clean { V.is_clean (vault_of office.new) → V.is_clean (vault_of office.old) }
 {

@@ -2,8 +2,10 @@ use Rattle.std.proofs.Common.{ap, refl, sym, ◌∙◌}
 use Rattle.office.specs.Events.{Bytes, Deposit}
 use Rattle.office.specs.Shown.{outcome_seen}
 use Rattle.office.specs.Stands.{vault_of}
+use Rattle.converse.specs.Played.{Begun}
 use Rattle.converse.specs.Script.{Does, line_seen}
 use Rattle.converse.proofs.Playing.{did_one, of_line}
+use Rattle.converse.proofs.Stopping.{at_faults, reaches_line}
 use Rattle.converse.proofs.replay.act.Goals as goal
 
 pub returns-in-Connect-clause-acted : goal.returns-in-Connect-clause-acted
@@ -55,3 +57,13 @@ returns-in-Admin-clause-acted g c =
     let x = c.step-in-Admin in λ T st clean.
     did_one g.V.Vault.holds x.new.self T (g.V.Vault.faults (vault_of c.args.office.now)) (g.V.Vault.faults (vault_of x.new.self)) c.args.office.now _ _ (outcome_seen x.result) _
     (ap line_seen c.in-Admin.is) refl st (x.ensures.outcome T st clean) (x.ensures.cause T st clean) (x.ensures.stands T st clean)
+
+pub returns-in_err-take-in-Took-clause-broken : goal.returns-in_err-take-in-Took-clause-broken
+returns-in_err-take-in-Took-clause-broken g c =
+    at_faults _ g.V.Vault.holds c.args.office.now c.take.new.office (g.V.Vault.is_clean (vault_of c.take.new.office)) (g.V.Vault.faults (vault_of c.args.office.now)) (g.V.Vault.faults (vault_of c.take.new.office)) (λ T. Begun T (line_seen c.args.line.now)) (λ T st clean.
+    reaches_line g.V.Vault.holds c.take.new.office (g.V.Vault.faults (vault_of c.args.office.now)) (g.V.Vault.faults (vault_of c.take.new.office)) T _ _ (ap line_seen c.in-Took.is) (c.in_err-take-in-Took.ensures.broken T st clean))
+
+pub returns-in_err-drain-in-Drain-clause-broken : goal.returns-in_err-drain-in-Drain-clause-broken
+returns-in_err-drain-in-Drain-clause-broken g c =
+    at_faults _ g.V.Vault.holds c.args.office.now c.drain.new.office (g.V.Vault.is_clean (vault_of c.drain.new.office)) (g.V.Vault.faults (vault_of c.args.office.now)) (g.V.Vault.faults (vault_of c.drain.new.office)) (λ T. Begun T (line_seen c.args.line.now)) (λ T st clean.
+    reaches_line g.V.Vault.holds c.drain.new.office (g.V.Vault.faults (vault_of c.args.office.now)) (g.V.Vault.faults (vault_of c.drain.new.office)) T _ _ (ap line_seen c.in-Drain.is) (c.in_err-drain-in-Drain.ensures.broken T st clean))

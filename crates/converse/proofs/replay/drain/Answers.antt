@@ -5,6 +5,9 @@ use Rattle.office.specs.Shown.{outcome_seen}
 use Rattle.office.specs.Stands.{vault_of}
 use Rattle.office.specs.Trace.{rest}
 use Rattle.converse.proofs.Clauses.{found_empty}
+use Rattle.converse.specs.Played.{Begun, TakesAll}
+use Rattle.converse.specs.Script.{Drains}
+use Rattle.converse.proofs.Stopping.{begun_taken, reaches_so}
 use Rattle.converse.proofs.Playing.{caused_none, owed_whole, drains_all, some_owed, appends_three}
 use Rattle.converse.proofs.replay.drain.Goals as goal
 
@@ -41,3 +44,9 @@ returns-in-Ok-writeln-clause-drained g c =
       stands = s.stands;
       is = (drains_all T n (outcome_seen c.in_ok-outcome.outcome) s.printed s.trace s.is.0 (subst (λ r. 0 < length r) whole some), s.is.1);
     })
+
+pub returns-in-Err-clause-broken : goal.returns-in-Err-clause-broken
+returns-in-Err-clause-broken g c =
+    let n = c.args.number in
+    let o = outcome_seen c.in_ok-outcome.outcome in λ T st clean.
+    reaches_so g.V.Vault.holds _ _ _ T (Begun T (Drains n)) (TakesAll T n o) _ _ (begun_taken T n o) (c.in_ok-outcome.ensures.taken T st clean)

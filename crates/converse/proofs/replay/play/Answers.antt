@@ -1,8 +1,9 @@
 use Rattle.std.proofs.Common.{arith, [], map, subst, take_all}
 use Rattle.office.specs.Stands.{vault_of}
-use Rattle.converse.specs.Played.{Plays, point}
+use Rattle.converse.specs.Played.{Plays, PlaysInPart, point}
 use Rattle.converse.specs.Script.{line_seen}
 use Rattle.converse.proofs.Playing.{played_more}
+use Rattle.converse.proofs.Stopping.{at_faults, stopped_at}
 use Rattle.converse.proofs.replay.play.Goals as goal
 
 pub loop-line-preserved : goal.loop-line-preserved
@@ -30,3 +31,11 @@ returns-clause-played g c = λ T st clean.
         s.is.1,
       );
     })
+
+pub returns-in_err-play_line-clause-broken : goal.returns-in_err-play_line-clause-broken
+returns-in_err-play_line-clause-broken g c =
+    let x = c.play_line in
+    at_faults _ g.V.Vault.holds c.args.office.now x.new.office (g.V.Vault.is_clean (vault_of x.new.office)) (g.V.Vault.faults (vault_of c.args.office.now)) (g.V.Vault.faults (vault_of x.new.office)) (λ T. PlaysInPart (point T []) (map line_seen c.args.lines.now)) (λ T st clean.
+    (let s = c.loop-line.invariant.played T st (x.ensures.clean clean) in
+    stopped_at g.V.Vault.holds c.loop-line.office x.new.office (point T []) c.args.lines.now c.loop-line.line-index c.line-item.result c.loop-line-test.true c.line-item.is (g.V.Vault.faults (vault_of c.args.office.now)) (g.V.Vault.faults (vault_of c.loop-line.office)) (g.V.Vault.faults (vault_of x.new.office)) c.loop-line.invariant.counted x.ensures.counted _ _ _ s
+    (c.in_err-play_line.ensures.broken s.trace s.stands clean)))

@@ -1,10 +1,11 @@
-use Rattle.std.proofs.Common.{◌≡◌, List, Ok, ap, map, rules, subst, sym, ◌∙◌}
+use Rattle.std.proofs.Common.{◌≡◌, [], List, Ok, ap, inr, map, rules, subst, sym, ◌∙◌}
 use Rattle.office.specs.Events.{Trace}
 use Rattle.office.specs.Stands.{Keeps, vault_of}
-use Rattle.converse.specs.Played.{HasRun}
+use Rattle.converse.specs.Played.{HasRun, HasRunInPart, PlaysInPart, Reaches, point}
 use Rattle.converse.specs.Runs.{opened_on}
 use Rattle.converse.specs.Script.{ScriptLine, line_seen, script_of}
 use Rattle.converse.proofs.Playing.{has_run, of_known, same_lines}
+use Rattle.converse.proofs.Stopping.{has_run_in_part}
 use Rattle.converse.proofs.replay.replay.Goals as goal
 
 pub returns-clause-silent : goal.returns-clause-silent
@@ -28,3 +29,21 @@ returns-clause-told g c =
     (ap (map line_seen) c.as_slice.ensures.value ∙ same_lines (script_of text) (map line_seen c.in-Ok.lines.items) lines said read)
     (x.ensures.played well opened (c.in-Ok-open_office.ensures.opened T keeps (x.ensures.clean clean2)) clean2))))
     c.in-Ok.ensures.lines
+
+pub returns-clause-kept : goal.returns-clause-kept
+returns-clause-kept g c =
+    let x = c.play_over-status in
+    let lines = map line_seen c.in-Ok.lines.items in
+    let first = g.V.Vault.faults c.args.vault in
+    let before = g.V.Vault.faults (vault_of c.in-Ok-open_office.office) in
+    let now = g.V.Vault.faults (vault_of x.new.office) in λ T keeps clean.
+    (let clean2 = subst g.V.Vault.is_clean c.into_vault.ensures clean in
+    let opened = opened_on T c.args.host.now c.args.boot in
+    inr (
+      lines,
+      c.in-Ok.ensures.lines,
+      subst (λ n. HasRunInPart g.V.Vault.holds c.into_vault.result first n opened lines) (sym (ap g.V.Vault.faults c.into_vault.ensures))
+          (has_run_in_part g.V.Vault.holds x.new.office c.into_vault.result opened first before now c.in-Ok-open_office.ensures.counted lines c.into_vault.ensures
+          (subst (λ (ls : List ScriptLine). Reaches g.V.Vault.holds x.new.office before now opened (PlaysInPart (point opened []) ls)) (ap (map line_seen) c.as_slice.ensures.value)
+          (x.ensures.kept opened (c.in-Ok-open_office.ensures.opened T keeps (x.ensures.clean clean2)) clean2))),
+    ))

@@ -6,7 +6,10 @@ use Rattle.office.specs.Stands.{vault_of}
 use Rattle.office.specs.Trace.{rest}
 use Rattle.converse.specs.Escapes.{escaped}
 use Rattle.converse.proofs.Clauses.{found_empty}
-use Rattle.converse.proofs.Playing.{by_owed, caused_none, caused_one, caused_more, owed_whole, takes_none, takes_lent, some_owed}
+use Rattle.converse.specs.Played.{Begun}
+use Rattle.converse.specs.Script.{Drains}
+use Rattle.converse.proofs.Playing.{TakesSoFar, by_owed, caused_none, caused_one, caused_more, owed_whole, takes_none, takes_lent, some_owed}
+use Rattle.converse.proofs.Stopping.{begun_taking, reaches_so}
 use Rattle.converse.proofs.replay.take_all.Goals as goal
 
 pub loop-init : goal.loop-init
@@ -55,3 +58,15 @@ returns-then-is_empty-clause-taken g c =
       stands = s.stands;
       is = ((s.is.0.0, s.is.0.1, sym whole ∙ found_empty c.is_empty.result lent c.if-is_empty.true c.is_empty.ensures, s.is.0.2), s.is.1);
     })
+
+pub returns-in_default-clause-broken : goal.returns-in_default-clause-broken
+returns-in_default-clause-broken g c =
+    let n = c.args.number in
+    let o = outcome_seen c.loop.outcome in λ T st clean.
+    reaches_so g.V.Vault.holds c.loop.office (g.V.Vault.faults (vault_of c.args.office.now)) (g.V.Vault.faults (vault_of c.loop.office)) T (Begun T (Drains n)) (TakesSoFar T n o) _ _ (begun_taking T n o) (c.loop.invariant.taken T st clean)
+
+pub returns-clause-broken : goal.returns-clause-broken
+returns-clause-broken g c =
+    let n = c.args.number in
+    let o = outcome_seen c.loop.outcome in λ T st clean.
+    reaches_so g.V.Vault.holds c.loop.office (g.V.Vault.faults (vault_of c.args.office.now)) (g.V.Vault.faults (vault_of c.loop.office)) T (Begun T (Drains n)) (TakesSoFar T n o) _ _ (begun_taking T n o) (c.loop.invariant.taken T st clean)
