@@ -316,15 +316,17 @@ pub comes_out : (AtEnd : Type 0) (before during now : ℕ) → during ≤ now �
 comes_out AtEnd before during now later T c octets written (Ok done) L lent o is h =
     let g = goes T.base c (acts T) octets written L lent o is in
     let after = (event.Gone c, mark_of o) ∷ L in (
-      (g.1,
-      ⊎_elim
-          (λ (w : Waits T.base c (acts T) octets written L × AtEnd). inl (waited T.base c (acts T) octets written L after w.0 g.0 AtEnd w.1))
-          (λ (w : IsOver before during T.base c (acts T) octets written L). ⊎_elim
-          (λ (on : GoesOn T.base c (acts T) octets written L). inl (closed T.base c (acts T) octets written L after on w.shut g.0 AtEnd))
-          (λ (p : TalksInPart T.base c octets written (acts T) (acts (trace_of T.base L)) × (has_grown before during ≡ true) × (stream L c ≡ octets)).
-          inr (part_stays T.base c (acts T) octets written L after p.0 g.0, grown_still before during now later p.1))
-          w.midway)
-          h),
+      (
+        g.1,
+        ⊎_elim
+            (λ (w : Waits T.base c (acts T) octets written L × AtEnd). inl (waited T.base c (acts T) octets written L after w.0 g.0 AtEnd w.1))
+            (λ (w : IsOver before during T.base c (acts T) octets written L). ⊎_elim
+            (λ (on : GoesOn T.base c (acts T) octets written L). inl (closed T.base c (acts T) octets written L after on w.shut g.0 AtEnd))
+            (λ (p : TalksInPart T.base c octets written (acts T) (acts (trace_of T.base L)) × (has_grown before during ≡ true) × (stream L c ≡ octets)).
+            inr (part_stays T.base c (acts T) octets written L after p.0 g.0, grown_still before during now later p.1))
+            w.midway)
+            h,
+      ),
       all_heard AtEnd before during T.base c (acts T) octets written L h,
     )
 comes_out AtEnd before during now later T c octets written (Err fault.Read) L lent o is h =

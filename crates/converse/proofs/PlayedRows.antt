@@ -1,5 +1,5 @@
 -- Worked rows of what a script prints and does, on the sample store.
-use Rattle.std.specs.Prelude.{[], ◌∷◌, codes, Some}
+use Rattle.std.specs.Prelude.{[], ◌∷◌, codes, None, Some}
 use Rattle.std.proofs.Common.{inl, inr, refl, arith}
 use Rattle.std.specs.Fmt.{digits}
 use Rattle.office.specs.Events.{Trace, Tagged, given}
@@ -8,7 +8,8 @@ use Rattle.office.specs.History.{Done}
 use Rattle.office.specs.Outcomes as outcome
 use Rattle.office.specs.Stands.{begun}
 use Rattle.office.proofs.Sample.{W}
-use Rattle.converse.specs.Script.{Does, Drains}
+use Rattle.policy.specs.declared.fault.PolicyFault.TheVariants.{NotToml}
+use Rattle.converse.specs.Script.{Does, Drains, NoPolicy}
 use Rattle.converse.specs.Played.{PlaysLine, Plays, PlaysInPart, point}
 use Rattle.converse.specs.Runs.{opened_on}
 use Rattle.converse.proofs.Stopping.{begun_none, begun_acted}
@@ -39,6 +40,22 @@ draining = record {
   text = refl;
   left = refl;
 }
+
+-- and so are as many octets as a line asks for
+taking : PlaysLine (point connected (1 ∷ [])) (Does (event.Took 1 36)) (codes "sent 1 +OK POP3 server ready <1.7@h.test>\\r\\n\ndone\n") (point greeted (1 ∷ []))
+unfolding digits
+taking = record {
+  sent = codes "sent 1 +OK POP3 server ready <1.7@h.test>\\r\\n\n";
+  told = Some outcome.Done;
+  acts = (record { tag = Done; may = refl; is = refl }, refl, refl);
+  text = refl;
+  left = refl;
+}
+
+-- a text that is no policy is answered, and nothing is done
+no_policy : PlaysLine (point connected (1 ∷ [])) (NoPolicy NotToml) (codes "answer NotToml\n") (point connected (1 ∷ []))
+unfolding digits
+no_policy = record { sent = codes "answer NotToml\n"; told = None; acts = (refl, refl); text = refl; left = refl }
 
 -- a connection that ended is told behind the outcome
 going : PlaysLine (point greeted (1 ∷ [])) (Does (event.Gone 1)) (codes "done\nended 1\n") (point left [])

@@ -9,6 +9,7 @@ ghost use Rattle.office.specs.Outcomes.{Ignored};
 ghost use Rattle.office.specs.Shown.{outcome_seen, reason_seen};
 ghost use Rattle.office.specs.Stands.{Keeps, StandsFor, vault_of};
 ghost use Rattle.office.specs.Trace.{is_open};
+ghost use Rattle.converse.specs.declared.fault.Fault.TheVariants.{CannotWrite, OutOfMemory};
 ghost use Rattle.converse.specs.Runs.{StillHolds, opened_on};
 ghost use Rattle.converse.specs.Script.{ScriptLine, Does, Drains, line_seen, script_of};
 ghost use Rattle.converse.specs.Played.{Acts, Begun, TakesAll, PlaysLine, HasPlayed, PlaysInPart, ComesTo, WithCause, Reaches, HasRun, HasRunInPart, point, known_with, still_known, told_text, taken_text};
@@ -372,9 +373,11 @@ fn write_digits<W: Write>(out: &mut W, octet: u8) -> io::Result<()>
     write!(out, "\\x{octet:02x}")
 }
 
-/// Prints an outcome.
+/// Prints an outcome. Answers [`Fault::CannotWrite`] where `out` refuses octets, and [`Fault::OutOfMemory`] where the text of an answer
+/// finds no memory; some of the lines may then be on `out`.
 pub fn tell<W: Write>(alloc: Global, out: &mut W, outcome: &Outcome) -> Result<(), Fault>
-    ensures { OnOk result (Appends (W.contents out.old) (W.contents out.new) (outcome_lines (outcome_seen outcome.now))) }
+    ensures told { OnOk result (Appends (W.contents out.old) (W.contents out.new) (outcome_lines (outcome_seen outcome.now))) }
+    ensures cause { IfErr result (λ fault. (fault ≡ CannotWrite) ⊎ (fault ≡ OutOfMemory)) }
 {
     let told = match outcome {
         Outcome::Opened(number) => writeln!(out, "opened {number}"),

@@ -7,6 +7,6 @@ use Rattle.converse.proofs.replay.tell_whole.Goals as goal
 
 pub returns-in-Ok-clause-told : goal.returns-in-Ok-clause-told
 returns-in-Ok-clause-told g c = λ T st.
-    Appends-trans _ _ _ _ _ c.in_ok-tell.ensures
+    Appends-trans _ _ _ _ _ c.in_ok-tell.ensures.told
     (subst (λ (known : List ℕ). Appends (g.W.Write.contents c.tell.new.out) (g.W.Write.contents c.tell_ended.new.out) (ended_lines (filter (has_ended T) known)))
     c.in_ok-add_opened.ensures (c.in-Ok.ensures.told T st))
