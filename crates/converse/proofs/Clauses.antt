@@ -9,7 +9,6 @@ use Rattle.vault.specs.Calls.{has_grown, greatest_count}
 use Rattle.office.specs.History.{Act, Tag}
 use Rattle.office.specs.Events.{Event, Mark, Tagged, Log, Trace}
 use Rattle.office.specs.Events as event
-use Rattle.office.specs.Log.{stream}
 use Rattle.office.specs.Trace.{acts, rest, is_open, IsLent}
 use Rattle.office.specs.Replying.{is_empty}
 use Rattle.office.specs.Expected.{IsOutcome, most_in_a_piece, is_full}
@@ -76,7 +75,7 @@ module _ (B : Records) (c : ℕ) (past : List (Act × Tag)) (octets written : Li
       → IsOutcome (trace_of B L) lends (event.Took c n) o → HasCause before now o → is_lack o ≡ false → Midway first now B c past octets Written (After o)
   taken_on k lends count first before now h o is cause kept = ⊎_elim
       (λ (g : GoesOn B c past octets Written (After o)). inl g)
-      (λ (g : TalksInPart B c octets Written past (acts (trace_of B (After o))) × (o ≡ outcome.Failed)). inr (g.0, grown_since first before now h (cause_of before now o g.1 cause), k.on.heard))
+      (λ (g : TalksInPart B c octets Written past (acts (trace_of B (After o))) × (o ≡ outcome.Failed)). inr (g.0, grown_since first before now h (cause_of before now o g.1 cause)))
       (takes_on B c past octets written L n lent k lends count o is kept)
 
   pub takes : IsTaking B c past octets written n lent L → (lends : ℕ → ℕ) → length lent ≡ lends c → (first before now : ℕ) → first ≤ before → (o : Outcome)
@@ -93,7 +92,7 @@ module _ (B : Records) (c : ℕ) (past : List (Act × Tag)) (octets written : Li
   pub taking : (first now : ℕ) → Midway first now B c past octets written L → 0 < n → n ≤ length lent → IsLent (rest (trace_of B L) c) lent → IsTaking B c past octets written n lent L
   taking first now m some fits is = ⊎_elim
       (λ (g : GoesOn B c past octets written L). record { on = g; some = some; fits = fits; is = is })
-      (λ (g : TalksInPart B c octets written past (acts (trace_of B L)) × (has_grown first now ≡ true) × (stream L c ≡ octets)).
+      (λ (g : TalksInPart B c octets written past (acts (trace_of B L)) × (has_grown first now ≡ true)).
       (let z = part_lends B c past octets written L lent g.0 is in absurd (omega (arith, some, fits, z))))
       m
 
@@ -171,7 +170,7 @@ pub waits_now : (before now : ℕ) (B : Records) (c : ℕ) (past : List (Act × 
     → is_open (trace_of B L) c ≡ true → Waits B c past octets written L
 waits_now before now B c past octets written L p opened = ⊎_elim
     (λ (g : GoesOn B c past octets written L). record { on = g; ready = ready_if (is_open (trace_of B L) c) (rest (trace_of B L) c) opened p.nothing })
-    (λ (g : TalksInPart B c octets written past (acts (trace_of B L)) × (has_grown before now ≡ true) × (stream L c ≡ octets)). absurd (shut_open (is_open (trace_of B L) c) (part_shut B c past octets written L g.0) opened))
+    (λ (g : TalksInPart B c octets written past (acts (trace_of B L)) × (has_grown before now ≡ true)). absurd (shut_open (is_open (trace_of B L) c) (part_shut B c past octets written L g.0) opened))
     p.midway
 
 pub open_by : (a b : Bool) → a ≡ not b → a ≡ false → b ≡ true
@@ -298,17 +297,6 @@ refused_out AtEnd grown T c e L r = ⊎_elim
     subst (λ x. ComesOut AtEnd grown T c [] [] (Err x) L) (sym k.0) (record { acts = r.same; unread = refl; replies = refl }, k.1))
     r.cause
 
--- all that was read was heard
-all_heard : (AtEnd : Type 0) (before during : ℕ) (B : Records) (c : ℕ) (past : List (Act × Tag)) (octets written : List ℕ) (L : Log)
-    → (Waits B c past octets written L × AtEnd) ⊎ IsOver before during B c past octets written L → stream L c ≡ octets
-all_heard AtEnd before during B c past octets written L h = ⊎_elim
-    (λ (w : Waits B c past octets written L × AtEnd). w.0.on.heard)
-    (λ (w : IsOver before during B c past octets written L). ⊎_elim
-    (λ (on : GoesOn B c past octets written L). on.heard)
-    (λ (p : TalksInPart B c octets written past (acts (trace_of B L)) × (has_grown before during ≡ true) × (stream L c ≡ octets)). p.2)
-    w.midway)
-    h
-
 pub comes_out : (AtEnd : Type 0) (before during now : ℕ) → during ≤ now → (T : Trace) (c : ℕ) (octets written : List ℕ) (r : Result Unit TalkFault) (L : Log) (lent : ℕ → ℕ) (o : Outcome)
     → IsOutcome (trace_of T.base L) lent (event.Gone c) o
     → MatchResult r (λ _. (Waits T.base c (acts T) octets written L × AtEnd) ⊎ IsOver before during T.base c (acts T) octets written L) (λ e. IsCut e T.base c (acts T) octets written L)
@@ -316,22 +304,19 @@ pub comes_out : (AtEnd : Type 0) (before during now : ℕ) → during ≤ now �
 comes_out AtEnd before during now later T c octets written (Ok done) L lent o is h =
     let g = goes T.base c (acts T) octets written L lent o is in
     let after = (event.Gone c, mark_of o) ∷ L in (
-      (
-        g.1,
-        ⊎_elim
-            (λ (w : Waits T.base c (acts T) octets written L × AtEnd). inl (waited T.base c (acts T) octets written L after w.0 g.0 AtEnd w.1))
-            (λ (w : IsOver before during T.base c (acts T) octets written L). ⊎_elim
-            (λ (on : GoesOn T.base c (acts T) octets written L). inl (closed T.base c (acts T) octets written L after on w.shut g.0 AtEnd))
-            (λ (p : TalksInPart T.base c octets written (acts T) (acts (trace_of T.base L)) × (has_grown before during ≡ true) × (stream L c ≡ octets)).
-            inr (part_stays T.base c (acts T) octets written L after p.0 g.0, grown_still before during now later p.1))
-            w.midway)
-            h,
-      ),
-      all_heard AtEnd before during T.base c (acts T) octets written L h,
+      g.1,
+      ⊎_elim
+          (λ (w : Waits T.base c (acts T) octets written L × AtEnd). inl (waited T.base c (acts T) octets written L after w.0 g.0 AtEnd w.1))
+          (λ (w : IsOver before during T.base c (acts T) octets written L). ⊎_elim
+          (λ (on : GoesOn T.base c (acts T) octets written L). inl (closed T.base c (acts T) octets written L after on w.shut g.0 AtEnd))
+          (λ (p : TalksInPart T.base c octets written (acts T) (acts (trace_of T.base L)) × (has_grown before during ≡ true)).
+          inr (part_stays T.base c (acts T) octets written L after p.0 g.0, grown_still before during now later p.1))
+          w.midway)
+          h,
     )
 comes_out AtEnd before during now later T c octets written (Err fault.Read) L lent o is h =
     let g = goes T.base c (acts T) octets written L lent o is in
-    ((g.1, waited_reading T.base c (acts T) octets written L ((event.Gone c, mark_of o) ∷ L) h g.0), h.on.heard)
+    (g.1, waited_reading T.base c (acts T) octets written L ((event.Gone c, mark_of o) ∷ L) h g.0)
 comes_out AtEnd before during now later T c octets written (Err fault.Write) L lent o is h =
     let g = goes T.base c (acts T) octets written L lent o is in
     (g.1, broken T.base c (acts T) octets written false L ((event.Gone c, mark_of o) ∷ L) h g.0)

@@ -12,7 +12,7 @@ use Rattle.office.specs.Replying.{is_empty}
 use Rattle.office.specs.Told.{told}
 use Rattle.office.specs.Events.{Event, Mark, Tagged, Log, Trace, given}
 use Rattle.office.specs.Events as event
-use Rattle.office.specs.Log.{next_number, stream, taken}
+use Rattle.office.specs.Log.{taken, next_number}
 use Rattle.office.specs.Trace.{acts, history, rest, rest_if, is_open, is_open_by, untaken, IsLent}
 use Rattle.office.specs.Expected.{IsOutcome, ignored, shown_at, or_ignored, reason_if, may_show, is_full}
 use Rattle.office.specs.Outcomes.{Outcome, Reason, NoSuchConnection, TooManyConnections, Opened, mark_of}
@@ -303,7 +303,7 @@ module _ (B : Records) (c : ℕ) (old : List (Act × Tag)) (octets written : Lis
   pub midway_broken : (before now : ℕ) (L : Log) → Midway before now B c old octets written L → Breaks B c old octets written false L
   midway_broken before now L m = ⊎_elim
       (λ (g : GoesOn B c old octets written L). goes_broken L g)
-      (λ (p : TalksInPart B c octets written old (acts (trace_of B L)) × (has_grown before now ≡ true) × (stream L c ≡ octets)). part_broken L p.0)
+      (λ (p : TalksInPart B c octets written old (acts (trace_of B L)) × (has_grown before now ≡ true)). part_broken L p.0)
       m
 
   -- ---- a fault broke it off

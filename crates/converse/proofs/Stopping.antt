@@ -12,7 +12,7 @@ use Rattle.converse.specs.Script.{ScriptLine, Does, Drains, NoPolicy, line_seen}
 use Rattle.converse.specs.declared.script.Line.{Line}
 use Rattle.converse.specs.Played.{TakesAll, Acts, ComesTo, WithCause, Point, point, Plays, HasPlayed, Begun, PlaysInPart, Reaches, HasRunInPart}
 use Rattle.converse.proofs.Clauses.{grown_since}
-use Rattle.converse.proofs.Playing.{TakesSoFar, caused_none, caused_more}
+use Rattle.converse.proofs.Playing.{TakesSoFar, caused_more}
 
 -- ---- one line
 
@@ -38,11 +38,7 @@ begun_acted T (NoPolicy f) (Some o) printed U h = absurd h
 -- ---- an office
 
 module _ {V : Type 0} (Holds : V → Contents → Type 0) (o : Office V) (first now : ℕ) (T : Trace) where
-  -- nothing was done
-  pub reaches_none : (line : ScriptLine) → StandsFor Holds o T → Reaches Holds o first now T (Begun T line)
-  reaches_none line st = record { trace = T; stands = st; is = begun_none T line; caused = caused_none first now T }
-
-  -- what holds of what was printed and of a trace, holds less of the trace
+  -- less is said, and of the trace alone
   pub reaches_so : (Is : Trace → Type 0) (Was : List ℕ → Trace → Type 0) (before after : Option (List ℕ)) → ((printed : List ℕ) (U : Trace) → Was printed U → Is U)
       → ComesTo Holds o before after (WithCause first now T Was) → Reaches Holds o first now T Is
   reaches_so Is Was before after f h = record { trace = h.trace; stands = h.stands; is = f h.printed h.trace h.is.0; caused = h.is.1 }

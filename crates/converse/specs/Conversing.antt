@@ -47,10 +47,10 @@ pub record Waits (B : Records) (c : ℕ) (old : List (Act × Tag)) (octets writt
   pub on : GoesOn B c old octets written L
   pub ready : is_ready (trace_of B L) c ≡ true
 
--- it goes on, or a later part of a message couldn't be read, for which the store's count of faults grew; all that was read was heard
+-- it goes on, or a later part of a message couldn't be read, for which the store's count of faults grew
 abbrev pub Midway : (before now : ℕ) → Records → ℕ → List (Act × Tag) → (octets written : List ℕ) → Log → Type 0
 Midway before now B c old octets written L =
-    GoesOn B c old octets written L ⊎ (TalksInPart B c octets written old (acts (trace_of B L)) × (has_grown before now ≡ true) × (stream L c ≡ octets))
+    GoesOn B c old octets written L ⊎ (TalksInPart B c octets written old (acts (trace_of B L)) × (has_grown before now ≡ true))
 
 -- nothing is owed
 pub record IsPaid (before now : ℕ) (B : Records) (c : ℕ) (old : List (Act × Tag)) (octets written : List ℕ) (L : Log) : Type 0 where

@@ -9,7 +9,7 @@ use Rattle.office.specs.Stands.{Keeps}
 use Rattle.office.specs.Trace.{acts}
 use Rattle.converse.specs.Played.{failures}
 use Rattle.converse.specs.Talk.{Talks, TalksInPart}
-use Rattle.converse.specs.Talked.{trace_of, Extends, Leaves, AreHeard, ComesOut}
+use Rattle.converse.specs.Talked.{trace_of, Extends, Leaves, ComesOut}
 use Rattle.converse.specs.declared.conversation.TalkFault.{TalkFault}
 
 -- a store holds what it held, where its end is clean
@@ -34,7 +34,6 @@ pub record HasTalked {V : Type 0} (Holds : V → Contents → Type 0) (new : V) 
   pub caused : failures T.log < failures log → grown ≡ true
   pub came_out : Leaves T.base (next_number T.log) log (λ history.
       Talks T.base (next_number T.log) octets written AtEnd (acts T) history ⊎ (TalksInPart T.base (next_number T.log) octets written (acts T) history × (grown ≡ true)))
-  pub heard : AreHeard (next_number T.log) octets log
 
 -- A fault broke a conversation off over an office that stood for T: the store keeps what a trace says that goes on from T by it alone, and
 -- of which that holds which holds at this fault; an event failed only where the store counted a refusal.

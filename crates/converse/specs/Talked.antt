@@ -6,7 +6,6 @@ use Rattle.vault.specs.Changes.{Contents}
 use Rattle.office.specs.History.{Act, Tag, NoMemory}
 use Rattle.office.specs.Events.{Event, Mark, Tagged, Log, Trace}
 use Rattle.office.specs.Events as event
-use Rattle.office.specs.Log.{stream}
 use Rattle.office.specs.Trace.{acts, is_open}
 use Rattle.office.specs.Expected.{is_full}
 use Rattle.office.specs.Stands.{StandsFor, vault_of}
@@ -59,17 +58,12 @@ MetLackBefore c L = (m : Mark) × (before : Log) × (L ≡ (event.Gone c, m) ∷
 abbrev pub Leaves : Records → ℕ → Log → (List (Act × Tag) → Type 0) → Type 0
 Leaves B c L P = (is_open (trace_of B L) c ≡ false) × P (acts (trace_of B L))
 
--- all octets that were read were accepted, each while the connection was open
-abbrev pub AreHeard : ℕ → (octets : List ℕ) → Log → Type 0
-AreHeard c octets L = stream L c ≡ octets
-
 -- By what `talk` answered over an office that stood for T: what is said of the log of the trace for which it stands now. `AtEnd` says
--- that the reader told its end, and `grown` that the store's count of faults grew. Where no fault but the reader's ended it, nothing was read
--- behind the connection's end.
+-- that the reader told its end, and `grown` that the store's count of faults grew.
 abbrev pub ComesOut : (AtEnd : Type 0) (grown : Bool) → Trace → ℕ → (octets written : List ℕ) → Result Unit TalkFault → Log → Type 0
 ComesOut AtEnd grown T c octets written (Ok done) L =
-    Leaves T.base c L (λ new. Talks T.base c octets written AtEnd (acts T) new ⊎ (TalksInPart T.base c octets written (acts T) new × (grown ≡ true))) × AreHeard c octets L
-ComesOut AtEnd grown T c octets written (Err fault.Read) L = Leaves T.base c L (BreaksOffReading T.base c octets written (acts T)) × AreHeard c octets L
+    Leaves T.base c L (λ new. Talks T.base c octets written AtEnd (acts T) new ⊎ (TalksInPart T.base c octets written (acts T) new × (grown ≡ true)))
+ComesOut AtEnd grown T c octets written (Err fault.Read) L = Leaves T.base c L (BreaksOffReading T.base c octets written (acts T))
 ComesOut AtEnd grown T c octets written (Err fault.Write) L = Leaves T.base c L (BreaksOff T.base c octets written false (acts T))
 ComesOut AtEnd grown T c octets written (Err fault.TooManyConnections) L =
     NeverBegins octets written (acts T) (acts (trace_of T.base L)) × (is_full T ≡ true)
