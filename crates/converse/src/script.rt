@@ -16,8 +16,8 @@ use office::AdminCommand;
 use policy::{Action, PolicyFault};
 use std::alloc::{AllocError, AllocFailed, Global};
 
-/// What one line of a script asks for. Connections are named by their numbers.
-#[derive(Debug, Drop)]
+/// What one line of a script asks for. Connections are named by their numbers. It has no `Debug`, since it may hold a password or mail.
+#[derive(Drop)]
 pub enum Line {
     /// `connect`: a connection is opened.
     Connect,

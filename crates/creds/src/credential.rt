@@ -3,8 +3,8 @@ use crate::digest::{apop_digest, pass_digest};
 use crate::name::Name;
 use crate::secret::Secret;
 
-/// What is kept of a clerk, who has one kind of credential.
-#[derive(Clone, Copy, PartialEq, Eq, Debug)]
+/// What is kept of a clerk, who has one kind of credential. It has no `Debug`, so that no digest of a password is shown by accident.
+#[derive(Clone, Copy, PartialEq, Eq)]
 pub enum Credential {
     /// The secret shared with a clerk who logs in by APOP.
     Apop(Secret),

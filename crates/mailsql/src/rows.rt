@@ -1,16 +1,17 @@
 //! The rows of the store's tables, as the tables' columns hold them: texts and blobs as octets, numbers as signed 64-bit integers.
+//! They have no `Debug`, since they hold mail and secrets.
 
 use sqlite_value::value::Bytes;
 
 /// A row of `meta`: the one named `popbox` holds the version of the layout.
-#[derive(Debug, Drop)]
+#[derive(Drop)]
 pub struct Mark {
     pub name: Bytes,
     pub value: i64,
 }
 
 /// A row of `clerks`. The kind is 1 for an APOP secret and 2 for the digest of a password.
-#[derive(Debug, Drop)]
+#[derive(Drop)]
 pub struct Clerk {
     pub name: Bytes,
     pub kind: i64,
@@ -18,7 +19,7 @@ pub struct Clerk {
 }
 
 /// A row of `counts`: the greatest number that a class was given in a maildrop.
-#[derive(Debug, Drop)]
+#[derive(Drop)]
 pub struct Count {
     pub maildrop: Bytes,
     pub class: Bytes,
@@ -26,7 +27,7 @@ pub struct Count {
 }
 
 /// A row of `deposits`: a deposit that was ever accepted.
-#[derive(Debug, Drop)]
+#[derive(Drop)]
 pub struct Deposit {
     pub maildrop: Bytes,
     pub id: Bytes,
@@ -36,7 +37,7 @@ pub struct Deposit {
 }
 
 /// A row of `mail`: a message that is present, without its sheets. `octets` is its length in octets.
-#[derive(Debug, Drop)]
+#[derive(Drop)]
 pub struct Message {
     pub key: i64,
     pub maildrop: Bytes,
@@ -46,7 +47,7 @@ pub struct Message {
 }
 
 /// A row of `sheets`: a page of a message, counted from 0.
-#[derive(Debug, Drop)]
+#[derive(Drop)]
 pub struct Sheet {
     pub mail: i64,
     pub place: i64,
@@ -54,7 +55,7 @@ pub struct Sheet {
 }
 
 /// A row of `rules`. The effect is 1 for allow and 0 for deny; the actions are the sum of 1 for open, 2 for read and 4 for remove.
-#[derive(Debug, Drop)]
+#[derive(Drop)]
 pub struct Rule {
     pub place: i64,
     pub name: Bytes,

@@ -52,8 +52,8 @@ impl From<AllocError> for TextFault {
 }
 
 /// A message in its kept form: at least one line, each followed by CRLF, and at most [`MAX_OCTETS`] octets. Contracts
-/// see its octets.
-#[derive(Debug, Drop)]
+/// see its octets. It has no `Debug`, so that no mail is shown by accident.
+#[derive(Drop)]
 pub struct MailText {
     octets: Vec<u8>,
 }

@@ -2,8 +2,8 @@
 use creds::{Credential, Name};
 use policy::{Action, Policy};
 
-/// A command of an administrator.
-#[derive(Debug, Drop)]
+/// A command of an administrator. It has no `Debug`, since it may hold a credential.
+#[derive(Drop)]
 pub enum AdminCommand {
     /// Each maildrop with how many messages it has and their octets.
     ListMaildrops,

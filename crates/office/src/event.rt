@@ -2,8 +2,8 @@
 use crate::{AdminCommand, Answer};
 use creds::{DepositId, Name};
 
-/// What happens to an office, one at a time.
-#[derive(Clone, Copy, Debug)]
+/// What happens to an office, one at a time. It has no `Debug`, since it may hold a password or mail.
+#[derive(Clone, Copy)]
 pub enum Event<'a> {
     /// A client connects. The connection gets the next number, from 1 on.
     Connect,

@@ -5,7 +5,7 @@ use crate::Outcome;
 use std::marker::Model;
 
 /// What one event was answered, and the octets that it took, where it was a taking that was accepted.
-#[derive(Debug, Drop)]
+#[derive(Drop)]
 pub struct Step {
     outcome: Outcome,
     octets: Vec<u8>,
@@ -42,7 +42,7 @@ impl Step {
 }
 
 /// What each event of a run was answered, in order.
-#[derive(Debug, Drop)]
+#[derive(Drop)]
 pub struct Transcript {
     steps: Vec<Step>,
 }

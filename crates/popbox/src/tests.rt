@@ -487,15 +487,6 @@ fn refused_files(rt: HostRuntime) -> Result<(), Fail> {
     Ok(())
 }
 
-/// The exit status of a command line that can't be read, or that asks for help.
-fn refused_status(alloc: Global, words: &[&str]) -> Result<Option<i32>, Fail> {
-    let command = make_command(alloc)?;
-    match command.try_get_matches_from(words) {
-        Ok(_) => Ok(None),
-        Err(error) => Ok(Some(error.exit_code())),
-    }
-}
-
 /// Whether the matches are of a subcommand, and have the options that `replay` has by default, those that `check-policy` was
 /// given, or those of `talk`, without a boot number.
 fn are_as_wanted(matches: &ArgMatches<'_>) -> bool {
@@ -522,40 +513,37 @@ fn has_store_alone(options: &ArgMatches<'_>) -> bool {
         && options.get_one::<u64>("boot").is_none()
 }
 
-/// Command lines that are read.
-static GOOD_WORDS: [&[&str]; 3] = [
-    &["popbox", "replay"],
-    &["popbox", "check-policy", "office.toml"],
-    &["popbox", "talk", "--store", "office.db"],
+/// Command lines, and the exit status of each that asks for help, or can't be read.
+static WORDS: [(&[&str], Option<i32>); 9] = [
+    (&["popbox", "replay"], None),
+    (&["popbox", "check-policy", "office.toml"], None),
+    (&["popbox", "talk", "--store", "office.db"], None),
+    (&["popbox", "talk"], Some(2)),
+    (&["popbox", "check-policy"], Some(2)),
+    (&["popbox", "replay", "--help"], Some(0)),
+    (&["popbox", "replay", "--turns"], Some(2)),
+    (
+        &["popbox", "replay", "--boot=18446744073709551616"],
+        Some(2),
+    ),
+    (&["popbox", "play", "x"], Some(2)),
 ];
 
-/// Command lines that ask for help, or can't be read, and the exit status of each.
-static OTHER_WORDS: [(&[&str], i32); 6] = [
-    (&["popbox", "talk"], 2),
-    (&["popbox", "check-policy"], 2),
-    (&["popbox", "replay", "--help"], 0),
-    (&["popbox", "replay", "--turns"], 2),
-    (&["popbox", "replay", "--boot=18446744073709551616"], 2),
-    (&["popbox", "play", "x"], 2),
-];
-
-/// Whether a command line is read, and has the options of its subcommand.
-fn is_read(alloc: Global, words: &[&str]) -> Result<bool, Fail> {
+/// The exit status of a command line that asks for help, or can't be read, and none of one that is read. Fails where the
+/// options of that one are others than those of its subcommand.
+fn refused_status(alloc: Global, words: &[&str]) -> Result<Option<i32>, Fail> {
     let command = make_command(alloc)?;
     match command.try_get_matches_from(words) {
-        Ok(matches) => Ok(are_as_wanted(&matches)),
-        Err(_) => Ok(false),
+        Ok(matches) if are_as_wanted(&matches) => Ok(None),
+        Ok(_) => Err(Fail::from("other options")),
+        Err(error) => Ok(Some(error.exit_code())),
     }
 }
 
 #[test]
 fn command_lines(rt: HostRuntime) -> Result<(), Fail> {
-    let alloc = rt.alloc();
-    for words in &GOOD_WORDS {
-        assert!(rt; is_read(alloc, *words)?);
-    }
-    for (words, status) in &OTHER_WORDS {
-        assert!(rt; refused_status(alloc, *words)? == Some(*status));
+    for (words, status) in &WORDS {
+        assert!(rt; refused_status(rt.alloc(), *words)? == *status);
     }
     Ok(())
 }

@@ -39,8 +39,8 @@ pub enum Keyword {
     Noop,
 }
 
-/// What a command line asks for. A number that is written above 2^64 - 1 counts as that.
-#[derive(Clone, Copy, Debug, PartialEq, Eq)]
+/// What a command line asks for. A number that is written above 2^64 - 1 counts as that. It has no `Debug`, since it may hold a password.
+#[derive(Clone, Copy, PartialEq, Eq)]
 pub enum Command<'a> {
     /// The list of capabilities (RFC 2449, 5).
     Capa,

@@ -6,7 +6,7 @@ ghost use Rattle.popline.specs.Cutting.{without_return as without_return_of};
 use std::marker::Model;
 
 /// What came of the octets up to and with a LF (RFC 1939, 3; RFC 2449, 4).
-#[derive(Clone, Copy, Debug)]
+#[derive(Clone, Copy)]
 pub enum Cut<'a> {
     /// A command line without its LF and without one CR before that; at most 254 octets.
     Line(&'a [u8]),

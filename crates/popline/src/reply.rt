@@ -10,7 +10,7 @@ use std::alloc::{AllocError, Global};
 
 /// A reply, one for each thing that a server has to say. Listings are put line by line (`begin_scan_listing`,
 /// `begin_uid_listing`), so that no copy of theirs is made.
-#[derive(Clone, Copy, Debug)]
+#[derive(Clone, Copy)]
 pub enum Reply<'a> {
     /// The first line of a connection, with the timestamp that APOP signs (RFC 1939, 4 and 7).
     Greeting {

@@ -3,8 +3,8 @@ use crate::message_key::MessageKey;
 use creds::{Credential, DepositId, Name};
 use mailtext::MailText;
 
-/// A clerk, who has one kind of credential.
-#[derive(Clone, Copy, PartialEq, Eq, Debug)]
+/// A clerk, who has one kind of credential. It has no `Debug`, as the credential has none.
+#[derive(Clone, Copy, PartialEq, Eq)]
 pub struct Clerk {
     /// The clerk's name.
     pub name: Name,
@@ -13,7 +13,7 @@ pub struct Clerk {
 }
 
 /// A message where it lies.
-#[derive(Debug, Drop)]
+#[derive(Drop)]
 pub struct Message {
     /// The maildrop that it lies in.
     pub maildrop: Name,
@@ -26,7 +26,7 @@ pub struct Message {
 }
 
 /// A message under its key.
-#[derive(Debug, Drop)]
+#[derive(Drop)]
 pub struct Keyed {
     /// The key, which no other message has while this one is there.
     pub key: MessageKey,
