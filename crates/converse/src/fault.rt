@@ -45,15 +45,15 @@ impl fmt::Display for Fault {
 
     fn fmt<W: fmt::Write>(&self, f: &mut fmt::Formatter<W>) -> fmt::Result {
         match self {
-            Fault::CannotRead => write!(f, "cannot read file"),
+            Fault::CannotRead => f.write_str("cannot read file"),
             Fault::BadEvent(number) => write!(f, "line {number}: bad event"),
-            Fault::BadHost => write!(f, "BadHost"),
+            Fault::BadHost => f.write_str("BadHost"),
             Fault::Store(fault) => f.write_str(fault_text(fault)),
             Fault::Talk(fault) => f.write_str(talk_fault_text(fault)),
             Fault::NoPolicy(fault) => write!(f, "{fault}"),
-            Fault::NoClock => write!(f, "cannot read clock"),
-            Fault::CannotWrite => write!(f, "cannot write"),
-            Fault::OutOfMemory => write!(f, "out of memory"),
+            Fault::NoClock => f.write_str("cannot read clock"),
+            Fault::CannotWrite => f.write_str("cannot write"),
+            Fault::OutOfMemory => f.write_str("out of memory"),
         }
     }
 }

@@ -6,8 +6,6 @@ use Rattle.sqlite_value.specs.declared.value.Value.TheVariants.{Null, Int, Blob}
 use Rattle.sqlite_value.specs.Order.{Row, column}
 use Rattle.sqlite_trees.specs.Tree.{Trees, put_row}
 use Rattle.sqlite_sql.specs.Term.{lit, col}
-use Rattle.sqlite_schema.specs.declared.command.Command.{Command}
-use Rattle.sqlite_schema.specs.declared.command.Command.TheVariants.{Delete}
 use Rattle.sqlite_rules.specs.declared.error.Rowids.TheVariants.{Chosen}
 use Rattle.sqlite_rules.specs.Edit.{next_rowid}
 use Rattle.sqlite.specs.Effect.{Database, IsDatabase}
@@ -15,26 +13,21 @@ use Rattle.sqlite.specs.Does.{Tally, Does}
 use Rattle.sqlite.specs.Listing.{understood}
 use Rattle.sqlite.specs.State.{State, IsLive, mode_of, Executes, CommitsBy, Shown}
 use Rattle.sqlite.proofs.Callers.{IsPlain, command_of}
-use Rattle.mailsql.specs.Tables as tables
 use Rattle.mailsql.specs.Tables.{mail_schema, to_mail}
 use Rattle.mailsql.proofs.Statements as st
 use Rattle.mailsql.specs.Rows as m
 use Rattle.mailsql.specs.Changes as ch
-use Rattle.mailsql.specs.Rows.{Name, Rows, rows_in, IsKept, AreKept, IsReady, MayLeave, Changes, same_int}
+use Rattle.mailsql.specs.Rows.{Rows, rows_in, IsKept, AreKept, IsReady, MayLeave, Changes}
 use Rattle.mailsql.proofs.RowLemmas.{next_last, appended}
 use Rattle.mailsql.proofs.WriteLemmas.{inserted}
-use Rattle.mailsql.proofs.KeptLemmas.{applied_kept, keyed_apart}
+use Rattle.mailsql.proofs.KeptLemmas.{applied_kept}
 use Rattle.mailsql.proofs.FrameLemmas as frame
 use Rattle.mailsql.proofs.FrameLemmas.{framed}
 use Rattle.mailsql.proofs.CastLemmas.{cast_null, cast_int}
 use Rattle.mailsql.proofs.StateLemmas.{changes, commits}
 use Rattle.mailsql.proofs.TypedLemmas as typed
-use Rattle.mailsql.proofs.EqualLemmas.{column_int, kept_map}
+use Rattle.mailsql.proofs.EqualLemmas.{column_int}
 use Rattle.mailsql.proofs.FindLemmas.{and_true}
-use Rattle.mailsql.proofs.QueryLemmas.{passes, shown_rows}
-use Rattle.mailsql.proofs.RemoveLemmas.{removed}
-use Rattle.mailsql.proofs.WithoutLemmas.{without_shown}
-use Rattle.mailsql.proofs.CascadeLemmas as still
 use Rattle.mailsql.proofs.ReadLemmas.{Asks, kept, sound, listed, everything_listed}
 
 pub add_sheet_is : command_of (understood mail_schema st.add_sheet_text) ≡ st.add_sheet_command
@@ -73,43 +66,6 @@ module _ (old new : State) (mail : ℤ) (place : ℤ) (octets : List ℕ) (live 
   pub add_sheet_commits : (db : Trees) → CommitsBy st.add_sheet_text (Int mail ∷ Int place ∷ Blob octets ∷ []) old db → MayLeave (ch.AddsSheet (record { mail = mail; place = place; octets = octets })) old db
   add_sheet_commits db h =
       commits st.add_sheet_text (Int mail ∷ Int place ∷ Blob octets ∷ []) st.add_sheet_command add_sheet_is add_sheet_plain (λ e. cc) (λ n e. cc) (λ a b t n r. r) (ch.AddsSheet (record { mail = mail; place = place; octets = octets })) (add_sheet_does mail place octets) old db live h
-
-abbrev pub remove_sheets_command : Command
-remove_sheets_command = Delete 8 (record { lets = []; body = st.remove_sheets_query })
-
-pub remove_sheets_is : command_of (understood mail_schema st.remove_sheets_text) ≡ remove_sheets_command
-unfolding understood everything
-remove_sheets_is = refl
-
-pub remove_sheets_plain : IsPlain (understood mail_schema st.remove_sheets_text)
-unfolding understood everything
-remove_sheets_plain = (refl, refl)
-
-remove_sheets_does : (mail : ℤ) (limit : Option ℕ) (s : State) (text : List ℕ) (tally : Tally) (after : Database) → IsKept s.now → IsDatabase s.now
-    → Does limit (mode_of s) (Int mail ∷ []) s.now text None remove_sheets_command (Ok (tally, after)) → ch.RemovesSheets mail (rows_in s.now.trees) (rows_in after.trees) × IsKept after
-remove_sheets_does mail limit s text tally after kept sound h =
-    let db = s.now.trees in
-    let params = Int mail ∷ [] in
-    let terms = st.remove_sheets_terms in
-    let keyed = kept.1.1.1.1.1.1.1.1.1.0 in
-    let here = subst (λ sch. Does limit (mode_of s) params (record s.now { schema = sch }) text None remove_sheets_command (Ok (tally, after))) kept.0 h in
-    let it = removed limit mail_schema (tables.sheets_at 15) params 8 terms db tally after (still.still_sheets 0) refl here in
-    let same = shown_rows 15 terms (col 1 0 ∷ []) [] db params it.0 (record { ordered = it.1.ordered; same = it.1.same; sorted = it.1.sorted; shown = it.1.shown }) in
-    let rows = it.4 ∙ without_shown (db 15) (passes params terms) it.0 (keyed_apart (db 15) keyed, keyed.1) same in
-    let left = ap (map m.sheet_of) rows ∙ kept_map m.sheet_of (passes params terms) (λ x. same_int x.mail mail) (db 15) (λ r has. let it = typed.sheets_typed s.now kept.0 sound r has in and_true _ ∙ column_int (column r 1) mail it.0) in
-    let change = frame.sheets_alone db it.2 (framed db it.2 _ it.3) ∙ ap (λ l. let r : Rows = record (rows_in db) { sheets = l } in r) left in (
-      ap (λ (d : Database). rows_in d.trees) it.5 ∙ change,
-      (ap (λ (d : Database). d.schema) it.5, subst (λ (d : Database). AreKept mail_schema.tables d.trees) (sym it.5) (applied_kept db it.2 _ it.3 kept.1)),
-    )
-
-module _ (old new : State) (mail : ℤ) (live : IsLive old) where
-  pub remove_sheets_ok : (count : ℕ) → IsReady old → Executes st.remove_sheets_text (Int mail ∷ []) old new (Ok count) → Changes (ch.RemovesSheets mail) old new
-  remove_sheets_ok count ready h =
-      changes st.remove_sheets_text (Int mail ∷ []) remove_sheets_command remove_sheets_is remove_sheets_plain (λ e. cc) (λ n e. cc) (λ a b t n r. r) (ch.RemovesSheets mail) (remove_sheets_does mail) old new count ready live h
-
-  pub remove_sheets_commits : (db : Trees) → CommitsBy st.remove_sheets_text (Int mail ∷ []) old db → MayLeave (ch.RemovesSheets mail) old db
-  remove_sheets_commits db h =
-      commits st.remove_sheets_text (Int mail ∷ []) remove_sheets_command remove_sheets_is remove_sheets_plain (λ e. cc) (λ n e. cc) (λ a b t n r. r) (ch.RemovesSheets mail) (remove_sheets_does mail) old db live h
 
 pub find_sheet_asks : Asks st.find_sheet_text 15 st.find_sheet_terms st.sheet_columns st.sheet_names
 unfolding understood everything

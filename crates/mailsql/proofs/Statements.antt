@@ -13,7 +13,7 @@ use Rattle.sqlite_sql.specs.Query.{Query, Join, inner, end}
 use Rattle.sqlite_schema.specs.declared.command.Command.{Command}
 use Rattle.sqlite_schema.specs.declared.command.Command.TheVariants.{Select, Insert}
 use Rattle.sqlite_schema.specs.declared.command.Source.TheVariants.{Values}
-pub use Rattle.mailsql.specs.Statements.{add_mark_text, find_mark_text, all_marks_text, add_clerk_text, drop_clerk_text, find_clerk_text, all_clerks_text, clerk_count_text, add_maildrop_text, drop_maildrop_text, find_maildrop_text, all_maildrops_text, maildrops_text, maildrop_count_text, add_count_text, clear_count_text, find_count_text, all_counts_text, add_deposit_text, find_deposit_text, all_deposits_text, add_message_text, remove_message_text, heads_text, all_messages_text, message_count_text, add_sheet_text, remove_sheets_text, find_sheet_text, all_sheets_text, sheet_count_text, add_rule_text, clear_rules_text, all_rules_text, all_sequences_text}
+pub use Rattle.mailsql.specs.Statements.{add_mark_text, find_mark_text, all_marks_text, add_clerk_text, drop_clerk_text, find_clerk_text, all_clerks_text, clerk_count_text, add_maildrop_text, drop_maildrop_text, find_maildrop_text, all_maildrops_text, maildrops_text, maildrop_count_text, add_count_text, clear_count_text, find_count_text, all_counts_text, add_deposit_text, find_deposit_text, all_deposits_text, add_message_text, remove_message_text, heads_text, all_messages_text, message_count_text, add_sheet_text, find_sheet_text, all_sheets_text, sheet_count_text, add_rule_text, clear_rules_text, all_rules_text, all_sequences_text}
 
 abbrev pub query_of : Join → List Term → List Term → List (Term × Key) → Query
 query_of from filter project order = record {
@@ -171,12 +171,6 @@ sheet_names = codes "mail" ∷ codes "place" ∷ codes "octets" ∷ []
 
 abbrev pub add_sheet_command : Command
 add_sheet_command = Insert 8 (Values (lit Null ∷ col 0 0 ∷ col 0 1 ∷ col 0 2 ∷ []) 4)
-
-abbrev pub remove_sheets_terms : List Term
-remove_sheets_terms = eq (col 1 1) (col 0 0) ∷ []
-
-abbrev pub remove_sheets_query : Query
-remove_sheets_query = query_of (inner 15 end) remove_sheets_terms (col 1 0 ∷ []) []
 
 abbrev pub find_sheet_terms : List Term
 find_sheet_terms = eq (col 1 1) (col 0 0) ∷ eq (col 1 2) (col 0 1) ∷ []

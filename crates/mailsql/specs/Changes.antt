@@ -1,7 +1,7 @@
 -- The changes that the statements make, each of one table or two: a new row comes after the others.
 use Rattle.std.specs.Prelude.{◌≡◌, ◌≤◌, ℕ, ℤ, List, [], ◌∷◌, ◌++◌, fold, pos, ◌+ℤ◌, ◌<ℤ◌, bytes_eq, filter, not}
 use Rattle.std.specs.List.{AllByRecursion}
-use Rattle.mailsql.specs.Rows.{Name, Mark, Clerk, Count, Deposit, Message, Sheet, Rule, Rows, is_clerk, is_count, is_message, is_sheet_of, same_int}
+use Rattle.mailsql.specs.Rows.{Name, Mark, Clerk, Count, Deposit, Message, Sheet, Rule, Rows, is_clerk, is_count, is_message, is_sheet_of}
 use Rattle.mailsql.specs.Sheets.{first_sheets, sheets_of, sheet_count}
 
 -- a mark comes
@@ -75,10 +75,6 @@ AddsSheets mail text old new = new ≡ record old { sheets = old.sheets ++ sheet
 -- some of them come, from the first on
 abbrev pub AddsSomeSheets : ℤ → List ℕ → Rows → Rows → Type 0
 AddsSomeSheets mail text old new = (n : ℕ) × (n ≤ sheet_count text) × AddsFirstSheets n mail text old new
-
--- the sheets of a message go
-abbrev pub RemovesSheets : ℤ → Rows → Rows → Type 0
-RemovesSheets key old new = new ≡ record old { sheets = filter (λ s. not (same_int s.mail key)) old.sheets }
 
 -- one above the last place
 abbrev pub next_place : List Rule → ℤ

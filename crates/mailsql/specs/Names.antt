@@ -1,6 +1,7 @@
 -- Which names and columns of a store's schema are those of our tables.
-use Rattle.std.specs.Prelude.{ℕ, nat_eq, Bool, true, false, not, ◌&&◌, ◌||◌, ◌==◌, List, [], ◌∷◌, bytes_eq, codes}
+use Rattle.std.specs.Prelude.{ℕ, nat_eq, Bool, true, false, not, ◌&&◌, ◌||◌, ◌==◌, List, [], ◌∷◌, None, map, bytes_eq, codes}
 use Rattle.std.specs.List.{list_any, list_all}
+use Rattle.std.specs.Borrow.{Bor}
 use Rattle.std.specs.Cmp.Lexicographic.{pointwise}
 use Rattle.sqlite_schema.specs.declared.schema.Kind.{Kind}
 use Rattle.sqlite_schema.specs.declared.schema.Column.{Column}
@@ -8,7 +9,7 @@ use Rattle.sqlite_schema.specs.declared.schema.Table.{Table}
 use Rattle.sqlite_schema.specs.declared.schema.Schema.{Schema}
 use Rattle.sqlite_schema.specs.Names.{same_name}
 use Rattle.sqlite_schema.specs.Rules.{kind_code}
-use Rattle.mailsql.specs.Tables.{meta_at, clerks_at, maildrops_at, counts_at, deposits_at, mail_at, rules_at, sheets_at}
+use Rattle.mailsql.specs.Tables.{column_of, table_of, meta_at, clerks_at, maildrops_at, counts_at, deposits_at, mail_at, rules_at, sheets_at}
 
 -- the name is that of one of our tables, but for the case of ASCII letters
 abbrev pub is_our_name : List ℕ → Bool
@@ -26,6 +27,14 @@ is_kind kind c = kind_code c.kind == kind_code kind
 -- the column is STRICT, has this name and this kind, and is NOT NULL where that is asked for
 abbrev pub is_column : List ℕ → Kind → Bool → Column → Bool
 is_column name kind required c = bytes_eq c.name name && is_kind kind c && c.is_strict && (not required || c.not_null)
+
+-- the column that a text makes of its name, its kind, and whether it is NOT NULL
+abbrev pub made : Bor (List ℕ) × Kind × Bool → Column
+made m = column_of m.0.now m.1 m.2
+
+-- a table of this name, with these columns, and of keys this primary one and one more
+abbrev pub table_made : List ℕ → List (Bor (List ℕ) × Kind × Bool) → List ℕ → List ℕ → Table
+table_made name columns primary unique = table_of name 0 (map made columns) None primary (unique ∷ []) [] [] false
 
 -- STRICT columns of the same names and kinds, in the same order, and NOT NULL where these are
 abbrev pub are_columns : List Column → List Column → Bool

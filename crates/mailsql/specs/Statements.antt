@@ -137,10 +137,6 @@ message_count_text = codes "SELECT count(*) FROM mail WHERE maildrop = ?1"
 abbrev pub add_sheet_text : List ℕ
 add_sheet_text = codes "INSERT INTO sheets (mail, place, octets) VALUES (?1, ?2, ?3)"
 
--- the sheets of a message go
-abbrev pub remove_sheets_text : List ℕ
-remove_sheets_text = codes "DELETE FROM sheets WHERE mail = ?1"
-
 -- the sheet of a message at a place
 abbrev pub find_sheet_text : List ℕ
 find_sheet_text = codes "SELECT mail, place, octets FROM sheets WHERE mail = ?1 AND place = ?2 ORDER BY rowid"

@@ -1,12 +1,12 @@
 //! What the schema of a store tells: whether names of ours are taken, and whether our columns and keys are there.
 
-ghost use Rattle.std.specs.Prelude.{◌≡◌, true, false, ◌||◌, drop, bytes_eq};
+ghost use Rattle.std.specs.Prelude.{◌≡◌, true, false, ◌||◌, map, bytes_eq};
 ghost use Rattle.std.specs.List.{list_any};
 ghost use Rattle.sqlite.specs.Held.{state};
 ghost use Rattle.mailsql.specs.Apart.{AreApart};
 ghost use Rattle.mailsql.specs.Rows.{IsOurs, IsReady, rows_in};
-ghost use Rattle.mailsql.specs.Tables.{no_schema, meta_at, clerks_at, maildrops_at, counts_at, deposits_at, mail_at, rules_at, sheets_at};
-ghost use Rattle.mailsql.specs.Names.{is_our_name, is_taken, is_kind, is_column, are_columns, is_table, has_keys, are_places, has_marks, has_columns};
+ghost use Rattle.mailsql.specs.Tables.{no_schema};
+ghost use Rattle.mailsql.specs.Names.{is_our_name, is_taken, is_kind, is_column, are_columns, is_table, has_keys, are_places, has_marks, has_columns, made, table_made};
 
 use sqlite::{Alter, Connection};
 use sqlite_schema::names::same_name;
@@ -111,201 +111,93 @@ fn has_keys(table: &Table, primary: &[usize], unique: &[usize]) -> bool
     (table.primary.as_slice() == primary) & is_unique(table, unique)
 }
 
-fn are_of_meta(columns: &[Column]) -> bool
-    ensures { result ≡ are_columns (meta_at 0).columns columns.now }
+/// A column that a text of ours makes: its name, its kind, and whether it is NOT NULL.
+type Made = (&'static [u8], Kind, bool);
+
+const META: [Made; 2] = [(b"name", Kind::Text, true), (b"value", Kind::Integer, true)];
+
+const CLERKS: [Made; 3] = [
+    (b"name", Kind::Text, true),
+    (b"kind", Kind::Integer, true),
+    (b"secret", Kind::Blob, true),
+];
+
+const MAILDROPS: [Made; 1] = [(b"name", Kind::Text, true)];
+
+const COUNTS: [Made; 3] = [
+    (b"maildrop", Kind::Text, true),
+    (b"class", Kind::Text, true),
+    (b"k", Kind::Integer, true),
+];
+
+const DEPOSITS: [Made; 5] = [
+    (b"maildrop", Kind::Text, true),
+    (b"id", Kind::Text, true),
+    (b"class", Kind::Text, true),
+    (b"k", Kind::Integer, true),
+    (b"digest", Kind::Blob, true),
+];
+
+const MAIL: [Made; 5] = [
+    (b"key", Kind::Integer, false),
+    (b"maildrop", Kind::Text, true),
+    (b"class", Kind::Text, true),
+    (b"k", Kind::Integer, true),
+    (b"octets", Kind::Integer, true),
+];
+
+const RULES: [Made; 7] = [
+    (b"place", Kind::Integer, false),
+    (b"name", Kind::Text, true),
+    (b"effect", Kind::Integer, true),
+    (b"clerk", Kind::Text, true),
+    (b"maildrop", Kind::Text, true),
+    (b"class", Kind::Text, true),
+    (b"actions", Kind::Integer, true),
+];
+
+const SHEETS: [Made; 3] = [
+    (b"mail", Kind::Integer, true),
+    (b"place", Kind::Integer, true),
+    (b"octets", Kind::Blob, true),
+];
+
+/// Whether these are STRICT columns of the same names and kinds, in the same order, and NOT NULL where that is asked for.
+fn are_columns(columns: &[Column], ours: &[Made]) -> bool
+    ensures { result ≡ are_columns (map made ours.now) columns.now }
 {
-    let [name, value] = columns else {
-        return false;
-    };
-    is_column(name, b"name", Kind::Text, true) & is_column(value, b"value", Kind::Integer, true)
+    match ours {
+        [] => columns.is_empty(),
+        [(name, kind, required), ours @ ..] => match columns {
+            [] => false,
+            [column, columns @ ..] => {
+                is_column(column, *name, *kind, *required) & are_columns(columns, ours)
+            }
+        },
+    }
+}
+
+/// Whether a table of this name is there, with these columns and keys.
+fn has_table(
+    tables: &[Table],
+    name: &[u8],
+    columns: &[Made],
+    primary: &[usize],
+    unique: &[usize],
+) -> bool
+    ensures { result ≡ list_any (is_table (table_made name.now columns.now primary.now unique.now)) tables.now }
+{
+    tables.iter().any(|table| {
+        is_named(table, name)
+            & are_columns(table.columns.as_slice(), columns)
+            & has_keys(table, primary, unique)
+    })
 }
 
 fn has_meta(tables: &[Table]) -> bool
-    ensures { result ≡ list_any (is_table (meta_at 0)) tables.now }
+    ensures { result ≡ has_marks tables.now }
 {
-    tables.iter().any(|table| {
-        is_named(table, b"meta")
-            & are_of_meta(table.columns.as_slice())
-            & has_keys(table, &[1], &[1])
-    })
-}
-
-fn are_of_clerks(columns: &[Column]) -> bool
-    ensures { result ≡ are_columns (clerks_at 2).columns columns.now }
-{
-    let [name, kind, secret] = columns else {
-        return false;
-    };
-    is_column(name, b"name", Kind::Text, true)
-        & is_column(kind, b"kind", Kind::Integer, true)
-        & is_column(secret, b"secret", Kind::Blob, true)
-}
-
-fn has_clerks(tables: &[Table]) -> bool
-    ensures { result ≡ list_any (is_table (clerks_at 2)) tables.now }
-{
-    tables.iter().any(|table| {
-        is_named(table, b"clerks")
-            & are_of_clerks(table.columns.as_slice())
-            & has_keys(table, &[1], &[1])
-    })
-}
-
-fn are_of_maildrops(columns: &[Column]) -> bool
-    ensures { result ≡ are_columns (maildrops_at 4).columns columns.now }
-{
-    let [name] = columns else {
-        return false;
-    };
-    is_column(name, b"name", Kind::Text, true)
-}
-
-fn has_maildrops(tables: &[Table]) -> bool
-    ensures { result ≡ list_any (is_table (maildrops_at 4)) tables.now }
-{
-    tables.iter().any(|table| {
-        is_named(table, b"maildrops")
-            & are_of_maildrops(table.columns.as_slice())
-            & has_keys(table, &[1], &[1])
-    })
-}
-
-fn are_of_counts(columns: &[Column]) -> bool
-    ensures { result ≡ are_columns (counts_at 6).columns columns.now }
-{
-    let [maildrop, class, k] = columns else {
-        return false;
-    };
-    is_column(maildrop, b"maildrop", Kind::Text, true)
-        & is_column(class, b"class", Kind::Text, true)
-        & is_column(k, b"k", Kind::Integer, true)
-}
-
-fn has_counts(tables: &[Table]) -> bool
-    ensures { result ≡ list_any (is_table (counts_at 6)) tables.now }
-{
-    tables.iter().any(|table| {
-        is_named(table, b"counts")
-            & are_of_counts(table.columns.as_slice())
-            & has_keys(table, &[1, 2], &[1, 2])
-    })
-}
-
-fn are_last_of_deposits(columns: &[Column]) -> bool
-    ensures { result ≡ are_columns (drop 3 (deposits_at 8).columns) columns.now }
-{
-    let [k, digest] = columns else {
-        return false;
-    };
-    is_column(k, b"k", Kind::Integer, true) & is_column(digest, b"digest", Kind::Blob, true)
-}
-
-fn are_of_deposits(columns: &[Column]) -> bool
-    ensures { result ≡ are_columns (deposits_at 8).columns columns.now }
-{
-    let [maildrop, id, class, last @ ..] = columns else {
-        return false;
-    };
-    is_column(maildrop, b"maildrop", Kind::Text, true)
-        & is_column(id, b"id", Kind::Text, true)
-        & is_column(class, b"class", Kind::Text, true)
-        & are_last_of_deposits(last)
-}
-
-fn has_deposits(tables: &[Table]) -> bool
-    ensures { result ≡ list_any (is_table (deposits_at 8)) tables.now }
-{
-    tables.iter().any(|table| {
-        is_named(table, b"deposits")
-            & are_of_deposits(table.columns.as_slice())
-            & has_keys(table, &[1, 2], &[1, 2])
-    })
-}
-
-fn are_last_of_mail(columns: &[Column]) -> bool
-    ensures { result ≡ are_columns (drop 3 (mail_at 10).columns) columns.now }
-{
-    let [k, octets] = columns else {
-        return false;
-    };
-    is_column(k, b"k", Kind::Integer, true) & is_column(octets, b"octets", Kind::Integer, true)
-}
-
-fn are_of_mail(columns: &[Column]) -> bool
-    ensures { result ≡ are_columns (mail_at 10).columns columns.now }
-{
-    let [key, maildrop, class, last @ ..] = columns else {
-        return false;
-    };
-    is_column(key, b"key", Kind::Integer, false)
-        & is_column(maildrop, b"maildrop", Kind::Text, true)
-        & is_column(class, b"class", Kind::Text, true)
-        & are_last_of_mail(last)
-}
-
-fn has_mail(tables: &[Table]) -> bool
-    ensures { result ≡ list_any (is_table (mail_at 10)) tables.now }
-{
-    tables.iter().any(|table| {
-        is_named(table, b"mail")
-            & are_of_mail(table.columns.as_slice())
-            & has_keys(table, &[0], &[2, 3, 4])
-    })
-}
-
-fn are_last_of_rules(columns: &[Column]) -> bool
-    ensures { result ≡ are_columns (drop 3 (rules_at 13).columns) columns.now }
-{
-    let [clerk, maildrop, class, actions] = columns else {
-        return false;
-    };
-    is_column(clerk, b"clerk", Kind::Text, true)
-        & is_column(maildrop, b"maildrop", Kind::Text, true)
-        & is_column(class, b"class", Kind::Text, true)
-        & is_column(actions, b"actions", Kind::Integer, true)
-}
-
-fn are_of_rules(columns: &[Column]) -> bool
-    ensures { result ≡ are_columns (rules_at 13).columns columns.now }
-{
-    let [place, name, effect, last @ ..] = columns else {
-        return false;
-    };
-    is_column(place, b"place", Kind::Integer, false)
-        & is_column(name, b"name", Kind::Text, true)
-        & is_column(effect, b"effect", Kind::Integer, true)
-        & are_last_of_rules(last)
-}
-
-fn has_rules(tables: &[Table]) -> bool
-    ensures { result ≡ list_any (is_table (rules_at 13)) tables.now }
-{
-    tables.iter().any(|table| {
-        is_named(table, b"rules")
-            & are_of_rules(table.columns.as_slice())
-            & has_keys(table, &[0], &[2])
-    })
-}
-
-fn are_of_sheets(columns: &[Column]) -> bool
-    ensures { result ≡ are_columns (sheets_at 15).columns columns.now }
-{
-    let [mail, place, octets] = columns else {
-        return false;
-    };
-    is_column(mail, b"mail", Kind::Integer, true)
-        & is_column(place, b"place", Kind::Integer, true)
-        & is_column(octets, b"octets", Kind::Blob, true)
-}
-
-fn has_sheets(tables: &[Table]) -> bool
-    ensures { result ≡ list_any (is_table (sheets_at 15)) tables.now }
-{
-    tables.iter().any(|table| {
-        is_named(table, b"sheets")
-            & are_of_sheets(table.columns.as_slice())
-            & has_keys(table, &[1, 2], &[1, 2])
-    })
+    has_table(tables, b"meta", &META, &[1], &[1])
 }
 
 /// Whether the table of marks is there, with the columns and the key that its text makes. It is so in a store of every version.
@@ -320,13 +212,13 @@ fn has_our_columns(tables: &[Table]) -> bool
     ensures { result ≡ has_columns tables.now }
 {
     has_meta(tables)
-        & has_clerks(tables)
-        & has_maildrops(tables)
-        & has_counts(tables)
-        & has_deposits(tables)
-        & has_mail(tables)
-        & has_rules(tables)
-        & has_sheets(tables)
+        & has_table(tables, b"clerks", &CLERKS, &[1], &[1])
+        & has_table(tables, b"maildrops", &MAILDROPS, &[1], &[1])
+        & has_table(tables, b"counts", &COUNTS, &[1, 2], &[1, 2])
+        & has_table(tables, b"deposits", &DEPOSITS, &[1, 2], &[1, 2])
+        & has_table(tables, b"mail", &MAIL, &[0], &[2, 3, 4])
+        & has_table(tables, b"rules", &RULES, &[0], &[2])
+        & has_table(tables, b"sheets", &SHEETS, &[1, 2], &[1, 2])
 }
 
 /// Whether each of our tables is there with the columns and the keys that its text makes: the same names and kinds, in order, STRICT and NOT

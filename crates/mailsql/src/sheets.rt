@@ -11,7 +11,7 @@ ghost use Rattle.mailsql.specs.Sheets as cut;
 ghost use Rattle.mailsql.specs.Sheets.{SheetsAreTheText};
 ghost use Rattle.sqlite_value.specs.declared.value.Value.TheVariants.{Int, Blob};
 ghost use Rattle.mailsql.specs.Errors.{FailsToRun, FailsToAddSheets, FailsToRead, FailsToCount};
-ghost use Rattle.mailsql.specs.Statements.{add_sheet_text, remove_sheets_text, find_sheet_text, all_sheets_text, sheet_count_text};
+ghost use Rattle.mailsql.specs.Statements.{add_sheet_text, find_sheet_text, all_sheets_text, sheet_count_text};
 
 use crate::rows::Sheet;
 use crate::run::{count, first, list, run};
@@ -85,20 +85,6 @@ pub fn add_sheets<S: Alter>(conn: &mut Connection<S>, mail: i64, text: &[u8]) ->
         }
     }
     Ok(())
-}
-
-/// Takes out the pages of a message.
-pub fn remove_sheets<S: Alter>(conn: &mut Connection<S>, mail: i64) -> Result<(), Error>
-    ensures ok { HasCleanDisk (state S.Store conn.new) → IsReady (state S.Store conn.old) → OnOk result (Changes (changes.RemovesSheets mail) (state S.Store conn.old) (state S.Store conn.new)) }
-    ensures err { HasCleanDisk (state S.Store conn.new) → OnErr result (IsUndone (state S.Store conn.old) (state S.Store conn.new)) }
-    ensures cause { HasCleanDisk (state S.Store conn.new) → IfErr result (FailsToRun remove_sheets_text (Int mail ∷ []) (state S.Store conn.old) (state S.Store conn.new)) }
-    ensures survives { Survives (state S.Store conn.old) (state S.Store conn.new) (MayLeave (changes.RemovesSheets mail) (state S.Store conn.old)) }
-{
-    run(
-        conn,
-        "DELETE FROM sheets WHERE mail = ?1",
-        &[ValueRef::Int(mail)],
-    )
 }
 
 /// The page of the message at this place, if there is one.

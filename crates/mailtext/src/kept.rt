@@ -34,9 +34,9 @@ impl fmt::Display for TextFault {
 
     fn fmt<W: fmt::Write>(&self, f: &mut fmt::Formatter<W>) -> fmt::Result {
         match self {
-            TextFault::Empty => write!(f, "empty text"),
-            TextFault::TooLarge => write!(f, "too large"),
-            TextFault::NoMemory => write!(f, "out of memory"),
+            TextFault::Empty => f.write_str("empty text"),
+            TextFault::TooLarge => f.write_str("too large"),
+            TextFault::NoMemory => f.write_str("out of memory"),
         }
     }
 }

@@ -7,7 +7,7 @@ use std::marker::Model;
 use vault::Total;
 
 /// What a deposit or a command is answered, where the store didn't refuse it.
-#[derive(Debug, Drop)]
+#[derive(Drop)]
 pub enum Answer {
     /// The deposit was put into the maildrop, under this unique-id.
     New(Uid),
@@ -60,7 +60,7 @@ pub enum Answer {
 }
 
 /// Maildrops with what lies in each.
-#[derive(Debug, Drop)]
+#[derive(Drop)]
 pub struct Totals {
     rows: Vec<Total>,
 }
@@ -90,7 +90,7 @@ impl Totals {
 }
 
 /// A message's unique-id and its octets.
-#[derive(Clone, Copy, Debug, PartialEq, Eq)]
+#[derive(Clone, Copy, PartialEq, Eq)]
 pub struct MessageRow {
     /// Its unique-id.
     pub uid: Uid,
@@ -99,7 +99,7 @@ pub struct MessageRow {
 }
 
 /// Messages of a maildrop.
-#[derive(Debug, Drop)]
+#[derive(Drop)]
 pub struct Messages {
     rows: Vec<MessageRow>,
 }
@@ -129,7 +129,7 @@ impl Messages {
 }
 
 /// A session: its connection's number, its clerk and its maildrop.
-#[derive(Clone, Copy, Debug, PartialEq, Eq)]
+#[derive(Clone, Copy, PartialEq, Eq)]
 pub struct SessionRow {
     /// The number of its connection.
     pub number: u64,
@@ -138,7 +138,7 @@ pub struct SessionRow {
 }
 
 /// Sessions.
-#[derive(Debug, Drop)]
+#[derive(Drop)]
 pub struct Sessions {
     rows: Vec<SessionRow>,
 }

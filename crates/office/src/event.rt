@@ -27,7 +27,7 @@ pub enum Event<'a> {
 }
 
 /// Why an event is ignored: the first that holds. An ignored event changes nothing.
-#[derive(Clone, Copy, Debug, PartialEq, Eq)]
+#[derive(Clone, Copy, PartialEq, Eq)]
 pub enum Reason {
     /// No open connection has this number.
     NoSuchConnection,
@@ -40,7 +40,7 @@ pub enum Reason {
 }
 
 /// What an event is answered.
-#[derive(Debug, Drop)]
+#[derive(Drop)]
 pub enum Outcome {
     /// A connection was opened under this number, and is owed its greeting.
     Opened(u64),

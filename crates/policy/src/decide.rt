@@ -7,7 +7,7 @@ use crate::rule::{Action, Actions, Effect, Pattern, Rule};
 use creds::Name;
 
 /// What a policy answers.
-#[derive(Clone, Copy, PartialEq, Eq, Debug)]
+#[derive(Clone, Copy, PartialEq, Eq)]
 pub struct Decision {
     /// Whether the action is allowed.
     pub allowed: bool,

@@ -8,7 +8,7 @@ use std::fmt;
 /// Why a text is no policy: its first fault, with the rule's number, counted from 1, where it is a rule's.
 ///
 /// Printed it is `rule N: ` and the fault's name, or the name alone where the fault has no number.
-#[derive(Clone, Copy, PartialEq, Eq, Debug)]
+#[derive(Clone, Copy, PartialEq, Eq)]
 pub enum PolicyFault {
     /// The text is no TOML 1.0, or `rule` is no array of tables alone.
     NotToml,
@@ -75,8 +75,14 @@ impl fmt::Display for PolicyFault {
         let name = self.name();
         match self.rule_number() {
             Some(n) => write!(f, "rule {n}: {name}"),
-            None => write!(f, "{name}"),
+            None => f.write_str(name),
         }
+    }
+}
+
+impl fmt::Debug for PolicyFault {
+    fn fmt<W: fmt::Write>(&self, f: &mut fmt::Formatter<W>) -> fmt::Result {
+        fmt::Display::fmt(self, f)
     }
 }
 

@@ -20,7 +20,7 @@ pub const MAX_RULES: usize = 1000;
 /// An office's policy: at most 1,000 rules in order, each with a name of its own, of which the first that matches decides.
 ///
 /// It is always sound: no rule is named `default`, each lists an action, and one that lists `open` is about any class.
-#[derive(Drop, Debug)]
+#[derive(Drop)]
 pub struct Policy {
     rules: Vec<Rule>,
 }

@@ -5,7 +5,7 @@ ghost use Rattle.policy.specs.PolicyText.{action_of};
 use creds::Name;
 
 /// What a clerk asks to do.
-#[derive(Clone, Copy, PartialEq, Eq, Debug)]
+#[derive(Clone, Copy, PartialEq, Eq)]
 pub enum Action {
     /// To open a maildrop, which is asked at login.
     Open,
@@ -33,7 +33,7 @@ impl Action {
 }
 
 /// What a rule decides.
-#[derive(Clone, Copy, PartialEq, Eq, Debug)]
+#[derive(Clone, Copy, PartialEq, Eq)]
 pub enum Effect {
     /// The actions are allowed.
     Allow,
@@ -42,7 +42,7 @@ pub enum Effect {
 }
 
 /// Which clerks, maildrops or classes a rule is about.
-#[derive(Clone, Copy, PartialEq, Eq, Debug)]
+#[derive(Clone, Copy, PartialEq, Eq)]
 pub enum Pattern {
     /// All of them, written `*`.
     Any,
@@ -51,7 +51,7 @@ pub enum Pattern {
 }
 
 /// The actions that a rule lists.
-#[derive(Clone, Copy, PartialEq, Eq, Debug)]
+#[derive(Clone, Copy, PartialEq, Eq)]
 pub struct Actions {
     /// Whether `open` is listed.
     pub open: bool,
@@ -62,7 +62,7 @@ pub struct Actions {
 }
 
 /// A rule. It takes no memory of its own: its names hold their texts in place.
-#[derive(Clone, Copy, PartialEq, Eq, Debug)]
+#[derive(Clone, Copy, PartialEq, Eq)]
 pub struct Rule {
     /// The name by which denials and explanations tell the rule.
     pub name: Name,

@@ -1,6 +1,7 @@
 //! Tests of the office itself, of what no clause says: that the calls which may want memory succeed where there is
 //! enough, and what is then said.
 
+use converse::replay::tell;
 use office::{Event, Limits, Office, OpenFault, RunFault, Step, Transcript};
 use std::alloc::Global;
 use std::test::Fail;
@@ -67,12 +68,12 @@ fn limits_of_idle_seconds(rt: HostRuntime) {
 
 /// The greeting, taken whole, and the reply to QUIT, taken in two pieces.
 static TAKEN: [(&str, &[u8]); 6] = [
-    ("Opened(1)", b""),
-    ("Done", b"+OK POP3 server ready <1.7@h.test>\r\n"),
-    ("Done", b""),
-    ("Done", b"+OK "),
-    ("Done", b"bye\r\n"),
-    ("Ignored(NoSuchConnection)", b""),
+    ("opened 1\n", b""),
+    ("done\n", b"+OK POP3 server ready <1.7@h.test>\r\n"),
+    ("done\n", b""),
+    ("done\n", b"+OK "),
+    ("done\n", b"bye\r\n"),
+    ("ignored: NoSuchConnection\n", b""),
 ];
 
 fn run_greeting_path(office: &mut Office<PlainVault>) -> Result<Transcript, RunFault> {
@@ -87,8 +88,9 @@ fn run_greeting_path(office: &mut Office<PlainVault>) -> Result<Transcript, RunF
 }
 
 fn tells(alloc: Global, step: &Step, outcome: &str, octets: &[u8]) -> Result<bool, Fail> {
-    let told = format!(in alloc; "{:?}", step.outcome())?;
-    Ok(told.as_str() == outcome && step.octets() == octets)
+    let mut told = Vec::new(alloc);
+    tell(alloc, &mut told, step.outcome())?;
+    Ok(told.as_slice() == outcome.as_bytes() && step.octets() == octets)
 }
 
 /// Whether the steps are those of the greeting path.

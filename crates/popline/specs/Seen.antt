@@ -1,5 +1,6 @@
 -- What a clause sees of the values that hold references.
-use Rattle.std.specs.Prelude.{List, [], ◌∷◌, Option, Some, None, Result, Ok, Err}
+use Rattle.std.specs.Prelude.{ℕ, List, map, [], ◌∷◌, Option, Some, None, Result, Ok, Err}
+use Rattle.std.specs.Borrow.{Bor}
 use Rattle.popline.specs.Cutting as cutting
 use Rattle.popline.specs.Commands as commands
 use Rattle.popline.specs.Replies as replies
@@ -7,6 +8,7 @@ use Rattle.popline.specs.declared.cutter.Cut.{Cut}
 use Rattle.popline.specs.declared.cutter.Cut.TheVariants as cut
 use Rattle.popline.specs.declared.command.Command.{Command}
 use Rattle.popline.specs.declared.command.Command.TheVariants as command
+use Rattle.popline.specs.declared.command.Keyword.{Keyword}
 use Rattle.popline.specs.declared.command.LineFault.{LineFault}
 use Rattle.popline.specs.declared.reply.Reply.{Reply}
 use Rattle.popline.specs.declared.reply.Reply.TheVariants as reply
@@ -20,6 +22,10 @@ cut_seen cut.TooLong = cutting.TooLong
 abbrev pub cuts_seen : Option Cut → List cutting.Cut
 cuts_seen None = []
 cuts_seen (Some c) = cut_seen c ∷ []
+
+-- a row of a table of keywords, whose word is lent, in small letters
+abbrev pub keyword_row_seen : Bor (List ℕ) × Keyword → List ℕ × Keyword
+keyword_row_seen row = (map commands.lowered row.0.now, row.1)
 
 -- a command, whose password is lent; LIST and UIDL are with a number or without
 abbrev pub command_seen : Command → commands.Command

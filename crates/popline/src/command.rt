@@ -1,9 +1,9 @@
 //! What a command line says (RFC 1939, 3 to 7; RFC 2449, 4 and 5).
 
-ghost use Rattle.std.specs.Prelude.{◌≡◌};
-ghost use Rattle.popline.specs.Commands.{command_of, command_with, keywords, keyword_in, keyword_of, with_arguments, alone as alone_of, with_one as with_one_of, with_two as with_two_of, with_password};
+ghost use Rattle.std.specs.Prelude.{◌≡◌, map};
+ghost use Rattle.popline.specs.Commands.{command_of, command_with, keywords, keyword_in, keyword_of, is_spelled, lowered, with_arguments, alone as alone_of, with_one as with_one_of, with_two as with_two_of, with_password};
 ghost use Rattle.popline.specs.Commands.{arguments as arguments_of};
-ghost use Rattle.popline.specs.Seen.{reading_seen, command_seen, found_seen};
+ghost use Rattle.popline.specs.Seen.{reading_seen, command_seen, found_seen, keyword_row_seen};
 
 use crate::arguments::{read_digest, read_number, split_once, split_word, without_trailing_spaces};
 use creds::LoginName;
@@ -119,40 +119,47 @@ impl<'a> Command<'a> {
     }
 }
 
+/// The keywords, as they are spelled.
+const KEYWORDS: [(&[u8], Keyword); 13] = [
+    (b"capa", Keyword::Capa),
+    (b"user", Keyword::User),
+    (b"pass", Keyword::Pass),
+    (b"apop", Keyword::Apop),
+    (b"quit", Keyword::Quit),
+    (b"stat", Keyword::Stat),
+    (b"list", Keyword::List),
+    (b"uidl", Keyword::Uidl),
+    (b"retr", Keyword::Retr),
+    (b"top", Keyword::Top),
+    (b"dele", Keyword::Dele),
+    (b"rset", Keyword::Rset),
+    (b"noop", Keyword::Noop),
+];
+
+/// Whether a text is this word, in letters of any case.
+fn is_spelled(word: &[u8], text: &[u8]) -> bool
+    ensures { result ≡ is_spelled (map lowered word.now) text.now }
+{
+    text.eq_ignore_ascii_case(word)
+}
+
+/// The keyword of the first row whose word a text is, in letters of any case.
+fn first_spelled(rows: &[(&[u8], Keyword)], text: &[u8]) -> Option<Keyword>
+    ensures { result ≡ keyword_in (map keyword_row_seen rows.now) text.now }
+{
+    match rows {
+        [] => None,
+        [(word, keyword), ..] if is_spelled(word, text) => Some(*keyword),
+        [_, rows @ ..] => first_spelled(rows, text),
+    }
+}
+
 impl Keyword {
     /// The keyword that a word is, in letters of any case.
     fn spelled(word: &[u8]) -> Option<Keyword>
         ensures { result ≡ keyword_in keywords word.now }
     {
-        if word.eq_ignore_ascii_case(b"capa") {
-            Some(Keyword::Capa)
-        } else if word.eq_ignore_ascii_case(b"user") {
-            Some(Keyword::User)
-        } else if word.eq_ignore_ascii_case(b"pass") {
-            Some(Keyword::Pass)
-        } else if word.eq_ignore_ascii_case(b"apop") {
-            Some(Keyword::Apop)
-        } else if word.eq_ignore_ascii_case(b"quit") {
-            Some(Keyword::Quit)
-        } else if word.eq_ignore_ascii_case(b"stat") {
-            Some(Keyword::Stat)
-        } else if word.eq_ignore_ascii_case(b"list") {
-            Some(Keyword::List)
-        } else if word.eq_ignore_ascii_case(b"uidl") {
-            Some(Keyword::Uidl)
-        } else if word.eq_ignore_ascii_case(b"retr") {
-            Some(Keyword::Retr)
-        } else if word.eq_ignore_ascii_case(b"top") {
-            Some(Keyword::Top)
-        } else if word.eq_ignore_ascii_case(b"dele") {
-            Some(Keyword::Dele)
-        } else if word.eq_ignore_ascii_case(b"rset") {
-            Some(Keyword::Rset)
-        } else if word.eq_ignore_ascii_case(b"noop") {
-            Some(Keyword::Noop)
-        } else {
-            None
-        }
+        first_spelled(&KEYWORDS, word)
     }
 
     /// The command that a line of this keyword spells.

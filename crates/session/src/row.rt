@@ -12,7 +12,7 @@ use std::alloc::{AllocError, Global};
 use vault::{Head, MessageKey};
 
 /// A message of the view, and whether it is marked as deleted.
-#[derive(Clone, Copy, Debug)]
+#[derive(Clone, Copy)]
 pub(crate) struct Row {
     pub(crate) head: Head,
     pub(crate) is_marked: bool,

@@ -17,7 +17,7 @@ use vault::{Head, MessageKey};
 /// One logged-in session: the messages that the clerk sees, numbered from 1, and which of them are marked as deleted.
 ///
 /// The view is that of the login: what comes into the maildrop or leaves it afterwards changes nothing here.
-#[derive(Drop, Debug)]
+#[derive(Drop)]
 pub struct Session {
     name: LoginName,
     rows: Vec<Row>,

@@ -132,6 +132,12 @@ room most count h = grind (arith, nat_tests)
 no_room : (most count : ℕ) → most ≤ count → nat_le most count ≡ true
 no_room most count h = grind (arith, nat_tests)
 
+pub was_there : (Held : Contents → Type 0) (c : Contents) (name : List ℕ) → is_one_of name c.maildrops ≡ true → Held c → IsMaildropAdded Held c name (Ok false)
+was_there Held c name e h = record { answer = rw e refl; held = rw e h }
+
+pub missing : (Held : Contents → Type 0) (c : Contents) (name : List ℕ) → is_one_of name c.maildrops ≡ false → Held c → IsMaildropDropped Held c name (Err fault.NoMaildrop)
+missing Held c name e h = record { answer = rw e refl; held = h }
+
 pub full : (Held : Contents → Type 0) (c : Contents) (name : List ℕ) → is_one_of name c.maildrops ≡ false → most_maildrops ≤ length c.maildrops → Held c
     → IsMaildropAdded Held c name (Err fault.Full)
 full Held c name e most h = let f = no_room most_maildrops (length c.maildrops) most in record { answer = rw (e, f) refl; held = h }

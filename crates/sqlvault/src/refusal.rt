@@ -10,7 +10,7 @@ use sqlite::{Error, ErrorCode};
 use vault::VaultFault;
 
 /// Why a call over the tables is not done.
-#[derive(Debug, Drop)]
+#[derive(Drop)]
 pub enum Refusal {
     /// The contents forbid it: the vault's own answer.
     Answered(VaultFault),

@@ -3,7 +3,7 @@ use crate::message_key::MessageKey;
 use creds::{Name, Uid};
 
 /// What became of a deposit that wasn't refused.
-#[derive(Clone, Copy, PartialEq, Eq, Debug)]
+#[derive(Clone, Copy, PartialEq, Eq)]
 pub enum Deposited {
     /// The message was put into the maildrop, under this unique-id.
     New(Uid),
@@ -12,7 +12,7 @@ pub enum Deposited {
 }
 
 /// A message as a login sees it.
-#[derive(Clone, Copy, PartialEq, Eq, Debug)]
+#[derive(Clone, Copy, PartialEq, Eq)]
 pub struct Head {
     /// The key by which its pages are read and by which it is removed.
     pub key: MessageKey,
@@ -25,7 +25,7 @@ pub struct Head {
 }
 
 /// A maildrop with what lies in it.
-#[derive(Clone, Copy, PartialEq, Eq, Debug)]
+#[derive(Clone, Copy, PartialEq, Eq)]
 pub struct Total {
     /// The maildrop's name.
     pub maildrop: Name,

@@ -1,5 +1,6 @@
 //! Why a call of a vault is refused.
-ghost use Rattle.std.specs.Prelude.{◌≡◌};
+ghost use Rattle.std.specs.Prelude.{◌≡◌, Some};
+ghost use Rattle.vault.specs.Faults.{fault_text};
 ghost use Rattle.vault.specs.declared.fault.VaultFault.TheVariants.{NoMemory};
 
 use std::alloc::{AllocError, AllocFailed};
@@ -29,24 +30,30 @@ pub enum VaultFault {
     NoClerk,
 }
 
-impl fmt::Display for VaultFault {
-    ghost use Rattle.std.specs.Prelude.{Some};
-    ghost use Rattle.vault.specs.Faults.{fault_text};
+impl VaultFault {
+    /// The fault in words.
+    fn text(self) -> &'static str
+        ensures { result.now ≡ fault_text self }
+    {
+        match self {
+            VaultFault::NoMaildrop => "no such maildrop",
+            VaultFault::Conflict => "conflict",
+            VaultFault::Full => "full",
+            VaultFault::Store => "store failed",
+            VaultFault::NoMemory => "out of memory",
+            VaultFault::NotEmpty => "not empty",
+            VaultFault::NotOurs => "not ours",
+            VaultFault::OldVersion => "old version",
+            VaultFault::NoClerk => "no such clerk",
+        }
+    }
+}
 
+impl fmt::Display for VaultFault {
     ghost output = { λ fault. Some (fault_text fault) };
 
     fn fmt<W: fmt::Write>(&self, f: &mut fmt::Formatter<W>) -> fmt::Result {
-        match self {
-            VaultFault::NoMaildrop => write!(f, "no such maildrop"),
-            VaultFault::Conflict => write!(f, "conflict"),
-            VaultFault::Full => write!(f, "full"),
-            VaultFault::Store => write!(f, "store failed"),
-            VaultFault::NoMemory => write!(f, "out of memory"),
-            VaultFault::NotEmpty => write!(f, "not empty"),
-            VaultFault::NotOurs => write!(f, "not ours"),
-            VaultFault::OldVersion => write!(f, "old version"),
-            VaultFault::NoClerk => write!(f, "no such clerk"),
-        }
+        f.write_str(self.text())
     }
 }
 

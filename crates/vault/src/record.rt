@@ -35,7 +35,7 @@ pub struct Keyed {
 }
 
 /// A deposit that was ever accepted. It outlives its message and its maildrop.
-#[derive(Clone, Copy, PartialEq, Eq, Debug)]
+#[derive(Clone, Copy, PartialEq, Eq)]
 pub struct Receipt {
     /// The maildrop's name.
     pub maildrop: Name,

@@ -230,8 +230,8 @@ fn counted_up_to(alloc: Global, store: &mut Store) -> Result<Option<i64>, Error>
     Ok(sequences.first().map(|sequence| sequence.value))
 }
 
-fn remove_pages(store: &mut Store, key: i64) -> Result<(), Error> {
-    sheets::remove_sheets(store, key)
+fn remove_mail(store: &mut Store, key: i64) -> Result<(), Error> {
+    mail::remove_message(store, key, b"orders")
 }
 
 // The maildrop `orders` with its records and a message, whose key it gives.
@@ -255,11 +255,12 @@ fn is_mail(alloc: Global, store: &mut Store, key: i64) -> Result<bool, Error> {
     Ok(mail && sheets && counted_up_to(alloc, store)? == Some(key))
 }
 
-// Whether a maildrop with a message isn't dropped, and the message's sheets go.
-fn loses_pages(alloc: Global, store: &mut Store, key: i64) -> Result<bool, Error> {
+// Whether a maildrop with a message isn't dropped, and the message's sheets go with it.
+fn loses_mail(alloc: Global, store: &mut Store, key: i64) -> Result<bool, Error> {
     let is_kept = drop_name(store, b"orders").is_err();
-    remove_pages(store, key)?;
-    Ok(is_kept && sheet_numbers(alloc, store)? == (0, 0))
+    remove_mail(store, key)?;
+    let mail = mail_numbers(alloc, store)? == (0, 0, 0);
+    Ok(is_kept && mail && sheet_numbers(alloc, store)? == (0, 0))
 }
 
 #[test]
@@ -268,7 +269,7 @@ fn a_message_and_its_deposit(rt: HostRuntime) -> Result<(), Fail> {
     let key = add_message(&mut store)?;
     assert!(rt; are_records(rt.alloc(), &mut store)?);
     assert!(rt; is_mail(rt.alloc(), &mut store, key)?);
-    assert!(rt; loses_pages(rt.alloc(), &mut store, key)?);
+    assert!(rt; loses_mail(rt.alloc(), &mut store, key)?);
     Ok(())
 }
 

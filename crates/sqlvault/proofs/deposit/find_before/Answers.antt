@@ -1,3 +1,4 @@
+use Rattle.sqlvault.proofs.StopLemmas.{looked}
 use Rattle.sqlite.specs.Held.{state}
 use Rattle.vault.specs.Records.{receipts_of, class_count}
 use Rattle.mailsql.specs.Rows.{rows_in}
@@ -22,3 +23,15 @@ returns-in-Ok-clause-held g c k clean h =
 pub returns-in-Err-clause-held : goal.returns-in-Err-clause-held
 returns-in-Err-clause-held g c k clean h =
     holds_undone (state g.S.Store c.args.conn.now) (state g.S.Store c.find_count.new.conn) k (c.in-Err.ensures.err clean h.tables) h
+
+pub returns-in-Ok-clause-stop : goal.returns-in-Ok-clause-stop
+returns-in-Ok-clause-stop g c k clean1 up0 h0 =
+    let s0 = state g.S.Store c.args.conn.now in
+    let s1 = state g.S.Store c.find_count.new.conn in
+    looked s0 s1 k (λ d o m. g.met.S.Store.settled c.args.conn.now.store d o m) clean1 c.find_count.ensures.survives up0 h0
+
+pub returns-in-Err-clause-stop : goal.returns-in-Err-clause-stop
+returns-in-Err-clause-stop g c k clean1 up0 h0 =
+    let s0 = state g.S.Store c.args.conn.now in
+    let s1 = state g.S.Store c.find_count.new.conn in
+    looked s0 s1 k (λ d o m. g.met.S.Store.settled c.args.conn.now.store d o m) clean1 c.find_count.ensures.survives up0 h0

@@ -10,7 +10,7 @@ use Rattle.mailsql.specs.Rows.{rows_in}
 use Rattle.mailsql.specs.Changes.{AddsMaildrop}
 use Rattle.sqlvault.specs.Stands.{Holds}
 use Rattle.sqlvault.proofs.HoldsLemmas.{seen, holds_unchanged, holds_undone, holds_changed, refused}
-use Rattle.sqlvault.proofs.MaildropLemmas.{there_is, count_is, keeps_added, full, added}
+use Rattle.sqlvault.proofs.MaildropLemmas.{there_is, count_is, keeps_added, full, added, was_there}
 use Rattle.sqlvault.proofs.StopLemmas.{changed, looked, not_own}
 use Rattle.sqlvault.specs.Keeps.{Keeps}
 use Rattle.sqlvault.proofs.StayLemmas.{clean_before}
@@ -241,3 +241,13 @@ returns-in-Err-add_maildrop-clause-clean g c clean3 =
 
 pub returns-in-Err-add_maildrop-clause-up : goal.returns-in-Err-add_maildrop-clause-up
 returns-in-Err-add_maildrop-clause-up g c k clean3 up0 h0 own = absurd (not_own (Unit {0}) c.in-Err-add_maildrop.error own)
+
+pub returns-in-Ok-true-clause-done : goal.returns-in-Ok-true-clause-done
+returns-in-Ok-true-clause-done g c held clean1 h0 =
+    let text = c.as_bytes-text.result.now in
+    let s0 = state g.S.Store c.args.conn.now in
+    let s1 = state g.S.Store c.has_maildrop.new.conn in
+    let same1 : IsUnchanged s0 s1 = c.in-Ok-true.ensures.same clean1 h0.tables in
+    let there : is_one_of text held.maildrops ≡ true =
+    sym (there_is (rows_in s0.now.trees) held text (seen s0 s1 held same1 h0)) ∙ sym (c.in-Ok-true.ensures.ok clean1 h0.tables) ∙ c.in-Ok-true.field-0-test in
+    subst (λ name. IsMaildropAdded (Holds s1) held name (Ok false)) c.as_bytes-text.ensures.value (was_there (Holds s1) held text there (holds_unchanged s0 s1 held same1 h0))

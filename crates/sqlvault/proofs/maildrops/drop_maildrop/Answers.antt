@@ -1,4 +1,4 @@
-use Rattle.std.proofs.Common.{◌≡◌, min, true, Ok, Err, sym, subst, ◌∙◌, arith, inl}
+use Rattle.std.proofs.Common.{◌≡◌, min, true, false, Ok, Err, sym, subst, ◌∙◌, arith, inl}
 use Rattle.sqlite.specs.State.{HasCleanDisk, IsUnchanged}
 use Rattle.sqlite.specs.Held.{state}
 use Rattle.vault.specs.declared.fault.VaultFault.TheVariants as fault
@@ -9,7 +9,7 @@ use Rattle.mailsql.specs.Rows.{rows_in}
 use Rattle.mailsql.specs.Changes.{DropsMaildrop}
 use Rattle.sqlvault.specs.Stands.{Holds}
 use Rattle.sqlvault.proofs.HoldsLemmas.{seen, holds_unchanged, holds_undone, holds_changed, refused}
-use Rattle.sqlvault.proofs.MaildropLemmas.{there_is, present_rows, keeps_dropped, not_empty, dropped}
+use Rattle.sqlvault.proofs.MaildropLemmas.{there_is, present_rows, keeps_dropped, not_empty, dropped, missing}
 use Rattle.sqlvault.proofs.StopLemmas.{changed, looked, not_own}
 use Rattle.sqlvault.specs.Keeps.{Keeps}
 use Rattle.sqlvault.proofs.StayLemmas.{clean_before}
@@ -239,3 +239,13 @@ returns-in-Err-drop_maildrop-clause-clean g c clean3 =
 
 pub returns-in-Err-drop_maildrop-clause-up : goal.returns-in-Err-drop_maildrop-clause-up
 returns-in-Err-drop_maildrop-clause-up g c k clean3 up0 h0 own = absurd (not_own (Unit {0}) c.in-Err-drop_maildrop.error own)
+
+pub returns-in-Ok-false-clause-done : goal.returns-in-Ok-false-clause-done
+returns-in-Ok-false-clause-done g c held clean1 h0 =
+    let text = c.as_bytes-text.result.now in
+    let s0 = state g.S.Store c.args.conn.now in
+    let s1 = state g.S.Store c.has_maildrop.new.conn in
+    let same1 : IsUnchanged s0 s1 = c.in-Ok-false.ensures.same clean1 h0.tables in
+    let none : is_one_of text held.maildrops ≡ false =
+    sym (there_is (rows_in s0.now.trees) held text (seen s0 s1 held same1 h0)) ∙ sym (c.in-Ok-false.ensures.ok clean1 h0.tables) ∙ c.in-Ok-false.field-0-test in
+    subst (λ name. IsMaildropDropped (Holds s1) held name (Err fault.NoMaildrop)) c.as_bytes-text.ensures.value (missing (Holds s1) held text none (holds_unchanged s0 s1 held same1 h0))

@@ -1,3 +1,4 @@
+use Rattle.std.proofs.lemmas.Grind.{common_steps}
 use Rattle.std.proofs.Common.{◌≡◌, ◌<◌, true, pos, map, sym, ap, subst, arith, length}
 use Rattle.policy.specs.Policy.{is_sound_rule}
 use Rattle.sqlvault.specs.Keeps.{rule_row}
@@ -33,3 +34,9 @@ returns-in_default-clause-all c rs sound same =
     let is = c.in_default.is in
     let not = c.in_default.not-Some in
     cc
+
+pub returns-clause-rows : goal.returns-clause-rows
+returns-clause-rows c = grind (arith, common_steps)
+
+pub returns-clause-all : goal.returns-clause-all
+returns-clause-all c = grind (arith, common_steps)

@@ -34,3 +34,8 @@ pub returns-in-Ok-clause-stop : goal.returns-in-Ok-clause-stop
 returns-in-Ok-clause-stop g c held clean up h =
     let clean1 : HasCleanDisk (state g.S.Store c.names.new.conn) = c.totals_of.ensures.clean clean in
     c.totals_of.ensures.stop held clean (c.in-Ok.ensures.up held clean1 up h) (c.names.ensures.held held clean1 h)
+
+pub returns-in-Ok-totals_of-clause-stop : goal.returns-in-Ok-totals_of-clause-stop
+returns-in-Ok-totals_of-clause-stop g c held clean up h =
+    let clean1 : HasCleanDisk (state g.S.Store c.names.new.conn) = c.totals_of.ensures.clean clean in
+    c.totals_of.ensures.stop held clean (c.in-Ok.ensures.up held clean1 up h) (c.names.ensures.held held clean1 h)

@@ -1,0 +1,6 @@
+-- the columns that are left
+use Rattle.std.proofs.Common.{length}
+use Rattle.mailsql.proofs.schema.+are_columns.Given as goal
+
+abbrev pub decreases-are_columns : goal.decreases-are_columns
+decreases-are_columns l = length l.columns.now

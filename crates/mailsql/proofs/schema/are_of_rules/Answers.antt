@@ -1,7 +1,0 @@
-use Rattle.std.proofs.Common.{arith}
-use Rattle.mailsql.specs.Tables.{rules_at}
-use Rattle.mailsql.proofs.SchemaLemmas.{other_width}
-use Rattle.mailsql.proofs.schema.are_of_rules.Goals as goal
-
-pub returns-in_default : goal.returns-in_default
-returns-in_default c = other_width (rules_at 13).columns c.args.columns.now (λ e. omega (arith, e, c.in_default.len_below))
