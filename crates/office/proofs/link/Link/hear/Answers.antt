@@ -1,3 +1,4 @@
+use Rattle.std.proofs.lemmas.Grind.{common_steps}
 use Rattle.std.proofs.Common.{◌≡◌, ◌-◌, ◌++◌, drop, take, take_all, length, length-drop, arith, sym, ◌∙◌, ap, rules, string_bytes, subst}
 use Rattle.popline.specs.Cutting.{fed, through_newline}
 use Rattle.popline.specs.Replies.{bytes_of}
@@ -54,3 +55,12 @@ returns-clause-session g c d s held clean sits =
     let same = is_line k c.feed-n.new.self p x fed_is c.in-Some.ensures in
     subst (λ b. BecomesIf b d c.args.policy.now k.talk (line_after k p) (reply_of w desk k.talk s (line_after k p)) k.session c.answer.new.session) (sym there)
     (subst (λ y. Becomes d c.args.policy.now k.talk y (reply_of w desk k.talk s y) k.session c.answer.new.session) same so)
+
+pub returns-in_default-clause-ok : goal.returns-in_default-clause-ok
+returns-in_default-clause-ok g c = grind (arith, common_steps)
+
+pub returns-in_default-clause-lines : goal.returns-in_default-clause-lines
+returns-in_default-clause-lines g c = grind (arith, common_steps)
+
+pub returns-clause-lines : goal.returns-clause-lines
+returns-clause-lines g c = grind (arith, common_steps)
