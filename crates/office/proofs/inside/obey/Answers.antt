@@ -1,4 +1,4 @@
-use Rattle.std.proofs.Common.{Ok}
+use Rattle.std.proofs.Common.{Ok, rules}
 use Rattle.popline.specs.Commands.{command_of, Quit, Stat, ListAll, ListOne, UidlAll, UidlOne, Retr, Top, Dele, Rset}
 use Rattle.popline.specs.Seen.{reply_seen}
 use Rattle.office.proofs.Obeying.{if_ok_so, if_ok_both, reads_alike, said_so, listed, identified}
@@ -64,3 +64,27 @@ returns-in-Ok-Rset-clause-done g c = if_ok_both _ c.say-in-Ok-Rset.result c.say-
     let s = c.args.session.now in
     reads_alike _ _ d p s c.reset.new.session kept _ _ (Ok Rset) (command_of c.args.line.now) w (rw c.in-Ok-Rset.field-0-is at c.in-Ok-Rset.ensures)
     (said_so _ _ d p s c.reset.new.session kept _ _ (Ok Rset) w (reply_seen c.reset.result) e said (c.reset.ensures.said p d kept lies) c.reset.ensures.session held))
+
+pub returns-in_err-put_sizes-in-Ok-List-None-clause-done : goal.returns-in_err-put_sizes-in-Ok-List-None-clause-done
+returns-in_err-put_sizes-in-Ok-List-None-clause-done g c = search rules
+
+pub returns-in_err-put_sizes-in-Ok-List-None-clause-err : goal.returns-in_err-put_sizes-in-Ok-List-None-clause-err
+returns-in_err-put_sizes-in-Ok-List-None-clause-err g c = search rules
+
+pub returns-in_err-put_sizes-in-Ok-List-None-clause-counted : goal.returns-in_err-put_sizes-in-Ok-List-None-clause-counted
+returns-in_err-put_sizes-in-Ok-List-None-clause-counted g c = search rules
+
+pub returns-in_err-put_sizes-in-Ok-List-None-clause-clean : goal.returns-in_err-put_sizes-in-Ok-List-None-clause-clean
+returns-in_err-put_sizes-in-Ok-List-None-clause-clean g c = search rules
+
+pub returns-in_err-put_uids-in-Ok-Uidl-None-clause-done : goal.returns-in_err-put_uids-in-Ok-Uidl-None-clause-done
+returns-in_err-put_uids-in-Ok-Uidl-None-clause-done g c = search rules
+
+pub returns-in_err-put_uids-in-Ok-Uidl-None-clause-err : goal.returns-in_err-put_uids-in-Ok-Uidl-None-clause-err
+returns-in_err-put_uids-in-Ok-Uidl-None-clause-err g c = search rules
+
+pub returns-in_err-put_uids-in-Ok-Uidl-None-clause-counted : goal.returns-in_err-put_uids-in-Ok-Uidl-None-clause-counted
+returns-in_err-put_uids-in-Ok-Uidl-None-clause-counted g c = search rules
+
+pub returns-in_err-put_uids-in-Ok-Uidl-None-clause-clean : goal.returns-in_err-put_uids-in-Ok-Uidl-None-clause-clean
+returns-in_err-put_uids-in-Ok-Uidl-None-clause-clean g c = search rules

@@ -1,5 +1,5 @@
 use Rattle.office.proofs.login.enter.Goals as goal
-use Rattle.std.proofs.Common.{sym, ◌≡◌, ◌∙◌, ap, Ok, false}
+use Rattle.std.proofs.Common.{sym, ◌≡◌, ◌∙◌, ap, Ok, false, rules}
 use Rattle.session.specs.Session.{started}
 use Rattle.office.specs.Answered.{is_locked_by}
 use Rattle.office.proofs.Entering.{opens}
@@ -12,3 +12,36 @@ returns-clause-said g c d held clean =
     let so = opens d c.args.policy.now c.args.name.now c.args.locks.now _ c.in-Ok-start.session _ _ sound found.answer free
     (c.in-Ok-start.ensures.session ∙ ap (λ hs. started c.args.policy.now c.args.name.now.clerk c.args.name.now.maildrop hs) c.deref.ensures.value) c.stat-messages.ensures.messages c.stat-messages.ensures.exact in
     record { answer = ap Ok so.0; held = found.held }
+
+pub returns-then-contains_key-clause-said : goal.returns-then-contains_key-clause-said
+returns-then-contains_key-clause-said g c = search rules
+
+pub returns-then-contains_key-clause-session : goal.returns-then-contains_key-clause-session
+returns-then-contains_key-clause-session g c = search rules
+
+pub returns-then-contains_key-clause-counted : goal.returns-then-contains_key-clause-counted
+returns-then-contains_key-clause-counted g c = search rules
+
+pub returns-then-contains_key-clause-clean : goal.returns-then-contains_key-clause-clean
+returns-then-contains_key-clause-clean g c = search rules
+
+pub returns-in_default-clause-said : goal.returns-in_default-clause-said
+returns-in_default-clause-said g c = search rules
+
+pub returns-in_default-clause-session : goal.returns-in_default-clause-session
+returns-in_default-clause-session g c = search rules
+
+pub returns-in_default-clause-counted : goal.returns-in_default-clause-counted
+returns-in_default-clause-counted g c = search rules
+
+pub returns-in_default-clause-clean : goal.returns-in_default-clause-clean
+returns-in_default-clause-clean g c = search rules
+
+pub returns-clause-session : goal.returns-clause-session
+returns-clause-session g c = search rules
+
+pub returns-clause-counted : goal.returns-clause-counted
+returns-clause-counted g c = search rules
+
+pub returns-clause-clean : goal.returns-clause-clean
+returns-clause-clean g c = search rules

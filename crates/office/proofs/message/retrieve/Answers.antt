@@ -19,3 +19,51 @@ returns-clause-done g c = λ p d kept held clean lies.
     let whole = rw c.in-Some.is at c.in_ok-text.ensures.text in
     let text = c.deref.ensures.value ∙ (whole d held clean has.0 ∙ has.1) in
     retrieve_done _ _ d p s kept c.args.n c.in-Ok.head f _ _ c.deref.result.now text c.in_ok-put_message.ensures (c.read_text.ensures.held d held clean)
+
+pub returns-in_err-put-in-Err-clause-done : goal.returns-in_err-put-in-Err-clause-done
+returns-in_err-put-in-Err-clause-done g c = search rules
+
+pub returns-in_err-put-in-Err-clause-err : goal.returns-in_err-put-in-Err-clause-err
+returns-in_err-put-in-Err-clause-err g c = search rules
+
+pub returns-in_err-put-in-Err-clause-counted : goal.returns-in_err-put-in-Err-clause-counted
+returns-in_err-put-in-Err-clause-counted g c = search rules
+
+pub returns-in_err-put-in-Err-clause-clean : goal.returns-in_err-put-in-Err-clause-clean
+returns-in_err-put-in-Err-clause-clean g c = search rules
+
+pub returns-in_err-text-clause-done : goal.returns-in_err-text-clause-done
+returns-in_err-text-clause-done g c = search rules
+
+pub returns-in_err-text-clause-err : goal.returns-in_err-text-clause-err
+returns-in_err-text-clause-err g c = search rules
+
+pub returns-in_err-text-clause-counted : goal.returns-in_err-text-clause-counted
+returns-in_err-text-clause-counted g c = search rules
+
+pub returns-in_err-text-clause-clean : goal.returns-in_err-text-clause-clean
+returns-in_err-text-clause-clean g c = search rules
+
+pub returns-in_err-put-clause-done : goal.returns-in_err-put-clause-done
+returns-in_err-put-clause-done g c = search rules
+
+pub returns-in_err-put-clause-err : goal.returns-in_err-put-clause-err
+returns-in_err-put-clause-err g c = search rules
+
+pub returns-in_err-put-clause-counted : goal.returns-in_err-put-clause-counted
+returns-in_err-put-clause-counted g c = search rules
+
+pub returns-in_err-put-clause-clean : goal.returns-in_err-put-clause-clean
+returns-in_err-put-clause-clean g c = search rules
+
+pub returns-in_err-put_message-clause-done : goal.returns-in_err-put_message-clause-done
+returns-in_err-put_message-clause-done g c = search rules
+
+pub returns-in_err-put_message-clause-err : goal.returns-in_err-put_message-clause-err
+returns-in_err-put_message-clause-err g c = search rules
+
+pub returns-in_err-put_message-clause-counted : goal.returns-in_err-put_message-clause-counted
+returns-in_err-put_message-clause-counted g c = search rules
+
+pub returns-in_err-put_message-clause-clean : goal.returns-in_err-put_message-clause-clean
+returns-in_err-put_message-clause-clean g c = search rules

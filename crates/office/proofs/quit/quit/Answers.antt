@@ -34,3 +34,51 @@ returns-clause-done g c = λ d kept held clean lies.
     let back = cut_back c.reserve.new.self.items c.put.new.out.items (bytes_of (reply_seen c.farewell.result)) c.len-before.result c.in_ok-put.ensures.ok at in
     let said = c.in_ok-put-in-Err.ensures.ok ∙ ap (λ (xs : List ℕ). xs ++ bytes_of RemovalFailed) (c.truncate.ensures.items ∙ (back ∙ c.reserve.ensures.items)) in
     quit_failed d c.args.policy.now c.args.session.now kept lies _ _ _ _ said (λ e. some (c.in_ok-keys.ensures.keys ∙ e)) did.held (c.in-Err.ensures.counted.cause (ap (λ (e : VaultFault). Err e) store))
+
+pub returns-in_err-keys-clause-done : goal.returns-in_err-keys-clause-done
+returns-in_err-keys-clause-done g c = search rules
+
+pub returns-in_err-keys-clause-err : goal.returns-in_err-keys-clause-err
+returns-in_err-keys-clause-err g c = search rules
+
+pub returns-in_err-keys-clause-counted : goal.returns-in_err-keys-clause-counted
+returns-in_err-keys-clause-counted g c = search rules
+
+pub returns-in_err-keys-clause-clean : goal.returns-in_err-keys-clause-clean
+returns-in_err-keys-clause-clean g c = search rules
+
+pub returns-in_err-keys-clause-unasked : goal.returns-in_err-keys-clause-unasked
+returns-in_err-keys-clause-unasked g c = search rules
+
+pub returns-in_err-reserve-clause-done : goal.returns-in_err-reserve-clause-done
+returns-in_err-reserve-clause-done g c = search rules
+
+pub returns-in_err-reserve-clause-err : goal.returns-in_err-reserve-clause-err
+returns-in_err-reserve-clause-err g c = search rules
+
+pub returns-in_err-reserve-clause-counted : goal.returns-in_err-reserve-clause-counted
+returns-in_err-reserve-clause-counted g c = search rules
+
+pub returns-in_err-reserve-clause-clean : goal.returns-in_err-reserve-clause-clean
+returns-in_err-reserve-clause-clean g c = search rules
+
+pub returns-in_err-reserve-clause-unasked : goal.returns-in_err-reserve-clause-unasked
+returns-in_err-reserve-clause-unasked g c = search rules
+
+pub returns-in_err-put-clause-done : goal.returns-in_err-put-clause-done
+returns-in_err-put-clause-done g c = search rules
+
+pub returns-in_err-put-clause-err : goal.returns-in_err-put-clause-err
+returns-in_err-put-clause-err g c = search rules
+
+pub returns-in_err-put-clause-counted : goal.returns-in_err-put-clause-counted
+returns-in_err-put-clause-counted g c = search rules
+
+pub returns-in_err-put-clause-clean : goal.returns-in_err-put-clause-clean
+returns-in_err-put-clause-clean g c = search rules
+
+pub returns-in_err-put-clause-unasked : goal.returns-in_err-put-clause-unasked
+returns-in_err-put-clause-unasked g c = search rules
+
+pub returns-in_err-put-in-Err : goal.returns-in_err-put-in-Err
+returns-in_err-put-in-Err g c = search rules

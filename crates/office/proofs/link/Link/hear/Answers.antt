@@ -64,3 +64,75 @@ returns-in_default-clause-lines g c = grind (arith, common_steps)
 
 pub returns-clause-lines : goal.returns-clause-lines
 returns-clause-lines g c = grind (arith, common_steps)
+
+pub returns-in_err-extend_from_slice-clause-ok : goal.returns-in_err-extend_from_slice-clause-ok
+returns-in_err-extend_from_slice-clause-ok g c = search rules
+
+pub returns-in_err-extend_from_slice-clause-session : goal.returns-in_err-extend_from_slice-clause-session
+returns-in_err-extend_from_slice-clause-session g c = search rules
+
+pub returns-in_err-extend_from_slice-clause-lines : goal.returns-in_err-extend_from_slice-clause-lines
+returns-in_err-extend_from_slice-clause-lines g c = search rules
+
+pub returns-in_err-extend_from_slice-clause-err : goal.returns-in_err-extend_from_slice-clause-err
+returns-in_err-extend_from_slice-clause-err g c = search rules
+
+pub returns-in_err-extend_from_slice-clause-locks : goal.returns-in_err-extend_from_slice-clause-locks
+returns-in_err-extend_from_slice-clause-locks g c = search rules
+
+pub returns-in_err-extend_from_slice-clause-locks_err : goal.returns-in_err-extend_from_slice-clause-locks_err
+returns-in_err-extend_from_slice-clause-locks_err g c = search rules
+
+pub returns-in_err-extend_from_slice-clause-held : goal.returns-in_err-extend_from_slice-clause-held
+returns-in_err-extend_from_slice-clause-held g c = search rules
+
+pub returns-in_err-extend_from_slice-clause-held_err : goal.returns-in_err-extend_from_slice-clause-held_err
+returns-in_err-extend_from_slice-clause-held_err g c = search rules
+
+pub returns-in_err-extend_from_slice-clause-may : goal.returns-in_err-extend_from_slice-clause-may
+returns-in_err-extend_from_slice-clause-may g c = search rules
+
+pub returns-in_err-extend_from_slice-clause-cause : goal.returns-in_err-extend_from_slice-clause-cause
+returns-in_err-extend_from_slice-clause-cause g c = search rules
+
+pub returns-in_err-extend_from_slice-clause-counted : goal.returns-in_err-extend_from_slice-clause-counted
+returns-in_err-extend_from_slice-clause-counted g c = search rules
+
+pub returns-in_err-extend_from_slice-clause-clean : goal.returns-in_err-extend_from_slice-clause-clean
+returns-in_err-extend_from_slice-clause-clean g c = search rules
+
+pub returns-in_err-acted-clause-ok : goal.returns-in_err-acted-clause-ok
+returns-in_err-acted-clause-ok g c = search rules
+
+pub returns-in_err-acted-clause-session : goal.returns-in_err-acted-clause-session
+returns-in_err-acted-clause-session g c = search rules
+
+pub returns-in_err-acted-clause-lines : goal.returns-in_err-acted-clause-lines
+returns-in_err-acted-clause-lines g c = search rules
+
+pub returns-in_err-acted-clause-err : goal.returns-in_err-acted-clause-err
+returns-in_err-acted-clause-err g c = search rules
+
+pub returns-in_err-acted-clause-locks : goal.returns-in_err-acted-clause-locks
+returns-in_err-acted-clause-locks g c = search rules
+
+pub returns-in_err-acted-clause-locks_err : goal.returns-in_err-acted-clause-locks_err
+returns-in_err-acted-clause-locks_err g c = search rules
+
+pub returns-in_err-acted-clause-held : goal.returns-in_err-acted-clause-held
+returns-in_err-acted-clause-held g c = search rules
+
+pub returns-in_err-acted-clause-held_err : goal.returns-in_err-acted-clause-held_err
+returns-in_err-acted-clause-held_err g c = search rules
+
+pub returns-in_err-acted-clause-may : goal.returns-in_err-acted-clause-may
+returns-in_err-acted-clause-may g c = search rules
+
+pub returns-in_err-acted-clause-cause : goal.returns-in_err-acted-clause-cause
+returns-in_err-acted-clause-cause g c = search rules
+
+pub returns-in_err-acted-clause-counted : goal.returns-in_err-acted-clause-counted
+returns-in_err-acted-clause-counted g c = search rules
+
+pub returns-in_err-acted-clause-clean : goal.returns-in_err-acted-clause-clean
+returns-in_err-acted-clause-clean g c = search rules

@@ -1,4 +1,4 @@
-use Rattle.std.proofs.Common.{◌≡◌, ◌+◌, ◌-◌, ◌≤◌, ◌++◌, true, drop, drop-drop, take, take_all, length, length-drop, arith, sym, ◌∙◌, ap, string_bytes, subst}
+use Rattle.std.proofs.Common.{◌≡◌, ◌+◌, ◌-◌, ◌≤◌, ◌++◌, true, drop, drop-drop, take, take_all, length, length-drop, arith, sym, ◌∙◌, ap, string_bytes, subst, rules}
 use Rattle.popline.specs.Cutting.{fed, through_newline}
 use Rattle.popline.specs.Replies.{bytes_of}
 use Rattle.popline.specs.Seen.{cut_seen}
@@ -88,3 +88,36 @@ returns-clause-may g c failed d s held clean sits =
     let asked = c.in_ok-acted.ensures.may failed d s held clean seat in
     let so : asks c.args.policy.now k.talk s (reading x) ≡ true = subst (λ t. asks c.args.policy.now t s (reading x) ≡ true) talking asked in
     (has_line k c.feed.new.self p x fed_is c.in-Some.ensures, subst (λ y. asks c.args.policy.now k.talk s (reading y) ≡ true) (is_line k c.feed.new.self p x fed_is c.in-Some.ensures) so)
+
+pub returns-in_err-acted-clause-ok : goal.returns-in_err-acted-clause-ok
+returns-in_err-acted-clause-ok g c = search rules
+
+pub returns-in_err-acted-clause-session : goal.returns-in_err-acted-clause-session
+returns-in_err-acted-clause-session g c = search rules
+
+pub returns-in_err-acted-clause-lines : goal.returns-in_err-acted-clause-lines
+returns-in_err-acted-clause-lines g c = search rules
+
+pub returns-in_err-acted-clause-locks : goal.returns-in_err-acted-clause-locks
+returns-in_err-acted-clause-locks g c = search rules
+
+pub returns-in_err-acted-clause-locks_err : goal.returns-in_err-acted-clause-locks_err
+returns-in_err-acted-clause-locks_err g c = search rules
+
+pub returns-in_err-acted-clause-held : goal.returns-in_err-acted-clause-held
+returns-in_err-acted-clause-held g c = search rules
+
+pub returns-in_err-acted-clause-held_err : goal.returns-in_err-acted-clause-held_err
+returns-in_err-acted-clause-held_err g c = search rules
+
+pub returns-in_err-acted-clause-may : goal.returns-in_err-acted-clause-may
+returns-in_err-acted-clause-may g c = search rules
+
+pub returns-in_err-acted-clause-cause : goal.returns-in_err-acted-clause-cause
+returns-in_err-acted-clause-cause g c = search rules
+
+pub returns-in_err-acted-clause-counted : goal.returns-in_err-acted-clause-counted
+returns-in_err-acted-clause-counted g c = search rules
+
+pub returns-in_err-acted-clause-clean : goal.returns-in_err-acted-clause-clean
+returns-in_err-acted-clause-clean g c = search rules

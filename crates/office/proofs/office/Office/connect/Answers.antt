@@ -1,4 +1,4 @@
-use Rattle.std.proofs.Common.{◌≡◌, ◌+◌, ◌∙◌, false, sym, ap, refl, nat_cmp}
+use Rattle.std.proofs.Common.{◌≡◌, ◌+◌, ◌∙◌, false, sym, ap, refl, nat_cmp, rules}
 use Rattle.std.specs.Map.{lookup}
 use Rattle.std.specs.BTreeMap.{is_at}
 use Rattle.office.specs.Expected.{is_full}
@@ -32,3 +32,63 @@ returns-clause-stands g c T st clean =
     come_stands g.V.Vault.holds c.args.self.now _ T st _ c.in-Ok.link (ap (λ n. n + 1) st.opened)
     (c.in-Ok.ensures ∙ ap (λ h. greeted (c.args.self.now.opened + 1) c.args.self.now.boot h c.args.self.now.moment) c.as_str.ensures.value) (number_left _ _ st.opened (c.is_full.ensures.room c.if-is_full.false))
     (λ k h. h) refl refl refl refl refl change (λ d. refl)
+
+pub returns-then-is_full-clause-outcome : goal.returns-then-is_full-clause-outcome
+returns-then-is_full-clause-outcome g c = search rules
+
+pub returns-then-is_full-clause-cause : goal.returns-then-is_full-clause-cause
+returns-then-is_full-clause-cause g c = search rules
+
+pub returns-then-is_full-clause-counted : goal.returns-then-is_full-clause-counted
+returns-then-is_full-clause-counted g c = search rules
+
+pub returns-then-is_full-clause-clean : goal.returns-then-is_full-clause-clean
+returns-then-is_full-clause-clean g c = search rules
+
+pub returns-then-is_full-clause-unasked : goal.returns-then-is_full-clause-unasked
+returns-then-is_full-clause-unasked g c = search rules
+
+pub overflow_add-c : goal.overflow_add-c
+overflow_add-c g c = search rules
+
+pub returns-in_default-clause-outcome : goal.returns-in_default-clause-outcome
+returns-in_default-clause-outcome g c = search rules
+
+pub returns-in_default-clause-cause : goal.returns-in_default-clause-cause
+returns-in_default-clause-cause g c = search rules
+
+pub returns-in_default-clause-counted : goal.returns-in_default-clause-counted
+returns-in_default-clause-counted g c = search rules
+
+pub returns-in_default-clause-clean : goal.returns-in_default-clause-clean
+returns-in_default-clause-clean g c = search rules
+
+pub returns-in_default-clause-unasked : goal.returns-in_default-clause-unasked
+returns-in_default-clause-unasked g c = search rules
+
+pub returns-then-is_err-clause-cause : goal.returns-then-is_err-clause-cause
+returns-then-is_err-clause-cause g c = search rules
+
+pub returns-then-is_err-clause-counted : goal.returns-then-is_err-clause-counted
+returns-then-is_err-clause-counted g c = search rules
+
+pub returns-then-is_err-clause-clean : goal.returns-then-is_err-clause-clean
+returns-then-is_err-clause-clean g c = search rules
+
+pub returns-then-is_err-clause-unasked : goal.returns-then-is_err-clause-unasked
+returns-then-is_err-clause-unasked g c = search rules
+
+pub returns-clause-outcome : goal.returns-clause-outcome
+returns-clause-outcome g c = search rules
+
+pub returns-clause-cause : goal.returns-clause-cause
+returns-clause-cause g c = search rules
+
+pub returns-clause-counted : goal.returns-clause-counted
+returns-clause-counted g c = search rules
+
+pub returns-clause-clean : goal.returns-clause-clean
+returns-clause-clean g c = search rules
+
+pub returns-clause-unasked : goal.returns-clause-unasked
+returns-clause-unasked g c = search rules

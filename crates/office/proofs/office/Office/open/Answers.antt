@@ -19,3 +19,57 @@ returns-clause-opened g c T k clean =
 
 pub returns-then-is_none-clause-host : goal.returns-then-is_none-clause-host
 returns-then-is_none-clause-host g c = search rules
+
+pub returns-in_default-clause-opened : goal.returns-in_default-clause-opened
+returns-in_default-clause-opened g c = search rules
+
+pub returns-in_default-clause-host : goal.returns-in_default-clause-host
+returns-in_default-clause-host g c = search rules
+
+pub returns-in_default-clause-kept : goal.returns-in_default-clause-kept
+returns-in_default-clause-kept g c = search rules
+
+pub returns-in_default-clause-left : goal.returns-in_default-clause-left
+returns-in_default-clause-left g c = search rules
+
+pub returns-in_default-clause-counted : goal.returns-in_default-clause-counted
+returns-in_default-clause-counted g c = search rules
+
+pub returns-in_default-clause-cause : goal.returns-in_default-clause-cause
+returns-in_default-clause-cause g c = search rules
+
+pub returns-in-Err-NoMemory-clause-opened : goal.returns-in-Err-NoMemory-clause-opened
+returns-in-Err-NoMemory-clause-opened g c = search rules
+
+pub returns-in-Err-NoMemory-clause-host : goal.returns-in-Err-NoMemory-clause-host
+returns-in-Err-NoMemory-clause-host g c = search rules
+
+pub returns-in-Err-NoMemory-clause-kept : goal.returns-in-Err-NoMemory-clause-kept
+returns-in-Err-NoMemory-clause-kept g c = search rules
+
+pub returns-in-Err-NoMemory-clause-left : goal.returns-in-Err-NoMemory-clause-left
+returns-in-Err-NoMemory-clause-left g c = search rules
+
+pub returns-in-Err-NoMemory-clause-counted : goal.returns-in-Err-NoMemory-clause-counted
+returns-in-Err-NoMemory-clause-counted g c = search rules
+
+pub returns-in-Err-NoMemory-clause-cause : goal.returns-in-Err-NoMemory-clause-cause
+returns-in-Err-NoMemory-clause-cause g c = search rules
+
+pub returns-in-Err : goal.returns-in-Err
+returns-in-Err g c = search rules
+
+pub returns-clause-host : goal.returns-clause-host
+returns-clause-host g c = search rules
+
+pub returns-clause-kept : goal.returns-clause-kept
+returns-clause-kept g c = search rules
+
+pub returns-clause-left : goal.returns-clause-left
+returns-clause-left g c = search rules
+
+pub returns-clause-counted : goal.returns-clause-counted
+returns-clause-counted g c = search rules
+
+pub returns-clause-cause : goal.returns-clause-cause
+returns-clause-cause g c = search rules
