@@ -1,7 +1,7 @@
 //! The statements that the measures run, one in each function, which has no clause: so a measure's proof carries none of
 //! the statements' clauses.
 
-use mailsql::{clerks, counts, deposits, mail, maildrops, meta, mode, rules, sheets, tables};
+use mailsql::{clerks, counts, deposits, mail, maildrops, mode, rules, sheets};
 use sqlite::{Alter, Connection, Error};
 use std::alloc::Global;
 
@@ -11,14 +11,6 @@ pub fn begin<S: Alter>(conn: &mut Connection<S>) -> Result<(), Error> {
 
 pub fn commit<S: Alter>(conn: &mut Connection<S>) -> Result<(), Error> {
     mode::commit(conn)
-}
-
-pub fn create_tables<S: Alter>(conn: &mut Connection<S>) -> Result<(), Error> {
-    tables::create_tables(conn)
-}
-
-pub fn add_mark<S: Alter>(conn: &mut Connection<S>) -> Result<(), Error> {
-    meta::add_mark(conn, b"popbox", 2)
 }
 
 pub fn add_clerk<S: Alter>(conn: &mut Connection<S>) -> Result<(), Error> {

@@ -20,8 +20,9 @@ mod stores;
 mod texts;
 
 use fault::Fault;
-use sqlite::{Alter, Connection, FileStore};
+use sqlite::{Alter, Connection, FileStore, Wary};
 use sqlite_disk::Disk;
+use sqlvault::SqlVault;
 use std::env;
 use std::rt::{Clock, Env};
 use std::time::Duration;
@@ -51,7 +52,7 @@ fn measure<S: Alter>(
 }
 
 fn in_memory(rt: &HostRuntime, what: &str, count: u32) -> Result<(), Fault> {
-    let mut conn = Connection::open_in_memory(rt.alloc())?;
+    let mut conn = SqlVault::in_memory(rt.alloc())?.into_connection();
     measure(rt, &mut conn, what, count)
 }
 
@@ -70,10 +71,8 @@ fn measure_and_close<D: Disk + Drop>(
 }
 
 fn in_file(rt: &HostRuntime, path: &str, what: &str, count: u32) -> Result<(), Fault> {
-    match Connection::open(rt, path) {
-        Ok(conn) => measure_and_close(rt, conn, what, count),
-        Err(_) => Err(Fault::Statement),
-    }
+    let vault = SqlVault::open(rt, path, Wary)?;
+    measure_and_close(rt, vault.into_connection(), what, count)
 }
 
 /// Runs a measure of sessions over the store of this name.

@@ -1,4 +1,4 @@
-//! How fast the statements of a store are, over a connection whose store has no tables yet.
+//! How fast the statements of a store are, over the tables of a store, which are empty.
 
 use crate::fault::Fault;
 use crate::texts::text_of;
@@ -10,13 +10,6 @@ use std::time::Instant;
 
 /// The maildrops that share the messages of `measure_heads`.
 const NAMES: [&[u8]; 10] = [b"a", b"b", b"c", b"d", b"e", b"f", b"g", b"h", b"i", b"j"];
-
-fn make_tables<S: Alter>(conn: &mut Connection<S>) -> Result<(), Error> {
-    calls::begin(conn)?;
-    calls::create_tables(conn)?;
-    calls::add_mark(conn)?;
-    calls::commit(conn)
-}
 
 /// A message of this text into `orders`, in a transaction of its own; its key.
 fn write_text<S: Alter>(conn: &mut Connection<S>, text: &[u8], octets: u32) -> Result<i64, Error> {
@@ -69,7 +62,6 @@ pub fn measure_sheets<S: Alter>(
     conn: &mut Connection<S>,
     octets: u32,
 ) -> Result<(), Fault> {
-    make_tables(conn)?;
     calls::add_maildrop(conn, b"orders")?;
     let text = text_of(rt.alloc(), b"a line of the message ..\r\n", octets as usize)?;
     let (key, writing) = writing(rt, conn, &text, octets)?;
@@ -90,7 +82,6 @@ pub fn measure_commits<S: Alter>(
     conn: &mut Connection<S>,
     count: u32,
 ) -> Result<(), Fault> {
-    make_tables(conn)?;
     let start = Instant::now(rt)?;
     for k in 0..count {
         commit_one(conn, k)?;
@@ -142,7 +133,6 @@ pub fn measure_heads<S: Alter>(
     conn: &mut Connection<S>,
     count: u32,
 ) -> Result<(), Fault> {
-    make_tables(conn)?;
     let filling = filling(rt, conn, count)?;
     let (heads, listing) = listing(rt, conn)?;
     let (counted, counting) = counting(rt, conn)?;
@@ -170,7 +160,6 @@ fn write_mail<S: Alter>(conn: &mut Connection<S>) -> Result<(), Error> {
 
 /// A row or two in each table, for `tools/check-tables`.
 pub fn write_sample<S: Alter>(conn: &mut Connection<S>) -> Result<(), Fault> {
-    make_tables(conn)?;
     write_names(conn)?;
     write_mail(conn)?;
     Ok(())

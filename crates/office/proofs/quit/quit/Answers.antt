@@ -82,3 +82,6 @@ returns-in_err-put-clause-unasked g c = search rules
 
 pub returns-in_err-put-in-Err : goal.returns-in_err-put-in-Err
 returns-in_err-put-in-Err g c = search rules
+
+pub returns-in-Err-NoMemory-clause-err : goal.returns-in-Err-NoMemory-clause-err
+returns-in-Err-NoMemory-clause-err c = search rules

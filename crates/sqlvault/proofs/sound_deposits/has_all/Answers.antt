@@ -12,3 +12,9 @@ pub loop-before-preserved : goal.loop-before-preserved
 loop-before-preserved c ns set =
     let there : c.contains.result ≡ true = search rules in
     has_more ns c.args.maildrop.now c.args.class.now c.loop-before.before (c.loop-before.invariant ns set) (sym (set (c.args.maildrop.now, c.args.class.now, c.loop-before.before + 1)) ∙ sym c.contains.ensures ∙ there)
+
+pub loop-before-init : goal.loop-before-init
+loop-before-init c = search rules
+
+pub returns : goal.returns
+returns c = search rules

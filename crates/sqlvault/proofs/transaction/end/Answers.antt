@@ -13,3 +13,6 @@ returns-in-Err-clause-ended g c base after rows clean2 w keeps =
 
 pub returns-in-Ok-clause-ended : goal.returns-in-Ok-clause-ended
 returns-in-Ok-clause-ended g c = search rules
+
+pub returns-in-Ok-clause-up : goal.returns-in-Ok-clause-up
+returns-in-Ok-clause-up c = search rules

@@ -1,4 +1,5 @@
-use Rattle.std.proofs.Common.{◌≡◌, ◌≤◌, [], length, Some, sym, ◌∙◌, nat_cmp, subst, rules, refl, ap}
+use Rattle.std.proofs.Common.{◌≡◌, ◌≤◌, [], length, Some, sym, ◌∙◌, nat_cmp, subst, rules, refl, ap, arith}
+use Rattle.std.proofs.lemmas.Grind.{common_steps}
 use Rattle.std.specs.BTreeMap.{get}
 use Rattle.vault.specs.Changes.{AreSound}
 use Rattle.office.specs.Events.{Bytes, Tagged, given}
@@ -148,3 +149,9 @@ returns-in-Err-clause-outcome g c T st clean =
     let fits : length p ≤ most_in_a_piece = search rules in
     let goes = bytes_goes T (lent_by o) n p m.opened (sym m.owed ∙ nothing) fits in
     record { tag = NoMemory; may = refl; is = rw goes refl }
+
+pub returns-then-piece-gt-MOST_IN_A_PIECE-clause-outcome : goal.returns-then-piece-gt-MOST_IN_A_PIECE-clause-outcome
+returns-then-piece-gt-MOST_IN_A_PIECE-clause-outcome c = search rules
+
+pub hear-requires : goal.hear-requires
+hear-requires c = grind (arith, common_steps)

@@ -1,4 +1,4 @@
-use Rattle.std.proofs.Common.{◌≡◌, false, sym, ◌∙◌, refl, subst}
+use Rattle.std.proofs.Common.{◌≡◌, false, sym, ◌∙◌, refl, subst, rules}
 use Rattle.office.specs.Locks.{Released}
 use Rattle.office.specs.Sessions.{live}
 use Rattle.office.specs.Stands.{seen}
@@ -16,3 +16,6 @@ returns-in-Some-clause-stands g c T st clean =
     let seated = seated_as st.keeps.contents (seen T c.args.c) _ c.in-Some.name (st.links c.args.c) (sym c.login_at.ensures ∙ c.in-Some.is) in
     ended_stands g.V.Vault.holds c.args.self.now _ T _ _ c.args.c (end_ends T c.args.c seated.alive) st seated.kept seated.is (λ k h. h) refl refl refl refl refl
     c.remove.ensures.updates (subst (λ m. Released m c.args.self.now.locks c.release.new.locks) (sym seated.maildrop) c.release.ensures)
+
+pub returns-in-Some-clause-unasked : goal.returns-in-Some-clause-unasked
+returns-in-Some-clause-unasked c = search rules

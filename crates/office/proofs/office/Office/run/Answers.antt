@@ -1,4 +1,5 @@
 use Rattle.std.proofs.Common.{arith, sym, take, take_all, subst, get_or}
+use Rattle.std.proofs.lemmas.Grind.{common_steps}
 use Rattle.std.proofs.lemmas.List.{take_more}
 use Rattle.office.specs.Runs.{Follows, followed}
 use Rattle.office.proofs.Running.{follows_more}
@@ -39,3 +40,6 @@ returns-in-Err-clause-err g c = (
       subst (λ o. Follows g.V.Vault.holds (take c.loop-done.done c.args.events.now) c.loop-done.steps.items T o) (sym c.in-Err.ensures.err)
       (c.loop-done.invariant.follows T st (c.enter.ensures.clean clean)),
 )
+
+pub returns-in-Err-clause-err_before_the_end : goal.returns-in-Err-clause-err_before_the_end
+returns-in-Err-clause-err_before_the_end c = grind (arith, common_steps)

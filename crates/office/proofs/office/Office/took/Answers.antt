@@ -1,4 +1,5 @@
 use Rattle.std.proofs.Common.{◌≡◌, ◌<◌, ◌≤◌, false, true, Some, sym, ◌∙◌, ap, length, arith, nat_cmp, subst, rules, refl}
+use Rattle.std.proofs.lemmas.Grind.{common_steps}
 use Rattle.std.specs.BTreeMap.{get}
 use Rattle.vault.specs.Changes.{AreSound}
 use Rattle.office.specs.Events.{Took, Tagged, given}
@@ -220,3 +221,6 @@ returns-in-Err-clause-outcome g c T st clean =
     let line = next_kept T x ∙ next.1 in
     let goes = took_goes T (lent_by o) x n m.opened (search rules) (rw (found, m.owed) within) in
     record { tag = NoMemory; may = rw (all_over s n all, open_yet, line) refl; is = rw goes refl }
+
+pub resume-requires : goal.resume-requires
+resume-requires c = grind (arith, common_steps)

@@ -1,5 +1,5 @@
 use denote.Enum.Bare.{sameb}
-use Rattle.std.proofs.Common.{◌≡◌, List, ℕ, ◌∙◌, sym, refl, false}
+use Rattle.std.proofs.Common.{◌≡◌, List, ℕ, ◌∙◌, sym, refl, false, rules}
 use Rattle.popline.specs.Commands.{arguments, with_arguments, command_with}
 use Rattle.popline.specs.contracts.command.Keyword.{the_type}
 use Rattle.popline.specs.declared.command.Keyword.{Keyword}
@@ -17,3 +17,6 @@ returns-in-Some-split_once-2 c =
     sym (not_pass c.args.self c.args.line.now c.if-eq.ensures
     ∙ with_arguments-three c.args.self c.args.line.now c.in-Some.rest.now c.in-Some-split_once.first.now c.in-Some-split_once.second.now c.in-Some.field-0-0.now
     parts c.in-Some-split_once.ensures c.in-Some-split_once-2.field-0.0.now c.in-Some-split_once-2.field-0.1.now c.in-Some-split_once-2.ensures)
+
+pub returns-then-eq : goal.returns-then-eq
+returns-then-eq c = search rules
