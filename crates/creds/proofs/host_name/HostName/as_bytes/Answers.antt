@@ -4,3 +4,6 @@ use Rattle.creds.proofs.host_name.HostName.as_bytes.Goals as goal
 
 pub returns-clause-value : goal.returns-clause-value
 returns-clause-value c = search rules
+
+pub returns-clause-form : goal.returns-clause-form
+returns-clause-form c = search rules
