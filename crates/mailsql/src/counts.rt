@@ -18,7 +18,7 @@ use sqlite_value::value::ValueRef;
 use std::alloc::Global;
 
 /// Sets the count of a class that has none.
-pub fn add_count<'x, S: Alter>(
+fn add_count<'x, S: Alter>(
     conn: &mut Connection<S>,
     maildrop: &'x [u8],
     class: &'x [u8],
@@ -41,7 +41,7 @@ pub fn add_count<'x, S: Alter>(
 }
 
 /// Takes out the count, if it is there.
-pub fn clear_count<'x, S: Alter>(
+fn clear_count<'x, S: Alter>(
     conn: &mut Connection<S>,
     maildrop: &'x [u8],
     class: &'x [u8],
