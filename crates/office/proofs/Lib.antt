@@ -53,6 +53,7 @@ mod Picking
 mod Quitting
 mod Remembering
 mod Obeying
+mod Telling
 mod Texts
 mod Pages
 mod Restarting

@@ -35,3 +35,4 @@ pub mod Idle
 pub mod Entering
 pub mod VaultAnswers
 pub mod InSession
+pub mod Telling

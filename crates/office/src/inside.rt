@@ -1,22 +1,23 @@
 //! A line of a session: what it is answered, what it changes, and what is remembered of it (RFC 1939, 5 and 6).
-ghost use Rattle.std.specs.Prelude.{◌≡◌, ◌≤◌, ◌++◌, List, true, false, OnErr, IfOk};
+ghost use Rattle.std.specs.Prelude.{◌≡◌, ◌≤◌, ◌++◌, List, true, Ok, Err, OnErr, IfOk};
 ghost use Rattle.popline.specs.Commands.{command_of};
-ghost use Rattle.popline.specs.Replies.{bytes_of, BadArguments};
-ghost use Rattle.popline.specs.Seen.{cut_seen, reading_seen, reply_seen};
+ghost use Rattle.popline.specs.Replies.{bytes_of};
+ghost use Rattle.popline.specs.Seen.{command_seen, cut_seen, reading_seen, reply_seen};
 ghost use Rattle.policy.specs.Policy.{Policy};
 ghost use Rattle.vault.specs.Changes.{Contents};
 ghost use Rattle.vault.specs.Calls.{has_grown};
 ghost use Rattle.vault.specs.declared.record.Keyed.{Keyed};
+ghost use Rattle.session.specs.Session.{Session as State};
 ghost use Rattle.office.specs.Connections.{reading, is_quit};
-ghost use Rattle.office.specs.Replying.{is_allowed, when_permitted};
 ghost use Rattle.office.specs.Kept.{talk_after};
-ghost use Rattle.office.specs.Sitting.{Sitting, sitting_of, LiesIn, GoesOn, Obeyed, reply_inside, asks_inside, held_after_line, user_inside};
+ghost use Rattle.office.specs.Telling.{is_told};
+ghost use Rattle.office.specs.Sitting.{Sitting, sitting_of, LiesIn, GoesOn, Obeyed, said_inside, reply_inside, asks_inside, held_after_line, user_inside};
 
 use crate::listing::{drop_listing, put_sizes, put_uids};
 use crate::message::{retrieve, top};
 use crate::quit::quit;
 use crate::referring::{delete, reset, scan_line, uid_line};
-use crate::talk::{Acted, Talk};
+use crate::talk::{Acted, Talk, say};
 use creds::LoginName;
 use policy::Policy;
 use popline::{Command, Cut, Keyword, LineFault, Reply};
@@ -24,22 +25,56 @@ use session::Session;
 use std::alloc::{AllocError, Global};
 use vault::Vault;
 
-/// Puts a reply that needs no store.
-fn say(alloc: Global, owed: &mut Vec<u8>, reply: &Reply<'_>) -> Result<Acted, AllocError>
-    ensures acted { IfOk result (λ acted. acted ≡ Acted.Done) }
-    ensures owed { IfOk result (λ _. owed.new.items ≡ owed.old.items ++ bytes_of (reply_seen reply.now)) }
+/// What is said to a line that doesn't read as a command. A login can't be asked for again, with whatever arguments.
+fn misread(fault: LineFault) -> Reply<'static>
+    ensures said { (p : Policy) (v : Sitting) → reply_seen result ≡ said_inside p v (Err fault) }
+    ensures session { (s : State) → GoesOn (reply_seen result) s s }
 {
-    reply.put(alloc, owed)?;
-    Ok(Acted::Done)
+    match fault {
+        LineFault::Unknown => Reply::UnknownCommand,
+        LineFault::Syntax(Keyword::User | Keyword::Pass | Keyword::Apop) => Reply::WrongState,
+        LineFault::Syntax(_) => Reply::BadArguments,
+    }
 }
 
-/// What is said of arguments that don't fit; a login can't be asked for again, with whatever arguments.
-fn misfit(keyword: Keyword) -> Reply<'static>
-    ensures { reply_seen result ≡ when_permitted (is_allowed keyword true false) BadArguments }
+/// What a command is told that neither lists nor asks the store; it may mark a message, or take all marks away.
+fn told(session: &mut Session, policy: &Policy, command: &Command<'_>) -> Reply<'static>
+    ensures said { (c : Contents) (kept : List Keyed) → LiesIn c session.old kept → is_told (command_seen command.now) ≡ true → reply_seen result ≡ said_inside policy.now (sitting_of session.old kept) (Ok (command_seen command.now)) }
+    ensures session { GoesOn (reply_seen result) session.old session.new }
 {
-    match keyword {
-        Keyword::User | Keyword::Pass | Keyword::Apop => Reply::WrongState,
-        _ => Reply::BadArguments,
+    match command {
+        Command::Capa => Reply::Capabilities,
+        Command::Stat => drop_listing(session),
+        Command::List(Some(n)) => scan_line(session, *n),
+        Command::Uidl(Some(n)) => uid_line(session, *n),
+        Command::Dele(n) => delete(session, policy, *n),
+        Command::Rset => reset(session),
+        Command::Noop => Reply::Okay,
+        _ => Reply::WrongState,
+    }
+}
+
+/// Does what a command says, and puts the reply.
+fn follow<V: Vault>(
+    alloc: Global,
+    vault: &mut V,
+    policy: &Policy,
+    command: &Command<'_>,
+    owed: &mut Vec<u8>,
+    session: &mut Session,
+) -> Result<Acted, AllocError>
+    ensures done { IfOk result (λ acted. (c : Contents) (kept : List Keyed) → V.holds vault.old c → V.is_clean vault.new → LiesIn c session.old kept → Obeyed (V.holds vault.new) (has_grown (V.faults vault.old) (V.faults vault.new)) c policy.now session.old session.new kept owed.old.items owed.new.items (Ok (command_seen command.now)) acted) }
+    ensures err { OnErr result ((c : Contents) → V.holds vault.old c → V.is_clean vault.new → V.holds vault.new c) }
+    ensures counted { V.faults vault.old ≤ V.faults vault.new }
+    ensures clean { V.is_clean vault.new → V.is_clean vault.old }
+{
+    match command {
+        Command::Quit => quit(alloc, vault, policy, owed, session),
+        Command::List(None) => put_sizes(alloc, session, owed),
+        Command::Uidl(None) => put_uids(alloc, session, owed),
+        Command::Retr(n) => retrieve(alloc, vault, owed, session, *n),
+        Command::Top(n, lines) => top(alloc, vault, owed, session, *n, *lines),
+        _ => say(alloc, owed, &told(session, policy, command)),
     }
 }
 
@@ -58,29 +93,8 @@ fn obey<V: Vault>(
     ensures clean { V.is_clean vault.new → V.is_clean vault.old }
 {
     match Command::read(line) {
-        Err(LineFault::Unknown) => say(alloc, owed, &Reply::UnknownCommand),
-        Err(LineFault::Syntax(keyword)) => say(alloc, owed, &misfit(keyword)),
-        Ok(Command::Capa) => say(alloc, owed, &Reply::Capabilities),
-        Ok(Command::User(_)) => say(alloc, owed, &Reply::WrongState),
-        Ok(Command::Pass(_)) => say(alloc, owed, &Reply::WrongState),
-        Ok(Command::Apop(_, _)) => say(alloc, owed, &Reply::WrongState),
-        Ok(Command::Quit) => quit(alloc, vault, policy, owed, session),
-        Ok(Command::Stat) => say(alloc, owed, &drop_listing(session)),
-        Ok(Command::List(None)) => {
-            put_sizes(alloc, session, owed)?;
-            Ok(Acted::Done)
-        }
-        Ok(Command::List(Some(n))) => say(alloc, owed, &scan_line(session, n)),
-        Ok(Command::Uidl(None)) => {
-            put_uids(alloc, session, owed)?;
-            Ok(Acted::Done)
-        }
-        Ok(Command::Uidl(Some(n))) => say(alloc, owed, &uid_line(session, n)),
-        Ok(Command::Retr(n)) => retrieve(alloc, vault, owed, session, n),
-        Ok(Command::Top(n, lines)) => top(alloc, vault, owed, session, n, lines),
-        Ok(Command::Dele(n)) => say(alloc, owed, &delete(session, policy, n)),
-        Ok(Command::Rset) => say(alloc, owed, &reset(session)),
-        Ok(Command::Noop) => say(alloc, owed, &Reply::Okay),
+        Ok(command) => follow(alloc, vault, policy, &command, owed, session),
+        Err(fault) => say(alloc, owed, &misread(fault)),
     }
 }
 

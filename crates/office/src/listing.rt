@@ -10,6 +10,7 @@ ghost use Rattle.session.specs.Session.{octets_of, uid_of};
 ghost use Rattle.session.specs.View.{unmarked, sizes_of, uids_of};
 ghost use Rattle.office.specs.Sitting.{LiesIn, GoesOn, told_inside};
 
+use crate::talk::Acted;
 use popline::{Reply, begin_scan_listing, begin_uid_listing, end_lines, put_scan_row, put_uid_row};
 use session::Session;
 use std::alloc::{AllocError, Global};
@@ -28,15 +29,16 @@ pub(crate) fn put_sizes(
     alloc: Global,
     session: &Session,
     owed: &mut Vec<u8>,
-) -> Result<(), AllocError>
-    ensures { IfOk result (λ _. owed.new.items ≡ owed.old.items ++ bytes_of (ScanListing (sizes_of octets_of (unmarked session.now.marks session.now.view)))) }
+) -> Result<Acted, AllocError>
+    ensures acted { IfOk result (λ acted. acted ≡ Acted.Done) }
+    ensures owed { IfOk result (λ _. owed.new.items ≡ owed.old.items ++ bytes_of (ScanListing (sizes_of octets_of (unmarked session.now.marks session.now.view)))) }
 {
     begin_scan_listing(owed)?;
     for (number, octets) in session.list() {
         put_scan_row(alloc, owed, number, octets)?;
     }
     end_lines(owed)?;
-    Ok(())
+    Ok(Acted::Done)
 }
 
 /// Puts the numbers and unique-ids of the heads that aren't marked.
@@ -44,13 +46,14 @@ pub(crate) fn put_uids(
     alloc: Global,
     session: &Session,
     owed: &mut Vec<u8>,
-) -> Result<(), AllocError>
-    ensures { IfOk result (λ _. owed.new.items ≡ owed.old.items ++ bytes_of (UidListing (uids_of uid_of (unmarked session.now.marks session.now.view)))) }
+) -> Result<Acted, AllocError>
+    ensures acted { IfOk result (λ acted. acted ≡ Acted.Done) }
+    ensures owed { IfOk result (λ _. owed.new.items ≡ owed.old.items ++ bytes_of (UidListing (uids_of uid_of (unmarked session.now.marks session.now.view)))) }
 {
     begin_uid_listing(owed)?;
     for (number, uid) in session.uidl() {
         put_uid_row(alloc, owed, number, uid)?;
     }
     end_lines(owed)?;
-    Ok(())
+    Ok(Acted::Done)
 }

@@ -11,7 +11,7 @@ ghost use Rattle.vault.specs.declared.record.Keyed.{Keyed};
 ghost use Rattle.office.specs.Sitting.{LiesIn, Obeyed, Begins, HasText};
 
 use crate::referring::refused;
-use crate::talk::Acted;
+use crate::talk::{Acted, say};
 use mailtext::{MailText, TextFault, canon, stuff_into};
 use popline::{Reply, begin_message, begin_top, end_lines};
 use session::Session;
@@ -99,23 +99,25 @@ fn read_message<V: Vault>(
 }
 
 /// Puts a message: how many octets it has, and its lines.
-fn put_message(alloc: Global, owed: &mut Vec<u8>, text: &[u8]) -> Result<(), AllocError>
-    ensures { IfOk result (λ _. owed.new.items ≡ owed.old.items ++ bytes_of (Message (length text.now) (stuffed_lines (lines_of text.now)))) }
+fn put_message(alloc: Global, owed: &mut Vec<u8>, text: &[u8]) -> Result<Acted, AllocError>
+    ensures acted { IfOk result (λ acted. acted ≡ Acted.Done) }
+    ensures owed { IfOk result (λ _. owed.new.items ≡ owed.old.items ++ bytes_of (Message (length text.now) (stuffed_lines (lines_of text.now)))) }
 {
     begin_message(alloc, owed, text.len() as u64)?;
     stuff_into(owed, text)?;
     end_lines(owed)?;
-    Ok(())
+    Ok(Acted::Done)
 }
 
 /// Puts the top of a message: its header and so many lines more.
-fn put_top(owed: &mut Vec<u8>, message: &MailText, lines: u64) -> Result<(), AllocError>
-    ensures { IfOk result (λ _. owed.new.items ≡ owed.old.items ++ bytes_of (TopPart (stuffed_lines (top_part (lines_of message.now) lines)))) }
+fn put_top(owed: &mut Vec<u8>, message: &MailText, lines: u64) -> Result<Acted, AllocError>
+    ensures acted { IfOk result (λ acted. acted ≡ Acted.Done) }
+    ensures owed { IfOk result (λ _. owed.new.items ≡ owed.old.items ++ bytes_of (TopPart (stuffed_lines (top_part (lines_of message.now) lines)))) }
 {
     begin_top(owed)?;
     stuff_into(owed, message.top(lines))?;
     end_lines(owed)?;
-    Ok(())
+    Ok(Acted::Done)
 }
 
 /// Puts a message of a session (RFC 1939, 5: RETR).
@@ -131,19 +133,16 @@ pub(crate) fn retrieve<V: Vault>(
     ensures counted { V.faults vault.old ≤ V.faults vault.new }
     ensures clean { V.is_clean vault.new → V.is_clean vault.old }
 {
-    let head = match session.pick(n) {
-        Ok(head) => head,
-        Err(why) => {
-            refused(why, n).put(alloc, owed)?;
-            return Ok(Acted::Done);
-        }
-    };
-    let Some(text) = read_text(alloc, vault, head.key, head.octets as usize)? else {
-        Reply::StoreFailed.put(alloc, owed)?;
-        return Ok(Acted::Failed);
-    };
-    put_message(alloc, owed, &text)?;
-    Ok(Acted::Done)
+    match session.pick(n) {
+        Err(why) => say(alloc, owed, &refused(why, n)),
+        Ok(head) => match read_text(alloc, vault, head.key, head.octets as usize)? {
+            None => {
+                Reply::StoreFailed.put(alloc, owed)?;
+                Ok(Acted::Failed)
+            }
+            Some(text) => put_message(alloc, owed, &text),
+        },
+    }
 }
 
 /// Puts the top of a message of a session (RFC 1939, 7: TOP).
@@ -160,17 +159,14 @@ pub(crate) fn top<V: Vault>(
     ensures counted { V.faults vault.old ≤ V.faults vault.new }
     ensures clean { V.is_clean vault.new → V.is_clean vault.old }
 {
-    let head = match session.pick(n) {
-        Ok(head) => head,
-        Err(why) => {
-            refused(why, n).put(alloc, owed)?;
-            return Ok(Acted::Done);
-        }
-    };
-    let Some(message) = read_message(alloc, vault, head.key, head.octets as usize)? else {
-        Reply::StoreFailed.put(alloc, owed)?;
-        return Ok(Acted::Failed);
-    };
-    put_top(owed, &message, lines)?;
-    Ok(Acted::Done)
+    match session.pick(n) {
+        Err(why) => say(alloc, owed, &refused(why, n)),
+        Ok(head) => match read_message(alloc, vault, head.key, head.octets as usize)? {
+            None => {
+                Reply::StoreFailed.put(alloc, owed)?;
+                Ok(Acted::Failed)
+            }
+            Some(message) => put_top(owed, &message, lines),
+        },
+    }
 }

@@ -1,10 +1,14 @@
 //! What is remembered of a conversation between its lines, and what a line is judged by.
 
-ghost use Rattle.std.specs.Prelude.{◌≡◌};
+ghost use Rattle.std.specs.Prelude.{◌≡◌, ◌++◌, IfOk};
+ghost use Rattle.popline.specs.Replies.{bytes_of};
+ghost use Rattle.popline.specs.Seen.{reply_seen};
 ghost use Rattle.office.specs.Kept.{nothing_said};
 
 use creds::LoginName;
 use policy::Policy;
+use popline::Reply;
+use std::alloc::{AllocError, Global};
 
 /// What the next line is answered by, beside the line itself.
 #[derive(Clone, Copy)]
@@ -47,4 +51,13 @@ pub enum Acted {
     Done,
     /// The store refused, and the reply says so.
     Failed,
+}
+
+/// Puts a reply that needs no store.
+pub(crate) fn say(alloc: Global, owed: &mut Vec<u8>, reply: &Reply<'_>) -> Result<Acted, AllocError>
+    ensures acted { IfOk result (λ acted. acted ≡ Acted.Done) }
+    ensures owed { IfOk result (λ _. owed.new.items ≡ owed.old.items ++ bytes_of (reply_seen reply.now)) }
+{
+    reply.put(alloc, owed)?;
+    Ok(Acted::Done)
 }

@@ -9,8 +9,8 @@ use Rattle.office.proofs.listing.put_sizes.Goals as goal
 pub loop-number-preserved : goal.loop-number-preserved
 loop-number-preserved c = c.in_ok-put_scan_row.ensures.row _ _ c.loop-number.invariant
 
-pub returns : goal.returns
-returns c =
+pub returns-clause-owed : goal.returns-clause-owed
+returns-clause-owed c =
     let s = c.args.session.now in
     let rows : List (ℕ × ℕ) = sizes_of octets_of (unmarked s.marks s.view) in
     let start = YieldsList-from_first (λ (x : ℕ × ℕ). x) (λ (rest : List (ℕ × ℕ)). rest) rows (c.into_iter-number-iterator.ensures.into_iter_gives ∙ c.list-number-items.ensures) in

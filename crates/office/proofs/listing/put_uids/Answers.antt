@@ -10,8 +10,8 @@ use Rattle.office.proofs.listing.put_uids.Goals as goal
 pub loop-number-preserved : goal.loop-number-preserved
 loop-number-preserved c = c.in_ok-put_uid_row.ensures.row _ _ c.loop-number.invariant
 
-pub returns : goal.returns
-returns c =
+pub returns-clause-owed : goal.returns-clause-owed
+returns-clause-owed c =
     let s = c.args.session.now in
     let rows : List (ℕ × Uid) = uids_of uid_of (unmarked s.marks s.view) in
     let start = YieldsList-from_first (λ (x : ℕ × Uid). x) (λ (rest : List (ℕ × Uid)). rest) rows (c.into_iter-number-iterator.ensures.into_iter_gives ∙ c.uidl-number-items.ensures) in

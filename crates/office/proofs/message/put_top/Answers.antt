@@ -4,8 +4,8 @@ use Rattle.mailtext.specs.Text.{lines_of, stuffed_lines, top_part}
 use Rattle.popline.specs.Replies.{one_line}
 use Rattle.office.proofs.message.put_top.Goals as goal
 
-pub returns : goal.returns
-returns c =
+pub returns-clause-owed : goal.returns-clause-owed
+returns-clause-owed c =
     let old = c.args.owed.now.items in
     let first = one_line (codes "+OK top follows") in
     let lines = stuffed_lines (top_part (lines_of c.args.message.now) c.args.lines) in
