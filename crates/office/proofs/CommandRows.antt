@@ -14,7 +14,7 @@ use Rattle.office.specs.Answers.{ShowMaildrop, ListMaildrops, ListSessions, EndS
 use Rattle.office.specs.Events.{Connect, Bytes, Gone, Admin}
 use Rattle.office.specs.Outcomes.{Ignored, PieceTooLong, TooManyConnections}
 use Rattle.office.specs.Trace.{is_open}
-use Rattle.office.proofs.Sample.{run, connect, gives, says, received, replies, Give, Drain, outcome, as_ann, as_bob, ann, ann_receives, kept_ids, deposit, answered, pipelined, connects, second_as_bob}
+use Rattle.office.proofs.Sample.{shows, both, run, connect, gives, says, received, replies, Give, Drain, outcome, as_ann, as_bob, ann, ann_receives, kept_ids, deposit, answered, pipelined, connects, second_as_bob}
 
 capability_list_octet_by_octet : received 1 (run (connect 1 ++ flat_map (λ b. Give (Bytes 1 (b ∷ [])) ∷ Drain 1 ∷ []) (codes "CAPA\r\nQUIT\r\n")))
     ≡ replies (codes "+OK POP3 server ready <1.7@h.test>" ∷ codes "+OK capability list follows" ∷ codes "TOP" ∷ codes "USER" ∷ codes "UIDL" ∷ codes "RESP-CODES" ∷ codes "PIPELINING" ∷ codes "." ∷ codes "+OK bye" ∷ [])
@@ -76,15 +76,12 @@ filtered_view : received 1 (run (connect 1 ++ says 1 (as_bob ++ codes "STAT" ∷
 unfolding digits login_name decode_pairs md5 M.digest_bytes M.hash_after M.compress M.rounds M.block_words
 filtered_view = refl
 
-deposit_during_a_session : received 1 (run (connect 1 ++ says 1 as_bob ++ Give (deposit (codes "note") (codes "d5") (codes "x\n")) ∷ says 1 (codes "STAT" ∷ codes "QUIT" ∷ []) ++ connect 2 ++ says 2 second_as_bob))
+-- only the next session sees it
+deposit_during_a_session : shows (run (connect 1 ++ says 1 as_bob ++ Give (deposit (codes "note") (codes "d5") (codes "x\n")) ∷ says 1 (codes "STAT" ∷ codes "QUIT" ∷ []) ++ connect 2 ++ says 2 second_as_bob)) (λ T. received 1 T ∷ received 2 T ∷ [])
     ≡ replies (codes "+OK POP3 server ready <1.7@h.test>" ∷ codes "+OK maildrop has 3 messages (61 octets)" ∷ codes "+OK 3 61" ∷ codes "+OK bye" ∷ [])
+    ∷ replies (codes "+OK POP3 server ready <2.7@h.test>" ∷ codes "+OK maildrop has 4 messages (64 octets)" ∷ []) ∷ []
 unfolding digits login_name decode_pairs md5 M.digest_bytes M.hash_after M.compress M.rounds M.block_words
 deposit_during_a_session = refl
-
-deposit_seen_by_the_next_session : received 2 (run (connect 1 ++ says 1 as_bob ++ Give (deposit (codes "note") (codes "d5") (codes "x\n")) ∷ says 1 (codes "STAT" ∷ codes "QUIT" ∷ []) ++ connect 2 ++ says 2 second_as_bob))
-    ≡ replies (codes "+OK POP3 server ready <2.7@h.test>" ∷ codes "+OK maildrop has 4 messages (64 octets)" ∷ [])
-unfolding digits login_name decode_pairs md5 M.digest_bytes M.hash_after M.compress M.rounds M.block_words
-deposit_seen_by_the_next_session = refl
 
 marked_numbers_and_reset : ann (codes "DELE 1" ∷ codes "DELE 1" ∷ codes "RETR 1" ∷ codes "LIST 1" ∷ codes "STAT" ∷ codes "RSET" ∷ codes "RETR 1" ∷ [])
     ≡ ann_receives (codes "+OK message 1 deleted" ∷ codes "-ERR message 1 is deleted" ∷ codes "-ERR message 1 is deleted" ∷ codes "-ERR message 1 is deleted" ∷ codes "+OK 3 59" ∷ codes "+OK maildrop has 4 messages (80 octets)" ∷ codes "+OK 21 octets" ∷ codes "Subject: a" ∷ [] ∷ codes "hi" ∷ codes ".." ∷ codes "." ∷ [])
@@ -96,8 +93,10 @@ gone_removes_nothing : received 2 (run (connect 1 ++ says 1 (as_ann ++ codes "DE
 unfolding digits login_name decode_pairs md5 M.digest_bytes M.hash_after M.compress M.rounds M.block_words
 gone_removes_nothing = refl
 
-pipelined_retrieve_delete_quit : received 1 (pipelined 9)
-    ≡ ann_receives (codes "+OK 21 octets" ∷ codes "Subject: a" ∷ [] ∷ codes "hi" ∷ codes ".." ∷ codes "." ∷ codes "+OK message 1 deleted" ∷ codes "+OK bye" ∷ [])
+-- ended after the twelfth taking
+pipelined_retrieve_delete_quit : shows (pipelined 9) (λ T. both (received 1 T) (is_open T 1))
+    ≡ both (ann_receives (codes "+OK 21 octets" ∷ codes "Subject: a" ∷ [] ∷ codes "hi" ∷ codes ".." ∷ codes "." ∷ codes "+OK message 1 deleted" ∷ codes "+OK bye" ∷ []))
+    false
 unfolding digits login_name decode_pairs md5 M.digest_bytes M.hash_after M.compress M.rounds M.block_words
 pipelined_retrieve_delete_quit = refl
 
@@ -116,20 +115,11 @@ open_after_the_eleventh_taking : is_open (pipelined 8) 1
 unfolding digits login_name decode_pairs md5 M.digest_bytes M.hash_after M.compress M.rounds M.block_words
 open_after_the_eleventh_taking = refl
 
-ended_after_the_twelfth_taking : is_open (pipelined 9) 1
-    ≡ false
-unfolding digits login_name decode_pairs md5 M.digest_bytes M.hash_after M.compress M.rounds M.block_words
-ended_after_the_twelfth_taking = refl
-
-third_failed_login_closes : received 1 (run (connect 1 ++ says 1 (codes "USER ann/orders" ∷ codes "PASS wrong" ∷ codes "USER ann/orders" ∷ codes "PASS wrong" ∷ codes "USER ann/orders" ∷ codes "PASS wrong" ∷ [])))
-    ≡ replies (codes "+OK POP3 server ready <1.7@h.test>" ∷ codes "+OK send PASS" ∷ codes "-ERR login failed" ∷ codes "+OK send PASS" ∷ codes "-ERR login failed" ∷ codes "+OK send PASS" ∷ codes "-ERR login failed, closing" ∷ [])
+third_failed_login_closes : shows (run (connect 1 ++ says 1 (codes "USER ann/orders" ∷ codes "PASS wrong" ∷ codes "USER ann/orders" ∷ codes "PASS wrong" ∷ codes "USER ann/orders" ∷ codes "PASS wrong" ∷ []))) (λ T. both (received 1 T) (is_open T 1))
+    ≡ both (replies (codes "+OK POP3 server ready <1.7@h.test>" ∷ codes "+OK send PASS" ∷ codes "-ERR login failed" ∷ codes "+OK send PASS" ∷ codes "-ERR login failed" ∷ codes "+OK send PASS" ∷ codes "-ERR login failed, closing" ∷ []))
+    false
 unfolding digits login_name decode_pairs md5 M.digest_bytes M.hash_after M.compress M.rounds M.block_words
 third_failed_login_closes = refl
-
-ended_by_the_third_failed_login : is_open (run (connect 1 ++ says 1 (codes "USER ann/orders" ∷ codes "PASS wrong" ∷ codes "USER ann/orders" ∷ codes "PASS wrong" ∷ codes "USER ann/orders" ∷ codes "PASS wrong" ∷ []))) 1
-    ≡ false
-unfolding digits login_name decode_pairs md5 M.digest_bytes M.hash_after M.compress M.rounds M.block_words
-ended_by_the_third_failed_login = refl
 
 connect_with_64_open : outcome (run (connects 64)) Connect
     ≡ Ignored TooManyConnections
@@ -151,25 +141,18 @@ explain : answered (run []) (Admin (Explain (codes "bob") (codes "orders") (code
 unfolding digits login_name decode_pairs md5 M.digest_bytes M.hash_after M.compress M.rounds M.block_words
 explain = refl
 
-drop_in_use : answered (run (connect 1 ++ says 1 as_ann)) (Admin (DropMaildrop (codes "orders")))
+-- while ann is in
+drop_list_and_end_in_session : shows (run (connect 1 ++ says 1 as_ann)) (λ T. answered T (Admin (DropMaildrop (codes "orders"))) ∷ answered T (Admin ListSessions) ∷ answered T (Admin (EndSession 1)) ∷ [])
     ≡ codes "in use\n"
+    ∷ codes "1 ann orders\n"
+    ∷ codes "ended\n" ∷ []
 unfolding digits login_name decode_pairs md5 M.digest_bytes M.hash_after M.compress M.rounds M.block_words
-drop_in_use = refl
+drop_list_and_end_in_session = refl
 
 drop_not_empty : answered (run (connect 1 ++ says 1 (as_ann ++ codes "QUIT" ∷ []))) (Admin (DropMaildrop (codes "orders")))
     ≡ codes "not empty\n"
 unfolding digits login_name decode_pairs md5 M.digest_bytes M.hash_after M.compress M.rounds M.block_words
 drop_not_empty = refl
-
-sessions_listed : answered (run (connect 1 ++ says 1 as_ann)) (Admin ListSessions)
-    ≡ codes "1 ann orders\n"
-unfolding digits login_name decode_pairs md5 M.digest_bytes M.hash_after M.compress M.rounds M.block_words
-sessions_listed = refl
-
-session_ended : answered (run (connect 1 ++ says 1 as_ann)) (Admin (EndSession 1))
-    ≡ codes "ended\n"
-unfolding digits login_name decode_pairs md5 M.digest_bytes M.hash_after M.compress M.rounds M.block_words
-session_ended = refl
 
 session_ended_before : answered (run (connect 1 ++ says 1 as_ann ++ Give (Admin (EndSession 1)) ∷ [])) (Admin (EndSession 1))
     ≡ codes "no such session\n"

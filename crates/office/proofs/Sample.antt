@@ -115,6 +115,13 @@ start = given (record { base = W; log = [] }) (Start (codes "h.test") 7 600)
 abbrev pub run : List Step → Trace
 run steps = ran start steps
 
+-- several things that one trace shows; it is run once for all of them
+abbrev pub shows : {A : Type 0} → Trace → (Trace → A) → A
+shows T f = f T
+
+abbrev pub both : {A B : Type 0} → A → B → A × B
+both x y = (x, y)
+
 -- a connection that is opened, or given a text, and takes all
 abbrev pub connect : ℕ → List Step
 connect c = Give Connect ∷ Drain c ∷ []

@@ -16,7 +16,7 @@ use Rattle.office.specs.Events as events
 use Rattle.office.specs.Outcomes as outcomes
 use Rattle.office.specs.Trace.{is_open}
 use Rattle.office.specs.Expected.{outcome_of, may_show}
-use Rattle.office.proofs.Sample.{lent, Step, Give, Drain, Sip, run, ran, connect, says, received, replies, as_ann, ann, ann_receives, kept_ids, deposit, answered, pipelined, d1, d4, second_as_bob}
+use Rattle.office.proofs.Sample.{lent, shows, both, Step, Give, Drain, Sip, run, ran, connect, says, received, replies, as_ann, ann, ann_receives, kept_ids, deposit, answered, pipelined, d1, d4, second_as_bob}
 
 -- ---- ids over a drop and a restart
 
@@ -33,29 +33,21 @@ dropped_when_empty : answered (run emptied) (Admin (DropMaildrop (codes "orders"
 unfolding digits login_name decode_pairs md5 M.digest_bytes M.hash_after M.compress M.rounds M.block_words
 dropped_when_empty = refl
 
-known_id_while_dropped : answered (run dropped) (deposit (codes "note") (codes "d1") d1) ≡ codes "no such maildrop\n"
+-- to a known id, and to adding it again
+answers_while_dropped : shows (run dropped) (λ T. answered T (deposit (codes "note") (codes "d1") d1) ∷ answered T (Admin (AddMaildrop (codes "orders"))) ∷ [])
+    ≡ codes "no such maildrop\n"
+    ∷ codes "added\n" ∷ []
 unfolding digits login_name decode_pairs md5 M.digest_bytes M.hash_after M.compress M.rounds M.block_words
-known_id_while_dropped = refl
+answers_while_dropped = refl
 
-added_again_after_a_drop : answered (run dropped) (Admin (AddMaildrop (codes "orders"))) ≡ codes "added\n"
-unfolding digits login_name decode_pairs md5 M.digest_bytes M.hash_after M.compress M.rounds M.block_words
-added_again_after_a_drop = refl
-
-empty_over_a_drop : answered (run added_again) (Admin (ShowMaildrop (codes "orders"))) ≡ []
-unfolding digits login_name decode_pairs md5 M.digest_bytes M.hash_after M.compress M.rounds M.block_words
-empty_over_a_drop = refl
-
-deposit_ids_over_a_drop : answered (run added_again) (deposit (codes "note") (codes "d1") d1) ≡ codes "known note.1\n"
+-- it is empty; to a known id, to the same of another class, and to a new one
+added_again_over_a_drop : shows (run added_again) (λ T. answered T (Admin (ShowMaildrop (codes "orders"))) ∷ answered T (deposit (codes "note") (codes "d1") d1) ∷ answered T (deposit (codes "pay") (codes "d1") d1) ∷ answered T (deposit (codes "note") (codes "d6") (codes "x\n")) ∷ [])
+    ≡ []
+    ∷ codes "known note.1\n"
+    ∷ codes "conflict\n"
+    ∷ codes "new note.3\n" ∷ []
 unfolding digits login_name decode_pairs md5 M.digest_bytes M.hash_after M.compress M.rounds M.block_words sha256 S.first_words S.schedule S.digest_bytes S.hash_after S.compress S.rounds
-deposit_ids_over_a_drop = refl
-
-other_class_over_a_drop : answered (run added_again) (deposit (codes "pay") (codes "d1") d1) ≡ codes "conflict\n"
-unfolding digits login_name decode_pairs md5 M.digest_bytes M.hash_after M.compress M.rounds M.block_words
-other_class_over_a_drop = refl
-
-unique_ids_over_a_drop : answered (run added_again) (deposit (codes "note") (codes "d6") (codes "x\n")) ≡ codes "new note.3\n"
-unfolding digits login_name decode_pairs md5 M.digest_bytes M.hash_after M.compress M.rounds M.block_words
-unique_ids_over_a_drop = refl
+added_again_over_a_drop = refl
 
 -- the sample's own text again, behind a new deposit of its class
 sample_text_over_a_restart : answered (run (connect 1 ++ says 1 (as_ann ++ codes "DELE 4" ∷ codes "QUIT" ∷ []) ++ Give (Restart 8) ∷ Give (deposit (codes "todo") (codes "d6") (codes "A: 2\n")) ∷ []))
@@ -76,23 +68,14 @@ refused T = ran (events.given T tenth (Tagged Failed)) (Drain 1 ∷ [])
 abbrev failed : Trace → outcomes.Outcome
 failed T = outcome_of T (lent T) tenth Failed
 
-pipelined_quit_may_fail : may_show (pipelined 6) tenth Failed ≡ true
-unfolding digits login_name decode_pairs md5 M.digest_bytes M.hash_after M.compress M.rounds M.block_words
-pipelined_quit_may_fail = refl
-
-pipelined_quit_failed : failed (pipelined 6) ≡ outcomes.Failed
-unfolding digits login_name decode_pairs md5 M.digest_bytes M.hash_after M.compress M.rounds M.block_words
-pipelined_quit_failed = refl
-
-pipelined_quit_that_is_refused : received 1 (refused (pipelined 6))
-    ≡ ann_receives (codes "+OK 21 octets" ∷ codes "Subject: a" ∷ [] ∷ codes "hi" ∷ codes ".." ∷ codes "." ∷ codes "+OK message 1 deleted" ∷ codes "-ERR some deleted messages not removed" ∷ [])
+-- the store may refuse it; it is said so, and nothing is removed
+pipelined_quit_that_is_refused : shows (pipelined 6) (λ T. both (may_show T tenth Failed) (both (failed T) (both (received 1 (refused T)) (kept_ids (refused T)))))
+    ≡ both true
+    (both (outcomes.Failed)
+    (both (ann_receives (codes "+OK 21 octets" ∷ codes "Subject: a" ∷ [] ∷ codes "hi" ∷ codes ".." ∷ codes "." ∷ codes "+OK message 1 deleted" ∷ codes "-ERR some deleted messages not removed" ∷ []))
+    ((codes "note", 1) ∷ (codes "pay", 1) ∷ (codes "note", 2) ∷ (codes "todo", 1) ∷ (codes "note", 3) ∷ [])))
 unfolding digits login_name decode_pairs md5 M.digest_bytes M.hash_after M.compress M.rounds M.block_words
 pipelined_quit_that_is_refused = refl
-
-nothing_removed_by_a_refused_pipelined_quit : kept_ids (refused (pipelined 6))
-    ≡ (codes "note", 1) ∷ (codes "pay", 1) ∷ (codes "note", 2) ∷ (codes "todo", 1) ∷ (codes "note", 3) ∷ []
-unfolding digits login_name decode_pairs md5 M.digest_bytes M.hash_after M.compress M.rounds M.block_words
-nothing_removed_by_a_refused_pipelined_quit = refl
 
 -- the ninth taking lets nothing act, so that the store can't refuse it
 ninth_taking_may_not_fail : may_show (pipelined 5) (Took 1 7) Failed ≡ false
@@ -139,18 +122,13 @@ reading = connect 1 ++ says 1 as_ann ++ Give (Bytes 1 (codes "RETR 1\r\nQUIT\r\n
 abbrev cut_short : Trace → Trace
 cut_short T = events.given T (Took 1 7) (Tagged Failed)
 
-later_part_may_fail : may_show (run reading) (Took 1 7) Failed ≡ true
+-- the store may refuse it; the connection ends, and the next session begins
+later_part_that_is_refused : shows (run reading) (λ T. both (may_show T (Took 1 7) Failed) (both (is_open (cut_short T) 1) (received 2 (ran (cut_short T) (connect 2 ++ says 2 second_as_bob)))))
+    ≡ both true
+    (both false
+    (replies (codes "+OK POP3 server ready <2.7@h.test>" ∷ codes "+OK maildrop has 3 messages (61 octets)" ∷ [])))
 unfolding digits login_name decode_pairs md5 M.digest_bytes M.hash_after M.compress M.rounds M.block_words
-later_part_may_fail = refl
-
-ended_by_a_later_part : is_open (cut_short (run reading)) 1 ≡ false
-unfolding digits login_name decode_pairs md5 M.digest_bytes M.hash_after M.compress M.rounds M.block_words
-ended_by_a_later_part = refl
-
-lock_free_after_a_later_part : received 2 (ran (cut_short (run reading)) (connect 2 ++ says 2 second_as_bob))
-    ≡ replies (codes "+OK POP3 server ready <2.7@h.test>" ∷ codes "+OK maildrop has 3 messages (61 octets)" ∷ [])
-unfolding digits login_name decode_pairs md5 M.digest_bytes M.hash_after M.compress M.rounds M.block_words
-lock_free_after_a_later_part = refl
+later_part_that_is_refused = refl
 
 -- ---- names in force, and faulty lines
 

@@ -1,5 +1,4 @@
 use Rattle.std.proofs.Common.{◌≡◌, true, Ok, rules}
-use Rattle.popline.specs.Commands.{Quit, ListAll, UidlAll, Retr, Top}
 use Rattle.popline.specs.Seen.{command_seen, reply_seen}
 use Rattle.office.specs.Telling.{is_told}
 use Rattle.office.proofs.Obeying.{if_ok_so, if_ok_both, said_so, listed, identified}
