@@ -11,7 +11,7 @@ use Rattle.office.specs.Answers.{SetPolicy}
 use Rattle.office.specs.Events.{Took, Gone, Tick, Admin, Restart}
 use Rattle.office.specs.Outcomes.{Ignored, NotReady, NoSuchConnection}
 use Rattle.office.specs.Trace.{is_open}
-use Rattle.office.proofs.Sample.{w_rules, shows, both, run, connect, gives, says, received, replies, Give, outcome, Step, as_ann, ann_receives, kept_ids, freeze, second_as_bob}
+use Rattle.office.proofs.Sample.{w_rules, shows, both, run, connect, gives, says, received, replies, Give, outcome, Step, as_ann, ann_receives, kept_ids, deposit, freeze, answered, second_as_bob}
 
 -- while ann is in
 abbrev refused : List Step
@@ -60,6 +60,16 @@ idle_removes_nothing = refl
 
 abbrev restarted : List Step
 restarted = (connect 1 ++ says 1 (as_ann ++ codes "DELE 4" ∷ codes "QUIT" ∷ []) ++ Give (Restart 8) ∷ connect 1)
+
+-- the greeting of the new boot number; then a new text, the sample's own, another under its id, and its own in another class
+unique_ids_over_a_restart : shows (run restarted) (λ T. both (received 1 T) (answered T (deposit (codes "todo") (codes "d6") (codes "A: 2\n")) ∷ answered T (deposit (codes "todo") (codes "d4") (codes "A: 1\n\none\ntwo\nthree\n")) ∷ answered T (deposit (codes "todo") (codes "d4") (codes "A: 3\n")) ∷ answered T (deposit (codes "note") (codes "d4") (codes "A: 1\n\none\ntwo\nthree\n")) ∷ []))
+    ≡ both (ann_receives (codes "+OK message 4 deleted" ∷ codes "+OK bye" ∷ codes "+OK POP3 server ready <1.8@h.test>" ∷ []))
+    (codes "new todo.2\n"
+    ∷ codes "known todo.1\n"
+    ∷ codes "conflict\n"
+    ∷ codes "conflict\n" ∷ [])
+unfolding digits login_name decode_pairs md5 M.digest_bytes M.hash_after M.compress M.rounds M.block_words sha256 S.first_words S.schedule S.digest_bytes S.hash_after S.compress S.rounds
+unique_ids_over_a_restart = refl
 
 abbrev half_a_line : List Step
 half_a_line = (connect 1 ++ says 1 as_ann ++ gives 1 (codes "RETR 1"))
