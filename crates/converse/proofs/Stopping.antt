@@ -1,7 +1,7 @@
 -- What lines leave that were broken off.
 use Rattle.std.proofs.Common.{◌≡◌, ℕ, suc, ◌<◌, ◌≤◌, length, List, [], ◌∷◌, ◌++◌, take, drop, get_or, drop-cons, map, Option, Some, None, Result, Ok, Err, inl, inr, refl, sym, ◌∙◌, ap, subst}
 use Rattle.std.proofs.lemmas.List.{map-append, take-append-drop}
-use Rattle.std.specs.Prelude.{OnErr}
+use Rattle.std.specs.Prelude.{OnErr, OnOk}
 use Rattle.vault.specs.Changes.{Contents}
 use Rattle.office.specs.Events.{Trace}
 use Rattle.office.specs.Outcomes.{Outcome}
@@ -100,3 +100,11 @@ pub at_faults : {A E V : Type 0} (r : Result A E) (Holds : V → Contents → Ty
     → ((T : Trace) → StandsFor Holds old T → IsClean → Reaches Holds new first now T (Is T)) → OnErr r ((T : Trace) → StandsFor Holds old T → IsClean → Reaches Holds new first now T (Is T))
 at_faults (Ok x) Holds old new IsClean first now Is h = tt
 at_faults (Err e) Holds old new IsClean first now Is h = h
+
+-- what follows from two clauses over every trace, where a call came to its end
+pub at_ok : {A E V : Type 0} (r : Result A E) (Holds : V → Contents → Type 0) (old mid : Office V) (IsClean : Type 0) (P Q Is : Trace → Type 0)
+    → ((T : Trace) → StandsFor Holds mid T → OnOk r (P T)) → ((T : Trace) → StandsFor Holds mid T → OnOk r (Q T))
+    → ((T : Trace) → StandsFor Holds old T → IsClean → ((U : Trace) → StandsFor Holds mid U → P U) → ((U : Trace) → StandsFor Holds mid U → Q U) → Is T)
+    → OnOk r ((T : Trace) → StandsFor Holds old T → IsClean → Is T)
+at_ok (Ok x) Holds old mid IsClean P Q Is p q f = λ T st clean. f T st clean p q
+at_ok (Err e) Holds old mid IsClean P Q Is p q f = tt

@@ -41,8 +41,11 @@ fn tell_count<R: Read, W: Write>(alloc: Global, file: &mut R, out: &mut W) -> Re
     ensures ok { OnOk result (TellsCount (R.remaining file.old) (W.contents out.old) (W.contents out.new)) }
     ensures faulty { IfSome (R.remaining file.old) (λ octets. IsNoPolicyText octets → out.new ≡ out.old) }
 {
-    let policy = read_file(alloc, file)?;
-    print_count(out, policy.len()).map_err(|_| Fault::CannotWrite)
+    let count = read_file(alloc, file)?.len();
+    match print_count(out, count) {
+        Ok(()) => Ok(()),
+        Err(_) => Err(Fault::CannotWrite),
+    }
 }
 
 /// The policy of a file.

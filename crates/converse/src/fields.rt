@@ -4,7 +4,7 @@ ghost use Rattle.std.specs.Prelude.{◌≡◌, ◌==◌, ◌+◌, ◌*◌, ◌^�
 ghost use Rattle.std.specs.Char.{digit_value};
 ghost use Rattle.std.specs.Str.Parse.{IsNumeral, digits_value};
 ghost use Rattle.std.specs.List.{position};
-ghost use Rattle.converse.specs.Escapes.{led, unescaped};
+ghost use Rattle.converse.specs.Escapes.{behind_backslash, led, unescaped};
 ghost use Rattle.converse.specs.Script.{cut_at as parts_at, cut_field, two_fields, four_fields, number_of};
 
 use std::alloc::{AllocError, Global};
@@ -101,12 +101,23 @@ fn next_octet(text: &[u8]) -> Option<(u8, &[u8])>
     ensures shorter { IfSome result (λ r. length r.1.now < length text.now) }
 {
     match text {
-        [b'\\', b'r', after @ ..] => Some((b'\r', after)),
-        [b'\\', b'n', after @ ..] => Some((b'\n', after)),
-        [b'\\', b'\\', after @ ..] => Some((b'\\', after)),
-        [b'\\', b'x', high, low, after @ ..] => Some((octet_of(*high, *low)?, after)),
-        [b'\\', ..] | [] => None,
+        [b'\\', after @ ..] => escaped_octet(after),
         [octet, after @ ..] => Some((*octet, after)),
+        [] => None,
+    }
+}
+
+/// The octet that an escape stands for, of which this is what follows its `\`, and the TEXT behind it.
+fn escaped_octet(text: &[u8]) -> Option<(u8, &[u8])>
+    ensures is { MatchOption result (behind_backslash text.now ≡ None) (λ r. behind_backslash text.now ≡ led r.0 (unescaped r.1.now)) }
+    ensures shorter { IfSome result (λ r. length r.1.now < length text.now) }
+{
+    match text {
+        [b'r', after @ ..] => Some((b'\r', after)),
+        [b'n', after @ ..] => Some((b'\n', after)),
+        [b'\\', after @ ..] => Some((b'\\', after)),
+        [b'x', high, low, after @ ..] => Some((octet_of(*high, *low)?, after)),
+        _ => None,
     }
 }
 

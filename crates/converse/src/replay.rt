@@ -166,10 +166,7 @@ fn play_line<V: Vault, W: Write>(
     ensures clean { V.is_clean (vault_of office.new) → V.is_clean (vault_of office.old) }
 {
     match act(office, line, out)? {
-        Some(outcome) => {
-            tell_whole(alloc, office, &outcome, known, out)?;
-            Ok(())
-        }
+        Some(outcome) => tell_whole(alloc, office, &outcome, known, out),
         None => Ok(()),
     }
 }
@@ -387,7 +384,10 @@ pub fn tell<W: Write>(alloc: Global, out: &mut W, outcome: &Outcome) -> Result<(
         Outcome::Ignored(reason) => tell_reason(out, *reason),
         Outcome::Answered(answer) => tell_body(out, &answer_body(alloc, answer)?),
     };
-    told.map_err(|_| Fault::CannotWrite)
+    match told {
+        Ok(()) => Ok(()),
+        Err(_) => Err(Fault::CannotWrite),
+    }
 }
 
 /// Prints why an event was ignored.

@@ -3,9 +3,9 @@
 //! Lines end at LF; empty lines and lines that begin with `#` are skipped, and counted.
 
 ghost use Rattle.std.specs.Prelude.{◌≡◌, ◌+◌, ◌<◌, ◌≤◌, ◌∷◌, ◌++◌, ℕ, length, map, IfOk, OnOk, IsOkAnd, option_map};
-ghost use Rattle.office.specs.Shown.{command_seen};
+ghost use Rattle.office.specs.Events.{Admin};
 ghost use Rattle.converse.specs.Escapes.{unescaped};
-ghost use Rattle.converse.specs.Script.{script_of, line_asks, line_seen, line_of, word_line, text_line, number_line, bytes_line, took_line, deposit_line, clerk_command, secret_of_clerk, policy_line, command_of, maildrop_command, explain_command, is_skipped as is_line_skipped};
+ghost use Rattle.converse.specs.Script.{Does, script_of, line_asks, line_seen, line_of, word_line, text_line, number_line, bytes_line, took_line, deposit_line, clerk_command, secret_of_clerk, policy_line, command_of, maildrop_command, explain_command, is_skipped as is_line_skipped};
 ghost use Rattle.converse.specs.declared.script.ScriptFault.TheVariants.{NoMemory};
 
 use crate::check_policy::read_octets;
@@ -51,7 +51,7 @@ pub enum Line {
 }
 
 /// Why a text isn't a script.
-#[derive(Clone, Copy, Debug, PartialEq, Eq)]
+#[derive(Clone, Copy)]
 pub enum ScriptFault {
     /// The line of this number, from 1, is none of the forms of `Line`.
     BadEvent(u64),
@@ -160,7 +160,7 @@ fn read_with_text(alloc: Global, keyword: &[u8], rest: &[u8]) -> Result<Option<L
     } else if keyword == b"deposit".as_slice() {
         read_deposit(alloc, rest)
     } else if keyword == b"clerk".as_slice() {
-        Ok(read_clerk(alloc, rest)?.map(Line::Admin))
+        read_clerk(alloc, rest)
     } else if keyword == b"policy".as_slice() {
         read_policy(alloc, rest)
     } else {
@@ -175,15 +175,15 @@ fn read_numbers(keyword: &[u8], rest: &[u8]) -> Option<Line>
     if keyword == b"took".as_slice() {
         read_took(rest)
     } else if keyword == b"drain".as_slice() {
-        read_number(rest).map(Line::Drain)
+        Some(Line::Drain(read_number(rest)?))
     } else if keyword == b"gone".as_slice() {
-        read_number(rest).map(Line::Gone)
+        Some(Line::Gone(read_number(rest)?))
     } else if keyword == b"tick".as_slice() {
-        read_number(rest).map(Line::Tick)
+        Some(Line::Tick(read_number(rest)?))
     } else if keyword == b"restart".as_slice() {
-        read_number(rest).map(Line::Restart)
+        Some(Line::Restart(read_number(rest)?))
     } else {
-        read_command(keyword, rest).map(Line::Admin)
+        read_command(keyword, rest)
     }
 }
 
@@ -241,8 +241,8 @@ fn read_deposit(alloc: Global, rest: &[u8]) -> Result<Option<Line>, AllocError>
 }
 
 /// `apop NAME TEXT`, `pass NAME TEXT`, `drop NAME` or `show NAME`, behind `clerk`.
-fn read_clerk(alloc: Global, rest: &[u8]) -> Result<Option<AdminCommand>, AllocError>
-    ensures { IfOk result (λ read. option_map command_seen read ≡ clerk_command rest.now) }
+fn read_clerk(alloc: Global, rest: &[u8]) -> Result<Option<Line>, AllocError>
+    ensures { IfOk result (λ read. option_map line_seen read ≡ option_map (λ command. Does (Admin command)) (clerk_command rest.now)) }
 {
     let Some((word, rest)) = take_field(rest) else {
         return Ok(None);
@@ -251,17 +251,23 @@ fn read_clerk(alloc: Global, rest: &[u8]) -> Result<Option<AdminCommand>, AllocE
         let Some((clerk, secret)) = read_secret(alloc, rest)? else {
             return Ok(None);
         };
-        Ok(Some(AdminCommand::PutClerk(clerk, Credential::Apop(secret))))
+        Ok(Some(Line::Admin(AdminCommand::PutClerk(clerk, Credential::Apop(secret)))))
     } else if word == b"pass".as_slice() {
         let Some((clerk, password)) = read_secret(alloc, rest)? else {
             return Ok(None);
         };
         let digest = pass_digest(&clerk, password.as_bytes());
-        Ok(Some(AdminCommand::PutClerk(clerk, Credential::Pass(digest))))
+        Ok(Some(Line::Admin(AdminCommand::PutClerk(clerk, Credential::Pass(digest)))))
     } else if word == b"drop".as_slice() {
-        Ok(Name::read(rest).map(AdminCommand::DropClerk))
+        let Some(clerk) = Name::read(rest) else {
+            return Ok(None);
+        };
+        Ok(Some(Line::Admin(AdminCommand::DropClerk(clerk))))
     } else if word == b"show".as_slice() {
-        Ok(Name::read(rest).map(AdminCommand::ShowClerk))
+        let Some(clerk) = Name::read(rest) else {
+            return Ok(None);
+        };
+        Ok(Some(Line::Admin(AdminCommand::ShowClerk(clerk))))
     } else {
         Ok(None)
     }
@@ -301,15 +307,15 @@ fn read_policy(alloc: Global, text: &[u8]) -> Result<Option<Line>, AllocError>
 }
 
 /// A command whose line has no TEXT, by its keyword and what stands behind that.
-fn read_command(keyword: &[u8], rest: &[u8]) -> Option<AdminCommand>
-    ensures { option_map command_seen result ≡ command_of keyword.now rest.now }
+fn read_command(keyword: &[u8], rest: &[u8]) -> Option<Line>
+    ensures { option_map line_seen result ≡ option_map (λ command. Does (Admin command)) (command_of keyword.now rest.now) }
 {
     if keyword == b"maildrop".as_slice() {
         read_maildrop(rest)
     } else if keyword == b"list".as_slice() {
-        Name::read(rest).map(AdminCommand::ShowMaildrop)
+        Some(Line::Admin(AdminCommand::ShowMaildrop(Name::read(rest)?)))
     } else if keyword == b"end".as_slice() {
-        read_number(rest).map(AdminCommand::EndSession)
+        Some(Line::Admin(AdminCommand::EndSession(read_number(rest)?)))
     } else if keyword == b"explain".as_slice() {
         read_explain(rest)
     } else {
@@ -318,28 +324,28 @@ fn read_command(keyword: &[u8], rest: &[u8]) -> Option<AdminCommand>
 }
 
 /// `add NAME` or `drop NAME`, behind `maildrop`.
-fn read_maildrop(rest: &[u8]) -> Option<AdminCommand>
-    ensures { option_map command_seen result ≡ maildrop_command rest.now }
+fn read_maildrop(rest: &[u8]) -> Option<Line>
+    ensures { option_map line_seen result ≡ option_map (λ command. Does (Admin command)) (maildrop_command rest.now) }
 {
     let (word, name) = take_field(rest)?;
     if word == b"add".as_slice() {
-        Name::read(name).map(AdminCommand::AddMaildrop)
+        Some(Line::Admin(AdminCommand::AddMaildrop(Name::read(name)?)))
     } else if word == b"drop".as_slice() {
-        Name::read(name).map(AdminCommand::DropMaildrop)
+        Some(Line::Admin(AdminCommand::DropMaildrop(Name::read(name)?)))
     } else {
         None
     }
 }
 
 /// `CLERK MAILDROP CLASS ACTION`, behind `explain`.
-fn read_explain(rest: &[u8]) -> Option<AdminCommand>
-    ensures { option_map command_seen result ≡ explain_command rest.now }
+fn read_explain(rest: &[u8]) -> Option<Line>
+    ensures { option_map line_seen result ≡ option_map (λ command. Does (Admin command)) (explain_command rest.now) }
 {
     let (clerk, maildrop, class, action) = take_fields(rest)?;
-    Some(AdminCommand::Explain {
+    Some(Line::Admin(AdminCommand::Explain {
         clerk: Name::read(clerk)?,
         maildrop: Name::read(maildrop)?,
         class: Name::read(class)?,
         action: Action::read(action)?,
-    })
+    }))
 }

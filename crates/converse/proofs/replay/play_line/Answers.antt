@@ -1,10 +1,11 @@
-use Rattle.std.proofs.Common.{Some}
+use Rattle.std.proofs.Common.{◌≡◌, Some}
+use Rattle.std.specs.Io.KnownBytes.{Appends}
 use Rattle.office.specs.Shown.{outcome_seen}
 use Rattle.office.specs.Stands.{vault_of}
-use Rattle.converse.specs.Played.{Acts, Begun}
+use Rattle.converse.specs.Played.{Acts, Begun, ComesTo, WithCause, PlaysLine, point, told_text, still_known}
 use Rattle.converse.specs.Script.{line_seen}
 use Rattle.converse.proofs.Playing.{by_told, line_none, line_some}
-use Rattle.converse.proofs.Stopping.{at_faults, begun_acted, reaches_so}
+use Rattle.converse.proofs.Stopping.{at_faults, at_ok, begun_acted, reaches_so}
 use Rattle.converse.proofs.replay.play_line.Goals as goal
 
 pub returns-in-None-clause-played : goal.returns-in-None-clause-played
@@ -12,14 +13,29 @@ returns-in-None-clause-played g c = λ T st clean.
     line_none g.V.Vault.holds c.act.new.office T (g.V.Vault.faults (vault_of c.args.office.now)) (g.V.Vault.faults (vault_of c.act.new.office)) (line_seen c.args.line.now) _ _ c.args.known.now.items
     (by_told g.V.Vault.holds c.act.new.office T (g.V.Vault.faults (vault_of c.args.office.now)) (g.V.Vault.faults (vault_of c.act.new.office)) (line_seen c.args.line.now) _ _ _ _ c.in-None.is (c.in_ok-outcome.ensures.acted T st clean))
 
-pub returns-in_ok-tell_whole-in-Some-clause-played : goal.returns-in_ok-tell_whole-in-Some-clause-played
-returns-in_ok-tell_whole-in-Some-clause-played g c = λ T st clean.
-    (let h = by_told g.V.Vault.holds c.act.new.office T (g.V.Vault.faults (vault_of c.args.office.now)) (g.V.Vault.faults (vault_of c.act.new.office)) (line_seen c.args.line.now) _ _ _ _ c.in-Some.is (c.in_ok-outcome.ensures.acted T st clean) in
-    line_some g.V.Vault.holds c.act.new.office T (g.V.Vault.faults (vault_of c.args.office.now)) (g.V.Vault.faults (vault_of c.act.new.office)) (line_seen c.args.line.now) (outcome_seen c.in-Some.outcome) _ _ _ c.args.known.now.items _ h
-    (c.in_ok-tell_whole-in-Some.ensures.told h.trace h.stands) (c.in_ok-tell_whole-in-Some.ensures.kept h.trace h.stands))
+pub returns-in-Some-clause-played : goal.returns-in-Some-clause-played
+returns-in-Some-clause-played g c =
+    let line = line_seen c.args.line.now in
+    let o = outcome_seen c.in-Some.outcome in
+    let known = c.args.known.now.items in
+    let x = c.act.new.office in
+    let first = g.V.Vault.faults (vault_of c.args.office.now) in
+    let now = g.V.Vault.faults (vault_of x) in
+    let before = g.W.Write.contents c.args.out.now in
+    let during = g.W.Write.contents c.act.new.out in
+    let after = g.W.Write.contents c.tell_whole.new.out in
+    let left = c.tell_whole.new.known.items in
+    at_ok _ g.V.Vault.holds c.args.office.now x (g.V.Vault.is_clean (vault_of x))
+    (λ T. Appends during after (told_text T known (Some o)))
+    (λ T. left ≡ still_known T known (Some o))
+    (λ T. ComesTo g.V.Vault.holds x before after (WithCause first now T (λ printed U. PlaysLine (point T known) line printed (point U left))))
+    c.tell_whole.ensures.told c.tell_whole.ensures.kept
+    (λ T st clean told kept.
+    (let h = by_told g.V.Vault.holds x T first now line _ _ _ _ c.in-Some.is (c.in_ok-outcome.ensures.acted T st clean) in
+    line_some g.V.Vault.holds x T first now line o before during after known left h (told h.trace h.stands) (kept h.trace h.stands)))
 
-pub returns-in_err-tell_whole-in-Some-clause-broken : goal.returns-in_err-tell_whole-in-Some-clause-broken
-returns-in_err-tell_whole-in-Some-clause-broken g c =
+pub returns-in-Some-clause-broken : goal.returns-in-Some-clause-broken
+returns-in-Some-clause-broken g c =
     let line = line_seen c.args.line.now in
     let o = outcome_seen c.in-Some.outcome in
     at_faults _ g.V.Vault.holds c.args.office.now c.act.new.office (g.V.Vault.is_clean (vault_of c.act.new.office)) (g.V.Vault.faults (vault_of c.args.office.now)) (g.V.Vault.faults (vault_of c.act.new.office)) (λ T. Begun T line) (λ T st clean.

@@ -47,3 +47,57 @@ returns-clause-kept g c =
           (subst (λ (ls : List ScriptLine). Reaches g.V.Vault.holds x.new.office before now opened (PlaysInPart (point opened []) ls)) (ap (map line_seen) c.as_slice.ensures.value)
           (x.ensures.kept opened (c.in-Ok-open_office.ensures.opened T keeps (x.ensures.clean clean2)) clean2))),
     ))
+
+pub returns-in-Err-clause-status : goal.returns-in-Err-clause-status
+returns-in-Err-clause-status g c = search rules
+
+pub returns-in-Err-clause-silent : goal.returns-in-Err-clause-silent
+returns-in-Err-clause-silent g c = search rules
+
+pub returns-in-Err-clause-unread : goal.returns-in-Err-clause-unread
+returns-in-Err-clause-unread g c = search rules
+
+pub returns-in-Err-clause-bad_line : goal.returns-in-Err-clause-bad_line
+returns-in-Err-clause-bad_line g c = search rules
+
+pub returns-in-Err-clause-bad_host : goal.returns-in-Err-clause-bad_host
+returns-in-Err-clause-bad_host g c = search rules
+
+pub returns-in-Err-clause-told : goal.returns-in-Err-clause-told
+returns-in-Err-clause-told g c = search rules
+
+pub returns-in-Err-clause-kept : goal.returns-in-Err-clause-kept
+returns-in-Err-clause-kept g c = search rules
+
+pub returns-in-Err-open_office-clause-status : goal.returns-in-Err-open_office-clause-status
+returns-in-Err-open_office-clause-status g c = search rules
+
+pub returns-in-Err-open_office-clause-silent : goal.returns-in-Err-open_office-clause-silent
+returns-in-Err-open_office-clause-silent g c = search rules
+
+pub returns-in-Err-open_office-clause-unread : goal.returns-in-Err-open_office-clause-unread
+returns-in-Err-open_office-clause-unread g c = search rules
+
+pub returns-in-Err-open_office-clause-bad_line : goal.returns-in-Err-open_office-clause-bad_line
+returns-in-Err-open_office-clause-bad_line g c = search rules
+
+pub returns-in-Err-open_office-clause-bad_host : goal.returns-in-Err-open_office-clause-bad_host
+returns-in-Err-open_office-clause-bad_host g c = search rules
+
+pub returns-in-Err-open_office-clause-told : goal.returns-in-Err-open_office-clause-told
+returns-in-Err-open_office-clause-told g c = search rules
+
+pub returns-in-Err-open_office-clause-kept : goal.returns-in-Err-open_office-clause-kept
+returns-in-Err-open_office-clause-kept g c = search rules
+
+pub returns-clause-status : goal.returns-clause-status
+returns-clause-status g c = search rules
+
+pub returns-clause-unread : goal.returns-clause-unread
+returns-clause-unread g c = search rules
+
+pub returns-clause-bad_line : goal.returns-clause-bad_line
+returns-clause-bad_line g c = search rules
+
+pub returns-clause-bad_host : goal.returns-clause-bad_host
+returns-clause-bad_host g c = search rules
