@@ -221,6 +221,30 @@ module _ {V : Type 0} (Holds : V → Contents → Type 0) (faults : V → ℕ) (
     pub counted : faults (vault_of old) ≤ faults (vault_of new)
     pub clean : IsClean (vault_of new) → IsClean (vault_of old)
 
+  -- nothing yet
+  pub wrote_none : (o : Office V) (c : ℕ) (held : Option (List ℕ)) → WroteSoFar o o c held held 0
+  wrote_none o c held = record {
+    more = [];
+    appends = appends_none held held (keeps_same held);
+    enough = omega (arith);
+    stands = λ before T octets written first clean w.
+        subst (λ (xs : List ℕ). StandsSo Holds faults before o T c (Midway before (faults (vault_of o)) T.base c (acts T) octets xs)) (sym (append-nil written)) w;
+    counted = omega (arith);
+    clean = λ k. k;
+  }
+
+  pub talked_none : (o : Office V) (c : ℕ) (left held : Option (List ℕ)) → TalkedSoFar o o c left left held held 0
+  talked_none o c left held = record {
+    octets = [];
+    written = [];
+    consumes = consumes_none left left (keeps_same left);
+    appends = appends_none held held (keeps_same held);
+    enough = omega (arith);
+    stands = λ before T first clean w. w;
+    counted = omega (arith);
+    clean = λ k. k;
+  }
+
   pub so_by : {before : ℕ} (o : Office V) (T : Trace) (c : ℕ) (P Q : Log → Type 0) → ((L : Log) → P L → Q L) → StandsSo Holds faults before o T c P → StandsSo Holds faults before o T c Q
   so_by o T c P Q f w = record { log = w.log; stands = w.stands; own = w.own; caused = w.caused; so = f w.log w.so }
 

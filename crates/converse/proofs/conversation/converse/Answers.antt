@@ -1,11 +1,11 @@
-use Rattle.std.proofs.Common.{◌≡◌, ◌++◌, ◌<◌, length, length-append, cond, MatchResult, Err, Ok, sym, ap, subst, arith, true, false, ◌⊎◌, inl, inr}
+use Rattle.std.proofs.Common.{rules, ◌≡◌, ◌++◌, ◌<◌, length, length-append, cond, MatchResult, Err, Ok, sym, ap, subst, arith, true, false, ◌⊎◌, inl, inr}
 use Rattle.std.specs.Io.KnownBytes.{IsAtEnd}
 use Rattle.office.specs.Trace.{acts}
 use Rattle.office.specs.Stands.{vault_of}
 use Rattle.converse.specs.Talked.{IsEndless}
 use Rattle.converse.specs.Conversing.{GoesOn, Waits, IsOver, IsCut, Breaks}
 use Rattle.converse.proofs.Ends.{goes_broken}
-use Rattle.converse.proofs.Clauses.{appends_then, consumes_then, refused_as, so_by, talked_then, talked_waits, talked_over, none_written, some_written}
+use Rattle.converse.proofs.Clauses.{talked_none, appends_then, consumes_then, refused_as, so_by, talked_then, talked_waits, talked_over, none_written, some_written}
 use Rattle.converse.proofs.conversation.converse.Goals as goal
 
 pub returns-in_err-write_owed-clause-talked : goal.returns-in_err-write_owed-clause-talked
@@ -135,3 +135,36 @@ returns-clause-talked g c =
           (λ L h. (goes_broken T.base c.args.c (acts T) s.octets s.written L h, inl (omega (arith, long, over))))
           (s.stands before T first clean w),
     )
+
+pub loop-init : goal.loop-init
+loop-init g c = talked_none g.V.Vault.holds g.V.Vault.faults g.V.Vault.is_clean c.args.office.now c.args.c (g.R.Read.remaining c.args.reader.now) (g.W.Write.contents c.args.writer.now)
+
+pub returns-in_err-write_owed-clause-counted : goal.returns-in_err-write_owed-clause-counted
+returns-in_err-write_owed-clause-counted g c = search rules
+
+pub returns-in_err-write_owed-clause-clean : goal.returns-in_err-write_owed-clause-clean
+returns-in_err-write_owed-clause-clean g c = search rules
+
+pub returns-then-ended-clause-counted : goal.returns-then-ended-clause-counted
+returns-then-ended-clause-counted g c = search rules
+
+pub returns-then-ended-clause-clean : goal.returns-then-ended-clause-clean
+returns-then-ended-clause-clean g c = search rules
+
+pub returns-in_err-listen-clause-counted : goal.returns-in_err-listen-clause-counted
+returns-in_err-listen-clause-counted g c = search rules
+
+pub returns-in_err-listen-clause-clean : goal.returns-in_err-listen-clause-clean
+returns-in_err-listen-clause-clean g c = search rules
+
+pub returns-then-not-branch-clause-counted : goal.returns-then-not-branch-clause-counted
+returns-then-not-branch-clause-counted g c = search rules
+
+pub returns-then-not-branch-clause-clean : goal.returns-then-not-branch-clause-clean
+returns-then-not-branch-clause-clean g c = search rules
+
+pub returns-clause-counted : goal.returns-clause-counted
+returns-clause-counted g c = search rules
+
+pub returns-clause-clean : goal.returns-clause-clean
+returns-clause-clean g c = search rules

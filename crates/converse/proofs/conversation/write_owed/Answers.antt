@@ -1,10 +1,10 @@
-use Rattle.std.proofs.Common.{false, ◌≡◌, ◌++◌, ◌<◌, length, length-append, cond, MatchResult, Err, Ok, sym, ap, subst, arith, true, inr}
+use Rattle.std.proofs.Common.{rules, false, ◌≡◌, ◌++◌, ◌<◌, length, length-append, cond, MatchResult, Err, Ok, sym, ap, subst, arith, true, inr}
 use Rattle.office.specs.Trace.{acts}
 use Rattle.office.specs.Stands.{vault_of}
 use Rattle.converse.specs.Talked.{IsEndless}
 use Rattle.converse.specs.Conversing.{Midway, IsPaid, IsCut, Breaks}
 use Rattle.converse.proofs.Ends.{midway_broken}
-use Rattle.converse.proofs.Clauses.{appends_then, appends_kept, refused_as, so_by, wrote_then, none_written, some_written}
+use Rattle.converse.proofs.Clauses.{wrote_none, appends_then, appends_kept, refused_as, so_by, wrote_then, none_written, some_written}
 use Rattle.converse.proofs.conversation.write_owed.Goals as goal
 
 pub returns-in_err-write_some-clause-wrote : goal.returns-in_err-write_some-clause-wrote
@@ -104,3 +104,30 @@ returns-clause-wrote g c =
           (λ L h. (midway_broken T.base c.args.c (acts T) octets (written ++ s.more) before now L h, inr (omega (arith, long, over, length-append written s.more))))
           (s.stands before T octets written first clean w),
     )
+
+pub loop-init : goal.loop-init
+loop-init g c = wrote_none g.V.Vault.holds g.V.Vault.faults g.V.Vault.is_clean c.args.office.now c.args.c (g.W.Write.contents c.args.writer.now)
+
+pub returns-in_err-write_some-clause-counted : goal.returns-in_err-write_some-clause-counted
+returns-in_err-write_some-clause-counted g c = search rules
+
+pub returns-in_err-write_some-clause-clean : goal.returns-in_err-write_some-clause-clean
+returns-in_err-write_some-clause-clean g c = search rules
+
+pub returns-in_default-clause-counted : goal.returns-in_default-clause-counted
+returns-in_default-clause-counted g c = search rules
+
+pub returns-in_default-clause-clean : goal.returns-in_default-clause-clean
+returns-in_default-clause-clean g c = search rules
+
+pub returns-then-not-branch-clause-counted : goal.returns-then-not-branch-clause-counted
+returns-then-not-branch-clause-counted g c = search rules
+
+pub returns-then-not-branch-clause-clean : goal.returns-then-not-branch-clause-clean
+returns-then-not-branch-clause-clean g c = search rules
+
+pub returns-clause-counted : goal.returns-clause-counted
+returns-clause-counted g c = search rules
+
+pub returns-clause-clean : goal.returns-clause-clean
+returns-clause-clean g c = search rules

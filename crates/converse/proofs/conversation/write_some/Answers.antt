@@ -1,4 +1,4 @@
-use Rattle.std.proofs.Common.{false, ◌≡◌, ◌∷◌, [], ◌++◌, ◌<◌, ◌≤◌, ℕ, List, length, take, cond, MatchResult, Err, sym, subst, append-nil, length, arith, true}
+use Rattle.std.proofs.Common.{rules, false, ◌≡◌, ◌∷◌, [], ◌++◌, ◌<◌, ◌≤◌, ℕ, List, length, take, cond, MatchResult, Err, sym, subst, append-nil, length, arith, true}
 use Rattle.std.proofs.lemmas.List.{length-take-le}
 use Rattle.office.specs.Events as event
 use Rattle.office.specs.Shown.{outcome_seen}
@@ -64,13 +64,13 @@ returns-in_err-had_memory-clause-wrote g c =
           let k = taking T.base c.args.c (acts T) octets written w.log n lent before was w.so some fits (c.owed-lent.ensures.lent was_so w.stands) in
           let m = takes T.base c.args.c (acts T) octets written w.log n lent k (lent_by c.args.office.now) c.owed-lent.ensures.count before was now first o (c.step.ensures.outcome was_so w.stands clean) (c.step.ensures.cause was_so w.stands clean) in
           let m2 : IsCut f T.base c.args.c (acts T) octets (written ++ take n lent) log =
-          subst (λ r. MatchResult r (λ _. Midway before now T.base c.args.c (acts T) octets (written ++ take n lent) log) (λ x. IsCut x T.base c.args.c (acts T) octets (written ++ take n lent) log)) (sym c.in_err-had_memory.ensures) m in
+          subst (λ r. MatchResult r (λ _. Midway before now T.base c.args.c (acts T) octets (written ++ take n lent) log) (λ x. IsCut x T.base c.args.c (acts T) octets (written ++ take n lent) log)) {y = Err f} (sym c.in_err-had_memory.ensures) m in
           record {
             log = log;
             stands = c.step.ensures.stands was_so w.stands clean;
             own = one_taken c.args.c T.log w.log n (mark_of o) w.own;
             caused = caused_next before was now T w.log (event.Took c.args.c n) o first c.step.ensures.counted w.caused (c.step.ensures.cause was_so w.stands clean);
-            so = subst (λ r. MatchResult r (λ more. cond more (Midway before now T.base c.args.c (acts T) octets (written ++ take n lent) log) (IsPaid before now T.base c.args.c (acts T) octets (written ++ take n lent) log)) (λ x. IsCut x T.base c.args.c (acts T) octets (written ++ take n lent) log)) (sym e) m2;
+            so = subst (λ r. MatchResult r (λ more. cond more (Midway before now T.base c.args.c (acts T) octets (written ++ take n lent) log) (IsPaid before now T.base c.args.c (acts T) octets (written ++ take n lent) log)) (λ x. IsCut x T.base c.args.c (acts T) octets (written ++ take n lent) log)) {y = c.from_residual.result} (sym e) m2;
           }),
     )
 
@@ -99,3 +99,36 @@ returns-clause-wrote g c =
             so = subst (λ r. MatchResult r (λ _. Midway before now T.base c.args.c (acts T) octets (written ++ take n lent) log) (λ x. IsCut x T.base c.args.c (acts T) octets (written ++ take n lent) log)) (sym c.in_ok-had_memory.ensures) m;
           }),
     )
+
+pub returns-then-is_empty-clause-counted : goal.returns-then-is_empty-clause-counted
+returns-then-is_empty-clause-counted g c = search rules
+
+pub returns-then-is_empty-clause-clean : goal.returns-then-is_empty-clause-clean
+returns-then-is_empty-clause-clean g c = search rules
+
+pub returns-in_default-clause-counted : goal.returns-in_default-clause-counted
+returns-in_default-clause-counted g c = search rules
+
+pub returns-in_default-clause-clean : goal.returns-in_default-clause-clean
+returns-in_default-clause-clean g c = search rules
+
+pub returns-then-count-eq0-clause-counted : goal.returns-then-count-eq0-clause-counted
+returns-then-count-eq0-clause-counted g c = search rules
+
+pub returns-then-count-eq0-clause-clean : goal.returns-then-count-eq0-clause-clean
+returns-then-count-eq0-clause-clean g c = search rules
+
+pub returns-then-count-eq0-clause-wrote : goal.returns-then-count-eq0-clause-wrote
+returns-then-count-eq0-clause-wrote g c = search rules
+
+pub returns-in_err-had_memory-clause-counted : goal.returns-in_err-had_memory-clause-counted
+returns-in_err-had_memory-clause-counted g c = search rules
+
+pub returns-in_err-had_memory-clause-clean : goal.returns-in_err-had_memory-clause-clean
+returns-in_err-had_memory-clause-clean g c = search rules
+
+pub returns-clause-counted : goal.returns-clause-counted
+returns-clause-counted g c = search rules
+
+pub returns-clause-clean : goal.returns-clause-clean
+returns-clause-clean g c = search rules

@@ -1,4 +1,4 @@
-use Rattle.std.proofs.Common.{ap, refl, sym, ◌∙◌}
+use Rattle.std.proofs.Common.{rules, ap, refl, sym, ◌∙◌}
 use Rattle.office.specs.Events.{Bytes, Deposit}
 use Rattle.office.specs.Shown.{outcome_seen}
 use Rattle.office.specs.Stands.{vault_of}
@@ -67,3 +67,126 @@ pub returns-in_err-drain-in-Drain-clause-broken : goal.returns-in_err-drain-in-D
 returns-in_err-drain-in-Drain-clause-broken g c =
     at_faults _ g.V.Vault.holds c.args.office.now c.drain.new.office (g.V.Vault.is_clean (vault_of c.drain.new.office)) (g.V.Vault.faults (vault_of c.args.office.now)) (g.V.Vault.faults (vault_of c.drain.new.office)) (λ T. Begun T (line_seen c.args.line.now)) (λ T st clean.
     reaches_line g.V.Vault.holds c.drain.new.office (g.V.Vault.faults (vault_of c.args.office.now)) (g.V.Vault.faults (vault_of c.drain.new.office)) T _ _ (ap line_seen c.in-Drain.is) (c.in_err-drain-in-Drain.ensures.broken T st clean))
+
+pub returns-in-Connect-clause-counted : goal.returns-in-Connect-clause-counted
+returns-in-Connect-clause-counted g c = search rules
+
+pub returns-in-Connect-clause-clean : goal.returns-in-Connect-clause-clean
+returns-in-Connect-clause-clean g c = search rules
+
+pub returns-in-Connect-clause-broken : goal.returns-in-Connect-clause-broken
+returns-in-Connect-clause-broken g c = search rules
+
+pub returns-in-Bytes-clause-counted : goal.returns-in-Bytes-clause-counted
+returns-in-Bytes-clause-counted g c = search rules
+
+pub returns-in-Bytes-clause-clean : goal.returns-in-Bytes-clause-clean
+returns-in-Bytes-clause-clean g c = search rules
+
+pub returns-in-Bytes-clause-broken : goal.returns-in-Bytes-clause-broken
+returns-in-Bytes-clause-broken g c = search rules
+
+pub returns-in-Gone-clause-counted : goal.returns-in-Gone-clause-counted
+returns-in-Gone-clause-counted g c = search rules
+
+pub returns-in-Gone-clause-clean : goal.returns-in-Gone-clause-clean
+returns-in-Gone-clause-clean g c = search rules
+
+pub returns-in-Gone-clause-broken : goal.returns-in-Gone-clause-broken
+returns-in-Gone-clause-broken g c = search rules
+
+pub returns-in-Tick-clause-counted : goal.returns-in-Tick-clause-counted
+returns-in-Tick-clause-counted g c = search rules
+
+pub returns-in-Tick-clause-clean : goal.returns-in-Tick-clause-clean
+returns-in-Tick-clause-clean g c = search rules
+
+pub returns-in-Tick-clause-broken : goal.returns-in-Tick-clause-broken
+returns-in-Tick-clause-broken g c = search rules
+
+pub returns-in-Restart-clause-counted : goal.returns-in-Restart-clause-counted
+returns-in-Restart-clause-counted g c = search rules
+
+pub returns-in-Restart-clause-clean : goal.returns-in-Restart-clause-clean
+returns-in-Restart-clause-clean g c = search rules
+
+pub returns-in-Restart-clause-broken : goal.returns-in-Restart-clause-broken
+returns-in-Restart-clause-broken g c = search rules
+
+pub returns-in-Deposit-clause-counted : goal.returns-in-Deposit-clause-counted
+returns-in-Deposit-clause-counted g c = search rules
+
+pub returns-in-Deposit-clause-clean : goal.returns-in-Deposit-clause-clean
+returns-in-Deposit-clause-clean g c = search rules
+
+pub returns-in-Deposit-clause-broken : goal.returns-in-Deposit-clause-broken
+returns-in-Deposit-clause-broken g c = search rules
+
+pub returns-in-Admin-clause-counted : goal.returns-in-Admin-clause-counted
+returns-in-Admin-clause-counted g c = search rules
+
+pub returns-in-Admin-clause-clean : goal.returns-in-Admin-clause-clean
+returns-in-Admin-clause-clean g c = search rules
+
+pub returns-in-Admin-clause-broken : goal.returns-in-Admin-clause-broken
+returns-in-Admin-clause-broken g c = search rules
+
+pub returns-in_ok-take-in-Took-clause-counted : goal.returns-in_ok-take-in-Took-clause-counted
+returns-in_ok-take-in-Took-clause-counted g c = search rules
+
+pub returns-in_ok-take-in-Took-clause-clean : goal.returns-in_ok-take-in-Took-clause-clean
+returns-in_ok-take-in-Took-clause-clean g c = search rules
+
+pub returns-in_ok-take-in-Took-clause-broken : goal.returns-in_ok-take-in-Took-clause-broken
+returns-in_ok-take-in-Took-clause-broken g c = search rules
+
+pub returns-in_ok-drain-in-Drain-clause-counted : goal.returns-in_ok-drain-in-Drain-clause-counted
+returns-in_ok-drain-in-Drain-clause-counted g c = search rules
+
+pub returns-in_ok-drain-in-Drain-clause-clean : goal.returns-in_ok-drain-in-Drain-clause-clean
+returns-in_ok-drain-in-Drain-clause-clean g c = search rules
+
+pub returns-in_ok-drain-in-Drain-clause-broken : goal.returns-in_ok-drain-in-Drain-clause-broken
+returns-in_ok-drain-in-Drain-clause-broken g c = search rules
+
+pub returns-in_err-take-in-Took-clause-counted : goal.returns-in_err-take-in-Took-clause-counted
+returns-in_err-take-in-Took-clause-counted g c = search rules
+
+pub returns-in_err-take-in-Took-clause-clean : goal.returns-in_err-take-in-Took-clause-clean
+returns-in_err-take-in-Took-clause-clean g c = search rules
+
+pub returns-in_err-take-in-Took-clause-acted : goal.returns-in_err-take-in-Took-clause-acted
+returns-in_err-take-in-Took-clause-acted g c = search rules
+
+pub returns-in_err-drain-in-Drain-clause-counted : goal.returns-in_err-drain-in-Drain-clause-counted
+returns-in_err-drain-in-Drain-clause-counted g c = search rules
+
+pub returns-in_err-drain-in-Drain-clause-clean : goal.returns-in_err-drain-in-Drain-clause-clean
+returns-in_err-drain-in-Drain-clause-clean g c = search rules
+
+pub returns-in_err-drain-in-Drain-clause-acted : goal.returns-in_err-drain-in-Drain-clause-acted
+returns-in_err-drain-in-Drain-clause-acted g c = search rules
+
+pub returns-in-Ok-clause-counted : goal.returns-in-Ok-clause-counted
+returns-in-Ok-clause-counted g c = search rules
+
+pub returns-in-Ok-clause-clean : goal.returns-in-Ok-clause-clean
+returns-in-Ok-clause-clean g c = search rules
+
+pub returns-in-Ok-clause-acted : goal.returns-in-Ok-clause-acted
+returns-in-Ok-clause-acted g c = search rules
+
+pub returns-in-Ok-clause-broken : goal.returns-in-Ok-clause-broken
+returns-in-Ok-clause-broken g c = search rules
+
+pub returns-in-Err-clause-counted : goal.returns-in-Err-clause-counted
+returns-in-Err-clause-counted g c = search rules
+
+pub returns-in-Err-clause-clean : goal.returns-in-Err-clause-clean
+returns-in-Err-clause-clean g c = search rules
+
+pub returns-in-Err-clause-acted : goal.returns-in-Err-clause-acted
+returns-in-Err-clause-acted g c = search rules
+
+pub returns-in-Err-clause-broken : goal.returns-in-Err-clause-broken
+returns-in-Err-clause-broken g c = search rules

@@ -27,3 +27,42 @@ returns-in-Err-flushed-clause-kept g c =
     let x = c.play-played.new.office in
     let lines = map line_seen c.args.lines.now in λ T st clean.
     reaches_so g.V.Vault.holds x (g.V.Vault.faults (vault_of c.args.office.now)) (g.V.Vault.faults (vault_of x)) T (PlaysInPart (point T []) lines) (HasPlayed T lines) _ _ (played_whole T lines) (c.in_default.ensures.played T st clean)
+
+pub returns-in-Err-clause-counted : goal.returns-in-Err-clause-counted
+returns-in-Err-clause-counted g c = search rules
+
+pub returns-in-Err-clause-clean : goal.returns-in-Err-clause-clean
+returns-in-Err-clause-clean g c = search rules
+
+pub returns-in-Err-clause-status : goal.returns-in-Err-clause-status
+returns-in-Err-clause-status g c = search rules
+
+pub returns-in-Err-clause-silent : goal.returns-in-Err-clause-silent
+returns-in-Err-clause-silent g c = search rules
+
+pub returns-in-Err-clause-played : goal.returns-in-Err-clause-played
+returns-in-Err-clause-played g c = search rules
+
+pub returns-in-Ok-clause-counted : goal.returns-in-Ok-clause-counted
+returns-in-Ok-clause-counted g c = search rules
+
+pub returns-in-Ok-clause-clean : goal.returns-in-Ok-clause-clean
+returns-in-Ok-clause-clean g c = search rules
+
+pub returns-in-Ok-clause-status : goal.returns-in-Ok-clause-status
+returns-in-Ok-clause-status g c = search rules
+
+pub returns-in-Err-flushed-clause-counted : goal.returns-in-Err-flushed-clause-counted
+returns-in-Err-flushed-clause-counted g c = search rules
+
+pub returns-in-Err-flushed-clause-clean : goal.returns-in-Err-flushed-clause-clean
+returns-in-Err-flushed-clause-clean g c = search rules
+
+pub returns-in-Err-flushed-clause-status : goal.returns-in-Err-flushed-clause-status
+returns-in-Err-flushed-clause-status g c = search rules
+
+pub returns-in-Err-flushed-clause-silent : goal.returns-in-Err-flushed-clause-silent
+returns-in-Err-flushed-clause-silent g c = search rules
+
+pub returns-in-Err-flushed-clause-played : goal.returns-in-Err-flushed-clause-played
+returns-in-Err-flushed-clause-played g c = search rules

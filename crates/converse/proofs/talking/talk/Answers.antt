@@ -48,3 +48,18 @@ returns-in-Err-clause-talked g c = (
 
 pub returns-clause-silent : goal.returns-clause-silent
 returns-clause-silent g c = search rules
+
+pub returns-in-Err-clause-status : goal.returns-in-Err-clause-status
+returns-in-Err-clause-status g c = search rules
+
+pub returns-in-Err-clause-silent : goal.returns-in-Err-clause-silent
+returns-in-Err-clause-silent g c = search rules
+
+pub returns-in-Err-clause-bad_host : goal.returns-in-Err-clause-bad_host
+returns-in-Err-clause-bad_host g c = search rules
+
+pub returns-clause-status : goal.returns-clause-status
+returns-clause-status g c = search rules
+
+pub returns-clause-bad_host : goal.returns-clause-bad_host
+returns-clause-bad_host g c = search rules

@@ -1,4 +1,4 @@
-use Rattle.std.proofs.Common.{◌≡◌, arith}
+use Rattle.std.proofs.Common.{rules, ◌≡◌, arith}
 use Rattle.std.specs.Io.KnownBytes.{IsAtEnd}
 use Rattle.office.specs.Stands.{vault_of}
 use Rattle.converse.proofs.Running.{has_talked, has_broken}
@@ -27,3 +27,21 @@ returns-in-Err-clause-talked g c =
       λ well T stands clean. absurd (omega (arith, well, c.tell_fault.ensures)),
       λ _ T stands clean. has_broken g.V.Vault.holds g.V.Vault.faults first c.talk.new.office T d.0 d.1 (IsAtEnd (g.R.Read.remaining c.talk.new.reader)) c.in-Err.fault (d.4 T stands clean),
     )
+
+pub returns-in-Ok-clause-status : goal.returns-in-Ok-clause-status
+returns-in-Ok-clause-status g c = search rules
+
+pub returns-in-Ok-clause-silent : goal.returns-in-Ok-clause-silent
+returns-in-Ok-clause-silent g c = search rules
+
+pub returns-in-Ok-clause-clean : goal.returns-in-Ok-clause-clean
+returns-in-Ok-clause-clean g c = search rules
+
+pub returns-in-Err-clause-status : goal.returns-in-Err-clause-status
+returns-in-Err-clause-status g c = search rules
+
+pub returns-in-Err-clause-silent : goal.returns-in-Err-clause-silent
+returns-in-Err-clause-silent g c = search rules
+
+pub returns-in-Err-clause-clean : goal.returns-in-Err-clause-clean
+returns-in-Err-clause-clean g c = search rules
