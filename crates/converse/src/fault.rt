@@ -6,7 +6,7 @@ ghost use Rattle.std.specs.Io.KnownBytes.{Appends};
 ghost use Rattle.converse.specs.Told.{fault_text as text_of, fault_line};
 ghost use Rattle.converse.specs.FaultNames.{store_fault_name, talk_fault_name};
 ghost use Rattle.converse.specs.Causes.{of_script, of_opening};
-ghost use Rattle.converse.specs.declared.fault.Fault.TheVariants.{OutOfMemory, Store, Talk};
+ghost use Rattle.converse.specs.declared.fault.Fault.TheVariants.{OutOfMemory, Store};
 
 use crate::conversation::TalkFault;
 use crate::script::ScriptFault;
@@ -102,14 +102,6 @@ impl From<VaultFault> for Fault {
 
     fn from(fault: VaultFault) -> Fault {
         Fault::Store(fault)
-    }
-}
-
-impl From<TalkFault> for Fault {
-    ghost from_gives = { λ met fault. fault ≡ Talk met };
-
-    fn from(fault: TalkFault) -> Fault {
-        Fault::Talk(fault)
     }
 }
 

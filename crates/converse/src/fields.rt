@@ -5,7 +5,7 @@ ghost use Rattle.std.specs.Char.{digit_value};
 ghost use Rattle.std.specs.Str.Parse.{IsNumeral, digits_value};
 ghost use Rattle.std.specs.List.{position};
 ghost use Rattle.converse.specs.Escapes.{behind_backslash, led, unescaped};
-ghost use Rattle.converse.specs.Script.{cut_at as parts_at, cut_field, two_fields, four_fields, number_of};
+ghost use Rattle.converse.specs.Script.{cut_at as parts_at, two_fields, four_fields, number_of};
 
 use std::alloc::{AllocError, Global};
 use std::str;
@@ -14,7 +14,7 @@ use std::str;
 const MOST_DIGITS: usize = 20;
 
 /// What stands between two fields.
-const SPACE: u8 = b' ';
+pub const SPACE: u8 = b' ';
 
 /// What stands before the first octet of this kind, or all, and what stands behind it.
 pub fn cut_at(text: &[u8], end: u8) -> (&[u8], Option<&[u8]>)
@@ -34,18 +34,11 @@ fn place_of(text: &[u8], sought: u8) -> Option<usize>
     text.iter().position(|octet| *octet == sought)
 }
 
-/// A line's first field, and what follows the space behind it.
-pub fn split_field(line: &[u8]) -> (&[u8], Option<&[u8]>)
-    ensures { (result.0.now, option_copied result.1) ≡ cut_field line.now }
-{
-    cut_at(line, SPACE)
-}
-
 /// A line's first field, which another one follows, and what stands behind the space between them.
 pub fn take_field(line: &[u8]) -> Option<(&[u8], &[u8])>
     ensures { option_map (λ r. (r.0.now, r.1.now)) result ≡ two_fields line.now }
 {
-    match split_field(line) {
+    match cut_at(line, SPACE) {
         (field, Some(rest)) => Some((field, rest)),
         (_, None) => None,
     }

@@ -5,7 +5,6 @@ ghost use Rattle.std.specs.Io.KnownBytes.{Appends, IsAtEnd};
 ghost use Rattle.std.specs.List.{filter};
 ghost use Rattle.creds.specs.Names.{is_host};
 ghost use Rattle.office.specs.Events.{Trace, Took};
-ghost use Rattle.office.specs.Outcomes.{Ignored};
 ghost use Rattle.office.specs.Shown.{outcome_seen, reason_seen};
 ghost use Rattle.office.specs.Stands.{Keeps, StandsFor, vault_of};
 ghost use Rattle.office.specs.Trace.{is_open};
@@ -381,21 +380,16 @@ pub fn tell<W: Write>(alloc: Global, out: &mut W, outcome: &Outcome) -> Result<(
         Outcome::Done => writeln!(out, "done"),
         Outcome::Failed => writeln!(out, "failed"),
         Outcome::NoMemory => writeln!(out, "no memory"),
-        Outcome::Ignored(reason) => tell_reason(out, *reason),
+        Outcome::Ignored(reason) => {
+            let name = reason_name(*reason);
+            writeln!(out, "ignored: {name}")
+        }
         Outcome::Answered(answer) => tell_body(out, &answer_body(alloc, answer)?),
     };
     match told {
         Ok(()) => Ok(()),
         Err(_) => Err(Fault::CannotWrite),
     }
-}
-
-/// Prints why an event was ignored.
-fn tell_reason<W: Write>(out: &mut W, reason: Reason) -> io::Result<()>
-    ensures { OnOk result (Appends (W.contents out.old) (W.contents out.new) (outcome_lines (Ignored (reason_seen reason)))) }
-{
-    let name = reason_name(reason);
-    writeln!(out, "ignored: {name}")
 }
 
 /// The name of a reason for which an event is ignored.

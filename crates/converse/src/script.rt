@@ -10,7 +10,7 @@ ghost use Rattle.converse.specs.declared.script.ScriptFault.TheVariants.{NoMemor
 
 use crate::check_policy::read_octets;
 use crate::fault::Fault;
-use crate::fields::{cut_at, read_number, split_field, take_field, take_fields, unescape};
+use crate::fields::{SPACE, cut_at, read_number, take_field, take_fields, unescape};
 use creds::{Credential, DepositId, Name, Secret, pass_digest};
 use office::AdminCommand;
 use policy::{Action, PolicyFault};
@@ -127,7 +127,7 @@ fn is_skipped(line: &[u8]) -> bool
 fn read_line(alloc: Global, line: &[u8]) -> Result<Option<Line>, AllocError>
     ensures { IfOk result (λ read. option_map line_seen read ≡ line_of line.now) }
 {
-    let (keyword, rest) = split_field(line);
+    let (keyword, rest) = cut_at(line, SPACE);
     match rest {
         Some(rest) => read_with_text(alloc, keyword, rest),
         None => Ok(read_word(keyword)),
