@@ -4,7 +4,7 @@ use Rattle.std.proofs.KnownBytes.{Appends-nil, Appends-trans}
 use Rattle.std.proofs.lemmas.List.{take_all, take_more, map-append}
 use Rattle.std.proofs.lemmas.Grind.{flat_map-append}
 use Rattle.std.specs.Fmt.{decimal}
-use Rattle.std.specs.Prelude.{codes}
+use Rattle.std.specs.Prelude.{codes, IsErr}
 use Rattle.std.specs.Io.KnownBytes.{Appends, Keeps}
 use Rattle.vault.specs.Changes.{Contents}
 use Rattle.office.specs.Events.{Event, Log, Trace, given}
@@ -19,7 +19,7 @@ use Rattle.office.specs.Trace.{history, is_open_at, rest, rest_if, IsLent}
 use Rattle.office.specs.Shown.{outcome_seen}
 use Rattle.office.specs.declared.event.Outcome.{Outcome as Shown}
 use Rattle.office.specs.declared.office.Office.{Office}
-use Rattle.converse.specs.Script.{ScriptLine, Does, Drains, line_seen}
+use Rattle.converse.specs.Script.{ScriptLine, Does, Drains, line_seen, script_of}
 use Rattle.converse.specs.declared.script.Line.{Line}
 use Rattle.converse.specs.Escapes.{escape, escaped}
 use Rattle.converse.specs.Talked.{trace_of}
@@ -237,6 +237,11 @@ asked (Err n) = []
 
 pub same_lines : (r : Result (List ScriptLine) ℕ) (a b : List ScriptLine) → r ≡ Ok a → r ≡ Ok b → a ≡ b
 same_lines r a b p q = ap asked (sym p ∙ q)
+
+-- where a text is a script, what is said of a text that is none holds
+pub no_fault : (known : Option (List ℕ)) (lines : List ScriptLine) (A : Type 0) → IfSome known (λ text. script_of text ≡ Ok lines) → IfSome known (λ text. IsErr (script_of text) → A)
+no_fault None lines A h = tt
+no_fault (Some text) lines A h = λ err. (let none = subst IsErr h err in cc)
 
 -- nothing more was printed
 pub comes_kept : {V : Type 0} (Holds : V → Contents → Type 0) (o : Office V) (before during after : Option (List ℕ)) (Is : List ℕ → Trace → Type 0) → Keeps during after

@@ -285,7 +285,7 @@ fn tell_sent<W: Write>(out: &mut W, number: u64, octets: &[u8]) -> io::Result<()
 {
     write!(out, "sent {number} ")?;
     write_escaped(out, octets)?;
-    writeln!(out)
+    out.write_all(b"\n")
 }
 
 /// Takes all that a connection is owed, which is printed in one line.
@@ -377,9 +377,9 @@ pub fn tell<W: Write>(alloc: Global, out: &mut W, outcome: &Outcome) -> Result<(
 {
     let told = match outcome {
         Outcome::Opened(number) => writeln!(out, "opened {number}"),
-        Outcome::Done => writeln!(out, "done"),
-        Outcome::Failed => writeln!(out, "failed"),
-        Outcome::NoMemory => writeln!(out, "no memory"),
+        Outcome::Done => out.write_all(b"done\n"),
+        Outcome::Failed => out.write_all(b"failed\n"),
+        Outcome::NoMemory => out.write_all(b"no memory\n"),
         Outcome::Ignored(reason) => {
             let name = reason_name(*reason);
             writeln!(out, "ignored: {name}")

@@ -1,10 +1,11 @@
-use Rattle.std.proofs.Common.{◌≡◌, [], List, Ok, ap, inr, map, rules, subst, sym, ◌∙◌}
+use Rattle.std.proofs.Common.{refl, ◌≡◌, [], List, Ok, ap, inr, map, rules, subst, sym, ◌∙◌}
+use Rattle.std.proofs.lemmas.Bool.{false≢true}
 use Rattle.office.specs.Events.{Trace}
 use Rattle.office.specs.Stands.{Keeps, vault_of}
 use Rattle.converse.specs.Played.{HasRun, HasRunInPart, PlaysInPart, Reaches, point}
 use Rattle.converse.specs.Runs.{opened_on}
 use Rattle.converse.specs.Script.{ScriptLine, line_seen, script_of}
-use Rattle.converse.proofs.Playing.{has_run, of_known, same_lines}
+use Rattle.converse.proofs.Playing.{has_run, no_fault, of_known, same_lines}
 use Rattle.converse.proofs.Stopping.{has_run_in_part}
 use Rattle.converse.proofs.replay.replay.Goals as goal
 
@@ -76,10 +77,10 @@ pub returns-in-Err-open_office-clause-silent : goal.returns-in-Err-open_office-c
 returns-in-Err-open_office-clause-silent g c = search rules
 
 pub returns-in-Err-open_office-clause-unread : goal.returns-in-Err-open_office-clause-unread
-returns-in-Err-open_office-clause-unread g c = search rules
+returns-in-Err-open_office-clause-unread g c = λ unread. absurd (unread (c.in-Ok.ensures.end refl))
 
 pub returns-in-Err-open_office-clause-bad_line : goal.returns-in-Err-open_office-clause-bad_line
-returns-in-Err-open_office-clause-bad_line g c = search rules
+returns-in-Err-open_office-clause-bad_line g c = no_fault (g.R.Read.remaining c.args.script.now) _ _ c.in-Ok.ensures.lines
 
 pub returns-in-Err-open_office-clause-bad_host : goal.returns-in-Err-open_office-clause-bad_host
 returns-in-Err-open_office-clause-bad_host g c = search rules
@@ -94,10 +95,10 @@ pub returns-clause-status : goal.returns-clause-status
 returns-clause-status g c = search rules
 
 pub returns-clause-unread : goal.returns-clause-unread
-returns-clause-unread g c = search rules
+returns-clause-unread g c = λ unread. absurd (unread (c.in-Ok.ensures.end refl))
 
 pub returns-clause-bad_line : goal.returns-clause-bad_line
-returns-clause-bad_line g c = search rules
+returns-clause-bad_line g c = no_fault (g.R.Read.remaining c.args.script.now) _ _ c.in-Ok.ensures.lines
 
 pub returns-clause-bad_host : goal.returns-clause-bad_host
-returns-clause-bad_host g c = search rules
+returns-clause-bad_host g c = λ bad. absurd (false≢true (sym bad ∙ c.in-Ok-open_office.ensures.host refl))
