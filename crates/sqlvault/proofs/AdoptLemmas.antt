@@ -1,6 +1,6 @@
 -- Queries one behind the other, tests one behind the other, and what a store that is made and a store that is judged come to.
 use Rattle.std.proofs.Common.{◌≡◌, ◌⊎◌, inl, inr, Bool, true, false, IsTrue, List, [], ◌∷◌, length, Result, Ok, Err, refl, sym, ap, subst, ◌∙◌}
-use Rattle.std.specs.Prelude.{IfOk}
+use Rattle.std.specs.Prelude.{IfOk, OnOk, OnErr}
 use Rattle.sqlite.specs.declared.error.Error.{Error}
 use Rattle.sqlite.specs.Effect.{Database}
 use Rattle.sqlite.specs.State.{State, Shows, IsUnchanged, IsRolledBack}
@@ -21,7 +21,8 @@ use Rattle.sqlvault.specs.Keeps.{Keeps, our_mark, version}
 use Rattle.sqlvault.specs.Parts.{Finds, ClerksAre, MaildropsAre, PolicyIs, DepositsAre, MessagesAre, records_with, messages_of}
 use Rattle.vault.specs.declared.fault.VaultFault.{VaultFault}
 use Rattle.vault.specs.declared.fault.VaultFault.TheVariants as fault
-use Rattle.sqlvault.specs.Adopts.{StaysAs, IsBlank, IsRefused}
+use Rattle.sqlvault.specs.Adopts.{StaysAs, IsBlank, IsRefused, IsAdoptFault, JudgesMarks}
+use Rattle.sqlvault.specs.Refusals.{is_memory, fault_of}
 
 -- ---- queries
 
@@ -53,6 +54,15 @@ undone_on s0 s1 s2 a (inr back) = inr (record {
   unmarked = back.unmarked;
   counts = record { changes = back.counts.changes ∙ a.1.changes; last_rowid = back.counts.last_rowid ∙ a.1.last_rowid };
 })
+
+-- a result that is passed on, behind a query that changed nothing
+pub same_after : {A : Type 0} (s0 s1 s2 : State) (r : Result A Error) → IsUnchanged s0 s1 → OnOk r (IsUnchanged s1 s2) → OnOk r (IsUnchanged s0 s2)
+same_after s0 s1 s2 (Ok x) a b = unchanged_on s0 s1 s2 a b
+same_after s0 s1 s2 (Err e) a b = tt
+
+pub err_after : {A : Type 0} (s0 s1 s2 : State) (r : Result A Error) → IsUnchanged s0 s1 → OnErr r (IsUndone s1 s2) → OnErr r (IsUndone s0 s2)
+err_after s0 s1 s2 (Ok x) a b = tt
+err_after s0 s1 s2 (Err e) a b = undone_on s0 s1 s2 a b
 
 -- ---- tests
 
@@ -205,3 +215,26 @@ refused_blank s fault.Conflict blank out r = absurd r
 refused_blank s fault.Full blank out r = absurd r
 refused_blank s fault.NotEmpty blank out r = absurd r
 refused_blank s fault.NoClerk blank out r = absurd r
+
+-- ---- a statement's error
+
+pub kinds_met : (e : Error) → IsAdoptFault (fault_of e)
+kinds_met e = at (is_memory e)
+  where
+    at : (b : Bool) → IsAdoptFault (cond b fault.NoMemory fault.Store)
+    at true = tt
+    at false = tt
+
+pub marks_met : (rows : Rows) (e : Error) → JudgesMarks rows (fault_of e)
+marks_met rows e = at (is_memory e)
+  where
+    at : (b : Bool) → JudgesMarks rows (cond b fault.NoMemory fault.Store)
+    at true = tt
+    at false = tt
+
+pub refused_met : (s : State) (e : Error) → IsRefused s (fault_of e)
+refused_met s e = at (is_memory e)
+  where
+    at : (b : Bool) → IsRefused s (cond b fault.NoMemory fault.Store)
+    at true = tt
+    at false = tt

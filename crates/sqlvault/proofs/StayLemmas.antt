@@ -1,11 +1,13 @@
 -- Where a connection stands after several queries.
-use Rattle.std.proofs.Common.{◌≡◌, ◌⊎◌, inl, inr, sym, ap, subst, ◌∙◌, ◌≤◌, arith}
+use Rattle.std.proofs.Common.{◌≡◌, ◌⊎◌, inl, inr, refl, sym, ap, subst, ◌∙◌, ◌≤◌, arith, Result, Ok, Err}
+use Rattle.std.specs.Prelude.{IsErrAnd}
+use Rattle.sqlite.specs.declared.error.Error.{Error}
 use Rattle.sqlite_trees.specs.View.{doubt}
 use Rattle.sqlite.specs.Effect.{Database}
 use Rattle.sqlite.specs.State.{State, HasCleanDisk, IsUnchanged, IsRolledBack, Survives}
 use Rattle.mailsql.specs.Rows.{rows_in, IsOurs, IsKept, IsReady, HasTables, IsUndone}
 use Rattle.sqlvault.specs.Stands.{LeavesNoMore}
-use Rattle.sqlvault.specs.Stored.{Stays}
+use Rattle.sqlvault.specs.Stored.{Stays, Goes}
 
 -- after one that changed nothing
 pub stays_unchanged : (old new : State) → IsUnchanged old new → Stays old new
@@ -17,6 +19,17 @@ stays_unchanged old new same = record {
   stays_open = λ _. same.0.is_open;
   counts = same.1;
   marks = same.2;
+}
+
+pub stays_self : (s : State) → Stays s s
+stays_self s = record {
+  now_is = refl;
+  committed_is = refl;
+  mode = refl;
+  was_open = λ o. o;
+  stays_open = λ o. o;
+  counts = record { changes = refl; last_rowid = refl };
+  marks = refl;
 }
 
 pub stays_more : (old mid new : State) → Stays old mid → Stays mid new → Stays old new
@@ -45,6 +58,11 @@ or_back_after old mid new a (inr back) = inr (record {
   counts = record { changes = back.counts.changes ∙ a.counts.changes; last_rowid = back.counts.last_rowid ∙ a.counts.last_rowid };
 })
 
+-- an error that is passed on
+pub goes_passed : {A : Type 0} (old new : State) (r : Result A Error) (e : Error) → IsErrAnd r (λ y. y ≡ e) → Stays old new ⊎ IsRolledBack old new → Goes old new r
+goes_passed old new (Ok x) e passed went = absurd passed
+goes_passed old new (Err y) e passed went = went
+
 pub tables_stay : (old new : State) → Stays old new → HasTables old → HasTables new
 tables_stay old new a h = λ o. subst IsKept (sym a.now_is) (h (a.was_open o))
 
@@ -66,3 +84,28 @@ asked old new clean s ready db may = elim (s.crash clean db may) [ inl was ↦ w
 
 pub leaves_on : (old mid new : State) → Stays old mid → IsReady old → LeavesNoMore old mid → (IsReady mid → LeavesNoMore mid new) → LeavesNoMore old new
 leaves_on old mid new a ready first then db may = first db (then (a.stays_open ready.0, subst IsKept (sym a.now_is) ready.1) db may)
+
+-- ---- tests behind a query that changed nothing
+
+pub unchanged_stays : (old mid new : State) → IsUnchanged old mid → Stays mid new → IsUnchanged old new
+unchanged_stays old mid new a b = (
+  record {
+    was_open = a.0.was_open;
+    is_open = b.stays_open a.0.is_open;
+    now_is = b.now_is ∙ a.0.now_is;
+    committed_is = b.committed_is ∙ a.0.committed_is;
+    mode = b.mode ∙ a.0.mode;
+  },
+  record { changes = b.counts.changes ∙ a.1.changes; last_rowid = b.counts.last_rowid ∙ a.1.last_rowid },
+  b.marks ∙ a.2,
+)
+
+pub undone_stays : (old mid new : State) → IsUnchanged old mid → Stays mid new ⊎ IsRolledBack mid new → IsUndone old new
+undone_stays old mid new a (inl b) = inl (unchanged_stays old mid new a b)
+undone_stays old mid new a (inr back) = inr (record {
+  was_open = λ _. a.0.was_open;
+  undone = λ up. ((back.undone up).0 ∙ a.0.committed_is, (back.undone up).1 ∙ a.0.committed_is);
+  autocommit = back.autocommit;
+  unmarked = back.unmarked;
+  counts = record { changes = back.counts.changes ∙ a.1.changes; last_rowid = back.counts.last_rowid ∙ a.1.last_rowid };
+})

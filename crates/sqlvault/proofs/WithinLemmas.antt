@@ -1,10 +1,10 @@
 -- The steps of a transaction.
-use Rattle.std.proofs.Common.{◌≡◌, ◌⊎◌, inl, inr, true, false, cond, IsTrue, refl, sym, ap, subst, ◌∙◌, true≢false}
+use Rattle.std.proofs.Common.{◌≡◌, ◌⊎◌, inl, inr, true, false, cond, IsTrue, refl, sym, ap, subst, ◌∙◌, true≢false, Bool, not}
 use Rattle.sqlite_trees.specs.Tree.{Trees}
 use Rattle.sqlite.specs.Effect.{Database}
 use Rattle.sqlite.specs.State.{State, HasCleanDisk, Shows, IsRolledBack, Survives}
 use Rattle.vault.specs.Changes.{Contents}
-use Rattle.mailsql.specs.Rows.{Rows, rows_in, IsKept, IsReady, MayLeave, Changes, IsUndone, IsHalted}
+use Rattle.mailsql.specs.Rows.{Rows, rows_in, IsKept, IsReady, MayLeave, Changes, IsUndone, IsHalted, IsGone}
 use Rattle.sqlvault.specs.Keeps.{Keeps}
 use Rattle.sqlvault.specs.Stands.{Holds, Leaves, Within, Under, Halted, Makes}
 use Rattle.sqlvault.specs.Stops.{LeavesLast}
@@ -162,3 +162,21 @@ inside_under s base inside (inr h) = absurd (true≢false (sym inside ∙ h.auto
 
 pub leaves_on : (P : Rows → Type 0) (old new : State) → HasCleanDisk new → Survives old new (λ _. ⊥) → Leaves old P → Leaves new P
 leaves_on P old new clean s was db may = elim (s.crash clean db may) [ inl before ↦ was db before | inr none ↦ absurd none ]
+
+-- ---- the end of a transaction after an error
+
+pub inside_of : (inside : Bool) → false ≡ not inside → inside ≡ true
+inside_of true e = refl
+inside_of false e = absurd (true≢false (sym e))
+
+pub gone_outside : (first s : State) → s.in_transaction ≡ false → IsHalted first s → IsGone first s
+gone_outside first s out (inl on) = absurd (true≢false (sym on.mode ∙ out))
+gone_outside first s out (inr gone) = gone
+
+pub gone_back : (first mid new : State) → IsRolledBack mid new → mid.in_transaction ≡ true → IsHalted first mid → IsGone first new
+gone_back first mid new back inside (inl on) = record {
+  was_open = λ _. on.was_open;
+  undone = λ up. ((back.undone up).0 ∙ on.committed_is, (back.undone up).1 ∙ on.committed_is);
+  autocommit = back.autocommit;
+}
+gone_back first mid new back inside (inr gone) = absurd (true≢false (sym inside ∙ gone.autocommit))

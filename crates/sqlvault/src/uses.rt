@@ -1,17 +1,13 @@
 //! Callers over a store in memory, which show that the premises of the calls can be met.
 
 ghost use Rattle.std.specs.Prelude.{◌≡◌, ℕ, [], IfOk, IfErr, OnOk};
-ghost use Rattle.sqlite.specs.Held.{state};
-ghost use Rattle.sqlite.specs.Steps.{over_memory};
 ghost use Rattle.vault.specs.Plain.{no_contents};
-ghost use Rattle.sqlvault.specs.Stands.{Holds};
 ghost use Rattle.sqlvault.specs.Uses.{IsOfAnyCall, filled, emptied, WasNew, ShowsMail, ShowsKept, Saw};
 
 use crate::SqlVault;
 use creds::{Credential, DepositId, Name};
 use mailtext::MailText;
 use policy::Policy;
-use sqlite::MemStore;
 use std::alloc::Global;
 use vault::{Deposited, Head, MessageKey, Total, Vault, VaultFault};
 
@@ -46,10 +42,11 @@ pub struct Filled {
 }
 
 /// Puts the stock into a store that holds nothing. An error is a refusal of any call.
-fn fill(vault: &mut SqlVault<MemStore>, stock: &Stock) -> Result<Filled, VaultFault>
-    ensures answers { Holds (state over_memory vault.old.conn) no_contents → IfOk result (WasNew stock.now) }
-    ensures held { Holds (state over_memory vault.old.conn) no_contents → OnOk result ((key : ℕ) × Holds (state over_memory vault.new.conn) (filled key stock.now)) }
-    ensures cause { Holds (state over_memory vault.old.conn) no_contents → IfErr result IsOfAnyCall }
+fn fill<V: Vault>(vault: &mut V, stock: &Stock) -> Result<Filled, VaultFault>
+    ensures answers { V.is_clean vault.new → V.holds vault.old no_contents → IfOk result (WasNew stock.now) }
+    ensures held { V.is_clean vault.new → V.holds vault.old no_contents → OnOk result ((key : ℕ) × V.holds vault.new (filled key stock.now)) }
+    ensures cause { V.is_clean vault.new → V.holds vault.old no_contents → IfErr result IsOfAnyCall }
+    ensures clean { V.is_clean vault.new → V.is_clean vault.old }
 {
     let maildrop_is_new = vault.add_maildrop(&stock.maildrop)?;
     let clerk_is_new = vault.put_clerk(&stock.clerk, &stock.credential)?;
@@ -76,15 +73,16 @@ pub struct Mail {
 }
 
 /// Looks at the mail, and reads the message into the front of the buffer. An error is a refusal of any call.
-fn look(
-    vault: &mut SqlVault<MemStore>,
+fn look<V: Vault>(
+    vault: &mut V,
     stock: &Stock,
     buffer: &mut [u8],
 ) -> Result<Mail, VaultFault>
-    ensures shown { (key : ℕ) → Holds (state over_memory vault.old.conn) (filled key stock.now) → IfOk result (ShowsMail stock.now buffer.new) }
-    ensures key { (key : ℕ) → Holds (state over_memory vault.old.conn) (filled key stock.now) → IfOk result (λ mail. mail.key ≡ key) }
-    ensures same { (key : ℕ) → Holds (state over_memory vault.old.conn) (filled key stock.now) → OnOk result (Holds (state over_memory vault.new.conn) (filled key stock.now)) }
-    ensures cause { (key : ℕ) → Holds (state over_memory vault.old.conn) (filled key stock.now) → IfErr result IsOfAnyCall }
+    ensures shown { (key : ℕ) → V.is_clean vault.new → V.holds vault.old (filled key stock.now) → IfOk result (ShowsMail stock.now buffer.new) }
+    ensures key { (key : ℕ) → V.is_clean vault.new → V.holds vault.old (filled key stock.now) → IfOk result (λ mail. mail.key ≡ key) }
+    ensures same { (key : ℕ) → V.is_clean vault.new → V.holds vault.old (filled key stock.now) → OnOk result (V.holds vault.new (filled key stock.now)) }
+    ensures cause { (key : ℕ) → V.is_clean vault.new → V.holds vault.old (filled key stock.now) → IfErr result IsOfAnyCall }
+    ensures clean { V.is_clean vault.new → V.is_clean vault.old }
 {
     let totals = vault.maildrops()?;
     let heads = vault.heads(&stock.maildrop)?;
@@ -111,10 +109,11 @@ pub struct Kept {
 }
 
 /// Looks up the clerk's credential and the policy. An error is a refusal of any call.
-fn look_up(vault: &mut SqlVault<MemStore>, stock: &Stock) -> Result<Kept, VaultFault>
-    ensures shown { (key : ℕ) → Holds (state over_memory vault.old.conn) (filled key stock.now) → IfOk result (ShowsKept stock.now) }
-    ensures same { (key : ℕ) → Holds (state over_memory vault.old.conn) (filled key stock.now) → OnOk result (Holds (state over_memory vault.new.conn) (filled key stock.now)) }
-    ensures cause { (key : ℕ) → Holds (state over_memory vault.old.conn) (filled key stock.now) → IfErr result IsOfAnyCall }
+fn look_up<V: Vault>(vault: &mut V, stock: &Stock) -> Result<Kept, VaultFault>
+    ensures shown { (key : ℕ) → V.is_clean vault.new → V.holds vault.old (filled key stock.now) → IfOk result (ShowsKept stock.now) }
+    ensures same { (key : ℕ) → V.is_clean vault.new → V.holds vault.old (filled key stock.now) → OnOk result (V.holds vault.new (filled key stock.now)) }
+    ensures cause { (key : ℕ) → V.is_clean vault.new → V.holds vault.old (filled key stock.now) → IfErr result IsOfAnyCall }
+    ensures clean { V.is_clean vault.new → V.is_clean vault.old }
 {
     let credential = vault.credential(&stock.clerk)?;
     let policy = vault.policy()?;
@@ -122,14 +121,15 @@ fn look_up(vault: &mut SqlVault<MemStore>, stock: &Stock) -> Result<Kept, VaultF
 }
 
 /// Removes the message, and drops the clerk and the maildrop. Answers the heads that were left. An error is a refusal of any call.
-fn empty(
-    vault: &mut SqlVault<MemStore>,
+fn empty<V: Vault>(
+    vault: &mut V,
     stock: &Stock,
     key: MessageKey,
 ) -> Result<Vec<Head>, VaultFault>
-    ensures none { Holds (state over_memory vault.old.conn) (filled key stock.now) → IfOk result (λ left. left.items ≡ []) }
-    ensures held { Holds (state over_memory vault.old.conn) (filled key stock.now) → OnOk result (Holds (state over_memory vault.new.conn) (emptied stock.now)) }
-    ensures cause { Holds (state over_memory vault.old.conn) (filled key stock.now) → IfErr result IsOfAnyCall }
+    ensures none { V.is_clean vault.new → V.holds vault.old (filled key stock.now) → IfOk result (λ left. left.items ≡ []) }
+    ensures held { V.is_clean vault.new → V.holds vault.old (filled key stock.now) → OnOk result (V.holds vault.new (emptied stock.now)) }
+    ensures cause { V.is_clean vault.new → V.holds vault.old (filled key stock.now) → IfErr result IsOfAnyCall }
+    ensures clean { V.is_clean vault.new → V.is_clean vault.old }
 {
     vault.remove(&stock.maildrop, &[key])?;
     let left = vault.heads(&stock.maildrop)?;
@@ -152,14 +152,15 @@ pub struct Seen {
 }
 
 /// Puts the stock into a store that holds nothing, looks at all of it, and takes it out again. An error is a refusal of any call.
-fn go_through(
-    vault: &mut SqlVault<MemStore>,
+fn go_through<V: Vault>(
+    vault: &mut V,
     stock: &Stock,
     buffer: &mut [u8],
 ) -> Result<Seen, VaultFault>
-    ensures saw { Holds (state over_memory vault.old.conn) no_contents → IfOk result (Saw stock.now buffer.new) }
-    ensures left { Holds (state over_memory vault.old.conn) no_contents → OnOk result (Holds (state over_memory vault.new.conn) (emptied stock.now)) }
-    ensures cause { Holds (state over_memory vault.old.conn) no_contents → IfErr result IsOfAnyCall }
+    ensures saw { V.is_clean vault.new → V.holds vault.old no_contents → IfOk result (Saw stock.now buffer.new) }
+    ensures left { V.is_clean vault.new → V.holds vault.old no_contents → OnOk result (V.holds vault.new (emptied stock.now)) }
+    ensures cause { V.is_clean vault.new → V.holds vault.old no_contents → IfErr result IsOfAnyCall }
+    ensures clean { V.is_clean vault.new → V.is_clean vault.old }
 {
     let filled = fill(vault, stock)?;
     let mail = look(vault, stock, buffer)?;

@@ -1,4 +1,8 @@
-use Rattle.std.proofs.Common.{rules}
+use Rattle.std.proofs.Common.{rules, inl}
+use Rattle.sqlite.specs.Held.{state}
+use Rattle.sqlvault.proofs.StayLemmas.{leaves_on, tables_of, stays_unchanged}
+use Rattle.sqlvault.proofs.AdoptLemmas.{unchanged_on, undone_on, tables_on, stays_undone, kinds_met, refused_met}
+use Rattle.mailsql.specs.Rows.{HasTables}
 use Rattle.sqlvault.proofs.adopt.judge.Goals as goal
 
 pub returns-in-Ok-true-clause-adopted : goal.returns-in-Ok-true-clause-adopted
@@ -6,3 +10,100 @@ returns-in-Ok-true-clause-adopted g c = search rules
 
 pub returns-in-Ok-true-clause-stop : goal.returns-in-Ok-true-clause-stop
 returns-in-Ok-true-clause-stop c = search rules
+
+pub returns-in-Err-clause-stays : goal.returns-in-Err-clause-stays
+returns-in-Err-clause-stays g c clean1 out settled kept =
+    let s0 = state g.S.Store c.args.conn.now in
+    let s1 = state g.S.Store c.judge_marks.new.conn in
+    let h : HasTables s0 = λ _. kept in
+    stays_undone s0 s1 out settled (c.in-Err.ensures.err clean1 h)
+
+pub returns-then-not-has_columns-clause-stays : goal.returns-then-not-has_columns-clause-stays
+returns-then-not-has_columns-clause-stays g c clean1 out settled kept =
+    let s0 = state g.S.Store c.args.conn.now in
+    let s1 = state g.S.Store c.judge_marks.new.conn in
+    let h : HasTables s0 = λ _. kept in
+    let u1 = c.in-Ok.ensures.same clean1 h in
+    stays_undone s0 s1 out settled (inl u1)
+
+pub returns-in-Ok-false-clause-stays : goal.returns-in-Ok-false-clause-stays
+returns-in-Ok-false-clause-stays g c clean2 out settled kept =
+    let s0 = state g.S.Store c.args.conn.now in
+    let s1 = state g.S.Store c.judge_marks.new.conn in
+    let s2 = state g.S.Store c.are_rows_sound.new.conn in
+    let h : HasTables s0 = λ _. kept in
+    let clean1 = c.are_rows_sound.ensures.clean clean2 in
+    let u1 = c.in-Ok.ensures.same clean1 h in
+    let t1 = tables_on s0 s1 u1 h in
+    let u2 = unchanged_on s0 s1 s2 u1 (c.in-Ok-false.ensures.same clean2 t1) in
+    stays_undone s0 s2 out settled (inl u2)
+
+pub returns-in-Err-are_rows_sound-clause-stays : goal.returns-in-Err-are_rows_sound-clause-stays
+returns-in-Err-are_rows_sound-clause-stays g c clean2 out settled kept =
+    let s0 = state g.S.Store c.args.conn.now in
+    let s1 = state g.S.Store c.judge_marks.new.conn in
+    let s2 = state g.S.Store c.are_rows_sound.new.conn in
+    let h : HasTables s0 = λ _. kept in
+    let clean1 = c.are_rows_sound.ensures.clean clean2 in
+    let u1 = c.in-Ok.ensures.same clean1 h in
+    let t1 = tables_on s0 s1 u1 h in
+    stays_undone s0 s2 out settled (undone_on s0 s1 s2 u1 (c.in-Err-are_rows_sound.ensures.err clean2 t1))
+
+pub returns-in-Err-clause-clean : goal.returns-in-Err-clause-clean
+returns-in-Err-clause-clean g c clean1 =
+    c.judge_marks.ensures.clean clean1
+
+pub returns-in-Err-clause-stop : goal.returns-in-Err-clause-stop
+returns-in-Err-clause-stop g c clean1 ready =
+    c.judge_marks.ensures.stop clean1 ready
+
+pub returns-then-not-has_columns-clause-clean : goal.returns-then-not-has_columns-clause-clean
+returns-then-not-has_columns-clause-clean g c clean1 =
+    c.judge_marks.ensures.clean clean1
+
+pub returns-then-not-has_columns-clause-stop : goal.returns-then-not-has_columns-clause-stop
+returns-then-not-has_columns-clause-stop g c clean1 ready =
+    c.judge_marks.ensures.stop clean1 ready
+
+pub returns-in-Ok-true-clause-clean : goal.returns-in-Ok-true-clause-clean
+returns-in-Ok-true-clause-clean g c clean2 =
+    let clean1 = c.are_rows_sound.ensures.clean clean2 in
+    c.judge_marks.ensures.clean clean1
+
+pub returns-in-Ok-false-clause-clean : goal.returns-in-Ok-false-clause-clean
+returns-in-Ok-false-clause-clean g c clean2 =
+    let clean1 = c.are_rows_sound.ensures.clean clean2 in
+    c.judge_marks.ensures.clean clean1
+
+pub returns-in-Ok-false-clause-stop : goal.returns-in-Ok-false-clause-stop
+returns-in-Ok-false-clause-stop g c clean2 ready =
+    let s0 = state g.S.Store c.args.conn.now in
+    let s1 = state g.S.Store c.judge_marks.new.conn in
+    let s2 = state g.S.Store c.are_rows_sound.new.conn in
+    let clean1 = c.are_rows_sound.ensures.clean clean2 in
+    let h = tables_of s0 ready in
+    let y1 = stays_unchanged s0 s1 (c.in-Ok.ensures.same clean1 h) in
+    leaves_on s0 s1 s2 y1 ready (c.judge_marks.ensures.stop clean1 ready) (c.are_rows_sound.ensures.stop clean2)
+
+pub returns-in-Err-are_rows_sound-clause-clean : goal.returns-in-Err-are_rows_sound-clause-clean
+returns-in-Err-are_rows_sound-clause-clean g c clean2 =
+    let clean1 = c.are_rows_sound.ensures.clean clean2 in
+    c.judge_marks.ensures.clean clean1
+
+pub returns-in-Err-are_rows_sound-clause-stop : goal.returns-in-Err-are_rows_sound-clause-stop
+returns-in-Err-are_rows_sound-clause-stop g c clean2 ready =
+    let s0 = state g.S.Store c.args.conn.now in
+    let s1 = state g.S.Store c.judge_marks.new.conn in
+    let s2 = state g.S.Store c.are_rows_sound.new.conn in
+    let clean1 = c.are_rows_sound.ensures.clean clean2 in
+    let h = tables_of s0 ready in
+    let y1 = stays_unchanged s0 s1 (c.in-Ok.ensures.same clean1 h) in
+    leaves_on s0 s1 s2 y1 ready (c.judge_marks.ensures.stop clean1 ready) (c.are_rows_sound.ensures.stop clean2)
+
+pub returns-in-Err-are_rows_sound-clause-kinds : goal.returns-in-Err-are_rows_sound-clause-kinds
+returns-in-Err-are_rows_sound-clause-kinds g c =
+    kinds_met c.in-Err-are_rows_sound.error
+
+pub returns-in-Err-are_rows_sound-clause-adopted : goal.returns-in-Err-are_rows_sound-clause-adopted
+returns-in-Err-are_rows_sound-clause-adopted g c clean out settled kept =
+    refused_met (state g.S.Store c.args.conn.now) c.in-Err-are_rows_sound.error

@@ -5,7 +5,7 @@ use Rattle.sqlite.specs.State.{HasCleanDisk}
 use Rattle.mailsql.specs.Rows.{IsKept}
 use Rattle.sqlvault.specs.Adopts.{Adopts, IsKnown, IsBlank, StaysAs}
 use Rattle.sqlvault.specs.Refusals.{answer_of}
-use Rattle.sqlvault.proofs.AdoptLemmas.{outside}
+use Rattle.sqlvault.proofs.AdoptLemmas.{outside, kinds_met}
 use Rattle.sqlvault.proofs.adopt.settle.Goals as goal
 
 pub returns-clause-adopted : goal.returns-clause-adopted
@@ -29,3 +29,51 @@ returns-clause-stays g c clean2 known =
     go : IsKnown (state g.S.Store c.args.conn.now) → (state g.S.Store c.args.conn.now).in_transaction ≡ false → OnErr c.judge.result (StaysAs (state g.S.Store c.args.conn.now) (state g.S.Store c.judge.new.conn))
     go (inl blank) out = absurd (true≢false (sym c.if-not-is_taken.false ∙ c.is_taken.ensures.none blank.0))
     go (inr kept) out = c.judge.ensures.stays clean2 out (c.is_autocommit.ensures.settled c.if-not-is_autocommit.false) kept
+
+pub returns-in-Ok-clause-inside : goal.returns-in-Ok-clause-inside
+returns-in-Ok-clause-inside g c inside =
+    absurd (true≢false (sym inside ∙ outside (state g.S.Store c.args.conn.now).in_transaction (sym c.if-not-is_autocommit.false ∙ c.is_autocommit.ensures.value)))
+
+pub returns-in-Err-clause-inside : goal.returns-in-Err-clause-inside
+returns-in-Err-clause-inside g c inside =
+    absurd (true≢false (sym inside ∙ outside (state g.S.Store c.args.conn.now).in_transaction (sym c.if-not-is_autocommit.false ∙ c.is_autocommit.ensures.value)))
+
+pub returns-then-not-has_marks-clause-inside : goal.returns-then-not-has_marks-clause-inside
+returns-then-not-has_marks-clause-inside g c inside =
+    absurd (true≢false (sym inside ∙ outside (state g.S.Store c.args.conn.now).in_transaction (sym c.if-not-is_autocommit.false ∙ c.is_autocommit.ensures.value)))
+
+pub returns-clause-inside : goal.returns-clause-inside
+returns-clause-inside g c inside =
+    absurd (true≢false (sym inside ∙ outside (state g.S.Store c.args.conn.now).in_transaction (sym c.if-not-is_autocommit.false ∙ c.is_autocommit.ensures.value)))
+
+pub returns-clause-taken : goal.returns-clause-taken
+returns-clause-taken g c out taken none =
+    absurd (true≢false (sym c.if-not-has_marks.false ∙ c.has_marks.ensures.value ∙ none))
+
+pub returns-in-Ok-clause-taken : goal.returns-in-Ok-clause-taken
+returns-in-Ok-clause-taken g c out taken none =
+    absurd (true≢false (sym taken ∙ sym c.is_taken.ensures.value ∙ c.if-not-is_taken.true))
+
+pub returns-in-Err-clause-taken : goal.returns-in-Err-clause-taken
+returns-in-Err-clause-taken g c out taken none =
+    absurd (true≢false (sym taken ∙ sym c.is_taken.ensures.value ∙ c.if-not-is_taken.true))
+
+pub returns-in-Err-clause-kinds : goal.returns-in-Err-clause-kinds
+returns-in-Err-clause-kinds g c =
+    kinds_met c.in-Err.error
+
+pub returns-in-Ok-clause-clean : goal.returns-in-Ok-clause-clean
+returns-in-Ok-clause-clean g c clean =
+    c.make.ensures.clean clean
+
+pub returns-in-Err-clause-clean : goal.returns-in-Err-clause-clean
+returns-in-Err-clause-clean g c clean =
+    c.make.ensures.clean clean
+
+pub returns-clause-clean : goal.returns-clause-clean
+returns-clause-clean g c clean =
+    c.judge.ensures.clean clean
+
+pub returns-clause-kinds : goal.returns-clause-kinds
+returns-clause-kinds g c =
+    c.judge.ensures.kinds

@@ -1,4 +1,4 @@
-use Rattle.std.proofs.Common.{◌≡◌, true, Ok, sym, subst, ap, ◌∙◌, rules}
+use Rattle.std.proofs.Common.{◌≡◌, true, Ok, sym, subst, ap, ◌∙◌, rules, inl}
 use Rattle.std.specs.Prelude.{is_some}
 use Rattle.sqlite.specs.Held.{state}
 use Rattle.sqlite.specs.State.{HasCleanDisk, IsUnchanged}
@@ -9,7 +9,7 @@ use Rattle.mailsql.specs.Changes.{DropsClerk}
 use Rattle.sqlvault.specs.Stands.{Holds}
 use Rattle.sqlvault.proofs.HoldsLemmas.{holds_unchanged, holds_undone, holds_changed, refused}
 use Rattle.sqlvault.proofs.ClerkLemmas.{keeps_dropped, dropped}
-use Rattle.sqlvault.proofs.StopLemmas.{changed}
+use Rattle.sqlvault.proofs.StopLemmas.{changed, not_own}
 use Rattle.sqlvault.specs.Keeps.{Keeps}
 use Rattle.sqlvault.proofs.StayLemmas.{clean_before}
 use Rattle.sqlvault.proofs.clerks.drop_clerk.Goals as goal
@@ -76,3 +76,47 @@ returns-in-Err-drop_clerk-clause-stop g c held clean2 up h0 =
 
 pub returns-in-Ok-false-clause-done : goal.returns-in-Ok-false-clause-done
 returns-in-Ok-false-clause-done g c = search rules
+
+pub returns-in-Err-clause-done : goal.returns-in-Err-clause-done
+returns-in-Err-clause-done g c held clean1 h =
+    let s0 = state g.S.Store c.args.conn.now in
+    let s1 = state g.S.Store c.has_clerk.new.conn in
+    refused (Holds s1) held _ _ c.in-Err.error (holds_undone s0 s1 held (c.in-Err.ensures.err clean1 h.tables) h)
+
+pub returns-in-Err-drop_clerk-clause-clean : goal.returns-in-Err-drop_clerk-clause-clean
+returns-in-Err-drop_clerk-clause-clean g c clean2 =
+    let s1 = state g.S.Store c.has_clerk.new.conn in
+    let s2 = state g.S.Store c.drop_clerk.new.conn in
+    let clean1 = clean_before s1 s2 c.drop_clerk.ensures.survives.clean clean2 in
+    c.has_clerk.ensures.clean clean1
+
+pub returns-in-Ok-clause-clean : goal.returns-in-Ok-clause-clean
+returns-in-Ok-clause-clean g c clean2 =
+    let s1 = state g.S.Store c.has_clerk.new.conn in
+    let s2 = state g.S.Store c.drop_clerk.new.conn in
+    let clean1 = clean_before s1 s2 c.drop_clerk.ensures.survives.clean clean2 in
+    c.has_clerk.ensures.clean clean1
+
+pub returns-in-Err-clause-stop : goal.returns-in-Err-clause-stop
+returns-in-Err-clause-stop g c k clean up h =
+    λ db may. inl (c.has_clerk.ensures.stop k clean up h db may)
+
+pub returns-in-Ok-false-clause-stop : goal.returns-in-Ok-false-clause-stop
+returns-in-Ok-false-clause-stop g c k clean up h =
+    λ db may. inl (c.has_clerk.ensures.stop k clean up h db may)
+
+pub returns-in-Err-drop_clerk-clause-up : goal.returns-in-Err-drop_clerk-clause-up
+returns-in-Err-drop_clerk-clause-up g c k clean up h own =
+    absurd (not_own (Unit {0}) c.in-Err-drop_clerk.error own)
+
+pub returns-in-Err-clause-up : goal.returns-in-Err-clause-up
+returns-in-Err-clause-up g c k clean up h own =
+    absurd (not_own (Unit {0}) c.in-Err.error own)
+
+pub returns-in-Ok-false-clause-clean : goal.returns-in-Ok-false-clause-clean
+returns-in-Ok-false-clause-clean g c clean =
+    c.has_clerk.ensures.clean clean
+
+pub returns-in-Err-clause-clean : goal.returns-in-Err-clause-clean
+returns-in-Err-clause-clean g c clean =
+    c.has_clerk.ensures.clean clean

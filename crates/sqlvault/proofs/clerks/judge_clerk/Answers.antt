@@ -5,7 +5,7 @@ use Rattle.sqlite.specs.State.{HasCleanDisk, IsUnchanged}
 use Rattle.vault.specs.Records.{credential_in}
 use Rattle.mailsql.specs.Rows.{rows_in}
 use Rattle.sqlvault.specs.Stands.{Holds}
-use Rattle.sqlvault.proofs.HoldsLemmas.{seen, holds_unchanged}
+use Rattle.sqlvault.proofs.HoldsLemmas.{seen, holds_unchanged, met, holds_undone}
 use Rattle.sqlvault.proofs.ClerkLemmas.{count_is, full, new}
 use Rattle.sqlvault.proofs.StayLemmas.{clean_before}
 use Rattle.sqlvault.proofs.StopLemmas.{not_own, looked}
@@ -126,3 +126,20 @@ returns-in-Err-clerk_count-clause-stop g c k clean2 up0 h0 =
 
 pub returns-in-Ok-true-clause-judged : goal.returns-in-Ok-true-clause-judged
 returns-in-Ok-true-clause-judged g c = search rules
+
+pub returns-in-Err-clause-judged : goal.returns-in-Err-clause-judged
+returns-in-Err-clause-judged g c held clean1 h =
+    let s0 = state g.S.Store c.args.conn.now in
+    let s1 = state g.S.Store c.has_clerk.new.conn in
+    let h1 = holds_undone s0 s1 held (c.in-Err.ensures.err clean1 h.tables) h in
+    (h1, met _ c.in-Err.error)
+
+pub returns-in-Err-clerk_count-clause-judged : goal.returns-in-Err-clerk_count-clause-judged
+returns-in-Err-clerk_count-clause-judged g c held clean2 h =
+    let s0 = state g.S.Store c.args.conn.now in
+    let s1 = state g.S.Store c.has_clerk.new.conn in
+    let s2 = state g.S.Store c.clerk_count.new.conn in
+    let clean1 = clean_before s1 s2 c.clerk_count.ensures.survives.clean clean2 in
+    let h1 = holds_unchanged s0 s1 held (c.in-Ok-false.ensures.same clean1 h.tables) h in
+    let h2 = holds_undone s1 s2 held (c.in-Err-clerk_count.ensures.err clean2 h1.tables) h1 in
+    (h2, met _ c.in-Err-clerk_count.error)

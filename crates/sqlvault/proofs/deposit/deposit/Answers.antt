@@ -1,4 +1,4 @@
-use Rattle.std.proofs.Common.{◌≡◌, ℕ, List, length, ap, sym, ◌∙◌, Ok}
+use Rattle.std.proofs.Common.{◌≡◌, ℕ, List, length, ap, sym, ◌∙◌, Ok, inl}
 use Rattle.sqlite.specs.Held.{state}
 use Rattle.creds.specs.Digests.{text_digest}
 use Rattle.vault.specs.Changes.{Contents, with_deposit}
@@ -90,3 +90,25 @@ returns-in-Err-store-clause-stop g c k clean2 up h =
     let r = c.receipt_for-receipt.result in
     or_said (λ Held. (key : ℕ) × Held (with_deposit key (message_of r text) r k)) (λ Held. (x : Deposited) × IsDeposited Held k d class id text (Ok x)) s2 k
     (λ Held made. (stored.New uid, deposited Held k d class id text uid r is answer made)) (c.store.ensures.stop k clean2 (c.in-Ok-New.ensures.up k clean1 up h tt) (c.judge.ensures.held k clean1 h) accepted)
+
+pub returns-in-Err-store-clause-clean : goal.returns-in-Err-store-clause-clean
+returns-in-Err-store-clause-clean g c clean2 =
+    let clean1 = c.store.ensures.clean clean2 in
+    c.judge.ensures.clean clean1
+
+pub returns-in-Ok-clause-clean : goal.returns-in-Ok-clause-clean
+returns-in-Ok-clause-clean g c clean2 =
+    let clean1 = c.store.ensures.clean clean2 in
+    c.judge.ensures.clean clean1
+
+pub returns-in-Ok-Known-clause-stop : goal.returns-in-Ok-Known-clause-stop
+returns-in-Ok-Known-clause-stop g c k clean up h =
+    λ db may. inl (c.judge.ensures.stop k clean up h db may)
+
+pub returns-in-Err-clause-stop : goal.returns-in-Err-clause-stop
+returns-in-Err-clause-stop g c k clean up h =
+    λ db may. inl (c.judge.ensures.stop k clean up h db may)
+
+pub returns-in-Ok-Known-clause-clean : goal.returns-in-Ok-Known-clause-clean
+returns-in-Ok-Known-clause-clean g c clean =
+    c.judge.ensures.clean clean

@@ -2,7 +2,7 @@ use Rattle.sqlite.specs.Held.{state}
 use Rattle.sqlite.specs.State.{HasCleanDisk}
 use Rattle.mailsql.specs.Rows.{rows_in}
 use Rattle.sqlvault.specs.Refusals.{answer_of}
-use Rattle.sqlvault.proofs.HoldsLemmas.{seen, holds_unchanged, holds_undone}
+use Rattle.sqlvault.proofs.HoldsLemmas.{seen, holds_unchanged, holds_undone, met}
 use Rattle.sqlvault.proofs.DepositLemmas.{is_there, used, unused, judged_known, judged_unknown}
 use Rattle.sqlvault.proofs.StopLemmas.{looked, not_own}
 use Rattle.sqlvault.proofs.StayLemmas.{clean_before}
@@ -187,3 +187,15 @@ returns-in-Err-find_deposit-clause-clean g c clean2 =
 
 pub returns-in-Err-find_deposit-clause-up : goal.returns-in-Err-find_deposit-clause-up
 returns-in-Err-find_deposit-clause-up g c k clean2 up0 h0 own = absurd (not_own (Unit {0}) c.in-Err-find_deposit.error own)
+
+pub returns-in-Err-clause-answered : goal.returns-in-Err-clause-answered
+returns-in-Err-clause-answered g c held text clean1 h d =
+    met _ c.in-Err.error
+
+pub returns-in-Err-find_deposit-clause-answered : goal.returns-in-Err-find_deposit-clause-answered
+returns-in-Err-find_deposit-clause-answered g c held text clean2 h d =
+    met _ c.in-Err-find_deposit.error
+
+pub returns-in-Ok-None-clause-within : goal.returns-in-Ok-None-clause-within
+returns-in-Ok-None-clause-within g c u is =
+    c.judge_new.ensures.within u is

@@ -4,7 +4,7 @@ use Rattle.sqlite.specs.Held.{state}
 use Rattle.vault.specs.Records.{receipts_of, class_count, most_messages, most_deposits}
 use Rattle.vault.specs.Calls.{present_in}
 use Rattle.mailsql.specs.Rows.{rows_in, is_in}
-use Rattle.sqlvault.proofs.HoldsLemmas.{seen, holds_unchanged, holds_undone}
+use Rattle.sqlvault.proofs.HoldsLemmas.{seen, holds_unchanged, holds_undone, met}
 use Rattle.sqlvault.proofs.DepositLemmas.{present_seen, full_of_messages, accepted_next}
 use Rattle.sqlvault.proofs.StayLemmas.{clean_before}
 use Rattle.sqlvault.proofs.StopLemmas.{not_own, looked}
@@ -149,3 +149,11 @@ returns-clause-stop g c k clean2 up0 h0 =
     let clean1 = c.find_before.ensures.clean clean2 in
     let h1 = holds_unchanged s0 s1 k (c.in-Ok.ensures.same clean1 h0.tables) h0 in
     c.find_before.ensures.stop k clean2 (c.in-Ok.ensures.same clean1 h0.tables).0.is_open h1
+
+pub returns-in-Err-clause-answered : goal.returns-in-Err-clause-answered
+returns-in-Err-clause-answered g c held text clean1 h =
+    met _ c.in-Err.error
+
+pub returns-in-Err-find_before-clause-answered : goal.returns-in-Err-find_before-clause-answered
+returns-in-Err-find_before-clause-answered g c held text clean2 h =
+    met _ c.in-Err-find_before.error

@@ -3,7 +3,7 @@ use Rattle.std.proofs.lemmas.Int.{to_z_pos}
 use Rattle.sqlite.specs.Held.{state}
 use Rattle.sqlite.specs.State.{HasCleanDisk}
 use Rattle.mailsql.specs.Changes.{AddsMessage, Arrives, AddsSheets, AddsSomeSheets}
-use Rattle.sqlvault.proofs.WithinLemmas.{step_ok}
+use Rattle.sqlvault.proofs.WithinLemmas.{step_ok, step_err}
 use Rattle.sqlvault.proofs.DepositLemmas.{message_put}
 use Rattle.sqlvault.proofs.StayLemmas.{clean_before}
 use Rattle.sqlvault.proofs.deposit.put_message.Goals as goal
@@ -33,3 +33,9 @@ returns-in-Ok-add_sheets-clause-made g c clean2 base rows w =
           (to_z_pos w64 c.args.receipt.now.k (omega arith)) (to_z_pos w64 c.octets-octets.result (omega arith) ∙ ap pos size) c.bytes.ensures.value a.1 b.1,
       b.2,
     )
+
+pub returns-in-Err-clause-made : goal.returns-in-Err-clause-made
+returns-in-Err-clause-made g c clean1 base rows w =
+    let s0 = state g.S.Store c.args.conn.now in
+    let s1 = state g.S.Store c.add_message.new.conn in
+    step_err (Arrives c.as_bytes.result.now c.as_bytes-2.result.now (to_z w64 c.args.receipt.now.k) (to_z w64 c.octets-octets.result)) s0 s1 base rows clean1 (c.in-Err.ensures.err clean1) c.add_message.ensures.survives w

@@ -1,4 +1,4 @@
-use Rattle.std.proofs.Common.{arith, ℕ}
+use Rattle.std.proofs.Common.{arith, ℕ, inl}
 use Rattle.sqlite.specs.Held.{state}
 use Rattle.sqlite.specs.State.{HasCleanDisk}
 use Rattle.vault.specs.Changes.{with_deposit}
@@ -6,8 +6,10 @@ use Rattle.sqlvault.specs.Deposits.{message_of}
 use Rattle.sqlvault.specs.Stops.{LeavesLast}
 use Rattle.sqlvault.proofs.WithinLemmas.{begun, leaves_on}
 use Rattle.sqlvault.proofs.deposit.KeptLemmas.{kept_after}
-use Rattle.sqlvault.proofs.StopLemmas.{or_said, before_or}
+use Rattle.sqlvault.proofs.StopLemmas.{or_said, before_or, begins}
 use Rattle.sqlvault.specs.Keeps.{Keeps}
+use Rattle.sqlvault.proofs.HoldsLemmas.{holds_undone}
+use Rattle.sqlvault.proofs.StayLemmas.{clean_before}
 use Rattle.sqlvault.proofs.deposit.store.Goals as goal
 
 pub returns-in-Err-put_receipt-clause-held : goal.returns-in-Err-put_receipt-clause-held
@@ -121,3 +123,54 @@ returns-in-Err-put_message-clause-stop g c k clean4 up h a =
     let p = c.in-Ok-put_receipt.ensures.made clean2 k b.0 b.2 in
     before_or (λ Held. (key : ℕ) × Held (with_deposit key (message_of c.args.receipt.now c.args.text.now) c.args.receipt.now k)) (state g.S.Store c.undo-in-Err-put_message.new.conn) k
     (leaves_on (λ rows. Keeps rows k) s3 (state g.S.Store c.undo-in-Err-put_message.new.conn) clean4 c.undo-in-Err-put_message.ensures.survives (c.in-Err-put_message.ensures.made clean3 k p.0 p.2).1)
+
+pub returns-in-Err-clause-stop : goal.returns-in-Err-clause-stop
+returns-in-Err-clause-stop g c base clean1 up h a =
+    let s0 = state g.S.Store c.args.conn.now in
+    let s1 = state g.S.Store c.begin.new.conn in
+    λ db may. inl (begins s0 s1 base (λ d o m. g.met.S.Store.settled c.args.conn.now.store d o m) clean1 c.begin.ensures.survives up h db may)
+
+pub returns-in-Err-clause-held : goal.returns-in-Err-clause-held
+returns-in-Err-clause-held g c held clean1 h a =
+    let s0 = state g.S.Store c.args.conn.now in
+    let s1 = state g.S.Store c.begin.new.conn in
+    holds_undone s0 s1 held (c.in-Err.ensures.err clean1) h
+
+pub returns-in-Err-end-clause-clean : goal.returns-in-Err-end-clause-clean
+returns-in-Err-end-clause-clean g c clean4 =
+    let s0 = state g.S.Store c.args.conn.now in
+    let s1 = state g.S.Store c.begin.new.conn in
+    let clean3 = c.end.ensures.clean clean4 in
+    let clean2 = c.put_message.ensures.clean clean3 in
+    let clean1 = c.put_receipt.ensures.clean clean2 in
+    clean_before s0 s1 c.begin.ensures.survives.clean clean1
+
+pub returns-in-Ok-end-clause-clean : goal.returns-in-Ok-end-clause-clean
+returns-in-Ok-end-clause-clean g c clean4 =
+    let s0 = state g.S.Store c.args.conn.now in
+    let s1 = state g.S.Store c.begin.new.conn in
+    let clean3 = c.end.ensures.clean clean4 in
+    let clean2 = c.put_message.ensures.clean clean3 in
+    let clean1 = c.put_receipt.ensures.clean clean2 in
+    clean_before s0 s1 c.begin.ensures.survives.clean clean1
+
+pub returns-in-Err-put_receipt-clause-clean : goal.returns-in-Err-put_receipt-clause-clean
+returns-in-Err-put_receipt-clause-clean g c clean3 =
+    let s0 = state g.S.Store c.args.conn.now in
+    let s1 = state g.S.Store c.begin.new.conn in
+    let s2 = state g.S.Store c.put_receipt.new.conn in
+    let s3 = state g.S.Store c.undo.new.conn in
+    let clean2 = clean_before s2 s3 c.undo.ensures.survives.clean clean3 in
+    let clean1 = c.put_receipt.ensures.clean clean2 in
+    clean_before s0 s1 c.begin.ensures.survives.clean clean1
+
+pub returns-in-Err-put_message-clause-clean : goal.returns-in-Err-put_message-clause-clean
+returns-in-Err-put_message-clause-clean g c clean4 =
+    let s0 = state g.S.Store c.args.conn.now in
+    let s1 = state g.S.Store c.begin.new.conn in
+    let s3 = state g.S.Store c.put_message.new.conn in
+    let s4 = state g.S.Store c.undo-in-Err-put_message.new.conn in
+    let clean3 = clean_before s3 s4 c.undo-in-Err-put_message.ensures.survives.clean clean4 in
+    let clean2 = c.put_message.ensures.clean clean3 in
+    let clean1 = c.put_receipt.ensures.clean clean2 in
+    clean_before s0 s1 c.begin.ensures.survives.clean clean1

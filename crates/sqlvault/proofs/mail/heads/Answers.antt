@@ -151,3 +151,9 @@ returns-in-Err-heads-clause-up g c k clean2 up0 h0 own = absurd (not_own (Unit {
 
 pub returns-in-Ok-false-clause-done : goal.returns-in-Ok-false-clause-done
 returns-in-Ok-false-clause-done g c = search rules
+
+pub returns-in-Err-clause-done : goal.returns-in-Err-clause-done
+returns-in-Err-clause-done g c held clean1 h =
+    let s0 = state g.S.Store c.args.conn.now in
+    let s1 = state g.S.Store c.has_maildrop.new.conn in
+    refused (Holds s1) held _ _ c.in-Err.error (holds_undone s0 s1 held (c.in-Err.ensures.err clean1) h)

@@ -251,3 +251,9 @@ returns-in-Ok-true-clause-done g c held clean1 h0 =
     let there : is_one_of text held.maildrops ≡ true =
     sym (there_is (rows_in s0.now.trees) held text (seen s0 s1 held same1 h0)) ∙ sym (c.in-Ok-true.ensures.ok clean1 h0.tables) ∙ c.in-Ok-true.field-0-test in
     subst (λ name. IsMaildropAdded (Holds s1) held name (Ok false)) c.as_bytes-text.ensures.value (was_there (Holds s1) held text there (holds_unchanged s0 s1 held same1 h0))
+
+pub returns-in-Err-clause-done : goal.returns-in-Err-clause-done
+returns-in-Err-clause-done g c held clean1 h =
+    let s0 = state g.S.Store c.args.conn.now in
+    let s1 = state g.S.Store c.has_maildrop.new.conn in
+    refused (Holds s1) held _ _ c.in-Err.error (holds_undone s0 s1 held (c.in-Err.ensures.err clean1) h)

@@ -1,10 +1,11 @@
 use Rattle.std.proofs.Common.{Ok, sym, ap, ◌∙◌}
 use Rattle.sqlite.specs.Held.{state}
 use Rattle.mailsql.specs.Rows.{rows_in}
-use Rattle.sqlvault.proofs.HoldsLemmas.{holds_unchanged, seen}
+use Rattle.sqlvault.proofs.HoldsLemmas.{holds_unchanged, seen, refused, holds_undone}
 use Rattle.sqlvault.proofs.RuleLemmas.{read_held}
 use Rattle.sqlvault.proofs.StayLemmas.{clean_before}
 use Rattle.sqlvault.proofs.StopLemmas.{looked, not_own}
+use Rattle.sqlvault.specs.Stands.{Holds}
 use Rattle.sqlvault.proofs.rules.policy.Goals as goal
 
 pub returns-in-Ok-read_policy-clause-done : goal.returns-in-Ok-read_policy-clause-done
@@ -63,3 +64,15 @@ returns-clause-stop g c k clean1 up0 h0 =
     let s0 = state g.S.Store c.args.conn.now in
     let s1 = state g.S.Store c.all_rules.new.conn in
     looked s0 s1 k (λ d o m. g.met.S.Store.settled c.args.conn.now.store d o m) clean1 c.all_rules.ensures.survives up0 h0
+
+pub returns-clause-done : goal.returns-clause-done
+returns-clause-done g c held clean1 h =
+    let s0 = state g.S.Store c.args.conn.now in
+    let s1 = state g.S.Store c.all_rules.new.conn in
+    refused (Holds s1) held _ _ c.in-Err.error (holds_undone s0 s1 held (c.in-Err.ensures.err clean1 h.tables) h)
+
+pub returns-in-Ok-clause-done : goal.returns-in-Ok-clause-done
+returns-in-Ok-clause-done g c held clean1 h =
+    let s0 = state g.S.Store c.args.conn.now in
+    let s1 = state g.S.Store c.all_rules.new.conn in
+    refused (Holds s1) held _ _ c.in-Err-read_policy.error (holds_unchanged s0 s1 held (c.in-Ok.ensures.same clean1 h.tables) h)

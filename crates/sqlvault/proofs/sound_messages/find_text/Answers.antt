@@ -1,8 +1,9 @@
-use Rattle.std.proofs.Common.{◌≡◌, ◌++◌, rules, ap, ◌∙◌, SFits, w64, to_z, of_z, to_z-of_z}
+use Rattle.std.proofs.Common.{◌≡◌, ◌++◌, rules, ap, ◌∙◌, SFits, w64, to_z, of_z, to_z-of_z, inl}
 use Rattle.sqlite.specs.Held.{state}
 use Rattle.mailsql.specs.Rows.{rows_in}
 use Rattle.sqlvault.proofs.PieceLemmas.{text_lacks, text_more}
-use Rattle.sqlvault.proofs.StayLemmas.{tables_of, leaves_on, stays_more, tables_stay, rows_stay, or_back_after}
+use Rattle.sqlvault.proofs.StayLemmas.{tables_of, leaves_on, stays_more, tables_stay, rows_stay, or_back_after, stays_self, goes_passed}
+use Rattle.sqlvault.proofs.WithinLemmas.{ready}
 use Rattle.sqlvault.proofs.sound_messages.find_text.Goals as goal
 
 pub returns-in-Ok-None-clause-judged : goal.returns-in-Ok-None-clause-judged
@@ -96,3 +97,20 @@ returns-clause-goes g c clean h = (c.loop-place.invariant.1 clean h).0
 
 pub returns-clause-stop : goal.returns-clause-stop
 returns-clause-stop g c clean ready = c.loop-place.invariant.2 clean ready
+
+pub returns-in_err-extend_from_slice-in-Ok-Some-clause-goes : goal.returns-in_err-extend_from_slice-in-Ok-Some-clause-goes
+returns-in_err-extend_from_slice-in-Ok-Some-clause-goes g c clean2 h =
+    let s0 = state g.S.Store c.args.conn.now in
+    let s1 = state g.S.Store c.loop-place.conn in
+    let s2 = state g.S.Store c.find_piece.new.conn in
+    let was = c.loop-place.invariant.1 (c.find_piece.ensures.clean clean2) h in
+    let y = stays_more s0 s1 s2 was.0 (c.in-Ok-Some.ensures.goes clean2 (tables_stay s0 s1 was.0 h)) in
+    goes_passed s0 s2 c.from_residual-in_err-extend_from_slice-in-Ok-Some.result _ c.from_residual-in_err-extend_from_slice-in-Ok-Some.ensures.1 (inl y)
+
+pub loop-place-init : goal.loop-place-init
+loop-place-init g c =
+    let s0 = state g.S.Store c.args.conn.now in (
+      (λ clean. clean),
+      (λ clean h. (stays_self s0, search rules)),
+      λ clean ready db may. may,
+    )

@@ -1,5 +1,4 @@
 use Rattle.std.proofs.Common.{subst, sym, ap, ◌∙◌, ◌∷◌, []}
-use Rattle.sqlite.proofs.Callers.{memory_is_clean}
 use Rattle.vault.specs.Calls.{IsRefusal}
 use Rattle.mailsql.proofs.ResultLemmas.{if_passed_on}
 use Rattle.sqlvault.specs.Uses.{IsOfAnyCall, filled, head_of}
@@ -7,60 +6,60 @@ use Rattle.sqlvault.proofs.UsesLemmas.{any, same_ok, one_head, one_total, first_
 use Rattle.sqlvault.proofs.uses.look.Goals as goal
 
 pub returns-in_err-totals-clause-cause : goal.returns-in_err-totals-clause-cause
-returns-in_err-totals-clause-cause c key h =
+returns-in_err-totals-clause-cause g c key clean h =
     let s = c.args.stock.now in
     let all = filled key s in
     let e = c.in_err-totals.field-0.0 in
-    let done = c.in_err-totals.ensures.done all h (memory_is_clean c.maildrops.new.self.conn) in
+    let done = c.in_err-totals.ensures.done all h clean in
     if_passed_on c.from_residual.result e IsOfAnyCall c.from_residual.ensures.1 (any _ e done.answer)
 
 pub returns-in_err-heads-clause-cause : goal.returns-in_err-heads-clause-cause
-returns-in_err-heads-clause-cause c key h =
+returns-in_err-heads-clause-cause g c key clean h =
     let s = c.args.stock.now in
     let all = filled key s in
-    let counted = c.in_ok-totals.ensures.done all h (memory_is_clean c.maildrops.new.self.conn) in
+    let counted = c.in_ok-totals.ensures.done all h (c.heads.ensures.clean clean) in
     let e = c.in_err-heads.field-0.0 in
-    let done = c.in_err-heads.ensures.done all counted.held (memory_is_clean c.heads.new.self.conn) in
+    let done = c.in_err-heads.ensures.done all counted.held clean in
     if_passed_on c.from_residual-in_err-heads.result e IsOfAnyCall c.from_residual-in_err-heads.ensures.1 (any _ e (subst (λ r. IsRefusal r e) (one_head key s) done.answer))
 
 pub returns-in_err-octets_read-clause-cause : goal.returns-in_err-octets_read-clause-cause
-returns-in_err-octets_read-clause-cause c key h =
+returns-in_err-octets_read-clause-cause g c key clean h =
     let s = c.args.stock.now in
     let all = filled key s in
-    let counted = c.in_ok-totals.ensures.done all h (memory_is_clean c.maildrops.new.self.conn) in
-    let seen = c.in_ok-heads.ensures.done all counted.held (memory_is_clean c.heads.new.self.conn) in
+    let counted = c.in_ok-totals.ensures.done all h (c.heads.ensures.clean (c.page.ensures.clean clean)) in
+    let seen = c.in_ok-heads.ensures.done all counted.held (c.page.ensures.clean clean) in
     let heads = same_ok _ _ (sym (one_head key s) ∙ seen.answer) in
     let e = c.in_err-octets_read.field-0.0 in
-    let done = c.in_err-octets_read.ensures.done all seen.held (memory_is_clean c.page.new.self.conn) in
+    let done = c.in_err-octets_read.ensures.done all seen.held clean in
     if_passed_on c.from_residual-in_err-octets_read.result e IsOfAnyCall c.from_residual-in_err-octets_read.ensures.1 (any _ e done.answer)
 
 pub returns-clause-same : goal.returns-clause-same
-returns-clause-same c key h =
+returns-clause-same g c key clean h =
     let s = c.args.stock.now in
     let all = filled key s in
-    let counted = c.in_ok-totals.ensures.done all h (memory_is_clean c.maildrops.new.self.conn) in
-    let seen = c.in_ok-heads.ensures.done all counted.held (memory_is_clean c.heads.new.self.conn) in
+    let counted = c.in_ok-totals.ensures.done all h (c.heads.ensures.clean (c.page.ensures.clean clean)) in
+    let seen = c.in_ok-heads.ensures.done all counted.held (c.page.ensures.clean clean) in
     let heads = same_ok _ _ (sym (one_head key s) ∙ seen.answer) in
-    let read = c.in_ok-octets_read.ensures.done all seen.held (memory_is_clean c.page.new.self.conn) in
+    let read = c.in_ok-octets_read.ensures.done all seen.held clean in
     read.held
 
 pub returns-clause-key : goal.returns-clause-key
-returns-clause-key c key h =
+returns-clause-key g c key clean h =
     let s = c.args.stock.now in
     let all = filled key s in
-    let counted = c.in_ok-totals.ensures.done all h (memory_is_clean c.maildrops.new.self.conn) in
-    let seen = c.in_ok-heads.ensures.done all counted.held (memory_is_clean c.heads.new.self.conn) in
+    let counted = c.in_ok-totals.ensures.done all h (c.heads.ensures.clean (c.page.ensures.clean clean)) in
+    let seen = c.in_ok-heads.ensures.done all counted.held (c.page.ensures.clean clean) in
     let heads = same_ok _ _ (sym (one_head key s) ∙ seen.answer) in
     first_key key s c.deref.result.now c.in_ok-heads.heads.items c.in-Some.head.now c.in-Some.ensures.value c.deref.ensures.value heads
 
 pub returns-clause-shown : goal.returns-clause-shown
-returns-clause-shown c key h =
+returns-clause-shown g c key clean h =
     let s = c.args.stock.now in
     let all = filled key s in
-    let counted = c.in_ok-totals.ensures.done all h (memory_is_clean c.maildrops.new.self.conn) in
-    let seen = c.in_ok-heads.ensures.done all counted.held (memory_is_clean c.heads.new.self.conn) in
+    let counted = c.in_ok-totals.ensures.done all h (c.heads.ensures.clean (c.page.ensures.clean clean)) in
+    let seen = c.in_ok-heads.ensures.done all counted.held (c.page.ensures.clean clean) in
     let heads = same_ok _ _ (sym (one_head key s) ∙ seen.answer) in
-    let read = c.in_ok-octets_read.ensures.done all seen.held (memory_is_clean c.page.new.self.conn) in
+    let read = c.in_ok-octets_read.ensures.done all seen.held clean in
     let named = first_key key s c.deref.result.now c.in_ok-heads.heads.items c.in-Some.head.now c.in-Some.ensures.value c.deref.ensures.value heads in
     let page = page_is key c.in-Some.head.now.key s c.page.new.buffer c.in_ok-octets_read.octets_read named read.answer in
     record {
@@ -69,3 +68,15 @@ returns-clause-shown c key h =
       fits = page.0;
       page = page.1;
     }
+
+pub returns-in_err-totals-clause-clean : goal.returns-in_err-totals-clause-clean
+returns-in_err-totals-clause-clean g c clean = c.maildrops.ensures.clean clean
+
+pub returns-in_err-heads-clause-clean : goal.returns-in_err-heads-clause-clean
+returns-in_err-heads-clause-clean g c clean = c.maildrops.ensures.clean (c.heads.ensures.clean clean)
+
+pub returns-in_err-octets_read-clause-clean : goal.returns-in_err-octets_read-clause-clean
+returns-in_err-octets_read-clause-clean g c clean = c.maildrops.ensures.clean (c.heads.ensures.clean (c.page.ensures.clean clean))
+
+pub returns-clause-clean : goal.returns-clause-clean
+returns-clause-clean g c clean = c.maildrops.ensures.clean (c.heads.ensures.clean (c.page.ensures.clean clean))
