@@ -1,10 +1,11 @@
 -- Queries one behind the other, tests one behind the other, and what a store that is made and a store that is judged come to.
-use Rattle.std.proofs.Common.{◌≡◌, ◌⊎◌, inl, inr, Bool, true, false, IsTrue, List, [], ◌∷◌, length, Result, Ok, Err, refl, sym, ap, subst, ◌∙◌}
+use Rattle.std.proofs.Common.{◌≡◌, ◌⊎◌, inl, inr, Bool, true, false, IsTrue, List, [], ◌∷◌, length, Result, Ok, Err, refl, sym, ap, subst, ◌∙◌, true≢false}
+use Rattle.mailsql.specs.Tables.{no_schema}
 use Rattle.std.specs.Prelude.{IfOk, OnOk, OnErr}
 use Rattle.sqlite.specs.declared.error.Error.{Error}
 use Rattle.sqlite.specs.Effect.{Database}
 use Rattle.sqlite.specs.State.{State, Shows, IsUnchanged, IsRolledBack}
-use Rattle.mailsql.specs.Rows.{Rows, rows_in, IsKept, HasTables, IsUndone, IsHalted, IsGone}
+use Rattle.mailsql.specs.Rows.{Rows, rows_in, IsOurs, IsKept, HasTables, IsUndone, IsHalted, IsGone, GoesOn}
 use Rattle.std.proofs.Common.{ℕ, arith, cond, not}
 use Rattle.std.specs.Prelude.{codes, find, Option, Some, None}
 use Rattle.std.specs.List.{list_all}
@@ -21,7 +22,7 @@ use Rattle.sqlvault.specs.Keeps.{Keeps, our_mark, version}
 use Rattle.sqlvault.specs.Parts.{Finds, ClerksAre, MaildropsAre, PolicyIs, DepositsAre, MessagesAre, records_with, messages_of}
 use Rattle.vault.specs.declared.fault.VaultFault.{VaultFault}
 use Rattle.vault.specs.declared.fault.VaultFault.TheVariants as fault
-use Rattle.sqlvault.specs.Adopts.{StaysAs, IsBlank, IsRefused, IsAdoptFault, JudgesMarks}
+use Rattle.sqlvault.specs.Adopts.{StaysAs, IsBlank, IsKnown, IsRefused, IsAdoptFault, JudgesMarks}
 use Rattle.sqlvault.specs.Refusals.{is_memory, fault_of}
 
 -- ---- queries
@@ -238,3 +239,28 @@ refused_met s e = at (is_memory e)
     at : (b : Bool) → IsRefused s (cond b fault.NoMemory fault.Store)
     at true = tt
     at false = tt
+
+-- ---- a store that is known
+
+pub blank_of : (s : State) (taken : Bool) → (IsOurs s.now → taken ≡ true) → taken ≡ false → IsKnown s → IsBlank s
+blank_of s taken ours is (inl blank) = blank
+blank_of s taken ours is (inr kept) = absurd (true≢false (sym (ours kept.0) ∙ is))
+
+pub kept_of : (s : State) (taken : Bool) → (s.now.schema ≡ no_schema → taken ≡ false) → taken ≡ true → IsKnown s → IsKept s.now
+kept_of s taken none is (inl blank) = absurd (true≢false (sym is ∙ none blank.0))
+kept_of s taken none is (inr kept) = kept
+
+-- an error behind a step of the transaction
+pub halted_after : (first mid new : State) → GoesOn first mid → IsUndone mid new → IsHalted first new
+halted_after first mid new on (inl same) = inl (record {
+  was_open = on.was_open;
+  is_open = same.0.is_open;
+  now_is = refl;
+  committed_is = same.0.committed_is ∙ on.committed_is;
+  mode = same.0.mode ∙ on.mode;
+})
+halted_after first mid new on (inr back) = inr (record {
+  was_open = λ _. on.was_open;
+  undone = λ up. ((back.undone up).0 ∙ on.committed_is, (back.undone up).1 ∙ on.committed_is);
+  autocommit = back.autocommit;
+})

@@ -21,9 +21,9 @@ use Rattle.mailsql.specs.declared.rows.Count.{Count}
 use Rattle.mailsql.specs.declared.rows.Deposit.{Deposit}
 use Rattle.mailsql.specs.declared.rows.Message.{Message}
 use Rattle.mailsql.specs.Rows.{Rows, is_in, has_name, is_deposit, is_count}
-use Rattle.mailsql.specs.Changes.{AddsMessage, AddsSheets}
+use Rattle.mailsql.specs.Changes.{AddsMessage, AddsSheets, SetsCount, AddsDeposit}
 use Rattle.sqlvault.specs.Keeps.{Keeps, number_in, deposit_row, message_row}
-use Rattle.sqlvault.specs.Deposits.{PutsMessage, message_of}
+use Rattle.sqlvault.specs.Deposits.{PutsMessage, PutsReceipt, count_row, message_of}
 
 -- the messages of a maildrop are counted in their rows
 pub present_seen : (rows : Rows) (c : Contents) (d : List ℕ) → Keeps rows c → length (filter (is_in d) rows.messages) ≡ present_in d c
@@ -151,3 +151,12 @@ message_put r text d class bytes key k octets rows mid after fits a b e f h one 
     subst (λ (t : List ℕ). AddsSheets (to_z w64 (of_z w64 key)) t mid after) h all,
   ),
 )
+
+-- ---- the rows of a receipt
+
+pub receipt_put : (r : Receipt) (d class e id named digest : List ℕ) (k : ℤ) (rows mid after : Rows) → d ≡ r.maildrop → class ≡ r.class → e ≡ r.maildrop → id ≡ r.id → named ≡ r.class → digest ≡ r.digest → k ≡ pos r.k
+    → SetsCount (record { maildrop = d; class = class; k = k }) rows mid → AddsDeposit (record { maildrop = e; id = id; class = named; k = k; digest = digest }) mid after → PutsReceipt r rows after
+receipt_put r d class e id named digest k rows mid after d_is class_is e_is id_is named_is digest_is k_is set add =
+    let count : record { maildrop = d; class = class; k = k } ≡ count_row r = λ i. let t : Count = record { maildrop = d_is i; class = class_is i; k = k_is i } in t in
+    let row : record { maildrop = e; id = id; class = named; k = k; digest = digest } ≡ deposit_row r = λ i. let t : Deposit = record { maildrop = e_is i; id = id_is i; class = named_is i; k = k_is i; digest = digest_is i } in t in
+    (mid, subst (λ (x : Count). SetsCount x rows mid) count set, subst (λ (x : Deposit). AddsDeposit x mid after) row add)

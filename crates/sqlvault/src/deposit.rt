@@ -177,17 +177,14 @@ fn put_receipt<S: Alter>(conn: &mut Connection<S>, receipt: &Receipt) -> Result<
         Ok(()) => {}
         Err(error) => return Err(error),
     }
-    match deposits::add_deposit(
+    deposits::add_deposit(
         conn,
         receipt.maildrop.as_bytes(),
         receipt.id.as_bytes(),
         receipt.class.as_bytes(),
         k,
         receipt.digest.as_slice(),
-    ) {
-        Ok(()) => Ok(()),
-        Err(error) => Err(error),
-    }
+    )
 }
 
 /// The message of the receipt, and its sheets, inside a transaction.

@@ -5,7 +5,7 @@ use Rattle.sqlite.specs.State.{HasCleanDisk}
 use Rattle.mailsql.specs.Rows.{IsKept}
 use Rattle.sqlvault.specs.Adopts.{Adopts, IsKnown, IsBlank, StaysAs}
 use Rattle.sqlvault.specs.Refusals.{answer_of}
-use Rattle.sqlvault.proofs.AdoptLemmas.{outside, kinds_met}
+use Rattle.sqlvault.proofs.AdoptLemmas.{outside, kinds_met, blank_of, kept_of, refused_met}
 use Rattle.sqlvault.proofs.adopt.settle.Goals as goal
 
 pub returns-clause-adopted : goal.returns-clause-adopted
@@ -77,3 +77,50 @@ returns-clause-clean g c clean =
 pub returns-clause-kinds : goal.returns-clause-kinds
 returns-clause-kinds g c =
     c.judge.ensures.kinds
+
+pub returns-then-not-is_autocommit-clause-stop : goal.returns-then-not-is_autocommit-clause-stop
+returns-then-not-is_autocommit-clause-stop g c clean known up =
+    λ db may. inl may
+
+pub returns-then-not-has_marks-clause-stop : goal.returns-then-not-has_marks-clause-stop
+returns-then-not-has_marks-clause-stop g c clean known up =
+    λ db may. inl may
+
+pub returns-in-Ok-clause-stop : goal.returns-in-Ok-clause-stop
+returns-in-Ok-clause-stop g c clean known up =
+    let s0 = state g.S.Store c.args.conn.now in
+    let blank = blank_of s0 c.is_taken.result c.is_taken.ensures.ours c.if-not-is_taken.true known in
+    c.make.ensures.stop clean blank
+
+pub returns-in-Err-clause-stop : goal.returns-in-Err-clause-stop
+returns-in-Err-clause-stop g c clean known up =
+    let s0 = state g.S.Store c.args.conn.now in
+    let blank = blank_of s0 c.is_taken.result c.is_taken.ensures.ours c.if-not-is_taken.true known in
+    c.make.ensures.stop clean blank
+
+pub returns-in-Err-clause-stays : goal.returns-in-Err-clause-stays
+returns-in-Err-clause-stays g c clean known =
+    let s0 = state g.S.Store c.args.conn.now in
+    let out = outside s0.in_transaction (sym c.if-not-is_autocommit.false ∙ c.is_autocommit.ensures.value) in
+    let blank = blank_of s0 c.is_taken.result c.is_taken.ensures.ours c.if-not-is_taken.true known in
+    c.in-Err.ensures.stays clean blank out (c.is_autocommit.ensures.settled c.if-not-is_autocommit.false)
+
+pub returns-in-Err-clause-adopted : goal.returns-in-Err-clause-adopted
+returns-in-Err-clause-adopted g c clean known =
+    let s0 = state g.S.Store c.args.conn.now in
+    refused_met s0 c.in-Err.error
+
+pub returns-clause-stop : goal.returns-clause-stop
+returns-clause-stop g c clean known up =
+    let s0 = state g.S.Store c.args.conn.now in
+    let kept = kept_of s0 c.is_taken.result c.is_taken.ensures.none c.if-not-is_taken.false known in
+    λ db may. inl (c.judge.ensures.stop clean (up, kept) db may)
+
+pub returns-in-Ok-clause-adopted : goal.returns-in-Ok-clause-adopted
+returns-in-Ok-clause-adopted g c clean known =
+    let s0 = state g.S.Store c.args.conn.now in
+    let out = outside s0.in_transaction (sym c.if-not-is_autocommit.false ∙ c.is_autocommit.ensures.value) in
+    let blank = blank_of s0 c.is_taken.result c.is_taken.ensures.ours c.if-not-is_taken.true known in
+    let none : IsKept s0.now → ⊥ = λ kept. true≢false (sym (c.is_taken.ensures.ours kept.0) ∙ c.if-not-is_taken.true) in
+    let made = c.in-Ok.ensures.made clean blank in
+    record { autocommit = out; is_open = made.0; blank = λ _. made.1; same = λ kept. absurd (none kept); held = λ kept. absurd (none kept); kept = λ d stored. absurd (none stored.0) }

@@ -7,6 +7,7 @@ use Rattle.sqlite.specs.State.{HasCleanDisk}
 use Rattle.sqlvault.proofs.HoldsLemmas.{refused}
 use Rattle.sqlvault.proofs.TotalLemmas.{totals_held}
 use Rattle.sqlvault.specs.Stands.{Holds}
+use Rattle.sqlvault.proofs.StopLemmas.{not_own}
 use Rattle.sqlvault.proofs.totals.maildrops.Goals as goal
 
 pub returns-in-Ok-totals_of-clause-done : goal.returns-in-Ok-totals_of-clause-done
@@ -39,3 +40,15 @@ pub returns-in-Ok-totals_of-clause-stop : goal.returns-in-Ok-totals_of-clause-st
 returns-in-Ok-totals_of-clause-stop g c held clean up h =
     let clean1 : HasCleanDisk (state g.S.Store c.names.new.conn) = c.totals_of.ensures.clean clean in
     c.totals_of.ensures.stop held clean (c.in-Ok.ensures.up held clean1 up h) (c.names.ensures.held held clean1 h)
+
+pub returns-in-Ok-totals_of-clause-clean : goal.returns-in-Ok-totals_of-clause-clean
+returns-in-Ok-totals_of-clause-clean g c clean =
+    c.names.ensures.clean (c.totals_of.ensures.clean clean)
+
+pub returns-in-Ok-clause-clean : goal.returns-in-Ok-clause-clean
+returns-in-Ok-clause-clean g c clean =
+    c.names.ensures.clean (c.totals_of.ensures.clean clean)
+
+pub returns-in-Ok-clause-up : goal.returns-in-Ok-clause-up
+returns-in-Ok-clause-up g c k clean up h own =
+    absurd (not_own (Unit {0}) c.in-Err-totals_of.error own)
