@@ -22,6 +22,8 @@ use Rattle.mailsql.specs.declared.rows.Deposit.{Deposit}
 use Rattle.mailsql.specs.declared.rows.Message.{Message}
 use Rattle.mailsql.specs.Rows.{Rows, is_in, has_name, is_deposit, is_count}
 use Rattle.mailsql.specs.Changes.{AddsMessage, AddsSheets, SetsCount, AddsDeposit}
+use Rattle.creds.specs.declared.uid.Uid.{Uid}
+use Rattle.sqlvault.specs.declared.refusal.Refusal.{Refusal}
 use Rattle.sqlvault.specs.Keeps.{Keeps, number_in, deposit_row, message_row}
 use Rattle.sqlvault.specs.Deposits.{PutsMessage, PutsReceipt, count_row, message_of}
 
@@ -160,3 +162,7 @@ receipt_put r d class e id named digest k rows mid after d_is class_is e_is id_i
     let count : record { maildrop = d; class = class; k = k } ≡ count_row r = λ i. let t : Count = record { maildrop = d_is i; class = class_is i; k = k_is i } in t in
     let row : record { maildrop = e; id = id; class = named; k = k; digest = digest } ≡ deposit_row r = λ i. let t : Deposit = record { maildrop = e_is i; id = id_is i; class = named_is i; k = k_is i; digest = digest_is i } in t in
     (mid, subst (λ (x : Count). SetsCount x rows mid) count set, subst (λ (x : Deposit). AddsDeposit x mid after) row add)
+
+-- a refusal is no new deposit
+pub no_new : (e : Refusal) (u : Uid) → (let r : Result Deposited Refusal = Err e in r ≡ Ok (stored.New u)) → ⊥
+no_new e u is = cc

@@ -1,5 +1,6 @@
 -- What each statement outside a transaction leaves of what is held, and how a refusal is answered.
-use Rattle.std.proofs.Common.{◌≡◌, inl, inr, Bool, true, false, cond, IsTrue, Result, Err, sym, ap, subst, ◌∙◌}
+use Rattle.std.proofs.Common.{◌≡◌, inl, inr, Bool, true, false, cond, IsTrue, Result, Ok, Err, sym, ap, subst, ◌∙◌}
+use Rattle.std.specs.Prelude.{OnOk}
 use Rattle.sqlite.specs.Effect.{Database}
 use Rattle.sqlite.specs.declared.error.Error.{Error}
 use Rattle.sqlite.specs.State.{State, IsUnchanged, IsRolledBack}
@@ -68,3 +69,9 @@ met {A} expected e = go (is_memory e)
 -- so a call is done that met an error and changed nothing
 pub refused : {A : Type 0} (Held : Contents → Type 0) (before after : Contents) (expected : Result A VaultFault) (e : Error) → Held before → IsDone Held before after expected (Err (fault_of e))
 refused Held before after expected e h = record { answer = met expected e; held = h }
+
+-- ---- a result that is passed on
+
+pub any_ok : {A : Type 0} (P : Type 0) (r : Result A Error) → P → OnOk r P
+any_ok P (Ok x) p = p
+any_ok P (Err e) p = tt

@@ -109,3 +109,8 @@ undone_stays old mid new a (inr back) = inr (record {
   unmarked = back.unmarked;
   counts = record { changes = back.counts.changes ∙ a.1.changes; last_rowid = back.counts.last_rowid ∙ a.1.last_rowid };
 })
+
+-- a result that is passed on, behind tests
+pub goes_either : {A : Type 0} (old new : State) (r : Result A Error) → Stays old new → Goes old new r
+goes_either old new (Ok x) y = y
+goes_either old new (Err e) y = inl y

@@ -105,3 +105,12 @@ deposited_as {S} g old was new now c left d class id text e f stop clean up h ma
     left_deposited (state g now) c left d class id text
     (stop (subst (λ (x : Conn S). HasCleanDisk (state g x)) f clean) (subst (λ (x : Conn S). IsTrue (state g x).is_open) (sym e) up) (subst (λ (x : Conn S). Holds (state g x) c) (sym e) h))
     (subst (λ (x : Conn S). MayHold (state g x) left) f may)
+
+pub done_told : {A S : Type 0} (g : Ghosts S) (expected : Result A VaultFault) (old was new now : Conn S) (c after : Contents) (r said : Result A VaultFault) → was ≡ old → new ≡ now → r ≡ said
+    → (HasCleanDisk (state g now) → Holds (state g was) c → IsDone (Holds (state g now)) c after expected said) → Holds (state g old) c → HasCleanDisk (state g new) → IsDone (Holds (state g new)) c after expected r
+done_told {A} {S} g expected old was new now c after r said e f same done h clean =
+    let it = done (subst (λ (x : Conn S). HasCleanDisk (state g x)) f clean) (subst (λ (x : Conn S). Holds (state g x) c) (sym e) h) in
+    subst (λ (a : Result A VaultFault). IsDone (Holds (state g new)) c after expected a) (sym same) (subst (λ (x : Conn S). IsDone (Holds (state g x)) c after expected said) (sym f) it)
+
+pub clean_told : {S : Type 0} (g : Ghosts S) (old was new now : Conn S) → was ≡ old → new ≡ now → (HasCleanDisk (state g now) → HasCleanDisk (state g was)) → HasCleanDisk (state g new) → HasCleanDisk (state g old)
+clean_told {S} g old was new now e f before clean = subst (λ (x : Conn S). HasCleanDisk (state g x)) e (before (subst (λ (x : Conn S). HasCleanDisk (state g x)) f clean))

@@ -1,9 +1,11 @@
 -- Totals as the rows tell them.
-use Rattle.std.proofs.Common.{◌≡◌, ℕ, ◌+◌, ◌-◌, ◌<◌, ◌≤◌, ◌^◌, min, List, [], ◌∷◌, ◌++◌, length, take, take_all, get_or, sym, ap, subst, ◌∙◌, arith}
+use Rattle.std.proofs.Common.{◌≡◌, ℕ, ◌+◌, ◌-◌, ◌<◌, ◌≤◌, ◌^◌, min, List, [], ◌∷◌, ◌++◌, length, take, take_all, get_or, true, sym, ap, subst, ◌∙◌, arith}
 use Rattle.std.specs.Prelude.{map, sum_by, filter}
 use Rattle.std.proofs.lemmas.List.{take_more, get_or-map}
 use Rattle.std.proofs.lemmas.List.Sums.{sum_by_more}
-use Rattle.creds.specs.Names.{by_name}
+use Rattle.std.specs.List.{list_all}
+use Rattle.creds.specs.Names.{by_name, is_name}
+use Rattle.sqlvault.proofs.RuleLemmas.{all_at}
 use Rattle.mailsql.specs.declared.rows.Message.{Message}
 use Rattle.mailsql.specs.Columns.{Rows}
 use Rattle.mailsql.specs.Rows.{is_in}
@@ -58,3 +60,10 @@ pub totals_next : (c : Contents) (names : List (List ℕ)) (done more : List Tot
     → done ≡ take i (map (capped_total c.messages) names) → total ≡ capped_total c.messages name → more ≡ done ++ total ∷ [] → more ≡ take (i + 1) (map (capped_total c.messages) names)
 totals_next c names done more i name total lt is was made pushed =
     pushed ∙ ap (λ l. l ++ total ∷ []) was ∙ ap (λ t. take i (map (capped_total c.messages) names) ++ t ∷ []) made ∙ sym (mapped_next (capped_total c.messages) names i name lt is)
+
+-- one name more is read
+pub names_more : (rows names grown : List (List ℕ)) (i : ℕ) (row : List ℕ) → i < length rows → row ≡ get_or rows i row → list_all is_name rows ≡ true → names ≡ take i rows
+    → (is_name row ≡ true → grown ≡ names ++ row ∷ []) → grown ≡ take (i + 1) rows
+names_more rows names grown i row lt is all held pushed =
+    let named : is_name row ≡ true = subst (λ n. is_name n ≡ true) (sym is) (all_at is_name rows i row lt all) in
+    pushed named ∙ ap (λ l. l ++ row ∷ []) held ∙ ap (λ n. take i rows ++ n ∷ []) is ∙ sym (take_more rows i row lt)

@@ -4,11 +4,12 @@ use Rattle.creds.specs.Digests.{text_digest}
 use Rattle.vault.specs.Changes.{Contents, with_deposit}
 use Rattle.sqlvault.specs.Stands.{Holds}
 use Rattle.sqlvault.proofs.deposit.KeptLemmas.{accepts, receipt_made, deposited, undeposited}
-use Rattle.sqlvault.proofs.StopLemmas.{or_said}
+use Rattle.sqlvault.proofs.StopLemmas.{or_said, not_own}
 use Rattle.vault.specs.declared.answer.Deposited.{Deposited}
 use Rattle.vault.specs.Calls.{IsDeposited}
 use Rattle.sqlvault.specs.Deposits.{message_of}
 use Rattle.vault.specs.declared.answer.Deposited.TheVariants as stored
+use Rattle.vault.specs.declared.answer.Deposited.{Deposited}
 use Rattle.sqlvault.proofs.deposit.deposit.Goals as goal
 
 pub returns-in-Ok-clause-done : goal.returns-in-Ok-clause-done
@@ -111,4 +112,12 @@ returns-in-Err-clause-stop g c k clean up h =
 
 pub returns-in-Ok-Known-clause-clean : goal.returns-in-Ok-Known-clause-clean
 returns-in-Ok-Known-clause-clean g c clean =
+    c.judge.ensures.clean clean
+
+pub returns-in-Err-store-clause-up : goal.returns-in-Err-store-clause-up
+returns-in-Err-store-clause-up g c k clean up h own =
+    absurd (not_own Deposited c.in-Err-store.error own)
+
+pub returns-in-Err-clause-clean : goal.returns-in-Err-clause-clean
+returns-in-Err-clause-clean g c clean =
     c.judge.ensures.clean clean

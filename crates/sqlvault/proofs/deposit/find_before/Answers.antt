@@ -2,7 +2,7 @@ use Rattle.sqlvault.proofs.StopLemmas.{looked}
 use Rattle.sqlite.specs.Held.{state}
 use Rattle.vault.specs.Records.{receipts_of, class_count}
 use Rattle.mailsql.specs.Rows.{rows_in}
-use Rattle.sqlvault.proofs.HoldsLemmas.{seen, holds_unchanged, holds_undone}
+use Rattle.sqlvault.proofs.HoldsLemmas.{seen, holds_unchanged, holds_undone, any_ok}
 use Rattle.sqlvault.proofs.DepositLemmas.{count_seen, ok_known}
 use Rattle.sqlvault.proofs.deposit.find_before.Goals as goal
 
@@ -35,3 +35,7 @@ returns-in-Err-clause-stop g c k clean1 up0 h0 =
     let s0 = state g.S.Store c.args.conn.now in
     let s1 = state g.S.Store c.find_count.new.conn in
     looked s0 s1 k (λ d o m. g.met.S.Store.settled c.args.conn.now.store d o m) clean1 c.find_count.ensures.survives up0 h0
+
+pub returns-in-Ok-clause-up : goal.returns-in-Ok-clause-up
+returns-in-Ok-clause-up g c k clean up h =
+    any_ok _ c.number_of.result (c.in-Ok.ensures.same clean h.tables).0.is_open

@@ -3,7 +3,7 @@ use Rattle.sqlite.specs.State.{HasCleanDisk}
 use Rattle.mailsql.specs.Rows.{rows_in}
 use Rattle.sqlvault.specs.Refusals.{answer_of}
 use Rattle.sqlvault.proofs.HoldsLemmas.{seen, holds_unchanged, holds_undone, met}
-use Rattle.sqlvault.proofs.DepositLemmas.{is_there, used, unused, judged_known, judged_unknown}
+use Rattle.sqlvault.proofs.DepositLemmas.{is_there, used, unused, judged_known, judged_unknown, no_new}
 use Rattle.sqlvault.proofs.StopLemmas.{looked, not_own}
 use Rattle.sqlvault.proofs.StayLemmas.{clean_before}
 use Rattle.sqlvault.proofs.deposit.judge.Goals as goal
@@ -199,3 +199,15 @@ returns-in-Err-find_deposit-clause-answered g c held text clean2 h d =
 pub returns-in-Ok-None-clause-within : goal.returns-in-Ok-None-clause-within
 returns-in-Ok-None-clause-within g c u is =
     c.judge_new.ensures.within u is
+
+pub returns-in-Err-clause-within : goal.returns-in-Err-clause-within
+returns-in-Err-clause-within g c u is =
+    absurd (no_new _ u is)
+
+pub returns-in-Err-find_deposit-clause-within : goal.returns-in-Err-find_deposit-clause-within
+returns-in-Err-find_deposit-clause-within g c u is =
+    absurd (no_new _ u is)
+
+pub returns-in-Ok-false-clause-within : goal.returns-in-Ok-false-clause-within
+returns-in-Ok-false-clause-within g c u is =
+    absurd (no_new _ u is)

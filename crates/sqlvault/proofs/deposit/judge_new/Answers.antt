@@ -5,7 +5,7 @@ use Rattle.vault.specs.Records.{receipts_of, class_count, most_messages, most_de
 use Rattle.vault.specs.Calls.{present_in}
 use Rattle.mailsql.specs.Rows.{rows_in, is_in}
 use Rattle.sqlvault.proofs.HoldsLemmas.{seen, holds_unchanged, holds_undone, met}
-use Rattle.sqlvault.proofs.DepositLemmas.{present_seen, full_of_messages, accepted_next}
+use Rattle.sqlvault.proofs.DepositLemmas.{present_seen, full_of_messages, accepted_next, no_new}
 use Rattle.sqlvault.proofs.StayLemmas.{clean_before}
 use Rattle.sqlvault.proofs.StopLemmas.{not_own, looked}
 use Rattle.sqlvault.proofs.deposit.judge_new.Goals as goal
@@ -157,3 +157,19 @@ returns-in-Err-clause-answered g c held text clean1 h =
 pub returns-in-Err-find_before-clause-answered : goal.returns-in-Err-find_before-clause-answered
 returns-in-Err-find_before-clause-answered g c held text clean2 h =
     met _ c.in-Err-find_before.error
+
+pub returns-in-Err-clause-within : goal.returns-in-Err-clause-within
+returns-in-Err-clause-within g c u is =
+    absurd (no_new _ u is)
+
+pub returns-in-Err-find_before-clause-within : goal.returns-in-Err-find_before-clause-within
+returns-in-Err-find_before-clause-within g c u is =
+    absurd (no_new _ u is)
+
+pub returns-then-present-ge-MAX_MESSAGES-clause-within : goal.returns-then-present-ge-MAX_MESSAGES-clause-within
+returns-then-present-ge-MAX_MESSAGES-clause-within g c u is =
+    absurd (no_new _ u is)
+
+pub returns-then-before-ge-MAX_DEPOSITS-clause-within : goal.returns-then-before-ge-MAX_DEPOSITS-clause-within
+returns-then-before-ge-MAX_DEPOSITS-clause-within g c u is =
+    absurd (no_new _ u is)

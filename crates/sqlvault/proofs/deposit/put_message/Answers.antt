@@ -3,7 +3,7 @@ use Rattle.std.proofs.lemmas.Int.{to_z_pos}
 use Rattle.sqlite.specs.Held.{state}
 use Rattle.sqlite.specs.State.{HasCleanDisk}
 use Rattle.mailsql.specs.Changes.{AddsMessage, Arrives, AddsSheets, AddsSomeSheets}
-use Rattle.sqlvault.proofs.WithinLemmas.{step_ok, step_err}
+use Rattle.sqlvault.proofs.WithinLemmas.{step_ok, step_err, part_err, ready}
 use Rattle.sqlvault.proofs.DepositLemmas.{message_put}
 use Rattle.sqlvault.proofs.StayLemmas.{clean_before}
 use Rattle.sqlvault.proofs.deposit.put_message.Goals as goal
@@ -39,3 +39,34 @@ returns-in-Err-clause-made g c clean1 base rows w =
     let s0 = state g.S.Store c.args.conn.now in
     let s1 = state g.S.Store c.add_message.new.conn in
     step_err (Arrives c.as_bytes.result.now c.as_bytes-2.result.now (to_z w64 c.args.receipt.now.k) (to_z w64 c.octets-octets.result)) s0 s1 base rows clean1 (c.in-Err.ensures.err clean1) c.add_message.ensures.survives w
+
+pub returns-in-Err-add_sheets-clause-made : goal.returns-in-Err-add_sheets-clause-made
+returns-in-Err-add_sheets-clause-made g c clean2 base rows w =
+    let s0 = state g.S.Store c.args.conn.now in
+    let s1 = state g.S.Store c.add_message.new.conn in
+    let s2 = state g.S.Store c.add_sheets.new.conn in
+    let d = c.as_bytes.result.now in
+    let class = c.as_bytes-2.result.now in
+    let key = c.in-Ok.key in
+    let k = to_z w64 c.args.receipt.now.k in
+    let octets = to_z w64 c.octets-octets.result in
+    let clean1 : HasCleanDisk s1 = clean_before s1 s2 c.add_sheets.ensures.survives.clean clean2 in
+    let a = step_ok (AddsMessage (record { key = key; maildrop = d; class = class; k = k; octets = octets })) (Arrives d class k octets) s0 s1 base rows clean1
+    (c.in-Ok.ensures.ok clean1) c.add_message.ensures.survives w in
+    part_err (AddsSomeSheets (to_z w64 (of_z w64 key)) c.bytes.result.now) s1 s2 base a.0 clean2 (c.in-Err-add_sheets.ensures.err clean2 (ready s1 base a.0 a.2) a.2.inside) c.add_sheets.ensures.survives a.2
+
+pub returns-in-Err-add_sheets-clause-clean : goal.returns-in-Err-add_sheets-clause-clean
+returns-in-Err-add_sheets-clause-clean g c clean2 =
+    let s0 = state g.S.Store c.args.conn.now in
+    let s1 = state g.S.Store c.add_message.new.conn in
+    let s2 = state g.S.Store c.add_sheets.new.conn in
+    let clean1 = clean_before s1 s2 c.add_sheets.ensures.survives.clean clean2 in
+    clean_before s0 s1 c.add_message.ensures.survives.clean clean1
+
+pub returns-in-Ok-add_sheets-clause-clean : goal.returns-in-Ok-add_sheets-clause-clean
+returns-in-Ok-add_sheets-clause-clean g c clean2 =
+    let s0 = state g.S.Store c.args.conn.now in
+    let s1 = state g.S.Store c.add_message.new.conn in
+    let s2 = state g.S.Store c.add_sheets.new.conn in
+    let clean1 = clean_before s1 s2 c.add_sheets.ensures.survives.clean clean2 in
+    clean_before s0 s1 c.add_message.ensures.survives.clean clean1

@@ -138,3 +138,7 @@ returns-in-Err-replace_rules-clause-clean g c clean3 =
 pub returns-in-Err-end-clause-up : goal.returns-in-Err-end-clause-up
 returns-in-Err-end-clause-up g c k clean up h own =
     absurd (not_own (Unit {0}) c.in-Err-end.error own)
+
+pub returns-in-Err-clause-up : goal.returns-in-Err-clause-up
+returns-in-Err-clause-up g c k clean up h own =
+    absurd (not_own (Unit {0}) c.in-Err.error own)

@@ -5,7 +5,7 @@ use Rattle.sqlite.specs.Held.{state}
 use Rattle.mailsql.specs.Rows.{rows_in}
 use Rattle.sqlvault.specs.Parts.{Finds}
 use Rattle.sqlvault.specs.Stored.{IsNumber}
-use Rattle.sqlvault.proofs.StayLemmas.{tables_stay, rows_stay, stays_more, tables_of, leaves_on, or_back_after}
+use Rattle.sqlvault.proofs.StayLemmas.{tables_stay, rows_stay, stays_more, tables_of, leaves_on, or_back_after, goes_either}
 use Rattle.sqlvault.proofs.StoredLemmas.{number_stored, kept_judged, text_read, octets_back}
 use Rattle.sqlvault.proofs.sound_messages.is_message_sound.Goals as goal
 
@@ -116,3 +116,11 @@ returns-in-Ok-Some-clause-stop g c clean2 ready =
     let s2 = state g.S.Store c.find_text.new.conn in
     let clean1 = c.find_text.ensures.clean clean2 in
     leaves_on s0 s1 s2 (c.in-Ok-true.ensures.goes clean1 (tables_of s0 ready)) ready (c.is_numbered.ensures.stop clean1 ready) (c.find_text.ensures.stop clean2)
+
+pub returns-in-Ok-Some-clause-goes : goal.returns-in-Ok-Some-clause-goes
+returns-in-Ok-Some-clause-goes g c clean2 h =
+    let s0 = state g.S.Store c.args.conn.now in
+    let s1 = state g.S.Store c.is_numbered.new.conn in
+    let s2 = state g.S.Store c.find_text.new.conn in
+    let stays = c.in-Ok-true.ensures.goes (c.find_text.ensures.clean clean2) h in
+    goes_either s0 s2 c.is_kept.result (stays_more s0 s1 s2 stays (c.in-Ok-Some.ensures.goes clean2 (tables_stay s0 s1 stays h)))

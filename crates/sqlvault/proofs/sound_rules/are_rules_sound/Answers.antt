@@ -16,3 +16,9 @@ returns-in_ok-are_rules-in-Ok-clause-stop g c clean ready =
     let s0 = state g.S.Store c.args.conn.now in
     let s1 = state g.S.Store c.all_rules.new.conn in
     asked s0 s1 clean c.all_rules.ensures.survives ready
+
+pub returns-in-Err-clause-stop : goal.returns-in-Err-clause-stop
+returns-in-Err-clause-stop g c clean ready =
+    let s0 = state g.S.Store c.args.conn.now in
+    let s1 = state g.S.Store c.all_rules.new.conn in
+    asked s0 s1 clean c.all_rules.ensures.survives ready

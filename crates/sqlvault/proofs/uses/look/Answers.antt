@@ -80,3 +80,7 @@ returns-in_err-octets_read-clause-clean g c clean = c.maildrops.ensures.clean (c
 
 pub returns-clause-clean : goal.returns-clause-clean
 returns-clause-clean g c clean = c.maildrops.ensures.clean (c.heads.ensures.clean (c.page.ensures.clean clean))
+
+pub returns-in-None-clause-clean : goal.returns-in-None-clause-clean
+returns-in-None-clause-clean g c clean =
+    c.maildrops.ensures.clean (c.heads.ensures.clean clean)

@@ -1,9 +1,13 @@
 use Rattle.std.proofs.Common.{ap}
 use Rattle.sqlvault.specs.Opened.{Opened}
-use Rattle.sqlvault.proofs.StopLemmas.{looked_as}
+use Rattle.sqlvault.proofs.StopLemmas.{looked_as, clean_told}
 use Rattle.sqlvault.proofs.sql_vault.SqlVaultVault.heads.Goals as goal
 
 pub returns-clause-stop : goal.returns-clause-stop
 returns-clause-stop g c b clean up h left may =
     looked_as g.S.Store c.args.self.now.conn c.self.inside.conn c.told.new.self.conn c.heads-answer.new.conn b left (ap (λ (o : Opened g.row.S.Denot). o.conn) c.self.view_is) c.told.ensures.conn
     c.heads-answer.ensures.stop clean up h may
+
+pub returns-clause-clean : goal.returns-clause-clean
+returns-clause-clean g c clean =
+    clean_told g.S.Store c.args.self.now.conn c.self.inside.conn c.told.new.self.conn c.heads-answer.new.conn (ap (λ (o : Opened g.row.S.Denot). o.conn) c.self.view_is) c.told.ensures.conn c.heads-answer.ensures.clean clean
