@@ -98,55 +98,6 @@ fn judge_marks<S: Alter>(alloc: Global, conn: &mut Connection<S>) -> Result<(), 
     }
 }
 
-/// Whether the rows of the clerks and of the maildrops are sound.
-fn are_names_sound<S: Alter>(alloc: Global, conn: &mut Connection<S>) -> Result<bool, Error>
-    ensures judged { HasCleanDisk (state S.Store conn.new) → HasTables (state S.Store conn.old) → AreApart (rows_in (state S.Store conn.old).now.trees)
-        → IfOk result (Finds (λ (x : List vault_clerk.Clerk × List (List ℕ)). ClerksAre (rows_in (state S.Store conn.old).now.trees) x.0 × MaildropsAre (rows_in (state S.Store conn.old).now.trees) x.1)) }
-    ensures same { HasCleanDisk (state S.Store conn.new) → HasTables (state S.Store conn.old) → OnOk result (IsUnchanged (state S.Store conn.old) (state S.Store conn.new)) }
-    ensures err { HasCleanDisk (state S.Store conn.new) → HasTables (state S.Store conn.old) → OnErr result (IsUndone (state S.Store conn.old) (state S.Store conn.new)) }
-    ensures stop { HasCleanDisk (state S.Store conn.new) → IsReady (state S.Store conn.old) → LeavesNoMore (state S.Store conn.old) (state S.Store conn.new) }
-    ensures clean { WasClean (state S.Store conn.old) (state S.Store conn.new) }
-{
-    match are_clerks_sound(alloc, conn) {
-        Ok(true) => are_maildrops_sound(alloc, conn),
-        Ok(false) => Ok(false),
-        Err(error) => Err(error),
-    }
-}
-
-/// Whether the rows of the clerks, the maildrops and the rules are sound.
-fn are_lists_sound<S: Alter>(alloc: Global, conn: &mut Connection<S>) -> Result<bool, Error>
-    ensures judged { HasCleanDisk (state S.Store conn.new) → HasTables (state S.Store conn.old) → AreApart (rows_in (state S.Store conn.old).now.trees)
-        → IfOk result (Finds (λ (x : (List vault_clerk.Clerk × List (List ℕ)) × Policy). (ClerksAre (rows_in (state S.Store conn.old).now.trees) x.0.0 × MaildropsAre (rows_in (state S.Store conn.old).now.trees) x.0.1) × PolicyIs (rows_in (state S.Store conn.old).now.trees) x.1)) }
-    ensures same { HasCleanDisk (state S.Store conn.new) → HasTables (state S.Store conn.old) → OnOk result (IsUnchanged (state S.Store conn.old) (state S.Store conn.new)) }
-    ensures err { HasCleanDisk (state S.Store conn.new) → HasTables (state S.Store conn.old) → OnErr result (IsUndone (state S.Store conn.old) (state S.Store conn.new)) }
-    ensures stop { HasCleanDisk (state S.Store conn.new) → IsReady (state S.Store conn.old) → LeavesNoMore (state S.Store conn.old) (state S.Store conn.new) }
-    ensures clean { WasClean (state S.Store conn.old) (state S.Store conn.new) }
-{
-    match are_names_sound(alloc, conn) {
-        Ok(true) => are_rules_sound(alloc, conn),
-        Ok(false) => Ok(false),
-        Err(error) => Err(error),
-    }
-}
-
-/// Whether the rows of the deposits, the counts, the messages and their sheets are sound.
-fn is_mail_sound<S: Alter>(alloc: Global, conn: &mut Connection<S>) -> Result<bool, Error>
-    ensures judged { HasCleanDisk (state S.Store conn.new) → HasTables (state S.Store conn.old) → AreApart (rows_in (state S.Store conn.old).now.trees)
-        → MaildropsAre (rows_in (state S.Store conn.old).now.trees) (rows_in (state S.Store conn.old).now.trees).maildrops
-        → IfOk result (Finds (λ (x : List vault_receipt.Receipt × List vault_keyed.Keyed). DepositsAre (rows_in (state S.Store conn.old).now.trees) x.0 × MessagesAre (rows_in (state S.Store conn.old).now.trees) x.0 x.1)) }
-    ensures same { HasCleanDisk (state S.Store conn.new) → HasTables (state S.Store conn.old) → OnOk result (IsUnchanged (state S.Store conn.old) (state S.Store conn.new)) }
-    ensures err { HasCleanDisk (state S.Store conn.new) → HasTables (state S.Store conn.old) → OnErr result (IsUndone (state S.Store conn.old) (state S.Store conn.new)) }
-    ensures stop { HasCleanDisk (state S.Store conn.new) → IsReady (state S.Store conn.old) → LeavesNoMore (state S.Store conn.old) (state S.Store conn.new) }
-    ensures clean { WasClean (state S.Store conn.old) (state S.Store conn.new) }
-{
-    match are_deposits_sound(alloc, conn) {
-        Ok(true) => are_messages_sound(alloc, conn),
-        Ok(false) => Ok(false),
-        Err(error) => Err(error),
-    }
-}
-
 /// Whether the rows under the mark are sound records.
 fn are_rows_sound<S: Alter>(alloc: Global, conn: &mut Connection<S>) -> Result<bool, Error>
     ensures judged { HasCleanDisk (state S.Store conn.new) → HasTables (state S.Store conn.old) → (rows_in (state S.Store conn.old).now.trees).marks ≡ our_mark ∷ []
@@ -157,8 +108,23 @@ fn are_rows_sound<S: Alter>(alloc: Global, conn: &mut Connection<S>) -> Result<b
     ensures clean { WasClean (state S.Store conn.old) (state S.Store conn.new) }
 {
     keys_hold(conn);
-    match are_lists_sound(alloc, conn) {
-        Ok(true) => is_mail_sound(alloc, conn),
+    match are_clerks_sound(alloc, conn) {
+        Ok(true) => {}
+        Ok(false) => return Ok(false),
+        Err(error) => return Err(error),
+    }
+    match are_maildrops_sound(alloc, conn) {
+        Ok(true) => {}
+        Ok(false) => return Ok(false),
+        Err(error) => return Err(error),
+    }
+    match are_rules_sound(alloc, conn) {
+        Ok(true) => {}
+        Ok(false) => return Ok(false),
+        Err(error) => return Err(error),
+    }
+    match are_deposits_sound(alloc, conn) {
+        Ok(true) => are_messages_sound(alloc, conn),
         Ok(false) => Ok(false),
         Err(error) => Err(error),
     }

@@ -1,93 +1,408 @@
-use Rattle.std.proofs.Common.{◌≡◌, sym, subst, IsTrue}
+use Rattle.std.proofs.Common.{◌≡◌, true, refl, sym, subst}
 use Rattle.std.specs.Prelude.{IfOk}
 use Rattle.sqlite.specs.Held.{state}
-use Rattle.sqlite.specs.State.{HasCleanDisk, IsUnchanged}
 use Rattle.mailsql.specs.Rows.{rows_in}
 use Rattle.mailsql.specs.Apart.{AreApart}
 use Rattle.sqlvault.specs.Keeps.{Keeps}
-use Rattle.sqlvault.specs.Parts.{Finds, MaildropsAre}
-use Rattle.sqlvault.proofs.AdoptLemmas.{tables_on, rows_on, chained_ok, finds_so, Lists, Mail, ListsAre, MailIs, own_maildrops, whole, parts, same_after, err_after}
+use Rattle.sqlvault.specs.Parts.{Finds, ClerksAre, MaildropsAre, PolicyIs, DepositsAre, MessagesAre}
+use Rattle.sqlvault.proofs.AdoptLemmas.{tables_on, rows_on, unchanged_on, undone_on, same_after, err_after, chained_ok, finds_so, Lists, Mail, ListsAre, MailIs, own_maildrops, whole, parts}
 use Rattle.sqlvault.proofs.StayLemmas.{leaves_on, tables_of, stays_unchanged}
 use Rattle.sqlvault.proofs.adopt.are_rows_sound.Goals as goal
 
-pub returns-in-Ok-true-clause-judged : goal.returns-in-Ok-true-clause-judged
-returns-in-Ok-true-clause-judged g c clean2 tables marks =
-    let s0 = state g.S.Store c.args.conn.now in
-    let s1 = state g.S.Store c.are_lists_sound.new.conn in
-    let all = rows_in s0.now.trees in
-    let clean1 : HasCleanDisk s1 = c.is_mail_sound.ensures.clean clean2 in
-    let same : IsUnchanged s0 s1 = c.in-Ok-true.ensures.same clean1 tables in
-    let rows : rows_in s1.now.trees ≡ all = rows_on s0 s1 same in
-    let apart : AreApart all = c.keys_hold.ensures.apart (same.0.was_open, tables same.0.was_open) in
-    finds_so (λ (xy : Lists all × Mail all). ListsAre all xy.0 × MailIs all xy.1) (Keeps all) c.is_mail_sound.result (whole all marks) (parts all)
-    (chained_ok (ListsAre all) (λ _. MailIs all) c.in-Ok-true.field-0 c.is_mail_sound.result (c.in-Ok-true.ensures.judged clean1 tables apart) c.in-Ok-true.field-0-test
-    (λ x p. subst (λ r. IfOk c.is_mail_sound.result (Finds (MailIs r))) rows
-    (c.is_mail_sound.ensures.judged clean2 (tables_on s0 s1 same tables) (subst AreApart (sym rows) apart) (subst (λ r. MaildropsAre r r.maildrops) (sym rows) (own_maildrops all x.0.1 p.0.1)))))
-
-pub returns-in-Ok-false-clause-judged : goal.returns-in-Ok-false-clause-judged
-returns-in-Ok-false-clause-judged g c clean1 tables marks =
-    let s0 = state g.S.Store c.args.conn.now in
-    let s1 = state g.S.Store c.are_lists_sound.new.conn in
-    let all = rows_in s0.now.trees in
-    let same : IsUnchanged s0 s1 = c.in-Ok-false.ensures.same clean1 tables in
-    let apart : AreApart all = c.keys_hold.ensures.apart (same.0.was_open, tables same.0.was_open) in
-    let none = subst (Finds (ListsAre all)) c.in-Ok-false.field-0-test (c.in-Ok-false.ensures.judged clean1 tables apart) in
-    λ held k. let p = parts all held k in none p.0.0 p.1.0
-
 pub returns-in-Ok-false-clause-clean : goal.returns-in-Ok-false-clause-clean
 returns-in-Ok-false-clause-clean g c clean1 =
-    c.are_lists_sound.ensures.clean clean1
-
-pub returns-in-Ok-false-clause-stop : goal.returns-in-Ok-false-clause-stop
-returns-in-Ok-false-clause-stop g c clean1 ready =
-    c.are_lists_sound.ensures.stop clean1 ready
-
-pub returns-in-Ok-false-clause-same : goal.returns-in-Ok-false-clause-same
-returns-in-Ok-false-clause-same g c clean1 h =
-    let u1 = c.in-Ok-false.ensures.same clean1 h in
-    u1
+    c.are_clerks_sound.ensures.clean clean1
 
 pub returns-in-Err-clause-clean : goal.returns-in-Err-clause-clean
 returns-in-Err-clause-clean g c clean1 =
-    c.are_lists_sound.ensures.clean clean1
+    c.are_clerks_sound.ensures.clean clean1
+
+pub returns-in-Ok-false-clause-stop : goal.returns-in-Ok-false-clause-stop
+returns-in-Ok-false-clause-stop g c clean1 ready =
+    c.are_clerks_sound.ensures.stop clean1 ready
 
 pub returns-in-Err-clause-stop : goal.returns-in-Err-clause-stop
 returns-in-Err-clause-stop g c clean1 ready =
-    c.are_lists_sound.ensures.stop clean1 ready
+    c.are_clerks_sound.ensures.stop clean1 ready
+
+pub returns-in-Ok-false-clause-same : goal.returns-in-Ok-false-clause-same
+returns-in-Ok-false-clause-same g c clean1 h =
+    c.in-Ok-false.ensures.same clean1 h
 
 pub returns-in-Err-clause-err : goal.returns-in-Err-clause-err
 returns-in-Err-clause-err g c clean1 h =
     c.in-Err.ensures.err clean1 h
 
-pub returns-in-Ok-true-clause-clean : goal.returns-in-Ok-true-clause-clean
-returns-in-Ok-true-clause-clean g c clean2 =
-    let clean1 = c.is_mail_sound.ensures.clean clean2 in
-    c.are_lists_sound.ensures.clean clean1
-
-pub returns-in-Ok-true-clause-stop : goal.returns-in-Ok-true-clause-stop
-returns-in-Ok-true-clause-stop g c clean2 ready =
+pub returns-in-Ok-false-clause-judged : goal.returns-in-Ok-false-clause-judged
+returns-in-Ok-false-clause-judged g c clean1 h marks =
     let s0 = state g.S.Store c.args.conn.now in
-    let s1 = state g.S.Store c.are_lists_sound.new.conn in
-    let s2 = state g.S.Store c.is_mail_sound.new.conn in
-    let clean1 = c.is_mail_sound.ensures.clean clean2 in
+    let all = rows_in s0.now.trees in
+    let u1 = c.in-Ok-false.ensures.same clean1 h in
+    let apart : AreApart all = c.keys_hold.ensures.apart (u1.0.was_open, h u1.0.was_open) in
+    let none = subst (Finds (ClerksAre all)) c.in-Ok-false.field-0-test (c.in-Ok-false.ensures.judged clean1 h apart) in
+    λ held k. let p = parts all held k in none p.0.0.0.0 p.1.0.0.0
+
+pub returns-in-Ok-false-are_maildrops_sound-clause-clean : goal.returns-in-Ok-false-are_maildrops_sound-clause-clean
+returns-in-Ok-false-are_maildrops_sound-clause-clean g c clean2 =
+    let clean1 = c.are_maildrops_sound.ensures.clean clean2 in
+    c.are_clerks_sound.ensures.clean clean1
+
+pub returns-in-Err-are_maildrops_sound-clause-clean : goal.returns-in-Err-are_maildrops_sound-clause-clean
+returns-in-Err-are_maildrops_sound-clause-clean g c clean2 =
+    let clean1 = c.are_maildrops_sound.ensures.clean clean2 in
+    c.are_clerks_sound.ensures.clean clean1
+
+pub returns-in-Ok-false-are_maildrops_sound-clause-stop : goal.returns-in-Ok-false-are_maildrops_sound-clause-stop
+returns-in-Ok-false-are_maildrops_sound-clause-stop g c clean2 ready =
+    let s0 = state g.S.Store c.args.conn.now in
+    let s1 = state g.S.Store c.are_clerks_sound.new.conn in
+    let s2 = state g.S.Store c.are_maildrops_sound.new.conn in
+    let clean1 = c.are_maildrops_sound.ensures.clean clean2 in
     let h = tables_of s0 ready in
-    let y1 = stays_unchanged s0 s1 (c.in-Ok-true.ensures.same clean1 h) in
-    leaves_on s0 s1 s2 y1 ready (c.are_lists_sound.ensures.stop clean1 ready) (c.is_mail_sound.ensures.stop clean2)
+    let u1 = c.in-Ok-true.ensures.same clean1 h in
+    leaves_on s0 s1 s2 (stays_unchanged s0 s1 u1) ready (c.are_clerks_sound.ensures.stop clean1 ready) (c.are_maildrops_sound.ensures.stop clean2)
 
-pub returns-in-Ok-true-clause-same : goal.returns-in-Ok-true-clause-same
-returns-in-Ok-true-clause-same g c clean2 h =
+pub returns-in-Err-are_maildrops_sound-clause-stop : goal.returns-in-Err-are_maildrops_sound-clause-stop
+returns-in-Err-are_maildrops_sound-clause-stop g c clean2 ready =
     let s0 = state g.S.Store c.args.conn.now in
-    let s1 = state g.S.Store c.are_lists_sound.new.conn in
-    let s2 = state g.S.Store c.is_mail_sound.new.conn in
-    let clean1 = c.is_mail_sound.ensures.clean clean2 in
-    let u = c.in-Ok-true.ensures.same clean1 h in
-    same_after s0 s1 s2 c.is_mail_sound.result u (c.is_mail_sound.ensures.same clean2 (tables_on s0 s1 u h))
+    let s1 = state g.S.Store c.are_clerks_sound.new.conn in
+    let s2 = state g.S.Store c.are_maildrops_sound.new.conn in
+    let clean1 = c.are_maildrops_sound.ensures.clean clean2 in
+    let h = tables_of s0 ready in
+    let u1 = c.in-Ok-true.ensures.same clean1 h in
+    leaves_on s0 s1 s2 (stays_unchanged s0 s1 u1) ready (c.are_clerks_sound.ensures.stop clean1 ready) (c.are_maildrops_sound.ensures.stop clean2)
 
-pub returns-in-Ok-true-clause-err : goal.returns-in-Ok-true-clause-err
-returns-in-Ok-true-clause-err g c clean2 h =
+pub returns-in-Ok-false-are_maildrops_sound-clause-same : goal.returns-in-Ok-false-are_maildrops_sound-clause-same
+returns-in-Ok-false-are_maildrops_sound-clause-same g c clean2 h =
     let s0 = state g.S.Store c.args.conn.now in
-    let s1 = state g.S.Store c.are_lists_sound.new.conn in
-    let s2 = state g.S.Store c.is_mail_sound.new.conn in
-    let clean1 = c.is_mail_sound.ensures.clean clean2 in
-    let u = c.in-Ok-true.ensures.same clean1 h in
-    err_after s0 s1 s2 c.is_mail_sound.result u (c.is_mail_sound.ensures.err clean2 (tables_on s0 s1 u h))
+    let s1 = state g.S.Store c.are_clerks_sound.new.conn in
+    let s2 = state g.S.Store c.are_maildrops_sound.new.conn in
+    let clean1 = c.are_maildrops_sound.ensures.clean clean2 in
+    let u1 = c.in-Ok-true.ensures.same clean1 h in
+    let t1 = tables_on s0 s1 u1 h in
+    unchanged_on s0 s1 s2 u1 (c.in-Ok-false-are_maildrops_sound.ensures.same clean2 t1)
+
+pub returns-in-Err-are_maildrops_sound-clause-err : goal.returns-in-Err-are_maildrops_sound-clause-err
+returns-in-Err-are_maildrops_sound-clause-err g c clean2 h =
+    let s0 = state g.S.Store c.args.conn.now in
+    let s1 = state g.S.Store c.are_clerks_sound.new.conn in
+    let s2 = state g.S.Store c.are_maildrops_sound.new.conn in
+    let clean1 = c.are_maildrops_sound.ensures.clean clean2 in
+    let u1 = c.in-Ok-true.ensures.same clean1 h in
+    let t1 = tables_on s0 s1 u1 h in
+    undone_on s0 s1 s2 u1 (c.in-Err-are_maildrops_sound.ensures.err clean2 t1)
+
+pub returns-in-Ok-false-are_maildrops_sound-clause-judged : goal.returns-in-Ok-false-are_maildrops_sound-clause-judged
+returns-in-Ok-false-are_maildrops_sound-clause-judged g c clean2 h marks =
+    let s0 = state g.S.Store c.args.conn.now in
+    let s1 = state g.S.Store c.are_clerks_sound.new.conn in
+    let all = rows_in s0.now.trees in
+    let clean1 = c.are_maildrops_sound.ensures.clean clean2 in
+    let u1 = c.in-Ok-true.ensures.same clean1 h in
+    let t1 = tables_on s0 s1 u1 h in
+    let apart : AreApart all = c.keys_hold.ensures.apart (u1.0.was_open, h u1.0.was_open) in
+    let r1 : rows_in s1.now.trees ≡ all = rows_on s0 s1 u1 in
+    let none = subst (Finds (MaildropsAre all)) c.in-Ok-false-are_maildrops_sound.field-0-test (subst (λ r. Finds (MaildropsAre r) c.in-Ok-false-are_maildrops_sound.field-0) r1 (c.in-Ok-false-are_maildrops_sound.ensures.judged clean2 t1 (subst AreApart (sym r1) apart))) in
+    λ held k. let p = parts all held k in none p.0.0.0.1 p.1.0.0.1
+
+pub returns-in-Ok-false-are_rules_sound-clause-clean : goal.returns-in-Ok-false-are_rules_sound-clause-clean
+returns-in-Ok-false-are_rules_sound-clause-clean g c clean3 =
+    let clean2 = c.are_rules_sound.ensures.clean clean3 in
+    let clean1 = c.are_maildrops_sound.ensures.clean clean2 in
+    c.are_clerks_sound.ensures.clean clean1
+
+pub returns-in-Err-are_rules_sound-clause-clean : goal.returns-in-Err-are_rules_sound-clause-clean
+returns-in-Err-are_rules_sound-clause-clean g c clean3 =
+    let clean2 = c.are_rules_sound.ensures.clean clean3 in
+    let clean1 = c.are_maildrops_sound.ensures.clean clean2 in
+    c.are_clerks_sound.ensures.clean clean1
+
+pub returns-in-Ok-false-are_rules_sound-clause-stop : goal.returns-in-Ok-false-are_rules_sound-clause-stop
+returns-in-Ok-false-are_rules_sound-clause-stop g c clean3 ready =
+    let s0 = state g.S.Store c.args.conn.now in
+    let s1 = state g.S.Store c.are_clerks_sound.new.conn in
+    let s2 = state g.S.Store c.are_maildrops_sound.new.conn in
+    let s3 = state g.S.Store c.are_rules_sound.new.conn in
+    let clean2 = c.are_rules_sound.ensures.clean clean3 in
+    let clean1 = c.are_maildrops_sound.ensures.clean clean2 in
+    let h = tables_of s0 ready in
+    let u1 = c.in-Ok-true.ensures.same clean1 h in
+    let t1 = tables_on s0 s1 u1 h in
+    let u2 = unchanged_on s0 s1 s2 u1 (c.in-Ok-true-are_maildrops_sound.ensures.same clean2 t1) in
+    leaves_on s0 s2 s3 (stays_unchanged s0 s2 u2) ready (leaves_on s0 s1 s2 (stays_unchanged s0 s1 u1) ready (c.are_clerks_sound.ensures.stop clean1 ready) (c.are_maildrops_sound.ensures.stop clean2)) (c.are_rules_sound.ensures.stop clean3)
+
+pub returns-in-Err-are_rules_sound-clause-stop : goal.returns-in-Err-are_rules_sound-clause-stop
+returns-in-Err-are_rules_sound-clause-stop g c clean3 ready =
+    let s0 = state g.S.Store c.args.conn.now in
+    let s1 = state g.S.Store c.are_clerks_sound.new.conn in
+    let s2 = state g.S.Store c.are_maildrops_sound.new.conn in
+    let s3 = state g.S.Store c.are_rules_sound.new.conn in
+    let clean2 = c.are_rules_sound.ensures.clean clean3 in
+    let clean1 = c.are_maildrops_sound.ensures.clean clean2 in
+    let h = tables_of s0 ready in
+    let u1 = c.in-Ok-true.ensures.same clean1 h in
+    let t1 = tables_on s0 s1 u1 h in
+    let u2 = unchanged_on s0 s1 s2 u1 (c.in-Ok-true-are_maildrops_sound.ensures.same clean2 t1) in
+    leaves_on s0 s2 s3 (stays_unchanged s0 s2 u2) ready (leaves_on s0 s1 s2 (stays_unchanged s0 s1 u1) ready (c.are_clerks_sound.ensures.stop clean1 ready) (c.are_maildrops_sound.ensures.stop clean2)) (c.are_rules_sound.ensures.stop clean3)
+
+pub returns-in-Ok-false-are_rules_sound-clause-same : goal.returns-in-Ok-false-are_rules_sound-clause-same
+returns-in-Ok-false-are_rules_sound-clause-same g c clean3 h =
+    let s0 = state g.S.Store c.args.conn.now in
+    let s1 = state g.S.Store c.are_clerks_sound.new.conn in
+    let s2 = state g.S.Store c.are_maildrops_sound.new.conn in
+    let s3 = state g.S.Store c.are_rules_sound.new.conn in
+    let clean2 = c.are_rules_sound.ensures.clean clean3 in
+    let clean1 = c.are_maildrops_sound.ensures.clean clean2 in
+    let u1 = c.in-Ok-true.ensures.same clean1 h in
+    let t1 = tables_on s0 s1 u1 h in
+    let u2 = unchanged_on s0 s1 s2 u1 (c.in-Ok-true-are_maildrops_sound.ensures.same clean2 t1) in
+    let t2 = tables_on s0 s2 u2 h in
+    unchanged_on s0 s2 s3 u2 (c.in-Ok-false-are_rules_sound.ensures.same clean3 t2)
+
+pub returns-in-Err-are_rules_sound-clause-err : goal.returns-in-Err-are_rules_sound-clause-err
+returns-in-Err-are_rules_sound-clause-err g c clean3 h =
+    let s0 = state g.S.Store c.args.conn.now in
+    let s1 = state g.S.Store c.are_clerks_sound.new.conn in
+    let s2 = state g.S.Store c.are_maildrops_sound.new.conn in
+    let s3 = state g.S.Store c.are_rules_sound.new.conn in
+    let clean2 = c.are_rules_sound.ensures.clean clean3 in
+    let clean1 = c.are_maildrops_sound.ensures.clean clean2 in
+    let u1 = c.in-Ok-true.ensures.same clean1 h in
+    let t1 = tables_on s0 s1 u1 h in
+    let u2 = unchanged_on s0 s1 s2 u1 (c.in-Ok-true-are_maildrops_sound.ensures.same clean2 t1) in
+    let t2 = tables_on s0 s2 u2 h in
+    undone_on s0 s2 s3 u2 (c.in-Err-are_rules_sound.ensures.err clean3 t2)
+
+pub returns-in-Ok-false-are_rules_sound-clause-judged : goal.returns-in-Ok-false-are_rules_sound-clause-judged
+returns-in-Ok-false-are_rules_sound-clause-judged g c clean3 h marks =
+    let s0 = state g.S.Store c.args.conn.now in
+    let s1 = state g.S.Store c.are_clerks_sound.new.conn in
+    let s2 = state g.S.Store c.are_maildrops_sound.new.conn in
+    let all = rows_in s0.now.trees in
+    let clean2 = c.are_rules_sound.ensures.clean clean3 in
+    let clean1 = c.are_maildrops_sound.ensures.clean clean2 in
+    let u1 = c.in-Ok-true.ensures.same clean1 h in
+    let t1 = tables_on s0 s1 u1 h in
+    let u2 = unchanged_on s0 s1 s2 u1 (c.in-Ok-true-are_maildrops_sound.ensures.same clean2 t1) in
+    let t2 = tables_on s0 s2 u2 h in
+    let r2 : rows_in s2.now.trees ≡ all = rows_on s0 s2 u2 in
+    let none = subst (Finds (PolicyIs all)) c.in-Ok-false-are_rules_sound.field-0-test (subst (λ r. Finds (PolicyIs r) c.in-Ok-false-are_rules_sound.field-0) r2 (c.in-Ok-false-are_rules_sound.ensures.judged clean3 t2)) in
+    λ held k. let p = parts all held k in none p.0.0.1 p.1.0.1
+
+pub returns-in-Ok-false-are_deposits_sound-clause-clean : goal.returns-in-Ok-false-are_deposits_sound-clause-clean
+returns-in-Ok-false-are_deposits_sound-clause-clean g c clean4 =
+    let clean3 = c.are_deposits_sound.ensures.clean clean4 in
+    let clean2 = c.are_rules_sound.ensures.clean clean3 in
+    let clean1 = c.are_maildrops_sound.ensures.clean clean2 in
+    c.are_clerks_sound.ensures.clean clean1
+
+pub returns-in-Err-are_deposits_sound-clause-clean : goal.returns-in-Err-are_deposits_sound-clause-clean
+returns-in-Err-are_deposits_sound-clause-clean g c clean4 =
+    let clean3 = c.are_deposits_sound.ensures.clean clean4 in
+    let clean2 = c.are_rules_sound.ensures.clean clean3 in
+    let clean1 = c.are_maildrops_sound.ensures.clean clean2 in
+    c.are_clerks_sound.ensures.clean clean1
+
+pub returns-in-Ok-false-are_deposits_sound-clause-stop : goal.returns-in-Ok-false-are_deposits_sound-clause-stop
+returns-in-Ok-false-are_deposits_sound-clause-stop g c clean4 ready =
+    let s0 = state g.S.Store c.args.conn.now in
+    let s1 = state g.S.Store c.are_clerks_sound.new.conn in
+    let s2 = state g.S.Store c.are_maildrops_sound.new.conn in
+    let s3 = state g.S.Store c.are_rules_sound.new.conn in
+    let s4 = state g.S.Store c.are_deposits_sound.new.conn in
+    let clean3 = c.are_deposits_sound.ensures.clean clean4 in
+    let clean2 = c.are_rules_sound.ensures.clean clean3 in
+    let clean1 = c.are_maildrops_sound.ensures.clean clean2 in
+    let h = tables_of s0 ready in
+    let u1 = c.in-Ok-true.ensures.same clean1 h in
+    let t1 = tables_on s0 s1 u1 h in
+    let u2 = unchanged_on s0 s1 s2 u1 (c.in-Ok-true-are_maildrops_sound.ensures.same clean2 t1) in
+    let t2 = tables_on s0 s2 u2 h in
+    let u3 = unchanged_on s0 s2 s3 u2 (c.in-Ok-true-are_rules_sound.ensures.same clean3 t2) in
+    leaves_on s0 s3 s4 (stays_unchanged s0 s3 u3) ready (leaves_on s0 s2 s3 (stays_unchanged s0 s2 u2) ready (leaves_on s0 s1 s2 (stays_unchanged s0 s1 u1) ready (c.are_clerks_sound.ensures.stop clean1 ready) (c.are_maildrops_sound.ensures.stop clean2)) (c.are_rules_sound.ensures.stop clean3)) (c.are_deposits_sound.ensures.stop clean4)
+
+pub returns-in-Err-are_deposits_sound-clause-stop : goal.returns-in-Err-are_deposits_sound-clause-stop
+returns-in-Err-are_deposits_sound-clause-stop g c clean4 ready =
+    let s0 = state g.S.Store c.args.conn.now in
+    let s1 = state g.S.Store c.are_clerks_sound.new.conn in
+    let s2 = state g.S.Store c.are_maildrops_sound.new.conn in
+    let s3 = state g.S.Store c.are_rules_sound.new.conn in
+    let s4 = state g.S.Store c.are_deposits_sound.new.conn in
+    let clean3 = c.are_deposits_sound.ensures.clean clean4 in
+    let clean2 = c.are_rules_sound.ensures.clean clean3 in
+    let clean1 = c.are_maildrops_sound.ensures.clean clean2 in
+    let h = tables_of s0 ready in
+    let u1 = c.in-Ok-true.ensures.same clean1 h in
+    let t1 = tables_on s0 s1 u1 h in
+    let u2 = unchanged_on s0 s1 s2 u1 (c.in-Ok-true-are_maildrops_sound.ensures.same clean2 t1) in
+    let t2 = tables_on s0 s2 u2 h in
+    let u3 = unchanged_on s0 s2 s3 u2 (c.in-Ok-true-are_rules_sound.ensures.same clean3 t2) in
+    leaves_on s0 s3 s4 (stays_unchanged s0 s3 u3) ready (leaves_on s0 s2 s3 (stays_unchanged s0 s2 u2) ready (leaves_on s0 s1 s2 (stays_unchanged s0 s1 u1) ready (c.are_clerks_sound.ensures.stop clean1 ready) (c.are_maildrops_sound.ensures.stop clean2)) (c.are_rules_sound.ensures.stop clean3)) (c.are_deposits_sound.ensures.stop clean4)
+
+pub returns-in-Ok-false-are_deposits_sound-clause-same : goal.returns-in-Ok-false-are_deposits_sound-clause-same
+returns-in-Ok-false-are_deposits_sound-clause-same g c clean4 h =
+    let s0 = state g.S.Store c.args.conn.now in
+    let s1 = state g.S.Store c.are_clerks_sound.new.conn in
+    let s2 = state g.S.Store c.are_maildrops_sound.new.conn in
+    let s3 = state g.S.Store c.are_rules_sound.new.conn in
+    let s4 = state g.S.Store c.are_deposits_sound.new.conn in
+    let clean3 = c.are_deposits_sound.ensures.clean clean4 in
+    let clean2 = c.are_rules_sound.ensures.clean clean3 in
+    let clean1 = c.are_maildrops_sound.ensures.clean clean2 in
+    let u1 = c.in-Ok-true.ensures.same clean1 h in
+    let t1 = tables_on s0 s1 u1 h in
+    let u2 = unchanged_on s0 s1 s2 u1 (c.in-Ok-true-are_maildrops_sound.ensures.same clean2 t1) in
+    let t2 = tables_on s0 s2 u2 h in
+    let u3 = unchanged_on s0 s2 s3 u2 (c.in-Ok-true-are_rules_sound.ensures.same clean3 t2) in
+    let t3 = tables_on s0 s3 u3 h in
+    unchanged_on s0 s3 s4 u3 (c.in-Ok-false-are_deposits_sound.ensures.same clean4 t3)
+
+pub returns-in-Err-are_deposits_sound-clause-err : goal.returns-in-Err-are_deposits_sound-clause-err
+returns-in-Err-are_deposits_sound-clause-err g c clean4 h =
+    let s0 = state g.S.Store c.args.conn.now in
+    let s1 = state g.S.Store c.are_clerks_sound.new.conn in
+    let s2 = state g.S.Store c.are_maildrops_sound.new.conn in
+    let s3 = state g.S.Store c.are_rules_sound.new.conn in
+    let s4 = state g.S.Store c.are_deposits_sound.new.conn in
+    let clean3 = c.are_deposits_sound.ensures.clean clean4 in
+    let clean2 = c.are_rules_sound.ensures.clean clean3 in
+    let clean1 = c.are_maildrops_sound.ensures.clean clean2 in
+    let u1 = c.in-Ok-true.ensures.same clean1 h in
+    let t1 = tables_on s0 s1 u1 h in
+    let u2 = unchanged_on s0 s1 s2 u1 (c.in-Ok-true-are_maildrops_sound.ensures.same clean2 t1) in
+    let t2 = tables_on s0 s2 u2 h in
+    let u3 = unchanged_on s0 s2 s3 u2 (c.in-Ok-true-are_rules_sound.ensures.same clean3 t2) in
+    let t3 = tables_on s0 s3 u3 h in
+    undone_on s0 s3 s4 u3 (c.in-Err-are_deposits_sound.ensures.err clean4 t3)
+
+pub returns-in-Ok-false-are_deposits_sound-clause-judged : goal.returns-in-Ok-false-are_deposits_sound-clause-judged
+returns-in-Ok-false-are_deposits_sound-clause-judged g c clean4 h marks =
+    let s0 = state g.S.Store c.args.conn.now in
+    let s1 = state g.S.Store c.are_clerks_sound.new.conn in
+    let s2 = state g.S.Store c.are_maildrops_sound.new.conn in
+    let s3 = state g.S.Store c.are_rules_sound.new.conn in
+    let all = rows_in s0.now.trees in
+    let clean3 = c.are_deposits_sound.ensures.clean clean4 in
+    let clean2 = c.are_rules_sound.ensures.clean clean3 in
+    let clean1 = c.are_maildrops_sound.ensures.clean clean2 in
+    let u1 = c.in-Ok-true.ensures.same clean1 h in
+    let t1 = tables_on s0 s1 u1 h in
+    let u2 = unchanged_on s0 s1 s2 u1 (c.in-Ok-true-are_maildrops_sound.ensures.same clean2 t1) in
+    let t2 = tables_on s0 s2 u2 h in
+    let u3 = unchanged_on s0 s2 s3 u2 (c.in-Ok-true-are_rules_sound.ensures.same clean3 t2) in
+    let t3 = tables_on s0 s3 u3 h in
+    let apart : AreApart all = c.keys_hold.ensures.apart (u1.0.was_open, h u1.0.was_open) in
+    let r3 : rows_in s3.now.trees ≡ all = rows_on s0 s3 u3 in
+    let none = subst (Finds (DepositsAre all)) c.in-Ok-false-are_deposits_sound.field-0-test (subst (λ r. Finds (DepositsAre r) c.in-Ok-false-are_deposits_sound.field-0) r3 (c.in-Ok-false-are_deposits_sound.ensures.judged clean4 t3 (subst AreApart (sym r3) apart))) in
+    λ held k. let p = parts all held k in none p.0.1.0 p.1.1.0
+
+pub returns-in-Ok-true-are_deposits_sound-clause-clean : goal.returns-in-Ok-true-are_deposits_sound-clause-clean
+returns-in-Ok-true-are_deposits_sound-clause-clean g c clean5 =
+    let clean4 = c.are_messages_sound.ensures.clean clean5 in
+    let clean3 = c.are_deposits_sound.ensures.clean clean4 in
+    let clean2 = c.are_rules_sound.ensures.clean clean3 in
+    let clean1 = c.are_maildrops_sound.ensures.clean clean2 in
+    c.are_clerks_sound.ensures.clean clean1
+
+pub returns-in-Ok-true-are_deposits_sound-clause-stop : goal.returns-in-Ok-true-are_deposits_sound-clause-stop
+returns-in-Ok-true-are_deposits_sound-clause-stop g c clean5 ready =
+    let s0 = state g.S.Store c.args.conn.now in
+    let s1 = state g.S.Store c.are_clerks_sound.new.conn in
+    let s2 = state g.S.Store c.are_maildrops_sound.new.conn in
+    let s3 = state g.S.Store c.are_rules_sound.new.conn in
+    let s4 = state g.S.Store c.are_deposits_sound.new.conn in
+    let s5 = state g.S.Store c.are_messages_sound.new.conn in
+    let clean4 = c.are_messages_sound.ensures.clean clean5 in
+    let clean3 = c.are_deposits_sound.ensures.clean clean4 in
+    let clean2 = c.are_rules_sound.ensures.clean clean3 in
+    let clean1 = c.are_maildrops_sound.ensures.clean clean2 in
+    let h = tables_of s0 ready in
+    let u1 = c.in-Ok-true.ensures.same clean1 h in
+    let t1 = tables_on s0 s1 u1 h in
+    let u2 = unchanged_on s0 s1 s2 u1 (c.in-Ok-true-are_maildrops_sound.ensures.same clean2 t1) in
+    let t2 = tables_on s0 s2 u2 h in
+    let u3 = unchanged_on s0 s2 s3 u2 (c.in-Ok-true-are_rules_sound.ensures.same clean3 t2) in
+    let t3 = tables_on s0 s3 u3 h in
+    let u4 = unchanged_on s0 s3 s4 u3 (c.in-Ok-true-are_deposits_sound.ensures.same clean4 t3) in
+    leaves_on s0 s4 s5 (stays_unchanged s0 s4 u4) ready (leaves_on s0 s3 s4 (stays_unchanged s0 s3 u3) ready (leaves_on s0 s2 s3 (stays_unchanged s0 s2 u2) ready (leaves_on s0 s1 s2 (stays_unchanged s0 s1 u1) ready (c.are_clerks_sound.ensures.stop clean1 ready) (c.are_maildrops_sound.ensures.stop clean2)) (c.are_rules_sound.ensures.stop clean3)) (c.are_deposits_sound.ensures.stop clean4)) (c.are_messages_sound.ensures.stop clean5)
+
+pub returns-in-Ok-true-are_deposits_sound-clause-same : goal.returns-in-Ok-true-are_deposits_sound-clause-same
+returns-in-Ok-true-are_deposits_sound-clause-same g c clean5 h =
+    let s0 = state g.S.Store c.args.conn.now in
+    let s1 = state g.S.Store c.are_clerks_sound.new.conn in
+    let s2 = state g.S.Store c.are_maildrops_sound.new.conn in
+    let s3 = state g.S.Store c.are_rules_sound.new.conn in
+    let s4 = state g.S.Store c.are_deposits_sound.new.conn in
+    let s5 = state g.S.Store c.are_messages_sound.new.conn in
+    let clean4 = c.are_messages_sound.ensures.clean clean5 in
+    let clean3 = c.are_deposits_sound.ensures.clean clean4 in
+    let clean2 = c.are_rules_sound.ensures.clean clean3 in
+    let clean1 = c.are_maildrops_sound.ensures.clean clean2 in
+    let u1 = c.in-Ok-true.ensures.same clean1 h in
+    let t1 = tables_on s0 s1 u1 h in
+    let u2 = unchanged_on s0 s1 s2 u1 (c.in-Ok-true-are_maildrops_sound.ensures.same clean2 t1) in
+    let t2 = tables_on s0 s2 u2 h in
+    let u3 = unchanged_on s0 s2 s3 u2 (c.in-Ok-true-are_rules_sound.ensures.same clean3 t2) in
+    let t3 = tables_on s0 s3 u3 h in
+    let u4 = unchanged_on s0 s3 s4 u3 (c.in-Ok-true-are_deposits_sound.ensures.same clean4 t3) in
+    let t4 = tables_on s0 s4 u4 h in
+    same_after s0 s4 s5 c.are_messages_sound.result u4 (c.are_messages_sound.ensures.same clean5 t4)
+
+pub returns-in-Ok-true-are_deposits_sound-clause-err : goal.returns-in-Ok-true-are_deposits_sound-clause-err
+returns-in-Ok-true-are_deposits_sound-clause-err g c clean5 h =
+    let s0 = state g.S.Store c.args.conn.now in
+    let s1 = state g.S.Store c.are_clerks_sound.new.conn in
+    let s2 = state g.S.Store c.are_maildrops_sound.new.conn in
+    let s3 = state g.S.Store c.are_rules_sound.new.conn in
+    let s4 = state g.S.Store c.are_deposits_sound.new.conn in
+    let s5 = state g.S.Store c.are_messages_sound.new.conn in
+    let clean4 = c.are_messages_sound.ensures.clean clean5 in
+    let clean3 = c.are_deposits_sound.ensures.clean clean4 in
+    let clean2 = c.are_rules_sound.ensures.clean clean3 in
+    let clean1 = c.are_maildrops_sound.ensures.clean clean2 in
+    let u1 = c.in-Ok-true.ensures.same clean1 h in
+    let t1 = tables_on s0 s1 u1 h in
+    let u2 = unchanged_on s0 s1 s2 u1 (c.in-Ok-true-are_maildrops_sound.ensures.same clean2 t1) in
+    let t2 = tables_on s0 s2 u2 h in
+    let u3 = unchanged_on s0 s2 s3 u2 (c.in-Ok-true-are_rules_sound.ensures.same clean3 t2) in
+    let t3 = tables_on s0 s3 u3 h in
+    let u4 = unchanged_on s0 s3 s4 u3 (c.in-Ok-true-are_deposits_sound.ensures.same clean4 t3) in
+    let t4 = tables_on s0 s4 u4 h in
+    err_after s0 s4 s5 c.are_messages_sound.result u4 (c.are_messages_sound.ensures.err clean5 t4)
+
+pub returns-in-Ok-true-are_deposits_sound-clause-judged : goal.returns-in-Ok-true-are_deposits_sound-clause-judged
+returns-in-Ok-true-are_deposits_sound-clause-judged g c clean5 h marks =
+    let s0 = state g.S.Store c.args.conn.now in
+    let s1 = state g.S.Store c.are_clerks_sound.new.conn in
+    let s2 = state g.S.Store c.are_maildrops_sound.new.conn in
+    let s3 = state g.S.Store c.are_rules_sound.new.conn in
+    let s4 = state g.S.Store c.are_deposits_sound.new.conn in
+    let all = rows_in s0.now.trees in
+    let clean4 = c.are_messages_sound.ensures.clean clean5 in
+    let clean3 = c.are_deposits_sound.ensures.clean clean4 in
+    let clean2 = c.are_rules_sound.ensures.clean clean3 in
+    let clean1 = c.are_maildrops_sound.ensures.clean clean2 in
+    let u1 = c.in-Ok-true.ensures.same clean1 h in
+    let t1 = tables_on s0 s1 u1 h in
+    let u2 = unchanged_on s0 s1 s2 u1 (c.in-Ok-true-are_maildrops_sound.ensures.same clean2 t1) in
+    let t2 = tables_on s0 s2 u2 h in
+    let u3 = unchanged_on s0 s2 s3 u2 (c.in-Ok-true-are_rules_sound.ensures.same clean3 t2) in
+    let t3 = tables_on s0 s3 u3 h in
+    let u4 = unchanged_on s0 s3 s4 u3 (c.in-Ok-true-are_deposits_sound.ensures.same clean4 t3) in
+    let t4 = tables_on s0 s4 u4 h in
+    let apart : AreApart all = c.keys_hold.ensures.apart (u1.0.was_open, h u1.0.was_open) in
+    let r1 : rows_in s1.now.trees ≡ all = rows_on s0 s1 u1 in
+    let r2 : rows_in s2.now.trees ≡ all = rows_on s0 s2 u2 in
+    let r3 : rows_in s3.now.trees ≡ all = rows_on s0 s3 u3 in
+    let r4 : rows_in s4.now.trees ≡ all = rows_on s0 s4 u4 in
+    let clerks = subst (Finds (ClerksAre all)) c.in-Ok-true.field-0-test (c.in-Ok-true.ensures.judged clean1 h apart) in
+    let maildrops = subst (Finds (MaildropsAre all)) c.in-Ok-true-are_maildrops_sound.field-0-test (subst (λ r. Finds (MaildropsAre r) c.in-Ok-true-are_maildrops_sound.field-0) r1 (c.in-Ok-true-are_maildrops_sound.ensures.judged clean2 t1 (subst AreApart (sym r1) apart))) in
+    let policy = subst (Finds (PolicyIs all)) c.in-Ok-true-are_rules_sound.field-0-test (subst (λ r. Finds (PolicyIs r) c.in-Ok-true-are_rules_sound.field-0) r2 (c.in-Ok-true-are_rules_sound.ensures.judged clean3 t2)) in
+    let lists : Finds (ListsAre all) true = (((clerks.0, maildrops.0), policy.0), ((clerks.1, maildrops.1), policy.1)) in
+    let own = own_maildrops all maildrops.0 maildrops.1 in
+    let mail : IfOk c.are_messages_sound.result (Finds (MailIs all)) = chained_ok (DepositsAre all) (MessagesAre all) c.in-Ok-true-are_deposits_sound.field-0 c.are_messages_sound.result
+    (subst (λ r. Finds (DepositsAre r) c.in-Ok-true-are_deposits_sound.field-0) r3 (c.in-Ok-true-are_deposits_sound.ensures.judged clean4 t3 (subst AreApart (sym r3) apart))) c.in-Ok-true-are_deposits_sound.field-0-test
+    (λ x p. subst (λ r. IfOk c.are_messages_sound.result (Finds (MessagesAre r x))) r4
+    (c.are_messages_sound.ensures.judged x clean5 t4 (subst AreApart (sym r4) apart) (subst (λ r. MaildropsAre r r.maildrops) (sym r4) own) (subst (λ r. DepositsAre r x) (sym r4) p))) in
+    finds_so (λ (xy : Lists all × Mail all). ListsAre all xy.0 × MailIs all xy.1) (Keeps all) c.are_messages_sound.result (whole all marks) (parts all)
+    (chained_ok (ListsAre all) (λ _. MailIs all) true c.are_messages_sound.result lists refl (λ x p. mail))
