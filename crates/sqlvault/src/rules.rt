@@ -1,5 +1,5 @@
 //! The rules of the policy.
-ghost use Rattle.std.specs.Prelude.{◌≡◌, true, pos, List, [], ◌∷◌, ◌++◌, map, Some, IfOk, IfSome, OnOk};
+ghost use Rattle.std.specs.Prelude.{◌≡◌, true, pos, List, [], ◌∷◌, ◌++◌, map, Some, IfOk, IfSome, IsSomeAnd, OnOk};
 ghost use Rattle.std.specs.List.{list_all};
 ghost use Rattle.sqlite.specs.Held.{state};
 ghost use Rattle.sqlite.specs.State.{HasCleanDisk};
@@ -21,7 +21,7 @@ use creds::Name;
 use mailsql::{mode, rows, rules};
 use policy::{Actions, Effect, Pattern, Policy, Rule};
 use sqlite::{Alter, Connection, Error};
-use std::alloc::Global;
+use std::alloc::{AllocError, Global};
 
 fn pattern_text(pattern: &Pattern) -> &[u8]
     ensures { result.now ≡ pattern_text pattern.now }
@@ -94,7 +94,7 @@ fn read_actions(number: i64) -> Option<Actions>
 }
 
 /// The rule of a row, wherever it stands; `None` where the row is no rule's.
-pub(crate) fn read_rule(row: &rows::Rule) -> Option<Rule>
+fn read_rule(row: &rows::Rule) -> Option<Rule>
     ensures row { IfSome result (λ r. at_place (pos 0) row.now ≡ rule_row (pos 0) r) }
     ensures read { (r : rule.Rule) → is_sound_rule r ≡ true → at_place (pos 0) row.now ≡ rule_row (pos 0) r → result ≡ Some r }
 {
@@ -108,34 +108,30 @@ pub(crate) fn read_rule(row: &rows::Rule) -> Option<Rule>
     })
 }
 
-/// Reads a row behind the rules.
-fn push_rule(rules: &mut Vec<Rule>, row: &rows::Rule) -> Result<(), Error>
-    ensures { (r : rule.Rule) → is_sound_rule r ≡ true → at_place (pos 0) row.now ≡ rule_row (pos 0) r → OnOk result (rules.new.items ≡ rules.old.items ++ r ∷ []) }
-{
-    let Some(rule) = read_rule(row) else {
-        return Err(unreadable());
-    };
-    rules.extend_from_slice(&[rule])?;
-    Ok(())
-}
-
-/// The rules of the rows, in order.
-fn read_rules(alloc: Global, rows: &[rows::Rule]) -> Result<Vec<Rule>, Error>
-    ensures { (rs : List rule.Rule) → list_all is_sound_rule rs ≡ true → map (at_place (pos 0)) rows.now ≡ map (rule_row (pos 0)) rs → IfOk result (λ read. read.items ≡ rs) }
+/// The rules of the rows, in order; `None` where a row is no sound rule's.
+pub(crate) fn rules_of(alloc: Global, rows: &[rows::Rule]) -> Result<Option<Vec<Rule>>, AllocError>
+    ensures rows { IfOk result (λ read. IfSome read (λ rules. map (at_place (pos 0)) rows.now ≡ map (rule_row (pos 0)) rules.items)) }
+    ensures all { (rs : List rule.Rule) → list_all is_sound_rule rs ≡ true → map (at_place (pos 0)) rows.now ≡ map (rule_row (pos 0)) rs → IfOk result (λ read. IsSomeAnd read (λ rules. rules.items ≡ rs)) }
 {
     let mut rules = Vec::new(alloc);
     for row in rows {
-        push_rule(&mut rules, row)?;
+        let Some(rule) = read_rule(row) else {
+            return Ok(None);
+        };
+        rules.extend_from_slice(&[rule])?;
     }
-    Ok(rules)
+    Ok(Some(rules))
 }
 
 /// The policy of the rows.
 fn read_policy(alloc: Global, rows: &[rows::Rule]) -> Result<Policy, Error>
     ensures { (p : Policy) → is_sound_policy p ≡ true → map (at_place (pos 0)) rows.now ≡ map (rule_row (pos 0)) p.rules → IfOk result (λ read. read ≡ p) }
 {
-    match Policy::from_rules(read_rules(alloc, rows)?) {
-        Some(policy) => Ok(policy),
+    match rules_of(alloc, rows)? {
+        Some(rules) => match Policy::from_rules(rules) {
+            Some(policy) => Ok(policy),
+            None => Err(unreadable()),
+        },
         None => Err(unreadable()),
     }
 }

@@ -10,26 +10,11 @@ ghost use Rattle.sqlvault.specs.Keeps.{rule_row, at_place};
 ghost use Rattle.sqlvault.specs.Parts.{Finds, PolicyIs};
 ghost use Rattle.sqlvault.specs.Stands.{WasClean, LeavesNoMore};
 
-use crate::rules::read_rule;
+use crate::rules::rules_of;
 use mailsql::{rows, rules};
-use policy::{Policy, Rule};
+use policy::Policy;
 use sqlite::{Alter, Connection, Error};
 use std::alloc::{AllocError, Global};
-
-/// The rules of the rows, in order; `None` where a row is no sound rule's.
-fn rules_of(alloc: Global, rows: &[rows::Rule]) -> Result<Option<Vec<Rule>>, AllocError>
-    ensures rows { IfOk result (λ read. IfSome read (λ rules. map (at_place (pos 0)) rows.now ≡ map (rule_row (pos 0)) rules.items)) }
-    ensures all { (rs : List rule.Rule) → list_all is_sound_rule rs ≡ true → map (at_place (pos 0)) rows.now ≡ map (rule_row (pos 0)) rs → IfOk result (λ read. IsSomeAnd read (λ rules. rules.items ≡ rs)) }
-{
-    let mut rules = Vec::new(alloc);
-    for row in rows {
-        let Some(rule) = read_rule(row) else {
-            return Ok(None);
-        };
-        rules.extend_from_slice(&[rule])?;
-    }
-    Ok(Some(rules))
-}
 
 /// Whether the rows are those of a policy.
 fn are_rules(alloc: Global, rows: &[rows::Rule]) -> Result<bool, AllocError>

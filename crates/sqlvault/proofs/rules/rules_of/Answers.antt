@@ -4,7 +4,7 @@ use Rattle.policy.specs.Policy.{is_sound_rule}
 use Rattle.sqlvault.specs.Keeps.{rule_row}
 use Rattle.sqlvault.proofs.RuleLemmas.{all_at, row_at}
 use Rattle.sqlvault.proofs.RowFormLemmas.{rows_more, items_more}
-use Rattle.sqlvault.proofs.sound_rules.rules_of.Goals as goal
+use Rattle.sqlvault.proofs.rules.rules_of.Goals as goal
 
 pub loop-row-init : goal.loop-row-init
 loop-row-init c = (sym (ap (map (rule_row (pos 0))) c.new-rules.ensures.items), λ rs sound same. c.new-rules.ensures.items)
