@@ -1,5 +1,9 @@
 -- A test of each element of a list, one after the other.
-use Rattle.std.proofs.Common.{◌≡◌, ℕ, ◌+◌, ◌<◌, ◌≤◌, min, List, length, take, get_or, sym, ap, subst, ◌∙◌, arith}
+use Rattle.std.specs.List.{list_all}
+use Rattle.std.proofs.lemmas.List.Folds.{list_all_at}
+use Rattle.sqlvault.proofs.RuleLemmas.{take_next}
+use Rattle.vault.proofs.ListLemmas.{all_last}
+use Rattle.std.proofs.Common.{◌≡◌, Bool, true, false, ℕ, ◌+◌, ◌<◌, ◌≤◌, min, List, length, take, get_or, sym, ap, subst, ◌∙◌, arith}
 use Rattle.std.specs.Prelude.{All, filter, sum_by}
 use Rattle.std.proofs.lemmas.List.{take_all}
 use Rattle.std.proofs.lemmas.List.Elements.{All-more}
@@ -43,3 +47,14 @@ maildrop_sound rows deposits d shown is few all = (subst (λ (l : List Message).
 
 pub maildrop_unsound : (rows : Rows) (deposits : List Receipt) (d : List ℕ) (shown : List Message) → shown ≡ filter (is_in d) rows.messages → (All (HasMessage rows deposits) shown → ⊥) → IsSoundIn rows deposits d → ⊥
 maildrop_unsound rows deposits d shown is fails s = fails (subst (All (HasMessage rows deposits)) (sym is) s.1)
+
+-- ---- tests that answer a Bool
+
+pub all_next : {X : Type 0} (p : X → Bool) (xs : List X) (i : ℕ) (x : X) → i < length xs → x ≡ get_or xs i x → list_all p (take i xs) ≡ true → p x ≡ true → list_all p (take (i + 1) xs) ≡ true
+all_next p xs i x low is all passes = ap (list_all p) (take_next xs i x low is) ∙ all_last p (take i xs) x all passes
+
+pub all_fails : {X : Type 0} (p : X → Bool) (xs : List X) (i : ℕ) (x : X) → i < length xs → x ≡ get_or xs i x → p x ≡ false → list_all p xs ≡ false
+all_fails p xs i x low is fails = list_all_at p xs i x low (ap p (sym is) ∙ fails)
+
+pub all_each : {X : Type 0} (p : X → Bool) (xs : List X) (i : ℕ) → length xs ≤ i → list_all p (take i xs) ≡ true → list_all p xs ≡ true
+all_each p xs i end all = ap (list_all p) (sym (take_all i xs end)) ∙ all

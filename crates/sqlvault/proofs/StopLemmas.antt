@@ -114,3 +114,10 @@ done_told {A} {S} g expected old was new now c after r said e f same done h clea
 
 pub clean_told : {S : Type 0} (g : Ghosts S) (old was new now : Conn S) → was ≡ old → new ≡ now → (HasCleanDisk (state g now) → HasCleanDisk (state g was)) → HasCleanDisk (state g new) → HasCleanDisk (state g old)
 clean_told {S} g old was new now e f before clean = subst (λ (x : Conn S). HasCleanDisk (state g x)) e (before (subst (λ (x : Conn S). HasCleanDisk (state g x)) f clean))
+
+-- a call whose relation is this one
+pub done_by : {A S : Type 0} (g : Ghosts S) (Done : (Contents → Type 0) → Result A VaultFault → Type 0) (old was new now : Conn S) (c : Contents) (r said : Result A VaultFault) → was ≡ old → new ≡ now → r ≡ said
+    → (HasCleanDisk (state g now) → Holds (state g was) c → Done (Holds (state g now)) said) → Holds (state g old) c → HasCleanDisk (state g new) → Done (Holds (state g new)) r
+done_by {A} {S} g Done old was new now c r said e f same done h clean =
+    let it = done (subst (λ (x : Conn S). HasCleanDisk (state g x)) f clean) (subst (λ (x : Conn S). Holds (state g x) c) (sym e) h) in
+    subst (λ (a : Result A VaultFault). Done (Holds (state g new)) a) (sym same) (subst (λ (x : Conn S). Done (Holds (state g x)) said) (sym f) it)

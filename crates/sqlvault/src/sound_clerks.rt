@@ -30,7 +30,12 @@ fn is_maildrop(row: &Bytes) -> bool
 fn are_named(rows: &[Bytes]) -> bool
     ensures { result ≡ list_all is_name rows.now }
 {
-    rows.iter().all(|row| is_maildrop(row))
+    for row in rows {
+        if !is_maildrop(row) {
+            return false;
+        }
+    }
+    true
 }
 
 /// Whether the rows are those of maildrops, 1,000 at most.
@@ -51,7 +56,12 @@ fn is_clerk(row: &Clerk) -> bool
 fn each_is_clerk(rows: &[Clerk]) -> bool
     ensures { result ≡ list_all is_clerk_row rows.now }
 {
-    rows.iter().all(|row| is_clerk(row))
+    for row in rows {
+        if !is_clerk(row) {
+            return false;
+        }
+    }
+    true
 }
 
 /// Whether the rows are those of sound clerks, 1,000 at most.

@@ -211,3 +211,7 @@ returns-in-Err-find_deposit-clause-within g c u is =
 pub returns-in-Ok-false-clause-within : goal.returns-in-Ok-false-clause-within
 returns-in-Ok-false-clause-within g c u is =
     absurd (no_new _ u is)
+
+pub returns-in-Ok-Some-clause-within : goal.returns-in-Ok-Some-clause-within
+returns-in-Ok-Some-clause-within g c u is =
+    absurd (c.known_or_conflict.ensures.old u is)

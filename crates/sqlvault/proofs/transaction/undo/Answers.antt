@@ -1,6 +1,6 @@
 use Rattle.sqlvault.proofs.WithinLemmas.{autocommit_holds, undone_holds, inside_under, gone_outside, gone_back, inside_of}
 use Rattle.sqlvault.proofs.AdoptLemmas.{outside}
-use Rattle.std.proofs.Common.{inl, refl, sym, ◌∙◌, arith}
+use Rattle.std.proofs.Common.{inl, refl, sym, ◌∙◌, arith, inr}
 use Rattle.sqlite.specs.Held.{state}
 use Rattle.sqlvault.proofs.transaction.undo.Goals as goal
 
@@ -73,3 +73,7 @@ returns-else-is_memory-clause-told g c =
 pub returns-in-Ok-clause-told : goal.returns-in-Ok-clause-told
 returns-in-Ok-clause-told g c =
     inl refl
+
+pub returns-then-is_memory-clause-told : goal.returns-then-is_memory-clause-told
+returns-then-is_memory-clause-told g c =
+    inr (sym c.is_memory.ensures ∙ c.if-is_memory.true)
