@@ -4,10 +4,10 @@ use Rattle.mailsql.specs.Tables.{no_schema}
 use Rattle.std.specs.Prelude.{IfOk, OnOk, OnErr}
 use Rattle.sqlite.specs.declared.error.Error.{Error}
 use Rattle.sqlite.specs.Effect.{Database}
-use Rattle.sqlite.specs.State.{State, Shows, IsUnchanged, IsRolledBack}
+use Rattle.sqlite.specs.State.{State, Shows, IsUnchanged}
 use Rattle.mailsql.specs.Rows.{Rows, rows_in, IsOurs, IsKept, HasTables, IsUndone, IsHalted, IsGone, GoesOn}
 use Rattle.std.proofs.Common.{ℕ, arith, cond, not}
-use Rattle.std.specs.Prelude.{codes, find, Option, Some, None}
+use Rattle.std.specs.Prelude.{codes, find, Some, None}
 use Rattle.std.specs.List.{list_all}
 use Rattle.policy.specs.Policy.{Policy}
 use Rattle.vault.specs.declared.record.Clerk.{Clerk}

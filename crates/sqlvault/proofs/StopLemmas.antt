@@ -1,8 +1,6 @@
 -- What a stop leaves after each statement of a call, and after the call.
-use Rattle.std.proofs.Common.{◌≡◌, ◌⊎◌, inl, inr, ℕ, List, Bool, true, false, cond, IsTrue, Result, Ok, Err, sym, ap, subst, ◌∙◌}
+use Rattle.std.proofs.Common.{◌≡◌, ◌⊎◌, inl, inr, ℕ, List, Bool, true, false, cond, IsTrue, Result, Ok, Err, sym, subst}
 use Rattle.sqlite_trees.specs.declared.store.Store.{Ghosts}
-use Rattle.sqlite_trees.specs.Tree.{Trees}
-use Rattle.sqlite.specs.Effect.{Database}
 use Rattle.sqlite.specs.Held.{Held as Conn, state}
 use Rattle.sqlite.specs.declared.error.Error.{Error}
 use Rattle.sqlite.specs.State.{State, HasCleanDisk, Survives}
@@ -15,7 +13,7 @@ use Rattle.vault.specs.Calls.{IsDone, IsDeposited}
 use Rattle.vault.specs.Stops.{SaySame, IsOwn}
 use Rattle.mailsql.specs.Rows.{Rows, rows_in, IsOurs, MayLeave}
 use Rattle.sqlvault.specs.Keeps.{Keeps}
-use Rattle.sqlvault.specs.Stands.{Holds, Leaves}
+use Rattle.sqlvault.specs.Stands.{Holds}
 use Rattle.sqlvault.specs.Refusals.{is_memory, fault_of}
 use Rattle.sqlvault.specs.Stops.{MayHold, LeavesLast, LeavesHeld, LeavesOr, StopsBefore, leaves_last}
 use Rattle.sqlvault.proofs.WithinLemmas.{leaves_on}

@@ -1,5 +1,5 @@
 -- What a stop may leave of a store over tables, after a call and after a part of one.
-use Rattle.std.specs.Prelude.{◌≡◌, ◌⊎◌, IsTrue, Result, Ok, Err, OnOk}
+use Rattle.std.specs.Prelude.{◌≡◌, ◌⊎◌, IsTrue, Result, Ok, OnOk}
 use Rattle.std.proofs.Common.{sym, ap, subst, ◌∙◌}
 use Rattle.sqlite_trees.specs.Tree.{Trees}
 use Rattle.sqlite.specs.declared.error.Error.{Error}
@@ -8,7 +8,7 @@ use Rattle.sqlite.specs.State.{State, HasCleanDisk}
 use Rattle.vault.specs.declared.fault.VaultFault.{VaultFault}
 use Rattle.vault.specs.Changes.{Contents}
 use Rattle.vault.specs.Stops.{SaySame, IsOwn}
-use Rattle.mailsql.specs.Rows.{Rows, rows_in}
+use Rattle.mailsql.specs.Rows.{rows_in}
 use Rattle.sqlvault.specs.Keeps.{Keeps}
 use Rattle.sqlvault.specs.Stands.{Holds, Leaves}
 

@@ -73,11 +73,7 @@ pub struct Mail {
 }
 
 /// Looks at the mail, and reads the message into the front of the buffer. An error is a refusal of any call.
-fn look<V: Vault>(
-    vault: &mut V,
-    stock: &Stock,
-    buffer: &mut [u8],
-) -> Result<Mail, VaultFault>
+fn look<V: Vault>(vault: &mut V, stock: &Stock, buffer: &mut [u8]) -> Result<Mail, VaultFault>
     ensures shown { (key : ℕ) → V.is_clean vault.new → V.holds vault.old (filled key stock.now) → IfOk result (ShowsMail stock.now buffer.new) }
     ensures key { (key : ℕ) → V.is_clean vault.new → V.holds vault.old (filled key stock.now) → IfOk result (λ mail. mail.key ≡ key) }
     ensures same { (key : ℕ) → V.is_clean vault.new → V.holds vault.old (filled key stock.now) → OnOk result (V.holds vault.new (filled key stock.now)) }
@@ -121,11 +117,7 @@ fn look_up<V: Vault>(vault: &mut V, stock: &Stock) -> Result<Kept, VaultFault>
 }
 
 /// Removes the message, and drops the clerk and the maildrop. Answers the heads that were left. An error is a refusal of any call.
-fn empty<V: Vault>(
-    vault: &mut V,
-    stock: &Stock,
-    key: MessageKey,
-) -> Result<Vec<Head>, VaultFault>
+fn empty<V: Vault>(vault: &mut V, stock: &Stock, key: MessageKey) -> Result<Vec<Head>, VaultFault>
     ensures none { V.is_clean vault.new → V.holds vault.old (filled key stock.now) → IfOk result (λ left. left.items ≡ []) }
     ensures held { V.is_clean vault.new → V.holds vault.old (filled key stock.now) → OnOk result (V.holds vault.new (emptied stock.now)) }
     ensures cause { V.is_clean vault.new → V.holds vault.old (filled key stock.now) → IfErr result IsOfAnyCall }
@@ -152,11 +144,7 @@ pub struct Seen {
 }
 
 /// Puts the stock into a store that holds nothing, looks at all of it, and takes it out again. An error is a refusal of any call.
-fn go_through<V: Vault>(
-    vault: &mut V,
-    stock: &Stock,
-    buffer: &mut [u8],
-) -> Result<Seen, VaultFault>
+fn go_through<V: Vault>(vault: &mut V, stock: &Stock, buffer: &mut [u8]) -> Result<Seen, VaultFault>
     ensures saw { V.is_clean vault.new → V.holds vault.old no_contents → IfOk result (Saw stock.now buffer.new) }
     ensures left { V.is_clean vault.new → V.holds vault.old no_contents → OnOk result (V.holds vault.new (emptied stock.now)) }
     ensures cause { V.is_clean vault.new → V.holds vault.old no_contents → IfErr result IsOfAnyCall }

@@ -1,4 +1,4 @@
-use Rattle.std.proofs.Common.{◌≡◌, sym, ap, subst, List, length, ◌∙◌, arith, rules, inl}
+use Rattle.std.proofs.Common.{◌≡◌, sym, ap, length, ◌∙◌, arith, rules, inl}
 use Rattle.sqlite.specs.Held.{state}
 use Rattle.sqlite.specs.State.{HasCleanDisk, IsUnchanged}
 use Rattle.mailsql.specs.Rows.{Rows, rows_in}

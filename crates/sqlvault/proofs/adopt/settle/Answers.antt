@@ -1,9 +1,8 @@
-use Rattle.std.proofs.Common.{◌≡◌, inl, inr, false, true, not, Bool, refl, sym, ap, ◌∙◌, true≢false}
+use Rattle.std.proofs.Common.{◌≡◌, inl, inr, false, sym, ◌∙◌, true≢false}
 use Rattle.std.specs.Prelude.{OnErr}
 use Rattle.sqlite.specs.Held.{state}
-use Rattle.sqlite.specs.State.{HasCleanDisk}
 use Rattle.mailsql.specs.Rows.{IsKept}
-use Rattle.sqlvault.specs.Adopts.{Adopts, IsKnown, IsBlank, StaysAs}
+use Rattle.sqlvault.specs.Adopts.{Adopts, IsKnown, StaysAs}
 use Rattle.sqlvault.specs.Refusals.{answer_of}
 use Rattle.sqlvault.proofs.AdoptLemmas.{outside, kinds_met, blank_of, kept_of, refused_met}
 use Rattle.sqlvault.proofs.adopt.settle.Goals as goal

@@ -31,8 +31,8 @@ returns-clause-made g c clean2 =
     (λ base rows w. step_ok (SetsCount row) (λ from to. ClearsCount row.maildrop row.class from to ⊎ SetsCount row from to) s0 s1 base rows clean1 (c.in-Ok.ensures.ok clean1) c.set_count.ensures.survives w)
     (makes (AddsDeposit put) (AddsDeposit put) s1 s2 c.add_deposit.result clean2 (c.add_deposit.ensures.ok clean2) (c.add_deposit.ensures.err clean2) c.add_deposit.ensures.survives (λ from to same. same))
     (λ from mid to set add.
-        receipt_put receipt row.maildrop row.class put.maildrop put.id put.class put.digest (to_z w64 receipt.k) from mid to c.as_bytes.ensures.value c.as_bytes-2.ensures.value c.as_bytes-3.ensures.value c.as_bytes-4.ensures.value
-            c.as_bytes-5.ensures.value c.as_slice.ensures (to_z_pos w64 receipt.k (omega arith)) set add)
+    receipt_put receipt row.maildrop row.class put.maildrop put.id put.class put.digest (to_z w64 receipt.k) from mid to c.as_bytes.ensures.value c.as_bytes-2.ensures.value c.as_bytes-3.ensures.value c.as_bytes-4.ensures.value
+    c.as_bytes-5.ensures.value c.as_slice.ensures (to_z_pos w64 receipt.k (omega arith)) set add)
 
 pub returns-clause-clean : goal.returns-clause-clean
 returns-clause-clean g c clean2 =
