@@ -1,17 +1,12 @@
 //! Taking over the tables of a connection.
-ghost use Rattle.std.specs.Prelude.{◌≡◌, true, false, IsTrue, IfOk, IfErr, OnOk, OnErr, Err, List, ℕ, [], ◌∷◌};
+ghost use Rattle.std.specs.Prelude.{◌≡◌, true, false, IsTrue, IfOk, IfErr, OnOk, OnErr, Err, [], ◌∷◌};
 ghost use Rattle.sqlite.specs.Held.{state};
 ghost use Rattle.sqlite.specs.State.{HasCleanDisk, IsUnchanged};
-ghost use Rattle.policy.specs.Policy.{Policy};
-ghost use Rattle.vault.specs.declared.record.Clerk as vault_clerk;
-ghost use Rattle.vault.specs.declared.record.Keyed as vault_keyed;
-ghost use Rattle.vault.specs.declared.record.Receipt as vault_receipt;
 ghost use Rattle.vault.specs.Plain.{no_contents};
 ghost use Rattle.mailsql.specs.Uses.{marked};
 ghost use Rattle.mailsql.specs.Rows.{HasTables, IsReady, IsUndone, IsHalted, IsBegun, GoesOn, rows_in, IsKept};
-ghost use Rattle.mailsql.specs.Apart.{AreApart};
 ghost use Rattle.sqlvault.specs.Keeps.{Keeps, our_mark, version};
-ghost use Rattle.sqlvault.specs.Parts.{Finds, ClerksAre, MaildropsAre, PolicyIs, DepositsAre, MessagesAre};
+ghost use Rattle.sqlvault.specs.Parts.{Finds};
 ghost use Rattle.sqlvault.specs.Adopts.{Adopts, IsBlank, IsKnown, StaysAs, LeavesEmptyToo, IsAdoptFault, IsMarked};
 ghost use Rattle.vault.specs.declared.fault.VaultFault.TheVariants.{NotOurs};
 ghost use Rattle.mailsql.specs.Names.{is_taken, has_marks};

@@ -1,5 +1,5 @@
 //! The rules of the policy.
-ghost use Rattle.std.specs.Prelude.{◌≡◌, true, pos, List, [], ◌∷◌, ◌++◌, map, Some, IfOk, IfSome, IsSomeAnd, OnOk};
+ghost use Rattle.std.specs.Prelude.{◌≡◌, true, pos, List, [], ◌∷◌, map, Some, IfOk, IfSome, IsSomeAnd};
 ghost use Rattle.std.specs.List.{list_all};
 ghost use Rattle.sqlite.specs.Held.{state};
 ghost use Rattle.sqlite.specs.State.{HasCleanDisk};

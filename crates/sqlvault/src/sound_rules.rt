@@ -1,8 +1,6 @@
 //! Whether the rows of the rules are a policy.
-ghost use Rattle.std.specs.Prelude.{◌≡◌, true, pos, List, map, IfOk, IfSome, IsSomeAnd, OnOk, OnErr};
-ghost use Rattle.std.specs.List.{list_all};
-ghost use Rattle.policy.specs.declared.rule.Rule as rule;
-ghost use Rattle.policy.specs.Policy.{is_sound_rule, is_sound_policy};
+ghost use Rattle.std.specs.Prelude.{◌≡◌, true, pos, map, IfOk, OnOk, OnErr};
+ghost use Rattle.policy.specs.Policy.{is_sound_policy};
 ghost use Rattle.sqlite.specs.Held.{state};
 ghost use Rattle.sqlite.specs.State.{HasCleanDisk, IsUnchanged};
 ghost use Rattle.mailsql.specs.Rows.{HasTables, IsReady, IsUndone, rows_in};
