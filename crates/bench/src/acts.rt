@@ -1,12 +1,14 @@
-//! The events that the measures of sessions are made of, one in each function, which has no clause: so a measure's proof
-//! carries none of the clauses of an office. The clerk `ann` may do everything in every maildrop.
+//! What the measures of an office do in it. The clerk `ann` may do everything in every maildrop.
 
+use crate::desk::Desk;
 use crate::fault::Fault;
+use crate::since;
 use creds::{Credential, DepositId, Name, pass_digest};
-use office::{AdminCommand, Answer, Event, Limits, Office, Outcome};
+use office::{AdminCommand, Event};
 use policy::Policy;
 use std::alloc::Global;
-use vault::Vault;
+use std::rt::Clock;
+use std::time::Instant;
 
 /// How many octets are taken at once, where that isn't what is measured.
 pub const AT_ONCE: usize = 16_384;
@@ -21,35 +23,66 @@ class = "*"
 actions = ["open", "read", "remove"]
 "#;
 
-pub fn name(text: &[u8]) -> Result<Name, Fault> {
+/// What the acts of a measure share.
+#[derive(Drop)]
+pub struct Scene {
+    pub alloc: Global,
+    /// The text of each message.
+    pub text: Vec<u8>,
+    /// The name of the maildrop 0.
+    pub first: Name,
+}
+
+/// What is done, for a number.
+#[derive(Drop)]
+pub enum What {
+    /// The maildrop of the number is added, with so many messages.
+    Fill(u32),
+    /// A message is deposited in the maildrop 0 under the id of the number.
+    Deposit,
+    /// ann logs in to the maildrop of the number, on a new connection.
+    LogIn,
+    /// The connection of the number says this line, and takes the reply, so many octets at once.
+    Say(&'static str, usize),
+    /// This connection marks the message of the number.
+    Mark(u64),
+    /// ann logs in to the maildrop of the number, and says QUIT.
+    Visit,
+}
+
+/// What is done for each number from the first to the last.
+#[derive(Drop)]
+pub struct Act {
+    pub what: What,
+    pub first: u64,
+    pub last: u64,
+}
+
+/// The scene whose messages have this text.
+pub fn scene_of(alloc: Global, text: Vec<u8>) -> Result<Scene, Fault> {
+    let first = called(alloc, 0)?;
+    Ok(Scene { alloc, text, first })
+}
+
+fn name(text: &[u8]) -> Result<Name, Fault> {
     match Name::read(text) {
         Some(name) => Ok(name),
         None => Err(Fault::Name),
     }
 }
 
-fn deposit_id(text: &[u8]) -> Result<DepositId, Fault> {
-    match DepositId::read(text) {
+/// The name of the maildrop of this number.
+fn called(alloc: Global, number: u64) -> Result<Name, Fault> {
+    let called = format!(in alloc; "m{number}")?;
+    name(called.as_bytes())
+}
+
+/// The deposit id of this number.
+fn deposit_id(alloc: Global, number: u64) -> Result<DepositId, Fault> {
+    let called = format!(in alloc; "d{number}")?;
+    match DepositId::read(called.as_bytes()) {
         Some(id) => Ok(id),
         None => Err(Fault::Name),
-    }
-}
-
-/// Opens an office over a vault. Gives the vault back where that is refused.
-pub fn opened<V: Vault>(alloc: Global, vault: V) -> Result<Office<V>, (Fault, V)> {
-    let Some(limits) = Limits::new(600) else {
-        return Err((Fault::Opening, vault));
-    };
-    match Office::open(alloc, vault, "localhost", 1, limits) {
-        Ok(office) => Ok(office),
-        Err((_, vault)) => Err((Fault::Opening, vault)),
-    }
-}
-
-fn administer<V: Vault>(office: &mut Office<V>, command: &AdminCommand) -> Result<(), Fault> {
-    match office.step(Event::Admin(command)) {
-        Outcome::Answered(_) => Ok(()),
-        _ => Err(Fault::Command),
     }
 }
 
@@ -60,121 +93,120 @@ fn policy(alloc: Global) -> Result<Policy, Fault> {
     }
 }
 
+fn administer(desk: &mut impl Desk, command: &AdminCommand) -> Result<u64, Fault> {
+    desk.perform(Event::Admin(command), Fault::Command)
+}
+
 /// Gives ann a password and a policy.
-pub fn let_in<V: Vault>(alloc: Global, office: &mut Office<V>) -> Result<(), Fault> {
+pub fn let_in(alloc: Global, desk: &mut impl Desk) -> Result<u64, Fault> {
     let ann = name(b"ann")?;
     let credential = Credential::Pass(pass_digest(&ann, b"secret"));
-    administer(office, &AdminCommand::PutClerk(ann, credential))?;
-    let policy = policy(alloc)?;
-    administer(office, &AdminCommand::SetPolicy(policy))
+    administer(desk, &AdminCommand::PutClerk(ann, credential))?;
+    administer(desk, &AdminCommand::SetPolicy(policy(alloc)?))
 }
 
-/// The name of the maildrop of this number.
-pub fn called(alloc: Global, number: u64) -> Result<Name, Fault> {
-    let called = format!(in alloc; "m{number}")?;
-    name(called.as_bytes())
-}
-
-pub fn add_maildrop<V: Vault>(office: &mut Office<V>, maildrop: &Name) -> Result<(), Fault> {
-    administer(office, &AdminCommand::AddMaildrop(*maildrop))
-}
-
-fn put<V: Vault>(
-    office: &mut Office<V>,
-    maildrop: &Name,
-    id: &DepositId,
-    text: &[u8],
-) -> Result<(), Fault> {
-    match office.step(Event::Deposit(maildrop, maildrop, id, text)) {
-        Outcome::Answered(Answer::New(_)) => Ok(()),
-        _ => Err(Fault::Deposit),
-    }
-}
-
-/// Deposits a text under the id of this number.
-pub fn deposit<V: Vault>(
+/// Deposits a message under the id of this number.
+fn deposit(
     alloc: Global,
-    office: &mut Office<V>,
+    desk: &mut impl Desk,
     maildrop: &Name,
-    number: u32,
-    text: &[u8],
-) -> Result<(), Fault> {
-    let called = format!(in alloc; "d{number}")?;
-    let id = deposit_id(called.as_bytes())?;
-    put(office, maildrop, &id, text)
-}
-
-/// Adds the maildrop of this number, with so many messages of this text.
-pub fn fill<V: Vault>(
-    alloc: Global,
-    office: &mut Office<V>,
     number: u64,
-    count: u32,
     text: &[u8],
-) -> Result<(), Fault> {
-    let maildrop = called(alloc, number)?;
-    add_maildrop(office, &maildrop)?;
-    for k in 0..count {
-        deposit(alloc, office, &maildrop, k, text)?;
+) -> Result<u64, Fault> {
+    let id = deposit_id(alloc, number)?;
+    let event = Event::Deposit(maildrop, maildrop, &id, text);
+    desk.perform(event, Fault::Deposit)
+}
+
+/// Adds the maildrop of this number, with so many messages.
+fn fill(scene: &Scene, desk: &mut impl Desk, number: u64, count: u32) -> Result<u64, Fault> {
+    let maildrop = called(scene.alloc, number)?;
+    administer(desk, &AdminCommand::AddMaildrop(maildrop))?;
+    for k in 0..u64::from(count) {
+        deposit(scene.alloc, desk, &maildrop, k, &scene.text)?;
     }
-    Ok(())
+    Ok(0)
 }
 
 /// Takes all that a connection is owed, so many octets at once. How many there were.
-pub fn take<V: Vault>(office: &mut Office<V>, c: u64, at_once: usize) -> Result<usize, Fault> {
-    let mut taken = 0usize;
+fn take(desk: &mut impl Desk, c: u64, at_once: usize) -> Result<u64, Fault> {
+    let mut taken = 0u64;
     for _ in 0..u64::MAX {
-        let octets = office.owed(c).len().min(at_once);
+        let octets = desk.lent(c).len().min(at_once);
         if octets == 0 {
             break;
         }
-        if !matches!(office.step(Event::Took(c, octets)), Outcome::Done) {
-            return Err(Fault::Taking);
-        }
-        taken = taken.saturating_add(octets);
+        desk.perform(Event::Took(c, octets), Fault::Taking)?;
+        taken = taken.saturating_add(octets as u64);
     }
     Ok(taken)
 }
 
 /// Says a line, and takes the reply, so many octets at once. How many it has.
-pub fn say<V: Vault>(
-    office: &mut Office<V>,
-    c: u64,
-    line: &[u8],
-    at_once: usize,
-) -> Result<usize, Fault> {
-    if !matches!(office.step(Event::Bytes(c, line)), Outcome::Done) {
+fn say(desk: &mut impl Desk, c: u64, line: &[u8], at_once: usize) -> Result<u64, Fault> {
+    desk.perform(Event::Bytes(c, line), Fault::Line)?;
+    if !desk.lent(c).starts_with(b"+OK") {
         return Err(Fault::Line);
     }
-    if !office.owed(c).starts_with(b"+OK") {
-        return Err(Fault::Line);
-    }
-    take(office, c, at_once)
+    take(desk, c, at_once)
 }
 
-/// Opens a connection, and logs ann in to the maildrop of this number.
-pub fn log_in<V: Vault>(alloc: Global, office: &mut Office<V>, number: u64) -> Result<u64, Fault> {
-    let Outcome::Opened(c) = office.step(Event::Connect) else {
-        return Err(Fault::Connection);
-    };
-    take(office, c, AT_ONCE)?;
+/// Opens a connection, and logs ann in to the maildrop of this number. The connection's number.
+fn log_in(alloc: Global, desk: &mut impl Desk, number: u64) -> Result<u64, Fault> {
+    let c = desk.perform(Event::Connect, Fault::Connection)?;
+    take(desk, c, AT_ONCE)?;
     let user = format!(in alloc; "USER ann/m{number}\r\n")?;
-    say(office, c, user.as_bytes(), AT_ONCE)?;
-    say(office, c, b"PASS secret\r\n", AT_ONCE)?;
+    say(desk, c, user.as_bytes(), AT_ONCE)?;
+    say(desk, c, b"PASS secret\r\n", AT_ONCE)?;
     Ok(c)
 }
 
-/// Marks the messages of these numbers.
-pub fn mark<V: Vault>(
-    alloc: Global,
-    office: &mut Office<V>,
-    c: u64,
-    first: u32,
-    last: u32,
-) -> Result<(), Fault> {
-    for number in first..=last {
-        let line = format!(in alloc; "DELE {number}\r\n")?;
-        say(office, c, line.as_bytes(), AT_ONCE)?;
+/// Marks the message of this number.
+fn mark(alloc: Global, desk: &mut impl Desk, c: u64, number: u64) -> Result<u64, Fault> {
+    let line = format!(in alloc; "DELE {number}\r\n")?;
+    say(desk, c, line.as_bytes(), AT_ONCE)
+}
+
+fn visit(alloc: Global, desk: &mut impl Desk, number: u64) -> Result<u64, Fault> {
+    let c = log_in(alloc, desk, number)?;
+    say(desk, c, b"QUIT\r\n", AT_ONCE)
+}
+
+/// Does it for this number. Of a login the connection's number, of a line or a mark the octets of the reply.
+fn once(scene: &Scene, desk: &mut impl Desk, what: &What, number: u64) -> Result<u64, Fault> {
+    match what {
+        What::Fill(count) => fill(scene, desk, number, *count),
+        What::Deposit => deposit(scene.alloc, desk, &scene.first, number, &scene.text),
+        What::LogIn => log_in(scene.alloc, desk, number),
+        What::Say(line, at_once) => say(desk, number, line.as_bytes(), *at_once),
+        What::Mark(c) => mark(scene.alloc, desk, *c, number),
+        What::Visit => visit(scene.alloc, desk, number),
     }
-    Ok(())
+}
+
+/// Does the acts, one after the other. What the last one tells.
+pub fn perform(scene: &Scene, desk: &mut impl Desk, acts: &[Act]) -> Result<u64, Fault> {
+    let mut told = 0;
+    for act in acts {
+        for number in act.first..=act.last {
+            told = once(scene, desk, &act.what, number)?;
+        }
+    }
+    Ok(told)
+}
+
+/// Does the acts so many times. What the last one tells, and the microseconds of all together.
+pub fn timed(
+    rt: &impl Clock,
+    scene: &Scene,
+    desk: &mut impl Desk,
+    acts: &[Act],
+    times: u32,
+) -> Result<(u64, u64), Fault> {
+    let start = Instant::now(rt)?;
+    let mut told = 0;
+    for _ in 0..times {
+        told = perform(scene, desk, acts)?;
+    }
+    Ok((told, since(rt, start)?))
 }

@@ -1,14 +1,10 @@
 //! Whether what is done in a small maildrop takes longer where other maildrops have more messages.
 
-use crate::acts::{AT_ONCE, called, deposit, fill, log_in, mark, say};
+use crate::acts::{Act, Scene, What, perform, timed};
+use crate::desk::Desk;
 use crate::fault::Fault;
-use crate::micros;
-use creds::Name;
-use office::Office;
-use std::alloc::Global;
+use crate::sessions::{each, line};
 use std::rt::Clock;
-use std::time::Instant;
-use vault::Vault;
 
 /// How many messages the small maildrop has.
 const FEW: u32 = 10;
@@ -25,61 +21,20 @@ struct Spent {
     removals: u64,
 }
 
-/// Microseconds of a deposit.
-fn depositing<V: Vault>(
-    rt: &(impl AllocGlobal + Clock),
-    office: &mut Office<V>,
-    maildrop: &Name,
-    k: u32,
-    text: &[u8],
-) -> Result<u64, Fault> {
-    let start = Instant::now(rt)?;
-    deposit(rt.alloc(), office, maildrop, k, text)?;
-    Ok(micros(start.elapsed(rt)?))
-}
-
-/// A connection that logs in, and its microseconds.
-fn coming<V: Vault>(
-    rt: &(impl AllocGlobal + Clock),
-    office: &mut Office<V>,
-) -> Result<(u64, u64), Fault> {
-    let start = Instant::now(rt)?;
-    let c = log_in(rt.alloc(), office, 0)?;
-    Ok((c, micros(start.elapsed(rt)?)))
-}
-
-/// Microseconds of a retrieval.
-fn retrieving<V: Vault>(rt: &impl Clock, office: &mut Office<V>, c: u64) -> Result<u64, Fault> {
-    let start = Instant::now(rt)?;
-    say(office, c, b"RETR 1\r\n", AT_ONCE)?;
-    Ok(micros(start.elapsed(rt)?))
-}
-
-/// Microseconds of a mark and the QUIT that removes the new message.
-fn removing<V: Vault>(
-    rt: &(impl AllocGlobal + Clock),
-    office: &mut Office<V>,
-    c: u64,
-) -> Result<u64, Fault> {
-    let start = Instant::now(rt)?;
-    mark(rt.alloc(), office, c, FEW + 1, FEW + 1)?;
-    say(office, c, b"QUIT\r\n", AT_ONCE)?;
-    Ok(micros(start.elapsed(rt)?))
-}
-
 /// Deposits a message, retrieves another in a session, and removes the new one.
-fn turn<V: Vault>(
-    rt: &(impl AllocGlobal + Clock),
-    office: &mut Office<V>,
-    maildrop: &Name,
-    k: u32,
-    text: &[u8],
+fn turn(
+    rt: &impl Clock,
+    scene: &Scene,
+    desk: &mut impl Desk,
+    k: u64,
     spent: &mut Spent,
 ) -> Result<(), Fault> {
-    let depositing = depositing(rt, office, maildrop, k, text)?;
-    let (c, coming) = coming(rt, office)?;
-    let retrieving = retrieving(rt, office, c)?;
-    let removing = removing(rt, office, c)?;
+    let (_, depositing) = timed(rt, scene, desk, &[each(What::Deposit, k, k)], 1)?;
+    let (c, coming) = timed(rt, scene, desk, &[each(What::LogIn, 0, 0)], 1)?;
+    let (_, retrieving) = timed(rt, scene, desk, &[line("RETR 1\r\n", c, c)], 1)?;
+    let new = u64::from(FEW + 1);
+    let removed = [each(What::Mark(c), new, new), line("QUIT\r\n", c, c)];
+    let (_, removing) = timed(rt, scene, desk, &removed, 1)?;
     spent.deposits = spent.deposits.saturating_add(depositing);
     spent.logins = spent.logins.saturating_add(coming);
     spent.retrievals = spent.retrievals.saturating_add(retrieving);
@@ -88,14 +43,13 @@ fn turn<V: Vault>(
 }
 
 /// Tells what each act takes beside so many messages. `first` is the number of the first turn's deposit.
-fn measure_turns<V: Vault>(
-    rt: &(impl Print + AllocGlobal + Clock),
-    office: &mut Office<V>,
+fn measure_turns(
+    rt: &(impl Print + Clock),
+    scene: &Scene,
+    desk: &mut impl Desk,
     others: u32,
     first: u32,
-    text: &[u8],
 ) -> Result<(), Fault> {
-    let maildrop = called(rt.alloc(), 0)?;
     let mut spent = Spent {
         deposits: 0,
         logins: 0,
@@ -103,66 +57,50 @@ fn measure_turns<V: Vault>(
         removals: 0,
     };
     for k in first..first.saturating_add(TURNS) {
-        turn(rt, office, &maildrop, k, text, &mut spent)?;
+        turn(rt, scene, desk, u64::from(k), &mut spent)?;
     }
     tell(rt, others, &spent)
 }
 
-/// Microseconds of one turn.
-fn each(all: u64) -> u64 {
-    all / u64::from(TURNS)
-}
-
 fn tell(rt: &impl Print, others: u32, spent: &Spent) -> Result<(), Fault> {
-    let deposit = each(spent.deposits);
-    let login = each(spent.logins);
-    let retrieval = each(spent.retrievals);
-    let removal = each(spent.removals);
+    let turns = u64::from(TURNS);
+    let deposit = spent.deposits / turns;
+    let login = spent.logins / turns;
+    let retrieval = spent.retrievals / turns;
+    let removal = spent.removals / turns;
     println!(rt;
         "beside {others}: deposit {deposit} us, login {login} us, RETR {retrieval} us, DELE and QUIT {removal} us"
     )?;
     Ok(())
 }
 
-/// Adds the maildrops of these numbers, with so many messages each.
-fn crowd<V: Vault>(
-    alloc: Global,
-    office: &mut Office<V>,
-    first: u64,
-    last: u64,
-    count: u32,
-    text: &[u8],
-) -> Result<(), Fault> {
-    for number in first..=last {
-        fill(alloc, office, number, count, text)?;
-    }
-    Ok(())
+/// The maildrops of these numbers are added, with so many messages each.
+fn crowd(first: u64, last: u64, count: u32) -> Act {
+    each(What::Fill(count), first, last)
 }
 
 /// Fills ten maildrops, with so many messages together.
-pub fn measure_filling<V: Vault>(
-    rt: &(impl Print + AllocGlobal + Clock),
-    office: &mut Office<V>,
+pub fn measure_filling(
+    rt: &(impl Print + Clock),
+    scene: &Scene,
+    desk: &mut impl Desk,
     count: u32,
-    text: &[u8],
 ) -> Result<(), Fault> {
-    let start = Instant::now(rt)?;
-    crowd(rt.alloc(), office, 1, 10, count / 10, text)?;
-    let filling = micros(start.elapsed(rt)?) / 1000;
+    let (_, took) = timed(rt, scene, desk, &[crowd(1, 10, count / 10)], 1)?;
+    let filling = took / 1000;
     println!(rt; "filling: {count} messages into ten maildrops in {filling} ms")?;
     Ok(())
 }
 
 /// What a small maildrop's acts take beside so many messages of others, and beside ten times as many.
-pub fn measure_beside<V: Vault>(
-    rt: &(impl Print + AllocGlobal + Clock),
-    office: &mut Office<V>,
+pub fn measure_beside(
+    rt: &(impl Print + Clock),
+    scene: &Scene,
+    desk: &mut impl Desk,
     count: u32,
-    text: &[u8],
 ) -> Result<(), Fault> {
-    fill(rt.alloc(), office, 0, FEW, text)?;
-    crowd(rt.alloc(), office, 1, 10, count / 10, text)?;
-    measure_turns(rt, office, count, FEW, text)?;
-    crowd(rt.alloc(), office, 11, 19, count, text)?;
-    measure_turns(rt, office, count.saturating_mul(10), FEW + TURNS, text)
+    perform(scene, desk, &[crowd(0, 0, FEW), crowd(1, 10, count / 10)])?;
+    measure_turns(rt, scene, desk, count, FEW)?;
+    perform(scene, desk, &[crowd(11, 19, count)])?;
+    measure_turns(rt, scene, desk, count.saturating_mul(10), FEW + TURNS)
 }

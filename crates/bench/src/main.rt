@@ -11,42 +11,48 @@
 
 mod acts;
 mod beside;
-mod calls;
+mod desk;
 mod fault;
 mod rules;
 mod sessions;
 mod store;
 mod stores;
+mod tables;
 mod texts;
 
 use fault::Fault;
-use sqlite::{Alter, Connection, FileStore, Wary};
+use sqlite::{Connection, FileStore, Wary};
 use sqlite_disk::Disk;
 use sqlvault::SqlVault;
 use std::env;
+use std::io;
 use std::rt::{Clock, Env};
-use std::time::Duration;
+use std::time::Instant;
+use tables::Tables;
 
-fn micros(took: Duration) -> u64 {
-    u64::try_from(took.as_micros()).unwrap_or(u64::MAX)
+/// The microseconds since then.
+fn since(rt: &impl Clock, start: Instant) -> io::Result<u64> {
+    let took = start.elapsed(rt)?.as_micros();
+    Ok(u64::try_from(took).unwrap_or(u64::MAX))
 }
 
-/// Millions a second.
-fn rate(count: usize, took: Duration) -> u64 {
-    count as u64 / micros(took).max(1)
+/// So many in so many microseconds: millions a second.
+fn rate(count: u64, took: u64) -> u64 {
+    count / took.max(1)
 }
 
-fn measure<S: Alter>(
+/// Runs a measure over the tables of a store.
+fn measure(
     rt: &(impl Print + AllocGlobal + Clock),
-    conn: &mut Connection<S>,
+    tables: &mut impl Tables,
     what: &str,
     count: u32,
 ) -> Result<(), Fault> {
     match what {
-        "sheets" => store::measure_sheets(rt, conn, count),
-        "commits" => store::measure_commits(rt, conn, count),
-        "heads" => store::measure_heads(rt, conn, count),
-        "sample" => store::write_sample(conn),
+        "sheets" => store::measure_sheets(rt, tables, count),
+        "commits" => store::measure_commits(rt, tables, count),
+        "heads" => store::measure_heads(rt, tables, count),
+        "sample" => store::write_sample(tables),
         _ => Err(Fault::NoMeasure),
     }
 }

@@ -1,6 +1,6 @@
 //! How long a policy takes: to be read, to decide, to be written and copied.
 
-use crate::micros;
+use crate::since;
 use creds::Name;
 use policy::{Action, Policy};
 use std::alloc::{AllocError, Global};
@@ -44,26 +44,19 @@ fn allowed_decisions(policy: &Policy) -> u32 {
     allowed
 }
 
-/// How many decisions are allowed, and how many microseconds they take.
-fn decisions(rt: &impl Clock, policy: &Policy) -> io::Result<(u32, u64)> {
-    let start = Instant::now(rt)?;
-    let allowed = allowed_decisions(policy);
-    Ok((allowed, micros(start.elapsed(rt)?)))
-}
-
 /// How many microseconds the policy takes to be written.
 fn writing(rt: &(impl AllocGlobal + Clock), policy: &Policy) -> io::Result<u64> {
     let mut written = Vec::new(rt.alloc());
     let start = Instant::now(rt)?;
     policy.write(&mut written)?;
-    Ok(micros(start.elapsed(rt)?))
+    since(rt, start)
 }
 
 /// How many rules a copy has, and how many microseconds it takes.
 fn copying(rt: &impl Clock, policy: &Policy) -> io::Result<(usize, u64)> {
     let start = Instant::now(rt)?;
     let copy = policy.try_copy()?;
-    let took = micros(start.elapsed(rt)?);
+    let took = since(rt, start)?;
     Ok((copy.len(), took))
 }
 
@@ -76,7 +69,9 @@ fn tell(
 ) -> io::Result<()> {
     let writing = writing(rt, policy)?;
     let (copied, copying) = copying(rt, policy)?;
-    let (allowed, deciding) = decisions(rt, policy)?;
+    let start = Instant::now(rt)?;
+    let allowed = allowed_decisions(policy);
+    let deciding = since(rt, start)?;
     println!(rt;
         "{copied} rules of {octets} octets: read {reading} us, written {writing} us, copied {copying} us"
     )?;
@@ -88,7 +83,7 @@ pub fn measure(rt: &(impl Print + AllocGlobal + Clock), rules: usize) -> io::Res
     let text = text_of(rt.alloc(), rules)?;
     let start = Instant::now(rt)?;
     let read = Policy::read(rt.alloc(), &text);
-    let reading = micros(start.elapsed(rt)?);
+    let reading = since(rt, start)?;
     match read {
         Ok(policy) => tell(rt, &policy, text.len(), reading),
         Err(_) => println!(rt; "{rules} rules: not read"),

@@ -1,9 +1,10 @@
 //! How fast the statements of a store are, over the tables of a store, which are empty.
 
 use crate::fault::Fault;
+use crate::tables::{Read, Tables, Write, write_all};
 use crate::texts::text_of;
-use crate::{calls, rate};
-use sqlite::{Alter, Connection, Error};
+use crate::{rate, since};
+use sqlite::Error;
 use std::alloc::Global;
 use std::rt::Clock;
 use std::time::Instant;
@@ -11,20 +12,35 @@ use std::time::Instant;
 /// The maildrops that share the messages of `measure_heads`.
 const NAMES: [&[u8]; 10] = [b"a", b"b", b"c", b"d", b"e", b"f", b"g", b"h", b"i", b"j"];
 
+/// What is done in the tables.
+#[derive(Drop)]
+enum Work<'a> {
+    /// A message of this text is written into `orders`, in a transaction of its own.
+    WriteText(&'a [u8], u32),
+    /// The sheets of the message of this key are read, one by one.
+    ReadText(i64),
+    /// So many transactions each raise a count.
+    Commits(u32),
+    /// Ten maildrops are filled with so many messages, each in a transaction of its own.
+    Fill(u32),
+    Heads,
+    Count,
+}
+
 /// A message of this text into `orders`, in a transaction of its own; its key.
-fn write_text<S: Alter>(conn: &mut Connection<S>, text: &[u8], octets: u32) -> Result<i64, Error> {
-    calls::begin(conn)?;
-    let key = calls::add_message(conn, b"orders", 1, octets)?;
-    calls::add_sheets(conn, key, text)?;
-    calls::commit(conn)?;
+fn write_text(tables: &mut impl Tables, text: &[u8], octets: u32) -> Result<i64, Error> {
+    tables.write(&Write::Begin)?;
+    let key = tables.write(&Write::Message(b"orders", 1, octets))?;
+    tables.write(&Write::Sheets(key, text))?;
+    tables.write(&Write::Commit)?;
     Ok(key)
 }
 
 /// How many octets the message's sheets have, read one by one.
-fn octets_of<S: Alter>(alloc: Global, conn: &mut Connection<S>, key: i64) -> Result<usize, Error> {
-    let mut octets = 0usize;
+fn read_text(alloc: Global, tables: &mut impl Tables, key: i64) -> Result<i64, Error> {
+    let mut octets = 0i64;
     for place in 0..i64::MAX {
-        let more = calls::sheet_octets(alloc, conn, key, place)?;
+        let more = tables.read(alloc, &Read::Sheet(key, place))?;
         if more == 0 {
             break;
         }
@@ -33,134 +49,110 @@ fn octets_of<S: Alter>(alloc: Global, conn: &mut Connection<S>, key: i64) -> Res
     Ok(octets)
 }
 
-/// The key of a message of this text, and how many octets of it are written in a microsecond.
-fn writing<S: Alter>(
-    rt: &impl Clock,
-    conn: &mut Connection<S>,
-    text: &[u8],
-    octets: u32,
-) -> Result<(i64, u64), Fault> {
-    let start = Instant::now(rt)?;
-    let key = write_text(conn, text, octets)?;
-    Ok((key, rate(text.len(), start.elapsed(rt)?)))
+fn commit_all(tables: &mut impl Tables, count: u32) -> Result<i64, Error> {
+    for k in 0..count {
+        write_all(tables, &[Write::Begin, Write::Count(k), Write::Commit])?;
+    }
+    Ok(0)
 }
 
-/// How many octets the message's sheets have, and how many of them are read in a microsecond.
-fn reading<S: Alter>(
+/// So many messages into one maildrop, in a transaction of their own.
+fn fill(tables: &mut impl Tables, name: &[u8], count: u32) -> Result<i64, Error> {
+    write_all(tables, &[Write::Begin, Write::Maildrop(name)])?;
+    for k in 0..count {
+        tables.write(&Write::Message(name, k, 4096))?;
+    }
+    tables.write(&Write::Commit)
+}
+
+fn fill_all(tables: &mut impl Tables, count: u32) -> Result<i64, Error> {
+    for name in NAMES {
+        fill(tables, name, count)?;
+    }
+    Ok(0)
+}
+
+/// Of a text that is written its key, of what is read how much it is, else 0.
+fn do_work(alloc: Global, tables: &mut impl Tables, work: &Work<'_>) -> Result<i64, Error> {
+    match work {
+        Work::WriteText(text, octets) => write_text(tables, text, *octets),
+        Work::ReadText(key) => read_text(alloc, tables, *key),
+        Work::Commits(count) => commit_all(tables, *count),
+        Work::Fill(count) => fill_all(tables, *count),
+        Work::Heads => tables.read(alloc, &Read::Heads(b"e")),
+        Work::Count => tables.read(alloc, &Read::Messages(b"e")),
+    }
+}
+
+/// What it tells, and its microseconds.
+fn timed(
     rt: &(impl AllocGlobal + Clock),
-    conn: &mut Connection<S>,
-    key: i64,
-) -> Result<(usize, u64), Fault> {
+    tables: &mut impl Tables,
+    work: &Work<'_>,
+) -> Result<(i64, u64), Fault> {
     let start = Instant::now(rt)?;
-    let octets = octets_of(rt.alloc(), conn, key)?;
-    Ok((octets, rate(octets, start.elapsed(rt)?)))
+    let told = do_work(rt.alloc(), tables, work)?;
+    Ok((told, since(rt, start)?))
 }
 
 /// The sheets of one text, written in one transaction, and read one by one.
-pub fn measure_sheets<S: Alter>(
+pub fn measure_sheets(
     rt: &(impl Print + AllocGlobal + Clock),
-    conn: &mut Connection<S>,
+    tables: &mut impl Tables,
     octets: u32,
 ) -> Result<(), Fault> {
-    calls::add_maildrop(conn, b"orders")?;
+    tables.write(&Write::Maildrop(b"orders"))?;
     let text = text_of(rt.alloc(), b"a line of the message ..\r\n", octets as usize)?;
-    let (key, writing) = writing(rt, conn, &text, octets)?;
-    let (read, reading) = reading(rt, conn, key)?;
+    let (key, writing) = timed(rt, tables, &Work::WriteText(&text, octets))?;
+    let (read, reading) = timed(rt, tables, &Work::ReadText(key))?;
+    let writing = rate(text.len() as u64, writing);
+    let reading = rate(u64::try_from(read).unwrap_or(0), reading);
     println!(rt; "sheets: {read} octets, written {writing} MB/s, read {reading} MB/s")?;
     Ok(())
 }
 
-fn commit_one<S: Alter>(conn: &mut Connection<S>, k: u32) -> Result<(), Error> {
-    calls::begin(conn)?;
-    calls::set_count(conn, k)?;
-    calls::commit(conn)
-}
-
 /// So many transactions that each raise a count.
-pub fn measure_commits<S: Alter>(
-    rt: &(impl Print + Clock),
-    conn: &mut Connection<S>,
+pub fn measure_commits(
+    rt: &(impl Print + AllocGlobal + Clock),
+    tables: &mut impl Tables,
     count: u32,
 ) -> Result<(), Fault> {
-    let start = Instant::now(rt)?;
-    for k in 0..count {
-        commit_one(conn, k)?;
-    }
-    let took = start.elapsed(rt)?.as_millis();
+    let (_, took) = timed(rt, tables, &Work::Commits(count))?;
+    let took = took / 1000;
     println!(rt; "commits: {count} in {took} ms")?;
     Ok(())
 }
 
-/// So many messages into one maildrop, in a transaction of their own.
-fn fill<S: Alter>(conn: &mut Connection<S>, name: &[u8], count: u32) -> Result<(), Error> {
-    calls::begin(conn)?;
-    calls::add_maildrop(conn, name)?;
-    for k in 0..count {
-        calls::add_message(conn, name, k, 4096)?;
-    }
-    calls::commit(conn)
-}
-
-/// How many milliseconds ten maildrops of so many messages take to be filled.
-fn filling<S: Alter>(rt: &impl Clock, conn: &mut Connection<S>, count: u32) -> Result<u128, Fault> {
-    let start = Instant::now(rt)?;
-    for name in NAMES {
-        fill(conn, name, count)?;
-    }
-    Ok(start.elapsed(rt)?.as_millis())
-}
-
-/// How many heads one of them lists, and how many milliseconds that takes.
-fn listing<S: Alter>(
-    rt: &(impl AllocGlobal + Clock),
-    conn: &mut Connection<S>,
-) -> Result<(usize, u128), Fault> {
-    let start = Instant::now(rt)?;
-    let heads = calls::head_count(rt.alloc(), conn, b"e")?;
-    Ok((heads, start.elapsed(rt)?.as_millis()))
-}
-
-/// How many messages are counted in one of them, and how many milliseconds that takes.
-fn counting<S: Alter>(rt: &impl Clock, conn: &mut Connection<S>) -> Result<(u64, u128), Fault> {
-    let start = Instant::now(rt)?;
-    let counted = calls::message_count(conn, b"e")?;
-    Ok((counted, start.elapsed(rt)?.as_millis()))
-}
-
 /// The heads and the count of one of ten maildrops, each of so many messages.
-pub fn measure_heads<S: Alter>(
+pub fn measure_heads(
     rt: &(impl Print + AllocGlobal + Clock),
-    conn: &mut Connection<S>,
+    tables: &mut impl Tables,
     count: u32,
 ) -> Result<(), Fault> {
-    let filling = filling(rt, conn, count)?;
-    let (heads, listing) = listing(rt, conn)?;
-    let (counted, counting) = counting(rt, conn)?;
+    let (_, filling) = timed(rt, tables, &Work::Fill(count))?;
+    let (heads, listing) = timed(rt, tables, &Work::Heads)?;
+    let (counted, counting) = timed(rt, tables, &Work::Count)?;
+    let filling = filling / 1000;
+    let listing = listing / 1000;
+    let counting = counting / 1000;
     println!(rt;
         "heads: ten maildrops filled in {filling} ms, {heads} heads of one in {listing} ms, {counted} counted in {counting} ms"
     )?;
     Ok(())
 }
 
-fn write_names<S: Alter>(conn: &mut Connection<S>) -> Result<(), Error> {
-    calls::add_clerk(conn)?;
-    calls::put_clerk(conn)?;
-    calls::add_rule(conn)?;
-    calls::add_maildrop(conn, b"orders")
-}
-
-fn write_mail<S: Alter>(conn: &mut Connection<S>) -> Result<(), Error> {
-    calls::set_count(conn, 1)?;
-    calls::add_deposit(conn)?;
-    let key = calls::add_message(conn, b"orders", 1, 4097)?;
+/// A row or two in each table, for `tools/check-tables`.
+pub fn write_sample(tables: &mut impl Tables) -> Result<(), Fault> {
+    let names = [Write::Ann, Write::Mrose, Write::Rule, Write::Maildrop(b"orders")];
+    write_all(tables, &names)?;
+    let mail = [
+        Write::Count(1),
+        Write::Deposit,
+        Write::Message(b"orders", 1, 4097),
+    ];
+    let key = write_all(tables, &mail)?;
     let mut text = [0; 4097];
     text[4096] = 255;
-    calls::add_sheets(conn, key, &text)
-}
-
-/// A row or two in each table, for `tools/check-tables`.
-pub fn write_sample<S: Alter>(conn: &mut Connection<S>) -> Result<(), Fault> {
-    write_names(conn)?;
-    write_mail(conn)?;
+    tables.write(&Write::Sheets(key, &text))?;
     Ok(())
 }

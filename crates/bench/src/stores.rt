@@ -1,7 +1,7 @@
 //! The stores that an office's measures run over, one in each function.
 
 use crate::fault::Fault;
-use crate::{micros, sessions};
+use crate::{sessions, since};
 use sqlite::{FileStore, Wary};
 use sqlite_disk::Disk;
 use sqlvault::SqlVault;
@@ -29,7 +29,7 @@ pub fn over_tables(
 }
 
 fn tell_opening(rt: &(impl Print + Clock), start: Instant) -> Result<(), Fault> {
-    let opening = micros(start.elapsed(rt)?);
+    let opening = since(rt, start)?;
     println!(rt; "file: opened in {opening} us")?;
     Ok(())
 }

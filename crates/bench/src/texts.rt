@@ -1,6 +1,6 @@
 //! How fast message texts are kept, stuffed and read back.
 
-use crate::rate;
+use crate::{rate, since};
 use mailtext::{MailText, canon, stuff_into, unstuff};
 use std::alloc::{AllocError, Global};
 use std::io;
@@ -33,13 +33,6 @@ fn is_read(alloc: Global, sent: &[u8]) -> Result<bool, AllocError> {
     Ok(unstuff(alloc, sent)?.is_some())
 }
 
-/// Whether the octets that were sent can be read, and how many of them in a microsecond.
-fn reading(rt: &(impl AllocGlobal + Clock), sent: &[u8]) -> io::Result<(bool, u64)> {
-    let start = Instant::now(rt)?;
-    let is_read = is_read(rt.alloc(), sent)?;
-    Ok((is_read, rate(sent.len(), start.elapsed(rt)?)))
-}
-
 /// What it takes to send a text that is kept, and to read it again.
 fn measure_kept(
     rt: &(impl Print + AllocGlobal + Clock),
@@ -49,8 +42,10 @@ fn measure_kept(
 ) -> io::Result<()> {
     let start = Instant::now(rt)?;
     let sent = send(rt.alloc(), kept)?;
-    let stuffing = rate(kept.octets(), start.elapsed(rt)?);
-    let (is_read, reading) = reading(rt, &sent)?;
+    let stuffing = rate(kept.octets() as u64, since(rt, start)?);
+    let start = Instant::now(rt)?;
+    let is_read = is_read(rt.alloc(), &sent)?;
+    let reading = rate(sent.len() as u64, since(rt, start)?);
     let state = if is_read { "read" } else { "not read" };
     println!(rt;
         "{name}: canon {keeping} MB/s, stuff_into {stuffing} MB/s, unstuff {reading} MB/s, {state}"
@@ -60,7 +55,7 @@ fn measure_kept(
 fn measure(rt: &(impl Print + AllocGlobal + Clock), name: &str, text: &[u8]) -> io::Result<()> {
     let start = Instant::now(rt)?;
     let kept = keep(rt.alloc(), text);
-    let keeping = rate(text.len(), start.elapsed(rt)?);
+    let keeping = rate(text.len() as u64, since(rt, start)?);
     match kept {
         Some(kept) => measure_kept(rt, name, &kept, keeping),
         None => println!(rt; "{name}: not kept"),

@@ -1,0 +1,45 @@
+//! What the measures ask of an office, by a trait without clauses: so no measure's proof carries those of an office.
+
+use crate::fault::Fault;
+use office::{Answer, Event, Limits, Office, Outcome};
+use std::alloc::Global;
+use vault::Vault;
+
+/// An office, as the measures use it.
+pub trait Desk {
+    /// Does an event: the number of the connection that it opens, or 0. Of a deposit the message must be new.
+    ///
+    /// Gives `fault` where the event isn't done.
+    fn perform(&mut self, event: Event<'_>, fault: Fault) -> Result<u64, Fault>;
+
+    /// The octets that a connection is owed.
+    fn lent(&self, c: u64) -> &[u8];
+}
+
+impl<V: Vault> Desk for Office<V> {
+    fn perform(&mut self, event: Event<'_>, fault: Fault) -> Result<u64, Fault> {
+        match self.step(event) {
+            Outcome::Opened(c) => Ok(c),
+            Outcome::Done => Ok(0),
+            Outcome::Answered(
+                Answer::New(_) | Answer::Added | Answer::WasThere | Answer::Replaced | Answer::RuleCount(_),
+            ) => Ok(0),
+            _ => Err(fault),
+        }
+    }
+
+    fn lent(&self, c: u64) -> &[u8] {
+        self.owed(c)
+    }
+}
+
+/// Opens an office over a vault. Gives the vault back where that is refused.
+pub fn opened<V: Vault>(alloc: Global, vault: V) -> Result<Office<V>, (Fault, V)> {
+    let Some(limits) = Limits::new(600) else {
+        return Err((Fault::Opening, vault));
+    };
+    match Office::open(alloc, vault, "localhost", 1, limits) {
+        Ok(office) => Ok(office),
+        Err((_, vault)) => Err((Fault::Opening, vault)),
+    }
+}
