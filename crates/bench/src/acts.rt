@@ -34,7 +34,7 @@ pub struct Scene {
 }
 
 /// What is done, for a number.
-#[derive(Drop)]
+#[derive(Clone, Copy)]
 pub enum What {
     /// The maildrop of the number is added, with so many messages.
     Fill(u32),
@@ -51,7 +51,7 @@ pub enum What {
 }
 
 /// What is done for each number from the first to the last.
-#[derive(Drop)]
+#[derive(Clone, Copy)]
 pub struct Act {
     pub what: What,
     pub first: u64,

@@ -22,7 +22,11 @@ impl<V: Vault> Desk for Office<V> {
             Outcome::Opened(c) => Ok(c),
             Outcome::Done => Ok(0),
             Outcome::Answered(
-                Answer::New(_) | Answer::Added | Answer::WasThere | Answer::Replaced | Answer::RuleCount(_),
+                Answer::New(_)
+                | Answer::Added
+                | Answer::WasThere
+                | Answer::Replaced
+                | Answer::RuleCount(_),
             ) => Ok(0),
             _ => Err(fault),
         }

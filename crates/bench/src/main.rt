@@ -24,10 +24,9 @@ use fault::Fault;
 use sqlite::{Connection, FileStore, Wary};
 use sqlite_disk::Disk;
 use sqlvault::SqlVault;
-use std::env;
-use std::io;
 use std::rt::{Clock, Env};
 use std::time::Instant;
+use std::{env, io};
 use tables::Tables;
 
 /// The microseconds since then.
@@ -119,21 +118,23 @@ fn run(rt: &HostRuntime, what: &str, count: u32, over: &str, path: &str) -> Resu
     in_file(rt, over, what, count)
 }
 
+/// The word, or an empty one where there is none.
+fn said(word: &Option<String>) -> &str {
+    match word {
+        Some(word) => word.as_str(),
+        None => "",
+    }
+}
+
 fn main(rt: HostRuntime) -> Result<(), Fault> {
     let mut words = env::args(&rt)?;
     let _program = words.next();
-    let Some(what) = words.next() else {
-        return Ok(());
-    };
-    let Some(count) = words
-        .next()
-        .and_then(|word| word.as_str().parse::<u32>().ok())
-    else {
-        return Ok(());
-    };
+    let what = words.next();
+    let count = words.next();
     let over = words.next();
     let path = words.next();
-    let over = over.as_ref().map_or("", |word| word.as_str());
-    let path = path.as_ref().map_or("", |word| word.as_str());
-    run(&rt, what.as_str(), count, over, path)
+    let Ok(count) = said(&count).parse::<u32>() else {
+        return Ok(());
+    };
+    run(&rt, said(&what), count, said(&over), said(&path))
 }

@@ -3,8 +3,8 @@
 use crate::acts::{AT_ONCE, Act, Scene, What, let_in, perform, scene_of, timed};
 use crate::desk::{Desk, opened};
 use crate::fault::Fault;
-use crate::{beside, rate};
 use crate::texts::text_of;
+use crate::{beside, rate};
 use std::alloc::{AllocError, Global};
 use std::rt::Clock;
 use vault::Vault;

@@ -143,14 +143,10 @@ pub fn measure_heads(
 
 /// A row or two in each table, for `tools/check-tables`.
 pub fn write_sample(tables: &mut impl Tables) -> Result<(), Fault> {
-    let names = [Write::Ann, Write::Mrose, Write::Rule, Write::Maildrop(b"orders")];
-    write_all(tables, &names)?;
-    let mail = [
-        Write::Count(1),
-        Write::Deposit,
-        Write::Message(b"orders", 1, 4097),
-    ];
-    let key = write_all(tables, &mail)?;
+    tables.write_clerks()?;
+    write_all(tables, &[Write::Maildrop(b"orders"), Write::Count(1)])?;
+    tables.write_deposit()?;
+    let key = tables.write(&Write::Message(b"orders", 1, 4097))?;
     let mut text = [0; 4097];
     text[4096] = 255;
     tables.write(&Write::Sheets(key, &text))?;
