@@ -196,7 +196,30 @@ fn text_for(alloc: Global, what: &str, count: u32) -> Result<Vec<u8>, AllocError
     }
 }
 
-/// Runs a measure in an office. `standing` measures nothing in it.
+/// Runs a measure of the scene in an office. `standing` measures nothing in it.
+fn measure_scene(
+    rt: &(impl Print + Clock),
+    scene: &Scene,
+    desk: &mut impl Desk,
+    what: &str,
+    count: u32,
+) -> Result<(), Fault> {
+    match what {
+        "deposits" => measure_deposits(rt, scene, desk, count),
+        "large" => measure_large(rt, scene, desk, count),
+        "filling" => beside::measure_filling(rt, scene, desk, count),
+        "beside" => beside::measure_beside(rt, scene, desk, count),
+        "logins" => measure_logins(rt, scene, desk, count),
+        "listings" => measure_listings(rt, scene, desk, count),
+        "retrieval" => measure_retrieval(rt, scene, desk, count),
+        "removal" => measure_removal(rt, scene, desk, count),
+        "one" => measure_interleaved(rt, scene, desk, 1, count),
+        "many" => measure_interleaved(rt, scene, desk, OPEN, count),
+        _ => Ok(()),
+    }
+}
+
+/// Lets ann in, and runs a measure in an office.
 fn measure_in(
     rt: &(impl Print + AllocGlobal + Clock),
     desk: &mut impl Desk,
@@ -204,20 +227,9 @@ fn measure_in(
     count: u32,
 ) -> Result<(), Fault> {
     let_in(rt.alloc(), desk)?;
-    let scene = scene_of(rt.alloc(), text_for(rt.alloc(), what, count)?)?;
-    match what {
-        "deposits" => measure_deposits(rt, &scene, desk, count),
-        "large" => measure_large(rt, &scene, desk, count),
-        "filling" => beside::measure_filling(rt, &scene, desk, count),
-        "beside" => beside::measure_beside(rt, &scene, desk, count),
-        "logins" => measure_logins(rt, &scene, desk, count),
-        "listings" => measure_listings(rt, &scene, desk, count),
-        "retrieval" => measure_retrieval(rt, &scene, desk, count),
-        "removal" => measure_removal(rt, &scene, desk, count),
-        "one" => measure_interleaved(rt, &scene, desk, 1, count),
-        "many" => measure_interleaved(rt, &scene, desk, OPEN, count),
-        _ => Ok(()),
-    }
+    let text = text_for(rt.alloc(), what, count)?;
+    let scene = scene_of(rt.alloc(), text)?;
+    measure_scene(rt, &scene, desk, what, count)
 }
 
 /// Runs a measure in an office of its own over a vault, which it gives back.

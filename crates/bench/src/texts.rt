@@ -33,6 +33,13 @@ fn is_read(alloc: Global, sent: &[u8]) -> Result<bool, AllocError> {
     Ok(unstuff(alloc, sent)?.is_some())
 }
 
+/// Whether the octets that were sent can be read, and how many of them in a microsecond.
+fn reading(rt: &(impl AllocGlobal + Clock), sent: &[u8]) -> io::Result<(bool, u64)> {
+    let start = Instant::now(rt)?;
+    let is_read = is_read(rt.alloc(), sent)?;
+    Ok((is_read, rate(sent.len() as u64, since(rt, start)?)))
+}
+
 /// What it takes to send a text that is kept, and to read it again.
 fn measure_kept(
     rt: &(impl Print + AllocGlobal + Clock),
@@ -43,9 +50,7 @@ fn measure_kept(
     let start = Instant::now(rt)?;
     let sent = send(rt.alloc(), kept)?;
     let stuffing = rate(kept.octets() as u64, since(rt, start)?);
-    let start = Instant::now(rt)?;
-    let is_read = is_read(rt.alloc(), &sent)?;
-    let reading = rate(sent.len() as u64, since(rt, start)?);
+    let (is_read, reading) = reading(rt, &sent)?;
     let state = if is_read { "read" } else { "not read" };
     println!(rt;
         "{name}: canon {keeping} MB/s, stuff_into {stuffing} MB/s, unstuff {reading} MB/s, {state}"
