@@ -1,148 +1,173 @@
 //! Tests of check_policy: what is printed of good policies, and of each fault.
 
-use crate::tests::{Ran, Refusing, expect};
+use crate::tests::{Refusing, expect, run_text};
 use converse::check_policy::check_policy;
-use std::alloc::{AllocError, Global};
+use std::alloc::Global;
 use std::io::{BufWriter, Read, Write};
 use std::test::Fail;
 
-/// The rules of the sample policy: name, effect, clerk, maildrop, class and actions.
-const SAMPLE: [[&str; 6]; 8] = [
-    [
-        "ann-all",
-        "allow",
-        "ann",
-        "orders",
-        "*",
-        "'open', 'read', 'remove'",
-    ],
-    ["bob-open", "allow", "bob", "orders", "*", "'open'"],
-    [
-        "bob-no-pay",
-        "deny",
-        "bob",
-        "orders",
-        "pay",
-        "'read', 'remove'",
-    ],
-    ["bob-read", "allow", "bob", "orders", "*", "'read'"],
-    ["bob-rm", "allow", "bob", "orders", "note", "'remove'"],
-    ["cat-open", "allow", "cat", "orders", "*", "'open'"],
-    ["eve-any", "allow", "eve", "*", "*", "'open'"],
-    ["mrose-open", "allow", "mrose", "*", "*", "'open'"],
+/// The sample policy.
+static SAMPLE: &str = "[[rule]]
+name = 'ann-all'
+effect = 'allow'
+clerk = 'ann'
+maildrop = 'orders'
+class = '*'
+actions = ['open', 'read', 'remove']
+[[rule]]
+name = 'bob-open'
+effect = 'allow'
+clerk = 'bob'
+maildrop = 'orders'
+class = '*'
+actions = ['open']
+[[rule]]
+name = 'bob-no-pay'
+effect = 'deny'
+clerk = 'bob'
+maildrop = 'orders'
+class = 'pay'
+actions = ['read', 'remove']
+[[rule]]
+name = 'bob-read'
+effect = 'allow'
+clerk = 'bob'
+maildrop = 'orders'
+class = '*'
+actions = ['read']
+[[rule]]
+name = 'bob-rm'
+effect = 'allow'
+clerk = 'bob'
+maildrop = 'orders'
+class = 'note'
+actions = ['remove']
+[[rule]]
+name = 'cat-open'
+effect = 'allow'
+clerk = 'cat'
+maildrop = 'orders'
+class = '*'
+actions = ['open']
+[[rule]]
+name = 'eve-any'
+effect = 'allow'
+clerk = 'eve'
+maildrop = '*'
+class = '*'
+actions = ['open']
+[[rule]]
+name = 'mrose-open'
+effect = 'allow'
+clerk = 'mrose'
+maildrop = '*'
+class = '*'
+actions = ['open']
+";
+
+/// Files, and what their check leaves.
+static FILES: [(&[u8], &str); 10] = [
+    (b"", "ok, 0 rules\n"),
+    (b"x = 1", "[1] popbox: rule 0: UnknownKey\n"),
+    (b"rule = 3", "[1] popbox: NotToml\n"),
+    (b"x", "[1] popbox: NotToml\n"),
+    (b"# \xff\n", "[1] popbox: NotToml\n"),
+    (
+        b"[[rule]]\nname = 'a'\nclerk = '*'\nmaildrop = '*'\nclass = '*'\nactions = ['read']\ncolor = 'red'\n",
+        "[1] popbox: rule 1: MissingKey\n",
+    ),
+    (
+        b"[[rule]]
+name = 'default'
+effect = 'deny'
+clerk = '*'
+maildrop = '*'
+class = '*'
+actions = ['read']
+",
+        "[1] popbox: rule 1: BadName\n",
+    ),
+    (
+        b"[[rule]]
+name = 'b'
+effect = 'deny'
+clerk = '*'
+maildrop = '*'
+class = '*'
+actions = ['read', 'read']
+",
+        "[1] popbox: rule 1: BadActions\n",
+    ),
+    (
+        b"[[rule]]
+name = 'a'
+effect = 'allow'
+clerk = '*'
+maildrop = '*'
+class = '*'
+actions = ['read']
+[[rule]]
+name = 'a'
+effect = 'deny'
+clerk = '*'
+maildrop = '*'
+class = '*'
+actions = ['read']
+",
+        "[1] popbox: rule 2: DoubleName\n",
+    ),
+    (
+        b"[[rule]]
+name = 'a'
+effect = 'allow'
+clerk = '*'
+maildrop = '*'
+class = '*'
+actions = ['read']
+[[rule]]
+name = 'b'
+effect = 'deny'
+clerk = '*'
+maildrop = '*'
+class = 'pay'
+actions = ['open']
+",
+        "[1] popbox: rule 2: OpenWithClass\n",
+    ),
 ];
 
-/// Checks a file of these octets.
-fn check(alloc: Global, octets: &[u8]) -> Result<Ran, Fail> {
+/// Fails unless the check of a file of these octets leaves this.
+fn expect_check(alloc: Global, octets: &[u8], want: &str) -> Result<(), Fail> {
     let mut file = octets;
     let mut out = Vec::new(alloc);
     let mut err = Vec::new(alloc);
     let status = check_policy(alloc, &mut file, &mut out, &mut err);
-    Ran::new(status, out, err)
-}
-
-/// Fails unless a file of these octets has this fault.
-fn expect_policy_fault(alloc: Global, octets: &[u8], fault: &str) -> Result<(), Fail> {
-    let want = format!(in alloc; "popbox: {fault}\n")?;
-    expect(check(alloc, octets)?, &Ran::fault(alloc, want.as_str())?)
-}
-
-/// The text of these rules.
-fn write_rules(alloc: Global, rules: &[[&str; 6]]) -> Result<String, AllocError> {
-    let mut text = String::new(alloc);
-    for rule in rules {
-        let [name, effect, clerk, maildrop, class, actions] = *rule;
-        writeln!(
-            text,
-            "[[rule]]\nname = '{name}'\neffect = '{effect}'\nclerk = '{clerk}'"
-        )?;
-        writeln!(
-            text,
-            "maildrop = '{maildrop}'\nclass = '{class}'\nactions = [{actions}]"
-        )?;
-    }
-    Ok(text)
+    expect(
+        run_text(alloc, status, out.as_slice(), err.as_slice())?,
+        want,
+    )
 }
 
 #[test]
 fn good_policies(rt: HostRuntime) -> Result<(), Fail> {
-    let alloc = rt.alloc();
-    let text = write_rules(alloc, SAMPLE.as_slice())?;
-    let want = Ran::good(alloc, "ok, 8 rules\n")?;
-    expect(check(alloc, text.as_bytes())?, &want)?;
-    expect(check(alloc, b"")?, &Ran::good(alloc, "ok, 0 rules\n")?)
+    expect_check(rt.alloc(), SAMPLE.as_bytes(), "ok, 8 rules\n")
 }
-
-/// Texts that are no policy, and the fault of each.
-static FAULTY_TEXTS: [(&[u8], &str); 5] = [
-    (b"x = 1", "rule 0: UnknownKey"),
-    (b"rule = 3", "NotToml"),
-    (b"x", "NotToml"),
-    (b"# \xff\n", "NotToml"),
-    (
-        b"[[rule]]\nname = 'a'\nclerk = '*'\nmaildrop = '*'\nclass = '*'\nactions = ['read']\ncolor = 'red'\n",
-        "rule 1: MissingKey",
-    ),
-];
 
 #[test]
 fn policy_text_faults(rt: HostRuntime) -> Result<(), Fail> {
-    for (octets, fault) in FAULTY_TEXTS.as_slice() {
-        expect_policy_fault(rt.alloc(), octets, fault)?;
+    for (octets, want) in &FILES {
+        expect_check(rt.alloc(), *octets, *want)?;
     }
     Ok(())
 }
 
-/// A good rule.
-const GOOD: [&str; 6] = ["a", "allow", "*", "*", "*", "'read'"];
-
-/// Rules with a fault, each the first rule or behind a good one, and the fault.
-static FAULTY_RULES: [(bool, [&str; 6], &str); 4] = [
-    (
-        true,
-        ["default", "deny", "*", "*", "*", "'read'"],
-        "rule 1: BadName",
-    ),
-    (
-        true,
-        ["b", "deny", "*", "*", "*", "'read', 'read'"],
-        "rule 1: BadActions",
-    ),
-    (
-        false,
-        ["a", "deny", "*", "*", "*", "'read'"],
-        "rule 2: DoubleName",
-    ),
-    (
-        false,
-        ["b", "deny", "*", "*", "pay", "'open'"],
-        "rule 2: OpenWithClass",
-    ),
-];
-
-#[test]
-fn rule_faults(rt: HostRuntime) -> Result<(), Fail> {
-    let alloc = rt.alloc();
-    for (is_first, rule, fault) in FAULTY_RULES.as_slice() {
-        let text = if *is_first {
-            write_rules(alloc, &[*rule])?
-        } else {
-            write_rules(alloc, &[GOOD, *rule])?
-        };
-        expect_policy_fault(alloc, text.as_bytes(), fault)?;
-    }
-    Ok(())
-}
-
-/// Whether the check of a file has status 1 and prints nothing.
-fn prints_nothing<R: Read, E: Write>(alloc: Global, file: &mut R, err: &mut E) -> bool {
-    let mut out = Vec::new(alloc);
-    check_policy(alloc, file, &mut out, err) == 1 && out.is_empty()
-}
-
-/// Whether the check of an empty file has status 1 where its output is refused.
-fn is_not_written<W: Write>(alloc: Global, out: &mut W, err: &mut Vec<u8>) -> bool {
-    let mut file = b"".as_slice();
+/// Whether the check of a file has status 1.
+fn is_refused<R: Read + Drop, W: Write, E: Write>(
+    alloc: Global,
+    mut file: R,
+    out: &mut W,
+    err: &mut E,
+) -> bool {
     check_policy(alloc, &mut file, out, err) == 1
 }
 
@@ -150,14 +175,13 @@ fn is_not_written<W: Write>(alloc: Global, out: &mut W, err: &mut Vec<u8>) -> bo
 fn refused_octets(rt: HostRuntime) -> Result<(), Fail> {
     let alloc = rt.alloc();
     let mut late = BufWriter::new(alloc, Refusing)?;
-    let mut err = Vec::new(alloc);
-    let mut file = b"x = 1".as_slice().chain(Refusing);
-    assert!(rt; prints_nothing(alloc, &mut file, &mut err));
-    assert!(rt; is_not_written(alloc, &mut Refusing, &mut err));
-    assert!(rt; is_not_written(alloc, &mut late, &mut err));
+    let (mut out, mut err) = (Vec::new(alloc), Vec::new(alloc));
+    let file = b"x = 1".as_slice().chain(Refusing);
+    let are_refused = is_refused(alloc, file, &mut out, &mut err)
+        && is_refused(alloc, b"".as_slice(), &mut Refusing, &mut err)
+        && is_refused(alloc, b"".as_slice(), &mut late, &mut err)
+        && is_refused(alloc, b"x = 1".as_slice(), &mut out, &mut Refusing);
     let want = b"popbox: cannot read file\npopbox: cannot write\npopbox: cannot write\n";
-    assert!(rt; err.as_slice() == want.as_slice());
-    let mut faulty = b"x = 1".as_slice();
-    assert!(rt; prints_nothing(alloc, &mut faulty, &mut Refusing));
+    assert!(rt; are_refused && out.is_empty() && err.as_slice() == want.as_slice());
     Ok(())
 }

@@ -1,30 +1,7 @@
 //! Tests of many connections over the sample store: the lock, the idle clock, restarts, and sessions that are ended from outside.
 
-use crate::session_tests::{SAMPLE, SAMPLE_SAID};
-use crate::tests::expect_output;
-use std::alloc::Global;
+use crate::session_tests::plays_over_the_sample;
 use std::test::Fail;
-
-/// The script of a transcript, which are its lines behind `> `, and what is printed of it, which are the others.
-pub fn parts_of(alloc: Global, transcript: &str) -> Result<(String, String), Fail> {
-    let mut script = String::new(alloc);
-    let mut want = String::new(alloc);
-    for line in transcript.lines() {
-        match line.strip_prefix("> ") {
-            Some(event) => writeln!(script, "{event}")?,
-            None => writeln!(want, "{line}")?,
-        }
-    }
-    Ok((script, want))
-}
-
-/// Fails unless a transcript is what comes of its script over the sample store.
-fn plays(alloc: Global, transcript: &str) -> Result<(), Fail> {
-    let (script, want) = parts_of(alloc, transcript)?;
-    let script = format!(in alloc; "{SAMPLE}{script}")?;
-    let want = format!(in alloc; "{SAMPLE_SAID}{want}")?;
-    expect_output(alloc, script.as_str(), want.as_str())
-}
 
 /// Ann marks a message, and is gone: bob is let in, and sees that message.
 static GONE: &str = r"> connect
@@ -94,8 +71,8 @@ done
 #[test]
 fn gone_and_idle_remove_nothing(rt: HostRuntime) -> Result<(), Fail> {
     let alloc = rt.alloc();
-    plays(alloc, GONE)?;
-    plays(alloc, IDLE)
+    plays_over_the_sample(alloc, GONE)?;
+    plays_over_the_sample(alloc, IDLE)
 }
 
 /// Half a line doesn't set the clock; a taking does, a partial one too, and so does a line that acts. An earlier moment counts
@@ -159,11 +136,11 @@ done
 
 #[test]
 fn idle_clocks(rt: HostRuntime) -> Result<(), Fail> {
-    plays(rt.alloc(), CLOCKS)
+    plays_over_the_sample(rt.alloc(), CLOCKS)
 }
 
-/// A removed message's deposit id and unique-id stay used, over a restart too.
-pub static OVER_A_RESTART: &str = r"> connect
+/// A message is removed.
+pub static BEFORE_A_RESTART: &str = r"> connect
 opened 1
 > drain 1
 sent 1 +OK POP3 server ready <1.7@h.test>\r\n
@@ -174,9 +151,10 @@ done
 sent 1 +OK send PASS\r\n+OK maildrop has 4 messages (80 octets)\r\n+OK message 4 deleted\r\n+OK bye\r\n
 done
 ended 1
-> restart 8
-done
-> connect
+";
+
+/// A removed message's deposit id and unique-id stay used, over a restart too.
+pub static AFTER_A_RESTART: &str = r"> connect
 opened 1
 > drain 1
 sent 1 +OK POP3 server ready <1.8@h.test>\r\n
@@ -248,12 +226,13 @@ done
 
 #[test]
 fn unique_ids_over_a_restart(rt: HostRuntime) -> Result<(), Fail> {
-    plays(rt.alloc(), OVER_A_RESTART)
+    let whole = format!(in rt.alloc(); "{BEFORE_A_RESTART}> restart 8\ndone\n{AFTER_A_RESTART}")?;
+    plays_over_the_sample(rt.alloc(), whole.as_str())
 }
 
 #[test]
 fn restart_with_octets_owed(rt: HostRuntime) -> Result<(), Fail> {
-    plays(rt.alloc(), WITH_OCTETS_OWED)
+    plays_over_the_sample(rt.alloc(), WITH_OCTETS_OWED)
 }
 
 /// Half a line does nothing; of a connection that isn't open nothing is taken, and of an open one not no octet.
@@ -289,7 +268,7 @@ ignored: NotReady
 
 #[test]
 fn half_a_line_and_ignored_events(rt: HostRuntime) -> Result<(), Fail> {
-    plays(rt.alloc(), HALF_A_LINE)
+    plays_over_the_sample(rt.alloc(), HALF_A_LINE)
 }
 
 /// A session is ended from outside, and with it its connection; one that has said QUIT is none.
@@ -354,5 +333,5 @@ ended 2
 
 #[test]
 fn sessions_ended_from_outside(rt: HostRuntime) -> Result<(), Fail> {
-    plays(rt.alloc(), SESSIONS)
+    plays_over_the_sample(rt.alloc(), SESSIONS)
 }

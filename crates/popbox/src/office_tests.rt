@@ -7,22 +7,26 @@ use std::alloc::Global;
 use std::test::Fail;
 use vault::PlainVault;
 
-fn opened(alloc: Global, host: &str) -> Result<Office<PlainVault>, OpenFault> {
+/// An office over a store, under a host's name.
+pub fn opened(
+    alloc: Global,
+    vault: PlainVault,
+    host: &str,
+) -> Result<Office<PlainVault>, OpenFault> {
     let Some(limits) = Limits::new(600) else {
         return Err(OpenFault::Store);
     };
-    match Office::open(alloc, PlainVault::new(alloc), host, 7, limits) {
+    match Office::open(alloc, vault, host, 7, limits) {
         Ok(office) => Ok(office),
         Err((fault, _)) => Err(fault),
     }
 }
 
-/// Whether an office is opened under a host's name, or refused for that; `None` where it is refused for another cause.
-fn is_host(alloc: Global, host: &str) -> Option<bool> {
-    match opened(alloc, host) {
-        Ok(_) => Some(true),
-        Err(OpenFault::BadHost) => Some(false),
-        Err(_) => None,
+/// Why no office is opened under a host's name, or none.
+fn refusal(alloc: Global, host: &str) -> Option<OpenFault> {
+    match opened(alloc, PlainVault::new(alloc), host) {
+        Ok(_) => None,
+        Err(fault) => Some(fault),
     }
 }
 
@@ -56,7 +60,12 @@ static HOSTS: [(&str, bool); 16] = [
 fn good_and_bad_hosts(rt: HostRuntime) {
     let alloc = rt.alloc();
     for (host, is_good) in &HOSTS {
-        assert!(rt; is_host(alloc, *host) == Some(*is_good), "{host}");
+        let fault = if *is_good {
+            None
+        } else {
+            Some(OpenFault::BadHost)
+        };
+        assert!(rt; refusal(alloc, *host) == fault, "{host}");
     }
 }
 
@@ -66,15 +75,16 @@ fn limits_of_idle_seconds(rt: HostRuntime) {
     assert!(rt; Limits::new(599).is_none() && Limits::new(86_401).is_none());
 }
 
-/// The greeting, taken whole, and the reply to QUIT, taken in two pieces.
-static TAKEN: [(&str, &[u8]); 6] = [
-    ("opened 1\n", b""),
-    ("done\n", b"+OK POP3 server ready <1.7@h.test>\r\n"),
-    ("done\n", b""),
-    ("done\n", b"+OK "),
-    ("done\n", b"bye\r\n"),
-    ("ignored: NoSuchConnection\n", b""),
-];
+/// The greeting, taken whole, and the reply to QUIT, taken in two pieces: of each step its octets, and what is told of it.
+static TAKEN: &str = "opened 1
++OK POP3 server ready <1.7@h.test>\r
+done
+done
++OK done
+bye\r
+done
+ignored: NoSuchConnection
+";
 
 fn run_greeting_path(office: &mut Office<PlainVault>) -> Result<Transcript, RunFault> {
     office.run(&[
@@ -87,20 +97,14 @@ fn run_greeting_path(office: &mut Office<PlainVault>) -> Result<Transcript, RunF
     ])
 }
 
-fn tells(alloc: Global, step: &Step, outcome: &str, octets: &[u8]) -> Result<bool, Fail> {
-    let mut told = Vec::new(alloc);
-    tell(alloc, &mut told, step.outcome())?;
-    Ok(told.as_slice() == outcome.as_bytes() && step.octets() == octets)
-}
-
 /// Whether the steps are those of the greeting path.
 fn are_taken(alloc: Global, steps: &[Step]) -> Result<bool, Fail> {
-    for (step, (outcome, octets)) in steps.iter().zip(TAKEN.as_slice()) {
-        if !tells(alloc, step, outcome, octets)? {
-            return Ok(false);
-        }
+    let mut told = Vec::new(alloc);
+    for step in steps {
+        told.extend_from_slice(step.octets())?;
+        tell(alloc, &mut told, step.outcome())?;
     }
-    Ok(steps.len() == TAKEN.len())
+    Ok(told.as_slice() == TAKEN.as_bytes())
 }
 
 /// Whether the first connection is over.
@@ -116,7 +120,7 @@ fn is_run(alloc: Global, office: &mut Office<PlainVault>) -> Result<bool, Fail> 
 
 #[test]
 fn greeting_path_as_one_run(rt: HostRuntime) -> Result<(), Fail> {
-    let mut office = opened(rt.alloc(), "h.test")?;
+    let mut office = opened(rt.alloc(), PlainVault::new(rt.alloc()), "h.test")?;
     assert!(rt; is_run(rt.alloc(), &mut office)?);
     Ok(())
 }

@@ -1,14 +1,14 @@
 //! Tests of a client that doesn't wait for replies: by a script, as one list of events, and over stores that refuse a call.
 
-use crate::connection_tests::parts_of;
-use crate::session_tests::SAMPLE;
-use crate::tests::{Ran, expect};
-use converse::replay::{replay, tell, write_escaped};
+use crate::office_tests::opened;
+use crate::session_tests::{SAMPLE, plays_over_the_sample};
+use crate::tests::{parts_of, run_on};
+use converse::replay::{tell, write_escaped};
 use creds::{DepositId, Name};
-use office::{AdminCommand, Event, Limits, Office, RunFault, Transcript};
-use std::alloc::Global;
+use office::{AdminCommand, Event, Office, RunFault, Transcript};
+use std::alloc::{AllocError, Global};
 use std::test::Fail;
-use vault::{PlainVault, Refusing, Vault};
+use vault::{PlainVault, Refusing};
 
 /// Ann says three lines at once, and takes seven octets at a time, or what is owed if less. A line acts once all before it
 /// was taken.
@@ -103,18 +103,10 @@ done
 ended 1
 ";
 
-/// Runs a script over a vault.
-fn run_over<V: Vault + Drop>(alloc: Global, vault: V, script: &str) -> Result<(Ran, V), Fail> {
-    let mut script = script.as_bytes();
-    let mut out = Vec::new(alloc);
-    let mut err = Vec::new(alloc);
-    let (status, vault) = replay(alloc, &mut script, vault, "h.test", 7, &mut out, &mut err);
-    Ok((Ran::new(status, out, err)?, vault))
-}
-
 /// The sample store.
 fn sample_vault(alloc: Global) -> Result<PlainVault, Fail> {
-    let (_, vault) = run_over(alloc, PlainVault::new(alloc), SAMPLE)?;
+    let (script, _) = parts_of(alloc, SAMPLE)?;
+    let (_, vault) = run_on(alloc, PlainVault::new(alloc), "h.test", 7, script.as_str())?;
     Ok(vault)
 }
 
@@ -159,16 +151,6 @@ fn run_lent(office: &mut Office<PlainVault>, lent: Lent<'_>) -> Result<Transcrip
     ])
 }
 
-/// An office over the sample store.
-fn opened(alloc: Global) -> Result<Office<PlainVault>, Fail> {
-    let limits = Limits::new(600).ok_or("limits")?;
-    let vault = sample_vault(alloc)?;
-    match Office::open(alloc, vault, "h.test", 7, limits) {
-        Ok(office) => Ok(office),
-        Err(_) => Err(Fail::from("opening")),
-    }
-}
-
 /// The list over an office, by the names of a maildrop, a class and a deposit.
 fn run_named(
     office: &mut Office<PlainVault>,
@@ -195,11 +177,8 @@ fn run_as_one_list(alloc: Global) -> Result<Transcript, Fail> {
     let orders = Name::read(b"orders").ok_or("maildrop")?;
     let note = Name::read(b"note").ok_or("class")?;
     let id = DepositId::read(b"d5").ok_or("id")?;
-    let mut office = opened(alloc)?;
-    match run_named(&mut office, &orders, &note, &id) {
-        Ok(transcript) => Ok(transcript),
-        Err(_) => Err(Fail::from("run")),
-    }
+    let mut office = opened(alloc, sample_vault(alloc)?, "h.test")?;
+    Ok(run_named(&mut office, &orders, &note, &id)?)
 }
 
 /// A transcript as replay prints it, but for the ending of a connection.
@@ -211,29 +190,26 @@ fn told(alloc: Global, transcript: &Transcript) -> Result<Vec<u8>, Fail> {
             write_escaped(&mut out, step.octets())?;
             out.push(b'\n')?;
         }
-        tell(alloc, &mut out, step.outcome()).map_err(|_| "telling")?;
+        tell(alloc, &mut out, step.outcome())?;
     }
     Ok(out)
 }
 
-/// The whole script.
-fn script_of(alloc: Global) -> Result<String, Fail> {
-    let (before, _) = parts_of(alloc, PIPELINED)?;
-    let (after, _) = parts_of(alloc, QUIT)?;
-    Ok(format!(in alloc; "{before}{after}")?)
+/// The whole transcript, where the QUIT does this.
+fn whole_with(alloc: Global, quit: &str) -> Result<String, AllocError> {
+    format!(in alloc; "{PIPELINED}{quit}")
 }
 
-/// What is printed of it, where the QUIT does this.
-fn said_with(alloc: Global, quit: &str) -> Result<String, Fail> {
-    let (_, before) = parts_of(alloc, PIPELINED)?;
-    let (_, after) = parts_of(alloc, quit)?;
-    Ok(format!(in alloc; "{before}{after}")?)
+/// The whole script, and what is printed of it, where the QUIT does this.
+fn parts_with(alloc: Global, quit: &str) -> Result<(String, String), Fail> {
+    let whole = whole_with(alloc, quit)?;
+    parts_of(alloc, whole.as_str())
 }
 
 #[test]
 fn pipelined_as_one_run(rt: HostRuntime) -> Result<(), Fail> {
     let alloc = rt.alloc();
-    let want = said_with(alloc, QUIT)?;
+    let (_, want) = parts_with(alloc, QUIT)?;
     let transcript = run_as_one_list(alloc)?;
     let mut text = told(alloc, &transcript)?;
     text.extend_from_slice(b"ended 1\n")?;
@@ -243,40 +219,27 @@ fn pipelined_as_one_run(rt: HostRuntime) -> Result<(), Fail> {
 
 /// Runs the script over stores that refuse their first call, their second, and so on until none is refused. Whether in one of
 /// them the QUIT was refused.
-fn has_refused_quit(alloc: Global, script: &str, free: &Ran, quit: &Ran) -> Result<bool, Fail> {
+fn has_refused_quit(alloc: Global, script: &str, free: &str, quit: &str) -> Result<bool, Fail> {
     let mut was_refused = false;
     for call in 1..100 {
         let vault = Refusing::new(sample_vault(alloc)?, call);
-        let (ran, _) = run_over(alloc, vault, script)?;
-        if ran == *free {
+        let (ran, _) = run_on(alloc, vault, "h.test", 7, script)?;
+        if ran.as_str() == free {
             return Ok(was_refused);
         }
-        if ran == *quit {
+        if ran.as_str() == quit {
             was_refused = true;
         }
     }
     Err(Fail::from("each run was refused"))
 }
 
-/// A good run of the script, where the QUIT does this.
-fn ran_with(alloc: Global, quit: &str) -> Result<Ran, Fail> {
-    let want = said_with(alloc, quit)?;
-    Ok(Ran::good(alloc, want.as_str())?)
-}
-
-/// Fails unless the script runs so over the sample store.
-fn runs_freely(alloc: Global, script: &str, free: &Ran) -> Result<(), Fail> {
-    let (ran, _) = run_over(alloc, sample_vault(alloc)?, script)?;
-    expect(ran, free)
-}
-
 #[test]
 fn pipelined_retrieve_delete_quit(rt: HostRuntime) -> Result<(), Fail> {
     let alloc = rt.alloc();
-    let script = script_of(alloc)?;
-    let free = ran_with(alloc, QUIT)?;
-    runs_freely(alloc, script.as_str(), &free)?;
-    let refused = ran_with(alloc, REFUSED_QUIT)?;
-    assert!(rt; has_refused_quit(alloc, script.as_str(), &free, &refused)?);
+    plays_over_the_sample(alloc, whole_with(alloc, QUIT)?.as_str())?;
+    let (script, free) = parts_with(alloc, QUIT)?;
+    let (_, refused) = parts_with(alloc, REFUSED_QUIT)?;
+    assert!(rt; has_refused_quit(alloc, script.as_str(), free.as_str(), refused.as_str())?);
     Ok(())
 }

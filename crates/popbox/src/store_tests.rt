@@ -2,18 +2,18 @@
 ghost use Rattle.std.specs.Prelude.{IsTrue, IfOk};
 ghost use Rattle.sqlite_disk.specs.Memory.{memory_is_usable};
 
-use crate::connection_tests::{OVER_A_RESTART, parts_of};
-use crate::session_tests::{SAMPLE, SAMPLE_SAID};
-use crate::tests::{Ran, Refusing, expect, run_on};
+use crate::connection_tests::{AFTER_A_RESTART, BEFORE_A_RESTART};
+use crate::session_tests::SAMPLE;
+use crate::tests::{Refusing, expect, parts_of, run_on, run_over_tables, run_text};
 use converse::fault_text;
 use converse::talking::talk;
 use sqlite::{Alter, Connection, Error, FileStore, Files, MemStore, Options};
 use sqlite_disk::{Disk, Memory};
 use sqlvault::SqlVault;
-use std::alloc::Global;
+use std::alloc::{AllocError, Global};
 use std::io::Write;
 use std::test::Fail;
-use vault::{PlainVault, Vault, VaultFault};
+use vault::{PlainVault, VaultFault};
 
 fn open(alloc: Global, log: Memory, db: Memory) -> Result<Connection<FileStore<Memory>>, Error>
     requires { IsTrue (memory_is_usable log) × IsTrue (memory_is_usable db) }
@@ -43,29 +43,17 @@ pub fn adopted<S: Alter + Drop>(
     }
 }
 
-/// Runs a script over a store, expects what it prints, and gives the store back.
-fn played<V: Vault + Drop>(
-    alloc: Global,
-    vault: V,
-    boot: u64,
-    script: &str,
-    out: &str,
-) -> Result<V, Fail> {
-    let (ran, vault) = run_on(alloc, vault, "h.test", boot, script)?;
-    expect(ran, &Ran::good(alloc, out)?)?;
-    Ok(vault)
-}
-
-/// Does the same over a connection's store, and gives the connection back.
-fn played_over<S: Alter + Drop>(
+/// Runs a transcript's script over a connection's store, expects what is printed of it, and gives the connection back.
+fn played<S: Alter + Drop>(
     alloc: Global,
     conn: Connection<S>,
     boot: u64,
-    script: &str,
-    out: &str,
+    transcript: &str,
 ) -> Result<Connection<S>, Fail> {
     let vault = adopted(alloc, conn)?;
-    let vault = played(alloc, vault, boot, script, out)?;
+    let (script, want) = parts_of(alloc, transcript)?;
+    let (ran, vault) = run_on(alloc, vault, "h.test", boot, script.as_str())?;
+    expect(ran, want.as_str())?;
     Ok(vault.into_connection())
 }
 
@@ -74,85 +62,53 @@ fn played_in<D: Disk + Drop>(
     alloc: Global,
     conn: Connection<FileStore<D>>,
     boot: u64,
-    script: &str,
-    out: &str,
+    transcript: &str,
 ) -> Result<D, Fail>
     ensures { IfOk result (λ db. IsTrue (D.Disk.is_usable db)) }
 {
-    let conn = played_over(alloc, conn, boot, script, out)?;
-    Ok(close(conn)?)
+    Ok(close(played(alloc, conn, boot, transcript)?)?)
 }
 
-/// Opens the store in a file, runs a script over it, expects what it prints, and gives the file, which is closed.
-fn played_from(
-    alloc: Global,
-    db: Memory,
-    boot: u64,
-    script: &str,
-    out: &str,
-) -> Result<Memory, Fail>
+/// Opens the store in a file, and does the same.
+fn played_from(alloc: Global, db: Memory, boot: u64, transcript: &str) -> Result<Memory, Fail>
     requires { IsTrue (memory_is_usable db) }
     ensures { IfOk result (λ db. IsTrue (memory_is_usable db)) }
 {
     let conn = open(alloc, Memory::new(alloc), db)?;
-    played_in(alloc, conn, boot, script, out)
+    played_in(alloc, conn, boot, transcript)
 }
+
+/// Plays two transcripts over a new store, which is closed and opened again behind each.
+fn plays_in_turn(alloc: Global, first: &str, second: &str) -> Result<(), Fail> {
+    let db = played_from(alloc, Memory::new(alloc), 7, first)?;
+    let db = played_from(alloc, db, 8, second)?;
+    let _ = played_from(alloc, db, 8, "")?;
+    Ok(())
+}
+
+/// A deposit.
+static FIRST_RUN: &str = "> maildrop add orders
+answer added
+> deposit orders note d1 hi
+answer new note.1
+";
+
+/// The same deposit, of another form.
+static SECOND_RUN: &str = r"> list orders
+answer note.1 4
+> deposit orders note d1 hi\n
+answer known note.1
+";
 
 #[test]
 fn two_runs_over_one_store(rt: HostRuntime) -> Result<(), Fail> {
-    let alloc = rt.alloc();
-    let db = played_from(
-        alloc,
-        Memory::new(alloc),
-        1,
-        "maildrop add orders\ndeposit orders note d1 hi\n",
-        "answer added\nanswer new note.1\n",
-    )?;
-    let db = played_from(
-        alloc,
-        db,
-        1,
-        "list orders\ndeposit orders note d1 hi\\n\n",
-        "answer note.1 4\nanswer known note.1\n",
-    )?;
-    let _ = played_from(alloc, db, 1, "", "")?;
-    Ok(())
-}
-
-/// What stands in the transcript between two runs, where the store is closed and opened again.
-static RESTART: &str = "> restart 8\ndone\n";
-
-/// Plays two scripts over a new store, which is closed and opened again behind each.
-fn plays_in_turn(
-    alloc: Global,
-    first: &str,
-    first_out: &str,
-    second: &str,
-    second_out: &str,
-) -> Result<(), Fail> {
-    let db = played_from(alloc, Memory::new(alloc), 7, first, first_out)?;
-    let db = played_from(alloc, db, 8, second, second_out)?;
-    let _ = played_from(alloc, db, 8, "", "")?;
-    Ok(())
+    plays_in_turn(rt.alloc(), FIRST_RUN, SECOND_RUN)
 }
 
 #[test]
 fn unique_ids_over_a_store_opened_again(rt: HostRuntime) -> Result<(), Fail> {
-    let alloc = rt.alloc();
-    let at = OVER_A_RESTART.find(RESTART).ok_or("restart")?;
-    let (first, second) = OVER_A_RESTART.split_at_checked(at).ok_or("parts")?;
-    let second = second.strip_prefix(RESTART).ok_or("second")?;
-    let (script, want) = parts_of(alloc, first)?;
-    let script = format!(in alloc; "{SAMPLE}{script}")?;
-    let want = format!(in alloc; "{SAMPLE_SAID}{want}")?;
-    let (script_after, want_after) = parts_of(alloc, second)?;
-    plays_in_turn(
-        alloc,
-        script.as_str(),
-        want.as_str(),
-        script_after.as_str(),
-        want_after.as_str(),
-    )
+    let first = format!(in rt.alloc(); "{SAMPLE}{BEFORE_A_RESTART}")?;
+    plays_in_turn(rt.alloc(), first.as_str(), AFTER_A_RESTART)
 }
 
 /// A store in memory in which these statements were run.
@@ -182,43 +138,53 @@ pub fn is_refused(
     }
 }
 
+/// A store of other tables, one with the table of marks alone and the mark of the first version, which had other tables, a
+/// store of ours with another mark, and one with a transaction under way: whether it is ours before these statements, and
+/// the fault with its name.
+static OTHERS: [(bool, &str, VaultFault, &str); 4] = [
+    (
+        false,
+        "CREATE TABLE rules (x INTEGER) STRICT",
+        VaultFault::NotOurs,
+        "NotOurs",
+    ),
+    (
+        false,
+        "CREATE TABLE meta (name TEXT PRIMARY KEY, value INTEGER NOT NULL) STRICT; INSERT INTO meta (name, value) VALUES ('popbox', 1)",
+        VaultFault::OldVersion,
+        "OldVersion",
+    ),
+    (
+        true,
+        "UPDATE meta SET value = 9",
+        VaultFault::OldVersion,
+        "OldVersion",
+    ),
+    (true, "BEGIN", VaultFault::NotOurs, "NotOurs"),
+];
+
 #[test]
 fn other_stores_are_refused(rt: HostRuntime) -> Result<(), Fail> {
     let alloc = rt.alloc();
-    let conn = store_of(alloc, "CREATE TABLE rules (x INTEGER) STRICT")?;
-    assert!(rt; is_refused(alloc, conn, VaultFault::NotOurs, "NotOurs"));
-    let conn = changed(SqlVault::in_memory(alloc)?, "UPDATE meta SET value = 9")?;
-    assert!(rt; is_refused(alloc, conn, VaultFault::OldVersion, "OldVersion"));
-    Ok(())
-}
-
-/// The table of marks alone, with the mark of the first version, which had other tables.
-static FIRST_VERSION: &str =
-    "CREATE TABLE meta (name TEXT PRIMARY KEY, value INTEGER NOT NULL) STRICT; INSERT INTO meta (name, value) VALUES ('popbox', 1)";
-
-#[test]
-fn a_store_with_other_tables_is_told_as_of_another_version(rt: HostRuntime) -> Result<(), Fail> {
-    let alloc = rt.alloc();
-    let conn = store_of(alloc, FIRST_VERSION)?;
-    assert!(rt; is_refused(alloc, conn, VaultFault::OldVersion, "OldVersion"));
-    Ok(())
-}
-
-#[test]
-fn a_transaction_under_way_is_refused(rt: HostRuntime) -> Result<(), Fail> {
-    let alloc = rt.alloc();
-    let conn = changed(SqlVault::in_memory(alloc)?, "BEGIN")?;
-    assert!(rt; is_refused(alloc, conn, VaultFault::NotOurs, "NotOurs"));
+    for (is_ours, sql, fault, name) in &OTHERS {
+        let conn = if *is_ours {
+            changed(SqlVault::in_memory(alloc)?, *sql)?
+        } else {
+            store_of(alloc, *sql)?
+        };
+        assert!(rt; is_refused(alloc, conn, *fault, *name), "{sql}");
+    }
     Ok(())
 }
 
 /// A maildrop, a clerk who may do everything in it, and what is printed of it.
-static CLERK: &str = r#"maildrop add orders
-clerk pass ann s3 cret
-policy [[rule]]\nname = "all"\neffect = "allow"\nclerk = "ann"\nmaildrop = "orders"\nclass = "*"\nactions = ["open", "read", "remove"]\n
+static CLERK: &str = r#"> maildrop add orders
+answer added
+> clerk pass ann s3 cret
+answer added
+> policy [[rule]]\nname = "all"\neffect = "allow"\nclerk = "ann"\nmaildrop = "orders"\nclass = "*"\nactions = ["open", "read", "remove"]\n
+answer 1 rules
 "#;
-
-static CLERK_SAID: &str = "answer added\nanswer added\nanswer 1 rules\n";
 
 /// What a clerk says in a round, and the replies.
 static ROUND: &str = r"USER ann/orders\r\nPASS s3 cret\r\nRETR 1\r\nDELE 1\r\nQUIT\r\n";
@@ -227,51 +193,41 @@ static ROUND_SAID: &str =
     r"+OK send PASS\r\n+OK maildrop has 1 messages (4 octets)\r\n+OK 4 octets\r\nhi\r\n.\r\n+OK message 1 deleted\r\n+OK bye\r\n";
 
 /// A round: a deposit, a login, and the reading and the removal of the message.
-fn write_round(script: &mut String, n: u32) -> Result<(), Fail> {
-    writeln!(script, "deposit orders note d{n} hi\nconnect\ndrain {n}")?;
-    writeln!(script, "bytes {n} {ROUND}\ndrain {n}")?;
-    Ok(())
-}
-
-/// What is to be printed of that.
-fn write_round_said(want: &mut String, n: u32) -> Result<(), Fail> {
-    writeln!(want, "answer new note.{n}\nopened {n}")?;
+fn write_round(text: &mut String, n: u32) -> Result<(), AllocError> {
     writeln!(
-        want,
-        "sent {n} +OK POP3 server ready <{n}.7@h.test>\\r\\n\ndone\ndone"
+        text,
+        "> deposit orders note d{n} hi\nanswer new note.{n}\n> connect\nopened {n}\n> drain {n}"
     )?;
-    writeln!(want, "sent {n} {ROUND_SAID}\ndone\nended {n}")?;
-    Ok(())
-}
-
-/// A script of so many rounds, and what is to be printed of it.
-fn rounds(alloc: Global, count: u32) -> Result<(String, String), Fail> {
-    let mut script = String::from_str(alloc, CLERK)?;
-    let mut want = String::from_str(alloc, CLERK_SAID)?;
-    for n in 1..=count {
-        write_round(&mut script, n)?;
-        write_round_said(&mut want, n)?;
-    }
-    Ok((script, want))
+    writeln!(
+        text,
+        "sent {n} +OK POP3 server ready <{n}.7@h.test>\\r\\n\ndone\n> bytes {n} {ROUND}\ndone"
+    )?;
+    writeln!(text, "> drain {n}\nsent {n} {ROUND_SAID}\ndone\nended {n}")
 }
 
 #[test]
 fn three_hundred_rounds(rt: HostRuntime) -> Result<(), Fail> {
     let alloc = rt.alloc();
-    let (script, want) = rounds(alloc, 300)?;
-    let vault = SqlVault::in_memory(alloc)?;
-    let (ran, _) = run_on(alloc, vault, "h.test", 7, script.as_str())?;
-    expect(ran, &Ran::good(alloc, want.as_str())?)
+    let mut text = String::from_str(alloc, CLERK)?;
+    for n in 1..=300 {
+        write_round(&mut text, n)?;
+    }
+    let (script, want) = parts_of(alloc, text.as_str())?;
+    let (ran, _) = run_over_tables(alloc, script.as_str())?;
+    expect(ran, want.as_str())
 }
 
-/// A conversation over an empty store, from a reader that tells these octets.
-fn talked(alloc: Global, host: &str, octets: &[u8]) -> Result<Ran, Fail> {
-    let mut reader = octets;
+/// Fails unless a conversation over an empty store, with a reader that says QUIT, leaves this.
+fn expect_talk(alloc: Global, host: &str, want: &str) -> Result<(), Fail> {
+    let mut reader = b"QUIT\r\n".as_slice();
     let mut out = Vec::new(alloc);
     let mut err = Vec::new(alloc);
     let vault = PlainVault::new(alloc);
     let (status, _) = talk(alloc, vault, host, 7, &mut reader, &mut out, &mut err);
-    Ran::new(status, out, err)
+    expect(
+        run_text(alloc, status, out.as_slice(), err.as_slice())?,
+        want,
+    )
 }
 
 /// Whether a conversation with a reader that refuses has status 1. Its fault goes to `err`.
@@ -294,14 +250,8 @@ fn are_broken_off(alloc: Global) -> bool {
 fn conversations(rt: HostRuntime) -> Result<(), Fail> {
     let alloc = rt.alloc();
     let want = "+OK POP3 server ready <1.7@h.test>\r\n+OK bye\r\n";
-    expect(
-        talked(alloc, "h.test", b"QUIT\r\n")?,
-        &Ran::good(alloc, want)?,
-    )?;
-    expect(
-        talked(alloc, "a..b", b"QUIT\r\n")?,
-        &Ran::fault(alloc, "popbox: BadHost\n")?,
-    )?;
+    expect_talk(alloc, "h.test", want)?;
+    expect_talk(alloc, "a..b", "[1] popbox: BadHost\n")?;
     assert!(rt; are_broken_off(alloc));
     Ok(())
 }

@@ -2,58 +2,26 @@
 
 use crate::command_line::make_command;
 use clap::ArgMatches;
-use converse::replay::{replay, write_escaped};
+use converse::replay::{replay, tell, write_escaped};
 use converse::script::{Line, read_script};
+use creds::{Credential, Secret};
+use office::{AdminCommand, Outcome};
+use sqlite::MemStore;
 use sqlvault::SqlVault;
 use std::alloc::{AllocError, Global};
-use std::io;
 use std::io::{ErrorKind, Read, Write};
 use std::test::Fail;
+use std::{io, str};
 use vault::{PlainVault, Vault};
 
-const GREETING: &str = r"+OK POP3 server ready";
-
-const CAPABILITIES: &str =
-    r"+OK capability list follows\r\nTOP\r\nUSER\r\nUIDL\r\nRESP-CODES\r\nPIPELINING\r\n.\r\n";
-
-/// What a run leaves: the exit status, standard output and standard error.
-#[derive(Debug, PartialEq, Eq, Drop)]
-pub struct Ran {
-    status: u8,
-    out: String,
-    err: String,
-}
-
-impl Ran {
-    /// A run with this exit status, standard output and standard error.
-    pub fn new(status: u8, out: Vec<u8>, err: Vec<u8>) -> Result<Ran, Fail> {
-        let out = String::from_utf8(out).map_err(|_| "out")?;
-        let err = String::from_utf8(err).map_err(|_| "err")?;
-        Ok(Ran { status, out, err })
+/// What a run leaves, as one text: standard output, and behind a fault the exit status in brackets and standard error.
+pub fn run_text(alloc: Global, status: u8, out: &[u8], err: &[u8]) -> Result<String, Fail> {
+    let mut text = String::from_str(alloc, str::from_utf8(out)?)?;
+    if status != 0 || !err.is_empty() {
+        let fault = str::from_utf8(err)?;
+        write!(text, "[{status}] {fault}")?;
     }
-
-    /// What was printed on standard output.
-    pub fn printed(&self) -> &str {
-        self.out.as_str()
-    }
-
-    /// A run that prints `out` and has no fault.
-    pub fn good(alloc: Global, out: &str) -> Result<Ran, AllocError> {
-        Ok(Ran {
-            status: 0,
-            out: String::from_str(alloc, out)?,
-            err: String::new(alloc),
-        })
-    }
-
-    /// A run that has a fault, and prints nothing.
-    pub fn fault(alloc: Global, err: &str) -> Result<Ran, AllocError> {
-        Ok(Ran {
-            status: 1,
-            out: String::new(alloc),
-            err: String::from_str(alloc, err)?,
-        })
-    }
+    Ok(text)
 }
 
 /// Runs a script over a store, at a host name and with a boot number, and gives the store back.
@@ -63,44 +31,30 @@ pub fn run_on<V: Vault + Drop>(
     host: &str,
     boot: u64,
     script: &str,
-) -> Result<(Ran, V), Fail> {
+) -> Result<(String, V), Fail> {
     let mut script = script.as_bytes();
     let mut out = Vec::new(alloc);
     let mut err = Vec::new(alloc);
     let (status, vault) = replay(alloc, &mut script, vault, host, boot, &mut out, &mut err);
-    Ok((Ran::new(status, out, err)?, vault))
-}
-
-/// Runs a script over a store, at a host name and with a boot number.
-fn run_over<V: Vault + Drop>(
-    alloc: Global,
-    vault: V,
-    host: &str,
-    boot: u64,
-    script: &str,
-) -> Result<Ran, Fail> {
-    let (ran, _) = run_on(alloc, vault, host, boot, script)?;
-    Ok(ran)
+    let text = run_text(alloc, status, out.as_slice(), err.as_slice())?;
+    Ok((text, vault))
 }
 
 /// Runs a script over an empty store, at a host name and with a boot number.
-pub fn run_at(alloc: Global, host: &str, boot: u64, script: &str) -> Result<Ran, Fail> {
-    run_over(alloc, PlainVault::new(alloc), host, boot, script)
+pub fn run_at(alloc: Global, host: &str, boot: u64, script: &str) -> Result<String, Fail> {
+    let (ran, _) = run_on(alloc, PlainVault::new(alloc), host, boot, script)?;
+    Ok(ran)
 }
 
-/// Runs a script over an empty store of tables in memory, at the host name and with the boot number of the worked examples.
-fn run_over_tables(alloc: Global, script: &str) -> Result<Ran, Fail> {
-    run_over(alloc, SqlVault::in_memory(alloc)?, "h.test", 7, script)
+/// Runs a script over an empty store of tables in memory, at the host name and with the boot number of the worked examples,
+/// and gives the store back.
+pub fn run_over_tables(alloc: Global, script: &str) -> Result<(String, SqlVault<MemStore>), Fail> {
+    run_on(alloc, SqlVault::in_memory(alloc)?, "h.test", 7, script)
 }
 
-/// Runs a script at the host name and with the boot number of the worked examples.
-pub fn run(alloc: Global, script: &str) -> Result<Ran, Fail> {
-    run_at(alloc, "h.test", 7, script)
-}
-
-/// Fails with the run, unless it is the one that is wanted.
-pub fn expect(ran: Ran, want: &Ran) -> Result<(), Fail> {
-    if ran == *want {
+/// Fails with what a run left, unless it is what is wanted.
+pub fn expect(ran: String, want: &str) -> Result<(), Fail> {
+    if ran.as_str() == want {
         Ok(())
     } else {
         Err(Fail::from(ran))
@@ -108,77 +62,136 @@ pub fn expect(ran: Ran, want: &Ran) -> Result<(), Fail> {
 }
 
 /// Fails unless the script prints this, and has no fault, over a store of vectors and over one of tables.
-pub fn expect_output(alloc: Global, script: &str, out: &str) -> Result<(), Fail> {
-    let want = Ran::good(alloc, out)?;
-    expect(run(alloc, script)?, &want)?;
-    expect(run_over_tables(alloc, script)?, &want)
+fn expect_output(alloc: Global, script: &str, out: &str) -> Result<(), Fail> {
+    expect(run_at(alloc, "h.test", 7, script)?, out)?;
+    let (ran, _) = run_over_tables(alloc, script)?;
+    expect(ran, out)
 }
 
-/// Fails unless the script prints nothing, and has this fault.
-fn expect_fault(alloc: Global, host: &str, script: &str, err: &str) -> Result<(), Fail> {
-    expect(run_at(alloc, host, 7, script)?, &Ran::fault(alloc, err)?)
-}
-
-/// The octets of CAPA and of QUIT.
-static CAPA_AND_QUIT: [&str; 12] = [
-    "C", "A", "P", "A", r"\r", r"\n", "Q", "U", "I", "T", r"\r", r"\n",
-];
-
-#[test]
-fn capability_list_octet_by_octet(rt: HostRuntime) -> Result<(), Fail> {
-    let alloc = rt.alloc();
-    let mut script = String::from_str(alloc, "connect\ndrain 1\n")?;
-    let mut want = format!(in alloc; "opened 1\nsent 1 {GREETING} <1.7@h.test>\\r\\n\ndone\n")?;
-    for (i, octet) in CAPA_AND_QUIT.iter().enumerate() {
-        writeln!(script, "bytes 1 {octet}\ndrain 1")?;
-        match i {
-            5 => write!(want, "done\nsent 1 {CAPABILITIES}\ndone\n")?,
-            11 => write!(want, "done\nsent 1 +OK bye\\r\\n\ndone\nended 1\n")?,
-            _ => write!(want, "done\ndone\n")?,
+/// The script of a transcript and what is printed of it. Of the transcript's lines the script has those behind `> `; a line
+/// behind `C: ` is said on connection 1, which then takes all that it is owed, and that is the line behind `S: `. All other
+/// lines are printed.
+pub fn parts_of(alloc: Global, transcript: &str) -> Result<(String, String), Fail> {
+    let mut script = String::new(alloc);
+    let mut want = String::new(alloc);
+    for line in transcript.lines() {
+        if let Some(event) = line.strip_prefix("> ") {
+            writeln!(script, "{event}")?;
+        } else if let Some(said) = line.strip_prefix("C: ") {
+            writeln!(script, "bytes 1 {said}\\r\\n\ndrain 1")?;
+        } else if let Some(reply) = line.strip_prefix("S: ") {
+            writeln!(want, "done\nsent 1 {reply}\\r\\n\ndone")?;
+        } else {
+            writeln!(want, "{line}")?;
         }
     }
+    Ok((script, want))
+}
+
+/// Fails unless a transcript is what comes of its script over an empty store.
+pub fn plays(alloc: Global, transcript: &str) -> Result<(), Fail> {
+    let (script, want) = parts_of(alloc, transcript)?;
     expect_output(alloc, script.as_str(), want.as_str())
 }
 
-/// Gives a line on a connection of its own, in two pieces and an end.
+/// Fails unless the script prints nothing, and has this fault.
+fn expect_fault(alloc: Global, host: &str, script: &str, fault: &str) -> Result<(), Fail> {
+    expect(run_at(alloc, host, 7, script)?, fault)
+}
+
+/// CAPA and QUIT, an octet at a time.
+static OCTET_BY_OCTET: &str = r"> connect
+opened 1
+> drain 1
+sent 1 +OK POP3 server ready <1.7@h.test>\r\n
+done
+> bytes 1 C
+done
+> drain 1
+done
+> bytes 1 A
+done
+> drain 1
+done
+> bytes 1 P
+done
+> drain 1
+done
+> bytes 1 A
+done
+> drain 1
+done
+> bytes 1 \r
+done
+> drain 1
+done
+> bytes 1 \n
+done
+> drain 1
+sent 1 +OK capability list follows\r\nTOP\r\nUSER\r\nUIDL\r\nRESP-CODES\r\nPIPELINING\r\n.\r\n
+done
+> bytes 1 Q
+done
+> drain 1
+done
+> bytes 1 U
+done
+> drain 1
+done
+> bytes 1 I
+done
+> drain 1
+done
+> bytes 1 T
+done
+> drain 1
+done
+> bytes 1 \r
+done
+> drain 1
+done
+> bytes 1 \n
+done
+> drain 1
+sent 1 +OK bye\r\n
+done
+ended 1
+";
+
+#[test]
+fn capability_list_octet_by_octet(rt: HostRuntime) -> Result<(), Fail> {
+    plays(rt.alloc(), OCTET_BY_OCTET)
+}
+
+/// A line on a connection of its own, in two pieces, the second with its end, and its reply.
 fn write_cut(
-    script: &mut String,
+    text: &mut String,
     at: usize,
     front: &str,
     back: &str,
-    end: &str,
+    reply: &str,
 ) -> Result<(), AllocError> {
     writeln!(
-        script,
-        "connect\ndrain {at}\nbytes {at} {front}\nbytes {at} {back}{end}"
+        text,
+        "> connect\nopened {at}\n> drain {at}\nsent {at} +OK POP3 server ready <{at}.7@h.test>\\r\\n\ndone"
     )?;
-    writeln!(script, "drain {at}\ngone {at}")?;
-    Ok(())
-}
-
-/// What is to be printed of that.
-fn write_cut_said(want: &mut String, at: usize, reply: &str) -> Result<(), AllocError> {
     writeln!(
-        want,
-        "opened {at}\nsent {at} {GREETING} <{at}.7@h.test>\\r\\n\ndone\ndone\ndone"
+        text,
+        "> bytes {at} {front}\ndone\n> bytes {at} {back}\ndone\n> drain {at}\nsent {at} {reply}\\r\\n\ndone"
     )?;
-    writeln!(want, "sent {at} {reply}\\r\\n\ndone\ndone\nended {at}")?;
-    Ok(())
+    writeln!(text, "> gone {at}\ndone\nended {at}")
 }
 
 /// Gives `NOOP`, so many spaces and a line end, in two pieces that are cut at each place in turn, and expects this reply.
 fn cut_everywhere(alloc: Global, spaces: usize, end: &str, reply: &str) -> Result<(), Fail> {
-    let line = format!(in alloc; "NOOP{:spaces$}", "")?;
-    let mut script = String::new(alloc);
-    let mut want = String::new(alloc);
-    for at in 1..=line.len() {
-        let Some((front, back)) = line.as_str().split_at_checked(at) else {
-            continue;
-        };
-        write_cut(&mut script, at, front, back, end)?;
-        write_cut_said(&mut want, at, reply)?;
+    let line = format!(in alloc; "NOOP{:spaces$}{end}", "")?;
+    let mut text = String::new(alloc);
+    for at in 1..=spaces.saturating_add(4) {
+        if let Some((front, back)) = line.as_str().split_at_checked(at) {
+            write_cut(&mut text, at, front, back, reply)?;
+        }
     }
-    expect_output(alloc, script.as_str(), want.as_str())
+    plays(alloc, text.as_str())
 }
 
 #[test]
@@ -204,113 +217,167 @@ fn outcomes(rt: HostRuntime) -> Result<(), Fail> {
     expect_output(alloc, script, want)
 }
 
+/// Two connections, each with half a line before the other's.
+static INTERLEAVED: &str = r"> connect
+opened 1
+> connect
+opened 2
+> drain 2
+sent 2 +OK POP3 server ready <2.7@h.test>\r\n
+done
+> bytes 2 CA
+done
+> bytes 1 NOOP\r\n
+ignored: NotReady
+> drain 1
+sent 1 +OK POP3 server ready <1.7@h.test>\r\n
+done
+> bytes 1 NOOP\r\nQUIT\r\n
+done
+> bytes 2 PA\r\nNOOP\r\n
+done
+> drain 1
+sent 1 -ERR wrong state\r\n+OK bye\r\n
+done
+ended 1
+> drain 1
+done
+> drain 2
+sent 2 +OK capability list follows\r\nTOP\r\nUSER\r\nUIDL\r\nRESP-CODES\r\nPIPELINING\r\n.\r\n-ERR wrong state\r\n
+done
+> gone 2
+done
+ended 2
+> drain 2
+done
+";
+
 #[test]
 fn two_connections_interleaved(rt: HostRuntime) -> Result<(), Fail> {
-    let alloc = rt.alloc();
-    let script = "connect\nconnect\ndrain 2\nbytes 2 CA\nbytes 1 NOOP\\r\\n\ndrain 1\n\
-        bytes 1 NOOP\\r\\nQUIT\\r\\n\nbytes 2 PA\\r\\nNOOP\\r\\n\ndrain 1\ndrain 1\ndrain 2\ngone 2\ndrain 2\n";
-    let want = format!(in alloc;
-        "opened 1\nopened 2\nsent 2 {GREETING} <2.7@h.test>\\r\\n\ndone\ndone\nignored: NotReady\n\
-        sent 1 {GREETING} <1.7@h.test>\\r\\n\ndone\ndone\ndone\n\
-        sent 1 -ERR wrong state\\r\\n+OK bye\\r\\n\ndone\nended 1\ndone\n"
-    )?;
-    let want = format!(in alloc;
-        "{want}sent 2 {CAPABILITIES}-ERR wrong state\\r\\n\ndone\ndone\nended 2\ndone\n"
-    )?;
-    expect_output(alloc, script, want.as_str())
+    plays(rt.alloc(), INTERLEAVED)
 }
 
 #[test]
 fn too_many_connections(rt: HostRuntime) -> Result<(), Fail> {
     let alloc = rt.alloc();
-    let mut script = String::new(alloc);
-    let mut want = String::new(alloc);
+    let mut text = String::new(alloc);
     for number in 1..=64 {
-        writeln!(script, "connect")?;
-        writeln!(want, "opened {number}")?;
+        writeln!(text, "> connect\nopened {number}")?;
     }
-    writeln!(script, "connect\ngone 3\nconnect\nconnect")?;
-    writeln!(
-        want,
-        "ignored: TooManyConnections\ndone\nended 3\nopened 65\nignored: TooManyConnections"
+    text.push_str(
+        "> connect\nignored: TooManyConnections\n> gone 3\ndone\nended 3\n> connect\nopened 65\n\
+        > connect\nignored: TooManyConnections\n",
     )?;
-    expect_output(alloc, script.as_str(), want.as_str())
-}
-
-/// Gives a connection's lines one at a time, and expects this reply to each. The last one ends it.
-fn converse(alloc: Global, rows: &[(&str, &str)]) -> Result<(), Fail> {
-    let mut script = String::from_str(alloc, "connect\ndrain 1\n")?;
-    let mut want = format!(in alloc; "opened 1\nsent 1 {GREETING} <1.7@h.test>\\r\\n\ndone\n")?;
-    for (line, reply) in rows {
-        writeln!(script, "bytes 1 {line}\\r\\n\ndrain 1")?;
-        writeln!(want, "done\nsent 1 {reply}\\r\\n\ndone")?;
-    }
-    writeln!(want, "ended 1")?;
-    expect_output(alloc, script.as_str(), want.as_str())
+    plays(alloc, text.as_str())
 }
 
 /// Three refused passwords.
-static WRONG_PASSWORDS: [(&str, &str); 6] = [
-    ("USER ann/orders", "+OK send PASS"),
-    ("PASS wrong", "-ERR login failed"),
-    ("user ann/orders ", "+OK send PASS"),
-    ("PASS wrong", "-ERR login failed"),
-    ("USER ann/orders", "+OK send PASS"),
-    ("PASS wrong", "-ERR login failed, closing"),
-];
+static WRONG_PASSWORDS: &str = r"> connect
+opened 1
+> drain 1
+sent 1 +OK POP3 server ready <1.7@h.test>\r\n
+done
+C: USER ann/orders
+S: +OK send PASS
+C: PASS wrong
+S: -ERR login failed
+C: user ann/orders 
+S: +OK send PASS
+C: PASS wrong
+S: -ERR login failed
+C: USER ann/orders
+S: +OK send PASS
+C: PASS wrong
+S: -ERR login failed, closing
+ended 1
+";
 
 /// A refused password, and two refused digests.
-static WRONG_DIGESTS: [(&str, &str); 4] = [
-    ("USER ann/orders", "+OK send PASS"),
-    ("PASS wrong", "-ERR login failed"),
-    (
-        "APOP mrose/orders c4c9334bac560ecc979e58001b3e22fb",
-        "-ERR login failed",
-    ),
-    (
-        "APOP mrose/orders C4C9334BAC560ECC979E58001B3E22FB",
-        "-ERR login failed, closing",
-    ),
-];
+static WRONG_DIGESTS: &str = r"> connect
+opened 1
+> drain 1
+sent 1 +OK POP3 server ready <1.7@h.test>\r\n
+done
+C: USER ann/orders
+S: +OK send PASS
+C: PASS wrong
+S: -ERR login failed
+C: APOP mrose/orders c4c9334bac560ecc979e58001b3e22fb
+S: -ERR login failed
+C: APOP mrose/orders C4C9334BAC560ECC979E58001B3E22FB
+S: -ERR login failed, closing
+ended 1
+";
 
 #[test]
 fn third_failed_login_closes(rt: HostRuntime) -> Result<(), Fail> {
-    converse(rt.alloc(), WRONG_PASSWORDS.as_slice())?;
-    converse(rt.alloc(), WRONG_DIGESTS.as_slice())
+    plays(rt.alloc(), WRONG_PASSWORDS)?;
+    plays(rt.alloc(), WRONG_DIGESTS)
 }
 
 /// Lines before a login, and the name that each leaves in force shown by the next.
-static NAMES_IN_FORCE: [(&str, &str); 21] = [
-    ("PASS s3 cret", "-ERR wrong state"),
-    ("USER ann", "-ERR bad arguments"),
-    ("USER Ann/orders", "-ERR bad arguments"),
-    ("PASS s3 cret", "-ERR wrong state"),
-    ("USER zoe/orders", "+OK send PASS"),
-    ("PASS", "-ERR bad arguments"),
-    ("PASS s3 cret", "-ERR wrong state"),
-    ("USER ann/orders", "+OK send PASS"),
-    ("XYZZY", "-ERR unknown command"),
-    ("PASS s3 cret", "-ERR wrong state"),
-    ("USER ann/orders", "+OK send PASS"),
-    ("CAPA x", "-ERR bad arguments"),
-    ("PASS s3 cret", "-ERR wrong state"),
-    ("USER ann/orders", "+OK send PASS"),
-    (
-        "CAPA",
-        r"+OK capability list follows\r\nTOP\r\nUSER\r\nUIDL\r\nRESP-CODES\r\nPIPELINING\r\n.",
-    ),
-    ("PASS s3 cret", "-ERR login failed"),
-    ("PASS s3 cret", "-ERR wrong state"),
-    ("STAT", "-ERR wrong state"),
-    ("RETR x", "-ERR wrong state"),
-    ("", "-ERR unknown command"),
-    ("QUIT", "+OK bye"),
-];
+static NAMES_IN_FORCE: &str = r"> connect
+opened 1
+> drain 1
+sent 1 +OK POP3 server ready <1.7@h.test>\r\n
+done
+C: PASS s3 cret
+S: -ERR wrong state
+C: USER ann
+S: -ERR bad arguments
+C: USER Ann/orders
+S: -ERR bad arguments
+C: PASS s3 cret
+S: -ERR wrong state
+C: USER zoe/orders
+S: +OK send PASS
+C: PASS
+S: -ERR bad arguments
+C: PASS s3 cret
+S: -ERR wrong state
+C: USER ann/orders
+S: +OK send PASS
+C: XYZZY
+S: -ERR unknown command
+C: PASS s3 cret
+S: -ERR wrong state
+C: USER ann/orders
+S: +OK send PASS
+C: CAPA x
+S: -ERR bad arguments
+C: PASS s3 cret
+S: -ERR wrong state
+C: USER ann/orders
+S: +OK send PASS
+C: CAPA
+S: +OK capability list follows\r\nTOP\r\nUSER\r\nUIDL\r\nRESP-CODES\r\nPIPELINING\r\n.
+C: PASS s3 cret
+S: -ERR login failed
+C: PASS s3 cret
+S: -ERR wrong state
+C: STAT
+S: -ERR wrong state
+C: RETR x
+S: -ERR wrong state
+C: 
+S: -ERR unknown command
+C: QUIT
+S: +OK bye
+ended 1
+";
 
 #[test]
 fn user_name_in_force(rt: HostRuntime) -> Result<(), Fail> {
-    converse(rt.alloc(), NAMES_IN_FORCE.as_slice())
+    plays(rt.alloc(), NAMES_IN_FORCE)
 }
+
+/// What is printed of pieces of 4,096 and of 4,097 octets.
+static PIECES: &str = r"opened 1
+sent 1 +OK POP3 server ready <1.7@h.test>\r\n
+done
+done
+ignored: PieceTooLong
+";
 
 #[test]
 fn piece_too_long(rt: HostRuntime) -> Result<(), Fail> {
@@ -319,13 +386,7 @@ fn piece_too_long(rt: HostRuntime) -> Result<(), Fail> {
         "connect\ndrain 1\nbytes 1 {:4096}\nbytes 1 {:4097}",
         "", ""
     )?;
-    let ran = run(alloc, script.as_str())?;
-    assert!(rt;
-        ran.out
-            .as_str()
-            .ends_with("\ndone\ndone\nignored: PieceTooLong\n")
-    );
-    Ok(())
+    expect_output(alloc, script.as_str(), PIECES)
 }
 
 /// Lines that are no event.
@@ -400,12 +461,8 @@ static BAD_EVENTS: &str = "hello\n\
 
 fn expect_bad_event(alloc: Global, line: &str) -> Result<(), Fail> {
     let script = format!(in alloc; "connect\n\n{line}\nconnect\n")?;
-    expect_fault(
-        alloc,
-        "h.test",
-        script.as_str(),
-        "popbox: line 3: bad event\n",
-    )
+    let fault = "[1] popbox: line 3: bad event\n";
+    expect_fault(alloc, "h.test", script.as_str(), fault)
 }
 
 #[test]
@@ -420,7 +477,7 @@ fn bad_events(rt: HostRuntime) -> Result<(), Fail> {
 fn are_read(alloc: Global) -> Result<bool, Fail> {
     let script = b"bytes 1 a \\r\\n\\\\\\x00\\xfF\\x5c\x80 \r\n";
     let octets = b"a \r\n\\\x00\xff\\\x80 \r".as_slice();
-    let lines = read_script(alloc, script).map_err(|_| "fault")?;
+    let lines = read_script(alloc, script)?;
     match lines.as_slice() {
         [Line::Bytes(1, piece)] => Ok(piece.as_slice() == octets),
         _ => Ok(false),
@@ -433,15 +490,49 @@ fn escapes(rt: HostRuntime) -> Result<(), Fail> {
     assert!(rt; are_read(alloc)?);
     let mut out = Vec::new(alloc);
     write_escaped(&mut out, b"a ~\r\n\\\x00\t\x1f\x7f\xff")?;
-    assert!(rt; out.as_slice() == b"a ~\\r\\n\\\\\\x00\\x09\\x1f\\x7f\\xff".as_slice());
+    tell(alloc, &mut out, &Outcome::Failed)?;
+    assert!(rt; out.as_slice() == b"a ~\\r\\n\\\\\\x00\\x09\\x1f\\x7f\\xfffailed\n".as_slice());
+    Ok(())
+}
+
+/// SHA-256 of `ann:s3 cret`.
+static ANN_DIGEST: [u8; 32] = [
+    0xb4, 0x3a, 0x46, 0x7a, 0x63, 0xf3, 0xc6, 0xf0, 0x8c, 0xee, 0x5d, 0x50, 0x81, 0xae, 0x0b, 0x9d,
+    0xe2, 0x4a, 0xb8, 0x66, 0x3c, 0xdc, 0xa7, 0x39, 0xaa, 0x85, 0x4a, 0xbb, 0x29, 0x86, 0x18, 0x20,
+];
+
+/// Whether a line gives a clerk this credential.
+fn gives(line: &Line, clerk: &str, wanted: &Credential) -> bool {
+    match line {
+        Line::Admin(AdminCommand::PutClerk(name, credential)) => {
+            name.as_str() == clerk && *credential == *wanted
+        }
+        _ => false,
+    }
+}
+
+/// Whether two lines give ann her password's digest, and mrose a secret that begins with a space.
+fn give_both(lines: &[Line]) -> bool {
+    let Some(secret) = Secret::read(b" tanstaaf") else {
+        return false;
+    };
+    lines.len() == 2
+        && gives(&lines[0], "ann", &Credential::Pass(ANN_DIGEST))
+        && gives(&lines[1], "mrose", &Credential::Apop(secret))
+}
+
+#[test]
+fn credentials_are_read(rt: HostRuntime) -> Result<(), Fail> {
+    let script = b"clerk pass ann s3 cret\nclerk apop mrose  tan\\x73taaf";
+    assert!(rt; give_both(read_script(rt.alloc(), script)?.as_slice()));
     Ok(())
 }
 
 #[test]
 fn bad_host(rt: HostRuntime) -> Result<(), Fail> {
     let alloc = rt.alloc();
-    expect_fault(alloc, "a..b", "connect\n", "popbox: BadHost\n")?;
-    expect_fault(alloc, "a..b", "hello\n", "popbox: line 1: bad event\n")
+    expect_fault(alloc, "a..b", "connect\n", "[1] popbox: BadHost\n")?;
+    expect_fault(alloc, "a..b", "hello\n", "[1] popbox: line 1: bad event\n")
 }
 
 /// Standard output or a file that refuses every call.

@@ -1,7 +1,7 @@
 //! Tests of stores with our tables and our mark, whose rows are no contents.
 
 use crate::store_tests::{adopted, changed, is_refused};
-use crate::tests::{Ran, expect, run_on};
+use crate::tests::{expect, run_over_tables};
 use sqlite::MemStore;
 use sqlvault::SqlVault;
 use std::alloc::Global;
@@ -43,8 +43,8 @@ static UNSOUND: [(&str, &str); 7] = [
 ];
 
 fn sound_store(alloc: Global) -> Result<SqlVault<MemStore>, Fail> {
-    let (ran, vault) = run_on(alloc, SqlVault::in_memory(alloc)?, "h.test", 7, SOUND)?;
-    expect(ran, &Ran::good(alloc, SOUND_SAID)?)?;
+    let (ran, vault) = run_over_tables(alloc, SOUND)?;
+    expect(ran, SOUND_SAID)?;
     Ok(vault)
 }
 

@@ -1,30 +1,22 @@
 //! The public standards' vectors, and texts at the limits of each form.
+use crate::tests::expect;
 use creds::{
     Credential, DepositId, HostName, LoginName, Name, Proof, Secret, Uid, apop_digest, pass_digest,
     text_digest,
 };
-use std::alloc::{AllocError, Global};
+use std::alloc::Global;
 use std::fmt::Write;
 use std::test::Fail;
 
 static STAMP: &[u8] = b"<1896.697170952@dbc.mtview.ca.us>";
 
-fn digits(alloc: Global, digest: &[u8]) -> Result<String, AllocError> {
-    let mut text = String::new(alloc);
-    for octet in digest {
-        write!(text, "{octet:02x}")?;
-    }
-    Ok(text)
-}
-
 /// Fails with a digest's digits, unless they are these.
 fn expect_digits(alloc: Global, digest: &[u8], want: &str) -> Result<(), Fail> {
-    let said = digits(alloc, digest)?;
-    if said.as_str() == want {
-        Ok(())
-    } else {
-        Err(Fail::from(said))
+    let mut said = String::new(alloc);
+    for octet in digest {
+        write!(said, "{octet:02x}")?;
     }
+    expect(said, want)
 }
 
 // RFC 1321, A.5.
@@ -117,52 +109,74 @@ fn admission(rt: HostRuntime) -> Result<(), Fail> {
     Ok(())
 }
 
-/// Texts, whether each is a name, and whether it is a deposit's id.
-static TEXTS: [(&str, bool, bool); 9] = [
-    ("a", true, true),
-    ("0-", true, true),
-    ("", false, false),
-    ("Ann", false, true),
-    ("a_b", false, true),
-    ("a.b", false, false),
-    ("a b", false, false),
-    ("a/b", false, false),
-    ("\u{e9}", false, false),
+/// What a text is read as.
+#[derive(Clone, Copy)]
+enum Form {
+    Name,
+    DepositId,
+    LoginName,
+    HostName,
+    Secret,
+}
+
+fn is_read(form: Form, text: &[u8]) -> bool {
+    match form {
+        Form::Name => Name::read(text).is_some(),
+        Form::DepositId => DepositId::read(text).is_some(),
+        Form::LoginName => LoginName::read(text).is_some(),
+        Form::HostName => HostName::read(text).is_some(),
+        Form::Secret => Secret::read(text).is_some(),
+    }
+}
+
+/// Texts, a line each, and whether each is of the form.
+static TEXTS: [(Form, bool, &str); 8] = [
+    (Form::Name, true, "a\n0-"),
+    (Form::Name, false, "\nAnn\na_b\na.b\na b\na/b\n\u{e9}"),
+    (Form::DepositId, true, "a\n0-\nAnn\na_b"),
+    (Form::DepositId, false, "\na.b\na b\na/b\n\u{e9}"),
+    (Form::LoginName, true, "ann/orders"),
+    (
+        Form::LoginName,
+        false,
+        "\nann\n/orders\nann/\nAnn/orders\nann/orders/x",
+    ),
+    (
+        Form::HostName,
+        true,
+        "localhost\nh.test\ndbc.mtview.ca.us\na-b.1",
+    ),
+    (
+        Form::HostName,
+        false,
+        "\n.\na..b\n.a\na.\n-a.b\na-.b\na.b-\nH.test\na_b",
+    ),
 ];
-
-fn is_name(text: &[u8]) -> bool {
-    Name::read(text).is_some()
-}
-
-fn is_deposit_id(text: &[u8]) -> bool {
-    DepositId::read(text).is_some()
-}
-
-fn is_login_name(text: &str) -> bool {
-    LoginName::read(text.as_bytes()).is_some()
-}
 
 /// Fails with the first text that is read in another way.
 fn expect_texts() -> Result<(), Fail> {
-    for (text, of_name, of_id) in &TEXTS {
-        if is_name(text.as_bytes()) != *of_name || is_deposit_id(text.as_bytes()) != *of_id {
-            return Err(Fail::from(*text));
+    for (form, is_of_form, lines) in &TEXTS {
+        for line in lines.lines() {
+            if is_read(*form, line.as_bytes()) != *is_of_form {
+                return Err(Fail::from(line));
+            }
         }
     }
     Ok(())
 }
 
-/// Texts that are no login name.
-static NO_LOGIN_NAMES: [&str; 6] = ["ann", "/orders", "ann/", "Ann/orders", "ann/orders/x", ""];
+/// How many octets a text of a form has at most, where each is of a kind that the form takes.
+static LIMITS: [(Form, usize); 4] = [
+    (Form::Name, 32),
+    (Form::DepositId, 64),
+    (Form::HostName, 64),
+    (Form::Secret, 128),
+];
 
-/// Fails with the first of them that is one.
-fn expect_no_login_names() -> Result<(), Fail> {
-    for text in &NO_LOGIN_NAMES {
-        if is_login_name(*text) {
-            return Err(Fail::from(*text));
-        }
-    }
-    Ok(())
+/// Whether a text of so many octets is of the form, and one of an octet more is not.
+fn is_limited(form: Form, most: usize) -> bool {
+    let letters = [b'a'; 129];
+    is_read(form, &letters[..most.min(128)]) && !is_read(form, &letters[..most.min(128) + 1])
 }
 
 /// Whether a login name has these two names.
@@ -180,95 +194,36 @@ fn is_shown(text: &[u8], shown: &str) -> bool {
     }
 }
 
-/// A unique-id as it is written.
-fn uid_text(alloc: Global, class: &[u8], k: u64) -> Result<String, Fail> {
-    let class = Name::read(class).ok_or("a class")?;
-    let uid = Uid { class, k };
-    Ok(format!(in alloc; "{uid}")?)
-}
-
 #[test]
 fn names_and_deposit_ids(rt: HostRuntime) -> Result<(), Fail> {
-    let letters = [b'a'; 65];
     expect_texts()?;
-    assert!(rt; is_name(&letters[..32]) && !is_name(&letters[..33]));
-    assert!(rt; is_deposit_id(&letters[..64]) && !is_deposit_id(&letters[..65]));
+    for (form, most) in &LIMITS {
+        assert!(rt; is_limited(*form, *most));
+    }
     assert!(rt; is_shown(b"A-1_b", "A-1_b"));
     assert!(rt; has_names("ann/orders", "ann", "orders"));
-    expect_no_login_names()?;
-    let text = uid_text(rt.alloc(), b"note", 12)?;
-    assert!(rt; text.as_str() == "note.12");
-    Ok(())
-}
-
-fn is_secret(text: &[u8]) -> bool {
-    Secret::read(text).is_some()
+    let class = Name::read(b"note").ok_or("a class")?;
+    let uid = Uid { class, k: 12 };
+    expect(format!(in rt.alloc(); "{uid}")?, "note.12")
 }
 
 /// Whether a secret of an octet that none has is refused, each in turn.
 fn are_refused() -> bool {
     for octet in [0x00, 0x1f, 0x7f, 0x80, 0xff] {
-        if is_secret(&[b'a', octet]) {
+        if is_read(Form::Secret, &[b'a', octet]) {
             return false;
         }
     }
     true
 }
 
-/// What is printed of a secret.
-fn shown(alloc: Global, secret: Secret) -> Result<String, AllocError> {
-    format!(in alloc; "{secret:?}")
-}
-
 #[test]
 fn secrets(rt: HostRuntime) -> Result<(), Fail> {
     let tildes = [b'~'; 129];
-    assert!(rt; is_secret(&tildes[..1]) && is_secret(&tildes[..128]));
-    assert!(rt; !is_secret(&tildes[..129]));
-    assert!(rt; !is_secret(b"") && is_secret(b" "));
-    assert!(rt; are_refused());
+    assert!(rt; is_read(Form::Secret, &tildes[..1]) && is_read(Form::Secret, &tildes[..128]));
+    assert!(rt; !is_read(Form::Secret, &tildes));
+    assert!(rt; !is_read(Form::Secret, b"") && is_read(Form::Secret, b" ") && are_refused());
     let secret = Secret::read(b"tanstaaf").ok_or("a secret")?;
     assert!(rt; secret.as_bytes() == b"tanstaaf".as_slice());
-    let shown = shown(rt.alloc(), secret)?;
-    assert!(rt; shown.as_str() == "Secret(..)");
-    Ok(())
-}
-
-/// Texts, and whether each is a host's name.
-static HOSTS: [(&str, bool); 14] = [
-    ("localhost", true),
-    ("h.test", true),
-    ("dbc.mtview.ca.us", true),
-    ("a-b.1", true),
-    ("", false),
-    (".", false),
-    ("a..b", false),
-    (".a", false),
-    ("a.", false),
-    ("-a.b", false),
-    ("a-.b", false),
-    ("a.b-", false),
-    ("H.test", false),
-    ("a_b", false),
-];
-
-fn is_host_name(text: &[u8]) -> bool {
-    HostName::read(text).is_some()
-}
-
-/// Fails with the first of them that is read in another way.
-fn expect_hosts() -> Result<(), Fail> {
-    for (text, is_host) in &HOSTS {
-        if is_host_name(text.as_bytes()) != *is_host {
-            return Err(Fail::from(*text));
-        }
-    }
-    Ok(())
-}
-
-#[test]
-fn host_names(rt: HostRuntime) -> Result<(), Fail> {
-    let letters = [b'a'; 65];
-    assert!(rt; is_host_name(&letters[..64]) && !is_host_name(&letters[..65]));
-    expect_hosts()
+    expect(format!(in rt.alloc(); "{secret:?}")?, "Secret(..)")
 }

@@ -333,19 +333,13 @@ fn is_unknown(line: &[u8]) -> bool {
     matches!(reading(line), Err(LineFault::Unknown))
 }
 
-/// The first of these lines that is read in another way.
-fn first_with_other_arguments(keyword: Keyword, lines: &'static str) -> Option<&'static str> {
-    lines
-        .lines()
-        .find(|line| !has_bad_arguments(line.as_bytes(), keyword))
-}
-
 /// The first line of those with bad arguments that is read in another way.
 fn first_with_others() -> Option<&'static str> {
     for (keyword, lines) in &BAD_ARGUMENTS {
-        let first = first_with_other_arguments(*keyword, *lines);
-        if first.is_some() {
-            return first;
+        for line in lines.lines() {
+            if !has_bad_arguments(line.as_bytes(), *keyword) {
+                return Some(line);
+            }
         }
     }
     None

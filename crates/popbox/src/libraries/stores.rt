@@ -1,20 +1,16 @@
 //! What no clause says: that the calls succeed where there is memory, and the sample store's deposits, counts and pages.
-use creds::{Credential, DepositId, Name, Secret, Uid};
+use crate::tests::{expect, parts_of, run_at};
+use creds::{Credential, DepositId, Name, Secret};
 use mailtext::canon;
 use policy::Policy;
 use sqlvault::SqlVault;
-use std::alloc::Global;
+use std::alloc::{AllocError, Global};
+use std::str;
 use std::test::Fail;
 use vault::{Deposited, Head, MessageKey, PlainVault, Refusing, Total, Vault, VaultFault};
 
-/// The text of the sample store's first deposit, and what is kept of it.
-static TEXT: &str = "Subject: a\n\nhi\n.\n";
-
-static KEPT: &[u8] = b"Subject: a\r\n\r\nhi\r\n.\r\n";
-
-/// A policy of one rule.
-static RULE: &str = r#"
-[[rule]]
+/// A policy of one rule, as it is written.
+const RULE: &str = r#"[[rule]]
 name = "ann-all"
 effect = "allow"
 clerk = "ann"
@@ -23,8 +19,8 @@ class = "*"
 actions = ["open", "read", "remove"]
 "#;
 
-/// A call of a vault. Deposits, of a class, an id and a text, go into the maildrop `orders`, and messages are removed by
-/// their keys from the maildrop that is named.
+/// A call of a vault. Deposits, of a class, an id and a text, go into the maildrop `orders`; a message is read by its key, eight
+/// octets behind so many, and removed by it from the maildrop that is named; the policy that is set is the one above.
 #[derive(Clone, Copy)]
 enum Call {
     Add(&'static str),
@@ -32,13 +28,18 @@ enum Call {
     Maildrops,
     Deposit(&'static str, &'static str, &'static str),
     Heads(&'static str),
+    Page(u64, u64),
     Remove(&'static str, u64),
     Put(&'static str, &'static str),
+    PutDigest(&'static str),
+    Credential(&'static str),
     DropClerk(&'static str),
+    SetPolicy,
+    Policy,
 }
 
 /// Calls of a new store with their answers.
-static STORY: [(Call, &str); 36] = [
+static STORY: [(Call, &str); 44] = [
     (Call::Deposit("note", "d1", "x"), "no such maildrop"),
     (Call::Heads("orders"), "no such maildrop"),
     (Call::Drop("orders"), "no such maildrop"),
@@ -96,19 +97,18 @@ static STORY: [(Call, &str); 36] = [
     (Call::Put("ann", "hunter"), "known"),
     (Call::DropClerk("ann"), "done"),
     (Call::DropClerk("ann"), "no such clerk"),
+    (Call::Put("ann", "s3 cret"), "new"),
+    (Call::PutDigest("ann"), "known"),
+    (Call::Credential("ann"), "pass 7"),
+    (Call::Credential("bob"), "none"),
+    (Call::SetPolicy, "done"),
+    (Call::Policy, RULE),
+    (Call::Put("ann", "s3 cret"), "known"),
+    (Call::Credential("ann"), "apop s3 cret"),
 ];
 
 fn name(text: &str) -> Result<Name, Fail> {
     Ok(Name::read(text.as_bytes()).ok_or("a name")?)
-}
-
-fn deposit_id(text: &str) -> Result<DepositId, Fail> {
-    Ok(DepositId::read(text.as_bytes()).ok_or("an id")?)
-}
-
-fn secret(text: &str) -> Result<Credential, Fail> {
-    let secret = Secret::read(text.as_bytes()).ok_or("a secret")?;
-    Ok(Credential::Apop(secret))
 }
 
 /// Deposits a text into the maildrop `orders`.
@@ -121,23 +121,45 @@ fn deposit<V: Vault>(
 ) -> Result<Result<Deposited, VaultFault>, Fail> {
     let orders = name("orders")?;
     let class = name(class)?;
-    let id = deposit_id(id)?;
+    let id = DepositId::read(id.as_bytes()).ok_or("an id")?;
     let text = canon(alloc, text.as_bytes())?;
     Ok(vault.deposit(&orders, &class, &id, &text))
 }
 
-fn said_of_put(alloc: Global, is_new: bool) -> Result<String, VaultFault> {
-    Ok(String::from_str(alloc, if is_new { "new" } else { "known" })?)
+/// Stores a clerk by a secret.
+fn put<V: Vault>(vault: &mut V, clerk: &str, text: &str) -> Result<Result<bool, VaultFault>, Fail> {
+    let secret = Secret::read(text.as_bytes()).ok_or("a secret")?;
+    Ok(vault.put_clerk(&name(clerk)?, &Credential::Apop(secret)))
 }
 
-fn said_of_deposit(alloc: Global, deposited: Deposited) -> Result<String, VaultFault> {
-    match deposited {
-        Deposited::New(uid) => Ok(format!(in alloc; "new {uid}")?),
-        Deposited::Known(uid) => Ok(format!(in alloc; "known {uid}")?),
+fn fault_text(alloc: Global, fault: VaultFault) -> Result<String, Fail> {
+    Ok(fault.to_string(alloc)?)
+}
+
+fn said_of_put(alloc: Global, answer: Result<bool, VaultFault>) -> Result<String, Fail> {
+    match answer {
+        Ok(true) => Ok(String::from_str(alloc, "new")?),
+        Ok(false) => Ok(String::from_str(alloc, "known")?),
+        Err(fault) => fault_text(alloc, fault),
     }
 }
 
-fn said_of_heads(alloc: Global, heads: &[Head]) -> Result<String, VaultFault> {
+fn said_of_done(alloc: Global, answer: Result<(), VaultFault>) -> Result<String, Fail> {
+    match answer {
+        Ok(()) => Ok(String::from_str(alloc, "done")?),
+        Err(fault) => fault_text(alloc, fault),
+    }
+}
+
+fn said_of_deposit(alloc: Global, answer: Result<Deposited, VaultFault>) -> Result<String, Fail> {
+    match answer {
+        Ok(Deposited::New(uid)) => Ok(format!(in alloc; "new {uid}")?),
+        Ok(Deposited::Known(uid)) => Ok(format!(in alloc; "known {uid}")?),
+        Err(fault) => fault_text(alloc, fault),
+    }
+}
+
+fn text_of_heads(alloc: Global, heads: &[Head]) -> Result<String, AllocError> {
     let mut text = String::new(alloc);
     for head in heads {
         let class = head.class;
@@ -148,7 +170,14 @@ fn said_of_heads(alloc: Global, heads: &[Head]) -> Result<String, VaultFault> {
     Ok(text)
 }
 
-fn said_of_totals(alloc: Global, totals: &[Total]) -> Result<String, VaultFault> {
+fn said_of_heads(alloc: Global, answer: Result<Vec<Head>, VaultFault>) -> Result<String, Fail> {
+    match answer {
+        Ok(heads) => Ok(text_of_heads(alloc, heads.as_slice())?),
+        Err(fault) => fault_text(alloc, fault),
+    }
+}
+
+fn text_of_totals(alloc: Global, totals: &[Total]) -> Result<String, AllocError> {
     let mut text = String::new(alloc);
     for total in totals {
         let maildrop = total.maildrop;
@@ -159,384 +188,241 @@ fn said_of_totals(alloc: Global, totals: &[Total]) -> Result<String, VaultFault>
     Ok(text)
 }
 
-fn said_of_done(alloc: Global) -> Result<String, VaultFault> {
-    Ok(String::from_str(alloc, "done")?)
+fn said_of_totals(alloc: Global, answer: Result<Vec<Total>, VaultFault>) -> Result<String, Fail> {
+    match answer {
+        Ok(totals) => Ok(text_of_totals(alloc, totals.as_slice())?),
+        Err(fault) => fault_text(alloc, fault),
+    }
+}
+
+/// What is kept of a clerk: the secret `s3 cret`, the digest of sevens, or nothing.
+fn word_of_credential(
+    answer: &Result<Option<Credential>, VaultFault>,
+) -> Result<&'static str, Fail> {
+    let secret = Secret::read(b"s3 cret").ok_or("a secret")?;
+    if *answer == Ok(Some(Credential::Apop(secret))) {
+        return Ok("apop s3 cret");
+    }
+    if *answer == Ok(Some(Credential::Pass([7; 32]))) {
+        return Ok("pass 7");
+    }
+    if *answer == Ok(None) {
+        return Ok("none");
+    }
+    if *answer == Err(VaultFault::Store) {
+        return Ok("store failed");
+    }
+    Ok("another answer")
+}
+
+fn said_of_policy(alloc: Global, answer: Result<Policy, VaultFault>) -> Result<String, Fail> {
+    match answer {
+        Ok(policy) => {
+            let mut text = Vec::new(alloc);
+            policy.write(&mut text)?;
+            Ok(String::from_utf8(text)?)
+        }
+        Err(fault) => fault_text(alloc, fault),
+    }
+}
+
+fn said_of_page<V: Vault>(
+    alloc: Global,
+    vault: &mut V,
+    key: u64,
+    from: u64,
+) -> Result<String, Fail> {
+    let mut page = [0; 8];
+    match vault.page(MessageKey::new(key), from, &mut page) {
+        Ok(octets) => {
+            let read = page.get(..octets).ok_or("more octets than a page has")?;
+            Ok(String::from_str(alloc, str::from_utf8(read)?)?)
+        }
+        Err(fault) => fault_text(alloc, fault),
+    }
 }
 
 /// Makes the call, and tells in words what it is answered.
 fn said<V: Vault>(alloc: Global, vault: &mut V, call: Call) -> Result<String, Fail> {
-    let said = match call {
-        Call::Add(maildrop) => vault
-            .add_maildrop(&name(maildrop)?)
-            .and_then(|is_new| said_of_put(alloc, is_new)),
-        Call::Drop(maildrop) => vault
-            .drop_maildrop(&name(maildrop)?)
-            .and_then(|()| said_of_done(alloc)),
-        Call::Maildrops => vault
-            .maildrops()
-            .and_then(|totals| said_of_totals(alloc, &totals)),
-        Call::Deposit(class, id, text) => deposit(alloc, vault, class, id, text)?.and_then(
-            |deposited| said_of_deposit(alloc, deposited),
-        ),
-        Call::Heads(maildrop) => vault
-            .heads(&name(maildrop)?)
-            .and_then(|heads| said_of_heads(alloc, &heads)),
-        Call::Remove(maildrop, key) => vault
-            .remove(&name(maildrop)?, &[MessageKey::new(key)])
-            .and_then(|()| said_of_done(alloc)),
-        Call::Put(clerk, text) => vault
-            .put_clerk(&name(clerk)?, &secret(text)?)
-            .and_then(|is_new| said_of_put(alloc, is_new)),
-        Call::DropClerk(clerk) => vault
-            .drop_clerk(&name(clerk)?)
-            .and_then(|()| said_of_done(alloc)),
-    };
-    match said {
-        Ok(text) => Ok(text),
-        Err(fault) => Ok(fault.to_string(alloc)?),
+    match call {
+        Call::Add(maildrop) => said_of_put(alloc, vault.add_maildrop(&name(maildrop)?)),
+        Call::Drop(maildrop) => said_of_done(alloc, vault.drop_maildrop(&name(maildrop)?)),
+        Call::Maildrops => said_of_totals(alloc, vault.maildrops()),
+        Call::Deposit(class, id, text) => {
+            said_of_deposit(alloc, deposit(alloc, vault, class, id, text)?)
+        }
+        Call::Heads(maildrop) => said_of_heads(alloc, vault.heads(&name(maildrop)?)),
+        Call::Page(key, from) => said_of_page(alloc, vault, key, from),
+        Call::Remove(maildrop, key) => {
+            let keys = [MessageKey::new(key)];
+            said_of_done(alloc, vault.remove(&name(maildrop)?, &keys))
+        }
+        _ => said_of_office(alloc, vault, call),
     }
 }
 
-/// Makes the call, and fails with what it is answered, unless it is this.
-fn expect<V: Vault>(alloc: Global, vault: &mut V, call: Call, answer: &str) -> Result<(), Fail> {
-    let said = said(alloc, vault, call)?;
-    if said.as_str() == answer {
-        Ok(())
-    } else {
-        Err(Fail::from(said))
+/// The same of clerks and of the policy.
+fn said_of_office<V: Vault>(alloc: Global, vault: &mut V, call: Call) -> Result<String, Fail> {
+    match call {
+        Call::Put(clerk, text) => said_of_put(alloc, put(vault, clerk, text)?),
+        Call::PutDigest(clerk) => {
+            let given = Credential::Pass([7; 32]);
+            said_of_put(alloc, vault.put_clerk(&name(clerk)?, &given))
+        }
+        Call::Credential(clerk) => {
+            let word = word_of_credential(&vault.credential(&name(clerk)?))?;
+            Ok(String::from_str(alloc, word)?)
+        }
+        Call::DropClerk(clerk) => said_of_done(alloc, vault.drop_clerk(&name(clerk)?)),
+        Call::SetPolicy => said_of_done(alloc, vault.set_policy(&Policy::read(alloc, RULE)?)),
+        _ => said_of_policy(alloc, vault.policy()),
     }
 }
 
-/// Fails unless each call of the story is answered so, one after the other.
-fn tells_the_story<V: Vault>(alloc: Global, vault: &mut V) -> Result<(), Fail> {
-    for (call, answer) in &STORY {
-        expect(alloc, vault, *call, *answer)?;
+/// Makes the calls one after the other, and fails with what one is answered, unless it is what is wanted.
+fn tells<V: Vault>(alloc: Global, vault: &mut V, calls: &[(Call, &str)]) -> Result<(), Fail> {
+    for (call, answer) in calls {
+        expect(said(alloc, vault, *call)?, *answer)?;
     }
     Ok(())
 }
 
 #[test]
 fn story_of_a_store(rt: HostRuntime) -> Result<(), Fail> {
-    let alloc = rt.alloc();
-    let mut vault = PlainVault::new(alloc);
-    tells_the_story(alloc, &mut vault)
+    let mut vault = PlainVault::new(rt.alloc());
+    tells(rt.alloc(), &mut vault, STORY.as_slice())
 }
 
 #[test]
 fn story_of_a_store_over_tables(rt: HostRuntime) -> Result<(), Fail> {
-    let alloc = rt.alloc();
-    let mut vault = SqlVault::in_memory(alloc)?;
-    tells_the_story(alloc, &mut vault)
+    let mut vault = SqlVault::in_memory(rt.alloc())?;
+    tells(rt.alloc(), &mut vault, STORY.as_slice())
 }
 
-/// Adds a maildrop, and answers whether it is new.
-fn add<V: Vault>(vault: &mut V, maildrop: &str) -> Result<Result<bool, VaultFault>, Fail> {
-    Ok(vault.add_maildrop(&name(maildrop)?))
-}
+/// The sample store's first deposit.
+const FIRST: Call = Call::Deposit("note", "d1", "Subject: a\n\nhi\n.\n");
 
-/// Stores a clerk by a secret, and answers whether the clerk is new.
-fn put<V: Vault>(vault: &mut V, clerk: &str) -> Result<Result<bool, VaultFault>, Fail> {
-    Ok(vault.put_clerk(&name(clerk)?, &secret("s3 cret")?))
-}
-
-/// The heads of the maildrop `orders`.
-fn heads<V: Vault>(vault: &mut V) -> Result<Vec<Head>, Fail> {
-    Ok(vault.heads(&name("orders")?)?)
-}
-
-/// Deposits the sample store's first text, and answers whether memory was wanted.
-fn is_refused<V: Vault>(alloc: Global, vault: &mut V) -> Result<bool, Fail> {
-    match deposit(alloc, vault, "note", "d1", TEXT)? {
-        Ok(_) => Ok(false),
-        Err(VaultFault::NoMemory) => Ok(true),
-        Err(fault) => Err(Fail::from(fault)),
+/// Makes the sample store's first deposit, and makes it again where memory for it is refused, which leaves nothing of it.
+fn is_deposited<V: Vault>(alloc: Global, vault: &mut V) -> Result<(), Fail> {
+    let first = said(alloc, vault, FIRST)?;
+    if first.as_str() != "out of memory" {
+        return expect(first, "new note.1");
     }
+    tells(
+        alloc,
+        vault,
+        &[(Call::Heads("orders"), ""), (FIRST, "new note.1")],
+    )
 }
 
-/// Whether the maildrop `orders` has no message.
-fn is_bare<V: Vault>(vault: &mut V) -> Result<bool, Fail> {
-    let heads = heads(vault)?;
-    Ok(heads.is_empty())
-}
-
-/// Deposits it again, where nothing is left of the deposit that was refused.
-fn put_again<V: Vault>(alloc: Global, vault: &mut V) -> Result<(), Fail> {
-    if !is_bare(vault)? {
-        return Err(Fail::from("a refused deposit left a message"));
-    }
-    if is_refused(alloc, vault)? {
-        return Err(Fail::from(VaultFault::NoMemory));
-    }
-    Ok(())
-}
-
-/// A store with the maildrop `orders` and the sample store's first deposit, put again where memory for it is refused.
-fn with_one_deposit(alloc: Global) -> Result<PlainVault, Fail> {
-    let mut vault = PlainVault::new(alloc);
-    add(&mut vault, "orders")??;
-    if is_refused(alloc, &mut vault)? {
-        put_again(alloc, &mut vault)?;
-    }
-    Ok(vault)
-}
-
-/// The key of the one message of the maildrop `orders`.
-fn only_key<V: Vault>(vault: &mut V) -> Result<MessageKey, Fail> {
-    let heads = heads(vault)?;
-    match heads.as_slice() {
-        [head] => Ok(head.key),
-        _ => Err(Fail::from("not one message")),
-    }
-}
-
-/// Puts the next page of at most eight octets to a text.
-fn join_page<V: Vault>(vault: &mut V, key: MessageKey, text: &mut Vec<u8>) -> Result<(), Fail> {
-    let mut page = [0; 8];
-    let octets = vault.page(key, text.len() as u64, &mut page)?;
-    match page.get(..octets) {
-        Some(read) => Ok(text.extend_from_slice(read)?),
-        None => Err(Fail::from("more octets than a page has")),
-    }
-}
-
-/// Whether the pages of the one message join to its kept text.
-fn joins_to_kept<V: Vault>(alloc: Global, vault: &mut V) -> Result<bool, Fail> {
-    let key = only_key(vault)?;
-    let mut joined = Vec::new(alloc);
-    for _ in 0..KEPT.len() {
-        join_page(vault, key, &mut joined)?;
-    }
-    Ok(joined.as_slice() == KEPT)
-}
-
-/// Whether a key of no message has no page.
-fn has_no_page<V: Vault>(vault: &mut V) -> bool {
-    let mut page = [0; 8];
-    vault.page(MessageKey::new(u64::MAX), 0, &mut page) == Ok(0)
-}
+/// The pages of its kept text, and those behind its end and of no message.
+static PAGES: [(Call, &str); 5] = [
+    (Call::Page(1, 0), "Subject:"),
+    (Call::Page(1, 8), " a\r\n\r\nhi"),
+    (Call::Page(1, 16), "\r\n.\r\n"),
+    (Call::Page(1, 21), ""),
+    (Call::Page(u64::MAX, 0), ""),
+];
 
 /// Also where one of the growths that the deposit asks for is refused.
 #[test]
 fn pages_join_to_the_kept_text(rt: HostRuntime) -> Result<(), Fail> {
-    let mut vault = with_one_deposit(rt.alloc())?;
-    assert!(rt; joins_to_kept(rt.alloc(), &mut vault)?);
-    assert!(rt; has_no_page(&mut vault));
-    Ok(())
+    let mut vault = PlainVault::new(rt.alloc());
+    tells(rt.alloc(), &mut vault, &[(Call::Add("orders"), "new")])?;
+    is_deposited(rt.alloc(), &mut vault)?;
+    tells(rt.alloc(), &mut vault, PAGES.as_slice())
 }
 
-/// Stores a clerk by a secret, then by a password: whether each call, and what is then found, is answered so.
-fn has_credentials<V: Vault>(vault: &mut V) -> Result<bool, Fail> {
-    let ann = name("ann")?;
-    let bob = name("bob")?;
-    let by_secret = secret("s3 cret")?;
-    let given = Credential::Pass([7; 32]);
-    Ok(
-        vault.put_clerk(&ann, &by_secret) == Ok(true)
-            && vault.put_clerk(&ann, &given) == Ok(false)
-            && vault.credential(&ann) == Ok(Some(given))
-            && vault.credential(&bob) == Ok(None),
-    )
+/// Fails unless a transcript is what comes of its script over a store of vectors.
+fn plays_over_vectors(alloc: Global, transcript: &str) -> Result<(), Fail> {
+    let (script, want) = parts_of(alloc, transcript)?;
+    expect(run_at(alloc, "h.test", 7, script.as_str())?, want.as_str())
 }
 
-/// Sets a policy: whether it is then in force.
-fn has_policy<V: Vault>(vault: &mut V, policy: &Policy) -> Result<bool, Fail> {
-    if vault.set_policy(policy) != Ok(()) {
-        return Ok(false);
-    }
-    let found = vault.policy()?;
-    Ok(found.rules() == policy.rules())
-}
-
-#[test]
-fn credentials_and_policy(rt: HostRuntime) -> Result<(), Fail> {
-    let alloc = rt.alloc();
-    let policy = Policy::read(alloc, RULE)?;
-    let mut vault = PlainVault::new(alloc);
-    assert!(rt; has_credentials(&mut vault)?);
-    assert!(rt; has_policy(&mut vault, &policy)?);
-    Ok(())
-}
-
-/// Adds a maildrop and a clerk of this name: whether both were answered so.
-fn are_put<V: Vault>(
-    vault: &mut V,
-    name: &str,
-    answer: &Result<bool, VaultFault>,
-) -> Result<bool, Fail> {
-    Ok(add(vault, name)? == *answer && put(vault, name)? == *answer)
-}
-
-/// Adds so many maildrops and clerks: whether each was new.
-fn are_all_new<V: Vault>(alloc: Global, vault: &mut V, count: u64) -> Result<bool, Fail> {
-    for number in 0..count {
-        let text = format!(in alloc; "n{number}")?;
-        if !are_put(vault, text.as_str(), &Ok(true))? {
-            return Ok(false);
-        }
-    }
-    Ok(true)
-}
+/// Behind a thousand maildrops and clerks another is refused, and the last are still known.
+static FULL: &str = "> maildrop add n1000
+answer full
+> clerk apop n1000 s3 cret
+answer full
+> maildrop add n999
+answer was there
+> clerk apop n999 s3 cret
+answer replaced
+";
 
 #[test]
 fn maildrops_and_clerks_up_to_a_thousand(rt: HostRuntime) -> Result<(), Fail> {
-    let alloc = rt.alloc();
-    let mut vault = PlainVault::new(alloc);
-    assert!(rt; are_all_new(alloc, &mut vault, 1000)?);
-    assert!(rt; are_put(&mut vault, "n1000", &Err(VaultFault::Full))?);
-    assert!(rt; are_put(&mut vault, "n999", &Ok(false))?);
-    Ok(())
-}
-
-/// A deposit of the class `note` under this id: whether it was answered so.
-fn is_deposited<V: Vault>(
-    alloc: Global,
-    vault: &mut V,
-    id: &str,
-    wanted: &Result<Deposited, VaultFault>,
-) -> Result<bool, Fail> {
-    let answer = deposit(alloc, vault, "note", id, "x")?;
-    Ok(answer == *wanted)
-}
-
-/// The unique-id of the class `note` with this number.
-fn note(k: u64) -> Result<Uid, Fail> {
-    let class = name("note")?;
-    Ok(Uid { class, k })
-}
-
-/// Whether a deposit under this id is of a new message with this number.
-fn is_new<V: Vault>(alloc: Global, vault: &mut V, id: &str, k: u64) -> Result<bool, Fail> {
-    is_deposited(alloc, vault, id, &Ok(Deposited::New(note(k)?)))
-}
-
-/// Whether a deposit under this id is of the message with this number, which is there.
-fn is_known<V: Vault>(alloc: Global, vault: &mut V, id: &str, k: u64) -> Result<bool, Fail> {
-    is_deposited(alloc, vault, id, &Ok(Deposited::Known(note(k)?)))
-}
-
-/// Deposits of the class `note` under so many ids, each of a new message: whether each was answered its unique-id.
-fn are_new<V: Vault>(alloc: Global, vault: &mut V, count: u64) -> Result<bool, Fail> {
-    for k in 1..=count {
-        let id = format!(in alloc; "d{k}")?;
-        if !is_new(alloc, vault, id.as_str(), k)? {
-            return Ok(false);
-        }
+    let mut text = String::new(rt.alloc());
+    for n in 0..1000 {
+        writeln!(
+            text,
+            "> maildrop add n{n}\nanswer added\n> clerk apop n{n} s3 cret\nanswer added"
+        )?;
     }
-    Ok(true)
-}
-
-/// Fills the maildrop `orders`: whether each deposit was of a new message.
-fn is_filled<V: Vault>(alloc: Global, vault: &mut V) -> Result<bool, Fail> {
-    add(vault, "orders")??;
-    are_new(alloc, vault, 10_000)
-}
-
-/// Whether a new id is refused, and the first and the last are still known.
-fn is_full<V: Vault>(alloc: Global, vault: &mut V) -> Result<bool, Fail> {
-    let is_refused = is_deposited(alloc, vault, "d10001", &Err(VaultFault::Full))?;
-    let first = is_known(alloc, vault, "d1", 1)?;
-    let last = is_known(alloc, vault, "d10000", 10_000)?;
-    Ok(is_refused && first && last)
+    text.push_str(FULL)?;
+    plays_over_vectors(rt.alloc(), text.as_str())
 }
 
 /// In a full maildrop a new id is refused, and the ids that it has are still known.
+static FULL_MAILDROP: &str = "> deposit orders note d10001 x
+answer full
+> deposit orders note d1 x
+answer known note.1
+> deposit orders note d10000 x
+answer known note.10000
+> maildrops
+answer orders 10000 30000
+";
+
 #[test]
 fn deposits_up_to_ten_thousand(rt: HostRuntime) -> Result<(), Fail> {
-    let mut vault = PlainVault::new(rt.alloc());
-    assert!(rt; is_filled(rt.alloc(), &mut vault)?);
-    assert!(rt; is_full(rt.alloc(), &mut vault)?);
-    assert!(rt; heads(&mut vault)?.len() == 10_000);
-    Ok(())
-}
-
-/// Calls 1 to 7 of twelve, a kind each: whether the call answers as it does behind those before it.
-fn is_kept<V: Vault>(
-    alloc: Global,
-    vault: &mut V,
-    call: u64,
-) -> Result<Result<bool, VaultFault>, Fail> {
-    let orders = name("orders")?;
-    let key = MessageKey::new(1);
-    Ok(match call {
-        1 => vault.add_maildrop(&orders),
-        2 => {
-            let class = name("note")?;
-            let new = Deposited::New(Uid { class, k: 1 });
-            deposit(alloc, vault, "note", "d1", TEXT)?.map(|stored| stored == new)
-        }
-        3 => vault.heads(&orders).map(|heads| heads.len() == 1),
-        4 => vault.page(key, 0, &mut [0; 64]).map(|octets| octets == 21),
-        5 => vault.maildrops().map(|totals| totals.len() == 1),
-        6 => vault.remove(&orders, &[key]).map(|()| true),
-        _ => vault.drop_maildrop(&orders).map(|()| true),
-    })
-}
-
-/// Calls 8 to 12.
-fn is_administered<V: Vault>(
-    alloc: Global,
-    vault: &mut V,
-    call: u64,
-) -> Result<Result<bool, VaultFault>, Fail> {
-    let ann = name("ann")?;
-    Ok(match call {
-        8 => vault.put_clerk(&ann, &secret("s3 cret")?),
-        9 => vault.credential(&ann).map(|found| found.is_some()),
-        10 => vault.drop_clerk(&ann).map(|()| true),
-        11 => vault.set_policy(&Policy::read(alloc, RULE)?).map(|()| true),
-        _ => vault.policy().map(|policy| policy.len() == 1),
-    })
-}
-
-fn is_answered<V: Vault>(
-    alloc: Global,
-    vault: &mut V,
-    call: u64,
-) -> Result<Result<bool, VaultFault>, Fail> {
-    if call < 8 {
-        is_kept(alloc, vault, call)
-    } else {
-        is_administered(alloc, vault, call)
+    let mut text = String::from_str(rt.alloc(), "> maildrop add orders\nanswer added\n")?;
+    for k in 1..=10_000 {
+        writeln!(text, "> deposit orders note d{k} x\nanswer new note.{k}")?;
     }
+    text.push_str(FULL_MAILDROP)?;
+    plays_over_vectors(rt.alloc(), text.as_str())
 }
 
-/// Makes a call that is refused, where it is the one: whether it was.
-fn is_refused_once<V: Vault>(
-    alloc: Global,
-    vault: &mut V,
-    call: u64,
-    n: u64,
-) -> Result<bool, Fail> {
-    if call != n {
-        return Ok(true);
-    }
-    let refused = is_answered(alloc, vault, call)?;
-    Ok(refused == Err(VaultFault::Store))
-}
+/// A call of each kind, the first, the second and so on, with their answers.
+static EACH: [(Call, &str); 12] = [
+    (Call::Add("orders"), "new"),
+    (FIRST, "new note.1"),
+    (Call::Heads("orders"), "note.1 21;"),
+    (Call::Page(1, 0), "Subject:"),
+    (Call::Maildrops, "orders 1 21;"),
+    (Call::Remove("orders", 1), "done"),
+    (Call::Drop("orders"), "done"),
+    (Call::Put("ann", "s3 cret"), "new"),
+    (Call::Credential("ann"), "apop s3 cret"),
+    (Call::DropClerk("ann"), "done"),
+    (Call::SetPolicy, "done"),
+    (Call::Policy, RULE),
+];
 
-/// Makes a call, before it the refused one: whether both were answered so.
-fn is_made<V: Vault>(alloc: Global, vault: &mut V, call: u64, n: u64) -> Result<bool, Fail> {
-    let refused = is_refused_once(alloc, vault, call, n)?;
-    let answer = is_answered(alloc, vault, call)?;
-    Ok(refused && answer == Ok(true))
-}
-
-/// The calls over a store that refuses the one of this number: whether each was answered so, and how many were refused.
-fn refuses(alloc: Global, n: u64) -> Result<bool, Fail> {
+/// Makes the calls over a store that refuses the one of this number, and that one again: fails unless each is answered so.
+/// Gives how many were refused.
+fn refusals(alloc: Global, n: u64) -> Result<u64, Fail> {
     let mut vault = Refusing::new(PlainVault::new(alloc), n);
-    for call in 1..13u64 {
-        let counted = vault.refusals() == u64::from(0 < n && n < call);
-        if !counted || !is_made(alloc, &mut vault, call, n)? {
-            return Ok(false);
+    let mut to_come = n;
+    for (call, answer) in &EACH {
+        if to_come == 1 {
+            expect(said(alloc, &mut vault, *call)?, "store failed")?;
         }
+        let refused = vault.refusals();
+        if refused != u64::from(0 < n && to_come < 2) {
+            return Err(Fail::from("another count of refusals"));
+        }
+        to_come = to_come.saturating_sub(1);
+        expect(said(alloc, &mut vault, *call)?, *answer)?;
     }
-    Ok(vault.refusals() == n.min(1))
+    Ok(vault.refusals())
 }
 
 #[test]
 fn one_call_is_refused(rt: HostRuntime) -> Result<(), Fail> {
-    for n in 0..13u64 {
-        assert!(rt; refuses(rt.alloc(), n)?, "{n}");
+    for n in 0..13 {
+        assert!(rt; refusals(rt.alloc(), n)? == n.min(1), "{n}");
     }
     Ok(())
 }

@@ -1,7 +1,7 @@
 //! What no clause says: worked values, that each call succeeds with ample memory, and refused growths.
 
 use mailtext::{MailText, TextFault, canon, stuff_into, unstuff};
-use std::alloc::{AllocError, Global};
+use std::alloc::Global;
 use std::test::Fail;
 
 /// What is kept of a text, by a call that says nothing of it.
@@ -9,44 +9,33 @@ fn kept(alloc: Global, text: &[u8]) -> Result<MailText, TextFault> {
     canon(alloc, text)
 }
 
-/// The octets and lines that are kept of a text, where they are these.
-fn is_kept_as(alloc: Global, text: &[u8], wanted: &[u8]) -> Result<bool, TextFault> {
-    Ok(kept(alloc, text)?.bytes() == wanted)
-}
-
-fn has_counts(alloc: Global, text: &[u8], octets: usize, lines: usize) -> Result<bool, TextFault> {
+/// Whether this is kept of a text, with so many lines.
+fn is_kept_as(alloc: Global, text: &[u8], wanted: &[u8], lines: usize) -> Result<bool, TextFault> {
     let kept = kept(alloc, text)?;
-    Ok(kept.octets() == octets && kept.lines() == lines)
+    Ok(kept.bytes() == wanted && kept.octets() == wanted.len() && kept.lines() == lines)
 }
 
-/// So many octets `a`, and an end.
-fn long(alloc: Global, octets: usize, end: &[u8]) -> Result<Vec<u8>, AllocError> {
+/// How many octets are kept of a text of so many octets `a`, and an end.
+fn octets_of_long(alloc: Global, octets: usize, end: &[u8]) -> Result<usize, TextFault> {
     let mut text = vec![in alloc; b'a'; octets]?;
     text.extend_from_slice(end)?;
-    Ok(text)
+    Ok(kept(alloc, &text)?.octets())
 }
 
 fn is_empty(alloc: Global, text: &[u8]) -> bool {
     matches!(kept(alloc, text), Err(TextFault::Empty))
 }
 
-fn is_too_large(alloc: Global, text: &[u8]) -> bool {
-    matches!(kept(alloc, text), Err(TextFault::TooLarge))
-}
-
 #[test]
 fn kept_form_limits(rt: HostRuntime) -> Result<(), Fail> {
     let alloc = rt.alloc();
     assert!(rt; is_empty(alloc, b""));
-    assert!(rt; kept(alloc, b"\n")?.octets() == 2);
-    assert!(rt; is_kept_as(alloc, b"a\r\r\n", b"a\r\r\n")?);
-    assert!(rt; has_counts(alloc, b"a\r\r\n", 4, 1)?);
+    assert!(rt; is_kept_as(alloc, b"\n", b"\r\n", 1)?);
+    assert!(rt; is_kept_as(alloc, b"a\r\r\n", b"a\r\r\n", 1)?);
     // a last line without an end keeps its CR
-    assert!(rt; is_kept_as(alloc, b"a\r", b"a\r\r\n")?);
-    let largest = long(alloc, 26_214_398, b"\r\n")?;
-    assert!(rt; kept(alloc, &largest)?.octets() == 26_214_400);
-    let unended = long(alloc, 26_214_399, b"")?;
-    assert!(rt; is_too_large(alloc, &unended));
+    assert!(rt; is_kept_as(alloc, b"a\r", b"a\r\r\n", 1)?);
+    assert!(rt; octets_of_long(alloc, 26_214_398, b"\r\n")? == 26_214_400);
+    assert!(rt; octets_of_long(alloc, 26_214_399, b"") == Err(TextFault::TooLarge));
     Ok(())
 }
 
@@ -55,29 +44,33 @@ fn has_top(text: &MailText, header: usize, lines: u64, wanted: &[u8]) -> bool {
     text.header_len() == header && text.top(lines) == wanted
 }
 
-#[test]
-fn top_line_counts(rt: HostRuntime) -> Result<(), Fail> {
-    let alloc = rt.alloc();
+/// Whether a text is sent with none, one and all of the lines of its body.
+fn has_tops(alloc: Global) -> Result<bool, TextFault> {
     let text = kept(alloc, b"A: 1\n\none\ntwo\nthree\n")?;
-    assert!(rt; has_top(&text, 8, 0, b"A: 1\r\n\r\n"));
-    assert!(rt; has_top(&text, 8, 1, b"A: 1\r\n\r\none\r\n"));
-    assert!(rt; has_top(&text, 8, 3, text.bytes()));
-    assert!(rt; has_top(&text, 8, u64::MAX, text.bytes()));
-    let all_header = kept(alloc, b"no header end\n")?;
-    assert!(rt; has_top(&all_header, 15, 0, all_header.bytes()));
-    Ok(())
+    Ok(
+        has_top(&text, 8, 0, b"A: 1\r\n\r\n")
+            && has_top(&text, 8, 1, b"A: 1\r\n\r\none\r\n")
+            && has_top(&text, 8, 3, text.bytes())
+            && has_top(&text, 8, u64::MAX, text.bytes()),
+    )
 }
 
-fn stuffed(alloc: Global, text: &[u8]) -> Result<Vec<u8>, AllocError> {
-    let mut sent = Vec::new(alloc);
-    stuff_into(&mut sent, text)?;
-    Ok(sent)
+/// Whether a text without an empty line is all header.
+fn is_all_header(alloc: Global) -> Result<bool, TextFault> {
+    let text = kept(alloc, b"no header end\n")?;
+    Ok(has_top(&text, 15, 0, text.bytes()))
+}
+
+#[test]
+fn top_line_counts(rt: HostRuntime) -> Result<(), Fail> {
+    assert!(rt; has_tops(rt.alloc())?);
+    assert!(rt; is_all_header(rt.alloc())?);
+    Ok(())
 }
 
 /// Whether no end of the text is found in what was sent.
 fn has_no_end(alloc: Global, sent: &[u8]) -> Result<bool, Fail> {
-    let read = unstuff(alloc, sent)?;
-    Ok(read.is_none())
+    Ok(unstuff(alloc, sent)?.is_none())
 }
 
 /// Whether this text is found in what was sent, and behind how many octets it ends.
@@ -88,16 +81,21 @@ fn ends_at(alloc: Global, sent: &[u8], text: &[u8], end: usize) -> Result<bool, 
     }
 }
 
+/// Whether a kept text is sent so, and read again behind its end only.
+fn is_sent(alloc: Global, text: &[u8], wanted: &[u8]) -> Result<bool, Fail> {
+    let mut sent = Vec::new(alloc);
+    stuff_into(&mut sent, text)?;
+    let is_stuffed = sent.as_slice() == wanted && has_no_end(alloc, &sent)?;
+    sent.extend_from_slice(b".\r\n+OK bye\r\n")?;
+    Ok(is_stuffed && ends_at(alloc, &sent, text, wanted.len() + 3)?)
+}
+
 #[test]
 fn dots_stuffed_and_unstuffed(rt: HostRuntime) -> Result<(), Fail> {
-    let alloc = rt.alloc();
-    let text = kept(alloc, b"Subject: a\n\nhi\n.\n")?;
-    assert!(rt; text.octets() == 21);
-    let mut sent = stuffed(alloc, text.bytes())?;
-    assert!(rt; sent.as_slice() == b"Subject: a\r\n\r\nhi\r\n..\r\n".as_slice());
-    assert!(rt; has_no_end(alloc, &sent)?);
-    sent.extend_from_slice(b".\r\n+OK bye\r\n")?;
-    assert!(rt; ends_at(alloc, &sent, text.bytes(), 25)?);
+    let text = b"Subject: a\r\n\r\nhi\r\n.\r\n";
+    let sent = b"Subject: a\r\n\r\nhi\r\n..\r\n";
+    assert!(rt; is_kept_as(rt.alloc(), b"Subject: a\n\nhi\n.\n", text, 4)?);
+    assert!(rt; is_sent(rt.alloc(), text, sent)?);
     Ok(())
 }
 

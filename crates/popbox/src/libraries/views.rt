@@ -1,4 +1,5 @@
 //! What no clause says: that the calls succeed, and the sample store's rows of the clerk bob.
+use crate::tests::expect;
 use creds::Name;
 use policy::Policy;
 use session::{Pick, Session};
@@ -80,18 +81,6 @@ fn bob_session(alloc: Global, policy: &Policy) -> Result<Session, Fail> {
     Ok(Session::start(alloc, clerk, maildrop, &heads, policy)?)
 }
 
-/// The scan listing and the unique-id listing, as they are sent.
-fn listings(alloc: Global, session: &Session) -> Result<String, AllocError> {
-    let mut text = String::new(alloc);
-    for (number, octets) in session.list() {
-        writeln!(text, "{number} {octets}")?;
-    }
-    for (number, uid) in session.uidl() {
-        writeln!(text, "{number} {uid}")?;
-    }
-    Ok(text)
-}
-
 /// Whether a number is picked so.
 fn is_picked(session: &Session, number: u64, pick: &Pick) -> bool {
     match session.pick(number) {
@@ -130,15 +119,28 @@ fn name(text: &[u8]) -> Result<Name, Fail> {
     Ok(Name::read(text).ok_or("a name")?)
 }
 
+/// Whose session it is, of which maildrop, how much it shows, and the scan listing and the unique-id listing, as they are sent.
+fn shown(alloc: Global, session: &Session) -> Result<String, AllocError> {
+    let clerk = session.clerk();
+    let maildrop = session.maildrop();
+    let (messages, octets) = session.stat();
+    let mut text = format!(in alloc; "{clerk} {maildrop}\n{messages} {octets}\n")?;
+    for (number, octets) in session.list() {
+        writeln!(text, "{number} {octets}")?;
+    }
+    for (number, uid) in session.uidl() {
+        writeln!(text, "{number} {uid}")?;
+    }
+    Ok(text)
+}
+
+/// What is shown of bob's.
+static FILTERED: &str = "bob orders\n3 61\n1 21\n2 15\n3 25\n1 note.1\n2 note.2\n3 todo.1\n";
+
 #[test]
 fn filtered_view(rt: HostRuntime) -> Result<(), Fail> {
-    let policy = Policy::read(rt.alloc(), RULES)?;
-    let session = bob_session(rt.alloc(), &policy)?;
-    assert!(rt; session.clerk().as_str() == "bob" && session.maildrop().as_str() == "orders");
-    assert!(rt; has_total(&session, 3, 61));
-    let text = listings(rt.alloc(), &session)?;
-    assert!(rt; text.as_str() == "1 21\n2 15\n3 25\n1 note.1\n2 note.2\n3 todo.1\n");
-    Ok(())
+    let session = bob_session(rt.alloc(), &Policy::read(rt.alloc(), RULES)?)?;
+    expect(shown(rt.alloc(), &session)?, FILTERED)
 }
 
 /// Whether no number but those of the view is picked.
@@ -158,16 +160,28 @@ fn marks_one(session: &mut Session, policy: &Policy) -> Result<bool, Fail> {
     )
 }
 
+/// Whether the number that was marked is hidden, and shown again behind a reset.
+fn is_reset(session: &mut Session) -> bool {
+    let is_hidden = is_picked(session, 2, &Pick::Deleted) && has_total(session, 2, 46);
+    session.reset();
+    is_hidden && has_total(session, 3, 61) && has_k(session, 2, 2)
+}
+
+/// Whether the message of a number is the one of this number in its class.
+fn has_k(session: &Session, number: u64, k: u64) -> bool {
+    match session.pick(number) {
+        Ok(head) => head.k == k,
+        Err(_) => false,
+    }
+}
+
 #[test]
 fn marked_numbers_and_reset(rt: HostRuntime) -> Result<(), Fail> {
     let policy = Policy::read(rt.alloc(), RULES)?;
     let mut session = bob_session(rt.alloc(), &policy)?;
     assert!(rt; has_no_others(&session));
     assert!(rt; marks_one(&mut session, &policy)?);
-    assert!(rt; is_picked(&session, 2, &Pick::Deleted) && has_total(&session, 2, 46));
-    session.reset();
-    assert!(rt; has_total(&session, 3, 61));
-    assert!(rt; session.pick(2).is_ok_and(|head| head.k == 2));
+    assert!(rt; is_reset(&mut session));
     Ok(())
 }
 
