@@ -19,7 +19,7 @@ use vault::Vault;
 const MOST_AT_ONCE: usize = 4096;
 
 /// Why a conversation was broken off.
-#[derive(Clone, Copy, PartialEq, Eq)]
+#[derive(Clone, Copy, Debug, PartialEq, Eq)]
 pub enum TalkFault {
     /// The reader failed.
     Read,

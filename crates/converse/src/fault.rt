@@ -18,7 +18,7 @@ use std::{fmt, io};
 use vault::VaultFault;
 
 /// Why a run stopped. Its text is what standard error says behind `popbox: `.
-#[derive(Clone, Copy)]
+#[derive(Clone, Copy, Debug)]
 pub enum Fault {
     /// The file can't be opened or read.
     CannotRead,

@@ -51,7 +51,7 @@ pub enum Line {
 }
 
 /// Why a text isn't a script.
-#[derive(Clone, Copy)]
+#[derive(Clone, Copy, Debug)]
 pub enum ScriptFault {
     /// The line of this number, from 1, is none of the forms of `Line`.
     BadEvent(u64),
