@@ -21,13 +21,9 @@ mod tables;
 mod texts;
 
 use fault::Fault;
-use sqlite::{Connection, FileStore, Wary};
-use sqlite_disk::Disk;
-use sqlvault::SqlVault;
 use std::rt::{Clock, Env};
 use std::time::Instant;
 use std::{env, io};
-use tables::Tables;
 
 /// The microseconds since then.
 fn since(rt: &impl Clock, start: Instant) -> io::Result<u64> {
@@ -38,62 +34,6 @@ fn since(rt: &impl Clock, start: Instant) -> io::Result<u64> {
 /// So many in so many microseconds: millions a second.
 fn rate(count: u64, took: u64) -> u64 {
     count / took.max(1)
-}
-
-/// Runs a measure over the tables of a store.
-fn measure(
-    rt: &(impl Print + AllocGlobal + Clock),
-    tables: &mut impl Tables,
-    what: &str,
-    count: u32,
-) -> Result<(), Fault> {
-    match what {
-        "sheets" => store::measure_sheets(rt, tables, count),
-        "commits" => store::measure_commits(rt, tables, count),
-        "heads" => store::measure_heads(rt, tables, count),
-        "sample" => store::write_sample(tables),
-        _ => Err(Fault::NoMeasure),
-    }
-}
-
-fn in_memory(rt: &HostRuntime, what: &str, count: u32) -> Result<(), Fault> {
-    let mut conn = SqlVault::in_memory(rt.alloc())?.into_connection();
-    measure(rt, &mut conn, what, count)
-}
-
-/// Over a file, which is closed at the end.
-fn measure_and_close<D: Disk + Drop>(
-    rt: &(impl Print + AllocGlobal + Clock),
-    mut conn: Connection<FileStore<D>>,
-    what: &str,
-    count: u32,
-) -> Result<(), Fault> {
-    let measured = measure(rt, &mut conn, what, count);
-    let closed = conn.close();
-    measured?;
-    closed?;
-    Ok(())
-}
-
-fn in_file(rt: &HostRuntime, path: &str, what: &str, count: u32) -> Result<(), Fault> {
-    let vault = SqlVault::open(rt, path, Wary)?;
-    measure_and_close(rt, vault.into_connection(), what, count)
-}
-
-/// Runs a measure of sessions over the store of this name.
-fn in_office(
-    rt: &HostRuntime,
-    what: &str,
-    count: u32,
-    store: &str,
-    path: &str,
-) -> Result<(), Fault> {
-    match store {
-        "" | "plain" => stores::over_vectors(rt, what, count),
-        "tables" => stores::over_tables(rt, what, count),
-        "file" => stores::over_file(rt, path, what, count),
-        _ => Err(Fault::NoStore),
-    }
 }
 
 /// Runs the measure of this name, whatever it is over.
@@ -109,13 +49,7 @@ fn run(rt: &HostRuntime, what: &str, count: u32, over: &str, path: &str) -> Resu
     if what == "opening" {
         return stores::measure_opening(rt, path, count);
     }
-    if sessions::is_measure(what) {
-        return in_office(rt, what, count, over, path);
-    }
-    if over == "" {
-        return in_memory(rt, what, count);
-    }
-    in_file(rt, over, what, count)
+    stores::measure(rt, what, count, over, path)
 }
 
 /// The word, or an empty one where there is none.

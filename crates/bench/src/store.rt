@@ -96,7 +96,7 @@ fn timed(
 }
 
 /// The sheets of one text, written in one transaction, and read one by one.
-pub fn measure_sheets(
+fn measure_sheets(
     rt: &(impl Print + AllocGlobal + Clock),
     tables: &mut impl Tables,
     octets: u32,
@@ -112,7 +112,7 @@ pub fn measure_sheets(
 }
 
 /// So many transactions that each raise a count.
-pub fn measure_commits(
+fn measure_commits(
     rt: &(impl Print + AllocGlobal + Clock),
     tables: &mut impl Tables,
     count: u32,
@@ -124,7 +124,7 @@ pub fn measure_commits(
 }
 
 /// The heads and the count of one of ten maildrops, each of so many messages.
-pub fn measure_heads(
+fn measure_heads(
     rt: &(impl Print + AllocGlobal + Clock),
     tables: &mut impl Tables,
     count: u32,
@@ -142,7 +142,7 @@ pub fn measure_heads(
 }
 
 /// A row or two in each table, for `tools/check-tables`.
-pub fn write_sample(tables: &mut impl Tables) -> Result<(), Fault> {
+fn write_sample(tables: &mut impl Tables) -> Result<(), Fault> {
     tables.write_clerks()?;
     write_all(tables, &[Write::Maildrop(b"orders"), Write::Count(1)])?;
     tables.write_deposit()?;
@@ -151,4 +151,20 @@ pub fn write_sample(tables: &mut impl Tables) -> Result<(), Fault> {
     text[4096] = 255;
     tables.write(&Write::Sheets(key, &text))?;
     Ok(())
+}
+
+/// Runs a measure over the tables of a store.
+pub fn measure(
+    rt: &(impl Print + AllocGlobal + Clock),
+    tables: &mut impl Tables,
+    what: &str,
+    count: u32,
+) -> Result<(), Fault> {
+    match what {
+        "sheets" => measure_sheets(rt, tables, count),
+        "commits" => measure_commits(rt, tables, count),
+        "heads" => measure_heads(rt, tables, count),
+        "sample" => write_sample(tables),
+        _ => Err(Fault::NoMeasure),
+    }
 }

@@ -1,7 +1,8 @@
 -- What a connection keeps after a line was answered.
 use Rattle.std.proofs.Common.{◌≡◌, ℕ, Bool, true, false, cond, List, [], ◌∷◌, ◌++◌, drop, length, Option, ◌==◌, refl, sym, ◌∙◌, ap, arith}
+use Rattle.std.proofs.Math.Seq.{drop-length}
 use Rattle.std.proofs.lemmas.Bool.Decides.{nat_tests}
-use Rattle.popline.specs.Cutting.{Cut, cut_of, Held, fed, shown, through_newline, has_newline}
+use Rattle.popline.specs.Cutting.{Cut, cut_of, Held, fed, shown, coming, through_newline, has_newline}
 use Rattle.popline.specs.Replies.{Reply, bytes_of}
 use Rattle.session.specs.Session.{Session}
 use Rattle.office.specs.Kept.{Kept, clocked, answered, line_after, talk_after}
@@ -46,6 +47,40 @@ module _ (k : Kept) (w : Held) (p : List ℕ) (x : Cut) (e : w ≡ fed k.held p)
       let owed_is : owed ≡ k.owed ++ bytes_of (reply (line_after k p)) = o ∙ ap (λ y. k.owed ++ bytes_of (reply y)) is_line in
       let talk_is : talk ≡ talk_after (line_after k p) (reply (line_after k p)) k.talk = t ∙ ap (λ y. talk_after y (reply y) k.talk) is_line in
       rw (st, r, owed_is, talk_is, e, h) refl
+
+none_shown : (b : Bool) (y : Cut) → [] ≡ cond b (y ∷ []) [] → b ≡ false
+none_shown true y e = cc
+none_shown false y e = refl
+
+-- octets without a whole line
+module _ (k : Kept) (w : Held) (p : List ℕ) (e : w ≡ fed k.held p) (none : [] ≡ shown w) where
+  pub none_whole : w.whole ≡ false
+  none_whole = none_shown w.whole (cut_of w.octets) none
+
+  pub no_line : has_newline p ≡ false
+  no_line = sym (ap (λ (v : Held). v.whole) e) ∙ none_whole
+
+  pub none_answered : (reply : Reply) (rest owed : List ℕ) (talk : Talk) (stamp : List ℕ) (session : Option Session) (clock : ℕ) → stamp ≡ k.stamp → clock ≡ k.clock → rest ≡ drop (through_newline p) p
+      → owed ≡ k.owed → talk ≡ k.talk → kept w rest owed talk stamp session clock ≡ answered k p reply session
+  none_answered reply rest owed talk stamp session clock st cl r o t =
+      let h = no_line in
+      rw (st, cl, r, o, t, e, h) refl
+
+  pub none_clocked : (now : ℕ) (reply : Reply) (rest owed : List ℕ) (talk : Talk) (stamp : List ℕ) (session : Option Session) (clock : ℕ) → stamp ≡ k.stamp → clock ≡ k.clock → rest ≡ drop (through_newline p) p
+      → owed ≡ k.owed → talk ≡ k.talk → kept w rest owed talk stamp session clock ≡ answered (clocked now p k) p reply session
+  none_clocked now reply rest owed talk stamp session clock st cl r o t =
+      let h = no_line in
+      rw (st, cl, r, o, t, e, h) refl
+
+-- the lines to come, from what a cutter says of its piece
+pub lines_stay : (k : Kept) (h w : Held) (p piece : List ℕ) (n : ℕ) (rest : List ℕ) → h ≡ k.held → piece ≡ p → rest ≡ drop n p → (more : List ℕ)
+    → coming h (piece ++ more) ≡ shown w ++ coming w (drop n piece ++ more) → coming k.held (p ++ more) ≡ shown w ++ coming w (rest ++ more)
+lines_stay k h w p piece n rest e i r more s =
+    ap (λ x. coming x (p ++ more)) (sym e) ∙ (ap (λ x. coming h (x ++ more)) (sym i) ∙ (s ∙ ap (λ x. shown w ++ coming w (x ++ more)) (ap (drop n) i ∙ sym r)))
+
+-- nothing is left where all was taken
+pub none_left : (n : ℕ) (p : List ℕ) → n ≡ length p → drop n p ≡ []
+none_left n p e = ap (λ m. drop m p) e ∙ drop-length p
 
 none_of_length : (xs : List ℕ) → (length xs == 0) ≡ true → xs ≡ []
 none_of_length [] e = refl

@@ -3,49 +3,60 @@
 use clap::{Arg, Command, value_parser};
 use std::alloc::{AllocError, Global};
 
+/// `--NAME VALUE`.
+fn option<'a>(alloc: Global, name: &'a str, value: &'a str, help: &'a str) -> Arg<'a> {
+    Arg::new(alloc, name)
+        .long(name)
+        .value_name(value)
+        .help(help)
+}
+
 /// `--host NAME`: the host name that greetings have.
 fn host<'a>(alloc: Global) -> Arg<'a> {
-    Arg::new(alloc, "host")
-        .long("host")
-        .value_name("NAME")
-        .help("The host name in greetings")
-        .default_value("localhost")
+    option(alloc, "host", "NAME", "The host name in greetings").default_value("localhost")
 }
 
 /// `--boot N`: the boot number that greetings have, below 2^64.
 fn boot<'a>(alloc: Global) -> Arg<'a> {
-    Arg::new(alloc, "boot")
-        .long("boot")
-        .value_name("N")
-        .help("The boot number in greetings")
-        .value_parser(value_parser!(u64))
+    option(alloc, "boot", "N", "The boot number in greetings").value_parser(value_parser!(u64))
 }
 
 /// `--store PATH`: the file of the store.
-fn store<'a>(alloc: Global) -> Arg<'a> {
-    Arg::new(alloc, "store").long("store").value_name("PATH")
+fn store<'a>(alloc: Global, help: &'a str) -> Arg<'a> {
+    option(alloc, "store", "PATH", help)
+}
+
+/// A subcommand with these arguments.
+fn subcommand<'a>(
+    alloc: Global,
+    name: &'a str,
+    about: &'a str,
+    arguments: Vec<Arg<'a>>,
+) -> Result<Command<'a>, AllocError> {
+    Command::new(alloc, name).about(about).args(arguments)
 }
 
 /// `replay [--store PATH] [--host NAME] [--boot N] [SCRIPT]`.
 fn replay<'a>(alloc: Global) -> Result<Command<'a>, AllocError> {
     let arguments = vec![in alloc;
-        store(alloc).help("The store's file, else one in memory"),
+        store(alloc, "The store's file, else one in memory"),
         host(alloc),
         boot(alloc).default_value("1"),
         Arg::new(alloc, "SCRIPT").help("The script's file, else standard input"),
     ]?;
-    Command::new(alloc, "replay")
-        .about("Runs the events of a script, and prints what each gives")
-        .args(arguments)
+    let about = "Runs the events of a script, and prints what each gives";
+    subcommand(alloc, "replay", about, arguments)
 }
 
 /// `talk --store PATH [--host NAME] [--boot N]`.
 fn talk<'a>(alloc: Global) -> Result<Command<'a>, AllocError> {
-    let store = store(alloc).help("The store's file, which is made where there is none");
-    let arguments = vec![in alloc; store.required(true), host(alloc), boot(alloc)]?;
-    Command::new(alloc, "talk")
-        .about("Has one conversation with a client, on standard input and output")
-        .args(arguments)
+    let arguments = vec![in alloc;
+        store(alloc, "The store's file, which is made where there is none").required(true),
+        host(alloc),
+        boot(alloc),
+    ]?;
+    let about = "Has one conversation with a client, on standard input and output";
+    subcommand(alloc, "talk", about, arguments)
 }
 
 /// `check-policy FILE`.
@@ -56,21 +67,21 @@ fn check_policy<'a>(alloc: Global) -> Result<Command<'a>, AllocError> {
         .arg(file.required(true))
 }
 
-/// The subcommands, as a usage lists them.
-fn subcommands<'a>(alloc: Global) -> Result<Vec<Command<'a>>, AllocError> {
-    let mut subcommands = Vec::new(alloc);
-    subcommands.push(replay(alloc)?)?;
-    subcommands.push(talk(alloc)?)?;
-    subcommands.push(check_policy(alloc)?)?;
-    Ok(subcommands)
+/// Adds a subcommand that was made.
+fn add<'a>(
+    command: Command<'a>,
+    made: Result<Command<'a>, AllocError>,
+) -> Result<Command<'a>, AllocError> {
+    command.subcommand(made?)
 }
 
 /// The whole command line.
 pub fn make_command<'a>(alloc: Global) -> Result<Command<'a>, AllocError> {
-    let subcommands = subcommands(alloc)?;
-    Command::new(alloc, "popbox")
+    let command = Command::new(alloc, "popbox")
         .about("A POP3 server for shared maildrops")
         .subcommand_required(true)
-        .arg_required_else_help(true)
-        .subcommands(subcommands)
+        .arg_required_else_help(true);
+    let command = add(command, replay(alloc))?;
+    let command = add(command, talk(alloc))?;
+    add(command, check_policy(alloc))
 }

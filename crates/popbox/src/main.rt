@@ -30,7 +30,7 @@ use converse::check_policy::check_policy;
 use converse::replay::replay;
 use converse::talking::talk;
 use converse::{Fault, read_fault, tell_fault};
-use sqlite::{FileStore, Wary};
+use sqlite::{Alter, Connection, FileStore, Wary};
 use sqlite_disk::Disk;
 use sqlvault::SqlVault;
 use std::alloc::Global;
@@ -179,9 +179,22 @@ fn run_and_close<D: Disk + Drop, S: Read, E: Write>(
     options: &ArgMatches<'_>,
     err: &mut E,
 ) -> Result<u8, Fault> {
-    let (ran, vault) = run_over(rt, job, input, vault, options, err);
-    let _ = vault.into_connection().close();
+    let (ran, conn) = run_over_tables(rt, job, input, vault, options, err);
+    let _ = conn.close();
     ran
+}
+
+/// Runs a job over a store in tables, and gives their connection back.
+fn run_over_tables<A: Alter + Drop, S: Read, E: Write>(
+    rt: &HostRuntime,
+    job: Job,
+    input: &mut S,
+    vault: SqlVault<A>,
+    options: &ArgMatches<'_>,
+    err: &mut E,
+) -> (Result<u8, Fault>, Connection<A>) {
+    let (ran, vault) = run_over(rt, job, input, vault, options, err);
+    (ran, vault.into_connection())
 }
 
 /// Runs a job over a vault, and gives the vault back.

@@ -1,4 +1,4 @@
-use Rattle.std.proofs.Common.{◌∙◌}
+use Rattle.std.proofs.Common.{rules, ◌∙◌}
 use Rattle.office.proofs.Texts.{found, found_text, retrieve_failed, retrieve_done}
 use Rattle.office.proofs.Obeying.{if_ok_both}
 use Rattle.office.proofs.message.retrieve.Goals as goal
@@ -20,3 +20,27 @@ returns-in-Some-clause-done g c = if_ok_both _ c.put_message.result c.put_messag
     let whole = rw c.in-Some.is at c.in_ok-read_text-in-Ok.ensures.text in
     let text = c.deref.ensures.value ∙ (whole d held clean has.0 ∙ has.1) in
     rw e (retrieve_done _ _ d p s kept c.args.n c.in-Ok.head f _ _ c.deref.result.now text said (c.read_text.ensures.held d held clean)))
+
+pub returns-in_err-read_text-in-Ok-clause-done : goal.returns-in_err-read_text-in-Ok-clause-done
+returns-in_err-read_text-in-Ok-clause-done g c = search rules
+
+pub returns-in_err-read_text-in-Ok-clause-err : goal.returns-in_err-read_text-in-Ok-clause-err
+returns-in_err-read_text-in-Ok-clause-err g c = search rules
+
+pub returns-in_err-read_text-in-Ok-clause-counted : goal.returns-in_err-read_text-in-Ok-clause-counted
+returns-in_err-read_text-in-Ok-clause-counted g c = search rules
+
+pub returns-in_err-read_text-in-Ok-clause-clean : goal.returns-in_err-read_text-in-Ok-clause-clean
+returns-in_err-read_text-in-Ok-clause-clean g c = search rules
+
+pub returns-in_err-put-in-None-clause-done : goal.returns-in_err-put-in-None-clause-done
+returns-in_err-put-in-None-clause-done g c = search rules
+
+pub returns-in_err-put-in-None-clause-err : goal.returns-in_err-put-in-None-clause-err
+returns-in_err-put-in-None-clause-err g c = search rules
+
+pub returns-in_err-put-in-None-clause-counted : goal.returns-in_err-put-in-None-clause-counted
+returns-in_err-put-in-None-clause-counted g c = search rules
+
+pub returns-in_err-put-in-None-clause-clean : goal.returns-in_err-put-in-None-clause-clean
+returns-in_err-put-in-None-clause-clean g c = search rules

@@ -1,11 +1,12 @@
-use Rattle.std.proofs.lemmas.Grind.{common_steps}
-use Rattle.std.proofs.Common.{◌≡◌, ◌-◌, ◌++◌, drop, take, take_all, length, length-drop, arith, sym, ◌∙◌, ap, rules, string_bytes, subst}
+use Rattle.std.proofs.Common.{◌≡◌, true, refl, ◌-◌, ◌++◌, [], drop, take, take_all, length, length-drop, arith, sym, ◌∙◌, ap, rules, string_bytes, subst}
 use Rattle.popline.specs.Cutting.{fed, through_newline}
 use Rattle.popline.specs.Replies.{bytes_of}
 use Rattle.popline.specs.Seen.{cut_seen}
-use Rattle.office.specs.Kept.{Kept, Desk, talk_after, line_after}
+use Rattle.office.specs.Connections.{reading}
+use Rattle.office.specs.Kept.{Kept, Desk, talk_after, asks, line_after}
 use Rattle.office.specs.Answered.{judged_at, reply_of, IsSeated, Becomes, BecomesIf}
-use Rattle.office.proofs.Keeping.{line_clocked, has_line, is_line}
+use Rattle.office.specs.declared.talk.Acted.TheVariants as acted
+use Rattle.office.proofs.Keeping.{line_clocked, has_line, is_line, none_whole, none_clocked, none_left, lines_stay}
 use Rattle.office.proofs.link.Link.hear.Goals as goal
 
 pub returns-clause-ok : goal.returns-clause-ok
@@ -56,14 +57,53 @@ returns-clause-session g c d s held clean sits =
     subst (λ b. BecomesIf b d c.args.policy.now k.talk (line_after k p) (reply_of w desk k.talk s (line_after k p)) k.session c.answer.new.session) (sym there)
     (subst (λ y. Becomes d c.args.policy.now k.talk y (reply_of w desk k.talk s y) k.session c.answer.new.session) same so)
 
+pub returns-clause-may : goal.returns-clause-may
+returns-clause-may g c failed d s held clean sits =
+    let f = c.feed-n.ensures in
+    let v = c.self.view_is in
+    let p = c.args.piece.now in
+    let k : Kept = c.args.self.now in
+    let x = cut_seen c.in-Some.cut in
+    let fed_is = f.held ∙ ap (λ (k : Kept). fed k.held p) v in
+    let talking : c.self.inside.talk ≡ k.talk = ap (λ (k : Kept). k.talk) v in
+    let seat : IsSeated d c.self.inside.session s = subst (λ o. IsSeated d o s) (sym (ap (λ (k : Kept). k.session) v)) sits in
+    let asked = c.in_ok-acted.ensures.may failed d s held clean seat in
+    let so : asks c.args.policy.now k.talk s (reading x) ≡ true = subst (λ t. asks c.args.policy.now t s (reading x) ≡ true) talking asked in
+    (has_line k c.feed-n.new.self p x fed_is c.in-Some.ensures, subst (λ y. asks c.args.policy.now k.talk s (reading y) ≡ true) (is_line k c.feed-n.new.self p x fed_is c.in-Some.ensures) so)
+
 pub returns-in_default-clause-ok : goal.returns-in_default-clause-ok
-returns-in_default-clause-ok g c = grind (arith, common_steps)
+returns-in_default-clause-ok g c d s held clean sits =
+    let f = c.feed-n.ensures in
+    let v = c.self.view_is in
+    let p = c.args.piece.now in
+    let k : Kept = c.args.self.now in
+    let n = c.feed-n.result in
+    let fed_is = f.held ∙ ap (λ (k : Kept). fed k.held p) v in
+    let none : drop n p ≡ [] = none_left n p (f.all (none_whole k c.feed-n.new.self p fed_is c.in_default.ensures)) in
+    let rest = c.clear-2.ensures.items ∙ (sym none ∙ ap (λ m. drop m p) f.taken) in
+    none_clocked k c.feed-n.new.self p fed_is c.in_default.ensures c.args.now (reply_of acted.Done (judged_at d c.args.policy.now k.stamp c.args.locks.now) k.talk s (line_after k p)) c.clear-2.new.self.items c.clear.new.self.items c.self.inside.talk (string_bytes c.self.inside.stamp) c.self.inside.session c.self.inside.clock (ap (λ (k : Kept). k.stamp) v) (ap (λ (k : Kept). k.clock) v) rest (c.clear.ensures.items ∙ sym c.requires.0) (ap (λ (k : Kept). k.talk) v)
 
 pub returns-in_default-clause-lines : goal.returns-in_default-clause-lines
-returns-in_default-clause-lines g c = grind (arith, common_steps)
+returns-in_default-clause-lines g c more =
+    let f = c.feed-n.ensures in
+    let v = c.self.view_is in
+    let p = c.args.piece.now in
+    let k : Kept = c.args.self.now in
+    let n = c.feed-n.result in
+    let fed_is = f.held ∙ ap (λ (k : Kept). fed k.held p) v in
+    let none : drop n p ≡ [] = none_left n p (f.all (none_whole k c.feed-n.new.self p fed_is c.in_default.ensures)) in
+    lines_stay k c.self.inside.cutter c.feed-n.new.self p p n c.clear-2.new.self.items (ap (λ (k : Kept). k.held) v) refl (c.clear-2.ensures.items ∙ sym none) more (f.stream more)
 
 pub returns-clause-lines : goal.returns-clause-lines
-returns-clause-lines g c = grind (arith, common_steps)
+returns-clause-lines g c more =
+    let f = c.feed-n.ensures in
+    let v = c.self.view_is in
+    let p = c.args.piece.now in
+    let k : Kept = c.args.self.now in
+    let n = c.feed-n.result in
+    let slice : take (length p - n) (drop n p) ≡ drop n p = take_all (length p - n) (drop n p) (omega (arith, length-drop n p)) in
+    let grown : c.extend_from_slice.new.self.items ≡ take (length p - n) (drop n p) = search rules in
+    lines_stay k c.self.inside.cutter c.feed-n.new.self p p n c.extend_from_slice.new.self.items (ap (λ (k : Kept). k.held) v) refl (grown ∙ slice) more (f.stream more)
 
 pub returns-in_err-extend_from_slice-clause-ok : goal.returns-in_err-extend_from_slice-clause-ok
 returns-in_err-extend_from_slice-clause-ok g c = search rules

@@ -5,7 +5,8 @@ use Rattle.popline.specs.Seen.{cut_seen}
 use Rattle.office.specs.Connections.{reading}
 use Rattle.office.specs.Kept.{Kept, Desk, talk_after, asks, line_after}
 use Rattle.office.specs.Answered.{judged_at, reply_of, IsSeated, Becomes, BecomesIf}
-use Rattle.office.proofs.Keeping.{line_answered, has_line, is_line}
+use Rattle.office.specs.declared.talk.Acted.TheVariants as acted
+use Rattle.office.proofs.Keeping.{line_answered, has_line, is_line, none_answered, lines_stay}
 use Rattle.office.proofs.link.Link.resume.Goals as goal
 
 pub returns-clause-ok : goal.returns-clause-ok
@@ -88,6 +89,59 @@ returns-clause-may g c failed d s held clean sits =
     let asked = c.in_ok-acted.ensures.may failed d s held clean seat in
     let so : asks c.args.policy.now k.talk s (reading x) ≡ true = subst (λ t. asks c.args.policy.now t s (reading x) ≡ true) talking asked in
     (has_line k c.feed.new.self p x fed_is c.in-Some.ensures, subst (λ y. asks c.args.policy.now k.talk s (reading y) ≡ true) (is_line k c.feed.new.self p x fed_is c.in-Some.ensures) so)
+
+pub returns-clause-lines : goal.returns-clause-lines
+returns-clause-lines g c more =
+    let f = c.feed.ensures in
+    let v = c.self.view_is in
+    let k : Kept = c.args.self.now in
+    let p = k.pending in
+    let cut = c.self.inside.cut in
+    let octets = c.self.inside.pending.items in
+    let left : drop cut octets ≡ p = ap (λ (k : Kept). k.pending) v in
+    let n = c.feed.result in
+    let all : c.deref.result.now ≡ octets = c.deref.ensures.value in
+    let fits : length (drop cut c.deref.result.now) ≤ length c.deref.result.now - cut = omega (arith, length-drop cut c.deref.result.now) in
+    let piece = take (length c.deref.result.now - cut) (drop cut c.deref.result.now) in
+    let given : piece ≡ p = take_all (length c.deref.result.now - cut) (drop cut c.deref.result.now) fits ∙ (ap (drop cut) all ∙ left) in
+    let rest : drop (cut + n) octets ≡ drop n p = sym (drop-drop n cut octets) ∙ ap (drop n) left in
+    lines_stay k c.self.inside.cutter c.feed.new.self p piece n (drop (cut + n) octets) (ap (λ (k : Kept). k.held) v) given rest more (f.stream more)
+
+pub returns-in_default-clause-lines : goal.returns-in_default-clause-lines
+returns-in_default-clause-lines g c more =
+    let f = c.feed.ensures in
+    let v = c.self.view_is in
+    let k : Kept = c.args.self.now in
+    let p = k.pending in
+    let cut = c.self.inside.cut in
+    let octets = c.self.inside.pending.items in
+    let left : drop cut octets ≡ p = ap (λ (k : Kept). k.pending) v in
+    let n = c.feed.result in
+    let all : c.deref.result.now ≡ octets = c.deref.ensures.value in
+    let fits : length (drop cut c.deref.result.now) ≤ length c.deref.result.now - cut = omega (arith, length-drop cut c.deref.result.now) in
+    let piece = take (length c.deref.result.now - cut) (drop cut c.deref.result.now) in
+    let given : piece ≡ p = take_all (length c.deref.result.now - cut) (drop cut c.deref.result.now) fits ∙ (ap (drop cut) all ∙ left) in
+    let rest : drop (cut + n) octets ≡ drop n p = sym (drop-drop n cut octets) ∙ ap (drop n) left in
+    lines_stay k c.self.inside.cutter c.feed.new.self p piece n (drop (cut + n) octets) (ap (λ (k : Kept). k.held) v) given rest more (f.stream more)
+
+pub returns-in_default-clause-ok : goal.returns-in_default-clause-ok
+returns-in_default-clause-ok g c d s held clean sits =
+    let f = c.feed.ensures in
+    let v = c.self.view_is in
+    let k : Kept = c.args.self.now in
+    let p = k.pending in
+    let cut = c.self.inside.cut in
+    let octets = c.self.inside.pending.items in
+    let left : drop cut octets ≡ p = ap (λ (k : Kept). k.pending) v in
+    let n = c.feed.result in
+    let all : c.deref.result.now ≡ octets = c.deref.ensures.value in
+    let fits : length (drop cut c.deref.result.now) ≤ length c.deref.result.now - cut = omega (arith, length-drop cut c.deref.result.now) in
+    let piece = take (length c.deref.result.now - cut) (drop cut c.deref.result.now) in
+    let given : piece ≡ p = take_all (length c.deref.result.now - cut) (drop cut c.deref.result.now) fits ∙ (ap (drop cut) all ∙ left) in
+    let rest : drop (cut + n) octets ≡ drop (through_newline p) p =
+    sym (drop-drop n cut octets) ∙ (ap (drop n) left ∙ ap (λ m. drop m p) (f.taken ∙ ap through_newline given)) in
+    let fed_is = f.held ∙ (ap (λ (k : Kept). fed k.held piece) v ∙ ap (fed k.held) given) in
+    none_answered k c.feed.new.self p fed_is c.in_default.ensures (reply_of acted.Done (judged_at d c.args.policy.now k.stamp c.args.locks.now) k.talk s (line_after k p)) (drop (cut + n) octets) c.clear.new.self.items c.self.inside.talk (string_bytes c.self.inside.stamp) c.self.inside.session c.self.inside.clock (ap (λ (k : Kept). k.stamp) v) (ap (λ (k : Kept). k.clock) v) rest (c.clear.ensures.items ∙ sym c.requires) (ap (λ (k : Kept). k.talk) v)
 
 pub returns-in_err-acted-clause-ok : goal.returns-in_err-acted-clause-ok
 returns-in_err-acted-clause-ok g c = search rules
