@@ -1,7 +1,7 @@
 //! How fast message texts are kept, stuffed and read back.
 
 use crate::{rate, since};
-use mailtext::{MailText, canon, stuff_into, unstuff};
+use mailtext::{MailText, Stuffer, canon, stuff_into, unstuff};
 use std::alloc::{AllocError, Global};
 use std::io;
 use std::rt::Clock;
@@ -28,6 +28,25 @@ fn send(alloc: Global, kept: &MailText) -> Result<Vec<u8>, AllocError> {
     Ok(sent)
 }
 
+/// How many octets are sent of a text that comes in pages of 4,096 octets.
+fn send_pages(text: &[u8], out: &mut [u8]) -> usize {
+    let mut stuffer = Stuffer::new();
+    let mut sent = 0usize;
+    for page in text.chunks(4096) {
+        let (_, put) = stuffer.feed(page, out);
+        sent = sent.wrapping_add(put);
+    }
+    sent
+}
+
+/// How many octets are sent by pages through a buffer of 16,384 octets, and how many of the text in a microsecond.
+fn streaming(rt: &(impl AllocGlobal + Clock), kept: &MailText) -> io::Result<(usize, u64)> {
+    let mut out = vec![in rt.alloc(); 0u8; 16_384]?;
+    let start = Instant::now(rt)?;
+    let sent = send_pages(kept.bytes(), &mut out);
+    Ok((sent, rate(kept.octets() as u64, since(rt, start)?)))
+}
+
 /// Whether a text that was sent can be read.
 fn is_read(alloc: Global, sent: &[u8]) -> Result<bool, AllocError> {
     Ok(unstuff(alloc, sent)?.is_some())
@@ -52,9 +71,11 @@ fn measure_kept(
     let stuffing = rate(kept.octets() as u64, since(rt, start)?);
     let (is_read, reading) = reading(rt, &sent)?;
     let state = if is_read { "read" } else { "not read" };
+    let (put, streaming) = streaming(rt, kept)?;
     println!(rt;
         "{name}: canon {keeping} MB/s, stuff_into {stuffing} MB/s, unstuff {reading} MB/s, {state}"
-    )
+    )?;
+    println!(rt; "{name}: Stuffer {streaming} MB/s, {put} octets")
 }
 
 fn measure(rt: &(impl Print + AllocGlobal + Clock), name: &str, text: &[u8]) -> io::Result<()> {

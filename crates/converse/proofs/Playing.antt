@@ -1,7 +1,7 @@
 -- What lines print one after the other, and what an office lends.
-use Rattle.std.proofs.Common.{◌≡◌, ℕ, ◌<◌, ◌≤◌, ltb-true, ltb-false, Bool, true, false, not, ◌||◌, ◌==◌, nat_lt, List, [], ◌∷◌, ◌++◌, ◌+◌, length, take, get_or, map, option_map, Option, Some, None, IfSome, Result, Ok, Err, refl, arith, sym, ◌∙◌, ap, subst, append-nil, append_assoc, if◌then◌else◌}
+use Rattle.std.proofs.Common.{◌≡◌, ℕ, ◌<◌, ◌≤◌, ltb-true, ltb-false, Bool, true, false, not, ◌||◌, ◌==◌, nat_lt, List, [], ◌∷◌, ◌++◌, ◌+◌, length, take, get_or, map, option_map, Option, Some, None, IfSome, Result, Ok, Err, refl, arith, sym, ◌∙◌, ap, subst, true≢false, append-nil, append_assoc, if◌then◌else◌}
 use Rattle.std.proofs.KnownBytes.{Appends-nil, Appends-trans}
-use Rattle.std.proofs.lemmas.List.{take_all, take_more, map-append}
+use Rattle.std.proofs.lemmas.List.{take_all, take_more, take_min, take-append-le, length-take, map-append}
 use Rattle.std.proofs.lemmas.Grind.{flat_map-append}
 use Rattle.std.specs.Fmt.{decimal}
 use Rattle.std.specs.Prelude.{codes, IsErr}
@@ -19,26 +19,49 @@ use Rattle.office.specs.Trace.{history, is_open_at, rest, rest_if, IsLent}
 use Rattle.office.specs.Shown.{outcome_seen}
 use Rattle.office.specs.declared.event.Outcome.{Outcome as Shown}
 use Rattle.office.specs.declared.office.Office.{Office}
+use Rattle.office.specs.declared.output.Source.{Source}
+use Rattle.office.specs.declared.output.Source.TheVariants.{Nothing, Sizes, Uids, Text}
+use Rattle.office.specs.Output.{Output, most_lent, is_feeding, Feeds, Owes}
+use Rattle.session.specs.Session.{Session}
 use Rattle.converse.specs.Script.{ScriptLine, Does, Drains, line_seen, script_of}
 use Rattle.converse.specs.declared.script.Line.{Line}
 use Rattle.converse.specs.Escapes.{escape, escaped}
 use Rattle.converse.specs.Talked.{trace_of}
-use Rattle.converse.specs.Played.{owed_by, sent_before, TakesAll, Acts, ComesTo, WithCause, Caused, failures, told_text, still_known, drained, drained_octets, AreTakings, Takes, Point, point, PlaysLine, Plays, HasPlayed, HasRun}
+use Rattle.converse.specs.Played.{lent_at, owed_by, sent_before, TakesAll, Acts, ComesTo, WithCause, Caused, failures, told_text, still_known, drained, drained_octets, AreTakings, Takes, Point, point, PlaysLine, Plays, HasPlayed, HasRun}
 use Rattle.vault.specs.Calls.{has_grown}
 use Rattle.office.specs.Outcomes.{HasCause}
 use Rattle.converse.proofs.Clauses.{appends_kept, grown_since, grown_still}
 
--- ---- an office lends all that is owed
+-- ---- an office lends the first of what is owed
 
-lent_of : (contents : Contents) (s : Seen) (k : Option Kept) → IsKeptFor contents s k → length_of_lent k ≡ length (rest_if (is_seen_open s) (untaken_of s))
-lent_of contents s None h = let e = h.closed in rw e refl
-lent_of contents s (Some k) h = let e = h.opened in rw e (ap length h.owed)
+-- what is spent puts nothing
+spent_none : (c : Contents) (s : Option Session) (source : Source) (coming : List ℕ) → is_feeding source ≡ false → Feeds c s source coming → coming ≡ []
+spent_none c None Nothing coming h f = f
+spent_none c (Some s) Nothing coming h f = f
+spent_none c s (Sizes done) coming h f = absurd (true≢false h)
+spent_none c s (Uids done) coming h f = absurd (true≢false h)
+spent_none c s (Text r) coming h f = absurd (true≢false h)
+
+-- what is lent of what stands ready is what is lent of all
+same_lent : (c : Contents) (s : Option Session) (o : Output) (octets : List ℕ) → Owes c s o octets → (b : Bool) → is_feeding o.source ≡ b → take most_lent o.ready ≡ take most_lent octets
+same_lent c s o octets w true e = sym (take-append-le most_lent o.ready w.coming (w.filled e)) ∙ ap (take most_lent) (sym w.is)
+same_lent c s o octets w false e =
+    let none = spent_none c s o.source w.coming e w.feeds in
+    ap (take most_lent) (sym (w.is ∙ (ap (λ xs. o.ready ++ xs) none ∙ append-nil o.ready)))
+
+-- of nothing, nothing is lent
+none_taken : (n : ℕ) → ◌≡◌ {A = List ℕ} (take n []) []
+none_taken n = take_all n [] (omega (arith))
+
+lent_of : (contents : Contents) (s : Seen) (k : Option Kept) → IsKeptFor contents s k → length_of_lent k ≡ length (take most_lent (rest_if (is_seen_open s) (untaken_of s)))
+lent_of contents s None h = let e = h.closed in rw e (sym (ap length (none_taken most_lent)))
+lent_of contents s (Some k) h = let e = h.opened in rw e (ap length (same_lent contents k.session k.output (untaken_of s) h.owed (is_feeding k.output.source) refl))
 
 pub lent_owed : {V : Type 0} (Holds : V → Contents → Type 0) (o : Office V) (T : Trace) → StandsFor Holds o T → (c : ℕ) → lent_by o c ≡ owed_by T c
 lent_owed Holds o T st c = lent_of st.keeps.contents (seen T c) _ (st.links c)
 
-pub lent_whole : (rest lent : List ℕ) → IsLent rest lent → length lent ≡ length rest → lent ≡ rest
-lent_whole rest lent is e = is.beginning ∙ (ap (λ n. take n rest) e ∙ take_all (length rest) rest (omega (arith)))
+pub lent_whole : (rest lent : List ℕ) → IsLent rest lent → length lent ≡ length (take most_lent rest) → lent ≡ take most_lent rest
+lent_whole rest lent is e = is.beginning ∙ (ap (λ n. take n rest) (e ∙ length-take most_lent rest) ∙ take_min most_lent rest)
 
 -- ---- outcomes
 
@@ -77,9 +100,9 @@ plays_more P M Q (first ∷ lines) line printed more (N, a, b, x, y, e) l =
 
 -- ---- takings
 
--- what is lent is all that is owed
+-- what is lent is the first of what is owed
 pub owed_whole : {V : Type 0} (Holds : V → Contents → Type 0) (o : Office V) (T : Trace) → StandsFor Holds o T → (c : ℕ) (lent : List ℕ) → IsLent (rest T c) lent → length lent ≡ lent_by o c
-    → lent ≡ rest T c
+    → lent ≡ lent_at T c
 owed_whole Holds o T st c lent is count = lent_whole (rest T c) lent is (count ∙ lent_owed Holds o T st c)
 
 -- so much was taken, and is printed as it comes
@@ -91,34 +114,34 @@ takes_none T c = ([], record { are = tt; last = refl; behind = refl }, refl)
 
 takes_next : (T : Trace) (c : ℕ) (os : List Outcome) (p : Outcome) → AreTakings c T os → 0 < owed_by (drained c T os) c
     → IsOutcome (drained c T os) (owed_by (drained c T os)) (event.Took c (owed_by (drained c T os) c)) p
-    → TakesSoFar T c p (escaped (drained_octets c T os) ++ escaped (rest (drained c T os) c)) (given (drained c T os) (event.Took c (owed_by (drained c T os) c)) (mark_of p))
+    → TakesSoFar T c p (escaped (drained_octets c T os) ++ escaped (lent_at (drained c T os) c)) (given (drained c T os) (event.Took c (owed_by (drained c T os) c)) (mark_of p))
 takes_next T c os p are some is =
-    (p ∷ os, record { are = (are, some, is); last = refl; behind = refl }, sym (flat_map-append escape (drained_octets c T os) (rest (drained c T os) c)))
+    (p ∷ os, record { are = (are, some, is); last = refl; behind = refl }, sym (flat_map-append escape (drained_octets c T os) (lent_at (drained c T os) c)))
 
 -- one taking more
 pub takes_more : (T : Trace) (c : ℕ) (o p : Outcome) (printed : List ℕ) (U : Trace) → TakesSoFar T c o printed U → 0 < owed_by U c
-    → IsOutcome U (owed_by U) (event.Took c (owed_by U c)) p → TakesSoFar T c p (printed ++ escaped (rest U c)) (given U (event.Took c (owed_by U c)) (mark_of p))
+    → IsOutcome U (owed_by U) (event.Took c (owed_by U c)) p → TakesSoFar T c p (printed ++ escaped (lent_at U c)) (given U (event.Took c (owed_by U c)) (mark_of p))
 takes_more T c o p printed U (os, t, e) =
-    subst (λ (w : List ℕ). 0 < owed_by U c → IsOutcome U (owed_by U) (event.Took c (owed_by U c)) p → TakesSoFar T c p (w ++ escaped (rest U c)) (given U (event.Took c (owed_by U c)) (mark_of p)))
+    subst (λ (w : List ℕ). 0 < owed_by U c → IsOutcome U (owed_by U) (event.Took c (owed_by U c)) p → TakesSoFar T c p (w ++ escaped (lent_at U c)) (given U (event.Took c (owed_by U c)) (mark_of p)))
     (sym e)
-    (subst (λ X. 0 < owed_by X c → IsOutcome X (owed_by X) (event.Took c (owed_by X c)) p → TakesSoFar T c p (escaped (drained_octets c T os) ++ escaped (rest X c)) (given X (event.Took c (owed_by X c)) (mark_of p)))
+    (subst (λ X. 0 < owed_by X c → IsOutcome X (owed_by X) (event.Took c (owed_by X c)) p → TakesSoFar T c p (escaped (drained_octets c T os) ++ escaped (lent_at X c)) (given X (event.Took c (owed_by X c)) (mark_of p)))
     (sym t.behind) (takes_next T c os p t.are))
 
 pub some_owed : (b : Bool) (xs : List ℕ) → b ≡ false → b ≡ (length xs == 0) → 0 < length xs
 some_owed b [] f e = cc
 some_owed b (x ∷ xs) f e = omega (arith)
 
-pub takes_lent : (T : Trace) (c : ℕ) (o p : Outcome) (printed : List ℕ) (U : Trace) (lent : List ℕ) → lent ≡ rest U c → TakesSoFar T c o printed U → 0 < length lent
+pub takes_lent : (T : Trace) (c : ℕ) (o p : Outcome) (printed : List ℕ) (U : Trace) (lent : List ℕ) → lent ≡ lent_at U c → TakesSoFar T c o printed U → 0 < length lent
     → IsOutcome U (owed_by U) (event.Took c (length lent)) p → TakesSoFar T c p (printed ++ escaped lent) (given U (event.Took c (length lent)) (mark_of p))
 takes_lent T c o p printed U lent e s =
     subst (λ (r : List ℕ). 0 < length r → IsOutcome U (owed_by U) (event.Took c (length r)) p → TakesSoFar T c p (printed ++ escaped r) (given U (event.Took c (length r)) (mark_of p)))
     (sym e) (takes_more T c o p printed U s)
 
-owed_none : (T U : Trace) (c : ℕ) → U ≡ T → rest U c ≡ [] → 0 < length (rest T c) → ⊥
-owed_none T U c e f some = let n = ap length (subst (λ X. rest X c ≡ []) e f) in omega (arith, n, some)
+owed_none : (T U : Trace) (c : ℕ) → U ≡ T → rest U c ≡ [] → 0 < owed_by T c → ⊥
+owed_none T U c e f some = let n = ap length (ap (take most_lent) (subst (λ X. rest X c ≡ []) e f) ∙ none_taken most_lent) in omega (arith, n, some)
 
 -- all was taken, and is printed in one line
-pub drains_all : (T : Trace) (c : ℕ) (o : Outcome) (printed : List ℕ) (U : Trace) → TakesAll T c o printed U → 0 < length (rest T c)
+pub drains_all : (T : Trace) (c : ℕ) (o : Outcome) (printed : List ℕ) (U : Trace) → TakesAll T c o printed U → 0 < owed_by T c
     → Acts T (Drains c) (Some o) (codes "sent " ++ decimal c ++ codes " " ++ printed ++ codes "\n") U
 drains_all T c o printed U ([], t, e, f) some = absurd (owed_none T U c t.behind e some)
 drains_all T c o printed U (p ∷ os, t, e, f) some = (p ∷ os, t, e, ap (λ (w : List ℕ). codes "sent " ++ decimal c ++ codes " " ++ w ++ codes "\n") f)

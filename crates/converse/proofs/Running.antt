@@ -50,4 +50,4 @@ broken_since Holds new T octets written AtEnd grown more h t =
 
 -- what another vault holds too
 pub keeps_still : (Holds Still : Contents → Type 0) (T : Trace) (k : Keeps Holds T) → Still k.contents → Keeps Still T
-keeps_still Holds Still T k held = record { contents = k.contents; held = held; agree = k.agree; sound = k.sound; formed = k.formed }
+keeps_still Holds Still T k held = record { contents = k.contents; held = held; agree = k.agree; sound = k.sound; formed = k.formed; began = k.began }

@@ -6,6 +6,7 @@ use Rattle.vault.specs.Changes.{Contents}
 use Rattle.office.specs.Events.{Event, Mark, Tagged, Log, Took, Trace, given}
 use Rattle.office.specs.History.{Failed}
 use Rattle.office.specs.Expected.{IsOutcome}
+use Rattle.office.specs.Output.{most_lent}
 use Rattle.office.specs.Outcomes.{Outcome, Opened, Done, mark_of}
 use Rattle.office.specs.Stands.{Keeps, StandsFor}
 use Rattle.office.specs.Trace.{is_open, rest}
@@ -16,20 +17,24 @@ use Rattle.converse.specs.Told.{sent_line, outcome_lines, ended_lines, has_ended
 
 -- ---- one event
 
--- how many octets each connection is owed
-abbrev pub owed_by : Trace → ℕ → ℕ
-owed_by T c = length (rest T c)
+-- what each connection is lent of what it is owed
+abbrev pub lent_at : Trace → ℕ → List ℕ
+lent_at T c = take most_lent (rest T c)
 
--- what is printed of the first n octets that are owed: nothing, where none is asked for, or more than are owed
-abbrev pub taken_text : (c : ℕ) (owed : List ℕ) (n : ℕ) → List ℕ
-taken_text c owed n = if n == 0 || nat_lt (length owed) n then [] else sent_line c (take n owed)
+-- how many octets it is lent
+abbrev pub owed_by : Trace → ℕ → ℕ
+owed_by T c = length (lent_at T c)
+
+-- what is printed of the first n octets that are lent: nothing, where none is asked for, or more than are lent
+abbrev pub taken_text : (c : ℕ) (lent : List ℕ) (n : ℕ) → List ℕ
+taken_text c lent n = if n == 0 || nat_lt (length lent) n then [] else sent_line c (take n lent)
 
 -- what is printed in front of an event's outcome: the octets that a client took
 abbrev pub sent_before : Trace → Event → List ℕ
-sent_before T (Took c n) = taken_text c (rest T c) n
+sent_before T (Took c n) = taken_text c (lent_at T c) n
 sent_before T _ = []
 
--- ---- takings of all that is owed, one after the other; their outcomes, the newest first
+-- ---- takings of all that is lent, one after the other; their outcomes, the newest first
 
 -- the trace with these takings
 abbrev pub drained : ℕ → Trace → List Outcome → Trace
@@ -39,7 +44,7 @@ drained c T (o ∷ os) = given (drained c T os) (Took c (owed_by (drained c T os
 -- the octets that they took
 abbrev pub drained_octets : ℕ → Trace → List Outcome → List ℕ
 drained_octets c T [] = []
-drained_octets c T (o ∷ os) = drained_octets c T os ++ rest (drained c T os) c
+drained_octets c T (o ∷ os) = drained_octets c T os ++ lent_at (drained c T os) c
 
 -- each has an outcome of its own, and something was owed
 abbrev pub AreTakings : ℕ → Trace → List Outcome → Type 0

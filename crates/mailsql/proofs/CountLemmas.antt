@@ -20,9 +20,10 @@ use Rattle.sqlite.specs.Effect.{IsDatabase}
 use Rattle.sqlite.specs.Listing.{understood, reads_listing}
 use Rattle.sqlite.specs.State.{State, IsLive, Shown, QueriesRow, FailsToQuery, IsUnchanged}
 use Rattle.sqlite.proofs.Callers.{IsPlain, command_of, first_as, reads_as, one_permutation}
-use Rattle.mailsql.specs.Tables.{mail_schema}
+use Rattle.sqlite_schema.specs.declared.schema.Schema.{Schema}
+use Rattle.mailsql.specs.Tables.{schema_of}
 use Rattle.mailsql.proofs.Statements.{count_of, count_group, select_of}
-use Rattle.mailsql.specs.Rows.{IsKept, HasTables, IsUndone}
+use Rattle.mailsql.specs.Rows.{is_carried, IsKept, HasTables, IsUndone}
 use Rattle.mailsql.specs.Errors.{FailsToCount, FailsToCountAs}
 use Rattle.mailsql.proofs.OrderLemmas.{filter_map}
 use Rattle.mailsql.proofs.QueryLemmas.{flat_if, passes, shown_same, shown_open}
@@ -65,33 +66,36 @@ one_of x y xs ys e = cc
 none_of : (x : Row) (xs : List Row) → [] ≡ x ∷ xs → ⊥
 none_of x xs e = cc
 
--- what the text means under our schema
-pub record Tallies (sql : List ℕ) (t : ℕ) (terms : List Term) : Type 0 where
-  pub is : (command_of (understood mail_schema sql) ≡ select_of (count_of (inner t end) terms) (codes "count(*)" ∷ [])) × (reads_listing mail_schema sql ≡ false)
-  pub plain : IsPlain (understood mail_schema sql)
+-- what the text means under a schema
+pub record Tallies (schema : Schema) (sql : List ℕ) (t : ℕ) (terms : List Term) : Type 0 where
+  pub is : (command_of (understood schema sql) ≡ select_of (count_of (inner t end) terms) (codes "count(*)" ∷ [])) × (reads_listing schema sql ≡ false)
+  pub plain : IsPlain (understood schema sql)
 
 row_open : (sql : List ℕ) (params : Row) (old new : State) (row : Row) → QueriesRow sql params old new (Ok row) → IsTrue old.is_open
 unfolding QueriesRow
 row_open sql params old new row (inl h) = h.1.0.was_open
 row_open sql params old new row (inr h) = shown_open sql params old new _ h.1
 
-module _ (sql : List ℕ) (t : ℕ) (terms : List Term) (tallies : Tallies sql t terms) (placed : (db : Trees) → overlay db [] t ≡ db t) (old new : State) (params : Row) (tables : HasTables old) where
+module _ (sql : List ℕ) (at : (carried : Bool) → ℕ) (terms : List Term) (tallies : (c : Bool) → Tallies (schema_of c) sql (at c) terms) (placed : (c : Bool) (db : Trees) → overlay db [] (at c) ≡ db (at c)) (old new : State) (params : Row) (tables : HasTables old) where
+  abbrev c : Bool
+  c = is_carried old.now.trees
+
   pub row_same : (row : Row) → QueriesRow sql params old new (Ok row) → IsUnchanged old new
   unfolding QueriesRow
   row_same row (inl h) = h.1
-  row_same row (inr h) = shown_same sql params old new _ (tables (shown_open sql params old new _ h.1)).0 tallies.plain h.1
+  row_same row (inr h) = shown_same sql params old new _ (schema_of c) (tables (shown_open sql params old new _ h.1)).0 (tallies c).plain h.1
 
   pub row_undone : (e : Error) → QueriesRow sql params old new (Err e) → IsUndone old new
   unfolding QueriesRow
   row_undone e (inl h) = query_undone old new _ _ e h
-  row_undone e (inr h) = inl (shown_same sql params old new _ (tables (shown_open sql params old new _ h.1)).0 tallies.plain h.1)
+  row_undone e (inr h) = inl (shown_same sql params old new _ (schema_of c) (tables (shown_open sql params old new _ h.1)).0 (tallies c).plain h.1)
 
   -- a count shows a row
   none_shown : Shown sql params old new [] → ⊥
   none_shown h =
       let ours = (tables (shown_open sql params old new [] h)).0 in
-      let read = reads_as sql params old new mail_schema ours _ tallies.is.0 tallies.plain tallies.is.1 [] h in
-      none_of _ _ (counted (inner t end) terms (overlay old.now.trees []) params [] (read.answer Null))
+      let read = reads_as sql params old new (schema_of c) ours _ (tallies c).is.0 (tallies c).plain (tallies c).is.1 [] h in
+      none_of _ _ (counted (inner (at c) end) terms (overlay old.now.trees []) params [] (read.answer Null))
 
   pub row_fails : (e : Error) → QueriesRow sql params old new (Err e) → FailsToQuery sql params old new e
   unfolding QueriesRow
@@ -105,11 +109,11 @@ module _ (sql : List ℕ) (t : ℕ) (terms : List Term) (tallies : Tallies sql t
     pub tallied_sound : IsLive old → IsDatabase old.now
     tallied_sound live = (live (row_open sql params old new row h)).0
 
-    pub tallied : row ≡ count (length (filter (passes params terms) (old.now.trees t))) ∷ []
+    pub tallied : row ≡ count (length (filter (passes params terms) (old.now.trees (at c)))) ∷ []
     tallied =
-        let first = (first_as sql params old new mail_schema tallied_kept.0 _ tallies.is.0 tallies.plain tallies.is.1 row h).1 in
-        let all = counted (inner t end) terms (overlay old.now.trees []) params _ (first.1 Null) in
-        let some = ap length (flat_if (passes params terms) (λ r. params ∷ r ∷ []) (overlay old.now.trees [] t)) ∙ length-map _ _ ∙ ap (λ l. length (filter (passes params terms) l)) (placed old.now.trees) in
+        let first = (first_as sql params old new (schema_of c) tallied_kept.0 _ (tallies c).is.0 (tallies c).plain (tallies c).is.1 row h).1 in
+        let all = counted (inner (at c) end) terms (overlay old.now.trees []) params _ (first.1 Null) in
+        let some = ap length (flat_if (passes params terms) (λ r. params ∷ r ∷ []) (overlay old.now.trees [] (at c))) ∙ length-map _ _ ∙ ap (λ l. length (filter (passes params terms) l)) (placed c old.now.trees) in
         one_of _ _ _ _ all ∙ ap (λ n. count n ∷ []) some
 
 -- the rows that pass are as many as the records that pass
@@ -127,24 +131,24 @@ pub reads_count : (row : Row) (m n : ℕ) → row ≡ count m ∷ [] → m ≡ n
 reads_count row m n is same r h = if_ok r _ _ (λ (x : ℕ) (it : (0 < length row) × (column row 0 ≡ Int (pos x))). same_number _ _ (sym it.1 ∙ ap (λ l. column l 0) is) ∙ ap (λ k. min k 9223372036854775807) same) h
 
 -- what the reading of a count makes of its row
-module _ (sql : List ℕ) (t : ℕ) (terms : List Term) (tallies : Tallies sql t terms) (placed : (db : Trees) → overlay db [] t ≡ db t) (old new : State) (params : Row) (tables : HasTables old) where
+module _ (sql : List ℕ) (at : (carried : Bool) → ℕ) (terms : List Term) (tallies : (c : Bool) → Tallies (schema_of c) sql (at c) terms) (placed : (c : Bool) (db : Trees) → overlay db [] (at c) ≡ db (at c)) (old new : State) (params : Row) (tables : HasTables old) where
   abbrev Counts : ℕ → Type 0
   Counts n = (row : Row) × QueriesRow sql params old new (Ok row) × (0 < length row) × (column row 0 ≡ Int (pos n))
 
   pub counted_same : (r : Result ℕ Error) → IfOk r Counts → OnOk r (IsUnchanged old new)
-  counted_same (Ok n) it = row_same sql t terms tallies placed old new params tables it.0 it.1
+  counted_same (Ok n) it = row_same sql at terms tallies placed old new params tables it.0 it.1
   counted_same (Err e) it = tt
 
   pub counted_undone : (r : Result ℕ Error) → IfErr r (FailsToCountAs sql params old new) → OnErr r (IsUndone old new)
   counted_undone (Ok n) h = tt
-  counted_undone (Err e) (inl fails) = row_undone sql t terms tallies placed old new params tables e fails
-  counted_undone (Err e) (inr it) = inl (row_same sql t terms tallies placed old new params tables it.0 it.1)
+  counted_undone (Err e) (inl fails) = row_undone sql at terms tallies placed old new params tables e fails
+  counted_undone (Err e) (inr it) = inl (row_same sql at terms tallies placed old new params tables it.0 it.1)
 
   pub counted_fails : (r : Result ℕ Error) → IfErr r (FailsToCountAs sql params old new) → IfErr r (FailsToCount sql params old new)
   counted_fails (Ok n) h = tt
-  counted_fails (Err e) (inl fails) = inl (row_fails sql t terms tallies placed old new params tables e fails)
-  counted_fails (Err e) (inr it) = inr (it.2 _ (ap (λ l. column l 0) (tallied sql t terms tallies placed old new params tables it.0 it.1)), it.0, it.1)
+  counted_fails (Err e) (inl fails) = inl (row_fails sql at terms tallies placed old new params tables e fails)
+  counted_fails (Err e) (inr it) = inr (it.2 _ (ap (λ l. column l 0) (tallied sql at terms tallies placed old new params tables it.0 it.1)), it.0, it.1)
 
-  pub counted_is : (k : ℕ) (r : Result ℕ Error) → ((row : Row) → QueriesRow sql params old new (Ok row) → length (filter (passes params terms) (old.now.trees t)) ≡ k) → IfOk r Counts → IfOk r (λ x. x ≡ min k 9223372036854775807)
-  counted_is k (Ok n) is it = reads_count it.0 _ k (tallied sql t terms tallies placed old new params tables it.0 it.1) (is it.0 it.1) (Ok n) (it.2, it.3)
+  pub counted_is : (k : ℕ) (r : Result ℕ Error) → ((row : Row) → QueriesRow sql params old new (Ok row) → length (filter (passes params terms) (old.now.trees (at (is_carried old.now.trees)))) ≡ k) → IfOk r Counts → IfOk r (λ x. x ≡ min k 9223372036854775807)
+  counted_is k (Ok n) is it = reads_count it.0 _ k (tallied sql at terms tallies placed old new params tables it.0 it.1) (is it.0 it.1) (Ok n) (it.2, it.3)
   counted_is k (Err e) is it = tt

@@ -15,7 +15,8 @@ use Rattle.sqlite_sql.specs.Term.{col}
 use Rattle.sqlite_schema.specs.Rules.{equal}
 use Rattle.sqlite.specs.State.{State, IsLive, Shown, IsUnchanged}
 use Rattle.mailsql.proofs.Statements.{eq, find_maildrop_text}
-use Rattle.mailsql.specs.Rows.{Name, rows_in, maildrop_of, has_name, HasTables}
+use Rattle.mailsql.specs.Rows.{Name, is_carried, rows_in, maildrop_of, has_name, HasTables}
+use Rattle.mailsql.specs.Tables.{schema_of}
 use Rattle.mailsql.proofs.Commands.{find_maildrop_is, find_maildrop_plain}
 use Rattle.mailsql.proofs.QueryLemmas.{passes, shown_rows, answers, unchanged, shown_open}
 use Rattle.mailsql.proofs.TypedLemmas.{IsText, maildrops_typed}
@@ -53,10 +54,10 @@ pub found : (old new : State) (name : Name) (rows : List Row) → HasTables old 
     → ((length rows == 0) ≡ not (has_name name (rows_in old.now.trees).maildrops)) × IsUnchanged old new
 found old new name rows tables live h =
     let ours = (tables (shown_open find_maildrop_text (Text name ∷ []) old new rows h)).0 in
-    let still = unchanged find_maildrop_text (Text name ∷ []) old new rows 4 _ _ _ _ ours find_maildrop_is find_maildrop_plain refl h in
+    let still = unchanged find_maildrop_text (Text name ∷ []) old new rows 4 _ _ _ _ (schema_of (is_carried old.now.trees)) ours (find_maildrop_is (is_carried old.now.trees)) (find_maildrop_plain (is_carried old.now.trees)) refl h in
     let sound = (live still.0.was_open).0 in
     let params = Text name ∷ [] in
-    let it = answers find_maildrop_text params old new rows 4 _ _ _ _ ours find_maildrop_is find_maildrop_plain refl h in
+    let it = answers find_maildrop_text params old new rows 4 _ _ _ _ (schema_of (is_carried old.now.trees)) ours (find_maildrop_is (is_carried old.now.trees)) (find_maildrop_plain (is_carried old.now.trees)) refl h in
     let same = length_permutation _ _ (shown_rows 4 (eq (col 1 1) (col 0 0) ∷ []) (col 1 1 ∷ []) [] old.now.trees params rows it) in
     let some = some_passes (passes params (eq (col 1 1) (col 0 0) ∷ [])) (λ x. bytes_eq x name) (old.now.trees 4) (each (passes_name name) _ (maildrops_typed old.now ours sound)) in
     (ap (λ n. n == 0) (same ∙ length-map _ _) ∙ some, still)

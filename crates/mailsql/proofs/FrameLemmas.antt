@@ -1,101 +1,232 @@
 -- The tables that an edit leaves.
-use Rattle.std.proofs.Common.{◌≡◌, ◌≢◌, ℕ, map, refl, arith}
+use Rattle.std.proofs.Common.{◌≡◌, ◌≢◌, ℕ, Bool, true, false, List, map, refl, sym, ap, subst, arith, true≢false}
+use Rattle.std.specs.Prelude.{◌&&◌, bytes_eq, codes}
+use Rattle.std.specs.List.{AllByRecursion, list_any}
+use Rattle.sqlite_value.specs.Order.{Row}
+use Rattle.sqlite_trees.specs.Objects.{catalog_tree}
+use Rattle.sqlite_catalog.specs.Listing.{is_table_row}
+use Rattle.sqlite_schema.specs.declared.schema.Index.{Index}
+use Rattle.sqlite.specs.Effect.{Database}
 use Rattle.sqlite_trees.specs.Tree.{Trees}
 use Rattle.sqlite_schema.specs.declared.schema.Keys.TheVariants.{Enforced}
-use Rattle.sqlite_rules.specs.Edit.{Edit, Applies}
-use Rattle.mailsql.specs.Tables.{mail_schema}
-use Rattle.mailsql.specs.Rows.{rows_in, mark_of, clerk_of, maildrop_of, count_of, deposit_of, rule_of, sheet_of}
+use Rattle.sqlite_rules.specs.Edit.{Edit, Applies, IsNoIndex}
+use Rattle.mailsql.specs.Tables.{schema_of, mail_tree, last_indexes}
+use Rattle.mailsql.specs.Columns.{is_carried}
+use Rattle.mailsql.specs.Rows.{rows_in, IsKept, AreKept, text_at, mark_of, clerk_of, maildrop_of, count_of, deposit_of, rule_of, sheet_of, group_of, member_of, body_of, bodies_at}
 
-pub record Frame (at : ℕ) (db next : Trees) : Type 0 where
+-- another tree than mail's
+pub not_mail : (carried : Bool) (at : ℕ) → at ≢ 10 → at ≢ 22 → mail_tree carried ≢ at
+not_mail false at a b = λ e. a (sym e)
+not_mail true at a b = λ e. b (sym e)
+
+pub mail_apart : (carried : Bool) (at : ℕ) → at ≢ 10 → at ≢ 22 → at ≢ mail_tree carried
+mail_apart carried at a b = λ e. not_mail carried at a b (sym e)
+
+-- the messages of version 1 aren't in mail's tree
+pub not_bodies : (carried : Bool) → carried ≡ true → 10 ≢ mail_tree carried
+not_bodies false e = absurd (true≢false (sym e))
+not_bodies true e = λ f. absurd (omega arith)
+
+-- what an edit of the table in this tree leaves
+pub record Frame (carried : Bool) (at : ℕ) (db next : Trees) : Type 0 where
   pub meta : 0 ≢ at → next 0 ≡ db 0
   pub clerks : 2 ≢ at → next 2 ≡ db 2
   pub maildrops : 4 ≢ at → next 4 ≡ db 4
   pub counts : 6 ≢ at → next 6 ≡ db 6
   pub deposits : 8 ≢ at → next 8 ≡ db 8
-  pub messages : 10 ≢ at → next 10 ≡ db 10
+  pub mail : mail_tree carried ≢ at → next (mail_tree carried) ≡ db (mail_tree carried)
   pub sequence : 12 ≢ at → next 12 ≡ db 12
   pub rules : 13 ≢ at → next 13 ≡ db 13
   pub sheets : 15 ≢ at → next 15 ≡ db 15
+  pub groups : 17 ≢ at → next 17 ≡ db 17
+  pub members : 19 ≢ at → next 19 ≡ db 19
+  pub bodies : (carried ≡ true → 10 ≢ at) → bodies_at carried next ≡ bodies_at carried db
+  pub same : is_carried next ≡ is_carried db
 
-pub framed : (db next : Trees) (edit : Edit) → Applies mail_schema Enforced db edit next → Frame edit.table.tree db next
-framed db next edit h = record { meta = h.tables.0; clerks = h.tables.1.0; maildrops = h.tables.1.1.0; counts = h.tables.1.1.1.0; deposits = h.tables.1.1.1.1.0; messages = h.tables.1.1.1.1.1.0; sequence = h.tables.1.1.1.1.1.1.0; rules = h.tables.1.1.1.1.1.1.1.0; sheets = h.tables.1.1.1.1.1.1.1.1.0 }
+mail_stays : (carried : Bool) (db next : Trees) (edit : Edit) → Applies (schema_of carried) Enforced db edit next → mail_tree carried ≢ edit.table.tree → next (mail_tree carried) ≡ db (mail_tree carried)
+mail_stays false db next edit h = h.tables.1.1.1.1.1.0
+mail_stays true db next edit h = h.tables.1.1.1.1.1.1.1.1.1.1.1.0
 
-pub frame_none : (at : ℕ) (db : Trees) → Frame at db db
-frame_none at db = record { meta = λ _. refl; clerks = λ _. refl; maildrops = λ _. refl; counts = λ _. refl; deposits = λ _. refl; messages = λ _. refl; sequence = λ _. refl; rules = λ _. refl; sheets = λ _. refl }
+bodies_stay : (carried : Bool) (db next : Trees) (edit : Edit) → Applies (schema_of carried) Enforced db edit next → (carried ≡ true → 10 ≢ edit.table.tree) → bodies_at carried next ≡ bodies_at carried db
+bodies_stay false db next edit h apart = refl
+bodies_stay true db next edit h apart = ap (map body_of) (h.tables.1.1.1.1.1.0 (apart refl))
 
-pub marks_alone : (db next : Trees) → Frame 0 db next → rows_in next ≡ record (rows_in db) { marks = map mark_of (next 0) }
+last_below : (carried : Bool) → AllByRecursion (λ (i : Index). i.tree ≢ catalog_tree) (last_indexes carried)
+last_below false = tt
+last_below true = (λ e. absurd (omega arith), tt)
+
+no_index : (carried : Bool) → IsNoIndex (schema_of carried) catalog_tree
+no_index carried = (λ e. absurd (omega arith), (λ e. absurd (omega arith), (λ e. absurd (omega arith), (λ e. absurd (omega arith), (λ e. absurd (omega arith), (λ e. absurd (omega arith), (λ e. absurd (omega arith), (λ e. absurd (omega arith), (λ e. absurd (omega arith), (λ e. absurd (omega arith), (λ e. absurd (omega arith), last_below carried)))))))))))
+
+-- the list of the trees tells the same
+pub same_carried : (db next : Trees) → next catalog_tree ≡ db catalog_tree → is_carried next ≡ is_carried db
+unfolding is_carried
+same_carried db next e = ap (λ (objects : List Row). list_any (λ row. is_table_row row && bytes_eq (text_at row 2) (codes "messages")) objects) e
+
+pub framed : {carried : Bool} (db next : Trees) (edit : Edit) → edit.table.tree ≢ catalog_tree → Applies (schema_of carried) Enforced db edit next → Frame carried edit.table.tree db next
+framed {carried} db next edit apart h = record {
+  meta = h.tables.0;
+  clerks = h.tables.1.0;
+  maildrops = h.tables.1.1.0;
+  counts = h.tables.1.1.1.0;
+  deposits = h.tables.1.1.1.1.0;
+  mail = mail_stays carried db next edit h;
+  sequence = h.tables.1.1.1.1.1.1.0;
+  rules = h.tables.1.1.1.1.1.1.1.0;
+  sheets = h.tables.1.1.1.1.1.1.1.1.0;
+  groups = h.tables.1.1.1.1.1.1.1.1.1.0;
+  members = h.tables.1.1.1.1.1.1.1.1.1.1.0;
+  bodies = bodies_stay carried db next edit h;
+  same = same_carried db next (h.others catalog_tree (λ e. apart (sym e)) (no_index carried));
+}
+
+pub frame_none : (carried : Bool) (at : ℕ) (db : Trees) → Frame carried at db db
+frame_none carried at db = record { meta = λ _. refl; clerks = λ _. refl; maildrops = λ _. refl; counts = λ _. refl; deposits = λ _. refl; mail = λ _. refl; sequence = λ _. refl; rules = λ _. refl; sheets = λ _. refl; groups = λ _. refl; members = λ _. refl; bodies = λ _. refl; same = refl }
+
+-- the store is kept
+pub kept_framed : (db next : Trees) (after : Database) → after ≡ record { schema = schema_of (is_carried db); trees = next } → is_carried next ≡ is_carried db → AreKept (schema_of (is_carried db)).tables next → IsKept after
+kept_framed db next after is same all =
+    let it : Database = record { schema = schema_of (is_carried db); trees = next } in
+    let kept : IsKept it = (ap schema_of (sym same), subst (λ c. AreKept (schema_of c).tables next) (sym same) all) in
+    subst IsKept (sym is) kept
+
+pub marks_alone : (db next : Trees) → Frame (is_carried db) 0 db next → rows_in next ≡ record (rows_in db) { marks = map mark_of (next 0) }
 marks_alone db next h =
     let clerks : next 2 ≡ db 2 = h.clerks (λ e. absurd (omega arith)) in
     let maildrops : next 4 ≡ db 4 = h.maildrops (λ e. absurd (omega arith)) in
     let counts : next 6 ≡ db 6 = h.counts (λ e. absurd (omega arith)) in
     let deposits : next 8 ≡ db 8 = h.deposits (λ e. absurd (omega arith)) in
-    let messages : next 10 ≡ db 10 = h.messages (λ e. absurd (omega arith)) in
+    let mail = h.mail (not_mail (is_carried db) 0 (λ e. absurd (omega arith)) (λ e. absurd (omega arith))) in
     let rules : next 13 ≡ db 13 = h.rules (λ e. absurd (omega arith)) in
     let sheets : next 15 ≡ db 15 = h.sheets (λ e. absurd (omega arith)) in
-    rw (clerks, maildrops, counts, deposits, messages, rules, sheets)
+    let groups : next 17 ≡ db 17 = h.groups (λ e. absurd (omega arith)) in
+    let members : next 19 ≡ db 19 = h.members (λ e. absurd (omega arith)) in
+    let bodies = h.bodies (λ c e. absurd (omega arith)) in
+    rw (h.same, clerks, maildrops, counts, deposits, mail, rules, sheets, groups, members, bodies)
 
-pub clerks_alone : (db next : Trees) → Frame 2 db next → rows_in next ≡ record (rows_in db) { clerks = map clerk_of (next 2) }
+pub clerks_alone : (db next : Trees) → Frame (is_carried db) 2 db next → rows_in next ≡ record (rows_in db) { clerks = map clerk_of (next 2) }
 clerks_alone db next h =
     let meta : next 0 ≡ db 0 = h.meta (λ e. absurd (omega arith)) in
     let maildrops : next 4 ≡ db 4 = h.maildrops (λ e. absurd (omega arith)) in
     let counts : next 6 ≡ db 6 = h.counts (λ e. absurd (omega arith)) in
     let deposits : next 8 ≡ db 8 = h.deposits (λ e. absurd (omega arith)) in
-    let messages : next 10 ≡ db 10 = h.messages (λ e. absurd (omega arith)) in
+    let mail = h.mail (not_mail (is_carried db) 2 (λ e. absurd (omega arith)) (λ e. absurd (omega arith))) in
     let rules : next 13 ≡ db 13 = h.rules (λ e. absurd (omega arith)) in
     let sheets : next 15 ≡ db 15 = h.sheets (λ e. absurd (omega arith)) in
-    rw (meta, maildrops, counts, deposits, messages, rules, sheets)
+    let groups : next 17 ≡ db 17 = h.groups (λ e. absurd (omega arith)) in
+    let members : next 19 ≡ db 19 = h.members (λ e. absurd (omega arith)) in
+    let bodies = h.bodies (λ c e. absurd (omega arith)) in
+    rw (h.same, meta, maildrops, counts, deposits, mail, rules, sheets, groups, members, bodies)
 
-pub maildrops_alone : (db next : Trees) → Frame 4 db next → rows_in next ≡ record (rows_in db) { maildrops = map maildrop_of (next 4) }
+pub maildrops_alone : (db next : Trees) → Frame (is_carried db) 4 db next → rows_in next ≡ record (rows_in db) { maildrops = map maildrop_of (next 4) }
 maildrops_alone db next h =
     let meta : next 0 ≡ db 0 = h.meta (λ e. absurd (omega arith)) in
     let clerks : next 2 ≡ db 2 = h.clerks (λ e. absurd (omega arith)) in
     let counts : next 6 ≡ db 6 = h.counts (λ e. absurd (omega arith)) in
     let deposits : next 8 ≡ db 8 = h.deposits (λ e. absurd (omega arith)) in
-    let messages : next 10 ≡ db 10 = h.messages (λ e. absurd (omega arith)) in
+    let mail = h.mail (not_mail (is_carried db) 4 (λ e. absurd (omega arith)) (λ e. absurd (omega arith))) in
     let rules : next 13 ≡ db 13 = h.rules (λ e. absurd (omega arith)) in
     let sheets : next 15 ≡ db 15 = h.sheets (λ e. absurd (omega arith)) in
-    rw (meta, clerks, counts, deposits, messages, rules, sheets)
+    let groups : next 17 ≡ db 17 = h.groups (λ e. absurd (omega arith)) in
+    let members : next 19 ≡ db 19 = h.members (λ e. absurd (omega arith)) in
+    let bodies = h.bodies (λ c e. absurd (omega arith)) in
+    rw (h.same, meta, clerks, counts, deposits, mail, rules, sheets, groups, members, bodies)
 
-pub counts_alone : (db next : Trees) → Frame 6 db next → rows_in next ≡ record (rows_in db) { counts = map count_of (next 6) }
+pub counts_alone : (db next : Trees) → Frame (is_carried db) 6 db next → rows_in next ≡ record (rows_in db) { counts = map count_of (next 6) }
 counts_alone db next h =
     let meta : next 0 ≡ db 0 = h.meta (λ e. absurd (omega arith)) in
     let clerks : next 2 ≡ db 2 = h.clerks (λ e. absurd (omega arith)) in
     let maildrops : next 4 ≡ db 4 = h.maildrops (λ e. absurd (omega arith)) in
     let deposits : next 8 ≡ db 8 = h.deposits (λ e. absurd (omega arith)) in
-    let messages : next 10 ≡ db 10 = h.messages (λ e. absurd (omega arith)) in
+    let mail = h.mail (not_mail (is_carried db) 6 (λ e. absurd (omega arith)) (λ e. absurd (omega arith))) in
     let rules : next 13 ≡ db 13 = h.rules (λ e. absurd (omega arith)) in
     let sheets : next 15 ≡ db 15 = h.sheets (λ e. absurd (omega arith)) in
-    rw (meta, clerks, maildrops, deposits, messages, rules, sheets)
+    let groups : next 17 ≡ db 17 = h.groups (λ e. absurd (omega arith)) in
+    let members : next 19 ≡ db 19 = h.members (λ e. absurd (omega arith)) in
+    let bodies = h.bodies (λ c e. absurd (omega arith)) in
+    rw (h.same, meta, clerks, maildrops, deposits, mail, rules, sheets, groups, members, bodies)
 
-pub deposits_alone : (db next : Trees) → Frame 8 db next → rows_in next ≡ record (rows_in db) { deposits = map deposit_of (next 8) }
+pub deposits_alone : (db next : Trees) → Frame (is_carried db) 8 db next → rows_in next ≡ record (rows_in db) { deposits = map deposit_of (next 8) }
 deposits_alone db next h =
     let meta : next 0 ≡ db 0 = h.meta (λ e. absurd (omega arith)) in
     let clerks : next 2 ≡ db 2 = h.clerks (λ e. absurd (omega arith)) in
     let maildrops : next 4 ≡ db 4 = h.maildrops (λ e. absurd (omega arith)) in
     let counts : next 6 ≡ db 6 = h.counts (λ e. absurd (omega arith)) in
-    let messages : next 10 ≡ db 10 = h.messages (λ e. absurd (omega arith)) in
+    let mail = h.mail (not_mail (is_carried db) 8 (λ e. absurd (omega arith)) (λ e. absurd (omega arith))) in
     let rules : next 13 ≡ db 13 = h.rules (λ e. absurd (omega arith)) in
     let sheets : next 15 ≡ db 15 = h.sheets (λ e. absurd (omega arith)) in
-    rw (meta, clerks, maildrops, counts, messages, rules, sheets)
+    let groups : next 17 ≡ db 17 = h.groups (λ e. absurd (omega arith)) in
+    let members : next 19 ≡ db 19 = h.members (λ e. absurd (omega arith)) in
+    let bodies = h.bodies (λ c e. absurd (omega arith)) in
+    rw (h.same, meta, clerks, maildrops, counts, mail, rules, sheets, groups, members, bodies)
 
-pub rules_alone : (db next : Trees) → Frame 13 db next → rows_in next ≡ record (rows_in db) { rules = map rule_of (next 13) }
+pub rules_alone : (db next : Trees) → Frame (is_carried db) 13 db next → rows_in next ≡ record (rows_in db) { rules = map rule_of (next 13) }
 rules_alone db next h =
     let meta : next 0 ≡ db 0 = h.meta (λ e. absurd (omega arith)) in
     let clerks : next 2 ≡ db 2 = h.clerks (λ e. absurd (omega arith)) in
     let maildrops : next 4 ≡ db 4 = h.maildrops (λ e. absurd (omega arith)) in
     let counts : next 6 ≡ db 6 = h.counts (λ e. absurd (omega arith)) in
     let deposits : next 8 ≡ db 8 = h.deposits (λ e. absurd (omega arith)) in
-    let messages : next 10 ≡ db 10 = h.messages (λ e. absurd (omega arith)) in
+    let mail = h.mail (not_mail (is_carried db) 13 (λ e. absurd (omega arith)) (λ e. absurd (omega arith))) in
     let sheets : next 15 ≡ db 15 = h.sheets (λ e. absurd (omega arith)) in
-    rw (meta, clerks, maildrops, counts, deposits, messages, sheets)
+    let groups : next 17 ≡ db 17 = h.groups (λ e. absurd (omega arith)) in
+    let members : next 19 ≡ db 19 = h.members (λ e. absurd (omega arith)) in
+    let bodies = h.bodies (λ c e. absurd (omega arith)) in
+    rw (h.same, meta, clerks, maildrops, counts, deposits, mail, sheets, groups, members, bodies)
 
-pub sheets_alone : (db next : Trees) → Frame 15 db next → rows_in next ≡ record (rows_in db) { sheets = map sheet_of (next 15) }
+pub sheets_alone : (db next : Trees) → Frame (is_carried db) 15 db next → rows_in next ≡ record (rows_in db) { sheets = map sheet_of (next 15) }
 sheets_alone db next h =
     let meta : next 0 ≡ db 0 = h.meta (λ e. absurd (omega arith)) in
     let clerks : next 2 ≡ db 2 = h.clerks (λ e. absurd (omega arith)) in
     let maildrops : next 4 ≡ db 4 = h.maildrops (λ e. absurd (omega arith)) in
     let counts : next 6 ≡ db 6 = h.counts (λ e. absurd (omega arith)) in
     let deposits : next 8 ≡ db 8 = h.deposits (λ e. absurd (omega arith)) in
-    let messages : next 10 ≡ db 10 = h.messages (λ e. absurd (omega arith)) in
+    let mail = h.mail (not_mail (is_carried db) 15 (λ e. absurd (omega arith)) (λ e. absurd (omega arith))) in
     let rules : next 13 ≡ db 13 = h.rules (λ e. absurd (omega arith)) in
-    rw (meta, clerks, maildrops, counts, deposits, messages, rules)
+    let groups : next 17 ≡ db 17 = h.groups (λ e. absurd (omega arith)) in
+    let members : next 19 ≡ db 19 = h.members (λ e. absurd (omega arith)) in
+    let bodies = h.bodies (λ c e. absurd (omega arith)) in
+    rw (h.same, meta, clerks, maildrops, counts, deposits, mail, rules, groups, members, bodies)
+
+pub groups_alone : (db next : Trees) → Frame (is_carried db) 17 db next → rows_in next ≡ record (rows_in db) { groups = map group_of (next 17) }
+groups_alone db next h =
+    let meta : next 0 ≡ db 0 = h.meta (λ e. absurd (omega arith)) in
+    let clerks : next 2 ≡ db 2 = h.clerks (λ e. absurd (omega arith)) in
+    let maildrops : next 4 ≡ db 4 = h.maildrops (λ e. absurd (omega arith)) in
+    let counts : next 6 ≡ db 6 = h.counts (λ e. absurd (omega arith)) in
+    let deposits : next 8 ≡ db 8 = h.deposits (λ e. absurd (omega arith)) in
+    let mail = h.mail (not_mail (is_carried db) 17 (λ e. absurd (omega arith)) (λ e. absurd (omega arith))) in
+    let rules : next 13 ≡ db 13 = h.rules (λ e. absurd (omega arith)) in
+    let sheets : next 15 ≡ db 15 = h.sheets (λ e. absurd (omega arith)) in
+    let members : next 19 ≡ db 19 = h.members (λ e. absurd (omega arith)) in
+    let bodies = h.bodies (λ c e. absurd (omega arith)) in
+    rw (h.same, meta, clerks, maildrops, counts, deposits, mail, rules, sheets, members, bodies)
+
+pub members_alone : (db next : Trees) → Frame (is_carried db) 19 db next → rows_in next ≡ record (rows_in db) { members = map member_of (next 19) }
+members_alone db next h =
+    let meta : next 0 ≡ db 0 = h.meta (λ e. absurd (omega arith)) in
+    let clerks : next 2 ≡ db 2 = h.clerks (λ e. absurd (omega arith)) in
+    let maildrops : next 4 ≡ db 4 = h.maildrops (λ e. absurd (omega arith)) in
+    let counts : next 6 ≡ db 6 = h.counts (λ e. absurd (omega arith)) in
+    let deposits : next 8 ≡ db 8 = h.deposits (λ e. absurd (omega arith)) in
+    let mail = h.mail (not_mail (is_carried db) 19 (λ e. absurd (omega arith)) (λ e. absurd (omega arith))) in
+    let rules : next 13 ≡ db 13 = h.rules (λ e. absurd (omega arith)) in
+    let sheets : next 15 ≡ db 15 = h.sheets (λ e. absurd (omega arith)) in
+    let groups : next 17 ≡ db 17 = h.groups (λ e. absurd (omega arith)) in
+    let bodies = h.bodies (λ c e. absurd (omega arith)) in
+    rw (h.same, meta, clerks, maildrops, counts, deposits, mail, rules, sheets, groups, bodies)
+
+-- an edit of the messages of version 1
+pub bodies_alone : (db next : Trees) → is_carried db ≡ true → Frame (is_carried db) 10 db next → rows_in next ≡ record (rows_in db) { bodies = bodies_at (is_carried db) next }
+bodies_alone db next is h =
+    let meta : next 0 ≡ db 0 = h.meta (λ e. absurd (omega arith)) in
+    let clerks : next 2 ≡ db 2 = h.clerks (λ e. absurd (omega arith)) in
+    let maildrops : next 4 ≡ db 4 = h.maildrops (λ e. absurd (omega arith)) in
+    let counts : next 6 ≡ db 6 = h.counts (λ e. absurd (omega arith)) in
+    let deposits : next 8 ≡ db 8 = h.deposits (λ e. absurd (omega arith)) in
+    let mail = h.mail (λ e. not_bodies (is_carried db) is (sym e)) in
+    let rules : next 13 ≡ db 13 = h.rules (λ e. absurd (omega arith)) in
+    let sheets : next 15 ≡ db 15 = h.sheets (λ e. absurd (omega arith)) in
+    let groups : next 17 ≡ db 17 = h.groups (λ e. absurd (omega arith)) in
+    let members : next 19 ≡ db 19 = h.members (λ e. absurd (omega arith)) in
+    rw (h.same, meta, clerks, maildrops, counts, deposits, mail, rules, sheets, groups, members)

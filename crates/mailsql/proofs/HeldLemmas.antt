@@ -1,5 +1,5 @@
 -- Each column of our tables holds a value of its type, so that each row can be read as a record.
-use Rattle.std.proofs.Common.{◌≡◌, inl, inr, IsTrue, ℕ, ◌+◌, suc, Bool, true, false, not, cond, List, [], ◌∷◌, Option, drop, refl, sym, ap, subst, ◌∙◌, true≢false, arith}
+use Rattle.std.proofs.Common.{◌≡◌, inl, inr, IsTrue, ℕ, ◌+◌, suc, Bool, true, false, not, cond, List, [], ◌∷◌, Option, Some, drop, refl, sym, ap, subst, ◌∙◌, true≢false, arith}
 use Rattle.std.specs.Prelude.{◌&&◌, ◌||◌, ⊤}
 use Rattle.std.specs.List.{AllByRecursion}
 use Rattle.std.proofs.lemmas.Bool.{and_parts}
@@ -12,6 +12,7 @@ use Rattle.sqlite_schema.specs.declared.schema.Kind.{Kind}
 use Rattle.sqlite_schema.specs.declared.schema.Kind.TheVariants as kind
 use Rattle.sqlite_schema.specs.declared.schema.Column.{Column}
 use Rattle.sqlite_schema.specs.declared.schema.Table.{Table}
+use Rattle.sqlite_schema.specs.declared.schema.Schema.{Schema}
 use Rattle.sqlite_schema.specs.declared.schema.Constraint.TheVariants.{Datatype, NotNull}
 use Rattle.sqlite_schema.specs.Names.{is_key}
 use Rattle.sqlite_schema.specs.Rules.{passes, Obeys, suits, is_of, are_typed, are_present}
@@ -20,8 +21,8 @@ use Rattle.sqlite_rules.specs.Lists.{Has}
 use Rattle.sqlite_rules.proofs.ListLemmas.{all_has}
 use Rattle.sqlite.specs.Values.{IsInt}
 use Rattle.sqlite.specs.Effect.{Database, IsDatabase}
-use Rattle.mailsql.specs.Tables.{mail_schema, meta_at, clerks_at, maildrops_at, counts_at, deposits_at, mail_at, rules_at, sheets_at}
-use Rattle.mailsql.specs.Rows.{IsOurs, AreKeyed, HoldsOctets, HoldsNumber, HoldsMark, HoldsClerk, HoldsName, HoldsCount, HoldsDeposit, HoldsMessage, HoldsSheet, HoldsRule}
+use Rattle.mailsql.specs.Tables.{schema_of, mail_tree, meta_at, clerks_at, maildrops_at, counts_at, deposits_at, mail_at, rules_at, sheets_at, groups_at, members_at}
+use Rattle.mailsql.specs.Rows.{IsOurs, is_carried, AreKeyed, HoldsOctets, HoldsNumber, HoldsMark, HoldsClerk, HoldsName, HoldsCount, HoldsDeposit, HoldsMessage, HoldsSheet, HoldsRule, HoldsGroup, HoldsMember}
 use Rattle.mailsql.proofs.TypedLemmas.{IsText}
 
 abbrev pub IsBlob : Value → Type 0
@@ -113,17 +114,17 @@ behind : (row : Row) (j : ℕ) → column (drop 1 row) j ≡ column row (0 + 1 +
 behind [] j = refl
 behind (v ∷ vs) j = let next : suc j ≡ 0 + 1 + j = omega arith in ap (column (v ∷ vs)) next
 
-row_held : (db : Trees) (t : Table) (row : Row) → are_required t.key 0 t.columns ≡ true → passes Datatype mail_schema db t row ≡ true → passes NotNull mail_schema db t row ≡ true → Holds t.key 0 t.columns row
-row_held db t row ours typed present = columns_held t.key 0 t.columns (drop 1 row) row (behind row) ours (and_parts _ _ typed).0 present
+pub row_held : (schema : Schema) (db : Trees) (t : Table) (row : Row) → are_required t.key 0 t.columns ≡ true → passes Datatype schema db t row ≡ true → passes NotNull schema db t row ≡ true → Holds t.key 0 t.columns row
+row_held schema db t row ours typed present = columns_held t.key 0 t.columns (drop 1 row) row (behind row) ours (and_parts _ _ typed).0 present
 
-both : {P Q X : Row → Type 0} → ((row : Row) → P row → Q row → X row) → (rows : List Row) → AllByRecursion P rows → AllByRecursion Q rows → AllByRecursion X rows
+pub both : {P Q X : Row → Type 0} → ((row : Row) → P row → Q row → X row) → (rows : List Row) → AllByRecursion P rows → AllByRecursion Q rows → AllByRecursion X rows
 both f [] p q = tt
 both f (row ∷ rows) p q = (f row p.0 q.0, both f rows p.1 q.1)
 
-text_octets : (row : Row) (at : ℕ) → IsText (column row at) → HoldsOctets row at
+pub text_octets : (row : Row) (at : ℕ) → IsText (column row at) → HoldsOctets row at
 text_octets row at text = (text.0, inl text.1)
 
-blob_octets : (row : Row) (at : ℕ) → IsBlob (column row at) → HoldsOctets row at
+pub blob_octets : (row : Row) (at : ℕ) → IsBlob (column row at) → HoldsOctets row at
 blob_octets row at blob = (blob.0, inr blob.1)
 
 number_there : (row : Row) → IsTrue (is_int (rowid row)) → HoldsNumber row 0
@@ -136,13 +137,19 @@ number_there row int = go (column row 0) int
     go (Text t) int = not_so int
     go (Blob b) int = not_so int
 
+mail_in : (carried : Bool) (db : Trees) → Obeys (schema_of carried) db → (r : Row) → Has (db (mail_tree carried)) r → Holds (Some 0) 0 (mail_at 10).columns r
+mail_in false db obeys r =
+    all_has _ (db 10) r (both (λ row. row_held (schema_of false) db (mail_at 10) row refl) (db 10) (obeys.rules Datatype).1.1.1.1.1.0 (obeys.rules NotNull).1.1.1.1.1.0)
+mail_in true db obeys r =
+    all_has _ (db 22) r (both (λ row. row_held (schema_of true) db (mail_at 22) row refl) (db 22) (obeys.rules Datatype).1.1.1.1.1.1.1.1.1.1.1.0 (obeys.rules NotNull).1.1.1.1.1.1.1.1.1.1.1.0)
+
 module _ (db : Database) (ours : IsOurs db) (sound : IsDatabase db) where
-  obeys : Obeys mail_schema db.trees
+  obeys : Obeys (schema_of (is_carried db.trees)) db.trees
   obeys = subst (λ s. Obeys s db.trees) ours sound.obeys
 
-  pub row_in : (t : Table) → are_required t.key 0 t.columns ≡ true → AllByRecursion (λ row. passes Datatype mail_schema db.trees t row ≡ true) (db.trees t.tree) → AllByRecursion (λ row. passes NotNull mail_schema db.trees t row ≡ true) (db.trees t.tree)
+  pub row_in : (t : Table) → are_required t.key 0 t.columns ≡ true → AllByRecursion (λ row. passes Datatype (schema_of (is_carried db.trees)) db.trees t row ≡ true) (db.trees t.tree) → AllByRecursion (λ row. passes NotNull (schema_of (is_carried db.trees)) db.trees t row ≡ true) (db.trees t.tree)
       → (r : Row) → Has (db.trees t.tree) r → Holds t.key 0 t.columns r
-  row_in t required typed present r = all_has _ (db.trees t.tree) r (both (λ row. row_held db.trees t row required) (db.trees t.tree) typed present)
+  row_in t required typed present r = all_has _ (db.trees t.tree) r (both (λ row. row_held (schema_of (is_carried db.trees)) db.trees t row required) (db.trees t.tree) typed present)
 
   pub marks_held : (r : Row) → Has (db.trees 0) r → HoldsMark r
   marks_held r has = let it = row_in (meta_at 0) refl (obeys.rules Datatype).0 (obeys.rules NotNull).0 r has in (text_octets r 1 it.0, it.1.0)
@@ -161,10 +168,14 @@ module _ (db : Database) (ours : IsOurs db) (sound : IsDatabase db) where
       let it = row_in (deposits_at 8) refl (obeys.rules Datatype).1.1.1.1.0 (obeys.rules NotNull).1.1.1.1.0 r has in
       (text_octets r 1 it.0, text_octets r 2 it.1.0, text_octets r 3 it.1.1.0, it.1.1.1.0, blob_octets r 5 it.1.1.1.1.0)
 
-  pub messages_held : AreKeyed (db.trees 10) → (r : Row) → Has (db.trees 10) r → HoldsMessage r
+  -- the columns of a message, but for its key
+  pub messages_in : (r : Row) → Has (db.trees (mail_tree (is_carried db.trees))) r → Holds (Some 0) 0 (mail_at 10).columns r
+  messages_in = mail_in (is_carried db.trees) db.trees obeys
+
+  pub messages_held : AreKeyed (db.trees (mail_tree (is_carried db.trees))) → (r : Row) → Has (db.trees (mail_tree (is_carried db.trees))) r → HoldsMessage r
   messages_held keyed r has =
-      let it = row_in (mail_at 10) refl (obeys.rules Datatype).1.1.1.1.1.0 (obeys.rules NotNull).1.1.1.1.1.0 r has in
-      (number_there r (all_has _ (db.trees 10) r keyed.1 has), text_octets r 2 it.1.0, text_octets r 3 it.1.1.0, it.1.1.1.0, it.1.1.1.1.0)
+      let it = messages_in r has in
+      (number_there r (all_has _ (db.trees (mail_tree (is_carried db.trees))) r keyed.1 has), text_octets r 2 it.1.0, text_octets r 3 it.1.1.0, it.1.1.1.0, it.1.1.1.1.0)
 
   pub rules_held : AreKeyed (db.trees 13) → (r : Row) → Has (db.trees 13) r → HoldsRule r
   rules_held keyed r has =
@@ -180,3 +191,14 @@ module _ (db : Database) (ours : IsOurs db) (sound : IsDatabase db) where
 
   pub sheets_held : (r : Row) → Has (db.trees 15) r → HoldsSheet r
   sheets_held r has = let it = row_in (sheets_at 15) refl (obeys.rules Datatype).1.1.1.1.1.1.1.1.0 (obeys.rules NotNull).1.1.1.1.1.1.1.1.0 r has in (it.0, it.1.0, blob_octets r 3 it.1.1.0)
+
+  pub groups_held : AreKeyed (db.trees 17) → (r : Row) → Has (db.trees 17) r → HoldsGroup r
+  groups_held keyed r has =
+      let it = row_in (groups_at 17) refl (obeys.rules Datatype).1.1.1.1.1.1.1.1.1.0 (obeys.rules NotNull).1.1.1.1.1.1.1.1.1.0 r has in
+      (number_there r (all_has _ (db.trees 17) r keyed.1 has), text_octets r 2 it.1.0)
+
+  pub members_in : (r : Row) → Has (db.trees 19) r → IsInt (column r 1) × IsInt (column r 2) × IsText (column r 3)
+  members_in r has = let it = row_in (members_at 19) refl (obeys.rules Datatype).1.1.1.1.1.1.1.1.1.1.0 (obeys.rules NotNull).1.1.1.1.1.1.1.1.1.1.0 r has in (it.0, it.1.0, it.1.1.0)
+
+  pub members_held : (r : Row) → Has (db.trees 19) r → HoldsMember r
+  members_held r has = let it = members_in r has in (it.0, it.1, text_octets r 3 it.2)

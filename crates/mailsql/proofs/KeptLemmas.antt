@@ -12,7 +12,7 @@ use Rattle.sqlite_schema.specs.declared.schema.Table.{Table}
 use Rattle.sqlite_rules.specs.Edit.{Edit, put_all, without_all, Applies}
 use Rattle.sqlite_rules.proofs.ListLemmas.{all_has, all_from, has_filtered}
 use Rattle.sqlite_rules.proofs.PlaceLemmas.{tied_same}
-use Rattle.mailsql.specs.Tables.{mail_schema}
+use Rattle.sqlite_schema.specs.declared.schema.Schema.{Schema}
 use Rattle.mailsql.specs.Rows.{AreKeyed, AreKept}
 use Rattle.mailsql.proofs.WithoutLemmas.{AreApart}
 
@@ -44,9 +44,9 @@ tables_kept at db next (t ∷ ts) same made all = (
   tables_kept at db next ts same.1 made all.1,
 )
 
-pub applied_kept : (db next : Trees) (edit : Edit) → Applies mail_schema Enforced db edit next → AreKept mail_schema.tables db → AreKept mail_schema.tables next
-applied_kept db next edit h all =
-    tables_kept edit.table.tree db next mail_schema.tables h.tables (λ k. subst AreKeyed (sym h.rows) (keyed_put edit.news _ h.keyed (keyed_without edit.gone (db edit.table.tree) k))) all
+pub applied_kept : {schema : Schema} (db next : Trees) (edit : Edit) → Applies schema Enforced db edit next → AreKept schema.tables db → AreKept schema.tables next
+applied_kept {schema} db next edit h all =
+    tables_kept edit.table.tree db next schema.tables h.tables (λ k. subst AreKeyed (sym h.rows) (keyed_put edit.news _ h.keyed (keyed_without edit.gone (db edit.table.tree) k))) all
 
 pub keyed_apart : (rows : List Row) → AreKeyed rows → AreApart rows
 keyed_apart rows k a b ha hb tied = tied_same rows a b k.0 ha hb tied

@@ -15,6 +15,7 @@ use Rattle.sqlite_trees.specs.Tree.{Trees, rowid, IsTable}
 use Rattle.sqlite_trees.specs.View.{is_int}
 use Rattle.sqlite_schema.specs.declared.schema.Table.{Table}
 use Rattle.sqlite_schema.specs.declared.schema.Index.{Index}
+use Rattle.sqlite_schema.specs.declared.schema.Constraint.{Constraint}
 use Rattle.sqlite_schema.specs.declared.schema.Constraint.TheVariants.{Datatype, NotNull, Unique, ForeignKey}
 use Rattle.sqlite_schema.specs.Names.{same_name}
 use Rattle.sqlite_schema.specs.Rules.{passes, Obeys, agree, clashes, guards, differ, equal, has_parent, has_null, is_held, parent_key, ParentKey}
@@ -25,10 +26,12 @@ use Rattle.sqlite_rules.proofs.TableLemmas.{int_is}
 use Rattle.sqlite.specs.Effect.{Database, IsDatabase}
 use Rattle.sqlite.specs.State.{State, IsLive}
 use Rattle.mailsql.specs.Apart.{are_apart, AreApart}
-use Rattle.mailsql.specs.Tables.{mail_schema, meta_at, clerks_at, maildrops_at, counts_at, deposits_at, mail_at, rules_at, sheets_at, key_of, plain_order, to_maildrops, to_mail}
-use Rattle.mailsql.specs.Rows.{IsOurs, IsReady, AreKeyed, AreKept, same_int, has_name, Mark, Clerk, Count, Deposit, Message, Sheet, Rule, rows_in, mark_of, clerk_of, maildrop_of, count_of, deposit_of, message_of, sheet_of, rule_of, text_at, number_at}
+use Rattle.mailsql.specs.Tables.{schema_of, mail_tree, meta_at, clerks_at, maildrops_at, counts_at, deposits_at, mail_at, rules_at, sheets_at, groups_at, members_at, key_of, clerks_key_of, plain_order, to_maildrops, to_mail, to_groups}
+use Rattle.mailsql.specs.Rows.{IsOurs, is_carried, IsReady, AreKeyed, AreKept, same_int, has_name, Mark, Clerk, Count, Deposit, Message, Sheet, Rule, Group, Member, rows_in, mark_of, clerk_of, maildrop_of, count_of, deposit_of, message_of, sheet_of, rule_of, group_of, member_of, text_at, number_at}
 use Rattle.mailsql.proofs.TypedLemmas.{IsText, IsInt, marks_typed, clerks_typed, names_typed, counts_typed, deposits_typed, messages_typed, sheets_typed}
-use Rattle.mailsql.proofs.HeldLemmas.{row_in}
+use Rattle.mailsql.proofs.HeldLemmas.{row_in, members_in, messages_in}
+use Rattle.mailsql.proofs.HeadLemmas.{mail_keyed}
+use Rattle.sqlite_schema.specs.declared.schema.Schema.{Schema}
 use Rattle.mailsql.proofs.FindLemmas.{truth_back, and_true}
 use Rattle.mailsql.proofs.EqualLemmas.{column_text, column_int}
 use Rattle.mailsql.proofs.WithoutLemmas.{has_mapped}
@@ -72,7 +75,7 @@ apart_rows f same (r ∷ rows) up h =
     let here : list_any (same (f r)) (map f rows) ≡ false = none_mapped f (same (f r)) rows (λ x there. h r x (inl refl) (inr there) (all_has (λ b. value_cmp (rowid r) (rowid b) ≡ Less) rows x up.0 there)) in
     and_from (not (list_any (same (f r)) (map f rows))) (are_apart same (map f rows)) (not_from_false (list_any (same (f r)) (map f rows)) here) (apart_rows f same rows up.1 (λ a b ha hb. h a b (inr ha) (inr hb)))
 
-id_is : (rows : List Row) → AreKeyed rows → (r : Row) → Has rows r → IsInt (rowid r)
+pub id_is : (rows : List Row) → AreKeyed rows → (r : Row) → Has rows r → IsInt (rowid r)
 id_is rows keyed r h = (id_in (rowid r), int_is (rowid r) (all_has (λ x. is_int (rowid x) ≡ true) rows r keyed.1 h))
 
 ids_apart : (a b : Value) → IsInt a → IsInt b → value_cmp a b ≡ Less → same_int (id_in a) (id_in b) ≡ false
@@ -84,13 +87,13 @@ ids_differ a b x y less = ap₂ differ x.1 y.1 ∙ truth_back (is_ne (value_cmp 
 
 -- ---- rows under a unique index
 
-module _ {X : Type 0} (f : Row → X) (same : X → X → Bool) (t : Table) (i : Index) (db : Trees) where
-  apart_keys : Has mail_schema.indexes i → guards i t ≡ true → AreKeyed (db t.tree) → AllByRecursion (λ row. passes Unique mail_schema db t row ≡ true) (db t.tree)
+module _ {X : Type 0} (f : Row → X) (same : X → X → Bool) (t : Table) (i : Index) (schema : Schema) (db : Trees) where
+  apart_keys : Has schema.indexes i → guards i t ≡ true → AreKeyed (db t.tree) → AllByRecursion (λ row. passes Unique schema db t row ≡ true) (db t.tree)
       → ((a b : Row) → Has (db t.tree) a → Has (db t.tree) b → agree i.order i.columns a i.columns b ≡ same (f a) (f b)) → are_apart same (map f (db t.tree)) ≡ true
   apart_keys has guard keyed unique is =
       apart_rows f same (db t.tree) keyed.0 (λ a b ha hb less.
       let rows = db t.tree in
-      let pass = test_has (λ x. not (guards x t && clashes x.order x.columns rows b)) mail_schema.indexes i (all_has (λ row. passes Unique mail_schema db t row ≡ true) rows b unique hb) has in
+      let pass = test_has (λ x. not (guards x t && clashes x.order x.columns rows b)) schema.indexes i (all_has (λ row. passes Unique schema db t row ≡ true) rows b unique hb) has in
       let none = and_second (guards i t) (clashes i.order i.columns rows b) guard (not-true _ pass) in
       let here = none_has (λ other. agree i.order i.columns other i.columns b && differ (rowid other) (rowid b)) rows a none ha in
       sym (is a b ha hb) ∙ and_first (agree i.order i.columns a i.columns b) (differ (rowid a) (rowid b)) here (ids_differ (rowid a) (rowid b) (id_is rows keyed a ha) (id_is rows keyed b hb) less))
@@ -118,13 +121,20 @@ three_agree p q r a b x y z e g h = ap₂ (λ u v. u && v) e (ap₂ (λ u v. u &
 
 -- ---- what a reference points to
 
-names_key : parent_key mail_schema.tables to_maildrops ≡ Some (4, 1 ∷ [], plain_order)
+names_key : (c : Bool) → parent_key (schema_of c).tables to_maildrops ≡ Some (4, 1 ∷ [], plain_order)
 unfolding same_name joined
-names_key = refl
+names_key false = refl
+names_key true = refl
 
-mail_key : parent_key mail_schema.tables to_mail ≡ Some (10, 0 ∷ [], plain_order)
+mail_key : (c : Bool) → parent_key (schema_of c).tables to_mail ≡ Some (mail_tree c, 0 ∷ [], plain_order)
 unfolding same_name joined
-mail_key = refl
+mail_key false = refl
+mail_key true = refl
+
+groups_key : (c : Bool) → parent_key (schema_of c).tables to_groups ≡ Some (17, 0 ∷ [], plain_order)
+unfolding same_name joined
+groups_key false = refl
+groups_key true = refl
 
 held_by : (db : Trees) (places : List ℕ) (r : Row) (k : Option ParentKey) (tree : ℕ) (at : List ℕ) → k ≡ Some (tree, at, plain_order) → is_held db places r k ≡ true → list_any (λ parent. agree plain_order at parent places r) (db tree) ≡ true
 held_by db places r k tree at e h = subst (λ o. is_held db places r o ≡ true) e h
@@ -135,15 +145,32 @@ text_there r p text = ap (λ v. is_null v || false) text.1
 number_there : (r : Row) (p : ℕ) → IsInt (column r p) → has_null (p ∷ []) r ≡ false
 number_there r p int = ap (λ v. is_null v || false) int.1
 
+-- ---- the table of mail
+
+mail_index : (c : Bool) → Has (schema_of c).indexes (key_of (codes "mail") (mail_tree c) (2 ∷ 3 ∷ 4 ∷ []))
+mail_index false = inr (inr (inr (inr (inr (inl refl)))))
+mail_index true = inr (inr (inr (inr (inr (inr (inr (inr (inr (inr (inr (inl refl)))))))))))
+
+mail_guard : (c : Bool) → guards (key_of (codes "mail") (mail_tree c) (2 ∷ 3 ∷ 4 ∷ [])) (mail_at (mail_tree c)) ≡ true
+mail_guard false = refl
+mail_guard true = refl
+
+mail_passes : (c : Bool) (db : Trees) (rule : Constraint) → Obeys (schema_of c) db → AllByRecursion (λ row. passes rule (schema_of c) db (mail_at (mail_tree c)) row ≡ true) (db (mail_tree c))
+mail_passes false db rule obeys = (obeys.rules rule).1.1.1.1.1.0
+mail_passes true db rule obeys = (obeys.rules rule).1.1.1.1.1.1.1.1.1.1.1.0
+
 -- ---- the tables
 
-module _ (db : Database) (ours : IsOurs db) (sound : IsDatabase db) (kept : AreKept mail_schema.tables db.trees) where
-  obeys : Obeys mail_schema db.trees
+module _ (db : Database) (ours : IsOurs db) (sound : IsDatabase db) (kept : AreKept (schema_of (is_carried db.trees)).tables db.trees) where
+  abbrev c : Bool
+  c = is_carried db.trees
+
+  obeys : Obeys (schema_of (is_carried db.trees)) db.trees
   obeys = subst (λ s. Obeys s db.trees) ours sound.obeys
 
   marks_apart : are_apart (λ (a b : Mark). bytes_eq a.name b.name) (map mark_of (db.trees 0)) ≡ true
   marks_apart =
-      apart_keys mark_of (λ (a b : Mark). bytes_eq a.name b.name) (meta_at 0) (key_of (codes "meta") 0 (1 ∷ [])) db.trees (inl refl) refl kept.0 (obeys.rules Unique).0
+      apart_keys mark_of (λ (a b : Mark). bytes_eq a.name b.name) (meta_at 0) (key_of (codes "meta") 0 (1 ∷ [])) (schema_of c) db.trees (inl refl) refl kept.0 (obeys.rules Unique).0
       (λ a b ha hb.
       let x = marks_typed db ours sound a ha in
       let y = marks_typed db ours sound b hb in
@@ -151,7 +178,7 @@ module _ (db : Database) (ours : IsOurs db) (sound : IsDatabase db) (kept : AreK
 
   clerks_apart : are_apart (λ (a b : Clerk). bytes_eq a.name b.name) (map clerk_of (db.trees 2)) ≡ true
   clerks_apart =
-      apart_keys clerk_of (λ (a b : Clerk). bytes_eq a.name b.name) (clerks_at 2) (key_of (codes "clerks") 2 (1 ∷ [])) db.trees (inr (inl refl)) refl kept.1.0 (obeys.rules Unique).1.0
+      apart_keys clerk_of (λ (a b : Clerk). bytes_eq a.name b.name) (clerks_at 2) (key_of (codes "clerks") 2 (1 ∷ [])) (schema_of c) db.trees (inr (inl refl)) refl kept.1.0 (obeys.rules Unique).1.0
       (λ a b ha hb.
       let x = clerks_typed db ours sound a ha in
       let y = clerks_typed db ours sound b hb in
@@ -159,7 +186,7 @@ module _ (db : Database) (ours : IsOurs db) (sound : IsDatabase db) (kept : AreK
 
   maildrops_apart : are_apart bytes_eq (map maildrop_of (db.trees 4)) ≡ true
   maildrops_apart =
-      apart_keys maildrop_of bytes_eq (maildrops_at 4) (key_of (codes "maildrops") 4 (1 ∷ [])) db.trees (inr (inr (inl refl))) refl kept.1.1.0 (obeys.rules Unique).1.1.0
+      apart_keys maildrop_of bytes_eq (maildrops_at 4) (key_of (codes "maildrops") 4 (1 ∷ [])) (schema_of c) db.trees (inr (inr (inl refl))) refl kept.1.1.0 (obeys.rules Unique).1.1.0
       (λ a b ha hb.
       let x = names_typed db ours sound a ha in
       let y = names_typed db ours sound b hb in
@@ -167,7 +194,7 @@ module _ (db : Database) (ours : IsOurs db) (sound : IsDatabase db) (kept : AreK
 
   counts_apart : are_apart (λ (a b : Count). bytes_eq a.maildrop b.maildrop && bytes_eq a.class b.class) (map count_of (db.trees 6)) ≡ true
   counts_apart =
-      apart_keys count_of (λ (a b : Count). bytes_eq a.maildrop b.maildrop && bytes_eq a.class b.class) (counts_at 6) (key_of (codes "counts") 6 (1 ∷ 2 ∷ [])) db.trees (inr (inr (inr (inl refl)))) refl kept.1.1.1.0 (obeys.rules Unique).1.1.1.0
+      apart_keys count_of (λ (a b : Count). bytes_eq a.maildrop b.maildrop && bytes_eq a.class b.class) (counts_at 6) (key_of (codes "counts") 6 (1 ∷ 2 ∷ [])) (schema_of c) db.trees (inr (inr (inr (inl refl)))) refl kept.1.1.1.0 (obeys.rules Unique).1.1.1.0
       (λ a b ha hb.
       let x = counts_typed db ours sound a ha in
       let y = counts_typed db ours sound b hb in
@@ -175,23 +202,24 @@ module _ (db : Database) (ours : IsOurs db) (sound : IsDatabase db) (kept : AreK
 
   deposits_apart : are_apart (λ (a b : Deposit). bytes_eq a.maildrop b.maildrop && bytes_eq a.id b.id) (map deposit_of (db.trees 8)) ≡ true
   deposits_apart =
-      apart_keys deposit_of (λ (a b : Deposit). bytes_eq a.maildrop b.maildrop && bytes_eq a.id b.id) (deposits_at 8) (key_of (codes "deposits") 8 (1 ∷ 2 ∷ [])) db.trees (inr (inr (inr (inr (inl refl))))) refl kept.1.1.1.1.0 (obeys.rules Unique).1.1.1.1.0
+      apart_keys deposit_of (λ (a b : Deposit). bytes_eq a.maildrop b.maildrop && bytes_eq a.id b.id) (deposits_at 8) (key_of (codes "deposits") 8 (1 ∷ 2 ∷ [])) (schema_of c) db.trees (inr (inr (inr (inr (inl refl))))) refl kept.1.1.1.1.0 (obeys.rules Unique).1.1.1.1.0
       (λ a b ha hb.
       let x = deposits_typed db ours sound a ha in
       let y = deposits_typed db ours sound b hb in
       two_agree 1 2 a b _ _ (same_text (column a 1) (column b 1) x.0 y.0) (same_text (column a 2) (column b 2) x.1 y.1))
 
-  messages_apart : are_apart (λ (a b : Message). bytes_eq a.maildrop b.maildrop && bytes_eq a.class b.class && same_int a.k b.k) (map message_of (db.trees 10)) ≡ true
+  messages_apart : are_apart (λ (a b : Message). bytes_eq a.maildrop b.maildrop && bytes_eq a.class b.class && same_int a.k b.k) (map message_of (db.trees (mail_tree c))) ≡ true
   messages_apart =
-      apart_keys message_of (λ (a b : Message). bytes_eq a.maildrop b.maildrop && bytes_eq a.class b.class && same_int a.k b.k) (mail_at 10) (key_of (codes "mail") 10 (2 ∷ 3 ∷ 4 ∷ [])) db.trees (inr (inr (inr (inr (inr (inl refl)))))) refl kept.1.1.1.1.1.0 (obeys.rules Unique).1.1.1.1.1.0
+      apart_keys message_of (λ (a b : Message). bytes_eq a.maildrop b.maildrop && bytes_eq a.class b.class && same_int a.k b.k) (mail_at (mail_tree c)) (key_of (codes "mail") (mail_tree c) (2 ∷ 3 ∷ 4 ∷ [])) (schema_of c) db.trees (mail_index c) (mail_guard c)
+      (mail_keyed c db.trees kept) (mail_passes c db.trees Unique obeys)
       (λ a b ha hb.
-      let x = row_in db ours sound (mail_at 10) refl (obeys.rules Datatype).1.1.1.1.1.0 (obeys.rules NotNull).1.1.1.1.1.0 a ha in
-      let y = row_in db ours sound (mail_at 10) refl (obeys.rules Datatype).1.1.1.1.1.0 (obeys.rules NotNull).1.1.1.1.1.0 b hb in
+      let x = messages_in db ours sound a ha in
+      let y = messages_in db ours sound b hb in
       three_agree 2 3 4 a b _ _ _ (same_text (column a 2) (column b 2) x.1.0 y.1.0) (same_text (column a 3) (column b 3) x.1.1.0 y.1.1.0) (same_number (column a 4) (column b 4) x.1.1.1.0 y.1.1.1.0))
 
   rules_apart : are_apart (λ (a b : Rule). bytes_eq a.name b.name) (map rule_of (db.trees 13)) ≡ true
   rules_apart =
-      apart_keys rule_of (λ (a b : Rule). bytes_eq a.name b.name) (rules_at 13) (key_of (codes "rules") 13 (2 ∷ [])) db.trees (inr (inr (inr (inr (inr (inr (inl refl))))))) refl kept.1.1.1.1.1.1.1.0 (obeys.rules Unique).1.1.1.1.1.1.1.0
+      apart_keys rule_of (λ (a b : Rule). bytes_eq a.name b.name) (rules_at 13) (key_of (codes "rules") 13 (2 ∷ [])) (schema_of c) db.trees (inr (inr (inr (inr (inr (inr (inl refl))))))) refl kept.1.1.1.1.1.1.1.0 (obeys.rules Unique).1.1.1.1.1.1.1.0
       (λ a b ha hb.
       let x = row_in db ours sound (rules_at 13) refl (obeys.rules Datatype).1.1.1.1.1.1.1.0 (obeys.rules NotNull).1.1.1.1.1.1.1.0 a ha in
       let y = row_in db ours sound (rules_at 13) refl (obeys.rules Datatype).1.1.1.1.1.1.1.0 (obeys.rules NotNull).1.1.1.1.1.1.1.0 b hb in
@@ -199,35 +227,77 @@ module _ (db : Database) (ours : IsOurs db) (sound : IsDatabase db) (kept : AreK
 
   sheets_apart : are_apart (λ (a b : Sheet). same_int a.mail b.mail && same_int a.place b.place) (map sheet_of (db.trees 15)) ≡ true
   sheets_apart =
-      apart_keys sheet_of (λ (a b : Sheet). same_int a.mail b.mail && same_int a.place b.place) (sheets_at 15) (key_of (codes "sheets") 15 (1 ∷ 2 ∷ [])) db.trees (inr (inr (inr (inr (inr (inr (inr (inl refl)))))))) refl kept.1.1.1.1.1.1.1.1.0 (obeys.rules Unique).1.1.1.1.1.1.1.1.0
+      apart_keys sheet_of (λ (a b : Sheet). same_int a.mail b.mail && same_int a.place b.place) (sheets_at 15) (key_of (codes "sheets") 15 (1 ∷ 2 ∷ [])) (schema_of c) db.trees (inr (inr (inr (inr (inr (inr (inr (inl refl)))))))) refl kept.1.1.1.1.1.1.1.1.0 (obeys.rules Unique).1.1.1.1.1.1.1.1.0
       (λ a b ha hb.
       let x = sheets_typed db ours sound a ha in
       let y = sheets_typed db ours sound b hb in
       two_agree 1 2 a b _ _ (same_number (column a 1) (column b 1) x.0 y.0) (same_number (column a 2) (column b 2) x.1 y.1))
 
-  keys_apart : are_apart (λ (a b : Message). same_int a.key b.key) (map message_of (db.trees 10)) ≡ true
+  groups_apart : are_apart (λ (a b : Group). bytes_eq a.name b.name) (map group_of (db.trees 17)) ≡ true
+  groups_apart =
+      apart_keys group_of (λ (a b : Group). bytes_eq a.name b.name) (groups_at 17) (key_of (codes "groups") 17 (2 ∷ [])) (schema_of c) db.trees (inr (inr (inr (inr (inr (inr (inr (inr (inl refl))))))))) refl kept.1.1.1.1.1.1.1.1.1.0 (obeys.rules Unique).1.1.1.1.1.1.1.1.1.0
+      (λ a b ha hb.
+      let x = row_in db ours sound (groups_at 17) refl (obeys.rules Datatype).1.1.1.1.1.1.1.1.1.0 (obeys.rules NotNull).1.1.1.1.1.1.1.1.1.0 a ha in
+      let y = row_in db ours sound (groups_at 17) refl (obeys.rules Datatype).1.1.1.1.1.1.1.1.1.0 (obeys.rules NotNull).1.1.1.1.1.1.1.1.1.0 b hb in
+      one_agrees 2 2 a b _ (same_text (column a 2) (column b 2) x.1.0 y.1.0))
+
+  group_places_apart : are_apart (λ (a b : Group). same_int a.place b.place) (map group_of (db.trees 17)) ≡ true
+  group_places_apart =
+      let rows = db.trees 17 in
+      let keyed = kept.1.1.1.1.1.1.1.1.1.0 in
+      apart_rows group_of (λ (a b : Group). same_int a.place b.place) rows keyed.0 (λ a b ha hb less. ids_apart (rowid a) (rowid b) (id_is rows keyed a ha) (id_is rows keyed b hb) less)
+
+  members_apart : are_apart (λ (a b : Member). same_int a.group b.group && same_int a.place b.place) (map member_of (db.trees 19)) ≡ true
+  members_apart =
+      apart_keys member_of (λ (a b : Member). same_int a.group b.group && same_int a.place b.place) (members_at 19) (key_of (codes "members") 19 (1 ∷ 2 ∷ [])) (schema_of c) db.trees (inr (inr (inr (inr (inr (inr (inr (inr (inr (inl refl)))))))))) refl kept.1.1.1.1.1.1.1.1.1.1.0 (obeys.rules Unique).1.1.1.1.1.1.1.1.1.1.0
+      (λ a b ha hb.
+      let x = members_in db ours sound a ha in
+      let y = members_in db ours sound b hb in
+      two_agree 1 2 a b _ _ (same_number (column a 1) (column b 1) x.0 y.0) (same_number (column a 2) (column b 2) x.1 y.1))
+
+  member_clerks_apart : are_apart (λ (a b : Member). same_int a.group b.group && bytes_eq a.clerk b.clerk) (map member_of (db.trees 19)) ≡ true
+  member_clerks_apart =
+      apart_keys member_of (λ (a b : Member). same_int a.group b.group && bytes_eq a.clerk b.clerk) (members_at 19) (clerks_key_of 19) (schema_of c) db.trees (inr (inr (inr (inr (inr (inr (inr (inr (inr (inr (inl refl))))))))))) refl kept.1.1.1.1.1.1.1.1.1.1.0 (obeys.rules Unique).1.1.1.1.1.1.1.1.1.1.0
+      (λ a b ha hb.
+      let x = members_in db ours sound a ha in
+      let y = members_in db ours sound b hb in
+      two_agree 1 3 a b _ _ (same_number (column a 1) (column b 1) x.0 y.0) (same_text (column a 3) (column b 3) x.2 y.2))
+
+  keys_apart : are_apart (λ (a b : Message). same_int a.key b.key) (map message_of (db.trees (mail_tree c))) ≡ true
   keys_apart =
-      let rows = db.trees 10 in
-      let keyed = kept.1.1.1.1.1.0 in
+      let rows = db.trees (mail_tree c) in
+      let keyed = mail_keyed c db.trees kept in
       apart_rows message_of (λ (a b : Message). same_int a.key b.key) rows keyed.0 (λ a b ha hb less. ids_apart (rowid a) (rowid b) (id_is rows keyed a ha) (id_is rows keyed b hb) less)
 
-  has_maildrop : (r : Row) → Has (db.trees 10) r → has_name (text_at r 2) (map maildrop_of (db.trees 4)) ≡ true
+  has_maildrop : (r : Row) → Has (db.trees (mail_tree c)) r → has_name (text_at r 2) (map maildrop_of (db.trees 4)) ≡ true
   has_maildrop r there =
       let text = messages_typed db ours sound r there in
-      let pass = all_has (λ row. passes ForeignKey mail_schema db.trees (mail_at 10) row ≡ true) (db.trees 10) r (obeys.rules ForeignKey).1.1.1.1.1.0 there in
-      let has = or_second (has_null (2 ∷ []) r) (is_held db.trees (2 ∷ []) r (parent_key mail_schema.tables to_maildrops)) (text_there r 2 text) (and_parts (has_parent mail_schema.tables db.trees r to_maildrops) true pass).0 in
-      let it = some_has (λ parent. agree plain_order (1 ∷ []) parent (2 ∷ []) r) (db.trees 4) (held_by db.trees (2 ∷ []) r _ 4 (1 ∷ []) names_key has) in
+      let pass = all_has (λ row. passes ForeignKey (schema_of c) db.trees (mail_at (mail_tree c)) row ≡ true) (db.trees (mail_tree c)) r (mail_passes c db.trees ForeignKey obeys) there in
+      let has = or_second (has_null (2 ∷ []) r) (is_held db.trees (2 ∷ []) r (parent_key (schema_of c).tables to_maildrops)) (text_there r 2 text) (and_parts (has_parent (schema_of c).tables db.trees r to_maildrops) true pass).0 in
+      let it = some_has (λ parent. agree plain_order (1 ∷ []) parent (2 ∷ []) r) (db.trees 4) (held_by db.trees (2 ∷ []) r _ 4 (1 ∷ []) (names_key c) has) in
       let is = one_agrees 1 2 it.0 r _ (same_text (column it.0 1) (column r 2) (names_typed db ours sound it.0 it.1) text) in
       some_from (λ x. bytes_eq x (text_at r 2)) (map maildrop_of (db.trees 4)) (maildrop_of it.0) (has_mapped maildrop_of (db.trees 4) it.0 it.1) (sym is ∙ it.2)
 
-  has_message : (r : Row) → Has (db.trees 15) r → list_any (λ (m : Message). same_int m.key (number_at r 1)) (map message_of (db.trees 10)) ≡ true
+  has_message : (r : Row) → Has (db.trees 15) r → list_any (λ (m : Message). same_int m.key (number_at r 1)) (map message_of (db.trees (mail_tree c))) ≡ true
   has_message r there =
       let int = (sheets_typed db ours sound r there).0 in
-      let pass = all_has (λ row. passes ForeignKey mail_schema db.trees (sheets_at 15) row ≡ true) (db.trees 15) r (obeys.rules ForeignKey).1.1.1.1.1.1.1.1.0 there in
-      let has = or_second (has_null (1 ∷ []) r) (is_held db.trees (1 ∷ []) r (parent_key mail_schema.tables to_mail)) (number_there r 1 int) (and_parts (has_parent mail_schema.tables db.trees r to_mail) true pass).0 in
-      let it = some_has (λ parent. agree plain_order (0 ∷ []) parent (1 ∷ []) r) (db.trees 10) (held_by db.trees (1 ∷ []) r _ 10 (0 ∷ []) mail_key has) in
-      let is = one_agrees 0 1 it.0 r _ (same_number (column it.0 0) (column r 1) (id_is (db.trees 10) kept.1.1.1.1.1.0 it.0 it.1) int) in
-      some_from (λ (m : Message). same_int m.key (number_at r 1)) (map message_of (db.trees 10)) (message_of it.0) (has_mapped message_of (db.trees 10) it.0 it.1) (sym is ∙ it.2)
+      let pass = all_has (λ row. passes ForeignKey (schema_of c) db.trees (sheets_at 15) row ≡ true) (db.trees 15) r (obeys.rules ForeignKey).1.1.1.1.1.1.1.1.0 there in
+      let has = or_second (has_null (1 ∷ []) r) (is_held db.trees (1 ∷ []) r (parent_key (schema_of c).tables to_mail)) (number_there r 1 int) (and_parts (has_parent (schema_of c).tables db.trees r to_mail) true pass).0 in
+      let it = some_has (λ parent. agree plain_order (0 ∷ []) parent (1 ∷ []) r) (db.trees (mail_tree c)) (held_by db.trees (1 ∷ []) r _ (mail_tree c) (0 ∷ []) (mail_key c) has) in
+      let is = one_agrees 0 1 it.0 r _ (same_number (column it.0 0) (column r 1) (id_is (db.trees (mail_tree c)) (mail_keyed c db.trees kept) it.0 it.1) int) in
+      some_from (λ (m : Message). same_int m.key (number_at r 1)) (map message_of (db.trees (mail_tree c))) (message_of it.0) (has_mapped message_of (db.trees (mail_tree c)) it.0 it.1) (sym is ∙ it.2)
+
+  has_group : (r : Row) → Has (db.trees 19) r → list_any (λ (g : Group). same_int g.place (number_at r 1)) (map group_of (db.trees 17)) ≡ true
+  has_group r there =
+      let int = (members_in db ours sound r there).0 in
+      let pass = all_has (λ row. passes ForeignKey (schema_of c) db.trees (members_at 19) row ≡ true) (db.trees 19) r (obeys.rules ForeignKey).1.1.1.1.1.1.1.1.1.1.0 there in
+      let has = or_second (has_null (1 ∷ []) r) (is_held db.trees (1 ∷ []) r (parent_key (schema_of c).tables to_groups)) (number_there r 1 int) (and_parts (has_parent (schema_of c).tables db.trees r to_groups) true pass).0 in
+      let it = some_has (λ parent. agree plain_order (0 ∷ []) parent (1 ∷ []) r) (db.trees 17) (held_by db.trees (1 ∷ []) r _ 17 (0 ∷ []) (groups_key c) has) in
+      let is = one_agrees 0 1 it.0 r _ (same_number (column it.0 0) (column r 1) (id_is (db.trees 17) kept.1.1.1.1.1.1.1.1.1.0 it.0 it.1) int) in
+      some_from (λ (g : Group). same_int g.place (number_at r 1)) (map group_of (db.trees 17)) (group_of it.0) (has_mapped group_of (db.trees 17) it.0 it.1) (sym is ∙ it.2)
+
+  pub members_have_groups : list_all (λ (x : Member). list_any (λ (g : Group). same_int g.place x.group) (map group_of (db.trees 17))) (map member_of (db.trees 19)) ≡ true
+  members_have_groups = all_mapped member_of (λ (x : Member). list_any (λ (g : Group). same_int g.place x.group) (map group_of (db.trees 17))) (db.trees 19) has_group
 
   records_apart : AreApart (rows_in db.trees)
   records_apart = record {
@@ -240,8 +310,13 @@ module _ (db : Database) (ours : IsOurs db) (sound : IsDatabase db) (kept : AreK
     keys = keys_apart;
     rules = rules_apart;
     sheets = sheets_apart;
-    parents = all_mapped message_of (λ (m : Message). has_name m.maildrop (map maildrop_of (db.trees 4))) (db.trees 10) has_maildrop;
-    owners = all_mapped sheet_of (λ (s : Sheet). list_any (λ (m : Message). same_int m.key s.mail) (map message_of (db.trees 10))) (db.trees 15) has_message;
+    parents = all_mapped message_of (λ (m : Message). has_name m.maildrop (map maildrop_of (db.trees 4))) (db.trees (mail_tree c)) has_maildrop;
+    owners = all_mapped sheet_of (λ (s : Sheet). list_any (λ (m : Message). same_int m.key s.mail) (map message_of (db.trees (mail_tree c)))) (db.trees 15) has_message;
+    groups = groups_apart;
+    group_places = group_places_apart;
+    members = members_apart;
+    member_clerks = member_clerks_apart;
+    member_groups = members_have_groups;
   }
 
 -- so it is while the connection is open, over a store of ours

@@ -40,3 +40,9 @@ pub mod CutLemmas
 pub mod SheetRunLemmas
 pub mod SchemaLemmas
 pub mod KeyLemmas
+pub mod GroupLemmas
+pub mod MemberLemmas
+pub mod PlaceLemmas
+pub mod ListedLemmas
+pub mod BodyLemmas
+pub mod CompleteLemmas

@@ -1,10 +1,13 @@
 -- The statements on meta.
-use Rattle.std.proofs.Common.{◌≡◌, ℕ, ℤ, List, [], ◌∷◌, map, filter, Option, None, Ok, refl, sym, ap, subst, ◌∙◌}
+use Rattle.std.proofs.Common.{arith, false, true, Bool, ◌≡◌, ℕ, ℤ, List, [], ◌∷◌, map, filter, Option, None, Ok, refl, sym, ap, subst, ◌∙◌}
 use Rattle.sqlite_tied.specs.Compute.{everything}
 use Rattle.sqlite_value.specs.declared.value.Value.TheVariants.{Null, Int, Text}
 use Rattle.sqlite_value.specs.Order.{Row, column}
 use Rattle.sqlite_trees.specs.Tree.{Trees, put_row}
 use Rattle.sqlite_sql.specs.Term.{lit, col}
+use Rattle.sqlite_schema.specs.declared.command.Command.{Command}
+use Rattle.sqlite_schema.specs.declared.command.Command.TheVariants.{Delete}
+use Rattle.sqlite_schema.specs.Rules.{Obeys}
 use Rattle.sqlite_rules.specs.declared.error.Rowids.TheVariants.{Chosen}
 use Rattle.sqlite_rules.specs.Edit.{next_rowid}
 use Rattle.sqlite.specs.Effect.{Database, IsDatabase}
@@ -12,30 +15,37 @@ use Rattle.sqlite.specs.Does.{Tally, Does}
 use Rattle.sqlite.specs.Listing.{understood}
 use Rattle.sqlite.specs.State.{State, IsLive, mode_of, Executes, CommitsBy, Shown}
 use Rattle.sqlite.proofs.Callers.{IsPlain, command_of}
-use Rattle.mailsql.specs.Tables.{mail_schema}
+use Rattle.mailsql.specs.Tables as tables
+use Rattle.mailsql.specs.Tables.{schema_of, old_schema}
 use Rattle.mailsql.proofs.Statements as st
 use Rattle.mailsql.specs.Rows as m
 use Rattle.mailsql.specs.Changes as ch
-use Rattle.mailsql.specs.Rows.{Name, Rows, rows_in, IsKept, AreKept, IsReady, MayLeave, Changes, same_int}
+use Rattle.mailsql.specs.Rows.{Name, Rows, is_carried, rows_in, AreKept, IsKept, IsReady, MayLeave, Changes, same_int}
 use Rattle.mailsql.proofs.RowLemmas.{next_last, appended}
 use Rattle.mailsql.proofs.WriteLemmas.{inserted}
-use Rattle.mailsql.proofs.KeptLemmas.{applied_kept}
+use Rattle.mailsql.proofs.KeptLemmas.{applied_kept, keyed_apart}
 use Rattle.mailsql.proofs.FrameLemmas as frame
-use Rattle.mailsql.proofs.FrameLemmas.{framed}
+use Rattle.mailsql.proofs.FrameLemmas.{framed, kept_framed}
 use Rattle.mailsql.proofs.CastLemmas.{cast_null, cast_int}
 use Rattle.mailsql.proofs.StateLemmas.{changes, commits}
 use Rattle.mailsql.proofs.TypedLemmas as typed
-use Rattle.mailsql.proofs.EqualLemmas.{column_text}
+use Rattle.mailsql.proofs.EqualLemmas.{column_text, kept_map}
 use Rattle.mailsql.proofs.FindLemmas.{and_true}
-use Rattle.mailsql.proofs.ReadLemmas.{Asks, kept, sound, listed, everything_listed}
+use Rattle.mailsql.proofs.QueryLemmas.{passes, shown_rows}
+use Rattle.mailsql.proofs.RemoveLemmas.{removed}
+use Rattle.mailsql.proofs.WithoutLemmas.{without_shown}
+use Rattle.mailsql.proofs.CascadeLemmas as still
+use Rattle.mailsql.proofs.ReadLemmas.{Asks, kept, sound, listed, everything_listed, listed_of, everything_of}
 
-pub add_mark_is : command_of (understood mail_schema st.add_mark_text) ≡ st.add_mark_command
+pub add_mark_is : (c : Bool) → command_of (understood (schema_of c) st.add_mark_text) ≡ st.add_mark_command
 unfolding understood everything
-add_mark_is = refl
+add_mark_is false = refl
+add_mark_is true = refl
 
-pub add_mark_plain : IsPlain (understood mail_schema st.add_mark_text)
+pub add_mark_plain : (c : Bool) → IsPlain (understood (schema_of c) st.add_mark_text)
 unfolding understood everything
-add_mark_plain = (refl, refl)
+add_mark_plain false = (refl, refl)
+add_mark_plain true = (refl, refl)
 
 add_mark_tail : Name → ℤ → Row
 add_mark_tail name value = Text name ∷ Int value ∷ []
@@ -47,53 +57,125 @@ add_mark_does name value limit s text tally after kept sound h =
     let db = s.now.trees in
     let params = Text name ∷ Int value ∷ [] in
     let here = subst (λ sch. Does limit (mode_of s) params (record s.now { schema = sch }) text None st.add_mark_command (Ok (tally, after))) kept.0 h in
-    let made = inserted limit mail_schema _ 0 _ None (1 ∷ []) _ _ ([]) params 0 3 (lit Null ∷ col 0 0 ∷ col 0 1 ∷ []) db tally after refl here in
+    let made = inserted limit (schema_of (is_carried db)) _ 0 _ None (1 ∷ []) _ _ ([]) params 0 3 (lit Null ∷ col 0 0 ∷ col 0 1 ∷ []) db tally after here in
     let next = made.0 in
     let tail = add_mark_tail name value in
     let rows : next 0 ≡ put_row (Int (next_rowid (db 0)) ∷ tail) (db 0) = simp (cast_null, cast_int) at made.1.rows in
     let last = rows ∙ next_last Chosen tail (db 0) kept.1.0 in
-    let change = frame.marks_alone db next (framed db next _ made.1) ∙ ap (λ l. let r : Rows = record (rows_in db) { marks = l } in r) (appended m.mark_of (db 0) (next 0) (Int (next_rowid (db 0)) ∷ tail) last) in (
+    let change = frame.marks_alone db next (framed db next _ (λ e. absurd (omega arith)) made.1) ∙ ap (λ l. let r : Rows = record (rows_in db) { marks = l } in r) (appended m.mark_of (db 0) (next 0) (Int (next_rowid (db 0)) ∷ tail) last) in (
       ap (λ (d : Database). rows_in d.trees) made.2 ∙ change,
-      (ap (λ (d : Database). d.schema) made.2, subst (λ (d : Database). AreKept mail_schema.tables d.trees) (sym made.2) (applied_kept db next _ made.1 kept.1)),
+      kept_framed db next after made.2 (framed db next _ (λ e. absurd (omega arith)) made.1).same (applied_kept db next _ made.1 kept.1),
     )
 
 module _ (old new : State) (name : Name) (value : ℤ) (live : IsLive old) where
   pub add_mark_ok : (count : ℕ) → IsReady old → Executes st.add_mark_text (Text name ∷ Int value ∷ []) old new (Ok count) → Changes (ch.AddsMark (record { name = name; value = value })) old new
   add_mark_ok count ready h =
-      changes st.add_mark_text (Text name ∷ Int value ∷ []) st.add_mark_command add_mark_is add_mark_plain (λ e. cc) (λ n e. cc) (λ a b t n r. r) (ch.AddsMark (record { name = name; value = value })) (add_mark_does name value) old new count ready live h
+      changes st.add_mark_text (Text name ∷ Int value ∷ []) (λ _. st.add_mark_command) add_mark_is add_mark_plain (λ c e. cc) (λ c n e. cc) (λ c a b t n r. r) (ch.AddsMark (record { name = name; value = value })) (add_mark_does name value) old new count ready live h
 
   pub add_mark_commits : (db : Trees) → CommitsBy st.add_mark_text (Text name ∷ Int value ∷ []) old db → MayLeave (ch.AddsMark (record { name = name; value = value })) old db
   add_mark_commits db h =
-      commits st.add_mark_text (Text name ∷ Int value ∷ []) st.add_mark_command add_mark_is add_mark_plain (λ e. cc) (λ n e. cc) (λ a b t n r. r) (ch.AddsMark (record { name = name; value = value })) (add_mark_does name value) old db live h
+      commits st.add_mark_text (Text name ∷ Int value ∷ []) (λ _. st.add_mark_command) add_mark_is add_mark_plain (λ c e. cc) (λ c n e. cc) (λ c a b t n r. r) (ch.AddsMark (record { name = name; value = value })) (add_mark_does name value) old db live h
 
-pub find_mark_asks : Asks st.find_mark_text 0 st.find_mark_terms st.mark_columns st.mark_names
+abbrev pub drop_mark_command : Command
+drop_mark_command = Delete 0 (record { lets = []; body = st.drop_mark_query })
+
+pub drop_mark_is : (c : Bool) → command_of (understood (schema_of c) st.drop_mark_text) ≡ drop_mark_command
 unfolding understood everything
-find_mark_asks = record { is = (refl, refl); plain = (refl, refl) }
+drop_mark_is false = refl
+drop_mark_is true = refl
+
+pub drop_mark_plain : (c : Bool) → IsPlain (understood (schema_of c) st.drop_mark_text)
+unfolding understood everything
+drop_mark_plain false = (refl, refl)
+drop_mark_plain true = (refl, refl)
+
+drop_mark_does : (name : Name) (limit : Option ℕ) (s : State) (text : List ℕ) (tally : Tally) (after : Database) → IsKept s.now → IsDatabase s.now
+    → Does limit (mode_of s) (Text name ∷ []) s.now text None drop_mark_command (Ok (tally, after)) → ch.DropsMark name (rows_in s.now.trees) (rows_in after.trees) × IsKept after
+drop_mark_does name limit s text tally after kept sound h =
+    let db = s.now.trees in
+    let params = Text name ∷ [] in
+    let terms = st.drop_mark_terms in
+    let keyed = kept.1.0 in
+    let here = subst (λ sch. Does limit (mode_of s) params (record s.now { schema = sch }) text None drop_mark_command (Ok (tally, after))) kept.0 h in
+    let it = removed limit (schema_of (is_carried db)) (tables.meta_at 0) params 0 terms db tally after (still.still_meta (is_carried db)) refl here in
+    let same = shown_rows 0 terms (col 1 0 ∷ []) [] db params it.0 (record { ordered = it.1.ordered; same = it.1.same; sorted = it.1.sorted; shown = it.1.shown }) in
+    let rows = it.4 ∙ without_shown (db 0) (passes params terms) it.0 (keyed_apart (db 0) keyed, keyed.1) same in
+    let left = ap (map m.mark_of) rows ∙ kept_map m.mark_of (passes params terms) (m.is_mark name) (db 0) (λ r has. let it = typed.marks_typed s.now kept.0 sound r has in and_true _ ∙ column_text (column r 1) name it) in
+    let change = frame.marks_alone db it.2 (framed db it.2 _ (λ e. absurd (omega arith)) it.3) ∙ ap (λ l. let r : Rows = record (rows_in db) { marks = l } in r) left in (
+      ap (λ (d : Database). rows_in d.trees) it.5 ∙ change,
+      kept_framed db it.2 after it.5 (framed db it.2 _ (λ e. absurd (omega arith)) it.3).same (applied_kept db it.2 _ it.3 kept.1),
+    )
+
+module _ (old new : State) (name : Name) (live : IsLive old) where
+  pub drop_mark_ok : (count : ℕ) → IsReady old → Executes st.drop_mark_text (Text name ∷ []) old new (Ok count) → Changes (ch.DropsMark name) old new
+  drop_mark_ok count ready h =
+      changes st.drop_mark_text (Text name ∷ []) (λ _. drop_mark_command) drop_mark_is drop_mark_plain (λ c e. cc) (λ c n e. cc) (λ c a b t n r. r) (ch.DropsMark name) (drop_mark_does name) old new count ready live h
+
+  pub drop_mark_commits : (db : Trees) → CommitsBy st.drop_mark_text (Text name ∷ []) old db → MayLeave (ch.DropsMark name) old db
+  drop_mark_commits db h =
+      commits st.drop_mark_text (Text name ∷ []) (λ _. drop_mark_command) drop_mark_is drop_mark_plain (λ c e. cc) (λ c n e. cc) (λ c a b t n r. r) (ch.DropsMark name) (drop_mark_does name) old db live h
+
+pub find_mark_asks : (c : Bool) → Asks (schema_of c) st.find_mark_text 0 st.find_mark_terms st.mark_columns st.mark_names
+unfolding understood everything
+find_mark_asks false = record { is = (refl, refl); plain = (refl, refl) }
+find_mark_asks true = record { is = (refl, refl); plain = (refl, refl) }
 
 module _ (old new : State) (name : Name) (rows : List Row) (tables : m.HasTables old) (h : Shown st.find_mark_text (Text name ∷ []) old new rows) where
   pub find_mark_shows : IsLive old → map (λ r. m.mark_of (Null ∷ r)) rows ≡ filter (m.is_mark name) (rows_in old.now.trees).marks
   find_mark_shows live =
-      let ours = kept _ _ _ _ _ find_mark_asks (λ db. refl) old new _ rows tables h in
-      let ty = typed.marks_typed old.now ours.0 (sound _ _ _ _ _ find_mark_asks (λ db. refl) old new _ rows tables h live) in
-      listed _ _ _ _ _ find_mark_asks (λ db. refl) old new _ rows tables h m.mark_of (λ r. m.mark_of (Null ∷ r)) (m.is_mark name) ours.1.0 (λ r. refl)
+      let ours = kept _ _ _ _ _ find_mark_asks (λ c db. refl) old new _ rows tables h in
+      let ty = typed.marks_typed old.now ours.0 (sound _ _ _ _ _ find_mark_asks (λ c db. refl) old new _ rows tables h live) in
+      listed _ _ _ _ _ find_mark_asks (λ c db. refl) old new _ rows tables h m.mark_of (λ r. m.mark_of (Null ∷ r)) (m.is_mark name) ours.1.0 (λ r. refl)
       (λ r has. let it = ty r has in and_true _ ∙ column_text (column r 1) name it)
 
-pub all_marks_asks : Asks st.all_marks_text 0 [] st.mark_columns st.mark_names
+pub all_marks_asks : (c : Bool) → Asks (schema_of c) st.all_marks_text 0 [] st.mark_columns st.mark_names
 unfolding understood everything
-all_marks_asks = record { is = (refl, refl); plain = (refl, refl) }
+all_marks_asks false = record { is = (refl, refl); plain = (refl, refl) }
+all_marks_asks true = record { is = (refl, refl); plain = (refl, refl) }
 
 module _ (old new : State) (rows : List Row) (tables : m.HasTables old) (h : Shown st.all_marks_text ([]) old new rows) where
   pub all_marks_shows : map (λ r. m.mark_of (Null ∷ r)) rows ≡ (rows_in old.now.trees).marks
   all_marks_shows =
-      let ours = kept _ _ _ _ _ all_marks_asks (λ db. refl) old new _ rows tables h in
-      everything_listed _ _ _ _ _ all_marks_asks (λ db. refl) old new _ rows tables h m.mark_of (λ r. m.mark_of (Null ∷ r)) ours.1.0 (λ r. refl) (λ r. refl)
+      let ours = kept _ _ _ _ _ all_marks_asks (λ c db. refl) old new _ rows tables h in
+      everything_listed _ _ _ _ _ all_marks_asks (λ c db. refl) old new _ rows tables h m.mark_of (λ r. m.mark_of (Null ∷ r)) ours.1.0 (λ r. refl) (λ r. refl)
 
-pub all_sequences_asks : Asks st.all_sequences_text 12 [] st.sequence_columns st.sequence_names
+pub all_sequences_asks : (c : Bool) → Asks (schema_of c) st.all_sequences_text 12 [] st.sequence_columns st.sequence_names
 unfolding understood everything
-all_sequences_asks = record { is = (refl, refl); plain = (refl, refl) }
+all_sequences_asks false = record { is = (refl, refl); plain = (refl, refl) }
+all_sequences_asks true = record { is = (refl, refl); plain = (refl, refl) }
 
 module _ (old new : State) (rows : List Row) (tables : m.HasTables old) (h : Shown st.all_sequences_text ([]) old new rows) where
   pub all_sequences_shows : map (λ r. m.mark_of (Null ∷ r)) rows ≡ m.sequences_in old.now.trees
   all_sequences_shows =
-      let ours = kept _ _ _ _ _ all_sequences_asks (λ db. refl) old new _ rows tables h in
-      everything_listed _ _ _ _ _ all_sequences_asks (λ db. refl) old new _ rows tables h m.mark_of (λ r. m.mark_of (Null ∷ r)) ours.1.1.1.1.1.1.1.0 (λ r. refl) (λ r. refl)
+      let ours = kept _ _ _ _ _ all_sequences_asks (λ c db. refl) old new _ rows tables h in
+      everything_listed _ _ _ _ _ all_sequences_asks (λ c db. refl) old new _ rows tables h m.mark_of (λ r. m.mark_of (Null ∷ r)) ours.1.1.1.1.1.1.1.0 (λ r. refl) (λ r. refl)
+
+-- ---- an older store
+
+pub find_old_mark_asks : (c : Bool) → Asks (old_schema c) st.find_mark_text 0 st.find_mark_terms st.mark_columns st.mark_names
+unfolding understood everything
+find_old_mark_asks false = record { is = (refl, refl); plain = (refl, refl) }
+find_old_mark_asks true = record { is = (refl, refl); plain = (refl, refl) }
+
+pub all_old_marks_asks : (c : Bool) → Asks (old_schema c) st.all_marks_text 0 [] st.mark_columns st.mark_names
+unfolding understood everything
+all_old_marks_asks false = record { is = (refl, refl); plain = (refl, refl) }
+all_old_marks_asks true = record { is = (refl, refl); plain = (refl, refl) }
+
+old_marks_keyed : (c : Bool) (db : Trees) → AreKept (old_schema c).tables db → m.AreKeyed (db 0)
+old_marks_keyed false db all = all.0
+old_marks_keyed true db all = all.0
+
+module _ (old new : State) (name : Name) (rows : List Row) (tables : m.IsOld old.now) (sound : IsDatabase old.now) (h : Shown st.find_mark_text (Text name ∷ []) old new rows) where
+  pub find_old_mark_shows : map (λ r. m.mark_of (Null ∷ r)) rows ≡ filter (m.is_mark name) (rows_in old.now.trees).marks
+  find_old_mark_shows =
+      let c = is_carried old.now.trees in
+      let ty = typed.old_marks_typed c old.now.trees (subst (λ s. Obeys s old.now.trees) tables.0 sound.obeys) in
+      listed_of (old_schema c) _ _ _ _ _ (find_old_mark_asks c) (λ db. refl) old new _ rows tables.0 h m.mark_of (λ r. m.mark_of (Null ∷ r)) (m.is_mark name) (old_marks_keyed c old.now.trees tables.1) (λ r. refl)
+      (λ r has. and_true _ ∙ column_text (column r 1) name (ty r has))
+
+module _ (old new : State) (rows : List Row) (tables : m.IsOld old.now) (h : Shown st.all_marks_text ([]) old new rows) where
+  pub all_old_marks_shows : map (λ r. m.mark_of (Null ∷ r)) rows ≡ (rows_in old.now.trees).marks
+  all_old_marks_shows =
+      let c = is_carried old.now.trees in
+      everything_of (old_schema c) _ _ _ _ _ (all_old_marks_asks c) (λ db. refl) old new _ rows tables.0 h m.mark_of (λ r. m.mark_of (Null ∷ r)) (old_marks_keyed c old.now.trees tables.1) (λ r. refl) (λ r. refl)

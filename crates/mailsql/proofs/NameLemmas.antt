@@ -16,7 +16,8 @@ use Rattle.sqlite_keyed.proofs.ListLemmas.{map-map, filter_all, all_of}
 use Rattle.sqlite.specs.declared.error.Error.{Error}
 use Rattle.sqlite.specs.State.{State, IsLive, Shown, IsUnchanged}
 use Rattle.mailsql.proofs.Statements.{maildrops_text, maildrops_query, by_name}
-use Rattle.mailsql.specs.Rows.{Name, rows_in, maildrop_of, HasTables, IsByName, HoldsName}
+use Rattle.mailsql.specs.Rows.{Name, is_carried, rows_in, maildrop_of, HasTables, IsByName, HoldsName}
+use Rattle.mailsql.specs.Tables.{schema_of}
 use Rattle.mailsql.proofs.Commands.{maildrops_is, maildrops_plain}
 use Rattle.mailsql.proofs.QueryLemmas.{passes, answers, shown_rows, unchanged, shown_open}
 use Rattle.mailsql.proofs.ReadLemmas.{all_of_map}
@@ -56,14 +57,14 @@ names_rise ordered all sorted k d low within =
 
 module _ (old new : State) (rows : List Row) (tables : HasTables old) (h : Shown maildrops_text [] old new rows) where
   pub by_name_same : IsUnchanged old new
-  by_name_same = unchanged maildrops_text [] old new rows 4 [] _ by_name _ (tables (shown_open maildrops_text [] old new rows h)).0 maildrops_is maildrops_plain refl h
+  by_name_same = unchanged maildrops_text [] old new rows 4 [] _ by_name _ (schema_of (is_carried old.now.trees)) (tables (shown_open maildrops_text [] old new rows h)).0 (maildrops_is (is_carried old.now.trees)) (maildrops_plain (is_carried old.now.trees)) refl h
 
   pub by_name_shows : IsLive old → IsByName (rows_in old.now.trees).maildrops (map (λ r. maildrop_of (Null ∷ r)) rows)
   unfolding name_in
   by_name_shows live =
       let ours = (tables (shown_open maildrops_text [] old new rows h)).0 in
       let typed = maildrops_typed old.now ours (live by_name_same.0.was_open).0 in
-      let it = answers maildrops_text [] old new rows 4 [] _ by_name _ ours maildrops_is maildrops_plain refl h in
+      let it = answers maildrops_text [] old new rows 4 [] _ by_name _ (schema_of (is_carried old.now.trees)) ours (maildrops_is (is_carried old.now.trees)) (maildrops_plain (is_carried old.now.trees)) refl h in
       let stored = old.now.trees 4 in
       let every : filter (passes [] []) stored ≡ stored = filter_all (passes [] []) stored (all_of (λ r. passes [] [] r ≡ true) (λ r. refl) stored) in
       let same : IsPermutation (map out stored) it.ordered = subst (λ l. IsPermutation (map out l) it.ordered) every it.same in
@@ -78,7 +79,7 @@ module _ (old new : State) (rows : List Row) (tables : HasTables old) (h : Shown
   by_name_held live =
       let ours = (tables (shown_open maildrops_text [] old new rows h)).0 in
       let held = names_held old.now ours (live by_name_same.0.was_open).0 in
-      let it = answers maildrops_text [] old new rows 4 [] _ by_name _ ours maildrops_is maildrops_plain refl h in
+      let it = answers maildrops_text [] old new rows 4 [] _ by_name _ (schema_of (is_carried old.now.trees)) ours (maildrops_is (is_carried old.now.trees)) (maildrops_plain (is_carried old.now.trees)) refl h in
       let same = shown_rows 4 [] _ by_name old.now.trees [] rows it in
       let P : Row → Type 0 = λ r. HoldsName (Null ∷ r) in
       let each = all_of_map P (λ r. column r 1 ∷ []) _ (all_from _ _ (λ r has. held r (has_filtered (passes [] []) (old.now.trees 4) r has).0)) in

@@ -16,9 +16,8 @@ use Rattle.sqlite.specs.State.{State, Shown, ShowsRows, IsUnchanged}
 use Rattle.std.specs.Prelude.{IsTrue}
 use Rattle.sqlite_resolve.specs.declared.compiled.Compiled.{Compiled}
 use Rattle.sqlite.proofs.Callers.{IsPlain, command_of, reads_as}
-use Rattle.mailsql.specs.Tables.{mail_schema}
+use Rattle.sqlite_schema.specs.declared.schema.Schema.{Schema}
 use Rattle.mailsql.proofs.Statements.{query_of, select_of}
-use Rattle.mailsql.specs.Rows.{IsOurs}
 
 pub flat_if : (p : Row → Bool) (f : Row → Env) (rows : List Row) → flat_map (λ r. cond (p r) (f r ∷ []) []) rows ≡ map f (filter p rows)
 flat_if p f [] = refl
@@ -68,21 +67,21 @@ pub shown_open : (sql : List ℕ) (params : Row) (old new : State) (rows : List 
 unfolding Shown
 shown_open sql params old new rows h = rows_open old new sql h.0 _ rows _ h.2
 
-pub shown_same : (sql : List ℕ) (params : Row) (old new : State) (rows : List Row) → IsOurs old.now → IsPlain (understood mail_schema sql) → Shown sql params old new rows → IsUnchanged old new
+pub shown_same : (sql : List ℕ) (params : Row) (old new : State) (rows : List Row) (schema : Schema) → old.now.schema ≡ schema → IsPlain (understood schema sql) → Shown sql params old new rows → IsUnchanged old new
 unfolding Shown
-shown_same sql params old new rows ours plain h =
+shown_same sql params old new rows schema ours plain h =
     let known = sym h.1.is ∙ ap (λ s. understood s sql) ours in
     let bare = subst IsPlain (sym known) plain in
     (rw bare.0 at h.2).3
 
-module _ (sql : List ℕ) (params : Row) (old new : State) (rows : List Row) (t : ℕ) (terms project : List Term) (order : List (Term × Key)) (names : List (List ℕ)) (ours : IsOurs old.now)
-    (is : (command_of (understood mail_schema sql) ≡ select_of (query_of (inner t end) terms project order) names) × (reads_listing mail_schema sql ≡ false)) (plain : IsPlain (understood mail_schema sql))
+module _ (sql : List ℕ) (params : Row) (old new : State) (rows : List Row) (t : ℕ) (terms project : List Term) (order : List (Term × Key)) (names : List (List ℕ)) (schema : Schema) (ours : old.now.schema ≡ schema)
+    (is : (command_of (understood schema sql) ≡ select_of (query_of (inner t end) terms project order) names) × (reads_listing schema sql ≡ false)) (plain : IsPlain (understood schema sql))
     (placed : overlay old.now.trees [] t ≡ old.now.trees t) (h : Shown sql params old new rows) where
   pub unchanged : IsUnchanged old new
-  unchanged = shown_same sql params old new rows ours plain h
+  unchanged = shown_same sql params old new rows schema ours plain h
 
   pub answers : Selected t terms project order old.now.trees params rows
   answers =
-      let read = reads_as sql params old new mail_schema ours _ is.0 plain is.1 rows h in
+      let read = reads_as sql params old new schema ours _ is.0 plain is.1 rows h in
       let it = selected t terms project order (overlay old.now.trees []) params rows (read.answer Null) in
       record { ordered = it.ordered; same = subst (λ l. IsPermutation (map (λ r. output (query_of (inner t end) terms project order) (params ∷ r ∷ [])) (filter (passes params terms) l)) it.ordered) placed it.same; sorted = it.sorted; shown = it.shown }

@@ -1,12 +1,35 @@
 -- What is found of the names and the columns in the schema that our texts make.
-use Rattle.std.proofs.Common.{◌≡◌, true, refl}
+use Rattle.std.proofs.Common.{◌≡◌, Bool, false, true, refl}
 use Rattle.sqlite_schema.specs.Names.{same_name}
-use Rattle.mailsql.specs.Tables.{mail_schema}
-use Rattle.mailsql.specs.Names.{is_taken, has_columns}
+use Rattle.mailsql.specs.Tables.{schema_of, old_schema, second_schema, first_schema}
+use Rattle.mailsql.specs.Names.{is_taken, has_marks, has_columns, has_first_columns, has_second_columns}
 
-pub ours_taken : is_taken mail_schema ≡ true
+pub ours_taken : (c : Bool) → is_taken (schema_of c) ≡ true
 unfolding same_name
-ours_taken = refl
+ours_taken false = refl
+ours_taken true = refl
 
-pub ours_columns : has_columns mail_schema.tables ≡ true
-ours_columns = refl
+pub ours_columns : (c : Bool) → has_columns (schema_of c).tables ≡ true
+ours_columns false = refl
+ours_columns true = refl
+
+pub second_columns : has_second_columns second_schema.tables ≡ true
+second_columns = refl
+
+pub first_columns : has_first_columns first_schema.tables ≡ true
+first_columns = refl
+
+-- ---- of an older store
+
+pub old_taken : (c : Bool) → is_taken (old_schema c) ≡ true
+unfolding same_name
+old_taken false = refl
+old_taken true = refl
+
+pub old_marked : (c : Bool) → has_marks (old_schema c).tables ≡ true
+old_marked false = refl
+old_marked true = refl
+
+pub old_lacks : (c : Bool) → has_columns (old_schema c).tables ≡ false
+old_lacks false = refl
+old_lacks true = refl

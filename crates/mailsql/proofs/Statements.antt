@@ -1,5 +1,5 @@
 -- The commands and queries that the texts of the statements stand for.
-use Rattle.std.specs.Prelude.{ℕ, List, [], ◌∷◌, false, Some, None, codes, pos, negsuc}
+use Rattle.std.specs.Prelude.{ℕ, List, [], ◌∷◌, Bool, false, Some, None, codes, pos, negsuc}
 use Rattle.sqlite_value.specs.declared.keys.Collation.TheVariants.{Binary}
 use Rattle.sqlite_value.specs.declared.keys.Key.{Key}
 use Rattle.sqlite_value.specs.declared.value.Value.TheVariants.{Null, Int}
@@ -13,7 +13,8 @@ use Rattle.sqlite_sql.specs.Query.{Query, Join, inner, end}
 use Rattle.sqlite_schema.specs.declared.command.Command.{Command}
 use Rattle.sqlite_schema.specs.declared.command.Command.TheVariants.{Select, Insert}
 use Rattle.sqlite_schema.specs.declared.command.Source.TheVariants.{Values}
-pub use Rattle.mailsql.specs.Statements.{add_mark_text, find_mark_text, all_marks_text, add_clerk_text, drop_clerk_text, find_clerk_text, all_clerks_text, clerk_count_text, add_maildrop_text, drop_maildrop_text, find_maildrop_text, all_maildrops_text, maildrops_text, maildrop_count_text, add_count_text, clear_count_text, find_count_text, all_counts_text, add_deposit_text, find_deposit_text, all_deposits_text, add_message_text, remove_message_text, heads_text, all_messages_text, message_count_text, add_sheet_text, find_sheet_text, all_sheets_text, sheet_count_text, add_rule_text, clear_rules_text, all_rules_text, all_sequences_text}
+use Rattle.mailsql.specs.Tables.{mail_tree, mail_place}
+pub use Rattle.mailsql.specs.Statements.{add_mark_text, drop_mark_text, find_mark_text, all_marks_text, add_clerk_text, drop_clerk_text, find_clerk_text, all_clerks_text, clerk_count_text, add_maildrop_text, drop_maildrop_text, find_maildrop_text, all_maildrops_text, maildrops_text, maildrop_count_text, add_count_text, clear_count_text, find_count_text, all_counts_text, add_deposit_text, find_deposit_text, all_deposits_text, add_message_text, remove_message_text, heads_text, all_messages_text, message_count_text, add_sheet_text, find_sheet_text, all_sheets_text, sheet_count_text, add_rule_text, clear_rules_text, all_rules_text, add_group_text, clear_groups_text, all_groups_text, add_member_text, members_text, all_members_text, old_messages_text, find_body_text, clear_bodies_text, all_sequences_text}
 
 abbrev pub query_of : Join → List Term → List Term → List (Term × Key) → Query
 query_of from filter project order = record {
@@ -48,6 +49,12 @@ mark_names = codes "name" ∷ codes "value" ∷ []
 
 abbrev pub add_mark_command : Command
 add_mark_command = Insert 0 (Values (lit Null ∷ col 0 0 ∷ col 0 1 ∷ []) 3)
+
+abbrev pub drop_mark_terms : List Term
+drop_mark_terms = eq (col 1 1) (col 0 0) ∷ []
+
+abbrev pub drop_mark_query : Query
+drop_mark_query = query_of (inner 0 end) drop_mark_terms (col 1 0 ∷ []) []
 
 abbrev pub find_mark_terms : List Term
 find_mark_terms = eq (col 1 1) (col 0 0) ∷ []
@@ -146,14 +153,14 @@ message_columns = col 1 0 ∷ col 1 2 ∷ col 1 3 ∷ col 1 4 ∷ col 1 5 ∷ []
 abbrev pub message_names : List (List ℕ)
 message_names = codes "key" ∷ codes "maildrop" ∷ codes "class" ∷ codes "k" ∷ codes "octets" ∷ []
 
-abbrev pub add_message_command : Command
-add_message_command = Insert 5 (Values (lit Null ∷ lit Null ∷ col 0 0 ∷ col 0 1 ∷ col 0 2 ∷ col 0 3 ∷ []) 6)
+abbrev pub add_message_command : (carried : Bool) → Command
+add_message_command carried = Insert (mail_place carried) (Values (lit Null ∷ lit Null ∷ col 0 0 ∷ col 0 1 ∷ col 0 2 ∷ col 0 3 ∷ []) 6)
 
 abbrev pub remove_message_terms : List Term
 remove_message_terms = eq (col 1 0) (col 0 0) ∷ eq (col 1 2) (col 0 1) ∷ []
 
-abbrev pub remove_message_query : Query
-remove_message_query = query_of (inner 10 end) remove_message_terms (col 1 0 ∷ []) []
+abbrev pub remove_message_query : (carried : Bool) → Query
+remove_message_query carried = query_of (inner (mail_tree carried) end) remove_message_terms (col 1 0 ∷ []) []
 
 abbrev pub heads_terms : List Term
 heads_terms = eq (col 1 2) (col 0 0) ∷ []
@@ -194,6 +201,60 @@ clear_rules_terms = []
 
 abbrev pub clear_rules_query : Query
 clear_rules_query = query_of (inner 13 end) clear_rules_terms (col 1 0 ∷ []) []
+
+-- ---- groups
+
+abbrev pub group_columns : List Term
+group_columns = col 1 0 ∷ col 1 2 ∷ []
+
+abbrev pub group_names : List (List ℕ)
+group_names = codes "place" ∷ codes "name" ∷ []
+
+abbrev pub add_group_command : Command
+add_group_command = Insert 9 (Values (lit Null ∷ lit Null ∷ col 0 0 ∷ []) 3)
+
+abbrev pub clear_groups_terms : List Term
+clear_groups_terms = []
+
+abbrev pub clear_groups_query : Query
+clear_groups_query = query_of (inner 17 end) clear_groups_terms (col 1 0 ∷ []) []
+
+-- ---- members
+
+abbrev pub member_columns : List Term
+member_columns = col 1 1 ∷ col 1 2 ∷ col 1 3 ∷ []
+
+abbrev pub member_names : List (List ℕ)
+member_names = codes "grp" ∷ codes "place" ∷ codes "clerk" ∷ []
+
+abbrev pub add_member_command : Command
+add_member_command = Insert 10 (Values (lit Null ∷ col 0 0 ∷ col 0 1 ∷ col 0 2 ∷ []) 4)
+
+abbrev pub members_terms : List Term
+members_terms = eq (col 1 1) (col 0 0) ∷ []
+
+abbrev pub by_place : List (Term × Key)
+by_place = (col 1 2, ascending Binary) ∷ []
+
+abbrev pub members_query : Query
+members_query = query_of (inner 19 end) members_terms member_columns by_place
+
+-- ---- messages
+
+abbrev pub find_body_terms : List Term
+find_body_terms = eq (col 1 0) (col 0 0) ∷ []
+
+abbrev pub body_columns : List Term
+body_columns = col 1 0 ∷ col 1 2 ∷ col 1 3 ∷ col 1 4 ∷ col 1 5 ∷ col 1 6 ∷ []
+
+abbrev pub body_names : List (List ℕ)
+body_names = codes "key" ∷ codes "maildrop" ∷ codes "class" ∷ codes "k" ∷ codes "octets" ∷ codes "body" ∷ []
+
+abbrev pub clear_bodies_terms : List Term
+clear_bodies_terms = []
+
+abbrev pub clear_bodies_query : Query
+clear_bodies_query = query_of (inner 10 end) clear_bodies_terms (col 1 0 ∷ []) []
 
 -- ---- sqlite_sequence
 

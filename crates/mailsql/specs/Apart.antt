@@ -1,7 +1,7 @@
 -- What the keys of the tables and the references between them make sure of in the rows of every store of ours.
 use Rattle.std.specs.Prelude.{◌≡◌, Bool, true, not, ◌&&◌, List, [], ◌∷◌, bytes_eq}
 use Rattle.std.specs.List.{list_any, list_all}
-use Rattle.mailsql.specs.Columns.{Mark, Clerk, Count, Deposit, Message, Sheet, Rule, Rows}
+use Rattle.mailsql.specs.Columns.{Mark, Clerk, Count, Deposit, Message, Sheet, Rule, Group, Member, Rows}
 use Rattle.mailsql.specs.Rows.{same_int, has_name}
 
 -- no two of them are the same, as the test tells it
@@ -9,7 +9,7 @@ abbrev pub are_apart : {X : Type 0} → (X → X → Bool) → List X → Bool
 are_apart same [] = true
 are_apart same (x ∷ xs) = not (list_any (same x) xs) && are_apart same xs
 
--- No two rows of a table have one key; each message has its maildrop, and each sheet its message.
+-- No two rows of a table have one key; each message has its maildrop, each sheet its message, and each member its group.
 pub record AreApart (rows : Rows) : Type 0 where
   pub marks : are_apart (λ (a b : Mark). bytes_eq a.name b.name) rows.marks ≡ true
   pub clerks : are_apart (λ (a b : Clerk). bytes_eq a.name b.name) rows.clerks ≡ true
@@ -22,3 +22,8 @@ pub record AreApart (rows : Rows) : Type 0 where
   pub sheets : are_apart (λ (a b : Sheet). same_int a.mail b.mail && same_int a.place b.place) rows.sheets ≡ true
   pub parents : list_all (λ (m : Message). has_name m.maildrop rows.maildrops) rows.messages ≡ true
   pub owners : list_all (λ (s : Sheet). list_any (λ (m : Message). same_int m.key s.mail) rows.messages) rows.sheets ≡ true
+  pub groups : are_apart (λ (a b : Group). bytes_eq a.name b.name) rows.groups ≡ true
+  pub group_places : are_apart (λ (a b : Group). same_int a.place b.place) rows.groups ≡ true
+  pub members : are_apart (λ (a b : Member). same_int a.group b.group && same_int a.place b.place) rows.members ≡ true
+  pub member_clerks : are_apart (λ (a b : Member). same_int a.group b.group && bytes_eq a.clerk b.clerk) rows.members ≡ true
+  pub member_groups : list_all (λ (m : Member). list_any (λ (g : Group). same_int g.place m.group) rows.groups) rows.members ≡ true

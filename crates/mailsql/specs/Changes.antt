@@ -1,12 +1,20 @@
 -- The changes that the statements make, each of one table or two: a new row comes after the others.
 use Rattle.std.specs.Prelude.{◌≡◌, ◌≤◌, ℕ, ℤ, List, [], ◌∷◌, ◌++◌, fold, pos, ◌+ℤ◌, ◌<ℤ◌, bytes_eq, filter, not}
 use Rattle.std.specs.List.{AllByRecursion}
-use Rattle.mailsql.specs.Rows.{Name, Mark, Clerk, Count, Deposit, Message, Sheet, Rule, Rows, is_clerk, is_count, is_message, is_sheet_of}
+use Rattle.mailsql.specs.Rows.{Name, Mark, Clerk, Count, Deposit, Message, Sheet, Rule, Group, Member, Rows, is_mark, is_clerk, is_count, is_message, is_sheet_of}
 use Rattle.mailsql.specs.Sheets.{first_sheets, sheets_of, sheet_count}
 
 -- a mark comes
 abbrev pub AddsMark : Mark → Rows → Rows → Type 0
 AddsMark mark old new = new ≡ record old { marks = old.marks ++ mark ∷ [] }
+
+-- the mark of this name goes
+abbrev pub DropsMark : Name → Rows → Rows → Type 0
+DropsMark name old new = new ≡ record old { marks = filter (λ m. not (is_mark name m)) old.marks }
+
+-- the mark comes in place of the one of its name
+abbrev pub PutsMark : Mark → Rows → Rows → Type 0
+PutsMark mark old new = new ≡ record old { marks = filter (λ m. not (is_mark mark.name m)) old.marks ++ mark ∷ [] }
 
 -- a clerk comes
 abbrev pub AddsClerk : Clerk → Rows → Rows → Type 0
@@ -88,3 +96,23 @@ AddsRule name effect clerk maildrop class actions old new =
 -- every rule goes
 abbrev pub ClearsRules : Rows → Rows → Type 0
 ClearsRules old new = new ≡ record old { rules = [] }
+
+-- one above the last place
+abbrev pub next_group : List Group → ℤ
+next_group = fold (λ _ g. g.place +ℤ pos 1) (pos 1)
+
+-- a group comes after the others, without a member
+abbrev pub AddsGroup : Name → Rows → Rows → Type 0
+AddsGroup name old new = new ≡ record old { groups = old.groups ++ record { place = next_group old.groups; name = name } ∷ [] }
+
+-- a member comes
+abbrev pub AddsMember : Member → Rows → Rows → Type 0
+AddsMember member old new = new ≡ record old { members = old.members ++ member ∷ [] }
+
+-- every group goes, and every member with its group
+abbrev pub ClearsGroups : Rows → Rows → Type 0
+ClearsGroups old new = new ≡ record old { groups = []; members = [] }
+
+-- every message of version 1 goes
+abbrev pub ClearsBodies : Rows → Rows → Type 0
+ClearsBodies old new = new ≡ record old { bodies = [] }

@@ -1,10 +1,14 @@
 -- The rows of the store's tables as records: which column of a row each field is, what it must hold, and the records of every table.
-use Rattle.std.specs.Prelude.{◌≡◌, ◌⊎◌, ℕ, ℤ, List, [], map}
+use Rattle.std.specs.Prelude.{◌≡◌, ◌⊎◌, ℕ, ℤ, Bool, true, false, ◌&&◌, List, [], map, bytes_eq, codes}
+use Rattle.std.specs.List.{list_any}
 use Rattle.sqlite_value.specs.declared.value.Value.TheVariants.{Text, Blob}
 use Rattle.sqlite_value.specs.Order.{Row, column, bytes}
 use Rattle.sqlite_trees.specs.Tree.{Trees, rowid}
+use Rattle.sqlite_trees.specs.Objects.{catalog_tree}
+use Rattle.sqlite_catalog.specs.Listing.{is_table_row}
 use Rattle.sqlite_rules.specs.Edit.{id_in}
 use Rattle.sqlite.specs.Values.{IsInt}
+use Rattle.mailsql.specs.Tables.{mail_tree}
 pub use Rattle.mailsql.specs.declared.rows.Mark.{Mark}
 pub use Rattle.mailsql.specs.declared.rows.Clerk.{Clerk}
 pub use Rattle.mailsql.specs.declared.rows.Count.{Count}
@@ -12,6 +16,9 @@ pub use Rattle.mailsql.specs.declared.rows.Deposit.{Deposit}
 pub use Rattle.mailsql.specs.declared.rows.Message.{Message}
 pub use Rattle.mailsql.specs.declared.rows.Sheet.{Sheet}
 pub use Rattle.mailsql.specs.declared.rows.Rule.{Rule}
+pub use Rattle.mailsql.specs.declared.rows.Group.{Group}
+pub use Rattle.mailsql.specs.declared.rows.Member.{Member}
+pub use Rattle.mailsql.specs.declared.rows.Body.{Body}
 
 -- a name as its octets
 abbrev pub Name : Type 0
@@ -97,7 +104,31 @@ rule_of row = record { place = id_in (rowid row); name = text_at row 2; effect =
 abbrev pub HoldsRule : Row → Type 0
 HoldsRule row = HoldsNumber row 0 × HoldsOctets row 2 × HoldsNumber row 3 × HoldsOctets row 4 × HoldsOctets row 5 × HoldsOctets row 6 × HoldsNumber row 7
 
--- the records of every table, each in the order of the rowids
+-- a row of groups, whose place is its rowid
+abbrev pub group_of : Row → Group
+group_of row = record { place = id_in (rowid row); name = text_at row 2 }
+
+-- its columns can be read so
+abbrev pub HoldsGroup : Row → Type 0
+HoldsGroup row = HoldsNumber row 0 × HoldsOctets row 2
+
+-- a row of members
+abbrev pub member_of : Row → Member
+member_of row = record { group = number_at row 1; place = number_at row 2; clerk = text_at row 3 }
+
+-- its columns can be read so
+abbrev pub HoldsMember : Row → Type 0
+HoldsMember row = HoldsNumber row 1 × HoldsNumber row 2 × HoldsOctets row 3
+
+-- a row of the messages of version 1, whose key is its rowid
+abbrev pub body_of : Row → Body
+body_of row = record { head = message_of row; body = text_at row 6 }
+
+-- its columns can be read so
+abbrev pub HoldsBody : Row → Type 0
+HoldsBody row = HoldsMessage row × HoldsOctets row 6
+
+-- the records of every table, each in the order of the rowids; a store that was not carried over has no bodies
 pub record Rows : Type 0 where
   pub marks : List Mark
   pub clerks : List Clerk
@@ -107,23 +138,42 @@ pub record Rows : Type 0 where
   pub messages : List Message
   pub rules : List Rule
   pub sheets : List Sheet
+  pub groups : List Group
+  pub members : List Member
+  pub bodies : List Body
 
--- the records that the trees hold
-abbrev pub rows_in : Trees → Rows
-rows_in db = record {
+-- the messages of version 1 that are still there
+abbrev pub bodies_at : (carried : Bool) → Trees → List Body
+bodies_at false db = []
+bodies_at true db = map body_of (db 10)
+
+-- the records that the trees hold, those of a store that was carried over from version 1 or of another
+abbrev pub rows_at : (carried : Bool) → Trees → Rows
+rows_at carried db = record {
   marks = map mark_of (db 0);
   clerks = map clerk_of (db 2);
   maildrops = map maildrop_of (db 4);
   counts = map count_of (db 6);
   deposits = map deposit_of (db 8);
-  messages = map message_of (db 10);
+  messages = map message_of (db (mail_tree carried));
   rules = map rule_of (db 13);
   sheets = map sheet_of (db 15);
+  groups = map group_of (db 17);
+  members = map member_of (db 19);
+  bodies = bodies_at carried db;
 }
+
+-- a store was carried over from version 1 where the table of that version's messages is in the list of its trees
+unfoldable pub is_carried : Trees → Bool
+is_carried db = list_any (λ row. is_table_row row && bytes_eq (text_at row 2) (codes "messages")) (db catalog_tree)
+
+-- the records that the trees hold
+abbrev pub rows_in : Trees → Rows
+rows_in db = rows_at (is_carried db) db
 
 -- no table has a row
 abbrev pub no_rows : Rows
-no_rows = record { marks = []; clerks = []; maildrops = []; counts = []; deposits = []; messages = []; rules = []; sheets = [] }
+no_rows = record { marks = []; clerks = []; maildrops = []; counts = []; deposits = []; messages = []; rules = []; sheets = []; groups = []; members = []; bodies = [] }
 
 -- how far AUTOINCREMENT has counted, for each table that it counts for
 abbrev pub sequences_in : Trees → List Mark

@@ -1,5 +1,5 @@
 -- What an error tells: what the statement itself met, in the state that it found.
-use Rattle.std.specs.Prelude.{◌≡◌, ◌⊎◌, ◌<◌, ℕ, ℤ, pos, List, [], ◌∷◌, length, Err, Ok}
+use Rattle.std.specs.Prelude.{◌≡◌, ◌⊎◌, ◌<◌, ℕ, ℤ, pos, Bool, List, [], ◌∷◌, length, Err, Ok}
 use Rattle.std.specs.List.{AllByRecursion}
 use Rattle.sqlite_value.specs.declared.value.Value.TheVariants.{Int, Blob}
 use Rattle.sqlite_trees.specs.declared.store.Store.{Ghosts}
@@ -9,7 +9,7 @@ use Rattle.sqlite.specs.declared.error.Error.{Error}
 use Rattle.sqlite.specs.declared.error.Error.TheVariants.{SqliteFailure}
 use Rattle.sqlite.specs.Held.{Held, state}
 use Rattle.sqlite.specs.State.{State, Executes, FailsToQuery, Shown, QueriesRow}
-use Rattle.mailsql.specs.Tables.{create_texts, create_text, stage}
+use Rattle.mailsql.specs.Tables.{create_texts, create_text, stage, lacked_texts, lacked_text, old_stage}
 use Rattle.mailsql.specs.Rows.{Rows, Changes, IsBare, GoesOn}
 use Rattle.mailsql.specs.Sheets.{sheet_count, octets_at}
 use Rattle.mailsql.specs.Changes.{AddsFirstSheets}
@@ -31,6 +31,12 @@ FailsAfter {S} g Change text params old new e = (between : Held S) × Changes Ch
 abbrev pub FailsToCreate : {S : Type 0} → Ghosts S → Held S → Held S → Error → Type 0
 FailsToCreate {S} g old new e =
     (at : ℕ) × (at < length create_texts) × (between : Held S) × IsBare (stage at) (state g between).now × GoesOn (state g old) (state g between) × FailsToRun (create_text at) [] (state g between) (state g new) e
+
+-- one of the texts that make the tables which an older store lacks met this error, behind those before it
+abbrev pub FailsToComplete : {S : Type 0} → Ghosts S → (carried : Bool) → Held S → Held S → Error → Type 0
+FailsToComplete {S} g carried old new e =
+    (at : ℕ) × (at < length (lacked_texts carried)) × (between : Held S) × ((state g between).now.schema ≡ old_stage carried at) × GoesOn (state g old) (state g between)
+    × FailsToRun (lacked_text carried at) [] (state g between) (state g new) e
 
 -- one of the sheets of a text met this error, behind those before it
 abbrev pub FailsToAddSheets : {S : Type 0} → Ghosts S → ℤ → List ℕ → Held S → Held S → Error → Type 0

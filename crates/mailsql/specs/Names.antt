@@ -9,11 +9,11 @@ use Rattle.sqlite_schema.specs.declared.schema.Table.{Table}
 use Rattle.sqlite_schema.specs.declared.schema.Schema.{Schema}
 use Rattle.sqlite_schema.specs.Names.{same_name}
 use Rattle.sqlite_schema.specs.Rules.{kind_code}
-use Rattle.mailsql.specs.Tables.{column_of, table_of, meta_at, clerks_at, maildrops_at, counts_at, deposits_at, mail_at, rules_at, sheets_at}
+use Rattle.mailsql.specs.Tables.{column_of, table_of, meta_at, clerks_at, maildrops_at, counts_at, deposits_at, mail_at, rules_at, sheets_at, groups_at, members_at, messages_at}
 
 -- the name is that of one of our tables, but for the case of ASCII letters
 abbrev pub is_our_name : List ℕ → Bool
-is_our_name name = list_any (same_name name) (codes "meta" ∷ codes "clerks" ∷ codes "maildrops" ∷ codes "counts" ∷ codes "deposits" ∷ codes "mail" ∷ codes "rules" ∷ codes "sheets" ∷ [])
+is_our_name name = list_any (same_name name) (codes "meta" ∷ codes "clerks" ∷ codes "maildrops" ∷ codes "counts" ∷ codes "deposits" ∷ codes "mail" ∷ codes "rules" ∷ codes "sheets" ∷ codes "groups" ∷ codes "members" ∷ codes "messages" ∷ [])
 
 -- a table, an index or a view has such a name
 abbrev pub is_taken : Schema → Bool
@@ -63,8 +63,20 @@ is_table ours t = bytes_eq t.name ours.name && are_columns ours.columns t.column
 abbrev pub has_marks : List Table → Bool
 has_marks tables = list_any (is_table (meta_at 0)) tables
 
+-- the tables that stores of every version have are among these
+abbrev pub has_common_columns : List Table → Bool
+has_common_columns tables =
+    list_any (is_table (meta_at 0)) tables && list_any (is_table (clerks_at 2)) tables && list_any (is_table (maildrops_at 4)) tables && list_any (is_table (counts_at 6)) tables
+    && list_any (is_table (deposits_at 8)) tables && list_any (is_table (rules_at 13)) tables
+
+-- the tables of version 1 are among these
+abbrev pub has_first_columns : List Table → Bool
+has_first_columns tables = has_common_columns tables && list_any (is_table (messages_at 10)) tables
+
+-- the tables of version 2 are among these
+abbrev pub has_second_columns : List Table → Bool
+has_second_columns tables = has_common_columns tables && list_any (is_table (mail_at 10)) tables && list_any (is_table (sheets_at 15)) tables
+
 -- each of our tables is among these
 abbrev pub has_columns : List Table → Bool
-has_columns tables =
-    list_any (is_table (meta_at 0)) tables && list_any (is_table (clerks_at 2)) tables && list_any (is_table (maildrops_at 4)) tables && list_any (is_table (counts_at 6)) tables
-    && list_any (is_table (deposits_at 8)) tables && list_any (is_table (mail_at 10)) tables && list_any (is_table (rules_at 13)) tables && list_any (is_table (sheets_at 15)) tables
+has_columns tables = has_second_columns tables && list_any (is_table (groups_at 17)) tables && list_any (is_table (members_at 19)) tables

@@ -1,6 +1,6 @@
 -- What a statement does to the typed rows of a store, what an error leaves of them, and what a stop may leave.
 use Rattle.std.specs.Prelude.{◌≡◌, ◌⊎◌, ℤ, Bool, true, false, List, [], if◌then◌else◌, IsTrue, bytes_eq, ◌&&◌}
-use Rattle.std.specs.Ordering.{is_eq, int_cmp, nat_cmp}
+use Rattle.std.specs.Ordering.{is_eq, int_cmp, nat_cmp, on}
 use Rattle.std.specs.Cmp.Lexicographic.{slice_cmp}
 use Rattle.std.specs.List.{list_any, AllByRecursion}
 use Rattle.std.specs.List.Sorted.{IsPermutation, IsSorted}
@@ -11,14 +11,14 @@ use Rattle.sqlite_schema.specs.declared.schema.Schema.{Schema}
 use Rattle.sqlite_value.specs.Order.{Row}
 use Rattle.sqlite.specs.Effect.{Database}
 use Rattle.sqlite.specs.State.{State, Shows, IsUnchanged, IsRolledBack}
-use Rattle.mailsql.specs.Tables.{mail_schema, no_schema}
-pub use Rattle.mailsql.specs.Columns.{Mark, Clerk, Count, Deposit, Message, Sheet, Rule, Name, text_at, number_at, mark_of, clerk_of, maildrop_of, count_of, deposit_of, message_of, sheet_of, rule_of, HoldsOctets, HoldsNumber, HoldsMark, HoldsClerk, HoldsName, HoldsCount, HoldsDeposit, HoldsMessage, HoldsSheet, HoldsRule, Rows, rows_in, no_rows, sequences_in}
+use Rattle.mailsql.specs.Tables.{schema_of, old_schema, no_schema}
+pub use Rattle.mailsql.specs.Columns.{Mark, Clerk, Count, Deposit, Message, Sheet, Rule, Group, Member, Body, Name, text_at, number_at, mark_of, clerk_of, maildrop_of, count_of, deposit_of, message_of, sheet_of, rule_of, group_of, member_of, body_of, HoldsOctets, HoldsNumber, HoldsMark, HoldsClerk, HoldsName, HoldsCount, HoldsDeposit, HoldsMessage, HoldsSheet, HoldsRule, HoldsGroup, HoldsMember, HoldsBody, Rows, rows_at, bodies_at, is_carried, rows_in, no_rows, sequences_in}
 
 -- ---- a store of ours
 
 -- the schema is that of the store's tables
 abbrev pub IsOurs : Database → Type 0
-IsOurs db = db.schema ≡ mail_schema
+IsOurs db = db.schema ≡ schema_of (is_carried db.trees)
 
 -- the rowids of a table's rows are integers, and rise
 abbrev pub AreKeyed : List Row → Type 0
@@ -30,7 +30,7 @@ AreKept tables db = AllByRecursion (λ t. AreKeyed (db t.tree)) tables
 
 -- the tables are ours, and their rows are in order
 abbrev pub IsKept : Database → Type 0
-IsKept db = IsOurs db × AreKept mail_schema.tables db.trees
+IsKept db = IsOurs db × AreKept (schema_of (is_carried db.trees)).tables db.trees
 
 -- so it is while the connection is open
 abbrev pub HasTables : State → Type 0
@@ -39,6 +39,26 @@ HasTables s = IsTrue s.is_open → IsKept s.now
 -- the connection is open, over a store of ours
 abbrev pub IsReady : State → Type 0
 IsReady s = IsTrue s.is_open × IsKept s.now
+
+-- ---- an older store
+
+-- the schema is that of the tables of version 2 or, with its messages, of version 1
+abbrev pub IsOldSchema : Database → Type 0
+IsOldSchema db = db.schema ≡ old_schema (is_carried db.trees)
+
+-- and their rows are in order
+abbrev pub IsOld : Database → Type 0
+IsOld db = IsOldSchema db × AreKept (old_schema (is_carried db.trees)).tables db.trees
+
+-- so it is while the connection is open
+abbrev pub HasOldTables : State → Type 0
+HasOldTables s = IsTrue s.is_open → IsOld s.now
+
+-- a transaction is under way over such a store
+pub record IsBegunOn (s : State) : Type 0 where
+  pub is_open : IsTrue s.is_open
+  pub inside : IsTrue s.in_transaction
+  pub old : IsOld s.now
 
 -- ---- a statement
 
@@ -94,6 +114,18 @@ pub record MakesTables (old new : State) : Type 0 where
   pub rows : rows_in new.now.trees ≡ no_rows
   pub on : GoesOn old new
 
+-- the rows of an older store, with the tables that it lacks empty; of a store of version 1 these are mail and sheets too
+abbrev pub completed : (carried : Bool) → Rows → Rows
+completed false rows = record rows { groups = []; members = [] }
+completed true rows = record rows { messages = []; sheets = []; groups = []; members = [] }
+
+-- the tables that it lacks are made, and empty, and the others are as they were
+pub record CompletesTables (old new : State) : Type 0 where
+  pub kept : IsKept new.now
+  pub same : is_carried new.now.trees ≡ is_carried old.now.trees
+  pub rows : rows_in new.now.trees ≡ completed (is_carried old.now.trees) (rows_in old.now.trees)
+  pub on : GoesOn old new
+
 -- ---- what is looked for
 
 -- equal numbers
@@ -135,6 +167,19 @@ is_sheet mail place s = same_int s.mail mail && same_int s.place place
 -- the sheet is of the message that has this key and is in the maildrop
 abbrev pub is_sheet_of : ℤ → Name → List Message → Sheet → Bool
 is_sheet_of key maildrop messages s = list_any (λ m. is_message key maildrop m && same_int s.mail m.key) messages
+
+-- the message of version 1 has this key
+abbrev pub is_body : ℤ → Body → Bool
+is_body key b = same_int b.head.key key
+
+-- the member is the group's
+abbrev pub is_member_of : ℤ → Member → Bool
+is_member_of group m = same_int m.group group
+
+-- the members, in the order of their places
+pub record IsByPlace (members sorted : List Member) : Type 0 where
+  pub same : IsPermutation members sorted
+  pub rise : IsSorted (on (λ (m : Member). m.place) int_cmp) sorted
 
 -- the names, in the order of their octets
 pub record IsByName (names sorted : List Name) : Type 0 where

@@ -21,6 +21,10 @@ rollback_text = codes "ROLLBACK"
 abbrev pub add_mark_text : List ℕ
 add_mark_text = codes "INSERT INTO meta (name, value) VALUES (?1, ?2)"
 
+-- the mark of a name goes
+abbrev pub drop_mark_text : List ℕ
+drop_mark_text = codes "DELETE FROM meta WHERE name = ?1"
+
 -- the mark of a name
 abbrev pub find_mark_text : List ℕ
 find_mark_text = codes "SELECT name, value FROM meta WHERE name = ?1 ORDER BY rowid"
@@ -162,6 +166,48 @@ clear_rules_text = codes "DELETE FROM rules"
 -- every rule
 abbrev pub all_rules_text : List ℕ
 all_rules_text = codes "SELECT place, name, effect, clerk, maildrop, class, actions FROM rules ORDER BY place"
+
+-- ---- groups
+
+-- a group comes
+abbrev pub add_group_text : List ℕ
+add_group_text = codes "INSERT INTO groups (name) VALUES (?1)"
+
+-- every group goes
+abbrev pub clear_groups_text : List ℕ
+clear_groups_text = codes "DELETE FROM groups"
+
+-- every group
+abbrev pub all_groups_text : List ℕ
+all_groups_text = codes "SELECT place, name FROM groups ORDER BY place"
+
+-- ---- members
+
+-- a member comes
+abbrev pub add_member_text : List ℕ
+add_member_text = codes "INSERT INTO members (grp, place, clerk) VALUES (?1, ?2, ?3)"
+
+-- the members of a group, in order
+abbrev pub members_text : List ℕ
+members_text = codes "SELECT grp, place, clerk FROM members WHERE grp = ?1 ORDER BY place"
+
+-- every member
+abbrev pub all_members_text : List ℕ
+all_members_text = codes "SELECT grp, place, clerk FROM members ORDER BY rowid"
+
+-- ---- messages, the table of version 1
+
+-- every message, without its body
+abbrev pub old_messages_text : List ℕ
+old_messages_text = codes "SELECT key, maildrop, class, k, octets FROM messages ORDER BY key"
+
+-- a message with its body
+abbrev pub find_body_text : List ℕ
+find_body_text = codes "SELECT key, maildrop, class, k, octets, body FROM messages WHERE key = ?1 ORDER BY key"
+
+-- every message goes
+abbrev pub clear_bodies_text : List ℕ
+clear_bodies_text = codes "DELETE FROM messages"
 
 -- ---- sqlite_sequence
 

@@ -1,6 +1,6 @@
 -- The tables of a store: the text that makes each, what the text defines, and the schema that the texts make in their order.
--- The layout is version 2, with mail and sheets; the table messages of version 1 stands at the end, for the carry-over.
-use Rattle.std.specs.Prelude.{ℕ, suc, List, [], ◌∷◌, ◌++◌, Bool, true, false, Some, None, Option, codes, slice_index_or}
+-- The layout is version 3. Version 2 has no groups and no members; version 1 has messages in place of mail and sheets.
+use Rattle.std.specs.Prelude.{ℕ, zero, suc, List, [], ◌∷◌, ◌++◌, Bool, true, false, Some, None, Option, codes, slice_index_or, length, drop}
 use Rattle.sqlite_value.specs.declared.keys.Collation.TheVariants.{Binary}
 use Rattle.sqlite_value.specs.declared.keys.Order.{Order}
 use Rattle.sqlite_value.specs.declared.value.Value.TheVariants.{Null}
@@ -123,6 +123,39 @@ rules_at tree = table_of (codes "rules") tree
     (column_of (codes "place") kind.Integer false ∷ column_of (codes "name") kind.Text true ∷ column_of (codes "effect") kind.Integer true ∷ column_of (codes "clerk") kind.Text true ∷ column_of (codes "maildrop") kind.Text true ∷ column_of (codes "class") kind.Text true ∷ column_of (codes "actions") kind.Integer true ∷ [])
     (Some 0) (0 ∷ []) ((2 ∷ []) ∷ []) (plain_order ∷ []) [] false
 
+-- the messages of version 1, with their bodies in one column, in place of mail and sheets
+abbrev pub messages_text : List ℕ
+messages_text = codes "CREATE TABLE messages (key INTEGER PRIMARY KEY AUTOINCREMENT, maildrop TEXT NOT NULL REFERENCES maildrops, class TEXT NOT NULL, k INTEGER NOT NULL, octets INTEGER NOT NULL, body BLOB NOT NULL, UNIQUE (maildrop, class, k)) STRICT"
+
+-- what the text makes, in this tree
+abbrev pub messages_at : ℕ → Table
+messages_at tree = table_of (codes "messages") tree
+    (column_of (codes "key") kind.Integer false ∷ column_of (codes "maildrop") kind.Text true ∷ column_of (codes "class") kind.Text true ∷ column_of (codes "k") kind.Integer true ∷ column_of (codes "octets") kind.Integer true ∷ column_of (codes "body") kind.Blob true ∷ [])
+    (Some 0) (0 ∷ []) ((2 ∷ 3 ∷ 4 ∷ []) ∷ []) (plain_order ∷ []) (to_maildrops ∷ []) true
+
+-- the groups of clerks that the policy names
+abbrev pub groups_text : List ℕ
+groups_text = codes "CREATE TABLE groups (place INTEGER PRIMARY KEY, name TEXT NOT NULL UNIQUE) STRICT"
+
+-- what the text makes, in this tree
+abbrev pub groups_at : ℕ → Table
+groups_at tree = table_of (codes "groups") tree (column_of (codes "place") kind.Integer false ∷ column_of (codes "name") kind.Text true ∷ [])
+    (Some 0) (0 ∷ []) ((2 ∷ []) ∷ []) (plain_order ∷ []) [] false
+
+-- the members of the groups, which go with them
+abbrev pub members_text : List ℕ
+members_text = codes "CREATE TABLE members (grp INTEGER REFERENCES groups ON DELETE CASCADE, place INTEGER, clerk TEXT NOT NULL, PRIMARY KEY (grp, place), UNIQUE (grp, clerk)) STRICT"
+
+-- the group of a member
+abbrev pub to_groups : Reference
+to_groups = record { columns = 1 ∷ []; parent = codes "groups"; parent_columns = []; on_delete = Cascade; on_update = NoAction; is_deferred = false }
+
+-- what the text makes, in this tree
+abbrev pub members_at : ℕ → Table
+members_at tree = table_of (codes "members") tree
+    (column_of (codes "grp") kind.Integer true ∷ column_of (codes "place") kind.Integer true ∷ column_of (codes "clerk") kind.Text true ∷ [])
+    None (1 ∷ 2 ∷ []) ((1 ∷ 2 ∷ []) ∷ (1 ∷ 3 ∷ []) ∷ []) (plain_order ∷ plain_order ∷ []) (to_groups ∷ []) false
+
 -- a column without a type
 abbrev loose : List ℕ → Column
 loose name = record { name = name; kind = kind.Any; is_strict = false; not_null = false; default = Null; collation = Binary }
@@ -135,9 +168,63 @@ sequence_at tree = table_of (codes "sqlite_sequence") tree (loose (codes "name")
 abbrev pub key_of : List ℕ → ℕ → List ℕ → Index
 key_of table tree places = record { name = codes "sqlite_autoindex_" ++ (table ++ codes "_1"); tree = suc tree; table = tree; columns = places; order = plain_order; is_unique = true }
 
+-- the index of the key that keeps the clerks of a group apart, beside that of its places
+abbrev pub clerks_key_of : ℕ → Index
+clerks_key_of tree = record { name = codes "sqlite_autoindex_members_2"; tree = suc (suc tree); table = tree; columns = 1 ∷ 3 ∷ []; order = plain_order; is_unique = true }
+
+-- The tables of a store stand in one of two orders. In a store that was carried over from version 1, the table messages of that version is
+-- there still, without rows, and mail came last; in any other, mail stands where messages stands there.
+
+-- the messages of version 1, or mail: the name of the table in the sixth place
+abbrev pub sixth_name : (carried : Bool) → List ℕ
+sixth_name false = codes "mail"
+sixth_name true = codes "messages"
+
+-- its columns
+abbrev pub sixth_columns : (carried : Bool) → List Column
+sixth_columns false = (mail_at 10).columns
+sixth_columns true = (messages_at 10).columns
+
+-- the table
+abbrev pub sixth : (carried : Bool) → Table
+sixth carried = table_of (sixth_name carried) 10 (sixth_columns carried) (Some 0) (0 ∷ []) ((2 ∷ 3 ∷ 4 ∷ []) ∷ []) (plain_order ∷ []) (to_maildrops ∷ []) true
+
+-- the table that came last
+abbrev pub last_tables : (carried : Bool) → List Table
+last_tables false = []
+last_tables true = mail_at 22 ∷ []
+
+-- and its index
+abbrev pub last_indexes : (carried : Bool) → List Index
+last_indexes false = []
+last_indexes true = key_of (codes "mail") 22 (2 ∷ 3 ∷ 4 ∷ []) ∷ []
+
+-- the tree of mail
+abbrev pub mail_tree : (carried : Bool) → ℕ
+mail_tree false = 10
+mail_tree true = 22
+
+-- the place of mail among the tables
+abbrev pub mail_place : (carried : Bool) → ℕ
+mail_place false = 5
+mail_place true = 11
+
 -- the store's tables, their indexes, and no view
+abbrev pub schema_of : (carried : Bool) → Schema
+schema_of carried = record {
+  tables = meta_at 0 ∷ clerks_at 2 ∷ maildrops_at 4 ∷ counts_at 6 ∷ deposits_at 8 ∷ sixth carried ∷ sequence_at 12 ∷ rules_at 13 ∷ sheets_at 15 ∷ groups_at 17 ∷ members_at 19 ∷ last_tables carried;
+  indexes = key_of (codes "meta") 0 (1 ∷ []) ∷ key_of (codes "clerks") 2 (1 ∷ []) ∷ key_of (codes "maildrops") 4 (1 ∷ []) ∷ key_of (codes "counts") 6 (1 ∷ 2 ∷ []) ∷ key_of (codes "deposits") 8 (1 ∷ 2 ∷ [])
+      ∷ key_of (sixth_name carried) 10 (2 ∷ 3 ∷ 4 ∷ []) ∷ key_of (codes "rules") 13 (2 ∷ []) ∷ key_of (codes "sheets") 15 (1 ∷ 2 ∷ []) ∷ key_of (codes "groups") 17 (2 ∷ []) ∷ key_of (codes "members") 19 (1 ∷ 2 ∷ []) ∷ clerks_key_of 19 ∷ last_indexes carried;
+  views = [];
+}
+
+-- those of a store that was made so
 abbrev pub mail_schema : Schema
-mail_schema = record {
+mail_schema = schema_of false
+
+-- the tables of version 2: ours without the groups
+abbrev pub second_schema : Schema
+second_schema = record {
   tables = meta_at 0 ∷ clerks_at 2 ∷ maildrops_at 4 ∷ counts_at 6 ∷ deposits_at 8 ∷ mail_at 10 ∷ sequence_at 12 ∷ rules_at 13 ∷ sheets_at 15 ∷ [];
   indexes = key_of (codes "meta") 0 (1 ∷ []) ∷ key_of (codes "clerks") 2 (1 ∷ []) ∷ key_of (codes "maildrops") 4 (1 ∷ []) ∷ key_of (codes "counts") 6 (1 ∷ 2 ∷ []) ∷ key_of (codes "deposits") 8 (1 ∷ 2 ∷ [])
       ∷ key_of (codes "mail") 10 (2 ∷ 3 ∷ 4 ∷ []) ∷ key_of (codes "rules") 13 (2 ∷ []) ∷ key_of (codes "sheets") 15 (1 ∷ 2 ∷ []) ∷ [];
@@ -152,7 +239,7 @@ no_schema = record { tables = []; indexes = []; views = [] }
 
 -- the texts in their order
 abbrev pub create_texts : List (List ℕ)
-create_texts = meta_text ∷ clerks_text ∷ maildrops_text ∷ counts_text ∷ deposits_text ∷ mail_text ∷ rules_text ∷ sheets_text ∷ []
+create_texts = meta_text ∷ clerks_text ∷ maildrops_text ∷ counts_text ∷ deposits_text ∷ mail_text ∷ rules_text ∷ sheets_text ∷ groups_text ∷ members_text ∷ []
 
 -- after the text of meta
 abbrev pub with_meta : Schema
@@ -186,9 +273,17 @@ with_rules = created with_mail (rules_at 0)
 abbrev pub with_sheets : Schema
 with_sheets = created with_rules (sheets_at 0)
 
+-- after the text of groups
+abbrev pub with_groups : Schema
+with_groups = created with_sheets (groups_at 0)
+
+-- after the text of members
+abbrev pub with_members : Schema
+with_members = created with_groups (members_at 0)
+
 -- the schema before each, and after the last
 abbrev pub stages : List Schema
-stages = no_schema ∷ with_meta ∷ with_clerks ∷ with_maildrops ∷ with_counts ∷ with_deposits ∷ with_mail ∷ with_rules ∷ with_sheets ∷ []
+stages = no_schema ∷ with_meta ∷ with_clerks ∷ with_maildrops ∷ with_counts ∷ with_deposits ∷ with_mail ∷ with_rules ∷ with_sheets ∷ with_groups ∷ with_members ∷ []
 
 -- the text at a place of that order
 abbrev pub create_text : ℕ → List ℕ
@@ -200,12 +295,46 @@ stage at = slice_index_or stages at no_schema
 
 -- ---- version 1
 
--- the messages with their bodies in one column, in place of mail and sheets
-abbrev pub messages_text : List ℕ
-messages_text = codes "CREATE TABLE messages (key INTEGER PRIMARY KEY AUTOINCREMENT, maildrop TEXT NOT NULL REFERENCES maildrops, class TEXT NOT NULL, k INTEGER NOT NULL, octets INTEGER NOT NULL, body BLOB NOT NULL, UNIQUE (maildrop, class, k)) STRICT"
+-- the tables of version 1
+abbrev pub first_schema : Schema
+first_schema = record {
+  tables = meta_at 0 ∷ clerks_at 2 ∷ maildrops_at 4 ∷ counts_at 6 ∷ deposits_at 8 ∷ messages_at 10 ∷ sequence_at 12 ∷ rules_at 13 ∷ [];
+  indexes = key_of (codes "meta") 0 (1 ∷ []) ∷ key_of (codes "clerks") 2 (1 ∷ []) ∷ key_of (codes "maildrops") 4 (1 ∷ []) ∷ key_of (codes "counts") 6 (1 ∷ 2 ∷ []) ∷ key_of (codes "deposits") 8 (1 ∷ 2 ∷ [])
+      ∷ key_of (codes "messages") 10 (2 ∷ 3 ∷ 4 ∷ []) ∷ key_of (codes "rules") 13 (2 ∷ []) ∷ [];
+  views = [];
+}
 
--- what the text makes, in this tree
-abbrev pub messages_at : ℕ → Table
-messages_at tree = table_of (codes "messages") tree
-    (column_of (codes "key") kind.Integer false ∷ column_of (codes "maildrop") kind.Text true ∷ column_of (codes "class") kind.Text true ∷ column_of (codes "k") kind.Integer true ∷ column_of (codes "octets") kind.Integer true ∷ column_of (codes "body") kind.Blob true ∷ [])
-    (Some 0) (0 ∷ []) ((2 ∷ 3 ∷ 4 ∷ []) ∷ []) (plain_order ∷ []) (to_maildrops ∷ []) true
+-- ---- the tables that an older store lacks
+
+-- the tables of an older store: of version 2 or, with its messages, of version 1
+abbrev pub old_schema : (carried : Bool) → Schema
+old_schema false = second_schema
+old_schema true = first_schema
+
+-- the texts of the tables that it lacks, in their order
+abbrev pub lacked_texts : (carried : Bool) → List (List ℕ)
+lacked_texts false = groups_text ∷ members_text ∷ []
+lacked_texts true = sheets_text ∷ groups_text ∷ members_text ∷ mail_text ∷ []
+
+-- what they make
+abbrev pub lacked_tables : (carried : Bool) → List Table
+lacked_tables false = groups_at 0 ∷ members_at 0 ∷ []
+lacked_tables true = sheets_at 0 ∷ groups_at 0 ∷ members_at 0 ∷ mail_at 0 ∷ []
+
+-- the schema once the first so many of these are made
+abbrev pub grown : Schema → List Table → ℕ → Schema
+grown schema tables zero = schema
+grown schema [] (suc n) = schema
+grown schema (t ∷ tables) (suc n) = grown (created schema t) tables n
+
+-- the schema of an older store with the first so many of the tables that it lacks
+abbrev pub old_stage : (carried : Bool) → ℕ → Schema
+old_stage carried at = grown (old_schema carried) (lacked_tables carried) at
+
+-- the text at a place of their order
+abbrev pub lacked_text : (carried : Bool) → ℕ → List ℕ
+lacked_text carried at = slice_index_or (lacked_texts carried) at []
+
+-- the first so many of these tables, in their trees
+abbrev pub fresh_tables : (carried : Bool) → ℕ → List Table
+fresh_tables carried at = drop (length (old_schema carried).tables) (old_stage carried at).tables

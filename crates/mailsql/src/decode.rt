@@ -9,7 +9,7 @@ ghost use Rattle.sqlite_rules.specs.Edit.{id_in};
 ghost use Rattle.mailsql.specs.Rows.{HoldsOctets, HoldsNumber};
 ghost use Rattle.mailsql.specs.Errors.{IsWantOfMemory};
 
-use crate::rows::{Clerk, Count, Deposit, Mark, Message, Rule, Sheet};
+use crate::rows::{Body, Clerk, Count, Deposit, Group, Mark, Member, Message, Rule, Sheet};
 use sqlite::types::Type;
 use sqlite::{Error, Row};
 use sqlite_value::value::{Bytes, ValueRef};
@@ -191,6 +191,58 @@ impl Stored for Rule {
             clerk: octets(alloc, row, 3)?,
             maildrop: octets(alloc, row, 4)?,
             class: octets(alloc, row, 5)?,
+        })
+    }
+}
+
+impl Stored for Group {
+    ghost use Rattle.std.specs.Prelude.{◌∷◌};
+    ghost use Rattle.sqlite_value.specs.Order.{column};
+    ghost use Rattle.mailsql.specs.Rows.{group_of, HoldsGroup};
+
+    ghost stored = { λ row. group_of (column row 0 ∷ row) };
+
+    ghost holds = { λ row. HoldsGroup (column row 0 ∷ row) };
+
+    fn read(alloc: Global, row: &Row) -> Result<Group, Error> {
+        Ok(Group {
+            place: number(row, 0)?,
+            name: octets(alloc, row, 1)?,
+        })
+    }
+}
+
+impl Stored for Member {
+    ghost use Rattle.std.specs.Prelude.{◌∷◌};
+    ghost use Rattle.sqlite_value.specs.declared.value.Value.TheVariants.{Null};
+    ghost use Rattle.mailsql.specs.Rows.{member_of, HoldsMember};
+
+    ghost stored = { λ row. member_of (Null ∷ row) };
+
+    ghost holds = { λ row. HoldsMember (Null ∷ row) };
+
+    fn read(alloc: Global, row: &Row) -> Result<Member, Error> {
+        Ok(Member {
+            group: number(row, 0)?,
+            place: number(row, 1)?,
+            clerk: octets(alloc, row, 2)?,
+        })
+    }
+}
+
+impl Stored for Body {
+    ghost use Rattle.std.specs.Prelude.{◌∷◌};
+    ghost use Rattle.sqlite_value.specs.Order.{column};
+    ghost use Rattle.mailsql.specs.Rows.{body_of, HoldsBody};
+
+    ghost stored = { λ row. body_of (column row 0 ∷ row) };
+
+    ghost holds = { λ row. HoldsBody (column row 0 ∷ row) };
+
+    fn read(alloc: Global, row: &Row) -> Result<Body, Error> {
+        Ok(Body {
+            head: Message::read(alloc, row)?,
+            body: octets(alloc, row, 5)?,
         })
     }
 }

@@ -8,10 +8,12 @@
 //! tables, where the disk returned what was written.
 #![tactic(auto)]
 
+pub mod bodies;
 pub mod clerks;
 pub mod counts;
 mod decode;
 pub mod deposits;
+pub mod groups;
 pub mod mail;
 pub mod maildrops;
 pub mod meta;

@@ -65,3 +65,25 @@ pub struct Rule {
     pub class: Bytes,
     pub actions: i64,
 }
+
+/// A row of `groups`: a group of clerks that the policy names. Groups are in the order of their places.
+#[derive(Drop)]
+pub struct Group {
+    pub place: i64,
+    pub name: Bytes,
+}
+
+/// A row of `members`: a clerk's name in a group, which is given by its place. The members of a group are in the order of their places.
+#[derive(Drop)]
+pub struct Member {
+    pub group: i64,
+    pub place: i64,
+    pub clerk: Bytes,
+}
+
+/// A row of `messages`, as version 1 has it: a message that is present, with its octets.
+#[derive(Drop)]
+pub struct Body {
+    pub head: Message,
+    pub body: Bytes,
+}

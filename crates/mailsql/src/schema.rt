@@ -4,9 +4,9 @@ ghost use Rattle.std.specs.Prelude.{◌≡◌, true, false, ◌||◌, map, bytes
 ghost use Rattle.std.specs.List.{list_any};
 ghost use Rattle.sqlite.specs.Held.{state};
 ghost use Rattle.mailsql.specs.Apart.{AreApart};
-ghost use Rattle.mailsql.specs.Rows.{IsOurs, IsReady, rows_in};
-ghost use Rattle.mailsql.specs.Tables.{no_schema};
-ghost use Rattle.mailsql.specs.Names.{is_our_name, is_taken, is_kind, is_column, are_columns, is_table, has_keys, are_places, has_marks, has_columns, made, table_made};
+ghost use Rattle.mailsql.specs.Rows.{IsOurs, IsOldSchema, IsReady, rows_in};
+ghost use Rattle.mailsql.specs.Tables.{no_schema, first_schema, second_schema, members_at};
+ghost use Rattle.mailsql.specs.Names.{is_our_name, is_taken, is_kind, is_column, are_columns, is_table, has_keys, are_places, has_marks, has_common_columns, has_first_columns, has_second_columns, has_columns, made, table_made};
 
 use sqlite::{Alter, Connection};
 use sqlite_schema::names::same_name;
@@ -24,6 +24,9 @@ fn is_our_name(name: &[u8]) -> bool
         | same_name(name, b"mail")
         | same_name(name, b"rules")
         | same_name(name, b"sheets")
+        | same_name(name, b"groups")
+        | same_name(name, b"members")
+        | same_name(name, b"messages")
 }
 
 fn has_our_table(tables: &[Table]) -> bool
@@ -61,6 +64,7 @@ pub fn is_taken<S: Alter>(conn: &Connection<S>) -> bool
     ensures value { result ≡ is_taken (state S.Store conn.now).now.schema }
     ensures ours { IsOurs (state S.Store conn.now).now → result ≡ true }
     ensures none { (state S.Store conn.now).now.schema ≡ no_schema → result ≡ false }
+    ensures old { IsOldSchema (state S.Store conn.now).now → result ≡ true }
 {
     takes_our_name(conn.schema())
 }
@@ -146,6 +150,15 @@ const MAIL: [Made; 5] = [
     (b"octets", Kind::Integer, true),
 ];
 
+const MESSAGES: [Made; 6] = [
+    (b"key", Kind::Integer, false),
+    (b"maildrop", Kind::Text, true),
+    (b"class", Kind::Text, true),
+    (b"k", Kind::Integer, true),
+    (b"octets", Kind::Integer, true),
+    (b"body", Kind::Blob, true),
+];
+
 const RULES: [Made; 7] = [
     (b"place", Kind::Integer, false),
     (b"name", Kind::Text, true),
@@ -160,6 +173,17 @@ const SHEETS: [Made; 3] = [
     (b"mail", Kind::Integer, true),
     (b"place", Kind::Integer, true),
     (b"octets", Kind::Blob, true),
+];
+
+const GROUPS: [Made; 2] = [
+    (b"place", Kind::Integer, false),
+    (b"name", Kind::Text, true),
+];
+
+const MEMBERS: [Made; 3] = [
+    (b"grp", Kind::Integer, true),
+    (b"place", Kind::Integer, true),
+    (b"clerk", Kind::Text, true),
 ];
 
 /// Whether these are STRICT columns of the same names and kinds, in the same order, and NOT NULL where that is asked for.
@@ -204,21 +228,53 @@ fn has_meta(tables: &[Table]) -> bool
 pub fn has_marks<S: Alter>(conn: &Connection<S>) -> bool
     ensures value { result ≡ has_marks (state S.Store conn.now).now.schema.tables }
     ensures ours { IsOurs (state S.Store conn.now).now → result ≡ true }
+    ensures old { IsOldSchema (state S.Store conn.now).now → result ≡ true }
 {
     has_meta(conn.schema().tables.as_slice())
 }
 
-fn has_our_columns(tables: &[Table]) -> bool
-    ensures { result ≡ has_columns tables.now }
+/// Whether the table of members is there, whose clerks are apart in a group as their places are.
+fn has_members(tables: &[Table]) -> bool
+    ensures { result ≡ list_any (is_table (members_at 19)) tables.now }
+{
+    tables.iter().any(|table| {
+        is_named(table, b"members")
+            & are_columns(table.columns.as_slice(), &MEMBERS)
+            & (has_keys(table, &[1, 2], &[1, 2]) & has_keys(table, &[1, 2], &[1, 3]))
+    })
+}
+
+fn has_common_columns(tables: &[Table]) -> bool
+    ensures { result ≡ has_common_columns tables.now }
 {
     has_meta(tables)
         & has_table(tables, b"clerks", &CLERKS, &[1], &[1])
         & has_table(tables, b"maildrops", &MAILDROPS, &[1], &[1])
         & has_table(tables, b"counts", &COUNTS, &[1, 2], &[1, 2])
         & has_table(tables, b"deposits", &DEPOSITS, &[1, 2], &[1, 2])
-        & has_table(tables, b"mail", &MAIL, &[0], &[2, 3, 4])
         & has_table(tables, b"rules", &RULES, &[0], &[2])
+}
+
+fn has_messages_columns(tables: &[Table]) -> bool
+    ensures { result ≡ has_first_columns tables.now }
+{
+    has_common_columns(tables) & has_table(tables, b"messages", &MESSAGES, &[0], &[2, 3, 4])
+}
+
+fn has_mail_columns(tables: &[Table]) -> bool
+    ensures { result ≡ has_second_columns tables.now }
+{
+    has_common_columns(tables)
+        & has_table(tables, b"mail", &MAIL, &[0], &[2, 3, 4])
         & has_table(tables, b"sheets", &SHEETS, &[1, 2], &[1, 2])
+}
+
+fn has_our_columns(tables: &[Table]) -> bool
+    ensures { result ≡ has_columns tables.now }
+{
+    has_mail_columns(tables)
+        & has_table(tables, b"groups", &GROUPS, &[0], &[2])
+        & has_members(tables)
 }
 
 /// Whether each of our tables is there with the columns and the keys that its text makes: the same names and kinds, in order, STRICT and NOT
@@ -226,8 +282,25 @@ fn has_our_columns(tables: &[Table]) -> bool
 pub fn has_columns<S: Alter>(conn: &Connection<S>) -> bool
     ensures value { result ≡ has_columns (state S.Store conn.now).now.schema.tables }
     ensures ours { IsOurs (state S.Store conn.now).now → result ≡ true }
+    ensures old { IsOldSchema (state S.Store conn.now).now → result ≡ false }
 {
     has_our_columns(conn.schema().tables.as_slice())
+}
+
+/// Whether the tables of version 2 are there so: those of ours but `groups` and `members`.
+pub fn has_second_columns<S: Alter>(conn: &Connection<S>) -> bool
+    ensures value { result ≡ has_second_columns (state S.Store conn.now).now.schema.tables }
+    ensures second { (state S.Store conn.now).now.schema ≡ second_schema → result ≡ true }
+{
+    has_mail_columns(conn.schema().tables.as_slice())
+}
+
+/// Whether the tables of version 1 are there so: those of version 2, with `messages` in place of `mail` and `sheets`.
+pub fn has_first_columns<S: Alter>(conn: &Connection<S>) -> bool
+    ensures value { result ≡ has_first_columns (state S.Store conn.now).now.schema.tables }
+    ensures first { (state S.Store conn.now).now.schema ≡ first_schema → result ≡ true }
+{
+    has_messages_columns(conn.schema().tables.as_slice())
 }
 
 /// Says what the keys of the tables, and the references between them, make sure of in the rows.

@@ -1,15 +1,15 @@
 //! The making of the tables.
 
-ghost use Rattle.std.specs.Prelude.{◌≡◌, ◌<◌, IfErr, OnOk, OnErr};
+ghost use Rattle.std.specs.Prelude.{◌≡◌, ◌<◌, length, IfErr, OnOk, OnErr};
 ghost use Rattle.sqlite.specs.Held.{state};
 ghost use Rattle.sqlite.specs.State.{HasCleanDisk, Survives};
-ghost use Rattle.mailsql.specs.Tables.{create_text as text_at};
-ghost use Rattle.mailsql.specs.Rows.{IsBegun, IsHalted, MakesTables};
-ghost use Rattle.mailsql.specs.Errors.{FailsToCreate};
+ghost use Rattle.mailsql.specs.Tables.{create_text as text_at, lacked_text, lacked_texts};
+ghost use Rattle.mailsql.specs.Rows.{IsBegun, IsBegunOn, IsHalted, MakesTables, CompletesTables, is_carried};
+ghost use Rattle.mailsql.specs.Errors.{FailsToCreate, FailsToComplete};
 
 use sqlite::{Alter, Connection, Error};
 
-const TABLES: usize = 8;
+const TABLES: usize = 10;
 
 /// The text that makes the table at this place of the order in which they are made.
 fn create_text(at: usize) -> &'static str
@@ -29,8 +29,11 @@ fn create_text(at: usize) -> &'static str
             "CREATE TABLE mail (key INTEGER PRIMARY KEY AUTOINCREMENT, maildrop TEXT NOT NULL REFERENCES maildrops, class TEXT NOT NULL, k INTEGER NOT NULL, octets INTEGER NOT NULL, UNIQUE (maildrop, class, k)) STRICT",
         6 =>
             "CREATE TABLE rules (place INTEGER PRIMARY KEY, name TEXT NOT NULL UNIQUE, effect INTEGER NOT NULL, clerk TEXT NOT NULL, maildrop TEXT NOT NULL, class TEXT NOT NULL, actions INTEGER NOT NULL) STRICT",
-        _ =>
+        7 =>
             "CREATE TABLE sheets (mail INTEGER REFERENCES mail ON DELETE CASCADE, place INTEGER, octets BLOB NOT NULL, PRIMARY KEY (mail, place)) STRICT",
+        8 => "CREATE TABLE groups (place INTEGER PRIMARY KEY, name TEXT NOT NULL UNIQUE) STRICT",
+        _ =>
+            "CREATE TABLE members (grp INTEGER REFERENCES groups ON DELETE CASCADE, place INTEGER, clerk TEXT NOT NULL, PRIMARY KEY (grp, place), UNIQUE (grp, clerk)) STRICT",
     }
 }
 
@@ -47,5 +50,52 @@ pub fn create_tables<S: Alter>(conn: &mut Connection<S>) -> Result<(), Error>
             Err(error) => return Err(error),
         }
     }
+    let _schema = conn.schema();
+    Ok(())
+}
+
+/// How many tables an older store lacks: of version 2 two, and of version 1 four.
+fn lacked(carried: bool) -> usize
+    ensures { result ≡ length (lacked_texts carried) }
+{
+    if carried { 4 } else { 2 }
+}
+
+/// Where the text that makes the table at this place of those that an older store lacks stands among the texts.
+fn lacked_place(carried: bool, at: usize) -> usize
+    requires { at < length (lacked_texts carried) }
+    ensures low { result < TABLES }
+    ensures text { text_at result ≡ lacked_text carried at }
+{
+    if carried {
+        match at {
+            0 => 7,
+            1 => 8,
+            2 => 9,
+            _ => 5,
+        }
+    } else {
+        match at {
+            0 => 8,
+            _ => 9,
+        }
+    }
+}
+
+/// Makes the tables that an older store lacks, inside a transaction: those of groups and members in a store of version 2, those of sheets and mail too in one of version 1, which `carried` asks for. The other tables stay as they are. After an error the transaction is under way still, or gone with all that it wrote.
+pub fn complete_tables<S: Alter>(conn: &mut Connection<S>, carried: bool) -> Result<(), Error>
+    ensures ok { HasCleanDisk (state S.Store conn.new) → IsBegunOn (state S.Store conn.old) → is_carried (state S.Store conn.old).now.trees ≡ carried → OnOk result (CompletesTables (state S.Store conn.old) (state S.Store conn.new)) }
+    ensures err { HasCleanDisk (state S.Store conn.new) → IsBegunOn (state S.Store conn.old) → is_carried (state S.Store conn.old).now.trees ≡ carried → OnErr result (IsHalted (state S.Store conn.old) (state S.Store conn.new)) }
+    ensures cause { HasCleanDisk (state S.Store conn.new) → IsBegunOn (state S.Store conn.old) → is_carried (state S.Store conn.old).now.trees ≡ carried → IfErr result (FailsToComplete S.Store carried conn.old conn.new) }
+    ensures survives { Survives (state S.Store conn.old) (state S.Store conn.new) (λ _. IsBegunOn (state S.Store conn.old) → is_carried (state S.Store conn.old).now.trees ≡ carried → ⊥) }
+{
+    let count = lacked(carried);
+    for at in 0..count {
+        match conn.execute(create_text(lacked_place(carried, at)), &[]) {
+            Ok(_) => {}
+            Err(error) => return Err(error),
+        }
+    }
+    let _schema = conn.schema();
     Ok(())
 }

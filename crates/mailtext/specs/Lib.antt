@@ -2,4 +2,5 @@
 pub mod Fault
 pub mod Text
 pub mod MailText
+pub mod Streams
 pub mod Written

@@ -5,7 +5,11 @@
 mod kept;
 mod lines;
 mod parts;
+mod stuffer;
 mod stuffing;
+mod top_cut;
 
 pub use kept::{MAX_OCTETS, MailText, TextFault, canon};
+pub use stuffer::Stuffer;
 pub use stuffing::{stuff_into, stuffing_is_undone, unstuff};
+pub use top_cut::TopCut;

@@ -5,7 +5,7 @@ ghost use Rattle.std.specs.Option.{SomeIff, option_map};
 ghost use Rattle.mailtext.specs.Written.{written, in_place, end_of};
 
 /// CR, the octet that stands before the LF of a line's end.
-const CR: u8 = b'\r';
+pub const CR: u8 = b'\r';
 
 /// LF, the octet that ends a line.
 pub const LF: u8 = b'\n';

@@ -45,7 +45,7 @@ no_marks _ reply u name ms e = absurd (nobody name e)
     nobody name e = cc
 
 -- only a QUIT removes
-held_same : (w : Acted) (p : Policy) (o : Option Session) (r : Result Command LineFault) (c : Contents) → is_quit r ≡ false → held_after w p o r c ≡ c
+pub held_same : (w : Acted) (p : Policy) (o : Option Session) (r : Result Command LineFault) (c : Contents) → is_quit r ≡ false → held_after w p o r c ≡ c
 held_same w p None r c q = refl
 held_same acted.Failed p (Some s) r c q = refl
 held_same acted.Done p (Some s) (Ok Quit) c q = absurd (true≢false q)

@@ -22,13 +22,16 @@ use Rattle.office.specs.Log.{opened, idle_seconds, moment, stream, taken, clock,
 use Rattle.office.specs.Trace.{acts, history}
 use Rattle.office.specs.Formed.{is_formed, are_formed, is_u64}
 use Rattle.office.specs.Answered.{name_cmp}
+use Rattle.office.specs.declared.output.Source.TheVariants as source
 use Rattle.office.specs.Kept.{Kept, nothing_said, maildrop_of}
 use Rattle.office.specs.Locks.{Released}
 use Rattle.office.specs.Stands.{Seen, seen, seen_at, IsSession, Matches, IsKeptFor, Keeps, StandsFor}
 use Rattle.office.specs.declared.office.Office.{Office}
 use Rattle.office.proofs.Laws.{one_holder}
+use Rattle.office.proofs.Owing.{owes_ready}
 use Rattle.office.proofs.Standing.{counters}
 use Rattle.office.proofs.Locked.{IsLock, lock_found, holder_is}
+use Rattle.office.proofs.Beginning.{begins_on, begun_on, begun_of, begins_anew}
 
 -- ---- locks
 
@@ -113,7 +116,8 @@ nothing_stands Holds o o' T e m st n on p b s l k links locks =
     let number : (opened T'.log, moment T'.log) ≡ (opened T.log, moment T.log) = ap (λ (x : Log). x.number) (n.log 0) in
     let idle : idle_seconds T'.log ≡ idle_seconds T.log = ap (λ (x : Log). x.idle) (n.log 0) in
     record {
-      keeps = record { contents = st.keeps.contents; held = on st.keeps.contents st.keeps.held; agree = rw same st.keeps.agree; sound = st.keeps.sound; formed = n.formed };
+      keeps = record { contents = st.keeps.contents; held = on st.keeps.contents st.keeps.held; agree = rw same st.keeps.agree; sound = st.keeps.sound; formed = n.formed; began = begun_on e m T.log st.began };
+      began = begins_on e m T.log st.began;
       policy = p ∙ rw same st.policy;
       boot = b ∙ rw same st.boot;
       host = s ∙ rw same st.host;
@@ -166,7 +170,7 @@ abbrev pub greeted : ℕ → ℕ → List ℕ → (now : ℕ) → Kept
 greeted c boot host now = record {
   held = nothing_held;
   pending = [];
-  owed = bytes_of (Greeting c boot host);
+  output = record { ready = bytes_of (Greeting c boot host); source = source.Nothing };
   talk = nothing_said;
   stamp = timestamp c boot host;
   session = None;
@@ -199,7 +203,8 @@ module _ {V : Type 0} (Holds : V → Contents → Type 0) (o o' : Office V) (T :
     session = rw e refl;
     parted = λ h. rw e refl;
     taken = rw e (omega arith);
-    owed = rw e refl;
+    owed = rw e (owes_ready st.keeps.contents None _ _ refl);
+    serving = λ t. absurd (true≢false (sym t));
     closing = rw e refl;
     user = rw e refl;
     failures = rw e refl;
@@ -221,7 +226,8 @@ module _ {V : Type 0} (Holds : V → Contents → Type 0) (o o' : Office V) (T :
       kept ∙ (ap (λ x. greeted x o.boot (string_bytes o.host) o.moment) number ∙ (ap (λ x. greeted newest x (string_bytes o.host) o.moment) st.boot
       ∙ (ap (λ x. greeted newest (boot_and_host (history T)).0 x o.moment) st.host ∙ ap (greeted newest (boot_and_host (history T)).0 (boot_and_host (history T)).1) st.moment))) in
       record {
-        keeps = record { contents = st.keeps.contents; held = on st.keeps.contents st.keeps.held; agree = st.keeps.agree; sound = st.keeps.sound; formed = rw formed st.keeps.formed };
+        keeps = record { contents = st.keeps.contents; held = on st.keeps.contents st.keeps.held; agree = st.keeps.agree; sound = st.keeps.sound; formed = rw formed st.keeps.formed; began = begun_on event.Connect (Tagged Done) T.log st.began };
+        began = begins_on event.Connect (Tagged Done) T.log st.began;
         policy = p ∙ st.policy;
         boot = b ∙ st.boot;
         host = s ∙ st.host;
@@ -276,7 +282,8 @@ pub start_stands : {V : Type 0} (Holds Before : V → Contents → Type 0) (v : 
 start_stands Holds Before v o T host boot idle k held p b s l n formed links locks =
     let T' = given T (event.Start host boot idle) (Tagged Done) in
     record {
-      keeps = record { contents = k.contents; held = held; agree = k.agree; sound = k.sound; formed = rw formed k.formed };
+      keeps = record { contents = k.contents; held = held; agree = k.agree; sound = k.sound; formed = rw formed k.formed; began = begun_of T'.log (begins_anew host boot idle Done T.log k.began) };
+      began = begins_anew host boot idle Done T.log k.began;
       policy = p ∙ k.agree.policy;
       boot = b;
       host = s;

@@ -1,19 +1,20 @@
 -- An act that ends one connection, and one that changes nothing.
-use Rattle.std.proofs.Common.{◌≡◌, ℕ, ◌≤◌, ◌&&◌, Bool, true, false, List, Option, Some, None, IsSome, refl, sym, ◌∙◌, ap, subst, true≢false, eqb, eqb-true, eq-eqb, ⊎_elim, string_bytes, nat_cmp}
+use Rattle.std.proofs.Common.{◌≡◌, ℕ, ◌≤◌, ◌&&◌, Bool, true, false, List, [], ◌∷◌, ◌++◌, Option, Some, None, IsSome, refl, sym, ◌∙◌, ap, subst, true≢false, eqb, eqb-true, eq-eqb, ⊎_elim, string_bytes, nat_cmp}
 use Rattle.std.proofs.lemmas.Bool.{cases_Bool}
-use Rattle.std.specs.BTreeMap.{get, Updates}
+use Rattle.std.specs.BTreeMap.{get, is_at, Updates}
 use Rattle.creds.specs.declared.login_name.LoginName.{LoginName}
 use Rattle.vault.specs.Records.{Records, Agree}
 use Rattle.vault.specs.Changes.{Contents, records_of}
 use Rattle.session.specs.Session.{Session}
 use Rattle.office.specs.Answers.{EndSession}
-use Rattle.office.specs.History.{Tag, Done, in_force}
-use Rattle.office.specs.Connections.{boot_and_host}
+use Rattle.office.specs.History.{Act, Gone, Tag, Done, in_force}
+use Rattle.office.specs.Connections.{boot_and_host, serving}
+use Rattle.office.specs.Told.{told}
 use Rattle.office.specs.Sessions.{live, login, holder, is_login_to, records}
 use Rattle.office.specs.Events.{Event, Tagged, Trace, given}
 use Rattle.office.specs.Events as event
-use Rattle.office.specs.Log.{opened, idle_seconds, moment}
-use Rattle.office.specs.Trace.{acts, history}
+use Rattle.office.specs.Log.{opened, idle_seconds, moment, stream, taken, clock}
+use Rattle.office.specs.Trace.{acts, history, is_left, act_of_part, gone_act}
 use Rattle.office.specs.Formed.{is_formed}
 use Rattle.office.specs.Answered.{name_cmp}
 use Rattle.office.specs.Kept.{Kept, maildrop_of}
@@ -23,6 +24,8 @@ use Rattle.office.specs.Stands.{Seen, seen, IsSession, Matches, IsOver, IsKeptFo
 use Rattle.office.specs.declared.office.Office.{Office}
 use Rattle.office.proofs.Standing.{counters}
 use Rattle.office.proofs.Coming.{released, is_apart, same_holder}
+use Rattle.office.proofs.Beginning.{begins_on, begun_on}
+use Rattle.office.proofs.Events.{Whole, whole, whole-took, facts, seen_by, seen-took_other}
 
 -- ---- an act that changes connections alone
 
@@ -64,7 +67,9 @@ module _ {V : Type 0} (Holds : V → Contents → Type 0) (o o' : Office V) (T :
           agree = subst (λ (R : Records). Agree (records_of st.keeps.contents) R) (sym l.stored) st.keeps.agree;
           sound = st.keeps.sound;
           formed = rw formed st.keeps.formed;
+          began = begun_on e (Tagged t) T.log st.began;
         };
+        began = begins_on e (Tagged t) T.log st.began;
         policy = p ∙ (st.policy ∙ sym l.ruled);
         boot = b ∙ (st.boot ∙ ap (λ (x : ℕ × List ℕ). x.0) (sym l.office));
         host = s ∙ (st.host ∙ ap (λ (x : ℕ × List ℕ). x.1) (sym l.office));
@@ -77,26 +82,31 @@ module _ {V : Type 0} (Holds : V → Contents → Type 0) (o o' : Office V) (T :
       }
 
   -- one connection is ended
-  pub ended_stands : (c : ℕ) → Ends T e t c → (st : StandsFor Holds o T) (k : Kept) → get nat_cmp o.links c ≡ Some k → ((k : Contents) → Holds o.vault k → Holds o'.vault k)
+  pub ended_by : (c : ℕ) → Ends T e t c → (st : StandsFor Holds o T) (k : Kept) → get nat_cmp o.links c ≡ Some k → ((k : Contents) → Holds o.vault k → Holds o'.vault k)
       → o'.policy ≡ o.policy → o'.boot ≡ o.boot → string_bytes o'.host ≡ string_bytes o.host → o'.limits ≡ o.limits → counters o' ≡ counters o
-      → Updates nat_cmp o.links o'.links c None → Released (maildrop_of k.session) o.locks o'.locks → StandsFor Holds o' after
-  ended_stands c x st k found on p b s w n u r =
+      → get nat_cmp o'.links c ≡ None → ((q : ℕ) → is_at (nat_cmp c) q ≡ false → get nat_cmp o'.links q ≡ get nat_cmp o.links q) → Released (maildrop_of k.session) o.locks o'.locks → StandsFor Holds o' after
+  ended_by c x st k found on p b s w n gone_is kept_are r =
       let m : Matches st.keeps.contents (seen T c) k = subst (IsKeptFor st.keeps.contents (seen T c)) found (st.links c) in
-      let there : (q : ℕ) → eqb c q ≡ false → get nat_cmp o'.links q ≡ get nat_cmp o.links q = λ q e. u.2 q (is_apart c q e) in
-      let none : (q : ℕ) → eqb c q ≡ true → get nat_cmp o'.links q ≡ None = λ q e. subst (λ y. get nat_cmp o'.links y ≡ None) (eqb-true c q e) u.1 in
+      let there : (q : ℕ) → eqb c q ≡ false → get nat_cmp o'.links q ≡ get nat_cmp o.links q = λ q e. kept_are q (is_apart c q e) in
+      let none : (q : ℕ) → eqb c q ≡ true → get nat_cmp o'.links q ≡ None = λ q e. subst (λ y. get nat_cmp o'.links y ≡ None) (eqb-true c q e) gone_is in
       follows x.leaves st on p b s w n
       (λ q some. ⊎_elim
       (λ e. let gone = none q e in absurd (true≢false (sym (rw gone at some))))
       (λ e. let same = there q e in rw same at some)
       (cases_Bool (eqb c q)))
       (λ q. ⊎_elim
-      (λ e. subst (λ y. IsKeptFor st.keeps.contents (seen after y) (get nat_cmp o'.links y)) (eqb-true c q e) (let gone = u.1 in rw gone x.over))
+      (λ e. subst (λ y. IsKeptFor st.keeps.contents (seen after y) (get nat_cmp o'.links y)) (eqb-true c q e) (rw gone_is x.over))
       (λ e. rw (x.others q e, there q e) (st.links q))
       (cases_Bool (eqb c q)))
       (released T.base (acts T) (acts after) c
       (λ d q e. ap (λ (y : Seen). y.live && is_login_to d y.login) (x.others q e))
       (λ d. ap (λ (y : Bool). y && is_login_to d (login (history after) c)) x.over.outside)
       st.keeps.contents (seen T c) k.session o.locks o'.locks m.session refl refl st.locks r)
+
+  pub ended_stands : (c : ℕ) → Ends T e t c → (st : StandsFor Holds o T) (k : Kept) → get nat_cmp o.links c ≡ Some k → ((k : Contents) → Holds o.vault k → Holds o'.vault k)
+      → o'.policy ≡ o.policy → o'.boot ≡ o.boot → string_bytes o'.host ≡ string_bytes o.host → o'.limits ≡ o.limits → counters o' ≡ counters o
+      → Updates nat_cmp o.links o'.links c None → Released (maildrop_of k.session) o.locks o'.locks → StandsFor Holds o' after
+  ended_stands c x st k found on p b s w n u r = ended_by c x st k found on p b s w n u.1 u.2 r
 
   -- no connection is
   unchanged : Leaves T e t → ((q : ℕ) → seen after q ≡ seen T q) → StandsFor Holds o T → ((k : Contents) → Holds o.vault k → Holds o'.vault k)
@@ -122,6 +132,33 @@ gone_ends T c = record {
   others = gone_other T c;
   over = gone_over T c;
 }
+
+-- ---- a Took in the middle of a reply that is its connection's end
+
+module _ (T : Trace) (c n : ℕ) (t : Tag) (left : is_left T.log (history T) c n ≡ true) (ends : act_of_part (serving (history T) c) c t ≡ gone_act c) where
+  gone_acts : acts (given T (event.Took c n) (Tagged t)) ≡ (Gone c, Done) ∷ acts T
+  gone_acts = rw left (ap (λ (a : List (Act × Tag)). a ++ acts T) ends)
+
+  gone_seen : seen (given T (event.Took c n) (Tagged t)) c
+      ≡ seen_by (stream (given T (event.Took c n) (Tagged t)).log c) (taken (given T (event.Took c n) (Tagged t)).log c) (clock (given T (event.Took c n) (Tagged t)).log c) (facts T.base ((Gone c, Done) ∷ acts T) c)
+  gone_seen = ap (λ H. seen_by (stream (given T (event.Took c n) (Tagged t)).log c) (taken (given T (event.Took c n) (Tagged t)).log c) (clock (given T (event.Took c n) (Tagged t)).log c) (facts T.base H c)) gone_acts
+
+  gone_whole : whole T.base (acts (given T (event.Took c n) (Tagged t))) ≡ whole T.base (acts T)
+  gone_whole = whole-took T c n t
+
+  pub took_ends : Ends T (event.Took c n) t c
+  took_ends = let e = eq-eqb c c refl in record {
+    leaves = record {
+      stored = ap (λ H. records T.base (told T.base H)) gone_acts;
+      ruled = ap (λ (w : Whole). w.rules) gone_whole;
+      office = ap (λ (w : Whole). w.office) gone_whole;
+      number = refl;
+      seconds = refl;
+      formed = refl;
+    };
+    others = λ q apart. seen-took_other T c n q t apart;
+    over = subst IsOver (sym gone_seen) (record { closed = rw e refl; outside = rw e refl });
+  }
 
 -- ---- a session is ended
 

@@ -125,3 +125,13 @@ pass_said d t password name e = ap (λ u. when_permitted (is_some u) (judged d t
 pub seated : (c : Contents) (s : Session) (v : Option Sitting) → IsSeated c (Some s) v → (w : Sitting) × IsSeated c (Some s) (Some w)
 seated c s None h = absurd h
 seated c s (Some w) h = (w, h)
+
+-- what holds of every sitting of a session holds of what is seated
+pub seated_case : (c : Contents) (s : Session) (v : Option Sitting) (P : Option Sitting → Type 0) → ((w : Sitting) → IsSeated c (Some s) (Some w) → P (Some w)) → IsSeated c (Some s) v → P v
+seated_case c s None P f h = absurd h
+seated_case c s (Some w) P f h = f w h
+
+-- nobody is seated where there is no session
+pub unseated_case : (c : Contents) (v : Option Sitting) (P : Option Sitting → Type 0) → P None → IsSeated c None v → P v
+unseated_case c None P p h = p
+unseated_case c (Some w) P p h = absurd h

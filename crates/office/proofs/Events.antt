@@ -22,6 +22,7 @@ use Rattle.office.specs.Events.{Trace, Event, Bytes, Took, Mark, Tagged, given}
 use Rattle.office.specs.Log.{opened, idle_seconds, moment, stream, taken, clock}
 use Rattle.office.specs.Trace.{acts, history, line_act, act_of_part, acts_of_piece, acts_of_took, next_line, is_left, is_open, untaken}
 use Rattle.office.specs.Expected.{most_in_a_piece, ignored}
+use Rattle.office.specs.Output.{Output, nothing_owed, reads_text, Owes}
 use Rattle.office.specs.Kept.{Kept, clocked}
 use Rattle.office.specs.Answered.{name_cmp, tag_of, shown_of}
 use Rattle.vault.specs.Calls.{has_grown}
@@ -30,8 +31,10 @@ use Rattle.office.specs.Stands.{Seen, seen, Matches, IsSession, IsOver, IsKeptFo
 use Rattle.office.specs.declared.office.Office.{Office}
 use Rattle.office.specs.declared.talk.Acted.{Acted}
 use Rattle.office.specs.declared.talk.Acted.TheVariants as acted
+use Rattle.office.proofs.Owing.{none_owed}
 use Rattle.office.proofs.Standing.{counters, counted}
 use Rattle.office.proofs.Hearing.{streamed, took, lined, at_drop, Awaits, open_still}
+use Rattle.office.proofs.Beginning.{begins_on, begun_on}
 
 -- what a history says of a connection
 pub record Facts : Type 0 where
@@ -39,6 +42,7 @@ pub record Facts : Type 0 where
   pub closing : Bool
   pub live : Bool
   pub acted : ℕ
+  pub serving : Bool
   pub sent : List ℕ
   pub user : Option LoginName
   pub failures : ℕ
@@ -53,6 +57,7 @@ facts B H q = record {
   closing = closing (told B H) q;
   live = live (told B H) q;
   acted = acted (told B H) q;
+  serving = serving (told B H) q;
   sent = sent (told B H) q;
   user = user (told B H) q;
   failures = failures (told B H) q;
@@ -78,6 +83,7 @@ seen_by octets took clock f = record {
   live = f.live;
   stream = octets;
   acted = f.acted;
+  serving = f.serving;
   sent = f.sent;
   taken = took;
   user = f.user;
@@ -245,7 +251,8 @@ moved_so Holds o o' T e t c st formed p b h l n same idle number there others li
     let rules : in_force T.base (history (given T e (Tagged t))) ≡ in_force T.base (history T) = ap (λ (w : Whole). w.rules) same in
     let newest : opened (given T e (Tagged t)).log ≡ opened T.log = ap (λ (x : ℕ × ℕ). x.0) number in
     record {
-      keeps = record { contents = m.contents; held = m.held; agree = m.agree; sound = st.keeps.sound; formed = rw formed st.keeps.formed };
+      keeps = record { contents = m.contents; held = m.held; agree = m.agree; sound = st.keeps.sound; formed = rw formed st.keeps.formed; began = begun_on e (Tagged t) T.log st.began };
+      began = begins_on e (Tagged t) T.log st.began;
       policy = p ∙ (st.policy ∙ sym rules);
       boot = b ∙ (st.boot ∙ ap (λ (w : Whole). w.office.0) (sym same));
       host = h ∙ (st.host ∙ ap (λ (w : Whole). w.office.1) (sym same));
@@ -297,21 +304,21 @@ not_closing false b xs e h = absurd (true≢false (sym h))
 not_closing true true (x ∷ xs) e h = cc
 
 -- a piece that comes where nothing is owed
-pub awaits_bytes : (c : Contents) (s : Seen) (k : Kept) (p : List ℕ) (now : ℕ) → Matches c s k → k.owed ≡ [] → length p ≤ most_in_a_piece
+pub awaits_bytes : (c : Contents) (s : Seen) (k : Kept) (p : List ℕ) (now : ℕ) → Matches c s k → k.output ≡ nothing_owed → length p ≤ most_in_a_piece
     → Awaits c (streamed s p now) (clocked now p k) p
 awaits_bytes c s k p now m o fits = record {
   opened = m.opened;
   session = same_session c s (streamed s p now) k.session refl refl refl refl m.session;
-  open_yet = not_closing s.connected s.closing (untaken_of s) (sym m.owed ∙ o) m.opened;
+  open_yet = not_closing s.connected s.closing (untaken_of s) (none_owed c k.session k.output (untaken_of s) m.owed o) m.opened;
   taken = m.taken;
   nothing = o;
-  owed = sym m.owed ∙ o;
+  owed = none_owed c k.session k.output (untaken_of s) m.owed o;
   closing = m.closing;
   user = m.user;
   failures = m.failures;
   stamp = m.stamp;
   clock = ap (λ x. cond (has_newline p) now x) m.clock;
-  lines = λ more. rw append_assoc (m.lines (p ++ more) ∙ ap (λ q. coming k.held (q ++ (p ++ more))) (m.cut_whole o));
+  lines = λ more. rw append_assoc (m.lines (p ++ more) ∙ ap (λ q. coming k.held (q ++ (p ++ more))) (m.cut_whole (none_owed c k.session k.output (untaken_of s) m.owed o)));
   piece = fits;
 }
 
@@ -431,8 +438,8 @@ open_quiet true b e = refl
 open_quiet false b e = e
 
 -- a Took of a part
-pub left_over : (s : Seen) (k : Kept) (n : ℕ) → n < length (untaken_of s) → nat_lt (s.taken + n) (length s.sent) ≡ true
-left_over s k n h = lt-ltb (s.taken + n) (length s.sent) (omega (arith, h, length-drop s.taken s.sent))
+pub left_over : (s : Seen) (n : ℕ) → n < length (untaken_of s) → nat_lt (s.taken + n) (length s.sent) ≡ true
+left_over s n h = lt-ltb (s.taken + n) (length s.sent) (omega (arith, h, length-drop s.taken s.sent))
 
 pub all_over : (s : Seen) (n : ℕ) → length (untaken_of s) ≤ n → nat_lt (s.taken + n) (length s.sent) ≡ false
 all_over s n h = le-ltb (s.taken + n) (length s.sent) (omega (arith, h, length-drop s.taken s.sent))
@@ -441,15 +448,17 @@ not_empty : (xs : List ℕ) → 0 < length xs → is_empty xs ≡ false
 not_empty [] h = absurd (omega arith)
 not_empty (x ∷ xs) h = refl
 
-pub part_took : (c : Contents) (s : Seen) (k : Kept) (n now : ℕ) → Matches c s k → n < length (untaken_of s) → Matches c (took s n now) (record k { owed = drop n k.owed; clock = now })
-part_took c s k n now m h =
+pub part_took : (c : Contents) (s : Seen) (k : Kept) (o : Output) (n now : ℕ) → Matches c s k → n < length (untaken_of s) → Owes c k.session o (drop n (untaken_of s))
+    → (reads_text o.source ≡ true → reads_text k.output.source ≡ true) → Matches c (took s n now) (record k { output = o; clock = now })
+part_took c s k out n now m h owes kind =
     let o = owed_took s n now in
     let some : 0 < length (drop n (untaken_of s)) = omega (arith, h, length-drop n (untaken_of s)) in
     let e = not_empty (drop n (untaken_of s)) some in
     record {
       opened = rw (o, e) (open_still s.connected (s.closing && is_empty (untaken_of s)) s.closing m.opened);
       taken = taken_fits s n (omega (arith, h)) m.taken;
-      owed = ap (drop n) m.owed ∙ sym o;
+      owed = subst (λ xs. Owes c k.session out xs) (sym o) owes;
+      serving = λ t. m.serving (kind t);
       session = same_session c s (took s n now) k.session refl refl refl refl m.session;
       parted = m.parted;
       closing = m.closing;
@@ -458,21 +467,21 @@ part_took c s k n now m h =
       stamp = m.stamp;
       clock = refl;
       lines = m.lines;
-      cut_whole = λ none. absurd (omega (arith, some, ap length (ap (drop n) (sym m.owed) ∙ none)));
+      cut_whole = λ none. absurd (omega (arith, some, ap length (sym o ∙ none)));
       line_kept = m.line_kept;
       piece_kept = m.piece_kept;
     }
 
 -- all is taken, and the connection isn't closing
 pub awaits_took : (c : Contents) (s : Seen) (k : Kept) (n now : ℕ) → Matches c s k → n ≡ length (untaken_of s) → s.closing ≡ false
-    → Awaits c (took s n now) (record k { owed = drop n k.owed; clock = now }) k.pending
+    → Awaits c (took s n now) (record k { output = nothing_owed; clock = now }) k.pending
 awaits_took c s k n now m e b =
     let le : length (untaken_of s) ≤ n = omega (arith, e) in
     let none : drop n (untaken_of s) ≡ [] = drop_all n (untaken_of s) le in
     record {
       opened = rw b (open_quiet s.connected (is_empty (untaken_of (took s n now))) (open_connected s.connected (s.closing && is_empty (untaken_of s)) m.opened));
       taken = taken_fits s n (omega (arith, e)) m.taken;
-      nothing = ap (drop n) m.owed ∙ none;
+      nothing = refl;
       owed = owed_took s n now ∙ none;
       session = same_session c s (took s n now) k.session refl refl refl refl m.session;
       open_yet = b;

@@ -5,17 +5,19 @@ use Rattle.std.specs.Bool.{if◌then◌else◌}
 use Rattle.popline.specs.Cutting.{Cut, cut_of, cut, pieces, onto_first, begun, prefixed, fed, shown, coming, through_newline, has_newline, before_newline}
 use Rattle.popline.specs.Replies.{Reply, Greeting, LineTooLong, UnknownCommand, WrongState, BadArguments, Capabilities, SendPass, LoginFailed, LoginFailedClosing, DeniedBy, NoSuchMaildrop, InUse, MaildropHas, DropListing, ScanListing, ScanLine, UidListing, UidLine, Message, TopPart, Marked, Okay, NoSuchMessage, AlreadyMarked, Bye, RemovalDenied, RemovalFailed, StoreFailed, bytes_of}
 use Rattle.office.specs.History.{Says}
-use Rattle.office.specs.Connections.{reading, closes, is_quit, user_after_line, is_failure}
+use Rattle.office.specs.Connections.{reading, closes, is_quit, user_after_line, is_failure, has_message}
 use Rattle.creds.specs.declared.login_name.LoginName.{LoginName}
 use Rattle.vault.specs.declared.record.Message as store
 use Rattle.vault.specs.Changes.{Contents}
 use Rattle.office.specs.Sessions.{logs_in, login_after, marks_after_line, view_after}
 use Rattle.office.specs.Replying.{is_empty}
 use Rattle.office.specs.Expected.{most_in_a_piece}
+use Rattle.office.specs.Output.{Output, nothing_owed, reads_text, Owes, OwesReply}
 use Rattle.office.specs.Kept.{Kept, answered, line_after, talk_after}
 use Rattle.office.specs.Stands.{Seen, Matches, IsSession, is_seen_open, untaken_of, most_in_a_line}
 use Rattle.office.specs.declared.talk.Talk.{Talk}
 use Rattle.office.proofs.Outside.{failures_alike}
+use Rattle.office.proofs.Owing.{owes_none}
 
 -- what stands at a place, and what follows it
 pub at_drop : {A : Type 0} (n : ℕ) (xs : List A) (x : A) (ys : List A) → drop n xs ≡ x ∷ ys → (slice_get xs n ≡ Some x) × (drop (n + 1) xs ≡ ys)
@@ -33,10 +35,10 @@ at_end (suc n) (a ∷ xs) e = at_end n xs e
 
 -- what a trace says of a connection after more octets came at a moment, after some were taken, and after a line got this reply
 abbrev pub streamed : Seen → List ℕ → (now : ℕ) → Seen
-streamed s p now = record { connected = s.connected; closing = s.closing; live = s.live; stream = s.stream ++ p; acted = s.acted; sent = s.sent; taken = s.taken; user = s.user; failures = s.failures; stamp = s.stamp; login = s.login; marks = s.marks; view = s.view; clock = if has_newline p then now else s.clock }
+streamed s p now = record { connected = s.connected; closing = s.closing; live = s.live; stream = s.stream ++ p; acted = s.acted; serving = s.serving; sent = s.sent; taken = s.taken; user = s.user; failures = s.failures; stamp = s.stamp; login = s.login; marks = s.marks; view = s.view; clock = if has_newline p then now else s.clock }
 
 abbrev pub took : Seen → ℕ → (now : ℕ) → Seen
-took s n now = record { connected = s.connected; closing = s.closing; live = s.live; stream = s.stream; acted = s.acted; sent = s.sent; taken = s.taken + n; user = s.user; failures = s.failures; stamp = s.stamp; login = s.login; marks = s.marks; view = s.view; clock = now }
+took s n now = record { connected = s.connected; closing = s.closing; live = s.live; stream = s.stream; acted = s.acted; serving = s.serving; sent = s.sent; taken = s.taken + n; user = s.user; failures = s.failures; stamp = s.stamp; login = s.login; marks = s.marks; view = s.view; clock = now }
 
 -- `found` is what a login would find
 abbrev pub lined : Seen → Cut → Reply → (found : LoginName → List store.Message) → Seen
@@ -46,6 +48,7 @@ lined s x r found = record {
   live = not (is_quit (reading x) || false) && (is_some (logs_in (reading x) (Says r) s.user) || s.live);
   stream = s.stream;
   acted = s.acted + 1;
+  serving = has_message (Says r);
   sent = s.sent ++ bytes_of r;
   taken = s.taken;
   user = user_after_line (reading x) (Says r) s.user;
@@ -126,7 +129,7 @@ pieces_none (b ∷ bs) e = none_more b bs (b == 10) e (pieces_none bs)
 pub record Awaits (c : Contents) (s : Seen) (k : Kept) (octets : List ℕ) : Type 0 where
   pub opened : is_seen_open s ≡ true
   pub taken : s.taken ≤ length s.sent
-  pub nothing : k.owed ≡ []
+  pub nothing : k.output ≡ nothing_owed
   pub owed : untaken_of s ≡ []
   pub session : IsSession c s k.session
   pub open_yet : s.closing ≡ false
@@ -139,7 +142,7 @@ pub record Awaits (c : Contents) (s : Seen) (k : Kept) (octets : List ℕ) : Typ
   pub piece : length octets ≤ most_in_a_piece
 
 -- `answer` is the reply to the line that is whole, if one is
-module _ (c : Contents) (s : Seen) (k k' : Kept) (p : List ℕ) (answer : Reply) (m : Awaits c s k p) (e : k' ≡ answered k p answer k'.session)
+module _ (c : Contents) (s : Seen) (k k' : Kept) (p : List ℕ) (answer : Reply) (m : Awaits c s k p) (e : k' ≡ answered k p answer k'.session k'.output)
     (law : (more : List ℕ) → coming k.held (p ++ more) ≡ shown k'.held ++ coming k'.held (k'.pending ++ more)) where
   line_fits : length k'.held.octets ≤ most_in_a_line
   line_fits = rw e (omega (arith, length-take most_in_a_line (begun k.held ++ before_newline p)))
@@ -158,14 +161,15 @@ module _ (c : Contents) (s : Seen) (k k' : Kept) (p : List ℕ) (answer : Reply)
   left : (more : List ℕ) → drop s.acted (cut (s.stream ++ more)) ≡ shown k'.held ++ coming k'.held (k'.pending ++ more)
   left more = m.lines more ∙ law more
 
-  pub part_heard : has_newline p ≡ false → k'.session ≡ k.session → Matches c s k'
-  part_heard h same =
+  pub part_heard : has_newline p ≡ false → k'.session ≡ k.session → k'.output ≡ nothing_owed → Matches c s k'
+  part_heard h same none =
       let e' = rw h at e in
       let w : k'.held.whole ≡ false = whole_is ∙ h in
       record {
         opened = m.opened;
         taken = m.taken;
-        owed = ap (λ (k : Kept). k.owed) e' ∙ (m.nothing ∙ sym m.owed);
+        owed = subst (λ xs. Owes c k'.session k'.output xs) (sym m.owed) (owes_none c k'.session k'.output none);
+        serving = λ t. absurd (true≢false (sym t ∙ ap (λ (o : Output). reads_text o.source) none));
         session = subst (IsSession c s) (sym same) m.session;
         parted = quiet_yet;
         closing = ap (λ (k : Kept). k.talk.closing) e' ∙ m.closing;
@@ -201,14 +205,12 @@ module _ (c : Contents) (s : Seen) (k k' : Kept) (p : List ℕ) (answer : Reply)
       ∙ ap Some acting_is
 
   heard_at : (c' : Contents) (found : LoginName → List store.Message) (x : Cut) → x ≡ acting → has_newline p ≡ true → IsSession c' (lined s x answer found) k'.session
-      → (closes (reading x) (Says answer) ≡ true → (lined s x answer found).live ≡ false) → Matches c' (lined s x answer found) k'
-  heard_at c' found x same h sits parts =
+      → OwesReply c' k'.session k'.output answer → (closes (reading x) (Says answer) ≡ true → (lined s x answer found).live ≡ false) → Matches c' (lined s x answer found) k'
+  heard_at c' found x same h sits owes parts =
       let e' = rw h at e in
       let more_owed = owed_more s x answer found m.taken m.owed in
       let said = says_something answer in
       let held_is : k'.held ≡ fed k.held p = ap (λ (k : Kept). k.held) e in
-      let owed_is : k'.owed ≡ untaken_of (lined s x answer found) =
-      ap (λ (k : Kept). k.owed) e' ∙ (ap (λ q. q ++ bytes_of answer) m.nothing ∙ sym more_owed) in
       let talk_is : k'.talk ≡ talk_after x answer k.talk =
       ap (λ (k : Kept). k.talk) e' ∙ ap (λ y. talk_after y answer k.talk) (sym (same ∙ acting_is)) in
       record {
@@ -216,18 +218,19 @@ module _ (c : Contents) (s : Seen) (k k' : Kept) (p : List ℕ) (answer : Reply)
         session = sits;
         parted = λ t. parts (first_closes (closes (reading x) (Says answer)) s.closing m.open_yet t);
         taken = omega (arith, m.taken, length-append s.sent (bytes_of answer));
-        owed = owed_is;
+        owed = subst (λ xs. Owes c' k'.session k'.output xs) (sym more_owed) owes.owes;
+        serving = owes.serves;
         closing = ap (λ (t : Talk). t.closing) talk_is ∙ ap (λ b. closes (reading x) (Says answer) || b) m.closing;
         user = ap (λ (t : Talk). t.user) talk_is ∙ ap (user_after_line (reading x) (Says answer)) m.user;
         failures = ap (λ (t : Talk). min t.failures 2) talk_is ∙ failures_alike (is_failure (Says answer)) k.talk.failures s.failures m.failures;
         stamp = ap (λ (k : Kept). k.stamp) e ∙ m.stamp;
         clock = ap (λ (k : Kept). k.clock) e ∙ m.clock;
         lines = λ more. (at_drop s.acted (cut (s.stream ++ more)) acting (coming k'.held (k'.pending ++ more)) (next h more)).1;
-        cut_whole = λ n. absurd (not_nil (bytes_of answer) said (sym more_owed ∙ (sym owed_is ∙ n)));
+        cut_whole = λ n. absurd (not_nil (bytes_of answer) said (sym more_owed ∙ n));
         line_kept = line_fits;
         piece_kept = piece_fits;
       }
 
   pub line_heard : (c' : Contents) (found : LoginName → List store.Message) → has_newline p ≡ true → IsSession c' (lined s (line_after k p) answer found) k'.session
-      → (closes (reading (line_after k p)) (Says answer) ≡ true → (lined s (line_after k p) answer found).live ≡ false) → Matches c' (lined s (line_after k p) answer found) k'
-  line_heard c' found h sits parts = heard_at c' found (line_after k p) (sym acting_is) h sits parts
+      → OwesReply c' k'.session k'.output answer → (closes (reading (line_after k p)) (Says answer) ≡ true → (lined s (line_after k p) answer found).live ≡ false) → Matches c' (lined s (line_after k p) answer found) k'
+  line_heard c' found h sits owes parts = heard_at c' found (line_after k p) (sym acting_is) h sits owes parts

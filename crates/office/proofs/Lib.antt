@@ -20,12 +20,15 @@ mod Outside
 mod Hearing
 mod Events
 mod Counting
+mod Lending
 mod Running
+mod SentExactly
 mod AdministrationRows
 mod SessionRows
 mod EndRows
 mod NameOrder
 mod AgreeLists
+mod Beginning
 mod Standing
 mod Coming
 mod Ending
@@ -53,8 +56,16 @@ mod Picking
 mod Quitting
 mod Remembering
 mod Obeying
+mod Taking
 mod Telling
 mod Texts
+mod ListedRows
+mod Owing
+mod Paging
 mod Pages
 mod Restarting
 mod Ticking
+pub mod Stopping
+pub mod StoppingLines
+mod Unasked
+mod Sending

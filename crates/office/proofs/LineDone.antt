@@ -8,7 +8,7 @@ use Rattle.creds.specs.declared.login_name.LoginName.{LoginName}
 use Rattle.popline.specs.Cutting.{Cut, cut, coming, shown, has_newline}
 use Rattle.popline.specs.Commands.{Command, Quit}
 use Rattle.popline.specs.declared.command.LineFault.{LineFault}
-use Rattle.popline.specs.Replies.{Reply}
+use Rattle.popline.specs.Replies.{Reply, bytes_of}
 use Rattle.policy.specs.Policy.{Policy}
 use Rattle.vault.specs.declared.record.Keyed.{Keyed}
 use Rattle.vault.specs.declared.record.Message as store
@@ -24,9 +24,10 @@ use Rattle.office.specs.Events.{Trace, Event, Tagged, given}
 use Rattle.office.specs.Trace.{history, acts}
 use Rattle.office.specs.Formed.{is_formed}
 use Rattle.office.specs.Laws.{In}
+use Rattle.office.specs.Output.{OwesIf, OwesReply}
 use Rattle.office.specs.Kept.{Kept, Desk, answered, line_after, asks}
 use Rattle.office.specs.Answered.{name_cmp, judged_at, reply_of, tag_of, held_after, held_if, SessionAfter, Becomes, BecomesIf, LocksFollow}
-use Rattle.office.specs.Stands.{Seen, seen, Matches, IsKeptFor, IsSession, IsSitting, Keeps}
+use Rattle.office.specs.Stands.{Seen, seen, untaken_of, Matches, IsKeptFor, IsSession, IsSitting, Keeps}
 use Rattle.office.specs.declared.talk.Acted.{Acted}
 use Rattle.office.specs.declared.talk.Acted.TheVariants as acted
 use Rattle.office.proofs.NameOrder.{same_any}
@@ -35,7 +36,8 @@ use Rattle.office.proofs.Laws.{one_holder}
 use Rattle.office.proofs.Lying.{lies_on, stays_by_removal}
 use Rattle.office.proofs.Locked.{lock_found, holder_is}
 use Rattle.office.proofs.Locking.{holds_by, locks_follow}
-use Rattle.office.proofs.Acting.{finds, session_after}
+use Rattle.office.proofs.Acting.{finds, session_after, held_same}
+use Rattle.office.proofs.Owing.{StayFor, owes_on}
 use Rattle.office.proofs.Outside.{AgreesOutside}
 use Rattle.office.proofs.Judging.{Judges, judges_outside, judges_inside}
 use Rattle.office.proofs.Events.{finds_by, line_entry, same_session}
@@ -56,7 +58,8 @@ carry k k' s kq stays m = record {
   session = at kq.session (λ o e. stays o e) m.session;
   parted = m.parted;
   taken = m.taken;
-  owed = m.owed;
+  owed = owes_on k k' kq.session kq.output (untaken_of s) (λ o e x i within. stays o e (subst (IsSession k s) e m.session) x i within) m.owed;
+  serving = m.serving;
   closing = m.closing;
   user = m.user;
   failures = m.failures;
@@ -156,10 +159,11 @@ module _ {Before : Contents → Type 0} (T : Trace) (n : ℕ) (keeps : Keeps Bef
     -- what became of the octets
     module _ (e : Event) (w : Acted) (k' : Kept) (locks' : BTreeMap (List ℕ) ℕ)
         (may : w ≡ acted.Failed → (has_newline p ≡ true) × (asks policy k.talk judges.sitting (reading (line_after k p)) ≡ true))
-        (is : k' ≡ answered k p (reply w) k'.session)
+        (is : k' ≡ answered k p (reply w) k'.session k'.output)
         (law : (more : List ℕ) → coming k.held (p ++ more) ≡ shown k'.held ++ coming k'.held (k'.pending ++ more))
         (became : BecomesIf (has_newline p) store_now policy k.talk (line_after k p) (reply w) k.session k'.session)
         (follow : LocksFollow n k.session k'.session locks locks')
+        (owes : OwesIf (has_newline p) store_now k'.session k'.output (reply w))
         (formed : is_formed T.log e ≡ true)
         (line_seen : has_newline p ≡ true → slice_get (cut s.stream) s.acted ≡ Some (line_after k p)
         → seen (given T e (Tagged (tag_of w))) n ≡ lined s (line_after k p) (reply_to_cut T.base (history T) n (line_after k p) (tag_of w)) (finds_by T))
@@ -202,15 +206,33 @@ module _ {Before : Contents → Type 0} (T : Trace) (n : ℕ) (keeps : Keeps Bef
           session_after store_now policy s x (reply w) w k.session k'.session sound m.session
           (subst (λ o. SessionAfter (is_quit (reading x)) (logs_in (reading x) (Says (reply w)) o) store_now policy (reply w) k.session k'.session) m.user (became_line h))
 
+      -- the messages of a session that goes on stay
+      stays_own : (quits : Bool) (logged : Option LoginName) → is_quit (reading x) ≡ quits → SessionAfter quits logged store_now policy (reply w) k.session k'.session
+          → StayFor store_now (held_after w policy k.session (reading x) store_now) k'.session
+      stays_own true logged q is = λ o e. absurd (nobody o (sym is ∙ e))
+        where
+          nobody : (o : Session) → None ≡ Some o → ⊥
+          nobody o e = cc
+      stays_own false logged q is = λ o e y i f. subst (λ (c : Contents). In y c.messages) (sym (held_same w policy k.session (reading x) store_now q)) i
+
+      owes_line : has_newline p ≡ true → OwesReply (held_after w policy k.session (reading x) store_now) k'.session k'.output (reply w)
+      owes_line h =
+          let r = subst (λ b. OwesIf b store_now k'.session k'.output (reply w)) h owes in
+          record {
+            owes = owes_on store_now (held_after w policy k.session (reading x) store_now) k'.session k'.output (bytes_of (reply w)) (stays_own _ _ refl (became_line h)) r.owes;
+            serves = r.serves;
+          }
+
       pub here : Matches after (seen T' n) k'
       here = ⊎_elim
           (λ h. subst (λ b. Matches (held_if b w policy k.session (reading x) store_now) (seen T' n) k') (sym h)
           (subst (λ y. Matches (held_after w policy k.session (reading x) store_now) y k') (sym (seen_line h))
-          (line_heard store_now s k k' p (reply w) m is law (held_after w policy k.session (reading x) store_now) (finds store_now policy) h (sits_line h)
+          (line_heard store_now s k k' p (reply w) m is law (held_after w policy k.session (reading x) store_now) (finds store_now policy) h (sits_line h) (owes_line h)
           (judges.parts s l (finds store_now policy) x w))))
           (λ h. subst (λ b. Matches (held_if b w policy k.session (reading x) store_now) (seen T' n) k') (sym h)
           (subst (λ y. Matches store_now y k') (sym (part_seen h (no_line h)))
-          (part_heard store_now s k k' p (reply w) m is law h (subst (λ b. BecomesIf b store_now policy k.talk x (reply w) k.session k'.session) h became))))
+          (part_heard store_now s k k' p (reply w) m is law h (subst (λ b. BecomesIf b store_now policy k.talk x (reply w) k.session k'.session) h became)
+          (subst (λ b. OwesIf b store_now k'.session k'.output (reply w)) h owes))))
           (cases_Bool (has_newline p))
 
       pub agrees : Agree (records_of after) (records T.base (history T'))

@@ -14,12 +14,13 @@ use Rattle.mailtext.specs.Text.{lines_of, stuffed_lines, top_part}
 use Rattle.policy.specs.Policy.{Policy}
 use Rattle.vault.specs.Records.{Records, class_of, octets_of, uid_of}
 use Rattle.vault.specs.declared.record.Message.{Message}
-use Rattle.session.specs.View.{at_number, is_marked, referred, removal, denying}
+use Rattle.policy.specs.declared.decide.Decision.{Decision}
+use Rattle.session.specs.View.{at_number, is_marked, referred, retrieval, removal, denying}
 use Rattle.office.specs.History.{Entry, Act, Tag, Done, Failed, NoMemory, Said, Says, Line, Open, Gone, Idle, Deposit, Administer, Restart, in_force}
 use Rattle.office.specs.Sessions.{live, login, login_by, logs_in, view, marks, marks_after, marks_after_line, ends_session}
 use Rattle.office.specs.Connections.{user, reading}
 use Rattle.office.specs.Told.{told, said_to}
-use Rattle.office.specs.Replying.{said_to_line, reply_to_reading, is_permitted, when_permitted, obeyed, refusal, deleted_if, quit_says, name_or_nobody}
+use Rattle.office.specs.Replying.{said_to_line, reply_to_reading, is_permitted, when_permitted, obeyed, refusal, deleted_if, served_if, quit_says, name_or_nobody}
 use Rattle.office.specs.Laws.{MarksAreByView, marks_by_view, marks_by_act, marks_by_line, marks_unless_login, is_removable}
 use Rattle.office.proofs.Laws.{live_side, no_some}
 
@@ -31,6 +32,20 @@ picked_keeps : (o : Option Message) (b : Bool) (n : ℕ) (f : Message → Reply)
 picked_keeps None b n f ms h = refl
 picked_keeps (Some m) true n f ms h = refl
 picked_keeps (Some m) false n f ms h = h m
+
+served_or_denied : (d : Decision) (reply : Reply) (ms : List ℕ) → marks_after_line (Says reply) ms ≡ ms → marks_after_line (Says (served_if d reply)) ms ≡ ms
+served_or_denied d reply ms h = at d.allowed
+  where
+    at : (b : Bool) → marks_after_line (Says (if b then reply else DeniedBy d.rule)) ms ≡ ms
+    at true = h
+    at false = refl
+
+served_keeps : (B : Records) (G : List Entry) (c n : ℕ) (reply : Message → Reply) → ((m : Message) → marks_after_line (Says (reply m)) (marks G c) ≡ marks G c)
+    → marks_after_line (Says (referred (at_number (view B G c) n) (is_marked (marks G c) n) NoSuchMessage (AlreadyMarked n)
+    (λ (m : Message). served_if (retrieval (in_force B G) (name_or_nobody (login G c)) m.class) (reply m)))) (marks G c) ≡ marks G c
+served_keeps B G c n reply h =
+    picked_keeps (at_number (view B G c) n) (is_marked (marks G c) n) n (λ (m : Message). served_if (retrieval (in_force B G) (name_or_nobody (login G c)) m.class) (reply m)) (marks G c)
+    (λ m. served_or_denied (retrieval (in_force B G) (name_or_nobody (login G c)) m.class) (reply m) (marks G c) (h m))
 
 decided : (b : Bool) (rule : List ℕ) (n : ℕ) (ms : List ℕ) → marks_after_line (Says (if b then Marked n else DeniedBy rule)) ms ≡ (if b then ms ++ n ∷ [] else ms)
 decided true rule n ms = refl
@@ -55,8 +70,8 @@ by_command B G c ListAll l = rw l refl
 by_command B G c (ListOne n) l = rw l (picked_keeps (at_number (view B G c) n) (is_marked (marks G c) n) n (λ m. ScanLine n (octets_of m)) (marks G c) (λ m. refl))
 by_command B G c UidlAll l = rw l refl
 by_command B G c (UidlOne n) l = rw l (picked_keeps (at_number (view B G c) n) (is_marked (marks G c) n) n (λ m. UidLine n (uid_of m)) (marks G c) (λ m. refl))
-by_command B G c (Retr n) l = rw l (picked_keeps (at_number (view B G c) n) (is_marked (marks G c) n) n (λ (m : Message). MessageReply (octets_of m) (stuffed_lines (lines_of m.text))) (marks G c) (λ m. refl))
-by_command B G c (Top n k) l = rw l (picked_keeps (at_number (view B G c) n) (is_marked (marks G c) n) n (λ (m : Message). TopPart (stuffed_lines (top_part (lines_of m.text) k))) (marks G c) (λ m. refl))
+by_command B G c (Retr n) l = rw l (served_keeps B G c n (λ (m : Message). MessageReply (octets_of m) (stuffed_lines (lines_of m.text))) (λ m. refl))
+by_command B G c (Top n k) l = rw l (served_keeps B G c n (λ (m : Message). TopPart (stuffed_lines (top_part (lines_of m.text) k))) (λ m. refl))
 by_command B G c (Dele n) l = rw l (dele_marks (at_number (view B G c) n) (is_marked (marks G c) n) n (in_force B G) (name_or_nobody (login G c)) (marks G c))
 by_command B G c Rset l = rw l refl
 by_command B G c Noop l = rw l refl

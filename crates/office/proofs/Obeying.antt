@@ -1,19 +1,20 @@
 -- What becomes of a line of a session by the reply that was put, and by what the store did.
-use Rattle.std.proofs.Common.{◌≡◌, ℕ, Bool, List, ◌++◌, Result, Ok, Err, refl, sym, ◌∙◌, ap, subst}
+use Rattle.std.proofs.Common.{◌≡◌, ℕ, Bool, List, Some, Result, Ok, Err, refl, sym, subst}
 use Rattle.std.specs.Prelude.{IfOk}
 use Rattle.popline.specs.Commands.{Command, ListAll, UidlAll}
 use Rattle.popline.specs.Cutting.{Cut}
 use Rattle.popline.specs.Cutting as cutting
 use Rattle.popline.specs.Commands.{command_of}
 use Rattle.popline.specs.declared.command.LineFault.{LineFault}
-use Rattle.popline.specs.Replies.{Reply, ScanListing, UidListing, bytes_of}
+use Rattle.popline.specs.Replies.{Reply, ScanListing, UidListing}
 use Rattle.policy.specs.Policy.{Policy}
 use Rattle.vault.specs.Changes.{Contents}
 use Rattle.vault.specs.declared.record.Keyed.{Keyed}
 use Rattle.session.specs.Session.{Session}
 use Rattle.session.specs.Session as head
 use Rattle.session.specs.View.{unmarked, sizes_of, uids_of}
-use Rattle.office.specs.Sitting.{LiesIn, GoesOn, Obeyed, answered_inside, reply_inside, held_after_line, sitting_of, Sitting}
+use Rattle.office.specs.Output.{Output, OwesReply}
+use Rattle.office.specs.Sitting.{LiesIn, GoesOn, Obeyed, session_left, answered_inside, reply_inside, held_after_line, sitting_of, Sitting}
 use Rattle.office.specs.declared.talk.Acted.{Acted}
 use Rattle.office.specs.declared.talk.Acted.TheVariants as acted
 use Rattle.office.proofs.Listed.{list_said, uidl_said}
@@ -30,30 +31,30 @@ if_ok_both R (Err e) p q f = tt
 
 -- ---- a line that needs no store
 
-module _ (After : Contents → Type 0) (grown : Bool) (c : Contents) (p : Policy) (s new : Session) (kept : List Keyed) (before after : List ℕ) where
+module _ (After : Contents → Type 0) (grown : Bool) (c : Contents) (p : Policy) (s new : Session) (kept : List Keyed) (after : Output) where
   -- what reads alike
-  pub reads_alike : (r q : Result Command LineFault) (w : Acted) → r ≡ q → Obeyed After grown c p s new kept before after r w → Obeyed After grown c p s new kept before after q w
-  reads_alike r q w e h = subst (λ (x : Result Command LineFault). Obeyed After grown c p s new kept before after x w) e h
+  pub reads_alike : (r q : Result Command LineFault) (w : Acted) → r ≡ q → Obeyed After grown c p s new kept after r w → Obeyed After grown c p s new kept after q w
+  reads_alike r q w e h = subst (λ (x : Result Command LineFault). Obeyed After grown c p s new kept after x w) e h
 
   -- a reply that was put
-  pub said_so : (r : Result Command LineFault) (w : Acted) (reply : Reply) → w ≡ acted.Done → after ≡ before ++ bytes_of reply
+  pub said_so : (r : Result Command LineFault) (w : Acted) (reply : Reply) → w ≡ acted.Done → OwesReply c (session_left r new) after reply
       → reply ≡ answered_inside acted.Done p (sitting_of s kept) r → GoesOn reply s new → After (held_after_line acted.Done p s r c)
-      → Obeyed After grown c p s new kept before after r w
-  said_so r w reply e said told on held = subst (λ (x : Acted). Obeyed After grown c p s new kept before after r x) (sym e) (record {
-    owed = said ∙ ap (λ (x : Reply). before ++ bytes_of x) told;
+      → Obeyed After grown c p s new kept after r w
+  said_so r w reply e said told on held = subst (λ (x : Acted). Obeyed After grown c p s new kept after r x) (sym e) (record {
+    owed = subst (λ (x : Reply). OwesReply c (session_left r new) after x) told said;
     session = subst (λ (x : Reply). GoesOn x s new) told on;
     held = held;
     may = λ e. cc;
     cause = λ e. cc;
   })
 
-module _ (After : Contents → Type 0) (grown : Bool) (c : Contents) (p : Policy) (s : Session) (kept : List Keyed) (lies : LiesIn c s kept) (before after : List ℕ) where
-  pub listed : after ≡ before ++ bytes_of (ScanListing (sizes_of head.octets_of (unmarked s.marks s.view))) → After c → Obeyed After grown c p s s kept before after (Ok ListAll) acted.Done
-  listed said held = said_so After grown c p s s kept before after (Ok ListAll) acted.Done (ScanListing (sizes_of head.octets_of (unmarked s.marks s.view))) refl said
+module _ (After : Contents → Type 0) (grown : Bool) (c : Contents) (p : Policy) (s : Session) (kept : List Keyed) (lies : LiesIn c s kept) (after : Output) where
+  pub listed : OwesReply c (Some s) after (ScanListing (sizes_of head.octets_of (unmarked s.marks s.view))) → After c → Obeyed After grown c p s s kept after (Ok ListAll) acted.Done
+  listed said held = said_so After grown c p s s kept after (Ok ListAll) acted.Done (ScanListing (sizes_of head.octets_of (unmarked s.marks s.view))) refl said
       (list_said c s kept lies p) (record { name = refl; view = refl; marks = λ n. refl }) held
 
-  pub identified : after ≡ before ++ bytes_of (UidListing (uids_of head.uid_of (unmarked s.marks s.view))) → After c → Obeyed After grown c p s s kept before after (Ok UidlAll) acted.Done
-  identified said held = said_so After grown c p s s kept before after (Ok UidlAll) acted.Done (UidListing (uids_of head.uid_of (unmarked s.marks s.view))) refl said
+  pub identified : OwesReply c (Some s) after (UidListing (uids_of head.uid_of (unmarked s.marks s.view))) → After c → Obeyed After grown c p s s kept after (Ok UidlAll) acted.Done
+  identified said held = said_so After grown c p s s kept after (Ok UidlAll) acted.Done (UidListing (uids_of head.uid_of (unmarked s.marks s.view))) refl said
       (uidl_said c s kept lies p) (record { name = refl; view = refl; marks = λ n. refl }) held
 
 -- ---- a line and what it reads as

@@ -13,21 +13,23 @@ use Rattle.office.specs.Log.{moment}
 use Rattle.office.specs.Trace.{history}
 use Rattle.office.specs.Expected.{most_in_a_piece, IsOutcome}
 use Rattle.office.specs.Outcomes.{Outcome}
+use Rattle.office.specs.Output.{nothing_owed, OwesIf}
 use Rattle.office.specs.Kept.{Kept, clocked, answered, line_after, asks}
 use Rattle.office.specs.Answered.{name_cmp, judged_at, reply_of, tag_of, shown_of, held_if, BecomesIf, LocksFollow}
 use Rattle.vault.specs.Records.{Agree}
-use Rattle.office.specs.Stands.{seen, Matches, IsKeptFor, Keeps}
+use Rattle.office.specs.Stands.{seen, untaken_of, Matches, IsKeptFor, Keeps}
 use Rattle.office.specs.declared.office.Office.{Office}
 use Rattle.office.specs.declared.talk.Acted.{Acted}
 use Rattle.office.specs.declared.talk.Acted.TheVariants as acted
 use Rattle.office.proofs.Judging.{Judges}
 use Rattle.office.proofs.Hearing.{streamed, Awaits, acts_next}
 use Rattle.office.proofs.Events.{Moves, awaits_bytes, bytes_goes, seen-bytes_line, records-bytes_line, seen-bytes_part, records-bytes_part, seen-bytes_other}
+use Rattle.office.proofs.Owing.{none_owed}
 use Rattle.office.proofs.LineDone.{judges, here, agrees, carried, locked}
 
 module _ {Before : Contents → Type 0} (T : Trace) (n : ℕ) (p : List ℕ) (keeps : Keeps Before T) (sound : AreSound keeps.contents) (policy : Policy) (rules : policy ≡ in_force T.base (history T))
     (locks : BTreeMap (List ℕ) ℕ) (held : (d : List ℕ) → get name_cmp locks d ≡ holder (history T) d)
-    (now : ℕ) (moment_is : now ≡ moment T.log) (k : Kept) (m : Matches keeps.contents (seen T n) k) (nothing : k.owed ≡ []) (fits : length p ≤ most_in_a_piece) where
+    (now : ℕ) (moment_is : now ≡ moment T.log) (k : Kept) (m : Matches keeps.contents (seen T n) k) (nothing : k.output ≡ nothing_owed) (fits : length p ≤ most_in_a_piece) where
   -- what is kept as the line is answered
   abbrev set : Kept
   set = clocked now p k
@@ -43,30 +45,30 @@ module _ {Before : Contents → Type 0} (T : Trace) (n : ℕ) (p : List ℕ) (ke
 
   module _ (w : Acted) (k' : Kept) (locks' : BTreeMap (List ℕ) ℕ)
       (may : w ≡ acted.Failed → (has_newline p ≡ true) × (asks policy k.talk judged.sitting (reading (line_after k p)) ≡ true))
-      (is : k' ≡ answered set p (replied w) k'.session)
+      (is : k' ≡ answered set p (replied w) k'.session k'.output)
       (law : (more : List ℕ) → coming k.held (p ++ more) ≡ shown k'.held ++ coming k'.held (k'.pending ++ more)) where
     module _ (became : BecomesIf (has_newline p) keeps.contents policy k.talk (line_after k p) (replied w) k.session k'.session)
-        (follow : LocksFollow n k.session k'.session locks locks') where
+        (follow : LocksFollow n k.session k'.session locks locks') (owes : OwesIf (has_newline p) keeps.contents k'.session k'.output (replied w)) where
       abbrev left : Contents
       left = held_if (has_newline p) w policy k.session (reading (line_after k p)) keeps.contents
 
       piece_here : Matches left (seen (given T (Bytes n p) (Tagged (tag_of w))) n) k'
-      piece_here = here T n keeps sound policy rules locks held (streamed (seen T n) p now) set p ready refl refl refl refl refl refl refl (Bytes n p) w k' locks' may is law became follow refl
+      piece_here = here T n keeps sound policy rules locks held (streamed (seen T n) p now) set p ready refl refl refl refl refl refl refl (Bytes n p) w k' locks' may is law became follow owes refl
           (λ h nx. seen-bytes_line T n p now moment_is w (line_after k p) h nx) (λ h nx. records-bytes_line T n p w (line_after k p) h nx)
           (λ h d. rw d (seen-bytes_part T n p h now)) (λ h d. records-bytes_part T n p (tag_of w) h) (λ q e. seen-bytes_other T n p q (tag_of w) e)
 
       piece_agrees : Agree (records_of left) (records T.base (history (given T (Bytes n p) (Tagged (tag_of w)))))
-      piece_agrees = agrees T n keeps sound policy rules locks held (streamed (seen T n) p now) set p ready refl refl refl refl refl refl refl (Bytes n p) w k' locks' may is law became follow refl
+      piece_agrees = agrees T n keeps sound policy rules locks held (streamed (seen T n) p now) set p ready refl refl refl refl refl refl refl (Bytes n p) w k' locks' may is law became follow owes refl
           (λ h nx. seen-bytes_line T n p now moment_is w (line_after k p) h nx) (λ h nx. records-bytes_line T n p w (line_after k p) h nx)
           (λ h d. rw d (seen-bytes_part T n p h now)) (λ h d. records-bytes_part T n p (tag_of w) h) (λ q e. seen-bytes_other T n p q (tag_of w) e)
 
       piece_carried : (q : ℕ) → eqb n q ≡ false → (o : Option Kept) → IsKeptFor keeps.contents (seen T q) o → IsKeptFor left (seen T q) o
-      piece_carried = carried T n keeps sound policy rules locks held (streamed (seen T n) p now) set p ready refl refl refl refl refl refl refl (Bytes n p) w k' locks' may is law became follow refl
+      piece_carried = carried T n keeps sound policy rules locks held (streamed (seen T n) p now) set p ready refl refl refl refl refl refl refl (Bytes n p) w k' locks' may is law became follow owes refl
           (λ h nx. seen-bytes_line T n p now moment_is w (line_after k p) h nx) (λ h nx. records-bytes_line T n p w (line_after k p) h nx)
           (λ h d. rw d (seen-bytes_part T n p h now)) (λ h d. records-bytes_part T n p (tag_of w) h) (λ q e. seen-bytes_other T n p q (tag_of w) e)
 
       piece_locked : (d : List ℕ) → get name_cmp locks' d ≡ holder (history (given T (Bytes n p) (Tagged (tag_of w)))) d
-      piece_locked = locked T n keeps sound policy rules locks held (streamed (seen T n) p now) set p ready refl refl refl refl refl refl refl (Bytes n p) w k' locks' may is law became follow refl
+      piece_locked = locked T n keeps sound policy rules locks held (streamed (seen T n) p now) set p ready refl refl refl refl refl refl refl (Bytes n p) w k' locks' may is law became follow owes refl
           (λ h nx. seen-bytes_line T n p now moment_is w (line_after k p) h nx) (λ h nx. records-bytes_line T n p w (line_after k p) h nx)
           (λ h d. rw d (seen-bytes_part T n p h now)) (λ h d. records-bytes_part T n p (tag_of w) h) (λ q e. seen-bytes_other T n p q (tag_of w) e)
 
@@ -86,12 +88,12 @@ module _ {Before : Contents → Type 0} (T : Trace) (n : ℕ) (p : List ℕ) (ke
     piece_answered lent o e = at w may is e
       where
         at : (w : Acted) → (w ≡ acted.Failed → (has_newline p ≡ true) × (asks policy k.talk judged.sitting (reading (line_after k p)) ≡ true))
-            → k' ≡ answered set p (replied w) k'.session → o ≡ shown_of w → IsOutcome T lent (Bytes n p) o
+            → k' ≡ answered set p (replied w) k'.session k'.output → o ≡ shown_of w → IsOutcome T lent (Bytes n p) o
         at acted.Done may is e =
-            let goes = bytes_goes T lent n p m.opened (sym m.owed ∙ nothing) fits in
+            let goes = bytes_goes T lent n p m.opened (none_owed keeps.contents k.session k.output (untaken_of (seen T n)) m.owed nothing) fits in
             record { tag = Done; may = refl; is = e ∙ rw goes refl }
         at acted.Failed may is e =
-            let goes = bytes_goes T lent n p m.opened (sym m.owed ∙ nothing) fits in
+            let goes = bytes_goes T lent n p m.opened (none_owed keeps.contents k.session k.output (untaken_of (seen T n)) m.owed nothing) fits in
             let there = may refl in
             let h = there.0 in
             let next = acts_next keeps.contents (streamed (seen T n) p now) set k' p (replied acted.Failed) ready is law h in

@@ -4,14 +4,14 @@ use Rattle.std.specs.Prelude.{⊤}
 use Rattle.std.specs.BTreeMap.{get}
 use Rattle.creds.specs.declared.login_name.LoginName.{LoginName}
 use Rattle.vault.specs.declared.record.Message.{Message}
-use Rattle.vault.specs.Records.{Records, Agree}
+use Rattle.vault.specs.Records.{Records, Agree, IsSound}
 use Rattle.vault.specs.Changes.{Contents, records_of}
 use Rattle.vault.specs.Calls.{IsAnswer, has_grown, CountsFaults}
 use Rattle.vault.specs.declared.fault.VaultFault.{VaultFault}
 use Rattle.vault.specs.declared.fault.VaultFault.TheVariants as fault
 use Rattle.office.specs.Answers.{AdminCommand, ListMaildrops, ShowMaildrop, AddMaildrop, DropMaildrop, ShowClerk, PutClerk, DropClerk, ShowPolicy, SetPolicy, ListSessions, EndSession, Explain}
 use Rattle.office.specs.History.{Act, Administer, Tag, Done, Failed, NoMemory, Silence, Entry, in_force, is_done}
-use Rattle.office.specs.Connections.{boot_and_host, connected, closing, acted, sent, user, failures}
+use Rattle.office.specs.Connections.{boot_and_host, connected, closing, acted, serving, sent, user, failures}
 use Rattle.office.specs.Sessions.{live, login, marks, view, holder, records}
 use Rattle.office.specs.Replying.{stamp}
 use Rattle.office.specs.Answered.{name_cmp}
@@ -20,13 +20,14 @@ use Rattle.office.specs.Events.{Event, Mark, Tagged, Trace, given}
 use Rattle.office.specs.Events as event
 use Rattle.office.specs.Log.{opened, idle_seconds, moment, stream, taken, clock}
 use Rattle.office.specs.Trace.{acts, history}
-use Rattle.office.specs.Formed.{is_formed}
+use Rattle.office.specs.Formed.{is_formed, are_formed}
 use Rattle.office.specs.Expected.{IsOutcome, shown_at, may_show, outcome_of}
 use Rattle.office.specs.Outcomes.{Outcome, mark_of, HasCause}
 use Rattle.office.specs.Outcomes as outcome
 use Rattle.office.specs.Stands.{Seen, seen, Keeps, StandsFor}
 use Rattle.office.specs.declared.office.Office.{Office}
 use Rattle.office.proofs.Standing.{counters, Stays, kept_on}
+use Rattle.office.proofs.Beginning.{begins_on, begun_on}
 
 -- a command that leaves connections alone
 abbrev pub LeavesAlone : AdminCommand → Type 0
@@ -58,6 +59,7 @@ record Left : Type 0 where
   closing : Bool
   live : Bool
   acted : ℕ
+  serving : Bool
   sent : List ℕ
   user : Option LoginName
   failures : ℕ
@@ -74,6 +76,7 @@ left_at B G q d = record {
   closing = closing G q;
   live = live G q;
   acted = acted G q;
+  serving = serving G q;
   sent = sent G q;
   user = user G q;
   failures = failures G q;
@@ -129,6 +132,7 @@ seen_of x l = record {
   live = l.live;
   stream = x.octets;
   acted = l.acted;
+  serving = l.serving;
   sent = l.sent;
   taken = x.took;
   user = l.user;
@@ -146,10 +150,18 @@ seen-quiet T e t q h =
     ap (λ x. seen_of x (left T.base (acts (given T e (Tagged t))) q [])) (event_heard T e t q h)
     ∙ ap (λ l. seen_of (heard T q) l) (event_left T e t q [] h)
 
+-- A store holds the records of a trace's history.
+pub record Stored (Holds : Contents → Type 0) (T : Trace) : Type 0 where
+  pub contents : Contents
+  pub held : Holds contents
+  pub agree : Agree (records_of contents) (records T.base (history T))
+  pub sound : IsSound T.base
+  pub formed : are_formed T.log ≡ true
+
 -- What the store holds after an event: it agrees with the longer trace, and the messages that it held stay.
 pub record Carries (After : Contents → Type 0) (before : Contents) (T : Trace) (e : Event) (t : Tag) : Type 0 where
-  pub keeps : Keeps After (given T e (Tagged t))
-  pub stays : Stays before keeps.contents
+  pub stored : Stored After (given T e (Tagged t))
+  pub stays : Stays before stored.contents
 
 -- only the store and the policy may have changed
 pub quiet : {V : Type 0} (Holds : V → Contents → Type 0) (o o' : Office V) (T : Trace) (e : Event) (t : Tag) → IsQuiet e → (st : StandsFor Holds o T)
@@ -162,7 +174,8 @@ quiet Holds o o' T e t h st k p b s l n links locks =
     let number : (opened T'.log, moment T'.log) ≡ (opened T.log, moment T.log) = ap (λ (x : Heard). x.number) (event_heard T e t 0 h) in
     let idle : idle_seconds T'.log ≡ idle_seconds T.log = ap (λ (x : Heard). x.idle) (event_heard T e t 0 h) in
     record {
-      keeps = k.keeps;
+      keeps = record { contents = k.stored.contents; held = k.stored.held; agree = k.stored.agree; sound = k.stored.sound; formed = k.stored.formed; began = begun_on e (Tagged t) T.log st.began };
+      began = begins_on e (Tagged t) T.log st.began;
       policy = p;
       boot = b ∙ (st.boot ∙ ap (λ (x : ℕ × List ℕ). x.0) (sym office));
       host = s ∙ (st.host ∙ ap (λ (x : ℕ × List ℕ). x.1) (sym office));
@@ -170,7 +183,7 @@ quiet Holds o o' T e t h st k p b s l n links locks =
       moment = ap (λ (x : ℕ × ℕ). x.1) n ∙ (st.moment ∙ ap (λ (x : ℕ × ℕ). x.1) (sym number));
       numbered = λ q some. let same : opened T'.log ≡ opened T.log = ap (λ (x : ℕ × ℕ). x.0) number in rw same (st.numbered q (rw (links q) at some));
       opened = ap (λ (x : ℕ × ℕ). x.0) n ∙ (st.opened ∙ ap (λ (x : ℕ × ℕ). x.0) (sym number));
-      links = λ q. rw (seen-quiet T e t q h, links q) (kept_on st.keeps.contents k.keeps.contents (seen T q) (get nat_cmp o.links q) k.stays (st.links q));
+      links = λ q. rw (seen-quiet T e t q h, links q) (kept_on st.keeps.contents k.stored.contents (seen T q) (get nat_cmp o.links q) k.stays (st.links q));
       locks = λ d. locks d ∙ (st.locks d ∙ sym (ap (λ (x : Left). x.lock) (event_left T e t 0 d h)));
     }
 
@@ -180,7 +193,7 @@ quiet Holds o o' T e t h st k p b s l n links locks =
 pub keeps_with : {Before After : Contents → Type 0} (T : Trace) (e : Event) (t : Tag) (c : Contents) (k : Keeps Before T) → Stays k.contents c → After c
     → Agree (records_of c) (records T.base (history (given T e (Tagged t)))) → is_formed T.log e ≡ true → Carries After k.contents T e t
 keeps_with T e t c k stays h a formed = record {
-  keeps = record { contents = c; held = h; agree = a; sound = k.sound; formed = rw formed k.formed };
+  stored = record { contents = c; held = h; agree = a; sound = k.sound; formed = rw formed k.formed };
   stays = stays;
 }
 
@@ -226,7 +239,7 @@ pub record Became (After : Contents → Type 0) (before : Contents) (T : Trace) 
   pub carries : Carries After before T e tag
   pub cause : tag ≡ Failed → grown ≡ true
 
-mark-shown : (T : Trace) (e : Event) (t : Tag) → IsQuiet e → mark_of (shown_at T.base T.log (history T) e t) ≡ Tagged t
+pub mark-shown : (T : Trace) (e : Event) (t : Tag) → IsQuiet e → mark_of (shown_at T.base T.log (history T) e t) ≡ Tagged t
 mark-shown T (event.Deposit d class id text) Done h = refl
 mark-shown T (event.Deposit d class id text) Failed h = refl
 mark-shown T (event.Deposit d class id text) NoMemory h = refl

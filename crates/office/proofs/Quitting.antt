@@ -1,11 +1,10 @@
 -- What a QUIT asks of the store, and what it leaves.
-use Rattle.std.proofs.Common.{◌≡◌, ℕ, ◌==◌, length, arith, Bool, true, false, not, ◌&&◌, List, [], ◌∷◌, ◌++◌, Option, Some, None, Ok, take, refl, sym, ◌∙◌, ap, ap₂}
-use Rattle.std.proofs.Math.Seq.{take-append_seam}
+use Rattle.std.proofs.Common.{◌≡◌, ℕ, ◌==◌, length, arith, Bool, true, false, not, ◌&&◌, List, [], ◌∷◌, Option, Some, None, Ok, refl, sym, ◌∙◌, ap, subst}
 use Rattle.std.proofs.lemmas.Bool.Decides.{nat_tests}
 use Rattle.std.specs.Prelude.{map}
 use Rattle.std.specs.Str.{bytes_eq}
 use Rattle.popline.specs.Commands.{Quit}
-use Rattle.popline.specs.Replies.{RemovalFailed, bytes_of}
+use Rattle.popline.specs.Replies.{RemovalFailed}
 use Rattle.policy.specs.Policy.{Policy}
 use Rattle.vault.specs.Records as records
 use Rattle.vault.specs.Changes.{Contents, head_of, with_messages, without_keys}
@@ -21,7 +20,8 @@ use Rattle.session.specs.View.{to_remove, denying, is_marked}
 use Rattle.office.specs.History.{Says}
 use Rattle.office.specs.Sessions.{marks_after_line}
 use Rattle.office.specs.Replying.{quit_says, is_empty}
-use Rattle.office.specs.Sitting.{LiesIn, Obeyed, keys_to_remove, without_marked}
+use Rattle.office.specs.Output.{Output, OwesReply}
+use Rattle.office.specs.Sitting.{LiesIn, Obeyed, asks_inside, sitting_of, keys_to_remove, without_marked}
 use Rattle.office.specs.declared.talk.Acted.TheVariants as acted
 use Rattle.office.proofs.Alike.{to_remove-map, denying-map}
 use Rattle.office.proofs.Listed.{message_of}
@@ -60,6 +60,10 @@ quit_keeps : (o : Option (List ℕ)) (marks : List ℕ) → marks_after_line (Sa
 quit_keeps None marks = refl
 quit_keeps (Some rule) marks = refl
 
+no_key : (xs : List Keyed) → not (is_empty (map message_of xs)) ≡ false → map head.key_of (map head_of xs) ≡ []
+no_key [] e = refl
+no_key (x ∷ xs) e = cc
+
 some_key : (xs : List Keyed) → (map head.key_of (map head_of xs) ≡ [] → ⊥) → not (is_empty (map message_of xs)) ≡ true
 some_key [] n = absurd (n refl)
 some_key (x ∷ xs) n = refl
@@ -77,15 +81,19 @@ module _ (c : Contents) (p : Policy) (s : Session) (kept : List Keyed) (lies : L
   asks_removal n = ap (λ (ms : List Message). not (is_empty ms)) (to_remove-map message_of records.class_of p s.name s.marks kept)
       ∙ some_key chosen (λ e. n (keys_chosen ∙ e))
 
+  pub none_asked : asks_inside p (sitting_of s kept) (Ok Quit) ≡ false → keys_to_remove p s ≡ []
+  none_asked e = keys_chosen
+      ∙ no_key chosen (sym (ap (λ (ms : List Message). not (is_empty ms)) (to_remove-map message_of records.class_of p s.name s.marks kept)) ∙ e)
+
   denying_alike : denying head.class_of p s.name s.marks s.view ≡ denying records.class_of p s.name s.marks (map message_of kept)
   denying_alike = ap (λ (view : List Head). denying head.class_of p s.name s.marks view) lies.heads
       ∙ (denying-map head_of head.class_of p s.name s.marks kept ∙ sym (denying-map message_of records.class_of p s.name s.marks kept))
 
-  module _ (After : Contents → Type 0) (grown : Bool) (before after : List ℕ) where
-    pub quit_done : (denied : Option (List ℕ)) → denied ≡ denying head.class_of p s.name s.marks s.view → after ≡ before ++ bytes_of (quit_says denied)
-        → After (without_marked p s c) → Obeyed After grown c p s s kept before after (Ok Quit) acted.Done
+  module _ (After : Contents → Type 0) (grown : Bool) (after : Output) where
+    pub quit_done : (denied : Option (List ℕ)) → denied ≡ denying head.class_of p s.name s.marks s.view → OwesReply c None after (quit_says denied)
+        → After (without_marked p s c) → Obeyed After grown c p s s kept after (Ok Quit) acted.Done
     quit_done denied e said held = record {
-      owed = said ∙ ap (λ (o : Option (List ℕ)). before ++ bytes_of (quit_says o)) (e ∙ denying_alike);
+      owed = subst (λ (o : Option (List ℕ)). OwesReply c None after (quit_says o)) (e ∙ denying_alike) said;
       session = record {
         name = refl;
         view = refl;
@@ -96,8 +104,8 @@ module _ (c : Contents) (p : Policy) (s : Session) (kept : List Keyed) (lies : L
       cause = λ e. cc;
     }
 
-    pub quit_failed : after ≡ before ++ bytes_of RemovalFailed → (keys_to_remove p s ≡ [] → ⊥) → After c → grown ≡ true
-        → Obeyed After grown c p s s kept before after (Ok Quit) acted.Failed
+    pub quit_failed : OwesReply c None after RemovalFailed → (keys_to_remove p s ≡ [] → ⊥) → After c → grown ≡ true
+        → Obeyed After grown c p s s kept after (Ok Quit) acted.Failed
     quit_failed said some held grew = record {
       owed = said;
       session = record { name = refl; view = refl; marks = λ n. refl };
@@ -115,7 +123,3 @@ none_left (x ∷ xs) n e t = absurd (grind (arith, nat_tests))
 pub some_left : {A : Type 0} (xs : List A) (n : ℕ) → n ≡ length xs → (n == 0) ≡ false → xs ≡ [] → ⊥
 some_left [] n e t h = grind (arith, nat_tests)
 some_left (x ∷ xs) n e t h = cc
-
--- what was said is taken back
-pub cut_back : (xs ys zs : List ℕ) (n : ℕ) → ys ≡ xs ++ zs → n ≡ length xs → take n ys ≡ xs
-cut_back xs ys zs n e f = ap₂ (λ (m : ℕ) (l : List ℕ). take m l) f e ∙ take-append_seam xs zs

@@ -13,11 +13,11 @@ use Rattle.popline.specs.Replies.{Reply, LoginFailedClosing, BadArguments, NoSuc
 use Rattle.vault.specs.declared.record.Message.{Message as Stored}
 use Rattle.vault.specs.Records.{octets_of, uid_of}
 use Rattle.mailtext.specs.Text.{lines_of, top_part, stuffed_lines}
-use Rattle.session.specs.View.{at_number, is_marked, referred, removal, denying}
+use Rattle.session.specs.View.{at_number, is_marked, referred, retrieval, removal, denying}
 use Rattle.vault.specs.Records as records
 use Rattle.office.specs.History.{Says}
 use Rattle.office.specs.Connections.{reading, closes, is_quit, user_after_line, is_failure}
-use Rattle.office.specs.Replying.{is_allowed, when_permitted, quit_says, deleted_if}
+use Rattle.office.specs.Replying.{is_allowed, when_permitted, quit_says, deleted_if, served_if}
 use Rattle.office.specs.Kept.{talk_after, one_more_failure}
 use Rattle.office.specs.Sitting.{Sitting, said_inside, refused_reading, reply_inside, user_inside}
 use Rattle.office.specs.declared.talk.Acted.{Acted}
@@ -47,6 +47,13 @@ deleted_fine d n = at d.allowed
     at true = refl
     at false = refl
 
+served_fine : (d : Decision) (reply : Reply) → is_failure (Says reply) ≡ false → is_failure (Says (served_if d reply)) ≡ false
+served_fine d reply h = at d.allowed
+  where
+    at : (b : Bool) → is_failure (Says (if b then reply else DeniedBy d.rule)) ≡ false
+    at true = h
+    at false = refl
+
 quit_fine : (o : Option (List ℕ)) → is_failure (Says (quit_says o)) ≡ false
 quit_fine None = refl
 quit_fine (Some rule) = refl
@@ -65,8 +72,10 @@ module _ (p : Policy) (v : Sitting) where
   said_fine (Ok (ListOne n)) = referred_fine (at_number v.view n) (is_marked v.marks n) n (λ m. ScanLine n (octets_of m)) (λ m. refl)
   said_fine (Ok UidlAll) = refl
   said_fine (Ok (UidlOne n)) = referred_fine (at_number v.view n) (is_marked v.marks n) n (λ m. UidLine n (uid_of m)) (λ m. refl)
-  said_fine (Ok (Retr n)) = referred_fine (at_number v.view n) (is_marked v.marks n) n (λ m. Message (octets_of m) (stuffed_lines (lines_of m.text))) (λ m. refl)
-  said_fine (Ok (Top n k)) = referred_fine (at_number v.view n) (is_marked v.marks n) n (λ m. TopPart (stuffed_lines (top_part (lines_of m.text) k))) (λ m. refl)
+  said_fine (Ok (Retr n)) = referred_fine (at_number v.view n) (is_marked v.marks n) n (λ m. served_if (retrieval p v.name m.class) (Message (octets_of m) (stuffed_lines (lines_of m.text))))
+      (λ m. served_fine (retrieval p v.name m.class) (Message (octets_of m) (stuffed_lines (lines_of m.text))) refl)
+  said_fine (Ok (Top n k)) = referred_fine (at_number v.view n) (is_marked v.marks n) n (λ m. served_if (retrieval p v.name m.class) (TopPart (stuffed_lines (top_part (lines_of m.text) k))))
+      (λ m. served_fine (retrieval p v.name m.class) (TopPart (stuffed_lines (top_part (lines_of m.text) k))) refl)
   said_fine (Ok (Dele n)) = referred_fine (at_number v.view n) (is_marked v.marks n) n (λ m. deleted_if (removal p v.name m.class) n) (λ m. deleted_fine (removal p v.name m.class) n)
   said_fine (Ok Rset) = refl
   said_fine (Ok Noop) = refl

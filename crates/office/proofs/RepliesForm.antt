@@ -30,11 +30,11 @@ use Rattle.popline.specs.ReplyForm.{IsSized, IsWellFormed}
 use Rattle.popline.proofs.FormLemmas.{form_of_replies}
 use Rattle.vault.specs.Records.{Records, IsSound, octets_of, uid_of, class_of, most_octets, most_messages, most_deposits}
 use Rattle.vault.specs.declared.record.Message.{Message}
-use Rattle.session.specs.View.{visible, numbered, numbered_from, at_number, is_marked, referred, unmarked, marked, removal, may_remove, total_of}
+use Rattle.session.specs.View.{visible, numbered, numbered_from, at_number, is_marked, referred, unmarked, marked, retrieval, removal, may_remove, total_of}
 use Rattle.office.specs.History.{Entry, Act, Open, Line, Gone, Idle, Deposit, Administer, Restart, Tag, Done, Failed, NoMemory, in_force, credential, exists}
 use Rattle.office.specs.Connections.{boot_and_host, user, failures, serving, closing}
 use Rattle.office.specs.Sessions.{present, view, marks, login, live, holder}
-use Rattle.office.specs.Replying.{stamp, login_failed, maildrop_has, opening, logging_in, deleted_if, quit_says, session_says, is_permitted, when_permitted, refusal, name_or_nobody, bye_unless, obeyed, reply_to_reading, reply_to_cut, said_to_line}
+use Rattle.office.specs.Replying.{stamp, login_failed, maildrop_has, opening, logging_in, deleted_if, served_if, quit_says, session_says, is_permitted, when_permitted, refusal, name_or_nobody, bye_unless, obeyed, reply_to_reading, reply_to_cut, said_to_line}
 use Rattle.office.specs.Told.{told, said_to, answers_if_done, deposited, administered}
 use Rattle.office.specs.Answers.{Answer}
 use Rattle.office.specs.Events.{Event, Mark, Ignored, Tagged, Log, Trace}
@@ -162,6 +162,9 @@ sized_referred (Some m) false n f h = (h m refl).1
 sized_deleted : (d : Decision) (n : ℕ) → n < 2 ^ 64 → IsShort d.rule → IsSized (deleted_if d n)
 sized_deleted d n h k = sized_if d.allowed (Marked n) (DeniedBy d.rule) h k
 
+sized_served : (d : Decision) (reply : Reply) → IsSized reply → IsShort d.rule → IsSized (served_if d reply)
+sized_served d reply h k = sized_if d.allowed reply (DeniedBy d.rule) h k
+
 -- the rule that a QUIT names
 denied_short : (policy : Policy) (name : LoginName) (o : Option (ℕ × Message)) → is_sound_policy policy ≡ true
     → IsSized (quit_says (option_map (λ (row : ℕ × Message). (removal policy name row.1.class).rule) o))
@@ -178,11 +181,13 @@ sized_session policy name marks view UidlAll p s = tt
 sized_session policy name marks view (UidlOne n) p s = sized_referred (at_number view n) (is_marked marks n) n (λ m. UidLine n (uid_of m))
     (λ m e. let f = found_small view n m s e in (f.number, (f.number, f.k, f.class)))
 sized_session policy name marks view (Retr n) p s =
-    sized_referred (at_number view n) (is_marked marks n) n (λ (m : Message). MessageReply (octets_of m) (stuffed_lines (lines_of m.text)))
-    (λ m e. let f = found_small view n m s e in (f.number, f.octets))
+    sized_referred (at_number view n) (is_marked marks n) n (λ (m : Message). served_if (retrieval policy name m.class) (MessageReply (octets_of m) (stuffed_lines (lines_of m.text))))
+    (λ m e. let f = found_small view n m s e in
+    (f.number, sized_served (retrieval policy name m.class) (MessageReply (octets_of m) (stuffed_lines (lines_of m.text))) f.octets (short_rule policy name.clerk name.maildrop m.class to.Read p)))
 sized_session policy name marks view (Top n k) p s =
-    sized_referred (at_number view n) (is_marked marks n) n (λ (m : Message). TopPart (stuffed_lines (top_part (lines_of m.text) k)))
-    (λ m e. let f = found_small view n m s e in (f.number, tt))
+    sized_referred (at_number view n) (is_marked marks n) n (λ (m : Message). served_if (retrieval policy name m.class) (TopPart (stuffed_lines (top_part (lines_of m.text) k))))
+    (λ m e. let f = found_small view n m s e in
+    (f.number, sized_served (retrieval policy name m.class) (TopPart (stuffed_lines (top_part (lines_of m.text) k))) tt (short_rule policy name.clerk name.maildrop m.class to.Read p)))
 sized_session policy name marks view (Dele n) p s =
     sized_referred (at_number view n) (is_marked marks n) n (λ (m : Message). deleted_if (removal policy name m.class) n)
     (λ m e. let f = found_small view n m s e in

@@ -12,6 +12,7 @@ use Rattle.office.specs.Stands.{StandsFor}
 use Rattle.office.specs.declared.office.Office.{Office}
 use Rattle.office.proofs.Standing.{counters}
 use Rattle.office.proofs.Locked.{holder_is}
+use Rattle.office.proofs.Beginning.{begins_on, begun_on}
 
 pub boot_formed : (T : Trace) (boot : ℕ) → boot < 18446744073709551616 → is_formed T.log (event.Restart boot) ≡ true
 boot_formed T boot fits = lt-ltb boot (2 ^ 64) (omega (arith, fits))
@@ -23,7 +24,8 @@ pub restart_stands : {V : Type 0} (Holds : V → Contents → Type 0) (o o' : Of
 restart_stands Holds o o' T boot st formed on p b s l n links locks =
     let T' = given T (event.Restart boot) (Tagged Done) in
     record {
-      keeps = record { contents = st.keeps.contents; held = on st.keeps.contents st.keeps.held; agree = st.keeps.agree; sound = st.keeps.sound; formed = rw formed st.keeps.formed };
+      keeps = record { contents = st.keeps.contents; held = on st.keeps.contents st.keeps.held; agree = st.keeps.agree; sound = st.keeps.sound; formed = rw formed st.keeps.formed; began = begun_on (event.Restart boot) (Tagged Done) T.log st.began };
+      began = begins_on (event.Restart boot) (Tagged Done) T.log st.began;
       policy = p ∙ st.policy;
       boot = b;
       host = s ∙ st.host;

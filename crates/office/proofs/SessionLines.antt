@@ -16,12 +16,12 @@ use Rattle.popline.specs.Replies.{Reply, DropListing, ScanListing, UidListing, N
 use Rattle.policy.specs.Policy.{Policy}
 use Rattle.vault.specs.Records.{Records, class_of, octets_of, uid_of}
 use Rattle.vault.specs.declared.record.Message as store
-use Rattle.session.specs.View.{is_marked, marked, unmarked, numbered, at_number, referred, may_remove, removal, to_remove, denying, sizes_of, uids_of, total_of}
+use Rattle.session.specs.View.{is_marked, marked, unmarked, numbered, at_number, referred, retrieval, may_remove, removal, to_remove, denying, sizes_of, uids_of, total_of}
 use Rattle.office.specs.History.{Entry, Done, Failed, Says, in_force}
 use Rattle.office.specs.Connections.{reading, user, closes, is_quit}
 use Rattle.policy.specs.declared.decide.Decision.{Decision}
 use Rattle.office.specs.Sessions.{live, login, logs_in, marks, view}
-use Rattle.office.specs.Replying.{session_says, quit_says, is_allowed, when_permitted, name_or_nobody, is_pickable, is_empty, pick, deleted_if, reply_to_reading, reply_to_cut, line_may_fail, reading_may_fail}
+use Rattle.office.specs.Replying.{session_says, quit_says, is_allowed, when_permitted, name_or_nobody, is_readable, may_serve, served_if, is_empty, pick, deleted_if, reply_to_reading, reply_to_cut, line_may_fail, reading_may_fail}
 use Rattle.office.specs.Answered.{tag_of}
 use Rattle.office.specs.Sitting.{Sitting, said_inside, refused_reading, asks_inside, reply_inside}
 use Rattle.office.specs.declared.talk.Acted.{Acted}
@@ -140,10 +140,13 @@ module _ (B : Records) (G : List Entry) (c : ℕ) (p : Policy) (v : Sitting) (a 
   refused_inside (Ok Rset) h = cc
   refused_inside (Ok Noop) h = cc
 
-  picked_inside : (n : ℕ) → is_pickable (at_number v.view n) (is_marked v.marks n) ≡ true → is_pickable (at_number (view B G c) n) (is_marked (marks G c) n) ≡ true
+  picked_inside : (n : ℕ) → is_readable p v.name (at_number v.view n) (is_marked v.marks n) ≡ true → may_serve B G c n ≡ true
   picked_inside n h =
-      ap (λ b. is_pickable (at_number (view B G c) n) b) (sym (a.marks n))
-      ∙ (ap (λ (rows : List store.Message). is_pickable (at_number rows n) (is_marked v.marks n)) (sym a.view) ∙ h)
+      let name = name_or_nobody (login G c) in
+      ap (λ b. is_readable (in_force B G) name (at_number (view B G c) n) b) (sym (a.marks n))
+      ∙ (ap (λ (rows : List store.Message). is_readable (in_force B G) name (at_number rows n) (is_marked v.marks n)) (sym a.view)
+      ∙ (ap (λ (q : Policy). is_readable q name (at_number v.view n) (is_marked v.marks n)) (sym a.policy)
+      ∙ (ap (λ (who : LoginName). is_readable p who (at_number v.view n) (is_marked v.marks n)) name_inside ∙ h)))
 
   may_be_refused : (r : Result Command LineFault) → asks_inside p v r ≡ true → reading_may_fail B G c r ≡ true
   may_be_refused (Err e) h = cc
@@ -214,6 +217,14 @@ closes_deleted n d = at d.allowed
     at true = refl
     at false = refl
 
+closes_served : (r : Result Command LineFault) (d : Decision) (reply : Reply) → closes r (Says reply) ≡ is_quit r → closes r (Says (DeniedBy d.rule)) ≡ is_quit r
+    → closes r (Says (served_if d reply)) ≡ is_quit r
+closes_served r d reply e f = at d.allowed
+  where
+    at : (b : Bool) → closes r (Says (if b then reply else DeniedBy d.rule)) ≡ is_quit r
+    at true = e
+    at false = f
+
 closes_quit : (o : Option (List ℕ)) → closes (Ok Quit) (Says (quit_says o)) ≡ true
 closes_quit None = refl
 closes_quit (Some rule) = refl
@@ -235,8 +246,8 @@ closes_read p v (Ok ListAll) = refl
 closes_read p v (Ok (ListOne n)) = closes_referred (Ok (ListOne n)) (at_number v.view n) (is_marked v.marks n) n _ (λ m. refl)
 closes_read p v (Ok UidlAll) = refl
 closes_read p v (Ok (UidlOne n)) = closes_referred (Ok (UidlOne n)) (at_number v.view n) (is_marked v.marks n) n _ (λ m. refl)
-closes_read p v (Ok (Retr n)) = closes_referred (Ok (Retr n)) (at_number v.view n) (is_marked v.marks n) n _ (λ m. refl)
-closes_read p v (Ok (Top n k)) = closes_referred (Ok (Top n k)) (at_number v.view n) (is_marked v.marks n) n _ (λ m. refl)
+closes_read p v (Ok (Retr n)) = closes_referred (Ok (Retr n)) (at_number v.view n) (is_marked v.marks n) n _ (λ m. closes_served (Ok (Retr n)) (retrieval p v.name m.class) _ refl refl)
+closes_read p v (Ok (Top n k)) = closes_referred (Ok (Top n k)) (at_number v.view n) (is_marked v.marks n) n _ (λ m. closes_served (Ok (Top n k)) (retrieval p v.name m.class) _ refl refl)
 closes_read p v (Ok (Dele n)) = closes_referred (Ok (Dele n)) (at_number v.view n) (is_marked v.marks n) n _ (λ m. closes_deleted n (removal p v.name m.class))
 closes_read p v (Ok Rset) = refl
 closes_read p v (Ok Noop) = refl

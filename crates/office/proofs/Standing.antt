@@ -7,9 +7,10 @@ use Rattle.office.specs.Laws.{In}
 use Rattle.office.specs.Events.{Log}
 use Rattle.office.specs.Log.{opened, moment}
 use Rattle.office.specs.Kept.{Kept}
-use Rattle.office.specs.Stands.{Seen, IsSession, Matches, IsKeptFor}
+use Rattle.office.specs.Stands.{Seen, untaken_of, IsSession, Matches, IsKeptFor}
 use Rattle.office.specs.declared.office.Office.{Office}
 use Rattle.office.proofs.Lying.{lies_on}
+use Rattle.office.proofs.Owing.{owes_on}
 
 -- the newest number and the moment
 abbrev pub counters : {V : Type 0} → Office V → ℕ × ℕ
@@ -34,13 +35,14 @@ session_on c c' s (Some k) stays h = record {
   view = h.view;
 }
 
-matches_with : (c c' : Contents) (s : Seen) (k : Kept) → IsSession c' s k.session → Matches c s k → Matches c' s k
-matches_with c c' s k session m = record {
+matches_with : (c c' : Contents) (s : Seen) (k : Kept) → IsSession c' s k.session → Stays c c' → Matches c s k → Matches c' s k
+matches_with c c' s k session stays m = record {
   opened = m.opened;
   session = session;
   parted = m.parted;
   taken = m.taken;
-  owed = m.owed;
+  owed = owes_on c c' k.session k.output (untaken_of s) (λ o e x i within. stays x i) m.owed;
+  serving = m.serving;
   closing = m.closing;
   user = m.user;
   failures = m.failures;
@@ -55,4 +57,4 @@ matches_with c c' s k session m = record {
 -- what is kept of a connection, where the store's messages stay
 pub kept_on : (c c' : Contents) (s : Seen) (o : Option Kept) → Stays c c' → IsKeptFor c s o → IsKeptFor c' s o
 kept_on c c' s None stays h = h
-kept_on c c' s (Some k) stays m = matches_with c c' s k (session_on c c' s k.session stays m.session) m
+kept_on c c' s (Some k) stays m = matches_with c c' s k (session_on c c' s k.session stays m.session) stays m

@@ -13,6 +13,7 @@ use Rattle.office.specs.Log.{moment}
 use Rattle.office.specs.Trace.{history, is_left, next_line}
 use Rattle.office.specs.Expected.{ignored, IsOutcome}
 use Rattle.office.specs.Outcomes.{Outcome}
+use Rattle.office.specs.Output.{OwesIf}
 use Rattle.office.specs.Kept.{Kept, answered, line_after, asks}
 use Rattle.office.specs.Answered.{name_cmp, judged_at, reply_of, tag_of, shown_of, held_if, BecomesIf, LocksFollow}
 use Rattle.vault.specs.Records.{Agree}
@@ -39,33 +40,33 @@ module _ {Before : Contents → Type 0} (T : Trace) (n octets : ℕ) (keeps : Ke
 
   module _ (w : Acted) (k' : Kept) (locks' : BTreeMap (List ℕ) ℕ)
       (may : w ≡ acted.Failed → (has_newline p ≡ true) × (asks policy k.talk judged.sitting (reading (line_after k p)) ≡ true))
-      (is : k' ≡ answered k p (replied w) k'.session)
+      (is : k' ≡ answered k p (replied w) k'.session k'.output)
       (law : (more : List ℕ) → coming k.held (p ++ more) ≡ shown k'.held ++ coming k'.held (k'.pending ++ more)) where
     none : has_newline p ≡ false → next_line T.log (history T) n [] ≡ None
     none h = next_kept T n ∙ none_next keeps.contents (took (seen T n) octets now) k k' p (replied w) ready is law h
 
     module _ (became : BecomesIf (has_newline p) keeps.contents policy k.talk (line_after k p) (replied w) k.session k'.session)
-        (follow : LocksFollow n k.session k'.session locks locks') where
+        (follow : LocksFollow n k.session k'.session locks locks') (owes : OwesIf (has_newline p) keeps.contents k'.session k'.output (replied w)) where
       abbrev left : Contents
       left = held_if (has_newline p) w policy k.session (reading (line_after k p)) keeps.contents
 
       taking_here : Matches left (seen (given T (Took n octets) (Tagged (tag_of w))) n) k'
-      taking_here = here T n keeps sound policy rules locks held (took (seen T n) octets now) k p ready refl refl refl refl refl refl refl (Took n octets) w k' locks' may is law became follow refl
+      taking_here = here T n keeps sound policy rules locks held (took (seen T n) octets now) k p ready refl refl refl refl refl refl refl (Took n octets) w k' locks' may is law became follow owes refl
           (λ h nx. seen-took_line T n octets now moment_is w (line_after k p) all open_yet (next_kept T n ∙ nx)) (λ h nx. records-took_line T n octets w (line_after k p) all open_yet (next_kept T n ∙ nx))
           (λ h d. rw d (seen-took_none T n octets now moment_is all open_yet (none h))) (λ h d. rw d (records-took_none T n octets all open_yet (none h))) (λ q e. seen-took_other T n octets q (tag_of w) e)
 
       taking_agrees : Agree (records_of left) (records T.base (history (given T (Took n octets) (Tagged (tag_of w)))))
-      taking_agrees = agrees T n keeps sound policy rules locks held (took (seen T n) octets now) k p ready refl refl refl refl refl refl refl (Took n octets) w k' locks' may is law became follow refl
+      taking_agrees = agrees T n keeps sound policy rules locks held (took (seen T n) octets now) k p ready refl refl refl refl refl refl refl (Took n octets) w k' locks' may is law became follow owes refl
           (λ h nx. seen-took_line T n octets now moment_is w (line_after k p) all open_yet (next_kept T n ∙ nx)) (λ h nx. records-took_line T n octets w (line_after k p) all open_yet (next_kept T n ∙ nx))
           (λ h d. rw d (seen-took_none T n octets now moment_is all open_yet (none h))) (λ h d. rw d (records-took_none T n octets all open_yet (none h))) (λ q e. seen-took_other T n octets q (tag_of w) e)
 
       taking_carried : (q : ℕ) → eqb n q ≡ false → (o : Option Kept) → IsKeptFor keeps.contents (seen T q) o → IsKeptFor left (seen T q) o
-      taking_carried = carried T n keeps sound policy rules locks held (took (seen T n) octets now) k p ready refl refl refl refl refl refl refl (Took n octets) w k' locks' may is law became follow refl
+      taking_carried = carried T n keeps sound policy rules locks held (took (seen T n) octets now) k p ready refl refl refl refl refl refl refl (Took n octets) w k' locks' may is law became follow owes refl
           (λ h nx. seen-took_line T n octets now moment_is w (line_after k p) all open_yet (next_kept T n ∙ nx)) (λ h nx. records-took_line T n octets w (line_after k p) all open_yet (next_kept T n ∙ nx))
           (λ h d. rw d (seen-took_none T n octets now moment_is all open_yet (none h))) (λ h d. rw d (records-took_none T n octets all open_yet (none h))) (λ q e. seen-took_other T n octets q (tag_of w) e)
 
       taking_locked : (d : List ℕ) → get name_cmp locks' d ≡ holder (history (given T (Took n octets) (Tagged (tag_of w)))) d
-      taking_locked = locked T n keeps sound policy rules locks held (took (seen T n) octets now) k p ready refl refl refl refl refl refl refl (Took n octets) w k' locks' may is law became follow refl
+      taking_locked = locked T n keeps sound policy rules locks held (took (seen T n) octets now) k p ready refl refl refl refl refl refl refl (Took n octets) w k' locks' may is law became follow owes refl
           (λ h nx. seen-took_line T n octets now moment_is w (line_after k p) all open_yet (next_kept T n ∙ nx)) (λ h nx. records-took_line T n octets w (line_after k p) all open_yet (next_kept T n ∙ nx))
           (λ h d. rw d (seen-took_none T n octets now moment_is all open_yet (none h))) (λ h d. rw d (records-took_none T n octets all open_yet (none h))) (λ q e. seen-took_other T n octets q (tag_of w) e)
 
@@ -85,7 +86,7 @@ module _ {Before : Contents → Type 0} (T : Trace) (n octets : ℕ) (keeps : Ke
     taking_answered lent o goes e = at w may is e
       where
         at : (w : Acted) → (w ≡ acted.Failed → (has_newline p ≡ true) × (asks policy k.talk judged.sitting (reading (line_after k p)) ≡ true))
-            → k' ≡ answered k p (replied w) k'.session → o ≡ shown_of w → IsOutcome T lent (Took n octets) o
+            → k' ≡ answered k p (replied w) k'.session k'.output → o ≡ shown_of w → IsOutcome T lent (Took n octets) o
         at acted.Done may is e = record { tag = Done; may = refl; is = e ∙ rw goes refl }
         at acted.Failed may is e =
             let there = may refl in

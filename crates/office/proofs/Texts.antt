@@ -1,17 +1,19 @@
 -- The message under a number of a session, and its text under its key.
-use Rattle.std.proofs.Common.{◌≡◌, ◌≤◌, ℕ, zero, suc, Bool, true, false, not, ◌&&◌, ◌==◌, cond, List, [], ◌∷◌, ◌++◌, length, Option, Some, None, Result, Ok, Err, slice_get, refl, sym, ◌∙◌, ap, ap₂, subst, ⊎_elim, inl, inr, true≢false, arith}
+use Rattle.std.proofs.Common.{◌≡◌, ◌<◌, ◌≤◌, ℕ, zero, suc, Bool, true, false, not, ◌&&◌, ◌==◌, cond, List, [], ◌∷◌, ◌++◌, length, Option, Some, None, Result, Ok, Err, slice_get, refl, sym, ◌∙◌, ap, ap₂, subst, ⊎_elim, inl, inr, true≢false, arith}
 use Rattle.std.proofs.lemmas.Bool.{and_parts, or_parts, eq-eqb}
 use Rattle.std.proofs.lemmas.Bool.Decides.{nat_tests}
 use Rattle.std.proofs.lemmas.Slice.Eq.{bytes_eq-Decides}
-use Rattle.std.specs.Prelude.{map, nat_le, nat_lt, unwrap_or}
+use Rattle.std.specs.Prelude.{map, nat_le, nat_lt, unwrap_or, if◌then◌else◌}
 use Rattle.std.specs.List.{list_any, list_all, find}
 use Rattle.std.specs.Option.{option_map}
 use Rattle.std.specs.Str.{bytes_eq}
 use Rattle.mailtext.specs.MailText.{IsMailText}
 use Rattle.mailtext.specs.Text.{kept_form, lines_of, stuffed_lines, top_part}
+use Rattle.creds.specs.declared.login_name.LoginName.{LoginName}
 use Rattle.policy.specs.Policy.{Policy, are_distinct}
+use Rattle.policy.specs.declared.decide.Decision.{Decision}
 use Rattle.popline.specs.Commands.{Retr, Top}
-use Rattle.popline.specs.Replies.{Reply, NoSuchMessage, AlreadyMarked, Message, TopPart, StoreFailed, bytes_of}
+use Rattle.popline.specs.Replies.{Reply, NoSuchMessage, AlreadyMarked, Message, TopPart, DeniedBy, bytes_of}
 use Rattle.vault.specs.Records.{Records, is_sound_message, is_one_of, is_receipt_for, octets_of, most_octets}
 use Rattle.vault.specs.Changes.{Contents, AreSound, records_of, head_of}
 use Rattle.vault.specs.Calls.{text_under}
@@ -19,25 +21,29 @@ use Rattle.vault.specs.declared.answer.Head.{Head}
 use Rattle.vault.specs.declared.record.Keyed.{Keyed}
 use Rattle.vault.specs.declared.record.Message.{Message as Stored}
 use Rattle.session.specs.declared.pick.Pick.{Pick}
-use Rattle.session.specs.declared.pick.Pick.TheVariants.{NoSuch, Deleted}
-use Rattle.session.specs.Session.{Session, picked}
-use Rattle.session.specs.View.{at_number, is_marked, refer, referred}
+use Rattle.session.specs.declared.pick.Pick.TheVariants.{NoSuch, Deleted, Denied}
+use Rattle.session.specs.Session.{Session, picked_for, read_answer}
+use Rattle.session.specs.View.{at_number, is_marked, refer, referred, retrieval, may_read}
 use Rattle.office.specs.Laws.{In}
-use Rattle.office.specs.Replying.{is_pickable}
-use Rattle.office.specs.Sitting.{LiesIn, GoesOn, Obeyed, HasText, told_inside}
+use Rattle.office.specs.Replying.{is_readable, served_if}
+use Rattle.office.specs.Output.{Output, Owes, OwesReply, Reads, IsBegun, text_coming}
+use Rattle.office.specs.Sitting.{LiesIn, GoesOn, Obeyed, HasText, IsServed, told_inside, refused_pick}
+use Rattle.office.specs.declared.reading.Reading.{Reading}
+use Rattle.office.specs.declared.talk.Acted.{Acted}
 use Rattle.office.specs.declared.talk.Acted.TheVariants as acted
 use Rattle.office.proofs.Alike.{refer-map, at_number-map}
 use Rattle.office.proofs.Listed.{message_of}
 
 -- ---- the message under a number
 
--- a number names a stored message, which isn't marked
-pub record Found (s : Session) (kept : List Keyed) (n : ℕ) (head : Head) : Type 0 where
+-- a number names a stored message, which isn't marked and may be read
+pub record Found (p : Policy) (s : Session) (kept : List Keyed) (n : ℕ) (head : Head) : Type 0 where
   pub stored : Keyed
   pub there : In stored kept
   pub head_is : head ≡ head_of stored
   pub at : at_number kept n ≡ Some stored
   pub unmarked : is_marked s.marks n ≡ false
+  pub readable : may_read p s.name stored.message.class ≡ true
 
 there_at : {A : Type 0} (xs : List A) (n : ℕ) (x : A) → slice_get xs n ≡ Some x → In x xs
 there_at [] n x e = cc
@@ -48,36 +54,84 @@ in_at_number : {A : Type 0} (xs : List A) (n : ℕ) (x : A) → at_number xs n �
 in_at_number xs zero x e = cc
 in_at_number xs (suc n) x e = there_at xs n x e
 
-abbrev head_referred : Option Keyed → Bool → Result Head Pick
-head_referred o b = referred (option_map head_of o) b (Err NoSuch) (Err Deleted) (λ (h : Head). Ok h)
+abbrev head_referred : Policy → LoginName → Option Keyed → Bool → Result Head Pick
+head_referred p name o b = referred (option_map head_of o) b (Err NoSuch) (Err Deleted) (λ (h : Head). read_answer (retrieval p name h.class) h)
 
-found_at : (s : Session) (kept : List Keyed) (n : ℕ) (head : Head) (o : Option Keyed) → at_number kept n ≡ o → (b : Bool) → is_marked s.marks n ≡ b
-    → ◌≡◌ {A = Result Head Pick} (Ok head) (head_referred o b) → Found s kept n head
-found_at s kept n head None e b f h = absurd (cc)
-found_at s kept n head (Some x) e true f h = absurd (cc)
-found_at s kept n head (Some x) e false f h = record { stored = x; there = in_at_number kept n x e; head_is = cc; at = e; unmarked = f }
+-- a head that is let be read
+read : (b : Bool) (rule : List ℕ) (head h : Head) → ◌≡◌ {A = Result Head Pick} (Ok head) (if b then Ok h else Err (Denied rule)) → (head ≡ h) × (b ≡ true)
+read true rule head h e = (cc, refl)
+read false rule head h e = absurd (cc)
 
-pub found : (c : Contents) (s : Session) (kept : List Keyed) → LiesIn c s kept → (n : ℕ) (head : Head) → ◌≡◌ {A = Result Head Pick} (Ok head) (picked s n) → Found s kept n head
-found c s kept lies n head e =
+found_at : (p : Policy) (s : Session) (kept : List Keyed) (n : ℕ) (head : Head) (o : Option Keyed) → at_number kept n ≡ o → (b : Bool) → is_marked s.marks n ≡ b
+    → ◌≡◌ {A = Result Head Pick} (Ok head) (head_referred p s.name o b) → Found p s kept n head
+found_at p s kept n head None e b f h = absurd (cc)
+found_at p s kept n head (Some x) e true f h = absurd (cc)
+found_at p s kept n head (Some x) e false f h =
+    let d = retrieval p s.name x.message.class in
+    let r = read d.allowed d.rule head (head_of x) h in
+    record { stored = x; there = in_at_number kept n x e; head_is = r.0; at = e; unmarked = f; readable = r.1 }
+
+-- a reference among the heads, as one among what is stored
+among : (c : Contents) (p : Policy) (s : Session) (kept : List Keyed) → LiesIn c s kept → (n : ℕ) → picked_for p s n ≡ head_referred p s.name (at_number kept n) (is_marked s.marks n)
+among c p s kept lies n =
     let view : at_number s.view n ≡ option_map head_of (at_number kept n) = ap (λ (view : List Head). at_number view n) lies.heads ∙ at_number-map head_of kept n in
-    found_at s kept n head (at_number kept n) refl (is_marked s.marks n) refl
-    (e ∙ ap (λ (o : Option Head). referred {B = Result Head Pick} o (is_marked s.marks n) (Err NoSuch) (Err Deleted) (λ (h : Head). Ok h)) view)
+    ap (λ (o : Option Head). referred {B = Result Head Pick} o (is_marked s.marks n) (Err NoSuch) (Err Deleted) (λ (h : Head). read_answer (retrieval p s.name h.class) h)) view
+
+pub found : (c : Contents) (p : Policy) (s : Session) (kept : List Keyed) → LiesIn c s kept → (n : ℕ) (head : Head) → ◌≡◌ {A = Result Head Pick} (Ok head) (picked_for p s n) → Found p s kept n head
+found c p s kept lies n head e = found_at p s kept n head (at_number kept n) refl (is_marked s.marks n) refl (e ∙ among c p s kept lies n)
+
+-- what is refused is told: there is no such message, it is marked, or its reading is denied
+refused_read : (d : Decision) (n : ℕ) (why : Pick) (h : Head) (reply : Reply) → ◌≡◌ {A = Result Head Pick} (Err why) (read_answer d h) → refused_pick n why ≡ served_if d reply
+refused_read d n why h reply e = at d.allowed e
+  where
+    at : (b : Bool) → ◌≡◌ {A = Result Head Pick} (Err why) (if b then Ok h else Err (Denied d.rule)) → refused_pick n why ≡ (if b then reply else DeniedBy d.rule)
+    at true f = absurd (cc)
+    at false f = let same : why ≡ Denied d.rule = cc in ap (refused_pick n) same
+
+refused_at : (p : Policy) (name : LoginName) (n : ℕ) (why : Pick) (reply : Stored → Reply) (o : Option Keyed) (b : Bool)
+    → ◌≡◌ {A = Result Head Pick} (Err why) (head_referred p name o b)
+    → refused_pick n why ≡ referred o b NoSuchMessage (AlreadyMarked n) (λ (x : Keyed). served_if (retrieval p name x.message.class) (reply x.message))
+refused_at p name n why reply None b e = let same : why ≡ NoSuch = cc in ap (refused_pick n) same
+refused_at p name n why reply (Some x) true e = let same : why ≡ Deleted = cc in ap (refused_pick n) same
+refused_at p name n why reply (Some x) false e = refused_read (retrieval p name x.message.class) n why (head_of x) (reply x.message) e
+
+refused_said : (c : Contents) (p : Policy) (s : Session) (kept : List Keyed) → LiesIn c s kept → (n : ℕ) (why : Pick) (reply : Stored → Reply) → ◌≡◌ {A = Result Head Pick} (Err why) (picked_for p s n)
+    → refused_pick n why ≡ refer s.marks (map message_of kept) n NoSuchMessage (AlreadyMarked n) (λ (m : Stored). served_if (retrieval p s.name m.class) (reply m))
+refused_said c p s kept lies n why reply e =
+    refused_at p s.name n why reply (at_number kept n) (is_marked s.marks n) (e ∙ among c p s kept lies n)
+    ∙ sym (refer-map message_of s.marks kept n NoSuchMessage (AlreadyMarked n) (λ (m : Stored). served_if (retrieval p s.name m.class) (reply m)))
+
+-- a refusal changes no mark
+pub refused_goes_on : (n : ℕ) (why : Pick) (s : Session) → GoesOn (refused_pick n why) s s
+refused_goes_on n NoSuch s = record { name = refl; view = refl; marks = λ m. refl }
+refused_goes_on n Deleted s = record { name = refl; view = refl; marks = λ m. refl }
+refused_goes_on n (Denied rule) s = record { name = refl; view = refl; marks = λ m. refl }
 
 -- ---- what is said of it
 
-module _ (c : Contents) (s : Session) (kept : List Keyed) (n : ℕ) (head : Head) (f : Found s kept n head) where
-  said_of : (reply : Stored → Reply) → refer s.marks (map message_of kept) n NoSuchMessage (AlreadyMarked n) reply ≡ reply f.stored.message
-  said_of reply = refer-map message_of s.marks kept n NoSuchMessage (AlreadyMarked n) reply
-      ∙ ap₂ (λ (o : Option Keyed) (b : Bool). referred o b NoSuchMessage (AlreadyMarked n) (λ (x : Keyed). reply x.message)) f.at f.unmarked
+module _ (c : Contents) (p : Policy) (s : Session) (kept : List Keyed) (n : ℕ) (head : Head) (f : Found p s kept n head) where
+  said_of : (reply : Stored → Reply)
+      → refer s.marks (map message_of kept) n NoSuchMessage (AlreadyMarked n) (λ (m : Stored). served_if (retrieval p s.name m.class) (reply m)) ≡ reply f.stored.message
+  said_of reply =
+      let d = retrieval p s.name f.stored.message.class in
+      refer-map message_of s.marks kept n NoSuchMessage (AlreadyMarked n) (λ (m : Stored). served_if (retrieval p s.name m.class) (reply m))
+      ∙ ap₂ (λ (o : Option Keyed) (b : Bool). referred o b NoSuchMessage (AlreadyMarked n) (λ (x : Keyed). served_if (retrieval p s.name x.message.class) (reply x.message))) f.at f.unmarked
+      ∙ ap (λ (b : Bool). if b then reply f.stored.message else DeniedBy d.rule) f.readable
 
-  pub message_said : (p : Policy) → Message (length f.stored.message.text) (stuffed_lines (lines_of f.stored.message.text)) ≡ told_inside p s kept (Retr n)
-  message_said p = sym (said_of (λ (m : Stored). Message (octets_of m) (stuffed_lines (lines_of m.text))))
+  pub message_said : Message (length f.stored.message.text) (stuffed_lines (lines_of f.stored.message.text)) ≡ told_inside p s kept (Retr n)
+  message_said = sym (said_of (λ (m : Stored). Message (octets_of m) (stuffed_lines (lines_of m.text))))
 
-  pub top_said : (p : Policy) (lines : ℕ) → TopPart (stuffed_lines (top_part (lines_of f.stored.message.text) lines)) ≡ told_inside p s kept (Top n lines)
-  top_said p lines = sym (said_of (λ (m : Stored). TopPart (stuffed_lines (top_part (lines_of m.text) lines))))
+  pub top_said : (lines : ℕ) → TopPart (stuffed_lines (top_part (lines_of f.stored.message.text) lines)) ≡ told_inside p s kept (Top n lines)
+  top_said lines = sym (said_of (λ (m : Stored). TopPart (stuffed_lines (top_part (lines_of m.text) lines))))
 
-  pub is_asked : is_pickable (at_number (map message_of kept) n) (is_marked s.marks n) ≡ true
-  is_asked = ap (λ (o : Option Stored). is_pickable o (is_marked s.marks n)) (at_number-map message_of kept n ∙ ap (option_map message_of) f.at) ∙ ap not f.unmarked
+  pub is_asked : is_readable p s.name (at_number (map message_of kept) n) (is_marked s.marks n) ≡ true
+  is_asked = ap (λ (o : Option Stored). is_readable p s.name o (is_marked s.marks n)) (at_number-map message_of kept n ∙ ap (option_map message_of) f.at)
+      ∙ ap₂ (λ (b d : Bool). not b && d) f.unmarked f.readable
+
+-- it is a number that asks for its message
+pub asks_for : (c : Contents) (p : Policy) (s : Session) (kept : List Keyed) → LiesIn c s kept → (n : ℕ) (head : Head) → ◌≡◌ {A = Result Head Pick} (Ok head) (picked_for p s n)
+    → is_readable p s.name (at_number (map message_of kept) n) (is_marked s.marks n) ≡ false → ⊥
+asks_for c p s kept lies n head e none = true≢false (sym (is_asked c p s kept n head (found c p s kept lies n head e)) ∙ none)
 
 -- ---- the text under a key
 
@@ -145,55 +199,85 @@ has_text c sound x i =
 -- ---- what becomes of a line that asks for a text
 
 -- the text under a head that a number found
-pub found_text : (c : Contents) → AreSound c → (s : Session) (kept : List Keyed) (lies : LiesIn c s kept) (n : ℕ) (head : Head) (f : Found s kept n head)
+pub found_text : (c : Contents) → AreSound c → (p : Policy) (s : Session) (kept : List Keyed) (lies : LiesIn c s kept) (n : ℕ) (head : Head) (f : Found p s kept n head)
     → HasText c head.key head.octets × (text_under head.key c.messages ≡ f.stored.message.text)
-found_text c sound s kept lies n head f =
+found_text c sound p s kept lies n head f =
     let there = lies.there f.stored f.there in (
       subst (λ (h : Head). HasText c h.key h.octets) (sym f.head_is) (has_text c sound f.stored there),
       ap (λ (h : Head). text_under h.key c.messages) f.head_is ∙ text_at c sound f.stored there,
     )
 
-module _ (After : Contents → Type 0) (grown : Bool) (c : Contents) (p : Policy) (s : Session) (kept : List Keyed) (n : ℕ) (head : Head) (f : Found s kept n head) (before after : List ℕ) where
-  pub retrieve_failed : after ≡ before ++ bytes_of StoreFailed → After c → grown ≡ true → Obeyed After grown c p s s kept before after (Ok (Retr n)) acted.Failed
-  retrieve_failed said held grew = record {
-    owed = said;
-    session = record { name = refl; view = refl; marks = λ m. refl };
-    held = held;
-    may = λ e. is_asked c s kept n head f;
-    cause = λ e. grew;
+-- why a message isn't found is what the session says
+module _ (c : Contents) (p : Policy) (s : Session) (kept : List Keyed) (lies : LiesIn c s kept) (n : ℕ) (why : Pick) (e : ◌≡◌ {A = Result Head Pick} (Err why) (picked_for p s n)) where
+  pub retrieve_refused : refused_pick n why ≡ told_inside p s kept (Retr n)
+  retrieve_refused = refused_said c p s kept lies n why (λ (m : Stored). Message (octets_of m) (stuffed_lines (lines_of m.text))) e
+
+  pub top_refused : (lines : ℕ) → refused_pick n why ≡ told_inside p s kept (Top n lines)
+  top_refused lines = refused_said c p s kept lies n why (λ (m : Stored). TopPart (stuffed_lines (top_part (lines_of m.text) lines))) e
+
+some_octets : (xs : List ℕ) → (xs ≡ [] → ⊥) → 0 < length xs
+some_octets [] h = absurd (h refl)
+some_octets (x ∷ xs) h = omega arith
+
+module _ (c : Contents) (sound : AreSound c) (p : Policy) (s : Session) (kept : List Keyed) (lies : LiesIn c s kept) (n : ℕ) (head : Head) (f : Found p s kept n head) where
+  abbrev pub text : List ℕ
+  text = f.stored.message.text
+
+  -- it is kept in its form
+  pub form : IsMailText text
+  form = let has = found_text c sound p s kept lies n head f in subst (λ (xs : List ℕ). IsMailText xs) has.1 has.0.form
+
+  pub size : length text ≡ head.octets
+  size = sym (ap (λ (h : Head). h.octets) f.head_is)
+
+  -- a reading of it from its beginning on
+  pub begins : (r : Reading) → r.key ≡ head.key → r.octets ≡ head.octets → r.place ≡ 0 → Reads c s r (text_coming r text)
+  begins r key octets place = record {
+    stored = f.stored;
+    there = lies.there f.stored f.there;
+    within = lies.within f.stored f.there;
+    key = sym (key ∙ ap (λ (h : Head). h.key) f.head_is);
+    begun = record { size = size ∙ sym octets; left = let some = some_octets text form.nonempty in omega (arith, some, place, octets, size) };
+    coming = refl;
   }
 
-  pub top_failed : (lines : ℕ) → after ≡ before ++ bytes_of StoreFailed → After c → grown ≡ true → Obeyed After grown c p s s kept before after (Ok (Top n lines)) acted.Failed
-  top_failed lines said held grew = record {
-    owed = said;
-    session = record { name = refl; view = refl; marks = λ m. refl };
-    held = held;
-    may = λ e. is_asked c s kept n head f;
-    cause = λ e. grew;
-  }
+  module _ (After : Contents → Type 0) (grown : Bool) (o : Output) where
+    -- what became of a RETR whose reply was to be these octets
+    pub retrieved : (w : Acted) (octets : List ℕ) → octets ≡ bytes_of (Message (length text) (stuffed_lines (lines_of text))) → IsServed After grown c s octets o w
+        → Obeyed After grown c p s s kept o (Ok (Retr n)) w
+    retrieved acted.Done octets is served =
+        let e = message_said c p s kept n head f in
+        record {
+          owed = subst (λ (r : Reply). OwesReply c (Some s) o r) e (record { owes = subst (λ xs. Owes c (Some s) o xs) is served.owed; serves = λ h. refl });
+          session = subst (λ (r : Reply). GoesOn r s s) e (record { name = refl; view = refl; marks = λ m. refl });
+          held = served.held;
+          may = λ e. cc;
+          cause = λ e. cc;
+        }
+    retrieved acted.Failed octets is served = record {
+      owed = served.owed.0;
+      session = record { name = refl; view = refl; marks = λ m. refl };
+      held = served.held;
+      may = λ e. is_asked c p s kept n head f;
+      cause = λ e. served.owed.1;
+    }
 
-  pub retrieve_done : (text : List ℕ) → text ≡ f.stored.message.text → after ≡ before ++ bytes_of (Message (length text) (stuffed_lines (lines_of text)))
-      → After c → Obeyed After grown c p s s kept before after (Ok (Retr n)) acted.Done
-  retrieve_done text same said held =
-      let e : Message (length text) (stuffed_lines (lines_of text)) ≡ told_inside p s kept (Retr n) =
-      ap (λ (t : List ℕ). Message (length t) (stuffed_lines (lines_of t))) same ∙ message_said c s kept n head f p in
-      record {
-        owed = said ∙ ap (λ (r : Reply). before ++ bytes_of r) e;
-        session = subst (λ (r : Reply). GoesOn r s s) e (record { name = refl; view = refl; marks = λ m. refl });
-        held = held;
-        may = λ e. cc;
-        cause = λ e. cc;
-      }
-
-  pub top_done : (lines : ℕ) (ls : List (List ℕ)) → ls ≡ lines_of f.stored.message.text → after ≡ before ++ bytes_of (TopPart (stuffed_lines (top_part ls lines)))
-      → After c → Obeyed After grown c p s s kept before after (Ok (Top n lines)) acted.Done
-  top_done lines ls same said held =
-      let e : TopPart (stuffed_lines (top_part ls lines)) ≡ told_inside p s kept (Top n lines) =
-      ap (λ (l : List (List ℕ)). TopPart (stuffed_lines (top_part l lines))) same ∙ top_said c s kept n head f p lines in
-      record {
-        owed = said ∙ ap (λ (r : Reply). before ++ bytes_of r) e;
-        session = subst (λ (r : Reply). GoesOn r s s) e (record { name = refl; view = refl; marks = λ m. refl });
-        held = held;
-        may = λ e. cc;
-        cause = λ e. cc;
-      }
+    -- the same of a TOP
+    pub topped : (lines : ℕ) (w : Acted) (octets : List ℕ) → octets ≡ bytes_of (TopPart (stuffed_lines (top_part (lines_of text) lines))) → IsServed After grown c s octets o w
+        → Obeyed After grown c p s s kept o (Ok (Top n lines)) w
+    topped lines acted.Done octets is served =
+        let e = top_said c p s kept n head f lines in
+        record {
+          owed = subst (λ (r : Reply). OwesReply c (Some s) o r) e (record { owes = subst (λ xs. Owes c (Some s) o xs) is served.owed; serves = λ h. refl });
+          session = subst (λ (r : Reply). GoesOn r s s) e (record { name = refl; view = refl; marks = λ m. refl });
+          held = served.held;
+          may = λ e. cc;
+          cause = λ e. cc;
+        }
+    topped lines acted.Failed octets is served = record {
+      owed = served.owed.0;
+      session = record { name = refl; view = refl; marks = λ m. refl };
+      held = served.held;
+      may = λ e. is_asked c p s kept n head f;
+      cause = λ e. served.owed.1;
+    }

@@ -29,6 +29,7 @@ use Rattle.office.proofs.Events.{Facts, facts, Whole, whole, seen_by}
 use Rattle.office.proofs.Laws.{one_holder}
 use Rattle.office.proofs.Locked.{IsLock, lock_found, holder_is}
 use Rattle.office.proofs.Standing.{counters}
+use Rattle.office.proofs.Beginning.{begins_on, begun_on}
 
 -- ---- the maps
 
@@ -218,7 +219,8 @@ module _ {V : Type 0} (Holds : V → Contents → Type 0) (o o' : Office V) (T :
     tick_stands on p b s l n locks =
         let same : whole T.base (acts ticked) ≡ whole T.base (acts T) = whole-idle T.base idle_now (acts T) in
         record {
-          keeps = record { contents = st.keeps.contents; held = on st.keeps.contents st.keeps.held; agree = rw (records-idle T.base idle_now (acts T)) st.keeps.agree; sound = st.keeps.sound; formed = st.keeps.formed };
+          keeps = record { contents = st.keeps.contents; held = on st.keeps.contents st.keeps.held; agree = rw (records-idle T.base idle_now (acts T)) st.keeps.agree; sound = st.keeps.sound; formed = st.keeps.formed; began = begun_on (event.Tick t) (Tagged Done) T.log st.began };
+          began = begins_on (event.Tick t) (Tagged Done) T.log st.began;
           policy = p ∙ (st.policy ∙ ap (λ (w : Whole). w.rules) (sym same));
           boot = b ∙ (st.boot ∙ ap (λ (w : Whole). w.office.0) (sym same));
           host = s ∙ (st.host ∙ ap (λ (w : Whole). w.office.1) (sym same));

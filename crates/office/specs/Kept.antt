@@ -1,5 +1,5 @@
 -- What an office keeps of a connection, and what it keeps after the next line.
-use Rattle.std.specs.Prelude.{ℕ, Bool, true, false, ◌||◌, ◌+◌, nat_lt, List, [], ◌++◌, drop, Option, Some, None, Result, Ok, Err, is_some, if◌then◌else◌}
+use Rattle.std.specs.Prelude.{ℕ, Bool, true, false, ◌||◌, ◌+◌, nat_lt, List, [], drop, Option, Some, None, Result, Ok, Err, is_some, if◌then◌else◌}
 use Rattle.creds.specs.declared.login_name.LoginName.{LoginName}
 use Rattle.creds.specs.Credential.{Shown, ByApop, ByPass, is_admitted}
 use Rattle.popline.specs.Cutting.{Cut, TooLong, cut_of, Held, fed, through_newline, has_newline}
@@ -7,7 +7,7 @@ use Rattle.popline.specs.Cutting as cutting
 use Rattle.popline.specs.Commands.{Command, Capa, User, Pass, Apop, Quit, command_of, keyword_of}
 use Rattle.popline.specs.declared.command.LineFault.{LineFault}
 use Rattle.popline.specs.declared.command.LineFault.TheVariants.{Unknown, Syntax}
-use Rattle.popline.specs.Replies.{Reply, LineTooLong, UnknownCommand, WrongState, BadArguments, Capabilities, SendPass, Bye, bytes_of}
+use Rattle.popline.specs.Replies.{Reply, LineTooLong, UnknownCommand, WrongState, BadArguments, Capabilities, SendPass, Bye}
 use Rattle.policy.specs.Policy.{Policy, decide}
 use Rattle.policy.specs.declared.rule.Action.TheVariants as to
 use Rattle.vault.specs.Records.{Records, credential_in, is_one_of, in_maildrop, class_of}
@@ -16,6 +16,7 @@ use Rattle.session.specs.Session.{Session}
 use Rattle.office.specs.History.{Says}
 use Rattle.office.specs.Connections.{reading, closes, user_after_line, is_failure}
 use Rattle.office.specs.Replying.{is_allowed, when_permitted, login_reply, name_or_nobody}
+use Rattle.office.specs.Output.{Output}
 use Rattle.office.specs.Sitting.{Sitting, asks_inside}
 use Rattle.office.specs.declared.talk.Talk.{Talk}
 
@@ -80,12 +81,12 @@ talk_after x r t = record {
   closing = closes (reading x) (Says r) || t.closing;
 }
 
--- the line that is being cut, octets that weren't cut yet, octets that are owed, what is remembered, the greeting's timestamp, who is in
+-- the line that is being cut, octets that weren't cut yet, what is owed, what is remembered, the greeting's timestamp, who is in
 -- session, and the moment from which idle time is counted
 pub record Kept : Type 0 where
   pub held : Held
   pub pending : List ℕ
-  pub owed : List ℕ
+  pub output : Output
   pub talk : Talk
   pub stamp : List ℕ
   pub session : Option Session
@@ -100,14 +101,14 @@ maildrop_of (Some s) = Some s.name.maildrop
 abbrev pub clocked : (now : ℕ) → List ℕ → Kept → Kept
 clocked now octets k = record k { clock = if has_newline octets then now else k.clock }
 
--- after the first whole line of these octets, which came behind what is held, got this reply and left this session
-abbrev pub answered : Kept → List ℕ → Reply → Option Session → Kept
-answered k octets reply session =
+-- after the first whole line of these octets, which came behind what is held, got this reply, and left this session and this output
+abbrev pub answered : Kept → List ℕ → Reply → Option Session → Output → Kept
+answered k octets reply session output =
     let w = fed k.held octets in
     record {
       held = w;
       pending = drop (through_newline octets) octets;
-      owed = if w.whole then k.owed ++ bytes_of reply else k.owed;
+      output = output;
       talk = if w.whole then talk_after (cut_of w.octets) reply k.talk else k.talk;
       stamp = k.stamp;
       session = session;

@@ -20,6 +20,7 @@ use Rattle.office.specs.Replying.{name_or_nobody}
 use Rattle.office.specs.Events.{Event, Mark, Log, Trace, Tagged}
 use Rattle.office.specs.Trace.{history}
 use Rattle.office.specs.Formed.{are_formed}
+use Rattle.office.specs.Taken.{IsAdmitted, AreAdmitted, IsSentExactly}
 use Rattle.office.specs.Events as event
 
 -- x is an element
@@ -90,9 +91,21 @@ BeginsWithStart [] = ⊥
 BeginsWithStart ((e, m) ∷ []) = IsStart e m
 BeginsWithStart ((e, m) ∷ x ∷ T) = BeginsWithStart (x ∷ T)
 
+-- the same, as one fact
+unfoldable pub HasBegun : Log → Type 0
+HasBegun T = BeginsWithStart T
+
+-- no event yet, or the oldest is an opening
+unfoldable pub IsNewOrBegun : Log → Type 0
+IsNewOrBegun T = (T ≡ []) ⊎ BeginsWithStart T
+
 -- where all boot numbers differ, all timestamps differ
 abbrev pub GreetingsDiffer : Type 0
 GreetingsDiffer = (T : Trace) → BeginsWithStart T.log → are_formed T.log ≡ true → are_distinct (λ (n m : ℕ). n == m) (boots T.log) ≡ true → are_distinct bytes_eq (stamps (history T)) ≡ true
+
+-- the same, of one trace
+abbrev pub TimestampsDiffer : Trace → Type 0
+TimestampsDiffer T = are_distinct (λ (n m : ℕ). n == m) (boots T.log) ≡ true → are_distinct bytes_eq (stamps (history T)) ≡ true
 
 -- ---- the form of replies
 
@@ -166,3 +179,13 @@ MarksAreByView = (B : Records) (H : List (Act × Tag)) (c : ℕ) → live (told 
 -- every store holds its own records with no acts
 abbrev pub OwnRecordsAgree : Type 0
 OwnRecordsAgree = (B : Records) → Agree B (records B [])
+
+-- ---- sent exactly
+
+-- over events whose marks are ones that they may have, each connection is sent exactly what the history sends it
+abbrev pub TakenIsSent : Type 0
+TakenIsSent = (T : Trace) → AreAdmitted T → (c : ℕ) → IsSentExactly T c
+
+-- an office's opening may always have the mark of what is done
+abbrev pub OpeningsAreAdmitted : Type 0
+OpeningsAreAdmitted = (T : Trace) (host : List ℕ) (boot idle : ℕ) → IsAdmitted T (event.Start host boot idle) (Tagged Done)

@@ -23,9 +23,12 @@ pub mod Log
 pub mod Trace
 pub mod Expected
 pub mod Formed
+pub mod Taken
+pub mod Input
 pub mod Stands
 pub mod Laws
 pub mod Shown
+pub mod Output
 pub mod Kept
 pub mod Answered
 pub mod Runs
@@ -36,3 +39,4 @@ pub mod Entering
 pub mod VaultAnswers
 pub mod InSession
 pub mod Telling
+pub mod Stopping

@@ -14,7 +14,7 @@ use Rattle.policy.specs.Policy.{Policy, decide}
 use Rattle.policy.specs.declared.decide.Decision.{Decision}
 use Rattle.policy.specs.declared.rule.Action.TheVariants as to
 use Rattle.vault.specs.Records.{Records, uid_of, class_of, octets_of, octets_of_all}
-use Rattle.session.specs.View.{visible, refer, is_marked, at_number, unmarked, removal, to_remove, denying, sizes_of, uids_of, total_of}
+use Rattle.session.specs.View.{visible, refer, is_marked, at_number, unmarked, retrieval, may_read, removal, to_remove, denying, sizes_of, uids_of, total_of}
 use Rattle.office.specs.History.{Tag, Failed, NoMemory, Said, Silence, Says, Entry, in_force, credential, exists}
 use Rattle.office.specs.Connections.{boot_and_host, user, failures, reading}
 use Rattle.office.specs.Sessions.{login, live, holder, marks, view, present}
@@ -63,6 +63,10 @@ pick marks view n reply = refer marks view n NoSuchMessage (AlreadyMarked n) rep
 abbrev pub deleted_if : Decision → ℕ → Reply
 deleted_if d n = if d.allowed then Marked n else DeniedBy d.rule
 
+-- a message is served, or the rule that denies its reading is named
+abbrev pub served_if : Decision → Reply → Reply
+served_if d reply = if d.allowed then reply else DeniedBy d.rule
+
 -- the farewell, or the rule that kept a marked message
 abbrev pub quit_says : Option (List ℕ) → Reply
 quit_says None = Bye
@@ -75,8 +79,10 @@ session_says policy name marks view ListAll = ScanListing (sizes_of octets_of (u
 session_says policy name marks view (ListOne n) = pick marks view n (λ m. ScanLine n (octets_of m))
 session_says policy name marks view UidlAll = UidListing (uids_of uid_of (unmarked marks view))
 session_says policy name marks view (UidlOne n) = pick marks view n (λ m. UidLine n (uid_of m))
-session_says policy name marks view (Retr n) = pick marks view n (λ (m : store.Message). Message (octets_of m) (stuffed_lines (lines_of m.text)))
-session_says policy name marks view (Top n k) = pick marks view n (λ (m : store.Message). TopPart (stuffed_lines (top_part (lines_of m.text) k)))
+session_says policy name marks view (Retr n) =
+    pick marks view n (λ (m : store.Message). served_if (retrieval policy name m.class) (Message (octets_of m) (stuffed_lines (lines_of m.text))))
+session_says policy name marks view (Top n k) =
+    pick marks view n (λ (m : store.Message). served_if (retrieval policy name m.class) (TopPart (stuffed_lines (top_part (lines_of m.text) k))))
 session_says policy name marks view (Dele n) = pick marks view n (λ (m : store.Message). deleted_if (removal policy name m.class) n)
 session_says policy name marks view Rset = maildrop_has view
 session_says policy name marks view Noop = Okay
@@ -158,10 +164,14 @@ said_to_line B G c x t = Says (reply_to_cut B G c x t)
 
 -- ---- which lines the store may refuse
 
--- a number of the view that isn't marked
-abbrev pub is_pickable : Option store.Message → (is_marked : Bool) → Bool
-is_pickable None is_marked = false
-is_pickable (Some m) is_marked = not is_marked
+-- a number of the view that isn't marked, of a message that may now be read
+abbrev pub is_readable : Policy → LoginName → Option store.Message → (is_marked : Bool) → Bool
+is_readable policy name None is_marked = false
+is_readable policy name (Some m) is_marked = not is_marked && may_read policy name m.class
+
+-- a number of a session's view is readable at a front
+abbrev pub may_serve : Records → List Entry → ℕ → ℕ → Bool
+may_serve B G c n = is_readable (in_force B G) (name_or_nobody (login G c)) (at_number (view B G c) n) (is_marked (marks G c) n)
 
 -- a list without elements
 abbrev pub is_empty : {A : Type 0} → List A → Bool
@@ -172,8 +182,8 @@ is_empty (x ∷ xs) = false
 abbrev pub asks_store : Records → List Entry → ℕ → Command → Bool
 asks_store B G c (Pass password) = true
 asks_store B G c (Apop name digest) = true
-asks_store B G c (Retr n) = is_pickable (at_number (view B G c) n) (is_marked (marks G c) n)
-asks_store B G c (Top n k) = is_pickable (at_number (view B G c) n) (is_marked (marks G c) n)
+asks_store B G c (Retr n) = may_serve B G c n
+asks_store B G c (Top n k) = may_serve B G c n
 asks_store B G c Quit = live G c && not (is_empty (to_remove class_of (in_force B G) (name_or_nobody (login G c)) (marks G c) (view B G c)))
 asks_store B G c _ = false
 

@@ -1,11 +1,15 @@
--- A list of events done in order: what each was answered, and the octets that each taking took.
-use Rattle.std.specs.Prelude.{◌≡◌, ℕ, List, [], ◌∷◌, ◌++◌, ⊤}
+-- A list of events done in order: what each was answered, the octets that each taking took, why any failed, and what a stop leaves.
+use Rattle.std.specs.Prelude.{◌≡◌, ◌<◌, ◌≤◌, ◌+◌, ℕ, List, [], ◌∷◌, ◌++◌, ⊤}
 use Rattle.vault.specs.Changes.{Contents}
+use Rattle.vault.specs.Calls.{greatest_count}
 use Rattle.office.specs.Events.{Event, Trace}
 use Rattle.office.specs.Expected.{IsOutcome, octets_taken}
-use Rattle.office.specs.Outcomes.{mark_of}
+use Rattle.office.specs.Outcomes.{mark_of, HasCause}
+use Rattle.office.specs.Outcomes as outcomes
 use Rattle.office.specs.Shown.{event_seen, outcome_seen, followed_by}
-use Rattle.office.specs.Stands.{StandsFor, lent_by}
+use Rattle.office.specs.Stands.{StandsFor, lent_by, vault_of}
+use Rattle.office.specs.Stopping.{IsAnswered, LeavesTrace, StopLeaves}
+use Rattle.office.specs.Taken.{AreAdmitted}
 use Rattle.office.specs.declared.event.Event.{Event as Given}
 use Rattle.office.specs.declared.event.Outcome.{Outcome}
 use Rattle.office.specs.declared.office.Office.{Office}
@@ -52,3 +56,59 @@ pub record Enters {V : Type 0} (Holds : V → Contents → Type 0) (event : Give
 -- how many events were done before a run stopped
 abbrev pub done_before : RunFault → ℕ
 done_before (NoMemory done) = done
+
+-- ---- causes
+
+-- Each step leaves a count of the store's faults that isn't lower than the one before it, and a step that was answered Failed one that
+-- grew: from the count before all steps to the one behind them.
+abbrev pub HaveCauses : (before now : ℕ) → List Step → Type 0
+HaveCauses before now [] = before ≡ now
+HaveCauses before now (s ∷ ss) = (after : ℕ) × (before ≤ after) × HasCause before after (outcome_seen s.outcome) × HaveCauses after now ss
+
+-- one, of an outcome that is Failed
+abbrev pub one_if_failed : outcomes.Outcome → ℕ
+one_if_failed outcomes.Failed = 1
+one_if_failed _ = 0
+
+-- how many steps were answered Failed
+abbrev pub failures_in : List Step → ℕ
+failures_in [] = 0
+failures_in (s ∷ ss) = one_if_failed (outcome_seen s.outcome) + failures_in ss
+
+-- the count of faults grew by as many at least as there are failed steps, while it isn't at its greatest: by none, none failed
+abbrev pub FailuresAreCounted : Type 0
+FailuresAreCounted = (before now : ℕ) (ss : List Step) → now < greatest_count → HaveCauses before now ss → before + failures_in ss ≤ now
+
+-- ---- stops
+
+-- each step was answered otherwise than Failed or NoMemory
+abbrev pub AreAnswered : List Step → Type 0
+AreAnswered [] = ⊤
+AreAnswered (s ∷ ss) = IsAnswered (outcome_seen s.outcome) × AreAnswered ss
+
+-- What a stop may leave after these events, where all before the last were answered: what the trace with them says, the last with it or
+-- without it as its answer tells.
+abbrev pub StopLeavesRun : (MayLeave : Contents → Type 0) → Trace → List Given → List Step → Type 0
+StopLeavesRun MayLeave T [] [] = LeavesTrace MayLeave T
+StopLeavesRun MayLeave T (e ∷ []) (s ∷ []) = StopLeaves MayLeave T (event_seen e) (outcome_seen s.outcome)
+StopLeavesRun MayLeave T (e ∷ es) (s ∷ ss) = IsAnswered (outcome_seen s.outcome) → StopLeavesRun MayLeave (followed_by T (event_seen e) s.outcome) es ss
+StopLeavesRun MayLeave T _ _ = ⊤
+
+-- ---- what a run promises beside its steps
+
+-- The store's counts of faults, whether its device is up, and what a stop may leave are asked of the vault of an office before and after.
+pub record Ran {V : Type 0} (Holds : V → Contents → Type 0) (faults : V → ℕ) (IsUp : V → Type 0) (MayLeave : V → Contents → Type 0)
+    (events : List Given) (steps : List Step) (T : Trace) (old new : Office V) : Type 0 where
+  pub follows : Follows Holds events steps T new
+  pub admitted : AreAdmitted T → AreAdmitted (followed T events steps)
+  pub causes : HaveCauses (faults (vault_of old)) (faults (vault_of new)) steps
+  pub up : IsUp (vault_of old) → AreAnswered steps → IsUp (vault_of new)
+  pub stop : IsUp (vault_of old) → StopLeavesRun (MayLeave (vault_of new)) T events steps
+
+-- one event more has its step, with its cause, and a stop leaves what the step's answer tells
+pub record EntersSo {V : Type 0} (Holds : V → Contents → Type 0) (faults : V → ℕ) (IsUp : V → Type 0) (MayLeave : V → Contents → Type 0)
+    (event : Given) (before after : List Step) (T : Trace) (old new : Office V) : Type 0 where
+  pub enters : Enters Holds event before after T new
+  pub cause : HasCause (faults (vault_of old)) (faults (vault_of new)) (outcome_seen enters.step.outcome)
+  pub up : IsUp (vault_of old) → IsAnswered (outcome_seen enters.step.outcome) → IsUp (vault_of new)
+  pub stop : IsUp (vault_of old) → StopLeaves (MayLeave (vault_of new)) T (event_seen event) (outcome_seen enters.step.outcome)

@@ -1,6 +1,6 @@
 -- A session over a store: what a line of its connection is answered, what the session is after it, and what the store then holds
 -- (RFC 1939, 5 and 6).
-use Rattle.std.specs.Prelude.{◌≡◌, ℕ, Bool, true, false, not, ◌<◌, ◌^◌, List, ◌++◌, length, take, map, sum_by, Option, None, Result, Ok, Err}
+use Rattle.std.specs.Prelude.{◌≡◌, ℕ, Bool, true, false, not, ◌<◌, ◌^◌, List, length, take, map, sum_by, Option, Some, None, Result, Ok, Err}
 use Rattle.mailtext.specs.MailText.{IsMailText}
 use Rattle.creds.specs.declared.login_name.LoginName.{LoginName}
 use Rattle.popline.specs.Cutting.{Cut, TooLong}
@@ -8,7 +8,7 @@ use Rattle.popline.specs.Cutting as cutting
 use Rattle.popline.specs.Commands.{Command, Capa, Quit, Retr, Top, command_of, keyword_of}
 use Rattle.popline.specs.declared.command.LineFault.{LineFault}
 use Rattle.popline.specs.declared.command.LineFault.TheVariants.{Unknown, Syntax}
-use Rattle.popline.specs.Replies.{Reply, LineTooLong, UnknownCommand, BadArguments, Capabilities, NoSuchMessage, AlreadyMarked, DeniedBy, StoreFailed, bytes_of}
+use Rattle.popline.specs.Replies.{Reply, LineTooLong, UnknownCommand, BadArguments, Capabilities, NoSuchMessage, AlreadyMarked, DeniedBy, StoreFailed}
 use Rattle.policy.specs.Policy.{Policy}
 use Rattle.vault.specs.Changes.{Contents, head_of, with_messages, without_keys}
 use Rattle.vault.specs.Calls.{text_under}
@@ -21,10 +21,11 @@ use Rattle.session.specs.Session.{Session}
 use Rattle.session.specs.Session as head
 use Rattle.session.specs.View.{is_marked, at_number, to_remove}
 use Rattle.office.specs.History.{Says}
-use Rattle.office.specs.Connections.{reading}
+use Rattle.office.specs.Connections.{reading, is_quit}
 use Rattle.office.specs.Sessions.{marks_after_line}
-use Rattle.office.specs.Replying.{session_says, is_allowed, when_permitted, refusal, is_pickable, is_empty}
+use Rattle.office.specs.Replying.{session_says, is_allowed, when_permitted, refusal, is_readable, is_empty}
 use Rattle.office.specs.Laws.{In}
+use Rattle.office.specs.Output.{Output, Owes, OwesReply}
 use Rattle.office.specs.declared.talk.Acted.{Acted}
 use Rattle.office.specs.declared.talk.Acted.TheVariants as acted
 
@@ -60,7 +61,7 @@ pub record HasText (c : Contents) (key octets : ℕ) : Type 0 where
 abbrev pub Begins : ℕ → (octets text : List ℕ) → Type 0
 Begins n octets text = take n octets ≡ take n text
 
--- why a number isn't found in a view, or isn't marked
+-- why a number isn't found in a view, or its message isn't read or marked
 abbrev pub refused_pick : ℕ → Pick → Reply
 refused_pick n NoSuch = NoSuchMessage
 refused_pick n Deleted = AlreadyMarked n
@@ -91,8 +92,8 @@ refused_reading (Err fault) = StoreFailed
 
 -- the lines that ask the store: for a message's text, or for a removal
 abbrev pub asks_inside : Policy → Sitting → Result Command LineFault → Bool
-asks_inside p v (Ok (Retr n)) = is_pickable (at_number v.view n) (is_marked v.marks n)
-asks_inside p v (Ok (Top n k)) = is_pickable (at_number v.view n) (is_marked v.marks n)
+asks_inside p v (Ok (Retr n)) = is_readable p v.name (at_number v.view n) (is_marked v.marks n)
+asks_inside p v (Ok (Top n k)) = is_readable p v.name (at_number v.view n) (is_marked v.marks n)
 asks_inside p v (Ok Quit) = not (is_empty (to_remove records.class_of p v.name v.marks v.view))
 asks_inside p v _ = false
 
@@ -132,12 +133,31 @@ abbrev pub reply_inside : Acted → Policy → Sitting → Cut → Reply
 reply_inside acted.Done p v x = line_inside p v x
 reply_inside acted.Failed p v x = refused_reading (reading x)
 
+-- the session that is left after a line: a QUIT ends it
+abbrev pub session_if : (quits : Bool) → Session → Option Session
+session_if true s = None
+session_if false s = Some s
+
+-- the same, by what the line reads as
+abbrev pub session_left : Result Command LineFault → Session → Option Session
+session_left r s = session_if (is_quit r) s
+
 -- What became of a line that reads so: its reply is owed, the session goes on, and the store holds what the line leaves. A line that the
 -- store refused is one that may be refused, and the refusal was counted.
 pub record Obeyed (After : Contents → Type 0) (grown : Bool) (c : Contents) (p : Policy) (s new : Session) (kept : List Keyed)
-    (before after : List ℕ) (r : Result Command LineFault) (w : Acted) : Type 0 where
-  pub owed : after ≡ before ++ bytes_of (answered_inside w p (sitting_of s kept) r)
+    (after : Output) (r : Result Command LineFault) (w : Acted) : Type 0 where
+  pub owed : OwesReply c (session_left r new) after (answered_inside w p (sitting_of s kept) r)
   pub session : GoesOn (answered_inside w p (sitting_of s kept) r) s new
   pub held : After (held_after_line w p s r c)
   pub may : w ≡ acted.Failed → asks_inside p (sitting_of s kept) r ≡ true
   pub cause : w ≡ acted.Failed → grown ≡ true
+
+-- What became of a message that was to be sent: it is owed, or that the store refused is, which was counted.
+abbrev pub ServedOr : Acted → (grown : Bool) → Contents → Session → (octets : List ℕ) → Output → Type 0
+ServedOr acted.Done grown c s octets o = Owes c (Some s) o octets
+ServedOr acted.Failed grown c s octets o = OwesReply c (Some s) o StoreFailed × (grown ≡ true)
+
+-- the same, over a store that stays as it was
+pub record IsServed (After : Contents → Type 0) (grown : Bool) (c : Contents) (s : Session) (octets : List ℕ) (o : Output) (w : Acted) : Type 0 where
+  pub held : After c
+  pub owed : ServedOr w grown c s octets o

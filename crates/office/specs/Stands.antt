@@ -7,16 +7,18 @@ use Rattle.popline.specs.Cutting.{cut, coming}
 use Rattle.vault.specs.Records.{Records, IsSound, Agree}
 use Rattle.vault.specs.Changes.{Contents, records_of}
 use Rattle.office.specs.History.{Entry, in_force}
-use Rattle.office.specs.Connections.{user, failures, boot_and_host, connected, closing, acted, sent}
+use Rattle.office.specs.Connections.{user, failures, boot_and_host, connected, closing, acted, serving, sent}
 use Rattle.office.specs.Sessions.{live, login, marks, view, holder, records}
 use Rattle.office.specs.Replying.{stamp}
 use Rattle.office.specs.Events.{Log, Trace}
 use Rattle.office.specs.Formed.{are_formed}
+use Rattle.office.specs.Laws.{HasBegun, IsNewOrBegun}
 use Rattle.office.specs.Log.{opened, idle_seconds, moment, stream, taken, clock}
 use Rattle.office.specs.Trace.{history, is_open_by}
 use Rattle.office.specs.Expected.{most_in_a_piece}
 use Rattle.office.specs.Sitting.{LiesIn}
 use Rattle.office.specs.Answered.{name_cmp}
+use Rattle.office.specs.Output.{Owes, reads_text, lent_of}
 use Rattle.office.specs.Kept.{Kept}
 use Rattle.session.specs.Session.{Session}
 use Rattle.session.specs.View.{is_marked}
@@ -27,13 +29,14 @@ use Rattle.office.specs.declared.office.Office.{Office}
 -- ---- the store
 
 -- A store keeps what a trace says: it holds the records of the trace's history. The records that it began with are sound, and the
--- events have their form.
+-- events have their form; the first of them, where there is one, is an office's opening.
 pub record Keeps (Holds : Contents → Type 0) (T : Trace) : Type 0 where
   pub contents : Contents
   pub held : Holds contents
   pub agree : Agree (records_of contents) (records T.base (history T))
   pub sound : IsSound T.base
   pub formed : are_formed T.log ≡ true
+  pub began : IsNewOrBegun T.log
 
 -- records over which nothing was done
 abbrev pub begun : Records → Trace
@@ -48,6 +51,7 @@ pub record Seen : Type 0 where
   pub live : Bool
   pub stream : List ℕ
   pub acted : ℕ
+  pub serving : Bool
   pub sent : List ℕ
   pub taken : ℕ
   pub user : Option LoginName
@@ -66,6 +70,7 @@ seen_at B T G c = record {
   live = live G c;
   stream = stream T c;
   acted = acted G c;
+  serving = serving G c;
   sent = sent G c;
   taken = taken T c;
   user = user G c;
@@ -115,7 +120,9 @@ pub record Matches (c : Contents) (s : Seen) (k : Kept) : Type 0 where
   -- what closes a connection ended its session
   pub parted : s.closing ≡ true → s.live ≡ false
   pub taken : s.taken ≤ length s.sent
-  pub owed : k.owed ≡ untaken_of s
+  pub owed : Owes c k.session k.output (untaken_of s)
+  -- a message comes only where the last reply has one
+  pub serving : reads_text k.output.source ≡ true → s.serving ≡ true
   pub closing : k.talk.closing ≡ s.closing
   pub user : k.talk.user ≡ s.user
   -- two and more failures are alike: the next one closes
@@ -125,7 +132,7 @@ pub record Matches (c : Contents) (s : Seen) (k : Kept) : Type 0 where
   -- however the stream goes on, the lines that are left of it are those that come from what is kept
   pub lines : (more : List ℕ) → drop s.acted (cut (s.stream ++ more)) ≡ coming k.held (k.pending ++ more)
   -- what was kept was cut, where nothing is owed
-  pub cut_whole : k.owed ≡ [] → k.pending ≡ []
+  pub cut_whole : untaken_of s ≡ [] → k.pending ≡ []
   -- it keeps at most a line and a piece of input: 255 + 4,096 octets
   pub line_kept : length k.held.octets ≤ most_in_a_line
   pub piece_kept : length k.pending ≤ most_in_a_piece
@@ -142,9 +149,10 @@ IsKeptFor c s (Some k) = Matches c s k
 
 -- ---- the office
 
--- `Holds` says which contents a store holds
+-- `Holds` says which contents a store holds; the trace begins with an office's opening
 pub record StandsFor {V : Type 0} (Holds : V → Contents → Type 0) (o : Office V) (T : Trace) : Type 0 where
   pub keeps : Keeps (Holds o.vault) T
+  pub began : HasBegun T.log
   pub policy : o.policy ≡ in_force T.base (history T)
   pub boot : o.boot ≡ (boot_and_host (history T)).0
   pub host : string_bytes o.host ≡ (boot_and_host (history T)).1
@@ -157,10 +165,10 @@ pub record StandsFor {V : Type 0} (Holds : V → Contents → Type 0) (o : Offic
   -- a maildrop's lock is its holder's
   pub locks : (d : List ℕ) → get name_cmp o.locks d ≡ holder (history T) d
 
--- how many octets an office lends a connection: all that it is owed
+-- how many octets an office lends a connection
 abbrev pub length_of_lent : Option Kept → ℕ
 length_of_lent None = 0
-length_of_lent (Some k) = length k.owed
+length_of_lent (Some k) = length (lent_of k.output)
 
 -- how many octets an office lends a connection of this number
 abbrev pub lent_by : {V : Type 0} → Office V → ℕ → ℕ

@@ -11,6 +11,7 @@ ghost use Rattle.office.specs.Expected.{IsOutcome};
 ghost use Rattle.office.specs.Outcomes.{HasCause};
 ghost use Rattle.office.specs.Outcomes as outcomes;
 ghost use Rattle.office.specs.Stands.{StandsFor, lent_by, vault_of};
+ghost use Rattle.office.specs.Stopping.{StaysUpUnless, StopLeaves};
 ghost use Rattle.office.specs.VaultAnswers as by_vault;
 
 use crate::deposits::refused;
@@ -161,6 +162,8 @@ impl<V: Vault> Office<V> {
         ensures cause { (T : Trace) → StandsFor V.holds self.old T → V.is_clean (vault_of self.new) → HasCause (V.faults (vault_of self.old)) (V.faults (vault_of self.new)) (outcome_seen result) }
         ensures counted { V.faults (vault_of self.old) ≤ V.faults (vault_of self.new) }
         ensures clean { V.is_clean (vault_of self.new) → V.is_clean (vault_of self.old) }
+        ensures up { (T : Trace) → StandsFor V.holds self.old T → V.is_clean (vault_of self.new) → StaysUpUnless (V.is_up (vault_of self.old)) (V.is_up (vault_of self.new)) (outcome_seen result) }
+        ensures stop { (T : Trace) → StandsFor V.holds self.old T → V.is_clean (vault_of self.new) → V.is_up (vault_of self.old) → StopLeaves (V.may_leave (vault_of self.new)) T (event.Admin asked.ListMaildrops) (outcome_seen result) }
     {
         listed(self.vault.maildrops())
     }
@@ -172,6 +175,8 @@ impl<V: Vault> Office<V> {
         ensures cause { (T : Trace) → StandsFor V.holds self.old T → V.is_clean (vault_of self.new) → HasCause (V.faults (vault_of self.old)) (V.faults (vault_of self.new)) (outcome_seen result) }
         ensures counted { V.faults (vault_of self.old) ≤ V.faults (vault_of self.new) }
         ensures clean { V.is_clean (vault_of self.new) → V.is_clean (vault_of self.old) }
+        ensures up { (T : Trace) → StandsFor V.holds self.old T → V.is_clean (vault_of self.new) → StaysUpUnless (V.is_up (vault_of self.old)) (V.is_up (vault_of self.new)) (outcome_seen result) }
+        ensures stop { (T : Trace) → StandsFor V.holds self.old T → V.is_clean (vault_of self.new) → V.is_up (vault_of self.old) → StopLeaves (V.may_leave (vault_of self.new)) T (event.Admin (asked.ShowMaildrop maildrop.now)) (outcome_seen result) }
     {
         shown(self.alloc, self.vault.heads(maildrop))
     }
@@ -183,6 +188,8 @@ impl<V: Vault> Office<V> {
         ensures cause { (T : Trace) → StandsFor V.holds self.old T → V.is_clean (vault_of self.new) → HasCause (V.faults (vault_of self.old)) (V.faults (vault_of self.new)) (outcome_seen result) }
         ensures counted { V.faults (vault_of self.old) ≤ V.faults (vault_of self.new) }
         ensures clean { V.is_clean (vault_of self.new) → V.is_clean (vault_of self.old) }
+        ensures up { (T : Trace) → StandsFor V.holds self.old T → V.is_clean (vault_of self.new) → StaysUpUnless (V.is_up (vault_of self.old)) (V.is_up (vault_of self.new)) (outcome_seen result) }
+        ensures stop { (T : Trace) → StandsFor V.holds self.old T → V.is_clean (vault_of self.new) → V.is_up (vault_of self.old) → StopLeaves (V.may_leave (vault_of self.new)) T (event.Admin (asked.AddMaildrop maildrop.now)) (outcome_seen result) }
     {
         name_has_form(maildrop);
         added(self.vault.add_maildrop(maildrop))
@@ -195,6 +202,8 @@ impl<V: Vault> Office<V> {
         ensures cause { (T : Trace) → StandsFor V.holds self.old T → V.is_clean (vault_of self.new) → HasCause (V.faults (vault_of self.old)) (V.faults (vault_of self.new)) (outcome_seen result) }
         ensures counted { V.faults (vault_of self.old) ≤ V.faults (vault_of self.new) }
         ensures clean { V.is_clean (vault_of self.new) → V.is_clean (vault_of self.old) }
+        ensures up { (T : Trace) → StandsFor V.holds self.old T → V.is_clean (vault_of self.new) → StaysUpUnless (V.is_up (vault_of self.old)) (V.is_up (vault_of self.new)) (outcome_seen result) }
+        ensures stop { (T : Trace) → StandsFor V.holds self.old T → V.is_clean (vault_of self.new) → V.is_up (vault_of self.old) → StopLeaves (V.may_leave (vault_of self.new)) T (event.Admin (asked.DropMaildrop maildrop.now)) (outcome_seen result) }
     {
         if self.locks.contains_key(maildrop) {
             return Outcome::Answered(Answer::MaildropInUse);
@@ -209,6 +218,8 @@ impl<V: Vault> Office<V> {
         ensures cause { (T : Trace) → StandsFor V.holds self.old T → V.is_clean (vault_of self.new) → HasCause (V.faults (vault_of self.old)) (V.faults (vault_of self.new)) (outcome_seen result) }
         ensures counted { V.faults (vault_of self.old) ≤ V.faults (vault_of self.new) }
         ensures clean { V.is_clean (vault_of self.new) → V.is_clean (vault_of self.old) }
+        ensures up { (T : Trace) → StandsFor V.holds self.old T → V.is_clean (vault_of self.new) → StaysUpUnless (V.is_up (vault_of self.old)) (V.is_up (vault_of self.new)) (outcome_seen result) }
+        ensures stop { (T : Trace) → StandsFor V.holds self.old T → V.is_clean (vault_of self.new) → V.is_up (vault_of self.old) → StopLeaves (V.may_leave (vault_of self.new)) T (event.Admin (asked.ShowClerk clerk.now)) (outcome_seen result) }
     {
         credential_told(self.vault.credential(clerk))
     }
@@ -220,6 +231,8 @@ impl<V: Vault> Office<V> {
         ensures cause { (T : Trace) → StandsFor V.holds self.old T → V.is_clean (vault_of self.new) → HasCause (V.faults (vault_of self.old)) (V.faults (vault_of self.new)) (outcome_seen result) }
         ensures counted { V.faults (vault_of self.old) ≤ V.faults (vault_of self.new) }
         ensures clean { V.is_clean (vault_of self.new) → V.is_clean (vault_of self.old) }
+        ensures up { (T : Trace) → StandsFor V.holds self.old T → V.is_clean (vault_of self.new) → StaysUpUnless (V.is_up (vault_of self.old)) (V.is_up (vault_of self.new)) (outcome_seen result) }
+        ensures stop { (T : Trace) → StandsFor V.holds self.old T → V.is_clean (vault_of self.new) → V.is_up (vault_of self.old) → StopLeaves (V.may_leave (vault_of self.new)) T (event.Admin (asked.PutClerk clerk.now credential.now)) (outcome_seen result) }
     {
         name_has_form(clerk);
         credential_has_form(credential);
@@ -234,6 +247,8 @@ impl<V: Vault> Office<V> {
         ensures cause { (T : Trace) → StandsFor V.holds self.old T → V.is_clean (vault_of self.new) → HasCause (V.faults (vault_of self.old)) (V.faults (vault_of self.new)) (outcome_seen result) }
         ensures counted { V.faults (vault_of self.old) ≤ V.faults (vault_of self.new) }
         ensures clean { V.is_clean (vault_of self.new) → V.is_clean (vault_of self.old) }
+        ensures up { (T : Trace) → StandsFor V.holds self.old T → V.is_clean (vault_of self.new) → StaysUpUnless (V.is_up (vault_of self.old)) (V.is_up (vault_of self.new)) (outcome_seen result) }
+        ensures stop { (T : Trace) → StandsFor V.holds self.old T → V.is_clean (vault_of self.new) → V.is_up (vault_of self.old) → StopLeaves (V.may_leave (vault_of self.new)) T (event.Admin (asked.DropClerk clerk.now)) (outcome_seen result) }
     {
         clerk_dropped(self.vault.drop_clerk(clerk))
     }
@@ -245,6 +260,8 @@ impl<V: Vault> Office<V> {
         ensures cause { (T : Trace) → StandsFor V.holds self.old T → V.is_clean (vault_of self.new) → HasCause (V.faults (vault_of self.old)) (V.faults (vault_of self.new)) (outcome_seen result) }
         ensures counted { V.faults (vault_of self.old) ≤ V.faults (vault_of self.new) }
         ensures clean { V.is_clean (vault_of self.new) → V.is_clean (vault_of self.old) }
+        ensures up { (T : Trace) → StandsFor V.holds self.old T → V.is_clean (vault_of self.new) → StaysUpUnless (V.is_up (vault_of self.old)) (V.is_up (vault_of self.new)) (outcome_seen result) }
+        ensures stop { (T : Trace) → StandsFor V.holds self.old T → V.is_clean (vault_of self.new) → V.is_up (vault_of self.old) → StopLeaves (V.may_leave (vault_of self.new)) T (event.Admin (asked.Explain clerk.now maildrop.now class.now action)) (outcome_seen result) }
     {
         let decision = self.policy.decide(clerk, maildrop, class, action);
         Outcome::Answered(Answer::Explained(decision))
@@ -257,6 +274,8 @@ impl<V: Vault> Office<V> {
         ensures cause { (T : Trace) → StandsFor V.holds self.old T → V.is_clean (vault_of self.new) → HasCause (V.faults (vault_of self.old)) (V.faults (vault_of self.new)) (outcome_seen result) }
         ensures counted { V.faults (vault_of self.old) ≤ V.faults (vault_of self.new) }
         ensures clean { V.is_clean (vault_of self.new) → V.is_clean (vault_of self.old) }
+        ensures up { (T : Trace) → StandsFor V.holds self.old T → V.is_clean (vault_of self.new) → StaysUpUnless (V.is_up (vault_of self.old)) (V.is_up (vault_of self.new)) (outcome_seen result) }
+        ensures stop { (T : Trace) → StandsFor V.holds self.old T → V.is_clean (vault_of self.new) → V.is_up (vault_of self.old) → StopLeaves (V.may_leave (vault_of self.new)) T (event.Admin (command_seen command.now)) (outcome_seen result) }
     {
         match command {
             AdminCommand::ListMaildrops => self.list_maildrops(),

@@ -7,6 +7,7 @@ ghost use Rattle.office.specs.Shown.{outcome_seen, followed_by};
 ghost use Rattle.office.specs.Expected.{IsOutcome};
 ghost use Rattle.office.specs.Outcomes.{HasCause};
 ghost use Rattle.office.specs.Stands.{StandsFor, lent_by, vault_of};
+ghost use Rattle.office.specs.Stopping.{StaysUpUnless, StopLeaves};
 ghost use Rattle.office.specs.VaultAnswers.{refused as refused_of, not_kept as not_kept_of, deposited as deposited_of};
 
 use crate::{Answer, Office, Outcome};
@@ -74,6 +75,8 @@ impl<V: Vault> Office<V> {
         ensures cause { (T : Trace) → StandsFor V.holds self.old T → V.is_clean (vault_of self.new) → HasCause (V.faults (vault_of self.old)) (V.faults (vault_of self.new)) (outcome_seen result) }
         ensures counted { V.faults (vault_of self.old) ≤ V.faults (vault_of self.new) }
         ensures clean { V.is_clean (vault_of self.new) → V.is_clean (vault_of self.old) }
+        ensures up { (T : Trace) → StandsFor V.holds self.old T → V.is_clean (vault_of self.new) → StaysUpUnless (V.is_up (vault_of self.old)) (V.is_up (vault_of self.new)) (outcome_seen result) }
+        ensures stop { (T : Trace) → StandsFor V.holds self.old T → V.is_clean (vault_of self.new) → V.is_up (vault_of self.old) → StopLeaves (V.may_leave (vault_of self.new)) T (event.Deposit maildrop.now class.now id.now text.now) (outcome_seen result) }
     {
         have_form(maildrop, class, id);
         match canon(self.alloc, text) {

@@ -1,9 +1,17 @@
 //! Laws over every history, each on a function of its own.
 
-ghost use Rattle.office.specs.Laws.{OneHolder, ViewStaysPresent, UniqueIdsAreUnique, OwnRecordsAgree, MarksAreByView, GreetingsDiffer, DepositIdsActOnce, RepliesHaveTheirForm, UniqueIdTextsDiffer};
+ghost use Rattle.std.specs.Prelude.{◌≡◌, ℕ, List, true};
+ghost use Rattle.policy.specs.Policy.{are_distinct};
+ghost use Rattle.popline.specs.ReplyForm.{IsWellFormed};
+ghost use Rattle.office.specs.Events.{Trace};
+ghost use Rattle.office.specs.History.{deposits};
+ghost use Rattle.office.specs.Trace.{history};
+ghost use Rattle.office.specs.Laws.{OneHolder, ViewStaysPresent, UniqueIdsAreUnique, OwnRecordsAgree, MarksAreByView, GreetingsDiffer, DepositIdsActOnce, RepliesHaveTheirForm, UniqueIdTextsDiffer, TakenIsSent, OpeningsAreAdmitted, TimestampsDiffer, AllReplies, same_uid_text};
+ghost use Rattle.office.specs.Runs.{FailuresAreCounted};
 ghost use Rattle.vault.specs.Changes.{Contents, records_of};
-ghost use Rattle.office.specs.Stands.{Keeps, begun};
+ghost use Rattle.office.specs.Stands.{Keeps, StandsFor, begun};
 
+use crate::Office;
 use vault::Vault;
 
 /// A maildrop has at most one holder, whatever was done.
@@ -53,9 +61,36 @@ pub fn replies_have_their_form()
     ensures { RepliesHaveTheirForm }
 {}
 
+/// Over events whose marks are ones that they may have, what each connection took, and behind it what it is still owed, is exactly
+/// what the history sends it; once it is ended, what it took is a beginning of that, and the whole where its own closing ended it.
+pub fn taken_is_sent()
+    ensures { TakenIsSent }
+{}
+
+/// An office's opening may always have the mark that `open` gives it.
+pub fn openings_are_admitted()
+    ensures { OpeningsAreAdmitted }
+{}
+
+/// Over a run the store's count of faults grew by as many at least as there are steps that were answered `Failed`, while it isn't
+/// at its greatest: where it didn't grow, none was.
+pub fn failures_are_counted()
+    ensures { FailuresAreCounted }
+{}
+
 /// A clean store keeps the trace of its own records in which nothing was done: so an office can be opened over it.
 pub fn own_trace_is_kept<V: Vault>(vault: &V)
     ensures { (c : Contents) → V.holds vault.now c → V.is_clean vault.now → Keeps (V.holds vault.now) (begun (records_of c)) }
 {
     let _vault = vault;
+}
+
+/// Of the trace that an office stands for, with no premise but on boot numbers: where these differ, timestamps do; unique-ids as they
+/// are written differ; replies have their form.
+pub fn laws_of_its_trace<V: Vault>(office: &Office<V>)
+    ensures greetings { (T : Trace) → StandsFor V.holds office.now T → TimestampsDiffer T }
+    ensures unique_ids { (T : Trace) → StandsFor V.holds office.now T → (d : List ℕ) → are_distinct same_uid_text (deposits T.base (history T) d) ≡ true }
+    ensures replies { (T : Trace) → StandsFor V.holds office.now T → AllReplies IsWellFormed (history T) }
+{
+    let _office = office;
 }

@@ -1,7 +1,6 @@
 //! A line of a session: what it is answered, what it changes, and what is remembered of it (RFC 1939, 5 and 6).
-ghost use Rattle.std.specs.Prelude.{◌≡◌, ◌≤◌, ◌++◌, List, true, Ok, Err, OnErr, IfOk};
+ghost use Rattle.std.specs.Prelude.{◌≡◌, ◌≤◌, List, true, false, Ok, Err, OnErr, IfOk};
 ghost use Rattle.popline.specs.Commands.{command_of};
-ghost use Rattle.popline.specs.Replies.{bytes_of};
 ghost use Rattle.popline.specs.Seen.{command_seen, cut_seen, reading_seen, reply_seen};
 ghost use Rattle.policy.specs.Policy.{Policy};
 ghost use Rattle.vault.specs.Changes.{Contents};
@@ -11,10 +10,13 @@ ghost use Rattle.session.specs.Session.{Session as State};
 ghost use Rattle.office.specs.Connections.{reading, is_quit};
 ghost use Rattle.office.specs.Kept.{talk_after};
 ghost use Rattle.office.specs.Telling.{is_told};
-ghost use Rattle.office.specs.Sitting.{Sitting, sitting_of, LiesIn, GoesOn, Obeyed, said_inside, reply_inside, asks_inside, held_after_line, user_inside};
+ghost use Rattle.office.specs.Stopping.{StaysUpWhenDone, LeavesOneOf};
+ghost use Rattle.office.specs.Output.{nothing_owed, OwesReply};
+ghost use Rattle.office.specs.Sitting.{Sitting, sitting_of, session_left, LiesIn, GoesOn, Obeyed, said_inside, reply_inside, asks_inside, held_after_line, user_inside};
 
-use crate::listing::{drop_listing, put_sizes, put_uids};
+use crate::listing::{drop_listing, list, list_uids};
 use crate::message::{retrieve, top};
+use crate::output::Output;
 use crate::quit::quit;
 use crate::referring::{delete, reset, scan_line, uid_line};
 use crate::talk::{Acted, Talk, say};
@@ -60,21 +62,25 @@ fn follow<V: Vault>(
     vault: &mut V,
     policy: &Policy,
     command: &Command<'_>,
-    owed: &mut Vec<u8>,
+    output: &mut Output,
     session: &mut Session,
 ) -> Result<Acted, AllocError>
-    ensures done { IfOk result (λ acted. (c : Contents) (kept : List Keyed) → V.holds vault.old c → V.is_clean vault.new → LiesIn c session.old kept → Obeyed (V.holds vault.new) (has_grown (V.faults vault.old) (V.faults vault.new)) c policy.now session.old session.new kept owed.old.items owed.new.items (Ok (command_seen command.now)) acted) }
+    requires { output.old ≡ nothing_owed }
+    ensures done { IfOk result (λ acted. (c : Contents) (kept : List Keyed) → V.holds vault.old c → V.is_clean vault.new → LiesIn c session.old kept → Obeyed (V.holds vault.new) (has_grown (V.faults vault.old) (V.faults vault.new)) c policy.now session.old session.new kept output.new (Ok (command_seen command.now)) acted) }
     ensures err { OnErr result ((c : Contents) → V.holds vault.old c → V.is_clean vault.new → V.holds vault.new c) }
     ensures counted { V.faults vault.old ≤ V.faults vault.new }
     ensures clean { V.is_clean vault.new → V.is_clean vault.old }
+    ensures up { (c : Contents) → V.holds vault.old c → V.is_clean vault.new → StaysUpWhenDone (V.is_up vault.old) (V.is_up vault.new) result }
+    ensures stop { (c : Contents) → V.holds vault.old c → V.is_clean vault.new → V.is_up vault.old → LeavesOneOf (V.may_leave vault.new) c (held_after_line Acted.Done policy.now session.old (Ok (command_seen command.now)) c) }
+    ensures unasked { (c : Contents) (kept : List Keyed) → LiesIn c session.old kept → asks_inside policy.now (sitting_of session.old kept) (Ok (command_seen command.now)) ≡ false → vault.new ≡ vault.old }
 {
     match command {
-        Command::Quit => quit(alloc, vault, policy, owed, session),
-        Command::List(None) => put_sizes(alloc, session, owed),
-        Command::Uidl(None) => put_uids(alloc, session, owed),
-        Command::Retr(n) => retrieve(alloc, vault, owed, session, *n),
-        Command::Top(n, lines) => top(alloc, vault, owed, session, *n, *lines),
-        _ => say(alloc, owed, &told(session, policy, command)),
+        Command::Quit => quit(alloc, vault, policy, output, session),
+        Command::List(None) => list(alloc, session, output),
+        Command::Uidl(None) => list_uids(alloc, session, output),
+        Command::Retr(n) => retrieve(alloc, vault, output, session, policy, *n),
+        Command::Top(n, lines) => top(alloc, vault, output, session, policy, *n, *lines),
+        _ => say(alloc, output, &told(session, policy, command)),
     }
 }
 
@@ -84,17 +90,21 @@ fn obey<V: Vault>(
     vault: &mut V,
     policy: &Policy,
     line: &[u8],
-    owed: &mut Vec<u8>,
+    output: &mut Output,
     session: &mut Session,
 ) -> Result<Acted, AllocError>
-    ensures done { IfOk result (λ acted. (c : Contents) (kept : List Keyed) → V.holds vault.old c → V.is_clean vault.new → LiesIn c session.old kept → Obeyed (V.holds vault.new) (has_grown (V.faults vault.old) (V.faults vault.new)) c policy.now session.old session.new kept owed.old.items owed.new.items (command_of line.now) acted) }
+    requires { output.old ≡ nothing_owed }
+    ensures done { IfOk result (λ acted. (c : Contents) (kept : List Keyed) → V.holds vault.old c → V.is_clean vault.new → LiesIn c session.old kept → Obeyed (V.holds vault.new) (has_grown (V.faults vault.old) (V.faults vault.new)) c policy.now session.old session.new kept output.new (command_of line.now) acted) }
     ensures err { OnErr result ((c : Contents) → V.holds vault.old c → V.is_clean vault.new → V.holds vault.new c) }
     ensures counted { V.faults vault.old ≤ V.faults vault.new }
     ensures clean { V.is_clean vault.new → V.is_clean vault.old }
+    ensures up { (c : Contents) → V.holds vault.old c → V.is_clean vault.new → StaysUpWhenDone (V.is_up vault.old) (V.is_up vault.new) result }
+    ensures stop { (c : Contents) → V.holds vault.old c → V.is_clean vault.new → V.is_up vault.old → LeavesOneOf (V.may_leave vault.new) c (held_after_line Acted.Done policy.now session.old (command_of line.now) c) }
+    ensures unasked { (c : Contents) (kept : List Keyed) → LiesIn c session.old kept → asks_inside policy.now (sitting_of session.old kept) (command_of line.now) ≡ false → vault.new ≡ vault.old }
 {
     match Command::read(line) {
-        Ok(command) => follow(alloc, vault, policy, &command, owed, session),
-        Err(fault) => say(alloc, owed, &misread(fault)),
+        Ok(command) => follow(alloc, vault, policy, &command, output, session),
+        Err(fault) => say(alloc, output, &misread(fault)),
     }
 }
 
@@ -105,10 +115,11 @@ pub(crate) fn answer<V: Vault>(
     vault: &mut V,
     policy: &Policy,
     cut: Cut<'_>,
-    owed: &mut Vec<u8>,
+    output: &mut Output,
     session: &mut Session,
 ) -> Result<Acted, AllocError>
-    ensures owed { IfOk result (λ acted. (c : Contents) (kept : List Keyed) → V.holds vault.old c → V.is_clean vault.new → LiesIn c session.old kept → owed.new.items ≡ owed.old.items ++ bytes_of (reply_inside acted policy.now (sitting_of session.old kept) (cut_seen cut.entry))) }
+    requires { output.old ≡ nothing_owed }
+    ensures owed { IfOk result (λ acted. (c : Contents) (kept : List Keyed) → V.holds vault.old c → V.is_clean vault.new → LiesIn c session.old kept → OwesReply c (session_left (reading (cut_seen cut.entry)) session.new) output.new (reply_inside acted policy.now (sitting_of session.old kept) (cut_seen cut.entry))) }
     ensures session { IfOk result (λ acted. (c : Contents) (kept : List Keyed) → V.holds vault.old c → V.is_clean vault.new → LiesIn c session.old kept → GoesOn (reply_inside acted policy.now (sitting_of session.old kept) (cut_seen cut.entry)) session.old session.new) }
     ensures held { IfOk result (λ acted. (c : Contents) (kept : List Keyed) → V.holds vault.old c → V.is_clean vault.new → LiesIn c session.old kept → V.holds vault.new (held_after_line acted policy.now session.old (reading (cut_seen cut.entry)) c)) }
     ensures err { OnErr result ((c : Contents) → V.holds vault.old c → V.is_clean vault.new → V.holds vault.new c) }
@@ -116,10 +127,13 @@ pub(crate) fn answer<V: Vault>(
     ensures cause { IfOk result (λ acted. acted ≡ Acted.Failed → (c : Contents) (kept : List Keyed) → V.holds vault.old c → V.is_clean vault.new → LiesIn c session.old kept → has_grown (V.faults vault.old) (V.faults vault.new) ≡ true) }
     ensures counted { V.faults vault.old ≤ V.faults vault.new }
     ensures clean { V.is_clean vault.new → V.is_clean vault.old }
+    ensures up { (c : Contents) → V.holds vault.old c → V.is_clean vault.new → StaysUpWhenDone (V.is_up vault.old) (V.is_up vault.new) result }
+    ensures stop { (c : Contents) → V.holds vault.old c → V.is_clean vault.new → V.is_up vault.old → LeavesOneOf (V.may_leave vault.new) c (held_after_line Acted.Done policy.now session.old (reading (cut_seen cut.entry)) c) }
+    ensures unasked { (c : Contents) (kept : List Keyed) → LiesIn c session.old kept → asks_inside policy.now (sitting_of session.old kept) (reading (cut_seen cut.entry)) ≡ false → vault.new ≡ vault.old }
 {
     match cut {
-        Cut::TooLong => say(alloc, owed, &Reply::LineTooLong),
-        Cut::Line(line) => obey(alloc, vault, policy, line, owed, session),
+        Cut::TooLong => say(alloc, output, &Reply::LineTooLong),
+        Cut::Line(line) => obey(alloc, vault, policy, line, output, session),
     }
 }
 

@@ -19,10 +19,13 @@ mod locks;
 mod login;
 mod message;
 mod office;
+mod output;
 mod policy_commands;
 mod quit;
+mod reading;
 mod referring;
 mod sessions;
+mod stop_laws;
 mod talk;
 mod time;
 mod transcript;
@@ -31,10 +34,12 @@ pub use answer::{Answer, MessageRow, Messages, SessionRow, Sessions, Totals};
 pub use command::AdminCommand;
 pub use event::{Event, Outcome, Reason};
 pub use history_laws::{
-    deposit_ids_act_once, greetings_differ, marks_are_by_view, one_holder, own_records_agree,
-    own_trace_is_kept, replies_have_their_form, unique_id_texts_differ, unique_ids_are_unique,
+    deposit_ids_act_once, failures_are_counted, greetings_differ, laws_of_its_trace,
+    marks_are_by_view, one_holder, openings_are_admitted, own_records_agree, own_trace_is_kept,
+    replies_have_their_form, taken_is_sent, unique_id_texts_differ, unique_ids_are_unique,
     view_stays_present,
 };
 pub use limits::Limits;
 pub use office::{Office, OpenFault};
+pub use stop_laws::{step_and_open, stop_between_events};
 pub use transcript::{RunFault, Step, Transcript};

@@ -1,5 +1,5 @@
 //! What a line is answered, and what is remembered of it.
-ghost use Rattle.std.specs.Prelude.{◌≡◌, ◌≤◌, ◌++◌, ℕ, List, Option, None, Some, true, Ok, OnOk, OnErr, IfOk};
+ghost use Rattle.std.specs.Prelude.{◌≡◌, ◌≤◌, ◌++◌, ℕ, List, Option, None, Some, true, false, Ok, OnOk, OnErr, IfOk};
 ghost use Rattle.std.specs.BTreeMap.{get};
 ghost use Rattle.popline.specs.Replies.{bytes_of};
 ghost use Rattle.popline.specs.Seen.{cut_seen, command_seen, reading_seen, reply_seen};
@@ -9,6 +9,8 @@ ghost use Rattle.office.specs.History.{Says};
 ghost use Rattle.office.specs.Connections.{reading, is_quit, user_after_line, closes, is_failure};
 ghost use Rattle.office.specs.Sessions.{logs_in};
 ghost use Rattle.office.specs.Replying.{is_allowed as is_allowed_of};
+ghost use Rattle.office.specs.Stopping.{LeavesHeld, StaysUpWhenDone, LeavesOneOf};
+ghost use Rattle.office.specs.Output.{nothing_owed, OwesReply};
 ghost use Rattle.office.specs.Sitting.{Sitting};
 ghost use Rattle.office.specs.Kept.{said_outside, line_outside, asks_outside, asks, talk_after};
 ghost use Rattle.office.specs.Answered.{desk_over, reply_of, name_cmp, IsSeated, SessionAfter, Becomes, LocksFollow, held_after};
@@ -16,6 +18,7 @@ ghost use Rattle.office.specs.Answered.{desk_over, reply_of, name_cmp, IsSeated,
 use crate::inside::{self, is_quitting, read};
 use crate::locks::{Locks, lock, release};
 use crate::login::judge;
+use crate::output::Output;
 use crate::talk::{Acted, Desk, Talk};
 use creds::{LoginName, Proof};
 use popline::{Command, Cut, Keyword, LineFault, Reply};
@@ -49,6 +52,9 @@ fn obey<V: Vault>(
     ensures asked { OnErr result (asks_outside talk (Ok (command_seen command.now)) ≡ true) }
     ensures counted { CountsFaults (V.faults vault.old) (V.faults vault.new) result }
     ensures clean { V.is_clean vault.new → V.is_clean vault.old }
+    ensures up { (c : Contents) → V.holds vault.old c → V.is_clean vault.new → V.is_up vault.old → OnOk result (V.is_up vault.new) }
+    ensures stop { (c : Contents) → V.holds vault.old c → V.is_clean vault.new → V.is_up vault.old → LeavesHeld (V.may_leave vault.new) c }
+    ensures unasked { asks_outside talk (Ok (command_seen command.now)) ≡ false → vault.new ≡ vault.old }
 {
     let user = talk.user;
     let failures = talk.failures;
@@ -85,6 +91,9 @@ fn reply_to<V: Vault>(
     ensures asked { OnErr result (asks_outside talk (reading (cut_seen cut.entry)) ≡ true) }
     ensures counted { CountsFaults (V.faults vault.old) (V.faults vault.new) result }
     ensures clean { V.is_clean vault.new → V.is_clean vault.old }
+    ensures up { (c : Contents) → V.holds vault.old c → V.is_clean vault.new → V.is_up vault.old → OnOk result (V.is_up vault.new) }
+    ensures stop { (c : Contents) → V.holds vault.old c → V.is_clean vault.new → V.is_up vault.old → LeavesHeld (V.may_leave vault.new) c }
+    ensures unasked { asks_outside talk (reading (cut_seen cut.entry)) ≡ false → vault.new ≡ vault.old }
 {
     let Cut::Line(line) = cut else {
         return Ok((Reply::LineTooLong, None));
@@ -147,10 +156,11 @@ fn answer_outside<V: Vault>(
     desk: Desk<'_>,
     locks: &mut Locks,
     cut: Cut<'_>,
-    owed: &mut Vec<u8>,
+    output: &mut Output,
     talk: &mut Talk,
 ) -> Result<(Acted, Option<Session>), AllocError>
-    ensures owed { IfOk result (λ r. (c : Contents) → V.holds vault.old c → V.is_clean vault.new → owed.new.items ≡ owed.old.items ++ bytes_of (reply_of r.0 (desk_over c desk.entry locks.old) talk.old None (cut_seen cut.entry))) }
+    requires { output.old ≡ nothing_owed }
+    ensures owed { IfOk result (λ r. (c : Contents) → V.holds vault.old c → V.is_clean vault.new → output.new ≡ record output.old { ready = output.old.ready ++ bytes_of (reply_of r.0 (desk_over c desk.entry locks.old) talk.old None (cut_seen cut.entry)) }) }
     ensures talk { IfOk result (λ r. (c : Contents) → V.holds vault.old c → V.is_clean vault.new → talk.new ≡ talk_after (cut_seen cut.entry) (reply_of r.0 (desk_over c desk.entry locks.old) talk.old None (cut_seen cut.entry)) talk.old) }
     ensures session { IfOk result (λ r. (c : Contents) → V.holds vault.old c → V.is_clean vault.new → Becomes c desk.entry.policy.now talk.old (cut_seen cut.entry) (reply_of r.0 (desk_over c desk.entry locks.old) talk.old None (cut_seen cut.entry)) None r.1) }
     ensures locks { IfOk result (λ r. LocksFollow desk.entry.number None r.1 locks.old locks.new) }
@@ -160,13 +170,16 @@ fn answer_outside<V: Vault>(
     ensures cause { IfOk result (λ r. r.0 ≡ Acted.Failed → (c : Contents) → V.holds vault.old c → V.is_clean vault.new → has_grown (V.faults vault.old) (V.faults vault.new) ≡ true) }
     ensures counted { V.faults vault.old ≤ V.faults vault.new }
     ensures clean { V.is_clean vault.new → V.is_clean vault.old }
+    ensures up { (c : Contents) → V.holds vault.old c → V.is_clean vault.new → V.is_up vault.old → IfOk result (λ r. r.0 ≡ Acted.Done → V.is_up vault.new) }
+    ensures stop { (c : Contents) → V.holds vault.old c → V.is_clean vault.new → V.is_up vault.old → LeavesHeld (V.may_leave vault.new) c }
+    ensures unasked { asks_outside talk.old (reading (cut_seen cut.entry)) ≡ false → vault.new ≡ vault.old }
 {
     let (reply, begun, acted) = match reply_to(alloc, vault, desk, locks, cut, *talk) {
         Ok((reply, begun)) => (reply, begun, Acted::Done),
         Err(VaultFault::NoMemory) => return Err(AllocError),
         Err(_) => (Reply::StoreFailed, None, Acted::Failed),
     };
-    reply.put(alloc, owed)?;
+    output.say(alloc, &reply)?;
     lock(locks, desk.number, &begun)?;
     *talk = next_talk(cut, &reply, *talk);
     Ok((acted, begun))
@@ -179,11 +192,12 @@ fn answer_inside<V: Vault>(
     desk: Desk<'_>,
     locks: &mut Locks,
     cut: Cut<'_>,
-    owed: &mut Vec<u8>,
+    output: &mut Output,
     talk: &mut Talk,
     session: Session,
 ) -> Result<(Acted, Option<Session>), AllocError>
-    ensures owed { IfOk result (λ r. (c : Contents) (v : Sitting) → V.holds vault.old c → V.is_clean vault.new → IsSeated c (Some session) (Some v) → owed.new.items ≡ owed.old.items ++ bytes_of (reply_of r.0 (desk_over c desk.entry locks.old) talk.old (Some v) (cut_seen cut.entry))) }
+    requires { output.old ≡ nothing_owed }
+    ensures owed { IfOk result (λ r. (c : Contents) (v : Sitting) → V.holds vault.old c → V.is_clean vault.new → IsSeated c (Some session) (Some v) → OwesReply c r.1 output.new (reply_of r.0 (desk_over c desk.entry locks.old) talk.old (Some v) (cut_seen cut.entry))) }
     ensures talk { IfOk result (λ r. (c : Contents) (v : Sitting) → V.holds vault.old c → V.is_clean vault.new → IsSeated c (Some session) (Some v) → talk.new ≡ talk_after (cut_seen cut.entry) (reply_of r.0 (desk_over c desk.entry locks.old) talk.old (Some v) (cut_seen cut.entry)) talk.old) }
     ensures session { IfOk result (λ r. (c : Contents) (v : Sitting) → V.holds vault.old c → V.is_clean vault.new → IsSeated c (Some session) (Some v) → Becomes c desk.entry.policy.now talk.old (cut_seen cut.entry) (reply_of r.0 (desk_over c desk.entry locks.old) talk.old (Some v) (cut_seen cut.entry)) (Some session) r.1) }
     ensures locks { IfOk result (λ r. LocksFollow desk.entry.number (Some session) r.1 locks.old locks.new) }
@@ -194,10 +208,13 @@ fn answer_inside<V: Vault>(
     ensures cause { IfOk result (λ r. r.0 ≡ Acted.Failed → (c : Contents) (v : Sitting) → V.holds vault.old c → V.is_clean vault.new → IsSeated c (Some session) (Some v) → has_grown (V.faults vault.old) (V.faults vault.new) ≡ true) }
     ensures counted { V.faults vault.old ≤ V.faults vault.new }
     ensures clean { V.is_clean vault.new → V.is_clean vault.old }
+    ensures up { (c : Contents) → V.holds vault.old c → V.is_clean vault.new → V.is_up vault.old → IfOk result (λ r. r.0 ≡ Acted.Done → V.is_up vault.new) }
+    ensures stop { (c : Contents) → V.holds vault.old c → V.is_clean vault.new → V.is_up vault.old → LeavesOneOf (V.may_leave vault.new) c (held_after Acted.Done desk.entry.policy.now (Some session) (reading (cut_seen cut.entry)) c) }
+    ensures unasked { (c : Contents) (v : Sitting) → IsSeated c (Some session) (Some v) → asks desk.entry.policy.now talk.old (Some v) (reading (cut_seen cut.entry)) ≡ false → vault.new ≡ vault.old }
 {
     let mut session = session;
     let maildrop = session.maildrop();
-    let acted = inside::answer(alloc, vault, desk.policy, cut, owed, &mut session)?;
+    let acted = inside::answer(alloc, vault, desk.policy, cut, output, &mut session)?;
     *talk = inside::next_talk(cut, acted, *talk);
     if is_quitting(cut) {
         release(locks, Some(maildrop));
@@ -214,11 +231,12 @@ pub fn answer<V: Vault>(
     desk: Desk<'_>,
     locks: &mut Locks,
     cut: Cut<'_>,
-    owed: &mut Vec<u8>,
+    output: &mut Output,
     talk: &mut Talk,
     session: &mut Option<Session>,
 ) -> Result<Acted, AllocError>
-    ensures owed { IfOk result (λ acted. (c : Contents) (v : Option Sitting) → V.holds vault.old c → V.is_clean vault.new → IsSeated c session.old v → owed.new.items ≡ owed.old.items ++ bytes_of (reply_of acted (desk_over c desk.entry locks.old) talk.old v (cut_seen cut.entry))) }
+    requires { output.old ≡ nothing_owed }
+    ensures owed { IfOk result (λ acted. (c : Contents) (v : Option Sitting) → V.holds vault.old c → V.is_clean vault.new → IsSeated c session.old v → OwesReply c session.new output.new (reply_of acted (desk_over c desk.entry locks.old) talk.old v (cut_seen cut.entry))) }
     ensures talk { IfOk result (λ acted. (c : Contents) (v : Option Sitting) → V.holds vault.old c → V.is_clean vault.new → IsSeated c session.old v → talk.new ≡ talk_after (cut_seen cut.entry) (reply_of acted (desk_over c desk.entry locks.old) talk.old v (cut_seen cut.entry)) talk.old) }
     ensures session { IfOk result (λ acted. (c : Contents) (v : Option Sitting) → V.holds vault.old c → V.is_clean vault.new → IsSeated c session.old v → Becomes c desk.entry.policy.now talk.old (cut_seen cut.entry) (reply_of acted (desk_over c desk.entry locks.old) talk.old v (cut_seen cut.entry)) session.old session.new) }
     ensures locks { OnOk result (LocksFollow desk.entry.number session.old session.new locks.old locks.new) }
@@ -229,15 +247,20 @@ pub fn answer<V: Vault>(
     ensures cause { IfOk result (λ acted. acted ≡ Acted.Failed → (c : Contents) (v : Option Sitting) → V.holds vault.old c → V.is_clean vault.new → IsSeated c session.old v → has_grown (V.faults vault.old) (V.faults vault.new) ≡ true) }
     ensures counted { V.faults vault.old ≤ V.faults vault.new }
     ensures clean { V.is_clean vault.new → V.is_clean vault.old }
+    ensures up { (c : Contents) → V.holds vault.old c → V.is_clean vault.new → StaysUpWhenDone (V.is_up vault.old) (V.is_up vault.new) result }
+    ensures stop { (c : Contents) → V.holds vault.old c → V.is_clean vault.new → V.is_up vault.old → LeavesOneOf (V.may_leave vault.new) c (held_after Acted.Done desk.entry.policy.now session.old (reading (cut_seen cut.entry)) c) }
+    ensures unasked { (c : Contents) (v : Option Sitting) → IsSeated c session.old v → asks desk.entry.policy.now talk.old v (reading (cut_seen cut.entry)) ≡ false → vault.new ≡ vault.old }
 {
     match session.take() {
         None => {
-            let (acted, begun) = answer_outside(alloc, vault, desk, locks, cut, owed, talk)?;
+            let (acted, begun) = answer_outside(alloc, vault, desk, locks, cut, output, talk)?;
             *session = begun;
             Ok(acted)
         }
         Some(inside) => {
-            let (acted, after) = answer_inside(alloc, vault, desk, locks, cut, owed, talk, inside)?;
+            let (acted, after) = answer_inside(
+                alloc, vault, desk, locks, cut, output, talk, inside,
+            )?;
             *session = after;
             Ok(acted)
         }

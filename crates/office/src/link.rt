@@ -1,20 +1,25 @@
 //! One connection: the input that isn't cut yet, and the octets that it is owed.
-ghost use Rattle.std.specs.Prelude.{◌≡◌, ◌++◌, ◌≤◌, ℕ, List, [], Option, None, true, OnOk, OnErr, IfOk, drop, length, string_bytes};
+ghost use Rattle.std.specs.Prelude.{◌≡◌, ◌++◌, ◌+◌, ◌≤◌, ℕ, List, [], Option, None, true, false, OnOk, OnErr, IfOk, drop, length, string_bytes};
 ghost use Rattle.std.specs.BTreeMap.{get};
 ghost use Rattle.popline.specs.Replies.{Greeting, bytes_of, timestamp};
 ghost use Rattle.popline.specs.Cutting.{has_newline, coming, shown, nothing_held};
 ghost use Rattle.vault.specs.Changes.{Contents};
 ghost use Rattle.vault.specs.Calls.{has_grown};
+ghost use Rattle.office.specs.Stopping.{LeavesHeld, StaysUpWhenDone, LeavesOneOf};
+ghost use Rattle.office.specs.Replying.{is_empty};
+ghost use Rattle.office.specs.Output.{nothing_owed, lent_of, is_feeding, reads_text, Owes, OwesIf};
 ghost use Rattle.office.specs.Sitting.{Sitting};
 ghost use Rattle.office.specs.Kept.{answered, clocked, line_after, asks, nothing_said, maildrop_of};
 ghost use Rattle.office.specs.Idle.{is_idle};
 ghost use Rattle.office.specs.InSession.{name_of};
+ghost use Rattle.office.specs.Input.{most_input};
 ghost use Rattle.office.specs.Connections.{reading};
 ghost use Rattle.office.specs.Expected.{most_in_a_piece};
 ghost use Rattle.office.specs.Answered.{judged_at, reply_of, name_cmp, IsSeated, BecomesIf, LocksFollow, held_if};
 
 use crate::lines;
 use crate::locks::Locks;
+use crate::output::{Output, Source};
 use crate::talk::{Acted, Desk, Talk};
 use creds::{LoginName, Name};
 use policy::Policy;
@@ -31,9 +36,7 @@ pub struct Link {
     /// Octets of the last piece, of which the first `cut` were cut.
     pending: Vec<u8>,
     cut: usize,
-    /// Octets to send, of which the first `taken` were taken.
-    owed: Vec<u8>,
-    taken: usize,
+    output: Output,
     talk: Talk,
     /// The timestamp of the greeting, which APOP signs.
     stamp: String,
@@ -49,9 +52,9 @@ impl Model for Link {
 
     ghost Value = { Kept };
 
-    ghost view = { λ l. record { held = l.cutter; pending = drop l.cut l.pending.items; owed = drop l.taken l.owed.items; talk = l.talk; stamp = string_bytes l.stamp; session = l.session; clock = l.clock } };
+    ghost view = { λ l. record { held = l.cutter; pending = drop l.cut l.pending.items; output = l.output; talk = l.talk; stamp = string_bytes l.stamp; session = l.session; clock = l.clock } };
 
-    ghost invariant = { λ l. (l.cut ≤ length l.pending.items) × (l.taken ≤ length l.owed.items) × (length l.pending.items ≤ most_in_a_piece) };
+    ghost invariant = { λ l. (l.cut ≤ length l.pending.items) × (length l.pending.items ≤ most_in_a_piece) };
 }
 
 impl Link {
@@ -63,18 +66,17 @@ impl Link {
         host: &str,
         now: u64,
     ) -> Result<Link, AllocError>
-        ensures { IfOk result (λ k. k ≡ record { held = nothing_held; pending = []; owed = bytes_of (Greeting number boot host.now); talk = nothing_said; stamp = timestamp number boot host.now; session = None; clock = now }) }
+        ensures { IfOk result (λ k. k ≡ record { held = nothing_held; pending = []; output = record { ready = bytes_of (Greeting number boot host.now); source = Source.Nothing }; talk = nothing_said; stamp = timestamp number boot host.now; session = None; clock = now }) }
     {
-        let mut owed = Vec::new(alloc);
+        let mut output = Output::new(alloc)?;
         let greeting = Reply::Greeting { number, boot, host };
-        greeting.put(alloc, &mut owed)?;
+        output.say(alloc, &greeting)?;
         let stamp = timestamp_of(alloc, number, boot, host)?;
         Ok(Link {
             cutter: Cutter::new(),
             pending: Vec::new(alloc),
             cut: 0,
-            owed,
-            taken: 0,
+            output,
             talk: Talk::new(),
             stamp,
             session: None,
@@ -82,11 +84,27 @@ impl Link {
         })
     }
 
-    /// The octets that aren't taken yet.
+    /// What is lent of what is owed: all that stands ready, 16,384 octets at most.
     pub fn owed(&self) -> &[u8]
-        ensures { result.now ≡ self.now.owed }
+        ensures { result.now ≡ lent_of self.now.output }
     {
-        &self.owed[self.taken..]
+        self.output.lent()
+    }
+
+    /// Whether nothing is owed.
+    pub fn owes_nothing(&self) -> bool
+        ensures value { result ≡ is_empty self.now.output.ready }
+        ensures nothing { result ≡ true → self.now.output ≡ nothing_owed }
+    {
+        self.output.is_empty()
+    }
+
+    /// How many octets of its input are kept: of the line that is being cut, and of the last piece.
+    pub fn input(&self) -> usize
+        ensures value { result ≡ length self.now.held.octets + length self.now.pending }
+        ensures most { result ≤ most_input }
+    {
+        self.cutter.held() + self.pending[self.cut..].len()
     }
 
     pub fn is_closing(&self) -> bool
@@ -95,13 +113,46 @@ impl Link {
         self.talk.closing
     }
 
-    /// Takes octets that are owed, at this moment. Nothing is copied.
-    pub fn take(&mut self, octets: usize, now: u64)
-        requires { octets ≤ length self.old.owed }
-        ensures { self.new ≡ record self.old { owed = drop octets self.old.owed; clock = now } }
+    /// Takes octets that stand ready, at this moment, and puts more where few are left. `false` where the store refused a page.
+    pub fn take<V: Vault>(
+        &mut self,
+        alloc: Global,
+        vault: &mut V,
+        octets: usize,
+        now: u64,
+    ) -> Result<bool, AllocError>
+        requires { octets ≤ length self.old.output.ready }
+        ensures kept { self.new ≡ record self.old { output = self.new.output; clock = now } }
+        ensures owes { IfOk result (λ taken. taken ≡ true → (c : Contents) (owed : List ℕ) → V.holds vault.old c → V.is_clean vault.new → Owes c self.old.session self.old.output owed → Owes c self.old.session self.new.output (drop octets owed)) }
+        ensures kind { IfOk result (λ taken. reads_text self.new.output.source ≡ true → reads_text self.old.output.source ≡ true) }
+        ensures cause { IfOk result (λ taken. taken ≡ false → (c : Contents) (owed : List ℕ) → V.holds vault.old c → V.is_clean vault.new → Owes c self.old.session self.old.output owed → has_grown (V.faults vault.old) (V.faults vault.new) ≡ true) }
+        // Only a message can be refused, and only what is still coming takes memory.
+        ensures refused { IfOk result (λ taken. taken ≡ false → reads_text self.old.output.source ≡ true) }
+        ensures err { OnErr result (is_feeding self.old.output.source ≡ true) }
+        ensures held { (c : Contents) → V.holds vault.old c → V.is_clean vault.new → V.holds vault.new c }
+        ensures counted { V.faults vault.old ≤ V.faults vault.new }
+        ensures clean { V.is_clean vault.new → V.is_clean vault.old }
+        ensures up { (c : Contents) → V.holds vault.old c → V.is_clean vault.new → V.is_up vault.old → IfOk result (λ taken. taken ≡ true → V.is_up vault.new) }
+        ensures stop { (c : Contents) → V.holds vault.old c → V.is_clean vault.new → V.is_up vault.old → LeavesHeld (V.may_leave vault.new) c }
+        ensures unasked { reads_text self.old.output.source ≡ false → vault.new ≡ vault.old }
     {
-        self.taken += octets;
         self.clock = now;
+        match self.output.take(octets) {
+            Source::Nothing => Ok(true),
+            Source::Sizes(done) => {
+                if let Some(session) = &self.session {
+                    self.output.send_sizes(alloc, session, done)?;
+                }
+                Ok(true)
+            }
+            Source::Uids(done) => {
+                if let Some(session) = &self.session {
+                    self.output.send_uids(alloc, session, done)?;
+                }
+                Ok(true)
+            }
+            Source::Text(text) => self.output.send_text(vault, text),
+        }
     }
 
     /// Whether the connection has done nothing for so many seconds at this moment.
@@ -145,8 +196,9 @@ impl Link {
         piece: &[u8],
         now: u64,
     ) -> Result<Acted, AllocError>
-        requires { (self.old.owed ≡ []) × (length piece.now ≤ most_in_a_piece) }
-        ensures ok { IfOk result (λ acted. (c : Contents) (v : Option Sitting) → V.holds vault.old c → V.is_clean vault.new → IsSeated c self.old.session v → self.new ≡ answered (clocked now piece.now self.old) piece.now (reply_of acted (judged_at c policy.now self.old.stamp locks.old) self.old.talk v (line_after self.old piece.now)) self.new.session) }
+        requires { (self.old.output ≡ nothing_owed) × (length piece.now ≤ most_in_a_piece) }
+        ensures ok { IfOk result (λ acted. (c : Contents) (v : Option Sitting) → V.holds vault.old c → V.is_clean vault.new → IsSeated c self.old.session v → self.new ≡ answered (clocked now piece.now self.old) piece.now (reply_of acted (judged_at c policy.now self.old.stamp locks.old) self.old.talk v (line_after self.old piece.now)) self.new.session self.new.output) }
+        ensures owes { IfOk result (λ acted. (c : Contents) (v : Option Sitting) → V.holds vault.old c → V.is_clean vault.new → IsSeated c self.old.session v → OwesIf (has_newline piece.now) c self.new.session self.new.output (reply_of acted (judged_at c policy.now self.old.stamp locks.old) self.old.talk v (line_after self.old piece.now))) }
         ensures session { IfOk result (λ acted. (c : Contents) (v : Option Sitting) → V.holds vault.old c → V.is_clean vault.new → IsSeated c self.old.session v → BecomesIf (has_newline piece.now) c policy.now self.old.talk (line_after self.old piece.now) (reply_of acted (judged_at c policy.now self.old.stamp locks.old) self.old.talk v (line_after self.old piece.now)) self.old.session self.new.session) }
         ensures lines { IfOk result (λ _. (more : List ℕ) → coming self.old.held (piece.now ++ more) ≡ shown self.new.held ++ coming self.new.held (self.new.pending ++ more)) }
         // Only a line takes memory.
@@ -159,9 +211,11 @@ impl Link {
         ensures cause { IfOk result (λ acted. acted ≡ Acted.Failed → (c : Contents) (v : Option Sitting) → V.holds vault.old c → V.is_clean vault.new → IsSeated c self.old.session v → has_grown (V.faults vault.old) (V.faults vault.new) ≡ true) }
         ensures counted { V.faults vault.old ≤ V.faults vault.new }
         ensures clean { V.is_clean vault.new → V.is_clean vault.old }
+        ensures up { (c : Contents) → V.holds vault.old c → V.is_clean vault.new → StaysUpWhenDone (V.is_up vault.old) (V.is_up vault.new) result }
+        ensures stop { (c : Contents) → V.holds vault.old c → V.is_clean vault.new → V.is_up vault.old → LeavesOneOf (V.may_leave vault.new) c (held_if (has_newline piece.now) Acted.Done policy.now self.old.session (reading (line_after self.old piece.now)) c) }
+        ensures unasked { (c : Contents) (v : Option Sitting) → IsSeated c self.old.session v → (has_newline piece.now ≡ true → asks policy.now self.old.talk v (reading (line_after self.old piece.now)) ≡ false) → vault.new ≡ vault.old }
     {
-        self.owed.clear();
-        self.taken = 0;
+        self.output.clear();
         self.pending.clear();
         self.cut = 0;
         let n = self.cutter.feed(piece);
@@ -181,7 +235,7 @@ impl Link {
             desk,
             locks,
             cut,
-            &mut self.owed,
+            &mut self.output,
             &mut self.talk,
             &mut self.session,
         )?;
@@ -197,8 +251,9 @@ impl Link {
         locks: &mut Locks,
         number: u64,
     ) -> Result<Acted, AllocError>
-        requires { self.old.owed ≡ [] }
-        ensures ok { IfOk result (λ acted. (c : Contents) (v : Option Sitting) → V.holds vault.old c → V.is_clean vault.new → IsSeated c self.old.session v → self.new ≡ answered self.old self.old.pending (reply_of acted (judged_at c policy.now self.old.stamp locks.old) self.old.talk v (line_after self.old self.old.pending)) self.new.session) }
+        requires { self.old.output ≡ nothing_owed }
+        ensures ok { IfOk result (λ acted. (c : Contents) (v : Option Sitting) → V.holds vault.old c → V.is_clean vault.new → IsSeated c self.old.session v → self.new ≡ answered self.old self.old.pending (reply_of acted (judged_at c policy.now self.old.stamp locks.old) self.old.talk v (line_after self.old self.old.pending)) self.new.session self.new.output) }
+        ensures owes { IfOk result (λ acted. (c : Contents) (v : Option Sitting) → V.holds vault.old c → V.is_clean vault.new → IsSeated c self.old.session v → OwesIf (has_newline self.old.pending) c self.new.session self.new.output (reply_of acted (judged_at c policy.now self.old.stamp locks.old) self.old.talk v (line_after self.old self.old.pending))) }
         ensures session { IfOk result (λ acted. (c : Contents) (v : Option Sitting) → V.holds vault.old c → V.is_clean vault.new → IsSeated c self.old.session v → BecomesIf (has_newline self.old.pending) c policy.now self.old.talk (line_after self.old self.old.pending) (reply_of acted (judged_at c policy.now self.old.stamp locks.old) self.old.talk v (line_after self.old self.old.pending)) self.old.session self.new.session) }
         ensures lines { IfOk result (λ _. (more : List ℕ) → coming self.old.held (self.old.pending ++ more) ≡ shown self.new.held ++ coming self.new.held (self.new.pending ++ more)) }
         ensures err { OnErr result (has_newline self.old.pending ≡ true) }
@@ -210,9 +265,11 @@ impl Link {
         ensures cause { IfOk result (λ acted. acted ≡ Acted.Failed → (c : Contents) (v : Option Sitting) → V.holds vault.old c → V.is_clean vault.new → IsSeated c self.old.session v → has_grown (V.faults vault.old) (V.faults vault.new) ≡ true) }
         ensures counted { V.faults vault.old ≤ V.faults vault.new }
         ensures clean { V.is_clean vault.new → V.is_clean vault.old }
+        ensures up { (c : Contents) → V.holds vault.old c → V.is_clean vault.new → StaysUpWhenDone (V.is_up vault.old) (V.is_up vault.new) result }
+        ensures stop { (c : Contents) → V.holds vault.old c → V.is_clean vault.new → V.is_up vault.old → LeavesOneOf (V.may_leave vault.new) c (held_if (has_newline self.old.pending) Acted.Done policy.now self.old.session (reading (line_after self.old self.old.pending)) c) }
+        ensures unasked { (c : Contents) (v : Option Sitting) → IsSeated c self.old.session v → (has_newline self.old.pending ≡ true → asks policy.now self.old.talk v (reading (line_after self.old self.old.pending)) ≡ false) → vault.new ≡ vault.old }
     {
-        self.owed.clear();
-        self.taken = 0;
+        self.output.clear();
         self.cut += self.cutter.feed(&self.pending[self.cut..]);
         let Some(cut) = self.cutter.line() else {
             return Ok(Acted::Done);
@@ -228,7 +285,7 @@ impl Link {
             desk,
             locks,
             cut,
-            &mut self.owed,
+            &mut self.output,
             &mut self.talk,
             &mut self.session,
         )?;

@@ -1,17 +1,19 @@
 //! What a session lists of its messages (RFC 1939, 5: STAT and LIST; 7: UIDL).
-ghost use Rattle.std.specs.Prelude.{◌≡◌, ◌++◌, List, IfOk};
+ghost use Rattle.std.specs.Prelude.{◌≡◌, List, Some, IfOk};
 ghost use Rattle.popline.specs.Commands.{Stat};
-ghost use Rattle.popline.specs.Replies.{bytes_of, ScanListing, UidListing};
+ghost use Rattle.popline.specs.Replies.{ScanListing, UidListing};
 ghost use Rattle.popline.specs.Seen.{reply_seen};
 ghost use Rattle.policy.specs.Policy.{Policy};
 ghost use Rattle.vault.specs.declared.record.Keyed.{Keyed};
 ghost use Rattle.vault.specs.Changes.{Contents};
 ghost use Rattle.session.specs.Session.{octets_of, uid_of};
 ghost use Rattle.session.specs.View.{unmarked, sizes_of, uids_of};
+ghost use Rattle.office.specs.Output.{nothing_owed, OwesReply};
 ghost use Rattle.office.specs.Sitting.{LiesIn, GoesOn, told_inside};
 
+use crate::output::Output;
 use crate::talk::Acted;
-use popline::{Reply, begin_scan_listing, begin_uid_listing, end_lines, put_scan_row, put_uid_row};
+use popline::Reply;
 use session::Session;
 use std::alloc::{AllocError, Global};
 
@@ -25,35 +27,31 @@ pub(crate) fn drop_listing(session: &Session) -> Reply<'static>
 }
 
 /// Puts the numbers and octets of the heads that aren't marked.
-pub(crate) fn put_sizes(
+pub(crate) fn list(
     alloc: Global,
     session: &Session,
-    owed: &mut Vec<u8>,
+    output: &mut Output,
 ) -> Result<Acted, AllocError>
+    requires { output.old ≡ nothing_owed }
     ensures acted { IfOk result (λ acted. acted ≡ Acted.Done) }
-    ensures owed { IfOk result (λ _. owed.new.items ≡ owed.old.items ++ bytes_of (ScanListing (sizes_of octets_of (unmarked session.now.marks session.now.view)))) }
+    ensures owed { IfOk result (λ _. (c : Contents) → OwesReply c (Some session.now) output.new (ScanListing (sizes_of octets_of (unmarked session.now.marks session.now.view)))) }
 {
-    begin_scan_listing(owed)?;
-    for (number, octets) in session.list() {
-        put_scan_row(alloc, owed, number, octets)?;
-    }
-    end_lines(owed)?;
+    output.begin_sizes()?;
+    output.send_sizes(alloc, session, 0)?;
     Ok(Acted::Done)
 }
 
 /// Puts the numbers and unique-ids of the heads that aren't marked.
-pub(crate) fn put_uids(
+pub(crate) fn list_uids(
     alloc: Global,
     session: &Session,
-    owed: &mut Vec<u8>,
+    output: &mut Output,
 ) -> Result<Acted, AllocError>
+    requires { output.old ≡ nothing_owed }
     ensures acted { IfOk result (λ acted. acted ≡ Acted.Done) }
-    ensures owed { IfOk result (λ _. owed.new.items ≡ owed.old.items ++ bytes_of (UidListing (uids_of uid_of (unmarked session.now.marks session.now.view)))) }
+    ensures owed { IfOk result (λ _. (c : Contents) → OwesReply c (Some session.now) output.new (UidListing (uids_of uid_of (unmarked session.now.marks session.now.view)))) }
 {
-    begin_uid_listing(owed)?;
-    for (number, uid) in session.uidl() {
-        put_uid_row(alloc, owed, number, uid)?;
-    }
-    end_lines(owed)?;
+    output.begin_uids()?;
+    output.send_uids(alloc, session, 0)?;
     Ok(Acted::Done)
 }

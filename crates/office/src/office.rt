@@ -1,24 +1,31 @@
 //! An office: one function for each event.
-ghost use Rattle.std.specs.Prelude.{◌≡◌, ◌⊎◌, ◌<◌, ◌≤◌, ◌↔◌, not, true, false, ℕ, List, length, take, IfOk, IfErr, OnOk, OnErr, MatchResult};
+ghost use Rattle.std.specs.Prelude.{◌≡◌, ◌⊎◌, ◌<◌, ◌≤◌, ◌↔◌, not, true, false, ℕ, List, length, take, min, None, IfOk, IfErr, OnOk, OnErr, MatchResult};
 ghost use Rattle.office.specs.Events.{Trace, given};
 ghost use Rattle.office.specs.Shown.{event_seen, outcome_seen, followed_by};
 ghost use Rattle.office.specs.Events as event;
 ghost use Rattle.office.specs.Trace.{history, rest, is_open, is_ready, IsLent};
-ghost use Rattle.office.specs.Expected.{IsOutcome, is_full, octets_taken, asks_no_store, Succeeds};
+ghost use Rattle.office.specs.Expected.{IsOutcome, is_full, octets_taken, asks_no_store, may_show, Succeeds};
 ghost use Rattle.office.specs.Outcomes.{mark_of, HasCause};
 ghost use Rattle.creds.specs.Names.{is_host};
 ghost use Rattle.vault.specs.Changes.{Contents};
 ghost use Rattle.vault.specs.Calls.{has_grown};
-ghost use Rattle.office.specs.History.{Done};
+ghost use Rattle.office.specs.History.{Done, Failed};
 ghost use Rattle.office.specs.Stands.{StandsFor, Keeps, lent_by, vault_of};
+ghost use Rattle.office.specs.Taken.{IsAdmitted, AreAdmitted, IsSentExactly};
+ghost use Rattle.office.specs.Input.{input_kept, most_input};
+ghost use Rattle.office.specs.Stopping.{LeavesHeld, StaysUpUnless, StopLeaves};
+ghost use Rattle.std.specs.Ordering.{nat_cmp};
+ghost use Rattle.std.specs.BTreeMap.{Updates};
+ghost use Rattle.office.specs.Locks.{Released};
+ghost use Rattle.office.specs.Output.{most_lent};
 ghost use Rattle.office.specs.Answered.{shown_of};
-ghost use Rattle.office.specs.Runs.{Step as Shown, Follows, Enters, done_before};
+ghost use Rattle.office.specs.Runs.{Step as Shown, followed, Follows, Enters, EntersSo, Ran, HaveCauses, AreAnswered, StopLeavesRun, done_before};
 
 use crate::link::Link;
 use crate::locks::{Locks, release};
 use crate::talk::Acted;
 use crate::{Event, Limits, Outcome, Reason, RunFault, Step, Transcript};
-use creds::HostName;
+use creds::{HostName, Name};
 use policy::Policy;
 use std::alloc::{AllocError, Global};
 use std::collections::BTreeMap;
@@ -67,6 +74,15 @@ fn shown(acted: Acted) -> Outcome
     }
 }
 
+/// Ends a connection in the middle, and lets the maildrop that it holds go.
+fn cut_off(links: &mut BTreeMap<u64, Link>, locks: &mut Locks, c: u64, held: Option<Name>)
+    ensures links { Updates nat_cmp links.old links.new c None }
+    ensures locks { Released held locks.old locks.new }
+{
+    let _ = links.remove(&c);
+    release(locks, held);
+}
+
 impl<V: Vault> Office<V> {
     /// Opens an office over a vault, under a host's name and the number of this start. No connection is open. It reads the
     /// store's policy.
@@ -84,6 +100,8 @@ impl<V: Vault> Office<V> {
         ensures host { MatchResult result (λ _. is_host host.now ≡ true) (λ e. (e.0 ≡ OpenFault.BadHost) ↔ (is_host host.now ≡ false)) }
         ensures kept { IfErr result (λ e. (c : Contents) → V.holds vault c → V.is_clean e.1 → V.holds e.1 c) }
         ensures left { IfOk result (λ office. (c : Contents) → V.holds vault c → V.is_clean (vault_of office) → V.holds (vault_of office) c) }
+        ensures up { IfOk result (λ office. (c : Contents) → V.holds vault c → V.is_clean (vault_of office) → V.is_up vault → V.is_up (vault_of office)) }
+        ensures stop { MatchResult result (λ office. (c : Contents) → V.holds vault c → V.is_clean (vault_of office) → V.is_up vault → LeavesHeld (V.may_leave (vault_of office)) c) (λ e. (c : Contents) → V.holds vault c → V.is_clean e.1 → V.is_up vault → LeavesHeld (V.may_leave e.1) c) }
         ensures counted { MatchResult result (λ office. V.faults vault ≤ V.faults (vault_of office)) (λ e. V.faults vault ≤ V.faults e.1) }
         ensures cause { IfErr result (λ e. e.0 ≡ OpenFault.Store → (c : Contents) → V.holds vault c → V.is_clean e.1 → has_grown (V.faults vault) (V.faults e.1) ≡ true) }
     {
@@ -126,6 +144,8 @@ impl<V: Vault> Office<V> {
         ensures cause { (T : Trace) → StandsFor V.holds self.old T → V.is_clean (vault_of self.new) → HasCause (V.faults (vault_of self.old)) (V.faults (vault_of self.new)) (outcome_seen result) }
         ensures counted { V.faults (vault_of self.old) ≤ V.faults (vault_of self.new) }
         ensures clean { V.is_clean (vault_of self.new) → V.is_clean (vault_of self.old) }
+        ensures up { (T : Trace) → StandsFor V.holds self.old T → V.is_clean (vault_of self.new) → StaysUpUnless (V.is_up (vault_of self.old)) (V.is_up (vault_of self.new)) (outcome_seen result) }
+        ensures stop { (T : Trace) → StandsFor V.holds self.old T → V.is_clean (vault_of self.new) → V.is_up (vault_of self.old) → StopLeaves (V.may_leave (vault_of self.new)) T event.Connect (outcome_seen result) }
         ensures unasked { vault_of self.new ≡ vault_of self.old }
     {
         if self.is_full() {
@@ -148,11 +168,14 @@ impl<V: Vault> Office<V> {
         ensures cause { (T : Trace) → StandsFor V.holds self.old T → V.is_clean (vault_of self.new) → HasCause (V.faults (vault_of self.old)) (V.faults (vault_of self.new)) (outcome_seen result) }
         ensures counted { V.faults (vault_of self.old) ≤ V.faults (vault_of self.new) }
         ensures clean { V.is_clean (vault_of self.new) → V.is_clean (vault_of self.old) }
+        ensures up { (T : Trace) → StandsFor V.holds self.old T → V.is_clean (vault_of self.new) → StaysUpUnless (V.is_up (vault_of self.old)) (V.is_up (vault_of self.new)) (outcome_seen result) }
+        ensures stop { (T : Trace) → StandsFor V.holds self.old T → V.is_clean (vault_of self.new) → V.is_up (vault_of self.old) → StopLeaves (V.may_leave (vault_of self.new)) T (event.Bytes c piece.now) (outcome_seen result) }
+        ensures unasked { (T : Trace) → StandsFor V.holds self.old T → V.is_clean (vault_of self.old) → may_show T (event.Bytes c piece.now) Failed ≡ false → vault_of self.new ≡ vault_of self.old }
     {
         let Some(link) = self.links.get_mut(&c) else {
             return Outcome::Ignored(Reason::NoSuchConnection);
         };
-        if !link.owed().is_empty() {
+        if !link.owes_nothing() {
             return Outcome::Ignored(Reason::NotReady);
         }
         if piece.len() > MOST_IN_A_PIECE {
@@ -170,8 +193,7 @@ impl<V: Vault> Office<V> {
         ) {
             Ok(acted) => shown(acted),
             Err(_) => {
-                let _ = self.links.remove(&c);
-                release(&mut self.locks, held);
+                cut_off(&mut self.links, &mut self.locks, c, held);
                 Outcome::NoMemory
             }
         }
@@ -183,26 +205,39 @@ impl<V: Vault> Office<V> {
         ensures cause { (T : Trace) → StandsFor V.holds self.old T → V.is_clean (vault_of self.new) → HasCause (V.faults (vault_of self.old)) (V.faults (vault_of self.new)) (outcome_seen result) }
         ensures counted { V.faults (vault_of self.old) ≤ V.faults (vault_of self.new) }
         ensures clean { V.is_clean (vault_of self.new) → V.is_clean (vault_of self.old) }
+        ensures up { (T : Trace) → StandsFor V.holds self.old T → V.is_clean (vault_of self.new) → StaysUpUnless (V.is_up (vault_of self.old)) (V.is_up (vault_of self.new)) (outcome_seen result) }
+        ensures stop { (T : Trace) → StandsFor V.holds self.old T → V.is_clean (vault_of self.new) → V.is_up (vault_of self.old) → StopLeaves (V.may_leave (vault_of self.new)) T (event.Took c octets) (outcome_seen result) }
+        ensures unasked { (T : Trace) → StandsFor V.holds self.old T → V.is_clean (vault_of self.old) → may_show T (event.Took c octets) Failed ≡ false → vault_of self.new ≡ vault_of self.old }
     {
         let Some(link) = self.links.get_mut(&c) else {
             return Outcome::Ignored(Reason::NoSuchConnection);
         };
-        let owed = link.owed().len();
+        let lent = link.owed().len();
         if octets == 0 {
             return Outcome::Ignored(Reason::NotReady);
         }
-        if octets > owed {
+        if octets > lent {
             return Outcome::Ignored(Reason::NotReady);
         }
-        link.take(octets, self.moment);
-        if octets < owed {
+        let held = link.maildrop();
+        let taken = match link.take(self.alloc, &mut self.vault, octets, self.moment) {
+            Ok(taken) => taken,
+            Err(_) => {
+                cut_off(&mut self.links, &mut self.locks, c, held);
+                return Outcome::NoMemory;
+            }
+        };
+        if !taken {
+            cut_off(&mut self.links, &mut self.locks, c, held);
+            return Outcome::Failed;
+        }
+        if !link.owes_nothing() {
             return Outcome::Done;
         }
         if link.is_closing() {
             let _ = self.links.remove(&c);
             return Outcome::Done;
         }
-        let held = link.maildrop();
         match link.resume(
             self.alloc,
             &mut self.vault,
@@ -212,8 +247,7 @@ impl<V: Vault> Office<V> {
         ) {
             Ok(acted) => shown(acted),
             Err(_) => {
-                let _ = self.links.remove(&c);
-                release(&mut self.locks, held);
+                cut_off(&mut self.links, &mut self.locks, c, held);
                 Outcome::NoMemory
             }
         }
@@ -225,6 +259,8 @@ impl<V: Vault> Office<V> {
         ensures cause { (T : Trace) → StandsFor V.holds self.old T → V.is_clean (vault_of self.new) → HasCause (V.faults (vault_of self.old)) (V.faults (vault_of self.new)) (outcome_seen result) }
         ensures counted { V.faults (vault_of self.old) ≤ V.faults (vault_of self.new) }
         ensures clean { V.is_clean (vault_of self.new) → V.is_clean (vault_of self.old) }
+        ensures up { (T : Trace) → StandsFor V.holds self.old T → V.is_clean (vault_of self.new) → StaysUpUnless (V.is_up (vault_of self.old)) (V.is_up (vault_of self.new)) (outcome_seen result) }
+        ensures stop { (T : Trace) → StandsFor V.holds self.old T → V.is_clean (vault_of self.new) → V.is_up (vault_of self.old) → StopLeaves (V.may_leave (vault_of self.new)) T (event.Gone c) (outcome_seen result) }
         ensures unasked { vault_of self.new ≡ vault_of self.old }
         ensures done { (result ≡ Outcome.Done) ⊎ (result ≡ Outcome.Ignored Reason.NoSuchConnection) }
     {
@@ -245,7 +281,14 @@ impl<V: Vault> Office<V> {
         ensures cause { (T : Trace) → StandsFor V.holds self.old T → V.is_clean (vault_of self.new) → HasCause (V.faults (vault_of self.old)) (V.faults (vault_of self.new)) (outcome_seen result) }
         ensures counted { V.faults (vault_of self.old) ≤ V.faults (vault_of self.new) }
         ensures clean { V.is_clean (vault_of self.new) → V.is_clean (vault_of self.old) }
+        ensures up { (T : Trace) → StandsFor V.holds self.old T → V.is_clean (vault_of self.new) → StaysUpUnless (V.is_up (vault_of self.old)) (V.is_up (vault_of self.new)) (outcome_seen result) }
+        ensures stop { (T : Trace) → StandsFor V.holds self.old T → V.is_clean (vault_of self.new) → V.is_up (vault_of self.old) → StopLeaves (V.may_leave (vault_of self.new)) T (event_seen event.entry) (outcome_seen result) }
+        ensures admitted { (T : Trace) → StandsFor V.holds self.old T → V.is_clean (vault_of self.new) → IsAdmitted T (event_seen event.entry) (mark_of (outcome_seen result)) }
+        // Where the trace before it had marks that its events may have, each connection is sent exactly what the history sends it.
+        ensures sent { (T : Trace) → StandsFor V.holds self.old T → V.is_clean (vault_of self.new) → AreAdmitted T → (c : ℕ) → IsSentExactly (followed_by T (event_seen event.entry) result) c }
         ensures unasked { asks_no_store (event_seen event.entry) ≡ true → vault_of self.new ≡ vault_of self.old }
+        // An event that may not be answered `Failed` asks no store: a line that needs none, and a QUIT that removes nothing.
+        ensures unasked_line { (T : Trace) → StandsFor V.holds self.old T → V.is_clean (vault_of self.old) → may_show T (event_seen event.entry) Failed ≡ false → vault_of self.new ≡ vault_of self.old }
         ensures succeeds { Succeeds (event_seen event.entry) (outcome_seen result) }
     {
         match event {
@@ -267,6 +310,13 @@ impl<V: Vault> Office<V> {
         ensures ok { IfOk result (λ steps. (T : Trace) → StandsFor V.holds self.old T → V.is_clean (vault_of self.new) → Follows V.holds events.now steps T self.new) }
         ensures err_before_the_end { IfErr result (λ e. done_before e < length events.now) }
         ensures err { IfErr result (λ e. (steps : List Shown) × ((T : Trace) → StandsFor V.holds self.old T → V.is_clean (vault_of self.new) → Follows V.holds (take (done_before e) events.now) steps T self.new)) }
+        ensures cause { IfOk result (λ steps. (T : Trace) → StandsFor V.holds self.old T → V.is_clean (vault_of self.new) → HaveCauses (V.faults (vault_of self.old)) (V.faults (vault_of self.new)) steps) }
+        ensures up { IfOk result (λ steps. (T : Trace) → StandsFor V.holds self.old T → V.is_clean (vault_of self.new) → V.is_up (vault_of self.old) → AreAnswered steps → V.is_up (vault_of self.new)) }
+        ensures stop { IfOk result (λ steps. (T : Trace) → StandsFor V.holds self.old T → V.is_clean (vault_of self.new) → V.is_up (vault_of self.old) → StopLeavesRun (V.may_leave (vault_of self.new)) T events.now steps) }
+        ensures admitted { IfOk result (λ steps. (T : Trace) → StandsFor V.holds self.old T → V.is_clean (vault_of self.new) → AreAdmitted T → AreAdmitted (followed T events.now steps)) }
+        ensures sent { IfOk result (λ steps. (T : Trace) → StandsFor V.holds self.old T → V.is_clean (vault_of self.new) → AreAdmitted T → (c : ℕ) → IsSentExactly (followed T events.now steps) c) }
+        // The same of the first events, where the transcript couldn't grow.
+        ensures err_ran { IfErr result (λ e. (steps : List Shown) × ((T : Trace) → StandsFor V.holds self.old T → V.is_clean (vault_of self.new) → Ran V.holds V.faults V.is_up V.may_leave (take (done_before e) events.now) steps T self.old self.new)) }
         ensures counted { V.faults (vault_of self.old) ≤ V.faults (vault_of self.new) }
         ensures clean { V.is_clean (vault_of self.new) → V.is_clean (vault_of self.old) }
     {
@@ -283,6 +333,7 @@ impl<V: Vault> Office<V> {
     /// Does one event and enters its step; or neither.
     fn enter(&mut self, event: Event<'_>, steps: &mut Vec<Step>) -> Result<(), AllocError>
         ensures ok { OnOk result ((T : Trace) → StandsFor V.holds self.old T → V.is_clean (vault_of self.new) → Enters V.holds event.entry steps.old.items steps.new.items T self.new) }
+        ensures ok_so { OnOk result ((T : Trace) → StandsFor V.holds self.old T → V.is_clean (vault_of self.new) → EntersSo V.holds V.faults V.is_up V.may_leave event.entry steps.old.items steps.new.items T self.old self.new) }
         ensures err { OnErr result (self.new ≡ self.old) }
         ensures err_steps { OnErr result (steps.new.items ≡ steps.old.items) }
         ensures counted { V.faults (vault_of self.old) ≤ V.faults (vault_of self.new) }
@@ -309,14 +360,28 @@ impl<V: Vault> Office<V> {
         Ok(octets)
     }
 
-    /// What a connection is lent of what it is owed: all of it. Nothing, where it isn't open.
+    /// What a connection is lent of what it is owed: its first 16,384 octets, or all where it is owed fewer. Nothing, where it isn't open.
     pub fn owed(&self, c: u64) -> &[u8]
         ensures lent { (T : Trace) → StandsFor V.holds self.now T → IsLent (rest T c) result.now }
         ensures count { length result.now ≡ lent_by self.now c }
+        ensures exact { (T : Trace) → StandsFor V.holds self.now T → length result.now ≡ min (length (rest T c)) most_lent }
+        ensures most { length result.now ≤ most_lent }
     {
         match self.links.get(&c) {
             None => &[],
             Some(link) => link.owed(),
+        }
+    }
+
+    /// How many octets of its input are kept of a connection, whatever the store does: at most 255 of a line and 4,096 of a piece.
+    /// None, where it isn't open.
+    pub fn input_kept(&self, c: u64) -> usize
+        ensures value { result ≡ input_kept self.now c }
+        ensures most { input_kept self.now c ≤ most_input }
+    {
+        match self.links.get(&c) {
+            None => 0,
+            Some(link) => link.input(),
         }
     }
 
@@ -326,7 +391,7 @@ impl<V: Vault> Office<V> {
     {
         match self.links.get(&c) {
             None => false,
-            Some(link) => link.owed().is_empty(),
+            Some(link) => link.owes_nothing(),
         }
     }
 

@@ -6,8 +6,11 @@ ghost use Rattle.vault.specs.Changes.{Contents};
 ghost use Rattle.vault.specs.Calls.{has_grown};
 ghost use Rattle.vault.specs.declared.record.Keyed.{Keyed};
 ghost use Rattle.office.specs.Replying.{quit_says};
-ghost use Rattle.office.specs.Sitting.{LiesIn, Obeyed, keys_to_remove};
+ghost use Rattle.office.specs.Output.{nothing_owed};
+ghost use Rattle.office.specs.Sitting.{LiesIn, Obeyed, keys_to_remove, without_marked};
+ghost use Rattle.office.specs.Stopping.{StaysUpWhenDone, LeavesOneOf};
 
+use crate::output::Output;
 use crate::talk::Acted;
 use creds::Name;
 use policy::Policy;
@@ -35,20 +38,22 @@ pub(crate) fn quit<V: Vault>(
     alloc: Global,
     vault: &mut V,
     policy: &Policy,
-    owed: &mut Vec<u8>,
+    output: &mut Output,
     session: &Session,
 ) -> Result<Acted, AllocError>
-    ensures done { IfOk result (λ acted. (c : Contents) (kept : List Keyed) → V.holds vault.old c → V.is_clean vault.new → LiesIn c session.now kept → Obeyed (V.holds vault.new) (has_grown (V.faults vault.old) (V.faults vault.new)) c policy.now session.now session.now kept owed.old.items owed.new.items (Ok Quit) acted) }
+    requires { output.old ≡ nothing_owed }
+    ensures done { IfOk result (λ acted. (c : Contents) (kept : List Keyed) → V.holds vault.old c → V.is_clean vault.new → LiesIn c session.now kept → Obeyed (V.holds vault.new) (has_grown (V.faults vault.old) (V.faults vault.new)) c policy.now session.now session.now kept output.new (Ok Quit) acted) }
     ensures err { OnErr result ((c : Contents) → V.holds vault.old c → V.is_clean vault.new → V.holds vault.new c) }
     ensures counted { V.faults vault.old ≤ V.faults vault.new }
     ensures clean { V.is_clean vault.new → V.is_clean vault.old }
+    ensures up { (c : Contents) → V.holds vault.old c → V.is_clean vault.new → StaysUpWhenDone (V.is_up vault.old) (V.is_up vault.new) result }
+    ensures stop { (c : Contents) → V.holds vault.old c → V.is_clean vault.new → V.is_up vault.old → LeavesOneOf (V.may_leave vault.new) c (without_marked policy.now session.now c) }
     // Where nothing is to be removed, no store is asked.
     ensures unasked { keys_to_remove policy.now session.now ≡ [] → vault.new ≡ vault.old }
 {
     let (keys, denied) = session.to_remove(policy)?;
-    owed.reserve(REFUSAL_OCTETS)?;
-    let before = owed.len();
-    farewell(denied).put(alloc, owed)?;
+    output.reserve(REFUSAL_OCTETS)?;
+    output.say(alloc, &farewell(denied))?;
     if keys.is_empty() {
         return Ok(Acted::Done);
     }
@@ -56,8 +61,8 @@ pub(crate) fn quit<V: Vault>(
         Ok(()) => Ok(Acted::Done),
         Err(VaultFault::NoMemory) => Err(AllocError),
         Err(_) => {
-            owed.truncate(before);
-            Reply::RemovalFailed.put(alloc, owed)?;
+            output.clear();
+            output.say(alloc, &Reply::RemovalFailed)?;
             Ok(Acted::Failed)
         }
     }

@@ -12,7 +12,7 @@ use policy::Policy;
 use popline::Reply;
 use session::{Pick, Session};
 
-/// Why a message isn't found under a number, or isn't marked.
+/// Why a message isn't found under a number, or isn't read or marked.
 pub(crate) fn refused(why: Pick, n: u64) -> Reply<'static>
     ensures { reply_seen result ≡ refused_pick n why }
 {

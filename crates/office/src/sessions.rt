@@ -10,6 +10,7 @@ ghost use Rattle.office.specs.Shown.{outcome_seen, followed_by, session_seen};
 ghost use Rattle.office.specs.Expected.{IsOutcome};
 ghost use Rattle.office.specs.Outcomes.{HasCause};
 ghost use Rattle.office.specs.Stands.{StandsFor, lent_by, vault_of};
+ghost use Rattle.office.specs.Stopping.{StaysUpUnless, StopLeaves};
 ghost use Rattle.office.specs.InSession.{name_at, kept_row};
 
 use crate::link::Link;
@@ -60,6 +61,8 @@ impl<V: Vault> Office<V> {
         ensures cause { (T : Trace) → StandsFor V.holds self.old T → V.is_clean (vault_of self.new) → HasCause (V.faults (vault_of self.old)) (V.faults (vault_of self.new)) (outcome_seen result) }
         ensures counted { V.faults (vault_of self.old) ≤ V.faults (vault_of self.new) }
         ensures clean { V.is_clean (vault_of self.new) → V.is_clean (vault_of self.old) }
+        ensures up { (T : Trace) → StandsFor V.holds self.old T → V.is_clean (vault_of self.new) → StaysUpUnless (V.is_up (vault_of self.old)) (V.is_up (vault_of self.new)) (outcome_seen result) }
+        ensures stop { (T : Trace) → StandsFor V.holds self.old T → V.is_clean (vault_of self.new) → V.is_up (vault_of self.old) → StopLeaves (V.may_leave (vault_of self.new)) T (event.Admin asked.ListSessions) (outcome_seen result) }
         ensures unasked { vault_of self.new ≡ vault_of self.old }
     {
         match sessions_of(self.alloc, &self.links) {
@@ -75,6 +78,8 @@ impl<V: Vault> Office<V> {
         ensures cause { (T : Trace) → StandsFor V.holds self.old T → V.is_clean (vault_of self.new) → HasCause (V.faults (vault_of self.old)) (V.faults (vault_of self.new)) (outcome_seen result) }
         ensures counted { V.faults (vault_of self.old) ≤ V.faults (vault_of self.new) }
         ensures clean { V.is_clean (vault_of self.new) → V.is_clean (vault_of self.old) }
+        ensures up { (T : Trace) → StandsFor V.holds self.old T → V.is_clean (vault_of self.new) → StaysUpUnless (V.is_up (vault_of self.old)) (V.is_up (vault_of self.new)) (outcome_seen result) }
+        ensures stop { (T : Trace) → StandsFor V.holds self.old T → V.is_clean (vault_of self.new) → V.is_up (vault_of self.old) → StopLeaves (V.may_leave (vault_of self.new)) T (event.Admin (asked.EndSession c)) (outcome_seen result) }
         ensures unasked { vault_of self.new ≡ vault_of self.old }
     {
         match self.login_at(c) {

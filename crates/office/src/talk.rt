@@ -1,10 +1,13 @@
 //! What is remembered of a conversation between its lines, and what a line is judged by.
 
-ghost use Rattle.std.specs.Prelude.{◌≡◌, ◌++◌, IfOk};
-ghost use Rattle.popline.specs.Replies.{bytes_of};
+ghost use Rattle.std.specs.Prelude.{◌≡◌, Option, IfOk};
 ghost use Rattle.popline.specs.Seen.{reply_seen};
+ghost use Rattle.vault.specs.Changes.{Contents};
+ghost use Rattle.session.specs.Session.{Session as State};
 ghost use Rattle.office.specs.Kept.{nothing_said};
+ghost use Rattle.office.specs.Output.{nothing_owed, OwesReply};
 
+use crate::output::Output;
 use creds::LoginName;
 use policy::Policy;
 use popline::Reply;
@@ -54,10 +57,15 @@ pub enum Acted {
 }
 
 /// Puts a reply that needs no store.
-pub(crate) fn say(alloc: Global, owed: &mut Vec<u8>, reply: &Reply<'_>) -> Result<Acted, AllocError>
+pub(crate) fn say(
+    alloc: Global,
+    output: &mut Output,
+    reply: &Reply<'_>,
+) -> Result<Acted, AllocError>
+    requires { output.old ≡ nothing_owed }
     ensures acted { IfOk result (λ acted. acted ≡ Acted.Done) }
-    ensures owed { IfOk result (λ _. owed.new.items ≡ owed.old.items ++ bytes_of (reply_seen reply.now)) }
+    ensures owed { IfOk result (λ _. (c : Contents) (s : Option State) → OwesReply c s output.new (reply_seen reply.now)) }
 {
-    reply.put(alloc, owed)?;
+    output.say(alloc, reply)?;
     Ok(Acted::Done)
 }

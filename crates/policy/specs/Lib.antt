@@ -1,3 +1,6 @@
+pub mod Index
+pub mod Lane
 pub mod Policy
 pub mod WrittenText
 pub mod PolicyText
+pub mod FirstFault

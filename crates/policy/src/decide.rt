@@ -1,7 +1,6 @@
 //! Which rule decides.
-ghost use Rattle.std.specs.Prelude.{◌≡◌, find};
-ghost use Rattle.std.specs.Option.{option_copied};
-ghost use Rattle.policy.specs.Policy.{default_rule, fits, lists, fits_class, matches, decision_of};
+ghost use Rattle.std.specs.Prelude.{◌≡◌, slice_get};
+ghost use Rattle.policy.specs.Policy.{default_rule, fits, lists, fits_class, decision_of};
 
 use crate::rule::{Action, Actions, Effect, Pattern, Rule};
 use creds::Name;
@@ -33,7 +32,8 @@ fn pattern_fits(pattern: &Pattern, name: &Name) -> bool
     }
 }
 
-fn actions_list(actions: Actions, action: Action) -> bool
+/// Whether the action is listed.
+pub(crate) fn actions_list(actions: Actions, action: Action) -> bool
     ensures { result ≡ lists actions action }
 {
     match action {
@@ -43,7 +43,8 @@ fn actions_list(actions: Actions, action: Action) -> bool
     }
 }
 
-fn class_fits(action: Action, pattern: &Pattern, class: &Name) -> bool
+/// Whether the pattern fits the class; to open a maildrop is about none.
+pub(crate) fn class_fits(action: Action, pattern: &Pattern, class: &Name) -> bool
     ensures { result ≡ fits_class action pattern.now class.now }
 {
     match action {
@@ -52,40 +53,11 @@ fn class_fits(action: Action, pattern: &Pattern, class: &Name) -> bool
     }
 }
 
-fn rule_matches(rule: &Rule, clerk: &Name, maildrop: &Name, class: &Name, action: Action) -> bool
-    ensures { result ≡ matches clerk.now maildrop.now class.now action rule.now }
+/// What the rule at a place decides; the default's where there is none.
+pub(crate) fn decided_at(rules: &[Rule], place: usize) -> Decision
+    ensures { result ≡ decision_of (slice_get rules.now place) }
 {
-    actions_list(rule.actions, action)
-        && pattern_fits(&rule.clerk, clerk)
-        && pattern_fits(&rule.maildrop, maildrop)
-        && class_fits(action, &rule.class, class)
-}
-
-fn first_match<'a>(
-    rules: &'a [Rule],
-    clerk: &Name,
-    maildrop: &Name,
-    class: &Name,
-    action: Action,
-) -> Option<&'a Rule>
-    ensures { option_copied result ≡ find (matches clerk.now maildrop.now class.now action) rules.now }
-{
-    rules
-        .iter()
-        .find(|rule| rule_matches(rule, clerk, maildrop, class, action))
-}
-
-/// What the first rule that matches decides.
-pub(crate) fn decide_by(
-    rules: &[Rule],
-    clerk: &Name,
-    maildrop: &Name,
-    class: &Name,
-    action: Action,
-) -> Decision
-    ensures { result ≡ decision_of (find (matches clerk.now maildrop.now class.now action) rules.now) }
-{
-    match first_match(rules, clerk, maildrop, class, action) {
+    match rules.get(place) {
         Some(rule) => Decision {
             allowed: rule.effect == Effect::Allow,
             rule: rule.name,

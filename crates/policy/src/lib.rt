@@ -6,13 +6,20 @@
 
 mod decide;
 mod fault;
+mod index;
+mod key;
+mod lane;
+mod laws;
 mod policy;
 mod read;
 mod rule;
 mod sound;
+mod walk;
 mod write;
 
 pub use decide::Decision;
 pub use fault::PolicyFault;
+pub use lane::Lane;
+pub use laws::numbers_the_first_fault;
 pub use policy::{MAX_RULES, Policy};
 pub use rule::{Action, Actions, Effect, Pattern, Rule};

@@ -1,11 +1,13 @@
 //! A policy and its calls.
-ghost use Rattle.std.specs.Prelude.{◌≡◌, ◌≢◌, ◌==◌, ◌++◌, [], length, IsTrue, IfOk, IfErr, OnOk, OnErr};
-ghost use Rattle.policy.specs.Policy.{decide, is_sound_policy, policy_of};
+ghost use Rattle.std.specs.Prelude.{◌≡◌, ◌≢◌, ◌==◌, ◌++◌, [], length, true, IsTrue, IfOk, IfErr, OnOk, OnErr};
+ghost use Rattle.policy.specs.Policy.{are_sound_rules, decide, is_sound_policy, policy_of};
 ghost use Rattle.policy.specs.PolicyText.{rules_of};
 ghost use Rattle.policy.specs.WrittenText.{policy_text};
 
-use crate::decide::{Decision, decide_by};
+use crate::decide::Decision;
 use crate::fault::PolicyFault;
+use crate::index::{Index, index_of, no_index, starts_of};
+use crate::lane::Lane;
 use crate::read::read_text;
 use crate::rule::{Action, Rule};
 use crate::sound::are_sound;
@@ -22,18 +24,29 @@ pub const MAX_RULES: usize = 1000;
 /// It is always sound: no rule is named `default`, each lists an action, and one that lists `open` is about any class.
 #[derive(Drop)]
 pub struct Policy {
-    rules: Vec<Rule>,
+    pub(crate) rules: Vec<Rule>,
+    pub(crate) index: Index,
 }
 
 impl Model for Policy {
     ghost use Rattle.std.specs.Prelude.{◌≡◌, true};
+    ghost use Rattle.policy.specs.Index.{IsIndexOf};
     ghost use Rattle.policy.specs.Policy.{Policy, are_sound_rules};
 
     ghost Value = { Policy };
 
     ghost view = { λ p. record { rules = p.rules.items } };
 
-    ghost invariant = { λ p. are_sound_rules p.rules.items ≡ true };
+    ghost invariant = { λ p. (are_sound_rules p.rules.items ≡ true) × IsIndexOf p.rules.items p.index };
+}
+
+/// The policy of sound rules, with their index.
+fn indexed(rules: Vec<Rule>) -> Result<Policy, AllocError>
+    requires { are_sound_rules rules.items ≡ true }
+    ensures { IfOk result (λ policy. policy ≡ record { rules = rules.items }) }
+{
+    let index = index_of(*rules.allocator(), &rules)?;
+    Ok(Policy { rules, index })
 }
 
 impl Policy {
@@ -43,6 +56,7 @@ impl Policy {
     {
         Policy {
             rules: Vec::new(alloc),
+            index: no_index(alloc),
         }
     }
 
@@ -57,19 +71,22 @@ impl Policy {
         ensures sound { IfOk result (λ policy. IsTrue (is_sound_policy policy)) }
     {
         let rules = read_text(alloc, text)?;
-        Ok(Policy { rules })
+        match indexed(rules) {
+            Ok(policy) => Ok(policy),
+            Err(_) => Err(PolicyFault::NoMemory),
+        }
     }
 
     /// The policy of these rules, in their order, or `None` where they are not sound:
-    /// more than 1,000, two of one name, or one that no text could spell.
-    pub fn from_rules(rules: Vec<Rule>) -> Option<Policy>
-        ensures { result ≡ policy_of rules.items }
+    /// more than 1,000, two of one name, or one that no text could spell. An `Err` is want of memory.
+    pub fn from_rules(rules: Vec<Rule>) -> Result<Option<Policy>, AllocError>
+        ensures { IfOk result (λ policy. policy ≡ policy_of rules.items) }
     {
-        if are_sound(&rules) {
-            Some(Policy { rules })
-        } else {
-            None
+        if !are_sound(&rules) {
+            return Ok(None);
         }
+        let policy = indexed(rules)?;
+        Ok(Some(policy))
     }
 
     /// The rules, in order.
@@ -101,7 +118,19 @@ impl Policy {
     pub fn decide(&self, clerk: &Name, maildrop: &Name, class: &Name, action: Action) -> Decision
         ensures { result ≡ decide self.now clerk.now maildrop.now class.now action }
     {
-        decide_by(&self.rules, clerk, maildrop, class, action)
+        self.lane(clerk, maildrop).decide(class, action)
+    }
+
+    /// The rules that are about the clerk and the maildrop, as one who asks about them often wants them. It takes no memory.
+    pub fn lane(&self, clerk: &Name, maildrop: &Name) -> Lane<'_>
+        ensures { result ≡ record { policy = self.now; clerk = clerk.now; maildrop = maildrop.now } }
+    {
+        Lane {
+            policy: self,
+            clerk: *clerk,
+            maildrop: *maildrop,
+            starts: starts_of(&self.index, clerk, maildrop),
+        }
     }
 
     /// Appends the policy's text: six settings a rule, and an empty line between two rules.
@@ -121,6 +150,6 @@ impl Policy {
     {
         let mut rules = Vec::new(*self.rules.allocator());
         rules.extend_from_slice(&self.rules)?;
-        Ok(Policy { rules })
+        indexed(rules)
     }
 }

@@ -42,7 +42,7 @@ pub enum Effect {
 }
 
 /// Which clerks, maildrops or classes a rule is about.
-#[derive(Clone, Copy, PartialEq, Eq)]
+#[derive(Clone, Copy, PartialEq, Eq, PartialOrd, Ord)]
 pub enum Pattern {
     /// All of them, written `*`.
     Any,

@@ -67,6 +67,42 @@ fn check_policy<'a>(alloc: Global) -> Result<Command<'a>, AllocError> {
         .arg(file.required(true))
 }
 
+/// `serve --store PATH --spool DIR [--listen IPV4] [--pop-port N] [--host NAME] [--idle N] [--turns N]`.
+fn serve<'a>(alloc: Global) -> Result<Command<'a>, AllocError> {
+    let listen = option(
+        alloc,
+        "listen",
+        "IPV4",
+        "The address at which clients connect",
+    );
+    let port = option(alloc, "pop-port", "N", "The port at which clients connect");
+    let idle = option(
+        alloc,
+        "idle",
+        "N",
+        "After so many seconds an idle client is ended",
+    );
+    let turns = option(alloc, "turns", "N", "Ends after so many turns");
+    let spool = option(
+        alloc,
+        "spool",
+        "DIR",
+        "The folder into which messages are put",
+    );
+    let arguments = vec![in alloc;
+        store(alloc, "The store's file, which is made where there is none").required(true),
+        spool.required(true),
+        listen.default_value("127.0.0.1"),
+        port.default_value("1110").value_parser(value_parser!(u16)),
+        host(alloc),
+        idle.default_value("600")
+            .value_parser(value_parser!(u32).range(600..=86400)),
+        turns.value_parser(value_parser!(u64)),
+    ]?;
+    let about = "Serves clients over the network, and takes messages from a folder";
+    subcommand(alloc, "serve", about, arguments)
+}
+
 /// Adds a subcommand that was made.
 fn add<'a>(
     command: Command<'a>,
@@ -83,5 +119,6 @@ pub fn make_command<'a>(alloc: Global) -> Result<Command<'a>, AllocError> {
         .arg_required_else_help(true);
     let command = add(command, replay(alloc))?;
     let command = add(command, talk(alloc))?;
+    let command = add(command, serve(alloc))?;
     add(command, check_policy(alloc))
 }

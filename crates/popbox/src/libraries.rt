@@ -6,5 +6,6 @@ mod lines;
 mod policies;
 mod statements;
 mod stores;
+mod text_pieces;
 mod texts;
 mod views;

@@ -14,6 +14,7 @@ mod libraries;
 mod office_tests;
 #[cfg(test)]
 mod pipelining_tests;
+mod serve;
 #[cfg(test)]
 mod session_tests;
 #[cfg(test)]
@@ -30,11 +31,13 @@ use converse::check_policy::check_policy;
 use converse::replay::replay;
 use converse::talking::talk;
 use converse::{Fault, read_fault, tell_fault};
+use serve::serve_over;
 use sqlite::{Alter, Connection, FileStore, Wary};
 use sqlite_disk::Disk;
 use sqlvault::SqlVault;
 use std::alloc::Global;
 use std::io::{BufWriter, Read, Write};
+use std::net::{Ipv4Addr, SocketAddr};
 use std::process::ExitCode;
 use std::rt::{Env, Files};
 use std::time::Clock;
@@ -90,6 +93,7 @@ fn run_subcommand<E: Write>(
     match matches.subcommand() {
         Some(("replay", options)) => run_replay(rt, options, err),
         Some(("talk", options)) => run_talk(rt, options, err),
+        Some(("serve", options)) => run_serve(rt, options, err),
         Some(("check-policy", options)) => run_check_policy(rt, options, err),
         _ => Ok(UNREADABLE),
     }
@@ -102,6 +106,8 @@ enum Job {
     Replay(u64),
     /// `popbox talk`: one conversation.
     Talk(u64),
+    /// `popbox serve`: clients at an address.
+    Serve(u64, SocketAddr),
 }
 
 /// Runs `popbox replay`: the script is the file that is named, which is opened first, or standard input. Its store is the
@@ -132,6 +138,22 @@ fn run_talk<E: Write>(
         None => milliseconds(rt)?,
     };
     run_job(rt, Job::Talk(boot), &mut rt.reader(), options, err)
+}
+
+/// Runs `popbox serve`: clients over the network, over the store that is named.
+fn run_serve<E: Write>(
+    rt: &HostRuntime,
+    options: &ArgMatches<'_>,
+    err: &mut E,
+) -> Result<u8, Fault> {
+    let listen = options.get_str("listen").unwrap_or("127.0.0.1");
+    let Ok(address) = listen.parse::<Ipv4Addr>() else {
+        let _ = writeln!(err, "popbox: bad address");
+        return Ok(1);
+    };
+    let port = options.get_one::<u16>("pop-port").unwrap_or(1110);
+    let job = Job::Serve(milliseconds(rt)?, SocketAddr::from((address, port)));
+    run_job(rt, job, &mut rt.reader(), options, err)
 }
 
 /// The milliseconds since 1970.
@@ -214,6 +236,7 @@ fn run_over<V: Vault, S: Read, E: Write>(
             let (status, vault) = talk(rt.alloc(), vault, host, boot, input, &mut out, err);
             (Ok(status), vault)
         }
+        Job::Serve(boot, at) => serve_over(rt, vault, host, boot, at, options, err),
     }
 }
 

@@ -74,6 +74,14 @@ impl Cutter {
         piece.len()
     }
 
+    /// How many octets of a line are held: at most 255.
+    pub fn held(&self) -> usize
+        ensures value { result ≡ length self.now.octets }
+        ensures most { result ≤ 255 }
+    {
+        self.buffer[..self.len].len()
+    }
+
     /// The line that is whole now, until the next call of `feed`.
     pub fn line(&self) -> Option<Cut<'_>>
         ensures { cuts_seen result ≡ shown self.now }

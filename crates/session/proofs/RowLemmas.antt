@@ -10,8 +10,8 @@ use Rattle.creds.specs.declared.login_name.LoginName.{LoginName}
 use Rattle.policy.specs.Policy.{Policy}
 use Rattle.vault.specs.declared.answer.Head.{Head}
 use Rattle.session.specs.declared.row.Row.{Row}
-use Rattle.session.specs.Session.{Session, class_of, octets_of, key_of, picked, mark_answer, marking}
-use Rattle.session.specs.View.{numbered_from, at_number, is_marked, unmarked, marked, to_remove, denying, removal, may_remove, total_of, refer, referred}
+use Rattle.session.specs.Session.{Session, class_of, octets_of, key_of, picked, picked_for, read_answer, mark_answer, marking}
+use Rattle.session.specs.View.{numbered_from, at_number, is_marked, unmarked, marked, to_remove, denying, retrieval, removal, may_remove, total_of, refer, referred}
 use Rattle.session.specs.Rows.{heads_of, marked_from, marks_of, session_of, unmarked_from, unmarked_row, octets_unless_marked, row_referred, row_picked, is_removable, is_denied, removable_keys, denying_rule}
 use Rattle.session.specs.declared.pick.Pick.{Pick}
 use Rattle.session.specs.declared.pick.Pick.TheVariants.{NoSuch, Deleted}
@@ -202,6 +202,15 @@ module _ (policy : Policy) (name : LoginName) (rows : List Row) (n : ℕ) where
 
   pub marking-refused : (why : Pick) → row_picked rows n ≡ Err why → marking policy (session_of name rows) n ≡ Err why
   marking-refused why e = refer-rows rows n (Err NoSuch) (Err Deleted) answer_for ∙ row_referred-refused (at_number rows n) answer_for why e
+
+  abbrev reading_for : Head → Result Head Pick
+  reading_for head = read_answer (retrieval policy name head.class) head
+
+  pub reading-found : (head : Head) → row_picked rows n ≡ Ok head → picked_for policy (session_of name rows) n ≡ reading_for head
+  reading-found head e = refer-rows rows n (Err NoSuch) (Err Deleted) reading_for ∙ row_referred-found (at_number rows n) reading_for head e
+
+  pub reading-refused : (why : Pick) → row_picked rows n ≡ Err why → picked_for policy (session_of name rows) n ≡ Err why
+  reading-refused why e = refer-rows rows n (Err NoSuch) (Err Deleted) reading_for ∙ row_referred-refused (at_number rows n) reading_for why e
 
 -- ---- one more mark
 

@@ -3,6 +3,7 @@ use Rattle.std.specs.Prelude.{ℕ, Bool, false, not, ◌&&◌, List, filter, map
 use Rattle.std.specs.List.{find}
 use Rattle.std.specs.Option.{option_map}
 use Rattle.creds.specs.declared.login_name.LoginName.{LoginName}
+use Rattle.policy.specs.Lane.{Lane}
 use Rattle.policy.specs.Policy.{Policy}
 use Rattle.vault.specs.declared.answer.Head.{Head}
 use Rattle.session.specs.declared.pick.Pick.{Pick}
@@ -10,6 +11,10 @@ use Rattle.session.specs.declared.pick.Pick.TheVariants.{NoSuch, Deleted}
 use Rattle.session.specs.declared.row.Row.{Row}
 use Rattle.session.specs.Session.{Session}
 use Rattle.session.specs.View.{numbered_from, at_number, referred, removal, may_remove}
+
+-- who logs in to which maildrop, as a lane has them
+abbrev pub login_of : Lane → LoginName
+login_of lane = record { clerk = lane.clerk; maildrop = lane.maildrop }
 
 -- the heads, in order
 abbrev pub heads_of : List Row → List Head

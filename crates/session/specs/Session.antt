@@ -7,7 +7,7 @@ use Rattle.policy.specs.declared.decide.Decision.{Decision}
 use Rattle.vault.specs.declared.answer.Head.{Head}
 use Rattle.session.specs.declared.pick.Pick.{Pick}
 use Rattle.session.specs.declared.pick.Pick.TheVariants.{NoSuch, Deleted, Denied}
-use Rattle.session.specs.View.{visible, refer, removal}
+use Rattle.session.specs.View.{visible, refer, retrieval, removal}
 
 -- who is logged in to which maildrop, the messages of the view, and the numbers marked as deleted
 pub record Session : Type 0 where
@@ -44,6 +44,14 @@ started policy clerk maildrop heads =
 -- the head of a number, or why a reference to it is refused
 abbrev pub picked : Session → ℕ → Result Head Pick
 picked s n = refer s.marks s.view n (Err NoSuch) (Err Deleted) (λ head. Ok head)
+
+-- a head that the policy lets the clerk read, or the rule that denies it
+abbrev pub read_answer : Decision → Head → Result Head Pick
+read_answer decision head = if decision.allowed then Ok head else Err (Denied decision.rule)
+
+-- a reference to a number whose message is to be read
+abbrev pub picked_for : Policy → Session → ℕ → Result Head Pick
+picked_for policy s n = refer s.marks s.view n (Err NoSuch) (Err Deleted) (λ head. read_answer (retrieval policy s.name head.class) head)
 
 -- a removal that the policy allows is marked, and the rule that denies one is told
 abbrev pub mark_answer : Decision → Result (Unit {0}) Pick

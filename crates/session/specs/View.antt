@@ -11,9 +11,13 @@ use Rattle.creds.specs.declared.login_name.LoginName.{LoginName}
 
 -- ---- the view
 
--- the policy lets a clerk read a class in a maildrop
+-- what the policy says of a clerk's reading a class in a maildrop
+abbrev pub retrieval : Policy → LoginName → (class : List ℕ) → Decision
+retrieval policy name class = decide policy name.clerk name.maildrop class to.Read
+
+-- the policy lets the clerk read it
 abbrev pub may_read : Policy → LoginName → (class : List ℕ) → Bool
-may_read policy name class = (decide policy name.clerk name.maildrop class to.Read).allowed
+may_read policy name class = (retrieval policy name class).allowed
 
 -- what the policy lets a clerk read of a maildrop's rows, in order
 abbrev pub visible : {A : Type 0} → (class_of : A → List ℕ) → Policy → LoginName → List A → List A

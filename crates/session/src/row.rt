@@ -1,13 +1,14 @@
 //! The messages of a view, each with its mark.
-ghost use Rattle.std.specs.Prelude.{◌≡◌, ◌<◌, ◌≤◌, not, length, map, count_by, sum_by, min, IfOk, OnOk};
+ghost use Rattle.std.specs.Prelude.{◌≡◌, ◌<◌, ◌≤◌, not, length, map, count_by, sum_by, find, min, IfOk, OnOk};
+ghost use Rattle.std.specs.Option.{option_copied};
 ghost use Rattle.session.specs.declared.row.Row.{Row};
 ghost use Rattle.session.specs.Session.{class_of};
-ghost use Rattle.session.specs.Rows.{heads_of, unmarked_row, octets_unless_marked, row_picked, removable_keys, denying_rule};
-ghost use Rattle.session.specs.View.{visible, may_read, removal};
+ghost use Rattle.session.specs.Rows.{login_of, heads_of, unmarked_row, octets_unless_marked, row_picked, is_denied, removable_keys, denying_rule};
+ghost use Rattle.session.specs.View.{visible, retrieval, removal};
 
 use crate::pick::Pick;
-use creds::{LoginName, Name};
-use policy::{Action, Decision, Policy};
+use creds::Name;
+use policy::{Action, Decision, Lane};
 use std::alloc::{AllocError, Global};
 use vault::{Head, MessageKey};
 
@@ -18,33 +19,31 @@ pub(crate) struct Row {
     pub(crate) is_marked: bool,
 }
 
-fn may_read(policy: &Policy, name: &LoginName, class: &Name) -> bool
-    ensures { result ≡ may_read policy.now name.now class.now }
+/// What the policy says of a clerk's reading a class in the maildrop.
+pub(crate) fn retrieval(lane: &Lane<'_>, class: &Name) -> Decision
+    ensures { result ≡ retrieval lane.now.policy (login_of lane.now) class.now }
 {
-    policy
-        .decide(&name.clerk, &name.maildrop, class, Action::Read)
-        .allowed
+    lane.decide(class, Action::Read)
 }
 
 /// What the policy says of a clerk's removing a class in the maildrop.
-pub(crate) fn removal(policy: &Policy, name: &LoginName, class: &Name) -> Decision
-    ensures { result ≡ removal policy.now name.now class.now }
+pub(crate) fn removal(lane: &Lane<'_>, class: &Name) -> Decision
+    ensures { result ≡ removal lane.now.policy (login_of lane.now) class.now }
 {
-    policy.decide(&name.clerk, &name.maildrop, class, Action::Remove)
+    lane.decide(class, Action::Remove)
 }
 
 /// The rows of what the policy lets the clerk read, unmarked.
 pub(crate) fn visible_rows(
     alloc: Global,
-    policy: &Policy,
-    name: &LoginName,
+    lane: &Lane<'_>,
     heads: &[Head],
 ) -> Result<Vec<Row>, AllocError>
-    ensures { IfOk result (λ rows. rows.items ≡ map unmarked_row (visible class_of policy.now name.now heads.now)) }
+    ensures { IfOk result (λ rows. rows.items ≡ map unmarked_row (visible class_of lane.now.policy (login_of lane.now) heads.now)) }
 {
     heads
         .iter()
-        .filter(|head| may_read(policy, name, &head.class))
+        .filter(|head| retrieval(lane, &head.class).allowed)
         .map(|head| Row {
             head: *head,
             is_marked: false,
@@ -86,25 +85,32 @@ pub(crate) fn head_at(rows: &[Row], n: u64) -> Result<Head, Pick>
 /// The keys of the marked messages that the policy lets the clerk remove.
 pub(crate) fn removable_keys(
     alloc: Global,
-    policy: &Policy,
-    name: &LoginName,
+    lane: &Lane<'_>,
     rows: &[Row],
 ) -> Result<Vec<MessageKey>, AllocError>
-    ensures { IfOk result (λ keys. keys.items ≡ removable_keys policy.now name.now rows.now) }
+    ensures { IfOk result (λ keys. keys.items ≡ removable_keys lane.now.policy (login_of lane.now) rows.now) }
 {
     rows.iter()
-        .filter(|row| row.is_marked && removal(policy, name, &row.head.class).allowed)
+        .filter(|row| row.is_marked && removal(lane, &row.head.class).allowed)
         .map(|row| row.head.key)
         .collect(alloc)
 }
 
-/// The rule that denies the removal of a marked message: of the first, where there are several.
-pub(crate) fn denying_rule(policy: &Policy, name: &LoginName, rows: &[Row]) -> Option<Name>
-    ensures { result ≡ denying_rule policy.now name.now rows.now }
+/// The first marked message whose removal the policy denies.
+fn first_denied<'a>(lane: &Lane<'_>, rows: &'a [Row]) -> Option<&'a Row>
+    ensures { option_copied result ≡ find (is_denied lane.now.policy (login_of lane.now)) rows.now }
 {
-    rows.iter()
-        .find(|row| row.is_marked && !removal(policy, name, &row.head.class).allowed)
-        .map(|row| removal(policy, name, &row.head.class).rule)
+    rows.iter().find(|row| row.is_marked && !removal(lane, &row.head.class).allowed)
+}
+
+/// The rule that denies the removal of a marked message: of the first, where there are several.
+pub(crate) fn denying_rule(lane: &Lane<'_>, rows: &[Row]) -> Option<Name>
+    ensures { result ≡ denying_rule lane.now.policy (login_of lane.now) rows.now }
+{
+    match first_denied(lane, rows) {
+        Some(row) => Some(removal(lane, &row.head.class).rule),
+        None => None,
+    }
 }
 
 /// Unmarks all rows.

@@ -1,12 +1,13 @@
 //! A session and its calls.
 ghost use Rattle.std.specs.Prelude.{◌≡◌, ℕ, ◌+◌, ◌-◌, ◌^◌, ◌<◌, ◌≤◌, ◌||◌, ◌==◌, [], length, map, min, sum_by, IfOk, OnOk, OnErr};
-ghost use Rattle.session.specs.Session.{class_of, octets_of, uid_of, key_of, started, picked, marking};
+ghost use Rattle.session.specs.Session.{class_of, octets_of, uid_of, key_of, started, picked, picked_for, marking};
 ghost use Rattle.session.specs.View.{is_marked, numbered, unmarked, sizes_of, uids_of, total_of, to_remove, denying};
 
 use crate::listing::{Sizes, Uids};
 use crate::pick::Pick;
 use crate::row::{
-    Row, denying_rule, head_at, removable_keys, removal, totals, unmark_all, visible_rows,
+    Row, denying_rule, head_at, removable_keys, removal, retrieval, totals, unmark_all,
+    visible_rows,
 };
 use creds::{LoginName, Name};
 use policy::Policy;
@@ -48,7 +49,8 @@ impl Session {
         ensures octets { IfOk result (λ s. sum_by octets_of s.view ≤ sum_by octets_of heads.now) }
     {
         let name = LoginName { clerk, maildrop };
-        let rows = visible_rows(alloc, policy, &name, heads)?;
+        let lane = policy.lane(&clerk, &maildrop);
+        let rows = visible_rows(alloc, &lane, heads)?;
         Ok(Session { name, rows })
     }
 
@@ -101,6 +103,22 @@ impl Session {
         head_at(&self.rows, n)
     }
 
+    /// The head of the message of a number, where the policy lets the clerk read its class now (RFC 1939, 5: RETR; 7: TOP).
+    ///
+    /// `NoSuch` where the view has none, `Deleted` where it is marked, `Denied` where the policy denies it, in this order.
+    /// It takes no memory.
+    pub fn pick_for(&self, n: u64, policy: &Policy) -> Result<Head, Pick>
+        ensures { result ≡ picked_for policy.now self.now n }
+    {
+        let head = head_at(&self.rows, n)?;
+        let lane = policy.lane(&self.name.clerk, &self.name.maildrop);
+        let decision = retrieval(&lane, &head.class);
+        if !decision.allowed {
+            return Err(Pick::Denied(decision.rule));
+        }
+        Ok(head)
+    }
+
     /// Marks the message of a number as deleted, where the policy lets the clerk remove its class (RFC 1939, 5: DELE).
     ///
     /// `NoSuch` where the view has none, `Deleted` where it is marked already, `Denied` where the policy denies it, in this
@@ -112,7 +130,8 @@ impl Session {
         ensures err { OnErr result (self.new ≡ self.old) }
     {
         let head = head_at(&self.rows, n)?;
-        let decision = removal(policy, &self.name, &head.class);
+        let lane = policy.lane(&self.name.clerk, &self.name.maildrop);
+        let decision = removal(&lane, &head.class);
         if !decision.allowed {
             return Err(Pick::Denied(decision.rule));
         }
@@ -137,8 +156,9 @@ impl Session {
             ≡ denying class_of policy.now self.now.name self.now.marks self.now.view) }
     {
         let alloc = *self.rows.allocator();
-        let keys = removable_keys(alloc, policy, &self.name, &self.rows)?;
-        let rule = denying_rule(policy, &self.name, &self.rows);
+        let lane = policy.lane(&self.name.clerk, &self.name.maildrop);
+        let keys = removable_keys(alloc, &lane, &self.rows)?;
+        let rule = denying_rule(&lane, &self.rows);
         Ok((keys, rule))
     }
 }

@@ -242,6 +242,11 @@ refused_met s e = at (is_memory e)
 
 -- ---- a store that is known
 
+-- a store with some of our names, but not all our tables, is not known
+pub unknown : (s : State) (taken columns : Bool) → (s.now.schema ≡ no_schema → taken ≡ false) → (IsOurs s.now → columns ≡ true) → taken ≡ true → columns ≡ false → IsKnown s → ⊥
+unknown s taken columns none ours is lacks (inl blank) = true≢false (sym is ∙ none blank.0)
+unknown s taken columns none ours is lacks (inr kept) = true≢false (sym (ours kept.0) ∙ lacks)
+
 pub blank_of : (s : State) (taken : Bool) → (IsOurs s.now → taken ≡ true) → taken ≡ false → IsKnown s → IsBlank s
 blank_of s taken ours is (inl blank) = blank
 blank_of s taken ours is (inr kept) = absurd (true≢false (sym (ours kept.0) ∙ is))

@@ -27,3 +27,4 @@ pub mod GatherLemmas
 pub mod JudgeLemmas
 pub mod EachLemmas
 pub mod UsesLemmas
+pub mod CarryLemmas

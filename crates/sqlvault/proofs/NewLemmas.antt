@@ -11,7 +11,7 @@ use Rattle.sqlvault.specs.Stands.{Holds}
 nothing_sound : AreSound no_contents
 nothing_sound = search rules
 
-keeps_nothing : Keeps (marked (pos 2)) no_contents
+keeps_nothing : Keeps (marked (pos 3)) no_contents
 keeps_nothing = record {
   mark = refl;
   clerks = IsPermutation-refl [];
@@ -25,7 +25,7 @@ keeps_nothing = record {
   sound = nothing_sound;
 }
 
-pub holds_new : (s : State) → Stands s (marked (pos 2)) → (IsTrue s.is_open → s.committed ≡ s.now) → Holds s no_contents
+pub holds_new : (s : State) → Stands s (marked (pos 3)) → (IsTrue s.is_open → s.committed ≡ s.now) → Holds s no_contents
 holds_new s st settled = record {
   autocommit = st.autocommit;
   tables = λ _. st.kept;

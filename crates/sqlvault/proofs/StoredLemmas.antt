@@ -1,5 +1,5 @@
 -- A message as its row, its number and its text tell it.
-use Rattle.std.proofs.Common.{◌≡◌, ℕ, zero, suc, ◌+◌, ◌<◌, ◌≤◌, ℤ, pos, SFits, w64, of_z, to_z-of_z, Bool, true, List, [], ◌∷◌, length, map, Option, Some, nat_abs, refl, sym, ap, subst, ◌∙◌, arith, negsuc, ◌<ℤ◌, ◌≤ℤ◌, false, Result, Ok, Err, true≢false}
+use Rattle.std.proofs.Common.{◌≡◌, ℕ, zero, suc, ◌+◌, ◌<◌, ◌≤◌, ℤ, pos, SFits, w64, of_z, to_z-of_z, Bool, true, List, [], ◌∷◌, length, map, Option, Some, None, nat_abs, refl, sym, ap, subst, ◌∙◌, arith, negsuc, ◌<ℤ◌, ◌≤ℤ◌, false, Result, Ok, Err, true≢false}
 use Rattle.std.specs.Prelude.{◌&&◌, ◌==◌, nat_lt, nat_le, unwrap_or, IfOk}
 use Rattle.std.specs.List.{find, list_all, list_any, range_with_len}
 use Rattle.std.specs.Str.{bytes_eq}
@@ -143,6 +143,18 @@ not_counted deposits row most k is above n = clash (class_count row.class (recei
   where
     clash : (n k : ℕ) (most z : ℤ) → most ≡ pos n → z ≡ pos k → most <ℤ z → k ≤ n → ⊥
     clash n k most z a b c d = omega (arith, ints, a, b, c, d)
+
+-- where nothing is counted, no number was given
+pub none_told : (rows : Rows) (deposits : List Receipt) (row : Message) (asked named : List ℕ) (o : Option Count) → DepositsAre rows deposits → asked ≡ row.maildrop → named ≡ row.class
+    → o ≡ find (is_count asked named) rows.counts → o ≡ None → pos 0 ≡ pos (class_count row.class (receipts_of row.maildrop deposits))
+none_told rows deposits row asked named o d a n is e =
+    ap number_in (sym e ∙ is) ∙ d.counts asked named ∙ ap (λ x. pos (class_count named (receipts_of x deposits))) a ∙ ap (λ x. pos (class_count x (receipts_of row.maildrop deposits))) n
+
+pub not_numbered : (deposits : List Receipt) (row : Message) (k : ℕ) → pos 0 ≡ pos (class_count row.class (receipts_of row.maildrop deposits)) → IsNumber deposits row k → ⊥
+not_numbered deposits row k none n = clash (class_count row.class (receipts_of row.maildrop deposits)) k none n.above (at_most k (class_count row.class (receipts_of row.maildrop deposits)) n.within)
+  where
+    clash : (n k : ℕ) → pos 0 ≡ pos n → nat_lt 0 k ≡ true → k ≤ n → ⊥
+    clash n k a b c = let zero : 0 ≡ n = cc in grind (arith, nat_tests, zero, b, c)
 
 -- ---- what the test of the text tells
 

@@ -30,7 +30,7 @@ use Rattle.mailsql.specs.Sheets.{sheets_of}
 
 -- the version of the layout, which a store of ours is marked with
 abbrev pub version : ℤ
-version = pos 2
+version = pos 3
 
 -- the mark
 abbrev pub our_mark : Mark

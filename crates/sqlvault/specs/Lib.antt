@@ -11,3 +11,4 @@ pub mod RowForms
 pub mod Numbers
 pub mod Stored
 pub mod Uses
+pub mod Carries

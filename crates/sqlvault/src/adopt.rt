@@ -11,9 +11,11 @@ ghost use Rattle.sqlvault.specs.Adopts.{Adopts, IsBlank, IsKnown, StaysAs, Leave
 ghost use Rattle.vault.specs.declared.fault.VaultFault.TheVariants.{NotOurs};
 ghost use Rattle.mailsql.specs.Names.{is_taken, has_marks};
 ghost use Rattle.sqlvault.specs.declared.refusal.Refusal.TheVariants.{Answered};
+ghost use Rattle.sqlvault.specs.Carries.{HasSecond, CarriesOver, LeavesEither};
 ghost use Rattle.sqlvault.specs.Refusals.{answer_of, told};
 ghost use Rattle.sqlvault.specs.Stands.{Holds, WasClean, LeavesNoMore};
 
+use crate::carry::carry_marked;
 use crate::refusal::Refusal;
 use crate::sound_clerks::{are_clerks_sound, are_maildrops_sound};
 use crate::sound_deposits::are_deposits_sound;
@@ -27,7 +29,7 @@ use std::alloc::Global;
 use vault::VaultFault;
 
 /// The version of the layout of the tables.
-const VERSION: i64 = 2;
+pub(crate) const VERSION: i64 = 3;
 
 /// Makes the tables and the mark, inside a transaction.
 fn fill<S: Alter>(conn: &mut Connection<S>) -> Result<(), Error>
@@ -94,7 +96,10 @@ fn judge_marks<S: Alter>(alloc: Global, conn: &mut Connection<S>) -> Result<(), 
 }
 
 /// Whether the rows under the mark are sound records.
-fn are_rows_sound<S: Alter>(alloc: Global, conn: &mut Connection<S>) -> Result<bool, Error>
+pub(crate) fn are_rows_sound<S: Alter>(
+    alloc: Global,
+    conn: &mut Connection<S>,
+) -> Result<bool, Error>
     ensures judged { HasCleanDisk (state S.Store conn.new) → HasTables (state S.Store conn.old) → (rows_in (state S.Store conn.old).now.trees).marks ≡ our_mark ∷ []
         → IfOk result (Finds (Keeps (rows_in (state S.Store conn.old).now.trees))) }
     ensures same { HasCleanDisk (state S.Store conn.new) → HasTables (state S.Store conn.old) → OnOk result (IsUnchanged (state S.Store conn.old) (state S.Store conn.new)) }
@@ -147,7 +152,7 @@ fn judge<S: Alter>(alloc: Global, conn: &mut Connection<S>) -> Result<(), Refusa
     }
 }
 
-/// Makes our tables where the connection has none of our names, else judges those that it has.
+/// Makes our tables where the connection has none of our names, carries those of version 2 over, and judges ours.
 pub(crate) fn settle<S: Alter>(alloc: Global, conn: &mut Connection<S>) -> Result<(), Refusal>
     ensures adopted { HasCleanDisk (state S.Store conn.new) → IsKnown (state S.Store conn.old) → Adopts (state S.Store conn.old) (state S.Store conn.new) (answer_of result) }
     ensures stays { HasCleanDisk (state S.Store conn.new) → IsKnown (state S.Store conn.old) → OnErr result (StaysAs (state S.Store conn.old) (state S.Store conn.new)) }
@@ -157,6 +162,9 @@ pub(crate) fn settle<S: Alter>(alloc: Global, conn: &mut Connection<S>) -> Resul
         → (result ≡ Err (Answered NotOurs)) × (conn.new ≡ conn.old) }
     ensures kinds { IfErr result (λ refusal. IsAdoptFault (told refusal)) }
     ensures clean { WasClean (state S.Store conn.old) (state S.Store conn.new) }
+    ensures carried { HasCleanDisk (state S.Store conn.new) → HasSecond (state S.Store conn.old) → (state S.Store conn.old).in_transaction ≡ false → CarriesOver (state S.Store conn.old) (state S.Store conn.new) (answer_of result) }
+    ensures carried_stays { HasCleanDisk (state S.Store conn.new) → HasSecond (state S.Store conn.old) → (state S.Store conn.old).in_transaction ≡ false → OnErr result (StaysAs (state S.Store conn.old) (state S.Store conn.new)) }
+    ensures carried_stop { HasCleanDisk (state S.Store conn.new) → HasSecond (state S.Store conn.old) → (state S.Store conn.old).in_transaction ≡ false → LeavesEither (state S.Store conn.old) (state S.Store conn.new) }
 {
     if !conn.is_autocommit() {
         return Err(Refusal::Answered(VaultFault::NotOurs));
@@ -169,6 +177,9 @@ pub(crate) fn settle<S: Alter>(alloc: Global, conn: &mut Connection<S>) -> Resul
     }
     if !has_marks(conn) {
         return Err(Refusal::Answered(VaultFault::NotOurs));
+    }
+    if !has_columns(conn) {
+        return carry_marked(alloc, conn);
     }
     judge(alloc, conn)
 }

@@ -2,6 +2,7 @@
 #![tactic(auto)]
 
 mod adopt;
+mod carry;
 mod clerks;
 mod deposit;
 mod mail;

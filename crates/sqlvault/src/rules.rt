@@ -128,7 +128,7 @@ fn read_policy(alloc: Global, rows: &[rows::Rule]) -> Result<Policy, Error>
     ensures { (p : Policy) → is_sound_policy p ≡ true → map (at_place (pos 0)) rows.now ≡ map (rule_row (pos 0)) p.rules → IfOk result (λ read. read ≡ p) }
 {
     match rules_of(alloc, rows)? {
-        Some(rules) => match Policy::from_rules(rules) {
+        Some(rules) => match Policy::from_rules(rules)? {
             Some(policy) => Ok(policy),
             None => Err(unreadable()),
         },

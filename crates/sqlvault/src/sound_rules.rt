@@ -19,7 +19,7 @@ fn are_rules(alloc: Global, rows: &[rows::Rule]) -> Result<bool, AllocError>
     ensures { IfOk result (Finds (λ p. (map (at_place (pos 0)) rows.now ≡ map (rule_row (pos 0)) p.rules) × (is_sound_policy p ≡ true))) }
 {
     match rules_of(alloc, rows)? {
-        Some(rules) => Ok(Policy::from_rules(rules).is_some()),
+        Some(rules) => Ok(Policy::from_rules(rules)?.is_some()),
         None => Ok(false),
     }
 }

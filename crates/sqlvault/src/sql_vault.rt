@@ -122,11 +122,14 @@ impl<S: Alter> SqlVault<S> {
     ghost use Rattle.vault.specs.declared.fault.VaultFault.TheVariants.{NotOurs};
     ghost use Rattle.mailsql.specs.Names.{is_taken, has_marks};
     ghost use Rattle.sqlvault.specs.Adopts.{Adopts, StaysAs};
+    ghost use Rattle.sqlvault.specs.Carries.{HasSecond, CarriesOver, LeavesEither};
     ghost use Rattle.sqlvault.specs.Opened.{conn_of, judged_in};
     ghost use Rattle.sqlvault.specs.Stands.{WasClean};
 
     /// Takes over a connection. A store without a table, an index or a view of our names gets our tables and our mark, in one
-    /// transaction, and holds nothing; one with our mark stays as it is, and holds what its tables hold, which are all read once.
+    /// transaction, and holds nothing; one with our mark stays as it is, and holds what its tables hold, which are all read once. One with the
+    /// tables and the mark of version 2 is carried over, in one transaction: its rows stay, it gets the tables of groups and our mark, and it
+    /// holds what it held.
     ///
     /// Gives the connection back, its tables as they were, with [`VaultFault::NotOurs`] where a transaction is under way, or one of our names
     /// is taken in a store without our mark, or our tables have other columns, or their rows aren't sound records with counts and octets
@@ -144,6 +147,9 @@ impl<S: Alter> SqlVault<S> {
         ensures uncounted { IfOk result (λ vault. vault.faults ≡ 0) }
         ensures stop { HasCleanDisk (state S.Store (conn_of result)) → IsKnown (state S.Store conn) → IsTrue (state S.Store conn).is_open → LeavesEmptyToo (state S.Store conn) (state S.Store (conn_of result)) }
         ensures clean { WasClean (state S.Store conn) (state S.Store (conn_of result)) }
+        ensures carried { HasCleanDisk (state S.Store (conn_of result)) → HasSecond (state S.Store conn) → (state S.Store conn).in_transaction ≡ false → CarriesOver (state S.Store conn) (state S.Store (conn_of result)) (judged_in result) }
+        ensures carried_stays { IfErr result (λ refused. HasCleanDisk (state S.Store refused.1) → HasSecond (state S.Store conn) → (state S.Store conn).in_transaction ≡ false → StaysAs (state S.Store conn) (state S.Store refused.1)) }
+        ensures carried_stop { HasCleanDisk (state S.Store (conn_of result)) → HasSecond (state S.Store conn) → (state S.Store conn).in_transaction ≡ false → LeavesEither (state S.Store conn) (state S.Store (conn_of result)) }
     {
         let mut conn = conn;
         match settle(alloc, &mut conn) {

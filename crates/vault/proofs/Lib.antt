@@ -5,5 +5,6 @@ pub mod MaildropLemmas
 pub mod TotalLemmas
 pub mod ClerkLemmas
 pub mod MailLemmas
+pub mod PageLemmas
 pub mod DepositLemmas
 pub mod StopLemmas

@@ -13,9 +13,10 @@ use crate::answer::Deposited;
 use crate::fault::VaultFault;
 use crate::lists::{count_in, has_name};
 use crate::message_key::MessageKey;
+use crate::pages::PagedText;
 use crate::record::{Keyed, Message, Receipt};
 use creds::{DepositId, Name, Uid};
-use mailtext::{MailText, canon};
+use mailtext::MailText;
 use std::alloc::{AllocError, Global};
 
 /// The greatest number of messages in a maildrop.
@@ -109,16 +110,6 @@ pub(crate) fn judge(
     }))
 }
 
-/// A copy of the text with memory of its own.
-fn copy_text(alloc: Global, text: &MailText) -> Result<MailText, AllocError>
-    ensures { IfOk result (λ copy. copy ≡ text.now) }
-{
-    match canon(alloc, text.bytes()) {
-        Ok(copy) => Ok(copy),
-        Err(_) => Err(AllocError),
-    }
-}
-
 /// Puts a message and its receipt behind the others, both or none, the message under the number of the deposits.
 fn put_both(
     messages: &mut Vec<Keyed>,
@@ -153,7 +144,7 @@ pub(crate) fn accept(
         maildrop: asked.maildrop,
         class: asked.class,
         k,
-        text: copy_text(alloc, text)?,
+        text: PagedText::copy_of(alloc, text)?,
     };
     let receipt = Receipt {
         maildrop: asked.maildrop,

@@ -59,36 +59,15 @@ fn message_under(messages: &[Keyed], key: MessageKey) -> Option<&Keyed>
     messages.iter().find(|kept| kept.key == key)
 }
 
-/// The text of the message under the key; no octets where there is none.
-fn text_of(messages: &[Keyed], key: MessageKey) -> &[u8]
-    ensures { result.now ≡ text_under key messages.now }
-{
-    match message_under(messages, key) {
-        Some(kept) => kept.message.text.bytes(),
-        None => &[],
-    }
-}
-
-/// Copies octets from that place on into the front of the buffer, as many as there are and fit.
-fn copy_page(text: &[u8], from: u64, buffer: &mut [u8]) -> usize
-    ensures within { result ≤ length buffer.new }
-    ensures page { IsPage text.now from (length buffer.new) (take result buffer.new) }
-{
-    if from >= text.len() as u64 {
-        return 0;
-    }
-    let left = &text[from as usize..];
-    let octets = left.len().min(buffer.len());
-    buffer[..octets].copy_from_slice(&left[..octets]);
-    octets
-}
-
-/// Reads octets of the message under the key, from that place on; how many.
+/// Reads octets of the message under the key, from that place on; how many. Under an unknown key there is none.
 pub(crate) fn read_page(messages: &[Keyed], key: MessageKey, from: u64, buffer: &mut [u8]) -> usize
     ensures within { result ≤ length buffer.new }
     ensures page { IsPage (text_under key messages.now) from (length buffer.new) (take result buffer.new) }
 {
-    copy_page(text_of(messages, key), from, buffer)
+    match message_under(messages, key) {
+        Some(kept) => kept.message.text.read(from as usize, buffer),
+        None => 0,
+    }
 }
 
 fn is_named(keys: &[MessageKey], key: MessageKey) -> bool

@@ -1,7 +1,7 @@
 //! The records that a vault keeps.
 use crate::message_key::MessageKey;
+use crate::pages::PagedText;
 use creds::{Credential, DepositId, Name};
-use mailtext::MailText;
 
 /// A clerk, who has one kind of credential. It has no `Debug`, as the credential has none.
 #[derive(Clone, Copy, PartialEq, Eq)]
@@ -22,7 +22,7 @@ pub struct Message {
     /// The place of the message, from 1, among the deposits ever accepted of that class in the maildrop.
     pub k: u64,
     /// Its text, in the kept form.
-    pub text: MailText,
+    pub text: PagedText,
 }
 
 /// A message under its key.

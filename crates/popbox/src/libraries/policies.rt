@@ -1,6 +1,6 @@
 //! What no clause says: that the calls succeed, each fault of a text at each kind of value, and the sample policy.
 use creds::Name;
-use policy::{Action, Decision, Policy, PolicyFault};
+use policy::{Action, Actions, Decision, Effect, Pattern, Policy, PolicyFault, Rule};
 use std::alloc::{AllocError, Global};
 use std::str;
 use std::test::Fail;
@@ -404,7 +404,7 @@ fn rules_of(alloc: Global, text: &str) -> Result<Policy, Fail> {
     let policy = Policy::read(alloc, text)?.try_copy()?;
     let mut rules = Vec::new(alloc);
     rules.extend_from_slice(policy.rules())?;
-    Ok(Policy::from_rules(rules).ok_or("not sound")?)
+    Ok(Policy::from_rules(rules)?.ok_or("not sound")?)
 }
 
 /// A question to the sample policy: the clerk, the class and the action, whether it is allowed, and by which rule.
@@ -450,5 +450,144 @@ fn sample_policy(rt: HostRuntime) -> Result<(), Fail> {
     assert!(rt; policy.len() == 8);
     assert!(rt; !policy.is_empty() && Policy::new(rt.alloc()).is_empty());
     assert!(rt; are_decided(&policy)?);
+    Ok(())
+}
+
+/// How many rules of the sample policy are about the clerk and the maildrop.
+fn places(policy: &Policy, clerk: &str, maildrop: &str) -> Result<usize, Fail> {
+    Ok(policy.lane(&name(clerk)?, &name(maildrop)?).places())
+}
+
+#[test]
+fn sample_lanes(rt: HostRuntime) -> Result<(), Fail> {
+    let policy = Policy::read(rt.alloc(), SAMPLE)?;
+    assert_eq!(rt; places(&policy, "bob", "orders")?, 4);
+    assert_eq!(rt; places(&policy, "eve", "nowhere")?, 1);
+    assert_eq!(rt; places(&policy, "dan", "orders")?, 0);
+    Ok(())
+}
+
+/// The clerk of the rule of a number: some rules are about all.
+fn clerk_of(alloc: Global, n: usize) -> Result<String, AllocError> {
+    if n % 50 == 49 {
+        return String::from_str(alloc, "*");
+    }
+    let clerk = n % 40;
+    format!(in alloc; "c{clerk}")
+}
+
+/// The maildrop of the rule of a number: some rules are about all.
+fn maildrop_of(alloc: Global, n: usize) -> Result<String, AllocError> {
+    if n % 45 == 44 {
+        return String::from_str(alloc, "*");
+    }
+    let maildrop = n % 30;
+    format!(in alloc; "m{maildrop}")
+}
+
+/// What is set of the rule of a number: the class, the effect and the actions.
+fn rest_of(n: usize) -> &'static str {
+    match n % 5 {
+        0 => "effect = \"allow\"\nclass = \"k0\"\nactions = [\"read\"]\n",
+        1 => "effect = \"deny\"\nclass = \"*\"\nactions = [\"remove\"]\n",
+        2 => "effect = \"deny\"\nclass = \"k0\"\nactions = [\"read\", \"remove\"]\n",
+        3 => "effect = \"allow\"\nclass = \"*\"\nactions = [\"open\", \"read\", \"remove\"]\n",
+        _ => "effect = \"deny\"\nclass = \"*\"\nactions = [\"open\"]\n",
+    }
+}
+
+/// A policy of a thousand rules about 40 clerks, 30 maildrops, and all.
+fn a_thousand_rules(alloc: Global) -> Result<Policy, Fail> {
+    let mut text = String::new(alloc);
+    for n in 0..1000usize {
+        let clerk = clerk_of(alloc, n)?;
+        let maildrop = maildrop_of(alloc, n)?;
+        let rest = rest_of(n);
+        writeln!(
+            text,
+            "[[rule]]\nname = \"r{n}\"\nclerk = \"{clerk}\"\nmaildrop = \"{maildrop}\"\n{rest}"
+        )?;
+    }
+    Ok(Policy::read(alloc, text.as_str())?)
+}
+
+fn fits(pattern: &Pattern, name: &Name) -> bool {
+    match pattern {
+        Pattern::Any => true,
+        Pattern::Is(wanted) => wanted == name,
+    }
+}
+
+fn is_listed(actions: Actions, action: Action) -> bool {
+    match action {
+        Action::Open => actions.open,
+        Action::Read => actions.read,
+        Action::Remove => actions.remove,
+    }
+}
+
+/// What the first rule decides that matches, found by a walk over all rules: whether it allows, and its name.
+fn walked(
+    policy: &Policy,
+    clerk: &Name,
+    maildrop: &Name,
+    class: &Name,
+    action: Action,
+) -> Option<Rule> {
+    for rule in policy.rules() {
+        let fits_class = action == Action::Open || fits(&rule.class, class);
+        if fits(&rule.clerk, clerk) && fits(&rule.maildrop, maildrop) && fits_class {
+            if is_listed(rule.actions, action) {
+                return Some(*rule);
+            }
+        }
+    }
+    None
+}
+
+/// Whether a lane decides as the walk does.
+fn agrees(policy: &Policy, clerk: &Name, maildrop: &Name, class: &Name, action: Action) -> bool {
+    let decided = policy.lane(clerk, maildrop).decide(class, action);
+    match walked(policy, clerk, maildrop, class, action) {
+        Some(rule) => decided.rule == rule.name
+            && decided.allowed == (rule.effect == Effect::Allow),
+        None => decided.rule.as_str() == "default" && !decided.allowed,
+    }
+}
+
+/// Whether the lane of a clerk and a maildrop agrees with the walk, at each class and action.
+fn lane_agrees(policy: &Policy, clerk: &Name, maildrop: &Name) -> Result<bool, Fail> {
+    for class in ["k0", "k1"] {
+        let class = name(class)?;
+        for action in [Action::Open, Action::Read, Action::Remove] {
+            if !agrees(policy, clerk, maildrop, &class, action) {
+                return Ok(false);
+            }
+        }
+    }
+    Ok(true)
+}
+
+/// Whether the lanes of a clerk agree with the walk.
+fn lanes_agree(alloc: Global, policy: &Policy, clerk: usize) -> Result<bool, Fail> {
+    let clerk = format!(in alloc; "c{clerk}")?;
+    let clerk = name(clerk.as_str())?;
+    for n in 0..31usize {
+        let maildrop = format!(in alloc; "m{n}")?;
+        if !lane_agrees(policy, &clerk, &name(maildrop.as_str())?)? {
+            return Ok(false);
+        }
+    }
+    Ok(true)
+}
+
+/// Of a thousand rules, the lane of each clerk and maildrop, also of one that no rule names, decides as a walk over all rules.
+#[test]
+fn lanes_of_a_thousand_rules(rt: HostRuntime) -> Result<(), Fail> {
+    let policy = a_thousand_rules(rt.alloc())?;
+    assert_eq!(rt; policy.len(), 1000);
+    for clerk in 0..41usize {
+        assert!(rt; lanes_agree(rt.alloc(), &policy, clerk)?);
+    }
     Ok(())
 }

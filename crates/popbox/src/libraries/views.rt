@@ -53,6 +53,17 @@ class = "*"
 actions = ["remove"]
 "#;
 
+/// A rule that, put in front, lets nobody read notes.
+static HIDE: &str = r#"
+[[rule]]
+name = "hide"
+effect = "deny"
+clerk = "*"
+maildrop = "*"
+class = "note"
+actions = ["read"]
+"#;
+
 /// The heads of the sample store's maildrop `orders`.
 fn sample_heads(alloc: Global) -> Result<Vec<Head>, Fail> {
     let mut heads = Vec::new(alloc);
@@ -211,4 +222,34 @@ fn removals_under_a_new_policy(rt: HostRuntime) -> Result<(), Fail> {
     let frozen = frozen(rt.alloc())?;
     assert!(rt; removes(&session, &frozen, &[], Some(freeze))?);
     Ok(())
+}
+
+/// Whether a number is read so under a policy: with the message of this number in its class, or why not.
+fn is_read(session: &Session, number: u64, policy: &Policy, k: Result<u64, Pick>) -> bool {
+    match session.pick_for(number, policy) {
+        Ok(head) => k == Ok(head.k),
+        Err(refusal) => k == Err(refusal),
+    }
+}
+
+#[test]
+fn read_under_a_new_policy(rt: HostRuntime) -> Result<(), Fail> {
+    let policy = Policy::read(rt.alloc(), RULES)?;
+    let text = format!(in rt.alloc(); "{HIDE}{RULES}")?;
+    let hidden = Policy::read(rt.alloc(), &text)?;
+    let hide = Pick::Denied(name(b"hide")?);
+    let session = marked(rt.alloc(), &policy)?;
+    assert!(rt; is_read(&session, 1, &hidden, Err(Pick::Deleted)));
+    assert!(rt; is_read(&session, 3, &hidden, Ok(1)));
+    assert!(rt; is_read(&session, 4, &hidden, Err(Pick::NoSuch)));
+    let session = bob_session(rt.alloc(), &policy)?;
+    assert!(rt; is_read(&session, 2, &hidden, Err(hide)));
+    assert!(rt; is_read(&session, 2, &policy, Ok(2)));
+    assert!(rt; is_picked_still(&session, 2));
+    Ok(())
+}
+
+/// Whether the number is still one of the view's.
+fn is_picked_still(session: &Session, number: u64) -> bool {
+    session.pick(number).is_ok()
 }

@@ -1,4 +1,4 @@
-use Rattle.std.proofs.Common.{rules, false, ◌≡◌, ◌∷◌, [], ◌++◌, ◌<◌, ◌≤◌, ℕ, List, length, take, cond, MatchResult, Err, sym, subst, append-nil, length, arith, true}
+use Rattle.std.proofs.Common.{rules, false, ◌≡◌, ◌∷◌, [], ◌++◌, ◌<◌, ◌≤◌, ℕ, List, length, take, cond, MatchResult, Err, sym, ◌∙◌, ap, subst, append-nil, length, arith, true}
 use Rattle.std.proofs.lemmas.List.{length-take-le}
 use Rattle.office.specs.Events as event
 use Rattle.office.specs.Shown.{outcome_seen}
@@ -119,7 +119,24 @@ pub returns-then-count-eq0-clause-clean : goal.returns-then-count-eq0-clause-cle
 returns-then-count-eq0-clause-clean g c = search rules
 
 pub returns-then-count-eq0-clause-wrote : goal.returns-then-count-eq0-clause-wrote
-returns-then-count-eq0-clause-wrote g c = search rules
+returns-then-count-eq0-clause-wrote g c =
+    let lent = c.owed-lent.result.now in
+    let n = c.in-Ok.count in
+    let zero : n ≡ 0 = omega (arith, c.if-count-eq0.true) in
+    let none : take n lent ≡ [] = ap (λ (m : ℕ). take m lent) zero in (
+      take n lent,
+      c.in-Ok.ensures.bytes,
+      (λ e. absurd (cc)),
+      λ before T octets written first clean w.
+          (let same : written ≡ written ++ take n lent = sym (ap (λ (xs : List ℕ). written ++ xs) none ∙ append-nil written) in
+          record {
+            log = w.log;
+            stands = w.stands;
+            own = w.own;
+            caused = w.caused;
+            so = subst (λ (o : List ℕ). Breaks T.base c.args.c (acts T) octets o false w.log) same (midway_broken T.base c.args.c (acts T) octets written before (g.V.Vault.faults (vault_of c.args.office.now)) w.log w.so);
+          }),
+    )
 
 pub returns-in_err-had_memory-clause-counted : goal.returns-in_err-had_memory-clause-counted
 returns-in_err-had_memory-clause-counted g c = search rules

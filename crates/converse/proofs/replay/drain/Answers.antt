@@ -4,8 +4,8 @@ use Rattle.std.proofs.KnownBytes.{Appends-nil}
 use Rattle.office.specs.Shown.{outcome_seen}
 use Rattle.office.specs.Stands.{vault_of}
 use Rattle.office.specs.Trace.{rest}
-use Rattle.converse.proofs.Clauses.{found_empty}
-use Rattle.converse.specs.Played.{Begun, TakesAll}
+use Rattle.converse.proofs.Clauses.{found_empty, nothing_lent}
+use Rattle.converse.specs.Played.{lent_at, Begun, TakesAll}
 use Rattle.converse.specs.Script.{Drains}
 use Rattle.converse.proofs.Stopping.{begun_taken, reaches_so}
 use Rattle.converse.proofs.Playing.{caused_none, owed_whole, drains_all, some_owed, appends_three}
@@ -23,7 +23,7 @@ returns-then-is_empty-clause-drained g c =
         (
           [],
           record { are = tt; last = refl; behind = refl },
-          sym (owed_whole g.V.Vault.holds c.args.office.now T st n lent (c.owed.ensures.lent T st) c.owed.ensures.count) ∙ found_empty c.is_empty.result lent c.if-is_empty.true c.is_empty.ensures,
+          nothing_lent (rest T n) lent (c.owed.ensures.lent T st) (found_empty c.is_empty.result lent c.if-is_empty.true c.is_empty.ensures),
           refl,
         ),
         caused_none (g.V.Vault.faults (vault_of c.args.office.now)) (g.V.Vault.faults (vault_of c.args.office.now)) T,
@@ -35,7 +35,7 @@ returns-in-Ok-writeln-clause-drained g c =
     let n = c.args.number in
     let lent = c.owed.result.now in λ T st clean.
     (let s = c.in_ok-outcome.ensures.taken T st clean in
-    let whole : lent ≡ rest T n = owed_whole g.V.Vault.holds c.args.office.now T st n lent (c.owed.ensures.lent T st) c.owed.ensures.count in
+    let whole : lent ≡ lent_at T n = owed_whole g.V.Vault.holds c.args.office.now T st n lent (c.owed.ensures.lent T st) c.owed.ensures.count in
     let some : 0 < length lent = some_owed c.is_empty.result lent c.if-is_empty.false c.is_empty.ensures in
     record {
       printed = codes "sent " ++ decimal n ++ codes " " ++ s.printed ++ codes "\n";

@@ -5,8 +5,8 @@ use Rattle.office.specs.Shown.{outcome_seen, followed_by}
 use Rattle.office.specs.Stands.{vault_of}
 use Rattle.office.specs.Trace.{rest}
 use Rattle.converse.specs.Escapes.{escaped}
-use Rattle.converse.proofs.Clauses.{found_empty}
-use Rattle.converse.specs.Played.{Begun}
+use Rattle.converse.proofs.Clauses.{found_empty, nothing_lent}
+use Rattle.converse.specs.Played.{lent_at, Begun}
 use Rattle.converse.specs.Script.{Drains}
 use Rattle.converse.proofs.Playing.{TakesSoFar, by_owed, caused_none, caused_one, caused_more, owed_whole, takes_none, takes_lent, some_owed}
 use Rattle.converse.proofs.Stopping.{begun_taking, reaches_so}
@@ -27,7 +27,7 @@ loop-preserved g c =
     let x = c.step-outcome in record {
       taken = λ T st clean.
           (let s = c.loop.invariant.taken T st (x.ensures.clean clean) in
-          let whole : lent ≡ rest s.trace n = owed_whole g.V.Vault.holds c.loop.office s.trace s.stands n lent (c.owed-owed.ensures.lent s.trace s.stands) c.owed-owed.ensures.count in
+          let whole : lent ≡ lent_at s.trace n = owed_whole g.V.Vault.holds c.loop.office s.trace s.stands n lent (c.owed-owed.ensures.lent s.trace s.stands) c.owed-owed.ensures.count in
           record {
             printed = s.printed ++ escaped lent;
             trace = followed_by s.trace e x.result;
@@ -50,13 +50,12 @@ returns-then-is_empty-clause-taken g c =
     let n = c.args.number in
     let lent = c.owed-owed.result.now in λ T st clean.
     (let s = c.loop.invariant.taken T st clean in
-    let whole : lent ≡ rest s.trace n = owed_whole g.V.Vault.holds c.loop.office s.trace s.stands n lent (c.owed-owed.ensures.lent s.trace s.stands) c.owed-owed.ensures.count in
     record {
       printed = s.printed;
       trace = s.trace;
       appends = s.appends;
       stands = s.stands;
-      is = ((s.is.0.0, s.is.0.1, sym whole ∙ found_empty c.is_empty.result lent c.if-is_empty.true c.is_empty.ensures, s.is.0.2), s.is.1);
+      is = ((s.is.0.0, s.is.0.1, nothing_lent (rest s.trace n) lent (c.owed-owed.ensures.lent s.trace s.stands) (found_empty c.is_empty.result lent c.if-is_empty.true c.is_empty.ensures), s.is.0.2), s.is.1);
     })
 
 pub returns-in_default-clause-broken : goal.returns-in_default-clause-broken

@@ -9,13 +9,13 @@ pub returns-clause-ok : goal.returns-clause-ok
 returns-clause-ok g c clean tables = asked_ok _ _ _ _ _ _ _ (c.list.ensures.ok clean) (λ all rows shown e. e ∙ all_sequences_shows (state g.S.Store c.args.conn.now) (state g.S.Store c.list.new.conn) rows tables shown)
 
 pub returns-clause-same : goal.returns-clause-same
-returns-clause-same g c clean tables = asked_same _ _ _ _ _ all_sequences_asks (λ db. refl) (state g.S.Store c.args.conn.now) (state g.S.Store c.list.new.conn) _ tables _ _ (c.list.ensures.ok clean)
+returns-clause-same g c clean tables = asked_same _ _ _ _ _ all_sequences_asks (λ _ db. refl) (state g.S.Store c.args.conn.now) (state g.S.Store c.list.new.conn) _ tables _ _ (c.list.ensures.ok clean)
 
 pub returns-clause-err : goal.returns-clause-err
-returns-clause-err g c clean tables = asked_undone _ _ _ _ _ all_sequences_asks (λ db. refl) (state g.S.Store c.args.conn.now) (state g.S.Store c.list.new.conn) _ tables _ _ (c.list.ensures.err clean)
+returns-clause-err g c clean tables = asked_undone _ _ _ _ _ all_sequences_asks (λ _ db. refl) (state g.S.Store c.args.conn.now) (state g.S.Store c.list.new.conn) _ tables _ _ (c.list.ensures.err clean)
 
 pub returns-clause-cause : goal.returns-clause-cause
 returns-clause-cause g c = c.list.ensures.err
 
 pub returns-clause-survives : goal.returns-clause-survives
-returns-clause-survives g c = never _ _ (state g.S.Store c.args.conn.now) (state g.S.Store c.list.new.conn) all_sequences_asks.plain c.list.ensures.survives
+returns-clause-survives g c = never _ _ (state g.S.Store c.args.conn.now) (state g.S.Store c.list.new.conn) (λ b. (all_sequences_asks b).plain) c.list.ensures.survives

@@ -16,7 +16,7 @@ loop-at-preserved g c =
     let s0 = state g.S.Store c.args.conn.now in
     let s1 = state g.S.Store c.loop-at.conn in
     let s2 = state g.S.Store c.execute.new.self in
-    let low : c.loop-at.at < 8 = c.loop-at-test.true in
+    let low : c.loop-at.at < 10 = c.loop-at-test.true in
     let runs = rw c.create_text.ensures at c.in-Ok.ensures.runs in
     let survives = rw c.create_text.ensures at c.execute.ensures.survives in (
       survives_then s0 s1 s2 _ _ _ (λ _ db none. none) (λ clean db may begun.
@@ -39,7 +39,7 @@ returns-in-Err-clause-err g c clean begun =
 pub returns-in-Err-clause-cause : goal.returns-in-Err-clause-cause
 returns-in-Err-clause-cause g c clean begun =
     let s1 = state g.S.Store c.loop-at.conn in
-    let low : c.loop-at.at < 8 = c.loop-at-test.true in
+    let low : c.loop-at.at < 10 = c.loop-at-test.true in
     let clean1 : HasCleanDisk s1 = omega (arith, c.execute.ensures.survives.clean) in
     let it = c.loop-at.invariant.1 clean1 begun in
     let runs = rw c.create_text.ensures at c.in-Err.ensures.runs in
@@ -50,7 +50,7 @@ returns-in-Err-clause-survives g c =
     let s0 = state g.S.Store c.args.conn.now in
     let s1 = state g.S.Store c.loop-at.conn in
     let s2 = state g.S.Store c.execute.new.self in
-    let low : c.loop-at.at < 8 = c.loop-at-test.true in
+    let low : c.loop-at.at < 10 = c.loop-at-test.true in
     let survives = rw c.create_text.ensures at c.execute.ensures.survives in
     survives_then s0 s1 s2 _ _ _ (λ _ db none. none) (λ clean db may begun.
     let clean1 : HasCleanDisk s1 = omega (arith, c.execute.ensures.survives.clean) in
@@ -60,5 +60,5 @@ returns-in-Err-clause-survives g c =
 pub returns-clause-ok : goal.returns-clause-ok
 returns-clause-ok g c clean begun =
     let it = c.loop-at.invariant.1 clean begun in
-    let end : c.loop-at.at ≡ 8 = omega (arith, c.loop-at-test.false, c.loop-at.auto.at-end) in
-    all_made (state g.S.Store c.args.conn.now) (state g.S.Store c.loop-at.conn) (subst (λ n. IsBare (stage n) (state g.S.Store c.loop-at.conn).now) end it.0) it.1
+    let end : c.loop-at.at ≡ 10 = omega (arith, c.loop-at-test.false, c.loop-at.auto.at-end) in
+    all_made (state g.S.Store c.args.conn.now) (state g.S.Store c.loop-at.conn) c.schema-schema.ensures.live (subst (λ n. IsBare (stage n) (state g.S.Store c.loop-at.conn).now) end it.0) it.1

@@ -1,7 +1,26 @@
-use Rattle.std.proofs.Common.{◌≡◌, Some, sym, subst, rules}
-use Rattle.office.specs.Answered.{IsSeated}
-use Rattle.office.proofs.Entering.{seated}
+use Rattle.std.proofs.Common.{◌≡◌, Option, Some, None, sym, subst, rules}
+use Rattle.office.specs.Connections.{reading}
+use Rattle.office.proofs.Unasked.{asks_none_outside, asks_none_inside}
+use Rattle.popline.specs.Seen.{cut_seen}
+use Rattle.office.specs.Output.{OwesReply}
+use Rattle.office.specs.Sitting.{Sitting}
+use Rattle.office.specs.Answered.{IsSeated, reply_of, desk_over}
+use Rattle.office.proofs.Entering.{seated, seated_case, unseated_case}
+use Rattle.office.proofs.Owing.{owes_put}
 use Rattle.office.proofs.lines.answer.Goals as goal
+
+pub returns-in_ok-acted-in-Some-clause-owed : goal.returns-in_ok-acted-in-Some-clause-owed
+returns-in_ok-acted-in-Some-clause-owed g c d v held clean sits =
+    let e : c.args.session.now ≡ Some c.in-Some.inside = sym c.in-Some.ensures.value in
+    let P : Option Sitting → Type 0 =
+    λ v. OwesReply d c.in_ok-acted-in-Some.after c.answer_inside.new.output (reply_of c.in_ok-acted-in-Some.acted (desk_over d c.args.desk c.args.locks.now) c.args.talk.now v (cut_seen c.args.cut)) in
+    seated_case d c.in-Some.inside v P (λ w seat. c.in_ok-acted-in-Some.ensures.owed d w held clean seat) (subst (λ o. IsSeated d o v) e sits)
+
+pub returns-in_ok-acted-in-None-clause-owed : goal.returns-in_ok-acted-in-None-clause-owed
+returns-in_ok-acted-in-None-clause-owed g c d v held clean sits =
+    let P : Option Sitting → Type 0 =
+    λ v. OwesReply d c.in_ok-acted-in-None.begun c.answer_outside.new.output (reply_of c.in_ok-acted-in-None.acted (desk_over d c.args.desk c.args.locks.now) c.args.talk.now v (cut_seen c.args.cut)) in
+    unseated_case d v P (owes_put d c.in_ok-acted-in-None.begun c.args.output.now c.answer_outside.new.output _ c.requires (c.in_ok-acted-in-None.ensures.owed d held clean)) (subst (λ o. IsSeated d o v) (sym c.in-None.ensures.value) sits)
 
 pub returns-in_ok-acted-in-Some-clause-held : goal.returns-in_ok-acted-in-Some-clause-held
 returns-in_ok-acted-in-Some-clause-held g c d v held clean sits =
@@ -80,3 +99,29 @@ returns-in_err-acted-in-Some-clause-counted g c = search rules
 
 pub returns-in_err-acted-in-Some-clause-clean : goal.returns-in_err-acted-in-Some-clause-clean
 returns-in_err-acted-in-Some-clause-clean g c = search rules
+
+pub returns-in_ok-acted-in-None-clause-unasked : goal.returns-in_ok-acted-in-None-clause-unasked
+returns-in_ok-acted-in-None-clause-unasked g c d v sits none =
+    let e : c.args.session.now ≡ None = sym c.in-None.ensures.value in
+    let r = reading (cut_seen c.args.cut) in
+    c.answer_outside.ensures.unasked (asks_none_outside d c.args.desk.policy.now c.args.talk.now v r (subst (λ o. IsSeated d o v) e sits) none)
+
+pub returns-in_ok-acted-in-Some-clause-unasked : goal.returns-in_ok-acted-in-Some-clause-unasked
+returns-in_ok-acted-in-Some-clause-unasked g c d v sits none =
+    let e : c.args.session.now ≡ Some c.in-Some.inside = sym c.in-Some.ensures.value in
+    let r = reading (cut_seen c.args.cut) in
+    let w = asks_none_inside d c.args.desk.policy.now c.in-Some.inside c.args.talk.now v r (subst (λ o. IsSeated d o v) e sits) none in
+    c.answer_inside.ensures.unasked d w.sitting w.seated w.none
+
+pub returns-in_err-acted-in-None-clause-unasked : goal.returns-in_err-acted-in-None-clause-unasked
+returns-in_err-acted-in-None-clause-unasked g c d v sits none =
+    let e : c.args.session.now ≡ None = sym c.in-None.ensures.value in
+    let r = reading (cut_seen c.args.cut) in
+    c.answer_outside.ensures.unasked (asks_none_outside d c.args.desk.policy.now c.args.talk.now v r (subst (λ o. IsSeated d o v) e sits) none)
+
+pub returns-in_err-acted-in-Some-clause-unasked : goal.returns-in_err-acted-in-Some-clause-unasked
+returns-in_err-acted-in-Some-clause-unasked g c d v sits none =
+    let e : c.args.session.now ≡ Some c.in-Some.inside = sym c.in-Some.ensures.value in
+    let r = reading (cut_seen c.args.cut) in
+    let w = asks_none_inside d c.args.desk.policy.now c.in-Some.inside c.args.talk.now v r (subst (λ o. IsSeated d o v) e sits) none in
+    c.answer_inside.ensures.unasked d w.sitting w.seated w.none

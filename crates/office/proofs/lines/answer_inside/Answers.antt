@@ -1,4 +1,8 @@
-use Rattle.std.proofs.Common.{rules}
+use Rattle.std.proofs.Common.{◌≡◌, true, false, sym, ◌∙◌, subst, rules}
+use Rattle.popline.specs.Seen.{cut_seen}
+use Rattle.office.specs.Connections.{reading, is_quit}
+use Rattle.office.specs.Output.{OwesReply}
+use Rattle.office.specs.Sitting.{Sitting, sitting_of, session_if, reply_inside, asks_inside}
 use Rattle.office.proofs.lines.answer_inside.Goals as goal
 
 pub returns-then-is_quitting-clause-locks : goal.returns-then-is_quitting-clause-locks
@@ -41,7 +45,14 @@ pub returns-in_err-acted-clause-clean : goal.returns-in_err-acted-clause-clean
 returns-in_err-acted-clause-clean g c = search rules
 
 pub returns-then-is_quitting-clause-owed : goal.returns-then-is_quitting-clause-owed
-returns-then-is_quitting-clause-owed g c = search rules
+returns-then-is_quitting-clause-owed g c d v held clean sits =
+    let q : is_quit (reading (cut_seen c.args.cut)) ≡ true = sym c.is_quitting.ensures ∙ c.if-is_quitting.true in
+    let w = c.in_ok-acted.acted in
+    let p = c.args.desk.policy.now in
+    let x = cut_seen c.args.cut in
+    let base = c.in_ok-acted.ensures.owed d sits.0 held clean sits.1 in
+    subst (λ (v : Sitting). OwesReply d (session_if true c.answer.new.session) c.answer.new.output (reply_inside w p v x)) (sym sits.2)
+    (subst (λ b. OwesReply d (session_if b c.answer.new.session) c.answer.new.output (reply_inside w p (sitting_of c.args.session sits.0) x)) q base)
 
 pub returns-then-is_quitting-clause-talk : goal.returns-then-is_quitting-clause-talk
 returns-then-is_quitting-clause-talk g c = search rules
@@ -71,7 +82,14 @@ pub returns-then-is_quitting-clause-clean : goal.returns-then-is_quitting-clause
 returns-then-is_quitting-clause-clean g c = search rules
 
 pub returns-clause-owed : goal.returns-clause-owed
-returns-clause-owed g c = search rules
+returns-clause-owed g c d v held clean sits =
+    let q : is_quit (reading (cut_seen c.args.cut)) ≡ false = sym c.is_quitting.ensures ∙ c.if-is_quitting.false in
+    let w = c.in_ok-acted.acted in
+    let p = c.args.desk.policy.now in
+    let x = cut_seen c.args.cut in
+    let base = c.in_ok-acted.ensures.owed d sits.0 held clean sits.1 in
+    subst (λ (v : Sitting). OwesReply d (session_if false c.answer.new.session) c.answer.new.output (reply_inside w p v x)) (sym sits.2)
+    (subst (λ b. OwesReply d (session_if b c.answer.new.session) c.answer.new.output (reply_inside w p (sitting_of c.args.session sits.0) x)) q base)
 
 pub returns-clause-talk : goal.returns-clause-talk
 returns-clause-talk g c = search rules
@@ -102,3 +120,15 @@ returns-clause-counted g c = search rules
 
 pub returns-clause-clean : goal.returns-clause-clean
 returns-clause-clean g c = search rules
+
+pub returns-in_err-acted-clause-unasked : goal.returns-in_err-acted-clause-unasked
+returns-in_err-acted-clause-unasked g c d v sits none =
+    c.answer.ensures.unasked d sits.0 sits.1 (subst (λ (w : Sitting). asks_inside c.args.desk.policy.now w (reading (cut_seen c.args.cut)) ≡ false) sits.2 none)
+
+pub returns-then-is_quitting-clause-unasked : goal.returns-then-is_quitting-clause-unasked
+returns-then-is_quitting-clause-unasked g c d v sits none =
+    c.answer.ensures.unasked d sits.0 sits.1 (subst (λ (w : Sitting). asks_inside c.args.desk.policy.now w (reading (cut_seen c.args.cut)) ≡ false) sits.2 none)
+
+pub returns-clause-unasked : goal.returns-clause-unasked
+returns-clause-unasked g c d v sits none =
+    c.answer.ensures.unasked d sits.0 sits.1 (subst (λ (w : Sitting). asks_inside c.args.desk.policy.now w (reading (cut_seen c.args.cut)) ≡ false) sits.2 none)

@@ -1,3 +1,4 @@
+use Rattle.office.proofs.Stopping.{looked_left}
 use Rattle.office.proofs.login.enter.Goals as goal
 use Rattle.std.proofs.Common.{sym, ◌≡◌, ◌∙◌, ap, Ok, false, rules}
 use Rattle.session.specs.Session.{started}
@@ -45,3 +46,25 @@ returns-clause-counted g c = search rules
 
 pub returns-clause-clean : goal.returns-clause-clean
 returns-clause-clean g c = search rules
+
+pub returns-in-Err-NoMaildrop-clause-stop : goal.returns-in-Err-NoMaildrop-clause-stop
+returns-in-Err-NoMaildrop-clause-stop g c d held clean up = looked_left (c.heads.ensures.stop d clean up held)
+
+pub returns-then-contains_key-clause-stop : goal.returns-then-contains_key-clause-stop
+returns-then-contains_key-clause-stop g c d held clean up = looked_left (c.heads.ensures.stop d clean up held)
+
+pub returns-in_default-clause-stop : goal.returns-in_default-clause-stop
+returns-in_default-clause-stop g c d held clean up = looked_left (c.heads.ensures.stop d clean up held)
+
+pub returns-clause-stop : goal.returns-clause-stop
+returns-clause-stop g c d held clean up = looked_left (c.heads.ensures.stop d clean up held)
+
+pub returns-in-Err : goal.returns-in-Err
+returns-in-Err g c = record {
+  said = search rules;
+  session = search rules;
+  counted = search rules;
+  clean = search rules;
+  up = search rules;
+  stop = λ d held clean up. looked_left (c.heads.ensures.stop d clean up held);
+}

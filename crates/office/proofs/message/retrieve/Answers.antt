@@ -1,46 +1,50 @@
-use Rattle.std.proofs.Common.{rules, ◌∙◌}
-use Rattle.office.proofs.Texts.{found, found_text, retrieve_failed, retrieve_done}
-use Rattle.office.proofs.Obeying.{if_ok_both}
+use Rattle.std.proofs.Common.{◌≡◌, ◌++◌, ℕ, List, length, sym, ◌∙◌, ap, ap₂, subst, append_assoc, Ok, Some}
+use Rattle.std.specs.Prelude.{codes}
+use Rattle.std.specs.Fmt.{decimal}
+use Rattle.mailtext.specs.Text.{lines_of, stuffed_lines, top_part}
+use Rattle.popline.specs.Commands.{Retr, Top}
+use Rattle.popline.specs.Replies.{Message, TopPart, one_line, bytes_of}
+use Rattle.office.specs.Output.{Output, text_coming, last_line}
+use Rattle.office.specs.declared.reading.Reading.{Reading}
+use Rattle.office.specs.Output.{OwesReply}
+use Rattle.popline.specs.Replies.{Reply}
+use Rattle.office.specs.Sitting.{refused_pick}
+use Rattle.office.proofs.Texts.{found, form, size, begins, retrieved, retrieve_refused, refused_goes_on, asks_for}
+use Rattle.office.proofs.Obeying.{if_ok_so, if_ok_both, said_so}
+use Rattle.office.proofs.Stopping.{held_left}
 use Rattle.office.proofs.message.retrieve.Goals as goal
 
-pub returns-in_ok-put-in-None-clause-done : goal.returns-in_ok-put-in-None-clause-done
-returns-in_ok-put-in-None-clause-done g c = λ p d kept held clean lies.
+pub returns-in_ok-begin_message-in-Ok-clause-done : goal.returns-in_ok-begin_message-in-Ok-clause-done
+returns-in_ok-begin_message-in-Ok-clause-done g c = if_ok_so _ c.serve.result c.serve.ensures.served (λ w h d kept held clean lies.
+    let p = c.args.policy.now in
     let s = c.args.session.now in
-    let f = found d s kept lies c.args.n c.in-Ok.head c.in-Ok.ensures in
-    let sound = g.met.V.Vault.sound c.args.vault.now d held (c.read_text.ensures.clean clean) in
-    let has = found_text d sound s kept lies c.args.n c.in-Ok.head f in
-    retrieve_failed _ _ d p s kept c.args.n c.in-Ok.head f _ _ c.in_ok-put-in-None.ensures.ok (c.read_text.ensures.held d held clean) (c.in_ok-read_text-in-Ok.ensures.cause c.in-None.is d held clean has.0)
+    let f = found d p s kept lies c.args.n c.in-Ok.head c.in-Ok.ensures in
+    let sound = g.met.V.Vault.sound c.args.vault.now d held (c.serve.ensures.clean clean) in
+    let r : Reading = c.whole.result in
+    let is = c.whole.ensures.is in
+    let reads = begins d sound p s kept lies c.args.n c.in-Ok.head f r (ap (λ (x : Reading). x.key) is) (ap (λ (x : Reading). x.octets) is) (ap (λ (x : Reading). x.place) is) in
+    let t = f.stored.message.text in
+    let first = one_line (codes "+OK " ++ decimal c.in-Ok.head.octets ++ codes " octets") in
+    let front : c.begin_message.new.self.ready ≡ first = ap (λ (o : Output). o.ready) c.in_ok-begin_message-in-Ok.ensures ∙ ap (λ (o : Output). o.ready ++ first) c.requires in
+    let whole : c.begin_message.new.self.ready ++ text_coming r t ≡ bytes_of (Message (length t) (stuffed_lines (lines_of t))) =
+    ap₂ (λ (xs ys : List ℕ). xs ++ ys) front (c.whole.ensures.coming t (form d sound p s kept lies c.args.n c.in-Ok.head f).kept) ∙ sym (append_assoc first (stuffed_lines (lines_of t)) last_line) ∙ ap (λ n. bytes_of (Message n (stuffed_lines (lines_of t)))) (sym (size d sound p s kept lies c.args.n c.in-Ok.head f)) in
+    retrieved d sound p s kept lies c.args.n c.in-Ok.head f _ _ _ w (c.begin_message.new.self.ready ++ text_coming r t) whole (h d s (text_coming r t) held clean reads))
 
-pub returns-in-Some-clause-done : goal.returns-in-Some-clause-done
-returns-in-Some-clause-done g c = if_ok_both _ c.put_message.result c.put_message.ensures.acted c.put_message.ensures.owed (λ w e said p d kept held clean lies.
+pub returns-in-Err-clause-stop : goal.returns-in-Err-clause-stop
+returns-in-Err-clause-stop g c d held clean up = held_left (g.met.V.Vault.settled _ d clean up held)
+
+pub returns-in_err-begin_message-in-Ok-clause-stop : goal.returns-in_err-begin_message-in-Ok-clause-stop
+returns-in_err-begin_message-in-Ok-clause-stop g c d held clean up = held_left (g.met.V.Vault.settled _ d clean up held)
+
+pub returns-in-Err-clause-done : goal.returns-in-Err-clause-done
+returns-in-Err-clause-done g c = if_ok_both _ c.say.result c.say.ensures.acted c.say.ensures.owed (λ w e said d kept held clean lies.
+    let p = c.args.policy.now in
     let s = c.args.session.now in
-    let f = found d s kept lies c.args.n c.in-Ok.head c.in-Ok.ensures in
-    let sound = g.met.V.Vault.sound c.args.vault.now d held (c.read_text.ensures.clean clean) in
-    let has = found_text d sound s kept lies c.args.n c.in-Ok.head f in
-    let whole = rw c.in-Some.is at c.in_ok-read_text-in-Ok.ensures.text in
-    let text = c.deref.ensures.value ∙ (whole d held clean has.0 ∙ has.1) in
-    rw e (retrieve_done _ _ d p s kept c.args.n c.in-Ok.head f _ _ c.deref.result.now text said (c.read_text.ensures.held d held clean)))
+    let put = subst (λ (r : Reply). OwesReply d (Some s) c.say.new.output r) c.refused.ensures (said d (Some s)) in
+    said_so _ _ d p s s kept _ (Ok (Retr c.args.n)) w (refused_pick c.args.n c.in-Err.why) e put (retrieve_refused d p s kept lies c.args.n c.in-Err.why c.in-Err.ensures) (refused_goes_on c.args.n c.in-Err.why s) held)
 
-pub returns-in_err-read_text-in-Ok-clause-done : goal.returns-in_err-read_text-in-Ok-clause-done
-returns-in_err-read_text-in-Ok-clause-done g c = search rules
+pub returns-in_err-begin_message-in-Ok-clause-unasked : goal.returns-in_err-begin_message-in-Ok-clause-unasked
+returns-in_err-begin_message-in-Ok-clause-unasked g c d kept lies none = absurd (asks_for d c.args.policy.now c.args.session.now kept lies c.args.n c.in-Ok.head c.in-Ok.ensures none)
 
-pub returns-in_err-read_text-in-Ok-clause-err : goal.returns-in_err-read_text-in-Ok-clause-err
-returns-in_err-read_text-in-Ok-clause-err g c = search rules
-
-pub returns-in_err-read_text-in-Ok-clause-counted : goal.returns-in_err-read_text-in-Ok-clause-counted
-returns-in_err-read_text-in-Ok-clause-counted g c = search rules
-
-pub returns-in_err-read_text-in-Ok-clause-clean : goal.returns-in_err-read_text-in-Ok-clause-clean
-returns-in_err-read_text-in-Ok-clause-clean g c = search rules
-
-pub returns-in_err-put-in-None-clause-done : goal.returns-in_err-put-in-None-clause-done
-returns-in_err-put-in-None-clause-done g c = search rules
-
-pub returns-in_err-put-in-None-clause-err : goal.returns-in_err-put-in-None-clause-err
-returns-in_err-put-in-None-clause-err g c = search rules
-
-pub returns-in_err-put-in-None-clause-counted : goal.returns-in_err-put-in-None-clause-counted
-returns-in_err-put-in-None-clause-counted g c = search rules
-
-pub returns-in_err-put-in-None-clause-clean : goal.returns-in_err-put-in-None-clause-clean
-returns-in_err-put-in-None-clause-clean g c = search rules
+pub returns-in_ok-begin_message-in-Ok-clause-unasked : goal.returns-in_ok-begin_message-in-Ok-clause-unasked
+returns-in_ok-begin_message-in-Ok-clause-unasked g c d kept lies none = absurd (asks_for d c.args.policy.now c.args.session.now kept lies c.args.n c.in-Ok.head c.in-Ok.ensures none)

@@ -1,26 +1,32 @@
-use Rattle.std.proofs.Common.{◌≡◌, ◌++◌, ℕ, List, length, sym, ◌∙◌, ap, ap₂, subst, rules, vec_len, Err}
-use Rattle.popline.specs.Replies.{Reply, RemovalFailed, bytes_of}
+use Rattle.std.proofs.Common.{◌≡◌, None, length, sym, ◌∙◌, ap, subst, rules, vec_len, Err}
+use Rattle.popline.specs.Replies.{Reply, RemovalFailed}
 use Rattle.popline.specs.Seen.{reply_seen}
 use Rattle.vault.specs.Changes.{Contents}
 use Rattle.vault.specs.declared.fault.VaultFault.{VaultFault}
 use Rattle.vault.specs.declared.fault.VaultFault.TheVariants as fault
-use Rattle.office.proofs.Quitting.{nothing_removed, store_refused, quit_done, quit_failed, none_left, some_left, cut_back}
+use Rattle.office.proofs.Quitting.{nothing_removed, store_refused, quit_done, quit_failed, none_left, some_left}
+use Rattle.office.specs.Output.{OwesReply}
+use Rattle.office.specs.Sitting.{without_marked}
+use Rattle.office.proofs.Owing.{owes_put}
+use Rattle.office.proofs.Stopping.{removal_left, same_left}
 use Rattle.office.proofs.quit.quit.Goals as goal
 
 pub returns-then-is_empty-clause-done : goal.returns-then-is_empty-clause-done
 returns-then-is_empty-clause-done g c = λ d kept held clean lies.
     let len : vec_len c.in_ok-keys.keys ≡ length c.in_ok-keys.keys.items = search rules in
     let none = none_left c.in_ok-keys.keys.items (vec_len c.in_ok-keys.keys) len (sym c.is_empty.ensures ∙ c.if-is_empty.true) in
-    let said = c.in_ok-put.ensures.ok ∙ ap₂ (λ (xs : List ℕ) (r : Reply). xs ++ bytes_of r) c.reserve.ensures.items c.farewell.ensures in
+    let put = owes_put d None c.reserve.new.self c.say.new.self (reply_seen c.farewell.result) (c.reserve.ensures ∙ c.requires) c.in_ok-say.ensures in
+    let said = subst (λ (r : Reply). OwesReply d None c.say.new.self r) c.farewell.ensures put in
     let same = nothing_removed c.args.policy.now c.args.session.now d (sym c.in_ok-keys.ensures.keys ∙ none) in
-    quit_done d c.args.policy.now c.args.session.now kept lies _ _ _ _ c.in_ok-keys.denied c.in_ok-keys.ensures.rule said
+    quit_done d c.args.policy.now c.args.session.now kept lies _ _ _ c.in_ok-keys.denied c.in_ok-keys.ensures.rule said
     (subst (λ (x : Contents). g.V.Vault.holds c.args.vault.now x) (sym same) held)
 
 pub returns-in-Ok-clause-done : goal.returns-in-Ok-clause-done
 returns-in-Ok-clause-done g c = λ d kept held clean lies.
     let keys = c.deref.ensures.value ∙ c.in_ok-keys.ensures.keys in
-    let said = c.in_ok-put.ensures.ok ∙ ap₂ (λ (xs : List ℕ) (r : Reply). xs ++ bytes_of r) c.reserve.ensures.items c.farewell.ensures in
-    quit_done d c.args.policy.now c.args.session.now kept lies _ _ _ _ c.in_ok-keys.denied c.in_ok-keys.ensures.rule said
+    let put = owes_put d None c.reserve.new.self c.say.new.self (reply_seen c.farewell.result) (c.reserve.ensures ∙ c.requires) c.in_ok-say.ensures in
+    let said = subst (λ (r : Reply). OwesReply d None c.say.new.self r) c.farewell.ensures put in
+    quit_done d c.args.policy.now c.args.session.now kept lies _ _ _ c.in_ok-keys.denied c.in_ok-keys.ensures.rule said
     (rw (c.maildrop.ensures, keys) at (c.in-Ok.ensures.done d held clean).held)
 
 pub returns-clause-done : goal.returns-clause-done
@@ -30,10 +36,8 @@ returns-clause-done g c = λ d kept held clean lies.
     let store = store_refused c.in-Err.field-0 did.answer n in
     let len : vec_len c.in_ok-keys.keys ≡ length c.in_ok-keys.keys.items = search rules in
     let some = some_left c.in_ok-keys.keys.items (vec_len c.in_ok-keys.keys) len (sym c.is_empty.ensures ∙ c.if-is_empty.false) in
-    let at : c.len-before.result ≡ length c.reserve.new.self.items = search rules in
-    let back = cut_back c.reserve.new.self.items c.put.new.out.items (bytes_of (reply_seen c.farewell.result)) c.len-before.result c.in_ok-put.ensures.ok at in
-    let said = c.in_ok-put-in-Err.ensures.ok ∙ ap (λ (xs : List ℕ). xs ++ bytes_of RemovalFailed) (c.truncate.ensures.items ∙ (back ∙ c.reserve.ensures.items)) in
-    quit_failed d c.args.policy.now c.args.session.now kept lies _ _ _ _ said (λ e. some (c.in_ok-keys.ensures.keys ∙ e)) did.held (c.in-Err.ensures.counted.cause (ap (λ (e : VaultFault). Err e) store))
+    let said = owes_put d None c.clear.new.self c.say-in-Err.new.self RemovalFailed c.clear.ensures c.in_ok-say-in-Err.ensures in
+    quit_failed d c.args.policy.now c.args.session.now kept lies _ _ _ said (λ e. some (c.in_ok-keys.ensures.keys ∙ e)) did.held (c.in-Err.ensures.counted.cause (ap (λ (e : VaultFault). Err e) store))
 
 pub returns-in_err-keys-clause-done : goal.returns-in_err-keys-clause-done
 returns-in_err-keys-clause-done g c = search rules
@@ -65,23 +69,59 @@ returns-in_err-reserve-clause-clean g c = search rules
 pub returns-in_err-reserve-clause-unasked : goal.returns-in_err-reserve-clause-unasked
 returns-in_err-reserve-clause-unasked g c = search rules
 
-pub returns-in_err-put-clause-done : goal.returns-in_err-put-clause-done
-returns-in_err-put-clause-done g c = search rules
+pub returns-in_err-say-clause-done : goal.returns-in_err-say-clause-done
+returns-in_err-say-clause-done g c = search rules
 
-pub returns-in_err-put-clause-err : goal.returns-in_err-put-clause-err
-returns-in_err-put-clause-err g c = search rules
+pub returns-in_err-say-clause-err : goal.returns-in_err-say-clause-err
+returns-in_err-say-clause-err g c = search rules
 
-pub returns-in_err-put-clause-counted : goal.returns-in_err-put-clause-counted
-returns-in_err-put-clause-counted g c = search rules
+pub returns-in_err-say-clause-counted : goal.returns-in_err-say-clause-counted
+returns-in_err-say-clause-counted g c = search rules
 
-pub returns-in_err-put-clause-clean : goal.returns-in_err-put-clause-clean
-returns-in_err-put-clause-clean g c = search rules
+pub returns-in_err-say-clause-clean : goal.returns-in_err-say-clause-clean
+returns-in_err-say-clause-clean g c = search rules
 
-pub returns-in_err-put-clause-unasked : goal.returns-in_err-put-clause-unasked
-returns-in_err-put-clause-unasked g c = search rules
+pub returns-in_err-say-clause-unasked : goal.returns-in_err-say-clause-unasked
+returns-in_err-say-clause-unasked g c = search rules
 
-pub returns-in_err-put-in-Err : goal.returns-in_err-put-in-Err
-returns-in_err-put-in-Err g c = search rules
+pub returns-in_err-say-in-Err : goal.returns-in_err-say-in-Err
+returns-in_err-say-in-Err g c = search rules
 
 pub returns-in-Err-NoMemory-clause-err : goal.returns-in-Err-NoMemory-clause-err
 returns-in-Err-NoMemory-clause-err c = search rules
+
+pub returns-in_err-keys-clause-stop : goal.returns-in_err-keys-clause-stop
+returns-in_err-keys-clause-stop g c d held clean up = same_left (without_marked c.args.policy.now c.args.session.now d) (g.met.V.Vault.settled _ d clean up held)
+
+pub returns-in_err-keys-clause-up : goal.returns-in_err-keys-clause-up
+returns-in_err-keys-clause-up g c = search rules
+
+pub returns-in_err-reserve-clause-stop : goal.returns-in_err-reserve-clause-stop
+returns-in_err-reserve-clause-stop g c d held clean up = same_left (without_marked c.args.policy.now c.args.session.now d) (g.met.V.Vault.settled _ d clean up held)
+
+pub returns-in_err-reserve-clause-up : goal.returns-in_err-reserve-clause-up
+returns-in_err-reserve-clause-up g c = search rules
+
+pub returns-in_err-say-clause-stop : goal.returns-in_err-say-clause-stop
+returns-in_err-say-clause-stop g c d held clean up = same_left (without_marked c.args.policy.now c.args.session.now d) (g.met.V.Vault.settled _ d clean up held)
+
+pub returns-in_err-say-clause-up : goal.returns-in_err-say-clause-up
+returns-in_err-say-clause-up g c = search rules
+
+pub returns-then-is_empty-clause-stop : goal.returns-then-is_empty-clause-stop
+returns-then-is_empty-clause-stop g c d held clean up = same_left (without_marked c.args.policy.now c.args.session.now d) (g.met.V.Vault.settled _ d clean up held)
+
+pub returns-in-Ok-clause-stop : goal.returns-in-Ok-clause-stop
+returns-in-Ok-clause-stop g c d held clean up = record {
+  says = λ left may. removal_left left d c.args.policy.now c.args.session.now _ _ c.maildrop.ensures (c.deref.ensures.value ∙ c.in_ok-keys.ensures.keys) (c.in-Ok.ensures.stop d clean up held left may);
+}
+
+pub returns-in-Err-NoMemory-clause-stop : goal.returns-in-Err-NoMemory-clause-stop
+returns-in-Err-NoMemory-clause-stop g c d held clean up = record {
+  says = λ left may. removal_left left d c.args.policy.now c.args.session.now _ _ c.maildrop.ensures (c.deref.ensures.value ∙ c.in_ok-keys.ensures.keys) (c.in-Err-NoMemory.ensures.stop d clean up held left may);
+}
+
+pub returns-clause-stop : goal.returns-clause-stop
+returns-clause-stop g c d held clean up = record {
+  says = λ left may. removal_left left d c.args.policy.now c.args.session.now _ _ c.maildrop.ensures (c.deref.ensures.value ∙ c.in_ok-keys.ensures.keys) (c.in-Err.ensures.stop d clean up held left may);
+}

@@ -1,10 +1,10 @@
-use Rattle.std.proofs.Common.{◌≡◌, inl, inr, false, sym, ◌∙◌, true≢false}
+use Rattle.std.proofs.Common.{◌≡◌, inl, inr, false, not, sym, ap, ◌∙◌, true≢false}
 use Rattle.std.specs.Prelude.{OnErr}
 use Rattle.sqlite.specs.Held.{state}
 use Rattle.mailsql.specs.Rows.{IsKept}
 use Rattle.sqlvault.specs.Adopts.{Adopts, IsKnown, StaysAs}
 use Rattle.sqlvault.specs.Refusals.{answer_of}
-use Rattle.sqlvault.proofs.AdoptLemmas.{outside, kinds_met, blank_of, kept_of, refused_met}
+use Rattle.sqlvault.proofs.AdoptLemmas.{unknown, outside, kinds_met, blank_of, kept_of, refused_met}
 use Rattle.sqlvault.proofs.adopt.settle.Goals as goal
 
 pub returns-clause-adopted : goal.returns-clause-adopted
@@ -123,3 +123,111 @@ returns-in-Ok-clause-adopted g c clean known =
     let none : IsKept s0.now → ⊥ = λ kept. true≢false (sym (c.is_taken.ensures.ours kept.0) ∙ c.if-not-is_taken.true) in
     let made = c.in-Ok.ensures.made clean blank in
     record { autocommit = out; is_open = made.0; blank = λ _. made.1; same = λ kept. absurd (none kept); held = λ kept. absurd (none kept); kept = λ d stored. absurd (none stored.0) }
+
+-- ---- a store that lacks some of our tables
+
+pub returns-then-not-has_columns-clause-adopted : goal.returns-then-not-has_columns-clause-adopted
+returns-then-not-has_columns-clause-adopted g c clean known =
+    let s0 = state g.S.Store c.args.conn.now in
+    let none : IsKnown s0 → ⊥ = unknown s0 c.is_taken.result c.has_columns.result c.is_taken.ensures.none c.has_columns.ensures.ours c.if-not-is_taken.false c.if-not-has_columns.true in
+    absurd (none known)
+
+pub returns-then-not-has_columns-clause-stays : goal.returns-then-not-has_columns-clause-stays
+returns-then-not-has_columns-clause-stays g c clean known =
+    let s0 = state g.S.Store c.args.conn.now in
+    let none : IsKnown s0 → ⊥ = unknown s0 c.is_taken.result c.has_columns.result c.is_taken.ensures.none c.has_columns.ensures.ours c.if-not-is_taken.false c.if-not-has_columns.true in
+    absurd (none known)
+
+pub returns-then-not-has_columns-clause-stop : goal.returns-then-not-has_columns-clause-stop
+returns-then-not-has_columns-clause-stop g c clean known up =
+    let s0 = state g.S.Store c.args.conn.now in
+    let none : IsKnown s0 → ⊥ = unknown s0 c.is_taken.result c.has_columns.result c.is_taken.ensures.none c.has_columns.ensures.ours c.if-not-is_taken.false c.if-not-has_columns.true in
+    absurd (none known)
+
+pub returns-then-not-has_columns-clause-inside : goal.returns-then-not-has_columns-clause-inside
+returns-then-not-has_columns-clause-inside g c inside =
+    absurd (true≢false (sym inside ∙ outside (state g.S.Store c.args.conn.now).in_transaction (sym c.if-not-is_autocommit.false ∙ c.is_autocommit.ensures.value)))
+
+pub returns-then-not-has_columns-clause-taken : goal.returns-then-not-has_columns-clause-taken
+returns-then-not-has_columns-clause-taken g c out taken none =
+    absurd (true≢false (sym c.if-not-has_marks.false ∙ c.has_marks.ensures.value ∙ none))
+
+pub returns-then-not-has_columns-clause-kinds : goal.returns-then-not-has_columns-clause-kinds
+returns-then-not-has_columns-clause-kinds g c =
+    c.carry_marked.ensures.kinds
+
+pub returns-then-not-has_columns-clause-clean : goal.returns-then-not-has_columns-clause-clean
+returns-then-not-has_columns-clause-clean g c clean =
+    c.carry_marked.ensures.clean clean
+
+pub returns-then-not-has_columns-clause-carried : goal.returns-then-not-has_columns-clause-carried
+returns-then-not-has_columns-clause-carried g c clean second out =
+    c.carry_marked.ensures.carried clean second out (c.is_autocommit.ensures.settled c.if-not-is_autocommit.false)
+
+pub returns-then-not-has_columns-clause-carried_stays : goal.returns-then-not-has_columns-clause-carried_stays
+returns-then-not-has_columns-clause-carried_stays g c clean second out =
+    c.carry_marked.ensures.stays clean second out (c.is_autocommit.ensures.settled c.if-not-is_autocommit.false)
+
+pub returns-then-not-has_columns-clause-carried_stop : goal.returns-then-not-has_columns-clause-carried_stop
+returns-then-not-has_columns-clause-carried_stop g c clean second out =
+    c.carry_marked.ensures.stop clean second out (c.is_autocommit.ensures.settled c.if-not-is_autocommit.false)
+
+pub returns-then-not-is_autocommit-clause-carried : goal.returns-then-not-is_autocommit-clause-carried
+returns-then-not-is_autocommit-clause-carried g c clean second out =
+    absurd (true≢false (sym (c.is_autocommit.ensures.value ∙ ap not out) ∙ c.if-not-is_autocommit.true))
+
+pub returns-in-Ok-clause-carried : goal.returns-in-Ok-clause-carried
+returns-in-Ok-clause-carried g c clean second out =
+    absurd (true≢false (sym (c.is_taken.ensures.old second.0.0) ∙ c.if-not-is_taken.true))
+
+pub returns-in-Err-clause-carried : goal.returns-in-Err-clause-carried
+returns-in-Err-clause-carried g c clean second out =
+    absurd (true≢false (sym (c.is_taken.ensures.old second.0.0) ∙ c.if-not-is_taken.true))
+
+pub returns-then-not-has_marks-clause-carried : goal.returns-then-not-has_marks-clause-carried
+returns-then-not-has_marks-clause-carried g c clean second out =
+    absurd (true≢false (sym (c.has_marks.ensures.old second.0.0) ∙ c.if-not-has_marks.true))
+
+pub returns-clause-carried : goal.returns-clause-carried
+returns-clause-carried g c clean second out =
+    absurd (true≢false (sym c.if-not-has_columns.false ∙ c.has_columns.ensures.old second.0.0))
+
+pub returns-then-not-is_autocommit-clause-carried_stays : goal.returns-then-not-is_autocommit-clause-carried_stays
+returns-then-not-is_autocommit-clause-carried_stays g c clean second out =
+    absurd (true≢false (sym (c.is_autocommit.ensures.value ∙ ap not out) ∙ c.if-not-is_autocommit.true))
+
+pub returns-in-Ok-clause-carried_stays : goal.returns-in-Ok-clause-carried_stays
+returns-in-Ok-clause-carried_stays g c clean second out =
+    absurd (true≢false (sym (c.is_taken.ensures.old second.0.0) ∙ c.if-not-is_taken.true))
+
+pub returns-in-Err-clause-carried_stays : goal.returns-in-Err-clause-carried_stays
+returns-in-Err-clause-carried_stays g c clean second out =
+    absurd (true≢false (sym (c.is_taken.ensures.old second.0.0) ∙ c.if-not-is_taken.true))
+
+pub returns-then-not-has_marks-clause-carried_stays : goal.returns-then-not-has_marks-clause-carried_stays
+returns-then-not-has_marks-clause-carried_stays g c clean second out =
+    absurd (true≢false (sym (c.has_marks.ensures.old second.0.0) ∙ c.if-not-has_marks.true))
+
+pub returns-clause-carried_stays : goal.returns-clause-carried_stays
+returns-clause-carried_stays g c clean second out =
+    absurd (true≢false (sym c.if-not-has_columns.false ∙ c.has_columns.ensures.old second.0.0))
+
+pub returns-then-not-is_autocommit-clause-carried_stop : goal.returns-then-not-is_autocommit-clause-carried_stop
+returns-then-not-is_autocommit-clause-carried_stop g c clean second out =
+    absurd (true≢false (sym (c.is_autocommit.ensures.value ∙ ap not out) ∙ c.if-not-is_autocommit.true))
+
+pub returns-in-Ok-clause-carried_stop : goal.returns-in-Ok-clause-carried_stop
+returns-in-Ok-clause-carried_stop g c clean second out =
+    absurd (true≢false (sym (c.is_taken.ensures.old second.0.0) ∙ c.if-not-is_taken.true))
+
+pub returns-in-Err-clause-carried_stop : goal.returns-in-Err-clause-carried_stop
+returns-in-Err-clause-carried_stop g c clean second out =
+    absurd (true≢false (sym (c.is_taken.ensures.old second.0.0) ∙ c.if-not-is_taken.true))
+
+pub returns-then-not-has_marks-clause-carried_stop : goal.returns-then-not-has_marks-clause-carried_stop
+returns-then-not-has_marks-clause-carried_stop g c clean second out =
+    absurd (true≢false (sym (c.has_marks.ensures.old second.0.0) ∙ c.if-not-has_marks.true))
+
+pub returns-clause-carried_stop : goal.returns-clause-carried_stop
+returns-clause-carried_stop g c clean second out =
+    absurd (true≢false (sym c.if-not-has_columns.false ∙ c.has_columns.ensures.old second.0.0))

@@ -1,11 +1,11 @@
-use Rattle.std.proofs.Common.{◌∙◌, rules}
+use Rattle.std.proofs.Common.{◌∙◌}
 use Rattle.sqlite.specs.Held.{state}
 use Rattle.sqlite.specs.State.{HasCleanDisk, IsUnchanged}
 use Rattle.vault.specs.Changes.{kept_in}
 use Rattle.mailsql.specs.Rows.{rows_in}
 use Rattle.sqlvault.specs.Stands.{Holds}
 use Rattle.sqlvault.proofs.HoldsLemmas.{seen, has_tables, holds_unchanged, holds_undone, refused}
-use Rattle.sqlvault.proofs.HeadLemmas.{have_rows, name_there, shown_heads, unread_heads}
+use Rattle.sqlvault.proofs.HeadLemmas.{have_rows, name_there, no_maildrop, shown_heads, unread_heads}
 use Rattle.sqlvault.proofs.StopLemmas.{looked, not_own}
 use Rattle.sqlvault.proofs.StayLemmas.{clean_before}
 use Rattle.sqlvault.proofs.mail.heads.Goals as goal
@@ -150,7 +150,13 @@ pub returns-in-Err-heads-clause-up : goal.returns-in-Err-heads-clause-up
 returns-in-Err-heads-clause-up g c k clean2 up0 h0 own = absurd (not_own (Unit {0}) c.in-Err-heads.error own)
 
 pub returns-in-Ok-false-clause-done : goal.returns-in-Ok-false-clause-done
-returns-in-Ok-false-clause-done g c = search rules
+returns-in-Ok-false-clause-done g c base clean1 h =
+    let s0 = state g.S.Store c.args.conn.now in
+    let s1 = state g.S.Store c.has_maildrop.new.conn in
+    let same1 : IsUnchanged s0 s1 = c.in-Ok-false.ensures.same clean1 (has_tables s0 base h) in
+    let d = c.args.maildrop.now in
+    let there = name_there d base (rows_in s0.now.trees) _ (seen s0 s1 base same1 h) (rw c.as_bytes.ensures.value at (c.in-Ok-false.ensures.ok clean1 (has_tables s0 base h))) in
+    no_maildrop (Holds s1) d base (there ∙ c.in-Ok-false.field-0-test) (holds_unchanged s0 s1 base same1 h)
 
 pub returns-in-Err-clause-done : goal.returns-in-Err-clause-done
 returns-in-Err-clause-done g c held clean1 h =

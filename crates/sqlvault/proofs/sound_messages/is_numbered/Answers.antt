@@ -2,7 +2,7 @@ use Rattle.std.proofs.Common.{◌<ℤ◌, arith, rules}
 use Rattle.std.proofs.lemmas.Int.{ints, to_z-of_z}
 use Rattle.sqlite.specs.Held.{state}
 use Rattle.mailsql.specs.Rows.{rows_in}
-use Rattle.sqlvault.proofs.StoredLemmas.{count_told, not_counted}
+use Rattle.sqlvault.proofs.StoredLemmas.{count_told, not_counted, none_told, not_numbered}
 use Rattle.sqlvault.proofs.StayLemmas.{clean_before, stays_unchanged, asked, stays_or_back}
 use Rattle.sqlvault.proofs.sound_messages.is_numbered.Goals as goal
 
@@ -66,6 +66,12 @@ returns-else-row-count-clause-stop g c clean1 ready =
     let s0 = state g.S.Store c.args.conn.now in
     let s1 = state g.S.Store c.find_count.new.conn in
     asked s0 s1 clean1 c.find_count.ensures.survives ready
+
+pub returns-in-Ok-None-clause-judged : goal.returns-in-Ok-None-clause-judged
+returns-in-Ok-None-clause-judged g c deposits clean h d =
+    let s0 = state g.S.Store c.args.conn.now in
+    let told = none_told (rows_in s0.now.trees) deposits c.args.row.now c.as_slice.result.now c.as_slice-2.result.now c.in-Ok-None.field-0 d c.as_slice.ensures c.as_slice-2.ensures (c.in-Ok-None.ensures.ok clean h) c.in-Ok-None.field-0-is in
+    λ k n. not_numbered deposits c.args.row.now k told n
 
 pub returns-in-Ok-None-clause-clean : goal.returns-in-Ok-None-clause-clean
 returns-in-Ok-None-clause-clean g c clean1 =

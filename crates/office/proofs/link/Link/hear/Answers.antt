@@ -1,12 +1,12 @@
-use Rattle.std.proofs.Common.{◌≡◌, true, refl, ◌-◌, ◌++◌, [], drop, take, take_all, length, length-drop, arith, sym, ◌∙◌, ap, rules, string_bytes, subst}
+use Rattle.std.proofs.Common.{◌≡◌, true, refl, ◌-◌, ◌++◌, [], drop, take, take_all, length, length-drop, arith, sym, ◌∙◌, ap, rules, string_bytes, subst, false}
 use Rattle.popline.specs.Cutting.{fed, through_newline}
-use Rattle.popline.specs.Replies.{bytes_of}
+use Rattle.office.specs.Output.{OwesIf, OwesReply}
 use Rattle.popline.specs.Seen.{cut_seen}
 use Rattle.office.specs.Connections.{reading}
 use Rattle.office.specs.Kept.{Kept, Desk, talk_after, asks, line_after}
 use Rattle.office.specs.Answered.{judged_at, reply_of, IsSeated, Becomes, BecomesIf}
 use Rattle.office.specs.declared.talk.Acted.TheVariants as acted
-use Rattle.office.proofs.Keeping.{line_clocked, has_line, is_line, none_whole, none_clocked, none_left, lines_stay}
+use Rattle.office.proofs.Keeping.{line_clocked, has_line, is_line, none_whole, none_clocked, none_left, no_line, lines_stay}
 use Rattle.office.proofs.link.Link.hear.Goals as goal
 
 pub returns-clause-ok : goal.returns-clause-ok
@@ -23,17 +23,35 @@ returns-clause-ok g c d s held clean sits =
     let talking : c.self.inside.talk ≡ k.talk = ap (λ (k : Kept). k.talk) v in
     let over : judged_at d c.args.policy.now c.as_bytes.result.now c.args.locks.now ≡ desk = ap (λ s. judged_at d c.args.policy.now s c.args.locks.now) stamped in
     let seat : IsSeated d c.self.inside.session s = subst (λ o. IsSeated d o s) (sym (ap (λ (k : Kept). k.session) v)) sits in
-    let given = c.in_ok-acted.ensures.owed d s held clean seat in
     let after = c.in_ok-acted.ensures.talk d s held clean seat in
-    let said : c.answer.new.owed.items ≡ bytes_of (reply_of w desk k.talk s x) = rw (over, talking, c.clear.ensures.items) at given in
     let next : c.answer.new.talk ≡ talk_after x (reply_of w desk k.talk s x) k.talk = rw (over, talking) at after in
-    let owed : c.answer.new.owed.items ≡ k.owed ++ bytes_of (reply_of w desk k.talk s x) = rw c.requires.0 said in
     let n = c.feed-n.result in
     let slice : take (length p.now - n) (drop n p.now) ≡ drop n p.now = take_all (length p.now - n) (drop n p.now) (omega (arith, length-drop n p.now)) in
     let grown : c.extend_from_slice.new.self.items ≡ take (length p.now - n) (drop n p.now) = search rules in
     let behind : c.extend_from_slice.new.self.items ≡ drop n p.now = grown ∙ slice in
     let rest : c.extend_from_slice.new.self.items ≡ drop (through_newline p.now) p.now = rw (sym f.taken) behind in
-    line_clocked k c.feed-n.new.self p.now x fed_is c.in-Some.ensures c.args.now (λ y. reply_of w desk k.talk s y) c.extend_from_slice.new.self.items c.answer.new.owed.items c.answer.new.talk (string_bytes c.self.inside.stamp) c.answer.new.session (ap (λ (k : Kept). k.stamp) v) rest owed next
+    line_clocked k c.feed-n.new.self p.now x fed_is c.in-Some.ensures c.args.now (λ y. reply_of w desk k.talk s y) c.extend_from_slice.new.self.items c.answer.new.output c.answer.new.talk (string_bytes c.self.inside.stamp) c.answer.new.session (ap (λ (k : Kept). k.stamp) v) rest next
+
+pub returns-clause-owes : goal.returns-clause-owes
+returns-clause-owes g c d s held clean sits =
+    let f = c.feed-n.ensures in
+    let v = c.self.view_is in
+    let p = c.args.piece.now in
+    let k : Kept = c.args.self.now in
+    let x = cut_seen c.in-Some.cut in
+    let w = c.in_ok-acted.acted in
+    let fed_is = f.held ∙ ap (λ (k : Kept). fed k.held p) v in
+    let desk : Desk = judged_at d c.args.policy.now k.stamp c.args.locks.now in
+    let stamped : c.as_bytes.result.now ≡ k.stamp = c.as_bytes.ensures.value ∙ ap (λ (k : Kept). k.stamp) v in
+    let talking : c.self.inside.talk ≡ k.talk = ap (λ (k : Kept). k.talk) v in
+    let over : judged_at d c.args.policy.now c.as_bytes.result.now c.args.locks.now ≡ desk = ap (λ s. judged_at d c.args.policy.now s c.args.locks.now) stamped in
+    let seat : IsSeated d c.self.inside.session s = subst (λ o. IsSeated d o s) (sym (ap (λ (k : Kept). k.session) v)) sits in
+    let said = c.in_ok-acted.ensures.owed d s held clean seat in
+    let so : OwesReply d c.answer.new.session c.answer.new.output (reply_of w desk k.talk s x) = rw (over, talking) at said in
+    let there = has_line k c.feed-n.new.self p x fed_is c.in-Some.ensures in
+    let same = is_line k c.feed-n.new.self p x fed_is c.in-Some.ensures in
+    subst (λ b. OwesIf b d c.answer.new.session c.answer.new.output (reply_of w desk k.talk s (line_after k p))) (sym there)
+    (subst (λ y. OwesReply d c.answer.new.session c.answer.new.output (reply_of w desk k.talk s y)) same so)
 
 pub returns-clause-session : goal.returns-clause-session
 returns-clause-session g c d s held clean sits =
@@ -81,7 +99,17 @@ returns-in_default-clause-ok g c d s held clean sits =
     let fed_is = f.held ∙ ap (λ (k : Kept). fed k.held p) v in
     let none : drop n p ≡ [] = none_left n p (f.all (none_whole k c.feed-n.new.self p fed_is c.in_default.ensures)) in
     let rest = c.clear-2.ensures.items ∙ (sym none ∙ ap (λ m. drop m p) f.taken) in
-    none_clocked k c.feed-n.new.self p fed_is c.in_default.ensures c.args.now (reply_of acted.Done (judged_at d c.args.policy.now k.stamp c.args.locks.now) k.talk s (line_after k p)) c.clear-2.new.self.items c.clear.new.self.items c.self.inside.talk (string_bytes c.self.inside.stamp) c.self.inside.session c.self.inside.clock (ap (λ (k : Kept). k.stamp) v) (ap (λ (k : Kept). k.clock) v) rest (c.clear.ensures.items ∙ sym c.requires.0) (ap (λ (k : Kept). k.talk) v)
+    none_clocked k c.feed-n.new.self p fed_is c.in_default.ensures c.args.now (reply_of acted.Done (judged_at d c.args.policy.now k.stamp c.args.locks.now) k.talk s (line_after k p)) c.clear-2.new.self.items c.clear.new.self c.self.inside.talk (string_bytes c.self.inside.stamp) c.self.inside.session c.self.inside.clock (ap (λ (k : Kept). k.stamp) v) (ap (λ (k : Kept). k.clock) v) rest (ap (λ (k : Kept). k.talk) v)
+
+pub returns-in_default-clause-owes : goal.returns-in_default-clause-owes
+returns-in_default-clause-owes g c d s held clean sits =
+    let f = c.feed-n.ensures in
+    let v = c.self.view_is in
+    let p = c.args.piece.now in
+    let k : Kept = c.args.self.now in
+    let n = c.feed-n.result in
+    let fed_is = f.held ∙ ap (λ (k : Kept). fed k.held p) v in
+    subst (λ b. OwesIf b d c.self.inside.session c.clear.new.self (reply_of acted.Done (judged_at d c.args.policy.now k.stamp c.args.locks.now) k.talk s (line_after k p))) (sym (no_line k c.feed-n.new.self p fed_is c.in_default.ensures)) c.clear.ensures
 
 pub returns-in_default-clause-lines : goal.returns-in_default-clause-lines
 returns-in_default-clause-lines g c more =
@@ -176,3 +204,36 @@ returns-in_err-acted-clause-counted g c = search rules
 
 pub returns-in_err-acted-clause-clean : goal.returns-in_err-acted-clause-clean
 returns-in_err-acted-clause-clean g c = search rules
+
+pub returns-clause-unasked : goal.returns-clause-unasked
+returns-clause-unasked g c d s sits none =
+    let f = c.feed-n.ensures in
+    let v = c.self.view_is in
+    let p = c.args.piece.now in
+    let k : Kept = c.args.self.now in
+    let x = cut_seen c.in-Some.cut in
+    let fed_is = f.held ∙ ap (λ (k : Kept). fed k.held p) v in
+    let talking : c.self.inside.talk ≡ k.talk = ap (λ (k : Kept). k.talk) v in
+    let seat : IsSeated d c.self.inside.session s = subst (λ o. IsSeated d o s) (sym (ap (λ (k : Kept). k.session) v)) sits in
+    let there = none (has_line k c.feed-n.new.self p x fed_is c.in-Some.ensures) in
+    let so : asks c.args.policy.now k.talk s (reading x) ≡ false =
+    subst (λ y. asks c.args.policy.now k.talk s (reading y) ≡ false) (sym (is_line k c.feed-n.new.self p x fed_is c.in-Some.ensures)) there in
+    c.answer.ensures.unasked d s seat (subst (λ t. asks c.args.policy.now t s (reading x) ≡ false) (sym talking) so)
+
+pub returns-in_err-acted-clause-unasked : goal.returns-in_err-acted-clause-unasked
+returns-in_err-acted-clause-unasked g c d s sits none =
+    let f = c.feed-n.ensures in
+    let v = c.self.view_is in
+    let p = c.args.piece.now in
+    let k : Kept = c.args.self.now in
+    let x = cut_seen c.in-Some.cut in
+    let fed_is = f.held ∙ ap (λ (k : Kept). fed k.held p) v in
+    let talking : c.self.inside.talk ≡ k.talk = ap (λ (k : Kept). k.talk) v in
+    let seat : IsSeated d c.self.inside.session s = subst (λ o. IsSeated d o s) (sym (ap (λ (k : Kept). k.session) v)) sits in
+    let there = none (has_line k c.feed-n.new.self p x fed_is c.in-Some.ensures) in
+    let so : asks c.args.policy.now k.talk s (reading x) ≡ false =
+    subst (λ y. asks c.args.policy.now k.talk s (reading y) ≡ false) (sym (is_line k c.feed-n.new.self p x fed_is c.in-Some.ensures)) there in
+    c.answer.ensures.unasked d s seat (subst (λ t. asks c.args.policy.now t s (reading x) ≡ false) (sym talking) so)
+
+pub returns-in_err-acted-clause-owes : goal.returns-in_err-acted-clause-owes
+returns-in_err-acted-clause-owes g c = search rules

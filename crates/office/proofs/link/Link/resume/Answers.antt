@@ -1,12 +1,12 @@
-use Rattle.std.proofs.Common.{◌≡◌, ◌+◌, ◌-◌, ◌≤◌, ◌++◌, true, drop, drop-drop, take, take_all, length, length-drop, arith, sym, ◌∙◌, ap, string_bytes, subst, rules}
+use Rattle.std.proofs.Common.{◌≡◌, ◌+◌, ◌-◌, ◌≤◌, ◌++◌, true, drop, drop-drop, take, take_all, length, length-drop, arith, sym, ◌∙◌, ap, string_bytes, subst, rules, false}
 use Rattle.popline.specs.Cutting.{fed, through_newline}
-use Rattle.popline.specs.Replies.{bytes_of}
+use Rattle.office.specs.Output.{OwesIf, OwesReply}
 use Rattle.popline.specs.Seen.{cut_seen}
 use Rattle.office.specs.Connections.{reading}
 use Rattle.office.specs.Kept.{Kept, Desk, talk_after, asks, line_after}
 use Rattle.office.specs.Answered.{judged_at, reply_of, IsSeated, Becomes, BecomesIf}
 use Rattle.office.specs.declared.talk.Acted.TheVariants as acted
-use Rattle.office.proofs.Keeping.{line_answered, has_line, is_line, none_answered, lines_stay}
+use Rattle.office.proofs.Keeping.{line_answered, has_line, is_line, none_answered, no_line, lines_stay}
 use Rattle.office.proofs.link.Link.resume.Goals as goal
 
 pub returns-clause-ok : goal.returns-clause-ok
@@ -22,11 +22,8 @@ returns-clause-ok g c d s held clean sits =
     let talking : c.self.inside.talk ≡ k.talk = ap (λ (k : Kept). k.talk) v in
     let over : judged_at d c.args.policy.now c.as_bytes.result.now c.args.locks.now ≡ desk = ap (λ s. judged_at d c.args.policy.now s c.args.locks.now) stamped in
     let seat : IsSeated d c.self.inside.session s = subst (λ o. IsSeated d o s) (sym (ap (λ (k : Kept). k.session) v)) sits in
-    let given = c.in_ok-acted.ensures.owed d s held clean seat in
     let after = c.in_ok-acted.ensures.talk d s held clean seat in
-    let said : c.answer.new.owed.items ≡ bytes_of (reply_of w desk k.talk s x) = rw (over, talking, c.clear.ensures.items) at given in
     let next : c.answer.new.talk ≡ talk_after x (reply_of w desk k.talk s x) k.talk = rw (over, talking) at after in
-    let owed : c.answer.new.owed.items ≡ k.owed ++ bytes_of (reply_of w desk k.talk s x) = rw c.requires said in
     let cut = c.self.inside.cut in
     let octets = c.self.inside.pending.items in
     let left : drop cut octets ≡ p = ap (λ (k : Kept). k.pending) v in
@@ -38,7 +35,35 @@ returns-clause-ok g c d s held clean sits =
     let rest : drop (cut + n) octets ≡ drop (through_newline p) p =
     sym (drop-drop n cut octets) ∙ (ap (drop n) left ∙ ap (λ m. drop m p) (f.taken ∙ ap through_newline given)) in
     let fed_is = f.held ∙ (ap (λ (k : Kept). fed k.held (take (length c.deref.result.now - cut) (drop cut c.deref.result.now))) v ∙ ap (fed k.held) given) in
-    line_answered k c.feed.new.self p x fed_is c.in-Some.ensures (λ y. reply_of w desk k.talk s y) (drop (cut + n) octets) c.answer.new.owed.items c.answer.new.talk (string_bytes c.self.inside.stamp) c.answer.new.session c.self.inside.clock (ap (λ (k : Kept). k.stamp) v) (ap (λ (k : Kept). k.clock) v) rest owed next
+    line_answered k c.feed.new.self p x fed_is c.in-Some.ensures (λ y. reply_of w desk k.talk s y) (drop (cut + n) octets) c.answer.new.output c.answer.new.talk (string_bytes c.self.inside.stamp) c.answer.new.session c.self.inside.clock (ap (λ (k : Kept). k.stamp) v) (ap (λ (k : Kept). k.clock) v) rest next
+
+pub returns-clause-owes : goal.returns-clause-owes
+returns-clause-owes g c d s held clean sits =
+    let f = c.feed.ensures in
+    let v = c.self.view_is in
+    let k : Kept = c.args.self.now in
+    let p = k.pending in
+    let x = cut_seen c.in-Some.cut in
+    let w = c.in_ok-acted.acted in
+    let desk : Desk = judged_at d c.args.policy.now k.stamp c.args.locks.now in
+    let stamped : c.as_bytes.result.now ≡ k.stamp = c.as_bytes.ensures.value ∙ ap (λ (k : Kept). k.stamp) v in
+    let talking : c.self.inside.talk ≡ k.talk = ap (λ (k : Kept). k.talk) v in
+    let over : judged_at d c.args.policy.now c.as_bytes.result.now c.args.locks.now ≡ desk = ap (λ s. judged_at d c.args.policy.now s c.args.locks.now) stamped in
+    let seat : IsSeated d c.self.inside.session s = subst (λ o. IsSeated d o s) (sym (ap (λ (k : Kept). k.session) v)) sits in
+    let said = c.in_ok-acted.ensures.owed d s held clean seat in
+    let so : OwesReply d c.answer.new.session c.answer.new.output (reply_of w desk k.talk s x) = rw (over, talking) at said in
+    let cut = c.self.inside.cut in
+    let octets = c.self.inside.pending.items in
+    let left : drop cut octets ≡ p = ap (λ (k : Kept). k.pending) v in
+    let all : c.deref.result.now ≡ octets = c.deref.ensures.value in
+    let fits : length (drop cut c.deref.result.now) ≤ length c.deref.result.now - cut = omega (arith, length-drop cut c.deref.result.now) in
+    let given : take (length c.deref.result.now - cut) (drop cut c.deref.result.now) ≡ p =
+    take_all (length c.deref.result.now - cut) (drop cut c.deref.result.now) fits ∙ (ap (drop cut) all ∙ left) in
+    let fed_is = f.held ∙ (ap (λ (k : Kept). fed k.held (take (length c.deref.result.now - cut) (drop cut c.deref.result.now))) v ∙ ap (fed k.held) given) in
+    let there = has_line k c.feed.new.self p x fed_is c.in-Some.ensures in
+    let same = is_line k c.feed.new.self p x fed_is c.in-Some.ensures in
+    subst (λ b. OwesIf b d c.answer.new.session c.answer.new.output (reply_of w desk k.talk s (line_after k p))) (sym there)
+    (subst (λ y. OwesReply d c.answer.new.session c.answer.new.output (reply_of w desk k.talk s y)) same so)
 
 pub returns-clause-session : goal.returns-clause-session
 returns-clause-session g c d s held clean sits =
@@ -141,7 +166,24 @@ returns-in_default-clause-ok g c d s held clean sits =
     let rest : drop (cut + n) octets ≡ drop (through_newline p) p =
     sym (drop-drop n cut octets) ∙ (ap (drop n) left ∙ ap (λ m. drop m p) (f.taken ∙ ap through_newline given)) in
     let fed_is = f.held ∙ (ap (λ (k : Kept). fed k.held piece) v ∙ ap (fed k.held) given) in
-    none_answered k c.feed.new.self p fed_is c.in_default.ensures (reply_of acted.Done (judged_at d c.args.policy.now k.stamp c.args.locks.now) k.talk s (line_after k p)) (drop (cut + n) octets) c.clear.new.self.items c.self.inside.talk (string_bytes c.self.inside.stamp) c.self.inside.session c.self.inside.clock (ap (λ (k : Kept). k.stamp) v) (ap (λ (k : Kept). k.clock) v) rest (c.clear.ensures.items ∙ sym c.requires) (ap (λ (k : Kept). k.talk) v)
+    none_answered k c.feed.new.self p fed_is c.in_default.ensures (reply_of acted.Done (judged_at d c.args.policy.now k.stamp c.args.locks.now) k.talk s (line_after k p)) (drop (cut + n) octets) c.clear.new.self c.self.inside.talk (string_bytes c.self.inside.stamp) c.self.inside.session c.self.inside.clock (ap (λ (k : Kept). k.stamp) v) (ap (λ (k : Kept). k.clock) v) rest (ap (λ (k : Kept). k.talk) v)
+
+pub returns-in_default-clause-owes : goal.returns-in_default-clause-owes
+returns-in_default-clause-owes g c d s held clean sits =
+    let f = c.feed.ensures in
+    let v = c.self.view_is in
+    let k : Kept = c.args.self.now in
+    let p = k.pending in
+    let cut = c.self.inside.cut in
+    let octets = c.self.inside.pending.items in
+    let left : drop cut octets ≡ p = ap (λ (k : Kept). k.pending) v in
+    let n = c.feed.result in
+    let all : c.deref.result.now ≡ octets = c.deref.ensures.value in
+    let fits : length (drop cut c.deref.result.now) ≤ length c.deref.result.now - cut = omega (arith, length-drop cut c.deref.result.now) in
+    let piece = take (length c.deref.result.now - cut) (drop cut c.deref.result.now) in
+    let given : piece ≡ p = take_all (length c.deref.result.now - cut) (drop cut c.deref.result.now) fits ∙ (ap (drop cut) all ∙ left) in
+    let fed_is = f.held ∙ (ap (λ (k : Kept). fed k.held piece) v ∙ ap (fed k.held) given) in
+    subst (λ b. OwesIf b d c.self.inside.session c.clear.new.self (reply_of acted.Done (judged_at d c.args.policy.now k.stamp c.args.locks.now) k.talk s (line_after k p))) (sym (no_line k c.feed.new.self p fed_is c.in_default.ensures)) c.clear.ensures
 
 pub returns-in_err-acted-clause-ok : goal.returns-in_err-acted-clause-ok
 returns-in_err-acted-clause-ok g c = search rules
@@ -175,3 +217,50 @@ returns-in_err-acted-clause-counted g c = search rules
 
 pub returns-in_err-acted-clause-clean : goal.returns-in_err-acted-clause-clean
 returns-in_err-acted-clause-clean g c = search rules
+
+pub returns-clause-unasked : goal.returns-clause-unasked
+returns-clause-unasked g c d s sits none =
+    let f = c.feed.ensures in
+    let v = c.self.view_is in
+    let k : Kept = c.args.self.now in
+    let p = k.pending in
+    let x = cut_seen c.in-Some.cut in
+    let talking : c.self.inside.talk ≡ k.talk = ap (λ (k : Kept). k.talk) v in
+    let seat : IsSeated d c.self.inside.session s = subst (λ o. IsSeated d o s) (sym (ap (λ (k : Kept). k.session) v)) sits in
+    let cut = c.self.inside.cut in
+    let octets = c.self.inside.pending.items in
+    let left : drop cut octets ≡ p = ap (λ (k : Kept). k.pending) v in
+    let all : c.deref.result.now ≡ octets = c.deref.ensures.value in
+    let fits : length (drop cut c.deref.result.now) ≤ length c.deref.result.now - cut = omega (arith, length-drop cut c.deref.result.now) in
+    let given : take (length c.deref.result.now - cut) (drop cut c.deref.result.now) ≡ p =
+    take_all (length c.deref.result.now - cut) (drop cut c.deref.result.now) fits ∙ (ap (drop cut) all ∙ left) in
+    let fed_is = f.held ∙ (ap (λ (k : Kept). fed k.held (take (length c.deref.result.now - cut) (drop cut c.deref.result.now))) v ∙ ap (fed k.held) given) in
+    let there = none (has_line k c.feed.new.self p x fed_is c.in-Some.ensures) in
+    let so : asks c.args.policy.now k.talk s (reading x) ≡ false =
+    subst (λ y. asks c.args.policy.now k.talk s (reading y) ≡ false) (sym (is_line k c.feed.new.self p x fed_is c.in-Some.ensures)) there in
+    c.answer.ensures.unasked d s seat (subst (λ t. asks c.args.policy.now t s (reading x) ≡ false) (sym talking) so)
+
+pub returns-in_err-acted-clause-unasked : goal.returns-in_err-acted-clause-unasked
+returns-in_err-acted-clause-unasked g c d s sits none =
+    let f = c.feed.ensures in
+    let v = c.self.view_is in
+    let k : Kept = c.args.self.now in
+    let p = k.pending in
+    let x = cut_seen c.in-Some.cut in
+    let talking : c.self.inside.talk ≡ k.talk = ap (λ (k : Kept). k.talk) v in
+    let seat : IsSeated d c.self.inside.session s = subst (λ o. IsSeated d o s) (sym (ap (λ (k : Kept). k.session) v)) sits in
+    let cut = c.self.inside.cut in
+    let octets = c.self.inside.pending.items in
+    let left : drop cut octets ≡ p = ap (λ (k : Kept). k.pending) v in
+    let all : c.deref.result.now ≡ octets = c.deref.ensures.value in
+    let fits : length (drop cut c.deref.result.now) ≤ length c.deref.result.now - cut = omega (arith, length-drop cut c.deref.result.now) in
+    let given : take (length c.deref.result.now - cut) (drop cut c.deref.result.now) ≡ p =
+    take_all (length c.deref.result.now - cut) (drop cut c.deref.result.now) fits ∙ (ap (drop cut) all ∙ left) in
+    let fed_is = f.held ∙ (ap (λ (k : Kept). fed k.held (take (length c.deref.result.now - cut) (drop cut c.deref.result.now))) v ∙ ap (fed k.held) given) in
+    let there = none (has_line k c.feed.new.self p x fed_is c.in-Some.ensures) in
+    let so : asks c.args.policy.now k.talk s (reading x) ≡ false =
+    subst (λ y. asks c.args.policy.now k.talk s (reading y) ≡ false) (sym (is_line k c.feed.new.self p x fed_is c.in-Some.ensures)) there in
+    c.answer.ensures.unasked d s seat (subst (λ t. asks c.args.policy.now t s (reading x) ≡ false) (sym talking) so)
+
+pub returns-in_err-acted-clause-owes : goal.returns-in_err-acted-clause-owes
+returns-in_err-acted-clause-owes g c = search rules

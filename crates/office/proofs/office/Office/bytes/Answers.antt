@@ -1,22 +1,28 @@
-use Rattle.std.proofs.Common.{◌≡◌, ◌≤◌, [], length, Some, sym, ◌∙◌, nat_cmp, subst, rules, refl, ap, arith}
+use Rattle.std.proofs.Common.{◌≡◌, ◌≤◌, true, false, length, Some, sym, ◌∙◌, nat_cmp, subst, rules, refl, ap, arith}
 use Rattle.std.proofs.lemmas.Grind.{common_steps}
 use Rattle.std.specs.BTreeMap.{get}
 use Rattle.vault.specs.Changes.{AreSound}
 use Rattle.office.specs.Events.{Bytes, Tagged, given}
-use Rattle.office.specs.History.{NoMemory}
-use Rattle.office.specs.Trace.{acts}
+use Rattle.office.specs.History.{Done, NoMemory}
+use Rattle.office.specs.Replying.{is_empty}
+use Rattle.office.specs.Trace.{acts, is_open}
 use Rattle.office.specs.Locks.{Released}
 use Rattle.office.specs.Expected.{most_in_a_piece}
-use Rattle.office.specs.Kept.{Kept, clocked}
-use Rattle.office.specs.Answered.{tag_of}
-use Rattle.office.specs.Stands.{Matches, IsKeptFor, seen, lent_by}
-use Rattle.office.proofs.Events.{moved, marked, seen-bytes_other, whole-bytes, is_apart, line_cause, next_there, awaits_bytes, records-bytes_lacking, over-bytes, bytes_goes}
+use Rattle.office.specs.Output.{nothing_owed}
+use Rattle.office.specs.Kept.{Kept, clocked, line_after}
+use Rattle.office.specs.Answered.{tag_of, judged_at}
+use Rattle.office.specs.Stands.{Matches, IsKeptFor, seen, untaken_of, lent_by}
+use Rattle.office.proofs.Events.{moved, marked, seen-bytes_other, whole-bytes, is_apart, line_cause, next_there, awaits_bytes, records-bytes_lacking, over-bytes, bytes_goes, records-bytes_line, records-bytes_part}
 use Rattle.office.proofs.Hearing.{streamed}
 use Rattle.office.proofs.Locking.{holds_by}
 use Rattle.office.proofs.Coming.{released, nothing_stands, ignored_event, put_back}
 use Rattle.office.specs.declared.talk.Acted.TheVariants as acted
-use Rattle.office.proofs.Keeping.{found_empty}
+use Rattle.office.proofs.Owing.{none_owed, some_owed}
 use Rattle.office.proofs.PieceDone.{judged, piece_moves, piece_answered}
+use Rattle.office.specs.Outcomes as outcome
+use Rattle.office.proofs.Stopping.{stop_leaves, settled_leaves, unasked_stops}
+use Rattle.office.proofs.StoppingLines.{line_left, line_answered}
+use Rattle.office.proofs.Unasked.{piece_asks_none}
 use Rattle.office.proofs.office.Office.bytes.Goals as goal
 
 pub returns-in-Ok-clause-stands : goal.returns-in-Ok-clause-stands
@@ -30,8 +36,7 @@ returns-in-Ok-clause-stands g c T st clean =
     let ct = st.keeps.contents in
     let found : get nat_cmp o.links n ≡ Some k = sym c.in-Some.ensures.value in
     let m : Matches ct (seen T n) k = subst (IsKeptFor ct (seen T n)) found (st.links n) in
-    let shown : c.owed.result.now ≡ [] = found_empty c.is_empty.result c.owed.result.now c.if-not-is_empty.false c.is_empty.ensures in
-    let nothing : k.owed ≡ [] = sym c.owed.ensures ∙ shown in
+    let nothing : k.output ≡ nothing_owed = c.owes_nothing.ensures.nothing c.if-not-owes_nothing.false in
     let fits : length p ≤ most_in_a_piece = search rules in
     let updates = (c.get_mut.follows.holds k').3 (search rules) in
     let kept : get nat_cmp (c.get_mut.follows.lender k') n ≡ Some k' = updates.1 in
@@ -43,7 +48,7 @@ returns-in-Ok-clause-stands g c T st clean =
     let became = does.session ct j.sitting st.keeps.held clean j.seated in
     moved g.V.Vault.holds o _ T (Bytes n p) _ (tag_of w) n (marked w _ c.shown.ensures) st refl refl refl refl refl refl (whole-bytes T n p (tag_of w)) refl refl
     (rw found refl) (λ q e. seen-bytes_other T n p q (tag_of w) e) (λ q ne. updates.2 q (is_apart n q ne))
-    (piece_moves T n p st.keeps sound o.policy st.policy o.locks st.locks o.moment st.moment k m nothing fits w k' _ may is does.lines became does.locks g.V.Vault.holds o _ kept refl
+    (piece_moves T n p st.keeps sound o.policy st.policy o.locks st.locks o.moment st.moment k m nothing fits w k' _ may is does.lines became does.locks (does.owes ct j.sitting st.keeps.held clean j.seated) g.V.Vault.holds o _ kept refl
     (does.held ct j.sitting st.keeps.held clean j.seated))
 
 pub returns-in-Ok-clause-outcome : goal.returns-in-Ok-clause-outcome
@@ -57,8 +62,7 @@ returns-in-Ok-clause-outcome g c T st clean =
     let ct = st.keeps.contents in
     let found : get nat_cmp o.links n ≡ Some k = sym c.in-Some.ensures.value in
     let m : Matches ct (seen T n) k = subst (IsKeptFor ct (seen T n)) found (st.links n) in
-    let shown : c.owed.result.now ≡ [] = found_empty c.is_empty.result c.owed.result.now c.if-not-is_empty.false c.is_empty.ensures in
-    let nothing : k.owed ≡ [] = sym c.owed.ensures ∙ shown in
+    let nothing : k.output ≡ nothing_owed = c.owes_nothing.ensures.nothing c.if-not-owes_nothing.false in
     let fits : length p ≤ most_in_a_piece = search rules in
     let sound : AreSound ct = g.met.V.Vault.sound o.vault ct st.keeps.held (c.hear.ensures.clean clean) in
     let j = judged T n p st.keeps sound o.policy st.policy o.locks st.locks o.moment st.moment k m nothing fits in
@@ -71,8 +75,8 @@ returns-in_default-clause-stands g c T st clean =
     let o = c.args.self.now in
     nothing_stands g.V.Vault.holds o _ T _ _ st (ignored_event T (Bytes c.args.c c.args.piece.now) st.keeps.formed) (λ k h. h) refl refl refl refl refl (λ q. ap (λ links. get nat_cmp links q) c.get_mut.follows.holds-at-none) (λ d. refl)
 
-pub returns-then-not-is_empty-clause-stands : goal.returns-then-not-is_empty-clause-stands
-returns-then-not-is_empty-clause-stands g c T st clean =
+pub returns-then-not-owes_nothing-clause-stands : goal.returns-then-not-owes_nothing-clause-stands
+returns-then-not-owes_nothing-clause-stands g c T st clean =
     let o = c.args.self.now in
     let n = c.args.c in
     let k : Kept = c.in-Some.link.now in
@@ -99,8 +103,7 @@ returns-in-Ok-clause-cause g c T st clean =
     let ct = st.keeps.contents in
     let found : get nat_cmp o.links n ≡ Some k = sym c.in-Some.ensures.value in
     let m : Matches ct (seen T n) k = subst (IsKeptFor ct (seen T n)) found (st.links n) in
-    let shown : c.owed.result.now ≡ [] = found_empty c.is_empty.result c.owed.result.now c.if-not-is_empty.false c.is_empty.ensures in
-    let nothing : k.owed ≡ [] = sym c.owed.ensures ∙ shown in
+    let nothing : k.output ≡ nothing_owed = c.owes_nothing.ensures.nothing c.if-not-owes_nothing.false in
     let fits : length p ≤ most_in_a_piece = search rules in
     let sound : AreSound ct = g.met.V.Vault.sound o.vault ct st.keeps.held (c.hear.ensures.clean clean) in
     let j = judged T n p st.keeps sound o.policy st.policy o.locks st.locks o.moment st.moment k m nothing fits in
@@ -116,13 +119,12 @@ returns-in-Err-clause-stands g c T st clean =
     let ct = st.keeps.contents in
     let found : get nat_cmp o.links n ≡ Some k = sym c.in-Some.ensures.value in
     let m : Matches ct (seen T n) k = subst (IsKeptFor ct (seen T n)) found (st.links n) in
-    let shown : c.owed.result.now ≡ [] = found_empty c.is_empty.result c.owed.result.now c.if-not-is_empty.false c.is_empty.ensures in
-    let nothing : k.owed ≡ [] = sym c.owed.ensures ∙ shown in
+    let nothing : k.output ≡ nothing_owed = c.owes_nothing.ensures.nothing c.if-not-owes_nothing.false in
     let fits : length p ≤ most_in_a_piece = search rules in
     let line = c.in-Err.ensures.err in
     let x = next_there ct (streamed (seen T n) p o.moment) (clocked o.moment p k) p (awaits_bytes ct (seen T n) k p o.moment m nothing fits) line in
     let first = (c.get_mut.follows.holds k').3 (search rules) in
-    let second = c.remove.ensures.updates in
+    let second = c.cut_off.ensures.links in
     moved g.V.Vault.holds o _ T (Bytes n p) _ NoMemory n refl st refl refl refl refl refl refl (whole-bytes T n p NoMemory) refl refl
     (rw found refl) (λ q e. seen-bytes_other T n p q NoMemory e) (λ q ne. second.2 q (is_apart n q ne) ∙ first.2 q (is_apart n q ne)) (record {
       contents = ct;
@@ -132,7 +134,7 @@ returns-in-Err-clause-stands g c T st clean =
       carried = λ q e i. i;
       locks = released T.base (acts T) (acts (given T (Bytes n p) (Tagged NoMemory))) n (λ d q e. ap (λ s. holds_by s d) (seen-bytes_other T n p q NoMemory e))
           (λ d. let out = (over-bytes T n p x.0 line x.1).outside in rw out refl) ct (seen T n) k.session c.hear.new.locks _ m.session refl refl
-          (λ d. c.in-Err.ensures.locks_err d ∙ st.locks d) (subst (λ h. Released h c.hear.new.locks c.release.new.locks) c.maildrop-held.ensures c.release.ensures);
+          (λ d. c.in-Err.ensures.locks_err d ∙ st.locks d) (subst (λ h. Released h c.hear.new.locks c.cut_off.new.locks) c.maildrop-held.ensures c.cut_off.ensures.locks);
     })
 
 pub returns-in-Err-clause-outcome : goal.returns-in-Err-clause-outcome
@@ -144,10 +146,9 @@ returns-in-Err-clause-outcome g c T st clean =
     let ct = st.keeps.contents in
     let found : get nat_cmp o.links n ≡ Some k = sym c.in-Some.ensures.value in
     let m : Matches ct (seen T n) k = subst (IsKeptFor ct (seen T n)) found (st.links n) in
-    let shown : c.owed.result.now ≡ [] = found_empty c.is_empty.result c.owed.result.now c.if-not-is_empty.false c.is_empty.ensures in
-    let nothing : k.owed ≡ [] = sym c.owed.ensures ∙ shown in
+    let nothing : k.output ≡ nothing_owed = c.owes_nothing.ensures.nothing c.if-not-owes_nothing.false in
     let fits : length p ≤ most_in_a_piece = search rules in
-    let goes = bytes_goes T (lent_by o) n p m.opened (sym m.owed ∙ nothing) fits in
+    let goes = bytes_goes T (lent_by o) n p m.opened (none_owed ct k.session k.output (untaken_of (seen T n)) m.owed nothing) fits in
     record { tag = NoMemory; may = refl; is = rw goes refl }
 
 pub returns-then-piece-gt-MOST_IN_A_PIECE-clause-outcome : goal.returns-then-piece-gt-MOST_IN_A_PIECE-clause-outcome
@@ -155,3 +156,95 @@ returns-then-piece-gt-MOST_IN_A_PIECE-clause-outcome c = search rules
 
 pub hear-requires : goal.hear-requires
 hear-requires c = grind (arith, common_steps)
+
+pub returns-in_default-clause-stop : goal.returns-in_default-clause-stop
+returns-in_default-clause-stop g c T st clean up = unasked_stops T (Bytes c.args.c c.args.piece.now) (outcome.Ignored outcome.NoSuchConnection) st.keeps (returns-in_default-clause-stands g c T st clean).keeps (λ d. g.met.V.Vault.settled _ d clean up)
+
+pub returns-then-not-owes_nothing-clause-stop : goal.returns-then-not-owes_nothing-clause-stop
+returns-then-not-owes_nothing-clause-stop g c T st clean up = unasked_stops T (Bytes c.args.c c.args.piece.now) (outcome.Ignored outcome.NotReady) st.keeps (returns-then-not-owes_nothing-clause-stands g c T st clean).keeps (λ d. g.met.V.Vault.settled _ d clean up)
+
+pub returns-then-piece-gt-MOST_IN_A_PIECE-clause-stop : goal.returns-then-piece-gt-MOST_IN_A_PIECE-clause-stop
+returns-then-piece-gt-MOST_IN_A_PIECE-clause-stop g c T st clean up = unasked_stops T (Bytes c.args.c c.args.piece.now) (outcome.Ignored outcome.PieceTooLong) st.keeps (returns-then-piece-gt-MOST_IN_A_PIECE-clause-stands g c T st clean).keeps (λ d. g.met.V.Vault.settled _ d clean up)
+
+pub returns-in-Ok-clause-up : goal.returns-in-Ok-clause-up
+returns-in-Ok-clause-up g c T st clean up answered = c.in-Ok.ensures.up st.keeps.contents st.keeps.held clean up (line_answered c.in-Ok.acted _ c.shown.ensures answered)
+
+pub returns-in-Ok-clause-stop : goal.returns-in-Ok-clause-stop
+returns-in-Ok-clause-stop g c T st clean up =
+    let o = c.args.self.now in
+    let n = c.args.c in
+    let p = c.args.piece.now in
+    let k : Kept = c.in-Some.link.now in
+    let ct = st.keeps.contents in
+    let found : get nat_cmp o.links n ≡ Some k = sym c.in-Some.ensures.value in
+    let m : Matches ct (seen T n) k = subst (IsKeptFor ct (seen T n)) found (st.links n) in
+    let nothing : k.output ≡ nothing_owed = c.owes_nothing.ensures.nothing c.if-not-owes_nothing.false in
+    let fits : length p ≤ most_in_a_piece = search rules in
+    let sound : AreSound ct = g.met.V.Vault.sound o.vault ct st.keeps.held (c.hear.ensures.clean clean) in
+    let j = judged T n p st.keeps sound o.policy st.policy o.locks st.locks o.moment st.moment k m nothing fits in
+    let ready = awaits_bytes ct (seen T n) k p o.moment m nothing fits in
+    let left = line_left T n st.keeps sound (streamed (seen T n) p o.moment) (clocked o.moment p k) p (judged_at ct o.policy k.stamp o.locks) k.talk ready j (Bytes n p)
+    (λ h nx. records-bytes_line T n p acted.Done (line_after k p) h nx) (λ h nx. records-bytes_part T n p Done h) (c.hear.ensures.stop ct st.keeps.held clean up) in
+    stop_leaves T (Bytes n p) _ left (λ answered. settled_leaves _ (returns-in-Ok-clause-stands g c T st clean).keeps (λ d. g.met.V.Vault.settled _ d clean (returns-in-Ok-clause-up g c T st clean up answered)))
+
+pub returns-in-Err-clause-stop : goal.returns-in-Err-clause-stop
+returns-in-Err-clause-stop g c T st clean up =
+    let o = c.args.self.now in
+    let n = c.args.c in
+    let p = c.args.piece.now in
+    let k : Kept = c.in-Some.link.now in
+    let ct = st.keeps.contents in
+    let found : get nat_cmp o.links n ≡ Some k = sym c.in-Some.ensures.value in
+    let m : Matches ct (seen T n) k = subst (IsKeptFor ct (seen T n)) found (st.links n) in
+    let nothing : k.output ≡ nothing_owed = c.owes_nothing.ensures.nothing c.if-not-owes_nothing.false in
+    let fits : length p ≤ most_in_a_piece = search rules in
+    let sound : AreSound ct = g.met.V.Vault.sound o.vault ct st.keeps.held (c.hear.ensures.clean clean) in
+    let j = judged T n p st.keeps sound o.policy st.policy o.locks st.locks o.moment st.moment k m nothing fits in
+    let ready = awaits_bytes ct (seen T n) k p o.moment m nothing fits in
+    let left = line_left T n st.keeps sound (streamed (seen T n) p o.moment) (clocked o.moment p k) p (judged_at ct o.policy k.stamp o.locks) k.talk ready j (Bytes n p)
+    (λ h nx. records-bytes_line T n p acted.Done (line_after k p) h nx) (λ h nx. records-bytes_part T n p Done h) (c.hear.ensures.stop ct st.keeps.held clean up) in
+    stop_leaves T (Bytes n p) outcome.NoMemory left (λ answered. absurd answered)
+
+pub returns-then-not-owes_nothing-clause-outcome : goal.returns-then-not-owes_nothing-clause-outcome
+returns-then-not-owes_nothing-clause-outcome g c T st clean =
+    let o = c.args.self.now in
+    let n = c.args.c in
+    let k : Kept = c.in-Some.link.now in
+    let ct = st.keeps.contents in
+    let found : get nat_cmp o.links n ≡ Some k = sym c.in-Some.ensures.value in
+    let m : Matches ct (seen T n) k = subst (IsKeptFor ct (seen T n)) found (st.links n) in
+    let opened : is_open T n ≡ true = m.opened in
+    let some : is_empty (untaken_of (seen T n)) ≡ false = some_owed ct k.session k.output (untaken_of (seen T n)) m.owed (sym c.owes_nothing.ensures.value ∙ c.if-not-owes_nothing.true) in
+    record { tag = Done; may = refl; is = rw (opened, some) refl }
+
+pub returns-in-Ok-clause-unasked : goal.returns-in-Ok-clause-unasked
+returns-in-Ok-clause-unasked g c T st clean none =
+    let o = c.args.self.now in
+    let n = c.args.c in
+    let p = c.args.piece.now in
+    let k : Kept = c.in-Some.link.now in
+    let ct = st.keeps.contents in
+    let found : get nat_cmp o.links n ≡ Some k = sym c.in-Some.ensures.value in
+    let m : Matches ct (seen T n) k = subst (IsKeptFor ct (seen T n)) found (st.links n) in
+    let nothing : k.output ≡ nothing_owed = c.owes_nothing.ensures.nothing c.if-not-owes_nothing.false in
+    let fits : length p ≤ most_in_a_piece = search rules in
+    let sound : AreSound ct = g.met.V.Vault.sound o.vault ct st.keeps.held clean in
+    let j = judged T n p st.keeps sound o.policy st.policy o.locks st.locks o.moment st.moment k m nothing fits in
+    let ready = awaits_bytes ct (seen T n) k p o.moment m nothing fits in
+    c.hear.ensures.unasked ct j.sitting j.seated (piece_asks_none T n ct k (judged_at ct o.policy k.stamp o.locks) k.talk k.session j p o.moment ready none)
+
+pub returns-in-Err-clause-unasked : goal.returns-in-Err-clause-unasked
+returns-in-Err-clause-unasked g c T st clean none =
+    let o = c.args.self.now in
+    let n = c.args.c in
+    let p = c.args.piece.now in
+    let k : Kept = c.in-Some.link.now in
+    let ct = st.keeps.contents in
+    let found : get nat_cmp o.links n ≡ Some k = sym c.in-Some.ensures.value in
+    let m : Matches ct (seen T n) k = subst (IsKeptFor ct (seen T n)) found (st.links n) in
+    let nothing : k.output ≡ nothing_owed = c.owes_nothing.ensures.nothing c.if-not-owes_nothing.false in
+    let fits : length p ≤ most_in_a_piece = search rules in
+    let sound : AreSound ct = g.met.V.Vault.sound o.vault ct st.keeps.held clean in
+    let j = judged T n p st.keeps sound o.policy st.policy o.locks st.locks o.moment st.moment k m nothing fits in
+    let ready = awaits_bytes ct (seen T n) k p o.moment m nothing fits in
+    c.hear.ensures.unasked ct j.sitting j.seated (piece_asks_none T n ct k (judged_at ct o.policy k.stamp o.locks) k.talk k.session j p o.moment ready none)

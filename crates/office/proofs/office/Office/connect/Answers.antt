@@ -4,6 +4,9 @@ use Rattle.std.specs.BTreeMap.{is_at}
 use Rattle.office.specs.Expected.{is_full}
 use Rattle.office.specs.History.{NoMemory}
 use Rattle.office.proofs.Coming.{nothing_stands, ignored_event, lacked_connect, number_left, after_ok, after_err, greeted, come_stands}
+use Rattle.office.proofs.Stopping.{unasked_stops}
+use Rattle.office.specs.Events.{Connect}
+use Rattle.office.specs.Outcomes as outcome
 use Rattle.office.proofs.office.Office.connect.Goals as goal
 
 pub returns-then-is_full-clause-stands : goal.returns-then-is_full-clause-stands
@@ -92,3 +95,15 @@ returns-clause-clean g c = search rules
 
 pub returns-clause-unasked : goal.returns-clause-unasked
 returns-clause-unasked g c = search rules
+
+pub returns-then-is_full-clause-stop : goal.returns-then-is_full-clause-stop
+returns-then-is_full-clause-stop g c T st clean up = unasked_stops T Connect (outcome.Ignored outcome.TooManyConnections) st.keeps (returns-then-is_full-clause-stands g c T st clean).keeps (λ d. g.met.V.Vault.settled _ d clean up)
+
+pub returns-in_default-clause-stop : goal.returns-in_default-clause-stop
+returns-in_default-clause-stop g c T st clean up = unasked_stops T Connect outcome.NoMemory st.keeps (returns-in_default-clause-stands g c T st clean).keeps (λ d. g.met.V.Vault.settled _ d clean up)
+
+pub returns-then-is_err-clause-stop : goal.returns-then-is_err-clause-stop
+returns-then-is_err-clause-stop g c T st clean up = unasked_stops T Connect outcome.NoMemory st.keeps (returns-then-is_err-clause-stands g c T st clean).keeps (λ d. g.met.V.Vault.settled _ d clean up)
+
+pub returns-clause-stop : goal.returns-clause-stop
+returns-clause-stop g c T st clean up = unasked_stops T Connect (outcome.Opened (c.args.self.now.opened + 1)) st.keeps (returns-clause-stands g c T st clean).keeps (λ d. g.met.V.Vault.settled _ d clean up)

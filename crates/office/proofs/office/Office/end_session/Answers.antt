@@ -4,6 +4,11 @@ use Rattle.office.specs.Sessions.{live}
 use Rattle.office.specs.Stands.{seen}
 use Rattle.office.specs.Trace.{history}
 use Rattle.office.proofs.Ending.{ended_stands, end_ends, seated_as, nobody_at, nobody_stands}
+use Rattle.office.proofs.Stopping.{unasked_stops}
+use Rattle.office.specs.Answers.{EndSession}
+use Rattle.office.specs.Events.{Admin}
+use Rattle.office.specs.Outcomes as outcome
+use Rattle.office.specs.Answers as answer
 use Rattle.office.proofs.office.Office.end_session.Goals as goal
 
 pub returns-in-None-clause-stands : goal.returns-in-None-clause-stands
@@ -19,3 +24,9 @@ returns-in-Some-clause-stands g c T st clean =
 
 pub returns-in-Some-clause-unasked : goal.returns-in-Some-clause-unasked
 returns-in-Some-clause-unasked c = search rules
+
+pub returns-in-None-clause-stop : goal.returns-in-None-clause-stop
+returns-in-None-clause-stop g c T st clean up = unasked_stops T (Admin (EndSession c.args.c)) (outcome.Answered answer.NoSuchSession) st.keeps (returns-in-None-clause-stands g c T st clean).keeps (λ d. g.met.V.Vault.settled _ d clean up)
+
+pub returns-in-Some-clause-stop : goal.returns-in-Some-clause-stop
+returns-in-Some-clause-stop g c T st clean up = unasked_stops T (Admin (EndSession c.args.c)) (outcome.Answered answer.Ended) st.keeps (returns-in-Some-clause-stands g c T st clean).keeps (λ d. g.met.V.Vault.settled _ d clean up)

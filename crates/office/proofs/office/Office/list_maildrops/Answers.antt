@@ -1,9 +1,10 @@
-use Rattle.std.proofs.Common.{refl}
+use Rattle.std.proofs.Common.{refl, rules}
 use Rattle.office.specs.Answers.{ListMaildrops}
 use Rattle.office.specs.Events.{Admin}
 use Rattle.office.specs.Stands.{lent_by}
 use Rattle.office.proofs.Quiet.{became-stands, became-outcome, became-cause}
 use Rattle.office.proofs.VaultCalls.{maildrops_listed, store_seen}
+use Rattle.office.proofs.Stopping.{stop_leaves, before_left, settled_leaves}
 use Rattle.office.proofs.office.Office.list_maildrops.Goals as goal
 
 pub returns-clause-stands : goal.returns-clause-stands
@@ -22,3 +23,11 @@ pub returns-clause-cause : goal.returns-clause-cause
 returns-clause-cause g c T st clean =
     rw c.listed.ensures (became-cause T (Admin ListMaildrops) _ tt c.maildrops.ensures.counted
     (maildrops_listed _ T st.keeps _ _ (c.maildrops.ensures.done st.keeps.contents st.keeps.held clean) (λ e. c.maildrops.ensures.counted.cause (store_seen _ _ e))))
+
+pub returns-clause-up : goal.returns-clause-up
+returns-clause-up g c = search rules
+
+pub returns-clause-stop : goal.returns-clause-stop
+returns-clause-stop g c T st clean up =
+    stop_leaves T (Admin ListMaildrops) _ (before_left T (Admin ListMaildrops) st.keeps (c.maildrops.ensures.stop st.keeps.contents clean up st.keeps.held))
+    (λ answered. settled_leaves _ (returns-clause-stands g c T st clean).keeps (λ d. g.met.V.Vault.settled _ d clean (returns-clause-up g c T st clean up answered)))

@@ -4,6 +4,7 @@ use Rattle.std.specs.BTreeMap.{is_at}
 use Rattle.creds.specs.Names.{is_host}
 use Rattle.office.specs.Answered.{name_cmp}
 use Rattle.office.proofs.Coming.{start_stands, start_formed, same_ok}
+use Rattle.office.proofs.Stopping.{held_left, looked_left}
 use Rattle.office.proofs.office.Office.open.Goals as goal
 
 pub returns-clause-opened : goal.returns-clause-opened
@@ -57,7 +58,16 @@ pub returns-in-Err-NoMemory-clause-cause : goal.returns-in-Err-NoMemory-clause-c
 returns-in-Err-NoMemory-clause-cause g c = search rules
 
 pub returns-in-Err : goal.returns-in-Err
-returns-in-Err g c = search rules
+returns-in-Err g c = record {
+  opened = search rules;
+  host = search rules;
+  kept = search rules;
+  left = search rules;
+  up = search rules;
+  stop = λ d held clean up. looked_left (c.in-Err.ensures.stop d clean up held);
+  counted = search rules;
+  cause = search rules;
+}
 
 pub returns-clause-host : goal.returns-clause-host
 returns-clause-host g c = search rules
@@ -73,3 +83,15 @@ returns-clause-counted g c = search rules
 
 pub returns-clause-cause : goal.returns-clause-cause
 returns-clause-cause g c = search rules
+
+pub returns-then-is_none-clause-stop : goal.returns-then-is_none-clause-stop
+returns-then-is_none-clause-stop g c d held clean up = held_left (g.met.V.Vault.settled _ d clean up held)
+
+pub returns-in_default-clause-stop : goal.returns-in_default-clause-stop
+returns-in_default-clause-stop g c d held clean up = held_left (g.met.V.Vault.settled _ d clean up held)
+
+pub returns-in-Err-NoMemory-clause-stop : goal.returns-in-Err-NoMemory-clause-stop
+returns-in-Err-NoMemory-clause-stop g c d held clean up = looked_left (c.in-Err-NoMemory.ensures.stop d clean up held)
+
+pub returns-clause-stop : goal.returns-clause-stop
+returns-clause-stop g c d held clean up = looked_left (c.in-Ok-policy.ensures.stop d clean up held)

@@ -1,13 +1,23 @@
-use Rattle.std.proofs.Common.{arith, sym, take, take_all, subst, get_or}
+use Rattle.std.proofs.Common.{◌≡◌, arith, refl, rules, sym, take, take_all, subst, get_or}
 use Rattle.std.proofs.lemmas.Grind.{common_steps}
 use Rattle.std.proofs.lemmas.List.{take_more}
-use Rattle.office.specs.Runs.{Follows, followed}
-use Rattle.office.proofs.Running.{follows_more}
+use Rattle.office.specs.Events.{Trace}
+use Rattle.office.specs.Stands.{StandsFor, vault_of}
+use Rattle.office.specs.Runs.{Follows, Ran, followed}
+use Rattle.office.proofs.Running.{ran_more}
+use Rattle.office.proofs.SentExactly.{taken_is_sent}
+use Rattle.office.proofs.Stopping.{settled_leaves}
 use Rattle.office.proofs.office.Office.run.Goals as goal
 
 pub loop-done-init : goal.loop-done-init
 loop-done-init g c = record {
-  follows = λ T st clean. record { each = rw c.new-steps.ensures.items tt; stands = st };
+  ran = λ T st clean. rw c.new-steps.ensures.items record {
+    follows = record { each = tt; stands = st };
+    admitted = λ a. a;
+    causes = refl;
+    up = λ up all. up;
+    stop = λ up. settled_leaves T st.keeps (λ d. g.met.V.Vault.settled _ d clean up);
+  };
   counted = omega arith;
   clean = λ clean. clean;
 }
@@ -19,26 +29,73 @@ loop-done-preserved g c =
     let ss = c.loop-done.steps.items in
     let event = c.index-events-done.result in
     record {
-      follows = λ T st clean.
-          let before = c.loop-done.invariant.follows T st (c.enter.ensures.clean clean) in
+      ran = λ T st clean.
+          let before = c.loop-done.invariant.ran T st (c.enter.ensures.clean clean) in
           rw (take_more es i event c.loop-done-test.true)
-          (follows_more g.V.Vault.holds c.loop-done.self c.enter.new.self (take i es) ss c.enter.new.steps.items (get_or es i event) T before
-          (rw (sym c.index-events-done.is) (c.in-Ok.ensures.ok (followed T (take i es) ss) before.stands clean)));
+          (ran_more g.V.Vault.holds g.V.Vault.faults g.V.Vault.is_up g.V.Vault.may_leave c.args.self.now c.loop-done.self c.enter.new.self (take i es) ss c.enter.new.steps.items
+          (get_or es i event) T before
+          (rw (sym c.index-events-done.is) (c.in-Ok.ensures.ok_so (followed T (take i es) ss) before.follows.stands clean)) c.enter.ensures.counted);
       counted = omega (arith, c.loop-done.invariant.counted, c.enter.ensures.counted);
       clean = λ clean. c.loop-done.invariant.clean (c.enter.ensures.clean clean);
     }
 
 pub returns-clause-ok : goal.returns-clause-ok
 returns-clause-ok g c = λ T st clean.
-    let all = take_all c.loop-done.done c.args.events.now c.loop-done-test.false in
-    rw c.new.ensures (subst (λ es. Follows g.V.Vault.holds es c.loop-done.steps.items T c.loop-done.self) all (c.loop-done.invariant.follows T st clean))
+    let ran =
+    subst (λ es. Ran g.V.Vault.holds g.V.Vault.faults g.V.Vault.is_up g.V.Vault.may_leave es c.loop-done.steps.items T c.args.self.now c.loop-done.self)
+    (take_all c.loop-done.done c.args.events.now c.loop-done-test.false) (c.loop-done.invariant.ran T st clean) in
+    rw c.new.ensures (ran.follows)
+
+pub returns-clause-admitted : goal.returns-clause-admitted
+returns-clause-admitted g c = λ T st clean a.
+    let ran =
+    subst (λ es. Ran g.V.Vault.holds g.V.Vault.faults g.V.Vault.is_up g.V.Vault.may_leave es c.loop-done.steps.items T c.args.self.now c.loop-done.self)
+    (take_all c.loop-done.done c.args.events.now c.loop-done-test.false) (c.loop-done.invariant.ran T st clean) in
+    rw c.new.ensures (ran.admitted a)
+
+pub returns-clause-sent : goal.returns-clause-sent
+returns-clause-sent g c = λ T st clean a d.
+    let ran =
+    subst (λ es. Ran g.V.Vault.holds g.V.Vault.faults g.V.Vault.is_up g.V.Vault.may_leave es c.loop-done.steps.items T c.args.self.now c.loop-done.self)
+    (take_all c.loop-done.done c.args.events.now c.loop-done-test.false) (c.loop-done.invariant.ran T st clean) in
+    rw c.new.ensures (taken_is_sent _ (ran.admitted a) d)
+
+pub returns-clause-cause : goal.returns-clause-cause
+returns-clause-cause g c = λ T st clean.
+    let ran =
+    subst (λ es. Ran g.V.Vault.holds g.V.Vault.faults g.V.Vault.is_up g.V.Vault.may_leave es c.loop-done.steps.items T c.args.self.now c.loop-done.self)
+    (take_all c.loop-done.done c.args.events.now c.loop-done-test.false) (c.loop-done.invariant.ran T st clean) in
+    rw c.new.ensures (ran.causes)
+
+pub returns-clause-up : goal.returns-clause-up
+returns-clause-up g c = λ T st clean up.
+    let ran =
+    subst (λ es. Ran g.V.Vault.holds g.V.Vault.faults g.V.Vault.is_up g.V.Vault.may_leave es c.loop-done.steps.items T c.args.self.now c.loop-done.self)
+    (take_all c.loop-done.done c.args.events.now c.loop-done-test.false) (c.loop-done.invariant.ran T st clean) in
+    rw c.new.ensures (ran.up up)
+
+pub returns-clause-stop : goal.returns-clause-stop
+returns-clause-stop g c = λ T st clean up.
+    let ran =
+    subst (λ es. Ran g.V.Vault.holds g.V.Vault.faults g.V.Vault.is_up g.V.Vault.may_leave es c.loop-done.steps.items T c.args.self.now c.loop-done.self)
+    (take_all c.loop-done.done c.args.events.now c.loop-done-test.false) (c.loop-done.invariant.ran T st clean) in
+    rw c.new.ensures (ran.stop up)
 
 pub returns-in-Err-clause-err : goal.returns-in-Err-clause-err
 returns-in-Err-clause-err g c = (
   c.loop-done.steps.items,
   λ T st clean.
       subst (λ o. Follows g.V.Vault.holds (take c.loop-done.done c.args.events.now) c.loop-done.steps.items T o) (sym c.in-Err.ensures.err)
-      (c.loop-done.invariant.follows T st (c.enter.ensures.clean clean)),
+      (c.loop-done.invariant.ran T st (c.enter.ensures.clean clean)).follows,
+)
+
+pub returns-in-Err-clause-err_ran : goal.returns-in-Err-clause-err_ran
+returns-in-Err-clause-err_ran g c = (
+  c.loop-done.steps.items,
+  λ T st clean.
+      subst
+      (λ o. Ran g.V.Vault.holds g.V.Vault.faults g.V.Vault.is_up g.V.Vault.may_leave (take c.loop-done.done c.args.events.now) c.loop-done.steps.items T c.args.self.now o)
+      (sym c.in-Err.ensures.err) (c.loop-done.invariant.ran T st (c.enter.ensures.clean clean)),
 )
 
 pub returns-in-Err-clause-err_before_the_end : goal.returns-in-Err-clause-err_before_the_end

@@ -1,20 +1,30 @@
-use Rattle.std.proofs.Common.{◌≡◌, ◌<◌, ◌≤◌, false, true, Some, sym, ◌∙◌, ap, length, arith, nat_cmp, subst, rules, refl}
+use Rattle.std.proofs.Common.{◌≡◌, ◌<◌, ◌≤◌, false, true, Option, Some, sym, ◌∙◌, ap, length, arith, nat_cmp, subst, rules, refl, inl, eqb}
 use Rattle.std.proofs.lemmas.Grind.{common_steps}
-use Rattle.std.specs.BTreeMap.{get}
+use Rattle.std.specs.BTreeMap.{get, is_at}
 use Rattle.vault.specs.Changes.{AreSound}
 use Rattle.office.specs.Events.{Took, Tagged, given}
-use Rattle.office.specs.History.{Done, NoMemory}
-use Rattle.office.specs.Trace.{acts}
-use Rattle.office.specs.Kept.{Kept}
+use Rattle.office.specs.History.{Done, Failed, NoMemory}
+use Rattle.office.specs.Connections.{serving}
+use Rattle.office.specs.Trace.{acts, history, is_left}
+use Rattle.office.specs.Replying.{is_empty}
+use Rattle.office.specs.Output.{Output, nothing_owed, reads_text, Owes}
+use Rattle.office.specs.Kept.{Kept, line_after, maildrop_of}
 use Rattle.office.specs.Locks.{Released}
-use Rattle.office.specs.Answered.{tag_of}
-use Rattle.office.specs.Stands.{Matches, IsKeptFor, seen, untaken_of, lent_by}
+use Rattle.office.specs.Answered.{tag_of, judged_at}
+use Rattle.office.specs.Stands.{Matches, IsKeptFor, IsSession, seen, untaken_of, lent_by, length_of_lent}
 use Rattle.office.specs.declared.talk.Acted.TheVariants as acted
-use Rattle.office.proofs.Events.{moved, marked, seen-took_other, seen-took_part, records-took_part, seen-took_closing, records-took_closing, records-took_lacking, whole-took, over-took, next_there, next_kept, is_apart, left_over, all_over, part_took, awaits_took, closed_took, took_goes, line_cause, same_part, same_closing}
+use Rattle.office.proofs.Events.{moved, marked, seen-took_other, seen-took_part, records-took_part, seen-took_closing, records-took_closing, records-took_lacking, whole-took, over-took, next_there, next_kept, is_apart, left_over, all_over, closed_took, took_goes, line_cause, same_part, same_closing, records-took_line, records-took_none}
 use Rattle.office.proofs.Hearing.{Awaits, took}
 use Rattle.office.proofs.Locking.{holds_by}
 use Rattle.office.proofs.Coming.{released, nothing_stands, ignored_event, put_back}
+use Rattle.office.proofs.Ending.{ended_by, took_ends}
+use Rattle.office.proofs.Taking.{lent_ready, took_within, took_more, took_less, took_all, some_taken, all_taken, grown_behind, lacking_ends, refused_ends, paged_stops}
+use Rattle.office.proofs.Owing.{text_feeds}
 use Rattle.office.proofs.TakingDone.{judged, taking_moves, taking_answered}
+use Rattle.office.specs.Outcomes as outcome
+use Rattle.office.proofs.Stopping.{stop_leaves, settled_leaves, unasked_stops, says_kept}
+use Rattle.office.proofs.StoppingLines.{line_left, line_answered}
+use Rattle.office.proofs.Unasked.{taking_asks_none, taking_reads_none}
 use Rattle.office.proofs.office.Office.took.Goals as goal
 
 pub returns-in_default-clause-stands : goal.returns-in_default-clause-stands
@@ -31,8 +41,8 @@ returns-then-octets-eq0-clause-stands g c T st clean =
     nothing_stands g.V.Vault.holds o _ T _ _ st (ignored_event T (Took c.args.c c.args.octets) st.keeps.formed) (λ k h. h) refl refl refl refl refl
     (put_back c.args.c k o.links (c.get_mut.follows.lender k) found updates) (λ d. refl)
 
-pub returns-then-octets-owed-clause-stands : goal.returns-then-octets-owed-clause-stands
-returns-then-octets-owed-clause-stands g c T st clean =
+pub returns-then-octets-lent-clause-stands : goal.returns-then-octets-lent-clause-stands
+returns-then-octets-lent-clause-stands g c T st clean =
     let o = c.args.self.now in
     let k : Kept = c.in-Some.link.now in
     let found : get nat_cmp o.links c.args.c ≡ Some k = sym c.in-Some.ensures.value in
@@ -40,88 +50,39 @@ returns-then-octets-owed-clause-stands g c T st clean =
     nothing_stands g.V.Vault.holds o _ T _ _ st (ignored_event T (Took c.args.c c.args.octets) st.keeps.formed) (λ k h. h) refl refl refl refl refl
     (put_back c.args.c k o.links (c.get_mut.follows.lender k) found updates) (λ d. refl)
 
-pub returns-then-octets-owed-2-clause-stands : goal.returns-then-octets-owed-2-clause-stands
-returns-then-octets-owed-2-clause-stands g c T st clean =
+pub returns-then-not-owes_nothing-clause-stands : goal.returns-then-not-owes_nothing-clause-stands
+returns-then-not-owes_nothing-clause-stands g c T st clean =
     let o = c.args.self.now in
     let x = c.args.c in
     let n = c.args.octets in
     let k : Kept = c.in-Some.link.now in
     let s = seen T x in
     let ct = st.keeps.contents in
-    let k' : Kept = c.take.new.self in
+    let k1 : Kept = c.take.new.self in
     let found : get nat_cmp o.links x ≡ Some k = sym c.in-Some.ensures.value in
     let m : Matches ct s k = subst (IsKeptFor ct s) found (st.links x) in
-    let owed : c.owed-owed.result.now ≡ untaken_of s = c.owed-owed.ensures ∙ m.owed in
-    let less : n < length (untaken_of s) = rw owed at c.if-octets-owed-2.true in
-    let change = (c.get_mut.follows.holds k').3 (search rules) in
-    let here : Matches ct (seen (given T (Took x n) (Tagged Done)) x) k' = rw (seen-took_part T x n o.moment st.moment (left_over s k n less), c.take.ensures) (part_took ct s k n o.moment m less) in
+    let fits = lent_ready k.output c.owed-lent.result.now n c.owed-lent.ensures c.if-octets-lent.false in
+    let does = c.in-Ok.ensures in
+    let yes : c.in-Ok.taken ≡ true = c.if-not-taken.false in
+    let owes = does.owes yes ct (untaken_of s) st.keeps.held clean m.owed in
+    let some : is_empty k1.output.ready ≡ false = sym c.owes_nothing.ensures.value ∙ c.if-not-owes_nothing.true in
+    let less = took_less ct s k n o.moment m fits k1.output owes some in
+    let change = (c.get_mut.follows.holds k1).3 (search rules) in
+    let left = left_over s n less in
+    let here : Matches ct (seen (given T (Took x n) (Tagged Done)) x) k1 =
+    subst (λ y. Matches ct y k1) (sym (seen-took_part T x n o.moment st.moment left)) (some_taken ct s k n o.moment m fits k1.output owes k1 c.take.ensures.kept some does.kind) in
     moved g.V.Vault.holds o _ T (Took x n) _ Done x refl st refl refl refl refl refl refl (whole-took T x n Done) refl refl (rw found refl)
     (λ q e. seen-took_other T x n q Done e) (λ q ne. change.2 q (is_apart x q ne)) (record {
       contents = ct;
-      held = st.keeps.held;
-      agree = rw (records-took_part T x n (left_over s k n less)) st.keeps.agree;
+      held = c.take.ensures.held ct st.keeps.held clean;
+      agree = rw (records-took_part T x n left) st.keeps.agree;
       here = rw change.1 here;
       carried = λ q e i. i;
-      locks = λ d. st.locks d ∙ sym (same_part T x n (left_over s k n less) d);
+      locks = λ d. st.locks d ∙ sym (same_part T x n left d);
     })
 
-pub returns-then-is_closing-clause-stands : goal.returns-then-is_closing-clause-stands
-returns-then-is_closing-clause-stands g c T st clean =
-    let o = c.args.self.now in
-    let x = c.args.c in
-    let n = c.args.octets in
-    let k : Kept = c.in-Some.link.now in
-    let s = seen T x in
-    let ct = st.keeps.contents in
-    let k' : Kept = c.take.new.self in
-    let found : get nat_cmp o.links x ≡ Some k = sym c.in-Some.ensures.value in
-    let m : Matches ct s k = subst (IsKeptFor ct s) found (st.links x) in
-    let owed : c.owed-owed.result.now ≡ untaken_of s = c.owed-owed.ensures ∙ m.owed in
-    let all : length (untaken_of s) ≤ n = rw owed at c.if-octets-owed-2.false in
-    let closed : s.closing ≡ true = sym m.closing ∙ (sym (ap (λ (k : Kept). k.talk.closing) c.take.ensures) ∙ (sym c.is_closing.ensures ∙ c.if-is_closing.true)) in
-    let first = (c.get_mut.follows.holds k').3 (search rules) in
-    let second = c.remove.ensures.updates in
-    moved g.V.Vault.holds o _ T (Took x n) _ Done x refl st refl refl refl refl refl refl (whole-took T x n Done) refl refl (rw found refl) (λ q e. seen-took_other T x n q Done e)
-    (λ q ne. second.2 q (is_apart x q ne) ∙ first.2 q (is_apart x q ne)) (record {
-      contents = ct;
-      held = st.keeps.held;
-      agree = rw (records-took_closing T x n (all_over s n all) closed) st.keeps.agree;
-      here = rw (second.1, seen-took_closing T x n o.moment st.moment (all_over s n all) closed) (record { closed = closed_took s n o.moment all closed; outside = m.parted closed });
-      carried = λ q e i. i;
-      locks = λ d. st.locks d ∙ sym (same_closing T x n (all_over s n all) closed d);
-    })
-
-pub returns-in-Ok-clause-stands : goal.returns-in-Ok-clause-stands
-returns-in-Ok-clause-stands g c T st clean =
-    let o = c.args.self.now in
-    let x = c.args.c in
-    let n = c.args.octets in
-    let k : Kept = c.in-Some.link.now in
-    let s = seen T x in
-    let ct = st.keeps.contents in
-    let k1 : Kept = c.take.new.self in
-    let k' : Kept = c.resume.new.self in
-    let found : get nat_cmp o.links x ≡ Some k = sym c.in-Some.ensures.value in
-    let m : Matches ct s k = subst (IsKeptFor ct s) found (st.links x) in
-    let owed : c.owed-owed.result.now ≡ untaken_of s = c.owed-owed.ensures ∙ m.owed in
-    let all : length (untaken_of s) ≤ n = rw owed at c.if-octets-owed-2.false in
-    let within : n ≤ length (untaken_of s) = rw owed at c.if-octets-owed.false in
-    let open_yet : s.closing ≡ false = sym m.closing ∙ (sym (ap (λ (k : Kept). k.talk.closing) c.take.ensures) ∙ (sym c.is_closing.ensures ∙ c.if-is_closing.false)) in
-    let change = (c.get_mut.follows.holds k').3 (search rules) in
-    let ready : Awaits ct (took s n o.moment) k1 k1.pending = rw c.take.ensures (awaits_took ct s k n o.moment m (omega arith) open_yet) in
-    let w = c.in-Ok.acted in
-    let sound : AreSound ct = g.met.V.Vault.sound o.vault ct st.keeps.held (c.resume.ensures.clean clean) in
-    let over = all_over s n all in
-    let j = judged T x n st.keeps sound o.policy st.policy o.locks st.locks o.moment st.moment k1 ready over open_yet in
-    let does = c.in-Ok.ensures in
-    moved g.V.Vault.holds o _ T (Took x n) _ (tag_of w) x (marked w _ c.shown.ensures) st refl refl refl refl refl refl (whole-took T x n (tag_of w)) refl refl
-    (rw found refl) (λ q e. seen-took_other T x n q (tag_of w) e) (λ q ne. change.2 q (is_apart x q ne))
-    (taking_moves T x n st.keeps sound o.policy st.policy o.locks st.locks o.moment st.moment k1 ready over open_yet w k' _ (λ (f : w ≡ acted.Failed). does.may f ct j.sitting st.keeps.held clean j.seated)
-    (does.ok ct j.sitting st.keeps.held clean j.seated) does.lines (does.session ct j.sitting st.keeps.held clean j.seated) does.locks g.V.Vault.holds o _ change.1 refl
-    (does.held ct j.sitting st.keeps.held clean j.seated))
-
-pub returns-in-Ok-clause-cause : goal.returns-in-Ok-clause-cause
-returns-in-Ok-clause-cause g c T st clean =
+pub returns-then-not-owes_nothing-clause-outcome : goal.returns-then-not-owes_nothing-clause-outcome
+returns-then-not-owes_nothing-clause-outcome g c T st clean =
     let o = c.args.self.now in
     let x = c.args.c in
     let n = c.args.octets in
@@ -131,18 +92,13 @@ returns-in-Ok-clause-cause g c T st clean =
     let k1 : Kept = c.take.new.self in
     let found : get nat_cmp o.links x ≡ Some k = sym c.in-Some.ensures.value in
     let m : Matches ct s k = subst (IsKeptFor ct s) found (st.links x) in
-    let owed : c.owed-owed.result.now ≡ untaken_of s = c.owed-owed.ensures ∙ m.owed in
-    let all : length (untaken_of s) ≤ n = rw owed at c.if-octets-owed-2.false in
-    let within : n ≤ length (untaken_of s) = rw owed at c.if-octets-owed.false in
-    let open_yet : s.closing ≡ false = sym m.closing ∙ (sym (ap (λ (k : Kept). k.talk.closing) c.take.ensures) ∙ (sym c.is_closing.ensures ∙ c.if-is_closing.false)) in
-    let ready : Awaits ct (took s n o.moment) k1 k1.pending = rw c.take.ensures (awaits_took ct s k n o.moment m (omega arith) open_yet) in
-    let w = c.in-Ok.acted in
-    let sound : AreSound ct = g.met.V.Vault.sound o.vault ct st.keeps.held (c.resume.ensures.clean clean) in
-    let j = judged T x n st.keeps sound o.policy st.policy o.locks st.locks o.moment st.moment k1 ready (all_over s n all) open_yet in
-    line_cause (g.V.Vault.faults o.vault) (g.V.Vault.faults c.resume.new.vault) w _ c.shown.ensures (λ f. c.in-Ok.ensures.cause f ct j.sitting st.keeps.held clean j.seated)
+    let fits = lent_ready k.output c.owed-lent.result.now n c.owed-lent.ensures c.if-octets-lent.false in
+    let lent : n ≤ lent_by o x = subst (λ (e : Option Kept). n ≤ length_of_lent e) (sym found) (subst (λ xs. n ≤ length xs) c.owed-lent.ensures c.if-octets-lent.false) in
+    let goes = took_goes T (lent_by o) x n m.opened (search rules) lent in
+    record { tag = Done; may = refl; is = rw goes refl }
 
-pub returns-in-Ok-clause-outcome : goal.returns-in-Ok-clause-outcome
-returns-in-Ok-clause-outcome g c T st clean =
+pub returns-then-not-taken-clause-stands : goal.returns-then-not-taken-clause-stands
+returns-then-not-taken-clause-stands g c T st clean =
     let o = c.args.self.now in
     let x = c.args.c in
     let n = c.args.octets in
@@ -150,22 +106,53 @@ returns-in-Ok-clause-outcome g c T st clean =
     let s = seen T x in
     let ct = st.keeps.contents in
     let k1 : Kept = c.take.new.self in
-    let k' : Kept = c.resume.new.self in
     let found : get nat_cmp o.links x ≡ Some k = sym c.in-Some.ensures.value in
     let m : Matches ct s k = subst (IsKeptFor ct s) found (st.links x) in
-    let owed : c.owed-owed.result.now ≡ untaken_of s = c.owed-owed.ensures ∙ m.owed in
-    let all : length (untaken_of s) ≤ n = rw owed at c.if-octets-owed-2.false in
-    let within : n ≤ length (untaken_of s) = rw owed at c.if-octets-owed.false in
-    let open_yet : s.closing ≡ false = sym m.closing ∙ (sym (ap (λ (k : Kept). k.talk.closing) c.take.ensures) ∙ (sym c.is_closing.ensures ∙ c.if-is_closing.false)) in
-    let ready : Awaits ct (took s n o.moment) k1 k1.pending = rw c.take.ensures (awaits_took ct s k n o.moment m (omega arith) open_yet) in
-    let w = c.in-Ok.acted in
-    let sound : AreSound ct = g.met.V.Vault.sound o.vault ct st.keeps.held (c.resume.ensures.clean clean) in
-    let over = all_over s n all in
-    let j = judged T x n st.keeps sound o.policy st.policy o.locks st.locks o.moment st.moment k1 ready over open_yet in
-    let does = c.in-Ok.ensures in
-    let goes = took_goes T (lent_by o) x n m.opened (search rules) (rw (found, m.owed) within) in
-    taking_answered T x n st.keeps sound o.policy st.policy o.locks st.locks o.moment st.moment k1 ready over open_yet w k' o.locks (λ (f : w ≡ acted.Failed). does.may f ct j.sitting st.keeps.held clean j.seated)
-    (does.ok ct j.sitting st.keeps.held clean j.seated) does.lines (lent_by o) _ goes c.shown.ensures
+    let fits = lent_ready k.output c.owed-lent.result.now n c.owed-lent.ensures c.if-octets-lent.false in
+    let reads = c.in-Ok.ensures.refused c.if-not-taken.true in
+    let left = left_over s n (took_more ct s k n o.moment m fits (text_feeds k.output.source reads)) in
+    let first = (c.get_mut.follows.holds k1).3 (search rules) in
+    let second = c.cut_off-then-not-taken.ensures.links in
+    ended_by g.V.Vault.holds o _ T (Took x n) Failed x (took_ends T x n Failed left (refused_ends (serving (history T) x) x (m.serving reads))) st k found
+    (λ d h. c.take.ensures.held d h clean) refl refl refl refl refl second.1 (λ q e. second.2 q e ∙ first.2 q e)
+    (subst (λ h. Released h o.locks c.cut_off-then-not-taken.new.locks) c.maildrop-held.ensures c.cut_off-then-not-taken.ensures.locks)
+
+pub returns-then-not-taken-clause-outcome : goal.returns-then-not-taken-clause-outcome
+returns-then-not-taken-clause-outcome g c T st clean =
+    let o = c.args.self.now in
+    let x = c.args.c in
+    let n = c.args.octets in
+    let k : Kept = c.in-Some.link.now in
+    let s = seen T x in
+    let ct = st.keeps.contents in
+    let k1 : Kept = c.take.new.self in
+    let found : get nat_cmp o.links x ≡ Some k = sym c.in-Some.ensures.value in
+    let m : Matches ct s k = subst (IsKeptFor ct s) found (st.links x) in
+    let fits = lent_ready k.output c.owed-lent.result.now n c.owed-lent.ensures c.if-octets-lent.false in
+    let lent : n ≤ lent_by o x = subst (λ (e : Option Kept). n ≤ length_of_lent e) (sym found) (subst (λ xs. n ≤ length xs) c.owed-lent.ensures c.if-octets-lent.false) in
+    let goes = took_goes T (lent_by o) x n m.opened (search rules) lent in
+    let reads = c.in-Ok.ensures.refused c.if-not-taken.true in
+    let left : is_left T.log (history T) x n ≡ true = left_over s n (took_more ct s k n o.moment m fits (text_feeds k.output.source reads)) in
+    let serves : serving (history T) x ≡ true = m.serving reads in
+    record { tag = Failed; may = rw (left, serves) refl; is = rw goes refl }
+
+pub returns-then-not-taken-clause-cause : goal.returns-then-not-taken-clause-cause
+returns-then-not-taken-clause-cause g c T st clean =
+    let o = c.args.self.now in
+    let x = c.args.c in
+    let n = c.args.octets in
+    let k : Kept = c.in-Some.link.now in
+    let s = seen T x in
+    let ct = st.keeps.contents in
+    let k1 : Kept = c.take.new.self in
+    let found : get nat_cmp o.links x ≡ Some k = sym c.in-Some.ensures.value in
+    let m : Matches ct s k = subst (IsKeptFor ct s) found (st.links x) in
+    let fits = lent_ready k.output c.owed-lent.result.now n c.owed-lent.ensures c.if-octets-lent.false in
+    c.in-Ok.ensures.cause c.if-not-taken.true ct (untaken_of s) st.keeps.held clean m.owed
+
+pub returns-then-not-taken-clause-stop : goal.returns-then-not-taken-clause-stop
+returns-then-not-taken-clause-stop g c T st clean up =
+    paged_stops T c.args.c c.args.octets outcome.Failed st.keeps (c.take.ensures.stop st.keeps.contents st.keeps.held clean up) (λ answered. absurd answered)
 
 pub returns-in-Err-clause-stands : goal.returns-in-Err-clause-stands
 returns-in-Err-clause-stands g c T st clean =
@@ -176,30 +163,15 @@ returns-in-Err-clause-stands g c T st clean =
     let s = seen T x in
     let ct = st.keeps.contents in
     let k1 : Kept = c.take.new.self in
-    let k' : Kept = c.resume.new.self in
     let found : get nat_cmp o.links x ≡ Some k = sym c.in-Some.ensures.value in
     let m : Matches ct s k = subst (IsKeptFor ct s) found (st.links x) in
-    let owed : c.owed-owed.result.now ≡ untaken_of s = c.owed-owed.ensures ∙ m.owed in
-    let all : length (untaken_of s) ≤ n = rw owed at c.if-octets-owed-2.false in
-    let within : n ≤ length (untaken_of s) = rw owed at c.if-octets-owed.false in
-    let open_yet : s.closing ≡ false = sym m.closing ∙ (sym (ap (λ (k : Kept). k.talk.closing) c.take.ensures) ∙ (sym c.is_closing.ensures ∙ c.if-is_closing.false)) in
-    let ready : Awaits ct (took s n o.moment) k1 k1.pending = rw c.take.ensures (awaits_took ct s k n o.moment m (omega arith) open_yet) in
-    let next = next_there ct (took s n o.moment) k1 k1.pending ready c.in-Err.ensures.err in
-    let first = (c.get_mut.follows.holds k').3 (search rules) in
-    let second = c.remove-in-Err.ensures.updates in
-    let over = over-took T x n next.0 (all_over s n all) open_yet (next_kept T x ∙ next.1) in
-    let sits : c.take.new.self.session ≡ k.session = ap (λ (k : Kept). k.session) c.take.ensures in
-    moved g.V.Vault.holds o _ T (Took x n) _ NoMemory x refl st refl refl refl refl refl refl (whole-took T x n NoMemory) refl refl (rw found refl) (λ q e. seen-took_other T x n q NoMemory e)
-    (λ q ne. second.2 q (is_apart x q ne) ∙ first.2 q (is_apart x q ne)) (record {
-      contents = ct;
-      held = c.in-Err.ensures.held_err ct st.keeps.held clean;
-      agree = rw (records-took_lacking T x n next.0 (all_over s n all) open_yet (next_kept T x ∙ next.1)) st.keeps.agree;
-      here = rw second.1 over;
-      carried = λ q e i. i;
-      locks = released T.base (acts T) (acts (given T (Took x n) (Tagged NoMemory))) x (λ d q e. ap (λ s. holds_by s d) (seen-took_other T x n q NoMemory e))
-          (λ d. let out = over.outside in rw out refl) ct s k1.session c.resume.new.locks _ (subst (Rattle.office.specs.Stands.IsSession ct s) (sym sits) m.session) refl refl
-          (λ d. c.in-Err.ensures.locks_err d ∙ st.locks d) (subst (λ h. Released h c.resume.new.locks c.release.new.locks) c.maildrop-held.ensures c.release.ensures);
-    })
+    let fits = lent_ready k.output c.owed-lent.result.now n c.owed-lent.ensures c.if-octets-lent.false in
+    let left = left_over s n (took_more ct s k n o.moment m fits c.in-Err.ensures.err) in
+    let first = (c.get_mut.follows.holds k1).3 (search rules) in
+    let second = c.cut_off.ensures.links in
+    ended_by g.V.Vault.holds o _ T (Took x n) NoMemory x (took_ends T x n NoMemory left (lacking_ends (serving (history T) x) x)) st k found
+    (λ d h. c.take.ensures.held d h clean) refl refl refl refl refl second.1 (λ q e. second.2 q e ∙ first.2 q e)
+    (subst (λ h. Released h o.locks c.cut_off.new.locks) c.maildrop-held.ensures c.cut_off.ensures.locks)
 
 pub returns-in-Err-clause-outcome : goal.returns-in-Err-clause-outcome
 returns-in-Err-clause-outcome g c T st clean =
@@ -212,15 +184,423 @@ returns-in-Err-clause-outcome g c T st clean =
     let k1 : Kept = c.take.new.self in
     let found : get nat_cmp o.links x ≡ Some k = sym c.in-Some.ensures.value in
     let m : Matches ct s k = subst (IsKeptFor ct s) found (st.links x) in
-    let owed : c.owed-owed.result.now ≡ untaken_of s = c.owed-owed.ensures ∙ m.owed in
-    let all : length (untaken_of s) ≤ n = rw owed at c.if-octets-owed-2.false in
-    let within : n ≤ length (untaken_of s) = rw owed at c.if-octets-owed.false in
-    let open_yet : s.closing ≡ false = sym m.closing ∙ (sym (ap (λ (k : Kept). k.talk.closing) c.take.ensures) ∙ (sym c.is_closing.ensures ∙ c.if-is_closing.false)) in
-    let ready : Awaits ct (took s n o.moment) k1 k1.pending = rw c.take.ensures (awaits_took ct s k n o.moment m (omega arith) open_yet) in
-    let next = next_there ct (took s n o.moment) k1 k1.pending ready c.in-Err.ensures.err in
+    let fits = lent_ready k.output c.owed-lent.result.now n c.owed-lent.ensures c.if-octets-lent.false in
+    let lent : n ≤ lent_by o x = subst (λ (e : Option Kept). n ≤ length_of_lent e) (sym found) (subst (λ xs. n ≤ length xs) c.owed-lent.ensures c.if-octets-lent.false) in
+    let goes = took_goes T (lent_by o) x n m.opened (search rules) lent in
+    let left : is_left T.log (history T) x n ≡ true = left_over s n (took_more ct s k n o.moment m fits c.in-Err.ensures.err) in
+    record { tag = NoMemory; may = rw left refl; is = rw goes refl }
+
+pub returns-in-Err-clause-stop : goal.returns-in-Err-clause-stop
+returns-in-Err-clause-stop g c T st clean up =
+    paged_stops T c.args.c c.args.octets outcome.NoMemory st.keeps (c.take.ensures.stop st.keeps.contents st.keeps.held clean up) (λ answered. absurd answered)
+
+pub returns-then-is_closing-clause-stands : goal.returns-then-is_closing-clause-stands
+returns-then-is_closing-clause-stands g c T st clean =
+    let o = c.args.self.now in
+    let x = c.args.c in
+    let n = c.args.octets in
+    let k : Kept = c.in-Some.link.now in
+    let s = seen T x in
+    let ct = st.keeps.contents in
+    let k1 : Kept = c.take.new.self in
+    let found : get nat_cmp o.links x ≡ Some k = sym c.in-Some.ensures.value in
+    let m : Matches ct s k = subst (IsKeptFor ct s) found (st.links x) in
+    let fits = lent_ready k.output c.owed-lent.result.now n c.owed-lent.ensures c.if-octets-lent.false in
+    let does = c.in-Ok.ensures in
+    let yes : c.in-Ok.taken ≡ true = c.if-not-taken.false in
+    let owes = does.owes yes ct (untaken_of s) st.keeps.held clean m.owed in
+    let none : k1.output ≡ nothing_owed = c.owes_nothing.ensures.nothing c.if-not-owes_nothing.false in
+    let all = took_all ct s k n o.moment m fits k1.output owes none in
+    let closed : s.closing ≡ true = sym m.closing ∙ (sym (ap (λ (k : Kept). k.talk.closing) c.take.ensures.kept) ∙ (sym c.is_closing.ensures ∙ c.if-is_closing.true)) in
+    let first = (c.get_mut.follows.holds k1).3 (search rules) in
+    let second = c.remove.ensures.updates in
+    moved g.V.Vault.holds o _ T (Took x n) _ Done x refl st refl refl refl refl refl refl (whole-took T x n Done) refl refl (rw found refl) (λ q e. seen-took_other T x n q Done e)
+    (λ q ne. second.2 q (is_apart x q ne) ∙ first.2 q (is_apart x q ne)) (record {
+      contents = ct;
+      held = c.take.ensures.held ct st.keeps.held clean;
+      agree = rw (records-took_closing T x n (all_over s n all) closed) st.keeps.agree;
+      here = rw (second.1, seen-took_closing T x n o.moment st.moment (all_over s n all) closed) (record { closed = closed_took s n o.moment all closed; outside = m.parted closed });
+      carried = λ q e i. i;
+      locks = λ d. st.locks d ∙ sym (same_closing T x n (all_over s n all) closed d);
+    })
+
+pub returns-then-is_closing-clause-outcome : goal.returns-then-is_closing-clause-outcome
+returns-then-is_closing-clause-outcome g c T st clean =
+    let o = c.args.self.now in
+    let x = c.args.c in
+    let n = c.args.octets in
+    let k : Kept = c.in-Some.link.now in
+    let s = seen T x in
+    let ct = st.keeps.contents in
+    let k1 : Kept = c.take.new.self in
+    let found : get nat_cmp o.links x ≡ Some k = sym c.in-Some.ensures.value in
+    let m : Matches ct s k = subst (IsKeptFor ct s) found (st.links x) in
+    let fits = lent_ready k.output c.owed-lent.result.now n c.owed-lent.ensures c.if-octets-lent.false in
+    let lent : n ≤ lent_by o x = subst (λ (e : Option Kept). n ≤ length_of_lent e) (sym found) (subst (λ xs. n ≤ length xs) c.owed-lent.ensures c.if-octets-lent.false) in
+    let goes = took_goes T (lent_by o) x n m.opened (search rules) lent in
+    record { tag = Done; may = refl; is = rw goes refl }
+
+pub returns-in-Ok-resume-clause-stands : goal.returns-in-Ok-resume-clause-stands
+returns-in-Ok-resume-clause-stands g c T st clean =
+    let before = c.resume.ensures.clean clean in
+    let o = c.args.self.now in
+    let x = c.args.c in
+    let n = c.args.octets in
+    let k : Kept = c.in-Some.link.now in
+    let s = seen T x in
+    let ct = st.keeps.contents in
+    let k1 : Kept = c.take.new.self in
+    let found : get nat_cmp o.links x ≡ Some k = sym c.in-Some.ensures.value in
+    let m : Matches ct s k = subst (IsKeptFor ct s) found (st.links x) in
+    let fits = lent_ready k.output c.owed-lent.result.now n c.owed-lent.ensures c.if-octets-lent.false in
+    let does = c.in-Ok.ensures in
+    let yes : c.in-Ok.taken ≡ true = c.if-not-taken.false in
+    let owes = does.owes yes ct (untaken_of s) st.keeps.held before m.owed in
+    let none : k1.output ≡ nothing_owed = c.owes_nothing.ensures.nothing c.if-not-owes_nothing.false in
+    let all = took_all ct s k n o.moment m fits k1.output owes none in
+    let open_yet : s.closing ≡ false = sym m.closing ∙ (sym (ap (λ (k : Kept). k.talk.closing) c.take.ensures.kept) ∙ (sym c.is_closing.ensures ∙ c.if-is_closing.false)) in
+    let ready : Awaits ct (took s n o.moment) k1 k1.pending = all_taken ct s k n o.moment m fits k1.output owes k1 c.take.ensures.kept none open_yet in
+    let held = c.take.ensures.held ct st.keeps.held before in
+    let sound : AreSound ct = g.met.V.Vault.sound o.vault ct st.keeps.held (c.take.ensures.clean before) in
+    let over = all_over s n all in
+    let w = c.in-Ok-resume.acted in
+    let j = judged T x n st.keeps sound o.policy st.policy o.locks st.locks o.moment st.moment k1 ready over open_yet in
+    let line = c.in-Ok-resume.ensures in
+    let k' : Kept = c.resume.new.self in
+    let change = (c.get_mut.follows.holds k').3 (search rules) in
+    moved g.V.Vault.holds o _ T (Took x n) _ (tag_of w) x (marked w _ c.shown.ensures) st refl refl refl refl refl refl (whole-took T x n (tag_of w)) refl refl
+    (rw found refl) (λ q e. seen-took_other T x n q (tag_of w) e) (λ q ne. change.2 q (is_apart x q ne))
+    (taking_moves T x n st.keeps sound o.policy st.policy o.locks st.locks o.moment st.moment k1 ready over open_yet w k' _ (λ (f : w ≡ acted.Failed). line.may f ct j.sitting held clean j.seated)
+    (line.ok ct j.sitting held clean j.seated) line.lines (line.session ct j.sitting held clean j.seated) line.locks (line.owes ct j.sitting held clean j.seated) g.V.Vault.holds o _ change.1 refl
+    (line.held ct j.sitting held clean j.seated))
+
+pub returns-in-Ok-resume-clause-cause : goal.returns-in-Ok-resume-clause-cause
+returns-in-Ok-resume-clause-cause g c T st clean =
+    let before = c.resume.ensures.clean clean in
+    let o = c.args.self.now in
+    let x = c.args.c in
+    let n = c.args.octets in
+    let k : Kept = c.in-Some.link.now in
+    let s = seen T x in
+    let ct = st.keeps.contents in
+    let k1 : Kept = c.take.new.self in
+    let found : get nat_cmp o.links x ≡ Some k = sym c.in-Some.ensures.value in
+    let m : Matches ct s k = subst (IsKeptFor ct s) found (st.links x) in
+    let fits = lent_ready k.output c.owed-lent.result.now n c.owed-lent.ensures c.if-octets-lent.false in
+    let does = c.in-Ok.ensures in
+    let yes : c.in-Ok.taken ≡ true = c.if-not-taken.false in
+    let owes = does.owes yes ct (untaken_of s) st.keeps.held before m.owed in
+    let none : k1.output ≡ nothing_owed = c.owes_nothing.ensures.nothing c.if-not-owes_nothing.false in
+    let all = took_all ct s k n o.moment m fits k1.output owes none in
+    let open_yet : s.closing ≡ false = sym m.closing ∙ (sym (ap (λ (k : Kept). k.talk.closing) c.take.ensures.kept) ∙ (sym c.is_closing.ensures ∙ c.if-is_closing.false)) in
+    let ready : Awaits ct (took s n o.moment) k1 k1.pending = all_taken ct s k n o.moment m fits k1.output owes k1 c.take.ensures.kept none open_yet in
+    let held = c.take.ensures.held ct st.keeps.held before in
+    let sound : AreSound ct = g.met.V.Vault.sound o.vault ct st.keeps.held (c.take.ensures.clean before) in
+    let over = all_over s n all in
+    let w = c.in-Ok-resume.acted in
+    let j = judged T x n st.keeps sound o.policy st.policy o.locks st.locks o.moment st.moment k1 ready over open_yet in
+    let line = c.in-Ok-resume.ensures in
+    line_cause (g.V.Vault.faults o.vault) (g.V.Vault.faults c.resume.new.vault) w _ c.shown.ensures
+    (λ f. grown_behind (g.V.Vault.faults o.vault) (g.V.Vault.faults c.take.new.vault) (g.V.Vault.faults c.resume.new.vault) c.take.ensures.counted (line.cause f ct j.sitting held clean j.seated))
+
+pub returns-in-Ok-resume-clause-outcome : goal.returns-in-Ok-resume-clause-outcome
+returns-in-Ok-resume-clause-outcome g c T st clean =
+    let before = c.resume.ensures.clean clean in
+    let o = c.args.self.now in
+    let x = c.args.c in
+    let n = c.args.octets in
+    let k : Kept = c.in-Some.link.now in
+    let s = seen T x in
+    let ct = st.keeps.contents in
+    let k1 : Kept = c.take.new.self in
+    let found : get nat_cmp o.links x ≡ Some k = sym c.in-Some.ensures.value in
+    let m : Matches ct s k = subst (IsKeptFor ct s) found (st.links x) in
+    let fits = lent_ready k.output c.owed-lent.result.now n c.owed-lent.ensures c.if-octets-lent.false in
+    let does = c.in-Ok.ensures in
+    let yes : c.in-Ok.taken ≡ true = c.if-not-taken.false in
+    let owes = does.owes yes ct (untaken_of s) st.keeps.held before m.owed in
+    let none : k1.output ≡ nothing_owed = c.owes_nothing.ensures.nothing c.if-not-owes_nothing.false in
+    let all = took_all ct s k n o.moment m fits k1.output owes none in
+    let open_yet : s.closing ≡ false = sym m.closing ∙ (sym (ap (λ (k : Kept). k.talk.closing) c.take.ensures.kept) ∙ (sym c.is_closing.ensures ∙ c.if-is_closing.false)) in
+    let ready : Awaits ct (took s n o.moment) k1 k1.pending = all_taken ct s k n o.moment m fits k1.output owes k1 c.take.ensures.kept none open_yet in
+    let held = c.take.ensures.held ct st.keeps.held before in
+    let sound : AreSound ct = g.met.V.Vault.sound o.vault ct st.keeps.held (c.take.ensures.clean before) in
+    let over = all_over s n all in
+    let w = c.in-Ok-resume.acted in
+    let j = judged T x n st.keeps sound o.policy st.policy o.locks st.locks o.moment st.moment k1 ready over open_yet in
+    let line = c.in-Ok-resume.ensures in
+    let lent : n ≤ lent_by o x = subst (λ (e : Option Kept). n ≤ length_of_lent e) (sym found) (subst (λ xs. n ≤ length xs) c.owed-lent.ensures c.if-octets-lent.false) in
+    let goes = took_goes T (lent_by o) x n m.opened (search rules) lent in
+    taking_answered T x n st.keeps sound o.policy st.policy o.locks st.locks o.moment st.moment k1 ready over open_yet w c.resume.new.self o.locks (λ (f : w ≡ acted.Failed). line.may f ct j.sitting held clean j.seated)
+    (line.ok ct j.sitting held clean j.seated) line.lines (lent_by o) _ goes c.shown.ensures
+
+pub returns-in-Err-resume-clause-stands : goal.returns-in-Err-resume-clause-stands
+returns-in-Err-resume-clause-stands g c T st clean =
+    let before = c.resume.ensures.clean clean in
+    let o = c.args.self.now in
+    let x = c.args.c in
+    let n = c.args.octets in
+    let k : Kept = c.in-Some.link.now in
+    let s = seen T x in
+    let ct = st.keeps.contents in
+    let k1 : Kept = c.take.new.self in
+    let found : get nat_cmp o.links x ≡ Some k = sym c.in-Some.ensures.value in
+    let m : Matches ct s k = subst (IsKeptFor ct s) found (st.links x) in
+    let fits = lent_ready k.output c.owed-lent.result.now n c.owed-lent.ensures c.if-octets-lent.false in
+    let does = c.in-Ok.ensures in
+    let yes : c.in-Ok.taken ≡ true = c.if-not-taken.false in
+    let owes = does.owes yes ct (untaken_of s) st.keeps.held before m.owed in
+    let none : k1.output ≡ nothing_owed = c.owes_nothing.ensures.nothing c.if-not-owes_nothing.false in
+    let all = took_all ct s k n o.moment m fits k1.output owes none in
+    let open_yet : s.closing ≡ false = sym m.closing ∙ (sym (ap (λ (k : Kept). k.talk.closing) c.take.ensures.kept) ∙ (sym c.is_closing.ensures ∙ c.if-is_closing.false)) in
+    let ready : Awaits ct (took s n o.moment) k1 k1.pending = all_taken ct s k n o.moment m fits k1.output owes k1 c.take.ensures.kept none open_yet in
+    let held = c.take.ensures.held ct st.keeps.held before in
+    let sound : AreSound ct = g.met.V.Vault.sound o.vault ct st.keeps.held (c.take.ensures.clean before) in
+    let over = all_over s n all in
+    let next = next_there ct (took s n o.moment) k1 k1.pending ready c.in-Err-resume.ensures.err in
+    let first = (c.get_mut.follows.holds c.resume.new.self).3 (search rules) in
+    let second = c.cut_off-in-Err-resume.ensures.links in
+    let gone = over-took T x n next.0 over open_yet (next_kept T x ∙ next.1) in
+    let sits : k1.session ≡ k.session = ap (λ (k : Kept). k.session) c.take.ensures.kept in
+    moved g.V.Vault.holds o _ T (Took x n) _ NoMemory x refl st refl refl refl refl refl refl (whole-took T x n NoMemory) refl refl (rw found refl) (λ q e. seen-took_other T x n q NoMemory e)
+    (λ q ne. second.2 q (is_apart x q ne) ∙ first.2 q (is_apart x q ne)) (record {
+      contents = ct;
+      held = c.in-Err-resume.ensures.held_err ct held clean;
+      agree = rw (records-took_lacking T x n next.0 over open_yet (next_kept T x ∙ next.1)) st.keeps.agree;
+      here = rw second.1 gone;
+      carried = λ q e i. i;
+      locks = released T.base (acts T) (acts (given T (Took x n) (Tagged NoMemory))) x (λ d q e. ap (λ s. holds_by s d) (seen-took_other T x n q NoMemory e))
+          (λ d. let out = gone.outside in rw out refl) ct s k1.session c.resume.new.locks _ (subst (IsSession ct s) (sym sits) m.session) refl refl
+          (λ d. c.in-Err-resume.ensures.locks_err d ∙ st.locks d)
+          (subst (λ h. Released h c.resume.new.locks c.cut_off-in-Err-resume.new.locks) (c.maildrop-held.ensures ∙ ap maildrop_of (sym sits)) c.cut_off-in-Err-resume.ensures.locks);
+    })
+
+pub returns-in-Err-resume-clause-outcome : goal.returns-in-Err-resume-clause-outcome
+returns-in-Err-resume-clause-outcome g c T st clean =
+    let before = c.resume.ensures.clean clean in
+    let o = c.args.self.now in
+    let x = c.args.c in
+    let n = c.args.octets in
+    let k : Kept = c.in-Some.link.now in
+    let s = seen T x in
+    let ct = st.keeps.contents in
+    let k1 : Kept = c.take.new.self in
+    let found : get nat_cmp o.links x ≡ Some k = sym c.in-Some.ensures.value in
+    let m : Matches ct s k = subst (IsKeptFor ct s) found (st.links x) in
+    let fits = lent_ready k.output c.owed-lent.result.now n c.owed-lent.ensures c.if-octets-lent.false in
+    let does = c.in-Ok.ensures in
+    let yes : c.in-Ok.taken ≡ true = c.if-not-taken.false in
+    let owes = does.owes yes ct (untaken_of s) st.keeps.held before m.owed in
+    let none : k1.output ≡ nothing_owed = c.owes_nothing.ensures.nothing c.if-not-owes_nothing.false in
+    let all = took_all ct s k n o.moment m fits k1.output owes none in
+    let open_yet : s.closing ≡ false = sym m.closing ∙ (sym (ap (λ (k : Kept). k.talk.closing) c.take.ensures.kept) ∙ (sym c.is_closing.ensures ∙ c.if-is_closing.false)) in
+    let ready : Awaits ct (took s n o.moment) k1 k1.pending = all_taken ct s k n o.moment m fits k1.output owes k1 c.take.ensures.kept none open_yet in
+    let held = c.take.ensures.held ct st.keeps.held before in
+    let sound : AreSound ct = g.met.V.Vault.sound o.vault ct st.keeps.held (c.take.ensures.clean before) in
+    let over = all_over s n all in
+    let next = next_there ct (took s n o.moment) k1 k1.pending ready c.in-Err-resume.ensures.err in
+    let lent : n ≤ lent_by o x = subst (λ (e : Option Kept). n ≤ length_of_lent e) (sym found) (subst (λ xs. n ≤ length xs) c.owed-lent.ensures c.if-octets-lent.false) in
+    let goes = took_goes T (lent_by o) x n m.opened (search rules) lent in
     let line = next_kept T x ∙ next.1 in
-    let goes = took_goes T (lent_by o) x n m.opened (search rules) (rw (found, m.owed) within) in
-    record { tag = NoMemory; may = rw (all_over s n all, open_yet, line) refl; is = rw goes refl }
+    record { tag = NoMemory; may = rw (over, open_yet, line) refl; is = rw goes refl }
+
+pub returns-then-not-owes_nothing-clause-up : goal.returns-then-not-owes_nothing-clause-up
+returns-then-not-owes_nothing-clause-up g c T st clean up answered = c.in-Ok.ensures.up st.keeps.contents st.keeps.held clean up c.if-not-taken.false
+
+pub returns-then-not-owes_nothing-clause-stop : goal.returns-then-not-owes_nothing-clause-stop
+returns-then-not-owes_nothing-clause-stop g c T st clean up =
+    paged_stops T c.args.c c.args.octets outcome.Done st.keeps (c.take.ensures.stop st.keeps.contents st.keeps.held clean up)
+    (λ answered. settled_leaves _ (returns-then-not-owes_nothing-clause-stands g c T st clean).keeps (λ d. g.met.V.Vault.settled _ d clean (returns-then-not-owes_nothing-clause-up g c T st clean up answered)))
+
+pub returns-then-is_closing-clause-up : goal.returns-then-is_closing-clause-up
+returns-then-is_closing-clause-up g c T st clean up answered = c.in-Ok.ensures.up st.keeps.contents st.keeps.held clean up c.if-not-taken.false
+
+pub returns-then-is_closing-clause-stop : goal.returns-then-is_closing-clause-stop
+returns-then-is_closing-clause-stop g c T st clean up =
+    paged_stops T c.args.c c.args.octets outcome.Done st.keeps (c.take.ensures.stop st.keeps.contents st.keeps.held clean up)
+    (λ answered. settled_leaves _ (returns-then-is_closing-clause-stands g c T st clean).keeps (λ d. g.met.V.Vault.settled _ d clean (returns-then-is_closing-clause-up g c T st clean up answered)))
+
+pub returns-in_default-clause-stop : goal.returns-in_default-clause-stop
+returns-in_default-clause-stop g c T st clean up = unasked_stops T (Took c.args.c c.args.octets) (outcome.Ignored outcome.NoSuchConnection) st.keeps (returns-in_default-clause-stands g c T st clean).keeps (λ d. g.met.V.Vault.settled _ d clean up)
+
+pub returns-then-octets-eq0-clause-stop : goal.returns-then-octets-eq0-clause-stop
+returns-then-octets-eq0-clause-stop g c T st clean up = unasked_stops T (Took c.args.c c.args.octets) (outcome.Ignored outcome.NotReady) st.keeps (returns-then-octets-eq0-clause-stands g c T st clean).keeps (λ d. g.met.V.Vault.settled _ d clean up)
+
+pub returns-then-octets-lent-clause-stop : goal.returns-then-octets-lent-clause-stop
+returns-then-octets-lent-clause-stop g c T st clean up = unasked_stops T (Took c.args.c c.args.octets) (outcome.Ignored outcome.NotReady) st.keeps (returns-then-octets-lent-clause-stands g c T st clean).keeps (λ d. g.met.V.Vault.settled _ d clean up)
+
+pub returns-in-Ok-resume-clause-up : goal.returns-in-Ok-resume-clause-up
+returns-in-Ok-resume-clause-up g c T st clean up answered =
+    let up1 = c.in-Ok.ensures.up st.keeps.contents st.keeps.held (c.resume.ensures.clean clean) up c.if-not-taken.false in
+    let held = c.take.ensures.held st.keeps.contents st.keeps.held (c.resume.ensures.clean clean) in
+    c.in-Ok-resume.ensures.up st.keeps.contents held clean up1 (line_answered c.in-Ok-resume.acted _ c.shown.ensures answered)
+
+pub returns-in-Ok-resume-clause-stop : goal.returns-in-Ok-resume-clause-stop
+returns-in-Ok-resume-clause-stop g c T st clean up =
+    let before = c.resume.ensures.clean clean in
+    let o = c.args.self.now in
+    let x = c.args.c in
+    let n = c.args.octets in
+    let k : Kept = c.in-Some.link.now in
+    let s = seen T x in
+    let ct = st.keeps.contents in
+    let k1 : Kept = c.take.new.self in
+    let found : get nat_cmp o.links x ≡ Some k = sym c.in-Some.ensures.value in
+    let m : Matches ct s k = subst (IsKeptFor ct s) found (st.links x) in
+    let fits = lent_ready k.output c.owed-lent.result.now n c.owed-lent.ensures c.if-octets-lent.false in
+    let does = c.in-Ok.ensures in
+    let yes : c.in-Ok.taken ≡ true = c.if-not-taken.false in
+    let owes = does.owes yes ct (untaken_of s) st.keeps.held before m.owed in
+    let none : k1.output ≡ nothing_owed = c.owes_nothing.ensures.nothing c.if-not-owes_nothing.false in
+    let all = took_all ct s k n o.moment m fits k1.output owes none in
+    let open_yet : s.closing ≡ false = sym m.closing ∙ (sym (ap (λ (k : Kept). k.talk.closing) c.take.ensures.kept) ∙ (sym c.is_closing.ensures ∙ c.if-is_closing.false)) in
+    let ready : Awaits ct (took s n o.moment) k1 k1.pending = all_taken ct s k n o.moment m fits k1.output owes k1 c.take.ensures.kept none open_yet in
+    let held = c.take.ensures.held ct st.keeps.held before in
+    let sound : AreSound ct = g.met.V.Vault.sound o.vault ct st.keeps.held (c.take.ensures.clean before) in
+    let over = all_over s n all in
+    let up1 = c.in-Ok.ensures.up st.keeps.contents st.keeps.held (c.resume.ensures.clean clean) up c.if-not-taken.false in
+    let j = judged T x n st.keeps sound o.policy st.policy o.locks st.locks o.moment st.moment k1 ready over open_yet in
+    let left = line_left T x st.keeps sound (took s n o.moment) k1 k1.pending (judged_at ct o.policy k1.stamp o.locks) k1.talk ready j (Took x n)
+    (λ h nx. records-took_line T x n acted.Done (line_after k1 k1.pending) over open_yet (next_kept T x ∙ nx)) (λ h nx. records-took_none T x n over open_yet (next_kept T x ∙ nx))
+    (c.resume.ensures.stop ct held clean up1) in
+    stop_leaves T (Took x n) _ left (λ answered. settled_leaves _ (returns-in-Ok-resume-clause-stands g c T st clean).keeps (λ d. g.met.V.Vault.settled _ d clean (returns-in-Ok-resume-clause-up g c T st clean up answered)))
+
+pub returns-in-Err-resume-clause-stop : goal.returns-in-Err-resume-clause-stop
+returns-in-Err-resume-clause-stop g c T st clean up =
+    let before = c.resume.ensures.clean clean in
+    let o = c.args.self.now in
+    let x = c.args.c in
+    let n = c.args.octets in
+    let k : Kept = c.in-Some.link.now in
+    let s = seen T x in
+    let ct = st.keeps.contents in
+    let k1 : Kept = c.take.new.self in
+    let found : get nat_cmp o.links x ≡ Some k = sym c.in-Some.ensures.value in
+    let m : Matches ct s k = subst (IsKeptFor ct s) found (st.links x) in
+    let fits = lent_ready k.output c.owed-lent.result.now n c.owed-lent.ensures c.if-octets-lent.false in
+    let does = c.in-Ok.ensures in
+    let yes : c.in-Ok.taken ≡ true = c.if-not-taken.false in
+    let owes = does.owes yes ct (untaken_of s) st.keeps.held before m.owed in
+    let none : k1.output ≡ nothing_owed = c.owes_nothing.ensures.nothing c.if-not-owes_nothing.false in
+    let all = took_all ct s k n o.moment m fits k1.output owes none in
+    let open_yet : s.closing ≡ false = sym m.closing ∙ (sym (ap (λ (k : Kept). k.talk.closing) c.take.ensures.kept) ∙ (sym c.is_closing.ensures ∙ c.if-is_closing.false)) in
+    let ready : Awaits ct (took s n o.moment) k1 k1.pending = all_taken ct s k n o.moment m fits k1.output owes k1 c.take.ensures.kept none open_yet in
+    let held = c.take.ensures.held ct st.keeps.held before in
+    let sound : AreSound ct = g.met.V.Vault.sound o.vault ct st.keeps.held (c.take.ensures.clean before) in
+    let over = all_over s n all in
+    let up1 = c.in-Ok.ensures.up st.keeps.contents st.keeps.held (c.resume.ensures.clean clean) up c.if-not-taken.false in
+    let j = judged T x n st.keeps sound o.policy st.policy o.locks st.locks o.moment st.moment k1 ready over open_yet in
+    let left = line_left T x st.keeps sound (took s n o.moment) k1 k1.pending (judged_at ct o.policy k1.stamp o.locks) k1.talk ready j (Took x n)
+    (λ h nx. records-took_line T x n acted.Done (line_after k1 k1.pending) over open_yet (next_kept T x ∙ nx)) (λ h nx. records-took_none T x n over open_yet (next_kept T x ∙ nx))
+    (c.resume.ensures.stop ct held clean up1) in
+    stop_leaves T (Took x n) outcome.NoMemory left (λ answered. absurd answered)
 
 pub resume-requires : goal.resume-requires
-resume-requires c = grind (arith, common_steps)
+resume-requires g c = c.owes_nothing.ensures.nothing c.if-not-owes_nothing.false
+
+pub take-requires : goal.take-requires
+take-requires g c = lent_ready c.in-Some.link.now.output c.owed-lent.result.now c.args.octets c.owed-lent.ensures c.if-octets-lent.false
+
+pub returns-in-Err-clause-unasked : goal.returns-in-Err-clause-unasked
+returns-in-Err-clause-unasked g c T st clean none =
+    let o = c.args.self.now in
+    let x = c.args.c in
+    let n = c.args.octets in
+    let k : Kept = c.in-Some.link.now in
+    let s = seen T x in
+    let ct = st.keeps.contents in
+    let found : get nat_cmp o.links x ≡ Some k = sym c.in-Some.ensures.value in
+    let m : Matches ct s k = subst (IsKeptFor ct s) found (st.links x) in
+    let fits = lent_ready k.output c.owed-lent.result.now n c.owed-lent.ensures c.if-octets-lent.false in
+    c.take.ensures.unasked (taking_reads_none T x n ct k o.moment m fits none)
+
+pub returns-then-not-taken-clause-unasked : goal.returns-then-not-taken-clause-unasked
+returns-then-not-taken-clause-unasked g c T st clean none =
+    let o = c.args.self.now in
+    let x = c.args.c in
+    let n = c.args.octets in
+    let k : Kept = c.in-Some.link.now in
+    let s = seen T x in
+    let ct = st.keeps.contents in
+    let found : get nat_cmp o.links x ≡ Some k = sym c.in-Some.ensures.value in
+    let m : Matches ct s k = subst (IsKeptFor ct s) found (st.links x) in
+    let fits = lent_ready k.output c.owed-lent.result.now n c.owed-lent.ensures c.if-octets-lent.false in
+    c.take.ensures.unasked (taking_reads_none T x n ct k o.moment m fits none)
+
+pub returns-then-not-owes_nothing-clause-unasked : goal.returns-then-not-owes_nothing-clause-unasked
+returns-then-not-owes_nothing-clause-unasked g c T st clean none =
+    let o = c.args.self.now in
+    let x = c.args.c in
+    let n = c.args.octets in
+    let k : Kept = c.in-Some.link.now in
+    let s = seen T x in
+    let ct = st.keeps.contents in
+    let found : get nat_cmp o.links x ≡ Some k = sym c.in-Some.ensures.value in
+    let m : Matches ct s k = subst (IsKeptFor ct s) found (st.links x) in
+    let fits = lent_ready k.output c.owed-lent.result.now n c.owed-lent.ensures c.if-octets-lent.false in
+    c.take.ensures.unasked (taking_reads_none T x n ct k o.moment m fits none)
+
+pub returns-then-is_closing-clause-unasked : goal.returns-then-is_closing-clause-unasked
+returns-then-is_closing-clause-unasked g c T st clean none =
+    let o = c.args.self.now in
+    let x = c.args.c in
+    let n = c.args.octets in
+    let k : Kept = c.in-Some.link.now in
+    let s = seen T x in
+    let ct = st.keeps.contents in
+    let found : get nat_cmp o.links x ≡ Some k = sym c.in-Some.ensures.value in
+    let m : Matches ct s k = subst (IsKeptFor ct s) found (st.links x) in
+    let fits = lent_ready k.output c.owed-lent.result.now n c.owed-lent.ensures c.if-octets-lent.false in
+    c.take.ensures.unasked (taking_reads_none T x n ct k o.moment m fits none)
+
+pub returns-in-Ok-resume-clause-unasked : goal.returns-in-Ok-resume-clause-unasked
+returns-in-Ok-resume-clause-unasked g c T st clean none =
+    let o = c.args.self.now in
+    let x = c.args.c in
+    let n = c.args.octets in
+    let k : Kept = c.in-Some.link.now in
+    let s = seen T x in
+    let ct = st.keeps.contents in
+    let found : get nat_cmp o.links x ≡ Some k = sym c.in-Some.ensures.value in
+    let m : Matches ct s k = subst (IsKeptFor ct s) found (st.links x) in
+    let fits = lent_ready k.output c.owed-lent.result.now n c.owed-lent.ensures c.if-octets-lent.false in
+    let k1 : Kept = c.take.new.self in
+    let same = c.take.ensures.unasked (taking_reads_none T x n ct k o.moment m fits none) in
+    let before = subst g.V.Vault.is_clean (sym same) clean in
+    let does = c.in-Ok.ensures in
+    let yes : c.in-Ok.taken ≡ true = c.if-not-taken.false in
+    let owes = does.owes yes ct (untaken_of s) st.keeps.held before m.owed in
+    let nothing : k1.output ≡ nothing_owed = c.owes_nothing.ensures.nothing c.if-not-owes_nothing.false in
+    let all = took_all ct s k n o.moment m fits k1.output owes nothing in
+    let open_yet : s.closing ≡ false = sym m.closing ∙ (sym (ap (λ (k : Kept). k.talk.closing) c.take.ensures.kept) ∙ (sym c.is_closing.ensures ∙ c.if-is_closing.false)) in
+    let ready : Awaits ct (took s n o.moment) k1 k1.pending = all_taken ct s k n o.moment m fits k1.output owes k1 c.take.ensures.kept nothing open_yet in
+    let sound : AreSound ct = g.met.V.Vault.sound o.vault ct st.keeps.held clean in
+    let over = all_over s n all in
+    let j = judged T x n st.keeps sound o.policy st.policy o.locks st.locks o.moment st.moment k1 ready over open_yet in
+    c.resume.ensures.unasked ct j.sitting j.seated (taking_asks_none T x ct k1 (judged_at ct o.policy k1.stamp o.locks) k1.talk k1.session j n o.moment ready over open_yet none) ∙ same
+
+pub returns-in-Err-resume-clause-unasked : goal.returns-in-Err-resume-clause-unasked
+returns-in-Err-resume-clause-unasked g c T st clean none =
+    let o = c.args.self.now in
+    let x = c.args.c in
+    let n = c.args.octets in
+    let k : Kept = c.in-Some.link.now in
+    let s = seen T x in
+    let ct = st.keeps.contents in
+    let found : get nat_cmp o.links x ≡ Some k = sym c.in-Some.ensures.value in
+    let m : Matches ct s k = subst (IsKeptFor ct s) found (st.links x) in
+    let fits = lent_ready k.output c.owed-lent.result.now n c.owed-lent.ensures c.if-octets-lent.false in
+    let k1 : Kept = c.take.new.self in
+    let same = c.take.ensures.unasked (taking_reads_none T x n ct k o.moment m fits none) in
+    let before = subst g.V.Vault.is_clean (sym same) clean in
+    let does = c.in-Ok.ensures in
+    let yes : c.in-Ok.taken ≡ true = c.if-not-taken.false in
+    let owes = does.owes yes ct (untaken_of s) st.keeps.held before m.owed in
+    let nothing : k1.output ≡ nothing_owed = c.owes_nothing.ensures.nothing c.if-not-owes_nothing.false in
+    let all = took_all ct s k n o.moment m fits k1.output owes nothing in
+    let open_yet : s.closing ≡ false = sym m.closing ∙ (sym (ap (λ (k : Kept). k.talk.closing) c.take.ensures.kept) ∙ (sym c.is_closing.ensures ∙ c.if-is_closing.false)) in
+    let ready : Awaits ct (took s n o.moment) k1 k1.pending = all_taken ct s k n o.moment m fits k1.output owes k1 c.take.ensures.kept nothing open_yet in
+    let sound : AreSound ct = g.met.V.Vault.sound o.vault ct st.keeps.held clean in
+    let over = all_over s n all in
+    let j = judged T x n st.keeps sound o.policy st.policy o.locks st.locks o.moment st.moment k1 ready over open_yet in
+    c.resume.ensures.unasked ct j.sitting j.seated (taking_asks_none T x ct k1 (judged_at ct o.policy k1.stamp o.locks) k1.talk k1.session j n o.moment ready over open_yet none) ∙ same

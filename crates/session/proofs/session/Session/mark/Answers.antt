@@ -1,16 +1,24 @@
-use Rattle.std.proofs.Common.{true, false, List, set, sym, ap, ◌∙◌, ◌≡◌, ◌<◌, ◌-◌, ◌+◌, length, refl, arith, not}
+use Rattle.std.proofs.Common.{ℕ, true, false, List, set, sym, ap, ◌∙◌, ◌≡◌, ◌<◌, ◌-◌, ◌+◌, length, refl, arith, not}
 use Rattle.std.specs.Prelude.{Ok, Err, ◌||◌, ◌==◌}
 use Rattle.std.proofs.lemmas.Result.{err_from_is_err_and}
 use Rattle.std.proofs.lemmas.Bool.{not-true, not-false}
+use Rattle.creds.specs.declared.login_name.LoginName.{LoginName}
+use Rattle.policy.specs.Lane.{Lane}
+use Rattle.policy.specs.Policy.{Policy}
 use Rattle.policy.specs.declared.decide.Decision.{Decision}
 use Rattle.vault.specs.declared.answer.Head.{Head}
 use Rattle.session.specs.declared.pick.Pick.TheVariants.{Denied}
 use Rattle.session.specs.declared.row.Row.{Row}
 use Rattle.session.specs.Session.{Session, mark_answer, marking}
-use Rattle.session.specs.Rows.{row_picked, marks_of}
-use Rattle.session.specs.View.{is_marked}
+use Rattle.session.specs.Rows.{login_of, row_picked, marks_of}
+use Rattle.session.specs.View.{is_marked, removal}
 use Rattle.session.proofs.RowLemmas.{marking-found, marking-refused, is_marked-set, heads_of-set, session_with}
 use Rattle.session.proofs.session.Session.mark.Goals as goal
+
+-- what a lane says is what the policy says of the clerk and the maildrop
+of_lane : (lane : Lane) (policy : Policy) (name : LoginName) (class : List ℕ) → lane ≡ record { policy = policy; clerk = name.clerk; maildrop = name.maildrop }
+    → removal lane.policy (login_of lane) class ≡ removal policy name class
+of_lane lane policy name class e = ap (λ (l : Lane). removal l.policy (login_of l) class) e
 
 denied : (decision : Decision) → not decision.allowed ≡ true → mark_answer decision ≡ Err (Denied decision.rule)
 denied decision e = rw (not-true decision.allowed e) refl
@@ -32,7 +40,7 @@ returns-then-not-decision-clause-answer c =
     let s = c.self.inside in
     let policy = c.args.policy.now in
     let found : row_picked s.rows.items c.args.n ≡ Ok c.in_ok-head.head = ap (λ (rows : List Row). row_picked rows c.args.n) (sym c.deref.ensures.value) ∙ sym c.in_ok-head.ensures.answer in
-    sym (denied c.removal-decision.result c.if-not-decision.true) ∙ ap mark_answer c.removal-decision.ensures
+    sym (denied c.removal-decision.result c.if-not-decision.true) ∙ ap mark_answer (c.removal-decision.ensures ∙ of_lane c.lane-lane.result c.args.policy.now c.self.inside.name c.in_ok-head.head.class c.lane-lane.ensures)
     ∙ sym (marking-found policy s.name s.rows.items c.args.n c.in_ok-head.head found) ∙ ap (λ (session : Session). marking policy session c.args.n) c.self.view_is
 
 pub returns-clause-answer : goal.returns-clause-answer
@@ -40,7 +48,7 @@ returns-clause-answer c =
     let s = c.self.inside in
     let policy = c.args.policy.now in
     let found : row_picked s.rows.items c.args.n ≡ Ok c.in_ok-head.head = ap (λ (rows : List Row). row_picked rows c.args.n) (sym c.deref.ensures.value) ∙ sym c.in_ok-head.ensures.answer in
-    sym (granted c.removal-decision.result c.if-not-decision.false) ∙ ap mark_answer c.removal-decision.ensures
+    sym (granted c.removal-decision.result c.if-not-decision.false) ∙ ap mark_answer (c.removal-decision.ensures ∙ of_lane c.lane-lane.result c.args.policy.now c.self.inside.name c.in_ok-head.head.class c.lane-lane.ensures)
     ∙ sym (marking-found policy s.name s.rows.items c.args.n c.in_ok-head.head found) ∙ ap (λ (session : Session). marking policy session c.args.n) c.self.view_is
 
 pub returns-clause-kept : goal.returns-clause-kept

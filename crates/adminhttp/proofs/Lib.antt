@@ -1,0 +1,10 @@
+pub mod LineLemmas
+pub mod HeadLemmas
+pub mod FieldLemmas
+pub mod NumberLemmas
+pub mod RouteLemmas
+pub mod BodyLemmas
+pub mod RefusalTexts
+pub mod Routing
+pub mod Laws
+mod RequestRows

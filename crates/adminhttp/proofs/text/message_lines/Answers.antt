@@ -1,0 +1,11 @@
+use Rattle.std.proofs.Common.{arith, ap, map, take_all, ◌∙◌}
+use Rattle.std.proofs.lemmas.Grind.{common_steps}
+use Rattle.office.specs.Answers.{body_lines, message_text}
+use Rattle.office.specs.Shown.{row_seen}
+use Rattle.adminhttp.proofs.text.message_lines.Goals as goal
+
+pub loop-row-preserved : goal.loop-row-preserved
+loop-row-preserved c = grind (arith, common_steps)
+
+pub returns : goal.returns
+returns c = c.loop-row.invariant ∙ ap (λ rows. body_lines message_text (map row_seen rows)) (take_all c.loop-row.row-index c.args.rows.now c.loop-row-test.false)

@@ -1,0 +1,10 @@
+pub mod Steps
+pub mod Lines
+pub mod Head
+pub mod Targets
+pub mod Rows
+pub mod Fields
+pub mod Bodies
+pub mod Request
+pub mod Responses
+pub mod Laws

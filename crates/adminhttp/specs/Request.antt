@@ -1,0 +1,116 @@
+-- What an HTTP request asks of the administration, or why it asks nothing: by the first step that holds.
+use Rattle.std.specs.Prelude.{◌≡◌, ◌⊎◌, ℕ, nat_le, List, codes, length, map, Option, Some, None, Result, Ok, Err, if◌then◌else◌}
+use Rattle.std.specs.Str.{bytes_eq}
+use Rattle.httparse.specs.Grammar.{RequestHead}
+use Rattle.httparse.specs.Spans.{name_and_value}
+use Rattle.office.specs.Answers.{AdminCommand, ListMaildrops, ShowMaildrop, AddMaildrop, DropMaildrop, ShowClerk, PutClerk, DropClerk, ShowPolicy, SetPolicy, ListSessions, EndSession, Explain}
+use Rattle.office.specs.Shown.{command_seen}
+use Rattle.adminhttp.specs.Lines.{head_at, most_in_head}
+use Rattle.adminhttp.specs.Head.{IsHead, IsNoHead, head_text, behind_head}
+use Rattle.adminhttp.specs.Targets.{target_of}
+use Rattle.adminhttp.specs.Fields.{Header}
+use Rattle.adminhttp.specs.Steps.{◌>>=◌, value_or}
+use Rattle.adminhttp.specs.Bodies.{body_of, without_line_end, credential_of, policy_of}
+use Rattle.adminhttp.specs.declared.route.Route.{Route}
+use Rattle.adminhttp.specs.declared.route.Route.TheVariants as route
+use Rattle.adminhttp.specs.declared.target.Target.{Target}
+use Rattle.adminhttp.specs.declared.target.Target.TheVariants as target
+use Rattle.adminhttp.specs.declared.refusal.Refusal.TheVariants.{BadRequest, NotFound, NotAllowed}
+use Rattle.adminhttp.specs.declared.stop.Stop.{Stop}
+use Rattle.adminhttp.specs.declared.stop.Stop.TheVariants.{More, Bad, BadPolicy}
+use Rattle.adminhttp.specs.declared.request.Got.{Got}
+use Rattle.adminhttp.specs.declared.request.Got.TheVariants as got
+
+-- what a request comes to: a command, or why there is none
+abbrev pub Asked : Type 0
+Asked = Result AdminCommand Stop
+
+-- this command, where the request has the one method of its route
+abbrev pub by_get : Route → (method : List ℕ) → AdminCommand → Asked
+by_get r method command = if bytes_eq method (codes "GET") then Ok command else Err (Bad (NotAllowed r))
+
+-- PUT on a clerk
+unfoldable pub clerk_put : (clerk : List ℕ) → List Header → (behind : List ℕ) → Asked
+clerk_put clerk headers behind = do
+  body ← body_of headers behind
+  credential ← value_or (credential_of clerk (without_line_end body)) BadRequest
+  Ok (PutClerk clerk credential)
+
+-- PUT on the policy
+unfoldable pub policy_put : List Header → (behind : List ℕ) → Asked
+policy_put headers behind = do
+  body ← body_of headers behind
+  policy ← policy_of body
+  Ok (SetPolicy policy)
+
+-- a maildrop; the body isn't read
+unfoldable pub maildrop_asked : (maildrop method : List ℕ) → Asked
+maildrop_asked maildrop method =
+    if bytes_eq method (codes "GET") then Ok (ShowMaildrop maildrop)
+    else if bytes_eq method (codes "PUT") then Ok (AddMaildrop maildrop)
+    else if bytes_eq method (codes "DELETE") then Ok (DropMaildrop maildrop)
+    else Err (Bad (NotAllowed route.Maildrop))
+
+-- a clerk
+unfoldable pub clerk_asked : (clerk method : List ℕ) → List Header → (behind : List ℕ) → Asked
+clerk_asked clerk method headers behind =
+    if bytes_eq method (codes "GET") then Ok (ShowClerk clerk)
+    else if bytes_eq method (codes "PUT") then clerk_put clerk headers behind
+    else if bytes_eq method (codes "DELETE") then Ok (DropClerk clerk)
+    else Err (Bad (NotAllowed route.Clerk))
+
+-- the policy
+unfoldable pub policy_asked : (method : List ℕ) → List Header → (behind : List ℕ) → Asked
+policy_asked method headers behind =
+    if bytes_eq method (codes "GET") then Ok ShowPolicy
+    else if bytes_eq method (codes "PUT") then policy_put headers behind
+    else Err (Bad (NotAllowed route.Policy))
+
+-- a session
+unfoldable pub session_asked : (number : ℕ) → (method : List ℕ) → Asked
+session_asked number method =
+    if bytes_eq method (codes "DELETE") then Ok (EndSession number) else Err (Bad (NotAllowed route.Session))
+
+-- what a method asks of a target: another method than the route's, then the body's faults
+abbrev pub asked_of : Target → (method : List ℕ) → List Header → (behind : List ℕ) → Asked
+asked_of target.Maildrops method headers behind = by_get route.Maildrops method ListMaildrops
+asked_of (target.Maildrop maildrop) method headers behind = maildrop_asked maildrop method
+asked_of (target.Clerk clerk) method headers behind = clerk_asked clerk method headers behind
+asked_of target.Policy method headers behind = policy_asked method headers behind
+asked_of target.Sessions method headers behind = by_get route.Sessions method ListSessions
+asked_of (target.Session number) method headers behind = session_asked number method
+asked_of (target.Explain clerk maildrop class action) method headers behind =
+    by_get route.Explain method (Explain clerk maildrop class action)
+
+-- what a head and the octets behind it ask
+unfoldable pub asked_by : (method target : List ℕ) → List Header → (behind : List ℕ) → Asked
+asked_by method target headers behind = do
+  found ← value_or (target_of target) NotFound
+  asked_of found method headers behind
+
+-- a head that hasn't ended: more may come, up to 8,192 octets
+abbrev pub unended : List ℕ → Stop
+unended b = if nat_le (length b) most_in_head then More else Bad BadRequest
+
+-- the text of a head and the octets behind it come to this
+abbrev pub HeadComesTo : (text behind : List ℕ) → Asked → Type 0
+HeadComesTo text behind asked =
+    ((h : RequestHead) × IsHead text h × (asked ≡ asked_by h.method h.target (map name_and_value h.fields) behind))
+    ⊎ (IsNoHead text × (asked ≡ Err (Bad BadRequest)))
+
+-- octets whose head has that place, if it has ended, come to this
+abbrev pub ComesTo : List ℕ → (place : Option (ℕ × ℕ)) → Asked → Type 0
+ComesTo b None asked = asked ≡ Err (unended b)
+ComesTo b (Some place) asked = HeadComesTo (head_text b place) (behind_head b place) asked
+
+-- the octets of a request come to this
+abbrev pub IsRequest : List ℕ → Asked → Type 0
+IsRequest b asked = ComesTo b (head_at b) asked
+
+-- what the code answers says of the request, if memory wasn't refused
+abbrev pub asked_in : Got → Option Asked
+asked_in got.More = Some (Err More)
+asked_in (got.Bad refusal) = Some (Err (Bad refusal))
+asked_in (got.BadPolicy fault) = Some (Err (BadPolicy fault))
+asked_in (got.Command command) = Some (Ok (command_seen command))
+asked_in got.NoMemory = None

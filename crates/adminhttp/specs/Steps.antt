@@ -1,0 +1,21 @@
+-- Steps of a reading, of which the first that fails ends it.
+use Rattle.std.specs.Prelude.{Option, Some, None, Result, Ok, Err}
+use Rattle.adminhttp.specs.declared.refusal.Refusal.{Refusal}
+use Rattle.adminhttp.specs.declared.stop.Stop.{Stop}
+use Rattle.adminhttp.specs.declared.stop.Stop.TheVariants.{Bad}
+
+-- `?` on a `Result`
+infixl 10 ◌>>=◌
+abbrev pub ◌>>=◌ : {A B E : Type 0} → Result A E → (A → Result B E) → Result B E
+Ok x >>= f = f x
+Err e >>= f = Err e
+
+-- what a value is seen as
+abbrev pub map_ok : {A B E : Type 0} → (A → B) → Result A E → Result B E
+map_ok f (Ok x) = Ok (f x)
+map_ok f (Err e) = Err e
+
+-- the value, or this refusal where there is none
+abbrev pub value_or : {A : Type 0} → Option A → Refusal → Result A Stop
+value_or (Some value) refusal = Ok value
+value_or None refusal = Err (Bad refusal)

@@ -1,0 +1,87 @@
+-- What the target of a request names: the routes, by the parts between the slashes.
+use Rattle.std.specs.Prelude.{ℕ, ◌+◌, ◌^◌, ◌&&◌, ◌==◌, nat_le, nat_lt, nat_eq, Bool, List, [], ◌∷◌, codes, length, drop, Option, Some, None, option_map, if◌then◌else◌}
+use Rattle.std.specs.List.{list_all, before_first, position, starts_with}
+use Rattle.std.specs.Char.{is_digit}
+use Rattle.std.specs.Str.{bytes_eq}
+use Rattle.std.specs.Str.Parse.{digits_value}
+use Rattle.creds.specs.Names.{name_of}
+use Rattle.policy.specs.PolicyText.{action_of}
+use Rattle.adminhttp.specs.declared.route.Route.{Route}
+use Rattle.adminhttp.specs.declared.route.Route.TheVariants as route
+use Rattle.adminhttp.specs.declared.target.Target.{Target}
+use Rattle.adminhttp.specs.declared.target.Target.TheVariants.{Maildrops, Maildrop, Clerk, Policy, Sessions, Session, Explain}
+
+-- `?` on an `Option`
+infixl 10 ◌>>=◌
+abbrev pub ◌>>=◌ : {A B : Type 0} → Option A → (A → Option B) → Option B
+Some x >>= f = f x
+None >>= f = None
+
+-- 1 to 20 decimal digits, of a number below 2^64
+abbrev pub is_number : List ℕ → Bool
+is_number part = nat_lt 0 (length part) && list_all (λ b. is_digit b 10) part && nat_le (length part) 20 && nat_lt (digits_value 10 part) (2 ^ 64)
+
+-- the number that they write
+abbrev pub number_of : List ℕ → Option ℕ
+number_of part = if is_number part then Some (digits_value 10 part) else None
+
+-- `/`
+abbrev pub is_slash : ℕ → Bool
+is_slash b = b == 47
+
+-- the part before the first slash, and what stands behind that slash
+abbrev pub first_part : List ℕ → Option (List ℕ × List ℕ)
+first_part text = option_map (λ at. (before_first is_slash text, drop (at + 1) text)) (position is_slash text)
+
+-- what stands behind this beginning of a path
+abbrev pub behind : (word : List ℕ) → List ℕ → Option (List ℕ)
+behind word path = if starts_with nat_eq path word then Some (drop (length word) path) else None
+
+-- the path is this word alone
+abbrev pub alone : (word : List ℕ) → Target → List ℕ → Option Target
+alone word target path = if bytes_eq path word then Some target else None
+
+-- `CLERK/MAILDROP/CLASS/ACTION`
+abbrev pub explained : List ℕ → Option Target
+explained text = do
+  first ← first_part text
+  second ← first_part first.1
+  third ← first_part second.1
+  clerk ← name_of first.0
+  maildrop ← name_of second.0
+  class ← name_of third.0
+  action ← action_of third.1
+  Some (Explain clerk maildrop class action)
+
+-- what a path names that is of this route
+abbrev pub target_on : Route → List ℕ → Option Target
+target_on route.Maildrops path = alone (codes "/maildrops") Maildrops path
+target_on route.Maildrop path = behind (codes "/maildrops/") path >>= λ part. option_map Maildrop (name_of part)
+target_on route.Clerk path = behind (codes "/clerks/") path >>= λ part. option_map Clerk (name_of part)
+target_on route.Policy path = alone (codes "/policy") Policy path
+target_on route.Sessions path = alone (codes "/sessions") Sessions path
+target_on route.Session path = behind (codes "/sessions/") path >>= λ part. option_map Session (number_of part)
+target_on route.Explain path = behind (codes "/explain/") path >>= explained
+
+-- what a path names that is of a route, if there is one
+abbrev pub found_on : Option Route → List ℕ → Option Target
+found_on None path = None
+found_on (Some r) path = target_on r path
+
+-- the first of two that is there
+abbrev pub first_of : Option Target → Option Target → Option Target
+first_of (Some target) other = Some target
+first_of None other = other
+
+-- what a path names on the first of these routes that it is of
+abbrev pub target_among : List Route → List ℕ → Option Target
+target_among [] path = None
+target_among (r ∷ more) path = first_of (target_on r path) (target_among more path)
+
+-- the routes
+abbrev pub routes : List Route
+routes = route.Maildrops ∷ route.Maildrop ∷ route.Clerk ∷ route.Policy ∷ route.Sessions ∷ route.Session ∷ route.Explain ∷ []
+
+-- what a path names; none where it is of no route, or one of its parts has not its form
+unfoldable pub target_of : List ℕ → Option Target
+target_of path = target_among routes path

@@ -1,0 +1,55 @@
+//! The reader of a head.
+
+ghost use Rattle.std.specs.Prelude.{◌≡◌, length, Err, IfSome, IfNone, IfOk, IfErr};
+ghost use Rattle.httparse.specs.Grammar.{RequestHead};
+ghost use Rattle.httparse.specs.Spans.{IsRequestAt, IsRequestWithin};
+ghost use Rattle.adminhttp.specs.Head.{IsHead, IsNoHead, IsLent, most_headers};
+ghost use Rattle.adminhttp.specs.Request.{IsRequest};
+
+use super::{Head, MAX_HEAD, front_of, locate};
+use crate::refusal::Refusal;
+use crate::stop::Stop;
+use httparse::Status;
+use httparse::spans::{HeaderSpan, RequestSpans, parse_request};
+
+/// Where the parts of a head lie that a text is as a whole.
+fn parse_head(text: &[u8], headers: &mut [HeaderSpan]) -> Option<RequestSpans>
+    requires { length headers.old ≡ most_headers }
+    ensures within { IfSome result (IsRequestWithin text.now headers.new) }
+    ensures some { IfSome result (λ spans. (h : RequestHead) × IsRequestAt text.now headers.new spans h × IsHead text.now h) }
+    ensures whole { IfSome result (λ spans. spans.len ≡ length text.now) }
+    ensures none { IfNone result (IsNoHead text.now) }
+{
+    match parse_request(text, headers) {
+        Ok(Status::Complete(spans)) if spans.len == text.len() => Some(spans),
+        _ => None,
+    }
+}
+
+/// The head of a request, whose headers' spans are put into `headers`.
+///
+/// [`Stop::More`] where it hasn't ended in at most 8,192 octets; [`Refusal::BadRequest`] where it hasn't in more, or is
+/// no head of at most 64 headers.
+pub fn read_head<'b>(octets: &'b [u8], headers: &mut [HeaderSpan]) -> Result<Head<'b>, Stop>
+    requires { length headers.old ≡ most_headers }
+    ensures ok { IfOk result (IsLent octets.now headers.new) }
+    ensures stop { IfErr result (λ stop. IsRequest octets.now (Err stop)) }
+{
+    let Some((start, len)) = locate(front_of(octets)) else {
+        if octets.len() <= MAX_HEAD {
+            return Err(Stop::More);
+        }
+        return Err(Stop::Bad(Refusal::BadRequest));
+    };
+    let text = &octets[start..start + len];
+    let Some(spans) = parse_head(text, headers) else {
+        return Err(Stop::Bad(Refusal::BadRequest));
+    };
+    Ok(Head {
+        text,
+        method: spans.method.of(text),
+        target: spans.path.of(text),
+        headers: spans.headers,
+        behind: &octets[start + len..],
+    })
+}

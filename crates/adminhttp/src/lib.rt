@@ -1,0 +1,32 @@
+//! Administration over HTTP/1.0 and HTTP/1.1 (RFC 9112), one request a connection: the command that a request's octets
+//! ask for, and the octets of each response.
+#![tactic(auto)]
+
+ghost use Rattle.adminhttp.specs.Laws.{HasMeaning, HasOneMeaning};
+
+mod body;
+mod command;
+mod fields;
+mod head;
+mod lines;
+mod refusal;
+mod request;
+mod responses;
+mod route;
+mod router;
+mod stop;
+mod target;
+#[cfg(test)]
+mod tests;
+mod text;
+
+pub use refusal::Refusal;
+pub use request::{Got, Request};
+pub use responses::{policy_response, response};
+pub use route::Route;
+
+/// The octets of a request come to one thing at most, and none come to nothing.
+pub fn has_one_meaning()
+    ensures one { HasOneMeaning }
+    ensures some { HasMeaning }
+{}

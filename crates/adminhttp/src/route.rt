@@ -1,0 +1,20 @@
+//! The routes of the administration.
+
+/// A route: a form of path, with the methods that it has.
+#[derive(Clone, Copy, PartialEq, Eq, Debug)]
+pub enum Route {
+    /// `/maildrops`, by GET.
+    Maildrops,
+    /// `/maildrops/{m}`, by GET, PUT and DELETE.
+    Maildrop,
+    /// `/clerks/{c}`, by GET, PUT and DELETE.
+    Clerk,
+    /// `/policy`, by GET and PUT.
+    Policy,
+    /// `/sessions`, by GET.
+    Sessions,
+    /// `/sessions/{n}`, by DELETE.
+    Session,
+    /// `/explain/{clerk}/{maildrop}/{class}/{action}`, by GET.
+    Explain,
+}

@@ -1,0 +1,29 @@
+//! Why a request gives no command.
+
+use crate::refusal::Refusal;
+use matchit::InsertError;
+use policy::PolicyFault;
+
+/// Why a request gives no command.
+#[derive(Clone, Copy, PartialEq, Eq)]
+pub enum Stop {
+    /// More octets are to come.
+    More,
+    /// The request is refused.
+    Bad(Refusal),
+    /// The body is no policy, for this cause, which isn't want of memory.
+    BadPolicy(PolicyFault),
+    /// Memory ran out.
+    NoMemory,
+}
+
+impl From<InsertError> for Stop {
+    ghost use Rattle.std.specs.Prelude.{◌≡◌};
+    ghost use Rattle.adminhttp.specs.declared.stop.Stop.TheVariants.{NoMemory};
+
+    ghost from_gives = { λ _ stop. stop ≡ NoMemory };
+
+    fn from(_: InsertError) -> Stop {
+        Stop::NoMemory
+    }
+}

@@ -1,0 +1,131 @@
+//! The reader of a target.
+
+ghost use Rattle.std.specs.Prelude.{◌≡◌, ◌≢◌, ◌+◌, ◌^◌, ◌<◌, ◌≤◌, length, option_map, IfOk, IfErr, IfSome, Ok, Err, SomeIff};
+ghost use Rattle.std.specs.List.{position};
+ghost use Rattle.std.specs.Str.{IsUtf8};
+ghost use Rattle.std.specs.Str.Parse.{IsNumeral, digits_value};
+ghost use Rattle.adminhttp.specs.Targets.{target_of, target_on, found_on, explained, first_part, behind as text_behind, alone as target_alone, number_of, is_slash};
+ghost use Rattle.adminhttp.specs.Steps.{value_or};
+ghost use Rattle.adminhttp.specs.declared.refusal.Refusal.TheVariants.{NotFound};
+
+use super::Target;
+use crate::refusal::Refusal;
+use crate::route::Route;
+use crate::router::find_route;
+use crate::stop::Stop;
+use creds::Name;
+use policy::Action;
+use std::alloc::Global;
+use std::str;
+
+/// The most digits of a number.
+const MAX_DIGITS: usize = 20;
+
+/// What a target names; [`Refusal::NotFound`] where it is of no route, or a part of it has not its form.
+pub fn read_target(alloc: Global, target: &[u8]) -> Result<Target, Stop>
+    requires { IsUtf8 target.now }
+    ensures ok { IfOk result (λ found. value_or (target_of target.now) NotFound ≡ Ok found) }
+    ensures fault { IfErr result (λ stop. stop ≢ Stop.NoMemory → value_or (target_of target.now) NotFound ≡ Err stop) }
+{
+    let Ok(path) = str::from_utf8(target) else {
+        unreachable!()
+    };
+    match read_found(find_route(alloc, path)?, target) {
+        Some(found) => Ok(found),
+        None => Err(Stop::Bad(Refusal::NotFound)),
+    }
+}
+
+/// What a path names, of which this route was found.
+fn read_found(route: Option<Route>, path: &[u8]) -> Option<Target>
+    ensures { result ≡ found_on route path.now }
+{
+    match route {
+        Some(route) => read_on(route, path),
+        None => None,
+    }
+}
+
+/// What a path names that is of this route.
+fn read_on(route: Route, path: &[u8]) -> Option<Target>
+    ensures { result ≡ target_on route path.now }
+{
+    match route {
+        Route::Maildrops => alone(path, b"/maildrops", Target::Maildrops),
+        Route::Maildrop => Some(Target::Maildrop(Name::read(behind(path, b"/maildrops/")?)?)),
+        Route::Clerk => Some(Target::Clerk(Name::read(behind(path, b"/clerks/")?)?)),
+        Route::Policy => alone(path, b"/policy", Target::Policy),
+        Route::Sessions => alone(path, b"/sessions", Target::Sessions),
+        Route::Session => Some(Target::Session(read_number(behind(path, b"/sessions/")?)?)),
+        Route::Explain => read_explain(behind(path, b"/explain/")?),
+    }
+}
+
+/// The target, where the path is this word.
+fn alone(path: &[u8], word: &[u8], target: Target) -> Option<Target>
+    ensures { result ≡ target_alone word.now target path.now }
+{
+    if path == word { Some(target) } else { None }
+}
+
+/// What stands behind this beginning of a path.
+fn behind<'p>(path: &'p [u8], word: &[u8]) -> Option<&'p [u8]>
+    ensures { option_map (λ r. r.now) result ≡ text_behind word.now path.now }
+{
+    if path.starts_with(word) {
+        return Some(&path[word.len()..]);
+    }
+    None
+}
+
+/// A number of 1 to 20 decimal digits, below 2^64. Leading zeros are allowed.
+fn read_number(part: &[u8]) -> Option<u64>
+    ensures { result ≡ number_of part.now }
+{
+    parse_number(part)
+}
+
+/// The same, in the words of std.
+fn parse_number(part: &[u8]) -> Option<u64>
+    ensures { SomeIff result (IsNumeral 10 part.now × (length part.now ≤ MAX_DIGITS) × (digits_value 10 part.now < 2 ^ 64)) (digits_value 10 part.now) }
+{
+    if part.len() > MAX_DIGITS || part.starts_with(b"+") {
+        return None;
+    }
+    str::from_utf8(part).ok()?.parse().ok()
+}
+
+/// `CLERK/MAILDROP/CLASS/ACTION`.
+fn read_explain(text: &[u8]) -> Option<Target>
+    ensures { result ≡ explained text.now }
+{
+    let (clerk, rest) = take_part(text)?;
+    let (maildrop, rest) = take_part(rest)?;
+    let (class, action) = take_part(rest)?;
+    let clerk = Name::read(clerk)?;
+    let maildrop = Name::read(maildrop)?;
+    let class = Name::read(class)?;
+    let action = Action::read(action)?;
+    Some(Target::Explain {
+        clerk,
+        maildrop,
+        class,
+        action,
+    })
+}
+
+/// The part before the first slash, and what stands behind that slash.
+fn take_part(text: &[u8]) -> Option<(&[u8], &[u8])>
+    ensures { option_map (λ r. (r.0.now, r.1.now)) result ≡ first_part text.now }
+{
+    let at = slash_in(text)?;
+    Some((&text[..at], &text[at + 1..]))
+}
+
+/// Where the first slash stands.
+fn slash_in(text: &[u8]) -> Option<usize>
+    ensures value { result ≡ position is_slash text.now }
+    ensures within { IfSome result (λ at. at < length text.now) }
+{
+    text.iter().position(|b| *b == b'/')
+}

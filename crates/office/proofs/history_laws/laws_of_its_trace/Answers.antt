@@ -1,0 +1,14 @@
+use Rattle.office.proofs.Beginning.{begins_so}
+use Rattle.office.proofs.Greetings as greetings
+use Rattle.office.proofs.RepliesForm as replies
+use Rattle.office.proofs.UniqueIdTexts as texts
+use Rattle.office.proofs.history_laws.laws_of_its_trace.Goals as goal
+
+pub returns-clause-greetings : goal.returns-clause-greetings
+returns-clause-greetings g c T st = greetings.greetings_differ T (begins_so T.log st.began) st.keeps.formed
+
+pub returns-clause-unique_ids : goal.returns-clause-unique_ids
+returns-clause-unique_ids g c T st = texts.unique_id_texts_differ T st.keeps.sound st.keeps.formed
+
+pub returns-clause-replies : goal.returns-clause-replies
+returns-clause-replies g c T st = replies.replies_have_their_form T st.keeps.sound st.keeps.formed

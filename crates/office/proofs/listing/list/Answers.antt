@@ -1,0 +1,21 @@
+use Rattle.std.proofs.Common.{◌≡◌, ◌++◌, List, [], ℕ, Some, sym, ◌∙◌, ap, subst, true, true≢false}
+use Rattle.std.specs.Prelude.{codes}
+use Rattle.std.specs.List.{flat_map}
+use Rattle.creds.specs.declared.uid.Uid.{Uid}
+use Rattle.popline.specs.Replies.{one_line, scan_text, ScanListing, bytes_of}
+use Rattle.session.specs.Session.{octets_of}
+use Rattle.session.specs.View.{unmarked, sizes_of}
+use Rattle.office.specs.Output.{Output, Owes, sizes_coming}
+use Rattle.office.proofs.ListedRows.{begun_whole}
+use Rattle.office.proofs.listing.list.Goals as goal
+
+pub returns-clause-owed : goal.returns-clause-owed
+returns-clause-owed c = λ d.
+    let s = c.args.session.now in
+    let rows = sizes_of octets_of (unmarked s.marks s.view) in
+    let first = one_line (codes "+OK scan listing follows") in
+    let begun : c.begin_sizes.new.self.ready ≡ first ++ [] = ap (λ (o : Output). o.ready) c.in_ok-begin_sizes.ensures ∙ ap (λ (o : Output). o.ready ++ (first ++ [])) c.requires in
+    record {
+      owes = subst (λ xs. Owes d (Some s) c.send_sizes.new.self xs) (begun_whole first (flat_map (λ row. one_line (scan_text row)) rows) c.begin_sizes.new.self.ready begun) (c.in_ok-send_sizes.ensures.owes d);
+      serves = λ h. absurd (true≢false (sym h ∙ c.in_ok-send_sizes.ensures.kind));
+    }

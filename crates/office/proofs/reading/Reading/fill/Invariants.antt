@@ -1,0 +1,21 @@
+use Rattle.std.proofs.Common.{◌≡◌, ◌≤◌, ◌<◌, ◌++◌, ◌-◌}
+use Rattle.vault.specs.Changes.{Contents}
+use Rattle.vault.specs.Calls.{text_under}
+use Rattle.office.specs.Output.{text_coming, IsBegun}
+use Rattle.office.proofs.reading.Reading.fill.Given as goal
+
+abbrev pub invariant-loop-self : goal.invariant-loop-self
+invariant-loop-self g l = record {
+  put : (c : Contents) → g.V.Vault.holds l.fn.vault c → g.V.Vault.is_clean l.vault → IsBegun l.fn.self (text_under l.fn.self.key c.messages)
+      → l.fn.ready.items ++ text_coming l.fn.self (text_under l.fn.self.key c.messages) ≡ l.ready.items ++ text_coming l.self (text_under l.fn.self.key c.messages);
+  left : l.fn.self.place < l.fn.self.octets → l.self.place < l.self.octets;
+  key : l.self.key ≡ l.fn.self.key;
+  octets : l.self.octets ≡ l.fn.self.octets;
+  held : (c : Contents) → g.V.Vault.holds l.fn.vault c → g.V.Vault.is_clean l.vault → g.V.Vault.holds l.vault c;
+  counted : g.V.Vault.faults l.fn.vault ≤ g.V.Vault.faults l.vault;
+  clean : g.V.Vault.is_clean l.vault → g.V.Vault.is_clean l.fn.vault;
+  up : (c : Contents) → g.V.Vault.holds l.fn.vault c → g.V.Vault.is_clean l.vault → g.V.Vault.is_up l.fn.vault → g.V.Vault.is_up l.vault;
+}
+
+abbrev pub decreases-loop-self : goal.decreases-loop-self
+decreases-loop-self g l = l.self.octets - l.self.place

@@ -1,0 +1,135 @@
+-- What a connection is owed, as it is kept: octets that stand ready, and what feeds them (RFC 1939, 3: replies of many lines).
+use Rattle.std.specs.Prelude.{◌≡◌, ℕ, Bool, true, false, List, [], ◌++◌, ◌<◌, ◌≤◌, length, take, drop, codes, Option, Some, None}
+use Rattle.std.specs.List.{flat_map}
+use Rattle.mailtext.specs.Streams.{Come, stuffed_from, top_from}
+use Rattle.creds.specs.declared.uid.Uid.{Uid}
+use Rattle.popline.specs.Replies.{Reply, one_line, scan_text, uid_row_text, bytes_of}
+use Rattle.vault.specs.Changes.{Contents}
+use Rattle.vault.specs.declared.record.Keyed.{Keyed}
+use Rattle.session.specs.Session.{Session, octets_of, uid_of}
+use Rattle.session.specs.View.{unmarked, sizes_of, uids_of}
+use Rattle.office.specs.History.{Says}
+use Rattle.office.specs.Connections.{has_message}
+use Rattle.office.specs.Laws.{In}
+use Rattle.office.specs.declared.reading.Reading.{Reading}
+use Rattle.office.specs.declared.reading.Page.{Page}
+use Rattle.office.specs.declared.reading.Page.TheVariants as page
+use Rattle.office.specs.declared.output.Source.{Source}
+use Rattle.office.specs.declared.output.Source.TheVariants.{Nothing, Sizes, Uids, Text}
+
+-- so many octets are lent at most, and stand ready where so many are owed
+abbrev pub most_lent : ℕ
+most_lent = 16384
+
+-- the octets that stand ready, and what feeds them
+pub record Output : Type 0 where
+  pub ready : List ℕ
+  pub source : Source
+
+-- nothing stands ready, and nothing comes
+abbrev pub nothing_owed : Output
+nothing_owed = record { ready = []; source = Nothing }
+
+-- something comes
+abbrev pub is_feeding : Source → Bool
+is_feeding Nothing = false
+is_feeding _ = true
+
+-- a message comes
+abbrev pub reads_text : Source → Bool
+reads_text (Text r) = true
+reads_text _ = false
+
+-- what is lent
+abbrev pub lent_of : Output → List ℕ
+lent_of o = take most_lent o.ready
+
+-- where something comes, as much stands ready as is lent at most
+abbrev pub IsFilled : Output → Type 0
+IsFilled o = is_feeding o.source ≡ true → most_lent ≤ length o.ready
+
+-- ---- what comes
+
+-- the line that ends a reply of many lines
+abbrev pub last_line : List ℕ
+last_line = one_line (codes ".")
+
+-- the lines of a scan listing behind the first ones, and the dot
+abbrev pub sizes_coming : (done : ℕ) → Session → List ℕ
+sizes_coming done s = flat_map (λ row. one_line (scan_text row)) (drop done (sizes_of octets_of (unmarked s.marks s.view))) ++ last_line
+
+-- the lines of a listing of unique-ids behind the first ones, and the dot
+abbrev pub uids_coming : (done : ℕ) → Session → List ℕ
+uids_coming done s = flat_map (λ row. one_line (uid_row_text row)) (drop done (uids_of uid_of (unmarked s.marks s.view))) ++ last_line
+
+-- the octets that follow as far as they are sent: TOP's part, or all
+abbrev pub cut_from : Option Come → List ℕ → List ℕ
+cut_from None octets = octets
+cut_from (Some come) octets = top_from come octets
+
+-- what is still to be sent of a text, and the dot
+abbrev pub text_coming : Reading → (text : List ℕ) → List ℕ
+text_coming r text = stuffed_from r.stuffer (cut_from r.cut (drop r.place text)) ++ last_line
+
+-- some of a text of so many octets is still to be read
+pub record IsBegun (r : Reading) (text : List ℕ) : Type 0 where
+  pub size : length text ≡ r.octets
+  pub left : r.place < r.octets
+
+-- what a listing still puts behind what it has put; a message is none
+abbrev pub listing_coming : Session → Source → List ℕ
+listing_coming s (Sizes done) = sizes_coming done s
+listing_coming s (Uids done) = uids_coming done s
+listing_coming s _ = []
+
+-- what a listing has put and what it still puts make the whole
+pub record IsListed (s : Session) (source : Source) (before after coming : List ℕ) : Type 0 where
+  pub put : before ++ coming ≡ after ++ listing_coming s source
+  pub kind : reads_text source ≡ false
+
+-- a message of the session's maildrop is read, and this is still to be sent of it
+pub record Reads (c : Contents) (s : Session) (r : Reading) (octets : List ℕ) : Type 0 where
+  pub stored : Keyed
+  pub there : In stored c.messages
+  pub within : stored.message.maildrop ≡ s.name.maildrop
+  pub key : stored.key ≡ r.key
+  pub begun : IsBegun r stored.message.text
+  pub coming : octets ≡ text_coming r stored.message.text
+
+-- a source puts these octets, in time
+abbrev pub FeedsInside : Contents → Session → Source → List ℕ → Type 0
+FeedsInside c s Nothing coming = coming ≡ []
+FeedsInside c s (Sizes done) coming = coming ≡ sizes_coming done s
+FeedsInside c s (Uids done) coming = coming ≡ uids_coming done s
+FeedsInside c s (Text r) coming = Reads c s r coming
+
+-- the same, in a session or without one
+abbrev pub Feeds : Contents → Option Session → Source → List ℕ → Type 0
+Feeds c None Nothing coming = coming ≡ []
+Feeds c None source coming = ⊥
+Feeds c (Some s) source coming = FeedsInside c s source coming
+
+-- These octets are owed: what stands ready, and what its source puts behind it. As many stand ready as are lent at most, or all.
+pub record Owes (c : Contents) (s : Option Session) (o : Output) (octets : List ℕ) : Type 0 where
+  pub coming : List ℕ
+  pub is : octets ≡ o.ready ++ coming
+  pub feeds : Feeds c s o.source coming
+  pub filled : IsFilled o
+
+-- A reply is owed, and a message comes only where it is the reply's.
+pub record OwesReply (c : Contents) (s : Option Session) (o : Output) (reply : Reply) : Type 0 where
+  pub owes : Owes c s o (bytes_of reply)
+  pub serves : reads_text o.source ≡ true → has_message (Says reply) ≡ true
+
+-- what is owed after octets: nothing where no line acts
+abbrev pub OwesIf : (has_line : Bool) → Contents → Option Session → Output → Reply → Type 0
+OwesIf true c s o reply = OwesReply c s o reply
+OwesIf false c s o reply = o ≡ nothing_owed
+
+-- ---- a page
+
+-- what was put and what is still to be put make the whole
+abbrev pub IsPut : Page → (before after coming_before coming_after : List ℕ) → Type 0
+IsPut page.More before after coming still = before ++ coming ≡ after ++ still
+IsPut page.Last before after coming still = before ++ coming ≡ after
+IsPut page.Refused before after coming still = Unit {0}

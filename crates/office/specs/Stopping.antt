@@ -1,0 +1,65 @@
+-- What a stop of the device in an event leaves (a crash, the power gone): what the store says when it is opened again.
+use Rattle.std.specs.Prelude.{◌≡◌, ◌⊎◌, ⊤, Result, IfOk}
+use Rattle.vault.specs.Records.{Agree}
+use Rattle.vault.specs.Changes.{Contents, records_of}
+use Rattle.vault.specs.Stops.{SaySame}
+use Rattle.office.specs.declared.talk.Acted.{Acted}
+use Rattle.office.specs.declared.talk.Acted.TheVariants as acted
+use Rattle.office.specs.History.{Done}
+use Rattle.office.specs.Sessions.{records}
+use Rattle.office.specs.Events.{Event, Mark, Ignored, Tagged, Trace, given}
+use Rattle.office.specs.Trace.{history}
+use Rattle.office.specs.Outcomes.{Outcome, mark_of}
+use Rattle.office.specs.Outcomes as outcome
+
+-- contents say what a trace says: their records are those of the trace's history
+abbrev pub SaysTrace : Contents → Trace → Type 0
+SaysTrace c T = Agree (records_of c) (records T.base (history T))
+
+-- whatever a stop may leave says what a trace says
+abbrev pub LeavesTrace : (MayLeave : Contents → Type 0) → Trace → Type 0
+LeavesTrace MayLeave T = (left : Contents) → MayLeave left → SaysTrace left T
+
+-- an event that was answered otherwise than Failed or NoMemory
+abbrev pub IsAnswered : Outcome → Type 0
+IsAnswered outcome.Failed = ⊥
+IsAnswered outcome.NoMemory = ⊥
+IsAnswered _ = ⊤
+
+-- what an event shows that is taken as done; an ignored event stays no act
+abbrev pub taken_as_done : Mark → Mark
+taken_as_done Ignored = Ignored
+taken_as_done (Tagged t) = Tagged Done
+
+-- a trace with an event that got this outcome, taken as done
+abbrev pub with_it_done : Trace → Event → Outcome → Trace
+with_it_done T e o = given T e (taken_as_done (mark_of o))
+
+-- without the event or with it where it was answered Failed or NoMemory, else with it
+abbrev pub EitherOrWith : Outcome → (without with_it : Type 0) → Type 0
+EitherOrWith outcome.Failed without with_it = without ⊎ with_it
+EitherOrWith outcome.NoMemory without with_it = without ⊎ with_it
+EitherOrWith _ without with_it = with_it
+
+-- Whatever a stop may leave after an event that got this outcome says what the trace before it says, or that with the event taken as done; the
+-- latter where the event was answered otherwise than Failed or NoMemory.
+abbrev pub StopLeaves : (MayLeave : Contents → Type 0) → Trace → Event → Outcome → Type 0
+StopLeaves MayLeave T e o = (left : Contents) → MayLeave left → EitherOrWith o (SaysTrace left T) (SaysTrace left (with_it_done T e o))
+
+-- a device that was up is up after an event that was answered otherwise than Failed or NoMemory
+abbrev pub StaysUpUnless : (was_up is_up : Type 0) → Outcome → Type 0
+StaysUpUnless was_up is_up o = was_up → IsAnswered o → is_up
+
+-- ---- a line
+
+-- whatever a stop may leave says the same as these contents
+pub record LeavesHeld (MayLeave : Contents → Type 0) (c : Contents) : Type 0 where
+  pub says : (left : Contents) → MayLeave left → SaySame left c
+
+-- whatever a stop may leave says the same as one of these contents
+pub record LeavesOneOf (MayLeave : Contents → Type 0) (a b : Contents) : Type 0 where
+  pub says : (left : Contents) → MayLeave left → SaySame left a ⊎ SaySame left b
+
+-- a device that was up is up after a line that was done
+abbrev pub StaysUpWhenDone : {E : Type 0} → (was_up is_up : Type 0) → Result Acted E → Type 0
+StaysUpWhenDone was_up is_up answered = was_up → IfOk answered (λ w. w ≡ acted.Done → is_up)

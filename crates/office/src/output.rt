@@ -1,0 +1,300 @@
+//! What a connection is owed: octets that stand ready, and what feeds them (RFC 1939, 3: replies of many lines).
+ghost use Rattle.std.specs.Prelude.{◌≡◌, ◌≤◌, ◌<◌, ◌++◌, ◌⊎◌, ℕ, List, [], Option, Some, true, false, IfOk, OnOk, drop, length, codes};
+ghost use Rattle.std.specs.Fmt.{decimal};
+ghost use Rattle.popline.specs.Replies.{bytes_of, one_line, scan_begun, uids_begun};
+ghost use Rattle.popline.specs.Seen.{reply_seen};
+ghost use Rattle.vault.specs.Changes.{Contents};
+ghost use Rattle.vault.specs.Calls.{has_grown};
+ghost use Rattle.session.specs.Session.{Session as State};
+ghost use Rattle.session.specs.Session.{octets_of, uid_of};
+ghost use Rattle.session.specs.View.{unmarked, sizes_of, uids_of};
+ghost use Rattle.office.specs.Replying.{is_empty};
+ghost use Rattle.office.specs.Output.{nothing_owed, is_feeding, reads_text, most_lent, lent_of, IsFilled, Owes, Reads, IsListed, sizes_coming, uids_coming};
+ghost use Rattle.office.specs.Stopping.{LeavesHeld};
+
+use crate::reading::{MOST_LENT, Page, Reading};
+use popline::{
+    Reply, begin_message, begin_scan_listing, begin_top, begin_uid_listing, end_lines,
+    put_scan_row, put_uid_row,
+};
+use session::{Session, Sizes, Uids};
+use std::alloc::{AllocError, Global};
+use std::marker::Model;
+use std::mem;
+use vault::Vault;
+
+/// How many octets of a listing are put at once, at least.
+const LISTED: usize = 20_480;
+/// The room that is made: what is lent at most, a page of a message with each dot doubled, and a line.
+const ROOM: usize = 24_832;
+
+/// What feeds an output.
+#[derive(Drop)]
+pub enum Source {
+    Nothing,
+    /// A scan listing, of which so many lines were put.
+    Sizes(usize),
+    /// A listing of unique-ids, of which so many lines were put.
+    Uids(usize),
+    /// A message, or its top.
+    Text(Reading),
+}
+
+/// Octets that stand ready, and what feeds them. While something is to come, as many stand ready as are lent at most.
+#[derive(Drop)]
+pub struct Output {
+    /// Octets to send, of which the first `taken` were taken.
+    ready: Vec<u8>,
+    taken: usize,
+    source: Source,
+}
+
+impl Model for Output {
+    ghost use Rattle.std.specs.Prelude.{◌≡◌, true, drop, length, ◌≤◌};
+    ghost use Rattle.office.specs.Output.{Output, is_feeding, most_lent};
+
+    ghost Value = { Output };
+
+    ghost view = { λ o. record { ready = drop o.taken o.ready.items; source = o.source } };
+
+    ghost invariant = { λ o. (o.taken ≤ length o.ready.items) × (is_feeding o.source ≡ true → most_lent ≤ length (drop o.taken o.ready.items)) };
+}
+
+/// Removes octets from the front.
+fn remove_front(octets: &mut Vec<u8>, n: usize)
+    requires { n ≤ length octets.old.items }
+    ensures { octets.new.items ≡ drop n octets.old.items }
+{
+    let left = octets.len() - n;
+    octets.copy_within(n.., 0);
+    octets.truncate(left);
+}
+
+/// A scan listing without its first rows.
+fn sizes_behind(session: &Session, done: usize) -> Sizes<'_>
+    ensures { result ≡ drop done (sizes_of octets_of (unmarked session.now.marks session.now.view)) }
+{
+    let mut rows = session.list();
+    for _ in 0..done {
+        let _ = rows.next();
+    }
+    rows
+}
+
+/// A listing of unique-ids without its first rows.
+fn uids_behind(session: &Session, done: usize) -> Uids<'_>
+    ensures { result ≡ drop done (uids_of uid_of (unmarked session.now.marks session.now.view)) }
+{
+    let mut rows = session.uidl();
+    for _ in 0..done {
+        let _ = rows.next();
+    }
+    rows
+}
+
+/// Puts rows of a scan listing behind the first ones, as far as there is room, and answers what is then to come. More rows than
+/// can be counted are want of memory.
+fn put_sizes(
+    alloc: Global,
+    session: &Session,
+    passed: usize,
+    ready: &mut Vec<u8>,
+) -> Result<Source, AllocError>
+    ensures put { IfOk result (λ source. IsListed session.now source ready.old.items ready.new.items (sizes_coming passed session.now)) }
+    ensures full { IfOk result (λ source. is_feeding source ≡ true → most_lent ≤ length ready.new.items) }
+{
+    let mut rows = sizes_behind(session, passed);
+    let mut done = passed;
+    while ready.len() < LISTED {
+        let Some((number, octets)) = rows.next() else {
+            end_lines(ready)?;
+            return Ok(Source::Nothing);
+        };
+        put_scan_row(alloc, ready, number, octets)?;
+        let Some(next) = done.checked_add(1) else {
+            return Err(AllocError);
+        };
+        done = next;
+    }
+    Ok(Source::Sizes(done))
+}
+
+/// The same of unique-ids.
+fn put_uids(
+    alloc: Global,
+    session: &Session,
+    passed: usize,
+    ready: &mut Vec<u8>,
+) -> Result<Source, AllocError>
+    ensures put { IfOk result (λ source. IsListed session.now source ready.old.items ready.new.items (uids_coming passed session.now)) }
+    ensures full { IfOk result (λ source. is_feeding source ≡ true → most_lent ≤ length ready.new.items) }
+{
+    let mut rows = uids_behind(session, passed);
+    let mut done = passed;
+    while ready.len() < LISTED {
+        let Some((number, uid)) = rows.next() else {
+            end_lines(ready)?;
+            return Ok(Source::Nothing);
+        };
+        put_uid_row(alloc, ready, number, uid)?;
+        let Some(next) = done.checked_add(1) else {
+            return Err(AllocError);
+        };
+        done = next;
+    }
+    Ok(Source::Uids(done))
+}
+
+impl Output {
+    /// Nothing is owed; the room for what is lent is made.
+    pub fn new(alloc: Global) -> Result<Output, AllocError>
+        ensures { IfOk result (λ o. o ≡ nothing_owed) }
+    {
+        Ok(Output {
+            ready: Vec::with_capacity(alloc, ROOM)?,
+            taken: 0,
+            source: Source::Nothing,
+        })
+    }
+
+    /// What is lent of what is owed: all that stands ready, 16,384 octets at most.
+    pub fn lent(&self) -> &[u8]
+        ensures { result.now ≡ lent_of self.now }
+    {
+        let ready = &self.ready[self.taken..];
+        &ready[..ready.len().min(MOST_LENT)]
+    }
+
+    /// Whether nothing is owed.
+    pub fn is_empty(&self) -> bool
+        ensures value { result ≡ is_empty self.now.ready }
+        ensures nothing { result ≡ true → self.now ≡ nothing_owed }
+    {
+        self.ready.len() == self.taken
+    }
+
+    /// Forgets all that is owed.
+    pub fn clear(&mut self)
+        ensures { self.new ≡ nothing_owed }
+    {
+        self.source = Source::Nothing;
+        self.ready.clear();
+        self.taken = 0;
+    }
+
+    /// Makes room for so many octets more.
+    pub fn reserve(&mut self, octets: usize) -> Result<(), AllocError>
+        ensures { self.new ≡ self.old }
+    {
+        self.ready.reserve(octets)
+    }
+
+    /// Puts a reply.
+    pub fn say(&mut self, alloc: Global, reply: &Reply<'_>) -> Result<(), AllocError>
+        ensures { OnOk result (self.new ≡ record self.old { ready = self.old.ready ++ bytes_of (reply_seen reply.now) }) }
+    {
+        reply.put(alloc, &mut self.ready)
+    }
+
+    /// Puts the first line of a scan listing.
+    pub fn begin_sizes(&mut self) -> Result<(), AllocError>
+        ensures { OnOk result (self.new ≡ record self.old { ready = self.old.ready ++ scan_begun [] }) }
+    {
+        begin_scan_listing(&mut self.ready)
+    }
+
+    /// Puts the first line of a listing of unique-ids.
+    pub fn begin_uids(&mut self) -> Result<(), AllocError>
+        ensures { OnOk result (self.new ≡ record self.old { ready = self.old.ready ++ uids_begun [] }) }
+    {
+        begin_uid_listing(&mut self.ready)
+    }
+
+    /// Puts the first line of a message of so many octets.
+    pub fn begin_message(&mut self, alloc: Global, octets: u64) -> Result<(), AllocError>
+        ensures { OnOk result (self.new ≡ record self.old { ready = self.old.ready ++ one_line (codes "+OK " ++ decimal octets ++ codes " octets") }) }
+    {
+        begin_message(alloc, &mut self.ready, octets)
+    }
+
+    /// Puts the first line of a message's top.
+    pub fn begin_top(&mut self) -> Result<(), AllocError>
+        ensures { OnOk result (self.new ≡ record self.old { ready = self.old.ready ++ one_line (codes "+OK top follows") }) }
+    {
+        begin_top(&mut self.ready)
+    }
+
+    /// Takes octets that stand ready. Answers the source where few are left: it is to be put again.
+    pub fn take(&mut self, octets: usize) -> Source
+        requires { octets ≤ length self.old.ready }
+        ensures ready { self.new.ready ≡ drop octets self.old.ready }
+        ensures filled { IsFilled self.new }
+        ensures source { ((result ≡ Source.Nothing) × (self.new.source ≡ self.old.source)) ⊎ ((result ≡ self.old.source) × (self.new.source ≡ Source.Nothing)) }
+    {
+        let source = mem::replace(&mut self.source, Source::Nothing);
+        self.taken += octets;
+        if self.ready.len() - self.taken < MOST_LENT {
+            return source;
+        }
+        self.source = source;
+        Source::Nothing
+    }
+
+    /// Puts lines of a scan listing behind the first ones.
+    pub fn send_sizes(
+        &mut self,
+        alloc: Global,
+        session: &Session,
+        done: usize,
+    ) -> Result<(), AllocError>
+        requires { self.old.source ≡ Source.Nothing }
+        ensures owes { OnOk result ((c : Contents) → Owes c (Some session.now) self.new (self.old.ready ++ sizes_coming done session.now)) }
+        ensures kind { OnOk result (reads_text self.new.source ≡ false) }
+    {
+        remove_front(&mut self.ready, self.taken);
+        self.taken = 0;
+        self.source = put_sizes(alloc, session, done, &mut self.ready)?;
+        Ok(())
+    }
+
+    /// Puts lines of a listing of unique-ids behind the first ones.
+    pub fn send_uids(
+        &mut self,
+        alloc: Global,
+        session: &Session,
+        done: usize,
+    ) -> Result<(), AllocError>
+        requires { self.old.source ≡ Source.Nothing }
+        ensures owes { OnOk result ((c : Contents) → Owes c (Some session.now) self.new (self.old.ready ++ uids_coming done session.now)) }
+        ensures kind { OnOk result (reads_text self.new.source ≡ false) }
+    {
+        remove_front(&mut self.ready, self.taken);
+        self.taken = 0;
+        self.source = put_uids(alloc, session, done, &mut self.ready)?;
+        Ok(())
+    }
+
+    /// Puts pages of a message. `false` where the store refused one.
+    pub fn send_text<V: Vault>(&mut self, vault: &mut V, text: Reading) -> Result<bool, AllocError>
+        requires { self.old.source ≡ Source.Nothing }
+        ensures owes { IfOk result (λ sent. sent ≡ true → (c : Contents) (s : State) (coming : List ℕ) → V.holds vault.old c → V.is_clean vault.new → Reads c s text coming → Owes c (Some s) self.new (self.old.ready ++ coming)) }
+        ensures cause { IfOk result (λ sent. sent ≡ false → (c : Contents) (s : State) (coming : List ℕ) → V.holds vault.old c → V.is_clean vault.new → Reads c s text coming → has_grown (V.faults vault.old) (V.faults vault.new) ≡ true) }
+        ensures held { (c : Contents) → V.holds vault.old c → V.is_clean vault.new → V.holds vault.new c }
+        ensures counted { V.faults vault.old ≤ V.faults vault.new }
+        ensures clean { V.is_clean vault.new → V.is_clean vault.old }
+        ensures up { (c : Contents) → V.holds vault.old c → V.is_clean vault.new → V.is_up vault.old → IfOk result (λ sent. sent ≡ true → V.is_up vault.new) }
+        ensures stop { (c : Contents) → V.holds vault.old c → V.is_clean vault.new → V.is_up vault.old → LeavesHeld (V.may_leave vault.new) c }
+    {
+        remove_front(&mut self.ready, self.taken);
+        self.taken = 0;
+        let mut text = text;
+        match text.fill(vault, &mut self.ready)? {
+            Page::More => {
+                self.source = Source::Text(text);
+                Ok(true)
+            }
+            Page::Last => Ok(true),
+            Page::Refused => Ok(false),
+        }
+    }
+}

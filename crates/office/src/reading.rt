@@ -1,0 +1,185 @@
+//! A message that is sent page by page (RFC 1939, 5: RETR; 7: TOP).
+ghost use Rattle.std.specs.Prelude.{◌≡◌, ◌≢◌, ◌≤◌, ◌<◌, ◌++◌, ◌+◌, ℕ, List, [], Some, None, true, false, min, length, take, drop, OnOk, OnErr, IfOk, IfSome, if◌then◌else◌};
+ghost use Rattle.mailtext.specs.Text.{kept_form, lines_of, stuffed_lines, top_part};
+ghost use Rattle.mailtext.specs.Streams.{stuffed_from, nothing_come};
+ghost use Rattle.vault.specs.Changes.{Contents};
+ghost use Rattle.vault.specs.Calls.{has_grown, text_under};
+ghost use Rattle.office.specs.Output.{most_lent, cut_from, text_coming, last_line, IsBegun, IsPut};
+ghost use Rattle.office.specs.Stopping.{LeavesHeld};
+
+use mailtext::{Stuffer, TopCut};
+use popline::end_lines;
+use std::alloc::AllocError;
+use vault::{MessageKey, Vault, VaultFault};
+
+/// How many octets are lent at most, and stand ready where so many are owed.
+pub const MOST_LENT: usize = 16_384;
+/// How many octets are read at once.
+const PAGE_OCTETS: usize = 4096;
+/// How many octets a page has at most once its dots are doubled.
+const STUFFED_OCTETS: usize = 8192;
+
+/// A message that is being sent: its key and its octets, how many of them were read, and how it goes on from there.
+#[derive(Drop)]
+pub struct Reading {
+    key: MessageKey,
+    octets: u64,
+    place: u64,
+    stuffer: Stuffer,
+    /// How far TOP goes; `None` where the whole message is sent.
+    cut: Option<TopCut>,
+}
+
+/// What became of a page.
+#[derive(Clone, Copy)]
+pub enum Page {
+    /// It was put, and more is to come.
+    More,
+    /// It was put, and the dot behind it.
+    Last,
+    /// The store refused it, or gave what no clean store gives.
+    Refused,
+}
+
+impl Reading {
+    /// The message under a key, of so many octets, from its beginning on.
+    pub fn whole(key: MessageKey, octets: u64) -> Reading
+        ensures is { result ≡ record { key = key; octets = octets; place = 0; stuffer = true; cut = None } }
+        ensures coming { (text : List ℕ) → kept_form text ≡ text → text_coming result text ≡ stuffed_lines (lines_of text) ++ last_line }
+    {
+        Reading {
+            key,
+            octets,
+            place: 0,
+            stuffer: Stuffer::new(),
+            cut: None,
+        }
+    }
+
+    /// Its header, and so many lines of its body.
+    pub fn top(key: MessageKey, octets: u64, lines: u64) -> Reading
+        ensures is { result ≡ record { key = key; octets = octets; place = 0; stuffer = true; cut = Some (nothing_come lines) } }
+        ensures coming { (text : List ℕ) → kept_form text ≡ text → text_coming result text ≡ stuffed_lines (top_part (lines_of text) lines) ++ last_line }
+    {
+        Reading {
+            key,
+            octets,
+            place: 0,
+            stuffer: Stuffer::new(),
+            cut: Some(TopCut::new(lines)),
+        }
+    }
+
+    /// Reads the next page into the front of a buffer, and answers how many octets it has. `None` where the store refused, or gave a
+    /// page that no clean store gives.
+    fn read<V: Vault>(&self, vault: &mut V, page: &mut [u8]) -> Result<Option<usize>, AllocError>
+        requires { 0 < length page.old }
+        ensures some { IfOk result (λ read. IfSome read (λ n. (0 < n) × (n ≤ length page.new))) }
+        ensures text { IfOk result (λ read. IfSome read (λ n. (c : Contents) → V.holds vault.old c → V.is_clean vault.new → take n page.new ≡ take n (drop self.now.place (text_under self.now.key c.messages)))) }
+        ensures cause { IfOk result (λ read. read ≡ None → (c : Contents) → V.holds vault.old c → V.is_clean vault.new → self.now.place < length (text_under self.now.key c.messages) → has_grown (V.faults vault.old) (V.faults vault.new) ≡ true) }
+        ensures held { (c : Contents) → V.holds vault.old c → V.is_clean vault.new → V.holds vault.new c }
+        ensures counted { V.faults vault.old ≤ V.faults vault.new }
+        ensures clean { V.is_clean vault.new → V.is_clean vault.old }
+        ensures up { (c : Contents) → V.holds vault.old c → V.is_clean vault.new → V.is_up vault.old → IfOk result (λ read. IfSome read (λ _. V.is_up vault.new)) }
+        ensures stop { (c : Contents) → V.holds vault.old c → V.is_clean vault.new → V.is_up vault.old → LeavesHeld (V.may_leave vault.new) c }
+    {
+        let room = page.len();
+        match vault.page(self.key, self.place, page) {
+            Ok(octets) if octets == 0 || octets > room => Ok(None),
+            Ok(octets) => Ok(Some(octets)),
+            Err(VaultFault::NoMemory) => Err(AllocError),
+            Err(_) => Ok(None),
+        }
+    }
+
+    /// How many first octets of a page are sent.
+    fn part_of(&mut self, page: &[u8]) -> usize
+        ensures within { result ≤ length page.now }
+        ensures part { (more : List ℕ) → cut_from self.old.cut (page.now ++ more) ≡ take result page.now ++ cut_from self.new.cut (drop result page.now ++ more) }
+        ensures over { result < length page.now → (more : List ℕ) → cut_from self.new.cut more ≡ [] }
+        ensures same { self.new ≡ record self.old { cut = self.new.cut } }
+    {
+        match &mut self.cut {
+            None => page.len(),
+            Some(cut) => cut.feed(page),
+        }
+    }
+
+    /// Puts octets of a page, dots added.
+    fn put_stuffed(&mut self, octets: &[u8], ready: &mut Vec<u8>) -> Result<(), AllocError>
+        requires { length octets.now ≤ PAGE_OCTETS }
+        ensures ok { OnOk result ((more : List ℕ) → ready.old.items ++ stuffed_from self.old.stuffer (octets.now ++ more) ≡ ready.new.items ++ stuffed_from self.new.stuffer more) }
+        ensures same { self.new ≡ record self.old { stuffer = self.new.stuffer } }
+    {
+        let mut out = [0u8; STUFFED_OCTETS];
+        let (_, put) = self.stuffer.feed(octets, &mut out);
+        ready.extend_from_slice(&out[..put])
+    }
+
+    /// Puts a page of the message, and answers whether more is to come.
+    fn put(&mut self, page: &[u8], ready: &mut Vec<u8>) -> Result<bool, AllocError>
+        requires { length page.now ≤ PAGE_OCTETS }
+        ensures put { IfOk result (λ more. (text : List ℕ) → length text ≡ self.old.octets → page.now ≡ take (length page.now) (drop self.old.place text) → ready.old.items ++ text_coming self.old text ≡ ready.new.items ++ (if more then text_coming self.new text else [])) }
+        ensures left { IfOk result (λ more. more ≡ true → self.new.place < self.new.octets) }
+        ensures passed { IfOk result (λ more. more ≡ true → self.new.place ≡ self.old.place + length page.now) }
+        ensures key { self.new.key ≡ self.old.key }
+        ensures octets { self.new.octets ≡ self.old.octets }
+    {
+        let part = self.part_of(page);
+        self.put_stuffed(&page[..part], ready)?;
+        self.place = self.place.saturating_add(page.len() as u64);
+        if part == page.len() && self.place < self.octets {
+            return Ok(true);
+        }
+        end_lines(ready)?;
+        Ok(false)
+    }
+
+    /// Reads the next page and puts it.
+    fn put_page<V: Vault>(&mut self, vault: &mut V, ready: &mut Vec<u8>) -> Result<Page, AllocError>
+        ensures put { IfOk result (λ page. (c : Contents) → V.holds vault.old c → V.is_clean vault.new → IsBegun self.old (text_under self.old.key c.messages) → IsPut page ready.old.items ready.new.items (text_coming self.old (text_under self.old.key c.messages)) (text_coming self.new (text_under self.old.key c.messages))) }
+        ensures left { IfOk result (λ page. page ≡ Page.More → (self.new.place < self.new.octets) × (self.old.place < self.new.place)) }
+        ensures cause { IfOk result (λ page. page ≡ Page.Refused → (c : Contents) → V.holds vault.old c → V.is_clean vault.new → IsBegun self.old (text_under self.old.key c.messages) → has_grown (V.faults vault.old) (V.faults vault.new) ≡ true) }
+        ensures key { self.new.key ≡ self.old.key }
+        ensures octets { self.new.octets ≡ self.old.octets }
+        ensures held { (c : Contents) → V.holds vault.old c → V.is_clean vault.new → V.holds vault.new c }
+        ensures counted { V.faults vault.old ≤ V.faults vault.new }
+        ensures clean { V.is_clean vault.new → V.is_clean vault.old }
+        ensures up { (c : Contents) → V.holds vault.old c → V.is_clean vault.new → V.is_up vault.old → IfOk result (λ page. page ≢ Page.Refused → V.is_up vault.new) }
+        ensures stop { (c : Contents) → V.holds vault.old c → V.is_clean vault.new → V.is_up vault.old → LeavesHeld (V.may_leave vault.new) c }
+    {
+        let mut page = [0u8; PAGE_OCTETS];
+        let Some(octets) = self.read(vault, &mut page)? else {
+            return Ok(Page::Refused);
+        };
+        if self.put(&page[..octets], ready)? {
+            Ok(Page::More)
+        } else {
+            Ok(Page::Last)
+        }
+    }
+
+    /// Puts pages until as much stands ready as is lent at most, or nothing more is to come.
+    pub fn fill<V: Vault>(&mut self, vault: &mut V, ready: &mut Vec<u8>) -> Result<Page, AllocError>
+        ensures put { IfOk result (λ page. (c : Contents) → V.holds vault.old c → V.is_clean vault.new → IsBegun self.old (text_under self.old.key c.messages) → IsPut page ready.old.items ready.new.items (text_coming self.old (text_under self.old.key c.messages)) (text_coming self.new (text_under self.old.key c.messages))) }
+        ensures more { IfOk result (λ page. page ≡ Page.More → (self.old.place < self.old.octets) → self.new.place < self.new.octets) }
+        ensures full { IfOk result (λ page. page ≡ Page.More → most_lent ≤ length ready.new.items) }
+        ensures cause { IfOk result (λ page. page ≡ Page.Refused → (c : Contents) → V.holds vault.old c → V.is_clean vault.new → IsBegun self.old (text_under self.old.key c.messages) → has_grown (V.faults vault.old) (V.faults vault.new) ≡ true) }
+        ensures key { self.new.key ≡ self.old.key }
+        ensures octets { self.new.octets ≡ self.old.octets }
+        ensures held { (c : Contents) → V.holds vault.old c → V.is_clean vault.new → V.holds vault.new c }
+        ensures counted { V.faults vault.old ≤ V.faults vault.new }
+        ensures clean { V.is_clean vault.new → V.is_clean vault.old }
+        ensures up { (c : Contents) → V.holds vault.old c → V.is_clean vault.new → V.is_up vault.old → IfOk result (λ page. page ≢ Page.Refused → V.is_up vault.new) }
+        ensures stop { (c : Contents) → V.holds vault.old c → V.is_clean vault.new → V.is_up vault.old → LeavesHeld (V.may_leave vault.new) c }
+    {
+        while ready.len() < MOST_LENT {
+            match self.put_page(vault, ready)? {
+                Page::More => {}
+                Page::Last => return Ok(Page::Last),
+                Page::Refused => return Ok(Page::Refused),
+            }
+        }
+        Ok(Page::More)
+    }
+}

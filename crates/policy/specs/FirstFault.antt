@@ -1,0 +1,41 @@
+-- What the number of a fault says: the rules before that one are read, and it has the fault behind them.
+use Rattle.std.specs.Prelude.{◌≡◌, ℕ, zero, suc, ◌+◌, List, [], length, codes, Option, Some, None, Ok, Err}
+use Rattle.toml.specs.Data.{Data, Items, no_items, item, Members, get_member}
+use Rattle.toml.specs.Parse.{parse_document}
+use Rattle.policy.specs.WrittenText.{fault_number}
+use Rattle.policy.specs.PolicyText.{rule_at, rules_from, rule_tables, rules_of}
+use Rattle.policy.specs.declared.fault.PolicyFault.{PolicyFault}
+use Rattle.policy.specs.declared.rule.Rule.{Rule}
+
+-- the first n items, or all
+abbrev pub first_items : ℕ → Items → Items
+first_items zero ds = no_items
+first_items (suc n) no_items = no_items
+first_items (suc n) (item d ds) = item d (first_items n ds)
+
+-- the item behind n others
+abbrev pub item_at : Items → ℕ → Option Data
+item_at no_items n = None
+item_at (item d ds) zero = Some d
+item_at (item d ds) (suc n) = item_at ds n
+
+-- the items before number n are these rules, and behind them item n has this fault; numbers count from 1
+pub record IsFirstFault (ds : Items) (n : ℕ) (f : PolicyFault) : Type 0 where
+  pub before : List Rule
+  pub number : n ≡ length before + 1
+  pub read : rules_from 1 [] (first_items (length before) ds) ≡ Ok before
+  pub rule : Data
+  pub there : item_at ds (length before) ≡ Some rule
+  pub faulty : rule_at n before rule ≡ Err f
+
+-- the same, of the items of a text
+pub record IsFirstFaultOf (text : List ℕ) (n : ℕ) (f : PolicyFault) : Type 0 where
+  pub members : Members
+  pub parsed : parse_document text ≡ Some members
+  pub tables : Items
+  pub listed : rule_tables (get_member (codes "rule") members) ≡ Some tables
+  pub first : IsFirstFault tables n f
+
+-- a text's fault with a rule's number is the first: the rules before that one are read
+abbrev pub NumbersTheFirstFault : Type 0
+NumbersTheFirstFault = (text : List ℕ) (n : ℕ) (f : PolicyFault) → rules_of text ≡ Err f → fault_number f ≡ Some (suc n) → IsFirstFaultOf text (suc n) f

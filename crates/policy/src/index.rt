@@ -1,0 +1,91 @@
+//! Where the rules about a clerk and a maildrop stand.
+ghost use Rattle.std.specs.Prelude.{◌≡◌, List, [], length, IfOk};
+ghost use Rattle.policy.specs.declared.rule.Rule.{Rule};
+ghost use Rattle.policy.specs.Index.{IsIndexOf, first_place, key_of};
+ghost use Rattle.policy.specs.Lane.{AreStarts};
+
+use crate::key::Key;
+use crate::rule::{Pattern, Rule};
+use creds::Name;
+use std::alloc::{AllocError, Global};
+use std::collections::BTreeMap;
+
+/// The places of the rules by their keys: the first rule of each key, and behind each rule the next one of its key.
+///
+/// A place is a rule's number, counted from 0; the number of rules stands for no place.
+#[derive(Drop)]
+pub(crate) struct Index {
+    pub(crate) first: BTreeMap<Key, usize>,
+    pub(crate) next: Vec<usize>,
+}
+
+fn key_of(rule: &Rule) -> Key
+    ensures { result ≡ key_of rule.now }
+{
+    Key {
+        clerk: rule.clerk,
+        maildrop: rule.maildrop,
+    }
+}
+
+/// The index of the rules. It takes memory for one place a rule, and for one entry a key.
+pub(crate) fn index_of(alloc: Global, rules: &[Rule]) -> Result<Index, AllocError>
+    ensures { IfOk result (IsIndexOf rules.now) }
+{
+    let none = rules.len();
+    let mut first = BTreeMap::new(alloc);
+    let mut next = vec![in alloc; none; none]?;
+    for i in (0..rules.len()).rev() {
+        let later = first.insert(key_of(&rules[i]), i)?;
+        next[i] = later.unwrap_or(none);
+    }
+    Ok(Index { first, next })
+}
+
+/// The index of no rules. It takes no memory.
+pub(crate) fn no_index(alloc: Global) -> Index
+    ensures { IsIndexOf [] result }
+{
+    Index {
+        first: BTreeMap::new(alloc),
+        next: Vec::new(alloc),
+    }
+}
+
+/// The first place of a key.
+fn first_place(index: &Index, clerk: &Pattern, maildrop: &Pattern) -> usize
+    ensures { result ≡ first_place index.now.first (record { clerk = clerk.now; maildrop = maildrop.now }) (length index.now.next.items) }
+{
+    let key = Key {
+        clerk: *clerk,
+        maildrop: *maildrop,
+    };
+    match index.first.get(&key) {
+        Some(place) => *place,
+        None => index.next.len(),
+    }
+}
+
+/// Where the rules about a clerk and a maildrop begin: of those that name both, one of them, and none, the first place each.
+#[derive(Clone, Copy, Drop)]
+pub(crate) struct Starts {
+    pub(crate) both: usize,
+    pub(crate) clerk: usize,
+    pub(crate) maildrop: usize,
+    pub(crate) all: usize,
+}
+
+/// Where the rules about the clerk and the maildrop begin.
+pub(crate) fn starts_of(index: &Index, clerk: &Name, maildrop: &Name) -> Starts
+    ensures { (rules : List Rule) → IsIndexOf rules index.now → AreStarts clerk.now maildrop.now rules result }
+{
+    let clerk = Pattern::Is(*clerk);
+    let maildrop = Pattern::Is(*maildrop);
+    let any = Pattern::Any;
+    Starts {
+        both: first_place(index, &clerk, &maildrop),
+        clerk: first_place(index, &clerk, &any),
+        maildrop: first_place(index, &any, &maildrop),
+        all: first_place(index, &any, &any),
+    }
+}

@@ -1,0 +1,61 @@
+//! `popbox serve`: clients over the network.
+use clap::ArgMatches;
+use converse::Fault;
+use office::{Limits, Office};
+use serving::{FolderSpool, SocketWire, begin, serve_turn};
+use std::io;
+use std::io::Write;
+use std::net::SocketAddr;
+use std::time::Instant;
+use vault::Vault;
+
+/// Serves clients at an address, over a vault, until so many turns are over. Gives the vault back.
+pub fn serve_over<V: Vault, E: Write>(
+    rt: &HostRuntime,
+    vault: V,
+    host: &str,
+    boot: u64,
+    at: SocketAddr,
+    options: &ArgMatches<'_>,
+    err: &mut E,
+) -> (Result<u8, Fault>, V) {
+    let idle = options.get_one::<u32>("idle").unwrap_or(600);
+    let Some(limits) = Limits::new(idle) else {
+        return (Ok(2), vault);
+    };
+    match Office::open(rt.alloc(), vault, host, boot, limits) {
+        Err((fault, vault)) => (Err(Fault::from(fault)), vault),
+        Ok(mut office) => {
+            let served = serve(rt, &mut office, at, options, err);
+            (served, office.into_vault())
+        }
+    }
+}
+
+/// Listens, says so, and serves the clients that come.
+fn serve<V: Vault, E: Write>(
+    rt: &HostRuntime,
+    office: &mut Office<V>,
+    at: SocketAddr,
+    options: &ArgMatches<'_>,
+    err: &mut E,
+) -> Result<u8, Fault> {
+    let Ok((mut wire, port)) = SocketWire::bind(rt, rt.alloc(), at) else {
+        let _ = writeln!(err, "popbox: cannot listen");
+        return Ok(1);
+    };
+    let mut out = io::writer(rt);
+    writeln!(out, "pop on {}:{}", at.ip(), port).map_err(|_| Fault::CannotWrite)?;
+    let mut spool = FolderSpool::new(rt, rt.alloc(), options.get_str("spool").unwrap_or(""));
+    let mut links = begin(office, &wire, &spool);
+    let Ok(start) = Instant::now(rt) else {
+        return Err(Fault::NoClock);
+    };
+    for _ in 0..options.get_one::<u64>("turns").unwrap_or(u64::MAX) {
+        let Ok(elapsed) = start.elapsed(rt) else {
+            return Err(Fault::NoClock);
+        };
+        serve_turn(&mut links, &mut wire, office, &mut spool, elapsed.as_secs());
+    }
+    Ok(0)
+}

@@ -1,0 +1,210 @@
+-- A link that is accepted gets a connection of its own, or none.
+use Rattle.std.proofs.Common.{◌≡◌, ℕ, zero, suc, ◌<◌, ◌≤◌, ◌==◌, List, [], ◌∷◌, ◌++◌, length, refl, sym, ◌∙◌, ap, arith, None, Some, Option, eq-eqb, ne_eqb, ⊎_elim, ◌⊎◌, inl, inr, subst, get_or, take, drop}
+use Rattle.std.specs.Bool.{⊤, if◌then◌else◌}
+use Rattle.std.specs.List.{All, Contains, remove}
+use Rattle.std.proofs.lemmas.Bool.{cases_eq}
+use Rattle.std.proofs.lemmas.List.Elements.{All-push, All-append, All-take, All-drop, All-weaker, All-contains}
+use Rattle.vault.specs.Records.{Records}
+use Rattle.office.specs.History.{Tag, Done, Failed, NoMemory, Entry}
+use Rattle.office.specs.Events.{Event, Mark, Tagged, Ignored, Log, Trace}
+use Rattle.office.specs.Events as event
+use Rattle.office.specs.Log.{next_number, opened}
+use Rattle.office.specs.Trace.{history}
+use Rattle.office.specs.Expected.{IsOutcome, ignored, shown_at, or_ignored}
+use Rattle.office.specs.Outcomes.{Outcome, Reason, mark_of}
+use Rattle.serving.specs.declared.links.Seat.{Seat}
+use Rattle.serving.specs.Wires.{Told, has_accepted, opened_by}
+use Rattle.serving.specs.Spools.{FileAct}
+use Rattle.serving.specs.Served.{given_by, took_by, Owners, IsServed, AreServed, IsOwnEvent, AreOwnEvents, Adds, HasOwn}
+use Rattle.serving.proofs.Keeping.{stays}
+
+-- ---- outcomes
+
+-- what shows no opening
+abbrev pub IsRefusal : Mark → Type 0
+IsRefusal (Tagged Done) = ⊥
+IsRefusal _ = ⊤
+
+abbrev pub Comes : Log → Outcome → Option ℕ → Type 0
+Comes L o None = IsRefusal (mark_of o)
+Comes L o (Some c) = (mark_of o ≡ Tagged Done) × (c ≡ next_number L)
+
+comes_if : (B : Records) (L : Log) (G : List Entry) (q : Option Reason) (t : Tag) → Comes L (or_ignored q (shown_at B L G event.Connect t)) (opened_by (or_ignored q (shown_at B L G event.Connect t)))
+comes_if B L G (Some r) t = tt
+comes_if B L G None Done = (refl, refl)
+comes_if B L G None Failed = tt
+comes_if B L G None NoMemory = tt
+
+pub comes : (T : Trace) (lent : ℕ → ℕ) (o : Outcome) → IsOutcome T lent event.Connect o → Comes T.log o (opened_by o)
+comes T lent o h = subst (λ x. Comes T.log x (opened_by x)) (sym h.is) (comes_if T.base T.log (history T) (ignored T lent event.Connect) h.tag)
+
+-- ---- owners
+
+-- one link more has a connection
+abbrev pub owned_at : ℕ → ℕ → Owners → Owners
+owned_at n c owner k = if k == n then Some c else owner k
+
+owned_same : (n c : ℕ) (owner : Owners) → owned_at n c owner n ≡ Some c
+owned_same n c owner = let q = eq-eqb n n refl in rw q refl
+
+owned_other : (n c k : ℕ) (owner : Owners) → (k ≡ n → ⊥) → owned_at n c owner k ≡ owner k
+owned_other n c k owner h = let q = ne_eqb k n h in rw q refl
+
+none_of : (o : Option ℕ) → ((c : ℕ) → o ≡ Some c → ⊥) → o ≡ None
+none_of None h = refl
+none_of (Some c) h = absurd (h c refl)
+
+number_or : Option ℕ → ℕ
+number_or None = 0
+number_or (Some n) = n
+
+of_some : (a b : ℕ) → Some a ≡ Some b → a ≡ b
+unfolding number_or
+of_some a b e = ap number_or e
+
+-- ---- a link that got none
+
+module _ (told : Told) (owner : Owners) (B : Records) (L : Log) where
+  refused_stays : (m : Mark) → IsRefusal m → (d : ℕ) → (given_by ((event.Connect, m) ∷ L) d ≡ given_by L d) × (took_by B ((event.Connect, m) ∷ L) d ≡ took_by B L d)
+  refused_stays Ignored r d = (refl, refl)
+  refused_stays (Tagged Done) r d = absurd r
+  refused_stays (Tagged Failed) r d = (refl, refl)
+  refused_stays (Tagged NoMemory) r d = (refl, refl)
+
+  refused_opened : (m : Mark) → IsRefusal m → opened ((event.Connect, m) ∷ L) ≡ opened L
+  refused_opened Ignored r = refl
+  refused_opened (Tagged Done) r = absurd r
+  refused_opened (Tagged Failed) r = refl
+  refused_opened (Tagged NoMemory) r = refl
+
+  pub served_refused : (m : Mark) → IsRefusal m → AreServed told owner B L → AreServed (has_accepted told) owner B ((event.Connect, m) ∷ L)
+  served_refused m r a = record {
+    each = λ j. stays B L event.Connect m (owner j) (told.read j) (told.written j) (a.each j) (λ d e. refused_stays m r d);
+    own = a.own;
+    accepted = λ k c e. (let h = a.accepted k c e in omega (arith, h));
+    opened = λ k c e. (let h = a.opened k c e in let q = refused_opened m r in omega (arith, h, q));
+  }
+
+  -- ---- a link that got one
+
+  next_free : AreServed told owner B L → owner told.accepted ≡ None
+  next_free a = none_of (owner told.accepted) (λ c e. (let h = a.accepted told.accepted c e in omega (arith, h)))
+
+  connect_given : (d : ℕ) → d ≤ opened L → given_by ((event.Connect, Tagged Done) ∷ L) d ≡ given_by L d
+  connect_given d h = let q = ne_eqb (next_number L) d (λ (e : next_number L ≡ d). (let k : ⊥ = omega (arith, e, h) in k)) in rw q refl
+
+  connect_took : (d : ℕ) → d ≤ opened L → took_by B ((event.Connect, Tagged Done) ∷ L) d ≡ took_by B L d
+  connect_took d h = let q = ne_eqb (next_number L) d (λ (e : next_number L ≡ d). (let k : ⊥ = omega (arith, e, h) in k)) in rw q refl
+
+  fresh_given : given_by ((event.Connect, Tagged Done) ∷ L) (next_number L) ≡ []
+  fresh_given = let q = eq-eqb (next_number L) (next_number L) refl in rw q refl
+
+  fresh_took : took_by B ((event.Connect, Tagged Done) ∷ L) (next_number L) ≡ []
+  fresh_took = let q = eq-eqb (next_number L) (next_number L) refl in rw q refl
+
+  owner_then : Owners
+  owner_then = owned_at told.accepted (next_number L) owner
+
+  -- who owned a link does so still
+  pub owned_still : AreServed told owner B L → (k c : ℕ) → owner k ≡ Some c → owned_at told.accepted (next_number L) owner k ≡ Some c
+  owned_still a k c e =
+      let h = a.accepted k c e in
+      owned_other told.accepted (next_number L) k owner (λ (q : k ≡ told.accepted). (let n : ⊥ = omega (arith, h, q) in n)) ∙ e
+
+  pub owned_new : owned_at told.accepted (next_number L) owner told.accepted ≡ Some (next_number L)
+  owned_new = owned_same told.accepted (next_number L) owner
+
+  -- whose a link is: the new one's, or as before
+  pub whose : (k c : ℕ) → owned_at told.accepted (next_number L) owner k ≡ Some c → ((k ≡ told.accepted) × (c ≡ next_number L)) ⊎ (owner k ≡ Some c)
+  whose k c e =
+      ⊎_elim
+      (λ (q : k ≡ told.accepted). inl (q, of_some c (next_number L) (sym e ∙ (ap (λ i. owned_at told.accepted (next_number L) owner i) q ∙ owned_new))))
+      (λ (ne : k ≡ told.accepted → ⊥). inr (sym (owned_other told.accepted (next_number L) k owner ne) ∙ e))
+      (cases_eq k told.accepted)
+
+  pub served_accepted : AreServed told owner B L → AreServed (has_accepted told) (owned_at told.accepted (next_number L) owner) B ((event.Connect, Tagged Done) ∷ L)
+  served_accepted a = record {
+    each = λ j.
+        ⊎_elim
+        (λ (e : j ≡ told.accepted).
+        (let at_j : owned_at told.accepted (next_number L) owner j ≡ Some (next_number L) = ap (λ i. owned_at told.accepted (next_number L) owner i) e ∙ owned_new in
+        let was : owner j ≡ None = ap owner e ∙ next_free a in
+        let s : IsServed B L None (told.read j) (told.written j) = subst (λ o. IsServed B L o (told.read j) (told.written j)) was (a.each j) in
+        subst (λ o. IsServed B ((event.Connect, Tagged Done) ∷ L) o (told.read j) (told.written j)) {y = owned_at told.accepted (next_number L) owner j} (sym at_j)
+        (s.0 ∙ sym fresh_given, s.1 ∙ sym fresh_took)))
+        (λ (ne : j ≡ told.accepted → ⊥).
+        subst (λ o. IsServed B ((event.Connect, Tagged Done) ∷ L) o (told.read j) (told.written j)) (sym (owned_other told.accepted (next_number L) j owner ne))
+        (stays B L event.Connect (Tagged Done) (owner j) (told.read j) (told.written j) (a.each j) (λ d e. (let h = a.opened j d e in (connect_given d h, connect_took d h)))))
+        (cases_eq j told.accepted);
+    own = λ j k c at_j at_k.
+        ⊎_elim
+        (λ (x : (j ≡ told.accepted) × (c ≡ next_number L)).
+        ⊎_elim
+        (λ (y : (k ≡ told.accepted) × (c ≡ next_number L)). x.0 ∙ sym y.0)
+        (λ (y : owner k ≡ Some c). (let h = a.opened k c y in let q = x.1 in absurd (omega (arith, h, q))))
+        (whose k c at_k))
+        (λ (x : owner j ≡ Some c).
+        ⊎_elim
+        (λ (y : (k ≡ told.accepted) × (c ≡ next_number L)). (let h = a.opened j c x in let q = y.1 in absurd (omega (arith, h, q))))
+        (λ (y : owner k ≡ Some c). a.own j k c x y)
+        (whose k c at_k))
+        (whose j c at_j);
+    accepted = λ k c e.
+        ⊎_elim
+        (λ (x : (k ≡ told.accepted) × (c ≡ next_number L)). (let q = x.0 in omega (arith, q)))
+        (λ (x : owner k ≡ Some c). (let h = a.accepted k c x in omega (arith, h)))
+        (whose k c e);
+    opened = λ k c e.
+        ⊎_elim
+        (λ (x : (k ≡ told.accepted) × (c ≡ next_number L)). (let q = x.1 in omega (arith, q)))
+        (λ (x : owner k ≡ Some c). (let h = a.opened k c x in omega (arith, h)))
+        (whose k c e);
+  }
+
+-- ---- with more owners
+
+own_still : (owner after : Owners) → ((k c : ℕ) → owner k ≡ Some c → after k ≡ Some c) → (e : Event) → IsOwnEvent owner e → IsOwnEvent after e
+own_still owner after more (event.Start host boot idle) i = absurd i
+own_still owner after more event.Connect i = tt
+own_still owner after more (event.Bytes c piece) i = (i.0, more i.0 c i.1)
+own_still owner after more (event.Took c octets) i = (i.0, more i.0 c i.1)
+own_still owner after more (event.Gone c) i = (i.0, more i.0 c i.1)
+own_still owner after more (event.Tick now) i = tt
+own_still owner after more (event.Deposit d class id text) i = tt
+own_still owner after more (event.Admin command) i = absurd i
+own_still owner after more (event.Restart boot) i = absurd i
+
+events_still : (owner after : Owners) → ((k c : ℕ) → owner k ≡ Some c → after k ≡ Some c) → (L : Log) → AreOwnEvents owner L → AreOwnEvents after L
+events_still owner after more [] i = tt
+events_still owner after more ((e, m) ∷ L) i = (own_still owner after more e i.0, events_still owner after more L i.1)
+
+pub adds_still : (owner after : Owners) → ((k c : ℕ) → owner k ≡ Some c → after k ≡ Some c) → (B : Records) (older L : Log) (acts : List FileAct) → Adds owner B older L acts → Adds after B older L acts
+adds_still owner after more B older L acts a = record { more = a.more; is = a.is; each = events_still owner after more a.more a.each; filed = a.filed }
+
+-- ---- seats
+
+-- a seat is left
+pub seated_without : (owner : Owners) (seats : List Seat) (place : ℕ) → All (HasOwn owner) seats → All (HasOwn owner) (remove seats place)
+seated_without owner seats place a =
+    All-append (HasOwn owner) (take place seats) (drop (suc place) seats) (All-take (HasOwn owner) place seats a) (All-drop (HasOwn owner) (suc place) seats a)
+
+-- a seat is taken by a link that has its connection
+pub seated_with : (owner : Owners) (seats : List Seat) (seat : Seat) → HasOwn owner seat → All (HasOwn owner) seats → All (HasOwn owner) (seats ++ seat ∷ [])
+seated_with owner seats seat o a = All-push (HasOwn owner) seats seat a o
+
+-- and with more owners
+pub seated_still : (owner after : Owners) → ((k c : ℕ) → owner k ≡ Some c → after k ≡ Some c) → (seats : List Seat) → All (HasOwn owner) seats → All (HasOwn after) seats
+seated_still owner after more seats a = All-weaker (HasOwn owner) (HasOwn after) (λ s e. more s.link.number s.connection e) seats a
+
+-- a seat's link has its connection
+pub seat_owns : (owner : Owners) (seats : List Seat) (seat : Seat) → Contains seats seat → All (HasOwn owner) seats → HasOwn owner seat
+seat_owns owner seats seat h a = All-contains (HasOwn owner) seats seat a h
+
+any_default : (xs : List Seat) (i : ℕ) (c d : Seat) → i < length xs → get_or xs i c ≡ get_or xs i d
+any_default [] i c d h = absurd (omega (arith, h))
+any_default (x ∷ xs) zero c d h = refl
+any_default (x ∷ xs) (suc i) c d h = any_default xs i c d (omega (arith, h))
+
+-- what is read at a place is there
+pub contained : (xs ys : List Seat) (i : ℕ) (d : Seat) → ys ≡ xs → i < length xs → Contains xs (get_or ys i d)
+contained xs ys i d e h = subst (λ zs. Contains xs (get_or zs i d)) (sym e) (i, h, any_default xs i (get_or xs i d) d h)

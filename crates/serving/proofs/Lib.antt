@@ -1,0 +1,6 @@
+pub mod Marks
+pub mod Keeping
+pub mod Accepting
+pub mod Scripting
+pub mod Beginnings
+pub mod Depositing

@@ -1,0 +1,7 @@
+pub mod FileNames
+pub mod Wires
+pub mod Spools
+pub mod Served
+pub mod Deposits
+pub mod Scripts
+pub mod ScriptSpools

@@ -1,0 +1,73 @@
+//! One file of a spool in a turn.
+ghost use Rattle.std.specs.Prelude.{◌≡◌, List, Option};
+ghost use Rattle.office.specs.Events.{Trace};
+ghost use Rattle.office.specs.Shown.{outcome_seen};
+ghost use Rattle.office.specs.Stands.{StandsFor, vault_of};
+ghost use Rattle.serving.specs.Spools.{FileAct, disposal_of};
+ghost use Rattle.serving.specs.Deposits.{IsTried};
+
+use crate::file_name::FileName;
+use crate::links::Links;
+use crate::spool::Spool;
+use office::{Answer, Event, Office, Outcome};
+use vault::Vault;
+
+/// What becomes of a spool file.
+#[derive(Clone, Copy, PartialEq, Eq, Debug)]
+pub(crate) enum Disposal {
+    /// Its message is in the store.
+    Remove,
+    /// Its text will never be a message of this id.
+    Rename,
+    /// It may be taken later.
+    Leave,
+}
+
+/// What becomes of a file whose deposit is answered so.
+fn disposal_by(outcome: Outcome) -> Disposal
+    ensures { result ≡ disposal_of (outcome_seen outcome) }
+{
+    match outcome {
+        Outcome::Answered(Answer::New(_) | Answer::Known(_)) => Disposal::Remove,
+        Outcome::Answered(Answer::EmptyText | Answer::TextTooLarge | Answer::Conflict) => {
+            Disposal::Rename
+        }
+        _ => Disposal::Leave,
+    }
+}
+
+/// Deposits a file, and removes it, renames it or leaves it, as that is answered. Whether it was removed or renamed.
+fn try_file<V: Vault, S: Spool>(office: &mut Office<V>, spool: &mut S, name: &FileName) -> bool
+    ensures tried { (T : Trace) (acts : List FileAct) → StandsFor V.holds office.old T → S.tells spool.old acts → V.is_clean (vault_of office.new) → IsTried V.holds S.tells T acts office.new spool.new }
+    ensures clean { V.is_clean (vault_of office.new) → V.is_clean (vault_of office.old) }
+{
+    let Some(text) = spool.read(name) else {
+        return false;
+    };
+    let event = Event::Deposit(&name.maildrop, &name.class, &name.id, text.as_slice());
+    let fate = disposal_by(office.step(event));
+    match fate {
+        Disposal::Remove => spool.remove(name),
+        Disposal::Rename => spool.rename(name),
+        Disposal::Leave => false,
+    }
+}
+
+/// Tries one file of the spool: the next one behind that which was tried last.
+pub(crate) fn serve_spool<V: Vault, S: Spool>(
+    office: &mut Office<V>,
+    spool: &mut S,
+    links: &mut Links,
+)
+    ensures tried { (T : Trace) (acts : List FileAct) → StandsFor V.holds office.old T → S.tells spool.old acts → V.is_clean (vault_of office.new) → IsTried V.holds S.tells T acts office.new spool.new }
+    ensures clean { V.is_clean (vault_of office.new) → V.is_clean (vault_of office.old) }
+    ensures seats { links.new.seats ≡ links.old.seats }
+{
+    let Some(name) = spool.next_name(&links.last) else {
+        return;
+    };
+    if try_file(office, spool, &name) {
+        links.presses = true;
+    }
+    links.last = Some(name);
+}

@@ -1,0 +1,91 @@
+//! A spool over a folder.
+use crate::file_name::FileName;
+use crate::next_name::NextName;
+use crate::spool::{MOST_OCTETS, Spool};
+use std::alloc::{AllocError, Global};
+use std::fs;
+use std::io::Read;
+use std::rt::Files;
+
+/// The messages of a folder. Who puts a file there writes it under another name, and then renames it.
+#[derive(Drop)]
+pub struct FolderSpool<'a, R: Files> {
+    rt: &'a R,
+    alloc: Global,
+    folder: &'a str,
+}
+
+impl<'a, R: Files + AllocGlobal + Clone + Drop> FolderSpool<'a, R> {
+    /// The folder at a path. It need not be there yet.
+    pub fn new(rt: &'a R, alloc: Global, folder: &'a str) -> FolderSpool<'a, R> {
+        FolderSpool { rt, alloc, folder }
+    }
+
+    /// The path of a file.
+    fn path(&self, name: &FileName, ending: &str) -> Result<String, AllocError> {
+        let text = name.text(self.alloc)?;
+        format!(in self.alloc; "{}/{}{}", self.folder, text, ending)
+    }
+
+    /// Shows the names of the folder to what looks for the next one. Whether it could be listed.
+    fn list(&self, next: &mut NextName) -> bool {
+        let Ok(entries) = fs::read_dir(self.rt, self.folder) else {
+            return false;
+        };
+        for entry in entries {
+            if let Ok(entry) = entry {
+                if next.see(entry.file_name()).is_err() {
+                    return false;
+                }
+            }
+        }
+        true
+    }
+
+    /// Reads a file that is there.
+    fn read_file(&self, path: &str) -> Option<Vec<u8>> {
+        if !fs::metadata(self.rt, path).ok()?.is_file() {
+            return None;
+        }
+        let file = fs::open(self.rt, path).ok()?;
+        let mut text = Vec::new(self.alloc);
+        file.take(MOST_OCTETS as u64).read_to_end(&mut text).ok()?;
+        Some(text)
+    }
+}
+
+impl<R: Files + AllocGlobal + Clone + Drop> Spool for FolderSpool<'_, R> {
+    ghost tells = { λ _ _. ⊥ };
+
+    ghost tells_once = { λ spool a b h k. absurd h };
+
+    fn next_name(&mut self, last: &Option<FileName>) -> Option<FileName> {
+        let mut next = NextName::new(self.alloc, last).ok()?;
+        if !self.list(&mut next) {
+            return None;
+        }
+        next.get()
+    }
+
+    fn read(&mut self, name: &FileName) -> Option<Vec<u8>> {
+        let path = self.path(name, "").ok()?;
+        self.read_file(path.as_str())
+    }
+
+    fn remove(&mut self, name: &FileName) -> bool {
+        match self.path(name, "") {
+            Ok(path) => fs::remove_file(self.rt, path.as_str()).is_ok(),
+            Err(_) => false,
+        }
+    }
+
+    fn rename(&mut self, name: &FileName) -> bool {
+        let Ok(from) = self.path(name, "") else {
+            return false;
+        };
+        match self.path(name, ".bad") {
+            Ok(to) => fs::rename(self.rt, from.as_str(), to.as_str()).is_ok(),
+            Err(_) => false,
+        }
+    }
+}

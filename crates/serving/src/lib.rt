@@ -1,0 +1,29 @@
+//! Serving the links of a wire over an office, and the files of a spool.
+//!
+//! A [`Wire`] brings links, a [`Spool`] files, and [`serve_turn`] does one turn of the loop over both. [`SocketWire`] and
+//! [`FolderSpool`] are those of a running server; [`ScriptWire`] and [`ScriptSpool`] are in memory, for tests.
+#![tactic(auto)]
+
+mod file_name;
+mod files;
+mod folder_spool;
+mod links;
+mod next_name;
+mod script_spool;
+mod script_wire;
+mod sockets;
+mod spool;
+#[cfg(test)]
+mod tests;
+mod turn;
+mod wire;
+
+pub use file_name::FileName;
+pub use folder_spool::FolderSpool;
+pub use links::{Links, MOST_LINKS, Seat};
+pub use script_spool::{ScriptAct, ScriptFile, ScriptSpool};
+pub use script_wire::{ScriptLink, ScriptWire, Stop};
+pub use sockets::SocketWire;
+pub use spool::{MOST_OCTETS, Spool};
+pub use turn::{begin, serve_turn};
+pub use wire::{Io, Link, Port, Wire};

@@ -1,0 +1,50 @@
+//! The open links, each with its connection.
+ghost use Rattle.std.specs.Prelude.{◌≡◌, []};
+
+use crate::file_name::FileName;
+use crate::wire::Link;
+use arrayvec::ArrayVec;
+
+/// A link with its connection.
+#[derive(Clone, Copy, PartialEq, Eq, Default, Debug)]
+pub struct Seat {
+    pub link: Link,
+    /// The connection's number.
+    pub connection: u64,
+}
+
+/// How many links may be open at once, and how many are accepted in one turn at most.
+pub const MOST_LINKS: usize = 64;
+
+/// How many links may be held: those that are open, and as many whose connections a tick ended and which are closed later in
+/// the same turn.
+const PLACES: usize = 2 * MOST_LINKS;
+
+/// What is kept between the turns of serving: the open links, by ascending number of their connections, and which spool file was
+/// tried last.
+#[derive(Drop)]
+pub struct Links {
+    pub(crate) seats: ArrayVec<Seat, PLACES>,
+    /// The spool file that was tried last.
+    pub(crate) last: Option<FileName>,
+    /// More can be done at once: the next turn doesn't wait.
+    pub(crate) presses: bool,
+}
+
+impl Links {
+    /// No link is open, and no spool file was tried.
+    pub fn new() -> Links
+        ensures { result.seats.items ≡ [] }
+    {
+        Links {
+            seats: ArrayVec::new(),
+            last: None,
+            presses: false,
+        }
+    }
+
+    /// How many links are open.
+    pub fn count(&self) -> usize {
+        self.seats.len()
+    }
+}

@@ -1,0 +1,251 @@
+//! A wire over sockets.
+ghost use Rattle.std.specs.Prelude.{◌≡◌, ◌≤◌, ◌⊎◌, length};
+ghost use Rattle.serving.specs.Wires.{IsWithin};
+
+use crate::wire::{Io, Link, Port, Wire};
+use mio::net::{TcpListener, TcpStream};
+use mio::{Events, Interest, Poll, Token};
+use std::alloc::Global;
+use std::io;
+use std::io::{ErrorKind, Read, Write};
+use std::net::{Net, SocketAddr};
+use std::time::Duration;
+
+/// How many links may be held: more than an office has connections, so that one more can be accepted, to be closed.
+const PLACES: u64 = 128;
+
+/// The token of the listener; those below are of places.
+const LISTENER: Token = Token(128);
+
+/// A place for a link.
+#[derive(Drop)]
+struct Place {
+    /// The number of the link that has it, or had it last.
+    number: u64,
+    stream: Option<TcpStream>,
+    /// Something may be there that was not read to `Later`.
+    unread: bool,
+    /// The last write was `Later`, and the system didn't say since that more may be written.
+    is_blocked: bool,
+}
+
+/// Links over sockets. What is ready is told by the system once (edge by edge), and kept at each place until it was used up.
+#[derive(Drop)]
+pub struct SocketWire {
+    poll: Poll,
+    events: Events,
+    listener: TcpListener,
+    places: Vec<Place>,
+    /// How many links were accepted.
+    accepted: u64,
+    /// A link may wait to be accepted.
+    comes: bool,
+    /// The system refused to accept it: it is tried again behind the next wait.
+    is_refused: bool,
+}
+
+/// What a count of octets tells.
+fn counted(count: usize, room: usize) -> Io
+    requires { count ≤ room }
+    ensures { IsWithin room result }
+{
+    if count == 0 {
+        Io::End
+    } else {
+        Io::Count(count)
+    }
+}
+
+/// What an error tells. A call that was interrupted is made again later.
+fn failed(kind: ErrorKind) -> Io
+    ensures { (result ≡ Io.Later) ⊎ (result ≡ Io.Broken) }
+{
+    match kind {
+        ErrorKind::WouldBlock | ErrorKind::Interrupted => Io::Later,
+        _ => Io::Broken,
+    }
+}
+
+/// Places without a link.
+fn free_places(alloc: Global) -> io::Result<Vec<Place>> {
+    let mut places = Vec::new(alloc);
+    for number in 0..PLACES {
+        places.push(Place {
+            number,
+            stream: None,
+            unread: false,
+            is_blocked: false,
+        })?;
+    }
+    Ok(places)
+}
+
+impl SocketWire {
+    /// Listens at an address, and tells the port: that of the address, or where this is 0 one that the system chose.
+    pub fn bind<R: Net>(rt: &R, alloc: Global, at: SocketAddr) -> io::Result<(SocketWire, u16)> {
+        let poll = Poll::new(rt)?;
+        let events = Events::with_capacity(alloc, 256)?;
+        let mut listener = TcpListener::bind(rt, at)?;
+        poll.registry()
+            .register(&mut listener, LISTENER, Interest::READABLE)?;
+        let port = listener.local_addr()?.port();
+        let wire = SocketWire {
+            poll,
+            events,
+            listener,
+            places: free_places(alloc)?,
+            accepted: 0,
+            comes: true,
+            is_refused: false,
+        };
+        Ok((wire, port))
+    }
+
+    /// Whether something may be accepted or read in this turn.
+    fn is_pressing(&self) -> bool {
+        if self.comes && !self.is_refused {
+            return true;
+        }
+        self.places
+            .iter()
+            .any(|place| place.unread && !place.is_blocked)
+    }
+
+    /// Keeps what the system told.
+    fn note_events(&mut self) {
+        for event in &self.events {
+            let token = event.token();
+            if token == LISTENER {
+                self.comes = true;
+            } else if let Some(place) = self.places.get_mut(token.0) {
+                place.unread = true;
+                if event.is_writable() {
+                    place.is_blocked = false;
+                }
+            }
+        }
+    }
+
+    /// Gives a stream a place.
+    fn seat(&mut self, mut stream: TcpStream) -> Option<Link> {
+        let at = self.places.iter().position(|place| place.stream.is_none())?;
+        let both = Interest::READABLE | Interest::WRITABLE;
+        let _ = stream.set_nodelay(true);
+        self.poll
+            .registry()
+            .register(&mut stream, Token(at), both)
+            .ok()?;
+        let number = self.accepted.checked_mul(PLACES)?.checked_add(at as u64)?;
+        self.accepted += 1;
+        let place = self.places.get_mut(at)?;
+        *place = Place {
+            number,
+            stream: Some(stream),
+            unread: true,
+            is_blocked: false,
+        };
+        Some(Link { number })
+    }
+
+    /// The place of a link that is open.
+    fn place(&mut self, link: Link) -> Option<&mut Place> {
+        let place = self.places.get_mut((link.number % PLACES) as usize)?;
+        if place.number == link.number {
+            Some(place)
+        } else {
+            None
+        }
+    }
+}
+
+impl Place {
+    /// Reads. What may be there is used up where nothing came.
+    fn read(&mut self, buffer: &mut [u8]) -> Io
+        ensures { IsWithin (length buffer.old) result }
+    {
+        let Some(stream) = &mut self.stream else {
+            return Io::Broken;
+        };
+        match stream.read(buffer) {
+            Ok(count) => counted(count, buffer.len()),
+            Err(error) => {
+                if error.kind() != ErrorKind::Interrupted {
+                    self.unread = false;
+                }
+                failed(error.kind())
+            }
+        }
+    }
+
+    /// Writes.
+    fn write(&mut self, octets: &[u8]) -> Io
+        ensures { IsWithin (length octets.now) result }
+    {
+        let Some(stream) = &mut self.stream else {
+            return Io::Broken;
+        };
+        match stream.write(octets) {
+            Ok(count) => counted(count, octets.len()),
+            Err(error) => {
+                if error.kind() == ErrorKind::WouldBlock {
+                    self.is_blocked = true;
+                }
+                failed(error.kind())
+            }
+        }
+    }
+}
+
+impl Wire for SocketWire {
+    ghost tells = { λ _ _. ⊥ };
+
+    ghost tells_once = { λ wire t u a b. absurd a };
+
+    fn wait(&mut self, millis: u32) {
+        let millis = if self.is_pressing() { 0 } else { millis };
+        let time = Duration::from_millis(u64::from(millis));
+        if self.poll.poll(&mut self.events, Some(time)).is_ok() {
+            self.note_events();
+        }
+        self.is_refused = false;
+    }
+
+    fn accept(&mut self) -> Option<(Link, Port)> {
+        if !self.comes || self.is_refused {
+            return None;
+        }
+        match self.listener.accept() {
+            Ok((stream, _)) => Some((self.seat(stream)?, Port::Pop)),
+            Err(error) => {
+                match error.kind() {
+                    ErrorKind::WouldBlock => self.comes = false,
+                    ErrorKind::Interrupted | ErrorKind::ConnectionAborted => {}
+                    _ => self.is_refused = true,
+                }
+                None
+            }
+        }
+    }
+
+    fn read(&mut self, link: Link, buffer: &mut [u8]) -> Io {
+        match self.place(link) {
+            Some(place) => place.read(buffer),
+            None => Io::Broken,
+        }
+    }
+
+    fn write(&mut self, link: Link, octets: &[u8]) -> Io {
+        match self.place(link) {
+            Some(place) => place.write(octets),
+            None => Io::Broken,
+        }
+    }
+
+    fn close(&mut self, link: Link) {
+        if let Some(place) = self.place(link) {
+            place.stream = None;
+            place.unread = false;
+            place.is_blocked = false;
+        }
+    }
+}

@@ -1,0 +1,4 @@
+mod folder;
+mod loopback;
+mod spooling;
+mod turns;

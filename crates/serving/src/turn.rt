@@ -1,0 +1,230 @@
+//! One turn of serving.
+ghost use Rattle.std.specs.Prelude.{◌≡◌, ◌<◌, ◌+◌, ◌≤◌, ℕ, List, [], Option, Some, length, if◌then◌else◌};
+ghost use Rattle.std.specs.List.{Contains};
+ghost use Rattle.office.specs.Events.{Trace};
+ghost use Rattle.office.specs.Stands.{StandsFor, vault_of};
+ghost use Rattle.office.specs.Shown.{outcome_seen};
+ghost use Rattle.serving.specs.Wires.{Told, IsFresh, opened_by};
+ghost use Rattle.serving.specs.Served.{StillServes, Serves};
+ghost use Rattle.serving.specs.declared.links.Seat as declared;
+ghost use Rattle.arrayvec.specs.ArrayVec.{array_vec_len};
+
+use crate::files::serve_spool;
+use crate::links::{Links, MOST_LINKS, Seat};
+use crate::spool::Spool;
+use crate::wire::{Io, Wire};
+use office::{Event, Office, Outcome};
+use vault::Vault;
+
+/// How many octets are read at once: as many as an office takes in one piece.
+const MOST_AT_ONCE: usize = 4096;
+
+/// How many writes a link has in one turn at most.
+const MOST_WRITES: usize = 64;
+
+/// How many milliseconds a turn waits at most.
+const MOST_MILLIS: u32 = 1000;
+
+/// What came of writing on a link.
+#[derive(Clone, Copy, PartialEq, Eq, Debug)]
+enum Writing {
+    /// Octets were taken, and more may be.
+    Goes,
+    /// Nothing is owed.
+    Done,
+    /// The link takes no more now.
+    Later,
+    /// The link is broken.
+    Fault,
+}
+
+/// Writes once of what a connection is owed.
+fn write_once<V: Vault, W: Wire>(office: &mut Office<V>, wire: &mut W, seat: Seat) -> Writing
+    ensures serves { (seats : List declared.Seat) → Contains seats seat → StillServes V.holds V.is_clean W.tells office.old wire.old seats office.new wire.new seats }
+    ensures clean { V.is_clean (vault_of office.new) → V.is_clean (vault_of office.old) }
+{
+    let lent = office.owed(seat.connection);
+    if lent.is_empty() {
+        return Writing::Done;
+    }
+    match wire.write(seat.link, lent) {
+        Io::Count(count) => {
+            let _ = office.step(Event::Took(seat.connection, count));
+            Writing::Goes
+        }
+        Io::Later => Writing::Later,
+        Io::End | Io::Broken => Writing::Fault,
+    }
+}
+
+/// Writes what a connection is owed, as long as the link takes it.
+fn write_owed<V: Vault, W: Wire>(office: &mut Office<V>, wire: &mut W, seat: Seat) -> Writing
+    ensures serves { (seats : List declared.Seat) → Contains seats seat → StillServes V.holds V.is_clean W.tells office.old wire.old seats office.new wire.new seats }
+    ensures clean { V.is_clean (vault_of office.new) → V.is_clean (vault_of office.old) }
+{
+    for _ in 0..MOST_WRITES {
+        let written = write_once(office, wire, seat);
+        if written != Writing::Goes {
+            return written;
+        }
+    }
+    Writing::Goes
+}
+
+/// Reads a piece from a link whose connection waits for octets. Whether the link isn't broken or at its end.
+fn read_once<V: Vault, W: Wire>(office: &mut Office<V>, wire: &mut W, seat: Seat) -> bool
+    ensures serves { (seats : List declared.Seat) → Contains seats seat → StillServes V.holds V.is_clean W.tells office.old wire.old seats office.new wire.new seats }
+    ensures clean { V.is_clean (vault_of office.new) → V.is_clean (vault_of office.old) }
+{
+    if !office.ready(seat.connection) {
+        return true;
+    }
+    let mut room = [0; MOST_AT_ONCE];
+    match wire.read(seat.link, &mut room) {
+        Io::Count(count) => {
+            let _ = office.step(Event::Bytes(seat.connection, &room[..count]));
+            true
+        }
+        Io::Later => true,
+        Io::End | Io::Broken => false,
+    }
+}
+
+/// Ends a connection whose link is broken or at its end.
+fn end<V: Vault, W: Wire>(office: &mut Office<V>, _wire: &W, seat: Seat)
+    ensures serves { (seats : List declared.Seat) → Contains seats seat → StillServes V.holds V.is_clean W.tells office.old _wire.now seats office.new _wire.now seats }
+    ensures clean { V.is_clean (vault_of office.new) → V.is_clean (vault_of office.old) }
+{
+    let _ = office.step(Event::Gone(seat.connection));
+}
+
+/// Writes on a link and reads from it, and ends its connection where the link is broken or at its end. Whether more can be
+/// written at once.
+fn serve_link<V: Vault, W: Wire>(office: &mut Office<V>, wire: &mut W, seat: Seat) -> bool
+    ensures serves { (seats : List declared.Seat) → Contains seats seat → StillServes V.holds V.is_clean W.tells office.old wire.old seats office.new wire.new seats }
+    ensures clean { V.is_clean (vault_of office.new) → V.is_clean (vault_of office.old) }
+{
+    let written = write_owed(office, wire, seat);
+    if written == Writing::Fault {
+        end(office, wire, seat);
+        return false;
+    }
+    if !read_once(office, wire, seat) {
+        end(office, wire, seat);
+        return false;
+    }
+    written == Writing::Goes
+}
+
+/// Serves the link of one seat, and closes it where its connection ended. Whether the seat stays.
+fn serve_seat<V: Vault, W: Wire>(
+    office: &mut Office<V>,
+    wire: &mut W,
+    links: &mut Links,
+    place: usize,
+) -> bool
+    requires { place < array_vec_len links.old.seats }
+    ensures serves { StillServes V.holds V.is_clean W.tells office.old wire.old links.old.seats.items office.new wire.new links.new.seats.items }
+    ensures clean { V.is_clean (vault_of office.new) → V.is_clean (vault_of office.old) }
+    ensures left { array_vec_len links.new.seats + (if result then 0 else 1) ≡ array_vec_len links.old.seats }
+{
+    let seat = links.seats[place];
+    links.presses |= serve_link(office, wire, seat);
+    if !office.ended(seat.connection) {
+        return true;
+    }
+    wire.close(seat.link);
+    links.seats.remove(place);
+    false
+}
+
+/// Serves each link, by ascending number of the connections.
+fn serve_links<V: Vault, W: Wire>(office: &mut Office<V>, wire: &mut W, links: &mut Links)
+    ensures serves { StillServes V.holds V.is_clean W.tells office.old wire.old links.old.seats.items office.new wire.new links.new.seats.items }
+    ensures clean { V.is_clean (vault_of office.new) → V.is_clean (vault_of office.old) }
+{
+    let mut place = 0;
+    while place < links.seats.len() {
+        if serve_seat(office, wire, links, place) {
+            place += 1;
+        }
+    }
+}
+
+/// Waits, and tells the office the moment.
+fn pass_time<V: Vault, W: Wire>(office: &mut Office<V>, wire: &mut W, millis: u32, now: u64)
+    ensures serves { (seats : List declared.Seat) → StillServes V.holds V.is_clean W.tells office.old wire.old seats office.new wire.new seats }
+    ensures clean { V.is_clean (vault_of office.new) → V.is_clean (vault_of office.old) }
+{
+    wire.wait(millis);
+    let _ = office.step(Event::Tick(now));
+}
+
+/// Which number was opened.
+fn opened(outcome: Outcome) -> Option<u64>
+    ensures { result ≡ opened_by (outcome_seen outcome) }
+{
+    match outcome {
+        Outcome::Opened(connection) => Some(connection),
+        _ => None,
+    }
+}
+
+/// Accepts a link, and seats it with a connection of its own; or closes it. Whether one came.
+fn accept_link<V: Vault, W: Wire>(office: &mut Office<V>, wire: &mut W, links: &mut Links) -> bool
+    ensures serves { StillServes V.holds V.is_clean W.tells office.old wire.old links.old.seats.items office.new wire.new links.new.seats.items }
+    ensures clean { V.is_clean (vault_of office.new) → V.is_clean (vault_of office.old) }
+{
+    let Some((link, _)) = wire.accept() else {
+        return false;
+    };
+    if links.seats.is_full() {
+        wire.close(link);
+        return true;
+    }
+    let number = opened(office.step(Event::Connect));
+    match number {
+        Some(connection) => links.seats.push(Seat { link, connection }),
+        None => wire.close(link),
+    }
+    true
+}
+
+/// Accepts the links that came.
+fn accept_links<V: Vault, W: Wire>(office: &mut Office<V>, wire: &mut W, links: &mut Links)
+    ensures serves { StillServes V.holds V.is_clean W.tells office.old wire.old links.old.seats.items office.new wire.new links.new.seats.items }
+    ensures clean { V.is_clean (vault_of office.new) → V.is_clean (vault_of office.old) }
+{
+    for _ in 0..MOST_LINKS {
+        if !accept_link(office, wire, links) {
+            return;
+        }
+    }
+}
+
+/// One turn: waits for at most a second, and not at all where more can be done at once; tells the office the moment, in seconds;
+/// accepts the links that came, at most 64; serves each link; and tries one file of the spool.
+pub fn serve_turn<V: Vault, W: Wire, S: Spool>(
+    links: &mut Links,
+    wire: &mut W,
+    office: &mut Office<V>,
+    spool: &mut S,
+    now: u64,
+)
+    ensures serves { (T : Trace) → Serves V.holds W.tells S.tells T office.old wire.old spool.old links.old.seats.items → V.is_clean (vault_of office.new) → Serves V.holds W.tells S.tells T office.new wire.new spool.new links.new.seats.items }
+    ensures clean { V.is_clean (vault_of office.new) → V.is_clean (vault_of office.old) }
+{
+    let millis = if links.presses { 0 } else { MOST_MILLIS };
+    links.presses = false;
+    pass_time(office, wire, millis, now);
+    accept_links(office, wire, links);
+    serve_links(office, wire, links);
+    serve_spool(office, spool, links);
+}
+
+/// No link is open: an office begins to serve a wire and a spool.
+pub fn begin<V: Vault, W: Wire, S: Spool>(_office: &Office<V>, _wire: &W, _spool: &S) -> Links
+    ensures { (T : Trace) (t : Told) → StandsFor V.holds _office.now T → W.tells _wire.now t → IsFresh t → S.tells _spool.now [] → Serves V.holds W.tells S.tells T _office.now _wire.now _spool.now result.seats.items }
+{
+    Links::new()
+}

@@ -1,0 +1,212 @@
+use Rattle.std.proofs.Common.{◌≡◌, ◌≢◌, ◌∙◌, ap, sym, inl, inr, pos, length, arith, rules}
+use Rattle.sqlite.specs.Held.{state}
+use Rattle.sqlite.specs.State.{HasCleanDisk, IsUnchanged}
+use Rattle.mailsql.specs.Rows.{Rows, rows_in}
+use Rattle.sqlvault.proofs.AdoptLemmas.{rows_on, unchanged_on, undone_on, kinds_met}
+use Rattle.sqlvault.proofs.CarryLemmas.{met_judged, one_second, other_found, none_found, second_length, asked_old, old_on, more_then}
+use Rattle.sqlvault.proofs.StayLemmas.{clean_before}
+use Rattle.sqlvault.proofs.carry.is_second.Goals as goal
+
+pub returns-then-mark-eq-VERSION-clause-clean : goal.returns-then-mark-eq-VERSION-clause-clean
+returns-then-mark-eq-VERSION-clause-clean g c clean1 =
+    let s0 = state g.S.Store c.args.conn.now in
+    let s1 = state g.S.Store c.find_mark.new.conn in
+    clean_before s0 s1 c.find_mark.ensures.survives.clean clean1
+
+pub returns-then-mark-eq-VERSION-clause-stop : goal.returns-then-mark-eq-VERSION-clause-stop
+returns-then-mark-eq-VERSION-clause-stop g c clean1 old =
+    let s0 = state g.S.Store c.args.conn.now in
+    let s1 = state g.S.Store c.find_mark.new.conn in
+    asked_old s0 s1 old.0 clean1 c.find_mark.ensures.old_survives
+
+pub returns-then-mark-eq-VERSION-clause-err : goal.returns-then-mark-eq-VERSION-clause-err
+returns-then-mark-eq-VERSION-clause-err g c clean1 tables =
+    inl (c.in-Ok-Some.ensures.old_same clean1 tables)
+
+pub returns-then-mark-eq-VERSION-clause-judged : goal.returns-then-mark-eq-VERSION-clause-judged
+returns-then-mark-eq-VERSION-clause-judged g c clean1 tables =
+    let s0 = state g.S.Store c.args.conn.now in
+    let s1 = state g.S.Store c.find_mark.new.conn in
+    let value : c.in-Ok-Some.mark.value ≡ pos 3 = search rules in
+    other_found (rows_in s0.now.trees).marks c.in-Ok-Some.mark c.in-Ok-Some.field-0 (c.in-Ok-Some.ensures.old_ok clean1 tables) c.in-Ok-Some.field-0-is value
+
+pub returns-then-mark-ne-SECOND-clause-clean : goal.returns-then-mark-ne-SECOND-clause-clean
+returns-then-mark-ne-SECOND-clause-clean g c clean1 =
+    let s0 = state g.S.Store c.args.conn.now in
+    let s1 = state g.S.Store c.find_mark.new.conn in
+    clean_before s0 s1 c.find_mark.ensures.survives.clean clean1
+
+pub returns-then-mark-ne-SECOND-clause-stop : goal.returns-then-mark-ne-SECOND-clause-stop
+returns-then-mark-ne-SECOND-clause-stop g c clean1 old =
+    let s0 = state g.S.Store c.args.conn.now in
+    let s1 = state g.S.Store c.find_mark.new.conn in
+    asked_old s0 s1 old.0 clean1 c.find_mark.ensures.old_survives
+
+pub returns-then-mark-ne-SECOND-clause-err : goal.returns-then-mark-ne-SECOND-clause-err
+returns-then-mark-ne-SECOND-clause-err g c clean1 tables =
+    inl (c.in-Ok-Some.ensures.old_same clean1 tables)
+
+pub returns-then-mark-ne-SECOND-clause-judged : goal.returns-then-mark-ne-SECOND-clause-judged
+returns-then-mark-ne-SECOND-clause-judged g c clean1 tables =
+    let value : c.in-Ok-Some.mark.value ≢ pos 2 = search rules in
+    (c.in-Ok-Some.mark, sym (c.in-Ok-Some.ensures.old_ok clean1 tables) ∙ c.in-Ok-Some.field-0-is, value)
+
+pub returns-in-Ok-None-clause-clean : goal.returns-in-Ok-None-clause-clean
+returns-in-Ok-None-clause-clean g c clean1 =
+    let s0 = state g.S.Store c.args.conn.now in
+    let s1 = state g.S.Store c.find_mark.new.conn in
+    clean_before s0 s1 c.find_mark.ensures.survives.clean clean1
+
+pub returns-in-Ok-None-clause-stop : goal.returns-in-Ok-None-clause-stop
+returns-in-Ok-None-clause-stop g c clean1 old =
+    let s0 = state g.S.Store c.args.conn.now in
+    let s1 = state g.S.Store c.find_mark.new.conn in
+    asked_old s0 s1 old.0 clean1 c.find_mark.ensures.old_survives
+
+pub returns-in-Ok-None-clause-err : goal.returns-in-Ok-None-clause-err
+returns-in-Ok-None-clause-err g c clean1 tables =
+    inl (c.in-Ok-None.ensures.old_same clean1 tables)
+
+pub returns-in-Ok-None-clause-judged : goal.returns-in-Ok-None-clause-judged
+returns-in-Ok-None-clause-judged g c clean1 tables =
+    let s0 = state g.S.Store c.args.conn.now in
+    let s1 = state g.S.Store c.find_mark.new.conn in
+    none_found (rows_in s0.now.trees).marks c.in-Ok-None.field-0 (c.in-Ok-None.ensures.old_ok clean1 tables) c.in-Ok-None.field-0-is
+
+pub returns-in-Err-clause-clean : goal.returns-in-Err-clause-clean
+returns-in-Err-clause-clean g c clean1 =
+    let s0 = state g.S.Store c.args.conn.now in
+    let s1 = state g.S.Store c.find_mark.new.conn in
+    clean_before s0 s1 c.find_mark.ensures.survives.clean clean1
+
+pub returns-in-Err-clause-stop : goal.returns-in-Err-clause-stop
+returns-in-Err-clause-stop g c clean1 old =
+    let s0 = state g.S.Store c.args.conn.now in
+    let s1 = state g.S.Store c.find_mark.new.conn in
+    asked_old s0 s1 old.0 clean1 c.find_mark.ensures.old_survives
+
+pub returns-in-Err-clause-err : goal.returns-in-Err-clause-err
+returns-in-Err-clause-err g c clean1 tables =
+    c.in-Err.ensures.old_err clean1 tables
+
+pub returns-in-Err-clause-judged : goal.returns-in-Err-clause-judged
+returns-in-Err-clause-judged g c clean1 tables =
+    met_judged (rows_in (state g.S.Store c.args.conn.now).now.trees) c.in-Err.error
+
+pub returns-in-Err-clause-kinds : goal.returns-in-Err-clause-kinds
+returns-in-Err-clause-kinds g c =
+    kinds_met c.in-Err.error
+
+pub returns-then-len-eq1-clause-clean : goal.returns-then-len-eq1-clause-clean
+returns-then-len-eq1-clause-clean g c clean2 =
+    let s0 = state g.S.Store c.args.conn.now in
+    let s1 = state g.S.Store c.find_mark.new.conn in
+    let s2 = state g.S.Store c.all_marks.new.conn in
+    let clean1 : HasCleanDisk s1 = clean_before s1 s2 c.all_marks.ensures.survives.clean clean2 in
+    clean_before s0 s1 c.find_mark.ensures.survives.clean clean1
+
+pub returns-then-len-eq1-clause-stop : goal.returns-then-len-eq1-clause-stop
+returns-then-len-eq1-clause-stop g c clean2 old =
+    let s0 = state g.S.Store c.args.conn.now in
+    let s1 = state g.S.Store c.find_mark.new.conn in
+    let s2 = state g.S.Store c.all_marks.new.conn in
+    let clean1 : HasCleanDisk s1 = clean_before s1 s2 c.all_marks.ensures.survives.clean clean2 in
+    let u1 : IsUnchanged s0 s1 = c.in-Ok-Some.ensures.old_same clean1 (λ _. old) in
+    more_then s0 s1 s2 (asked_old s0 s1 old.0 clean1 c.find_mark.ensures.old_survives) (asked_old s1 s2 (old_on s0 s1 u1 (λ _. old) u1.0.is_open).0 clean2 c.all_marks.ensures.old_survives)
+
+pub returns-then-len-eq1-clause-same : goal.returns-then-len-eq1-clause-same
+returns-then-len-eq1-clause-same g c clean2 tables =
+    let s0 = state g.S.Store c.args.conn.now in
+    let s1 = state g.S.Store c.find_mark.new.conn in
+    let s2 = state g.S.Store c.all_marks.new.conn in
+    let clean1 : HasCleanDisk s1 = clean_before s1 s2 c.all_marks.ensures.survives.clean clean2 in
+    let u1 : IsUnchanged s0 s1 = c.in-Ok-Some.ensures.old_same clean1 tables in
+    let t1 = old_on s0 s1 u1 tables in
+    unchanged_on s0 s1 s2 u1 (c.in-Ok.ensures.old_same clean2 t1)
+
+pub returns-then-len-eq1-clause-judged : goal.returns-then-len-eq1-clause-judged
+returns-then-len-eq1-clause-judged g c clean2 tables =
+    let s0 = state g.S.Store c.args.conn.now in
+    let s1 = state g.S.Store c.find_mark.new.conn in
+    let s2 = state g.S.Store c.all_marks.new.conn in
+    let clean1 : HasCleanDisk s1 = clean_before s1 s2 c.all_marks.ensures.survives.clean clean2 in
+    let u1 : IsUnchanged s0 s1 = c.in-Ok-Some.ensures.old_same clean1 tables in
+    let t1 = old_on s0 s1 u1 tables in
+    let all = c.in-Ok.ensures.old_ok clean2 t1 ∙ ap (λ (r : Rows). r.marks) (rows_on s0 s1 u1) in
+    let value : c.in-Ok-Some.mark.value ≡ pos 2 = search rules in
+    let count : length c.in-Ok.marks.items ≡ 1 = search rules in
+    one_second (rows_in s0.now.trees).marks c.in-Ok-Some.mark (sym (c.in-Ok-Some.ensures.old_ok clean1 tables) ∙ c.in-Ok-Some.field-0-is) value (sym (ap length all) ∙ count)
+
+pub returns-in-Ok-clause-clean : goal.returns-in-Ok-clause-clean
+returns-in-Ok-clause-clean g c clean2 =
+    let s0 = state g.S.Store c.args.conn.now in
+    let s1 = state g.S.Store c.find_mark.new.conn in
+    let s2 = state g.S.Store c.all_marks.new.conn in
+    let clean1 : HasCleanDisk s1 = clean_before s1 s2 c.all_marks.ensures.survives.clean clean2 in
+    clean_before s0 s1 c.find_mark.ensures.survives.clean clean1
+
+pub returns-in-Ok-clause-stop : goal.returns-in-Ok-clause-stop
+returns-in-Ok-clause-stop g c clean2 old =
+    let s0 = state g.S.Store c.args.conn.now in
+    let s1 = state g.S.Store c.find_mark.new.conn in
+    let s2 = state g.S.Store c.all_marks.new.conn in
+    let clean1 : HasCleanDisk s1 = clean_before s1 s2 c.all_marks.ensures.survives.clean clean2 in
+    let u1 : IsUnchanged s0 s1 = c.in-Ok-Some.ensures.old_same clean1 (λ _. old) in
+    more_then s0 s1 s2 (asked_old s0 s1 old.0 clean1 c.find_mark.ensures.old_survives) (asked_old s1 s2 (old_on s0 s1 u1 (λ _. old) u1.0.is_open).0 clean2 c.all_marks.ensures.old_survives)
+
+pub returns-in-Ok-clause-err : goal.returns-in-Ok-clause-err
+returns-in-Ok-clause-err g c clean2 tables =
+    let s0 = state g.S.Store c.args.conn.now in
+    let s1 = state g.S.Store c.find_mark.new.conn in
+    let s2 = state g.S.Store c.all_marks.new.conn in
+    let clean1 : HasCleanDisk s1 = clean_before s1 s2 c.all_marks.ensures.survives.clean clean2 in
+    let u1 : IsUnchanged s0 s1 = c.in-Ok-Some.ensures.old_same clean1 tables in
+    let t1 = old_on s0 s1 u1 tables in
+    inl (unchanged_on s0 s1 s2 u1 (c.in-Ok.ensures.old_same clean2 t1))
+
+pub returns-in-Ok-clause-judged : goal.returns-in-Ok-clause-judged
+returns-in-Ok-clause-judged g c clean2 tables one =
+    let s0 = state g.S.Store c.args.conn.now in
+    let s1 = state g.S.Store c.find_mark.new.conn in
+    let s2 = state g.S.Store c.all_marks.new.conn in
+    let clean1 : HasCleanDisk s1 = clean_before s1 s2 c.all_marks.ensures.survives.clean clean2 in
+    let u1 : IsUnchanged s0 s1 = c.in-Ok-Some.ensures.old_same clean1 tables in
+    let t1 = old_on s0 s1 u1 tables in
+    let all = c.in-Ok.ensures.old_ok clean2 t1 ∙ ap (λ (r : Rows). r.marks) (rows_on s0 s1 u1) in
+    let count : length c.in-Ok.marks.items ≢ 1 = search rules in
+    count (ap length all ∙ second_length (rows_in s0.now.trees).marks one)
+
+pub returns-clause-clean : goal.returns-clause-clean
+returns-clause-clean g c clean2 =
+    let s0 = state g.S.Store c.args.conn.now in
+    let s1 = state g.S.Store c.find_mark.new.conn in
+    let s2 = state g.S.Store c.all_marks.new.conn in
+    let clean1 : HasCleanDisk s1 = clean_before s1 s2 c.all_marks.ensures.survives.clean clean2 in
+    clean_before s0 s1 c.find_mark.ensures.survives.clean clean1
+
+pub returns-clause-stop : goal.returns-clause-stop
+returns-clause-stop g c clean2 old =
+    let s0 = state g.S.Store c.args.conn.now in
+    let s1 = state g.S.Store c.find_mark.new.conn in
+    let s2 = state g.S.Store c.all_marks.new.conn in
+    let clean1 : HasCleanDisk s1 = clean_before s1 s2 c.all_marks.ensures.survives.clean clean2 in
+    let u1 : IsUnchanged s0 s1 = c.in-Ok-Some.ensures.old_same clean1 (λ _. old) in
+    more_then s0 s1 s2 (asked_old s0 s1 old.0 clean1 c.find_mark.ensures.old_survives) (asked_old s1 s2 (old_on s0 s1 u1 (λ _. old) u1.0.is_open).0 clean2 c.all_marks.ensures.old_survives)
+
+pub returns-clause-err : goal.returns-clause-err
+returns-clause-err g c clean2 tables =
+    let s0 = state g.S.Store c.args.conn.now in
+    let s1 = state g.S.Store c.find_mark.new.conn in
+    let s2 = state g.S.Store c.all_marks.new.conn in
+    let clean1 : HasCleanDisk s1 = clean_before s1 s2 c.all_marks.ensures.survives.clean clean2 in
+    let u1 : IsUnchanged s0 s1 = c.in-Ok-Some.ensures.old_same clean1 tables in
+    let t1 = old_on s0 s1 u1 tables in
+    undone_on s0 s1 s2 u1 (c.in-Err-all_marks.ensures.old_err clean2 t1)
+
+pub returns-clause-judged : goal.returns-clause-judged
+returns-clause-judged g c clean2 tables =
+    met_judged (rows_in (state g.S.Store c.args.conn.now).now.trees) c.in-Err-all_marks.error
+
+pub returns-clause-kinds : goal.returns-clause-kinds
+returns-clause-kinds g c =
+    kinds_met c.in-Err-all_marks.error
