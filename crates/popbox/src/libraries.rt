@@ -2,10 +2,17 @@
 
 mod conversations;
 mod credentials;
+mod folders;
 mod lines;
+mod loopback;
+mod offices;
 mod policies;
+mod requests;
+mod spools;
 mod statements;
 mod stores;
+mod strangers;
 mod text_pieces;
 mod texts;
+mod turns;
 mod views;
