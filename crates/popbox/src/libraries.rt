@@ -12,6 +12,7 @@ mod spools;
 mod statements;
 mod stores;
 mod strangers;
+mod streams;
 mod text_pieces;
 mod texts;
 mod turns;
