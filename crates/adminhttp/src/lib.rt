@@ -16,8 +16,6 @@ mod route;
 mod router;
 mod stop;
 mod target;
-#[cfg(test)]
-mod tests;
 mod text;
 
 pub use refusal::Refusal;

@@ -2,10 +2,18 @@
 
 mod conversations;
 mod credentials;
+mod folders;
 mod lines;
+mod loopback;
+mod offices;
 mod policies;
+mod requests;
+mod spools;
 mod statements;
 mod stores;
+mod strangers;
+mod streams;
 mod text_pieces;
 mod texts;
+mod turns;
 mod views;

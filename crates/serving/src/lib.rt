@@ -13,8 +13,6 @@ mod script_spool;
 mod script_wire;
 mod sockets;
 mod spool;
-#[cfg(test)]
-mod tests;
 mod turn;
 mod wire;
 

@@ -1,6 +1,6 @@
 //! A wire over sockets.
 use super::turns::new_office;
-use crate::{ScriptSpool, SocketWire, begin, serve_turn};
+use serving::{ScriptSpool, SocketWire, begin, serve_turn};
 use std::io::{Read, Write};
 use std::net::{Ipv4Addr, Shutdown, SocketAddr, TcpStream};
 use std::test::Fail;

@@ -1,5 +1,5 @@
 //! A spool over a folder.
-use crate::{FileName, FolderSpool, Spool};
+use serving::{FileName, FolderSpool, Spool};
 use std::fs;
 use std::test::Fail;
 

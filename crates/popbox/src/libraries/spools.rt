@@ -1,6 +1,6 @@
 //! The spool, one file a turn.
 use super::turns::new_office;
-use crate::{FileName, ScriptSpool, ScriptWire, begin, serve_turn};
+use serving::{FileName, ScriptSpool, ScriptWire, begin, serve_turn};
 use std::test::Fail;
 
 #[test]

@@ -1,6 +1,6 @@
 //! Requests and responses as octets: each refusal's cause, limits at their edges, and what an office is asked and answers.
 
-use crate::{Got, Refusal, Request, Route, policy_response, response};
+use adminhttp::{Got, Refusal, Request, Route, policy_response, response};
 use office::{Event, Limits, Office, Outcome};
 use policy::PolicyFault;
 use std::alloc::Global;

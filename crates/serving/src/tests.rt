@@ -1,4 +1,0 @@
-mod folder;
-mod loopback;
-mod spooling;
-mod turns;
