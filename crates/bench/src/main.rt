@@ -1,16 +1,14 @@
 //! How fast popbox's layers are. `bench WHAT N [STORE]` prints the measure WHAT of the number N; without a number it prints nothing.
 //!
-//! `texts OCTETS` is over message texts, and `rules COUNT` over a policy. `sheets OCTETS`, `commits COUNT` and `heads COUNT` are over
-//! the tables of a store in memory, or, with `[FILE]`, in a file that is not there yet; `sample 0 FILE` writes a small one.
+//! `texts OCTETS` is over message texts, and `rules COUNT` over a policy; `copies COUNT` holds so many policies of 1,000 rules, so that
+//! their memory can be seen from outside. `sheets OCTETS` is over the tables of a store in memory, or, with `[FILE]`, in a file that is
+//! not there yet; `sample 0 FILE` writes a small one.
 //!
-//! The others are over an office: `deposits MESSAGES`, `large OCTETS`, `filling MESSAGES`, `beside MESSAGES`, `logins MESSAGES`,
-//! `listings MESSAGES`, `retrieval OCTETS`, `removal MESSAGES`, `one TIMES` and `many TIMES`. Its store is `plain`, which is vectors in
-//! memory and need not be said, or `tables`, in memory too, or `file PATH`, which is not there yet. `opening MESSAGES file PATH` fills
-//! such a file, and opens it again.
+//! `removal MESSAGES` and `logins MESSAGES` are over an office. Its store is `plain`, which is vectors in memory and need not be said, or
+//! `tables`, in memory too, or `file PATH`, which is not there yet. `opening MESSAGES file PATH` fills such a file, and opens it again.
 #![tactic(auto)]
 
 mod acts;
-mod beside;
 mod desk;
 mod fault;
 mod rules;
@@ -24,6 +22,7 @@ use fault::Fault;
 use std::rt::{Clock, Env};
 use std::time::Instant;
 use std::{env, io};
+use stores::Job;
 
 /// The microseconds since then.
 fn since(rt: &impl Clock, start: Instant) -> io::Result<u64> {
@@ -38,18 +37,17 @@ fn rate(count: u64, took: u64) -> u64 {
 
 /// Runs the measure of this name, whatever it is over.
 fn run(rt: &HostRuntime, what: &str, count: u32, over: &str, path: &str) -> Result<(), Fault> {
-    if what == "texts" {
-        texts::texts(rt, count as usize)?;
-        return Ok(());
+    match what {
+        "texts" => Ok(texts::texts(rt, count as usize)?),
+        "rules" => Ok(rules::measure(rt, count as usize)?),
+        "copies" => Ok(rules::hold(rt, count)?),
+        "opening" => stores::measure_opening(rt, path, count),
+        "removal" => stores::measure(rt, Job::Removal, count, over, path),
+        "logins" => stores::measure(rt, Job::Logins, count, over, path),
+        "sheets" => stores::measure_tables(rt, Job::Sheets, count, over),
+        "sample" => stores::measure_tables(rt, Job::Sample, count, over),
+        _ => Err(Fault::NoMeasure),
     }
-    if what == "rules" {
-        rules::measure(rt, count as usize)?;
-        return Ok(());
-    }
-    if what == "opening" {
-        return stores::measure_opening(rt, path, count);
-    }
-    stores::measure(rt, what, count, over, path)
 }
 
 /// The word, or an empty one where there is none.

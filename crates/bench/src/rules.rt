@@ -1,4 +1,4 @@
-//! How long a policy takes: to be read, to decide, to be written and copied.
+//! How long a policy takes: to be read, to decide, to be written and copied; and policies that are held.
 
 use crate::since;
 use creds::Name;
@@ -12,7 +12,7 @@ use std::time::Instant;
 const DECISIONS: u32 = 1000;
 
 /// The text of a policy of so many rules, each about a clerk of its own.
-fn text_of(alloc: Global, rules: usize) -> Result<String, AllocError> {
+pub fn text_of(alloc: Global, rules: usize) -> Result<String, AllocError> {
     let mut text = String::new(alloc);
     for n in 0..rules {
         writeln!(
@@ -88,4 +88,18 @@ pub fn measure(rt: &(impl Print + AllocGlobal + Clock), rules: usize) -> io::Res
         Ok(policy) => tell(rt, &policy, text.len(), reading),
         Err(_) => println!(rt; "{rules} rules: not read"),
     }
+}
+
+/// Reads a policy of 1,000 rules, holds so many copies of it, and prints how many rules these have.
+pub fn hold(rt: &(impl Print + AllocGlobal), copies: u32) -> io::Result<()> {
+    let text = text_of(rt.alloc(), 1000)?;
+    let Ok(policy) = Policy::read(rt.alloc(), &text) else {
+        return println!(rt; "not read");
+    };
+    let mut held = Vec::new(rt.alloc());
+    for _ in 0..copies {
+        held.push(policy.try_copy()?)?;
+    }
+    let rules: usize = held.len().saturating_mul(policy.len());
+    println!(rt; "held: {rules} rules")
 }

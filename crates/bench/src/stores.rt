@@ -9,48 +9,41 @@ use std::rt::Clock;
 use std::time::Instant;
 use vault::PlainVault;
 
-/// Where a measure's store is.
+/// What is measured over a store.
 #[derive(Clone, Copy)]
-enum Place<'a> {
-    /// Vectors in memory.
-    Vectors,
-    /// Tables in memory.
-    Tables,
-    /// Tables in the file at this path.
-    File(&'a str),
-}
-
-/// Where a measure's store is, by the words behind its number.
-fn place_of<'a>(what: &str, over: &'a str, path: &'a str) -> Result<Place<'a>, Fault> {
-    if !sessions::is_measure(what) {
-        return Ok(if over == "" {
-            Place::Tables
-        } else {
-            Place::File(over)
-        });
-    }
-    match over {
-        "" | "plain" => Ok(Place::Vectors),
-        "tables" => Ok(Place::Tables),
-        "file" => Ok(Place::File(path)),
-        _ => Err(Fault::NoStore),
-    }
+pub enum Job {
+    /// In an office: ten maildrops are filled.
+    Filling,
+    /// In an office: nothing.
+    Standing,
+    /// In an office: marks are set, and QUIT removes these messages.
+    Removal,
+    /// In an office: a clerk logs in, under a short policy and under a long one.
+    Logins,
+    /// The sheets of a text are written and read.
+    Sheets,
+    /// A row or two is written in each table.
+    Sample,
 }
 
 /// Runs a measure over a store in tables: of an office, or of the tables themselves. Gives its connection back.
 fn run_over<S: Alter + Drop>(
     rt: &(impl Print + AllocGlobal + Clock),
     vault: SqlVault<S>,
-    what: &str,
+    job: Job,
     count: u32,
 ) -> (Result<(), Fault>, Connection<S>) {
-    if sessions::is_measure(what) {
-        let (ran, vault) = sessions::measure(rt, vault, what, count);
-        return (ran, vault.into_connection());
+    match job {
+        Job::Sheets | Job::Sample => {
+            let mut conn = vault.into_connection();
+            let ran = store::measure(rt, &mut conn, job, count);
+            (ran, conn)
+        }
+        _ => {
+            let (ran, vault) = sessions::measure(rt, vault, job, count);
+            (ran, vault.into_connection())
+        }
     }
-    let mut conn = vault.into_connection();
-    let ran = store::measure(rt, &mut conn, what, count);
-    (ran, conn)
 }
 
 fn tell_opening(rt: &(impl Print + Clock), start: Instant) -> Result<(), Fault> {
@@ -64,11 +57,11 @@ fn run_opened<S: Alter + Drop>(
     rt: &(impl Print + AllocGlobal + Clock),
     start: Instant,
     vault: SqlVault<S>,
-    what: &str,
+    job: Job,
     count: u32,
 ) -> (Result<(), Fault>, Connection<S>) {
     match tell_opening(rt, start) {
-        Ok(()) => run_over(rt, vault, what, count),
+        Ok(()) => run_over(rt, vault, job, count),
         Err(fault) => (Err(fault), vault.into_connection()),
     }
 }
@@ -78,10 +71,10 @@ fn run_and_close<D: Disk + Drop>(
     rt: &(impl Print + AllocGlobal + Clock),
     start: Instant,
     vault: SqlVault<FileStore<D>>,
-    what: &str,
+    job: Job,
     count: u32,
 ) -> Result<(), Fault> {
-    let (ran, conn) = run_opened(rt, start, vault, what, count);
+    let (ran, conn) = run_opened(rt, start, vault, job, count);
     let closed = conn.close();
     ran?;
     closed?;
@@ -89,31 +82,40 @@ fn run_and_close<D: Disk + Drop>(
 }
 
 /// Over a file, whose opening is timed too. A torn write may leave any octets in what was being written.
-fn run_in_file(rt: &HostRuntime, path: &str, what: &str, count: u32) -> Result<(), Fault> {
+fn run_in_file(rt: &HostRuntime, path: &str, job: Job, count: u32) -> Result<(), Fault> {
     let start = Instant::now(rt)?;
     match SqlVault::open(rt, path, Wary) {
-        Ok(vault) => run_and_close(rt, start, vault, what, count),
+        Ok(vault) => run_and_close(rt, start, vault, job, count),
         Err(fault) => Err(Fault::Store(fault)),
     }
 }
 
-/// Runs a measure over the store that the words behind its number name.
+/// Runs a measure in an office over the store that the words behind its number name.
 pub fn measure(
     rt: &HostRuntime,
-    what: &str,
+    job: Job,
     count: u32,
     over: &str,
     path: &str,
 ) -> Result<(), Fault> {
-    match place_of(what, over, path)? {
-        Place::Vectors => sessions::measure(rt, PlainVault::new(rt.alloc()), what, count).0,
-        Place::Tables => run_over(rt, SqlVault::in_memory(rt.alloc())?, what, count).0,
-        Place::File(path) => run_in_file(rt, path, what, count),
+    match over {
+        "" | "plain" => sessions::measure(rt, PlainVault::new(rt.alloc()), job, count).0,
+        "tables" => run_over(rt, SqlVault::in_memory(rt.alloc())?, job, count).0,
+        "file" => run_in_file(rt, path, job, count),
+        _ => Err(Fault::NoStore),
     }
+}
+
+/// Runs a measure over the tables of a store, in memory where no path of a file is given.
+pub fn measure_tables(rt: &HostRuntime, job: Job, count: u32, path: &str) -> Result<(), Fault> {
+    if path == "" {
+        return run_over(rt, SqlVault::in_memory(rt.alloc())?, job, count).0;
+    }
+    run_in_file(rt, path, job, count)
 }
 
 /// Fills a file with so many messages, and opens it again.
 pub fn measure_opening(rt: &HostRuntime, path: &str, count: u32) -> Result<(), Fault> {
-    run_in_file(rt, path, "filling", count)?;
-    run_in_file(rt, path, "standing", count)
+    run_in_file(rt, path, Job::Filling, count)?;
+    run_in_file(rt, path, Job::Standing, count)
 }

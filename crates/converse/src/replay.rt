@@ -1,7 +1,7 @@
 //! `popbox replay`: does the events of a script in an office, and prints what each gives.
 
 ghost use Rattle.std.specs.Prelude.{◌≤◌, ◌≡◌, ◌∷◌, ◌++◌, [], false, true, map, option_map, IfErr, IfOk, IfSome, IsErr, IsOk, List, Ok, OnErr, OnOk, Some, codes, if◌then◌else◌, ◌⊎◌};
-ghost use Rattle.std.specs.Io.KnownBytes.{Appends, IsAtEnd};
+ghost use Rattle.std.specs.Io.KnownBytes.{Appends, IsAtEnd, Keeps as Unchanged};
 ghost use Rattle.std.specs.List.{filter};
 ghost use Rattle.creds.specs.Names.{is_host};
 ghost use Rattle.office.specs.Events.{Trace, Took};
@@ -30,7 +30,7 @@ use vault::Vault;
 const IDLE_SECONDS: u32 = 600;
 
 /// Reads a whole script, opens an office over the vault, does the script's events in it, and
-/// prints the outcome of each to `out`, which is flushed at the end.
+/// prints the outcome of each to `out`. What an event gave is flushed before the next one is done.
 ///
 /// Gives the exit status, 0 or 1, and the vault, as the events left it. A fault has status 1 and
 /// its text on `err`. Where the script can't be read, has a line that is no event, or the host is
@@ -65,7 +65,7 @@ pub fn replay<R: Read, V: Vault, W: Write, E: Write>(
     (status, office.into_vault())
 }
 
-/// Does the lines in order in an office, flushes `out`, and tells what stopped it. Gives the exit status.
+/// Does the lines in order in an office, and tells what stopped it. What was printed is flushed then too. Gives the exit status.
 fn play_over<V: Vault, W: Write, E: Write>(
     alloc: Global,
     office: &mut Office<V>,
@@ -170,7 +170,8 @@ fn play_line<V: Vault, W: Write>(
     }
 }
 
-/// Prints an outcome, and the connections that ended. A connection that it opened is put to those that are known.
+/// Prints an outcome, and the connections that ended, and flushes them. A connection that it opened is put to those that
+/// are known.
 fn tell_whole<V: Vault, W: Write>(
     alloc: Global,
     office: &Office<V>,
@@ -184,6 +185,16 @@ fn tell_whole<V: Vault, W: Write>(
     add_opened(outcome, known)?;
     tell(alloc, out, outcome)?;
     match tell_ended(office, known, out) {
+        Ok(()) => flush(out),
+        Err(_) => Err(Fault::CannotWrite),
+    }
+}
+
+/// Flushes what was printed.
+fn flush<W: Write>(out: &mut W) -> Result<(), Fault>
+    ensures { Unchanged (W.contents out.old) (W.contents out.new) }
+{
+    match out.flush() {
         Ok(()) => Ok(()),
         Err(_) => Err(Fault::CannotWrite),
     }
@@ -239,11 +250,12 @@ fn act<V: Vault, W: Write>(
     }
 }
 
-/// Prints the fault of a text that is no policy.
+/// Prints the fault of a text that is no policy, and flushes it.
 fn tell_no_policy<W: Write>(out: &mut W, fault: PolicyFault) -> io::Result<()>
     ensures { OnOk result (Appends (W.contents out.old) (W.contents out.new) (no_policy_line fault)) }
 {
-    writeln!(out, "answer {fault}")
+    writeln!(out, "answer {fault}")?;
+    out.flush()
 }
 
 /// Takes `count` octets of what a connection is owed. What is ignored prints no octets.
@@ -331,12 +343,20 @@ fn take_all<V: Vault, W: Write>(
             return Ok(outcome);
         }
         let count = owed.len();
-        let Ok(()) = write_escaped(out, owed) else {
+        let Ok(()) = tell_lent(out, owed) else {
             return Err(Fault::CannotWrite);
         };
         outcome = office.step(Event::Took(number, count));
     }
     Err(Fault::Talk(TalkFault::Endless))
+}
+
+/// Prints octets that are taken, and flushes them.
+fn tell_lent<W: Write>(out: &mut W, octets: &[u8]) -> io::Result<()>
+    ensures { OnOk result (Appends (W.contents out.old) (W.contents out.new) (escaped octets.now)) }
+{
+    write_escaped(out, octets)?;
+    out.flush()
 }
 
 /// Writes octets as a script's TEXT: printable ASCII as it is, but for `\`.

@@ -114,6 +114,7 @@ fn add<'a>(
 /// The whole command line.
 pub fn make_command<'a>(alloc: Global) -> Result<Command<'a>, AllocError> {
     let command = Command::new(alloc, "popbox")
+        .version("0.1.0")
         .about("A POP3 server for shared maildrops")
         .subcommand_required(true)
         .arg_required_else_help(true);
