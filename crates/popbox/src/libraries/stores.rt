@@ -350,6 +350,7 @@ answer was there
 answer replaced
 ";
 
+// A full maildrop, of 10,000 messages, is tried by tools/check-streams.
 #[test]
 fn maildrops_and_clerks_up_to_a_thousand(rt: HostRuntime) -> Result<(), Fail> {
     let mut text = String::new(rt.alloc());
@@ -360,27 +361,6 @@ fn maildrops_and_clerks_up_to_a_thousand(rt: HostRuntime) -> Result<(), Fail> {
         )?;
     }
     text.push_str(FULL)?;
-    plays_over_vectors(rt.alloc(), text.as_str())
-}
-
-/// In a full maildrop a new id is refused, and the ids that it has are still known.
-static FULL_MAILDROP: &str = "> deposit orders note d10001 x
-answer full
-> deposit orders note d1 x
-answer known note.1
-> deposit orders note d10000 x
-answer known note.10000
-> maildrops
-answer orders 10000 30000
-";
-
-#[test]
-fn deposits_up_to_ten_thousand(rt: HostRuntime) -> Result<(), Fail> {
-    let mut text = String::from_str(rt.alloc(), "> maildrop add orders\nanswer added\n")?;
-    for k in 1..=10_000 {
-        writeln!(text, "> deposit orders note d{k} x\nanswer new note.{k}")?;
-    }
-    text.push_str(FULL_MAILDROP)?;
     plays_over_vectors(rt.alloc(), text.as_str())
 }
 

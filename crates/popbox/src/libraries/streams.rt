@@ -87,6 +87,29 @@ fn log_in<V: Vault>(
 /// A login into the maildrop `orders`.
 static LOGIN: &[u8] = b"USER ann/orders\r\nPASS s3 cret\r\n";
 
+/// An office with one message, in which ann is logged in on connection 1.
+fn office_with(alloc: Global, text: &[u8]) -> Result<Office<PlainVault>, Fail> {
+    let mut office = prepared(alloc, PlainVault::new(alloc))?;
+    deposit(&mut office, "orders", text)?;
+    log_in(alloc, &mut office, 1, LOGIN)?;
+    Ok(office)
+}
+
+/// Fails unless a line is answered so, whatever is taken at a time.
+fn expect_answer(
+    alloc: Global,
+    office: &mut Office<PlainVault>,
+    line: &[u8],
+    want: &[u8],
+) -> Result<(), Fail> {
+    for most in &TAKINGS {
+        if answer(alloc, office, 1, line, *most)?.as_slice() != want {
+            return Err(Fail::new("another answer"));
+        }
+    }
+    Ok(())
+}
+
 /// These octets, so many `a`, and those.
 fn joined(alloc: Global, front: &[u8], count: usize, back: &[u8]) -> Result<Vec<u8>, AllocError> {
     let mut octets = Vec::new(alloc);
@@ -96,27 +119,21 @@ fn joined(alloc: Global, front: &[u8], count: usize, back: &[u8]) -> Result<Vec<
     Ok(octets)
 }
 
-/// Whether a message that begins with so many `a` is sent so, whatever is taken at a time.
-fn is_sent(alloc: Global, count: usize, text: &[u8], reply: &[u8]) -> Result<bool, Fail> {
-    let mut office = prepared(alloc, PlainVault::new(alloc))?;
-    deposit(&mut office, "orders", &joined(alloc, b"", count, text)?)?;
-    log_in(alloc, &mut office, 1, LOGIN)?;
+/// Fails unless a message that begins with so many `a` is sent so, in 4,121 octets.
+fn expect_sent(alloc: Global, count: usize, text: &[u8], reply: &[u8]) -> Result<(), Fail> {
+    let mut office = office_with(alloc, &joined(alloc, b"", count, text)?)?;
     let want = joined(alloc, b"+OK 4100 octets\r\n", count, reply)?;
-    for most in &TAKINGS {
-        if answer(alloc, &mut office, 1, b"RETR 1\r\n", *most)? != want {
-            return Ok(false);
-        }
+    if want.len() != 4121 {
+        return Err(Fail::new("another length"));
     }
-    Ok(want.len() == 4121)
+    expect_answer(alloc, &mut office, b"RETR 1\r\n", &want)
 }
 
 /// A dot that begins a page, and a line end that a page's end cuts.
 #[test]
 fn dots_at_the_edge_of_a_page(rt: HostRuntime) -> Result<(), Fail> {
-    let alloc = rt.alloc();
-    assert!(rt; is_sent(alloc, 4094, b"\n.x\n", b"\r\n..x\r\n.\r\n")?);
-    assert!(rt; is_sent(alloc, 4095, b"\n.\n", b"\r\n..\r\n.\r\n")?);
-    Ok(())
+    expect_sent(rt.alloc(), 4094, b"\n.x\n", b"\r\n..x\r\n.\r\n")?;
+    expect_sent(rt.alloc(), 4095, b"\n.\n", b"\r\n..\r\n.\r\n")
 }
 
 /// A line of the long message: two of three begin with a dot.
@@ -168,33 +185,41 @@ fn whole(alloc: Global, text: &[u8]) -> Result<Vec<u8>, AllocError> {
     reply(alloc, front.as_str(), LINES)
 }
 
+/// Fails unless TOP with so many lines is answered with as many, or with all.
+fn expect_top(alloc: Global, office: &mut Office<PlainVault>, lines: usize) -> Result<(), Fail> {
+    let line = format!(in alloc; "TOP 1 {lines}\r\n")?;
+    let want = reply(alloc, "+OK top follows", lines.min(LINES))?;
+    expect_answer(alloc, office, line.as_bytes(), &want)
+}
+
 #[test]
 fn messages_of_dots(rt: HostRuntime) -> Result<(), Fail> {
     let alloc = rt.alloc();
-    let mut office = prepared(alloc, PlainVault::new(alloc))?;
     let text = message(alloc)?;
-    deposit(&mut office, "orders", &text)?;
-    log_in(alloc, &mut office, 1, LOGIN)?;
-    let want = whole(alloc, &text)?;
-    for most in &TAKINGS {
-        assert!(rt;
-            answer(alloc, &mut office, 1, b"RETR 1\r\n", *most)? == want,
-            "{most}"
-        );
-    }
+    let mut office = office_with(alloc, &text)?;
+    expect_answer(alloc, &mut office, b"RETR 1\r\n", &whole(alloc, &text)?)?;
     for lines in [0usize, 1, 2, 3, 3500, 6000, 6001] {
-        let asked = format!(in alloc; "TOP 1 {lines}\r\n")?;
-        let want = reply(alloc, "+OK top follows", lines.min(LINES))?;
-        for most in &TAKINGS {
-            let told = answer(alloc, &mut office, 1, asked.as_bytes(), *most)?;
-            assert!(rt; told == want, "{lines} {most}");
-        }
+        expect_top(alloc, &mut office, lines)?;
     }
     Ok(())
 }
 
-/// What came of a message that is sent over a store which refuses one call.
-#[derive(Clone, Copy, PartialEq, Eq, Debug)]
+/// An office over a store that refuses this call, with the message, in which ann is logged in. Behind the call of the opening and
+/// two of the login, the calls are those for the pages.
+fn refusing_office(
+    alloc: Global,
+    text: &[u8],
+    n: u64,
+) -> Result<Office<Refusing<PlainVault>>, Fail> {
+    let mut office = prepared(alloc, PlainVault::new(alloc))?;
+    deposit(&mut office, "orders", text)?;
+    let mut office = opened(alloc, Refusing::new(office.into_vault(), n))?;
+    log_in(alloc, &mut office, 1, LOGIN)?;
+    Ok(office)
+}
+
+/// How a message was sent.
+#[derive(Clone, Copy, PartialEq, Eq)]
 enum Sending {
     /// The line was answered that the store failed, and the connection goes on.
     Refused,
@@ -202,99 +227,116 @@ enum Sending {
     CutOff,
     /// The whole reply came.
     Whole,
-    /// Something else.
-    Wrong,
-}
-
-/// Sends the message over a store that refuses this call: behind the one at the opening, and two at the login, the pages.
-fn sent_over_refusals(alloc: Global, text: &[u8], want: &[u8], n: u64) -> Result<Sending, Fail> {
-    let mut office = prepared(alloc, PlainVault::new(alloc))?;
-    deposit(&mut office, "orders", text)?;
-    let mut office = opened(alloc, Refusing::new(office.into_vault(), n))?;
-    log_in(alloc, &mut office, 1, LOGIN)?;
-    let heard = office.step(Event::Bytes(1, b"RETR 1\r\n"));
-    let mut sent = Vec::new(alloc);
-    let is_whole = takes_all(&mut office, 1, 5000, &mut sent)?;
-    if let Outcome::Failed = heard {
-        let is_told = is_whole && sent.as_slice() == b"-ERR store failed\r\n".as_slice();
-        let again = answer(alloc, &mut office, 1, b"RETR 1\r\n", usize::MAX)?;
-        return Ok(told(is_told && again.as_slice() == want, Sending::Refused));
-    }
-    if is_whole {
-        return Ok(told(sent.as_slice() == want, Sending::Whole));
-    }
-    let is_beginning = sent.len() < want.len() && want.starts_with(&sent);
-    let is_over = office.ended(1) && office.owed(1).is_empty();
-    log_in(alloc, &mut office, 2, LOGIN)?;
-    Ok(told(is_beginning && is_over, Sending::CutOff))
 }
 
 /// This, where all is right.
-fn told(is_right: bool, sending: Sending) -> Sending {
-    if is_right { sending } else { Sending::Wrong }
+fn told(is_right: bool, sending: Sending) -> Result<Sending, Fail> {
+    if is_right {
+        Ok(sending)
+    } else {
+        Err(Fail::new("sent otherwise"))
+    }
 }
 
-/// Each page is read once: the first with the line, as far as a buffer has room, and the others as the client takes.
+/// How the message is sent over a store that refuses this call.
+fn sent_over_refusals(alloc: Global, text: &[u8], want: &[u8], n: u64) -> Result<Sending, Fail> {
+    let mut office = refusing_office(alloc, text, n)?;
+    let heard = says(&mut office, 1, b"RETR 1\r\n");
+    let mut sent = Vec::new(alloc);
+    let is_whole = takes_all(&mut office, 1, 5000, &mut sent)?;
+    if !heard {
+        let again = answer(alloc, &mut office, 1, b"RETR 1\r\n", usize::MAX)?;
+        let is_told = sent.as_slice() == b"-ERR store failed\r\n".as_slice();
+        return told(is_told && again.as_slice() == want, Sending::Refused);
+    }
+    if is_whole {
+        return told(sent.as_slice() == want, Sending::Whole);
+    }
+    log_in(alloc, &mut office, 2, LOGIN)?;
+    let is_beginning = sent.len() < want.len() && want.starts_with(&sent);
+    told(is_beginning && office.ended(1), Sending::CutOff)
+}
+
+/// Refuses one page after the other, until none is refused: how many were refused with the line, and how many as the client took.
+fn refused_pages(alloc: Global, text: &[u8], want: &[u8]) -> Result<(usize, usize), Fail> {
+    let mut with_line = 0usize;
+    let mut later = 0usize;
+    for n in 4..u64::MAX {
+        match sent_over_refusals(alloc, text, want, n)? {
+            Sending::Refused => with_line = with_line.saturating_add(1),
+            Sending::CutOff => later = later.saturating_add(1),
+            Sending::Whole => break,
+        }
+    }
+    Ok((with_line, later))
+}
+
+/// Each page is read once: the first ones with the line, as far as a buffer has room, and the others as the client takes.
 #[test]
 fn a_refused_page(rt: HostRuntime) -> Result<(), Fail> {
     let alloc = rt.alloc();
     let text = message(alloc)?;
-    let want = whole(alloc, &text)?;
-    let pages = kept_octets(&text).div_ceil(PAGE) as u64;
-    assert!(rt; pages > 6);
+    let (with_line, later) = refused_pages(alloc, &text, &whole(alloc, &text)?)?;
+    assert!(rt; 0 < with_line && 0 < later);
     assert_eq!(rt;
-        sent_over_refusals(alloc, &text, &want, 4)?,
-        Sending::Refused
-    );
-    for page in 1..pages {
-        let came = sent_over_refusals(alloc, &text, &want, page.saturating_add(4))?;
-        assert!(rt;
-            came == Sending::Refused || came == Sending::CutOff,
-            "{page}"
-        );
-    }
-    assert_eq!(rt;
-        sent_over_refusals(alloc, &text, &want, pages.saturating_add(3))?,
-        Sending::CutOff
-    );
-    assert_eq!(rt;
-        sent_over_refusals(alloc, &text, &want, pages.saturating_add(4))?,
-        Sending::Whole
+        with_line.saturating_add(later),
+        kept_octets(&text).div_ceil(PAGE)
     );
     Ok(())
 }
 
-/// Two clients fetch at once, and take in turn.
-fn side_by_side(alloc: Global, most: usize) -> Result<(Vec<u8>, Vec<u8>), Fail> {
-    let mut office = prepared(alloc, PlainVault::new(alloc))?;
+/// An office with a message in each of two maildrops, and ann logged in on both.
+fn office_with_two(alloc: Global, first: &[u8], second: &[u8]) -> Result<Office<PlainVault>, Fail> {
+    let mut office = office_with(alloc, first)?;
     add_maildrop(&mut office, "sales")?;
-    deposit(&mut office, "orders", &message(alloc)?)?;
-    deposit(&mut office, "sales", &joined(alloc, b".", 20_000, b"")?)?;
-    log_in(alloc, &mut office, 1, LOGIN)?;
+    deposit(&mut office, "sales", second)?;
     log_in(alloc, &mut office, 2, b"USER ann/sales\r\nPASS s3 cret\r\n")?;
-    let mut first = Vec::new(alloc);
-    let mut second = Vec::new(alloc);
-    if !says(&mut office, 1, b"RETR 1\r\n") || !says(&mut office, 2, b"RETR 1\r\n") {
-        return Err(Fail::new("not heard"));
-    }
+    Ok(office)
+}
+
+/// Both clients take in turn, until nothing is owed.
+fn takes_in_turn(
+    office: &mut Office<PlainVault>,
+    most: usize,
+    first: &mut Vec<u8>,
+    second: &mut Vec<u8>,
+) -> Result<(), AllocError> {
     for _ in 0..u64::MAX {
         if office.owed(1).is_empty() && office.owed(2).is_empty() {
             break;
         }
-        takes(&mut office, 1, most, &mut first)?;
-        takes(&mut office, 2, most, &mut second)?;
+        takes(office, 1, most, first)?;
+        takes(office, 2, most, second)?;
     }
-    Ok((first, second))
+    Ok(())
+}
+
+/// Whether two messages that are fetched at once are sent so.
+fn are_sent(
+    alloc: Global,
+    office: &mut Office<PlainVault>,
+    most: usize,
+    want: (&[u8], &[u8]),
+) -> Result<bool, AllocError> {
+    let mut first = Vec::new(alloc);
+    let mut second = Vec::new(alloc);
+    let is_heard = says(office, 1, b"RETR 1\r\n") && says(office, 2, b"RETR 1\r\n");
+    takes_in_turn(office, most, &mut first, &mut second)?;
+    Ok(is_heard && first.as_slice() == want.0 && second.as_slice() == want.1)
 }
 
 #[test]
 fn two_messages_side_by_side(rt: HostRuntime) -> Result<(), Fail> {
     let alloc = rt.alloc();
-    let first = whole(alloc, &message(alloc)?)?;
+    let text = message(alloc)?;
+    let first = whole(alloc, &text)?;
     let second = joined(alloc, b"+OK 20003 octets\r\n..", 20_000, b"\r\n.\r\n")?;
+    let mut office = office_with_two(alloc, &text, &joined(alloc, b".", 20_000, b"")?)?;
     for most in &TAKINGS {
-        let sent = side_by_side(alloc, *most)?;
-        assert!(rt; sent.0 == first && sent.1 == second, "{most}");
+        assert!(rt;
+            are_sent(alloc, &mut office, *most, (&first, &second))?,
+            "{most}"
+        );
     }
     Ok(())
 }

@@ -15,27 +15,19 @@ fn is_kept_as(alloc: Global, text: &[u8], wanted: &[u8], lines: usize) -> Result
     Ok(kept.bytes() == wanted && kept.octets() == wanted.len() && kept.lines() == lines)
 }
 
-/// How many octets are kept of a text of so many octets `a`, and an end.
-fn octets_of_long(alloc: Global, octets: usize, end: &[u8]) -> Result<usize, TextFault> {
-    let mut text = vec![in alloc; b'a'; octets]?;
-    text.extend_from_slice(end)?;
-    Ok(kept(alloc, &text)?.octets())
-}
-
 fn is_empty(alloc: Global, text: &[u8]) -> bool {
     matches!(kept(alloc, text), Err(TextFault::Empty))
 }
 
+/// The longest text and a longer one, of 26 MB, are tried by tools/check-streams.
 #[test]
-fn kept_form_limits(rt: HostRuntime) -> Result<(), Fail> {
+fn kept_forms(rt: HostRuntime) -> Result<(), Fail> {
     let alloc = rt.alloc();
     assert!(rt; is_empty(alloc, b""));
     assert!(rt; is_kept_as(alloc, b"\n", b"\r\n", 1)?);
     assert!(rt; is_kept_as(alloc, b"a\r\r\n", b"a\r\r\n", 1)?);
     // a last line without an end keeps its CR
     assert!(rt; is_kept_as(alloc, b"a\r", b"a\r\r\n", 1)?);
-    assert!(rt; octets_of_long(alloc, 26_214_398, b"\r\n")? == 26_214_400);
-    assert!(rt; octets_of_long(alloc, 26_214_399, b"") == Err(TextFault::TooLarge));
     Ok(())
 }
 
