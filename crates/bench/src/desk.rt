@@ -1,4 +1,5 @@
-//! What the measures ask of an office, by a trait without clauses: so no measure's proof carries those of an office.
+//! What the measures ask of an office, by a trait without clauses: so no measure's proof carries
+//! those of an office.
 
 use crate::fault::Fault;
 use office::{Answer, Event, Limits, Office, Outcome};
@@ -7,7 +8,8 @@ use vault::Vault;
 
 /// An office, as the measures use it.
 pub trait Desk {
-    /// Does an event: the number of the connection that it opens, or 0. Of a deposit the message must be new.
+    /// Does an event: the number of the connection that it opens, or 0. Of a deposit the message
+    /// must be new.
     ///
     /// Gives `fault` where the event isn't done.
     fn perform(&mut self, event: Event<'_>, fault: Fault) -> Result<u64, Fault>;

@@ -1,11 +1,14 @@
-//! How fast popbox's layers are. `bench WHAT N [STORE]` prints the measure WHAT of the number N; without a number it prints nothing.
+//! How fast popbox's layers are. `bench WHAT N [STORE]` prints the measure WHAT of the number N;
+//! without a number it prints nothing.
 //!
-//! `texts OCTETS` is over message texts, and `rules COUNT` over a policy; `copies COUNT` holds so many policies of 1,000 rules, so that
-//! their memory can be seen from outside. `sheets OCTETS` is over the tables of a store in memory, or, with `[FILE]`, in a file that is
-//! not there yet; `sample 0 FILE` writes a small one.
+//! `texts OCTETS` is over message texts, and `rules COUNT` over a policy; `copies COUNT` holds so
+//! many policies of 1,000 rules, so that their memory can be seen from outside. `sheets OCTETS` is
+//! over the tables of a store in memory, or, with `[FILE]`, in a file that is not there yet;
+//! `sample 0 FILE` writes a small one.
 //!
-//! `removal MESSAGES` and `logins MESSAGES` are over an office. Its store is `plain`, which is vectors in memory and need not be said, or
-//! `tables`, in memory too, or `file PATH`, which is not there yet. `opening MESSAGES file PATH` fills such a file, and opens it again.
+//! `removal MESSAGES` and `logins MESSAGES` are over an office. Its store is `plain`, which is
+//! vectors in memory and need not be said, or `tables`, in memory too, or `file PATH`, which is not
+//! there yet. `opening MESSAGES file PATH` fills such a file, and opens it again.
 #![tactic(auto)]
 
 mod acts;

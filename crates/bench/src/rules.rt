@@ -1,4 +1,5 @@
-//! How long a policy takes: to be read, to decide, to be written and copied; and policies that are held.
+//! How long a policy takes: to be read, to decide, to be written and copied; and policies that are
+//! held.
 
 use crate::since;
 use creds::Name;
@@ -15,14 +16,12 @@ const DECISIONS: u32 = 1000;
 pub fn text_of(alloc: Global, rules: usize) -> Result<String, AllocError> {
     let mut text = String::new(alloc);
     for n in 0..rules {
+        writeln!(text, "[[rule]]\nname = \"rule-{n}\"\neffect = \"allow\"")?;
         writeln!(
             text,
-            "[[rule]]\nname = \"rule-{n}\"\neffect = \"allow\"\nclerk = \"clerk-{n}\"\nmaildrop = \"orders\""
+            "clerk = \"clerk-{n}\"\nmaildrop = \"orders\"\nclass = \"*\""
         )?;
-        writeln!(
-            text,
-            "class = \"*\"\nactions = [\"open\", \"read\", \"remove\"]\n"
-        )?;
+        writeln!(text, "actions = [\"open\", \"read\", \"remove\"]\n")?;
     }
     Ok(text)
 }
@@ -60,7 +59,8 @@ fn copying(rt: &impl Clock, policy: &Policy) -> io::Result<(usize, u64)> {
     Ok((copy.len(), took))
 }
 
-/// Prints what the policy's uses take, of a text of so many octets that took so many microseconds to be read.
+/// Prints what the policy's uses take, of a text of so many octets that took so many microseconds
+/// to be read.
 fn tell(
     rt: &(impl Print + AllocGlobal + Clock),
     policy: &Policy,
@@ -72,9 +72,8 @@ fn tell(
     let start = Instant::now(rt)?;
     let allowed = allowed_decisions(policy);
     let deciding = since(rt, start)?;
-    println!(rt;
-        "{copied} rules of {octets} octets: read {reading} us, written {writing} us, copied {copying} us"
-    )?;
+    println!(rt; "{copied} rules of {octets} octets: read {reading} us, written {writing} us")?;
+    println!(rt; "{copied} rules copied: {copying} us")?;
     println!(rt; "{DECISIONS} decisions, of which {allowed} allow: {deciding} us")
 }
 

@@ -63,7 +63,8 @@ fn time_visits(rt: &impl Clock, desk: &mut impl Desk) -> Result<u64, Fault> {
     Ok(since(rt, start)?)
 }
 
-/// Sessions in a maildrop of so many messages, under a policy of one rule and under one in which 999 others stand before it.
+/// Sessions in a maildrop of so many messages, under a policy of one rule and under one in which
+/// 999 others stand before it.
 fn measure_logins(
     rt: &(impl Print + AllocGlobal + Clock),
     desk: &mut impl Desk,
@@ -78,7 +79,8 @@ fn measure_logins(
     Ok(())
 }
 
-/// Lets ann in where that isn't done, and runs a measure in an office. `Standing` measures nothing in it.
+/// Lets ann in where that isn't done, and runs a measure in an office. `Standing` measures nothing
+/// in it.
 fn measure_in(
     rt: &(impl Print + AllocGlobal + Clock),
     desk: &mut impl Desk,

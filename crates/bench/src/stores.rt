@@ -26,7 +26,8 @@ pub enum Job {
     Sample,
 }
 
-/// Runs a measure over a store in tables: of an office, or of the tables themselves. Gives its connection back.
+/// Runs a measure over a store in tables: of an office, or of the tables themselves. Gives its
+/// connection back.
 fn run_over<S: Alter + Drop>(
     rt: &(impl Print + AllocGlobal + Clock),
     vault: SqlVault<S>,
@@ -52,7 +53,8 @@ fn tell_opening(rt: &(impl Print + Clock), start: Instant) -> Result<(), Fault> 
     Ok(())
 }
 
-/// Tells how long the store's opening took since `start`, and runs a measure over it. Gives its connection back.
+/// Tells how long the store's opening took since `start`, and runs a measure over it. Gives its
+/// connection back.
 fn run_opened<S: Alter + Drop>(
     rt: &(impl Print + AllocGlobal + Clock),
     start: Instant,
@@ -81,7 +83,8 @@ fn run_and_close<D: Disk + Drop>(
     Ok(())
 }
 
-/// Over a file, whose opening is timed too. A torn write may leave any octets in what was being written.
+/// Over a file, whose opening is timed too. A torn write may leave any octets in what was being
+/// written.
 fn run_in_file(rt: &HostRuntime, path: &str, job: Job, count: u32) -> Result<(), Fault> {
     let start = Instant::now(rt)?;
     match SqlVault::open(rt, path, Wary) {

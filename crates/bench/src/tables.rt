@@ -1,4 +1,5 @@
-//! The statements that the measures run, by a trait without clauses: so no measure's proof carries those of a statement.
+//! The statements that the measures run, by a trait without clauses: so no measure's proof carries
+//! those of a statement.
 
 use mailsql::{clerks, counts, deposits, mail, maildrops, mode, rules, sheets};
 use sqlite::{Alter, Connection, Error};
@@ -6,10 +7,12 @@ use std::alloc::Global;
 
 /// The tables of a store, as the measures use them.
 pub trait Tables {
-    /// A message of this text into the maildrop `orders`, which is made for it, in one transaction. Its key.
+    /// A message of this text into the maildrop `orders`, which is made for it, in one transaction.
+    /// Its key.
     fn write_message(&mut self, text: &[u8], octets: u32) -> Result<i64, Error>;
 
-    /// How many octets the sheet has, by the message's key and the sheet's place; 0 where there is none.
+    /// How many octets the sheet has, by the message's key and the sheet's place; 0 where there is
+    /// none.
     fn sheet_octets(&mut self, alloc: Global, key: i64, place: i64) -> Result<u64, Error>;
 
     /// Two clerks, a rule, a count and a deposit.

@@ -39,7 +39,8 @@ fn send_pages(text: &[u8], out: &mut [u8]) -> usize {
     sent
 }
 
-/// How many octets are sent by pages through a buffer of 16,384 octets, and how many of the text in a microsecond.
+/// How many octets are sent by pages through a buffer of 16,384 octets, and how many of the text in
+/// a microsecond.
 fn streaming(rt: &(impl AllocGlobal + Clock), kept: &MailText) -> io::Result<(usize, u64)> {
     let mut out = vec![in rt.alloc(); 0u8; 16_384]?;
     let start = Instant::now(rt)?;

@@ -65,7 +65,8 @@ pub fn replay<R: Read, V: Vault, W: Write, E: Write>(
     (status, office.into_vault())
 }
 
-/// Does the lines in order in an office, and tells what stopped it. What was printed is flushed then too. Gives the exit status.
+/// Does the lines in order in an office, and tells what stopped it, behind what was printed of that
+/// line. Gives the exit status.
 fn play_over<V: Vault, W: Write, E: Write>(
     alloc: Global,
     office: &mut Office<V>,
@@ -170,8 +171,8 @@ fn play_line<V: Vault, W: Write>(
     }
 }
 
-/// Prints an outcome, and the connections that ended, and flushes them. A connection that it opened is put to those that
-/// are known.
+/// Prints an outcome, and the connections that ended, and flushes them. A connection that it opened
+/// is put to those that are known.
 fn tell_whole<V: Vault, W: Write>(
     alloc: Global,
     office: &Office<V>,
