@@ -18,7 +18,6 @@ mod stop;
 mod target;
 #[cfg(test)]
 mod tests;
-mod text;
 
 pub use refusal::Refusal;
 pub use request::{Got, Request};

@@ -13,6 +13,7 @@ use Rattle.policy.specs.declared.fault.PolicyFault.{PolicyFault}
 use Rattle.policy.specs.declared.fault.PolicyFault.TheVariants.{NotToml}
 use Rattle.office.specs.Answers.{AdminCommand, ListMaildrops, ShowMaildrop, AddMaildrop, DropMaildrop, ShowClerk, PutClerk, DropClerk, ShowPolicy, SetPolicy, ListSessions, EndSession, Explain}
 use Rattle.office.specs.Events.{Event, Connect, Bytes, Took, Gone, Tick, Deposit, Admin, Restart}
+use Rattle.office.specs.Numbers.{number_of}
 use Rattle.office.specs.Shown.{command_seen}
 use Rattle.converse.specs.Escapes.{unescaped}
 use Rattle.converse.specs.declared.script.Line.{Line}
@@ -67,14 +68,6 @@ four_fields text = do
   second ← two_fields first.1
   third ← two_fields second.1
   Some (first.0, second.0, third.0, third.1)
-
--- decimal digits, 1 to 20 of them, of a number below 2^64
-abbrev pub is_number : List ℕ → Bool
-is_number field = nat_lt 0 (length field) && list_all (λ b. is_digit b 10) field && nat_le (length field) 20 && nat_lt (digits_value 10 field) (2 ^ 64)
-
--- the number that they write
-abbrev pub number_of : List ℕ → Option ℕ
-number_of field = if is_number field then Some (digits_value 10 field) else None
 
 -- ---- lines of a keyword alone
 

@@ -58,6 +58,7 @@ mod Remembering
 mod Obeying
 mod Taking
 mod Telling
+mod NumberLemmas
 mod Texts
 mod ListedRows
 mod Owing

@@ -6,6 +6,7 @@
 
 mod administration;
 mod answer;
+mod bodies;
 mod command;
 mod deposits;
 mod event;
@@ -18,6 +19,7 @@ mod listing;
 mod locks;
 mod login;
 mod message;
+mod numbers;
 mod office;
 mod output;
 mod policy_commands;
@@ -31,6 +33,7 @@ mod time;
 mod transcript;
 
 pub use answer::{Answer, MessageRow, Messages, SessionRow, Sessions, Totals};
+pub use bodies::answer_body;
 pub use command::AdminCommand;
 pub use event::{Event, Outcome, Reason};
 pub use history_laws::{
@@ -40,6 +43,7 @@ pub use history_laws::{
     view_stays_present,
 };
 pub use limits::Limits;
+pub use numbers::read_number;
 pub use office::{Office, OpenFault};
 pub use stop_laws::{step_and_open, stop_between_events};
 pub use transcript::{RunFault, Step, Transcript};
