@@ -1,9 +1,7 @@
 -- What the target of a request names: the routes, by the parts between the slashes.
-use Rattle.std.specs.Prelude.{ℕ, ◌+◌, ◌^◌, ◌&&◌, ◌==◌, nat_le, nat_lt, nat_eq, Bool, List, [], ◌∷◌, codes, length, drop, Option, Some, None, option_map, if◌then◌else◌}
-use Rattle.std.specs.List.{list_all, before_first, position, starts_with}
-use Rattle.std.specs.Char.{is_digit}
+use Rattle.std.specs.Prelude.{ℕ, ◌+◌, ◌==◌, nat_eq, Bool, List, [], ◌∷◌, codes, length, drop, Option, Some, None, option_map, if◌then◌else◌}
+use Rattle.std.specs.List.{before_first, position, starts_with}
 use Rattle.std.specs.Str.{bytes_eq}
-use Rattle.std.specs.Str.Parse.{digits_value}
 use Rattle.creds.specs.Names.{name_of}
 use Rattle.office.specs.Numbers.{number_of}
 use Rattle.policy.specs.PolicyText.{action_of}

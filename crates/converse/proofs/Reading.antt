@@ -1,15 +1,12 @@
 -- The parts of a script's line in the words of `specs/Script`.
-use Rattle.std.proofs.Common.{◌≡◌, ◌==◌, length-drop, ◌+◌, ◌++◌, ◌⊎◌, inl, inr, Result, ℕ, take_all, append_assoc, append-nil, le-ltb, ◌^◌, ◌<◌, ◌≤◌, Bool, true, false, ◌&&◌, cond, List, [], ◌∷◌, length, Option, Some, None, Ok, Err, refl, sym, ap, ◌∙◌, lt-ltb, le-leb, arith}
-use Rattle.std.proofs.lemmas.Bool.Decides.{nat_tests}
+use Rattle.std.proofs.Common.{◌≡◌, ◌==◌, length-drop, ◌+◌, ◌++◌, ◌⊎◌, inl, inr, Result, ℕ, take_all, append_assoc, append-nil, le-ltb, ◌<◌, ◌≤◌, Bool, true, false, cond, List, [], ◌∷◌, length, Option, Some, None, Ok, Err, refl, sym, ap, ◌∙◌, lt-ltb, arith}
 use Rattle.std.proofs.lemmas.Bool.{false≢true, cases_lt}
 use Rattle.std.proofs.lemmas.List.Splits.{slice_split_first, slice_split_none}
 use Rattle.std.proofs.lemmas.List.Sums.{fails_before_first}
 use Rattle.std.proofs.lemmas.Str.{is_utf8-from_IsUtf8, IsUtf8-from_is_utf8}
-use Rattle.std.specs.Char.{digit_value, is_digit}
-use Rattle.std.specs.List.{list_all, slice_split, position_or_len}
-use Rattle.std.specs.Prelude.{SomeIff, option_map, IsOkAnd, IsErrAnd, nat_lt, nat_le}
+use Rattle.std.specs.List.{slice_split, position_or_len}
+use Rattle.std.specs.Prelude.{option_map, IsOkAnd, IsErrAnd}
 use Rattle.std.specs.Str.{IsUtf8, is_utf8}
-use Rattle.std.specs.Str.Parse.{AllDigits, IsNumeral, digits_value}
 use Rattle.policy.specs.Policy.{Policy}
 use Rattle.policy.specs.PolicyText.{rules_of}
 use Rattle.policy.specs.declared.fault.PolicyFault.{PolicyFault}

@@ -1,9 +1,7 @@
 -- What a line of a script asks for, and which line of a script is of no form.
-use Rattle.std.specs.Prelude.{ℕ, ◌+◌, ◌^◌, ◌&&◌, ◌==◌, nat_le, nat_lt, Bool, true, List, [], ◌∷◌, ◌++◌, codes, length, drop, Option, Some, None, option_map, ok_or, Result, Ok, Err, if◌then◌else◌}
-use Rattle.std.specs.List.{list_all, before_first, position, slice_split}
-use Rattle.std.specs.Char.{is_digit}
+use Rattle.std.specs.Prelude.{ℕ, ◌+◌, ◌==◌, Bool, true, List, [], ◌∷◌, ◌++◌, codes, drop, Option, Some, None, option_map, ok_or, Result, Ok, Err, if◌then◌else◌}
+use Rattle.std.specs.List.{before_first, position, slice_split}
 use Rattle.std.specs.Str.{bytes_eq, is_utf8}
-use Rattle.std.specs.Str.Parse.{digits_value}
 use Rattle.creds.specs.Digests.{pass_digest}
 use Rattle.creds.specs.Names.{name_of, deposit_id_of, secret_of}
 use Rattle.creds.specs.declared.credential.Credential.TheVariants.{Apop, Pass}

@@ -1,6 +1,6 @@
 //! The parts of a script's line: fields that one space parts, names, numbers, and a TEXT at the end.
 
-ghost use Rattle.std.specs.Prelude.{◌≡◌, ◌==◌, ◌+◌, ◌*◌, ◌<◌, ◌≤◌, ◌≢◌, ℕ, MatchOption, length, vec_len, IfOk, IfSome, IfNone, SomeIff, option_map, option_copied, []};
+ghost use Rattle.std.specs.Prelude.{◌≡◌, ◌==◌, ◌+◌, ◌*◌, ◌<◌, ◌≤◌, ◌≢◌, MatchOption, length, vec_len, IfOk, IfSome, SomeIff, option_map, option_copied, []};
 ghost use Rattle.std.specs.Char.{digit_value};
 ghost use Rattle.std.specs.List.{position};
 ghost use Rattle.converse.specs.Escapes.{behind_backslash, led, unescaped};

@@ -1,6 +1,6 @@
 //! The reader of a target.
 
-ghost use Rattle.std.specs.Prelude.{◌≡◌, ◌≢◌, ◌+◌, ◌^◌, ◌<◌, ◌≤◌, length, option_map, IfOk, IfErr, IfSome, Ok, Err, SomeIff};
+ghost use Rattle.std.specs.Prelude.{◌≡◌, ◌≢◌, ◌+◌, ◌<◌, length, option_map, IfOk, IfErr, IfSome, Ok, Err};
 ghost use Rattle.std.specs.List.{position};
 ghost use Rattle.std.specs.Str.{IsUtf8};
 ghost use Rattle.adminhttp.specs.Targets.{target_of, target_on, found_on, explained, first_part, behind as text_behind, alone as target_alone, is_slash};
