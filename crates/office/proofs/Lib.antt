@@ -5,6 +5,7 @@ mod RefusedRows
 mod Parts
 mod SampleSound
 pub mod Laws
+pub mod Served
 pub mod Snapshot
 pub mod UniqueIds
 pub mod OwnRecords

@@ -28,6 +28,7 @@ pub mod Taken
 pub mod Input
 pub mod Stands
 pub mod Laws
+pub mod Served
 pub mod Shown
 pub mod Output
 pub mod Kept
