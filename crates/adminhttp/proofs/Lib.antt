@@ -1,7 +1,6 @@
 pub mod LineLemmas
 pub mod HeadLemmas
 pub mod FieldLemmas
-pub mod NumberLemmas
 pub mod RouteLemmas
 pub mod BodyLemmas
 pub mod RefusalTexts

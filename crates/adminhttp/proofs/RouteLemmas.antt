@@ -11,7 +11,7 @@ use Rattle.std.specs.Prelude.{nat_le, nat_lt}
 use Rattle.std.proofs.lemmas.Str.Parse.{digit_from_value}
 use Rattle.std.proofs.lemmas.Bool.{ltb-true}
 use Rattle.creds.specs.Names.{is_name, is_name_octet, has_length}
-use Rattle.adminhttp.specs.Targets.{is_number}
+use Rattle.office.specs.Numbers.{is_number}
 use Rattle.matchit.specs.Rows.{Rows, RowsOf, param_token, catch_all_token}
 use Rattle.matchit.specs.Router.{rename, map_key}
 use Rattle.matchit.specs.Seek.{own, step, or_else, seek, first, param_step, has_slash, slash, segment, cuts}

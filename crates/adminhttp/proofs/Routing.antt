@@ -22,7 +22,8 @@ use Rattle.adminhttp.specs.declared.route.Route.TheVariants as route
 use Rattle.adminhttp.specs.declared.target.Target.{Target}
 use Rattle.adminhttp.specs.declared.target.Target.TheVariants.{Maildrops, Maildrop, Clerk, Policy, Sessions, Session, Explain}
 use Rattle.adminhttp.specs.Rows.{route_rows, value_of}
-use Rattle.adminhttp.specs.Targets.{◌>>=◌, is_slash, is_number, number_of, first_part, behind, alone, explained, target_on, found_on, first_of, target_among, routes, target_of}
+use Rattle.office.specs.Numbers.{is_number, number_of}
+use Rattle.adminhttp.specs.Targets.{◌>>=◌, is_slash, first_part, behind, alone, explained, target_on, found_on, first_of, target_among, routes, target_of}
 use Rattle.adminhttp.proofs.RouteLemmas.{IsPart, last_part, four_parts, name_part, number_part}
 
 -- ---- what a path has that names something

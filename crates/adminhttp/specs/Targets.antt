@@ -1,10 +1,9 @@
 -- What the target of a request names: the routes, by the parts between the slashes.
-use Rattle.std.specs.Prelude.{ℕ, ◌+◌, ◌^◌, ◌&&◌, ◌==◌, nat_le, nat_lt, nat_eq, Bool, List, [], ◌∷◌, codes, length, drop, Option, Some, None, option_map, if◌then◌else◌}
-use Rattle.std.specs.List.{list_all, before_first, position, starts_with}
-use Rattle.std.specs.Char.{is_digit}
+use Rattle.std.specs.Prelude.{ℕ, ◌+◌, ◌==◌, nat_eq, Bool, List, [], ◌∷◌, codes, length, drop, Option, Some, None, option_map, if◌then◌else◌}
+use Rattle.std.specs.List.{before_first, position, starts_with}
 use Rattle.std.specs.Str.{bytes_eq}
-use Rattle.std.specs.Str.Parse.{digits_value}
 use Rattle.creds.specs.Names.{name_of}
+use Rattle.office.specs.Numbers.{number_of}
 use Rattle.policy.specs.PolicyText.{action_of}
 use Rattle.adminhttp.specs.declared.route.Route.{Route}
 use Rattle.adminhttp.specs.declared.route.Route.TheVariants as route
@@ -16,14 +15,6 @@ infixl 10 ◌>>=◌
 abbrev pub ◌>>=◌ : {A B : Type 0} → Option A → (A → Option B) → Option B
 Some x >>= f = f x
 None >>= f = None
-
--- 1 to 20 decimal digits, of a number below 2^64
-abbrev pub is_number : List ℕ → Bool
-is_number part = nat_lt 0 (length part) && list_all (λ b. is_digit b 10) part && nat_le (length part) 20 && nat_lt (digits_value 10 part) (2 ^ 64)
-
--- the number that they write
-abbrev pub number_of : List ℕ → Option ℕ
-number_of part = if is_number part then Some (digits_value 10 part) else None
 
 -- `/`
 abbrev pub is_slash : ℕ → Bool

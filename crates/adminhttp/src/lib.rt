@@ -16,7 +16,6 @@ mod route;
 mod router;
 mod stop;
 mod target;
-mod text;
 
 pub use refusal::Refusal;
 pub use request::{Got, Request};

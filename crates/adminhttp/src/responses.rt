@@ -7,8 +7,7 @@ ghost use Rattle.office.specs.Shown.{answer_seen};
 ghost use Rattle.policy.specs.PolicyText.{fault_text as text_of_fault};
 ghost use Rattle.adminhttp.specs.Responses.{answer_response, fault_response, response_head, response_text, status_of as status_told};
 
-use crate::text::answer_text;
-use office::Answer;
+use office::{Answer, answer_body};
 use policy::PolicyFault;
 use std::alloc::{AllocError, Global};
 
@@ -16,7 +15,7 @@ use std::alloc::{AllocError, Global};
 pub fn response(alloc: Global, answer: &Answer) -> Result<Vec<u8>, AllocError>
     ensures { IfOk result (λ octets. octets.items ≡ answer_response (answer_seen answer.now)) }
 {
-    let body = answer_text(alloc, answer)?;
+    let body = answer_body(alloc, answer)?;
     respond(alloc, status_of(answer), &body)
 }
 

@@ -1,15 +1,12 @@
 -- The parts of a script's line in the words of `specs/Script`.
-use Rattle.std.proofs.Common.{◌≡◌, ◌==◌, length-drop, ◌+◌, ◌++◌, ◌⊎◌, inl, inr, Result, ℕ, take_all, append_assoc, append-nil, le-ltb, ◌^◌, ◌<◌, ◌≤◌, Bool, true, false, ◌&&◌, cond, List, [], ◌∷◌, length, Option, Some, None, Ok, Err, refl, sym, ap, ◌∙◌, lt-ltb, le-leb, arith}
-use Rattle.std.proofs.lemmas.Bool.Decides.{nat_tests}
+use Rattle.std.proofs.Common.{◌≡◌, ◌==◌, length-drop, ◌+◌, ◌++◌, ◌⊎◌, inl, inr, Result, ℕ, take_all, append_assoc, append-nil, le-ltb, ◌<◌, ◌≤◌, Bool, true, false, cond, List, [], ◌∷◌, length, Option, Some, None, Ok, Err, refl, sym, ap, ◌∙◌, lt-ltb, arith}
 use Rattle.std.proofs.lemmas.Bool.{false≢true, cases_lt}
 use Rattle.std.proofs.lemmas.List.Splits.{slice_split_first, slice_split_none}
 use Rattle.std.proofs.lemmas.List.Sums.{fails_before_first}
 use Rattle.std.proofs.lemmas.Str.{is_utf8-from_IsUtf8, IsUtf8-from_is_utf8}
-use Rattle.std.specs.Char.{digit_value, is_digit}
-use Rattle.std.specs.List.{list_all, slice_split, position_or_len}
-use Rattle.std.specs.Prelude.{SomeIff, option_map, IsOkAnd, IsErrAnd, nat_lt, nat_le}
+use Rattle.std.specs.List.{slice_split, position_or_len}
+use Rattle.std.specs.Prelude.{option_map, IsOkAnd, IsErrAnd}
 use Rattle.std.specs.Str.{IsUtf8, is_utf8}
-use Rattle.std.specs.Str.Parse.{AllDigits, IsNumeral, digits_value}
 use Rattle.policy.specs.Policy.{Policy}
 use Rattle.policy.specs.PolicyText.{rules_of}
 use Rattle.policy.specs.declared.fault.PolicyFault.{PolicyFault}
@@ -17,64 +14,7 @@ use Rattle.policy.specs.declared.fault.PolicyFault.TheVariants.{NotToml}
 use Rattle.office.specs.Answers.{SetPolicy}
 use Rattle.office.specs.Events.{Admin}
 use Rattle.converse.specs.PolicyFile.{IsPolicyText, IsFaultOf}
-use Rattle.converse.specs.Script.{ScriptLine, Does, NoPolicy, is_number, number_of, set_or_fault, policy_line, cut_at, line_asks, asks_then, lines_ask}
-
-abbrev is_decimal : ℕ → Bool
-is_decimal b = is_digit b 10
-
-test_of_digits : (bs : List ℕ) → AllDigits 10 bs → list_all is_decimal bs ≡ true
-test_of_digits [] h = refl
-test_of_digits (b ∷ bs) h = rw (lt-ltb (digit_value b) 10 h.0) (test_of_digits bs h.1)
-
-digits_of_test : (bs : List ℕ) → list_all is_decimal bs ≡ true → AllDigits 10 bs
-digits_of_test [] h = tt
-digits_of_test (b ∷ bs) h = (both_left b (list_all is_decimal bs) h, digits_of_test bs (both_right (is_decimal b) (list_all is_decimal bs) h))
-  where
-    both_left : (b : ℕ) (q : Bool) → (is_decimal b && q) ≡ true → digit_value b < 10
-    both_left b q h = grind (arith, nat_tests)
-
-    both_right : (p q : Bool) → (p && q) ≡ true → q ≡ true
-    both_right true q h = h
-    both_right false q h = absurd (false≢true h)
-
--- what a number is, in the words of std
-abbrev Numeral : List ℕ → Type 0
-Numeral field = IsNumeral 10 field × (length field ≤ 20) × (digits_value 10 field < 2 ^ 64)
-
-four : (p q r s : Bool) → p ≡ true → q ≡ true → r ≡ true → s ≡ true → (p && q && r && s) ≡ true
-four p q r s hp hq hr hs = rw (hp, hq, hr, hs)
-
-of_four : (p q r s : Bool) → (p && q && r && s) ≡ true → (p ≡ true) × (q ≡ true) × (r ≡ true) × (s ≡ true)
-of_four true true true true h = (refl, refl, refl, refl)
-of_four true true true false h = absurd (false≢true h)
-of_four true true false s h = absurd (false≢true h)
-of_four true false r s h = absurd (false≢true h)
-of_four false q r s h = absurd (false≢true h)
-
-test_of_numeral : (field : List ℕ) → Numeral field → is_number field ≡ true
-test_of_numeral field h =
-    four _ _ _ _ (lt-ltb 0 (length field) h.0.0) (test_of_digits field h.0.1) (le-leb (length field) 20 h.1) (lt-ltb (digits_value 10 field) (2 ^ 64) h.2)
-
-lt_of_test : (m n : ℕ) → nat_lt m n ≡ true → m < n
-lt_of_test m n h = grind (arith, nat_tests)
-
-le_of_test : (m n : ℕ) → nat_le m n ≡ true → m ≤ n
-le_of_test m n h = grind (arith, nat_tests)
-
-numeral_of_test : (field : List ℕ) → is_number field ≡ true → Numeral field
-numeral_of_test field h =
-    let t = of_four (nat_lt 0 (length field)) (list_all is_decimal field) (nat_le (length field) 20) (nat_lt (digits_value 10 field) (2 ^ 64)) h in
-    ((lt_of_test 0 (length field) t.0, digits_of_test field t.1), le_of_test (length field) 20 t.2, lt_of_test (digits_value 10 field) (2 ^ 64) t.3)
-
-number_by : (r : Option ℕ) (field : List ℕ) (b : Bool) → is_number field ≡ b → SomeIff r (Numeral field) (digits_value 10 field) → r ≡ cond b (Some (digits_value 10 field)) None
-number_by (Some n) field true e h = ap Some h.1
-number_by (Some n) field false e h = absurd (false≢true (sym e ∙ test_of_numeral field h.0))
-number_by None field true e h = absurd (h (numeral_of_test field e))
-number_by None field false e h = refl
-
--- what std reads of a field is its number
-pub number_is : (r : Option ℕ) (field : List ℕ) → SomeIff r (IsNumeral 10 field × (length field ≤ 20) × (digits_value 10 field < 2 ^ 64)) (digits_value 10 field) → r ≡ number_of field
-number_is r field h = number_by r field (is_number field) refl h
+use Rattle.converse.specs.Script.{ScriptLine, Does, NoPolicy, set_or_fault, policy_line, cut_at, line_asks, asks_then, lines_ask}
 
 -- ---- a policy's text
 

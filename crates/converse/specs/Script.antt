@@ -1,9 +1,7 @@
 -- What a line of a script asks for, and which line of a script is of no form.
-use Rattle.std.specs.Prelude.{ℕ, ◌+◌, ◌^◌, ◌&&◌, ◌==◌, nat_le, nat_lt, Bool, true, List, [], ◌∷◌, ◌++◌, codes, length, drop, Option, Some, None, option_map, ok_or, Result, Ok, Err, if◌then◌else◌}
-use Rattle.std.specs.List.{list_all, before_first, position, slice_split}
-use Rattle.std.specs.Char.{is_digit}
+use Rattle.std.specs.Prelude.{ℕ, ◌+◌, ◌==◌, Bool, true, List, [], ◌∷◌, ◌++◌, codes, drop, Option, Some, None, option_map, ok_or, Result, Ok, Err, if◌then◌else◌}
+use Rattle.std.specs.List.{before_first, position, slice_split}
 use Rattle.std.specs.Str.{bytes_eq, is_utf8}
-use Rattle.std.specs.Str.Parse.{digits_value}
 use Rattle.creds.specs.Digests.{pass_digest}
 use Rattle.creds.specs.Names.{name_of, deposit_id_of, secret_of}
 use Rattle.creds.specs.declared.credential.Credential.TheVariants.{Apop, Pass}
@@ -13,6 +11,7 @@ use Rattle.policy.specs.declared.fault.PolicyFault.{PolicyFault}
 use Rattle.policy.specs.declared.fault.PolicyFault.TheVariants.{NotToml}
 use Rattle.office.specs.Answers.{AdminCommand, ListMaildrops, ShowMaildrop, AddMaildrop, DropMaildrop, ShowClerk, PutClerk, DropClerk, ShowPolicy, SetPolicy, ListSessions, EndSession, Explain}
 use Rattle.office.specs.Events.{Event, Connect, Bytes, Took, Gone, Tick, Deposit, Admin, Restart}
+use Rattle.office.specs.Numbers.{number_of}
 use Rattle.office.specs.Shown.{command_seen}
 use Rattle.converse.specs.Escapes.{unescaped}
 use Rattle.converse.specs.declared.script.Line.{Line}
@@ -67,14 +66,6 @@ four_fields text = do
   second ← two_fields first.1
   third ← two_fields second.1
   Some (first.0, second.0, third.0, third.1)
-
--- decimal digits, 1 to 20 of them, of a number below 2^64
-abbrev pub is_number : List ℕ → Bool
-is_number field = nat_lt 0 (length field) && list_all (λ b. is_digit b 10) field && nat_le (length field) 20 && nat_lt (digits_value 10 field) (2 ^ 64)
-
--- the number that they write
-abbrev pub number_of : List ℕ → Option ℕ
-number_of field = if is_number field then Some (digits_value 10 field) else None
 
 -- ---- lines of a keyword alone
 

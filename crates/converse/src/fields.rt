@@ -1,17 +1,12 @@
 //! The parts of a script's line: fields that one space parts, names, numbers, and a TEXT at the end.
 
-ghost use Rattle.std.specs.Prelude.{◌≡◌, ◌==◌, ◌+◌, ◌*◌, ◌^◌, ◌<◌, ◌≤◌, ◌≢◌, ℕ, MatchOption, length, vec_len, IfOk, IfSome, IfNone, SomeIff, option_map, option_copied, []};
+ghost use Rattle.std.specs.Prelude.{◌≡◌, ◌==◌, ◌+◌, ◌*◌, ◌<◌, ◌≤◌, ◌≢◌, MatchOption, length, vec_len, IfOk, IfSome, SomeIff, option_map, option_copied, []};
 ghost use Rattle.std.specs.Char.{digit_value};
-ghost use Rattle.std.specs.Str.Parse.{IsNumeral, digits_value};
 ghost use Rattle.std.specs.List.{position};
 ghost use Rattle.converse.specs.Escapes.{behind_backslash, led, unescaped};
-ghost use Rattle.converse.specs.Script.{cut_at as parts_at, two_fields, four_fields, number_of};
+ghost use Rattle.converse.specs.Script.{cut_at as parts_at, two_fields, four_fields};
 
 use std::alloc::{AllocError, Global};
-use std::str;
-
-/// The greatest number of digits that a number in a script has.
-const MOST_DIGITS: usize = 20;
 
 /// What stands between two fields.
 pub const SPACE: u8 = b' ';
@@ -52,23 +47,6 @@ pub fn take_fields(line: &[u8]) -> Option<(&[u8], &[u8], &[u8], &[u8])>
     let (second, rest) = take_field(rest)?;
     let (third, rest) = take_field(rest)?;
     Some((first, second, third, rest))
-}
-
-/// A number of 1 to 20 decimal digits, below 2^64. Leading zeros are allowed.
-pub fn read_number(field: &[u8]) -> Option<u64>
-    ensures { result ≡ number_of field.now }
-{
-    parse_number(field)
-}
-
-/// The same, in the words of std.
-fn parse_number(field: &[u8]) -> Option<u64>
-    ensures { SomeIff result (IsNumeral 10 field.now × (length field.now ≤ MOST_DIGITS) × (digits_value 10 field.now < 2 ^ 64)) (digits_value 10 field.now) }
-{
-    if field.len() > MOST_DIGITS || field.starts_with(b"+") {
-        return None;
-    }
-    str::from_utf8(field).ok()?.parse().ok()
 }
 
 /// The octets that a TEXT stands for. `None` where a `\` begins no escape.

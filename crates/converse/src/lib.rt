@@ -5,7 +5,6 @@
 ghost use Rattle.converse.specs.Escapes.{IsReadBack};
 ghost use Rattle.converse.specs.Talk.{RemovesByQuitAlone};
 
-mod answers;
 pub mod check_policy;
 mod conversation;
 mod fault;

@@ -15,11 +15,10 @@ ghost use Rattle.converse.specs.Played.{Acts, Begun, TakesAll, PlaysLine, HasPla
 ghost use Rattle.converse.specs.Escapes.{by_digits, escape, escaped};
 ghost use Rattle.converse.specs.Told.{sent_line, outcome_lines, answer_lines, ended_lines, has_ended, no_policy_line, reason_name as name_of_reason};
 
-use crate::answers::answer_body;
 use crate::conversation::TalkFault;
 use crate::fault::{Fault, read_fault, tell_fault};
 use crate::script::{Line, read_script};
-use office::{Event, Limits, Office, Outcome, Reason};
+use office::{Event, Limits, Office, Outcome, Reason, answer_body};
 use policy::PolicyFault;
 use std::alloc::Global;
 use std::io;

@@ -10,9 +10,9 @@ ghost use Rattle.converse.specs.declared.script.ScriptFault.TheVariants.{NoMemor
 
 use crate::check_policy::read_octets;
 use crate::fault::Fault;
-use crate::fields::{SPACE, cut_at, read_number, take_field, take_fields, unescape};
+use crate::fields::{SPACE, cut_at, take_field, take_fields, unescape};
 use creds::{Credential, DepositId, Name, Secret, pass_digest};
-use office::AdminCommand;
+use office::{AdminCommand, read_number};
 use policy::{Action, PolicyFault};
 use std::alloc::{AllocError, AllocFailed, Global};
 

@@ -5,6 +5,7 @@ mod RefusedRows
 mod Parts
 mod SampleSound
 pub mod Laws
+pub mod Served
 pub mod Snapshot
 pub mod UniqueIds
 pub mod OwnRecords
@@ -58,6 +59,7 @@ mod Remembering
 mod Obeying
 mod Taking
 mod Telling
+mod NumberLemmas
 mod Texts
 mod ListedRows
 mod Owing

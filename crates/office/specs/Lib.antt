@@ -12,6 +12,7 @@ pub use Rattle.vault.specs.Records
 pub use Rattle.vault.specs.Changes
 pub use Rattle.session.specs.View
 pub mod Answers
+pub mod Numbers
 pub mod History
 pub mod Connections
 pub mod Sessions
@@ -27,6 +28,7 @@ pub mod Taken
 pub mod Input
 pub mod Stands
 pub mod Laws
+pub mod Served
 pub mod Shown
 pub mod Output
 pub mod Kept

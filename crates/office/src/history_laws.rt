@@ -7,6 +7,7 @@ ghost use Rattle.office.specs.Events.{Trace};
 ghost use Rattle.office.specs.History.{deposits};
 ghost use Rattle.office.specs.Trace.{history};
 ghost use Rattle.office.specs.Laws.{OneHolder, ViewStaysPresent, UniqueIdsAreUnique, OwnRecordsAgree, MarksAreByView, GreetingsDiffer, DepositIdsActOnce, RepliesHaveTheirForm, UniqueIdTextsDiffer, TakenIsSent, OpeningsAreAdmitted, TimestampsDiffer, AllReplies, same_uid_text};
+ghost use Rattle.office.specs.Served.{AllServed, ServedIsAllowed};
 ghost use Rattle.office.specs.Runs.{FailuresAreCounted};
 ghost use Rattle.vault.specs.Changes.{Contents, records_of};
 ghost use Rattle.office.specs.Stands.{Keeps, StandsFor, begun};
@@ -61,6 +62,12 @@ pub fn replies_have_their_form()
     ensures { RepliesHaveTheirForm }
 {}
 
+/// Each reply that has a message's octets answers a RETR or a TOP of a clerk in session, has the octets of that message of the session's
+/// view, and at the front of that line the policy in force let that clerk read the message's class. No other reply has a message's octets.
+pub fn served_is_allowed()
+    ensures { ServedIsAllowed }
+{}
+
 /// Over events whose marks are ones that they may have, what each connection took, and behind it what it is still owed, is exactly
 /// what the history sends it; once it is ended, what it took is a beginning of that, and the whole where its own closing ended it.
 pub fn taken_is_sent()
@@ -86,11 +93,12 @@ pub fn own_trace_is_kept<V: Vault>(vault: &V)
 }
 
 /// Of the trace that an office stands for, with no premise but on boot numbers: where these differ, timestamps do; unique-ids as they
-/// are written differ; replies have their form.
+/// are written differ; replies have their form; and what is served was allowed.
 pub fn laws_of_its_trace<V: Vault>(office: &Office<V>)
     ensures greetings { (T : Trace) → StandsFor V.holds office.now T → TimestampsDiffer T }
     ensures unique_ids { (T : Trace) → StandsFor V.holds office.now T → (d : List ℕ) → are_distinct same_uid_text (deposits T.base (history T) d) ≡ true }
     ensures replies { (T : Trace) → StandsFor V.holds office.now T → AllReplies IsWellFormed (history T) }
+    ensures served { (T : Trace) → StandsFor V.holds office.now T → AllServed T.base (history T) }
 {
     let _office = office;
 }

@@ -6,6 +6,7 @@
 
 mod administration;
 mod answer;
+mod bodies;
 mod command;
 mod deposits;
 mod event;
@@ -18,6 +19,7 @@ mod listing;
 mod locks;
 mod login;
 mod message;
+mod numbers;
 mod office;
 mod output;
 mod policy_commands;
@@ -31,15 +33,17 @@ mod time;
 mod transcript;
 
 pub use answer::{Answer, MessageRow, Messages, SessionRow, Sessions, Totals};
+pub use bodies::answer_body;
 pub use command::AdminCommand;
 pub use event::{Event, Outcome, Reason};
 pub use history_laws::{
     deposit_ids_act_once, failures_are_counted, greetings_differ, laws_of_its_trace,
     marks_are_by_view, one_holder, openings_are_admitted, own_records_agree, own_trace_is_kept,
-    replies_have_their_form, taken_is_sent, unique_id_texts_differ, unique_ids_are_unique,
-    view_stays_present,
+    replies_have_their_form, served_is_allowed, taken_is_sent, unique_id_texts_differ,
+    unique_ids_are_unique, view_stays_present,
 };
 pub use limits::Limits;
+pub use numbers::read_number;
 pub use office::{Office, OpenFault};
 pub use stop_laws::{step_and_open, stop_between_events};
 pub use transcript::{RunFault, Step, Transcript};

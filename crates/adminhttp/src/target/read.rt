@@ -1,10 +1,9 @@
 //! The reader of a target.
 
-ghost use Rattle.std.specs.Prelude.{◌≡◌, ◌≢◌, ◌+◌, ◌^◌, ◌<◌, ◌≤◌, length, option_map, IfOk, IfErr, IfSome, Ok, Err, SomeIff};
+ghost use Rattle.std.specs.Prelude.{◌≡◌, ◌≢◌, ◌+◌, ◌<◌, length, option_map, IfOk, IfErr, IfSome, Ok, Err};
 ghost use Rattle.std.specs.List.{position};
 ghost use Rattle.std.specs.Str.{IsUtf8};
-ghost use Rattle.std.specs.Str.Parse.{IsNumeral, digits_value};
-ghost use Rattle.adminhttp.specs.Targets.{target_of, target_on, found_on, explained, first_part, behind as text_behind, alone as target_alone, number_of, is_slash};
+ghost use Rattle.adminhttp.specs.Targets.{target_of, target_on, found_on, explained, first_part, behind as text_behind, alone as target_alone, is_slash};
 ghost use Rattle.adminhttp.specs.Steps.{value_or};
 ghost use Rattle.adminhttp.specs.declared.refusal.Refusal.TheVariants.{NotFound};
 
@@ -14,12 +13,10 @@ use crate::route::Route;
 use crate::router::find_route;
 use crate::stop::Stop;
 use creds::Name;
+use office::read_number;
 use policy::Action;
 use std::alloc::Global;
 use std::str;
-
-/// The most digits of a number.
-const MAX_DIGITS: usize = 20;
 
 /// What a target names; [`Refusal::NotFound`] where it is of no route, or a part of it has not its form.
 pub fn read_target(alloc: Global, target: &[u8]) -> Result<Target, Stop>
@@ -76,23 +73,6 @@ fn behind<'p>(path: &'p [u8], word: &[u8]) -> Option<&'p [u8]>
         return Some(&path[word.len()..]);
     }
     None
-}
-
-/// A number of 1 to 20 decimal digits, below 2^64. Leading zeros are allowed.
-fn read_number(part: &[u8]) -> Option<u64>
-    ensures { result ≡ number_of part.now }
-{
-    parse_number(part)
-}
-
-/// The same, in the words of std.
-fn parse_number(part: &[u8]) -> Option<u64>
-    ensures { SomeIff result (IsNumeral 10 part.now × (length part.now ≤ MAX_DIGITS) × (digits_value 10 part.now < 2 ^ 64)) (digits_value 10 part.now) }
-{
-    if part.len() > MAX_DIGITS || part.starts_with(b"+") {
-        return None;
-    }
-    str::from_utf8(part).ok()?.parse().ok()
 }
 
 /// `CLERK/MAILDROP/CLASS/ACTION`.

@@ -1,7 +1,9 @@
 use Rattle.office.proofs.Beginning.{begins_so}
 use Rattle.office.proofs.Greetings as greetings
 use Rattle.office.proofs.RepliesForm as replies
+use Rattle.office.proofs.Served as serving
 use Rattle.office.proofs.UniqueIdTexts as texts
+use Rattle.office.specs.Trace.{acts}
 use Rattle.office.proofs.history_laws.laws_of_its_trace.Goals as goal
 
 pub returns-clause-greetings : goal.returns-clause-greetings
@@ -12,3 +14,6 @@ returns-clause-unique_ids g c T st = texts.unique_id_texts_differ T st.keeps.sou
 
 pub returns-clause-replies : goal.returns-clause-replies
 returns-clause-replies g c T st = replies.replies_have_their_form T st.keeps.sound st.keeps.formed
+
+pub returns-clause-served : goal.returns-clause-served
+returns-clause-served g c T st = serving.served_is_allowed T.base (acts T)

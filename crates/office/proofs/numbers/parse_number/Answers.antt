@@ -5,7 +5,7 @@ use Rattle.std.specs.Prelude.{MatchResult}
 use Rattle.std.specs.Result.{result_ok}
 use Rattle.std.specs.Str.{IsUtf8}
 use Rattle.std.specs.Str.Parse.{IsNumeral}
-use Rattle.converse.proofs.fields.parse_number.Goals as goal
+use Rattle.office.proofs.numbers.parse_number.Goals as goal
 
 -- digits are text
 numeral_is_text : (bs : List ℕ) → IsNumeral 10 bs → IsUtf8 bs

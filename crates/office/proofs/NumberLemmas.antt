@@ -1,4 +1,4 @@
--- A number between slashes in the words of `specs/Targets`.
+-- A number of 1 to 20 digits in the words of `specs/Numbers`.
 use Rattle.std.proofs.Common.{◌≡◌, ℕ, ◌^◌, ◌<◌, ◌≤◌, Bool, true, false, ◌&&◌, cond, List, [], ◌∷◌, length, Option, Some, None, refl, sym, ap, ◌∙◌, lt-ltb, le-leb, arith}
 use Rattle.std.proofs.lemmas.Bool.Decides.{nat_tests}
 use Rattle.std.proofs.lemmas.Bool.{false≢true}
@@ -6,7 +6,7 @@ use Rattle.std.specs.Char.{digit_value, is_digit}
 use Rattle.std.specs.List.{list_all}
 use Rattle.std.specs.Prelude.{SomeIff, nat_lt, nat_le}
 use Rattle.std.specs.Str.Parse.{AllDigits, IsNumeral, digits_value}
-use Rattle.adminhttp.specs.Targets.{is_number, number_of}
+use Rattle.office.specs.Numbers.{is_number, number_of}
 
 abbrev is_decimal : ℕ → Bool
 is_decimal b = is_digit b 10

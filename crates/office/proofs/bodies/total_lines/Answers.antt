@@ -1,7 +1,7 @@
 use Rattle.std.proofs.Common.{arith, ap, take_all, ◌∙◌}
 use Rattle.std.proofs.lemmas.Grind.{common_steps}
 use Rattle.office.specs.Answers.{body_lines, total_text}
-use Rattle.adminhttp.proofs.text.total_lines.Goals as goal
+use Rattle.office.proofs.bodies.total_lines.Goals as goal
 
 pub loop-row-preserved : goal.loop-row-preserved
 loop-row-preserved c = grind (arith, common_steps)

@@ -2,7 +2,7 @@ use Rattle.std.proofs.Common.{arith, ap, map, take_all, ◌∙◌}
 use Rattle.std.proofs.lemmas.Grind.{common_steps}
 use Rattle.office.specs.Answers.{body_lines, session_text}
 use Rattle.office.specs.Shown.{session_seen}
-use Rattle.adminhttp.proofs.text.session_lines.Goals as goal
+use Rattle.office.proofs.bodies.session_lines.Goals as goal
 
 pub loop-row-preserved : goal.loop-row-preserved
 loop-row-preserved c = grind (arith, common_steps)

@@ -1,7 +1,7 @@
 use Rattle.std.proofs.Common.{◌≡◌, map, take}
 use Rattle.office.specs.Answers.{body_lines, message_text}
 use Rattle.office.specs.Shown.{row_seen}
-use Rattle.converse.proofs.answers.message_lines.Given as goal
+use Rattle.office.proofs.bodies.message_lines.Given as goal
 
 -- the lines of the rows that came
 abbrev pub invariant-loop-row : goal.invariant-loop-row

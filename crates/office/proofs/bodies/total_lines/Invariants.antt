@@ -1,6 +1,6 @@
 use Rattle.std.proofs.Common.{◌≡◌, take}
 use Rattle.office.specs.Answers.{body_lines, total_text}
-use Rattle.converse.proofs.answers.total_lines.Given as goal
+use Rattle.office.proofs.bodies.total_lines.Given as goal
 
 -- the lines of the rows that came
 abbrev pub invariant-loop-row : goal.invariant-loop-row

@@ -4,8 +4,8 @@ ghost use Rattle.std.specs.Prelude.{◌≡◌, IfOk, map};
 ghost use Rattle.office.specs.Answers.{body_of, body_line, body_lines, total_text, message_text, session_text, New, Known, Explained, PolicyIs, RuleCount};
 ghost use Rattle.office.specs.Shown.{answer_seen, row_seen, session_seen};
 
+use crate::answer::{Answer, MessageRow, SessionRow};
 use creds::Uid;
-use office::{Answer, MessageRow, SessionRow};
 use policy::{Decision, Policy};
 use std::alloc::{AllocError, Global};
 use vault::Total;

@@ -1,7 +1,0 @@
-use Rattle.std.proofs.Common.{◌≡◌, take}
-use Rattle.office.specs.Answers.{body_lines, total_text}
-use Rattle.adminhttp.proofs.text.total_lines.Given as goal
-
--- the lines of the rows that came
-abbrev pub invariant-loop-row : goal.invariant-loop-row
-invariant-loop-row l = l.text.items ≡ body_lines total_text (take l.row-index l.rows)
