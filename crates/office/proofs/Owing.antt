@@ -1,5 +1,5 @@
 -- What is owed: what stands ready, and what its source puts behind it.
-use Rattle.std.proofs.Common.{◌≡◌, ℕ, ◌+◌, ◌<◌, ◌≤◌, Bool, true, false, List, [], ◌∷◌, ◌++◌, drop, take, length, min, refl, sym, ◌∙◌, ap, subst, arith, true≢false, Option, Some, None, append-nil, append_assoc, length-append}
+use Rattle.std.proofs.Common.{◌≡◌, ℕ, ◌+◌, ◌<◌, ◌≤◌, Bool, true, false, List, [], ◌∷◌, ◌++◌, drop, take, length, min, refl, sym, ◌∙◌, ap, subst, arith, true≢false, Option, Some, None, append-nil, append_assoc, length-append, length-drop}
 use Rattle.std.proofs.lemmas.List.{take-append-le, take_min, length-take}
 use Rattle.popline.specs.Replies.{Reply, bytes_of}
 use Rattle.vault.specs.declared.record.Keyed.{Keyed}
@@ -8,7 +8,7 @@ use Rattle.session.specs.Session.{Session}
 use Rattle.office.specs.Laws.{In}
 use Rattle.office.specs.Replying.{is_empty}
 use Rattle.office.specs.Trace.{IsLent}
-use Rattle.office.specs.Output.{Output, nothing_owed, is_feeding, reads_text, lent_of, most_lent, IsFilled, last_line, Reads, Feeds, Owes, OwesReply}
+use Rattle.office.specs.Output.{Output, nothing_owed, is_feeding, reads_text, lent_of, most_lent, most_output, IsFilled, last_line, Reads, Feeds, Owes, OwesReply}
 use Rattle.office.specs.declared.reading.Reading.{Reading}
 use Rattle.office.specs.declared.output.Source.{Source}
 use Rattle.office.specs.declared.output.Source.TheVariants.{Nothing, Sizes, Uids, Text}
@@ -49,6 +49,14 @@ owes_none c s o e = owes_ready c s o [] e
 pub none_owed : (c : Contents) (s : Option Session) (o : Output) (octets : List ℕ) → Owes c s o octets → o ≡ nothing_owed → octets ≡ []
 none_owed c s o octets w e =
     w.is ∙ (ap (λ (x : Output). x.ready ++ w.coming) e ∙ nothing_comes c s w.coming (subst (λ (x : Output). Feeds c s x.source w.coming) e w.feeds))
+
+-- ---- what stands ready grows
+
+-- where what stood ready at first is still there, and all fits into the room, an output is as it must be
+pub stays_filled : (source : Source) (taken first : ℕ) (before after : List ℕ) → first ≡ length before → taken ≤ length before → (is_feeding source ≡ true → most_lent ≤ length (drop taken before))
+    → first ≤ length after → length after ≤ most_output → (taken ≤ length after) × (is_feeding source ≡ true → most_lent ≤ length (drop taken after)) × (length after ≤ most_output)
+stays_filled source taken first before after e within filled least most =
+    (omega (arith, e, within, least), (λ h. omega (arith, e, within, least, filled h, length-drop taken before, length-drop taken after)), most)
 
 -- ---- something comes
 

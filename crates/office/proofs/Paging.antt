@@ -1,5 +1,5 @@
 -- A page that is put: what was put and what is still to be put make the whole.
-use Rattle.std.proofs.Common.{◌≡◌, ℕ, ◌+◌, ◌≤◌, Bool, List, [], ◌++◌, drop, take, length, refl, sym, ◌∙◌, ap, arith, Option, Some, None, append_assoc, drop-drop, Result, Ok, Err}
+use Rattle.std.proofs.Common.{◌≡◌, ℕ, ◌+◌, ◌≤◌, Bool, List, [], ◌++◌, drop, take, length, refl, sym, ◌∙◌, ap, arith, Option, Some, None, append_assoc, drop-drop, length-append, Result, Ok, Err}
 use Rattle.std.specs.Prelude.{is_ok, OnOk}
 use Rattle.std.proofs.lemmas.List.{drop_all, take-append-drop}
 use Rattle.std.specs.Bool.{if◌then◌else◌}
@@ -20,6 +20,11 @@ all_stuffed s s' piece out taken put sent all more =
 pub on_extended : {E : Type 0} (r : Result (Unit {0}) E) (items old other : List ℕ) (P : Type 0) → items ≡ (if is_ok r then old ++ other else old) → (items ≡ old ++ other → P) → OnOk r P
 on_extended (Ok x) items old other P e f = f e
 on_extended (Err x) items old other P e f = tt
+
+-- the same, by its length
+pub length_extended : {E : Type 0} (r : Result (Unit {0}) E) (items old other : List ℕ) (room : ℕ) → items ≡ (if is_ok r then old ++ other else old) → length other ≤ room → length items ≤ length old + room
+length_extended (Ok x) items old other room e h = rw e (omega (arith, length-append old other, h))
+length_extended (Err x) items old other room e h = rw e (omega arith)
 
 -- ---- a page
 

@@ -26,6 +26,7 @@ pub mod Expected
 pub mod Formed
 pub mod Taken
 pub mod Input
+pub mod Buffered
 pub mod Stands
 pub mod Laws
 pub mod Served

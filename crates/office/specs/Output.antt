@@ -21,6 +21,10 @@ use Rattle.office.specs.declared.output.Source.TheVariants.{Nothing, Sizes, Uids
 abbrev pub most_lent : ℕ
 most_lent = 16384
 
+-- at most so many are kept: what is lent, a page of a message with each dot doubled, and a line
+abbrev pub most_output : ℕ
+most_output = 24832
+
 -- the octets that stand ready, and what feeds them
 pub record Output : Type 0 where
   pub ready : List ℕ

@@ -62,8 +62,9 @@ pub fn replies_have_their_form()
     ensures { RepliesHaveTheirForm }
 {}
 
-/// Each reply that has a message's octets answers a RETR or a TOP of a clerk in session, has the octets of that message of the session's
-/// view, and at the front of that line the policy in force let that clerk read the message's class. No other reply has a message's octets.
+/// Each reply that has a message's octets answers a RETR or a TOP of a clerk in session, and has the
+/// octets of that message of the session's view; at the front of that line the policy in force let
+/// that clerk read the message's class. No other reply has a message's octets.
 pub fn served_is_allowed()
     ensures { ServedIsAllowed }
 {}

@@ -7,7 +7,7 @@ ghost use Rattle.vault.specs.Changes.{Contents};
 ghost use Rattle.vault.specs.Calls.{has_grown};
 ghost use Rattle.office.specs.Stopping.{LeavesHeld, StaysUpWhenDone, LeavesOneOf};
 ghost use Rattle.office.specs.Replying.{is_empty};
-ghost use Rattle.office.specs.Output.{nothing_owed, lent_of, is_feeding, reads_text, Owes, OwesIf};
+ghost use Rattle.office.specs.Output.{nothing_owed, most_output, lent_of, is_feeding, reads_text, Owes, OwesIf};
 ghost use Rattle.office.specs.Sitting.{Sitting};
 ghost use Rattle.office.specs.Kept.{answered, clocked, line_after, asks, nothing_said, maildrop_of};
 ghost use Rattle.office.specs.Idle.{is_idle};
@@ -105,6 +105,14 @@ impl Link {
         ensures most { result ≤ most_input }
     {
         self.cutter.held() + self.pending[self.cut..].len()
+    }
+
+    /// How many octets of what it is owed stand ready, whatever the store did.
+    pub fn output(&self) -> usize
+        ensures value { result ≡ length self.now.output.ready }
+        ensures most { result ≤ most_output }
+    {
+        self.output.kept()
     }
 
     pub fn is_closing(&self) -> bool

@@ -17,7 +17,8 @@ ghost use Rattle.office.specs.Stopping.{LeavesHeld, StaysUpUnless, StopLeaves};
 ghost use Rattle.std.specs.Ordering.{nat_cmp};
 ghost use Rattle.std.specs.BTreeMap.{Updates};
 ghost use Rattle.office.specs.Locks.{Released};
-ghost use Rattle.office.specs.Output.{most_lent};
+ghost use Rattle.office.specs.Buffered.{output_kept};
+ghost use Rattle.office.specs.Output.{most_lent, most_output};
 ghost use Rattle.office.specs.Answered.{shown_of};
 ghost use Rattle.office.specs.Runs.{Step as Shown, followed, Follows, Enters, EntersSo, Ran, HaveCauses, AreAnswered, StopLeavesRun, done_before};
 
@@ -382,6 +383,18 @@ impl<V: Vault> Office<V> {
         match self.links.get(&c) {
             None => 0,
             Some(link) => link.input(),
+        }
+    }
+
+    /// How many octets of what it is owed are kept of a connection, whatever the store does: at most
+    /// 24,832, for which the room is made at its opening. None, where it isn't open.
+    pub fn output_kept(&self, c: u64) -> usize
+        ensures value { result ≡ output_kept self.now c }
+        ensures most { output_kept self.now c ≤ most_output }
+    {
+        match self.links.get(&c) {
+            None => 0,
+            Some(link) => link.output(),
         }
     }
 

@@ -1,7 +1,7 @@
 //! What a connection is owed: octets that stand ready, and what feeds them (RFC 1939, 3: replies of many lines).
 ghost use Rattle.std.specs.Prelude.{◌≡◌, ◌≤◌, ◌<◌, ◌++◌, ◌⊎◌, ℕ, List, [], Option, Some, true, false, IfOk, OnOk, drop, length, codes};
 ghost use Rattle.std.specs.Fmt.{decimal};
-ghost use Rattle.popline.specs.Replies.{bytes_of, one_line, scan_begun, uids_begun};
+ghost use Rattle.popline.specs.Replies.{bytes_of, one_line, scan_text, uid_row_text, scan_begun, uids_begun};
 ghost use Rattle.popline.specs.Seen.{reply_seen};
 ghost use Rattle.vault.specs.Changes.{Contents};
 ghost use Rattle.vault.specs.Calls.{has_grown};
@@ -9,10 +9,11 @@ ghost use Rattle.session.specs.Session.{Session as State};
 ghost use Rattle.session.specs.Session.{octets_of, uid_of};
 ghost use Rattle.session.specs.View.{unmarked, sizes_of, uids_of};
 ghost use Rattle.office.specs.Replying.{is_empty};
-ghost use Rattle.office.specs.Output.{nothing_owed, is_feeding, reads_text, most_lent, lent_of, IsFilled, Owes, Reads, IsListed, sizes_coming, uids_coming};
+ghost use Rattle.office.specs.Output.{nothing_owed, is_feeding, reads_text, most_lent, most_output, last_line, lent_of, IsFilled, Owes, Reads, IsListed, sizes_coming, uids_coming};
 ghost use Rattle.office.specs.Stopping.{LeavesHeld};
 
 use crate::reading::{MOST_LENT, Page, Reading};
+use creds::Uid;
 use popline::{
     Reply, begin_message, begin_scan_listing, begin_top, begin_uid_listing, end_lines,
     put_scan_row, put_uid_row,
@@ -25,7 +26,8 @@ use vault::Vault;
 
 /// How many octets of a listing are put at once, at least.
 const LISTED: usize = 20_480;
-/// The room that is made: what is lent at most, a page of a message with each dot doubled, and a line.
+/// The room that is made, and never outgrown: what is lent at most, a page of a message with each
+/// dot doubled, and a line.
 const ROOM: usize = 24_832;
 
 /// What feeds an output.
@@ -40,7 +42,9 @@ pub enum Source {
     Text(Reading),
 }
 
-/// Octets that stand ready, and what feeds them. While something is to come, as many stand ready as are lent at most.
+/// Octets that stand ready, and what feeds them. While something is to come, as many stand ready as
+/// are lent at most. No more octets are kept, those that were taken among them, than the room that
+/// was made.
 #[derive(Drop)]
 pub struct Output {
     /// Octets to send, of which the first `taken` were taken.
@@ -51,19 +55,35 @@ pub struct Output {
 
 impl Model for Output {
     ghost use Rattle.std.specs.Prelude.{◌≡◌, true, drop, length, ◌≤◌};
-    ghost use Rattle.office.specs.Output.{Output, is_feeding, most_lent};
+    ghost use Rattle.office.specs.Output.{Output, is_feeding, most_lent, most_output};
 
     ghost Value = { Output };
 
     ghost view = { λ o. record { ready = drop o.taken o.ready.items; source = o.source } };
 
-    ghost invariant = { λ o. (o.taken ≤ length o.ready.items) × (is_feeding o.source ≡ true → most_lent ≤ length (drop o.taken o.ready.items)) };
+    ghost invariant = { λ o. (o.taken ≤ length o.ready.items) × (is_feeding o.source ≡ true → most_lent ≤ length (drop o.taken o.ready.items)) × (length o.ready.items ≤ most_output) };
+}
+
+/// What was put behind the first octets stays where all fits into the room. Else it is taken back:
+/// that is want of memory. No reply and no line is so long.
+fn keep_within_room(octets: &mut Vec<u8>, first: usize) -> Result<(), AllocError>
+    requires { (first ≤ length octets.old.items) × (first ≤ most_output) }
+    ensures ok { OnOk result (octets.new.items ≡ octets.old.items) }
+    ensures least { first ≤ length octets.new.items }
+    ensures most { length octets.new.items ≤ most_output }
+{
+    if octets.len() > ROOM {
+        octets.truncate(first);
+        return Err(AllocError);
+    }
+    Ok(())
 }
 
 /// Removes octets from the front.
 fn remove_front(octets: &mut Vec<u8>, n: usize)
     requires { n ≤ length octets.old.items }
-    ensures { octets.new.items ≡ drop n octets.old.items }
+    ensures is { octets.new.items ≡ drop n octets.old.items }
+    ensures most { length octets.new.items ≤ length octets.old.items }
 {
     let left = octets.len() - n;
     octets.copy_within(n.., 0);
@@ -92,6 +112,39 @@ fn uids_behind(session: &Session, done: usize) -> Uids<'_>
     rows
 }
 
+/// Puts the line of one message and its octets, where it fits into the room.
+fn put_size(alloc: Global, ready: &mut Vec<u8>, number: u64, octets: u64) -> Result<(), AllocError>
+    requires { length ready.old.items ≤ most_output }
+    ensures ok { OnOk result (ready.new.items ≡ ready.old.items ++ one_line (scan_text (number, octets))) }
+    ensures most { length ready.new.items ≤ most_output }
+{
+    let before = ready.len();
+    put_scan_row(alloc, ready, number, octets)?;
+    keep_within_room(ready, before)
+}
+
+/// The same of its unique-id.
+fn put_uid(alloc: Global, ready: &mut Vec<u8>, number: u64, uid: Uid) -> Result<(), AllocError>
+    requires { length ready.old.items ≤ most_output }
+    ensures ok { OnOk result (ready.new.items ≡ ready.old.items ++ one_line (uid_row_text (number, uid))) }
+    ensures most { length ready.new.items ≤ most_output }
+{
+    let before = ready.len();
+    put_uid_row(alloc, ready, number, uid)?;
+    keep_within_room(ready, before)
+}
+
+/// Puts the dot behind a listing, where it fits into the room.
+fn end_listing(ready: &mut Vec<u8>) -> Result<(), AllocError>
+    requires { length ready.old.items ≤ most_output }
+    ensures ok { OnOk result (ready.new.items ≡ ready.old.items ++ last_line) }
+    ensures most { length ready.new.items ≤ most_output }
+{
+    let before = ready.len();
+    end_lines(ready)?;
+    keep_within_room(ready, before)
+}
+
 /// Puts rows of a scan listing behind the first ones, as far as there is room, and answers what is then to come. More rows than
 /// can be counted are want of memory.
 fn put_sizes(
@@ -100,17 +153,19 @@ fn put_sizes(
     passed: usize,
     ready: &mut Vec<u8>,
 ) -> Result<Source, AllocError>
+    requires { length ready.old.items ≤ most_output }
     ensures put { IfOk result (λ source. IsListed session.now source ready.old.items ready.new.items (sizes_coming passed session.now)) }
     ensures full { IfOk result (λ source. is_feeding source ≡ true → most_lent ≤ length ready.new.items) }
+    ensures most { length ready.new.items ≤ most_output }
 {
     let mut rows = sizes_behind(session, passed);
     let mut done = passed;
     while ready.len() < LISTED {
         let Some((number, octets)) = rows.next() else {
-            end_lines(ready)?;
+            end_listing(ready)?;
             return Ok(Source::Nothing);
         };
-        put_scan_row(alloc, ready, number, octets)?;
+        put_size(alloc, ready, number, octets)?;
         let Some(next) = done.checked_add(1) else {
             return Err(AllocError);
         };
@@ -126,17 +181,19 @@ fn put_uids(
     passed: usize,
     ready: &mut Vec<u8>,
 ) -> Result<Source, AllocError>
+    requires { length ready.old.items ≤ most_output }
     ensures put { IfOk result (λ source. IsListed session.now source ready.old.items ready.new.items (uids_coming passed session.now)) }
     ensures full { IfOk result (λ source. is_feeding source ≡ true → most_lent ≤ length ready.new.items) }
+    ensures most { length ready.new.items ≤ most_output }
 {
     let mut rows = uids_behind(session, passed);
     let mut done = passed;
     while ready.len() < LISTED {
         let Some((number, uid)) = rows.next() else {
-            end_lines(ready)?;
+            end_listing(ready)?;
             return Ok(Source::Nothing);
         };
-        put_uid_row(alloc, ready, number, uid)?;
+        put_uid(alloc, ready, number, uid)?;
         let Some(next) = done.checked_add(1) else {
             return Err(AllocError);
         };
@@ -173,6 +230,14 @@ impl Output {
         self.ready.len() == self.taken
     }
 
+    /// How many octets stand ready, whatever the store did.
+    pub fn kept(&self) -> usize
+        ensures value { result ≡ length self.now.ready }
+        ensures most { result ≤ most_output }
+    {
+        self.ready.len() - self.taken
+    }
+
     /// Forgets all that is owed.
     pub fn clear(&mut self)
         ensures { self.new ≡ nothing_owed }
@@ -193,35 +258,45 @@ impl Output {
     pub fn say(&mut self, alloc: Global, reply: &Reply<'_>) -> Result<(), AllocError>
         ensures { OnOk result (self.new ≡ record self.old { ready = self.old.ready ++ bytes_of (reply_seen reply.now) }) }
     {
-        reply.put(alloc, &mut self.ready)
+        let before = self.ready.len();
+        reply.put(alloc, &mut self.ready)?;
+        keep_within_room(&mut self.ready, before)
     }
 
     /// Puts the first line of a scan listing.
     pub fn begin_sizes(&mut self) -> Result<(), AllocError>
         ensures { OnOk result (self.new ≡ record self.old { ready = self.old.ready ++ scan_begun [] }) }
     {
-        begin_scan_listing(&mut self.ready)
+        let before = self.ready.len();
+        begin_scan_listing(&mut self.ready)?;
+        keep_within_room(&mut self.ready, before)
     }
 
     /// Puts the first line of a listing of unique-ids.
     pub fn begin_uids(&mut self) -> Result<(), AllocError>
         ensures { OnOk result (self.new ≡ record self.old { ready = self.old.ready ++ uids_begun [] }) }
     {
-        begin_uid_listing(&mut self.ready)
+        let before = self.ready.len();
+        begin_uid_listing(&mut self.ready)?;
+        keep_within_room(&mut self.ready, before)
     }
 
     /// Puts the first line of a message of so many octets.
     pub fn begin_message(&mut self, alloc: Global, octets: u64) -> Result<(), AllocError>
         ensures { OnOk result (self.new ≡ record self.old { ready = self.old.ready ++ one_line (codes "+OK " ++ decimal octets ++ codes " octets") }) }
     {
-        begin_message(alloc, &mut self.ready, octets)
+        let before = self.ready.len();
+        begin_message(alloc, &mut self.ready, octets)?;
+        keep_within_room(&mut self.ready, before)
     }
 
     /// Puts the first line of a message's top.
     pub fn begin_top(&mut self) -> Result<(), AllocError>
         ensures { OnOk result (self.new ≡ record self.old { ready = self.old.ready ++ one_line (codes "+OK top follows") }) }
     {
-        begin_top(&mut self.ready)
+        let before = self.ready.len();
+        begin_top(&mut self.ready)?;
+        keep_within_room(&mut self.ready, before)
     }
 
     /// Takes octets that stand ready. Answers the source where few are left: it is to be put again.

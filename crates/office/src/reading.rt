@@ -4,7 +4,7 @@ ghost use Rattle.mailtext.specs.Text.{kept_form, lines_of, stuffed_lines, top_pa
 ghost use Rattle.mailtext.specs.Streams.{stuffed_from, nothing_come};
 ghost use Rattle.vault.specs.Changes.{Contents};
 ghost use Rattle.vault.specs.Calls.{has_grown, text_under};
-ghost use Rattle.office.specs.Output.{most_lent, cut_from, text_coming, last_line, IsBegun, IsPut};
+ghost use Rattle.office.specs.Output.{most_lent, most_output, cut_from, text_coming, last_line, IsBegun, IsPut};
 ghost use Rattle.office.specs.Stopping.{LeavesHeld};
 
 use mailtext::{Stuffer, TopCut};
@@ -110,6 +110,7 @@ impl Reading {
         requires { length octets.now ≤ PAGE_OCTETS }
         ensures ok { OnOk result ((more : List ℕ) → ready.old.items ++ stuffed_from self.old.stuffer (octets.now ++ more) ≡ ready.new.items ++ stuffed_from self.new.stuffer more) }
         ensures same { self.new ≡ record self.old { stuffer = self.new.stuffer } }
+        ensures most { length ready.new.items ≤ length ready.old.items + STUFFED_OCTETS }
     {
         let mut out = [0u8; STUFFED_OCTETS];
         let (_, put) = self.stuffer.feed(octets, &mut out);
@@ -124,6 +125,7 @@ impl Reading {
         ensures passed { IfOk result (λ more. more ≡ true → self.new.place ≡ self.old.place + length page.now) }
         ensures key { self.new.key ≡ self.old.key }
         ensures octets { self.new.octets ≡ self.old.octets }
+        ensures most { length ready.new.items ≤ length ready.old.items + STUFFED_OCTETS + 3 }
     {
         let part = self.part_of(page);
         self.put_stuffed(&page[..part], ready)?;
@@ -147,6 +149,7 @@ impl Reading {
         ensures clean { V.is_clean vault.new → V.is_clean vault.old }
         ensures up { (c : Contents) → V.holds vault.old c → V.is_clean vault.new → V.is_up vault.old → IfOk result (λ page. page ≢ Page.Refused → V.is_up vault.new) }
         ensures stop { (c : Contents) → V.holds vault.old c → V.is_clean vault.new → V.is_up vault.old → LeavesHeld (V.may_leave vault.new) c }
+        ensures most { length ready.new.items ≤ length ready.old.items + STUFFED_OCTETS + 3 }
     {
         let mut page = [0u8; PAGE_OCTETS];
         let Some(octets) = self.read(vault, &mut page)? else {
@@ -161,6 +164,7 @@ impl Reading {
 
     /// Puts pages until as much stands ready as is lent at most, or nothing more is to come.
     pub fn fill<V: Vault>(&mut self, vault: &mut V, ready: &mut Vec<u8>) -> Result<Page, AllocError>
+        requires { length ready.old.items ≤ most_output }
         ensures put { IfOk result (λ page. (c : Contents) → V.holds vault.old c → V.is_clean vault.new → IsBegun self.old (text_under self.old.key c.messages) → IsPut page ready.old.items ready.new.items (text_coming self.old (text_under self.old.key c.messages)) (text_coming self.new (text_under self.old.key c.messages))) }
         ensures more { IfOk result (λ page. page ≡ Page.More → (self.old.place < self.old.octets) → self.new.place < self.new.octets) }
         ensures full { IfOk result (λ page. page ≡ Page.More → most_lent ≤ length ready.new.items) }
@@ -172,6 +176,8 @@ impl Reading {
         ensures clean { V.is_clean vault.new → V.is_clean vault.old }
         ensures up { (c : Contents) → V.holds vault.old c → V.is_clean vault.new → V.is_up vault.old → IfOk result (λ page. page ≢ Page.Refused → V.is_up vault.new) }
         ensures stop { (c : Contents) → V.holds vault.old c → V.is_clean vault.new → V.is_up vault.old → LeavesHeld (V.may_leave vault.new) c }
+        // Whatever the store does.
+        ensures most { length ready.new.items ≤ most_output }
     {
         while ready.len() < MOST_LENT {
             match self.put_page(vault, ready)? {

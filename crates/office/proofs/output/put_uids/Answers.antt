@@ -1,9 +1,8 @@
-use Rattle.std.proofs.Common.{◌≡◌, ℕ, ◌+◌, ◌++◌, List, ◌∷◌, drop, sym, ◌∙◌, ap, rules}
+use Rattle.std.proofs.Common.{◌≡◌, ℕ, ◌+◌, sym, ◌∙◌, rules}
 use Rattle.creds.specs.declared.uid.Uid.{Uid}
 use Rattle.popline.specs.Replies.{one_line, uid_row_text}
 use Rattle.session.specs.Session.{uid_of}
 use Rattle.session.specs.View.{unmarked, uids_of}
-use Rattle.office.specs.Output.{uids_coming}
 use Rattle.office.proofs.ListedRows.{row_put, next_behind}
 use Rattle.office.proofs.output.put_uids.Goals as goal
 
@@ -15,6 +14,7 @@ loop-rows-preserved c =
     let more : c.in-Some-checked_add.next ≡ n + 1 = search rules in
     record {
       rows = rw more (next_behind c.next.result all c.loop-rows.rows c.next.new.self n c.loop-rows.invariant.rows c.next.ensures.steps);
-      put = rw more (c.loop-rows.invariant.put ∙ row_put (λ (row : ℕ × Uid). one_line (uid_row_text row)) all n c.loop-rows.ready.items _ c.next.new.self c.put_uid_row.new.out.items
-          (sym c.loop-rows.invariant.rows ∙ c.in-Some.ensures.steps) c.in_ok-put_uid_row.ensures.ok);
+      put = rw more (c.loop-rows.invariant.put ∙ row_put (λ (row : ℕ × Uid). one_line (uid_row_text row)) all n c.loop-rows.ready.items _ c.next.new.self c.put_uid.new.ready.items
+          (sym c.loop-rows.invariant.rows ∙ c.in-Some.ensures.steps) c.in_ok-put_uid.ensures.ok);
+      room = search rules;
     }

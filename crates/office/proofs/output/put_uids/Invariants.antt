@@ -1,13 +1,14 @@
-use Rattle.std.proofs.Common.{◌≡◌, ◌++◌, drop, length}
+use Rattle.std.proofs.Common.{◌≡◌, ◌≤◌, ◌++◌, drop, length}
 use Rattle.session.specs.Session.{uid_of}
 use Rattle.session.specs.View.{unmarked, uids_of}
-use Rattle.office.specs.Output.{uids_coming}
+use Rattle.office.specs.Output.{uids_coming, most_output}
 use Rattle.office.proofs.output.put_uids.Given as goal
 
 abbrev pub invariant-loop-rows : goal.invariant-loop-rows
 invariant-loop-rows l = record {
   rows : l.rows ≡ drop l.done (uids_of uid_of (unmarked l.session.marks l.session.view));
   put : l.fn.ready.items ++ uids_coming l.fn.passed l.session ≡ l.ready.items ++ uids_coming l.done l.session;
+  room : length l.ready.items ≤ most_output;
 }
 
 abbrev pub decreases-loop-rows : goal.decreases-loop-rows

@@ -12,7 +12,7 @@ pub returns-in-More-clause-owes : goal.returns-in-More-clause-owes
 returns-in-More-clause-owes g c = λ yes d s coming held clean reads.
     let sound : AreSound d = g.met.V.Vault.sound c.args.vault.now d held (c.fill.ensures.clean clean) in
     let t : Reading = c.args.text in
-    let front : c.remove_front.new.octets.items ≡ c.args.self.now.ready = c.remove_front.ensures ∙ ap (λ (o : Output). o.ready) c.self.view_is in
+    let front : c.remove_front.new.octets.items ≡ c.args.self.now.ready = c.remove_front.ensures.is ∙ ap (λ (o : Output). o.ready) c.self.view_is in
     text_goes_on d sound s t coming reads c.fill.new.self c.args.self.now.ready c.remove_front.new.octets.items c.fill.new.ready.items front c.fill.ensures.key c.fill.ensures.octets
     ((rw c.in-More.is at c.in_ok-fill.ensures.more) refl reads.begun.left) ((rw c.in-More.is at c.in_ok-fill.ensures.full) refl)
     ((rw c.in-More.is at c.in_ok-fill.ensures.put) d held clean (begun_under d sound s t coming reads))
@@ -21,7 +21,7 @@ pub returns-in-Last-clause-owes : goal.returns-in-Last-clause-owes
 returns-in-Last-clause-owes g c = λ yes d s coming held clean reads.
     let sound : AreSound d = g.met.V.Vault.sound c.args.vault.now d held (c.fill.ensures.clean clean) in
     let t : Reading = c.args.text in
-    let front : c.remove_front.new.octets.items ≡ c.args.self.now.ready = c.remove_front.ensures ∙ ap (λ (o : Output). o.ready) c.self.view_is in
+    let front : c.remove_front.new.octets.items ≡ c.args.self.now.ready = c.remove_front.ensures.is ∙ ap (λ (o : Output). o.ready) c.self.view_is in
     let none : c.self.inside.source ≡ Nothing = ap (λ (o : Output). o.source) c.self.view_is ∙ c.requires in
     subst (λ (x : Source). Owes d (Some s) (record { ready = c.fill.new.ready.items; source = x }) (c.args.self.now.ready ++ coming)) (sym none)
     (text_ended d sound s t coming reads c.fill.new.self c.args.self.now.ready c.remove_front.new.octets.items c.fill.new.ready.items front c.fill.ensures.key c.fill.ensures.octets

@@ -1,7 +1,7 @@
-use Rattle.std.proofs.Common.{◌≡◌, ◌≤◌, ◌<◌, ◌++◌, ◌-◌}
+use Rattle.std.proofs.Common.{◌≡◌, ◌≤◌, ◌<◌, ◌++◌, ◌-◌, length}
 use Rattle.vault.specs.Changes.{Contents}
 use Rattle.vault.specs.Calls.{text_under}
-use Rattle.office.specs.Output.{text_coming, IsBegun}
+use Rattle.office.specs.Output.{text_coming, most_output, IsBegun}
 use Rattle.office.proofs.reading.Reading.fill.Given as goal
 
 abbrev pub invariant-loop-self : goal.invariant-loop-self
@@ -15,6 +15,7 @@ invariant-loop-self g l = record {
   counted : g.V.Vault.faults l.fn.vault ≤ g.V.Vault.faults l.vault;
   clean : g.V.Vault.is_clean l.vault → g.V.Vault.is_clean l.fn.vault;
   up : (c : Contents) → g.V.Vault.holds l.fn.vault c → g.V.Vault.is_clean l.vault → g.V.Vault.is_up l.fn.vault → g.V.Vault.is_up l.vault;
+  room : length l.ready.items ≤ most_output;
 }
 
 abbrev pub decreases-loop-self : goal.decreases-loop-self
