@@ -1,4 +1,5 @@
-//! Requests and responses as octets: each refusal's cause, limits at their edges, and what an office is asked and answers.
+//! Requests and responses as octets: each refusal's cause, limits at their edges, and what an
+//! office is asked and answers.
 
 use adminhttp::{Got, Refusal, Request, Route, policy_response, response};
 use office::{Event, Limits, Office, Outcome};

@@ -4,7 +4,8 @@ use serving::{ScriptSpool, ScriptWire, Stop, begin, serve_turn};
 use std::alloc::Global;
 use std::test::Fail;
 
-/// What two links are sent, where a fault comes in place of one call: the other link's octets don't change.
+/// What two links are sent, where a fault comes in place of one call: the other link's octets don't
+/// change.
 fn with_stop(alloc: Global, call: u64, stop: Stop) -> Result<(ScriptWire, bool), Fail> {
     let mut office = new_office(alloc)?;
     let mut wire = one_link(alloc, b"CAPA\r\nQUIT\r\n", 7)?;
@@ -53,7 +54,8 @@ fn sixty_four_links_and_one_more(rt: HostRuntime) -> Result<(), Fail> {
     Ok(())
 }
 
-/// A link that sends and takes nothing is not read behind its first line, and no turn goes without a wait for it.
+/// A link that sends and takes nothing is not read behind its first line, and no turn goes without
+/// a wait for it.
 #[test]
 fn a_link_that_never_takes(rt: HostRuntime) -> Result<(), Fail> {
     let alloc = rt.alloc();

@@ -1,4 +1,5 @@
-//! Replies that stream: the same octets whatever is taken at a time, and a page that is refused (RFC 1939, 3 and 7).
+//! Replies that stream: the same octets whatever is taken at a time, and a page that is refused
+//! (RFC 1939, 3 and 7).
 use super::offices::{add_maildrop, deposit, opened, prepared};
 use office::{Event, Office, Outcome};
 use std::alloc::{AllocError, Global};
@@ -14,7 +15,8 @@ const LINES: usize = 6000;
 /// How many octets a page has.
 const PAGE: usize = 4096;
 
-/// Takes so many of the octets that a connection is owed, or all that it is lent. Whether that was done.
+/// Takes so many of the octets that a connection is owed, or all that it is lent. Whether that was
+/// done.
 fn takes<V: Vault>(
     office: &mut Office<V>,
     c: u64,
@@ -204,8 +206,8 @@ fn messages_of_dots(rt: HostRuntime) -> Result<(), Fail> {
     Ok(())
 }
 
-/// An office over a store that refuses this call, with the message, in which ann is logged in. Behind the call of the opening and
-/// two of the login, the calls are those for the pages.
+/// An office over a store that refuses this call, with the message, in which ann is logged in.
+/// Behind the call of the opening and two of the login, the calls are those for the pages.
 fn refusing_office(
     alloc: Global,
     text: &[u8],
@@ -223,7 +225,8 @@ fn refusing_office(
 enum Sending {
     /// The line was answered that the store failed, and the connection goes on.
     Refused,
-    /// The connection was ended, what it took is a beginning of the reply, and the maildrop is free.
+    /// The connection was ended, what it took is a beginning of the reply, and the maildrop is
+    /// free.
     CutOff,
     /// The whole reply came.
     Whole,
@@ -257,7 +260,8 @@ fn sent_over_refusals(alloc: Global, text: &[u8], want: &[u8], n: u64) -> Result
     told(is_beginning && office.ended(1), Sending::CutOff)
 }
 
-/// Refuses one page after the other, until none is refused: how many were refused with the line, and how many as the client took.
+/// Refuses one page after the other, until none is refused: how many were refused with the line,
+/// and how many as the client took.
 fn refused_pages(alloc: Global, text: &[u8], want: &[u8]) -> Result<(usize, usize), Fail> {
     let mut with_line = 0usize;
     let mut later = 0usize;
@@ -271,7 +275,8 @@ fn refused_pages(alloc: Global, text: &[u8], want: &[u8]) -> Result<(usize, usiz
     Ok((with_line, later))
 }
 
-/// Each page is read once: the first ones with the line, as far as a buffer has room, and the others as the client takes.
+/// Each page is read once: the first ones with the line, as far as a buffer has room, and the
+/// others as the client takes.
 #[test]
 fn a_refused_page(rt: HostRuntime) -> Result<(), Fail> {
     let alloc = rt.alloc();
