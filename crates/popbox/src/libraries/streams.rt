@@ -318,8 +318,8 @@ fn takes_in_turn(
 
 /// Whether two messages that are fetched at once are sent so.
 fn are_sent(
-    office: &mut Office<PlainVault>,
     alloc: Global,
+    office: &mut Office<PlainVault>,
     most: usize,
     first: &[u8],
     second: &[u8],
@@ -340,7 +340,7 @@ fn two_messages_side_by_side(rt: HostRuntime) -> Result<(), Fail> {
     let mut office = office_with_two(alloc, &text, &joined(alloc, b".", 20_000, b"")?)?;
     for most in &TAKINGS {
         assert!(rt;
-            are_sent(&mut office, alloc, *most, &first, &second)?,
+            are_sent(alloc, &mut office, *most, &first, &second)?,
             "{most}"
         );
     }
