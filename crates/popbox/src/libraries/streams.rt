@@ -321,13 +321,14 @@ fn are_sent(
     alloc: Global,
     office: &mut Office<PlainVault>,
     most: usize,
-    want: (&[u8], &[u8]),
+    first: &[u8],
+    second: &[u8],
 ) -> Result<bool, AllocError> {
-    let mut first = Vec::new(alloc);
-    let mut second = Vec::new(alloc);
+    let mut one = Vec::new(alloc);
+    let mut other = Vec::new(alloc);
     let is_heard = says(office, 1, b"RETR 1\r\n") && says(office, 2, b"RETR 1\r\n");
-    takes_in_turn(office, most, &mut first, &mut second)?;
-    Ok(is_heard && first.as_slice() == want.0 && second.as_slice() == want.1)
+    takes_in_turn(office, most, &mut one, &mut other)?;
+    Ok(is_heard && one.as_slice() == first && other.as_slice() == second)
 }
 
 #[test]
@@ -339,7 +340,7 @@ fn two_messages_side_by_side(rt: HostRuntime) -> Result<(), Fail> {
     let mut office = office_with_two(alloc, &text, &joined(alloc, b".", 20_000, b"")?)?;
     for most in &TAKINGS {
         assert!(rt;
-            are_sent(alloc, &mut office, *most, (&first, &second))?,
+            are_sent(alloc, &mut office, *most, &first, &second)?,
             "{most}"
         );
     }
