@@ -5,3 +5,4 @@ pub mod Accepting
 pub mod Seating
 pub mod Scripting
 pub mod Depositing
+pub mod NameTexts

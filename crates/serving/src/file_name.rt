@@ -1,6 +1,6 @@
 //! Names of spool files.
 ghost use Rattle.std.specs.Prelude.{◌≡◌, position};
-ghost use Rattle.serving.specs.FileNames.{is_dot};
+ghost use Rattle.serving.specs.FileNames.{is_dot, NamesReadBack};
 
 use creds::{DepositId, Name};
 use std::alloc::{AllocError, Global};
@@ -70,3 +70,8 @@ impl FileName {
         Ok(text)
     }
 }
+
+/// Each name is what is read of its text.
+pub fn names_read_back()
+    ensures { NamesReadBack }
+{}
