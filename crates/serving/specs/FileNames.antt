@@ -46,3 +46,7 @@ HasForm n = (is_name n.maildrop ≡ true) × (is_name n.class ≡ true) × (is_d
 -- each name is what is read of its text
 abbrev pub NamesReadBack : Type 0
 NamesReadBack = (n : FileName) → HasForm n → file_name_of (text_of n) ≡ Some n
+
+-- each text of which a name is read is that name's, whose parts have their forms
+abbrev pub NamesHaveOneText : Type 0
+NamesHaveOneText = (text : List ℕ) (n : FileName) → file_name_of text ≡ Some n → HasForm n × (text_of n ≡ text)

@@ -1,6 +1,6 @@
 //! Names of spool files.
 ghost use Rattle.std.specs.Prelude.{◌≡◌, position};
-ghost use Rattle.serving.specs.FileNames.{is_dot, NamesReadBack};
+ghost use Rattle.serving.specs.FileNames.{is_dot, NamesReadBack, NamesHaveOneText};
 
 use creds::{DepositId, Name};
 use std::alloc::{AllocError, Global};
@@ -71,7 +71,8 @@ impl FileName {
     }
 }
 
-/// Each name is what is read of its text.
+/// Each name is what is read of its text, and of no other text.
 pub fn names_read_back()
-    ensures { NamesReadBack }
+    ensures names { NamesReadBack }
+    ensures texts { NamesHaveOneText }
 {}
