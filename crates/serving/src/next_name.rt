@@ -6,7 +6,8 @@ ghost use Rattle.serving.specs.NextNames.{is_file as has_form, is_behind as foll
 use crate::file_name::FileName;
 use std::alloc::{AllocError, Global};
 
-/// The next name of a spool, as its names come by in any order: the least one behind the last one, else the least one.
+/// The next name of a spool, as its names come by in any order: the least one behind the last one,
+/// else the least one.
 #[derive(Drop)]
 pub(crate) struct NextName {
     alloc: Global,
@@ -50,7 +51,12 @@ fn is_less(name: &str, least: &Option<String>) -> bool
 }
 
 /// Keeps a name that counts, where it is less than the least one so far.
-fn keep_least(alloc: Global, name: &str, counts: bool, least: &mut Option<String>) -> Result<(), AllocError>
+fn keep_least(
+    alloc: Global,
+    name: &str,
+    counts: bool,
+    least: &mut Option<String>,
+) -> Result<(), AllocError>
     ensures { OnOk result (option_map string_bytes least.new ≡ least_after counts name.now (option_map string_bytes least.old)) }
 {
     if counts && is_less(name, least) {
@@ -64,7 +70,7 @@ impl NextName {
     ghost use Rattle.serving.specs.NextNames.{HasSeen, next_of};
     ghost use Rattle.serving.specs.declared.file_name.FileName.{FileName as TheName};
 
-    /// No name came by.
+    /// No name came by. Its error is [`AllocError`], where memory was refused.
     pub(crate) fn new(alloc: Global, last: &Option<FileName>) -> Result<NextName, AllocError>
         ensures { IfOk result (λ next. HasSeen last.now [] next) }
     {
@@ -80,8 +86,8 @@ impl NextName {
         })
     }
 
-    /// A name comes by. One that isn't of the form is passed over. Its error is [`AllocError`], where memory was refused; the
-    /// next name isn't to be asked for then.
+    /// A name comes by. One that isn't of the form is passed over. Its error is [`AllocError`],
+    /// where memory was refused; the next name isn't to be asked for then.
     pub(crate) fn see(&mut self, name: &str) -> Result<(), AllocError>
         ensures { OnOk result ((last : Option TheName) (names : List (List ℕ)) → HasSeen last names self.old → HasSeen last (name.now ∷ names) self.new) }
     {
@@ -92,8 +98,8 @@ impl NextName {
         Ok(())
     }
 
-    /// The next name of those that came by: the least one behind the last one, else the least one; `None` where none was of the
-    /// form.
+    /// The next name of those that came by: the least one behind the last one, else the least one;
+    /// `None` where none was of the form.
     pub(crate) fn get(&self) -> Option<FileName>
         ensures { (last : Option TheName) (names : List (List ℕ)) → HasSeen last names self.now → result ≡ next_of last names }
     {

@@ -9,7 +9,7 @@ returns c = λ last names h.
     let counts = c.is_file-counts.ensures in
     let follows = c.is_behind-follows.ensures ∙ ap (λ text. is_behind text name) (c.as_str.ensures.value ∙ h.text) in
     record {
-        text = h.text;
-        least = c.in_ok-keep_least.ensures ∙ ap₂ (λ counted before. least_after counted name before) counts h.least;
-        behind = c.in_ok-keep_least-2.ensures ∙ ap₂ (λ counted before. least_after counted name before) follows h.behind;
+      text = h.text;
+      least = c.in_ok-keep_least.ensures ∙ ap₂ (λ counted before. least_after counted name before) counts h.least;
+      behind = c.in_ok-keep_least-2.ensures ∙ ap₂ (λ counted before. least_after counted name before) follows h.behind;
     })
