@@ -1,7 +1,7 @@
 -- The names of spool files.
-use Rattle.std.specs.Prelude.{ℕ, Bool, ◌+◌, ◌==◌, List, ◌++◌, take, drop, position, Option, Some, None, option_and_then, if◌then◌else◌, codes}
+use Rattle.std.specs.Prelude.{◌≡◌, ℕ, Bool, true, ◌+◌, ◌==◌, List, ◌++◌, take, drop, position, Option, Some, None, option_and_then, if◌then◌else◌, codes}
 use Rattle.std.specs.Str.{bytes_eq}
-use Rattle.creds.specs.Names.{name_of, deposit_id_of}
+use Rattle.creds.specs.Names.{is_name, is_deposit_id, name_of, deposit_id_of}
 use Rattle.serving.specs.declared.file_name.FileName.{FileName}
 
 -- the ? of the definitions
@@ -38,3 +38,15 @@ file_name_of text = do
 -- the text of a name
 abbrev pub text_of : FileName → List ℕ
 text_of n = n.maildrop ++ (codes "." ++ (n.class ++ (codes "." ++ (n.id ++ codes ".eml"))))
+
+-- the parts of a name have their forms, as those of every `FileName` have
+abbrev pub HasForm : FileName → Type 0
+HasForm n = (is_name n.maildrop ≡ true) × (is_name n.class ≡ true) × (is_deposit_id n.id ≡ true)
+
+-- each name is what is read of its text
+abbrev pub NamesReadBack : Type 0
+NamesReadBack = (n : FileName) → HasForm n → file_name_of (text_of n) ≡ Some n
+
+-- each text of which a name is read is that name's, whose parts have their forms
+abbrev pub NamesHaveOneText : Type 0
+NamesHaveOneText = (text : List ℕ) (n : FileName) → file_name_of text ≡ Some n → HasForm n × (text_of n ≡ text)

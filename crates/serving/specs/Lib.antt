@@ -1,4 +1,5 @@
 pub mod FileNames
+pub mod NextNames
 pub mod Wires
 pub mod Spools
 pub mod Served

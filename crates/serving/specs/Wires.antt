@@ -1,44 +1,111 @@
 -- What a wire tells of its links: each has a number, from 0 on, in the order in which they were accepted.
-use Rattle.std.specs.Prelude.{◌≡◌, ◌≤◌, ◌<◌, ⊤, ℕ, ◌+◌, ◌==◌, List, [], ◌++◌, take, Option, Some, None, if◌then◌else◌}
+use Rattle.std.specs.Prelude.{◌≡◌, ◌≤◌, ◌<◌, ⊤, ℕ, Bool, true, false, not, ◌&&◌, ◌||◌, nat_lt, ◌+◌, ◌==◌, List, [], ◌++◌, take, Option, Some, None, if◌then◌else◌}
 use Rattle.office.specs.Outcomes.{Outcome}
 use Rattle.office.specs.Outcomes as outcome
 use Rattle.serving.specs.declared.wire.Link.{Link}
 use Rattle.serving.specs.declared.wire.Port.{Port}
+use Rattle.serving.specs.declared.wire.Port.TheVariants.{Pop}
 use Rattle.serving.specs.declared.wire.Io.{Io}
-use Rattle.serving.specs.declared.wire.Io.TheVariants.{Count}
+use Rattle.serving.specs.declared.wire.Io.TheVariants.{Count, End, Broken}
 
--- how many links were accepted; of each all octets that were read from it, and all that it counted as written
+-- how many links were accepted, and how many of them came to be connections; of each link all octets that were read from it, and all that it
+-- counted as written; whether it is over: a read or a write told its end or that it is broken, or it was closed; and whether any read or write
+-- came astray: on a link that was over, or that was never accepted
 pub record Told : Type 0 where
   pub accepted : ℕ
+  pub callers : ℕ
   pub read : ℕ → List ℕ
   pub written : ℕ → List ℕ
+  pub over : ℕ → Bool
+  pub strayed : Bool
 
--- no octet was read or written on any link
+-- no link came, no octet was read or written on any, and nothing came astray
 pub record IsFresh (t : Told) : Type 0 where
+  pub callers : t.callers ≡ 0
   pub read : (k : ℕ) → t.read k ≡ []
   pub written : (k : ℕ) → t.written k ≡ []
+  pub straight : t.strayed ≡ false
 
 -- the same is told of each link
 pub record SayAlike (t u : Told) : Type 0 where
   pub accepted : t.accepted ≡ u.accepted
+  pub callers : t.callers ≡ u.callers
   pub read : (k : ℕ) → t.read k ≡ u.read k
   pub written : (k : ℕ) → t.written k ≡ u.written k
+  pub over : (k : ℕ) → k < t.accepted → t.over k ≡ u.over k
+  pub strayed : t.strayed ≡ u.strayed
+
+-- a link that was accepted and isn't over
+abbrev pub is_live : Told → ℕ → Bool
+is_live t k = nat_lt k t.accepted && not (t.over k)
+
+-- ---- what changes
 
 -- octets more at one number
 abbrev pub more_at : (number : ℕ) (more : List ℕ) → (ℕ → List ℕ) → ℕ → List ℕ
 more_at number more octets k = if k == number then octets k ++ more else octets k
 
+-- one number is over from now on, where it is now
+abbrev pub over_at : (number : ℕ) (now : Bool) → (ℕ → Bool) → ℕ → Bool
+over_at number now over k = if now && k == number then true else over k
+
+-- one number isn't over
+abbrev pub begun_at : (number : ℕ) → (ℕ → Bool) → ℕ → Bool
+begun_at number over k = if k == number then false else over k
+
+-- a link at the port for mail is to be a connection
+abbrev pub callers_after : Port → ℕ → ℕ
+callers_after Pop before = before + 1
+
+-- a read or a write told the end of a link, or that it is broken
+abbrev pub is_fault : Io → Bool
+is_fault End = true
+is_fault Broken = true
+is_fault _ = false
+
 -- one link more, from which nothing was read and on which nothing was written
-abbrev pub has_accepted : Told → Told
-has_accepted t = record { accepted = t.accepted + 1; read = t.read; written = t.written }
+abbrev pub has_accepted : Told → Port → Told
+has_accepted t port = record {
+  accepted = t.accepted + 1;
+  callers = callers_after port t.callers;
+  read = t.read;
+  written = t.written;
+  over = begun_at t.accepted t.over;
+  strayed = t.strayed;
+}
 
--- octets more were read from a link
-abbrev pub has_read : Told → ℕ → List ℕ → Told
-has_read t number octets = record { accepted = t.accepted; read = more_at number octets t.read; written = t.written }
+-- a read was made on a link, which gave these octets
+abbrev pub has_read : Told → ℕ → Io → List ℕ → Told
+has_read t number io octets = record {
+  accepted = t.accepted;
+  callers = t.callers;
+  read = more_at number octets t.read;
+  written = t.written;
+  over = over_at number (is_fault io) t.over;
+  strayed = t.strayed || not (is_live t number);
+}
 
--- octets more were counted as written on a link
-abbrev pub has_written : Told → ℕ → List ℕ → Told
-has_written t number octets = record { accepted = t.accepted; read = t.read; written = more_at number octets t.written }
+-- a write was made on a link, which counted these octets
+abbrev pub has_written : Told → ℕ → Io → List ℕ → Told
+has_written t number io octets = record {
+  accepted = t.accepted;
+  callers = t.callers;
+  read = t.read;
+  written = more_at number octets t.written;
+  over = over_at number (is_fault io) t.over;
+  strayed = t.strayed || not (is_live t number);
+}
+
+-- a link was closed
+abbrev pub has_closed : Told → ℕ → Told
+has_closed t number = record {
+  accepted = t.accepted;
+  callers = t.callers;
+  read = t.read;
+  written = t.written;
+  over = over_at number true t.over;
+  strayed = t.strayed;
+}
 
 -- the octets that a count counts
 abbrev pub counted : Io → List ℕ → List ℕ
@@ -53,7 +120,7 @@ IsWithin room _ = ⊤
 -- a link that was accepted is the next
 abbrev pub IsAccepted : (Told → Type 0) → Told → Option (Link × Port) → Type 0
 IsAccepted Tells t None = Tells t
-IsAccepted Tells t (Some (link, port)) = (link.number ≡ t.accepted) × Tells (has_accepted t)
+IsAccepted Tells t (Some (link, port)) = (link.number ≡ t.accepted) × Tells (has_accepted t port)
 
 -- the number that was opened, where one was
 abbrev pub opened_by : Outcome → Option ℕ

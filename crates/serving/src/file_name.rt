@@ -1,6 +1,6 @@
 //! Names of spool files.
 ghost use Rattle.std.specs.Prelude.{◌≡◌, position};
-ghost use Rattle.serving.specs.FileNames.{is_dot};
+ghost use Rattle.serving.specs.FileNames.{is_dot, NamesReadBack, NamesHaveOneText};
 
 use creds::{DepositId, Name};
 use std::alloc::{AllocError, Global};
@@ -70,3 +70,9 @@ impl FileName {
         Ok(text)
     }
 }
+
+/// Each name is what is read of its text, and of no other text.
+pub fn names_read_back()
+    ensures names { NamesReadBack }
+    ensures texts { NamesHaveOneText }
+{}

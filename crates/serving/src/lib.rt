@@ -16,7 +16,7 @@ mod spool;
 mod turn;
 mod wire;
 
-pub use file_name::FileName;
+pub use file_name::{FileName, names_read_back};
 pub use folder_spool::FolderSpool;
 pub use links::{Links, MOST_LINKS, Seat};
 pub use script_spool::{ScriptAct, ScriptFile, ScriptSpool};

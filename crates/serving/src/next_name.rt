@@ -1,8 +1,13 @@
 //! Which file of a spool is the next.
+ghost use Rattle.std.specs.Prelude.{◌≡◌, OnOk, option_map, string_bytes};
+ghost use Rattle.creds.specs.Names.{comes_before as precedes};
+ghost use Rattle.serving.specs.NextNames.{is_file as has_form, is_behind as follows, is_less as is_least, least_after};
+
 use crate::file_name::FileName;
 use std::alloc::{AllocError, Global};
 
-/// The next name of a spool, as its names come by in any order: the least one behind the last one, else the least one.
+/// The next name of a spool, as its names come by in any order: the least one behind the last one,
+/// else the least one.
 #[derive(Drop)]
 pub(crate) struct NextName {
     alloc: Global,
@@ -14,9 +19,61 @@ pub(crate) struct NextName {
     behind: Option<String>,
 }
 
+/// Whether a text is a spool file's name.
+fn is_file(name: &str) -> bool
+    ensures { result ≡ has_form name.now }
+{
+    FileName::read(name.as_bytes()).is_some()
+}
+
+/// Whether the first text comes before the second, in the order of their octets.
+fn comes_before(first: &str, second: &str) -> bool
+    ensures { result ≡ precedes first.now second.now }
+{
+    first < second
+}
+
+/// Whether a text is a spool file's name behind the last one.
+fn is_behind(last: &str, name: &str) -> bool
+    ensures { result ≡ follows last.now name.now }
+{
+    is_file(name) && comes_before(last, name)
+}
+
+/// Whether a name is less than the least one so far.
+fn is_less(name: &str, least: &Option<String>) -> bool
+    ensures { result ≡ is_least name.now (option_map string_bytes least.now) }
+{
+    match least {
+        Some(least) => comes_before(name, least.as_str()),
+        None => true,
+    }
+}
+
+/// Keeps a name that counts, where it is less than the least one so far.
+fn keep_least(
+    alloc: Global,
+    name: &str,
+    counts: bool,
+    least: &mut Option<String>,
+) -> Result<(), AllocError>
+    ensures { OnOk result (option_map string_bytes least.new ≡ least_after counts name.now (option_map string_bytes least.old)) }
+{
+    if counts && is_less(name, least) {
+        *least = Some(String::from_str(alloc, name)?);
+    }
+    Ok(())
+}
+
 impl NextName {
-    /// No name came by.
-    pub(crate) fn new(alloc: Global, last: &Option<FileName>) -> Result<NextName, AllocError> {
+    ghost use Rattle.std.specs.Prelude.{◌≡◌, ℕ, List, [], ◌∷◌, Option, IfOk, OnOk};
+    ghost use Rattle.serving.specs.NextNames.{HasSeen, next_of};
+    ghost use Rattle.serving.specs.declared.file_name.FileName.{FileName as TheName};
+
+    /// No name came by. Its error is [`AllocError`], where memory was refused.
+    pub(crate) fn new(alloc: Global, last: &Option<FileName>) -> Result<NextName, AllocError>
+        ensures { IfOk result (λ next. HasSeen last.now [] next) }
+    {
         let last = match last {
             Some(name) => name.text(alloc)?,
             None => String::new(alloc),
@@ -29,33 +86,26 @@ impl NextName {
         })
     }
 
-    /// A name comes by. One that isn't of the form is passed over.
-    pub(crate) fn see(&mut self, name: &str) -> Result<(), AllocError> {
-        if FileName::read(name.as_bytes()).is_none() {
-            return Ok(());
-        }
-        if is_less(name, &self.least) {
-            self.least = Some(String::from_str(self.alloc, name)?);
-        }
-        if self.last.as_str() < name && is_less(name, &self.behind) {
-            self.behind = Some(String::from_str(self.alloc, name)?);
-        }
+    /// A name comes by. One that isn't of the form is passed over. Its error is [`AllocError`],
+    /// where memory was refused; the next name isn't to be asked for then.
+    pub(crate) fn see(&mut self, name: &str) -> Result<(), AllocError>
+        ensures { OnOk result ((last : Option TheName) (names : List (List ℕ)) → HasSeen last names self.old → HasSeen last (name.now ∷ names) self.new) }
+    {
+        let counts = is_file(name);
+        keep_least(self.alloc, name, counts, &mut self.least)?;
+        let follows = is_behind(self.last.as_str(), name);
+        keep_least(self.alloc, name, follows, &mut self.behind)?;
         Ok(())
     }
 
-    /// The next name of those that came by.
-    pub(crate) fn get(&self) -> Option<FileName> {
+    /// The next name of those that came by: the least one behind the last one, else the least one;
+    /// `None` where none was of the form.
+    pub(crate) fn get(&self) -> Option<FileName>
+        ensures { (last : Option TheName) (names : List (List ℕ)) → HasSeen last names self.now → result ≡ next_of last names }
+    {
         match (&self.behind, &self.least) {
             (Some(text), _) | (None, Some(text)) => FileName::read(text.as_bytes()),
             (None, None) => None,
         }
-    }
-}
-
-/// Whether a name is less than the least one so far.
-fn is_less(name: &str, least: &Option<String>) -> bool {
-    match least {
-        Some(least) => name < least.as_str(),
-        None => true,
     }
 }

@@ -1,6 +1,6 @@
 //! A wire in memory: links whose octets are given, and which keep what is written on them.
-ghost use Rattle.std.specs.Prelude.{◌≡◌, ◌⊎◌, ◌<◌, ◌++◌, length, take, drop, IfSome};
-ghost use Rattle.serving.specs.Wires.{Told, IsWithin, counted, has_read, has_written};
+ghost use Rattle.std.specs.Prelude.{◌≡◌, ℕ, List, ◌<◌, ◌≤◌, ◌++◌, ◌||◌, true, [], length, take, drop, MatchOption};
+ghost use Rattle.serving.specs.Wires.{Told, IsFresh, IsWithin, counted, has_read, has_written, has_closed, is_fault};
 ghost use Rattle.serving.specs.Scripts.{TellsOf, tells_once, taken_of};
 
 use crate::wire::{Io, Link, Port, Wire};
@@ -13,6 +13,8 @@ pub struct ScriptLink {
     at: usize,
     written: Vec<u8>,
     is_closed: bool,
+    /// A read or a write told its end or that it is broken, or it was closed.
+    is_over: bool,
     /// Its client takes what is written.
     takes: bool,
 }
@@ -30,6 +32,8 @@ pub struct ScriptWire {
     alloc: Global,
     piece: usize,
     accepted: Vec<ScriptLink>,
+    /// A read or a write came on a link that was over, or was never accepted.
+    strayed: bool,
     /// What comes on the links that wait to be accepted, the next one last.
     waiting: Vec<Vec<u8>>,
     /// What comes behind the octets of each link: its end, or nothing for now.
@@ -44,11 +48,14 @@ pub struct ScriptWire {
 
 impl ScriptWire {
     /// No link was accepted. Those that wait come the last one first; each read and each write moves at most `piece` octets.
-    pub fn new(alloc: Global, waiting: Vec<Vec<u8>>, piece: usize) -> ScriptWire {
+    pub fn new(alloc: Global, waiting: Vec<Vec<u8>>, piece: usize) -> ScriptWire
+        ensures fresh { (t : Told) → TellsOf result.accepted.items result.strayed t → IsFresh t }
+    {
         ScriptWire {
             alloc,
             piece,
             accepted: Vec::new(alloc),
+            strayed: false,
             waiting,
             ends: false,
             calls: 0,
@@ -118,9 +125,15 @@ impl ScriptWire {
         }
     }
 
+    /// Whether a read or a write came on a link that was over, or was never accepted.
+    pub fn strayed(&self) -> bool {
+        self.strayed
+    }
+
     /// The fault that comes in place of this read or write, where one does.
     fn next_stop(&mut self) -> Option<Stop>
-        ensures { self.new.accepted ≡ self.old.accepted }
+        ensures accepted { self.new.accepted ≡ self.old.accepted }
+        ensures strayed { self.new.strayed ≡ self.old.strayed }
     {
         let call = self.calls;
         self.calls = call.saturating_add(1);
@@ -133,7 +146,9 @@ impl ScriptWire {
 
 /// A fault, as a read or a write tells it.
 fn stopped(stop: Stop) -> Io
-    ensures { (result ≡ Io.End) ⊎ (result ≡ Io.Broken) }
+    ensures fault { is_fault result ≡ true }
+    ensures within { (n : ℕ) → IsWithin n result }
+    ensures counted { (octets : List ℕ) → counted result octets ≡ [] }
 {
     match stop {
         Stop::End => Io::End,
@@ -146,6 +161,7 @@ fn read_from(link: &mut ScriptLink, piece: usize, ends: bool, buffer: &mut [u8])
     ensures within { IsWithin (length buffer.old) result }
     ensures read { taken_of link.new ≡ taken_of link.old ++ counted result buffer.new }
     ensures written { link.new.written ≡ link.old.written }
+    ensures over { link.new.is_over ≡ link.old.is_over }
 {
     if link.is_closed {
         return Io::Broken;
@@ -175,6 +191,7 @@ fn write_on(link: &mut ScriptLink, piece: usize, octets: &[u8]) -> Io
     ensures within { IsWithin (length octets.now) result }
     ensures written { link.new.written.items ≡ link.old.written.items ++ counted result octets.now }
     ensures read { taken_of link.new ≡ taken_of link.old }
+    ensures over { link.new.is_over ≡ link.old.is_over }
 {
     if link.is_closed {
         return Io::Broken;
@@ -189,10 +206,65 @@ fn write_on(link: &mut ScriptLink, piece: usize, octets: &[u8]) -> Io
     }
 }
 
-impl Wire for ScriptWire {
-    ghost tells = { λ wire t. TellsOf wire.accepted.items t };
+/// Whether this is the end of a link, or tells that it is broken.
+fn faults(io: Io) -> bool
+    ensures { result ≡ is_fault io }
+{
+    matches!(io, Io::End | Io::Broken)
+}
 
-    ghost tells_once = { λ wire t u a b. tells_once wire.accepted.items t u a b };
+/// Reads from a link, unless a fault comes in place of that.
+fn read_at(
+    link: &mut ScriptLink,
+    stop: Option<Stop>,
+    piece: usize,
+    ends: bool,
+    buffer: &mut [u8],
+) -> Io
+    ensures within { IsWithin (length buffer.old) result }
+    ensures read { taken_of link.new ≡ taken_of link.old ++ counted result buffer.new }
+    ensures written { link.new.written ≡ link.old.written }
+    ensures over { link.new.is_over ≡ (link.old.is_over || is_fault result) }
+{
+    if let Some(stop) = stop {
+        link.is_over = true;
+        return stopped(stop);
+    }
+    let io = read_from(link, piece, ends, buffer);
+    link.is_over |= faults(io);
+    io
+}
+
+/// Writes on a link, unless a fault comes in place of that.
+fn write_at(link: &mut ScriptLink, stop: Option<Stop>, piece: usize, octets: &[u8]) -> Io
+    ensures within { IsWithin (length octets.now) result }
+    ensures written { link.new.written.items ≡ link.old.written.items ++ counted result octets.now }
+    ensures read { taken_of link.new ≡ taken_of link.old }
+    ensures over { link.new.is_over ≡ (link.old.is_over || is_fault result) }
+{
+    if let Some(stop) = stop {
+        link.is_over = true;
+        return stopped(stop);
+    }
+    let io = write_on(link, piece, octets);
+    link.is_over |= faults(io);
+    io
+}
+
+/// Closes a link.
+fn shut(link: &mut ScriptLink)
+    ensures over { link.new.is_over ≡ true }
+    ensures read { taken_of link.new ≡ taken_of link.old }
+    ensures written { link.new.written ≡ link.old.written }
+{
+    link.is_over = true;
+    link.is_closed = true;
+}
+
+impl Wire for ScriptWire {
+    ghost tells = { λ wire t. TellsOf wire.accepted.items wire.strayed t };
+
+    ghost tells_once = { λ wire t u a b. tells_once wire.accepted.items wire.strayed t u a b };
 
     fn wait(&mut self, millis: u32) {
         self.waited = millis;
@@ -209,6 +281,7 @@ impl Wire for ScriptWire {
             at: 0,
             written: Vec::new(self.alloc),
             is_closed: false,
+            is_over: false,
             takes: true,
         };
         let _ = self.accepted.push(link);
@@ -216,35 +289,41 @@ impl Wire for ScriptWire {
     }
 
     fn read(&mut self, link: Link, buffer: &mut [u8]) -> Io {
-        if let Some(stop) = self.next_stop() {
-            return stopped(stop);
-        }
-        match place_of(self.accepted.as_slice(), link) {
-            Some(place) => read_from(&mut self.accepted[place], self.piece, self.ends, buffer),
-            None => Io::Broken,
-        }
+        let stop = self.next_stop();
+        let Some(place) = place_of(self.accepted.as_slice(), link) else {
+            self.strayed = true;
+            return Io::Broken;
+        };
+        self.strayed |= self.accepted[place].is_over;
+        read_at(
+            &mut self.accepted[place],
+            stop,
+            self.piece,
+            self.ends,
+            buffer,
+        )
     }
 
     fn write(&mut self, link: Link, octets: &[u8]) -> Io {
-        if let Some(stop) = self.next_stop() {
-            return stopped(stop);
-        }
-        match place_of(self.accepted.as_slice(), link) {
-            Some(place) => write_on(&mut self.accepted[place], self.piece, octets),
-            None => Io::Broken,
-        }
+        let stop = self.next_stop();
+        let Some(place) = place_of(self.accepted.as_slice(), link) else {
+            self.strayed = true;
+            return Io::Broken;
+        };
+        self.strayed |= self.accepted[place].is_over;
+        write_at(&mut self.accepted[place], stop, self.piece, octets)
     }
 
     fn close(&mut self, link: Link) {
         if let Some(place) = place_of(self.accepted.as_slice(), link) {
-            self.accepted[place].is_closed = true;
+            shut(&mut self.accepted[place]);
         }
     }
 }
 
 /// Where a link is kept.
 fn place_of(accepted: &[ScriptLink], link: Link) -> Option<usize>
-    ensures { IfSome result (λ place. (place < length accepted.now) × (place ≡ link.number)) }
+    ensures { MatchOption result (length accepted.now ≤ link.number) (λ place. (place < length accepted.now) × (place ≡ link.number)) }
 {
     let place = usize::try_from(link.number).ok()?;
     if place < accepted.len() {

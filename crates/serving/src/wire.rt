@@ -1,6 +1,6 @@
 //! What a server needs of its links.
 ghost use Rattle.std.specs.Prelude.{◌≡◌, length};
-ghost use Rattle.serving.specs.Wires.{Told, counted, has_read, has_written};
+ghost use Rattle.serving.specs.Wires.{Told, counted, has_read, has_written, has_closed};
 
 /// A link of a wire. No other link of the wire ever has its number.
 #[derive(Clone, Copy, PartialEq, Eq, Default, Debug)]
@@ -49,16 +49,16 @@ pub trait Wire {
     /// Reads from a link into the front of the buffer.
     fn read(&mut self, link: Link, buffer: &mut [u8]) -> Io
         ensures within { IsWithin (length buffer.old) result }
-        ensures told { (t : Told) → tells self.old t → tells self.new (has_read t link.number (counted result buffer.new)) };
+        ensures told { (t : Told) → tells self.old t → tells self.new (has_read t link.number result (counted result buffer.new)) };
 
     /// Writes octets on a link, from the first on.
     fn write(&mut self, link: Link, octets: &[u8]) -> Io
         ensures within { IsWithin (length octets.now) result }
-        ensures told { (t : Told) → tells self.old t → tells self.new (has_written t link.number (counted result octets.now)) };
+        ensures told { (t : Told) → tells self.old t → tells self.new (has_written t link.number result (counted result octets.now)) };
 
     /// Closes a link.
     fn close(&mut self, link: Link)
-        ensures { (t : Told) → tells self.old t → tells self.new t };
+        ensures { (t : Told) → tells self.old t → tells self.new (has_closed t link.number) };
 
     /// It tells one thing, or nothing.
     ghost tells_once: { (wire : Self) (t u : Told) → tells wire t → tells wire u → SayAlike t u };
