@@ -1,6 +1,6 @@
 //! A wire in memory: links whose octets are given, and which keep what is written on them.
-ghost use Rattle.std.specs.Prelude.{◌≡◌, ◌⊎◌, ◌<◌, ◌++◌, length, take, drop, IfSome};
-ghost use Rattle.serving.specs.Wires.{Told, IsWithin, counted, has_read, has_written};
+ghost use Rattle.std.specs.Prelude.{◌≡◌, ◌⊎◌, ◌<◌, ◌++◌, length, take, drop, IfSome, MatchOption};
+ghost use Rattle.serving.specs.Wires.{Told, IsWithin, counted, has_accepted, has_read, has_written};
 ghost use Rattle.serving.specs.Scripts.{TellsOf, tells_once, taken_of};
 
 use crate::wire::{Io, Link, Port, Wire};
@@ -32,6 +32,10 @@ pub struct ScriptWire {
     accepted: Vec<ScriptLink>,
     /// What comes on the links that wait to be accepted, the next one last.
     waiting: Vec<Vec<u8>>,
+    /// The links of the administration that were accepted.
+    requests: Vec<ScriptLink>,
+    /// What comes on those that wait, the next one last.
+    requests_waiting: Vec<Vec<u8>>,
     /// What comes behind the octets of each link: its end, or nothing for now.
     ends: bool,
     /// How many reads and writes there were.
@@ -50,6 +54,8 @@ impl ScriptWire {
             piece,
             accepted: Vec::new(alloc),
             waiting,
+            requests: Vec::new(alloc),
+            requests_waiting: Vec::new(alloc),
             ends: false,
             calls: 0,
             stop: None,
@@ -70,6 +76,35 @@ impl ScriptWire {
     /// A further link comes.
     pub fn connect(&mut self, comes: Vec<u8>) -> Result<(), AllocError> {
         Ok(self.waiting.push(comes)?)
+    }
+
+    /// A further link of the administration comes. Of those that wait the last one is accepted first.
+    pub fn request(&mut self, comes: Vec<u8>) -> Result<(), AllocError> {
+        Ok(self.requests_waiting.push(comes)?)
+    }
+
+    /// Further octets come on a link of the administration.
+    pub fn send_request(&mut self, place: usize, octets: &[u8]) -> Result<(), AllocError> {
+        match self.requests.get_mut(place) {
+            Some(link) => link.comes.extend_from_slice(octets),
+            None => Ok(()),
+        }
+    }
+
+    /// What was written on a link of the administration.
+    pub fn response(&self, place: usize) -> &[u8] {
+        match self.requests.get(place) {
+            Some(link) => link.written.as_slice(),
+            None => &[],
+        }
+    }
+
+    /// Whether a link of the administration was closed.
+    pub fn is_request_closed(&self, place: usize) -> bool {
+        match self.requests.get(place) {
+            Some(link) => link.is_closed,
+            None => false,
+        }
     }
 
     /// Further octets come on a link.
@@ -120,7 +155,8 @@ impl ScriptWire {
 
     /// The fault that comes in place of this read or write, where one does.
     fn next_stop(&mut self) -> Option<Stop>
-        ensures { self.new.accepted ≡ self.old.accepted }
+        ensures accepted { self.new.accepted ≡ self.old.accepted }
+        ensures requests { self.new.requests ≡ self.old.requests }
     {
         let call = self.calls;
         self.calls = call.saturating_add(1);
@@ -189,55 +225,107 @@ fn write_on(link: &mut ScriptLink, piece: usize, octets: &[u8]) -> Io
     }
 }
 
-impl Wire for ScriptWire {
-    ghost tells = { λ wire t. TellsOf wire.accepted.items t };
+/// Accepts the next link that waits.
+fn accept_at(
+    alloc: Global,
+    accepted: &mut Vec<ScriptLink>,
+    waiting: &mut Vec<Vec<u8>>,
+) -> Option<Link>
+    ensures { (t : Told) → TellsOf accepted.old.items t → MatchOption result (TellsOf accepted.new.items t) (λ link. (link.number ≡ t.accepted) × TellsOf accepted.new.items (has_accepted t)) }
+{
+    let number = u64::try_from(accepted.len()).ok()?;
+    if accepted.reserve(1).is_err() {
+        return None;
+    }
+    let comes = waiting.pop()?;
+    let link = ScriptLink {
+        comes,
+        at: 0,
+        written: Vec::new(alloc),
+        is_closed: false,
+        takes: true,
+    };
+    let _ = accepted.push(link);
+    Some(Link { number })
+}
 
-    ghost tells_once = { λ wire t u a b. tells_once wire.accepted.items t u a b };
+/// Reads from a link of those that were accepted.
+fn read_at(
+    accepted: &mut Vec<ScriptLink>,
+    link: Link,
+    piece: usize,
+    ends: bool,
+    buffer: &mut [u8],
+) -> Io
+    ensures within { IsWithin (length buffer.old) result }
+    ensures told { (t : Told) → TellsOf accepted.old.items t → TellsOf accepted.new.items (has_read t link.number (counted result buffer.new)) }
+{
+    match place_of(accepted.as_slice(), link) {
+        Some(place) => read_from(&mut accepted[place], piece, ends, buffer),
+        None => Io::Broken,
+    }
+}
+
+/// Writes on a link of those that were accepted.
+fn write_at(accepted: &mut Vec<ScriptLink>, link: Link, piece: usize, octets: &[u8]) -> Io
+    ensures within { IsWithin (length octets.now) result }
+    ensures told { (t : Told) → TellsOf accepted.old.items t → TellsOf accepted.new.items (has_written t link.number (counted result octets.now)) }
+{
+    match place_of(accepted.as_slice(), link) {
+        Some(place) => write_on(&mut accepted[place], piece, octets),
+        None => Io::Broken,
+    }
+}
+
+/// Closes a link of those that were accepted.
+fn close_at(accepted: &mut Vec<ScriptLink>, link: Link)
+    ensures { (t : Told) → TellsOf accepted.old.items t → TellsOf accepted.new.items t }
+{
+    if let Some(place) = place_of(accepted.as_slice(), link) {
+        accepted[place].is_closed = true;
+    }
+}
+
+impl Wire for ScriptWire {
+    ghost tells = { λ wire t. TellsOf wire.accepted.items t.pop × TellsOf wire.requests.items t.admin };
+
+    ghost tells_once = { λ wire t u a b. (tells_once wire.accepted.items t.pop u.pop a.0 b.0, tells_once wire.requests.items t.admin u.admin a.1 b.1) };
 
     fn wait(&mut self, millis: u32) {
         self.waited = millis;
     }
 
-    fn accept(&mut self) -> Option<(Link, Port)> {
-        let number = u64::try_from(self.accepted.len()).ok()?;
-        if self.accepted.reserve(1).is_err() {
-            return None;
+    fn accept(&mut self, port: Port) -> Option<Link> {
+        match port {
+            Port::Pop => accept_at(self.alloc, &mut self.accepted, &mut self.waiting),
+            Port::Admin => accept_at(self.alloc, &mut self.requests, &mut self.requests_waiting),
         }
-        let comes = self.waiting.pop()?;
-        let link = ScriptLink {
-            comes,
-            at: 0,
-            written: Vec::new(self.alloc),
-            is_closed: false,
-            takes: true,
-        };
-        let _ = self.accepted.push(link);
-        Some((Link { number }, Port::Pop))
     }
 
-    fn read(&mut self, link: Link, buffer: &mut [u8]) -> Io {
+    fn read(&mut self, port: Port, link: Link, buffer: &mut [u8]) -> Io {
         if let Some(stop) = self.next_stop() {
             return stopped(stop);
         }
-        match place_of(self.accepted.as_slice(), link) {
-            Some(place) => read_from(&mut self.accepted[place], self.piece, self.ends, buffer),
-            None => Io::Broken,
+        match port {
+            Port::Pop => read_at(&mut self.accepted, link, self.piece, self.ends, buffer),
+            Port::Admin => read_at(&mut self.requests, link, self.piece, self.ends, buffer),
         }
     }
 
-    fn write(&mut self, link: Link, octets: &[u8]) -> Io {
+    fn write(&mut self, port: Port, link: Link, octets: &[u8]) -> Io {
         if let Some(stop) = self.next_stop() {
             return stopped(stop);
         }
-        match place_of(self.accepted.as_slice(), link) {
-            Some(place) => write_on(&mut self.accepted[place], self.piece, octets),
-            None => Io::Broken,
+        match port {
+            Port::Pop => write_at(&mut self.accepted, link, self.piece, octets),
+            Port::Admin => write_at(&mut self.requests, link, self.piece, octets),
         }
     }
 
-    fn close(&mut self, link: Link) {
-        if let Some(place) = place_of(self.accepted.as_slice(), link) {
-            self.accepted[place].is_closed = true;
+    fn close(&mut self, port: Port, link: Link) {
+        match port {
+            Port::Pop => close_at(&mut self.accepted, link),
+            Port::Admin => close_at(&mut self.requests, link),
         }
     }
 }

@@ -10,10 +10,12 @@ ghost use Rattle.serving.specs.declared.links.Seat as declared;
 ghost use Rattle.arrayvec.specs.ArrayVec.{array_vec_len};
 
 use crate::files::serve_spool;
-use crate::links::{Links, MOST_LINKS, Seat};
+use crate::links::{Clients, Links, MOST_LINKS, Seat};
+use crate::requests::{accept_requests, serve_requests};
 use crate::spool::Spool;
-use crate::wire::{Io, Wire};
+use crate::wire::{Io, Port, Wire};
 use office::{Event, Office, Outcome};
+use std::alloc::Global;
 use vault::Vault;
 
 /// How many octets are read at once: as many as an office takes in one piece.
@@ -47,7 +49,7 @@ fn write_once<V: Vault, W: Wire>(office: &mut Office<V>, wire: &mut W, seat: Sea
     if lent.is_empty() {
         return Writing::Done;
     }
-    match wire.write(seat.link, lent) {
+    match wire.write(Port::Pop, seat.link, lent) {
         Io::Count(count) => {
             let _ = office.step(Event::Took(seat.connection, count));
             Writing::Goes
@@ -80,7 +82,7 @@ fn read_once<V: Vault, W: Wire>(office: &mut Office<V>, wire: &mut W, seat: Seat
         return true;
     }
     let mut room = [0; MOST_AT_ONCE];
-    match wire.read(seat.link, &mut room) {
+    match wire.read(Port::Pop, seat.link, &mut room) {
         Io::Count(count) => {
             let _ = office.step(Event::Bytes(seat.connection, &room[..count]));
             true
@@ -120,7 +122,7 @@ fn serve_link<V: Vault, W: Wire>(office: &mut Office<V>, wire: &mut W, seat: Sea
 fn serve_seat<V: Vault, W: Wire>(
     office: &mut Office<V>,
     wire: &mut W,
-    links: &mut Links,
+    links: &mut Clients,
     place: usize,
 ) -> bool
     requires { place < array_vec_len links.old.seats }
@@ -133,13 +135,13 @@ fn serve_seat<V: Vault, W: Wire>(
     if !office.ended(seat.connection) {
         return true;
     }
-    wire.close(seat.link);
+    wire.close(Port::Pop, seat.link);
     links.seats.remove(place);
     false
 }
 
 /// Serves each link, by ascending number of the connections.
-fn serve_links<V: Vault, W: Wire>(office: &mut Office<V>, wire: &mut W, links: &mut Links)
+fn serve_links<V: Vault, W: Wire>(office: &mut Office<V>, wire: &mut W, links: &mut Clients)
     ensures serves { StillServes V.holds V.is_clean W.tells office.old wire.old links.old.seats.items office.new wire.new links.new.seats.items }
     ensures clean { V.is_clean (vault_of office.new) → V.is_clean (vault_of office.old) }
 {
@@ -171,27 +173,27 @@ fn opened(outcome: Outcome) -> Option<u64>
 }
 
 /// Accepts a link, and seats it with a connection of its own; or closes it. Whether one came.
-fn accept_link<V: Vault, W: Wire>(office: &mut Office<V>, wire: &mut W, links: &mut Links) -> bool
+fn accept_link<V: Vault, W: Wire>(office: &mut Office<V>, wire: &mut W, links: &mut Clients) -> bool
     ensures serves { StillServes V.holds V.is_clean W.tells office.old wire.old links.old.seats.items office.new wire.new links.new.seats.items }
     ensures clean { V.is_clean (vault_of office.new) → V.is_clean (vault_of office.old) }
 {
-    let Some((link, _)) = wire.accept() else {
+    let Some(link) = wire.accept(Port::Pop) else {
         return false;
     };
     if links.seats.is_full() {
-        wire.close(link);
+        wire.close(Port::Pop, link);
         return true;
     }
     let number = opened(office.step(Event::Connect));
     match number {
         Some(connection) => links.seats.push(Seat { link, connection }),
-        None => wire.close(link),
+        None => wire.close(Port::Pop, link),
     }
     true
 }
 
 /// Accepts the links that came.
-fn accept_links<V: Vault, W: Wire>(office: &mut Office<V>, wire: &mut W, links: &mut Links)
+fn accept_links<V: Vault, W: Wire>(office: &mut Office<V>, wire: &mut W, links: &mut Clients)
     ensures serves { StillServes V.holds V.is_clean W.tells office.old wire.old links.old.seats.items office.new wire.new links.new.seats.items }
     ensures clean { V.is_clean (vault_of office.new) → V.is_clean (vault_of office.old) }
 {
@@ -203,7 +205,8 @@ fn accept_links<V: Vault, W: Wire>(office: &mut Office<V>, wire: &mut W, links: 
 }
 
 /// One turn: waits for at most a second, and not at all where more can be done at once; tells the office the moment, in seconds;
-/// accepts the links that came, at most 64; serves each link; and tries one file of the spool.
+/// accepts the links that came, at most 64 at each port; serves each client's link, and then each link of the administration; and
+/// tries one file of the spool.
 pub fn serve_turn<V: Vault, W: Wire, S: Spool>(
     links: &mut Links,
     wire: &mut W,
@@ -211,20 +214,27 @@ pub fn serve_turn<V: Vault, W: Wire, S: Spool>(
     spool: &mut S,
     now: u64,
 )
-    ensures serves { (T : Trace) → Serves V.holds W.tells S.tells T office.old wire.old spool.old links.old.seats.items → V.is_clean (vault_of office.new) → Serves V.holds W.tells S.tells T office.new wire.new spool.new links.new.seats.items }
+    ensures serves { (T : Trace) → Serves V.holds W.tells S.tells T office.old wire.old spool.old links.old.clients.seats.items → V.is_clean (vault_of office.new) → Serves V.holds W.tells S.tells T office.new wire.new spool.new links.new.clients.seats.items }
     ensures clean { V.is_clean (vault_of office.new) → V.is_clean (vault_of office.old) }
 {
-    let millis = if links.presses { 0 } else { MOST_MILLIS };
-    links.presses = false;
+    let millis = if links.clients.presses { 0 } else { MOST_MILLIS };
+    links.clients.presses = false;
     pass_time(office, wire, millis, now);
-    accept_links(office, wire, links);
-    serve_links(office, wire, links);
-    serve_spool(office, spool, links);
+    accept_links(office, wire, &mut links.clients);
+    accept_requests(wire, &mut links.requests, MOST_LINKS, now);
+    serve_links(office, wire, &mut links.clients);
+    links.clients.presses |= serve_requests(office, wire, &mut links.requests, now);
+    serve_spool(office, spool, &mut links.clients);
 }
 
 /// No link is open: an office begins to serve a wire and a spool.
-pub fn begin<V: Vault, W: Wire, S: Spool>(_office: &Office<V>, _wire: &W, _spool: &S) -> Links
-    ensures { (T : Trace) (t : Told) → StandsFor V.holds _office.now T → W.tells _wire.now t → IsFresh t → S.tells _spool.now [] → Serves V.holds W.tells S.tells T _office.now _wire.now _spool.now result.seats.items }
+pub fn begin<V: Vault, W: Wire, S: Spool>(
+    alloc: Global,
+    _office: &Office<V>,
+    _wire: &W,
+    _spool: &S,
+) -> Links
+    ensures { (T : Trace) (t : Told) → StandsFor V.holds _office.now T → W.tells _wire.now t → IsFresh t → S.tells _spool.now [] → Serves V.holds W.tells S.tells T _office.now _wire.now _spool.now result.clients.seats.items }
 {
-    Links::new()
+    Links::new(alloc)
 }
