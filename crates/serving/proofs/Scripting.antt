@@ -3,7 +3,7 @@ use Rattle.std.proofs.Common.{◌≡◌, ℕ, zero, suc, ◌+◌, ◌<◌, ◌�
 use Rattle.std.proofs.lemmas.Bool.{cases_eq}
 use Rattle.std.proofs.Math.Seq.{take-add}
 use Rattle.std.proofs.lemmas.List.{length-set, length-take, take-take, take-append-le}
-use Rattle.serving.specs.declared.script_wire.ScriptLink.{ScriptLink}
+use Rattle.serving.specs.declared.script_links.ScriptLink.{ScriptLink}
 use Rattle.serving.specs.Wires.{Told, more_at, has_read, has_written, has_accepted}
 use Rattle.serving.specs.Scripts.{read_by, written_by, TellsOf}
 use Rattle.serving.proofs.Keeping.{more_same, more_other, more_none}

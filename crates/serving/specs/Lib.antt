@@ -1,5 +1,6 @@
 pub mod FileNames
 pub mod Wires
+pub mod Requests
 pub mod Spools
 pub mod Served
 pub mod Deposits

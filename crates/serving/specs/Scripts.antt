@@ -1,8 +1,8 @@
 -- What a wire in memory tells.
-use Rattle.std.specs.Prelude.{◌≡◌, ℕ, List, [], length, take, Option, Some, None, slice_get}
-use Rattle.std.proofs.Common.{sym, ◌∙◌}
+use Rattle.std.specs.Prelude.{◌≡◌, ◌<◌, ℕ, Bool, false, List, [], length, take, Option, Some, None, slice_get}
+use Rattle.std.proofs.Common.{sym, ◌∙◌, subst}
 use Rattle.serving.specs.Wires.{Told, SayAlike}
-use Rattle.serving.specs.declared.script_wire.ScriptLink.{ScriptLink}
+use Rattle.serving.specs.declared.script_links.ScriptLink.{ScriptLink}
 
 -- what was taken of what comes on a link
 abbrev pub taken_of : ScriptLink → List ℕ
@@ -18,16 +18,25 @@ abbrev pub written_by : Option ScriptLink → List ℕ
 written_by None = []
 written_by (Some link) = link.written.items
 
--- each accepted link's octets
-pub record TellsOf (links : List ScriptLink) (t : Told) : Type 0 where
+-- whether it is over
+abbrev pub is_over_by : Option ScriptLink → Bool
+is_over_by None = false
+is_over_by (Some link) = link.is_over
+
+-- each accepted link's octets, whether it is over, and whether a read or a write came astray
+pub record TellsOf (links : List ScriptLink) (strayed : Bool) (t : Told) : Type 0 where
   pub accepted : t.accepted ≡ length links
   pub read : (k : ℕ) → t.read k ≡ read_by (slice_get links k)
   pub written : (k : ℕ) → t.written k ≡ written_by (slice_get links k)
+  pub over : (k : ℕ) → k < length links → t.over k ≡ is_over_by (slice_get links k)
+  pub astray : t.strayed ≡ strayed
 
 -- it tells one thing
-pub tells_once : (links : List ScriptLink) (t u : Told) → TellsOf links t → TellsOf links u → SayAlike t u
-tells_once links t u a b = record {
+pub tells_once : (links : List ScriptLink) (strayed : Bool) (t u : Told) → TellsOf links strayed t → TellsOf links strayed u → SayAlike t u
+tells_once links strayed t u a b = record {
   accepted = a.accepted ∙ sym b.accepted;
   read = λ k. a.read k ∙ sym (b.read k);
   written = λ k. a.written k ∙ sym (b.written k);
+  over = λ k within. (let here : k < length links = subst (λ n. k < n) a.accepted within in a.over k here ∙ sym (b.over k here));
+  strayed = a.astray ∙ sym b.astray;
 }

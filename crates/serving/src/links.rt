@@ -45,6 +45,11 @@ impl Links {
         self.clients.seats.len()
     }
 
+    /// Whether more can be done at once.
+    pub(crate) fn presses(&self) -> bool {
+        self.clients.presses || self.requests.presses
+    }
+
     /// How many links of the administration are open.
     pub fn requests(&self) -> usize {
         self.requests.count()

@@ -1,4 +1,15 @@
 //! The links of the administration: one request over HTTP each, and its response.
+ghost use Rattle.std.specs.Prelude.{◌≡◌, ◌+◌, ◌<◌, ◌++◌, ℕ, List, [], Some, Ok, length, option_map, IfNone, MatchResult, if◌then◌else◌};
+ghost use Rattle.vault.specs.Records.{Records};
+ghost use Rattle.office.specs.Events.{Log};
+ghost use Rattle.office.specs.Taken.{trace_of};
+ghost use Rattle.office.specs.Shown.{command_seen, outcome_seen};
+ghost use Rattle.office.specs.Stands.{StandsFor, vault_of};
+ghost use Rattle.adminhttp.specs.Request.{IsRequest};
+ghost use Rattle.adminhttp.specs.Responses.{refusal_response};
+ghost use Rattle.adminhttp.specs.declared.refusal.Refusal.TheVariants.{OutOfMemory};
+ghost use Rattle.serving.specs.Requests.{octets_of, IsToldBy, HasAsked, StillAnswers, StillAsked, AllStillAnswer, AllStillAsked};
+
 use crate::wire::{Io, Link, Port, Wire};
 use adminhttp::{Got, Refusal, Request, policy_response, response};
 use office::{AdminCommand, Event, Office, Outcome};
@@ -28,7 +39,9 @@ pub(crate) enum Response {
 
 impl Response {
     /// Its octets.
-    fn octets(&self) -> &[u8] {
+    fn octets(&self) -> &[u8]
+        ensures { result.now ≡ octets_of self.now }
+    {
         match self {
             Response::Made(octets) => octets.as_slice(),
             Response::Fixed(refusal) => refusal.bytes(),
@@ -56,15 +69,20 @@ pub(crate) struct Exchange {
 #[derive(Drop)]
 pub(crate) struct Requests {
     alloc: Global,
-    exchanges: Vec<Exchange>,
+    pub(crate) exchanges: Vec<Exchange>,
+    /// More can be written at once: the next turn doesn't wait.
+    pub(crate) presses: bool,
 }
 
 impl Requests {
     /// No link is open.
-    pub(crate) fn new(alloc: Global) -> Requests {
+    pub(crate) fn new(alloc: Global) -> Requests
+        ensures { result.exchanges.items ≡ [] }
+    {
         Requests {
             alloc,
             exchanges: Vec::new(alloc),
+            presses: false,
         }
     }
 
@@ -75,7 +93,9 @@ impl Requests {
 }
 
 /// The response of these octets, or that which tells that memory ran out.
-fn made(octets: Result<Vec<u8>, AllocError>) -> Response {
+fn made(octets: Result<Vec<u8>, AllocError>) -> Response
+    ensures { MatchResult octets (λ made. octets_of result ≡ made.items) (λ _. octets_of result ≡ refusal_response OutOfMemory) }
+{
     match octets {
         Ok(octets) => Response::Made(octets),
         Err(_) => Response::Fixed(Refusal::OutOfMemory),
@@ -83,7 +103,9 @@ fn made(octets: Result<Vec<u8>, AllocError>) -> Response {
 }
 
 /// The response to a command that had this outcome.
-fn response_to(alloc: Global, outcome: &Outcome) -> Response {
+fn response_to(alloc: Global, outcome: &Outcome) -> Response
+    ensures { IsToldBy (outcome_seen outcome.now) (octets_of result) }
+{
     match outcome {
         Outcome::Answered(answer) => made(response(alloc, answer)),
         Outcome::NoMemory => Response::Fixed(Refusal::OutOfMemory),
@@ -92,13 +114,19 @@ fn response_to(alloc: Global, outcome: &Outcome) -> Response {
 }
 
 /// Gives a command to the office, and makes the response.
-fn command<V: Vault>(alloc: Global, office: &mut Office<V>, command: &AdminCommand) -> Response {
+fn command<V: Vault>(alloc: Global, office: &mut Office<V>, command: &AdminCommand) -> Response
+    ensures asked { (B : Records) (L : Log) (read : List ℕ) → StandsFor V.holds office.old (trace_of B L) → IsRequest read (Ok (command_seen command.now)) → V.is_clean (vault_of office.new) → HasAsked V.holds B L read office.new (Some (octets_of result)) }
+    ensures clean { V.is_clean (vault_of office.new) → V.is_clean (vault_of office.old) }
+{
     let outcome = office.step(Event::Admin(command));
     response_to(alloc, &outcome)
 }
 
 /// The response to what was read of a request, once that is whole or refused. A command is given to the office.
-fn ask<V: Vault>(alloc: Global, office: &mut Office<V>, read: &[u8]) -> Option<Response> {
+fn ask<V: Vault>(alloc: Global, office: &mut Office<V>, read: &[u8]) -> Option<Response>
+    ensures asked { (B : Records) (L : Log) → StandsFor V.holds office.old (trace_of B L) → V.is_clean (vault_of office.new) → HasAsked V.holds B L read.now office.new (option_map octets_of result) }
+    ensures clean { V.is_clean (vault_of office.new) → V.is_clean (vault_of office.old) }
+{
     match Request::read(alloc, read) {
         Got::More => None,
         Got::Bad(refusal) => Some(Response::Fixed(refusal)),
@@ -114,7 +142,14 @@ fn take_piece<V: Vault>(
     office: &mut Office<V>,
     exchange: &mut Exchange,
     piece: &[u8],
-) {
+)
+    ensures asked { (B : Records) (L : Log) → StandsFor V.holds office.old (trace_of B L) → V.is_clean (vault_of office.new) → HasAsked V.holds B L (exchange.old.read.items ++ piece.now) office.new (option_map octets_of exchange.new.response) }
+    ensures clean { V.is_clean (vault_of office.new) → V.is_clean (vault_of office.old) }
+    ensures read { IfNone exchange.new.response (exchange.new.read.items ≡ exchange.old.read.items ++ piece.now) }
+    ensures link { exchange.new.link ≡ exchange.old.link }
+    ensures written { exchange.new.written ≡ exchange.old.written }
+    ensures over { exchange.new.is_over ≡ exchange.old.is_over }
+{
     exchange.response = match exchange.read.extend_from_slice(piece) {
         Ok(()) => ask(alloc, office, exchange.read.as_slice()),
         Err(_) => Some(Response::Fixed(Refusal::OutOfMemory)),
@@ -127,8 +162,12 @@ fn hear<V: Vault, W: Wire>(
     office: &mut Office<V>,
     wire: &mut W,
     exchange: &mut Exchange,
-) {
-    if exchange.response.is_some() {
+)
+    ensures asked { StillAsked V.holds V.is_clean W.tells office.old wire.old exchange.old office.new wire.new exchange.new }
+    ensures clean { V.is_clean (vault_of office.new) → V.is_clean (vault_of office.old) }
+    ensures link { exchange.new.link ≡ exchange.old.link }
+{
+    if exchange.is_over || exchange.response.is_some() {
         return;
     }
     let mut room = [0; MOST_AT_ONCE];
@@ -141,7 +180,13 @@ fn hear<V: Vault, W: Wire>(
 
 /// Writes once of a response. Whether octets were taken, and more may be. The exchange is over where nothing is left, or the
 /// link is broken.
-fn tell_once<W: Wire>(wire: &mut W, exchange: &mut Exchange) -> bool {
+fn tell_once<W: Wire>(wire: &mut W, exchange: &mut Exchange) -> bool
+    ensures answers { StillAnswers W.tells wire.old exchange.old wire.new exchange.new }
+    ensures link { exchange.new.link ≡ exchange.old.link }
+{
+    if exchange.is_over {
+        return false;
+    }
     let Some(response) = &exchange.response else {
         return false;
     };
@@ -164,7 +209,10 @@ fn tell_once<W: Wire>(wire: &mut W, exchange: &mut Exchange) -> bool {
 }
 
 /// Writes a response as long as the link takes it. Whether more can be written at once.
-fn tell<W: Wire>(wire: &mut W, exchange: &mut Exchange) -> bool {
+fn tell<W: Wire>(wire: &mut W, exchange: &mut Exchange) -> bool
+    ensures answers { StillAnswers W.tells wire.old exchange.old wire.new exchange.new }
+    ensures link { exchange.new.link ≡ exchange.old.link }
+{
     for _ in 0..MOST_WRITES {
         if !tell_once(wire, exchange) {
             return false;
@@ -181,43 +229,65 @@ fn serve_exchange<V: Vault, W: Wire>(
     wire: &mut W,
     exchange: &mut Exchange,
     now: u64,
-) -> bool {
+) -> bool
+    ensures asked { StillAsked V.holds V.is_clean W.tells office.old wire.old exchange.old office.new wire.new exchange.new }
+    ensures clean { V.is_clean (vault_of office.new) → V.is_clean (vault_of office.old) }
+    ensures link { exchange.new.link ≡ exchange.old.link }
+{
     if now.saturating_sub(exchange.since) >= MOST_SECONDS {
         exchange.is_over = true;
         return false;
     }
     hear(alloc, office, wire, exchange);
-    if exchange.is_over {
-        return false;
-    }
     tell(wire, exchange)
 }
 
-/// Serves each link of the administration, in the order in which they were accepted, and closes those that are over. Whether
-/// more can be written at once.
+/// Serves the link at one place, and closes it where its exchange is over. Whether it stays.
+fn serve_place<V: Vault, W: Wire>(
+    office: &mut Office<V>,
+    wire: &mut W,
+    requests: &mut Requests,
+    place: usize,
+    now: u64,
+) -> bool
+    requires { place < length requests.old.exchanges.items }
+    ensures asked { AllStillAsked V.holds V.is_clean W.tells office.old wire.old requests.old.exchanges.items office.new wire.new requests.new.exchanges.items }
+    ensures clean { V.is_clean (vault_of office.new) → V.is_clean (vault_of office.old) }
+    ensures left { length requests.new.exchanges.items + (if result then 0 else 1) ≡ length requests.old.exchanges.items }
+{
+    let exchange = &mut requests.exchanges[place];
+    requests.presses |= serve_exchange(requests.alloc, office, wire, exchange, now);
+    if !exchange.is_over {
+        return true;
+    }
+    wire.close(Port::Admin, exchange.link);
+    requests.exchanges.remove(place);
+    false
+}
+
+/// Serves each link of the administration, in the order in which they were accepted, and closes those that are over.
 pub(crate) fn serve_requests<V: Vault, W: Wire>(
     office: &mut Office<V>,
     wire: &mut W,
     requests: &mut Requests,
     now: u64,
-) -> bool {
-    let mut presses = false;
+)
+    ensures asked { AllStillAsked V.holds V.is_clean W.tells office.old wire.old requests.old.exchanges.items office.new wire.new requests.new.exchanges.items }
+    ensures clean { V.is_clean (vault_of office.new) → V.is_clean (vault_of office.old) }
+{
+    requests.presses = false;
     let mut place = 0;
     while place < requests.exchanges.len() {
-        let exchange = &mut requests.exchanges[place];
-        presses |= serve_exchange(requests.alloc, office, wire, exchange, now);
-        if exchange.is_over {
-            wire.close(Port::Admin, exchange.link);
-            requests.exchanges.remove(place);
-        } else {
+        if serve_place(office, wire, requests, place, now) {
             place += 1;
         }
     }
-    presses
 }
 
 /// Accepts a link of the administration; or closes it, where eight are open or memory is short. Whether one came.
-fn accept_request<W: Wire>(wire: &mut W, requests: &mut Requests, now: u64) -> bool {
+fn accept_request<W: Wire>(wire: &mut W, requests: &mut Requests, now: u64) -> bool
+    ensures { AllStillAnswer W.tells wire.old requests.old.exchanges.items wire.new requests.new.exchanges.items }
+{
     let Some(link) = wire.accept(Port::Admin) else {
         return false;
     };
@@ -245,7 +315,9 @@ pub(crate) fn accept_requests<W: Wire>(
     requests: &mut Requests,
     most: usize,
     now: u64,
-) {
+)
+    ensures { AllStillAnswer W.tells wire.old requests.old.exchanges.items wire.new requests.new.exchanges.items }
+{
     for _ in 0..most {
         if !accept_request(wire, requests, now) {
             return;

@@ -217,13 +217,13 @@ pub fn serve_turn<V: Vault, W: Wire, S: Spool>(
     ensures serves { (T : Trace) → Serves V.holds W.tells S.tells T office.old wire.old spool.old links.old.clients.seats.items → V.is_clean (vault_of office.new) → Serves V.holds W.tells S.tells T office.new wire.new spool.new links.new.clients.seats.items }
     ensures clean { V.is_clean (vault_of office.new) → V.is_clean (vault_of office.old) }
 {
-    let millis = if links.clients.presses { 0 } else { MOST_MILLIS };
+    let millis = if links.presses() { 0 } else { MOST_MILLIS };
     links.clients.presses = false;
     pass_time(office, wire, millis, now);
     accept_links(office, wire, &mut links.clients);
     accept_requests(wire, &mut links.requests, MOST_LINKS, now);
     serve_links(office, wire, &mut links.clients);
-    links.clients.presses |= serve_requests(office, wire, &mut links.requests, now);
+    serve_requests(office, wire, &mut links.requests, now);
     serve_spool(office, spool, &mut links.clients);
 }
 

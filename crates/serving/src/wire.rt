@@ -1,6 +1,6 @@
 //! What a server needs of its links.
 ghost use Rattle.std.specs.Prelude.{◌≡◌, length};
-ghost use Rattle.serving.specs.Wires.{ToldOfPorts, at_port, counted, has_read, has_written};
+ghost use Rattle.serving.specs.Wires.{ToldOfPorts, at_port, counted, has_read, has_written, has_closed};
 
 /// A link at one of a wire's ports. No other link at this port ever has its number.
 #[derive(Clone, Copy, PartialEq, Eq, Default, Debug)]
@@ -51,16 +51,16 @@ pub trait Wire {
     /// Reads from a link into the front of the buffer.
     fn read(&mut self, port: Port, link: Link, buffer: &mut [u8]) -> Io
         ensures within { IsWithin (length buffer.old) result }
-        ensures told { (t : ToldOfPorts) → tells self.old t → tells self.new (at_port port (λ of. has_read of link.number (counted result buffer.new)) t) };
+        ensures told { (t : ToldOfPorts) → tells self.old t → tells self.new (at_port port (λ of. has_read of link.number result (counted result buffer.new)) t) };
 
     /// Writes octets on a link, from the first on.
     fn write(&mut self, port: Port, link: Link, octets: &[u8]) -> Io
         ensures within { IsWithin (length octets.now) result }
-        ensures told { (t : ToldOfPorts) → tells self.old t → tells self.new (at_port port (λ of. has_written of link.number (counted result octets.now)) t) };
+        ensures told { (t : ToldOfPorts) → tells self.old t → tells self.new (at_port port (λ of. has_written of link.number result (counted result octets.now)) t) };
 
     /// Closes a link.
     fn close(&mut self, port: Port, link: Link)
-        ensures { (t : ToldOfPorts) → tells self.old t → tells self.new t };
+        ensures { (t : ToldOfPorts) → tells self.old t → tells self.new (at_port port (λ of. has_closed of link.number) t) };
 
     /// It tells one thing, or nothing.
     ghost tells_once: { (wire : Self) (t u : ToldOfPorts) → tells wire t → tells wire u → SayAlikeOfPorts t u };
