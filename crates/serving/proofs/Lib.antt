@@ -4,3 +4,4 @@ pub mod Accepting
 pub mod Scripting
 pub mod Beginnings
 pub mod Depositing
+pub mod Requesting

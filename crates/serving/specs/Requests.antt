@@ -1,6 +1,6 @@
 -- That requests of the administration are answered: what is written on a link is a beginning of the response to what was read from that very
 -- link, and a command's response is that of the answer which its own event was given.
-use Rattle.std.specs.Prelude.{◌≡◌, ◌⊎◌, ◌≤◌, ◌<◌, ℕ, Bool, true, false, List, [], ◌∷◌, ◌++◌, length, take, Option, Some, None, Err, Ok}
+use Rattle.std.specs.Prelude.{◌≡◌, ◌⊎◌, ◌≤◌, ◌<◌, ℕ, Bool, true, false, List, [], ◌∷◌, ◌++◌, length, take, Option, Some, None, Err, Ok, ◌==◌, if◌then◌else◌}
 use Rattle.std.specs.List.{All, AllPairs}
 use Rattle.vault.specs.Records.{Records}
 use Rattle.vault.specs.Changes.{Contents}
@@ -84,7 +84,7 @@ IsKept told x number read (Some response) written =
 -- a link that is held was accepted, and isn't over where it isn't known to be
 pub record IsHeld (told : Told) (x : Exchanges) (e : Exchange) : Type 0 where
   pub accepted : e.link.number < told.accepted
-  pub open : e.is_over ≡ false → told.over e.link.number ≡ false
+  pub live : e.is_over ≡ false → told.over e.link.number ≡ false
   pub kept : IsKept told x e.link.number e.read.items e.response e.written
 
 -- one link was accepted before another
@@ -154,6 +154,10 @@ abbrev pub AllStillAsked : {V W : Type 0} (Holds : V → Contents → Type 0) (I
 AllStillAsked Holds IsClean Tells office wire held office_then wire_then held_then =
     (B : Records) (start : ℕ) (L : Log) (pop : Told) → IsAsked Holds Tells B start L pop office wire (λ told x. AreHeld told x held)
     → IsClean (vault_of office_then) → IsAsked Holds Tells B start L pop office_then wire_then (λ told x. AreHeld told x held_then)
+
+-- a function that has another value at one number
+abbrev pub put_at : {A : Type 0} → (number : ℕ) → A → (ℕ → A) → ℕ → A
+put_at number value f k = if k == number then value else f k
 
 -- ---- one request
 

@@ -1,5 +1,5 @@
 //! The links of the administration: one request over HTTP each, and its response.
-ghost use Rattle.std.specs.Prelude.{◌≡◌, ◌+◌, ◌<◌, ◌++◌, ℕ, List, [], Some, Ok, length, option_map, IfNone, MatchResult, if◌then◌else◌};
+ghost use Rattle.std.specs.Prelude.{◌≡◌, ◌+◌, ◌<◌, ◌++◌, ℕ, List, [], Some, Ok, length, option_map, IfNone, IfOk, ◌⊎◌, if◌then◌else◌};
 ghost use Rattle.vault.specs.Records.{Records};
 ghost use Rattle.office.specs.Events.{Log};
 ghost use Rattle.office.specs.Taken.{trace_of};
@@ -94,7 +94,7 @@ impl Requests {
 
 /// The response of these octets, or that which tells that memory ran out.
 fn made(octets: Result<Vec<u8>, AllocError>) -> Response
-    ensures { MatchResult octets (λ made. octets_of result ≡ made.items) (λ _. octets_of result ≡ refusal_response OutOfMemory) }
+    ensures { (wanted : List ℕ) → IfOk octets (λ made. made.items ≡ wanted) → (octets_of result ≡ wanted) ⊎ (octets_of result ≡ refusal_response OutOfMemory) }
 {
     match octets {
         Ok(octets) => Response::Made(octets),
@@ -150,10 +150,11 @@ fn take_piece<V: Vault>(
     ensures written { exchange.new.written ≡ exchange.old.written }
     ensures over { exchange.new.is_over ≡ exchange.old.is_over }
 {
-    exchange.response = match exchange.read.extend_from_slice(piece) {
-        Ok(()) => ask(alloc, office, exchange.read.as_slice()),
-        Err(_) => Some(Response::Fixed(Refusal::OutOfMemory)),
-    };
+    if exchange.read.extend_from_slice(piece).is_err() {
+        exchange.response = Some(Response::Fixed(Refusal::OutOfMemory));
+        return;
+    }
+    exchange.response = ask(alloc, office, exchange.read.as_slice());
 }
 
 /// Reads a piece of a request that isn't whole. The exchange is over where the link is at its end or broken.
