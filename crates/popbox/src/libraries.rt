@@ -4,6 +4,7 @@ mod conversations;
 mod credentials;
 mod lines;
 mod policies;
+mod requests_served;
 mod statements;
 mod stores;
 mod text_pieces;

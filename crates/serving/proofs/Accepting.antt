@@ -1,22 +1,21 @@
 -- A link that is accepted gets a connection of its own, or none.
-use Rattle.std.proofs.Common.{◌≡◌, ℕ, zero, suc, ◌<◌, ◌≤◌, ◌==◌, List, [], ◌∷◌, ◌++◌, length, refl, sym, ◌∙◌, ap, arith, None, Some, Option, eq-eqb, ne_eqb, ⊎_elim, ◌⊎◌, inl, inr, subst, get_or, take, drop}
+use Rattle.std.proofs.Common.{◌≡◌, ℕ, ◌<◌, ◌≤◌, ◌==◌, Bool, true, false, List, [], ◌∷◌, refl, sym, ◌∙◌, ap, arith, None, Some, Option, eq-eqb, ne_eqb, ⊎_elim, ◌⊎◌, inl, inr, subst, true≢false}
 use Rattle.std.specs.Bool.{⊤, if◌then◌else◌}
-use Rattle.std.specs.List.{All, Contains, remove}
 use Rattle.std.proofs.lemmas.Bool.{cases_eq}
-use Rattle.std.proofs.lemmas.List.Elements.{All-push, All-append, All-take, All-drop, All-weaker, All-contains}
 use Rattle.vault.specs.Records.{Records}
 use Rattle.office.specs.History.{Tag, Done, Failed, NoMemory, Entry}
 use Rattle.office.specs.Events.{Event, Mark, Tagged, Ignored, Log, Trace}
 use Rattle.office.specs.Events as event
 use Rattle.office.specs.Log.{next_number, opened}
-use Rattle.office.specs.Trace.{history}
+use Rattle.office.specs.Trace.{history, is_open}
+use Rattle.office.specs.Taken.{trace_of, all_taken_by}
 use Rattle.office.specs.Expected.{IsOutcome, ignored, shown_at, or_ignored}
 use Rattle.office.specs.Outcomes.{Outcome, Reason, mark_of}
-use Rattle.serving.specs.declared.links.Seat.{Seat}
-use Rattle.serving.specs.Wires.{Told, has_accepted, opened_by}
+use Rattle.serving.specs.Wires.{Told, has_accepted, has_closed, begun_at, opened_by}
 use Rattle.serving.specs.Spools.{FileAct}
-use Rattle.serving.specs.Served.{given_by, took_by, Owners, IsServed, AreServed, IsOwnEvent, AreOwnEvents, Adds, HasOwn}
-use Rattle.serving.proofs.Keeping.{stays}
+use Rattle.serving.specs.Served.{given_by, Owners, IsServed, AreServed, IsOwnEvent, AreOwnEvents, Adds, IsCommand, Beside}
+use Rattle.serving.proofs.Keeping.{stays, of_some, served_closed}
+use Rattle.serving.proofs.Staying.{frame_connect}
 
 -- ---- outcomes
 
@@ -54,18 +53,13 @@ none_of : (o : Option ℕ) → ((c : ℕ) → o ≡ Some c → ⊥) → o ≡ No
 none_of None h = refl
 none_of (Some c) h = absurd (h c refl)
 
-number_or : Option ℕ → ℕ
-number_or None = 0
-number_or (Some n) = n
-
-of_some : (a b : ℕ) → Some a ≡ Some b → a ≡ b
-unfolding number_or
-of_some a b e = ap number_or e
+some_none : (c : ℕ) → Some c ≡ None → ⊥
+some_none c e = cc
 
 -- ---- a link that got none
 
 module _ (told : Told) (owner : Owners) (B : Records) (L : Log) where
-  refused_stays : (m : Mark) → IsRefusal m → (d : ℕ) → (given_by ((event.Connect, m) ∷ L) d ≡ given_by L d) × (took_by B ((event.Connect, m) ∷ L) d ≡ took_by B L d)
+  refused_stays : (m : Mark) → IsRefusal m → (d : ℕ) → (given_by ((event.Connect, m) ∷ L) d ≡ given_by L d) × (all_taken_by B ((event.Connect, m) ∷ L) d ≡ all_taken_by B L d)
   refused_stays Ignored r d = (refl, refl)
   refused_stays (Tagged Done) r d = absurd r
   refused_stays (Tagged Failed) r d = (refl, refl)
@@ -77,29 +71,58 @@ module _ (told : Told) (owner : Owners) (B : Records) (L : Log) where
   refused_opened (Tagged Failed) r = refl
   refused_opened (Tagged NoMemory) r = refl
 
+  -- so none is opened
+  pub refused_same : (m : Mark) → IsRefusal m → (d : ℕ) → is_open (trace_of B ((event.Connect, m) ∷ L)) d ≡ is_open (trace_of B L) d
+  refused_same Ignored r d = refl
+  refused_same (Tagged Done) r d = absurd r
+  refused_same (Tagged Failed) r d = refl
+  refused_same (Tagged NoMemory) r d = refl
+
+  begun_same : (k : ℕ) (over : ℕ → Bool) → begun_at k over k ≡ false
+  begun_same k over = let q = eq-eqb k k refl in rw q refl
+
+  begun_other : (k j : ℕ) (over : ℕ → Bool) → (j ≡ k → ⊥) → begun_at k over j ≡ over j
+  begun_other k j over h = let q = ne_eqb j k h in rw q refl
+
+  -- what is over now was so before
+  was_over : (j : ℕ) → begun_at told.accepted told.over j ≡ true → told.over j ≡ true
+  was_over j o =
+      ⊎_elim
+      (λ (e : j ≡ told.accepted). absurd (true≢false (sym o ∙ (ap (begun_at told.accepted told.over) e ∙ begun_same told.accepted told.over))))
+      (λ (ne : j ≡ told.accepted → ⊥). sym (begun_other told.accepted j told.over ne) ∙ o)
+      (cases_eq j told.accepted)
+
+  -- a link that was accepted last has no connection yet
+  pub next_free : AreServed told owner B L → owner told.accepted ≡ None
+  next_free a = none_of (owner told.accepted) (λ c e. (let h = a.accepted told.accepted c e in omega (arith, h)))
+
   pub served_refused : (m : Mark) → IsRefusal m → AreServed told owner B L → AreServed (has_accepted told) owner B ((event.Connect, m) ∷ L)
   served_refused m r a = record {
     each = λ j. stays B L event.Connect m (owner j) (told.read j) (told.written j) (a.each j) (λ d e. refused_stays m r d);
     own = a.own;
     accepted = λ k c e. (let h = a.accepted k c e in omega (arith, h));
     opened = λ k c e. (let h = a.opened k c e in let q = refused_opened m r in omega (arith, h, q));
+    over = λ k c o e. refused_same m r c ∙ a.over k c (was_over k o) e;
+    straight = a.straight;
   }
 
-  -- ---- a link that got one
+  -- and it is closed
+  pub served_unseated : (m : Mark) → IsRefusal m → AreServed told owner B L → AreServed (has_closed (has_accepted told) told.accepted) owner B ((event.Connect, m) ∷ L)
+  served_unseated m r a =
+      served_closed (has_accepted told) owner B ((event.Connect, m) ∷ L) told.accepted (λ d e. absurd (some_none d (sym e ∙ next_free a))) (served_refused m r a)
 
-  next_free : AreServed told owner B L → owner told.accepted ≡ None
-  next_free a = none_of (owner told.accepted) (λ c e. (let h = a.accepted told.accepted c e in omega (arith, h)))
+  -- ---- a link that got one
 
   connect_given : (d : ℕ) → d ≤ opened L → given_by ((event.Connect, Tagged Done) ∷ L) d ≡ given_by L d
   connect_given d h = let q = ne_eqb (next_number L) d (λ (e : next_number L ≡ d). (let k : ⊥ = omega (arith, e, h) in k)) in rw q refl
 
-  connect_took : (d : ℕ) → d ≤ opened L → took_by B ((event.Connect, Tagged Done) ∷ L) d ≡ took_by B L d
+  connect_took : (d : ℕ) → d ≤ opened L → all_taken_by B ((event.Connect, Tagged Done) ∷ L) d ≡ all_taken_by B L d
   connect_took d h = let q = ne_eqb (next_number L) d (λ (e : next_number L ≡ d). (let k : ⊥ = omega (arith, e, h) in k)) in rw q refl
 
   fresh_given : given_by ((event.Connect, Tagged Done) ∷ L) (next_number L) ≡ []
   fresh_given = let q = eq-eqb (next_number L) (next_number L) refl in rw q refl
 
-  fresh_took : took_by B ((event.Connect, Tagged Done) ∷ L) (next_number L) ≡ []
+  fresh_took : all_taken_by B ((event.Connect, Tagged Done) ∷ L) (next_number L) ≡ []
   fresh_took = let q = eq-eqb (next_number L) (next_number L) refl in rw q refl
 
   owner_then : Owners
@@ -121,6 +144,10 @@ module _ (told : Told) (owner : Owners) (B : Records) (L : Log) where
       (λ (q : k ≡ told.accepted). inl (q, of_some c (next_number L) (sym e ∙ (ap (λ i. owned_at told.accepted (next_number L) owner i) q ∙ owned_new))))
       (λ (ne : k ≡ told.accepted → ⊥). inr (sym (owned_other told.accepted (next_number L) k owner ne) ∙ e))
       (cases_eq k told.accepted)
+
+  -- those that were opened before have lower numbers
+  pub opened_before : (connection : ℕ) → connection ≡ next_number L → AreServed told owner B L → (k c : ℕ) → owner k ≡ Some c → c < connection
+  opened_before connection e a k c at_k = let h = a.opened k c at_k in omega (arith, h, e)
 
   pub served_accepted : AreServed told owner B L → AreServed (has_accepted told) (owned_at told.accepted (next_number L) owner) B ((event.Connect, Tagged Done) ∷ L)
   served_accepted a = record {
@@ -159,6 +186,14 @@ module _ (told : Told) (owner : Owners) (B : Records) (L : Log) where
         (λ (x : (k ≡ told.accepted) × (c ≡ next_number L)). (let q = x.1 in omega (arith, q)))
         (λ (x : owner k ≡ Some c). (let h = a.opened k c x in omega (arith, h)))
         (whose k c e);
+    over = λ k c o e.
+        ⊎_elim
+        (λ (x : (k ≡ told.accepted) × (c ≡ next_number L)). absurd (true≢false (sym o ∙ (ap (begun_at told.accepted told.over) x.0 ∙ begun_same told.accepted told.over))))
+        (λ (x : owner k ≡ Some c).
+        (let h = a.opened k c x in
+        frame_connect B L c (λ (q : next_number L ≡ c). (let n : ⊥ = omega (arith, h, q) in n)) ∙ a.over k c (was_over k o) x))
+        (whose k c e);
+    straight = a.straight;
   }
 
 -- ---- with more owners
@@ -174,37 +209,18 @@ own_still owner after more (event.Deposit d class id text) i = tt
 own_still owner after more (event.Admin command) i = absurd i
 own_still owner after more (event.Restart boot) i = absurd i
 
+either_still : (owner after : Owners) → ((k c : ℕ) → owner k ≡ Some c → after k ≡ Some c) → (e : Event) → IsOwnEvent owner e ⊎ IsCommand e → IsOwnEvent after e ⊎ IsCommand e
+either_still owner after more e (inl i) = inl (own_still owner after more e i)
+either_still owner after more e (inr k) = inr k
+
 events_still : (owner after : Owners) → ((k c : ℕ) → owner k ≡ Some c → after k ≡ Some c) → (L : Log) → AreOwnEvents owner L → AreOwnEvents after L
 events_still owner after more [] i = tt
-events_still owner after more ((e, m) ∷ L) i = (own_still owner after more e i.0, events_still owner after more L i.1)
+events_still owner after more ((e, m) ∷ L) i = (either_still owner after more e i.0, events_still owner after more L i.1)
 
-pub adds_still : (owner after : Owners) → ((k c : ℕ) → owner k ≡ Some c → after k ≡ Some c) → (B : Records) (older L : Log) (acts : List FileAct) → Adds owner B older L acts → Adds after B older L acts
-adds_still owner after more B older L acts a = record { more = a.more; is = a.is; each = events_still owner after more a.more a.each; filed = a.filed }
+pub adds_still : (owner after : Owners) → ((k c : ℕ) → owner k ≡ Some c → after k ≡ Some c) → (B : Records) (older L : Log) (beside : Beside) (calls : ℕ) → Adds owner B older L beside calls → Adds after B older L beside calls
+adds_still owner after more B older L beside calls a = record {
+  events = record { more = a.events.more; is = a.events.is; each = events_still owner after more a.events.more a.events.each; filed = a.events.filed; counted = a.events.counted };
+  requests = a.requests;
+}
 
--- ---- seats
 
--- a seat is left
-pub seated_without : (owner : Owners) (seats : List Seat) (place : ℕ) → All (HasOwn owner) seats → All (HasOwn owner) (remove seats place)
-seated_without owner seats place a =
-    All-append (HasOwn owner) (take place seats) (drop (suc place) seats) (All-take (HasOwn owner) place seats a) (All-drop (HasOwn owner) (suc place) seats a)
-
--- a seat is taken by a link that has its connection
-pub seated_with : (owner : Owners) (seats : List Seat) (seat : Seat) → HasOwn owner seat → All (HasOwn owner) seats → All (HasOwn owner) (seats ++ seat ∷ [])
-seated_with owner seats seat o a = All-push (HasOwn owner) seats seat a o
-
--- and with more owners
-pub seated_still : (owner after : Owners) → ((k c : ℕ) → owner k ≡ Some c → after k ≡ Some c) → (seats : List Seat) → All (HasOwn owner) seats → All (HasOwn after) seats
-seated_still owner after more seats a = All-weaker (HasOwn owner) (HasOwn after) (λ s e. more s.link.number s.connection e) seats a
-
--- a seat's link has its connection
-pub seat_owns : (owner : Owners) (seats : List Seat) (seat : Seat) → Contains seats seat → All (HasOwn owner) seats → HasOwn owner seat
-seat_owns owner seats seat h a = All-contains (HasOwn owner) seats seat a h
-
-any_default : (xs : List Seat) (i : ℕ) (c d : Seat) → i < length xs → get_or xs i c ≡ get_or xs i d
-any_default [] i c d h = absurd (omega (arith, h))
-any_default (x ∷ xs) zero c d h = refl
-any_default (x ∷ xs) (suc i) c d h = any_default xs i c d (omega (arith, h))
-
--- what is read at a place is there
-pub contained : (xs ys : List Seat) (i : ℕ) (d : Seat) → ys ≡ xs → i < length xs → Contains xs (get_or ys i d)
-contained xs ys i d e h = subst (λ zs. Contains xs (get_or zs i d)) (sym e) (i, h, any_default xs i (get_or xs i d) d h)

@@ -1,7 +1,8 @@
+pub mod Requesting
 pub mod Marks
+pub mod Staying
 pub mod Keeping
 pub mod Accepting
+pub mod Seating
 pub mod Scripting
-pub mod Beginnings
 pub mod Depositing
-pub mod Requesting

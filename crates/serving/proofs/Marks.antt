@@ -1,5 +1,5 @@
 -- What isn't ignored shows a tag: a piece for a connection that waits for it, and a taking of what is lent.
-use Rattle.std.proofs.Common.{◌≡◌, ℕ, ◌<◌, ◌≤◌, Bool, true, false, not, ◌&&◌, ◌||◌, ◌==◌, List, length, take, refl, ◌∙◌, ap, arith, None, Some, Option, eqb, ne_eqb, nat_lt, le-ltb}
+use Rattle.std.proofs.Common.{◌≡◌, ℕ, zero, suc, ◌<◌, ◌≤◌, Bool, true, false, not, ◌&&◌, ◌||◌, ◌==◌, List, length, take, refl, ◌∙◌, ap, arith, None, Some, Option, eqb, ne_eqb, nat_lt, le-ltb}
 use Rattle.std.proofs.lemmas.List.{length-take, take-take}
 use Rattle.std.specs.Bool.{if◌then◌else◌}
 use Rattle.office.specs.History.{Tag, Done, Failed, NoMemory}
@@ -74,3 +74,24 @@ lent_open T c n lent is some fits = lent_if (is_open T c) (untaken T.log (histor
 
 pub lent_fits : (T : Trace) (c n : ℕ) (lent : List ℕ) → IsLent (rest T c) lent → n ≤ length lent → n ≤ length (rest T c)
 lent_fits T c n lent is fits = let e = ap length is.beginning in omega (arith, e, fits, length-take (length lent) (rest T c))
+
+-- ---- going
+
+gone_if : (o : Bool) → o ≡ true → reason_if (not o) NoSuchConnection ≡ None
+gone_if o a = rw a refl
+
+-- an open connection's going isn't ignored
+pub gone_mark : (T : Trace) (lent_by : ℕ → ℕ) (c : ℕ) (o : Outcome) → is_open T c ≡ true → IsOutcome T lent_by (event.Gone c) o → (t : Tag) × (mark_of o ≡ Tagged t)
+gone_mark T lent_by c o here h = (
+  h.tag,
+  shown_mark (λ t. shown_at T.base T.log (history T) (event.Gone c) t) refl refl refl (ignored T lent_by (event.Gone c)) (gone_if (is_open T c) here) h.tag o h.is,
+)
+
+-- what is ready is open
+pub ready_open : (T : Trace) (c : ℕ) → is_ready T c ≡ true → is_open T c ≡ true
+ready_open T c ready = (both_open (is_open T c) (untaken T.log (history T) c) ready).0
+
+-- what isn't empty has some
+pub lent_some : (is_none : Bool) (n : ℕ) → is_none ≡ (n == 0) → is_none ≡ false → 0 < n
+lent_some is_none zero e some = cc
+lent_some is_none (suc n) e some = omega arith

@@ -32,6 +32,7 @@ use Rattle.serving.specs.declared.requests.Exchange.{Exchange}
 use Rattle.serving.specs.declared.wire.Io.{Io}
 use Rattle.serving.specs.declared.wire.Io.TheVariants.{Count, Later}
 use Rattle.serving.specs.Wires.{Told, ToldOfPorts, more_at, over_at, is_fault, is_live, has_read, has_written, has_closed, has_accepted, begun_at}
+use Rattle.serving.specs.Served.{IsCommand}
 use Rattle.serving.specs.Requests.{IsAnswer, IsResponse, ToRefusal, ToFault, ForMemory, ToCommand, Exchanges, IsExchange, AreExchanged, octets_of, IsKept, IsHeld, put_at, IsToldBy, IsGiven, NotYet, NoCommand, GivenOne, HasAsked, Asks, AsksNone, AsksMore, IsAnswering, IsAsked, AreOthersHeld, AreKeptBeside, AreHeld, Precedes}
 
 -- ---- one value more
@@ -91,6 +92,32 @@ response_grows B L e m read _ _ (ToCommand command t newer older response q is a
 pub exchange_grows : (B : Records) (L : Log) (e : Event) (m : Mark) (r : Option (List ℕ)) (place : Option ℕ) (read written : List ℕ) → IsExchange B L r place read written → IsExchange B ((e, m) ∷ L) r place read written
 exchange_grows B L e m None place read written x = x
 exchange_grows B L e m (Some response) place read written x = (response_grows B L e m read place response x.0, x.1)
+
+one_first : {A : Type 0} {x y : A} {xs ys : List A} → x ∷ xs ≡ y ∷ ys → x ≡ y
+one_first e = cc
+
+one_rest : {A : Type 0} {x y : A} {xs ys : List A} → x ∷ xs ≡ y ∷ ys → xs ≡ ys
+one_rest e = cc
+
+-- which commands' events there are behind one that is no command's
+no_command : (L : Log) (e : Event) (m : Mark) → (IsCommand e → ⊥) → (newer older : Log) (command : AdminCommand) (m2 : Mark) → (e, m) ∷ L ≡ newer ++ (event.Admin command, m2) ∷ older
+    → (newer2 : Log) × (L ≡ newer2 ++ (event.Admin command, m2) ∷ older)
+no_command L e m none [] older command m2 is = absurd (none (subst IsCommand (sym (ap (λ p. p.0) (one_first is))) tt))
+no_command L e m none (y ∷ newer) older command m2 is = (newer, one_rest is)
+
+pub exchanged_more : (told : Told) (x : Exchanges) (B : Records) (start : ℕ) (L : Log) (e : Event) (m : Mark) → (IsCommand e → ⊥) → AreExchanged told x B start L → AreExchanged told x B start ((e, m) ∷ L)
+exchanged_more told x B start L e m none a = record {
+  each = λ k. exchange_grows B L e m (x.response k) (x.place k) (told.read k) (told.written k) (a.each k);
+  own = a.own;
+  before = λ k n f. (let h = a.before k n f in omega (arith, h));
+  asked = λ newer older command m2 is late. (let y = no_command L e m none newer older command m2 is in a.asked y.0 older command m2 y.1 late);
+  still = a.still;
+  straight = a.straight;
+}
+
+-- no event is newer than the log that one began with
+pub none_newer : (L newer older : Log) (command : AdminCommand) (m : Mark) → L ≡ newer ++ (event.Admin command, m) ∷ older → length L ≤ length older → ⊥
+none_newer L newer older command m is late = omega (arith, ap length is, late, length-append newer ((event.Admin command, m) ∷ older))
 
 -- ---- what comes of a piece
 

@@ -1,12 +1,25 @@
 -- Octets that go over a wire in memory.
-use Rattle.std.proofs.Common.{◌≡◌, ℕ, zero, suc, ◌+◌, ◌<◌, ◌≤◌, List, [], ◌∷◌, ◌++◌, length, take, drop, refl, sym, ◌∙◌, ap, arith, None, Some, Option, ⊎_elim, subst, slice_get, set, get_or, length-append}
+use Rattle.std.proofs.Common.{◌≡◌, ℕ, zero, suc, ◌+◌, ◌<◌, ◌≤◌, ◌==◌, nat_lt, lt-ltb, le-ltb, Bool, true, false, not, ◌&&◌, ◌||◌, true≢false, List, [], ◌∷◌, ◌++◌, length, take, drop, refl, sym, ◌∙◌, ap, arith, None, Some, Option, ⊎_elim, subst, slice_get, set, get_or, length-append, eq-eqb, ne_eqb}
+use Rattle.std.specs.Bool.{if◌then◌else◌}
+use Rattle.std.specs.Prelude.{vec_items}
 use Rattle.std.proofs.lemmas.Bool.{cases_eq}
+use Rattle.std.proofs.lemmas.Bool.Decides.{nat_tests}
 use Rattle.std.proofs.Math.Seq.{take-add}
 use Rattle.std.proofs.lemmas.List.{length-set, length-take, take-take, take-append-le}
 use Rattle.serving.specs.declared.script_links.ScriptLink.{ScriptLink}
-use Rattle.serving.specs.Wires.{Told, more_at, has_read, has_written, has_accepted}
-use Rattle.serving.specs.Scripts.{read_by, written_by, TellsOf}
+use Rattle.serving.specs.declared.wire.Io.{Io}
+use Rattle.serving.specs.declared.wire.Io.TheVariants.{Broken}
+use Rattle.serving.specs.Wires.{Told, more_at, over_at, begun_at, is_fault, is_live, has_read, has_written, has_accepted, has_closed}
+use Rattle.serving.specs.Scripts.{taken_of, read_by, written_by, is_over_by, TellsOf}
 use Rattle.serving.proofs.Keeping.{more_same, more_other, more_none}
+
+or_true : (b : Bool) → (b || true) ≡ true
+or_true true = refl
+or_true false = refl
+
+or_false : (b : Bool) → (b || false) ≡ b
+or_false true = refl
+or_false false = refl
 
 set_same : (xs : List ScriptLink) (i : ℕ) (x y : ScriptLink) → slice_get xs i ≡ Some x → slice_get (set xs i y) i ≡ Some y
 set_same [] i x y e = cc
@@ -44,48 +57,150 @@ view_same view f xs i x y h at is k =
     (λ (ne : k ≡ i → ⊥). h k ∙ sym (ap view (set_other xs i k y ne)))
     (cases_eq k i)
 
-module _ (xs : List ScriptLink) (t : Told) (i : ℕ) where
-  pub read_more : (x y : ScriptLink) (more : List ℕ) → TellsOf xs t → slice_get xs i ≡ Some x → read_by (Some y) ≡ read_by (Some x) ++ more → written_by (Some y) ≡ written_by (Some x)
-      → TellsOf (set xs i y) (has_read t i more)
-  read_more x y more h at r w = record {
+-- ---- links that are over
+
+over_if : (now same before after : Bool) → (same ≡ true → after ≡ (before || now)) → (same ≡ false → after ≡ before) → (if now && same then true else before) ≡ after
+over_if true true before after h n = sym (h refl ∙ or_true before)
+over_if true false before after h n = sym (n refl)
+over_if false true before after h n = sym (h refl ∙ or_false before)
+over_if false false before after h n = sym (n refl)
+
+-- a link may be over from now on
+over_then : (over : ℕ → Bool) (xs : List ScriptLink) (i : ℕ) (x y : ScriptLink) (now : Bool) → ((k : ℕ) → k < length xs → over k ≡ is_over_by (slice_get xs k)) → slice_get xs i ≡ Some x
+    → y.is_over ≡ (x.is_over || now) → (k : ℕ) → k < length xs → over_at i now over k ≡ is_over_by (slice_get (set xs i y) k)
+over_then over xs i x y now h at is k w =
+    ⊎_elim
+    (λ (e : k ≡ i).
+    (let b : slice_get (set xs i y) k ≡ Some y = ap (slice_get (set xs i y)) e ∙ set_same xs i x y at in
+    let o : over k ≡ x.is_over = h k w ∙ ap is_over_by (ap (slice_get xs) e ∙ at) in
+    over_if now (k == i) (over k) (is_over_by (slice_get (set xs i y) k)) (λ q. ap is_over_by b ∙ (is ∙ ap (λ z. z || now) (sym o))) (λ q. absurd (true≢false (sym (eq-eqb k i e) ∙ q)))))
+    (λ (ne : k ≡ i → ⊥).
+    over_if now (k == i) (over k) (is_over_by (slice_get (set xs i y) k)) (λ q. absurd (true≢false (sym q ∙ ne_eqb k i ne))) (λ q. ap is_over_by (set_other xs i k y ne) ∙ sym (h k w)))
+    (cases_eq k i)
+
+-- of a link that was never accepted nothing is said
+over_none : (over : ℕ → Bool) (i k n : ℕ) (now : Bool) → n ≤ i → k < n → over_at i now over k ≡ over k
+over_none over i k n now h w =
+    over_if now (k == i) (over k) (over k) (λ q. absurd (true≢false (sym q ∙ ne_eqb k i (λ (e : k ≡ i). (let z : ⊥ = omega (arith, h, w, e) in z))))) (λ q. refl)
+
+astray_if : (s strayed within over o : Bool) → s ≡ strayed → within ≡ true → over ≡ o → (s || not (within && not over)) ≡ (strayed || o)
+astray_if s strayed within over true e w q = rw (e, w, q) refl
+astray_if s strayed within over false e w q = rw (e, w, q) refl
+
+astray_none : (s within over : Bool) → within ≡ false → (s || not (within && not over)) ≡ true
+astray_none s within over w = rw w (or_true s)
+
+module _ (xs : List ScriptLink) (strayed : Bool) (t : Told) (i : ℕ) where
+  length_there : (x y : ScriptLink) (k : ℕ) → k < length (set xs i y) → k < length xs
+  length_there x y k w = subst (λ n. k < n) (length-set xs i y) w
+
+  astray_at : (x : ScriptLink) → TellsOf xs strayed t → slice_get xs i ≡ Some x → i < length xs → (t.strayed || not (is_live t i)) ≡ (strayed || x.is_over)
+  astray_at x h at w =
+      astray_if t.strayed strayed (nat_lt i t.accepted) (t.over i) x.is_over h.astray (lt-ltb i t.accepted (subst (λ n. i < n) (sym h.accepted) w)) (h.over i w ∙ ap is_over_by at)
+
+  -- a link was read from
+  pub read_more : (x y : ScriptLink) (io : Io) (more : List ℕ) → TellsOf xs strayed t → slice_get xs i ≡ Some x → i < length xs → taken_of y ≡ taken_of x ++ more → y.written ≡ x.written
+      → y.is_over ≡ (x.is_over || is_fault io) → TellsOf (set xs i y) (strayed || x.is_over) (has_read t i io more)
+  read_more x y io more h at w r s o = record {
     accepted = h.accepted ∙ sym (length-set xs i y);
     read = view_more read_by t.read xs i x y more h.read at r;
-    written = view_same written_by t.written xs i x y h.written at w;
+    written = view_same written_by t.written xs i x y h.written at (ap vec_items s);
+    over = λ k l. over_then t.over xs i x y (is_fault io) h.over at o k (length_there x y k l);
+    astray = astray_at x h at w;
   }
 
-  pub write_more : (x y : ScriptLink) (more : List ℕ) → TellsOf xs t → slice_get xs i ≡ Some x → read_by (Some y) ≡ read_by (Some x) → written_by (Some y) ≡ written_by (Some x) ++ more
-      → TellsOf (set xs i y) (has_written t i more)
-  write_more x y more h at r w = record {
+  -- it was written on
+  pub write_more : (x y : ScriptLink) (io : Io) (more : List ℕ) → TellsOf xs strayed t → slice_get xs i ≡ Some x → i < length xs → taken_of y ≡ taken_of x → y.written.items ≡ x.written.items ++ more
+      → y.is_over ≡ (x.is_over || is_fault io) → TellsOf (set xs i y) (strayed || x.is_over) (has_written t i io more)
+  write_more x y io more h at w r s o = record {
     accepted = h.accepted ∙ sym (length-set xs i y);
     read = view_same read_by t.read xs i x y h.read at r;
-    written = view_more written_by t.written xs i x y more h.written at w;
+    written = view_more written_by t.written xs i x y more h.written at s;
+    over = λ k l. over_then t.over xs i x y (is_fault io) h.over at o k (length_there x y k l);
+    astray = astray_at x h at w;
   }
 
-  pub seen_alike : (x y : ScriptLink) → TellsOf xs t → slice_get xs i ≡ Some x → read_by (Some y) ≡ read_by (Some x) → written_by (Some y) ≡ written_by (Some x) → TellsOf (set xs i y) t
-  seen_alike x y h at r w = record {
+  -- it was closed
+  pub close_one : (x y : ScriptLink) → TellsOf xs strayed t → slice_get xs i ≡ Some x → taken_of y ≡ taken_of x → y.written ≡ x.written → y.is_over ≡ true → TellsOf (set xs i y) strayed (has_closed t i)
+  close_one x y h at r s o = record {
     accepted = h.accepted ∙ sym (length-set xs i y);
     read = view_same read_by t.read xs i x y h.read at r;
-    written = view_same written_by t.written xs i x y h.written at w;
+    written = view_same written_by t.written xs i x y h.written at (ap vec_items s);
+    over = λ k l. over_then t.over xs i x y true h.over at (o ∙ sym (or_true x.is_over)) k (length_there x y k l);
+    astray = h.astray;
   }
 
-  pub read_none : TellsOf xs t → TellsOf xs (has_read t i [])
-  read_none h = record { accepted = h.accepted; read = λ k. more_none i k t.read ∙ h.read k; written = h.written }
+  beyond : TellsOf xs strayed t → length xs ≤ i → nat_lt i t.accepted ≡ false
+  beyond h l = le-ltb i t.accepted (subst (λ n. n ≤ i) (sym h.accepted) l)
 
-  pub write_none : TellsOf xs t → TellsOf xs (has_written t i [])
-  write_none h = record { accepted = h.accepted; read = h.read; written = λ k. more_none i k t.written ∙ h.written k }
+  -- it was never accepted
+  pub read_astray : TellsOf xs strayed t → length xs ≤ i → TellsOf xs true (has_read t i Broken [])
+  read_astray h l = record {
+    accepted = h.accepted;
+    read = λ k. more_none i k t.read ∙ h.read k;
+    written = h.written;
+    over = λ k w. over_none t.over i k (length xs) true l w ∙ h.over k w;
+    astray = astray_none t.strayed (nat_lt i t.accepted) (t.over i) (beyond h l);
+  }
 
--- a link more
-view_push : (view : Option ScriptLink → List ℕ) (x : ScriptLink) → view None ≡ [] → view (Some x) ≡ [] → (xs : List ScriptLink) (k : ℕ) → view (slice_get (xs ++ x ∷ []) k) ≡ view (slice_get xs k)
-view_push view x n s [] zero = s ∙ sym n
-view_push view x n s [] (suc k) = refl
-view_push view x n s (z ∷ xs) zero = refl
-view_push view x n s (z ∷ xs) (suc k) = view_push view x n s xs k
+  pub write_astray : TellsOf xs strayed t → length xs ≤ i → TellsOf xs true (has_written t i Broken [])
+  write_astray h l = record {
+    accepted = h.accepted;
+    read = h.read;
+    written = λ k. more_none i k t.written ∙ h.written k;
+    over = λ k w. over_none t.over i k (length xs) true l w ∙ h.over k w;
+    astray = astray_none t.strayed (nat_lt i t.accepted) (t.over i) (beyond h l);
+  }
 
-pub accepts_one : (xs : List ScriptLink) (t : Told) (x : ScriptLink) → TellsOf xs t → read_by (Some x) ≡ [] → written_by (Some x) ≡ [] → TellsOf (xs ++ x ∷ []) (has_accepted t)
-accepts_one xs t x h r w = record {
+  pub close_none : TellsOf xs strayed t → length xs ≤ i → TellsOf xs strayed (has_closed t i)
+  close_none h l = record {
+    accepted = h.accepted;
+    read = h.read;
+    written = h.written;
+    over = λ k w. over_none t.over i k (length xs) true l w ∙ h.over k w;
+    astray = h.astray;
+  }
+
+-- ---- a link more
+
+view_push : {X : Type 0} (view : Option ScriptLink → X) (x : ScriptLink) → view (Some x) ≡ view None → (xs : List ScriptLink) (k : ℕ) → view (slice_get (xs ++ x ∷ []) k) ≡ view (slice_get xs k)
+view_push view x s [] zero = s
+view_push view x s [] (suc k) = refl
+view_push view x s (z ∷ xs) zero = refl
+view_push view x s (z ∷ xs) (suc k) = view_push view x s xs k
+
+none_behind : (xs : List ScriptLink) (k : ℕ) → length xs ≤ k → slice_get xs k ≡ None
+none_behind [] k h = refl
+none_behind (x ∷ xs) zero h = absurd (omega (arith, h))
+none_behind (x ∷ xs) (suc k) h = none_behind xs k (omega (arith, h))
+
+begun_if : (same before after : Bool) → (same ≡ true → after ≡ false) → (same ≡ false → before ≡ after) → (if same then false else before) ≡ after
+begun_if true before after h n = sym (h refl)
+begun_if false before after h n = n refl
+
+length_push : (xs : List ScriptLink) (x : ScriptLink) → length (xs ++ x ∷ []) ≡ length xs + 1
+length_push xs x = omega (arith, length-append xs (x ∷ []))
+
+within_old : (n k m l : ℕ) → m ≡ n → l ≡ n + 1 → k < l → (k ≡ m → ⊥) → k < n
+within_old n k m l e f h ne = grind (arith, nat_tests)
+
+pub accepts_one : (xs : List ScriptLink) (strayed : Bool) (t : Told) (x : ScriptLink) → TellsOf xs strayed t → read_by (Some x) ≡ [] → written_by (Some x) ≡ [] → x.is_over ≡ false
+    → TellsOf (xs ++ x ∷ []) strayed (has_accepted t)
+accepts_one xs strayed t x h r w o = record {
   accepted = (let a = h.accepted in omega (arith, a, length-append xs (x ∷ [])));
-  read = λ k. h.read k ∙ sym (view_push read_by x refl r xs k);
-  written = λ k. h.written k ∙ sym (view_push written_by x refl w xs k);
+  read = λ k. h.read k ∙ sym (view_push read_by x r xs k);
+  written = λ k. h.written k ∙ sym (view_push written_by x w xs k);
+  over = λ k l.
+      (let p = view_push is_over_by x o xs k in
+      ⊎_elim
+      (λ (e : k ≡ t.accepted).
+      (let b : length xs ≤ k = omega (arith, e, h.accepted) in
+      begun_if (k == t.accepted) (t.over k) (is_over_by (slice_get (xs ++ x ∷ []) k)) (λ q. p ∙ ap is_over_by (none_behind xs k b)) (λ q. absurd (true≢false (sym (eq-eqb k t.accepted e) ∙ q)))))
+      (λ (ne : k ≡ t.accepted → ⊥).
+      begun_if (k == t.accepted) (t.over k) (is_over_by (slice_get (xs ++ x ∷ []) k)) (λ q. absurd (true≢false (sym q ∙ ne_eqb k t.accepted ne)))
+          (λ q. h.over k (within_old (length xs) k t.accepted (length (xs ++ x ∷ [])) h.accepted (length_push xs x) l ne) ∙ sym p))
+      (cases_eq k t.accepted));
+  astray = h.astray;
 }
 
 pub link_found : (xs : List ScriptLink) (i : ℕ) (l : ScriptLink) → i < length xs → l ≡ get_or xs i l → slice_get xs i ≡ Some l

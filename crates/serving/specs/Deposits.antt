@@ -7,14 +7,11 @@ use Rattle.office.specs.Events.{Event, Mark, Tagged, Log, Trace}
 use Rattle.office.specs.Events as event
 use Rattle.office.specs.Trace.{history}
 use Rattle.office.specs.Expected.{shown_at}
+use Rattle.office.specs.Taken.{trace_of, AreAdmittedBy}
 use Rattle.office.specs.Stands.{StandsFor}
 use Rattle.office.specs.declared.office.Office.{Office}
 use Rattle.serving.specs.declared.file_name.FileName.{FileName}
 use Rattle.serving.specs.Spools.{FileAct, disposal_of, IsFiled}
-
--- the trace of these records and this log
-abbrev pub trace_of : Records → Log → Trace
-trace_of B L = record { base = B; log = L }
 
 -- the name of the file whose deposit this is
 abbrev pub named : (maildrop class id : List ℕ) → FileName
@@ -43,5 +40,6 @@ pub record IsTried {V S : Type 0} (Holds : V → Contents → Type 0) (Tells : S
   pub log : Log
   pub acts_then : List FileAct
   pub stands : StandsFor Holds office (trace_of T.base log)
+  pub admitted : AreAdmittedBy T.base T.log → AreAdmittedBy T.base log
   pub tells : Tells spool acts_then
   pub one : IsOneFile T acts log acts_then

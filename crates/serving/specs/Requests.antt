@@ -22,6 +22,7 @@ use Rattle.adminhttp.specs.declared.refusal.Refusal.{Refusal}
 use Rattle.adminhttp.specs.declared.refusal.Refusal.TheVariants.{StoreFailed, OutOfMemory}
 use Rattle.adminhttp.specs.declared.stop.Stop.TheVariants.{Bad, BadPolicy}
 use Rattle.serving.specs.Wires.{Told, ToldOfPorts}
+use Rattle.serving.specs.declared.wire.Link.{Link}
 use Rattle.serving.specs.declared.requests.Response.{Response}
 use Rattle.serving.specs.declared.requests.Response.TheVariants as kept
 use Rattle.serving.specs.declared.requests.Exchange.{Exchange}
@@ -95,6 +96,15 @@ Precedes d e = d.link.number < e.link.number
 pub record AreHeld (told : Told) (x : Exchanges) (held : List Exchange) : Type 0 where
   pub each : All (IsHeld told x) held
   pub ascend : AllPairs Precedes held
+
+-- a link is held more, from which nothing was read
+pub record HasOneMore (link : Link) (held held_then : List Exchange) : Type 0 where
+  pub last : Exchange
+  pub is : held_then ≡ held ++ last ∷ []
+  pub link_is : last.link ≡ link
+  pub read : last.read.items ≡ []
+  pub response : last.response ≡ None
+  pub written : last.written ≡ 0
 
 -- those of other links than one
 abbrev pub AreOthersHeld : Told → Exchanges → (number : ℕ) → List Exchange → Type 0

@@ -1,22 +1,24 @@
 -- That links are served: what is read and written on each is what its own connection gives and takes.
-use Rattle.std.specs.Prelude.{◌≡◌, ◌≤◌, ◌<◌, ⊤, ℕ, ◌==◌, List, [], ◌∷◌, ◌++◌, take, length, Option, Some, None, if◌then◌else◌}
-use Rattle.std.specs.List.{All}
+use Rattle.std.specs.Prelude.{◌≡◌, ◌≤◌, ◌<◌, ⊤, ℕ, Bool, true, false, ◌||◌, ◌+◌, ◌==◌, List, [], ◌∷◌, ◌++◌, Option, Some, None, if◌then◌else◌, ◌⊎◌, length}
+use Rattle.std.specs.List.{All, AllPairs, Contains}
 use Rattle.vault.specs.Records.{Records}
 use Rattle.vault.specs.Changes.{Contents}
 use Rattle.office.specs.History.{Done}
 use Rattle.office.specs.Events.{Event, Mark, Tagged, Log, Trace}
 use Rattle.office.specs.Events as event
-use Rattle.office.specs.Log.{next_number, opened, taken}
-use Rattle.office.specs.Trace.{rest, history}
-use Rattle.office.specs.Connections.{sent}
+use Rattle.office.specs.Log.{next_number, opened}
+use Rattle.office.specs.Trace.{is_open}
+use Rattle.office.specs.Taken.{trace_of, all_taken_by, AreAdmittedBy, IsSentExactly}
 use Rattle.office.specs.Stands.{StandsFor, vault_of}
 use Rattle.office.specs.declared.office.Office.{Office}
-use Rattle.serving.specs.Wires.{Told}
+use Rattle.serving.specs.Wires.{Told, ToldOfPorts}
+use Rattle.serving.specs.Requests.{Exchanges, AreExchanged, AreHeld}
+use Rattle.serving.specs.declared.requests.Exchange.{Exchange}
 use Rattle.serving.specs.Spools.{FileAct}
-use Rattle.serving.specs.Deposits.{trace_of, AreFiled}
+use Rattle.serving.specs.Deposits.{AreFiled}
 use Rattle.serving.specs.declared.links.Seat.{Seat}
 
--- ---- what a connection gave and took since its opening
+-- ---- what a connection gave since its opening
 
 -- after an event; `next` is the number that an opening gets
 abbrev pub given_after : Event → Mark → (next c : ℕ) → List ℕ → List ℕ
@@ -29,17 +31,6 @@ abbrev pub given_by : Log → ℕ → List ℕ
 given_by [] c = []
 given_by ((e, m) ∷ L) c = given_after e m (next_number L) c (given_by L c)
 
--- after an event; `owed` is what the connection was owed before it
-abbrev pub took_after : Event → Mark → (next c : ℕ) → (owed before : List ℕ) → List ℕ
-took_after event.Connect (Tagged Done) next c owed before = if next == c then [] else before
-took_after (event.Took n octets) (Tagged t) next c owed before = if n == c then before ++ take octets owed else before
-took_after _ m next c owed before = before
-
--- the octets that it took, joined
-abbrev pub took_by : Records → Log → ℕ → List ℕ
-took_by B [] c = []
-took_by B ((e, m) ∷ L) c = took_after e m (next_number L) c (rest (trace_of B L) c) (took_by B L c)
-
 -- ---- links and their connections: `owner` has the connection of each link's number, None where it got none
 
 abbrev pub Owners : Type 0
@@ -48,24 +39,18 @@ Owners = ℕ → Option ℕ
 -- of one link
 abbrev pub IsServed : Records → Log → Option ℕ → (read written : List ℕ) → Type 0
 IsServed B L None read written = (read ≡ []) × (written ≡ [])
-IsServed B L (Some c) read written = (read ≡ given_by L c) × (written ≡ took_by B L c)
+IsServed B L (Some c) read written = (read ≡ given_by L c) × (written ≡ all_taken_by B L c)
 
 -- each link that was ever accepted has a connection of its own or none; all that was read from it was given by this connection, and all
--- that was written on it was taken by this connection
+-- that was written on it was taken by this connection, which isn't open once the link is over; and nothing was read or written on a link that
+-- was over by then
 pub record AreServed (told : Told) (owner : Owners) (B : Records) (L : Log) : Type 0 where
   pub each : (k : ℕ) → IsServed B L (owner k) (told.read k) (told.written k)
   pub own : (j k c : ℕ) → owner j ≡ Some c → owner k ≡ Some c → j ≡ k
   pub accepted : (k c : ℕ) → owner k ≡ Some c → k < told.accepted
   pub opened : (k c : ℕ) → owner k ≡ Some c → c ≤ opened L
-
--- what a connection took is a beginning of what it was sent
-pub record IsBeginning (B : Records) (L : Log) (c : ℕ) : Type 0 where
-  pub is : took_by B L c ≡ take (taken L c) (sent (history (trace_of B L)) c)
-  pub fits : taken L c ≤ length (sent (history (trace_of B L)) c)
-
--- of each link's connection
-abbrev pub AreBeginnings : Owners → Records → Log → Type 0
-AreBeginnings owner B L = (k c : ℕ) → owner k ≡ Some c → IsBeginning B L c
+  pub over : (k c : ℕ) → told.over k ≡ true → owner k ≡ Some c → is_open (trace_of B L) c ≡ false
+  pub straight : told.strayed ≡ false
 
 -- ---- which events serving gives rise to
 
@@ -83,45 +68,102 @@ IsOwnEvent owner (event.Took c octets) = IsOwned owner c
 IsOwnEvent owner (event.Gone c) = IsOwned owner c
 IsOwnEvent owner _ = ⊥
 
+-- an administrator's command
+abbrev pub IsCommand : Event → Type 0
+IsCommand (event.Admin command) = ⊤
+IsCommand _ = ⊥
+
 -- each event
 abbrev pub AreOwnEvents : Owners → Log → Type 0
 AreOwnEvents owner [] = ⊤
-AreOwnEvents owner ((e, m) ∷ L) = IsOwnEvent owner e × AreOwnEvents owner L
+AreOwnEvents owner ((e, m) ∷ L) = (IsOwnEvent owner e ⊎ IsCommand e) × AreOwnEvents owner L
 
--- a log is an older one and own events, whose deposits are of the files that were read, and whose answers say what happened to these
-pub record Adds (owner : Owners) (B : Records) (older L : Log) (acts : List FileAct) : Type 0 where
+-- how many openings were asked for
+abbrev pub connects : Log → ℕ
+connects [] = 0
+connects ((event.Connect, m) ∷ L) = connects L + 1
+connects ((e, m) ∷ L) = connects L
+
+-- a log is an older one and own events, whose deposits are of the files that were read, and whose answers say what happened to these; of so many
+-- openings
+pub record AddsEvents (owner : Owners) (B : Records) (older L : Log) (acts : List FileAct) (calls : ℕ) : Type 0 where
   pub more : Log
   pub is : L ≡ more ++ older
   pub each : AreOwnEvents owner more
   pub filed : AreFiled B older more acts
+  pub counted : connects more ≡ calls
 
--- ---- the invariant of serving
+-- What is told beside the clients' links: what happened to the spool's files; and of the administration's links, with their exchanges.
+pub record Beside : Type 0 where
+  pub acts : List FileAct
+  pub admin : Told
+  pub x : Exchanges
+
+-- a log is an older one and such events, and each command of these is a request's, which is answered so
+pub record Adds (owner : Owners) (B : Records) (older L : Log) (beside : Beside) (calls : ℕ) : Type 0 where
+  pub events : AddsEvents owner B older L beside.acts calls
+  pub requests : AreExchanged beside.admin beside.x B (length older) L
+
+-- ---- seats
 
 -- a seat has a link and the connection that is its own
 abbrev pub HasOwn : Owners → Seat → Type 0
 HasOwn owner s = owner s.link.number ≡ Some s.connection
 
--- An office serves a wire's links and a spool's files, since the trace T. What is said of them all is said of some log, what the wire tells,
--- and owners.
-pub record IsServing {V W : Type 0} (Holds : V → Contents → Type 0) (Tells : W → Told → Type 0) (T : Trace) (acts : List FileAct) (office : Office V) (wire : W) (seats : List Seat) : Type 0 where
+-- one seat's connection was opened before another's
+abbrev pub Precedes : Seat → Seat → Type 0
+Precedes s t = s.connection < t.connection
+
+-- its connection is open
+abbrev pub HasOpen : Trace → Seat → Type 0
+HasOpen T s = is_open T s.connection ≡ true
+
+-- a connection has a seat
+abbrev pub is_seated : List Seat → ℕ → Bool
+is_seated [] c = false
+is_seated (s ∷ seats) c = s.connection == c || is_seated seats c
+
+-- each seat has its own connection, and they ascend; each open connection has a seat; and these seats' connections are open
+pub record AreSeated (owner : Owners) (T : Trace) (seats these : List Seat) : Type 0 where
+  pub own : All (HasOwn owner) seats
+  pub ascend : AllPairs Precedes seats
+  pub all : (c : ℕ) → is_open T c ≡ true → is_seated seats c ≡ true
+  pub here : All (HasOpen T) these
+
+-- ---- the invariant of serving
+
+-- An office serves a wire's links and a spool's files, since the trace T, and the connections of these seats are open. What is said of them all is
+-- said of some log, what the wire tells, and owners.
+pub record IsServing {V W : Type 0} (Holds : V → Contents → Type 0) (Tells : W → ToldOfPorts → Type 0) (T : Trace) (beside : Beside) (office : Office V) (wire : W) (seats these : List Seat) : Type 0 where
   pub log : Log
   pub told : Told
   pub owner : Owners
   pub stands : StandsFor Holds office (trace_of T.base log)
-  pub tells : Tells wire told
+  pub admitted : AreAdmittedBy T.base log
+  pub tells : Tells wire (record { pop = told; admin = beside.admin })
   pub served : AreServed told owner T.base log
-  pub beginnings : AreBeginnings owner T.base log
-  pub seated : All (HasOwn owner) seats
-  pub adds : Adds owner T.base T.log log acts
+  pub seated : AreSeated owner (trace_of T.base log) seats these
+  -- as many openings were asked for as links came
+  pub adds : Adds owner T.base T.log log beside told.accepted
 
 -- it still does, where the store is clean
-abbrev pub StillServes : {V W : Type 0} (Holds : V → Contents → Type 0) (IsClean : V → Type 0) (Tells : W → Told → Type 0)
-    (office : Office V) (wire : W) (seats : List Seat) (office_then : Office V) (wire_then : W) (seats_then : List Seat) → Type 0
-StillServes Holds IsClean Tells office wire seats office_then wire_then seats_then =
-    (T : Trace) (acts : List FileAct) → IsServing Holds Tells T acts office wire seats → IsClean (vault_of office_then) → IsServing Holds Tells T acts office_then wire_then seats_then
+abbrev pub StillServes : {V W : Type 0} (Holds : V → Contents → Type 0) (IsClean : V → Type 0) (Tells : W → ToldOfPorts → Type 0)
+    (office : Office V) (wire : W) (seats these : List Seat) (office_then : Office V) (wire_then : W) (seats_then these_then : List Seat) → Type 0
+StillServes Holds IsClean Tells office wire seats these office_then wire_then seats_then these_then =
+    (T : Trace) (beside : Beside) → IsServing Holds Tells T beside office wire seats these → IsClean (vault_of office_then)
+    → IsServing Holds Tells T beside office_then wire_then seats_then these_then
 
--- and so of what a spool tells
-pub record Serves {V W S : Type 0} (Holds : V → Contents → Type 0) (Tells : W → Told → Type 0) (TellsFiles : S → List FileAct → Type 0) (T : Trace) (office : Office V) (wire : W) (spool : S) (seats : List Seat) : Type 0 where
-  pub acts : List FileAct
-  pub tells : TellsFiles spool acts
-  pub is : IsServing Holds Tells T acts office wire seats
+-- so it does while one seat's link is served: its connection may end, and those before it stay open
+abbrev pub StillServesOne : {V W : Type 0} (Holds : V → Contents → Type 0) (IsClean : V → Type 0) (Tells : W → ToldOfPorts → Type 0)
+    (seat : Seat) (office : Office V) (wire : W) (office_then : Office V) (wire_then : W) → Type 0
+StillServesOne Holds IsClean Tells seat office wire office_then wire_then =
+    (seats these : List Seat) → Contains seats seat → All (λ s. Precedes s seat) these → StillServes Holds IsClean Tells office wire seats these office_then wire_then seats these
+
+-- Between turns each seat's connection is open; what the spool tells is filed; each connection was sent exactly what the history sends it; and
+-- each link of the administration that is open is held with its exchange.
+pub record Serves {V W S : Type 0} (Holds : V → Contents → Type 0) (Tells : W → ToldOfPorts → Type 0) (TellsFiles : S → List FileAct → Type 0) (T : Trace) (office : Office V) (wire : W) (spool : S) (seats : List Seat) (held : List Exchange) : Type 0 where
+  pub beside : Beside
+  pub tells : TellsFiles spool beside.acts
+  pub is : IsServing Holds Tells T beside office wire seats seats
+  pub sent : (c : ℕ) → IsSentExactly (trace_of T.base is.log) c
+  pub requests : AreHeld beside.admin beside.x held

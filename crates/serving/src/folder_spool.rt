@@ -6,6 +6,7 @@ use std::alloc::{AllocError, Global};
 use std::fs;
 use std::io::Read;
 use std::rt::Files;
+use std::time::{Clock, Duration, SystemTime};
 
 /// The messages of a folder. Who puts a file there writes it under another name, and then renames it.
 #[derive(Drop)]
@@ -13,12 +14,36 @@ pub struct FolderSpool<'a, R: Files> {
     rt: &'a R,
     alloc: Global,
     folder: &'a str,
+    /// When the folder was changed last, where the last pass over it found nothing to try and any later change shows.
+    bare: Option<SystemTime>,
 }
 
-impl<'a, R: Files + AllocGlobal + Clone + Drop> FolderSpool<'a, R> {
+/// A system tells the moment of a folder's last change to two seconds or better. So a change shows where the one before it was
+/// longer ago.
+const COARSEST: u64 = 2;
+
+impl<'a, R: Files + Clock + AllocGlobal + Clone + Drop> FolderSpool<'a, R> {
     /// The folder at a path. It need not be there yet.
     pub fn new(rt: &'a R, alloc: Global, folder: &'a str) -> FolderSpool<'a, R> {
-        FolderSpool { rt, alloc, folder }
+        FolderSpool {
+            rt,
+            alloc,
+            folder,
+            bare: None,
+        }
+    }
+
+    /// When the folder was changed last; `None` where it can't be looked at.
+    fn changed(&self) -> Option<SystemTime> {
+        fs::metadata(self.rt, self.folder).ok()?.modified().ok()
+    }
+
+    /// Whether any change from now on shows, behind the last one.
+    fn shows_changes(&self, changed: SystemTime) -> bool {
+        match changed.elapsed(self.rt) {
+            Ok(age) => age > Duration::from_secs(COARSEST),
+            Err(_) => false,
+        }
     }
 
     /// The path of a file.
@@ -54,17 +79,26 @@ impl<'a, R: Files + AllocGlobal + Clone + Drop> FolderSpool<'a, R> {
     }
 }
 
-impl<R: Files + AllocGlobal + Clone + Drop> Spool for FolderSpool<'_, R> {
+impl<R: Files + Clock + AllocGlobal + Clone + Drop> Spool for FolderSpool<'_, R> {
     ghost tells = { λ _ _. ⊥ };
 
     ghost tells_once = { λ spool a b h k. absurd h };
 
     fn next_name(&mut self, last: &Option<FileName>) -> Option<FileName> {
+        let changed = self.changed()?;
+        if self.bare == Some(changed) {
+            return None;
+        }
+        let shows = self.shows_changes(changed);
         let mut next = NextName::new(self.alloc, last).ok()?;
         if !self.list(&mut next) {
             return None;
         }
-        next.get()
+        let name = next.get();
+        if shows && name.is_none() {
+            self.bare = Some(changed);
+        }
+        name
     }
 
     fn read(&mut self, name: &FileName) -> Option<Vec<u8>> {

@@ -9,6 +9,7 @@ mod files;
 mod folder_spool;
 mod links;
 mod next_name;
+mod octets;
 mod requests;
 mod script_links;
 mod script_spool;

@@ -32,7 +32,8 @@ pub struct Links {
 impl Links {
     /// No link is open, and no spool file was tried.
     pub fn new(alloc: Global) -> Links
-        ensures { result.clients.seats.items ≡ [] }
+        ensures seats { result.clients.seats.items ≡ [] }
+        ensures requests { result.requests.exchanges.items ≡ [] }
     {
         Links {
             clients: Clients::new(),

@@ -1,5 +1,5 @@
 //! The links of the administration: one request over HTTP each, and its response.
-ghost use Rattle.std.specs.Prelude.{◌≡◌, ◌+◌, ◌<◌, ◌++◌, ℕ, List, [], Some, Ok, length, option_map, IfNone, IfOk, ◌⊎◌, if◌then◌else◌};
+ghost use Rattle.std.specs.Prelude.{◌≡◌, ◌+◌, ◌<◌, ◌++◌, ℕ, List, [], Some, Ok, length, option_map, IfNone, IfOk, ◌⊎◌, true, false, if◌then◌else◌};
 ghost use Rattle.vault.specs.Records.{Records};
 ghost use Rattle.office.specs.Events.{Log};
 ghost use Rattle.office.specs.Taken.{trace_of};
@@ -8,8 +8,9 @@ ghost use Rattle.office.specs.Stands.{StandsFor, vault_of};
 ghost use Rattle.adminhttp.specs.Request.{IsRequest};
 ghost use Rattle.adminhttp.specs.Responses.{refusal_response};
 ghost use Rattle.adminhttp.specs.declared.refusal.Refusal.TheVariants.{OutOfMemory};
-ghost use Rattle.serving.specs.Requests.{octets_of, IsToldBy, HasAsked, StillAnswers, StillAsked, AllStillAnswer, AllStillAsked};
+ghost use Rattle.serving.specs.Requests.{octets_of, IsToldBy, HasAsked, HasOneMore, StillAnswers, StillAsked, AllStillAnswer, AllStillAsked};
 
+use crate::octets::rest_of;
 use crate::wire::{Io, Link, Port, Wire};
 use adminhttp::{Got, Refusal, Request, policy_response, response};
 use office::{AdminCommand, Event, Office, Outcome};
@@ -65,6 +66,13 @@ pub(crate) struct Exchange {
     is_over: bool,
 }
 
+impl Exchange {
+    /// Whether its link was accepted 60 seconds ago or more.
+    fn is_late(&self, now: u64) -> bool {
+        now.saturating_sub(self.since) >= MOST_SECONDS
+    }
+}
+
 /// The open links of the administration, in the order in which they were accepted.
 #[derive(Drop)]
 pub(crate) struct Requests {
@@ -89,6 +97,25 @@ impl Requests {
     /// How many links are open.
     pub(crate) fn count(&self) -> usize {
         self.exchanges.len()
+    }
+
+    /// Keeps a link that was accepted, unless eight are open or memory is short. Whether it is kept.
+    fn keep(&mut self, link: Link, now: u64) -> bool
+        ensures kept { result ≡ true → HasOneMore link self.old.exchanges.items self.new.exchanges.items }
+        ensures refused { result ≡ false → self.new.exchanges.items ≡ self.old.exchanges.items }
+    {
+        if self.exchanges.len() >= MOST_REQUESTS {
+            return false;
+        }
+        let exchange = Exchange {
+            link,
+            since: now,
+            read: Vec::new(self.alloc),
+            response: None,
+            written: 0,
+            is_over: false,
+        };
+        self.exchanges.push(exchange).is_ok()
     }
 }
 
@@ -196,7 +223,8 @@ fn tell_once<W: Wire>(wire: &mut W, exchange: &mut Exchange) -> bool
         exchange.is_over = true;
         return false;
     }
-    match wire.write(Port::Admin, exchange.link, &octets[exchange.written..]) {
+    let rest = rest_of(octets, exchange.written);
+    match wire.write(Port::Admin, exchange.link, rest) {
         Io::Count(count) => {
             exchange.written += count;
             true
@@ -235,7 +263,7 @@ fn serve_exchange<V: Vault, W: Wire>(
     ensures clean { V.is_clean (vault_of office.new) → V.is_clean (vault_of office.old) }
     ensures link { exchange.new.link ≡ exchange.old.link }
 {
-    if now.saturating_sub(exchange.since) >= MOST_SECONDS {
+    if exchange.is_late(now) {
         exchange.is_over = true;
         return false;
     }
@@ -292,21 +320,10 @@ fn accept_request<W: Wire>(wire: &mut W, requests: &mut Requests, now: u64) -> b
     let Some(link) = wire.accept(Port::Admin) else {
         return false;
     };
-    if requests.exchanges.len() >= MOST_REQUESTS {
-        wire.close(Port::Admin, link);
+    if requests.keep(link, now) {
         return true;
     }
-    let exchange = Exchange {
-        link,
-        since: now,
-        read: Vec::new(requests.alloc),
-        response: None,
-        written: 0,
-        is_over: false,
-    };
-    if requests.exchanges.push(exchange).is_err() {
-        wire.close(Port::Admin, link);
-    }
+    wire.close(Port::Admin, link);
     true
 }
 

@@ -3,6 +3,7 @@ ghost use Rattle.std.specs.Prelude.{◌≡◌, ℕ, List, ◌<◌, ◌≤◌, �
 ghost use Rattle.serving.specs.Wires.{Told, IsWithin, counted, has_accepted, has_read, has_written, has_closed, is_fault};
 ghost use Rattle.serving.specs.Scripts.{TellsOf, taken_of};
 
+use crate::octets::rest_of;
 use crate::wire::{Io, Link};
 use std::alloc::{AllocError, Global};
 
@@ -186,16 +187,6 @@ fn read_from(link: &mut ScriptLink, piece: usize, ends: bool, buffer: &mut [u8])
     buffer[..count].copy_from_slice(&rest[..count]);
     link.at += count;
     Io::Count(count)
-}
-
-/// What is behind a place.
-fn rest_of(octets: &[u8], at: usize) -> &[u8]
-    ensures { result.now ≡ drop at octets.now }
-{
-    if at > octets.len() {
-        return &[];
-    }
-    &octets[at..]
 }
 
 /// Writes octets on a link.

@@ -1,11 +1,12 @@
 //! One turn of serving.
-ghost use Rattle.std.specs.Prelude.{◌≡◌, ◌<◌, ◌+◌, ◌≤◌, ℕ, List, [], Option, Some, length, if◌then◌else◌};
-ghost use Rattle.std.specs.List.{Contains};
+ghost use Rattle.std.specs.Prelude.{◌≡◌, ◌<◌, ◌+◌, ◌≤◌, ℕ, false, List, [], Option, Some, length, take, if◌then◌else◌};
 ghost use Rattle.office.specs.Events.{Trace};
+ghost use Rattle.office.specs.Trace.{is_open};
+ghost use Rattle.office.specs.Taken.{AreAdmitted};
 ghost use Rattle.office.specs.Stands.{StandsFor, vault_of};
 ghost use Rattle.office.specs.Shown.{outcome_seen};
-ghost use Rattle.serving.specs.Wires.{Told, IsFresh, opened_by};
-ghost use Rattle.serving.specs.Served.{StillServes, Serves};
+ghost use Rattle.serving.specs.Wires.{ToldOfPorts, AreFresh, opened_by};
+ghost use Rattle.serving.specs.Served.{StillServes, StillServesOne, Serves};
 ghost use Rattle.serving.specs.declared.links.Seat as declared;
 ghost use Rattle.arrayvec.specs.ArrayVec.{array_vec_len};
 
@@ -14,7 +15,7 @@ use crate::links::{Clients, Links, MOST_LINKS, Seat};
 use crate::requests::{accept_requests, serve_requests};
 use crate::spool::Spool;
 use crate::wire::{Io, Port, Wire};
-use office::{Event, Office, Outcome};
+use office::{Event, Office, Outcome, taken_is_sent};
 use std::alloc::Global;
 use vault::Vault;
 
@@ -27,111 +28,97 @@ const MOST_WRITES: usize = 64;
 /// How many milliseconds a turn waits at most.
 const MOST_MILLIS: u32 = 1000;
 
-/// What came of writing on a link.
-#[derive(Clone, Copy, PartialEq, Eq, Debug)]
-enum Writing {
-    /// Octets were taken, and more may be.
-    Goes,
-    /// Nothing is owed.
-    Done,
-    /// The link takes no more now.
-    Later,
-    /// The link is broken.
-    Fault,
-}
-
-/// Writes once of what a connection is owed.
-fn write_once<V: Vault, W: Wire>(office: &mut Office<V>, wire: &mut W, seat: Seat) -> Writing
-    ensures serves { (seats : List declared.Seat) → Contains seats seat → StillServes V.holds V.is_clean W.tells office.old wire.old seats office.new wire.new seats }
+/// Writes once of what a connection is owed, and ends the connection where the link is broken or at its end. Whether octets were
+/// taken, so that more may be.
+fn write_once<V: Vault, W: Wire>(office: &mut Office<V>, wire: &mut W, seat: Seat) -> bool
+    ensures serves { StillServesOne V.holds V.is_clean W.tells seat office.old wire.old office.new wire.new }
     ensures clean { V.is_clean (vault_of office.new) → V.is_clean (vault_of office.old) }
 {
     let lent = office.owed(seat.connection);
     if lent.is_empty() {
-        return Writing::Done;
+        return false;
     }
     match wire.write(Port::Pop, seat.link, lent) {
         Io::Count(count) => {
             let _ = office.step(Event::Took(seat.connection, count));
-            Writing::Goes
+            true
         }
-        Io::Later => Writing::Later,
-        Io::End | Io::Broken => Writing::Fault,
+        Io::Later => false,
+        Io::End | Io::Broken => {
+            let _ = office.step(Event::Gone(seat.connection));
+            false
+        }
     }
 }
 
-/// Writes what a connection is owed, as long as the link takes it.
-fn write_owed<V: Vault, W: Wire>(office: &mut Office<V>, wire: &mut W, seat: Seat) -> Writing
-    ensures serves { (seats : List declared.Seat) → Contains seats seat → StillServes V.holds V.is_clean W.tells office.old wire.old seats office.new wire.new seats }
+/// Writes what a connection is owed, as long as the link takes it. Whether it may take more at once.
+fn write_owed<V: Vault, W: Wire>(office: &mut Office<V>, wire: &mut W, seat: Seat) -> bool
+    ensures serves { StillServesOne V.holds V.is_clean W.tells seat office.old wire.old office.new wire.new }
     ensures clean { V.is_clean (vault_of office.new) → V.is_clean (vault_of office.old) }
 {
     for _ in 0..MOST_WRITES {
-        let written = write_once(office, wire, seat);
-        if written != Writing::Goes {
-            return written;
+        if !write_once(office, wire, seat) {
+            return false;
         }
     }
-    Writing::Goes
+    true
 }
 
-/// Reads a piece from a link whose connection waits for octets. Whether the link isn't broken or at its end.
-fn read_once<V: Vault, W: Wire>(office: &mut Office<V>, wire: &mut W, seat: Seat) -> bool
-    ensures serves { (seats : List declared.Seat) → Contains seats seat → StillServes V.holds V.is_clean W.tells office.old wire.old seats office.new wire.new seats }
+/// Reads a piece from a link whose connection waits for octets, and ends the connection where the link is broken or at its end.
+fn read_once<V: Vault, W: Wire>(office: &mut Office<V>, wire: &mut W, seat: Seat)
+    ensures serves { StillServesOne V.holds V.is_clean W.tells seat office.old wire.old office.new wire.new }
     ensures clean { V.is_clean (vault_of office.new) → V.is_clean (vault_of office.old) }
 {
-    if !office.ready(seat.connection) {
-        return true;
+    let connection = seat.connection;
+    if !office.ready(connection) {
+        return;
     }
     let mut room = [0; MOST_AT_ONCE];
     match wire.read(Port::Pop, seat.link, &mut room) {
         Io::Count(count) => {
-            let _ = office.step(Event::Bytes(seat.connection, &room[..count]));
-            true
+            let _ = office.step(Event::Bytes(connection, &room[..count]));
         }
-        Io::Later => true,
-        Io::End | Io::Broken => false,
+        Io::Later => {}
+        Io::End | Io::Broken => {
+            let _ = office.step(Event::Gone(connection));
+        }
     }
 }
 
-/// Ends a connection whose link is broken or at its end.
-fn end<V: Vault, W: Wire>(office: &mut Office<V>, _wire: &W, seat: Seat)
-    ensures serves { (seats : List declared.Seat) → Contains seats seat → StillServes V.holds V.is_clean W.tells office.old _wire.now seats office.new _wire.now seats }
-    ensures clean { V.is_clean (vault_of office.new) → V.is_clean (vault_of office.old) }
-{
-    let _ = office.step(Event::Gone(seat.connection));
-}
-
-/// Writes on a link and reads from it, and ends its connection where the link is broken or at its end. Whether more can be
-/// written at once.
+/// Writes on a link and reads from it. Whether more can be written at once.
 fn serve_link<V: Vault, W: Wire>(office: &mut Office<V>, wire: &mut W, seat: Seat) -> bool
-    ensures serves { (seats : List declared.Seat) → Contains seats seat → StillServes V.holds V.is_clean W.tells office.old wire.old seats office.new wire.new seats }
+    ensures serves { StillServesOne V.holds V.is_clean W.tells seat office.old wire.old office.new wire.new }
     ensures clean { V.is_clean (vault_of office.new) → V.is_clean (vault_of office.old) }
 {
-    let written = write_owed(office, wire, seat);
-    if written == Writing::Fault {
-        end(office, wire, seat);
-        return false;
-    }
-    if !read_once(office, wire, seat) {
-        end(office, wire, seat);
-        return false;
-    }
-    written == Writing::Goes
+    let goes = write_owed(office, wire, seat);
+    read_once(office, wire, seat);
+    goes
 }
 
-/// Serves the link of one seat, and closes it where its connection ended. Whether the seat stays.
-fn serve_seat<V: Vault, W: Wire>(
-    office: &mut Office<V>,
+/// Serves each link, by ascending number of the connections.
+fn serve_links<V: Vault, W: Wire>(office: &mut Office<V>, wire: &mut W, links: &mut Clients)
+    ensures serves { StillServes V.holds V.is_clean W.tells office.old wire.old links.old.seats.items [] office.new wire.new links.new.seats.items [] }
+    ensures clean { V.is_clean (vault_of office.new) → V.is_clean (vault_of office.old) }
+{
+    for place in 0..links.seats.len() {
+        let seat = links.seats[place];
+        links.presses |= serve_link(office, wire, seat);
+    }
+}
+
+/// Closes the link of one seat, where its connection ended. Whether the seat stays: it and those before it have open connections
+/// then.
+fn close_seat<V: Vault, W: Wire>(
+    office: &Office<V>,
     wire: &mut W,
     links: &mut Clients,
     place: usize,
 ) -> bool
     requires { place < array_vec_len links.old.seats }
-    ensures serves { StillServes V.holds V.is_clean W.tells office.old wire.old links.old.seats.items office.new wire.new links.new.seats.items }
-    ensures clean { V.is_clean (vault_of office.new) → V.is_clean (vault_of office.old) }
+    ensures serves { StillServes V.holds V.is_clean W.tells office.now wire.old links.old.seats.items (take place links.old.seats.items) office.now wire.new links.new.seats.items (take (if result then place + 1 else place) links.new.seats.items) }
     ensures left { array_vec_len links.new.seats + (if result then 0 else 1) ≡ array_vec_len links.old.seats }
 {
     let seat = links.seats[place];
-    links.presses |= serve_link(office, wire, seat);
     if !office.ended(seat.connection) {
         return true;
     }
@@ -140,14 +127,13 @@ fn serve_seat<V: Vault, W: Wire>(
     false
 }
 
-/// Serves each link, by ascending number of the connections.
-fn serve_links<V: Vault, W: Wire>(office: &mut Office<V>, wire: &mut W, links: &mut Clients)
-    ensures serves { StillServes V.holds V.is_clean W.tells office.old wire.old links.old.seats.items office.new wire.new links.new.seats.items }
-    ensures clean { V.is_clean (vault_of office.new) → V.is_clean (vault_of office.old) }
+/// Closes each link whose connection ended.
+fn close_links<V: Vault, W: Wire>(office: &Office<V>, wire: &mut W, links: &mut Clients)
+    ensures serves { StillServes V.holds V.is_clean W.tells office.now wire.old links.old.seats.items [] office.now wire.new links.new.seats.items links.new.seats.items }
 {
     let mut place = 0;
     while place < links.seats.len() {
-        if serve_seat(office, wire, links, place) {
+        if close_seat(office, wire, links, place) {
             place += 1;
         }
     }
@@ -155,7 +141,7 @@ fn serve_links<V: Vault, W: Wire>(office: &mut Office<V>, wire: &mut W, links: &
 
 /// Waits, and tells the office the moment.
 fn pass_time<V: Vault, W: Wire>(office: &mut Office<V>, wire: &mut W, millis: u32, now: u64)
-    ensures serves { (seats : List declared.Seat) → StillServes V.holds V.is_clean W.tells office.old wire.old seats office.new wire.new seats }
+    ensures serves { (seats these : List declared.Seat) → StillServes V.holds V.is_clean W.tells office.old wire.old seats these office.new wire.new seats [] }
     ensures clean { V.is_clean (vault_of office.new) → V.is_clean (vault_of office.old) }
 {
     wire.wait(millis);
@@ -172,18 +158,18 @@ fn opened(outcome: Outcome) -> Option<u64>
     }
 }
 
-/// Accepts a link, and seats it with a connection of its own; or closes it. Whether one came.
+/// Accepts a link, and seats it with a connection of its own; or closes it, where the office opens none. Whether one came. While
+/// all places are taken none is accepted.
 fn accept_link<V: Vault, W: Wire>(office: &mut Office<V>, wire: &mut W, links: &mut Clients) -> bool
-    ensures serves { StillServes V.holds V.is_clean W.tells office.old wire.old links.old.seats.items office.new wire.new links.new.seats.items }
+    ensures serves { StillServes V.holds V.is_clean W.tells office.old wire.old links.old.seats.items [] office.new wire.new links.new.seats.items [] }
     ensures clean { V.is_clean (vault_of office.new) → V.is_clean (vault_of office.old) }
 {
+    if links.seats.is_full() {
+        return false;
+    }
     let Some(link) = wire.accept(Port::Pop) else {
         return false;
     };
-    if links.seats.is_full() {
-        wire.close(Port::Pop, link);
-        return true;
-    }
     let number = opened(office.step(Event::Connect));
     match number {
         Some(connection) => links.seats.push(Seat { link, connection }),
@@ -194,7 +180,7 @@ fn accept_link<V: Vault, W: Wire>(office: &mut Office<V>, wire: &mut W, links: &
 
 /// Accepts the links that came.
 fn accept_links<V: Vault, W: Wire>(office: &mut Office<V>, wire: &mut W, links: &mut Clients)
-    ensures serves { StillServes V.holds V.is_clean W.tells office.old wire.old links.old.seats.items office.new wire.new links.new.seats.items }
+    ensures serves { StillServes V.holds V.is_clean W.tells office.old wire.old links.old.seats.items [] office.new wire.new links.new.seats.items [] }
     ensures clean { V.is_clean (vault_of office.new) → V.is_clean (vault_of office.old) }
 {
     for _ in 0..MOST_LINKS {
@@ -205,8 +191,8 @@ fn accept_links<V: Vault, W: Wire>(office: &mut Office<V>, wire: &mut W, links: 
 }
 
 /// One turn: waits for at most a second, and not at all where more can be done at once; tells the office the moment, in seconds;
-/// accepts the links that came, at most 64 at each port; serves each client's link, and then each link of the administration; and
-/// tries one file of the spool.
+/// accepts the links that came, at most 64 at each port; serves each client's link, and then each link of the administration; closes
+/// the links whose connections ended; and tries one file of the spool.
 pub fn serve_turn<V: Vault, W: Wire, S: Spool>(
     links: &mut Links,
     wire: &mut W,
@@ -214,7 +200,7 @@ pub fn serve_turn<V: Vault, W: Wire, S: Spool>(
     spool: &mut S,
     now: u64,
 )
-    ensures serves { (T : Trace) → Serves V.holds W.tells S.tells T office.old wire.old spool.old links.old.clients.seats.items → V.is_clean (vault_of office.new) → Serves V.holds W.tells S.tells T office.new wire.new spool.new links.new.clients.seats.items }
+    ensures serves { (T : Trace) → Serves V.holds W.tells S.tells T office.old wire.old spool.old links.old.clients.seats.items links.old.requests.exchanges.items → V.is_clean (vault_of office.new) → Serves V.holds W.tells S.tells T office.new wire.new spool.new links.new.clients.seats.items links.new.requests.exchanges.items }
     ensures clean { V.is_clean (vault_of office.new) → V.is_clean (vault_of office.old) }
 {
     let millis = if links.presses() { 0 } else { MOST_MILLIS };
@@ -224,17 +210,20 @@ pub fn serve_turn<V: Vault, W: Wire, S: Spool>(
     accept_requests(wire, &mut links.requests, MOST_LINKS, now);
     serve_links(office, wire, &mut links.clients);
     serve_requests(office, wire, &mut links.requests, now);
+    close_links(office, wire, &mut links.clients);
     serve_spool(office, spool, &mut links.clients);
+    taken_is_sent();
 }
 
-/// No link is open: an office begins to serve a wire and a spool.
+/// No link is open: an office with no open connection begins to serve a wire and a spool.
 pub fn begin<V: Vault, W: Wire, S: Spool>(
     alloc: Global,
     _office: &Office<V>,
     _wire: &W,
     _spool: &S,
 ) -> Links
-    ensures { (T : Trace) (t : Told) → StandsFor V.holds _office.now T → W.tells _wire.now t → IsFresh t → S.tells _spool.now [] → Serves V.holds W.tells S.tells T _office.now _wire.now _spool.now result.clients.seats.items }
+    ensures { (T : Trace) (t : ToldOfPorts) → StandsFor V.holds _office.now T → AreAdmitted T → ((c : ℕ) → is_open T c ≡ false) → W.tells _wire.now t → AreFresh t → S.tells _spool.now [] → Serves V.holds W.tells S.tells T _office.now _wire.now _spool.now result.clients.seats.items result.requests.exchanges.items }
 {
+    taken_is_sent();
     Links::new(alloc)
 }

@@ -16,7 +16,7 @@ returns-in-Remove-clause-tried g c = λ T acts s h clean.
     let text = c.in-Some.text.items in
     let read = acts ++ WasRead n text ∷ [] in
     tried_one g.V.Vault.holds g.S.Spool.tells T acts c.step.new.self c.remove.new.self (lent_by c.args.office.now) n c.as_slice.result.now text (outcome_seen c.step.result) disposal.Remove _
-    c.as_slice.ensures.value (sym c.in-Remove.is ∙ c.disposal_by-fate.ensures) (c.step.ensures.outcome T s clean) (c.step.ensures.stands T s clean)
+    c.as_slice.ensures.value (sym c.in-Remove.is ∙ c.disposal_by-fate.ensures) (c.step.ensures.outcome T s clean) (c.step.ensures.stands T s clean) (c.step.ensures.admitted T s clean)
     (c.remove.ensures read (c.in-Some.ensures acts h)) (filed_if n text disposal.Remove acts (WasRemoved n) c.remove.result refl))
 
 pub returns-in-Rename-clause-tried : goal.returns-in-Rename-clause-tried
@@ -25,7 +25,7 @@ returns-in-Rename-clause-tried g c = λ T acts s h clean.
     let text = c.in-Some.text.items in
     let read = acts ++ WasRead n text ∷ [] in
     tried_one g.V.Vault.holds g.S.Spool.tells T acts c.step.new.self c.rename.new.self (lent_by c.args.office.now) n c.as_slice.result.now text (outcome_seen c.step.result) disposal.Rename _
-    c.as_slice.ensures.value (sym c.in-Rename.is ∙ c.disposal_by-fate.ensures) (c.step.ensures.outcome T s clean) (c.step.ensures.stands T s clean)
+    c.as_slice.ensures.value (sym c.in-Rename.is ∙ c.disposal_by-fate.ensures) (c.step.ensures.outcome T s clean) (c.step.ensures.stands T s clean) (c.step.ensures.admitted T s clean)
     (c.rename.ensures read (c.in-Some.ensures acts h)) (filed_if n text disposal.Rename acts (WasRenamed n) c.rename.result refl))
 
 pub returns-clause-tried : goal.returns-clause-tried
@@ -33,5 +33,5 @@ returns-clause-tried g c = λ T acts s h clean.
     (let n = c.args.name.now in
     let text = c.in-Some.text.items in
     tried_one g.V.Vault.holds g.S.Spool.tells T acts c.step.new.self c.read.new.self (lent_by c.args.office.now) n c.as_slice.result.now text (outcome_seen c.step.result) disposal.Leave _
-    c.as_slice.ensures.value (sym c.in-Leave.is ∙ c.disposal_by-fate.ensures) (c.step.ensures.outcome T s clean) (c.step.ensures.stands T s clean)
+    c.as_slice.ensures.value (sym c.in-Leave.is ∙ c.disposal_by-fate.ensures) (c.step.ensures.outcome T s clean) (c.step.ensures.stands T s clean) (c.step.ensures.admitted T s clean)
     (c.in-Some.ensures acts h) (inl refl))

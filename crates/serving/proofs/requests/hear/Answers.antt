@@ -28,8 +28,8 @@ returns-in-Later-clause-asked g c = λ B start L pop others s clean.
     (c.in-Later.ensures.told (record { pop = pop; admin = told }) s.is.tells) refl (λ k. none_more n k told.read) (λ k. refl) (λ k ne. refl)
     (straight_on told n s.is.exchanged.straight held.accepted (held.live goes)) refl refl refl refl (λ _. held.live goes)))
 
-pub returns-clause-asked : goal.returns-clause-asked
-returns-clause-asked g c = λ B start L pop others s clean.
+pub returns-in-End-clause-asked : goal.returns-in-End-clause-asked
+returns-in-End-clause-asked g c = λ B start L pop others s clean.
     (let e = c.args.exchange.now in
     let n = e.link.number in
     let told = s.is.told in

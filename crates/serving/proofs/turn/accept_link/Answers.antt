@@ -1,41 +1,28 @@
-use Rattle.std.proofs.Common.{◌≡◌, ◌∷◌, Some, None, sym, ◌∙◌, ap, subst}
-use Rattle.std.specs.List.{All}
+use Rattle.std.proofs.Common.{◌≡◌, ◌∷◌, [], Some, None, refl, sym, ◌∙◌, ap, subst}
+use Rattle.office.specs.History.{Done}
+use Rattle.office.specs.Events.{Tagged}
 use Rattle.office.specs.Events as event
 use Rattle.office.specs.Log.{next_number}
 use Rattle.office.specs.Shown.{outcome_seen}
 use Rattle.office.specs.Outcomes.{mark_of}
 use Rattle.office.specs.Stands.{lent_by}
-use Rattle.serving.specs.Wires.{has_accepted, opened_by}
-use Rattle.serving.specs.Deposits.{trace_of}
-use Rattle.serving.specs.Served.{AreServed, AreBeginnings, HasOwn}
-use Rattle.serving.proofs.Beginnings.{beginnings_accepted, beginnings_connect}
-use Rattle.serving.proofs.Keeping.{adds_one, served_unseated}
-use Rattle.serving.proofs.Accepting.{Comes, IsRefusal, comes, owned_at, owned_still, owned_new, served_accepted, served_refused, seated_with, seated_still, adds_still}
+use Rattle.office.specs.Taken.{trace_of}
+use Rattle.serving.specs.Wires.{has_accepted, has_closed, opened_by}
+use Rattle.serving.specs.Served.{AreServed, AreSeated}
+use Rattle.serving.proofs.Staying.{Frame, frame_connect}
+use Rattle.serving.proofs.Seating.{seated_same, seated_more}
+use Rattle.serving.proofs.Keeping.{adds_connect}
+use Rattle.serving.proofs.Accepting.{Comes, IsRefusal, comes, owned_at, owned_still, owned_new, opened_before, served_accepted, served_unseated, refused_same, adds_still}
 use Rattle.serving.proofs.turn.accept_link.Goals as goal
 
-pub returns-then-is_full-clause-serves : goal.returns-then-is_full-clause-serves
-returns-then-is_full-clause-serves g c = λ T acts s clean.
-    (let accepted = c.in-Some.ensures s.told s.tells in
-    record {
-      log = s.log;
-      told = has_accepted s.told;
-      owner = s.owner;
-      stands = s.stands;
-      tells = c.close.ensures (has_accepted s.told) accepted.1;
-      served = served_unseated s.told s.owner T.base s.log s.served;
-      beginnings = s.beginnings;
-      seated = s.seated;
-      adds = s.adds;
-    })
-
 pub returns-in-Some-number-clause-serves : goal.returns-in-Some-number-clause-serves
-returns-in-Some-number-clause-serves g c = λ T acts s clean.
+returns-in-Some-number-clause-serves g c = λ T beside s clean.
     (let now = trace_of T.base s.log in
     let o = outcome_seen c.step.result in
     let link = c.in-Some.link in
     let connection = c.in-Some-number.connection in
     let seats = c.args.links.now.seats.items in
-    let accepted = c.in-Some.ensures s.told s.tells in
+    let accepted = c.in-Some.ensures (record { pop = s.told; admin = beside.admin }) s.tells in
     let e : opened_by o ≡ Some connection = sym c.opened-number.ensures ∙ c.in-Some-number.is in
     let k = subst (Comes s.log o) {y = Some connection} e (comes now (lent_by c.args.office.now) o (c.step.ensures.outcome now s.stands clean)) in
     let after = owned_at s.told.accepted (next_number s.log) s.owner in
@@ -46,28 +33,31 @@ returns-in-Some-number-clause-serves g c = λ T acts s clean.
       told = has_accepted s.told;
       owner = after;
       stands = c.step.ensures.stands now s.stands clean;
+      admitted = (c.step.ensures.admitted now s.stands clean, s.admitted);
       tells = accepted.1;
       served = subst (λ m. AreServed (has_accepted s.told) after T.base ((event.Connect, m) ∷ s.log)) (sym k.0) (served_accepted s.told s.owner T.base s.log s.served);
-      beginnings = subst (λ m. AreBeginnings after T.base ((event.Connect, m) ∷ s.log)) (sym k.0) (beginnings_accepted s.told s.owner T.base s.log s.served.opened s.beginnings);
-      seated = subst (All (HasOwn after)) (sym c.push.ensures.items) (seated_with after seats (record { link = link; connection = connection }) own (seated_still s.owner after still seats s.seated));
-      adds = adds_one after T.base T.log s.log acts event.Connect (mark_of o) tt (λ l Before h. h) (adds_still s.owner after still T.base T.log s.log acts s.adds);
+      seated = seated_more s.owner after T.base s.log ((event.Connect, mark_of o) ∷ s.log) seats _ (record { link = link; connection = connection }) c.push.ensures.items still
+          (opened_before s.told s.owner T.base s.log connection k.1 s.served) own
+          (subst (λ m. Frame T.base s.log ((event.Connect, m) ∷ s.log) connection) (sym k.0) (subst (Frame T.base s.log ((event.Connect, Tagged Done) ∷ s.log)) (sym k.1) (frame_connect T.base s.log))) s.seated;
+      adds = adds_connect after T.base T.log s.log beside s.told.accepted (mark_of o) (adds_still s.owner after still T.base T.log s.log beside s.told.accepted s.adds);
     })
 
 pub returns-in-None-clause-serves : goal.returns-in-None-clause-serves
-returns-in-None-clause-serves g c = λ T acts s clean.
+returns-in-None-clause-serves g c = λ T beside s clean.
     (let now = trace_of T.base s.log in
     let o = outcome_seen c.step.result in
-    let accepted = c.in-Some.ensures s.told s.tells in
+    let accepted = c.in-Some.ensures (record { pop = s.told; admin = beside.admin }) s.tells in
     let e : opened_by o ≡ None = sym c.opened-number.ensures ∙ c.in-None.is in
     let k : IsRefusal (mark_of o) = subst (Comes s.log o) {y = None} e (comes now (lent_by c.args.office.now) o (c.step.ensures.outcome now s.stands clean)) in
     record {
       log = (event.Connect, mark_of o) ∷ s.log;
-      told = has_accepted s.told;
+      told = has_closed (has_accepted s.told) c.in-Some.link.number;
       owner = s.owner;
       stands = c.step.ensures.stands now s.stands clean;
-      tells = c.close-in-None.ensures (has_accepted s.told) accepted.1;
-      served = served_refused s.told s.owner T.base s.log (mark_of o) k s.served;
-      beginnings = beginnings_connect s.owner T.base s.log (mark_of o) s.served.opened s.beginnings;
-      seated = s.seated;
-      adds = adds_one s.owner T.base T.log s.log acts event.Connect (mark_of o) tt (λ l Before h. h) s.adds;
+      admitted = (c.step.ensures.admitted now s.stands clean, s.admitted);
+      tells = c.close.ensures (record { pop = has_accepted s.told; admin = beside.admin }) accepted.1;
+      served = subst (λ n. AreServed (has_closed (has_accepted s.told) n) s.owner T.base ((event.Connect, mark_of o) ∷ s.log)) (sym accepted.0)
+          (served_unseated s.told s.owner T.base s.log (mark_of o) k s.served);
+      seated = seated_same s.owner T.base s.log c.args.links.now.seats.items [] ((event.Connect, mark_of o) ∷ s.log) (refused_same s.told s.owner T.base s.log (mark_of o) k) s.seated;
+      adds = adds_connect s.owner T.base T.log s.log beside s.told.accepted (mark_of o) s.adds;
     })

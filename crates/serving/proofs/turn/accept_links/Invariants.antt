@@ -1,8 +1,9 @@
+use Rattle.std.proofs.Common.{[]}
 use Rattle.office.specs.Stands.{vault_of}
 use Rattle.serving.specs.Served.{StillServes}
 use Rattle.serving.proofs.turn.accept_links.Given as goal
 
 abbrev pub invariant-loop : goal.invariant-loop
 invariant-loop g l =
-    (StillServes g.V.Vault.holds g.V.Vault.is_clean g.W.Wire.tells l.fn.office l.fn.wire l.fn.links.seats.items l.office l.wire l.links.seats.items)
+    (StillServes g.V.Vault.holds g.V.Vault.is_clean g.W.Wire.tells l.fn.office l.fn.wire l.fn.links.seats.items [] l.office l.wire l.links.seats.items [])
     × (g.V.Vault.is_clean (vault_of l.office) → g.V.Vault.is_clean (vault_of l.fn.office))

@@ -1,23 +1,25 @@
-use Rattle.std.proofs.Common.{◌∷◌}
+use Rattle.std.proofs.Common.{◌∷◌, refl}
 use Rattle.office.specs.Events as event
 use Rattle.office.specs.Shown.{outcome_seen}
 use Rattle.office.specs.Outcomes.{mark_of}
-use Rattle.serving.specs.Deposits.{trace_of}
-use Rattle.serving.proofs.Beginnings.{beginnings_tick}
+use Rattle.office.specs.Taken.{trace_of}
+use Rattle.serving.proofs.Staying.{fewer_tick}
+use Rattle.serving.proofs.Seating.{seated_fewer}
 use Rattle.serving.proofs.Keeping.{served_tick, adds_one}
 use Rattle.serving.proofs.turn.pass_time.Goals as goal
 
 pub returns-clause-serves : goal.returns-clause-serves
-returns-clause-serves g c = λ seats T acts s clean.
+returns-clause-serves g c = λ seats these T beside s clean.
     (let m = mark_of (outcome_seen c.step.result) in
+    let now = trace_of T.base s.log in
     record {
       log = (event.Tick c.args.now, m) ∷ s.log;
       told = s.told;
       owner = s.owner;
-      stands = c.step.ensures.stands (trace_of T.base s.log) s.stands clean;
-      tells = c.wait.ensures s.told s.tells;
+      stands = c.step.ensures.stands now s.stands clean;
+      admitted = (c.step.ensures.admitted now s.stands clean, s.admitted);
+      tells = c.wait.ensures (record { pop = s.told; admin = beside.admin }) s.tells;
       served = served_tick s.told s.owner T.base s.log c.args.now m s.served;
-      beginnings = beginnings_tick s.owner T.base s.log c.args.now m s.beginnings;
-      seated = s.seated;
-      adds = adds_one s.owner T.base T.log s.log acts (event.Tick c.args.now) m tt (λ l Before h. h) s.adds;
+      seated = seated_fewer s.owner T.base s.log seats these ((event.Tick c.args.now, m) ∷ s.log) (fewer_tick T.base s.log c.args.now m) s.seated;
+      adds = adds_one s.owner T.base T.log s.log beside s.told.accepted (event.Tick c.args.now) m tt (λ l Before h. h) (λ l. refl) s.adds;
     })

@@ -1,20 +1,22 @@
-use Rattle.std.proofs.Common.{rules, ◌≡◌, ◌∷◌, true, take, sym, ◌∙◌, subst}
+use Rattle.std.proofs.Common.{rules, ◌≡◌, ◌∷◌, [], true, take, sym, ◌∙◌, refl, subst}
+use Rattle.office.specs.Events.{Tagged}
 use Rattle.office.specs.Events as event
 use Rattle.office.specs.Shown.{outcome_seen}
 use Rattle.office.specs.Outcomes.{mark_of}
 use Rattle.office.specs.Expected.{most_in_a_piece}
 use Rattle.office.specs.Stands.{lent_by}
-use Rattle.serving.specs.Wires.{has_read}
-use Rattle.serving.specs.Deposits.{trace_of}
-use Rattle.serving.specs.Served.{AreServed, AreBeginnings}
-use Rattle.serving.proofs.Marks.{bytes_mark, short_piece}
-use Rattle.serving.proofs.Accepting.{seat_owns}
-use Rattle.serving.proofs.Beginnings.{beginnings_read}
-use Rattle.serving.proofs.Keeping.{served_read, adds_one}
+use Rattle.office.specs.Taken.{trace_of}
+use Rattle.serving.specs.declared.wire.Io.TheVariants.{Count, Later}
+use Rattle.serving.specs.Wires.{is_fault, has_read}
+use Rattle.serving.specs.Served.{AreServed, AreSeated}
+use Rattle.serving.proofs.Marks.{bytes_mark, gone_mark, ready_open, short_piece}
+use Rattle.serving.proofs.Staying.{fewer_framed, frame_read, frame_gone}
+use Rattle.serving.proofs.Seating.{seat_owns, seated_one}
+use Rattle.serving.proofs.Keeping.{served_read, served_read_none, served_read_fault, fault_none, adds_one}
 use Rattle.serving.proofs.turn.read_once.Goals as goal
 
 pub returns-in-Count-clause-serves : goal.returns-in-Count-clause-serves
-returns-in-Count-clause-serves g c = λ seats has T acts s clean.
+returns-in-Count-clause-serves g c = λ seats these has before T beside s clean.
     (let n = c.in-Count.count in
     let piece = take n c.read.new.buffer in
     let number = c.args.seat.link.number in
@@ -23,17 +25,66 @@ returns-in-Count-clause-serves g c = λ seats has T acts s clean.
     let o = outcome_seen c.step.result in
     let within = c.in-Count.ensures.within in
     let is_so : c.ready.result ≡ true = search rules in
-    let at_k = seat_owns s.owner seats c.args.seat has s.seated in
-    let k = bytes_mark now (lent_by c.args.office.now) connection piece o (sym (c.ready.ensures now s.stands) ∙ is_so) (short_piece n most_in_a_piece c.read.new.buffer within.1) (c.step.ensures.outcome now s.stands clean) in
+    let ready = sym (c.ready.ensures now s.stands) ∙ is_so in
+    let here = ready_open now connection ready in
+    let at_k = seat_owns s.owner seats c.args.seat has s.seated.own in
+    let k = bytes_mark now (lent_by c.args.office.now) connection piece o ready (short_piece n most_in_a_piece c.read.new.buffer within.1) (c.step.ensures.outcome now s.stands clean) in
     record {
       log = (event.Bytes connection piece, mark_of o) ∷ s.log;
-      told = has_read s.told number piece;
+      told = has_read s.told number (Count n) piece;
       owner = s.owner;
       stands = c.step.ensures.stands now s.stands clean;
-      tells = c.in-Count.ensures.told s.told s.tells;
-      served = subst (λ m. AreServed (has_read s.told number piece) s.owner T.base ((event.Bytes connection piece, m) ∷ s.log)) (sym k.1)
-          (served_read s.told s.owner T.base s.log number connection piece k.0 s.served at_k);
-      beginnings = subst (λ m. AreBeginnings s.owner T.base ((event.Bytes connection piece, m) ∷ s.log)) (sym k.1) (beginnings_read s.owner T.base s.log connection piece k.0 s.beginnings);
+      admitted = (c.step.ensures.admitted now s.stands clean, s.admitted);
+      tells = c.in-Count.ensures.told (record { pop = s.told; admin = beside.admin }) s.tells;
+      served = subst (λ m. AreServed (has_read s.told number (Count n) piece) s.owner T.base ((event.Bytes connection piece, m) ∷ s.log)) (sym k.1)
+          (served_read s.told s.owner T.base s.log number connection n piece k.0 s.served at_k here);
+      seated = subst (λ m. AreSeated s.owner (trace_of T.base ((event.Bytes connection piece, m) ∷ s.log)) seats these) (sym k.1)
+          (seated_one s.owner T.base s.log seats these ((event.Bytes connection piece, Tagged k.0) ∷ s.log) c.args.seat before (fewer_framed T.base s.log connection ((event.Bytes connection piece, Tagged k.0) ∷ s.log) here (frame_read T.base s.log connection piece k.0)) (frame_read T.base s.log connection piece k.0) s.seated);
+      adds = adds_one s.owner T.base T.log s.log beside s.told.accepted (event.Bytes connection piece) (mark_of o) (number, at_k) (λ l Before h. h) (λ l. refl) s.adds;
+    })
+
+pub returns-in-Later-clause-serves : goal.returns-in-Later-clause-serves
+returns-in-Later-clause-serves g c = λ seats these has before T beside s clean.
+    (let number = c.args.seat.link.number in
+    let connection = c.args.seat.connection in
+    let now = trace_of T.base s.log in
+    let is_so : c.ready.result ≡ true = search rules in
+    let here = ready_open now connection (sym (c.ready.ensures now s.stands) ∙ is_so) in
+    let at_k = seat_owns s.owner seats c.args.seat has s.seated.own in
+    record {
+      log = s.log;
+      told = has_read s.told number Later [];
+      owner = s.owner;
+      stands = s.stands;
+      admitted = s.admitted;
+      tells = c.in-Later.ensures.told (record { pop = s.told; admin = beside.admin }) s.tells;
+      served = served_read_none s.told s.owner T.base s.log number connection s.served at_k here;
       seated = s.seated;
-      adds = adds_one s.owner T.base T.log s.log acts (event.Bytes connection piece) (mark_of o) (number, at_k) (λ l Before h. h) s.adds;
+      adds = s.adds;
+    })
+
+pub returns-in-End-clause-serves : goal.returns-in-End-clause-serves
+returns-in-End-clause-serves g c = λ seats these has before T beside s clean.
+    (let number = c.args.seat.link.number in
+    let connection = c.args.seat.connection in
+    let now = trace_of T.base s.log in
+    let o = outcome_seen c.step-in-End.result in
+    let io = c.read.result in
+    let fault : is_fault io ≡ true = search rules in
+    let is_so : c.ready.result ≡ true = search rules in
+    let here = ready_open now connection (sym (c.ready.ensures now s.stands) ∙ is_so) in
+    let at_k = seat_owns s.owner seats c.args.seat has s.seated.own in
+    let k = gone_mark now (lent_by c.args.office.now) connection o here (c.step-in-End.ensures.outcome now s.stands clean) in
+    record {
+      log = (event.Gone connection, mark_of o) ∷ s.log;
+      told = has_read s.told number io [];
+      owner = s.owner;
+      stands = c.step-in-End.ensures.stands now s.stands clean;
+      admitted = (c.step-in-End.ensures.admitted now s.stands clean, s.admitted);
+      tells = subst (λ xs. g.W.Wire.tells c.read.new.self (has_read s.told number io xs)) (fault_none io c.read.new.buffer fault) (c.read.ensures.told (record { pop = s.told; admin = beside.admin }) s.tells);
+      served = subst (λ m. AreServed (has_read s.told number io []) s.owner T.base ((event.Gone connection, m) ∷ s.log)) (sym k.1)
+          (served_read_fault s.told s.owner T.base s.log number connection io k.0 fault s.served at_k here);
+      seated = subst (λ m. AreSeated s.owner (trace_of T.base ((event.Gone connection, m) ∷ s.log)) seats these) (sym k.1)
+          (seated_one s.owner T.base s.log seats these ((event.Gone connection, Tagged k.0) ∷ s.log) c.args.seat before (fewer_framed T.base s.log connection ((event.Gone connection, Tagged k.0) ∷ s.log) here (frame_gone T.base s.log connection k.0)) (frame_gone T.base s.log connection k.0) s.seated);
+      adds = adds_one s.owner T.base T.log s.log beside s.told.accepted (event.Gone connection) (mark_of o) (number, at_k) (λ l Before h. h) (λ l. refl) s.adds;
     })

@@ -1,19 +1,21 @@
-use Rattle.std.proofs.Common.{◌∷◌, take, sym, subst}
+use Rattle.std.proofs.Common.{rules, ◌≡◌, ◌∷◌, [], true, false, take, length, refl, sym, subst, arith}
+use Rattle.office.specs.Events.{Tagged}
 use Rattle.office.specs.Events as event
 use Rattle.office.specs.Shown.{outcome_seen}
 use Rattle.office.specs.Outcomes.{mark_of}
 use Rattle.office.specs.Stands.{lent_by}
-use Rattle.serving.specs.Wires.{has_written}
-use Rattle.serving.specs.Deposits.{trace_of}
-use Rattle.serving.specs.Served.{AreServed, AreBeginnings}
-use Rattle.serving.proofs.Marks.{took_mark, lent_rest, lent_open, lent_fits}
-use Rattle.serving.proofs.Accepting.{seat_owns}
-use Rattle.serving.proofs.Beginnings.{beginnings_took}
-use Rattle.serving.proofs.Keeping.{served_written, adds_one}
+use Rattle.office.specs.Taken.{trace_of}
+use Rattle.serving.specs.declared.wire.Io.TheVariants.{Count, Later}
+use Rattle.serving.specs.Wires.{is_fault, has_written}
+use Rattle.serving.specs.Served.{AreServed, AreSeated}
+use Rattle.serving.proofs.Marks.{took_mark, gone_mark, lent_rest, lent_open, lent_some}
+use Rattle.serving.proofs.Staying.{fewer_framed, frame_took, frame_gone}
+use Rattle.serving.proofs.Seating.{seat_owns, seated_one}
+use Rattle.serving.proofs.Keeping.{served_written, served_written_none, served_written_fault, fault_none, adds_one}
 use Rattle.serving.proofs.turn.write_once.Goals as goal
 
 pub returns-in-Count-clause-serves : goal.returns-in-Count-clause-serves
-returns-in-Count-clause-serves g c = λ seats has T acts s clean.
+returns-in-Count-clause-serves g c = λ seats these has before T beside s clean.
     (let n = c.in-Count.count in
     let lent = c.owed-lent.result.now in
     let number = c.args.seat.link.number in
@@ -22,18 +24,69 @@ returns-in-Count-clause-serves g c = λ seats has T acts s clean.
     let o = outcome_seen c.step.result in
     let within = c.in-Count.ensures.within in
     let is = c.owed-lent.ensures.lent now s.stands in
-    let at_k = seat_owns s.owner seats c.args.seat has s.seated in
+    let here = lent_open now connection n lent is within.0 within.1 in
+    let at_k = seat_owns s.owner seats c.args.seat has s.seated.own in
     let k = took_mark now (lent_by c.args.office.now) connection n lent o is c.owed-lent.ensures.count within.0 within.1 (c.step.ensures.outcome now s.stands clean) in
     record {
       log = (event.Took connection n, mark_of o) ∷ s.log;
-      told = has_written s.told number (take n lent);
+      told = has_written s.told number (Count n) (take n lent);
       owner = s.owner;
       stands = c.step.ensures.stands now s.stands clean;
-      tells = c.in-Count.ensures.told s.told s.tells;
-      served = subst (λ m. AreServed (has_written s.told number (take n lent)) s.owner T.base ((event.Took connection n, m) ∷ s.log)) (sym k.1)
-          (served_written s.told s.owner T.base s.log number connection n (take n lent) k.0 (lent_rest now connection n lent is within.1) s.served at_k);
-      beginnings = subst (λ m. AreBeginnings s.owner T.base ((event.Took connection n, m) ∷ s.log)) (sym k.1)
-          (beginnings_took s.owner T.base s.log connection n k.0 (lent_open now connection n lent is within.0 within.1) (lent_fits now connection n lent is within.1) s.beginnings);
+      admitted = (c.step.ensures.admitted now s.stands clean, s.admitted);
+      tells = c.in-Count.ensures.told (record { pop = s.told; admin = beside.admin }) s.tells;
+      served = subst (λ m. AreServed (has_written s.told number (Count n) (take n lent)) s.owner T.base ((event.Took connection n, m) ∷ s.log)) (sym k.1)
+          (served_written s.told s.owner T.base s.log number connection n (take n lent) k.0 (lent_rest now connection n lent is within.1) s.served at_k here);
+      seated = subst (λ m. AreSeated s.owner (trace_of T.base ((event.Took connection n, m) ∷ s.log)) seats these) (sym k.1)
+          (seated_one s.owner T.base s.log seats these ((event.Took connection n, Tagged k.0) ∷ s.log) c.args.seat before (fewer_framed T.base s.log connection ((event.Took connection n, Tagged k.0) ∷ s.log) here (frame_took T.base s.log connection n k.0)) (frame_took T.base s.log connection n k.0) s.seated);
+      adds = adds_one s.owner T.base T.log s.log beside s.told.accepted (event.Took connection n) (mark_of o) (number, at_k) (λ l Before h. h) (λ l. refl) s.adds;
+    })
+
+pub returns-in-Later-clause-serves : goal.returns-in-Later-clause-serves
+returns-in-Later-clause-serves g c = λ seats these has before T beside s clean.
+    (let lent = c.owed-lent.result.now in
+    let number = c.args.seat.link.number in
+    let connection = c.args.seat.connection in
+    let now = trace_of T.base s.log in
+    let no : c.is_empty.result ≡ false = search rules in
+    let some = lent_some c.is_empty.result (length lent) c.is_empty.ensures no in
+    let here = lent_open now connection (length lent) lent (c.owed-lent.ensures.lent now s.stands) some (omega arith) in
+    let at_k = seat_owns s.owner seats c.args.seat has s.seated.own in
+    record {
+      log = s.log;
+      told = has_written s.told number Later [];
+      owner = s.owner;
+      stands = s.stands;
+      admitted = s.admitted;
+      tells = c.in-Later.ensures.told (record { pop = s.told; admin = beside.admin }) s.tells;
+      served = served_written_none s.told s.owner T.base s.log number connection s.served at_k here;
       seated = s.seated;
-      adds = adds_one s.owner T.base T.log s.log acts (event.Took connection n) (mark_of o) (number, at_k) (λ l Before h. h) s.adds;
+      adds = s.adds;
+    })
+
+pub returns-in-End-clause-serves : goal.returns-in-End-clause-serves
+returns-in-End-clause-serves g c = λ seats these has before T beside s clean.
+    (let lent = c.owed-lent.result.now in
+    let number = c.args.seat.link.number in
+    let connection = c.args.seat.connection in
+    let now = trace_of T.base s.log in
+    let o = outcome_seen c.step-in-End.result in
+    let io = c.write.result in
+    let fault : is_fault io ≡ true = search rules in
+    let no : c.is_empty.result ≡ false = search rules in
+    let some = lent_some c.is_empty.result (length lent) c.is_empty.ensures no in
+    let here = lent_open now connection (length lent) lent (c.owed-lent.ensures.lent now s.stands) some (omega arith) in
+    let at_k = seat_owns s.owner seats c.args.seat has s.seated.own in
+    let k = gone_mark now (lent_by c.args.office.now) connection o here (c.step-in-End.ensures.outcome now s.stands clean) in
+    record {
+      log = (event.Gone connection, mark_of o) ∷ s.log;
+      told = has_written s.told number io [];
+      owner = s.owner;
+      stands = c.step-in-End.ensures.stands now s.stands clean;
+      admitted = (c.step-in-End.ensures.admitted now s.stands clean, s.admitted);
+      tells = subst (λ xs. g.W.Wire.tells c.write.new.self (has_written s.told number io xs)) (fault_none io lent fault) (c.write.ensures.told (record { pop = s.told; admin = beside.admin }) s.tells);
+      served = subst (λ m. AreServed (has_written s.told number io []) s.owner T.base ((event.Gone connection, m) ∷ s.log)) (sym k.1)
+          (served_written_fault s.told s.owner T.base s.log number connection io k.0 fault s.served at_k here);
+      seated = subst (λ m. AreSeated s.owner (trace_of T.base ((event.Gone connection, m) ∷ s.log)) seats these) (sym k.1)
+          (seated_one s.owner T.base s.log seats these ((event.Gone connection, Tagged k.0) ∷ s.log) c.args.seat before (fewer_framed T.base s.log connection ((event.Gone connection, Tagged k.0) ∷ s.log) here (frame_gone T.base s.log connection k.0)) (frame_gone T.base s.log connection k.0) s.seated);
+      adds = adds_one s.owner T.base T.log s.log beside s.told.accepted (event.Gone connection) (mark_of o) (number, at_k) (λ l Before h. h) (λ l. refl) s.adds;
     })
