@@ -222,5 +222,3 @@ adds_still owner after more B older L beside calls a = record {
   events = record { more = a.events.more; is = a.events.is; each = events_still owner after more a.events.more a.events.each; filed = a.events.filed; counted = a.events.counted };
   requests = a.requests;
 }
-
-

@@ -212,8 +212,8 @@ module _ (told : Told) (owner : Owners) (B : Records) (L : Log) (k c : ℕ) wher
   over_gone io t fault a at_k here j d o at_j =
       let after = (event.Gone c, Tagged t) ∷ L in
       over_more told owner B L k c after (over_still told owner B L after (fewer_framed B L c after here (frame_gone B L c t)) a)
-          (λ e at_e. subst (λ n. is_open (trace_of B after) n ≡ false) (of_some c e (sym at_k ∙ at_e)) (gone_so B L c t))
-          j d (subst (λ b. over_at k b told.over j ≡ true) fault o) at_j
+      (λ e at_e. subst (λ n. is_open (trace_of B after) n ≡ false) (of_some c e (sym at_k ∙ at_e)) (gone_so B L c t))
+      j d (subst (λ b. over_at k b told.over j ≡ true) fault o) at_j
 
   pub served_read_fault : (io : Io) (t : Tag) → is_fault io ≡ true → AreServed told owner B L → owner k ≡ Some c → is_open (trace_of B L) c ≡ true
       → AreServed (has_read told k io []) owner B ((event.Gone c, Tagged t) ∷ L)

@@ -102,7 +102,7 @@ one_rest e = cc
 -- which commands' events there are behind one that is no command's
 no_command : (L : Log) (e : Event) (m : Mark) → (IsCommand e → ⊥) → (newer older : Log) (command : AdminCommand) (m2 : Mark) → (e, m) ∷ L ≡ newer ++ (event.Admin command, m2) ∷ older
     → (newer2 : Log) × (L ≡ newer2 ++ (event.Admin command, m2) ∷ older)
-no_command L e m none [] older command m2 is = absurd (none (subst IsCommand (sym (ap (λ p. p.0) (one_first is))) tt))
+no_command L e m none [] older command m2 is = absurd (none (subst IsCommand (sym (ap (λ (p : Event × Mark). p.0) (one_first is))) tt))
 no_command L e m none (y ∷ newer) older command m2 is = (newer, one_rest is)
 
 pub exchanged_more : (told : Told) (x : Exchanges) (B : Records) (start : ℕ) (L : Log) (e : Event) (m : Mark) → (IsCommand e → ⊥) → AreExchanged told x B start L → AreExchanged told x B start ((e, m) ∷ L)
@@ -238,8 +238,8 @@ module _ (told told2 : Told) (x : Exchanges) (B : Records) (start : ℕ) (L L2 :
             (apart k ne ∙ was_still.0, put_other n r x.response k ne ∙ was_still.1));
         straight = straight;
       } where
-    none_some : {m : ℕ} → None ≡ Some m → ⊥
-    none_some e = cc
+        none_some : {m : ℕ} → None ≡ Some m → ⊥
+        none_some e = cc
 
 -- ---- octets are written
 
@@ -373,7 +373,7 @@ module _ {V W : Type 0} (Holds : V → Contents → Type 0) (Tells : W → ToldO
       let was : IsExchange B s.log None (s.x.place n) (told.read n) (told.written n) = subst (λ o. IsExchange B s.log o (s.x.place n) (told.read n) (told.written n)) kept.1 (s.is.exchanged.each n) in
       let at_n : told2.read n ≡ whole = more_here n piece told.read ∙ ap (λ ys. ys ++ piece) kept.0 in
       let same : (k : ℕ) → (k ≡ n → ⊥) → SameAt told told2 s.x x2 k = λ k ne.
-          record { accepted = omega arith; over = refl; read = more_apart n k piece told.read ne; written = refl; response = put_other n r s.x.response k ne } in
+      record { accepted = omega arith; over = refl; read = more_apart n k piece told.read ne; written = refl; response = put_other n r s.x.response k ne } in
       record {
         log = h.log;
         x = x2;
@@ -410,7 +410,7 @@ module _ {W : Type 0} (Tells : W → ToldOfPorts → Type 0) (B : Records) (star
       let number : e2.link.number ≡ n = ap (λ k. k.number) same_link in
       let held = s.held.0 in
       let same : (k : ℕ) → (k ≡ n → ⊥) → SameAt told told2 x x k = λ k ne.
-          record { accepted = (let q = same_count in omega (arith, q)); over = apart k ne; read = same_read k; written = same_written k; response = refl } in
+      record { accepted = (let q = same_count in omega (arith, q)); over = apart k ne; read = same_read k; written = same_written k; response = refl } in
       let kept : IsKept told2 x n e.read.items e.response e.written = kept_told told told2 x n e.read.items e.response e.written (same_read n) (same_written n) held.kept in
       record {
         told = told2;
@@ -445,9 +445,9 @@ module _ {W : Type 0} (Tells : W → ToldOfPorts → Type 0) (B : Records) (star
       let octets = octets_of response in
       let kept = kept_some told x n e.read.items e.response response e.written has held.kept in
       let at_n : told2.written n ≡ take (e.written + count) octets =
-          more_here n more told.written ∙ (ap (λ ys. ys ++ more) kept.1 ∙ (ap (λ ys. take e.written octets ++ ys) is ∙ sym (take-add e.written count octets))) in
+      more_here n more told.written ∙ (ap (λ ys. ys ++ more) kept.1 ∙ (ap (λ ys. take e.written octets ++ ys) is ∙ sym (take-add e.written count octets))) in
       let same : (k : ℕ) → (k ≡ n → ⊥) → SameAt told told2 x x k = λ k ne.
-          record { accepted = omega arith; over = refl; read = refl; written = more_apart n k more told.written ne; response = refl } in
+      record { accepted = omega arith; over = refl; read = refl; written = more_apart n k more told.written ne; response = refl } in
       record {
         told = told2;
         tells = tells;
@@ -478,8 +478,8 @@ ascending xs i j d wi wj a ne same =
     (λ (low : i < j). (let k = a i j d low wj in let no : ⊥ = omega (arith, k, same) in no))
     (λ high. (let k = a j i d (other_way i j ne high) wi in let no : ⊥ = omega (arith, k, same) in no))
     (cases_lt i j) where
-  other_way : (i j : ℕ) → (i ≡ j → ⊥) → j ≤ i → j < i
-  other_way i j ne h = ⊎_elim (λ (q : j < i). q) (λ (q : i ≤ j). absurd (ne (omega (arith, h, q)))) (cases_lt j i)
+      other_way : (i j : ℕ) → (i ≡ j → ⊥) → j ≤ i → j < i
+      other_way i j ne h = ⊎_elim (λ (q : j < i). q) (λ (q : i ≤ j). absurd (ne (omega (arith, h, q)))) (cases_lt j i)
 
 module _ (told : Told) (x : Exchanges) (xs : List Exchange) (i : ℕ) (e : Exchange) where
   -- it stays in its place
@@ -487,12 +487,12 @@ module _ (told : Told) (x : Exchanges) (xs : List Exchange) (i : ℕ) (e : Excha
   held_again d within ascend same a =
       let number : e.link.number ≡ (get_or xs i d).link.number = ap (λ k. k.number) same in
       let at : (k : ℕ) (c : Exchange) → k < length xs → (get_or (set xs i e) k c).link.number ≡ (get_or xs k c).link.number = λ k c here.
-          ⊎_elim
-          (λ (q : k ≡ i).
-          subst (λ j. (get_or (set xs i e) j c).link.number ≡ (get_or xs j c).link.number) (sym q)
-          (ap (λ y. y.link.number) (get_or-set_same xs i e c within) ∙ (number ∙ ap (λ y. y.link.number) (any_default xs i d c within))))
-          (λ (ne : k ≡ i → ⊥). ap (λ y. y.link.number) (get_or-set_other xs i k e c ne))
-          (cases_eq k i) in
+      ⊎_elim
+      (λ (q : k ≡ i).
+      subst (λ j. (get_or (set xs i e) j c).link.number ≡ (get_or xs j c).link.number) (sym q)
+      (ap (λ y. y.link.number) (get_or-set_same xs i e c within) ∙ (number ∙ ap (λ y. y.link.number) (any_default xs i d c within))))
+      (λ (ne : k ≡ i → ⊥). ap (λ y. y.link.number) (get_or-set_other xs i k e c ne))
+      (cases_eq k i) in
       record {
         each = λ k c here.
             (let in_xs : k < length xs = omega (arith, here, length-set xs i e) in
@@ -518,11 +518,11 @@ module _ (told : Told) (x : Exchanges) (ys : List Exchange) (i : ℕ) (d : Excha
       let long = length-remove ys i within in
       let told2 = has_closed told n in
       let one : (k : ℕ) (c : Exchange) → k < length ys → (i ≡ k → ⊥) → IsHeld told2 x (get_or ys k c) = λ k c here ne.
-          (let apart : (get_or ys k c).link.number ≡ n → ⊥ = λ q.
-              ascending ys i k c within here a.ascend ne (q ∙ (number ∙ ap (λ y. y.link.number) (any_default ys i d c within))) in
-          held_same told told2 x x (get_or ys k c)
-          (record { accepted = omega arith; over = over_apart n (get_or ys k c).link.number true told.over apart; read = refl; written = refl; response = refl })
-          (a.each k c here)) in
+      (let apart : (get_or ys k c).link.number ≡ n → ⊥ = λ q.
+      ascending ys i k c within here a.ascend ne (q ∙ (number ∙ ap (λ y. y.link.number) (any_default ys i d c within))) in
+      held_same told told2 x x (get_or ys k c)
+      (record { accepted = omega arith; over = over_apart n (get_or ys k c).link.number true told.over apart; read = refl; written = refl; response = refl })
+      (a.each k c here)) in
       record {
         each = λ k c here.
             ⊎_elim

@@ -198,7 +198,7 @@ accepts_one xs strayed t x h r w o = record {
       begun_if (k == t.accepted) (t.over k) (is_over_by (slice_get (xs ++ x ∷ []) k)) (λ q. p ∙ ap is_over_by (none_behind xs k b)) (λ q. absurd (true≢false (sym (eq-eqb k t.accepted e) ∙ q)))))
       (λ (ne : k ≡ t.accepted → ⊥).
       begun_if (k == t.accepted) (t.over k) (is_over_by (slice_get (xs ++ x ∷ []) k)) (λ q. absurd (true≢false (sym q ∙ ne_eqb k t.accepted ne)))
-          (λ q. h.over k (within_old (length xs) k t.accepted (length (xs ++ x ∷ [])) h.accepted (length_push xs x) l ne) ∙ sym p))
+      (λ q. h.over k (within_old (length xs) k t.accepted (length (xs ++ x ∷ [])) h.accepted (length_push xs x) l ne) ∙ sym p))
       (cases_eq k t.accepted));
   astray = h.astray;
 }

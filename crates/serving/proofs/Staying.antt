@@ -238,7 +238,7 @@ module _ (B : Records) (L : Log) where
       let H = acts_from B L in
       let i = idle_ends (idle_numbers L (history (trace_of B L)) (max (moment L) now)) in
       fewer_by (connected (told B H) d) (connected (told B (new ++ H)) d) (closing (told B H) d) (closing (told B (new ++ H)) d) (taken L d) (sent (told B H) d) (sent (told B (new ++ H)) d)
-          (was_connected B H d new i) (ends_closing B H d new i) (ends_sent B H d new i) e
+      (was_connected B H d new i) (ends_closing B H d new i) (ends_sent B H d new i) e
 
 -- ---- an administrator's command
 

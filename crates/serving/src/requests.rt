@@ -328,12 +328,7 @@ fn accept_request<W: Wire>(wire: &mut W, requests: &mut Requests, now: u64) -> b
 }
 
 /// Accepts the links of the administration that came, at most so many.
-pub(crate) fn accept_requests<W: Wire>(
-    wire: &mut W,
-    requests: &mut Requests,
-    most: usize,
-    now: u64,
-)
+pub(crate) fn accept_requests<W: Wire>(wire: &mut W, requests: &mut Requests, most: usize, now: u64)
     ensures { AllStillAnswer W.tells wire.old requests.old.exchanges.items wire.new requests.new.exchanges.items }
 {
     for _ in 0..most {

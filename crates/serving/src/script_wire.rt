@@ -156,7 +156,9 @@ impl Wire for ScriptWire {
         let stop = self.next_stop();
         match port {
             Port::Pop => self.clients.read(link, stop, self.piece, self.ends, buffer),
-            Port::Admin => self.requests.read(link, stop, self.piece, self.ends, buffer),
+            Port::Admin => self
+                .requests
+                .read(link, stop, self.piece, self.ends, buffer),
         }
     }
 

@@ -95,14 +95,31 @@ fn serve_link<V: Vault, W: Wire>(office: &mut Office<V>, wire: &mut W, seat: Sea
     goes
 }
 
+/// Serves the link of one seat.
+fn serve_seat<V: Vault, W: Wire>(
+    office: &mut Office<V>,
+    wire: &mut W,
+    links: &mut Clients,
+    place: usize,
+)
+    requires { place < array_vec_len links.old.seats }
+    ensures serves { StillServes V.holds V.is_clean W.tells office.old wire.old links.old.seats.items [] office.new wire.new links.new.seats.items [] }
+    ensures clean { V.is_clean (vault_of office.new) → V.is_clean (vault_of office.old) }
+    ensures seats { links.new.seats ≡ links.old.seats }
+{
+    let seat = links.seats[place];
+    links.presses |= serve_link(office, wire, seat);
+}
+
 /// Serves each link, by ascending number of the connections.
 fn serve_links<V: Vault, W: Wire>(office: &mut Office<V>, wire: &mut W, links: &mut Clients)
     ensures serves { StillServes V.holds V.is_clean W.tells office.old wire.old links.old.seats.items [] office.new wire.new links.new.seats.items [] }
     ensures clean { V.is_clean (vault_of office.new) → V.is_clean (vault_of office.old) }
 {
-    for place in 0..links.seats.len() {
-        let seat = links.seats[place];
-        links.presses |= serve_link(office, wire, seat);
+    let mut place = 0;
+    while place < links.seats.len() {
+        serve_seat(office, wire, links, place);
+        place += 1;
     }
 }
 
@@ -129,7 +146,7 @@ fn close_seat<V: Vault, W: Wire>(
 
 /// Closes each link whose connection ended.
 fn close_links<V: Vault, W: Wire>(office: &Office<V>, wire: &mut W, links: &mut Clients)
-    ensures serves { StillServes V.holds V.is_clean W.tells office.now wire.old links.old.seats.items [] office.now wire.new links.new.seats.items links.new.seats.items }
+    ensures { StillServes V.holds V.is_clean W.tells office.now wire.old links.old.seats.items [] office.now wire.new links.new.seats.items links.new.seats.items }
 {
     let mut place = 0;
     while place < links.seats.len() {

@@ -7,11 +7,13 @@ use vault::PlainVault;
 
 /// A request that adds a maildrop, and its response.
 static ADD: &[u8] = b"PUT /maildrops/sales HTTP/1.1\r\n\r\n";
+
 static ADDED: &[u8] =
     b"HTTP/1.1 201 Created\r\nContent-Type: text/plain\r\nContent-Length: 6\r\nConnection: close\r\n\r\nadded\n";
 
 /// A request that lists sessions, and its response without any.
 static SESSIONS: &[u8] = b"GET /sessions HTTP/1.1\r\n\r\n";
+
 static NO_SESSIONS: &[u8] =
     b"HTTP/1.1 200 OK\r\nContent-Type: text/plain\r\nContent-Length: 0\r\nConnection: close\r\n\r\n";
 
@@ -20,19 +22,71 @@ static BEGUN: &[u8] = b"GET /sessions HTTP/1.1\r\n";
 
 /// Requests, each with the first line of its response and its body, on an office that has seen those above it.
 static ROWS: [(&str, &str, &str); 13] = [
-    ("PUT /maildrops/orders HTTP/1.1\r\n\r\n", "HTTP/1.1 201 Created\r\n", "\r\n\r\nadded\n"),
-    ("PUT /maildrops/orders HTTP/1.1\r\n\r\n", "HTTP/1.1 200 OK\r\n", "\r\n\r\nwas there\n"),
-    ("GET /maildrops HTTP/1.0\n\n", "HTTP/1.1 200 OK\r\n", "\r\n\r\norders 0 0\n"),
-    ("PUT /clerks/ann HTTP/1.1\r\nContent-Length: 13\r\n\r\npass s3 cret\n", "HTTP/1.1 201 Created\r\n", "\r\n\r\nadded\n"),
-    ("GET /clerks/ann HTTP/1.1\r\n\r\n", "HTTP/1.1 200 OK\r\n", "Content-Length: 5\r\nConnection: close\r\n\r\npass\n"),
-    ("PUT /policy HTTP/1.1\r\nContent-Length: 0\r\n\r\n", "HTTP/1.1 200 OK\r\n", "Content-Length: 8\r\nConnection: close\r\n\r\n0 rules\n"),
-    ("PUT /policy HTTP/1.1\r\n\r\n", "HTTP/1.1 411 Length Required\r\n", "Content-Length: 16\r\nConnection: close\r\n\r\nlength required\n"),
-    ("PUT /policy HTTP/1.1\r\nContent-Length: 5\r\n\r\nx = 1", "HTTP/1.1 400 Bad Request\r\n", "Content-Length: 19\r\nConnection: close\r\n\r\nrule 0: UnknownKey\n"),
-    ("POST /policy HTTP/1.1\r\n\r\n", "HTTP/1.1 405 Method Not Allowed\r\n", "Allow: GET, PUT\r\nContent-Length: 19\r\nConnection: close\r\n\r\nmethod not allowed\n"),
-    ("GET /explain/bob/orders/pay/read HTTP/1.1\r\n\r\n", "HTTP/1.1 200 OK\r\n", "Content-Length: 24\r\nConnection: close\r\n\r\ndeny by rule default\n"),
-    ("DELETE /sessions/1 HTTP/1.1\r\n\r\n", "HTTP/1.1 404 Not Found\r\n", "\r\n\r\nno such session\n"),
-    ("DELETE /maildrops/orders HTTP/1.1\r\n\r\n", "HTTP/1.1 200 OK\r\n", "\r\n\r\ndropped\n"),
-    ("GET /maildrops/Orders HTTP/1.1\r\n\r\n", "HTTP/1.1 404 Not Found\r\n", "\r\n\r\nnot found\n"),
+    (
+        "PUT /maildrops/orders HTTP/1.1\r\n\r\n",
+        "HTTP/1.1 201 Created\r\n",
+        "\r\n\r\nadded\n",
+    ),
+    (
+        "PUT /maildrops/orders HTTP/1.1\r\n\r\n",
+        "HTTP/1.1 200 OK\r\n",
+        "\r\n\r\nwas there\n",
+    ),
+    (
+        "GET /maildrops HTTP/1.0\n\n",
+        "HTTP/1.1 200 OK\r\n",
+        "\r\n\r\norders 0 0\n",
+    ),
+    (
+        "PUT /clerks/ann HTTP/1.1\r\nContent-Length: 13\r\n\r\npass s3 cret\n",
+        "HTTP/1.1 201 Created\r\n",
+        "\r\n\r\nadded\n",
+    ),
+    (
+        "GET /clerks/ann HTTP/1.1\r\n\r\n",
+        "HTTP/1.1 200 OK\r\n",
+        "Content-Length: 5\r\nConnection: close\r\n\r\npass\n",
+    ),
+    (
+        "PUT /policy HTTP/1.1\r\nContent-Length: 0\r\n\r\n",
+        "HTTP/1.1 200 OK\r\n",
+        "Content-Length: 8\r\nConnection: close\r\n\r\n0 rules\n",
+    ),
+    (
+        "PUT /policy HTTP/1.1\r\n\r\n",
+        "HTTP/1.1 411 Length Required\r\n",
+        "Content-Length: 16\r\nConnection: close\r\n\r\nlength required\n",
+    ),
+    (
+        "PUT /policy HTTP/1.1\r\nContent-Length: 5\r\n\r\nx = 1",
+        "HTTP/1.1 400 Bad Request\r\n",
+        "Content-Length: 19\r\nConnection: close\r\n\r\nrule 0: UnknownKey\n",
+    ),
+    (
+        "POST /policy HTTP/1.1\r\n\r\n",
+        "HTTP/1.1 405 Method Not Allowed\r\n",
+        "Allow: GET, PUT\r\nContent-Length: 19\r\nConnection: close\r\n\r\nmethod not allowed\n",
+    ),
+    (
+        "GET /explain/bob/orders/pay/read HTTP/1.1\r\n\r\n",
+        "HTTP/1.1 200 OK\r\n",
+        "Content-Length: 24\r\nConnection: close\r\n\r\ndeny by rule default\n",
+    ),
+    (
+        "DELETE /sessions/1 HTTP/1.1\r\n\r\n",
+        "HTTP/1.1 404 Not Found\r\n",
+        "\r\n\r\nno such session\n",
+    ),
+    (
+        "DELETE /maildrops/orders HTTP/1.1\r\n\r\n",
+        "HTTP/1.1 200 OK\r\n",
+        "\r\n\r\ndropped\n",
+    ),
+    (
+        "GET /maildrops/Orders HTTP/1.1\r\n\r\n",
+        "HTTP/1.1 404 Not Found\r\n",
+        "\r\n\r\nnot found\n",
+    ),
 ];
 
 /// A vector of octets.

@@ -3,8 +3,8 @@ use Rattle.office.specs.Taken.{trace_of}
 use Rattle.serving.proofs.Seating.{seated_whole}
 use Rattle.serving.proofs.turn.close_links.Goals as goal
 
-pub returns-clause-serves : goal.returns-clause-serves
-returns-clause-serves g c = λ T beside s clean.
+pub returns : goal.returns
+returns g c = λ T beside s clean.
     (let k = c.loop-place.invariant T beside s clean in
     let seats = c.loop-place.links.seats.items in
     let done : length seats ≤ c.loop-place.place = search rules in

@@ -19,20 +19,20 @@ returns-clause-serves g c = λ T s clean.
     let passed = c.pass_time.ensures.serves seats seats T b s.is passed_clean in
     let accepted = c.accept_links.ensures.serves T b passed accepted_clean in
     let came = c.accept_requests.ensures b.x T.base start accepted.log accepted.told
-        (record { told = b.admin; tells = accepted.tells; exchanged = accepted.adds.requests; held = s.requests }) in
+    (record { told = b.admin; tells = accepted.tells; exchanged = accepted.adds.requests; held = s.requests }) in
     let b2 : Beside = record { acts = b.acts; admin = came.told; x = b.x } in
     let with_requests = serves_answering Holds Tells T b _ _ _ _ _ accepted came in
     let links = c.serve_links.ensures.serves T b2 with_requests links_clean in
     let k = c.serve_requests.ensures.asked T.base start links.log links.told
-        (record {
-        log = links.log;
-        x = b2.x;
-        stands = links.stands;
-        admitted = λ before. before;
-        grown = AsksNone;
-        is = record { told = b2.admin; tells = links.tells; exchanged = links.adds.requests; held = came.held };
-        })
-        asked_clean in
+    (record {
+      log = links.log;
+      x = b2.x;
+      stands = links.stands;
+      admitted = λ before. before;
+      grown = AsksNone;
+      is = record { told = b2.admin; tells = links.tells; exchanged = links.adds.requests; held = came.held };
+    })
+    asked_clean in
     let b3 : Beside = record { acts = b.acts; admin = k.is.told; x = k.x } in
     let answered = serves_asked Holds Tells T b2 _ _ _ _ _ _ links k in
     let closed = c.close_links.ensures T b3 answered asked_clean in
