@@ -70,7 +70,7 @@ static ROWS: [(&str, &str, &str); 13] = [
     (
         "GET /explain/bob/orders/pay/read HTTP/1.1\r\n\r\n",
         "HTTP/1.1 200 OK\r\n",
-        "Content-Length: 24\r\nConnection: close\r\n\r\ndeny by rule default\n",
+        "Content-Length: 21\r\nConnection: close\r\n\r\ndeny by rule default\n",
     ),
     (
         "DELETE /sessions/1 HTTP/1.1\r\n\r\n",
@@ -106,6 +106,7 @@ fn new_office(alloc: Global) -> Result<Office<PlainVault>, Fail> {
 }
 
 /// An office, a wire and its links.
+#[derive(Drop)]
 struct Bench {
     alloc: Global,
     office: Office<PlainVault>,
