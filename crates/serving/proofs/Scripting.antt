@@ -215,3 +215,30 @@ read_on xs at n piece buffer is within =
     let long : n ≤ length piece = omega (arith, within, ap length is, length-take n ys) in
     let same : take n (piece ++ buffer) ≡ take n ys = take-append-le n piece buffer long ∙ (ap (take n) is ∙ take-take n n ys (omega arith)) in
     take-add at n xs ∙ ap (λ zs. take at xs ++ zs) (sym same)
+
+-- ---- what the calls of the wire leave
+
+module _ (xs ys : List ScriptLink) (strayed s : Bool) (t : Told) (i n : ℕ) (l x y : ScriptLink) (io : Io) (more : List ℕ) where
+  over_of : i < length ys → l ≡ get_or ys i l → x ≡ get_or ys i x → x.is_over ≡ l.is_over
+  over_of w fl fx = ap is_over_by (sym (link_found ys i x w fx) ∙ link_found ys i l w fl)
+
+  told_there : ys ≡ xs → s ≡ strayed → TellsOf xs strayed t → TellsOf ys s t
+  told_there e b h = subst (λ zs. TellsOf zs s t) (sym e) (subst (λ q. TellsOf xs q t) (sym b) h)
+
+  pub read_told : ys ≡ xs → s ≡ strayed → i < length ys → i ≡ n → l ≡ get_or ys i l → x ≡ get_or ys i x → taken_of y ≡ taken_of x ++ more → y.written ≡ x.written
+      → y.is_over ≡ (x.is_over || is_fault io) → TellsOf xs strayed t → TellsOf (set ys i y) (s || l.is_over) (has_read t n io more)
+  read_told e b w k fl fx r v o h =
+      subst (λ q. TellsOf (set ys i y) (s || q) (has_read t n io more)) (over_of w fl fx)
+      (subst (λ m. TellsOf (set ys i y) (s || x.is_over) (has_read t m io more)) k (read_more ys s t i x y io more (told_there e b h) (link_found ys i x w fx) w r v o))
+
+  pub write_told : ys ≡ xs → s ≡ strayed → i < length ys → i ≡ n → l ≡ get_or ys i l → x ≡ get_or ys i x → taken_of y ≡ taken_of x → y.written.items ≡ x.written.items ++ more
+      → y.is_over ≡ (x.is_over || is_fault io) → TellsOf xs strayed t → TellsOf (set ys i y) (s || l.is_over) (has_written t n io more)
+  write_told e b w k fl fx r v o h =
+      subst (λ q. TellsOf (set ys i y) (s || q) (has_written t n io more)) (over_of w fl fx)
+      (subst (λ m. TellsOf (set ys i y) (s || x.is_over) (has_written t m io more)) k (write_more ys s t i x y io more (told_there e b h) (link_found ys i x w fx) w r v o))
+
+pub accepted_told : (xs ys zs : List ScriptLink) (ok strayed : Bool) (t : Told) (x : ScriptLink) → zs ≡ (if ok then ys ++ x ∷ [] else ys) → ok ≡ true → ys ≡ xs
+    → taken_of x ≡ [] → x.written.items ≡ [] → x.is_over ≡ false → TellsOf xs strayed t → TellsOf zs strayed (has_accepted t)
+accepted_told xs ys zs ok strayed t x p k e r w o h =
+    let all : zs ≡ xs ++ x ∷ [] = p ∙ (ap (λ b. if b then ys ++ x ∷ [] else ys) k ∙ ap (λ q. q ++ x ∷ []) e) in
+    subst (λ q. TellsOf q strayed (has_accepted t)) (sym all) (accepts_one xs strayed t x h r w o)

@@ -151,8 +151,7 @@ impl ScriptLinks {
         ensures { (t : Told) → TellsOf self.old.accepted.items self.old.strayed t → TellsOf self.new.accepted.items self.new.strayed (has_closed t link.number) }
     {
         if let Some(place) = place_of(self.accepted.as_slice(), link) {
-            self.accepted[place].is_over = true;
-            self.accepted[place].is_closed = true;
+            shut(&mut self.accepted[place]);
         }
     }
 }
@@ -252,6 +251,16 @@ fn write_at(link: &mut ScriptLink, stop: Option<Stop>, piece: usize, octets: &[u
     let io = write_on(link, piece, octets);
     link.is_over |= faults(io);
     io
+}
+
+/// Closes a link.
+fn shut(link: &mut ScriptLink)
+    ensures over { link.new.is_over ≡ true }
+    ensures read { taken_of link.new ≡ taken_of link.old }
+    ensures written { link.new.written ≡ link.old.written }
+{
+    link.is_over = true;
+    link.is_closed = true;
 }
 
 /// Where a link is kept.
