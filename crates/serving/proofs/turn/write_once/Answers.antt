@@ -83,7 +83,7 @@ returns-in-End-clause-serves g c = λ seats these has before T beside s clean.
       owner = s.owner;
       stands = c.step-in-End.ensures.stands now s.stands clean;
       admitted = (c.step-in-End.ensures.admitted now s.stands clean, s.admitted);
-      tells = subst (λ xs. g.W.Wire.tells c.write.new.self (has_written s.told number io xs)) (fault_none io lent fault) (c.write.ensures.told (record { pop = s.told; admin = beside.admin }) s.tells);
+      tells = subst (λ xs. g.W.Wire.tells c.write.new.self (record { pop = has_written s.told number io xs; admin = beside.admin })) (fault_none io lent fault) (c.write.ensures.told (record { pop = s.told; admin = beside.admin }) s.tells);
       served = subst (λ m. AreServed (has_written s.told number io []) s.owner T.base ((event.Gone connection, m) ∷ s.log)) (sym k.1)
           (served_written_fault s.told s.owner T.base s.log number connection io k.0 fault s.served at_k here);
       seated = subst (λ m. AreSeated s.owner (trace_of T.base ((event.Gone connection, m) ∷ s.log)) seats these) (sym k.1)
