@@ -9,7 +9,10 @@ use Rattle.std.proofs.lemmas.List.{length-set, length-take, take-take, take-appe
 use Rattle.serving.specs.declared.script_links.ScriptLink.{ScriptLink}
 use Rattle.serving.specs.declared.wire.Io.{Io}
 use Rattle.serving.specs.declared.wire.Io.TheVariants.{Broken}
-use Rattle.serving.specs.Wires.{Told, more_at, over_at, begun_at, is_fault, is_live, has_read, has_written, has_accepted, has_closed}
+use Rattle.serving.specs.Wires.{Told, more_at, over_at, begun_at, is_fault, is_live, has_read, has_written, has_accepted, has_closed, ToldOfPorts, IsAccepted}
+use Rattle.serving.specs.declared.wire.Link.{Link}
+use Rattle.serving.specs.declared.wire.Port.TheVariants.{Pop, Admin}
+use Rattle.std.specs.Prelude.{MatchOption}
 use Rattle.serving.specs.Scripts.{taken_of, read_by, written_by, is_over_by, TellsOf}
 use Rattle.serving.proofs.Keeping.{more_same, more_other, more_none}
 
@@ -242,3 +245,14 @@ pub accepted_told : (xs ys zs : List ScriptLink) (ok strayed : Bool) (t : Told) 
 accepted_told xs ys zs ok strayed t x p k e r w o h =
     let all : zs ≡ xs ++ x ∷ [] = p ∙ (ap (λ b. if b then ys ++ x ∷ [] else ys) k ∙ ap (λ q. q ++ x ∷ []) e) in
     subst (λ q. TellsOf q strayed (has_accepted t)) (sym all) (accepts_one xs strayed t x h r w o)
+
+-- a link was accepted at one port
+pub accepts_pop : (P Q : Told → Type 0) (t : ToldOfPorts) (r : Option Link) → MatchOption r (P t.pop) (λ link. (link.number ≡ t.pop.accepted) × P (has_accepted t.pop)) → Q t.admin
+    → IsAccepted (λ u. P u.pop × Q u.admin) Pop t r
+accepts_pop P Q t None h q = (h, q)
+accepts_pop P Q t (Some link) h q = (h.0, (h.1, q))
+
+pub accepts_admin : (P Q : Told → Type 0) (t : ToldOfPorts) (r : Option Link) → P t.pop → MatchOption r (Q t.admin) (λ link. (link.number ≡ t.admin.accepted) × Q (has_accepted t.admin))
+    → IsAccepted (λ u. P u.pop × Q u.admin) Admin t r
+accepts_admin P Q t None p h = (p, h)
+accepts_admin P Q t (Some link) p h = (h.0, (p, h.1))

@@ -1,10 +1,8 @@
-use Rattle.std.proofs.lemmas.List.Elements.{All-nil}
-use Rattle.std.proofs.Common.{[]}
-use Rattle.serving.specs.Served.{Precedes}
+use Rattle.std.proofs.Common.{[], arith}
 use Rattle.serving.proofs.Seating.{contained}
 use Rattle.serving.proofs.turn.serve_seat.Goals as goal
 
 pub returns-clause-serves : goal.returns-clause-serves
 returns-clause-serves g c = λ T beside s clean.
     (let seats = c.args.links.now.seats.items in
-    c.serve_link.ensures.serves seats [] (contained seats c.deref.result.now c.args.place _ c.deref.ensures.0 c.requires) (All-nil (λ t. Precedes t _)) T beside s clean)
+    c.serve_link.ensures.serves seats [] (contained seats c.deref.result.now c.args.place _ c.deref.ensures.0 c.requires) (λ k d within. absurd (omega (arith, within))) T beside s clean)
