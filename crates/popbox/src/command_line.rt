@@ -67,7 +67,7 @@ fn check_policy<'a>(alloc: Global) -> Result<Command<'a>, AllocError> {
         .arg(file.required(true))
 }
 
-/// `serve --store PATH --spool DIR [--listen IPV4] [--pop-port N] [--host NAME] [--idle N] [--turns N]`.
+/// `serve --store PATH --spool DIR [--listen IPV4] [--pop-port N] [--admin-port N] [--host NAME] [--idle N] [--turns N]`.
 fn serve<'a>(alloc: Global) -> Result<Command<'a>, AllocError> {
     let listen = option(
         alloc,
@@ -76,6 +76,12 @@ fn serve<'a>(alloc: Global) -> Result<Command<'a>, AllocError> {
         "The address at which clients connect",
     );
     let port = option(alloc, "pop-port", "N", "The port at which clients connect");
+    let admin = option(
+        alloc,
+        "admin-port",
+        "N",
+        "The port of 127.0.0.1 at which the administration is asked",
+    );
     let idle = option(
         alloc,
         "idle",
@@ -94,6 +100,7 @@ fn serve<'a>(alloc: Global) -> Result<Command<'a>, AllocError> {
         spool.required(true),
         listen.default_value("127.0.0.1"),
         port.default_value("1110").value_parser(value_parser!(u16)),
+        admin.default_value("1111").value_parser(value_parser!(u16)),
         host(alloc),
         idle.default_value("600")
             .value_parser(value_parser!(u32).range(600..=86400)),

@@ -8,6 +8,7 @@ mod loopback;
 mod offices;
 mod policies;
 mod requests;
+mod requests_served;
 mod spools;
 mod statements;
 mod stores;

@@ -5,7 +5,7 @@ use office::{Limits, Office};
 use serving::{FolderSpool, SocketWire, begin, serve_turn};
 use std::io;
 use std::io::Write;
-use std::net::SocketAddr;
+use std::net::{Ipv4Addr, SocketAddr};
 use std::time::Instant;
 use vault::Vault;
 
@@ -32,7 +32,14 @@ pub fn serve_over<V: Vault, E: Write>(
     }
 }
 
-/// Listens, says so, and serves the clients that come.
+/// Listens for clients at an address, and for the administration at a port of 127.0.0.1. Tells both ports.
+fn listen(rt: &HostRuntime, at: SocketAddr, admin: u16) -> io::Result<(SocketWire, u16, u16)> {
+    let (mut wire, port) = SocketWire::bind(rt, rt.alloc(), at)?;
+    let admin_port = wire.bind_admin(rt, SocketAddr::from((Ipv4Addr::LOCALHOST, admin)))?;
+    Ok((wire, port, admin_port))
+}
+
+/// Listens, says so, and serves the clients and administrators that come.
 fn serve<V: Vault, E: Write>(
     rt: &HostRuntime,
     office: &mut Office<V>,
@@ -40,14 +47,16 @@ fn serve<V: Vault, E: Write>(
     options: &ArgMatches<'_>,
     err: &mut E,
 ) -> Result<u8, Fault> {
-    let Ok((mut wire, port)) = SocketWire::bind(rt, rt.alloc(), at) else {
+    let admin = options.get_one::<u16>("admin-port").unwrap_or(1111);
+    let Ok((mut wire, port, admin_port)) = listen(rt, at, admin) else {
         let _ = writeln!(err, "popbox: cannot listen");
         return Ok(1);
     };
     let mut out = io::writer(rt);
     writeln!(out, "pop on {}:{}", at.ip(), port).map_err(|_| Fault::CannotWrite)?;
+    writeln!(out, "admin on 127.0.0.1:{admin_port}").map_err(|_| Fault::CannotWrite)?;
     let mut spool = FolderSpool::new(rt, rt.alloc(), options.get_str("spool").unwrap_or(""));
-    let mut links = begin(office, &wire, &spool);
+    let mut links = begin(rt.alloc(), office, &wire, &spool);
     let Ok(start) = Instant::now(rt) else {
         return Err(Fault::NoClock);
     };

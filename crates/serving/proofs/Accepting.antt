@@ -11,10 +11,9 @@ use Rattle.office.specs.Trace.{history, is_open}
 use Rattle.office.specs.Taken.{trace_of, all_taken_by}
 use Rattle.office.specs.Expected.{IsOutcome, ignored, shown_at, or_ignored}
 use Rattle.office.specs.Outcomes.{Outcome, Reason, mark_of}
-use Rattle.serving.specs.declared.wire.Port.{Port}
 use Rattle.serving.specs.Wires.{Told, has_accepted, has_closed, begun_at, opened_by}
 use Rattle.serving.specs.Spools.{FileAct}
-use Rattle.serving.specs.Served.{given_by, Owners, IsServed, AreServed, IsOwnEvent, AreOwnEvents, Adds}
+use Rattle.serving.specs.Served.{given_by, Owners, IsServed, AreServed, IsOwnEvent, AreOwnEvents, Adds, IsCommand, Beside}
 use Rattle.serving.proofs.Keeping.{stays, of_some, served_closed}
 use Rattle.serving.proofs.Staying.{frame_connect}
 
@@ -97,8 +96,8 @@ module _ (told : Told) (owner : Owners) (B : Records) (L : Log) where
   pub next_free : AreServed told owner B L → owner told.accepted ≡ None
   next_free a = none_of (owner told.accepted) (λ c e. (let h = a.accepted told.accepted c e in omega (arith, h)))
 
-  pub served_refused : (port : Port) (m : Mark) → IsRefusal m → AreServed told owner B L → AreServed (has_accepted told port) owner B ((event.Connect, m) ∷ L)
-  served_refused port m r a = record {
+  pub served_refused : (m : Mark) → IsRefusal m → AreServed told owner B L → AreServed (has_accepted told) owner B ((event.Connect, m) ∷ L)
+  served_refused m r a = record {
     each = λ j. stays B L event.Connect m (owner j) (told.read j) (told.written j) (a.each j) (λ d e. refused_stays m r d);
     own = a.own;
     accepted = λ k c e. (let h = a.accepted k c e in omega (arith, h));
@@ -108,9 +107,9 @@ module _ (told : Told) (owner : Owners) (B : Records) (L : Log) where
   }
 
   -- and it is closed
-  pub served_unseated : (port : Port) (m : Mark) → IsRefusal m → AreServed told owner B L → AreServed (has_closed (has_accepted told port) told.accepted) owner B ((event.Connect, m) ∷ L)
-  served_unseated port m r a =
-      served_closed (has_accepted told port) owner B ((event.Connect, m) ∷ L) told.accepted (λ d e. absurd (some_none d (sym e ∙ next_free a))) (served_refused port m r a)
+  pub served_unseated : (m : Mark) → IsRefusal m → AreServed told owner B L → AreServed (has_closed (has_accepted told) told.accepted) owner B ((event.Connect, m) ∷ L)
+  served_unseated m r a =
+      served_closed (has_accepted told) owner B ((event.Connect, m) ∷ L) told.accepted (λ d e. absurd (some_none d (sym e ∙ next_free a))) (served_refused m r a)
 
   -- ---- a link that got one
 
@@ -150,8 +149,8 @@ module _ (told : Told) (owner : Owners) (B : Records) (L : Log) where
   pub opened_before : (connection : ℕ) → connection ≡ next_number L → AreServed told owner B L → (k c : ℕ) → owner k ≡ Some c → c < connection
   opened_before connection e a k c at_k = let h = a.opened k c at_k in omega (arith, h, e)
 
-  pub served_accepted : (port : Port) → AreServed told owner B L → AreServed (has_accepted told port) (owned_at told.accepted (next_number L) owner) B ((event.Connect, Tagged Done) ∷ L)
-  served_accepted port a = record {
+  pub served_accepted : AreServed told owner B L → AreServed (has_accepted told) (owned_at told.accepted (next_number L) owner) B ((event.Connect, Tagged Done) ∷ L)
+  served_accepted a = record {
     each = λ j.
         ⊎_elim
         (λ (e : j ≡ told.accepted).
@@ -210,9 +209,16 @@ own_still owner after more (event.Deposit d class id text) i = tt
 own_still owner after more (event.Admin command) i = absurd i
 own_still owner after more (event.Restart boot) i = absurd i
 
+either_still : (owner after : Owners) → ((k c : ℕ) → owner k ≡ Some c → after k ≡ Some c) → (e : Event) → IsOwnEvent owner e ⊎ IsCommand e → IsOwnEvent after e ⊎ IsCommand e
+either_still owner after more e (inl i) = inl (own_still owner after more e i)
+either_still owner after more e (inr k) = inr k
+
 events_still : (owner after : Owners) → ((k c : ℕ) → owner k ≡ Some c → after k ≡ Some c) → (L : Log) → AreOwnEvents owner L → AreOwnEvents after L
 events_still owner after more [] i = tt
-events_still owner after more ((e, m) ∷ L) i = (own_still owner after more e i.0, events_still owner after more L i.1)
+events_still owner after more ((e, m) ∷ L) i = (either_still owner after more e i.0, events_still owner after more L i.1)
 
-pub adds_still : (owner after : Owners) → ((k c : ℕ) → owner k ≡ Some c → after k ≡ Some c) → (B : Records) (older L : Log) (acts : List FileAct) (calls : ℕ) → Adds owner B older L acts calls → Adds after B older L acts calls
-adds_still owner after more B older L acts calls a = record { more = a.more; is = a.is; each = events_still owner after more a.more a.each; filed = a.filed; counted = a.counted }
+pub adds_still : (owner after : Owners) → ((k c : ℕ) → owner k ≡ Some c → after k ≡ Some c) → (B : Records) (older L : Log) (beside : Beside) (calls : ℕ) → Adds owner B older L beside calls → Adds after B older L beside calls
+adds_still owner after more B older L beside calls a = record {
+  events = record { more = a.events.more; is = a.events.is; each = events_still owner after more a.events.more a.events.each; filed = a.events.filed; counted = a.events.counted };
+  requests = a.requests;
+}

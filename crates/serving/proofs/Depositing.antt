@@ -1,5 +1,5 @@
 -- A spool file that is tried.
-use Rattle.std.proofs.Common.{◌≡◌, ℕ, Bool, true, false, List, [], ◌∷◌, ◌++◌, refl, sym, ◌∙◌, ap, subst, inl, inr}
+use Rattle.std.proofs.Common.{◌≡◌, ℕ, Bool, true, false, List, [], ◌∷◌, ◌++◌, refl, sym, ◌∙◌, ap, subst, inl, inr, length}
 use Rattle.std.specs.Bool.{if◌then◌else◌}
 use Rattle.vault.specs.Records.{Records}
 use Rattle.vault.specs.Changes.{Contents}
@@ -14,15 +14,17 @@ use Rattle.office.specs.Laws.{TakenIsSent}
 use Rattle.office.specs.declared.office.Office.{Office}
 use Rattle.serving.specs.declared.file_name.FileName.{FileName}
 use Rattle.serving.specs.declared.files.Disposal.{Disposal}
-use Rattle.serving.specs.Wires.{Told}
+use Rattle.serving.specs.Wires.{Told, ToldOfPorts}
+use Rattle.serving.specs.Requests.{Exchanges, AreHeld, Asks, AsksNone, AsksMore, IsAnswering, IsAsked}
+use Rattle.serving.specs.declared.requests.Exchange.{Exchange}
 use Rattle.serving.specs.Spools.{FileAct, WasRead, disposal_of, disposed, IsFiled}
 use Rattle.office.specs.Taken.{trace_of, IsAdmitted, AreAdmittedBy, IsSentExactly}
-use Rattle.serving.specs.Deposits.{IsOneFile, NoFile, OneFile, IsTried}
-use Rattle.serving.specs.Served.{Owners, AreServed, AreSeated, Adds, IsServing, Serves}
+use Rattle.serving.specs.Deposits.{IsOneFile, NoFile, OneFile, IsTried, named}
+use Rattle.serving.specs.Served.{Owners, AreServed, AreSeated, Adds, IsServing, Serves, Beside, AddsEvents}
 use Rattle.serving.specs.declared.links.Seat.{Seat}
-use Rattle.serving.proofs.Keeping.{served_deposit, adds_deposit}
-use Rattle.serving.proofs.Seating.{seated_same}
-use Rattle.serving.proofs.Staying.{deposit_same}
+use Rattle.serving.proofs.Keeping.{served_deposit, adds_deposit, served_command, events_command}
+use Rattle.serving.proofs.Seating.{seated_same, seated_fewer}
+use Rattle.serving.proofs.Staying.{deposit_same, fewer_command}
 
 -- ---- the outcome of a deposit
 
@@ -67,27 +69,33 @@ module _ {V S : Type 0} (Holds : V → Contents → Type 0) (Tells : S → List 
 -- ---- serving after it
 
 -- what is said of links stays
-record Remains (told : Told) (owner : Owners) (T : Trace) (L : Log) (acts : List FileAct) (seats : List Seat) : Type 0 where
+record Remains (told : Told) (owner : Owners) (T : Trace) (L : Log) (beside : Beside) (seats : List Seat) : Type 0 where
   served : AreServed told owner T.base L
   seated : AreSeated owner (trace_of T.base L) seats seats
-  adds : Adds owner T.base T.log L acts told.callers
+  adds : Adds owner T.base T.log L beside told.accepted
 
-remains : (told : Told) (owner : Owners) (T : Trace) (L : Log) (acts : List FileAct) (seats : List Seat) (L' : Log) (acts' : List FileAct) → IsOneFile (trace_of T.base L) acts L' acts'
-    → Remains told owner T L acts seats → Remains told owner T L' acts' seats
-remains told owner T L acts seats _ _ NoFile r = r
-remains told owner T L acts seats _ _ (OneFile d class id text t acts' f) r = record {
+-- with what happened to files since
+abbrev with_acts : Beside → List FileAct → Beside
+with_acts beside acts = record { acts = acts; admin = beside.admin; x = beside.x }
+
+remains : (told : Told) (owner : Owners) (T : Trace) (L : Log) (beside : Beside) (seats : List Seat) (acts : List FileAct) → acts ≡ beside.acts → (L' : Log) (acts' : List FileAct) → IsOneFile (trace_of T.base L) acts L' acts'
+    → Remains told owner T L beside seats → Remains told owner T L' (with_acts beside acts') seats
+remains told owner T L beside seats acts e _ _ NoFile r = subst (λ a. Remains told owner T L (with_acts beside a) seats) (sym e) r
+remains told owner T L beside seats acts e _ _ (OneFile d class id text t acts' f) r = record {
   served = served_deposit told owner T.base L d class id text t r.served;
   seated = seated_same owner T.base L seats seats ((event.Deposit d class id text, Tagged t) ∷ L) (deposit_same T.base L d class id text t) r.seated;
-  adds = adds_deposit owner T.base T.log L acts acts' told.callers d class id text t f r.adds;
+  adds = adds_deposit owner T.base T.log L beside acts' told.accepted d class id text t
+      (subst (λ a. IsFiled (named d class id) text (disposal_of (shown_at T.base L (history (trace_of T.base L)) (event.Deposit d class id text) t)) a acts') e f) r.adds;
 }
 
-pub serves_tried : {V W S : Type 0} (Holds : V → Contents → Type 0) (Tells : W → Told → Type 0) (TellsFiles : S → List FileAct → Type 0) (T : Trace) (acts : List FileAct)
-    (office office' : Office V) (wire : W) (spool : S) (seats : List Seat) (s : IsServing Holds Tells T acts office wire seats seats) → TakenIsSent
-    → IsTried Holds TellsFiles (trace_of T.base s.log) acts office' spool → Serves Holds Tells TellsFiles T office' wire spool seats
-serves_tried Holds Tells TellsFiles T acts office office' wire spool seats s law k =
-    let r = remains s.told s.owner T s.log acts seats k.log k.acts_then k.one (record { served = s.served; seated = s.seated; adds = s.adds }) in
+pub serves_tried : {V W S : Type 0} (Holds : V → Contents → Type 0) (Tells : W → ToldOfPorts → Type 0) (TellsFiles : S → List FileAct → Type 0) (T : Trace) (beside : Beside)
+    (office office' : Office V) (wire : W) (spool : S) (seats : List Seat) (held : List Exchange) (s : IsServing Holds Tells T beside office wire seats seats) → TakenIsSent
+    → AreHeld beside.admin beside.x held
+    → IsTried Holds TellsFiles (trace_of T.base s.log) beside.acts office' spool → Serves Holds Tells TellsFiles T office' wire spool seats held
+serves_tried Holds Tells TellsFiles T beside office office' wire spool seats held s law requests k =
+    let r = remains s.told s.owner T s.log beside seats beside.acts refl k.log k.acts_then k.one (record { served = s.served; seated = s.seated; adds = s.adds }) in
     record {
-      acts = k.acts_then;
+      beside = with_acts beside k.acts_then;
       tells = k.tells;
       is = record {
         log = k.log;
@@ -101,4 +109,57 @@ serves_tried Holds Tells TellsFiles T acts office office' wire spool seats s law
         adds = r.adds;
       };
       sent = λ c. law (trace_of T.base k.log) (k.admitted s.admitted) c;
+      requests = requests;
     }
+
+-- ---- serving after requests
+
+-- what commands leave of what is said of clients' links
+record Leaves (told : Told) (owner : Owners) (T : Trace) (acts : List FileAct) (seats : List Seat) (L : Log) : Type 0 where
+  served : AreServed told owner T.base L
+  seated : AreSeated owner (trace_of T.base L) seats []
+  events : AddsEvents owner T.base T.log L acts told.accepted
+
+leaves_asked : (told : Told) (owner : Owners) (T : Trace) (acts : List FileAct) (seats : List Seat) (L L' : Log) → Asks L L' → Leaves told owner T acts seats L → Leaves told owner T acts seats L'
+leaves_asked told owner T acts seats L _ AsksNone r = r
+leaves_asked told owner T acts seats L _ (AsksMore command m L2 more) r =
+    let k = leaves_asked told owner T acts seats L L2 more r in
+    record {
+      served = served_command told owner T.base L2 command m k.served;
+      seated = seated_fewer owner T.base L2 seats [] ((event.Admin command, m) ∷ L2) (fewer_command T.base L2 command m) k.seated;
+      events = events_command owner T.base T.log L2 acts told.accepted command m k.events;
+    }
+
+-- requests were answered: the connections of no seats need be open then
+pub serves_asked : {V W : Type 0} (Holds : V → Contents → Type 0) (Tells : W → ToldOfPorts → Type 0) (T : Trace) (beside : Beside)
+    (office office' : Office V) (wire wire' : W) (seats : List Seat) (AreKept : Told → Exchanges → Type 0) (s : IsServing Holds Tells T beside office wire seats [])
+    (k : IsAsked Holds Tells T.base (length T.log) s.log s.told office' wire' AreKept) → IsServing Holds Tells T (record { acts = beside.acts; admin = k.is.told; x = k.x }) office' wire' seats []
+serves_asked Holds Tells T beside office office' wire wire' seats AreKept s k =
+    let r = leaves_asked s.told s.owner T beside.acts seats s.log k.log k.grown (record { served = s.served; seated = s.seated; events = s.adds.events }) in
+    record {
+      log = k.log;
+      told = s.told;
+      owner = s.owner;
+      stands = k.stands;
+      admitted = k.admitted s.admitted;
+      tells = k.is.tells;
+      served = r.served;
+      seated = r.seated;
+      adds = record { events = r.events; requests = k.is.exchanged };
+    }
+
+-- links of the administration came
+pub serves_answering : {V W : Type 0} (Holds : V → Contents → Type 0) (Tells : W → ToldOfPorts → Type 0) (T : Trace) (beside : Beside)
+    (office : Office V) (wire wire' : W) (seats : List Seat) (AreKept : Told → Exchanges → Type 0) (s : IsServing Holds Tells T beside office wire seats [])
+    (k : IsAnswering Tells beside.x T.base (length T.log) s.log s.told wire' AreKept) → IsServing Holds Tells T (record { acts = beside.acts; admin = k.told; x = beside.x }) office wire' seats []
+serves_answering Holds Tells T beside office wire wire' seats AreKept s k = record {
+  log = s.log;
+  told = s.told;
+  owner = s.owner;
+  stands = s.stands;
+  admitted = s.admitted;
+  tells = k.tells;
+  served = s.served;
+  seated = s.seated;
+  adds = record { events = s.adds.events; requests = k.exchanged };
+}

@@ -1,5 +1,5 @@
 -- What happens to one link leaves each link served.
-use Rattle.std.proofs.Common.{◌≡◌, ℕ, ◌<◌, ◌+◌, Bool, true, false, not, ◌&&◌, ◌||◌, ◌==◌, nat_lt, lt-ltb, List, [], ◌∷◌, ◌++◌, take, refl, sym, ◌∙◌, ap, arith, None, Some, Option, eq-eqb, ne_eqb, ⊎_elim, subst, append-nil, true≢false}
+use Rattle.std.proofs.Common.{◌≡◌, ℕ, ◌<◌, ◌+◌, Bool, true, false, not, ◌&&◌, ◌||◌, ◌==◌, nat_lt, lt-ltb, List, [], ◌∷◌, ◌++◌, take, refl, sym, ◌∙◌, ap, arith, None, Some, Option, eq-eqb, ne_eqb, ⊎_elim, subst, append-nil, true≢false, inl, inr, length}
 use Rattle.std.specs.Bool.{if◌then◌else◌}
 use Rattle.std.proofs.lemmas.Bool.{cases_eq}
 use Rattle.vault.specs.Records.{Records}
@@ -8,16 +8,16 @@ use Rattle.office.specs.Events.{Event, Mark, Tagged, Ignored, Log, Trace}
 use Rattle.office.specs.Events as event
 use Rattle.office.specs.Trace.{rest, history, is_open}
 use Rattle.office.specs.Taken.{trace_of, all_taken_by}
-use Rattle.serving.specs.declared.wire.Port.{Port}
-use Rattle.serving.specs.declared.wire.Port.TheVariants.{Pop}
 use Rattle.serving.specs.declared.wire.Io.{Io}
 use Rattle.serving.specs.declared.wire.Io.TheVariants.{Count, Later, End, Broken}
-use Rattle.serving.specs.Wires.{Told, more_at, over_at, is_fault, is_live, counted, has_read, has_written, has_closed, callers_after}
+use Rattle.serving.specs.Wires.{Told, more_at, over_at, is_fault, is_live, counted, has_read, has_written, has_closed}
 use Rattle.office.specs.Expected.{shown_at}
 use Rattle.serving.specs.Spools.{FileAct, disposal_of, IsFiled}
 use Rattle.serving.specs.Deposits.{named, IsFiledBy, AreFiled}
-use Rattle.serving.specs.Served.{given_by, Owners, IsServed, AreServed, IsOwnEvent, Adds, connects}
-use Rattle.serving.proofs.Staying.{Fewer, Frame, fewer_framed, frame_read, frame_took, frame_gone, gone_so, fewer_tick, deposit_same}
+use Rattle.serving.specs.Served.{given_by, Owners, IsServed, AreServed, IsOwnEvent, Adds, connects, IsCommand, Beside, AddsEvents}
+use Rattle.office.specs.Answers.{AdminCommand}
+use Rattle.serving.proofs.Requesting.{exchanged_more}
+use Rattle.serving.proofs.Staying.{Fewer, Frame, fewer_framed, frame_read, frame_took, frame_gone, gone_so, fewer_tick, deposit_same, fewer_command}
 
 -- ---- octets more at one number
 
@@ -265,36 +265,94 @@ module _ (told : Told) (owner : Owners) (B : Records) (L : Log) where
 -- ---- events
 
 -- one that is no opening and no deposit leaves files alone
-pub adds_one : (owner : Owners) (B : Records) (older L : Log) (acts : List FileAct) (calls : ℕ) (e : Event) (m : Mark) → IsOwnEvent owner e
+events_one : (owner : Owners) (B : Records) (older L : Log) (acts : List FileAct) (calls : ℕ) (e : Event) (m : Mark) → IsOwnEvent owner e
     → ((l : Log) (Before : List FileAct → Type 0) → Before acts → IsFiledBy B l e m Before acts) → ((l : Log) → connects ((e, m) ∷ l) ≡ connects l)
-    → Adds owner B older L acts calls → Adds owner B older ((e, m) ∷ L) acts calls
-adds_one owner B older L acts calls e m i none same a = record {
+    → AddsEvents owner B older L acts calls → AddsEvents owner B older ((e, m) ∷ L) acts calls
+events_one owner B older L acts calls e m i none same a = record {
   more = (e, m) ∷ a.more;
   is = ap (λ l. (e, m) ∷ l) a.is;
-  each = (i, a.each);
+  each = (inl i, a.each);
   filed = none (a.more ++ older) (AreFiled B older a.more) a.filed;
   counted = same a.more ∙ a.counted;
 }
 
 -- an opening was asked for
-pub adds_connect : (owner : Owners) (B : Records) (older L : Log) (acts : List FileAct) (calls : ℕ) (port : Port) (m : Mark)
-    → Adds owner B older L acts calls → Adds owner B older ((event.Connect, m) ∷ L) acts (callers_after port calls)
-adds_connect owner B older L acts calls Pop m a = record {
+events_connect : (owner : Owners) (B : Records) (older L : Log) (acts : List FileAct) (calls : ℕ) (m : Mark)
+    → AddsEvents owner B older L acts calls → AddsEvents owner B older ((event.Connect, m) ∷ L) acts (calls + 1)
+events_connect owner B older L acts calls m a = record {
   more = (event.Connect, m) ∷ a.more;
   is = ap (λ l. (event.Connect, m) ∷ l) a.is;
-  each = (tt, a.each);
+  each = (inl tt, a.each);
   filed = a.filed;
   counted = ap (λ n. n + 1) a.counted;
 }
 
 -- a deposit is of a file that was tried
-pub adds_deposit : (owner : Owners) (B : Records) (older L : Log) (acts acts_then : List FileAct) (calls : ℕ) (d class id text : List ℕ) (t : Tag)
+events_deposit : (owner : Owners) (B : Records) (older L : Log) (acts acts_then : List FileAct) (calls : ℕ) (d class id text : List ℕ) (t : Tag)
     → IsFiled (named d class id) text (disposal_of (shown_at B L (history (trace_of B L)) (event.Deposit d class id text) t)) acts acts_then
-    → Adds owner B older L acts calls → Adds owner B older ((event.Deposit d class id text, Tagged t) ∷ L) acts_then calls
-adds_deposit owner B older L acts acts_then calls d class id text t f a = record {
+    → AddsEvents owner B older L acts calls → AddsEvents owner B older ((event.Deposit d class id text, Tagged t) ∷ L) acts_then calls
+events_deposit owner B older L acts acts_then calls d class id text t f a = record {
   more = (event.Deposit d class id text, Tagged t) ∷ a.more;
   is = ap (λ l. (event.Deposit d class id text, Tagged t) ∷ l) a.is;
-  each = (tt, a.each);
+  each = (inl tt, a.each);
   filed = (acts, a.filed, subst (λ l. IsFiled (named d class id) text (disposal_of (shown_at B l (history (trace_of B l)) (event.Deposit d class id text) t)) acts acts_then) a.is f);
+  counted = a.counted;
+}
+
+-- ---- beside requests
+
+own_no_command : (owner : Owners) (e : Event) → IsOwnEvent owner e → IsCommand e → ⊥
+own_no_command owner (event.Start host boot idle) i k = k
+own_no_command owner event.Connect i k = k
+own_no_command owner (event.Bytes c piece) i k = k
+own_no_command owner (event.Took c octets) i k = k
+own_no_command owner (event.Gone c) i k = k
+own_no_command owner (event.Tick now) i k = k
+own_no_command owner (event.Deposit d class id text) i k = k
+own_no_command owner (event.Admin command) i k = i
+own_no_command owner (event.Restart boot) i k = k
+
+pub adds_one : (owner : Owners) (B : Records) (older L : Log) (beside : Beside) (calls : ℕ) (e : Event) (m : Mark) → IsOwnEvent owner e
+    → ((l : Log) (Before : List FileAct → Type 0) → Before beside.acts → IsFiledBy B l e m Before beside.acts) → ((l : Log) → connects ((e, m) ∷ l) ≡ connects l)
+    → Adds owner B older L beside calls → Adds owner B older ((e, m) ∷ L) beside calls
+adds_one owner B older L beside calls e m i none same a = record {
+  events = events_one owner B older L beside.acts calls e m i none same a.events;
+  requests = exchanged_more beside.admin beside.x B (length older) L e m (own_no_command owner e i) a.requests;
+}
+
+pub adds_connect : (owner : Owners) (B : Records) (older L : Log) (beside : Beside) (calls : ℕ) (m : Mark)
+    → Adds owner B older L beside calls → Adds owner B older ((event.Connect, m) ∷ L) beside (calls + 1)
+adds_connect owner B older L beside calls m a = record {
+  events = events_connect owner B older L beside.acts calls m a.events;
+  requests = exchanged_more beside.admin beside.x B (length older) L event.Connect m (λ k. k) a.requests;
+}
+
+pub adds_deposit : (owner : Owners) (B : Records) (older L : Log) (beside : Beside) (acts_then : List FileAct) (calls : ℕ) (d class id text : List ℕ) (t : Tag)
+    → IsFiled (named d class id) text (disposal_of (shown_at B L (history (trace_of B L)) (event.Deposit d class id text) t)) beside.acts acts_then
+    → Adds owner B older L beside calls → Adds owner B older ((event.Deposit d class id text, Tagged t) ∷ L) (record { acts = acts_then; admin = beside.admin; x = beside.x }) calls
+adds_deposit owner B older L beside acts_then calls d class id text t f a = record {
+  events = events_deposit owner B older L beside.acts acts_then calls d class id text t f a.events;
+  requests = exchanged_more beside.admin beside.x B (length older) L (event.Deposit d class id text) (Tagged t) (λ k. k) a.requests;
+}
+
+-- a command was given
+module _ (told : Told) (owner : Owners) (B : Records) (L : Log) (command : AdminCommand) (m : Mark) where
+  pub served_command : AreServed told owner B L → AreServed told owner B ((event.Admin command, m) ∷ L)
+  served_command a = record {
+    each = λ j. stays B L (event.Admin command) m (owner j) (told.read j) (told.written j) (a.each j) (λ d e. (refl, refl));
+    own = a.own;
+    accepted = a.accepted;
+    opened = a.opened;
+    over = over_still told owner B L ((event.Admin command, m) ∷ L) (fewer_command B L command m) a;
+    straight = a.straight;
+  }
+
+pub events_command : (owner : Owners) (B : Records) (older L : Log) (acts : List FileAct) (calls : ℕ) (command : AdminCommand) (m : Mark)
+    → AddsEvents owner B older L acts calls → AddsEvents owner B older ((event.Admin command, m) ∷ L) acts calls
+events_command owner B older L acts calls command m a = record {
+  more = (event.Admin command, m) ∷ a.more;
+  is = ap (λ l. (event.Admin command, m) ∷ l) a.is;
+  each = (inr tt, a.each);
+  filed = a.filed;
   counted = a.counted;
 }

@@ -1,3 +1,4 @@
+pub mod Requesting
 pub mod Marks
 pub mod Staying
 pub mod Keeping

@@ -6,11 +6,13 @@ use Rattle.std.proofs.lemmas.Bool.{cases_eq}
 use Rattle.std.proofs.lemmas.Bool.Decides.{nat_tests}
 use Rattle.std.proofs.Math.Seq.{take-add}
 use Rattle.std.proofs.lemmas.List.{length-set, length-take, take-take, take-append-le}
-use Rattle.serving.specs.declared.script_wire.ScriptLink.{ScriptLink}
+use Rattle.serving.specs.declared.script_links.ScriptLink.{ScriptLink}
 use Rattle.serving.specs.declared.wire.Io.{Io}
 use Rattle.serving.specs.declared.wire.Io.TheVariants.{Broken}
-use Rattle.serving.specs.declared.wire.Port.TheVariants.{Pop}
-use Rattle.serving.specs.Wires.{Told, more_at, over_at, begun_at, is_fault, is_live, has_read, has_written, has_accepted, has_closed}
+use Rattle.serving.specs.Wires.{Told, more_at, over_at, begun_at, is_fault, is_live, has_read, has_written, has_accepted, has_closed, ToldOfPorts, IsAccepted}
+use Rattle.serving.specs.declared.wire.Link.{Link}
+use Rattle.serving.specs.declared.wire.Port.TheVariants.{Pop, Admin}
+use Rattle.std.specs.Prelude.{MatchOption}
 use Rattle.serving.specs.Scripts.{taken_of, read_by, written_by, is_over_by, TellsOf}
 use Rattle.serving.proofs.Keeping.{more_same, more_other, more_none}
 
@@ -104,7 +106,6 @@ module _ (xs : List ScriptLink) (strayed : Bool) (t : Told) (i : ℕ) where
       → y.is_over ≡ (x.is_over || is_fault io) → TellsOf (set xs i y) (strayed || x.is_over) (has_read t i io more)
   read_more x y io more h at w r s o = record {
     accepted = h.accepted ∙ sym (length-set xs i y);
-    callers = h.callers ∙ sym (length-set xs i y);
     read = view_more read_by t.read xs i x y more h.read at r;
     written = view_same written_by t.written xs i x y h.written at (ap vec_items s);
     over = λ k l. over_then t.over xs i x y (is_fault io) h.over at o k (length_there x y k l);
@@ -116,7 +117,6 @@ module _ (xs : List ScriptLink) (strayed : Bool) (t : Told) (i : ℕ) where
       → y.is_over ≡ (x.is_over || is_fault io) → TellsOf (set xs i y) (strayed || x.is_over) (has_written t i io more)
   write_more x y io more h at w r s o = record {
     accepted = h.accepted ∙ sym (length-set xs i y);
-    callers = h.callers ∙ sym (length-set xs i y);
     read = view_same read_by t.read xs i x y h.read at r;
     written = view_more written_by t.written xs i x y more h.written at s;
     over = λ k l. over_then t.over xs i x y (is_fault io) h.over at o k (length_there x y k l);
@@ -127,7 +127,6 @@ module _ (xs : List ScriptLink) (strayed : Bool) (t : Told) (i : ℕ) where
   pub close_one : (x y : ScriptLink) → TellsOf xs strayed t → slice_get xs i ≡ Some x → taken_of y ≡ taken_of x → y.written ≡ x.written → y.is_over ≡ true → TellsOf (set xs i y) strayed (has_closed t i)
   close_one x y h at r s o = record {
     accepted = h.accepted ∙ sym (length-set xs i y);
-    callers = h.callers ∙ sym (length-set xs i y);
     read = view_same read_by t.read xs i x y h.read at r;
     written = view_same written_by t.written xs i x y h.written at (ap vec_items s);
     over = λ k l. over_then t.over xs i x y true h.over at (o ∙ sym (or_true x.is_over)) k (length_there x y k l);
@@ -141,7 +140,6 @@ module _ (xs : List ScriptLink) (strayed : Bool) (t : Told) (i : ℕ) where
   pub read_astray : TellsOf xs strayed t → length xs ≤ i → TellsOf xs true (has_read t i Broken [])
   read_astray h l = record {
     accepted = h.accepted;
-    callers = h.callers;
     read = λ k. more_none i k t.read ∙ h.read k;
     written = h.written;
     over = λ k w. over_none t.over i k (length xs) true l w ∙ h.over k w;
@@ -151,7 +149,6 @@ module _ (xs : List ScriptLink) (strayed : Bool) (t : Told) (i : ℕ) where
   pub write_astray : TellsOf xs strayed t → length xs ≤ i → TellsOf xs true (has_written t i Broken [])
   write_astray h l = record {
     accepted = h.accepted;
-    callers = h.callers;
     read = h.read;
     written = λ k. more_none i k t.written ∙ h.written k;
     over = λ k w. over_none t.over i k (length xs) true l w ∙ h.over k w;
@@ -161,7 +158,6 @@ module _ (xs : List ScriptLink) (strayed : Bool) (t : Told) (i : ℕ) where
   pub close_none : TellsOf xs strayed t → length xs ≤ i → TellsOf xs strayed (has_closed t i)
   close_none h l = record {
     accepted = h.accepted;
-    callers = h.callers;
     read = h.read;
     written = h.written;
     over = λ k w. over_none t.over i k (length xs) true l w ∙ h.over k w;
@@ -192,10 +188,9 @@ within_old : (n k m l : ℕ) → m ≡ n → l ≡ n + 1 → k < l → (k ≡ m 
 within_old n k m l e f h ne = grind (arith, nat_tests)
 
 pub accepts_one : (xs : List ScriptLink) (strayed : Bool) (t : Told) (x : ScriptLink) → TellsOf xs strayed t → read_by (Some x) ≡ [] → written_by (Some x) ≡ [] → x.is_over ≡ false
-    → TellsOf (xs ++ x ∷ []) strayed (has_accepted t Pop)
+    → TellsOf (xs ++ x ∷ []) strayed (has_accepted t)
 accepts_one xs strayed t x h r w o = record {
   accepted = (let a = h.accepted in omega (arith, a, length-append xs (x ∷ [])));
-  callers = (let a = h.callers in omega (arith, a, length-append xs (x ∷ [])));
   read = λ k. h.read k ∙ sym (view_push read_by x r xs k);
   written = λ k. h.written k ∙ sym (view_push written_by x w xs k);
   over = λ k l.
@@ -246,7 +241,18 @@ module _ (xs ys : List ScriptLink) (strayed s : Bool) (t : Told) (i n : ℕ) (l 
       (subst (λ m. TellsOf (set ys i y) (s || x.is_over) (has_written t m io more)) k (write_more ys s t i x y io more (told_there e b h) (link_found ys i x w fx) w r v o))
 
 pub accepted_told : (xs ys zs : List ScriptLink) (ok strayed : Bool) (t : Told) (x : ScriptLink) → zs ≡ (if ok then ys ++ x ∷ [] else ys) → ok ≡ true → ys ≡ xs
-    → taken_of x ≡ [] → x.written.items ≡ [] → x.is_over ≡ false → TellsOf xs strayed t → TellsOf zs strayed (has_accepted t Pop)
+    → taken_of x ≡ [] → x.written.items ≡ [] → x.is_over ≡ false → TellsOf xs strayed t → TellsOf zs strayed (has_accepted t)
 accepted_told xs ys zs ok strayed t x p k e r w o h =
     let all : zs ≡ xs ++ x ∷ [] = p ∙ (ap (λ b. if b then ys ++ x ∷ [] else ys) k ∙ ap (λ q. q ++ x ∷ []) e) in
-    subst (λ q. TellsOf q strayed (has_accepted t Pop)) (sym all) (accepts_one xs strayed t x h r w o)
+    subst (λ q. TellsOf q strayed (has_accepted t)) (sym all) (accepts_one xs strayed t x h r w o)
+
+-- a link was accepted at one port
+pub accepts_pop : (P Q : Told → Type 0) (t : ToldOfPorts) (r : Option Link) → MatchOption r (P t.pop) (λ link. (link.number ≡ t.pop.accepted) × P (has_accepted t.pop)) → Q t.admin
+    → IsAccepted (λ u. P u.pop × Q u.admin) Pop t r
+accepts_pop P Q t None h q = (h, q)
+accepts_pop P Q t (Some link) h q = (h.0, (h.1, q))
+
+pub accepts_admin : (P Q : Told → Type 0) (t : ToldOfPorts) (r : Option Link) → P t.pop → MatchOption r (Q t.admin) (λ link. (link.number ≡ t.admin.accepted) × Q (has_accepted t.admin))
+    → IsAccepted (λ u. P u.pop × Q u.admin) Admin t r
+accepts_admin P Q t None p h = (p, h)
+accepts_admin P Q t (Some link) p h = (h.0, (p, h.1))

@@ -4,9 +4,12 @@ use Rattle.std.specs.Bool.{⊤, if◌then◌else◌}
 use Rattle.std.proofs.lemmas.Bool.{cases_eq}
 use Rattle.popline.specs.Cutting.{Cut, has_newline}
 use Rattle.vault.specs.Records.{Records}
-use Rattle.office.specs.History.{Act, Open, Line, Gone, Idle, Deposit, Administer, Restart, Tag, Done, Failed, NoMemory, Said}
+use Rattle.office.specs.History.{Act, Open, Line, Gone, Idle, Deposit, Administer, Restart, Tag, Done, Failed, NoMemory, Said, Entry}
 use Rattle.office.specs.Connections.{connected, connected_after, closing, closing_after, sent, sent_after, serving}
-use Rattle.office.specs.Told.{told, said_to}
+use Rattle.office.specs.Told.{told, said_to, answers_if_done}
+use Rattle.office.specs.Sessions.{live}
+use Rattle.office.specs.Answers as answer
+use Rattle.office.specs.Answers.{AdminCommand, ListMaildrops, ShowMaildrop, AddMaildrop, DropMaildrop, ShowClerk, PutClerk, DropClerk, ShowPolicy, SetPolicy, ListSessions, EndSession, Explain}
 use Rattle.office.specs.Events.{Event, Mark, Tagged, Ignored, Log}
 use Rattle.office.specs.Events as event
 use Rattle.office.specs.Log.{next_number, taken, moment}
@@ -236,3 +239,37 @@ module _ (B : Records) (L : Log) where
       let i = idle_ends (idle_numbers L (history (trace_of B L)) (max (moment L) now)) in
       fewer_by (connected (told B H) d) (connected (told B (new ++ H)) d) (closing (told B H) d) (closing (told B (new ++ H)) d) (taken L d) (sent (told B H) d) (sent (told B (new ++ H)) d)
       (was_connected B H d new i) (ends_closing B H d new i) (ends_sent B H d new i) e
+
+-- ---- an administrator's command
+
+ended_if : (at before : Bool) → (if at then false else before) ≡ true → before ≡ true
+ended_if true before e = cc
+ended_if false before e = e
+
+end_connected : (t : Tag) (lives : Bool) (n d : ℕ) (b : Bool) → connected_after (Administer (EndSession n)) t (answers_if_done t (if lives then answer.Ended else answer.NoSuchSession)) d b ≡ true → b ≡ true
+end_connected Done true n d b e = ended_if (n == d) b e
+end_connected Done false n d b e = e
+end_connected Failed lives n d b e = e
+end_connected NoMemory lives n d b e = e
+
+command_connected : (B : Records) (G : List Entry) (command : AdminCommand) (t : Tag) (d : ℕ) (b : Bool) → connected_after (Administer command) t (said_to B G (Administer command) t) d b ≡ true → b ≡ true
+command_connected B G ListMaildrops t d b e = e
+command_connected B G (ShowMaildrop m) t d b e = e
+command_connected B G (AddMaildrop m) t d b e = e
+command_connected B G (DropMaildrop m) t d b e = e
+command_connected B G (ShowClerk c) t d b e = e
+command_connected B G (PutClerk c k) t d b e = e
+command_connected B G (DropClerk c) t d b e = e
+command_connected B G ShowPolicy t d b e = e
+command_connected B G (SetPolicy p) t d b e = e
+command_connected B G ListSessions t d b e = e
+command_connected B G (EndSession n) t d b e = end_connected t (live G n) n d b e
+command_connected B G (Explain c m class a) t d b e = e
+
+pub fewer_command : (B : Records) (L : Log) (command : AdminCommand) (m : Mark) → Fewer B L ((event.Admin command, m) ∷ L)
+fewer_command B L command Ignored d e = e
+fewer_command B L command (Tagged t) d e =
+    let H = acts_from B L in
+    let new = (Administer command, t) ∷ H in
+    fewer_by (connected (told B H) d) (connected (told B new) d) (closing (told B H) d) (closing (told B new) d) (taken L d) (sent (told B H) d) (sent (told B new) d)
+    (command_connected B (told B H) command t d (connected (told B H) d)) refl refl e

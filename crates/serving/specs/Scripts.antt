@@ -2,7 +2,7 @@
 use Rattle.std.specs.Prelude.{◌≡◌, ◌<◌, ℕ, Bool, false, List, [], length, take, Option, Some, None, slice_get}
 use Rattle.std.proofs.Common.{sym, ◌∙◌, subst}
 use Rattle.serving.specs.Wires.{Told, SayAlike}
-use Rattle.serving.specs.declared.script_wire.ScriptLink.{ScriptLink}
+use Rattle.serving.specs.declared.script_links.ScriptLink.{ScriptLink}
 
 -- what was taken of what comes on a link
 abbrev pub taken_of : ScriptLink → List ℕ
@@ -26,7 +26,6 @@ is_over_by (Some link) = link.is_over
 -- each accepted link's octets, whether it is over, and whether a read or a write came astray
 pub record TellsOf (links : List ScriptLink) (strayed : Bool) (t : Told) : Type 0 where
   pub accepted : t.accepted ≡ length links
-  pub callers : t.callers ≡ length links
   pub read : (k : ℕ) → t.read k ≡ read_by (slice_get links k)
   pub written : (k : ℕ) → t.written k ≡ written_by (slice_get links k)
   pub over : (k : ℕ) → k < length links → t.over k ≡ is_over_by (slice_get links k)
@@ -36,7 +35,6 @@ pub record TellsOf (links : List ScriptLink) (strayed : Bool) (t : Told) : Type 
 pub tells_once : (links : List ScriptLink) (strayed : Bool) (t u : Told) → TellsOf links strayed t → TellsOf links strayed u → SayAlike t u
 tells_once links strayed t u a b = record {
   accepted = a.accepted ∙ sym b.accepted;
-  callers = a.callers ∙ sym b.callers;
   read = λ k. a.read k ∙ sym (b.read k);
   written = λ k. a.written k ∙ sym (b.written k);
   over = λ k within. (let here : k < length links = subst (λ n. k < n) a.accepted within in a.over k here ∙ sym (b.over k here));

@@ -1,5 +1,5 @@
 -- That links are served: what is read and written on each is what its own connection gives and takes.
-use Rattle.std.specs.Prelude.{◌≡◌, ◌≤◌, ◌<◌, ⊤, ℕ, Bool, true, false, ◌||◌, ◌+◌, ◌==◌, List, [], ◌∷◌, ◌++◌, Option, Some, None, if◌then◌else◌}
+use Rattle.std.specs.Prelude.{◌≡◌, ◌≤◌, ◌<◌, ⊤, ℕ, Bool, true, false, ◌||◌, ◌+◌, ◌==◌, List, [], ◌∷◌, ◌++◌, Option, Some, None, if◌then◌else◌, ◌⊎◌, length}
 use Rattle.std.specs.List.{All, AllPairs, Contains}
 use Rattle.vault.specs.Records.{Records}
 use Rattle.vault.specs.Changes.{Contents}
@@ -11,7 +11,9 @@ use Rattle.office.specs.Trace.{is_open}
 use Rattle.office.specs.Taken.{trace_of, all_taken_by, AreAdmittedBy, IsSentExactly}
 use Rattle.office.specs.Stands.{StandsFor, vault_of}
 use Rattle.office.specs.declared.office.Office.{Office}
-use Rattle.serving.specs.Wires.{Told}
+use Rattle.serving.specs.Wires.{Told, ToldOfPorts}
+use Rattle.serving.specs.Requests.{Exchanges, AreExchanged, AreHeld}
+use Rattle.serving.specs.declared.requests.Exchange.{Exchange}
 use Rattle.serving.specs.Spools.{FileAct}
 use Rattle.serving.specs.Deposits.{AreFiled}
 use Rattle.serving.specs.declared.links.Seat.{Seat}
@@ -66,10 +68,15 @@ IsOwnEvent owner (event.Took c octets) = IsOwned owner c
 IsOwnEvent owner (event.Gone c) = IsOwned owner c
 IsOwnEvent owner _ = ⊥
 
+-- an administrator's command
+abbrev pub IsCommand : Event → Type 0
+IsCommand (event.Admin command) = ⊤
+IsCommand _ = ⊥
+
 -- each event
 abbrev pub AreOwnEvents : Owners → Log → Type 0
 AreOwnEvents owner [] = ⊤
-AreOwnEvents owner ((e, m) ∷ L) = IsOwnEvent owner e × AreOwnEvents owner L
+AreOwnEvents owner ((e, m) ∷ L) = (IsOwnEvent owner e ⊎ IsCommand e) × AreOwnEvents owner L
 
 -- how many openings were asked for
 abbrev pub connects : Log → ℕ
@@ -79,12 +86,23 @@ connects ((e, m) ∷ L) = connects L
 
 -- a log is an older one and own events, whose deposits are of the files that were read, and whose answers say what happened to these; of so many
 -- openings
-pub record Adds (owner : Owners) (B : Records) (older L : Log) (acts : List FileAct) (calls : ℕ) : Type 0 where
+pub record AddsEvents (owner : Owners) (B : Records) (older L : Log) (acts : List FileAct) (calls : ℕ) : Type 0 where
   pub more : Log
   pub is : L ≡ more ++ older
   pub each : AreOwnEvents owner more
   pub filed : AreFiled B older more acts
   pub counted : connects more ≡ calls
+
+-- What is told beside the clients' links: what happened to the spool's files; and of the administration's links, with their exchanges.
+pub record Beside : Type 0 where
+  pub acts : List FileAct
+  pub admin : Told
+  pub x : Exchanges
+
+-- a log is an older one and such events, and each command of these is a request's, which is answered so
+pub record Adds (owner : Owners) (B : Records) (older L : Log) (beside : Beside) (calls : ℕ) : Type 0 where
+  pub events : AddsEvents owner B older L beside.acts calls
+  pub requests : AreExchanged beside.admin beside.x B (length older) L
 
 -- ---- seats
 
@@ -116,34 +134,36 @@ pub record AreSeated (owner : Owners) (T : Trace) (seats these : List Seat) : Ty
 
 -- An office serves a wire's links and a spool's files, since the trace T, and the connections of these seats are open. What is said of them all is
 -- said of some log, what the wire tells, and owners.
-pub record IsServing {V W : Type 0} (Holds : V → Contents → Type 0) (Tells : W → Told → Type 0) (T : Trace) (acts : List FileAct) (office : Office V) (wire : W) (seats these : List Seat) : Type 0 where
+pub record IsServing {V W : Type 0} (Holds : V → Contents → Type 0) (Tells : W → ToldOfPorts → Type 0) (T : Trace) (beside : Beside) (office : Office V) (wire : W) (seats these : List Seat) : Type 0 where
   pub log : Log
   pub told : Told
   pub owner : Owners
   pub stands : StandsFor Holds office (trace_of T.base log)
   pub admitted : AreAdmittedBy T.base log
-  pub tells : Tells wire told
+  pub tells : Tells wire (record { pop = told; admin = beside.admin })
   pub served : AreServed told owner T.base log
   pub seated : AreSeated owner (trace_of T.base log) seats these
   -- as many openings were asked for as links came
-  pub adds : Adds owner T.base T.log log acts told.callers
+  pub adds : Adds owner T.base T.log log beside told.accepted
 
 -- it still does, where the store is clean
-abbrev pub StillServes : {V W : Type 0} (Holds : V → Contents → Type 0) (IsClean : V → Type 0) (Tells : W → Told → Type 0)
+abbrev pub StillServes : {V W : Type 0} (Holds : V → Contents → Type 0) (IsClean : V → Type 0) (Tells : W → ToldOfPorts → Type 0)
     (office : Office V) (wire : W) (seats these : List Seat) (office_then : Office V) (wire_then : W) (seats_then these_then : List Seat) → Type 0
 StillServes Holds IsClean Tells office wire seats these office_then wire_then seats_then these_then =
-    (T : Trace) (acts : List FileAct) → IsServing Holds Tells T acts office wire seats these → IsClean (vault_of office_then)
-    → IsServing Holds Tells T acts office_then wire_then seats_then these_then
+    (T : Trace) (beside : Beside) → IsServing Holds Tells T beside office wire seats these → IsClean (vault_of office_then)
+    → IsServing Holds Tells T beside office_then wire_then seats_then these_then
 
 -- so it does while one seat's link is served: its connection may end, and those before it stay open
-abbrev pub StillServesOne : {V W : Type 0} (Holds : V → Contents → Type 0) (IsClean : V → Type 0) (Tells : W → Told → Type 0)
+abbrev pub StillServesOne : {V W : Type 0} (Holds : V → Contents → Type 0) (IsClean : V → Type 0) (Tells : W → ToldOfPorts → Type 0)
     (seat : Seat) (office : Office V) (wire : W) (office_then : Office V) (wire_then : W) → Type 0
 StillServesOne Holds IsClean Tells seat office wire office_then wire_then =
     (seats these : List Seat) → Contains seats seat → All (λ s. Precedes s seat) these → StillServes Holds IsClean Tells office wire seats these office_then wire_then seats these
 
--- between turns each seat's connection is open; what the spool tells is filed; and each connection was sent exactly what the history sends it
-pub record Serves {V W S : Type 0} (Holds : V → Contents → Type 0) (Tells : W → Told → Type 0) (TellsFiles : S → List FileAct → Type 0) (T : Trace) (office : Office V) (wire : W) (spool : S) (seats : List Seat) : Type 0 where
-  pub acts : List FileAct
-  pub tells : TellsFiles spool acts
-  pub is : IsServing Holds Tells T acts office wire seats seats
+-- Between turns each seat's connection is open; what the spool tells is filed; each connection was sent exactly what the history sends it; and
+-- each link of the administration that is open is held with its exchange.
+pub record Serves {V W S : Type 0} (Holds : V → Contents → Type 0) (Tells : W → ToldOfPorts → Type 0) (TellsFiles : S → List FileAct → Type 0) (T : Trace) (office : Office V) (wire : W) (spool : S) (seats : List Seat) (held : List Exchange) : Type 0 where
+  pub beside : Beside
+  pub tells : TellsFiles spool beside.acts
+  pub is : IsServing Holds Tells T beside office wire seats seats
   pub sent : (c : ℕ) → IsSentExactly (trace_of T.base is.log) c
+  pub requests : AreHeld beside.admin beside.x held

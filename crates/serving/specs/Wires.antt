@@ -1,19 +1,17 @@
--- What a wire tells of its links: each has a number, from 0 on, in the order in which they were accepted.
+-- What a wire tells of its links: each of a port has a number, from 0 on, in the order in which they were accepted.
 use Rattle.std.specs.Prelude.{◌≡◌, ◌≤◌, ◌<◌, ⊤, ℕ, Bool, true, false, not, ◌&&◌, ◌||◌, nat_lt, ◌+◌, ◌==◌, List, [], ◌++◌, take, Option, Some, None, if◌then◌else◌}
 use Rattle.office.specs.Outcomes.{Outcome}
 use Rattle.office.specs.Outcomes as outcome
 use Rattle.serving.specs.declared.wire.Link.{Link}
 use Rattle.serving.specs.declared.wire.Port.{Port}
-use Rattle.serving.specs.declared.wire.Port.TheVariants.{Pop}
+use Rattle.serving.specs.declared.wire.Port.TheVariants.{Pop, Admin}
 use Rattle.serving.specs.declared.wire.Io.{Io}
 use Rattle.serving.specs.declared.wire.Io.TheVariants.{Count, End, Broken}
 
--- how many links were accepted, and how many of them came to be connections; of each link all octets that were read from it, and all that it
--- counted as written; whether it is over: a read or a write told its end or that it is broken, or it was closed; and whether any read or write
+-- of one port: how many links were accepted; of each link all octets that were read from it, and all that it counted as written; whether it is over: a read or a write told its end or that it is broken, or it was closed; and whether any read or write
 -- came astray: on a link that was over, or that was never accepted
 pub record Told : Type 0 where
   pub accepted : ℕ
-  pub callers : ℕ
   pub read : ℕ → List ℕ
   pub written : ℕ → List ℕ
   pub over : ℕ → Bool
@@ -21,7 +19,7 @@ pub record Told : Type 0 where
 
 -- no link came, no octet was read or written on any, and nothing came astray
 pub record IsFresh (t : Told) : Type 0 where
-  pub callers : t.callers ≡ 0
+  pub accepted : t.accepted ≡ 0
   pub read : (k : ℕ) → t.read k ≡ []
   pub written : (k : ℕ) → t.written k ≡ []
   pub straight : t.strayed ≡ false
@@ -29,11 +27,34 @@ pub record IsFresh (t : Told) : Type 0 where
 -- the same is told of each link
 pub record SayAlike (t u : Told) : Type 0 where
   pub accepted : t.accepted ≡ u.accepted
-  pub callers : t.callers ≡ u.callers
   pub read : (k : ℕ) → t.read k ≡ u.read k
   pub written : (k : ℕ) → t.written k ≡ u.written k
   pub over : (k : ℕ) → k < t.accepted → t.over k ≡ u.over k
   pub strayed : t.strayed ≡ u.strayed
+
+-- ---- both ports
+
+pub record ToldOfPorts : Type 0 where
+  pub pop : Told
+  pub admin : Told
+
+-- what is told of one port
+abbrev pub told_at : Port → ToldOfPorts → Told
+told_at Pop t = t.pop
+told_at Admin t = t.admin
+
+-- it changes
+abbrev pub at_port : Port → (Told → Told) → ToldOfPorts → ToldOfPorts
+at_port Pop change t = record { pop = change t.pop; admin = t.admin }
+at_port Admin change t = record { pop = t.pop; admin = change t.admin }
+
+-- no link came to either
+abbrev pub AreFresh : ToldOfPorts → Type 0
+AreFresh t = IsFresh t.pop × IsFresh t.admin
+
+-- the same is told of each
+abbrev pub SayAlikeOfPorts : ToldOfPorts → ToldOfPorts → Type 0
+SayAlikeOfPorts t u = SayAlike t.pop u.pop × SayAlike t.admin u.admin
 
 -- a link that was accepted and isn't over
 abbrev pub is_live : Told → ℕ → Bool
@@ -53,10 +74,6 @@ over_at number now over k = if now && k == number then true else over k
 abbrev pub begun_at : (number : ℕ) → (ℕ → Bool) → ℕ → Bool
 begun_at number over k = if k == number then false else over k
 
--- a link at the port for mail is to be a connection
-abbrev pub callers_after : Port → ℕ → ℕ
-callers_after Pop before = before + 1
-
 -- a read or a write told the end of a link, or that it is broken
 abbrev pub is_fault : Io → Bool
 is_fault End = true
@@ -64,10 +81,9 @@ is_fault Broken = true
 is_fault _ = false
 
 -- one link more, from which nothing was read and on which nothing was written
-abbrev pub has_accepted : Told → Port → Told
-has_accepted t port = record {
+abbrev pub has_accepted : Told → Told
+has_accepted t = record {
   accepted = t.accepted + 1;
-  callers = callers_after port t.callers;
   read = t.read;
   written = t.written;
   over = begun_at t.accepted t.over;
@@ -78,7 +94,6 @@ has_accepted t port = record {
 abbrev pub has_read : Told → ℕ → Io → List ℕ → Told
 has_read t number io octets = record {
   accepted = t.accepted;
-  callers = t.callers;
   read = more_at number octets t.read;
   written = t.written;
   over = over_at number (is_fault io) t.over;
@@ -89,7 +104,6 @@ has_read t number io octets = record {
 abbrev pub has_written : Told → ℕ → Io → List ℕ → Told
 has_written t number io octets = record {
   accepted = t.accepted;
-  callers = t.callers;
   read = t.read;
   written = more_at number octets t.written;
   over = over_at number (is_fault io) t.over;
@@ -100,7 +114,6 @@ has_written t number io octets = record {
 abbrev pub has_closed : Told → ℕ → Told
 has_closed t number = record {
   accepted = t.accepted;
-  callers = t.callers;
   read = t.read;
   written = t.written;
   over = over_at number true t.over;
@@ -117,10 +130,10 @@ abbrev pub IsWithin : ℕ → Io → Type 0
 IsWithin room (Count n) = (0 < n) × (n ≤ room)
 IsWithin room _ = ⊤
 
--- a link that was accepted is the next
-abbrev pub IsAccepted : (Told → Type 0) → Told → Option (Link × Port) → Type 0
-IsAccepted Tells t None = Tells t
-IsAccepted Tells t (Some (link, port)) = (link.number ≡ t.accepted) × Tells (has_accepted t port)
+-- a link that was accepted is the port's next
+abbrev pub IsAccepted : (ToldOfPorts → Type 0) → Port → ToldOfPorts → Option Link → Type 0
+IsAccepted Tells port t None = Tells t
+IsAccepted Tells port t (Some link) = (link.number ≡ (told_at port t).accepted) × Tells (at_port port has_accepted t)
 
 -- the number that was opened, where one was
 abbrev pub opened_by : Outcome → Option ℕ

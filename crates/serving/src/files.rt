@@ -7,7 +7,7 @@ ghost use Rattle.serving.specs.Spools.{FileAct, disposal_of};
 ghost use Rattle.serving.specs.Deposits.{IsTried};
 
 use crate::file_name::FileName;
-use crate::links::Links;
+use crate::links::Clients;
 use crate::spool::Spool;
 use office::{Answer, Event, Office, Outcome};
 use vault::Vault;
@@ -57,7 +57,7 @@ fn try_file<V: Vault, S: Spool>(office: &mut Office<V>, spool: &mut S, name: &Fi
 pub(crate) fn serve_spool<V: Vault, S: Spool>(
     office: &mut Office<V>,
     spool: &mut S,
-    links: &mut Links,
+    links: &mut Clients,
 )
     ensures tried { (T : Trace) (acts : List FileAct) → StandsFor V.holds office.old T → S.tells spool.old acts → V.is_clean (vault_of office.new) → IsTried V.holds S.tells T acts office.new spool.new }
     ensures clean { V.is_clean (vault_of office.new) → V.is_clean (vault_of office.old) }

@@ -2,8 +2,10 @@
 ghost use Rattle.std.specs.Prelude.{◌≡◌, []};
 
 use crate::file_name::FileName;
+use crate::requests::Requests;
 use crate::wire::Link;
 use arrayvec::ArrayVec;
+use std::alloc::Global;
 
 /// A link with its connection.
 #[derive(Clone, Copy, PartialEq, Eq, Default, Debug)]
@@ -20,10 +22,44 @@ pub const MOST_LINKS: usize = 64;
 /// the same turn.
 const PLACES: usize = 2 * MOST_LINKS;
 
-/// What is kept between the turns of serving: the open links, by ascending number of their connections, and which spool file was
-/// tried last.
+/// What is kept between the turns of serving: the open links, and which spool file was tried last.
 #[derive(Drop)]
 pub struct Links {
+    pub(crate) clients: Clients,
+    pub(crate) requests: Requests,
+}
+
+impl Links {
+    /// No link is open, and no spool file was tried.
+    pub fn new(alloc: Global) -> Links
+        ensures seats { result.clients.seats.items ≡ [] }
+        ensures requests { result.requests.exchanges.items ≡ [] }
+    {
+        Links {
+            clients: Clients::new(),
+            requests: Requests::new(alloc),
+        }
+    }
+
+    /// How many links of clients are open.
+    pub fn count(&self) -> usize {
+        self.clients.seats.len()
+    }
+
+    /// Whether more can be done at once.
+    pub(crate) fn presses(&self) -> bool {
+        self.clients.presses || self.requests.presses
+    }
+
+    /// How many links of the administration are open.
+    pub fn requests(&self) -> usize {
+        self.requests.count()
+    }
+}
+
+/// The open links of clients, by ascending number of their connections, and which spool file was tried last.
+#[derive(Drop)]
+pub(crate) struct Clients {
     pub(crate) seats: ArrayVec<Seat, PLACES>,
     /// The spool file that was tried last.
     pub(crate) last: Option<FileName>,
@@ -31,20 +67,15 @@ pub struct Links {
     pub(crate) presses: bool,
 }
 
-impl Links {
+impl Clients {
     /// No link is open, and no spool file was tried.
-    pub fn new() -> Links
+    fn new() -> Clients
         ensures { result.seats.items ≡ [] }
     {
-        Links {
+        Clients {
             seats: ArrayVec::new(),
             last: None,
             presses: false,
         }
-    }
-
-    /// How many links are open.
-    pub fn count(&self) -> usize {
-        self.seats.len()
     }
 }

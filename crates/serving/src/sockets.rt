@@ -11,11 +11,63 @@ use std::io::{ErrorKind, Read, Write};
 use std::net::{Net, SocketAddr};
 use std::time::Duration;
 
-/// How many links may be held: more than an office has connections, so that one more can be accepted, to be closed.
-const PLACES: u64 = 128;
+/// How many links may be held: more than are served at once, so that one more can be accepted, to be closed.
+const PLACES: u64 = 160;
 
-/// The token of the listener; those below are of places.
-const LISTENER: Token = Token(128);
+/// The token of the listener for clients; those below are of places.
+const LISTENER: Token = Token(160);
+
+/// The token of the listener for the administration.
+const ADMIN_LISTENER: Token = Token(161);
+
+/// A listener.
+#[derive(Drop)]
+struct Door {
+    listener: TcpListener,
+    /// A link may wait to be accepted.
+    comes: bool,
+    /// The system refused to accept it: it is tried again behind the next wait.
+    is_refused: bool,
+}
+
+impl Door {
+    /// Listens at an address, and tells the port.
+    fn open<R: Net>(rt: &R, poll: &Poll, token: Token, at: SocketAddr) -> io::Result<(Door, u16)> {
+        let mut listener = TcpListener::bind(rt, at)?;
+        poll.registry()
+            .register(&mut listener, token, Interest::READABLE)?;
+        let port = listener.local_addr()?.port();
+        let door = Door {
+            listener,
+            comes: true,
+            is_refused: false,
+        };
+        Ok((door, port))
+    }
+
+    /// Whether a link may wait that can be accepted.
+    fn is_pressing(&self) -> bool {
+        self.comes && !self.is_refused
+    }
+
+    /// The next link that came.
+    fn accept(&mut self) -> Option<TcpStream> {
+        if !self.is_pressing() {
+            return None;
+        }
+        match self.listener.accept() {
+            Ok((stream, _)) => Some(stream),
+            Err(error) => {
+                match error.kind() {
+                    ErrorKind::WouldBlock => self.comes = false,
+                    ErrorKind::Interrupted | ErrorKind::ConnectionAborted => {}
+                    _ => self.is_refused = true,
+                }
+                None
+            }
+        }
+    }
+}
 
 /// A place for a link.
 #[derive(Drop)]
@@ -34,14 +86,12 @@ struct Place {
 pub struct SocketWire {
     poll: Poll,
     events: Events,
-    listener: TcpListener,
+    door: Door,
+    /// That for the administration, where there is one.
+    admin_door: Option<Door>,
     places: Vec<Place>,
     /// How many links were accepted.
     accepted: u64,
-    /// A link may wait to be accepted.
-    comes: bool,
-    /// The system refused to accept it: it is tried again behind the next wait.
-    is_refused: bool,
 }
 
 /// What a count of octets tells.
@@ -81,29 +131,37 @@ fn free_places(alloc: Global) -> io::Result<Vec<Place>> {
 }
 
 impl SocketWire {
-    /// Listens at an address, and tells the port: that of the address, or where this is 0 one that the system chose.
+    /// Listens for clients at an address, and tells the port: that of the address, or where this is 0 one that the system chose.
     pub fn bind<R: Net>(rt: &R, alloc: Global, at: SocketAddr) -> io::Result<(SocketWire, u16)> {
         let poll = Poll::new(rt)?;
         let events = Events::with_capacity(alloc, 256)?;
-        let mut listener = TcpListener::bind(rt, at)?;
-        poll.registry()
-            .register(&mut listener, LISTENER, Interest::READABLE)?;
-        let port = listener.local_addr()?.port();
+        let (door, port) = Door::open(rt, &poll, LISTENER, at)?;
         let wire = SocketWire {
             poll,
             events,
-            listener,
+            door,
+            admin_door: None,
             places: free_places(alloc)?,
             accepted: 0,
-            comes: true,
-            is_refused: false,
         };
         Ok((wire, port))
     }
 
+    /// Listens for the administration at an address, and tells the port, as [`SocketWire::bind`] does.
+    pub fn bind_admin<R: Net>(&mut self, rt: &R, at: SocketAddr) -> io::Result<u16> {
+        let (door, port) = Door::open(rt, &self.poll, ADMIN_LISTENER, at)?;
+        self.admin_door = Some(door);
+        Ok(port)
+    }
+
     /// Whether something may be accepted or read in this turn.
     fn is_pressing(&self) -> bool {
-        if self.comes && !self.is_refused {
+        if self.door.is_pressing() {
+            return true;
+        }
+        if let Some(door) = &self.admin_door
+            && door.is_pressing()
+        {
             return true;
         }
         self.places
@@ -116,7 +174,11 @@ impl SocketWire {
         for event in &self.events {
             let token = event.token();
             if token == LISTENER {
-                self.comes = true;
+                self.door.comes = true;
+            } else if token == ADMIN_LISTENER {
+                if let Some(door) = &mut self.admin_door {
+                    door.comes = true;
+                }
             } else if let Some(place) = self.places.get_mut(token.0) {
                 place.unread = true;
                 if event.is_writable() {
@@ -207,41 +269,35 @@ impl Wire for SocketWire {
         if self.poll.poll(&mut self.events, Some(time)).is_ok() {
             self.note_events();
         }
-        self.is_refused = false;
-    }
-
-    fn accept(&mut self) -> Option<(Link, Port)> {
-        if !self.comes || self.is_refused {
-            return None;
-        }
-        match self.listener.accept() {
-            Ok((stream, _)) => Some((self.seat(stream)?, Port::Pop)),
-            Err(error) => {
-                match error.kind() {
-                    ErrorKind::WouldBlock => self.comes = false,
-                    ErrorKind::Interrupted | ErrorKind::ConnectionAborted => {}
-                    _ => self.is_refused = true,
-                }
-                None
-            }
+        self.door.is_refused = false;
+        if let Some(door) = &mut self.admin_door {
+            door.is_refused = false;
         }
     }
 
-    fn read(&mut self, link: Link, buffer: &mut [u8]) -> Io {
+    fn accept(&mut self, port: Port) -> Option<Link> {
+        let stream = match port {
+            Port::Pop => self.door.accept()?,
+            Port::Admin => self.admin_door.as_mut()?.accept()?,
+        };
+        self.seat(stream)
+    }
+
+    fn read(&mut self, _port: Port, link: Link, buffer: &mut [u8]) -> Io {
         match self.place(link) {
             Some(place) => place.read(buffer),
             None => Io::Broken,
         }
     }
 
-    fn write(&mut self, link: Link, octets: &[u8]) -> Io {
+    fn write(&mut self, _port: Port, link: Link, octets: &[u8]) -> Io {
         match self.place(link) {
             Some(place) => place.write(octets),
             None => Io::Broken,
         }
     }
 
-    fn close(&mut self, link: Link) {
+    fn close(&mut self, _port: Port, link: Link) {
         if let Some(place) = self.place(link) {
             place.stream = None;
             place.unread = false;

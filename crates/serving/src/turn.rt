@@ -5,16 +5,18 @@ ghost use Rattle.office.specs.Trace.{is_open};
 ghost use Rattle.office.specs.Taken.{AreAdmitted};
 ghost use Rattle.office.specs.Stands.{StandsFor, vault_of};
 ghost use Rattle.office.specs.Shown.{outcome_seen};
-ghost use Rattle.serving.specs.Wires.{Told, IsFresh, opened_by};
+ghost use Rattle.serving.specs.Wires.{ToldOfPorts, AreFresh, opened_by};
 ghost use Rattle.serving.specs.Served.{StillServes, StillServesOne, Serves};
 ghost use Rattle.serving.specs.declared.links.Seat as declared;
 ghost use Rattle.arrayvec.specs.ArrayVec.{array_vec_len};
 
 use crate::files::serve_spool;
-use crate::links::{Links, MOST_LINKS, Seat};
+use crate::links::{Clients, Links, MOST_LINKS, Seat};
+use crate::requests::{accept_requests, serve_requests};
 use crate::spool::Spool;
-use crate::wire::{Io, Wire};
+use crate::wire::{Io, Port, Wire};
 use office::{Event, Office, Outcome, taken_is_sent};
+use std::alloc::Global;
 use vault::Vault;
 
 /// How many octets are read at once: as many as an office takes in one piece.
@@ -36,7 +38,7 @@ fn write_once<V: Vault, W: Wire>(office: &mut Office<V>, wire: &mut W, seat: Sea
     if lent.is_empty() {
         return false;
     }
-    match wire.write(seat.link, lent) {
+    match wire.write(Port::Pop, seat.link, lent) {
         Io::Count(count) => {
             let _ = office.step(Event::Took(seat.connection, count));
             true
@@ -72,7 +74,7 @@ fn read_once<V: Vault, W: Wire>(office: &mut Office<V>, wire: &mut W, seat: Seat
         return;
     }
     let mut room = [0; MOST_AT_ONCE];
-    match wire.read(seat.link, &mut room) {
+    match wire.read(Port::Pop, seat.link, &mut room) {
         Io::Count(count) => {
             let _ = office.step(Event::Bytes(connection, &room[..count]));
         }
@@ -93,37 +95,62 @@ fn serve_link<V: Vault, W: Wire>(office: &mut Office<V>, wire: &mut W, seat: Sea
     goes
 }
 
-/// Serves the link of one seat, and closes it where its connection ended. Whether the seat stays: it and those before it have open
-/// connections then.
+/// Serves the link of one seat.
 fn serve_seat<V: Vault, W: Wire>(
     office: &mut Office<V>,
     wire: &mut W,
-    links: &mut Links,
+    links: &mut Clients,
     place: usize,
-) -> bool
+)
     requires { place < array_vec_len links.old.seats }
-    ensures serves { StillServes V.holds V.is_clean W.tells office.old wire.old links.old.seats.items (take place links.old.seats.items) office.new wire.new links.new.seats.items (take (if result then place + 1 else place) links.new.seats.items) }
+    ensures serves { StillServes V.holds V.is_clean W.tells office.old wire.old links.old.seats.items [] office.new wire.new links.new.seats.items [] }
     ensures clean { V.is_clean (vault_of office.new) → V.is_clean (vault_of office.old) }
-    ensures left { array_vec_len links.new.seats + (if result then 0 else 1) ≡ array_vec_len links.old.seats }
+    ensures seats { links.new.seats ≡ links.old.seats }
 {
     let seat = links.seats[place];
     links.presses |= serve_link(office, wire, seat);
-    if !office.ended(seat.connection) {
-        return true;
-    }
-    wire.close(seat.link);
-    links.seats.remove(place);
-    false
 }
 
-/// Serves each link, by ascending number of the connections. Each seat that stays has an open connection.
-fn serve_links<V: Vault, W: Wire>(office: &mut Office<V>, wire: &mut W, links: &mut Links)
-    ensures serves { StillServes V.holds V.is_clean W.tells office.old wire.old links.old.seats.items [] office.new wire.new links.new.seats.items links.new.seats.items }
+/// Serves each link, by ascending number of the connections.
+fn serve_links<V: Vault, W: Wire>(office: &mut Office<V>, wire: &mut W, links: &mut Clients)
+    ensures serves { StillServes V.holds V.is_clean W.tells office.old wire.old links.old.seats.items [] office.new wire.new links.new.seats.items [] }
     ensures clean { V.is_clean (vault_of office.new) → V.is_clean (vault_of office.old) }
 {
     let mut place = 0;
     while place < links.seats.len() {
-        if serve_seat(office, wire, links, place) {
+        serve_seat(office, wire, links, place);
+        place += 1;
+    }
+}
+
+/// Closes the link of one seat, where its connection ended. Whether the seat stays: it and those before it have open connections
+/// then.
+fn close_seat<V: Vault, W: Wire>(
+    office: &Office<V>,
+    wire: &mut W,
+    links: &mut Clients,
+    place: usize,
+) -> bool
+    requires { place < array_vec_len links.old.seats }
+    ensures serves { StillServes V.holds V.is_clean W.tells office.now wire.old links.old.seats.items (take place links.old.seats.items) office.now wire.new links.new.seats.items (take (if result then place + 1 else place) links.new.seats.items) }
+    ensures left { array_vec_len links.new.seats + (if result then 0 else 1) ≡ array_vec_len links.old.seats }
+{
+    let seat = links.seats[place];
+    if !office.ended(seat.connection) {
+        return true;
+    }
+    wire.close(Port::Pop, seat.link);
+    links.seats.remove(place);
+    false
+}
+
+/// Closes each link whose connection ended.
+fn close_links<V: Vault, W: Wire>(office: &Office<V>, wire: &mut W, links: &mut Clients)
+    ensures { StillServes V.holds V.is_clean W.tells office.now wire.old links.old.seats.items [] office.now wire.new links.new.seats.items links.new.seats.items }
+{
+    let mut place = 0;
+    while place < links.seats.len() {
+        if close_seat(office, wire, links, place) {
             place += 1;
         }
     }
@@ -150,26 +177,26 @@ fn opened(outcome: Outcome) -> Option<u64>
 
 /// Accepts a link, and seats it with a connection of its own; or closes it, where the office opens none. Whether one came. While
 /// all places are taken none is accepted.
-fn accept_link<V: Vault, W: Wire>(office: &mut Office<V>, wire: &mut W, links: &mut Links) -> bool
+fn accept_link<V: Vault, W: Wire>(office: &mut Office<V>, wire: &mut W, links: &mut Clients) -> bool
     ensures serves { StillServes V.holds V.is_clean W.tells office.old wire.old links.old.seats.items [] office.new wire.new links.new.seats.items [] }
     ensures clean { V.is_clean (vault_of office.new) → V.is_clean (vault_of office.old) }
 {
     if links.seats.is_full() {
         return false;
     }
-    let Some((link, port)) = wire.accept() else {
+    let Some(link) = wire.accept(Port::Pop) else {
         return false;
     };
     let number = opened(office.step(Event::Connect));
     match number {
         Some(connection) => links.seats.push(Seat { link, connection }),
-        None => wire.close(link),
+        None => wire.close(Port::Pop, link),
     }
     true
 }
 
 /// Accepts the links that came.
-fn accept_links<V: Vault, W: Wire>(office: &mut Office<V>, wire: &mut W, links: &mut Links)
+fn accept_links<V: Vault, W: Wire>(office: &mut Office<V>, wire: &mut W, links: &mut Clients)
     ensures serves { StillServes V.holds V.is_clean W.tells office.old wire.old links.old.seats.items [] office.new wire.new links.new.seats.items [] }
     ensures clean { V.is_clean (vault_of office.new) → V.is_clean (vault_of office.old) }
 {
@@ -181,7 +208,8 @@ fn accept_links<V: Vault, W: Wire>(office: &mut Office<V>, wire: &mut W, links: 
 }
 
 /// One turn: waits for at most a second, and not at all where more can be done at once; tells the office the moment, in seconds;
-/// accepts the links that came, at most 64; serves each link; and tries one file of the spool.
+/// accepts the links that came, at most 64 at each port; serves each client's link, and then each link of the administration; closes
+/// the links whose connections ended; and tries one file of the spool.
 pub fn serve_turn<V: Vault, W: Wire, S: Spool>(
     links: &mut Links,
     wire: &mut W,
@@ -189,22 +217,30 @@ pub fn serve_turn<V: Vault, W: Wire, S: Spool>(
     spool: &mut S,
     now: u64,
 )
-    ensures serves { (T : Trace) → Serves V.holds W.tells S.tells T office.old wire.old spool.old links.old.seats.items → V.is_clean (vault_of office.new) → Serves V.holds W.tells S.tells T office.new wire.new spool.new links.new.seats.items }
+    ensures serves { (T : Trace) → Serves V.holds W.tells S.tells T office.old wire.old spool.old links.old.clients.seats.items links.old.requests.exchanges.items → V.is_clean (vault_of office.new) → Serves V.holds W.tells S.tells T office.new wire.new spool.new links.new.clients.seats.items links.new.requests.exchanges.items }
     ensures clean { V.is_clean (vault_of office.new) → V.is_clean (vault_of office.old) }
 {
-    let millis = if links.presses { 0 } else { MOST_MILLIS };
-    links.presses = false;
+    let millis = if links.presses() { 0 } else { MOST_MILLIS };
+    links.clients.presses = false;
     pass_time(office, wire, millis, now);
-    accept_links(office, wire, links);
-    serve_links(office, wire, links);
-    serve_spool(office, spool, links);
+    accept_links(office, wire, &mut links.clients);
+    accept_requests(wire, &mut links.requests, MOST_LINKS, now);
+    serve_links(office, wire, &mut links.clients);
+    serve_requests(office, wire, &mut links.requests, now);
+    close_links(office, wire, &mut links.clients);
+    serve_spool(office, spool, &mut links.clients);
     taken_is_sent();
 }
 
 /// No link is open: an office with no open connection begins to serve a wire and a spool.
-pub fn begin<V: Vault, W: Wire, S: Spool>(_office: &Office<V>, _wire: &W, _spool: &S) -> Links
-    ensures { (T : Trace) (t : Told) → StandsFor V.holds _office.now T → AreAdmitted T → ((c : ℕ) → is_open T c ≡ false) → W.tells _wire.now t → IsFresh t → S.tells _spool.now [] → Serves V.holds W.tells S.tells T _office.now _wire.now _spool.now result.seats.items }
+pub fn begin<V: Vault, W: Wire, S: Spool>(
+    alloc: Global,
+    _office: &Office<V>,
+    _wire: &W,
+    _spool: &S,
+) -> Links
+    ensures { (T : Trace) (t : ToldOfPorts) → StandsFor V.holds _office.now T → AreAdmitted T → ((c : ℕ) → is_open T c ≡ false) → W.tells _wire.now t → AreFresh t → S.tells _spool.now [] → Serves V.holds W.tells S.tells T _office.now _wire.now _spool.now result.clients.seats.items result.requests.exchanges.items }
 {
     taken_is_sent();
-    Links::new()
+    Links::new(alloc)
 }

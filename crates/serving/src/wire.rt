@@ -1,8 +1,8 @@
 //! What a server needs of its links.
 ghost use Rattle.std.specs.Prelude.{◌≡◌, length};
-ghost use Rattle.serving.specs.Wires.{Told, counted, has_read, has_written, has_closed};
+ghost use Rattle.serving.specs.Wires.{ToldOfPorts, at_port, counted, has_read, has_written, has_closed};
 
-/// A link of a wire. No other link of the wire ever has its number.
+/// A link at one of a wire's ports. No other link at this port ever has its number.
 #[derive(Clone, Copy, PartialEq, Eq, Default, Debug)]
 pub struct Link {
     pub number: u64,
@@ -13,6 +13,8 @@ pub struct Link {
 pub enum Port {
     /// That for POP3.
     Pop,
+    /// That for the administration over HTTP.
+    Admin,
 }
 
 /// What a read or a write gives.
@@ -30,36 +32,36 @@ pub enum Io {
 
 /// Links as they come.
 ///
-/// Contracts see what it tells of its links: they are numbered from 0 on, in the order in which they were accepted.
+/// Contracts see what it tells of its links: those of each port are numbered from 0 on, in the order in which they were accepted.
 /// A wire over sockets tells nothing: no value of it tells anything.
 pub trait Wire {
-    ghost use Rattle.serving.specs.Wires.{IsWithin, IsAccepted, SayAlike};
+    ghost use Rattle.serving.specs.Wires.{IsWithin, IsAccepted, SayAlikeOfPorts};
 
     /// What it may tell.
-    ghost tells: { Self → Told → Type 0 };
+    ghost tells: { Self → ToldOfPorts → Type 0 };
 
     /// Waits until something may be done, or that many milliseconds.
     fn wait(&mut self, millis: u32)
-        ensures { (t : Told) → tells self.old t → tells self.new t };
+        ensures { (t : ToldOfPorts) → tells self.old t → tells self.new t };
 
-    /// The next link that came; `None` where none waits, or where it can't be accepted now.
-    fn accept(&mut self) -> Option<(Link, Port)>
-        ensures { (t : Told) → tells self.old t → IsAccepted (tells self.new) t result };
+    /// The next link that came at a port; `None` where none waits, or where it can't be accepted now.
+    fn accept(&mut self, port: Port) -> Option<Link>
+        ensures { (t : ToldOfPorts) → tells self.old t → IsAccepted (tells self.new) port t result };
 
     /// Reads from a link into the front of the buffer.
-    fn read(&mut self, link: Link, buffer: &mut [u8]) -> Io
+    fn read(&mut self, port: Port, link: Link, buffer: &mut [u8]) -> Io
         ensures within { IsWithin (length buffer.old) result }
-        ensures told { (t : Told) → tells self.old t → tells self.new (has_read t link.number result (counted result buffer.new)) };
+        ensures told { (t : ToldOfPorts) → tells self.old t → tells self.new (at_port port (λ of. has_read of link.number result (counted result buffer.new)) t) };
 
     /// Writes octets on a link, from the first on.
-    fn write(&mut self, link: Link, octets: &[u8]) -> Io
+    fn write(&mut self, port: Port, link: Link, octets: &[u8]) -> Io
         ensures within { IsWithin (length octets.now) result }
-        ensures told { (t : Told) → tells self.old t → tells self.new (has_written t link.number result (counted result octets.now)) };
+        ensures told { (t : ToldOfPorts) → tells self.old t → tells self.new (at_port port (λ of. has_written of link.number result (counted result octets.now)) t) };
 
     /// Closes a link.
-    fn close(&mut self, link: Link)
-        ensures { (t : Told) → tells self.old t → tells self.new (has_closed t link.number) };
+    fn close(&mut self, port: Port, link: Link)
+        ensures { (t : ToldOfPorts) → tells self.old t → tells self.new (at_port port (λ of. has_closed of link.number) t) };
 
     /// It tells one thing, or nothing.
-    ghost tells_once: { (wire : Self) (t u : Told) → tells wire t → tells wire u → SayAlike t u };
+    ghost tells_once: { (wire : Self) (t u : ToldOfPorts) → tells wire t → tells wire u → SayAlikeOfPorts t u };
 }

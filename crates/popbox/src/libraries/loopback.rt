@@ -15,7 +15,7 @@ fn greeting_row_over_loopback(rt: HostRuntime) -> Result<(), Fail> {
     let (mut wire, port) = SocketWire::bind(&rt, alloc, any)?;
     let mut office = new_office(alloc)?;
     let mut spool = ScriptSpool::new(alloc);
-    let mut links = begin(&office, &wire, &spool);
+    let mut links = begin(alloc, &office, &wire, &spool);
     let mut client = TcpStream::connect(&rt, SocketAddr::from((Ipv4Addr::LOCALHOST, port)))?;
     client.write_all(b"CAPA\r\nQUIT\r\n")?;
     client.shutdown(Shutdown::Write)?;

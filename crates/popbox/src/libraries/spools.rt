@@ -13,7 +13,7 @@ fn four_turns_over_four_names(rt: HostRuntime) -> Result<(), Fail> {
     spool.put("readme.txt", b"x")?;
     spool.put("orders.note.a1.eml", b"x\n")?;
     spool.put("nowhere.note.c3.eml", b"x")?;
-    let mut links = begin(&office, &wire, &spool);
+    let mut links = begin(alloc, &office, &wire, &spool);
     serve_turn(&mut links, &mut wire, &mut office, &mut spool, 0);
     assert!(rt; spool.has("nowhere.note.c3.eml") && spool.acts().len() == 1);
     assert_eq!(rt; wire.waited(), 1000);
@@ -38,7 +38,7 @@ fn a_file_that_stays(rt: HostRuntime) -> Result<(), Fail> {
     let mut spool = ScriptSpool::new(alloc);
     spool.put("orders.note.a1.eml", b"x\n")?;
     spool.refuse();
-    let mut links = begin(&office, &wire, &spool);
+    let mut links = begin(alloc, &office, &wire, &spool);
     for _ in 0..3u32 {
         serve_turn(&mut links, &mut wire, &mut office, &mut spool, 0);
         assert_eq!(rt; wire.waited(), 1000);

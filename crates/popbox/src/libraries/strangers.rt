@@ -11,7 +11,7 @@ fn with_stop(alloc: Global, call: u64, stop: Stop) -> Result<(ScriptWire, bool),
     let mut wire = one_link(alloc, b"CAPA\r\nQUIT\r\n", 7)?;
     wire.connect(octets(alloc, b"NOOP\r\nQUIT\r\n")?)?;
     wire.stop_at(call, stop);
-    let mut links = begin(&office, &wire, &ScriptSpool::new(alloc));
+    let mut links = begin(alloc, &office, &wire, &ScriptSpool::new(alloc));
     turns(alloc, &mut links, &mut wire, &mut office, 60);
     Ok((wire, links.count() == 0))
 }
@@ -41,7 +41,7 @@ fn sixty_four_links_and_one_more(rt: HostRuntime) -> Result<(), Fail> {
     for _ in 0..65u32 {
         wire.connect(Vec::new(alloc))?;
     }
-    let mut links = begin(&office, &wire, &ScriptSpool::new(alloc));
+    let mut links = begin(alloc, &office, &wire, &ScriptSpool::new(alloc));
     turns(alloc, &mut links, &mut wire, &mut office, 3);
     assert_eq!(rt; links.count(), 64);
     assert!(rt; wire.is_closed(64) && wire.written(64).is_empty());
@@ -61,7 +61,7 @@ fn a_link_that_never_takes(rt: HostRuntime) -> Result<(), Fail> {
     let alloc = rt.alloc();
     let mut office = new_office(alloc)?;
     let mut wire = one_link(alloc, b"", 4096)?;
-    let mut links = begin(&office, &wire, &ScriptSpool::new(alloc));
+    let mut links = begin(alloc, &office, &wire, &ScriptSpool::new(alloc));
     turns(alloc, &mut links, &mut wire, &mut office, 2);
     wire.stall(0);
     wire.send(0, b"NOOP\r\n")?;
@@ -80,7 +80,7 @@ fn more_than_64_writes(rt: HostRuntime) -> Result<(), Fail> {
     let alloc = rt.alloc();
     let mut office = new_office(alloc)?;
     let mut wire = one_link(alloc, b"CAPA\r\n", 1)?;
-    let mut links = begin(&office, &wire, &ScriptSpool::new(alloc));
+    let mut links = begin(alloc, &office, &wire, &ScriptSpool::new(alloc));
     turns(alloc, &mut links, &mut wire, &mut office, 6);
     let before = wire.written(0).len();
     turns(alloc, &mut links, &mut wire, &mut office, 1);
@@ -99,7 +99,7 @@ fn idle_link(rt: HostRuntime) -> Result<(), Fail> {
     let mut office = new_office(alloc)?;
     let mut wire = one_link(alloc, b"", 4096)?;
     let mut spool = ScriptSpool::new(alloc);
-    let mut links = begin(&office, &wire, &spool);
+    let mut links = begin(alloc, &office, &wire, &spool);
     serve_turn(&mut links, &mut wire, &mut office, &mut spool, 0);
     serve_turn(&mut links, &mut wire, &mut office, &mut spool, 599);
     assert!(rt; !wire.is_closed(0));

@@ -56,7 +56,7 @@ pub(super) fn turns(
 fn served(alloc: Global, comes: &[u8], piece: usize, count: u64) -> Result<ScriptWire, Fail> {
     let mut office = new_office(alloc)?;
     let mut wire = one_link(alloc, comes, piece)?;
-    let mut links = begin(&office, &wire, &ScriptSpool::new(alloc));
+    let mut links = begin(alloc, &office, &wire, &ScriptSpool::new(alloc));
     turns(alloc, &mut links, &mut wire, &mut office, count);
     Ok(wire)
 }
@@ -88,7 +88,7 @@ fn half_closed(rt: HostRuntime) -> Result<(), Fail> {
     let mut office = new_office(alloc)?;
     let mut wire = one_link(alloc, b"NOOP\r\nNOOP\r\n", 4096)?;
     wire.end_links();
-    let mut links = begin(&office, &wire, &ScriptSpool::new(alloc));
+    let mut links = begin(alloc, &office, &wire, &ScriptSpool::new(alloc));
     turns(alloc, &mut links, &mut wire, &mut office, 10);
     assert!(rt;
         wire.written(0)

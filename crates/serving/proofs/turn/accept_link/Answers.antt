@@ -16,14 +16,13 @@ use Rattle.serving.proofs.Accepting.{Comes, IsRefusal, comes, owned_at, owned_st
 use Rattle.serving.proofs.turn.accept_link.Goals as goal
 
 pub returns-in-Some-number-clause-serves : goal.returns-in-Some-number-clause-serves
-returns-in-Some-number-clause-serves g c = λ T acts s clean.
+returns-in-Some-number-clause-serves g c = λ T beside s clean.
     (let now = trace_of T.base s.log in
     let o = outcome_seen c.step.result in
     let link = c.in-Some.link in
-    let port = c.in-Some.port in
     let connection = c.in-Some-number.connection in
     let seats = c.args.links.now.seats.items in
-    let accepted = c.in-Some.ensures s.told s.tells in
+    let accepted = c.in-Some.ensures (record { pop = s.told; admin = beside.admin }) s.tells in
     let e : opened_by o ≡ Some connection = sym c.opened-number.ensures ∙ c.in-Some-number.is in
     let k = subst (Comes s.log o) {y = Some connection} e (comes now (lent_by c.args.office.now) o (c.step.ensures.outcome now s.stands clean)) in
     let after = owned_at s.told.accepted (next_number s.log) s.owner in
@@ -31,35 +30,34 @@ returns-in-Some-number-clause-serves g c = λ T acts s clean.
     let own : after link.number ≡ Some connection = ap after accepted.0 ∙ (owned_new s.told s.owner T.base s.log ∙ ap Some (sym k.1)) in
     record {
       log = (event.Connect, mark_of o) ∷ s.log;
-      told = has_accepted s.told port;
+      told = has_accepted s.told;
       owner = after;
       stands = c.step.ensures.stands now s.stands clean;
       admitted = (c.step.ensures.admitted now s.stands clean, s.admitted);
       tells = accepted.1;
-      served = subst (λ m. AreServed (has_accepted s.told port) after T.base ((event.Connect, m) ∷ s.log)) (sym k.0) (served_accepted s.told s.owner T.base s.log port s.served);
+      served = subst (λ m. AreServed (has_accepted s.told) after T.base ((event.Connect, m) ∷ s.log)) (sym k.0) (served_accepted s.told s.owner T.base s.log s.served);
       seated = seated_more s.owner after T.base s.log ((event.Connect, mark_of o) ∷ s.log) seats _ (record { link = link; connection = connection }) c.push.ensures.items still
           (opened_before s.told s.owner T.base s.log connection k.1 s.served) own
           (subst (λ m. Frame T.base s.log ((event.Connect, m) ∷ s.log) connection) (sym k.0) (subst (Frame T.base s.log ((event.Connect, Tagged Done) ∷ s.log)) (sym k.1) (frame_connect T.base s.log))) s.seated;
-      adds = adds_connect after T.base T.log s.log acts s.told.callers port (mark_of o) (adds_still s.owner after still T.base T.log s.log acts s.told.callers s.adds);
+      adds = adds_connect after T.base T.log s.log beside s.told.accepted (mark_of o) (adds_still s.owner after still T.base T.log s.log beside s.told.accepted s.adds);
     })
 
 pub returns-in-None-clause-serves : goal.returns-in-None-clause-serves
-returns-in-None-clause-serves g c = λ T acts s clean.
+returns-in-None-clause-serves g c = λ T beside s clean.
     (let now = trace_of T.base s.log in
     let o = outcome_seen c.step.result in
-    let port = c.in-Some.port in
-    let accepted = c.in-Some.ensures s.told s.tells in
+    let accepted = c.in-Some.ensures (record { pop = s.told; admin = beside.admin }) s.tells in
     let e : opened_by o ≡ None = sym c.opened-number.ensures ∙ c.in-None.is in
     let k : IsRefusal (mark_of o) = subst (Comes s.log o) {y = None} e (comes now (lent_by c.args.office.now) o (c.step.ensures.outcome now s.stands clean)) in
     record {
       log = (event.Connect, mark_of o) ∷ s.log;
-      told = has_closed (has_accepted s.told port) c.in-Some.link.number;
+      told = has_closed (has_accepted s.told) c.in-Some.link.number;
       owner = s.owner;
       stands = c.step.ensures.stands now s.stands clean;
       admitted = (c.step.ensures.admitted now s.stands clean, s.admitted);
-      tells = c.close.ensures (has_accepted s.told port) accepted.1;
-      served = subst (λ n. AreServed (has_closed (has_accepted s.told port) n) s.owner T.base ((event.Connect, mark_of o) ∷ s.log)) (sym accepted.0)
-          (served_unseated s.told s.owner T.base s.log port (mark_of o) k s.served);
+      tells = c.close.ensures (record { pop = has_accepted s.told; admin = beside.admin }) accepted.1;
+      served = subst (λ n. AreServed (has_closed (has_accepted s.told) n) s.owner T.base ((event.Connect, mark_of o) ∷ s.log)) (sym accepted.0)
+          (served_unseated s.told s.owner T.base s.log (mark_of o) k s.served);
       seated = seated_same s.owner T.base s.log c.args.links.now.seats.items [] ((event.Connect, mark_of o) ∷ s.log) (refused_same s.told s.owner T.base s.log (mark_of o) k) s.seated;
-      adds = adds_connect s.owner T.base T.log s.log acts s.told.callers port (mark_of o) s.adds;
+      adds = adds_connect s.owner T.base T.log s.log beside s.told.accepted (mark_of o) s.adds;
     })

@@ -1,32 +1,46 @@
-use Rattle.std.proofs.Common.{◌≡◌, ◌∙◌, [], None, refl, sym, subst, true, false, true≢false}
+use Rattle.std.proofs.Common.{◌≡◌, ◌∙◌, [], None, refl, sym, subst, true, false, true≢false, arith}
 use Rattle.std.proofs.lemmas.List.Elements.{All-nil}
 use Rattle.office.specs.Taken.{trace_of}
 use Rattle.serving.specs.Served.{HasOwn, HasOpen, AreSeated}
 use Rattle.serving.proofs.Seating.{none_seated}
+use Rattle.serving.specs.Requests.{AreHeld, IsHeld}
+use Rattle.serving.proofs.Requesting.{none_newer}
 use Rattle.serving.proofs.turn.begin.Goals as goal
 
 pub returns : goal.returns
 returns g c = λ T t stands admitted none tells fresh files.
     record {
-      acts = [];
+      beside = record { acts = []; admin = t.admin; x = record { response = λ k. None; place = λ k. None } };
       tells = files;
       is = record {
         log = T.log;
-        told = t;
+        told = t.pop;
         owner = λ k. None;
         stands = stands;
         admitted = admitted;
         tells = tells;
         served = record {
-          each = λ k. (fresh.read k, fresh.written k);
+          each = λ k. (fresh.0.read k, fresh.0.written k);
           own = λ j k n e f. cc;
           accepted = λ k n e. cc;
           opened = λ k n e. cc;
           over = λ k n o e. cc;
-          straight = fresh.straight;
+          straight = fresh.0.straight;
         };
-        seated = subst (λ seats. AreSeated (λ k. None) (trace_of T.base T.log) seats seats) (sym c.new.ensures) (none_seated (λ k. None) (trace_of T.base T.log) none);
-        adds = record { more = []; is = refl; each = tt; filed = refl; counted = sym fresh.callers };
+        seated = subst (λ seats. AreSeated (λ k. None) (trace_of T.base T.log) seats seats) (sym c.new.ensures.seats) (none_seated (λ k. None) (trace_of T.base T.log) none);
+        adds = record {
+          events = record { more = []; is = refl; each = tt; filed = refl; counted = sym fresh.0.accepted };
+          requests = record {
+            each = λ k. (refl, fresh.1.written k);
+            own = λ j k n e f. cc;
+            before = λ k n e. cc;
+            asked = λ newer older command m is late. absurd (none_newer T.log newer older command m is late);
+            still = λ k high. (fresh.1.read k, refl);
+            straight = fresh.1.straight;
+          };
+        };
       };
       sent = λ n. c.taken_is_sent.ensures T admitted n;
+      requests = subst (λ held. AreHeld t.admin (record { response = λ k. None; place = λ k. None }) held) (sym c.new.ensures.requests)
+          (record { each = All-nil (IsHeld t.admin (record { response = λ k. None; place = λ k. None })); ascend = λ i j d low within. absurd (omega (arith, within)) });
     }

@@ -9,7 +9,7 @@ use Rattle.serving.proofs.Keeping.{served_tick, adds_one}
 use Rattle.serving.proofs.turn.pass_time.Goals as goal
 
 pub returns-clause-serves : goal.returns-clause-serves
-returns-clause-serves g c = λ seats these T acts s clean.
+returns-clause-serves g c = λ seats these T beside s clean.
     (let m = mark_of (outcome_seen c.step.result) in
     let now = trace_of T.base s.log in
     record {
@@ -18,8 +18,8 @@ returns-clause-serves g c = λ seats these T acts s clean.
       owner = s.owner;
       stands = c.step.ensures.stands now s.stands clean;
       admitted = (c.step.ensures.admitted now s.stands clean, s.admitted);
-      tells = c.wait.ensures s.told s.tells;
+      tells = c.wait.ensures (record { pop = s.told; admin = beside.admin }) s.tells;
       served = served_tick s.told s.owner T.base s.log c.args.now m s.served;
       seated = seated_fewer s.owner T.base s.log seats these ((event.Tick c.args.now, m) ∷ s.log) (fewer_tick T.base s.log c.args.now m) s.seated;
-      adds = adds_one s.owner T.base T.log s.log acts s.told.callers (event.Tick c.args.now) m tt (λ l Before h. h) (λ l. refl) s.adds;
+      adds = adds_one s.owner T.base T.log s.log beside s.told.accepted (event.Tick c.args.now) m tt (λ l Before h. h) (λ l. refl) s.adds;
     })

@@ -16,7 +16,7 @@ use Rattle.serving.proofs.Keeping.{served_read, served_read_none, served_read_fa
 use Rattle.serving.proofs.turn.read_once.Goals as goal
 
 pub returns-in-Count-clause-serves : goal.returns-in-Count-clause-serves
-returns-in-Count-clause-serves g c = λ seats these has before T acts s clean.
+returns-in-Count-clause-serves g c = λ seats these has before T beside s clean.
     (let n = c.in-Count.count in
     let piece = take n c.read.new.buffer in
     let number = c.args.seat.link.number in
@@ -35,16 +35,16 @@ returns-in-Count-clause-serves g c = λ seats these has before T acts s clean.
       owner = s.owner;
       stands = c.step.ensures.stands now s.stands clean;
       admitted = (c.step.ensures.admitted now s.stands clean, s.admitted);
-      tells = c.in-Count.ensures.told s.told s.tells;
+      tells = c.in-Count.ensures.told (record { pop = s.told; admin = beside.admin }) s.tells;
       served = subst (λ m. AreServed (has_read s.told number (Count n) piece) s.owner T.base ((event.Bytes connection piece, m) ∷ s.log)) (sym k.1)
           (served_read s.told s.owner T.base s.log number connection n piece k.0 s.served at_k here);
       seated = subst (λ m. AreSeated s.owner (trace_of T.base ((event.Bytes connection piece, m) ∷ s.log)) seats these) (sym k.1)
           (seated_one s.owner T.base s.log seats these ((event.Bytes connection piece, Tagged k.0) ∷ s.log) c.args.seat before (fewer_framed T.base s.log connection ((event.Bytes connection piece, Tagged k.0) ∷ s.log) here (frame_read T.base s.log connection piece k.0)) (frame_read T.base s.log connection piece k.0) s.seated);
-      adds = adds_one s.owner T.base T.log s.log acts s.told.callers (event.Bytes connection piece) (mark_of o) (number, at_k) (λ l Before h. h) (λ l. refl) s.adds;
+      adds = adds_one s.owner T.base T.log s.log beside s.told.accepted (event.Bytes connection piece) (mark_of o) (number, at_k) (λ l Before h. h) (λ l. refl) s.adds;
     })
 
 pub returns-in-Later-clause-serves : goal.returns-in-Later-clause-serves
-returns-in-Later-clause-serves g c = λ seats these has before T acts s clean.
+returns-in-Later-clause-serves g c = λ seats these has before T beside s clean.
     (let number = c.args.seat.link.number in
     let connection = c.args.seat.connection in
     let now = trace_of T.base s.log in
@@ -57,14 +57,14 @@ returns-in-Later-clause-serves g c = λ seats these has before T acts s clean.
       owner = s.owner;
       stands = s.stands;
       admitted = s.admitted;
-      tells = c.in-Later.ensures.told s.told s.tells;
+      tells = c.in-Later.ensures.told (record { pop = s.told; admin = beside.admin }) s.tells;
       served = served_read_none s.told s.owner T.base s.log number connection s.served at_k here;
       seated = s.seated;
       adds = s.adds;
     })
 
 pub returns-in-End-clause-serves : goal.returns-in-End-clause-serves
-returns-in-End-clause-serves g c = λ seats these has before T acts s clean.
+returns-in-End-clause-serves g c = λ seats these has before T beside s clean.
     (let number = c.args.seat.link.number in
     let connection = c.args.seat.connection in
     let now = trace_of T.base s.log in
@@ -81,10 +81,10 @@ returns-in-End-clause-serves g c = λ seats these has before T acts s clean.
       owner = s.owner;
       stands = c.step-in-End.ensures.stands now s.stands clean;
       admitted = (c.step-in-End.ensures.admitted now s.stands clean, s.admitted);
-      tells = subst (λ xs. g.W.Wire.tells c.read.new.self (has_read s.told number io xs)) (fault_none io c.read.new.buffer fault) (c.read.ensures.told s.told s.tells);
+      tells = subst (λ xs. g.W.Wire.tells c.read.new.self (record { pop = has_read s.told number io xs; admin = beside.admin })) (fault_none io c.read.new.buffer fault) (c.read.ensures.told (record { pop = s.told; admin = beside.admin }) s.tells);
       served = subst (λ m. AreServed (has_read s.told number io []) s.owner T.base ((event.Gone connection, m) ∷ s.log)) (sym k.1)
           (served_read_fault s.told s.owner T.base s.log number connection io k.0 fault s.served at_k here);
       seated = subst (λ m. AreSeated s.owner (trace_of T.base ((event.Gone connection, m) ∷ s.log)) seats these) (sym k.1)
           (seated_one s.owner T.base s.log seats these ((event.Gone connection, Tagged k.0) ∷ s.log) c.args.seat before (fewer_framed T.base s.log connection ((event.Gone connection, Tagged k.0) ∷ s.log) here (frame_gone T.base s.log connection k.0)) (frame_gone T.base s.log connection k.0) s.seated);
-      adds = adds_one s.owner T.base T.log s.log acts s.told.callers (event.Gone connection) (mark_of o) (number, at_k) (λ l Before h. h) (λ l. refl) s.adds;
+      adds = adds_one s.owner T.base T.log s.log beside s.told.accepted (event.Gone connection) (mark_of o) (number, at_k) (λ l Before h. h) (λ l. refl) s.adds;
     })

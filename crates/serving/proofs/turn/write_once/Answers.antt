@@ -15,7 +15,7 @@ use Rattle.serving.proofs.Keeping.{served_written, served_written_none, served_w
 use Rattle.serving.proofs.turn.write_once.Goals as goal
 
 pub returns-in-Count-clause-serves : goal.returns-in-Count-clause-serves
-returns-in-Count-clause-serves g c = λ seats these has before T acts s clean.
+returns-in-Count-clause-serves g c = λ seats these has before T beside s clean.
     (let n = c.in-Count.count in
     let lent = c.owed-lent.result.now in
     let number = c.args.seat.link.number in
@@ -33,16 +33,16 @@ returns-in-Count-clause-serves g c = λ seats these has before T acts s clean.
       owner = s.owner;
       stands = c.step.ensures.stands now s.stands clean;
       admitted = (c.step.ensures.admitted now s.stands clean, s.admitted);
-      tells = c.in-Count.ensures.told s.told s.tells;
+      tells = c.in-Count.ensures.told (record { pop = s.told; admin = beside.admin }) s.tells;
       served = subst (λ m. AreServed (has_written s.told number (Count n) (take n lent)) s.owner T.base ((event.Took connection n, m) ∷ s.log)) (sym k.1)
           (served_written s.told s.owner T.base s.log number connection n (take n lent) k.0 (lent_rest now connection n lent is within.1) s.served at_k here);
       seated = subst (λ m. AreSeated s.owner (trace_of T.base ((event.Took connection n, m) ∷ s.log)) seats these) (sym k.1)
           (seated_one s.owner T.base s.log seats these ((event.Took connection n, Tagged k.0) ∷ s.log) c.args.seat before (fewer_framed T.base s.log connection ((event.Took connection n, Tagged k.0) ∷ s.log) here (frame_took T.base s.log connection n k.0)) (frame_took T.base s.log connection n k.0) s.seated);
-      adds = adds_one s.owner T.base T.log s.log acts s.told.callers (event.Took connection n) (mark_of o) (number, at_k) (λ l Before h. h) (λ l. refl) s.adds;
+      adds = adds_one s.owner T.base T.log s.log beside s.told.accepted (event.Took connection n) (mark_of o) (number, at_k) (λ l Before h. h) (λ l. refl) s.adds;
     })
 
 pub returns-in-Later-clause-serves : goal.returns-in-Later-clause-serves
-returns-in-Later-clause-serves g c = λ seats these has before T acts s clean.
+returns-in-Later-clause-serves g c = λ seats these has before T beside s clean.
     (let lent = c.owed-lent.result.now in
     let number = c.args.seat.link.number in
     let connection = c.args.seat.connection in
@@ -57,14 +57,14 @@ returns-in-Later-clause-serves g c = λ seats these has before T acts s clean.
       owner = s.owner;
       stands = s.stands;
       admitted = s.admitted;
-      tells = c.in-Later.ensures.told s.told s.tells;
+      tells = c.in-Later.ensures.told (record { pop = s.told; admin = beside.admin }) s.tells;
       served = served_written_none s.told s.owner T.base s.log number connection s.served at_k here;
       seated = s.seated;
       adds = s.adds;
     })
 
 pub returns-in-End-clause-serves : goal.returns-in-End-clause-serves
-returns-in-End-clause-serves g c = λ seats these has before T acts s clean.
+returns-in-End-clause-serves g c = λ seats these has before T beside s clean.
     (let lent = c.owed-lent.result.now in
     let number = c.args.seat.link.number in
     let connection = c.args.seat.connection in
@@ -83,10 +83,10 @@ returns-in-End-clause-serves g c = λ seats these has before T acts s clean.
       owner = s.owner;
       stands = c.step-in-End.ensures.stands now s.stands clean;
       admitted = (c.step-in-End.ensures.admitted now s.stands clean, s.admitted);
-      tells = subst (λ xs. g.W.Wire.tells c.write.new.self (has_written s.told number io xs)) (fault_none io lent fault) (c.write.ensures.told s.told s.tells);
+      tells = subst (λ xs. g.W.Wire.tells c.write.new.self (record { pop = has_written s.told number io xs; admin = beside.admin })) (fault_none io lent fault) (c.write.ensures.told (record { pop = s.told; admin = beside.admin }) s.tells);
       served = subst (λ m. AreServed (has_written s.told number io []) s.owner T.base ((event.Gone connection, m) ∷ s.log)) (sym k.1)
           (served_written_fault s.told s.owner T.base s.log number connection io k.0 fault s.served at_k here);
       seated = subst (λ m. AreSeated s.owner (trace_of T.base ((event.Gone connection, m) ∷ s.log)) seats these) (sym k.1)
           (seated_one s.owner T.base s.log seats these ((event.Gone connection, Tagged k.0) ∷ s.log) c.args.seat before (fewer_framed T.base s.log connection ((event.Gone connection, Tagged k.0) ∷ s.log) here (frame_gone T.base s.log connection k.0)) (frame_gone T.base s.log connection k.0) s.seated);
-      adds = adds_one s.owner T.base T.log s.log acts s.told.callers (event.Gone connection) (mark_of o) (number, at_k) (λ l Before h. h) (λ l. refl) s.adds;
+      adds = adds_one s.owner T.base T.log s.log beside s.told.accepted (event.Gone connection) (mark_of o) (number, at_k) (λ l Before h. h) (λ l. refl) s.adds;
     })

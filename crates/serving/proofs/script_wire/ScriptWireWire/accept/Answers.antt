@@ -1,13 +1,19 @@
-use Rattle.std.proofs.Common.{rules, ◌≡◌, true, length, refl, sym, ◌∙◌}
-use Rattle.std.specs.Prelude.{is_ok}
-use Rattle.serving.proofs.Scripting.{accepted_told}
+use Rattle.std.proofs.Common.{sym, subst}
+use Rattle.serving.specs.Wires.{ToldOfPorts, IsAccepted}
+use Rattle.serving.specs.Scripts.{TellsOf}
+use Rattle.serving.proofs.Scripting.{accepts_pop, accepts_admin}
 use Rattle.serving.proofs.script_wire.ScriptWireWire.accept.Goals as goal
 
-pub returns : goal.returns
-returns c = λ t h.
-    (let number : c.in_ok-number.number ≡ length c.args.self.now.accepted.items = search rules in
-    let done : is_ok c.push.result ≡ true = search rules in (
-      number ∙ sym h.accepted,
-      accepted_told c.args.self.now.accepted.items c.reserve.new.self.items c.push.new.self.items (is_ok c.push.result) c.args.self.now.strayed t _
-          c.push.ensures.items done c.reserve.ensures.items refl c.new.ensures.items refl h,
-    ))
+pub returns-in-Pop : goal.returns-in-Pop
+returns-in-Pop c = λ t h.
+    (let links = c.accept.new.self in
+    let requests = c.args.self.now.requests in
+    subst (λ p. IsAccepted (λ u. TellsOf links.accepted.items links.strayed u.pop × TellsOf requests.accepted.items requests.strayed u.admin) p t c.accept.result) (sym c.in-Pop.is)
+    (accepts_pop (TellsOf links.accepted.items links.strayed) (TellsOf requests.accepted.items requests.strayed) t c.accept.result (c.accept.ensures t.pop h.0) h.1))
+
+pub returns-in-Admin : goal.returns-in-Admin
+returns-in-Admin c = λ t h.
+    (let links = c.args.self.now.clients in
+    let requests = c.accept-in-Admin.new.self in
+    subst (λ p. IsAccepted (λ u. TellsOf links.accepted.items links.strayed u.pop × TellsOf requests.accepted.items requests.strayed u.admin) p t c.accept-in-Admin.result) (sym c.in-Admin.is)
+    (accepts_admin (TellsOf links.accepted.items links.strayed) (TellsOf requests.accepted.items requests.strayed) t c.accept-in-Admin.result h.0 (c.accept-in-Admin.ensures t.admin h.1)))

@@ -1,11 +1,11 @@
 use Rattle.std.proofs.Common.{rules, ◌≤◌, length, arith}
 use Rattle.office.specs.Taken.{trace_of}
 use Rattle.serving.proofs.Seating.{seated_whole}
-use Rattle.serving.proofs.turn.serve_links.Goals as goal
+use Rattle.serving.proofs.turn.close_links.Goals as goal
 
-pub returns-clause-serves : goal.returns-clause-serves
-returns-clause-serves g c = λ T acts s clean.
-    (let k = c.loop-place.invariant.0 T acts s clean in
+pub returns : goal.returns
+returns g c = λ T beside s clean.
+    (let k = c.loop-place.invariant T beside s clean in
     let seats = c.loop-place.links.seats.items in
     let done : length seats ≤ c.loop-place.place = search rules in
     record {

@@ -1,6 +1,6 @@
 use Rattle.std.proofs.Common.{◌≡◌, ◌≤◌, take, drop, length, ◌∙◌, ap, arith}
 use Rattle.serving.proofs.Scripting.{read_on}
-use Rattle.serving.proofs.script_wire.read_from.Goals as goal
+use Rattle.serving.proofs.script_links.read_from.Goals as goal
 
 pub returns-clause-read : goal.returns-clause-read
 returns-clause-read c =

@@ -1,0 +1,33 @@
+use Rattle.std.proofs.Common.{rules, ◌≡◌, true, false, refl, sym, ◌∙◌, ap, subst}
+use Rattle.serving.specs.Wires.{has_accepted, has_closed}
+use Rattle.serving.specs.Requests.{AreHeld}
+use Rattle.serving.proofs.Requesting.{exchanged_same, exchanged_accepted, held_refused, held_new}
+use Rattle.serving.proofs.requests.accept_request.Goals as goal
+
+pub returns-then-keep : goal.returns-then-keep
+returns-then-keep g c = λ x B start L pop s.
+    (let accepted = c.in-Some.ensures (record { pop = pop; admin = s.told }) s.tells in
+    let is_so : c.keep.result ≡ true = search rules in
+    let more = c.keep.ensures.kept is_so in
+    let xs = c.args.requests.now.exchanges.items in
+    record {
+      told = has_accepted s.told;
+      tells = accepted.1;
+      exchanged = exchanged_accepted s.told x xs B start L s.exchanged;
+      held = subst (AreHeld (has_accepted s.told) x) (sym more.is)
+          (held_new s.told x xs B start L more.last (ap (λ k. k.number) more.link_is ∙ accepted.0) more.read more.response more.written s.exchanged s.held);
+    })
+
+pub returns : goal.returns
+returns g c = λ x B start L pop s.
+    (let accepted = c.in-Some.ensures (record { pop = pop; admin = s.told }) s.tells in
+    let is_so : c.keep.result ≡ false = search rules in
+    let xs = c.args.requests.now.exchanges.items in
+    let n = c.in-Some.link.number in
+    let told2 = has_closed (has_accepted s.told) n in
+    record {
+      told = told2;
+      tells = c.close.ensures (record { pop = pop; admin = has_accepted s.told }) accepted.1;
+      exchanged = exchanged_same (has_accepted s.told) told2 x B start L (exchanged_accepted s.told x xs B start L s.exchanged) refl (λ k. refl) (λ k. refl) s.exchanged.straight;
+      held = subst (AreHeld told2 x) (sym (c.keep.ensures.refused is_so)) (held_refused s.told x xs n accepted.0 s.held);
+    })

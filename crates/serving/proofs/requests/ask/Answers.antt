@@ -1,0 +1,23 @@
+use Rattle.std.proofs.Common.{None, Some}
+use Rattle.adminhttp.specs.Responses.{refusal_response}
+use Rattle.adminhttp.specs.declared.refusal.Refusal.TheVariants.{OutOfMemory}
+use Rattle.serving.specs.Requests.{octets_of, ToRefusal, ForMemory, NotYet, NoCommand}
+use Rattle.serving.proofs.Requesting.{asked_none, to_fault}
+use Rattle.serving.proofs.requests.ask.Goals as goal
+
+pub returns-in-More-clause-asked : goal.returns-in-More-clause-asked
+returns-in-More-clause-asked g c = λ B L stands clean. asked_none g.V.Vault.holds B L c.args.read.now c.args.office.now None stands NotYet
+
+pub returns-in-Bad-clause-asked : goal.returns-in-Bad-clause-asked
+returns-in-Bad-clause-asked g c = λ B L stands clean.
+    asked_none g.V.Vault.holds B L c.args.read.now c.args.office.now (Some (refusal_response c.in-Bad.refusal)) stands
+    (NoCommand (refusal_response c.in-Bad.refusal) (ToRefusal c.in-Bad.refusal c.in-Bad.ensures))
+
+pub returns-in-BadPolicy-clause-asked : goal.returns-in-BadPolicy-clause-asked
+returns-in-BadPolicy-clause-asked g c = λ B L stands clean.
+    asked_none g.V.Vault.holds B L c.args.read.now c.args.office.now (Some (octets_of c.made.result)) stands
+    (NoCommand (octets_of c.made.result) (to_fault B L c.args.read.now (octets_of c.made.result) c.in-BadPolicy.fault c.in-BadPolicy.ensures (c.made.ensures _ c.policy_response.ensures)))
+
+pub returns-in-NoMemory-clause-asked : goal.returns-in-NoMemory-clause-asked
+returns-in-NoMemory-clause-asked g c = λ B L stands clean.
+    asked_none g.V.Vault.holds B L c.args.read.now c.args.office.now (Some (refusal_response OutOfMemory)) stands (NoCommand (refusal_response OutOfMemory) ForMemory)

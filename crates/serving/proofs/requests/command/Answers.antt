@@ -1,0 +1,12 @@
+use Rattle.office.specs.Shown.{command_seen, outcome_seen}
+use Rattle.office.specs.Stands.{lent_by}
+use Rattle.office.specs.Taken.{trace_of}
+use Rattle.serving.specs.Requests.{octets_of}
+use Rattle.serving.proofs.Requesting.{asked_one}
+use Rattle.serving.proofs.requests.command.Goals as goal
+
+pub returns-clause-asked : goal.returns-clause-asked
+returns-clause-asked g c = λ B L read stands asks clean.
+    (let now = trace_of B L in
+    asked_one g.V.Vault.holds B L read c.step-outcome.new.self (lent_by c.args.office.now) (command_seen c.args.command.now) (outcome_seen c.step-outcome.result) (octets_of c.response_to.result)
+    (c.step-outcome.ensures.outcome now stands clean) (c.step-outcome.ensures.stands now stands clean) (c.step-outcome.ensures.admitted now stands clean) asks c.response_to.ensures)

@@ -1,0 +1,15 @@
+use Rattle.std.proofs.Common.{rules, ◌≡◌, ◌++◌, Some, option_map, subst}
+use Rattle.adminhttp.specs.Responses.{refusal_response}
+use Rattle.adminhttp.specs.declared.refusal.Refusal.TheVariants.{OutOfMemory}
+use Rattle.serving.specs.Requests.{octets_of, HasAsked, ForMemory, NoCommand}
+use Rattle.serving.proofs.Requesting.{asked_none}
+use Rattle.serving.proofs.requests.take_piece.Goals as goal
+
+pub returns-then-is_err-clause-asked : goal.returns-then-is_err-clause-asked
+returns-then-is_err-clause-asked g c = λ B L stands clean.
+    asked_none g.V.Vault.holds B L (c.args.exchange.now.read.items ++ c.args.piece.now) c.args.office.now (Some (refusal_response OutOfMemory)) stands (NoCommand (refusal_response OutOfMemory) ForMemory)
+
+pub returns-clause-asked : goal.returns-clause-asked
+returns-clause-asked g c = λ B L stands clean.
+    (let same : c.as_slice.result.now ≡ c.args.exchange.now.read.items ++ c.args.piece.now = search rules in
+    subst (λ read. HasAsked g.V.Vault.holds B L read c.ask.new.office (option_map octets_of c.ask.result)) same (c.ask.ensures.asked B L stands clean))

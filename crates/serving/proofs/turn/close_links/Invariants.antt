@@ -1,0 +1,11 @@
+use Rattle.std.proofs.Common.{◌-◌, [], take}
+use Rattle.arrayvec.specs.ArrayVec.{array_vec_len}
+use Rattle.serving.specs.Served.{StillServes}
+use Rattle.serving.proofs.turn.close_links.Given as goal
+
+abbrev pub invariant-loop-place : goal.invariant-loop-place
+invariant-loop-place g l =
+    StillServes g.V.Vault.holds g.V.Vault.is_clean g.W.Wire.tells l.fn.office l.fn.wire l.fn.links.seats.items [] l.fn.office l.wire l.links.seats.items (take l.place l.links.seats.items)
+
+abbrev pub decreases-loop-place : goal.decreases-loop-place
+decreases-loop-place g l = array_vec_len l.links.seats - l.place

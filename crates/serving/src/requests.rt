@@ -1,0 +1,339 @@
+//! The links of the administration: one request over HTTP each, and its response.
+ghost use Rattle.std.specs.Prelude.{◌≡◌, ◌+◌, ◌<◌, ◌++◌, ℕ, List, [], Some, Ok, length, option_map, IfNone, IfOk, ◌⊎◌, true, false, if◌then◌else◌};
+ghost use Rattle.vault.specs.Records.{Records};
+ghost use Rattle.office.specs.Events.{Log};
+ghost use Rattle.office.specs.Taken.{trace_of};
+ghost use Rattle.office.specs.Shown.{command_seen, outcome_seen};
+ghost use Rattle.office.specs.Stands.{StandsFor, vault_of};
+ghost use Rattle.adminhttp.specs.Request.{IsRequest};
+ghost use Rattle.adminhttp.specs.Responses.{refusal_response};
+ghost use Rattle.adminhttp.specs.declared.refusal.Refusal.TheVariants.{OutOfMemory};
+ghost use Rattle.serving.specs.Requests.{octets_of, IsToldBy, HasAsked, HasOneMore, StillAnswers, StillAsked, AllStillAnswer, AllStillAsked};
+
+use crate::octets::rest_of;
+use crate::wire::{Io, Link, Port, Wire};
+use adminhttp::{Got, Refusal, Request, policy_response, response};
+use office::{AdminCommand, Event, Office, Outcome};
+use std::alloc::{AllocError, Global};
+use vault::Vault;
+
+/// How many links of the administration may be open at once.
+pub const MOST_REQUESTS: usize = 8;
+
+/// After how many seconds such a link is closed.
+const MOST_SECONDS: u64 = 60;
+
+/// How many octets are read at once.
+const MOST_AT_ONCE: usize = 4096;
+
+/// How many writes a link has in one turn at most.
+const MOST_WRITES: usize = 64;
+
+/// A response.
+#[derive(Drop)]
+pub(crate) enum Response {
+    /// These octets.
+    Made(Vec<u8>),
+    /// That of a refusal, which takes no memory.
+    Fixed(Refusal),
+}
+
+impl Response {
+    /// Its octets.
+    fn octets(&self) -> &[u8]
+        ensures { result.now ≡ octets_of self.now }
+    {
+        match self {
+            Response::Made(octets) => octets.as_slice(),
+            Response::Fixed(refusal) => refusal.bytes(),
+        }
+    }
+}
+
+/// A link of the administration, with its request and its response.
+#[derive(Drop)]
+pub(crate) struct Exchange {
+    link: Link,
+    /// When the link was accepted, in seconds.
+    since: u64,
+    /// What was read of the request.
+    read: Vec<u8>,
+    /// The response, once the request is whole or refused.
+    response: Option<Response>,
+    /// How many octets of the response were written.
+    written: usize,
+    /// Nothing is to be read or written any more.
+    is_over: bool,
+}
+
+impl Exchange {
+    /// Whether its link was accepted 60 seconds ago or more.
+    fn is_late(&self, now: u64) -> bool {
+        now.saturating_sub(self.since) >= MOST_SECONDS
+    }
+}
+
+/// The open links of the administration, in the order in which they were accepted.
+#[derive(Drop)]
+pub(crate) struct Requests {
+    alloc: Global,
+    pub(crate) exchanges: Vec<Exchange>,
+    /// More can be written at once: the next turn doesn't wait.
+    pub(crate) presses: bool,
+}
+
+impl Requests {
+    /// No link is open.
+    pub(crate) fn new(alloc: Global) -> Requests
+        ensures { result.exchanges.items ≡ [] }
+    {
+        Requests {
+            alloc,
+            exchanges: Vec::new(alloc),
+            presses: false,
+        }
+    }
+
+    /// How many links are open.
+    pub(crate) fn count(&self) -> usize {
+        self.exchanges.len()
+    }
+
+    /// Keeps a link that was accepted, unless eight are open or memory is short. Whether it is kept.
+    fn keep(&mut self, link: Link, now: u64) -> bool
+        ensures kept { result ≡ true → HasOneMore link self.old.exchanges.items self.new.exchanges.items }
+        ensures refused { result ≡ false → self.new.exchanges.items ≡ self.old.exchanges.items }
+    {
+        if self.exchanges.len() >= MOST_REQUESTS {
+            return false;
+        }
+        let exchange = Exchange {
+            link,
+            since: now,
+            read: Vec::new(self.alloc),
+            response: None,
+            written: 0,
+            is_over: false,
+        };
+        self.exchanges.push(exchange).is_ok()
+    }
+}
+
+/// The response of these octets, or that which tells that memory ran out.
+fn made(octets: Result<Vec<u8>, AllocError>) -> Response
+    ensures { (wanted : List ℕ) → IfOk octets (λ made. made.items ≡ wanted) → (octets_of result ≡ wanted) ⊎ (octets_of result ≡ refusal_response OutOfMemory) }
+{
+    match octets {
+        Ok(octets) => Response::Made(octets),
+        Err(_) => Response::Fixed(Refusal::OutOfMemory),
+    }
+}
+
+/// The response to a command that had this outcome.
+fn response_to(alloc: Global, outcome: &Outcome) -> Response
+    ensures { IsToldBy (outcome_seen outcome.now) (octets_of result) }
+{
+    match outcome {
+        Outcome::Answered(answer) => made(response(alloc, answer)),
+        Outcome::NoMemory => Response::Fixed(Refusal::OutOfMemory),
+        _ => Response::Fixed(Refusal::StoreFailed),
+    }
+}
+
+/// Gives a command to the office, and makes the response.
+fn command<V: Vault>(alloc: Global, office: &mut Office<V>, command: &AdminCommand) -> Response
+    ensures asked { (B : Records) (L : Log) (read : List ℕ) → StandsFor V.holds office.old (trace_of B L) → IsRequest read (Ok (command_seen command.now)) → V.is_clean (vault_of office.new) → HasAsked V.holds B L read office.new (Some (octets_of result)) }
+    ensures clean { V.is_clean (vault_of office.new) → V.is_clean (vault_of office.old) }
+{
+    let outcome = office.step(Event::Admin(command));
+    response_to(alloc, &outcome)
+}
+
+/// The response to what was read of a request, once that is whole or refused. A command is given to the office.
+fn ask<V: Vault>(alloc: Global, office: &mut Office<V>, read: &[u8]) -> Option<Response>
+    ensures asked { (B : Records) (L : Log) → StandsFor V.holds office.old (trace_of B L) → V.is_clean (vault_of office.new) → HasAsked V.holds B L read.now office.new (option_map octets_of result) }
+    ensures clean { V.is_clean (vault_of office.new) → V.is_clean (vault_of office.old) }
+{
+    match Request::read(alloc, read) {
+        Got::More => None,
+        Got::Bad(refusal) => Some(Response::Fixed(refusal)),
+        Got::BadPolicy(fault) => Some(made(policy_response(alloc, &fault))),
+        Got::Command(asked) => Some(command(alloc, office, &asked)),
+        Got::NoMemory => Some(Response::Fixed(Refusal::OutOfMemory)),
+    }
+}
+
+/// Takes a piece of a request.
+fn take_piece<V: Vault>(
+    alloc: Global,
+    office: &mut Office<V>,
+    exchange: &mut Exchange,
+    piece: &[u8],
+)
+    ensures asked { (B : Records) (L : Log) → StandsFor V.holds office.old (trace_of B L) → V.is_clean (vault_of office.new) → HasAsked V.holds B L (exchange.old.read.items ++ piece.now) office.new (option_map octets_of exchange.new.response) }
+    ensures clean { V.is_clean (vault_of office.new) → V.is_clean (vault_of office.old) }
+    ensures read { IfNone exchange.new.response (exchange.new.read.items ≡ exchange.old.read.items ++ piece.now) }
+    ensures link { exchange.new.link ≡ exchange.old.link }
+    ensures written { exchange.new.written ≡ exchange.old.written }
+    ensures over { exchange.new.is_over ≡ exchange.old.is_over }
+{
+    if exchange.read.extend_from_slice(piece).is_err() {
+        exchange.response = Some(Response::Fixed(Refusal::OutOfMemory));
+        return;
+    }
+    exchange.response = ask(alloc, office, exchange.read.as_slice());
+}
+
+/// Reads a piece of a request that isn't whole. The exchange is over where the link is at its end or broken.
+fn hear<V: Vault, W: Wire>(
+    alloc: Global,
+    office: &mut Office<V>,
+    wire: &mut W,
+    exchange: &mut Exchange,
+)
+    ensures asked { StillAsked V.holds V.is_clean W.tells office.old wire.old exchange.old office.new wire.new exchange.new }
+    ensures clean { V.is_clean (vault_of office.new) → V.is_clean (vault_of office.old) }
+    ensures link { exchange.new.link ≡ exchange.old.link }
+{
+    if exchange.is_over || exchange.response.is_some() {
+        return;
+    }
+    let mut room = [0; MOST_AT_ONCE];
+    match wire.read(Port::Admin, exchange.link, &mut room) {
+        Io::Count(count) => take_piece(alloc, office, exchange, &room[..count]),
+        Io::Later => {}
+        Io::End | Io::Broken => exchange.is_over = true,
+    }
+}
+
+/// Writes once of a response. Whether octets were taken, and more may be. The exchange is over where nothing is left, or the
+/// link is broken.
+fn tell_once<W: Wire>(wire: &mut W, exchange: &mut Exchange) -> bool
+    ensures answers { StillAnswers W.tells wire.old exchange.old wire.new exchange.new }
+    ensures link { exchange.new.link ≡ exchange.old.link }
+{
+    if exchange.is_over {
+        return false;
+    }
+    let Some(response) = &exchange.response else {
+        return false;
+    };
+    let octets = response.octets();
+    if exchange.written >= octets.len() {
+        exchange.is_over = true;
+        return false;
+    }
+    let rest = rest_of(octets, exchange.written);
+    match wire.write(Port::Admin, exchange.link, rest) {
+        Io::Count(count) => {
+            exchange.written += count;
+            true
+        }
+        Io::Later => false,
+        Io::End | Io::Broken => {
+            exchange.is_over = true;
+            false
+        }
+    }
+}
+
+/// Writes a response as long as the link takes it. Whether more can be written at once.
+fn tell<W: Wire>(wire: &mut W, exchange: &mut Exchange) -> bool
+    ensures answers { StillAnswers W.tells wire.old exchange.old wire.new exchange.new }
+    ensures link { exchange.new.link ≡ exchange.old.link }
+{
+    for _ in 0..MOST_WRITES {
+        if !tell_once(wire, exchange) {
+            return false;
+        }
+    }
+    true
+}
+
+/// Reads of a request, and writes of its response. Whether more can be written at once. The exchange is over where its link was
+/// accepted 60 seconds ago or more.
+fn serve_exchange<V: Vault, W: Wire>(
+    alloc: Global,
+    office: &mut Office<V>,
+    wire: &mut W,
+    exchange: &mut Exchange,
+    now: u64,
+) -> bool
+    ensures asked { StillAsked V.holds V.is_clean W.tells office.old wire.old exchange.old office.new wire.new exchange.new }
+    ensures clean { V.is_clean (vault_of office.new) → V.is_clean (vault_of office.old) }
+    ensures link { exchange.new.link ≡ exchange.old.link }
+{
+    if exchange.is_late(now) {
+        exchange.is_over = true;
+        return false;
+    }
+    hear(alloc, office, wire, exchange);
+    tell(wire, exchange)
+}
+
+/// Serves the link at one place, and closes it where its exchange is over. Whether it stays.
+fn serve_place<V: Vault, W: Wire>(
+    office: &mut Office<V>,
+    wire: &mut W,
+    requests: &mut Requests,
+    place: usize,
+    now: u64,
+) -> bool
+    requires { place < length requests.old.exchanges.items }
+    ensures asked { AllStillAsked V.holds V.is_clean W.tells office.old wire.old requests.old.exchanges.items office.new wire.new requests.new.exchanges.items }
+    ensures clean { V.is_clean (vault_of office.new) → V.is_clean (vault_of office.old) }
+    ensures left { length requests.new.exchanges.items + (if result then 0 else 1) ≡ length requests.old.exchanges.items }
+{
+    let exchange = &mut requests.exchanges[place];
+    requests.presses |= serve_exchange(requests.alloc, office, wire, exchange, now);
+    if !exchange.is_over {
+        return true;
+    }
+    wire.close(Port::Admin, exchange.link);
+    requests.exchanges.remove(place);
+    false
+}
+
+/// Serves each link of the administration, in the order in which they were accepted, and closes those that are over.
+pub(crate) fn serve_requests<V: Vault, W: Wire>(
+    office: &mut Office<V>,
+    wire: &mut W,
+    requests: &mut Requests,
+    now: u64,
+)
+    ensures asked { AllStillAsked V.holds V.is_clean W.tells office.old wire.old requests.old.exchanges.items office.new wire.new requests.new.exchanges.items }
+    ensures clean { V.is_clean (vault_of office.new) → V.is_clean (vault_of office.old) }
+{
+    requests.presses = false;
+    let mut place = 0;
+    while place < requests.exchanges.len() {
+        if serve_place(office, wire, requests, place, now) {
+            place += 1;
+        }
+    }
+}
+
+/// Accepts a link of the administration; or closes it, where eight are open or memory is short. Whether one came.
+fn accept_request<W: Wire>(wire: &mut W, requests: &mut Requests, now: u64) -> bool
+    ensures { AllStillAnswer W.tells wire.old requests.old.exchanges.items wire.new requests.new.exchanges.items }
+{
+    let Some(link) = wire.accept(Port::Admin) else {
+        return false;
+    };
+    if requests.keep(link, now) {
+        return true;
+    }
+    wire.close(Port::Admin, link);
+    true
+}
+
+/// Accepts the links of the administration that came, at most so many.
+pub(crate) fn accept_requests<W: Wire>(wire: &mut W, requests: &mut Requests, most: usize, now: u64)
+    ensures { AllStillAnswer W.tells wire.old requests.old.exchanges.items wire.new requests.new.exchanges.items }
+{
+    for _ in 0..most {
+        if !accept_request(wire, requests, now) {
+            return;
+        }
+    }
+}
