@@ -122,12 +122,12 @@ record Leaves (told : Told) (owner : Owners) (T : Trace) (acts : List FileAct) (
 
 leaves_asked : (told : Told) (owner : Owners) (T : Trace) (acts : List FileAct) (seats : List Seat) (L L' : Log) → Asks L L' → Leaves told owner T acts seats L → Leaves told owner T acts seats L'
 leaves_asked told owner T acts seats L _ AsksNone r = r
-leaves_asked told owner T acts seats L _ (AsksMore command m L2 more) r =
-    let k = leaves_asked told owner T acts seats L L2 more r in
+leaves_asked told owner T acts seats L _ (AsksMore command m M more) r =
+    let k = leaves_asked told owner T acts seats L M more r in
     record {
-      served = served_command told owner T.base L2 command m k.served;
-      seated = seated_fewer owner T.base L2 seats [] ((event.Admin command, m) ∷ L2) (fewer_command T.base L2 command m) k.seated;
-      events = events_command owner T.base T.log L2 acts told.accepted command m k.events;
+      served = served_command told owner T.base M command m k.served;
+      seated = seated_fewer owner T.base M seats [] ((event.Admin command, m) ∷ M) (fewer_command T.base M command m) k.seated;
+      events = events_command owner T.base T.log M acts told.accepted command m k.events;
     }
 
 -- requests were answered: the connections of no seats need be open then

@@ -122,25 +122,25 @@ none_newer L newer older command m is late = omega (arith, ap length is, late, l
 -- ---- what comes of a piece
 
 -- the log that was, or one command's event more
-given_grows : (B : Records) (L L2 : Log) (whole : List ℕ) (p : Option ℕ) (r : Option (List ℕ)) → IsGiven B L whole L2 p r
-    → (r2 : Option (List ℕ)) (place : Option ℕ) (read written : List ℕ) → IsExchange B L r2 place read written → IsExchange B L2 r2 place read written
+given_grows : (B : Records) (L M : Log) (whole : List ℕ) (p : Option ℕ) (r : Option (List ℕ)) → IsGiven B L whole M p r
+    → (r2 : Option (List ℕ)) (place : Option ℕ) (read written : List ℕ) → IsExchange B L r2 place read written → IsExchange B M r2 place read written
 given_grows B L _ whole _ _ NotYet r2 place read written x = x
 given_grows B L _ whole _ _ (NoCommand response is) r2 place read written x = x
 given_grows B L _ whole _ _ (GivenOne command t response q a) r2 place read written x = exchange_grows B L (event.Admin command) (Tagged t) r2 place read written x
 
-given_new : (B : Records) (L L2 : Log) (whole written : List ℕ) (p : Option ℕ) (r : Option (List ℕ)) → IsGiven B L whole L2 p r → written ≡ [] → IsExchange B L2 r p whole written
+given_new : (B : Records) (L M : Log) (whole written : List ℕ) (p : Option ℕ) (r : Option (List ℕ)) → IsGiven B L whole M p r → written ≡ [] → IsExchange B M r p whole written
 given_new B L _ whole written _ _ NotYet w = (refl, w)
 given_new B L _ whole written _ _ (NoCommand response is) w = (is, rw w refl)
 given_new B L _ whole written _ _ (GivenOne command t response q a) w = (ToCommand command t [] L response q refl a, rw w refl)
 
-given_place : (B : Records) (L L2 : Log) (whole : List ℕ) (p : Option ℕ) (r : Option (List ℕ)) → IsGiven B L whole L2 p r → (n : ℕ) → p ≡ Some n → (n ≡ length L) × (length L2 ≡ suc (length L))
+given_place : (B : Records) (L M : Log) (whole : List ℕ) (p : Option ℕ) (r : Option (List ℕ)) → IsGiven B L whole M p r → (n : ℕ) → p ≡ Some n → (n ≡ length L) × (length M ≡ suc (length L))
 given_place B L _ whole _ _ NotYet n e = cc
 given_place B L _ whole _ _ (NoCommand response is) n e = cc
 given_place B L _ whole _ _ (GivenOne command t response q a) n e = (sym (some_one e), refl) where
   some_one : {a b : ℕ} → Some a ≡ Some b → a ≡ b
   some_one e = cc
 
-given_length : (B : Records) (L L2 : Log) (whole : List ℕ) (p : Option ℕ) (r : Option (List ℕ)) → IsGiven B L whole L2 p r → length L ≤ length L2
+given_length : (B : Records) (L M : Log) (whole : List ℕ) (p : Option ℕ) (r : Option (List ℕ)) → IsGiven B L whole M p r → length L ≤ length M
 given_length B L _ whole _ _ NotYet = omega arith
 given_length B L _ whole _ _ (NoCommand response is) = omega arith
 given_length B L _ whole _ _ (GivenOne command t response q a) = omega arith
@@ -149,8 +149,8 @@ given_length B L _ whole _ _ (GivenOne command t response q a) = omega arith
 heads : {A : Type 0} {x y : A} {xs ys : List A} → x ∷ xs ≡ y ∷ ys → xs ≡ ys
 heads e = cc
 
-given_events : (B : Records) (L L2 : Log) (whole : List ℕ) (p : Option ℕ) (r : Option (List ℕ)) → IsGiven B L whole L2 p r
-    → (newer older : Log) (command : AdminCommand) (m : Mark) → L2 ≡ newer ++ (event.Admin command, m) ∷ older
+given_events : (B : Records) (L M : Log) (whole : List ℕ) (p : Option ℕ) (r : Option (List ℕ)) → IsGiven B L whole M p r
+    → (newer older : Log) (command : AdminCommand) (m : Mark) → M ≡ newer ++ (event.Admin command, m) ∷ older
     → (p ≡ Some (length older)) ⊎ ((newer2 : Log) × (L ≡ newer2 ++ (event.Admin command, m) ∷ older))
 given_events B L _ whole _ _ NotYet newer older command m e = inr (newer, e)
 given_events B L _ whole _ _ (NoCommand response is) newer older command m e = inr (newer, e)
@@ -179,13 +179,13 @@ held_same told told2 x x2 e s h = record {
 }
 
 -- a piece came on a link without a response, and the request came to this
-module _ (told told2 : Told) (x : Exchanges) (B : Records) (start : ℕ) (L L2 : Log) (n : ℕ) (whole : List ℕ) (p : Option ℕ) (r : Option (List ℕ)) where
+module _ (told told2 : Told) (x : Exchanges) (B : Records) (start : ℕ) (L M : Log) (n : ℕ) (whole : List ℕ) (p : Option ℕ) (r : Option (List ℕ)) where
   pub given_then : Exchanges
   given_then = record { response = put_at n r x.response; place = put_at n p x.place }
 
-  pub exchanged_given : IsGiven B L whole L2 p r → AreExchanged told x B start L → x.response n ≡ None → n < told.accepted → told2.accepted ≡ told.accepted
+  pub exchanged_given : IsGiven B L whole M p r → AreExchanged told x B start L → x.response n ≡ None → n < told.accepted → told2.accepted ≡ told.accepted
       → told2.read n ≡ whole → ((k : ℕ) → (k ≡ n → ⊥) → told2.read k ≡ told.read k) → ((k : ℕ) → told2.written k ≡ told.written k) → told2.strayed ≡ false
-      → AreExchanged told2 (record { response = put_at n r x.response; place = put_at n p x.place }) B start L2
+      → AreExchanged told2 (record { response = put_at n r x.response; place = put_at n p x.place }) B start M
   exchanged_given g a none within same_count at_n apart same_written straight =
       let was : IsExchange B L None (x.place n) (told.read n) (told.written n) = subst (λ o. IsExchange B L o (x.place n) (told.read n) (told.written n)) none (a.each n) in
       let other : (k m : ℕ) → (k ≡ n → ⊥) → put_at n p x.place k ≡ Some m → x.place k ≡ Some m = λ k m ne e. sym (put_other n p x.place k ne) ∙ e in
@@ -194,35 +194,35 @@ module _ (told told2 : Told) (x : Exchanges) (B : Records) (start : ℕ) (L L2 :
         each = λ k.
             ⊎_elim
             (λ (e : k ≡ n).
-            subst (λ i. IsExchange B L2 (put_at n r x.response i) (put_at n p x.place i) (told2.read i) (told2.written i)) (sym e)
-            (subst (λ o. IsExchange B L2 o (put_at n p x.place n) (told2.read n) (told2.written n)) (sym (put_same n r x.response))
-            (subst (λ o. IsExchange B L2 r o (told2.read n) (told2.written n)) (sym (put_same n p x.place))
-            (subst (λ o. IsExchange B L2 r p o (told2.written n)) (sym at_n)
-            (given_new B L L2 whole (told2.written n) p r g (same_written n ∙ was.1))))))
+            subst (λ i. IsExchange B M (put_at n r x.response i) (put_at n p x.place i) (told2.read i) (told2.written i)) (sym e)
+            (subst (λ o. IsExchange B M o (put_at n p x.place n) (told2.read n) (told2.written n)) (sym (put_same n r x.response))
+            (subst (λ o. IsExchange B M r o (told2.read n) (told2.written n)) (sym (put_same n p x.place))
+            (subst (λ o. IsExchange B M r p o (told2.written n)) (sym at_n)
+            (given_new B L M whole (told2.written n) p r g (same_written n ∙ was.1))))))
             (λ (ne : k ≡ n → ⊥).
-            subst (λ o. IsExchange B L2 o (put_at n p x.place k) (told2.read k) (told2.written k)) (sym (put_other n r x.response k ne))
-            (subst (λ o. IsExchange B L2 (x.response k) o (told2.read k) (told2.written k)) (sym (put_other n p x.place k ne))
-            (subst (λ o. IsExchange B L2 (x.response k) (x.place k) o (told2.written k)) (sym (apart k ne))
-            (subst (λ o. IsExchange B L2 (x.response k) (x.place k) (told.read k) o) (sym (same_written k))
-            (given_grows B L L2 whole p r g (x.response k) (x.place k) (told.read k) (told.written k) (a.each k))))))
+            subst (λ o. IsExchange B M o (put_at n p x.place k) (told2.read k) (told2.written k)) (sym (put_other n r x.response k ne))
+            (subst (λ o. IsExchange B M (x.response k) o (told2.read k) (told2.written k)) (sym (put_other n p x.place k ne))
+            (subst (λ o. IsExchange B M (x.response k) (x.place k) o (told2.written k)) (sym (apart k ne))
+            (subst (λ o. IsExchange B M (x.response k) (x.place k) (told.read k) o) (sym (same_written k))
+            (given_grows B L M whole p r g (x.response k) (x.place k) (told.read k) (told.written k) (a.each k))))))
             (cases_eq k n);
         own = λ j k m e f.
             ⊎_elim
             (λ (y : j ≡ n).
             ⊎_elim
             (λ (z : k ≡ n). y ∙ sym z)
-            (λ (z : k ≡ n → ⊥). (let low = a.before k m (other k m z f) in let high = (given_place B L L2 whole p r g m (new j m y e)).0 in absurd (omega (arith, low, high))))
+            (λ (z : k ≡ n → ⊥). (let low = a.before k m (other k m z f) in let high = (given_place B L M whole p r g m (new j m y e)).0 in absurd (omega (arith, low, high))))
             (cases_eq k n))
             (λ (y : j ≡ n → ⊥).
             ⊎_elim
-            (λ (z : k ≡ n). (let low = a.before j m (other j m y e) in let high = (given_place B L L2 whole p r g m (new k m z f)).0 in absurd (omega (arith, low, high))))
+            (λ (z : k ≡ n). (let low = a.before j m (other j m y e) in let high = (given_place B L M whole p r g m (new k m z f)).0 in absurd (omega (arith, low, high))))
             (λ (z : k ≡ n → ⊥). a.own j k m (other j m y e) (other k m z f))
             (cases_eq k n))
             (cases_eq j n);
         before = λ k m e.
             ⊎_elim
-            (λ (y : k ≡ n). (let q = given_place B L L2 whole p r g m (new k m y e) in let q0 = q.0 in let q1 = q.1 in omega (arith, q0, q1)))
-            (λ (y : k ≡ n → ⊥). (let low = a.before k m (other k m y e) in omega (arith, low, given_length B L L2 whole p r g)))
+            (λ (y : k ≡ n). (let q = given_place B L M whole p r g m (new k m y e) in let q0 = q.0 in let q1 = q.1 in omega (arith, q0, q1)))
+            (λ (y : k ≡ n → ⊥). (let low = a.before k m (other k m y e) in omega (arith, low, given_length B L M whole p r g)))
             (cases_eq k n);
         asked = λ newer older command m e late.
             ⊎_elim
@@ -231,7 +231,7 @@ module _ (told told2 : Told) (x : Exchanges) (B : Records) (start : ℕ) (L L2 :
             (let found = a.asked y.0 older command m y.1 late in
             let ne : found.0 ≡ n → ⊥ = λ (z : found.0 ≡ n). none_some (sym was.0 ∙ (ap x.place (sym z) ∙ found.1)) in
             (found.0, put_other n p x.place found.0 ne ∙ found.1)))
-            (given_events B L L2 whole p r g newer older command m e);
+            (given_events B L M whole p r g newer older command m e);
         still = λ k high.
             (let ne : k ≡ n → ⊥ = λ (z : k ≡ n). (let no : ⊥ = omega (arith, z, high, within, same_count) in no) in
             let was_still = a.still k (omega (arith, high, same_count)) in
@@ -327,7 +327,7 @@ kept_given : (told2 : Told) (x2 : Exchanges) (n : ℕ) (whole items : List ℕ) 
 kept_given told2 x2 n whole items None w has at_n wrote reads zero_w = (at_n ∙ sym reads, has, zero_w)
 kept_given told2 x2 n whole items (Some response) w has at_n wrote reads zero_w = (has, wrote ∙ ap (λ i. take i (octets_of response)) (sym zero_w))
 
-given_asks : (B : Records) (L first L2 : Log) (whole : List ℕ) (p : Option ℕ) (r : Option (List ℕ)) → IsGiven B L whole L2 p r → Asks first L → Asks first L2
+given_asks : (B : Records) (L first M : Log) (whole : List ℕ) (p : Option ℕ) (r : Option (List ℕ)) → IsGiven B L whole M p r → Asks first L → Asks first M
 given_asks B L first _ whole _ _ NotYet a = a
 given_asks B L first _ whole _ _ (NoCommand response is) a = a
 given_asks B L first _ whole _ _ (GivenOne command t response q is) a = AsksMore command (Tagged t) L a
@@ -399,12 +399,12 @@ module _ {V W : Type 0} (Holds : V → Contents → Type 0) (Tells : W → ToldO
 
 module _ {W : Type 0} (Tells : W → ToldOfPorts → Type 0) (B : Records) (start : ℕ) (pop : Told) (others : List Exchange) (e e2 : Exchange) where
   -- nothing was read, or written: a link took nothing, or is over
-  pub waited : (x : Exchanges) (L2 : Log) (wire wire2 : W) (s : IsAnswering Tells x B start L2 pop wire (AreKeptBeside others e)) (told2 : Told)
+  pub waited : (x : Exchanges) (M : Log) (wire wire2 : W) (s : IsAnswering Tells x B start M pop wire (AreKeptBeside others e)) (told2 : Told)
       → Tells wire2 (record { pop = pop; admin = told2 }) → told2.accepted ≡ s.told.accepted → ((k : ℕ) → told2.read k ≡ s.told.read k) → ((k : ℕ) → told2.written k ≡ s.told.written k)
       → ((k : ℕ) → (k ≡ e.link.number → ⊥) → told2.over k ≡ s.told.over k) → told2.strayed ≡ false
       → e2.link ≡ e.link → e2.read ≡ e.read → e2.response ≡ e.response → e2.written ≡ e.written → (e2.is_over ≡ false → told2.over e.link.number ≡ false)
-      → IsAnswering Tells x B start L2 pop wire2 (AreKeptBeside others e2)
-  waited x L2 wire wire2 s told2 tells same_count same_read same_written apart straight same_link same_items same_response same_at live =
+      → IsAnswering Tells x B start M pop wire2 (AreKeptBeside others e2)
+  waited x M wire wire2 s told2 tells same_count same_read same_written apart straight same_link same_items same_response same_at live =
       let told = s.told in
       let n = e.link.number in
       let number : e2.link.number ≡ n = ap (λ k. k.number) same_link in
@@ -415,7 +415,7 @@ module _ {W : Type 0} (Tells : W → ToldOfPorts → Type 0) (B : Records) (star
       record {
         told = told2;
         tells = tells;
-        exchanged = exchanged_same told told2 x B start L2 s.exchanged same_count same_read same_written straight;
+        exchanged = exchanged_same told told2 x B start M s.exchanged same_count same_read same_written straight;
         held = (
           record {
             accepted = (let low = held.accepted in omega (arith, number, low, same_count));
@@ -430,12 +430,12 @@ module _ {W : Type 0} (Tells : W → ToldOfPorts → Type 0) (B : Records) (star
       }
 
   -- so many octets of a response were written
-  pub wrote : (x : Exchanges) (L2 : Log) (wire wire2 : W) (s : IsAnswering Tells x B start L2 pop wire (AreKeptBeside others e)) (count : ℕ) (more : List ℕ) (response : Response)
+  pub wrote : (x : Exchanges) (M : Log) (wire wire2 : W) (s : IsAnswering Tells x B start M pop wire (AreKeptBeside others e)) (count : ℕ) (more : List ℕ) (response : Response)
       → Tells wire2 (record { pop = pop; admin = has_written s.told e.link.number (Count count) more }) → e.response ≡ Some response → e.is_over ≡ false
       → more ≡ take count (drop e.written (octets_of response))
       → e2.link ≡ e.link → e2.response ≡ e.response → e2.written ≡ e.written + count
-      → IsAnswering Tells x B start L2 pop wire2 (AreKeptBeside others e2)
-  wrote x L2 wire wire2 s count more response tells has goes is same_link same_response at =
+      → IsAnswering Tells x B start M pop wire2 (AreKeptBeside others e2)
+  wrote x M wire wire2 s count more response tells has goes is same_link same_response at =
       let told = s.told in
       let n = e.link.number in
       let number : e2.link.number ≡ n = ap (λ k. k.number) same_link in
@@ -451,7 +451,7 @@ module _ {W : Type 0} (Tells : W → ToldOfPorts → Type 0) (B : Records) (star
       record {
         told = told2;
         tells = tells;
-        exchanged = exchanged_written told told2 x B start L2 n (e.written + count) octets s.exchanged kept.0 at_n refl (λ k. refl)
+        exchanged = exchanged_written told told2 x B start M n (e.written + count) octets s.exchanged kept.0 at_n refl (λ k. refl)
             (λ k ne. more_apart n k more told.written ne) (straight_on told n s.exchanged.straight held.accepted live);
         held = (
           record {

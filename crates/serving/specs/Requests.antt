@@ -115,7 +115,7 @@ AreOthersHeld told x number held = All (λ e. (e.link.number ≡ number → ⊥)
 -- a log with events of commands more
 pub data Asks (L : Log) : Log → Type 0 where
   AsksNone : Asks L L
-  AsksMore : (command : AdminCommand) (m : Mark) (L2 : Log) → Asks L L2 → Asks L ((event.Admin command, m) ∷ L2)
+  AsksMore : (command : AdminCommand) (m : Mark) (M : Log) → Asks L M → Asks L ((event.Admin command, m) ∷ M)
 
 -- ---- the invariant
 
