@@ -160,7 +160,7 @@ fn rows_in_pieces(alloc: Global, piece: usize, count: u32) -> Result<bool, Fail>
         if !is_told || !bench.wire.is_request_closed(place) {
             return Ok(false);
         }
-        place += 1;
+        place = place.saturating_add(1);
     }
     Ok(bench.links.requests() == 0 && !bench.wire.strayed())
 }
@@ -246,12 +246,12 @@ fn with_stop(alloc: Global, call: u64, stop: Stop) -> Result<bool, Fail> {
     if !ADDED.starts_with(added) || !NO_SESSIONS.starts_with(none) || !client.starts_with(said) {
         return Ok(false);
     }
-    let mut whole = 0;
-    whole += u32::from(added == ADDED);
-    whole += u32::from(none == NO_SESSIONS);
-    whole += u32::from(said == client);
+    let is_added = added == ADDED;
+    let is_told = none == NO_SESSIONS;
+    let is_said = said == client;
+    let two_are_whole = (is_added && is_told) || (is_said && (is_added || is_told));
     let is_over = bench.links.requests() == 0 && bench.links.count() == 0;
-    Ok(is_over && whole >= 2 && !bench.wire.strayed())
+    Ok(is_over && two_are_whole && !bench.wire.strayed())
 }
 
 #[test]
