@@ -15,13 +15,13 @@ use Rattle.office.specs.Outcomes.{Outcome, NoSuchConnection, NotReady, mark_of}
 use Rattle.office.specs.Outcomes as outcome
 use Rattle.office.specs.Stands.{StandsFor, Seen, IsKeptFor, is_seen_open, untaken_of, seen, length_of_lent, lent_by, vault_of}
 use Rattle.office.specs.Stands.{Keeps as Kept_by}
-use Rattle.office.specs.Trace.{history, is_open_at, rest, rest_if, IsLent}
+use Rattle.office.specs.Trace.{history, is_open_at, rest, rest_if, IsLent, most_lent}
 use Rattle.office.specs.Shown.{outcome_seen}
 use Rattle.office.specs.declared.event.Outcome.{Outcome as Shown}
 use Rattle.office.specs.declared.office.Office.{Office}
 use Rattle.office.specs.declared.output.Source.{Source}
 use Rattle.office.specs.declared.output.Source.TheVariants.{Nothing, Sizes, Uids, Text}
-use Rattle.office.specs.Output.{Output, most_lent, is_feeding, Feeds, Owes}
+use Rattle.office.specs.Output.{Output, is_feeding, Feeds, Owes}
 use Rattle.session.specs.Session.{Session}
 use Rattle.converse.specs.Script.{ScriptLine, Does, Drains, line_seen, script_of}
 use Rattle.converse.specs.declared.script.Line.{Line}

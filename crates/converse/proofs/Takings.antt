@@ -11,7 +11,7 @@ use Rattle.office.specs.Told.{told}
 use Rattle.office.specs.Events.{Event, Mark, Tagged, Log, Trace, given}
 use Rattle.office.specs.Events as event
 use Rattle.office.specs.Log.{stream, taken}
-use Rattle.office.specs.Trace.{acts, history, rest, rest_if, is_open, is_open_by, is_left, untaken, next_line, act_of_part, acts_of_took, IsLent}
+use Rattle.office.specs.Trace.{acts, history, rest, rest_if, is_open, is_open_by, is_left, untaken, rest_at, next_line, act_of_part, acts_of_took, most_lent, IsLent}
 use Rattle.office.specs.Expected.{IsOutcome, ignored, shown_at, reason_if, may_show, took_may, next_may_fail}
 use Rattle.office.specs.Outcomes.{Outcome, Reason, NoSuchConnection, NotReady, mark_of}
 use Rattle.office.specs.Outcomes as outcome
@@ -136,12 +136,16 @@ module _ (B : Records) (c : ℕ) (old : List (Act × Tag)) (octets written : Lis
       ∙ (ap (λ x. took_may a s x (next_may_fail B Front c (next_line L Front c []))) r
       ∙ ap (λ x. took_may a s b (next_may_fail B Front c x)) w))
 
+  -- more is owed than is lent
+  abbrev owes_more : Bool
+  owes_more = nat_lt most_lent (length (rest_at L Front c))
+
   lacks_so : (a b : Bool) (o : Option Cut) → is_left L Front c n ≡ a → closing Front c ≡ b → next_line L Front c [] ≡ o
-      → may_show (trace_of B L) (event.Took c n) NoMemory ≡ took_may a true b (is_some o)
+      → may_show (trace_of B L) (event.Took c n) NoMemory ≡ took_may a owes_more b (is_some o)
   lacks_so a b o p r w =
-      ap (λ x. took_may x true (closing Front c) (is_some (next_line L Front c []))) p
-      ∙ (ap (λ x. took_may a true x (is_some (next_line L Front c []))) r
-      ∙ ap (λ x. took_may a true b (is_some x)) w)
+      ap (λ x. took_may x owes_more (closing Front c) (is_some (next_line L Front c []))) p
+      ∙ (ap (λ x. took_may a owes_more x (is_some (next_line L Front c []))) r
+      ∙ ap (λ x. took_may a owes_more b (is_some x)) w)
 
   -- no act comes of it
   still : (k : Takes) (t : Tag) → acts (trace_of B (After t)) ≡ Before

@@ -6,10 +6,9 @@ use Rattle.vault.specs.Changes.{Contents}
 use Rattle.office.specs.Events.{Event, Mark, Tagged, Log, Took, Trace, given}
 use Rattle.office.specs.History.{Failed}
 use Rattle.office.specs.Expected.{IsOutcome}
-use Rattle.office.specs.Output.{most_lent}
+use Rattle.office.specs.Trace.{most_lent, is_open, rest}
 use Rattle.office.specs.Outcomes.{Outcome, Opened, Done, mark_of}
 use Rattle.office.specs.Stands.{Keeps, StandsFor}
-use Rattle.office.specs.Trace.{is_open, rest}
 use Rattle.office.specs.declared.office.Office.{Office}
 use Rattle.converse.specs.Escapes.{escaped}
 use Rattle.converse.specs.Script.{ScriptLine, Does, Drains, NoPolicy}

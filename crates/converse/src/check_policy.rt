@@ -1,4 +1,5 @@
-//! `popbox check-policy`: reads a policy's file, and prints how many rules it has or its first fault.
+//! `popbox check-policy`: reads a policy's file, and prints how many rules it has or its first
+//! fault.
 
 ghost use Rattle.std.specs.Prelude.{◌≡◌, ◌≤◌, IfOk, IsErr, IsOk, IfSome, OnOk, OnErr, length};
 ghost use Rattle.std.specs.Io.KnownBytes.{Appends, IsAtEnd};
@@ -14,9 +15,10 @@ use std::{io, str};
 
 /// Reads a policy's file to its end, and prints `ok, N rules` to `out`, which is flushed.
 ///
-/// Gives the exit status, 0 or 1. A fault has status 1 and its text on `err`: of a text that is no policy its first
-/// fault, `NotToml` also where it isn't UTF-8. Faults are found in the order: the file can't be read, its policy has a
-/// fault, `out` refuses octets. Before the last of them nothing is on `out`.
+/// Gives the exit status, 0 or 1. A fault has status 1 and its text on `err`: of a text that is no
+/// policy its first fault, `NotToml` also where it isn't UTF-8. Faults are found in the order: the
+/// file can't be read, its policy has a fault, `out` refuses octets. Before the last of them
+/// nothing is on `out`.
 pub fn check_policy<R: Read, W: Write, E: Write>(
     alloc: Global,
     file: &mut R,

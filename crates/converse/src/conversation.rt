@@ -72,7 +72,8 @@ fn hear<V: Vault>(office: &mut Office<V>, c: u64, piece: &[u8]) -> Result<(), Ta
     had_memory(office.step(Event::Bytes(c, piece)))
 }
 
-/// Reads once, and gives the piece to an office that waits for it. Whether there was one; else the reader is at its end.
+/// Reads once, and gives the piece to an office that waits for it. Whether there was one; else the
+/// reader is at its end.
 fn listen<V: Vault, R: Read>(
     office: &mut Office<V>,
     c: u64,
@@ -171,8 +172,9 @@ fn converse<V: Vault, R: Read, W: Write>(
     Err(TalkFault::Endless)
 }
 
-/// One conversation over an office, from a reader and to a writer: a connection is opened, and all that it is owed is written before
-/// each read, until its last line closed it or the reader told its end. Its connection is then ended, after a fault too.
+/// One conversation over an office, from a reader and to a writer: a connection is opened, and all
+/// that it is owed is written before each read, until its last line closed it or the reader told
+/// its end. Its connection is then ended, after a fault too.
 pub fn talk<V: Vault, R: Read, W: Write>(
     office: &mut Office<V>,
     reader: &mut R,

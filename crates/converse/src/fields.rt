@@ -1,4 +1,5 @@
-//! The parts of a script's line: fields that one space parts, names, numbers, and a TEXT at the end.
+//! The parts of a script's line: fields that one space parts, names, numbers, and a TEXT at the
+//! end.
 
 ghost use Rattle.std.specs.Prelude.{◌≡◌, ◌==◌, ◌+◌, ◌*◌, ◌<◌, ◌≤◌, ◌≢◌, MatchOption, length, vec_len, IfOk, IfSome, SomeIff, option_map, option_copied, []};
 ghost use Rattle.std.specs.Char.{digit_value};
@@ -78,7 +79,8 @@ fn next_octet(text: &[u8]) -> Option<(u8, &[u8])>
     }
 }
 
-/// The octet that an escape stands for, of which this is what follows its `\`, and the TEXT behind it.
+/// The octet that an escape stands for, of which this is what follows its `\`, and the TEXT behind
+/// it.
 fn escaped_octet(text: &[u8]) -> Option<(u8, &[u8])>
     ensures is { MatchOption result (behind_backslash text.now ≡ None) (λ r. behind_backslash text.now ≡ led r.0 (unescaped r.1.now)) }
     ensures shorter { IfSome result (λ r. length r.1.now < length text.now) }

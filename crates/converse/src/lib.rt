@@ -1,5 +1,6 @@
-//! What runs over readers and writers: one conversation of a client over an office, and the law on what it removes; and the
-//! runs that popbox's program makes: a script of events, a conversation over a store, and the check of a policy's file.
+//! What runs over readers and writers: one conversation of a client over an office, and the law on
+//! what it removes; and the runs that popbox's program makes: a script of events, a conversation
+//! over a store, and the check of a policy's file.
 #![tactic(auto)]
 
 ghost use Rattle.converse.specs.Escapes.{IsReadBack};

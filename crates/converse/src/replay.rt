@@ -151,7 +151,8 @@ fn play<V: Vault, W: Write>(
     Ok(())
 }
 
-/// Does one line, and prints what comes of it. The connections that were opened and not yet told as ended are `known`.
+/// Does one line, and prints what comes of it. The connections that were opened and not yet told as
+/// ended are `known`.
 fn play_line<V: Vault, W: Write>(
     alloc: Global,
     office: &mut Office<V>,
@@ -213,8 +214,8 @@ fn add_opened(outcome: &Outcome, known: &mut Vec<u64>) -> Result<(), Fault>
     }
 }
 
-/// Does the events of one line, prints the octets that it takes, and gives the last outcome. A line that is no event
-/// is answered here.
+/// Does the events of one line, prints the octets that it takes, and gives the last outcome. A line
+/// that is no event is answered here.
 fn act<V: Vault, W: Write>(
     office: &mut Office<V>,
     line: &Line,
@@ -324,8 +325,8 @@ fn drain<V: Vault, W: Write>(
     }
 }
 
-/// Takes what a connection is owed, and prints it, again until nothing is owed or it has ended. `Endless` after
-/// 2^64 - 1 takings.
+/// Takes what a connection is owed, and prints it, again until nothing is owed or it has ended.
+/// `Endless` after 2^64 - 1 takings.
 fn take_all<V: Vault, W: Write>(
     office: &mut Office<V>,
     number: u64,
@@ -389,8 +390,9 @@ fn write_digits<W: Write>(out: &mut W, octet: u8) -> io::Result<()>
     write!(out, "\\x{octet:02x}")
 }
 
-/// Prints an outcome. Answers [`Fault::CannotWrite`] where `out` refuses octets, and [`Fault::OutOfMemory`] where the text of an answer
-/// finds no memory; some of the lines may then be on `out`.
+/// Prints an outcome. Answers [`Fault::CannotWrite`] where `out` refuses octets, and
+/// [`Fault::OutOfMemory`] where the text of an answer finds no memory; some of the lines may then
+/// be on `out`.
 pub fn tell<W: Write>(alloc: Global, out: &mut W, outcome: &Outcome) -> Result<(), Fault>
     ensures told { OnOk result (Appends (W.contents out.old) (W.contents out.new) (outcome_lines (outcome_seen outcome.now))) }
     ensures cause { IfErr result (λ fault. (fault ≡ CannotWrite) ⊎ (fault ≡ OutOfMemory)) }
@@ -449,7 +451,8 @@ fn tell_octet<W: Write>(out: &mut W, at_start: bool, octet: u8) -> io::Result<()
     out.write_all(&[octet])
 }
 
-/// Prints the connections that ended since the last event, ascending as the numbers are, and keeps the others.
+/// Prints the connections that ended since the last event, ascending as the numbers are, and keeps
+/// the others.
 fn tell_ended<V: Vault, W: Write>(
     office: &Office<V>,
     connections: &mut Vec<u64>,

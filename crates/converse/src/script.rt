@@ -16,7 +16,8 @@ use office::{AdminCommand, read_number};
 use policy::{Action, PolicyFault};
 use std::alloc::{AllocError, AllocFailed, Global};
 
-/// What one line of a script asks for. Connections are named by their numbers. It has no `Debug`, since it may hold a password or mail.
+/// What one line of a script asks for. Connections are named by their numbers. It has no `Debug`,
+/// since it may hold a password or mail.
 #[derive(Drop)]
 pub enum Line {
     /// `connect`: a connection is opened.
@@ -33,7 +34,8 @@ pub enum Line {
     Tick(u64),
     /// `restart N`: the office starts again under the number N.
     Restart(u64),
-    /// `deposit MAILDROP CLASS ID TEXT`: a message of any octets, also none, is put into a maildrop.
+    /// `deposit MAILDROP CLASS ID TEXT`: a message of any octets, also none, is put into a
+    /// maildrop.
     Deposit {
         /// The maildrop's name.
         maildrop: Name,
@@ -44,7 +46,8 @@ pub enum Line {
         /// The message's text.
         text: Vec<u8>,
     },
-    /// `maildrops`, `maildrop`, `list`, `clerk`, `policy`, `sessions`, `end` or `explain`: an administrator asks for something.
+    /// `maildrops`, `maildrop`, `list`, `clerk`, `policy`, `sessions`, `end` or `explain`: an
+    /// administrator asks for something.
     Admin(AdminCommand),
     /// `policy TEXT`, where TEXT is no policy: no event, and answered the text's first fault.
     NoPolicy(PolicyFault),

@@ -16,11 +16,11 @@ use std::alloc::Global;
 use std::io::{Read, Write};
 use vault::Vault;
 
-/// Opens an office over the vault, and has one conversation in it, whose octets come from `reader` and whose replies go
-/// to `writer`.
+/// Opens an office over the vault, and has one conversation in it, whose octets come from `reader`
+/// and whose replies go to `writer`.
 ///
-/// Gives the exit status, 0 or 1, and the vault, as the conversation left it. A fault has status 1 and its text on
-/// `err`. Where the host is bad nothing is read or written.
+/// Gives the exit status, 0 or 1, and the vault, as the conversation left it. A fault has status 1
+/// and its text on `err`. Where the host is bad nothing is read or written.
 pub fn talk<V: Vault, R: Read, W: Write, E: Write>(
     alloc: Global,
     vault: V,

@@ -1,22 +1,21 @@
 -- An office lends what it owes, so its events have marks that they may have.
-use Rattle.std.proofs.Common.{◌≡◌, ◌≤◌, ℕ, Bool, true, false, List, [], ◌∷◌, length, refl, sym, ◌∙◌, ap, arith, nat_cmp, None, Some, Option, subst}
+use Rattle.std.proofs.Common.{◌≡◌, ◌≤◌, ℕ, Bool, true, false, List, [], ◌∷◌, length, refl, ap, arith, nat_cmp, None, Some, Option}
 use Rattle.std.specs.BTreeMap.{get}
 use Rattle.vault.specs.Changes.{Contents}
 use Rattle.office.specs.History.{Done}
 use Rattle.office.specs.Events.{Event, Trace, Tagged, given}
 use Rattle.office.specs.Events as event
-use Rattle.office.specs.Trace.{history, rest, rest_if, is_open, untaken}
+use Rattle.office.specs.Trace.{history, rest, rest_if, is_open, untaken, most_lent}
 use Rattle.office.specs.Expected.{IsOutcome}
 use Rattle.office.specs.Outcomes.{Outcome, mark_of}
 use Rattle.office.specs.Outcomes as outcome
 use Rattle.office.specs.Kept.{Kept}
-use Rattle.office.specs.Output.{most_lent}
 use Rattle.office.proofs.Owing.{owes_within}
 use Rattle.std.proofs.lemmas.List.{length-take}
 use Rattle.office.specs.Shown.{event_seen, outcome_seen, followed_by}
-use Rattle.office.specs.Stands.{StandsFor, IsKeptFor, Matches, Seen, seen, untaken_of, lent_by, length_of_lent}
+use Rattle.office.specs.Stands.{StandsFor, IsKeptFor, seen, untaken_of, lent_by, length_of_lent}
 use Rattle.office.specs.Taken.{IsAdmitted, AreAdmitted, IsSentExactly}
-use Rattle.office.specs.Runs.{Step, IsStep, AreSteps, followed}
+use Rattle.office.specs.Runs.{Step, AreSteps, followed}
 use Rattle.office.specs.declared.event.Event.{Event as Given}
 use Rattle.office.specs.declared.office.Office.{Office}
 use Rattle.office.proofs.SentExactly.{taken_is_sent}

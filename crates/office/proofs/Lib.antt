@@ -70,4 +70,5 @@ mod Ticking
 pub mod Stopping
 pub mod StoppingLines
 mod Unasked
+mod Memory
 mod Sending

@@ -1,5 +1,5 @@
 -- What is owed: what stands ready, and what its source puts behind it.
-use Rattle.std.proofs.Common.{◌≡◌, ℕ, ◌+◌, ◌<◌, ◌≤◌, Bool, true, false, List, [], ◌∷◌, ◌++◌, drop, take, length, min, refl, sym, ◌∙◌, ap, subst, arith, true≢false, Option, Some, None, append-nil, append_assoc, length-append, length-drop}
+use Rattle.std.proofs.Common.{◌≡◌, ℕ, ◌<◌, ◌≤◌, Bool, true, false, List, [], ◌∷◌, ◌++◌, drop, take, length, min, refl, sym, ◌∙◌, ap, subst, arith, true≢false, Option, Some, None, append-nil, length-append, length-drop}
 use Rattle.std.proofs.lemmas.List.{take-append-le, take_min, length-take}
 use Rattle.popline.specs.Replies.{Reply, bytes_of}
 use Rattle.vault.specs.declared.record.Keyed.{Keyed}
@@ -7,9 +7,8 @@ use Rattle.vault.specs.Changes.{Contents}
 use Rattle.session.specs.Session.{Session}
 use Rattle.office.specs.Laws.{In}
 use Rattle.office.specs.Replying.{is_empty}
-use Rattle.office.specs.Trace.{IsLent}
-use Rattle.office.specs.Output.{Output, nothing_owed, is_feeding, reads_text, lent_of, most_lent, most_output, IsFilled, last_line, Reads, Feeds, Owes, OwesReply}
-use Rattle.office.specs.declared.reading.Reading.{Reading}
+use Rattle.office.specs.Trace.{IsLent, most_lent}
+use Rattle.office.specs.Output.{Output, nothing_owed, is_feeding, reads_text, lent_of, most_output, last_line, Feeds, Owes, OwesReply}
 use Rattle.office.specs.declared.output.Source.{Source}
 use Rattle.office.specs.declared.output.Source.TheVariants.{Nothing, Sizes, Uids, Text}
 

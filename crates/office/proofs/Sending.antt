@@ -1,11 +1,11 @@
 -- A message that is sent from the store, page by page.
 use Rattle.std.proofs.Common.{◌≡◌, ◌<◌, ◌≤◌, ℕ, List, [], ◌++◌, drop, length, refl, sym, ◌∙◌, ap, subst, append-nil, true≢false, Option, Some, None}
 use Rattle.std.proofs.lemmas.List.{drop-append-le}
-use Rattle.vault.specs.declared.record.Keyed.{Keyed}
 use Rattle.vault.specs.Changes.{Contents, AreSound}
 use Rattle.vault.specs.Calls.{text_under}
 use Rattle.session.specs.Session.{Session}
-use Rattle.office.specs.Output.{Output, most_lent, text_coming, IsBegun, Reads, Feeds, Owes}
+use Rattle.office.specs.Output.{Output, text_coming, IsBegun, Reads, Feeds, Owes}
+use Rattle.office.specs.Trace.{most_lent}
 use Rattle.office.specs.declared.reading.Reading.{Reading}
 use Rattle.office.specs.declared.output.Source.{Source}
 use Rattle.office.specs.declared.output.Source.TheVariants.{Nothing, Text}

@@ -1,23 +1,22 @@
 -- A taking of what is lent: what is owed then, and what is kept.
-use Rattle.std.proofs.Common.{◌≡◌, ℕ, ◌+◌, ◌<◌, ◌≤◌, Bool, true, false, List, [], ◌∷◌, drop, length, min, refl, sym, ◌∙◌, ap, subst, arith, true≢false, inl, length-drop}
+use Rattle.std.proofs.Common.{◌≡◌, ℕ, ◌<◌, ◌≤◌, Bool, true, false, List, [], ◌∷◌, drop, length, refl, sym, ◌∙◌, ap, subst, arith, true≢false, inl, length-drop}
 use Rattle.std.proofs.lemmas.List.{length-take}
 use Rattle.vault.specs.Changes.{Contents}
 use Rattle.std.proofs.lemmas.Bool.Decides.{nat_tests}
 use Rattle.vault.specs.Calls.{has_grown}
-use Rattle.office.specs.History.{Done, Failed, NoMemory}
-use Rattle.office.specs.Connections.{serving, closing}
-use Rattle.office.specs.Events.{Trace, Took, Tagged, given}
-use Rattle.office.specs.Log.{moment}
+use Rattle.office.specs.History.{Failed, NoMemory}
+use Rattle.office.specs.Connections.{serving}
+use Rattle.office.specs.Events.{Trace, Took, given}
 use Rattle.office.specs.Replying.{is_empty}
-use Rattle.office.specs.Trace.{history, is_left, act_of_part, gone_act}
-use Rattle.office.specs.Output.{Output, nothing_owed, is_feeding, reads_text, lent_of, most_lent, Owes}
+use Rattle.office.specs.Trace.{act_of_part, gone_act, most_lent}
+use Rattle.office.specs.Output.{Output, nothing_owed, is_feeding, reads_text, lent_of, Owes}
 use Rattle.office.specs.Kept.{Kept}
-use Rattle.office.specs.Stopping.{SaysTrace, IsAnswered, LeavesHeld, LeavesTrace, StopLeaves}
-use Rattle.office.specs.Stands.{Seen, seen, Matches, Keeps, untaken_of}
+use Rattle.office.specs.Stopping.{IsAnswered, LeavesHeld, LeavesTrace, StopLeaves}
+use Rattle.office.specs.Stands.{Seen, Matches, Keeps, untaken_of}
 use Rattle.office.specs.Outcomes as outcome
 use Rattle.office.proofs.Hearing.{Awaits, took}
-use Rattle.office.proofs.Owing.{owes_more, owes_within, some_owed, none_owed, text_feeds}
-use Rattle.office.proofs.Events.{left_over, all_over, part_took, awaits_took}
+use Rattle.office.proofs.Owing.{owes_more, owes_within, some_owed, none_owed}
+use Rattle.office.proofs.Events.{part_took, awaits_took}
 use Rattle.office.proofs.Stopping.{stop_leaves, says_kept}
 
 -- ---- numbers of octets
@@ -33,8 +32,8 @@ drop_none : (n : ℕ) (xs : List ℕ) → drop n xs ≡ [] → length xs ≤ n
 drop_none n xs e = let size = ap length e in omega (arith, size, length-drop n xs)
 
 -- what is lent stands ready
-pub lent_ready : (o : Output) (lent : List ℕ) (n : ℕ) → lent ≡ lent_of o → n ≤ length lent → n ≤ length o.ready
-lent_ready o lent n e h = let size = ap length e ∙ length-take most_lent o.ready in omega (arith, size, h)
+pub lent_ready : (o : Output) (n : ℕ) → n ≤ length (lent_of o) → n ≤ length o.ready
+lent_ready o n h = let size = length-take most_lent o.ready in omega (arith, size, h)
 
 module _ (c : Contents) (s : Seen) (k : Kept) (n now : ℕ) (m : Matches c s k) (fits : n ≤ length k.output.ready) where
   -- it isn't more than is owed

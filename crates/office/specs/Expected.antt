@@ -9,7 +9,7 @@ use Rattle.office.specs.Told.{deposited, administered}
 use Rattle.office.specs.Events.{Event, Mark, Tagged, Log, Trace}
 use Rattle.office.specs.Outcomes.{Outcome, Reason, NoSuchConnection, NotReady, PieceTooLong, TooManyConnections}
 use Rattle.office.specs.Log.{next_number}
-use Rattle.office.specs.Trace.{next_line, open_numbers_at, rest, is_left, is_open_at, rest_at, history}
+use Rattle.office.specs.Trace.{next_line, open_numbers_at, rest, is_left, is_open_at, rest_at, history, most_lent}
 use Rattle.office.specs.Events as event
 use Rattle.office.specs.Outcomes as outcome
 
@@ -96,11 +96,13 @@ may_fail_at B T G (event.Deposit d class id text) = true
 may_fail_at B T G (event.Admin command) = true
 may_fail_at B T G _ = false
 
--- the ends of connections, ticks and restarts take no memory, and nor does a Took behind which no line is
+-- No memory is taken by a piece without an end of line; by a Took that leaves some of what is owed
+-- where all of it is lent, so that nothing more is put; by a Took of all behind which no line acts;
+-- by the end of a connection, a tick and a restart.
 abbrev pub may_lack_memory_at : Log → List Entry → Event → Bool
 may_lack_memory_at T G event.Connect = true
-may_lack_memory_at T G (event.Bytes c piece) = true
-may_lack_memory_at T G (event.Took c octets) = took_may (is_left T G c octets) true (closing G c) (is_some (next_line T G c []))
+may_lack_memory_at T G (event.Bytes c piece) = has_newline piece
+may_lack_memory_at T G (event.Took c octets) = took_may (is_left T G c octets) (nat_lt most_lent (length (rest_at T G c))) (closing G c) (is_some (next_line T G c []))
 may_lack_memory_at T G (event.Deposit d class id text) = true
 may_lack_memory_at T G (event.Admin command) = true
 may_lack_memory_at T G _ = false

@@ -31,6 +31,11 @@ mark_of NoMemory = Tagged history.NoMemory
 mark_of (Ignored reason) = event.Ignored
 mark_of (Answered answer) = Tagged history.Done
 
+-- it isn't answered that memory was wanting
+abbrev pub HasMemory : Outcome → Type 0
+HasMemory NoMemory = ⊥
+HasMemory _ = ⊤
+
 -- that the store refused is answered only where its count of faults grew
 abbrev pub HasCause : (before now : ℕ) → Outcome → Type 0
 HasCause before now Failed = has_grown before now ≡ true

@@ -2,7 +2,6 @@
 use Rattle.std.specs.Prelude.{◌≡◌, ℕ, Bool, true, false, List, [], ◌++◌, ◌<◌, ◌≤◌, length, take, drop, codes, Option, Some, None}
 use Rattle.std.specs.List.{flat_map}
 use Rattle.mailtext.specs.Streams.{Come, stuffed_from, top_from}
-use Rattle.creds.specs.declared.uid.Uid.{Uid}
 use Rattle.popline.specs.Replies.{Reply, one_line, scan_text, uid_row_text, bytes_of}
 use Rattle.vault.specs.Changes.{Contents}
 use Rattle.vault.specs.declared.record.Keyed.{Keyed}
@@ -11,15 +10,12 @@ use Rattle.session.specs.View.{unmarked, sizes_of, uids_of}
 use Rattle.office.specs.History.{Says}
 use Rattle.office.specs.Connections.{has_message}
 use Rattle.office.specs.Laws.{In}
+use Rattle.office.specs.Trace.{most_lent}
 use Rattle.office.specs.declared.reading.Reading.{Reading}
 use Rattle.office.specs.declared.reading.Page.{Page}
 use Rattle.office.specs.declared.reading.Page.TheVariants as page
 use Rattle.office.specs.declared.output.Source.{Source}
 use Rattle.office.specs.declared.output.Source.TheVariants.{Nothing, Sizes, Uids, Text}
-
--- so many octets are lent at most, and stand ready where so many are owed
-abbrev pub most_lent : ℕ
-most_lent = 16384
 
 -- at most so many are kept: what is lent, a page of a message with each dot doubled, and a line
 abbrev pub most_output : ℕ

@@ -1,10 +1,11 @@
 -- A list of events done in order: what each was answered, the octets that each taking took, why any failed, and what a stop leaves.
-use Rattle.std.specs.Prelude.{◌≡◌, ◌<◌, ◌≤◌, ◌+◌, ℕ, List, [], ◌∷◌, ◌++◌, ⊤}
+use Rattle.std.specs.Prelude.{◌≡◌, ◌<◌, ◌≤◌, ◌+◌, ℕ, false, List, [], ◌∷◌, ◌++◌, ⊤}
 use Rattle.vault.specs.Changes.{Contents}
 use Rattle.vault.specs.Calls.{greatest_count}
 use Rattle.office.specs.Events.{Event, Trace}
-use Rattle.office.specs.Expected.{IsOutcome, octets_taken}
-use Rattle.office.specs.Outcomes.{mark_of, HasCause}
+use Rattle.office.specs.Expected.{IsOutcome, may_show, octets_taken}
+use Rattle.office.specs.History as history
+use Rattle.office.specs.Outcomes.{mark_of, HasCause, HasMemory}
 use Rattle.office.specs.Outcomes as outcomes
 use Rattle.office.specs.Shown.{event_seen, outcome_seen, followed_by}
 use Rattle.office.specs.Stands.{StandsFor, lent_by, vault_of}
@@ -78,6 +79,14 @@ failures_in (s ∷ ss) = one_if_failed (outcome_seen s.outcome) + failures_in ss
 -- the count of faults grew by as many at least as there are failed steps, while it isn't at its greatest: by none, none failed
 abbrev pub FailuresAreCounted : Type 0
 FailuresAreCounted = (before now : ℕ) (ss : List Step) → now < greatest_count → HaveCauses before now ss → before + failures_in ss ≤ now
+
+-- ---- memory
+
+-- each step whose event takes no memory isn't answered NoMemory
+abbrev pub HaveMemory : Trace → List Given → List Step → Type 0
+HaveMemory T (e ∷ es) (s ∷ ss) = (may_show T (event_seen e) history.NoMemory ≡ false → HasMemory (outcome_seen s.outcome))
+    × HaveMemory (followed_by T (event_seen e) s.outcome) es ss
+HaveMemory T _ _ = ⊤
 
 -- ---- stops
 

@@ -140,6 +140,10 @@ rest T c = rest_at T.log (history T) c
 abbrev pub is_ready : Trace → ℕ → Bool
 is_ready T c = is_open T c && is_empty (rest T c)
 
+-- so many octets are lent at most, and stand ready where so many are owed
+abbrev pub most_lent : ℕ
+most_lent = 16384
+
 -- what an office may lend of a rest: a beginning of it, of at least 512 octets or all
 pub record IsLent (rest lent : List ℕ) : Type 0 where
   pub beginning : lent ≡ take (length lent) rest

@@ -25,9 +25,11 @@ pub enum AdminCommand {
     SetPolicy(Policy),
     /// The sessions, by their connections' numbers.
     ListSessions,
-    /// Ends the session of a connection, and the connection with it, as [`crate::Event::Gone`] does.
+    /// Ends the session of a connection, and the connection with it, as [`crate::Event::Gone`]
+    /// does.
     EndSession(u64),
-    /// What the policy says of a clerk, a maildrop, a class and an action. The names need not exist.
+    /// What the policy says of a clerk, a maildrop, a class and an action. The names need not
+    /// exist.
     Explain {
         /// The clerk's name.
         clerk: Name,

@@ -2,7 +2,8 @@
 use crate::{AdminCommand, Answer};
 use creds::{DepositId, Name};
 
-/// What happens to an office, one at a time. It has no `Debug`, since it may hold a password or mail.
+/// What happens to an office, one at a time. It has no `Debug`, since it may hold a password or
+/// mail.
 #[derive(Clone, Copy)]
 pub enum Event<'a> {
     /// A client connects. The connection gets the next number, from 1 on.
@@ -13,16 +14,17 @@ pub enum Event<'a> {
     Took(u64, usize),
     /// A connection is gone: its client closed it, or it broke.
     Gone(u64),
-    /// The present moment, in seconds; one before the last counts as the last, and 0 is the first after an opening or a restart.
-    /// Connections that have done nothing for the idle seconds are ended, without a reply and with nothing removed.
+    /// The present moment, in seconds; one before the last counts as the last, and 0 is the first
+    /// after an opening or a restart. Connections that have done nothing for the idle seconds are
+    /// ended, without a reply and with nothing removed.
     Tick(u64),
-    /// A message is put into a maildrop, once for each deposit id of the maildrop's name: the maildrop, the message's class, the
-    /// deposit's id, and the message's text as it came.
+    /// A message is put into a maildrop, once for each deposit id of the maildrop's name: the
+    /// maildrop, the message's class, the deposit's id, and the message's text as it came.
     Deposit(&'a Name, &'a Name, &'a DepositId, &'a [u8]),
     /// An administrator asks for something.
     Admin(&'a AdminCommand),
-    /// The office starts again under this number: every connection is ended, with nothing removed, and the numbers of connections
-    /// begin at 1 again.
+    /// The office starts again under this number: every connection is ended, with nothing removed,
+    /// and the numbers of connections begin at 1 again.
     Restart(u64),
 }
 
@@ -47,7 +49,8 @@ pub enum Outcome {
     Done,
     /// The store refused. Of a line its reply says so; of a deposit or a command no record changed.
     Failed,
-    /// Want of memory. A connection whose line it met is ended, as by [`Event::Gone`]; else nothing changed.
+    /// Want of memory. A connection whose line it met is ended, as by [`Event::Gone`]; else nothing
+    /// changed.
     NoMemory,
     Ignored(Reason),
     /// What a deposit or a command is answered.

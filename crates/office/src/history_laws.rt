@@ -30,8 +30,8 @@ pub fn unique_ids_are_unique()
     ensures { UniqueIdsAreUnique }
 {}
 
-/// Over a sound store and events of their types, no two accepted deposits into a maildrop's name have one unique-id as it is
-/// written.
+/// Over a sound store and events of their types, no two accepted deposits into a maildrop's name
+/// have one unique-id as it is written.
 pub fn unique_id_texts_differ()
     ensures { UniqueIdTextsDiffer }
 {}
@@ -56,21 +56,22 @@ pub fn deposit_ids_act_once()
     ensures { DepositIdsActOnce }
 {}
 
-/// Over a sound store and events of their types, every reply's first line has at most 512 octets, and its text begins with
-/// `[` only where the maildrop is in use.
+/// Over a sound store and events of their types, every reply's first line has at most 512 octets,
+/// and its text begins with `[` only where the maildrop is in use.
 pub fn replies_have_their_form()
     ensures { RepliesHaveTheirForm }
 {}
 
-/// Each reply that has a message's octets answers a RETR or a TOP of a clerk in session, and has the
-/// octets of that message of the session's view; at the front of that line the policy in force let
-/// that clerk read the message's class. No other reply has a message's octets.
+/// Each reply that has a message's octets answers a RETR or a TOP of a clerk in session, and has
+/// the octets of that message of the session's view; at the front of that line the policy in force
+/// let that clerk read the message's class. No other reply has a message's octets.
 pub fn served_is_allowed()
     ensures { ServedIsAllowed }
 {}
 
-/// Over events whose marks are ones that they may have, what each connection took, and behind it what it is still owed, is exactly
-/// what the history sends it; once it is ended, what it took is a beginning of that, and the whole where its own closing ended it.
+/// Over events whose marks are ones that they may have, what each connection took, and behind it
+/// what it is still owed, is exactly what the history sends it; once it is ended, what it took is a
+/// beginning of that, and the whole where its own closing ended it.
 pub fn taken_is_sent()
     ensures { TakenIsSent }
 {}
@@ -80,21 +81,23 @@ pub fn openings_are_admitted()
     ensures { OpeningsAreAdmitted }
 {}
 
-/// Over a run the store's count of faults grew by as many at least as there are steps that were answered `Failed`, while it isn't
-/// at its greatest: where it didn't grow, none was.
+/// Over a run the store's count of faults grew by as many at least as there are steps that were
+/// answered `Failed`, while it isn't at its greatest: where it didn't grow, none was.
 pub fn failures_are_counted()
     ensures { FailuresAreCounted }
 {}
 
-/// A clean store keeps the trace of its own records in which nothing was done: so an office can be opened over it.
+/// A clean store keeps the trace of its own records in which nothing was done: so an office can be
+/// opened over it.
 pub fn own_trace_is_kept<V: Vault>(vault: &V)
     ensures { (c : Contents) → V.holds vault.now c → V.is_clean vault.now → Keeps (V.holds vault.now) (begun (records_of c)) }
 {
     let _vault = vault;
 }
 
-/// Of the trace that an office stands for, with no premise but on boot numbers: where these differ, timestamps do; unique-ids as they
-/// are written differ; replies have their form; and what is served was allowed.
+/// Of the trace that an office stands for, with no premise but on boot numbers: where these differ,
+/// timestamps do; unique-ids as they are written differ; replies have their form; and what is
+/// served was allowed.
 pub fn laws_of_its_trace<V: Vault>(office: &Office<V>)
     ensures greetings { (T : Trace) → StandsFor V.holds office.now T → TimestampsDiffer T }
     ensures unique_ids { (T : Trace) → StandsFor V.holds office.now T → (d : List ℕ) → are_distinct same_uid_text (deposits T.base (history T) d) ≡ true }

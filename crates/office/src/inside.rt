@@ -1,4 +1,5 @@
-//! A line of a session: what it is answered, what it changes, and what is remembered of it (RFC 1939, 5 and 6).
+//! A line of a session: what it is answered, what it changes, and what is remembered of it (RFC
+//! 1939, 5 and 6).
 ghost use Rattle.std.specs.Prelude.{◌≡◌, ◌≤◌, List, true, false, Ok, Err, OnErr, IfOk};
 ghost use Rattle.popline.specs.Commands.{command_of};
 ghost use Rattle.popline.specs.Seen.{command_seen, cut_seen, reading_seen, reply_seen};
@@ -27,7 +28,8 @@ use session::Session;
 use std::alloc::{AllocError, Global};
 use vault::Vault;
 
-/// What is said to a line that doesn't read as a command. A login can't be asked for again, with whatever arguments.
+/// What is said to a line that doesn't read as a command. A login can't be asked for again, with
+/// whatever arguments.
 fn misread(fault: LineFault) -> Reply<'static>
     ensures said { (p : Policy) (v : Sitting) → reply_seen result ≡ said_inside p v (Err fault) }
     ensures session { (s : State) → GoesOn (reply_seen result) s s }
@@ -39,7 +41,8 @@ fn misread(fault: LineFault) -> Reply<'static>
     }
 }
 
-/// What a command is told that neither lists nor asks the store; it may mark a message, or take all marks away.
+/// What a command is told that neither lists nor asks the store; it may mark a message, or take all
+/// marks away.
 fn told(session: &mut Session, policy: &Policy, command: &Command<'_>) -> Reply<'static>
     ensures said { (c : Contents) (kept : List Keyed) → LiesIn c session.old kept → is_told (command_seen command.now) ≡ true → reply_seen result ≡ said_inside policy.now (sitting_of session.old kept) (Ok (command_seen command.now)) }
     ensures session { GoesOn (reply_seen result) session.old session.new }
@@ -108,8 +111,8 @@ fn obey<V: Vault>(
     }
 }
 
-/// Answers a line of a session: its reply is owed, and its marks are those that it leaves. A QUIT removes; the session is then over,
-/// which the caller sees to.
+/// Answers a line of a session: its reply is owed, and its marks are those that it leaves. A QUIT
+/// removes; the session is then over, which the caller sees to.
 pub(crate) fn answer<V: Vault>(
     alloc: Global,
     vault: &mut V,
@@ -164,8 +167,8 @@ pub(crate) fn is_quitting(cut: Cut<'_>) -> bool
     matches!(read(cut), Ok(Command::Quit))
 }
 
-/// What is remembered after a line of a session of which this became. Only an answered CAPA passes a login name over, no credential
-/// is refused, and a QUIT closes.
+/// What is remembered after a line of a session of which this became. Only an answered CAPA passes
+/// a login name over, no credential is refused, and a QUIT closes.
 pub(crate) fn next_talk(cut: Cut<'_>, acted: Acted, talk: Talk) -> Talk
     ensures { (p : Policy) (v : Sitting) → result ≡ talk_after (cut_seen cut.entry) (reply_inside acted p v (cut_seen cut.entry)) talk }
 {

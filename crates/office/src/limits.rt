@@ -3,7 +3,8 @@ ghost use Rattle.std.specs.Prelude.{◌≡◌, ◌≤◌, ◌↔◌, IsSome, IfS
 
 use std::marker::Model;
 
-/// How long a connection may do nothing, in seconds: 600 to 86,400 (RFC 1939, section 3, asks for at least ten minutes).
+/// How long a connection may do nothing, in seconds: 600 to 86,400 (RFC 1939, section 3, asks for
+/// at least ten minutes).
 #[derive(Clone, Copy)]
 pub struct Limits {
     idle: u32,

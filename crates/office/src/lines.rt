@@ -148,8 +148,8 @@ fn next_talk(cut: Cut<'_>, reply: &Reply<'_>, talk: Talk) -> Talk
     }
 }
 
-/// Answers a line before a login: its reply is owed, and what it leaves is remembered. The session is answered where one begins; its
-/// maildrop is locked. A line that the store refuses is told so.
+/// Answers a line before a login: its reply is owed, and what it leaves is remembered. The session
+/// is answered where one begins; its maildrop is locked. A line that the store refuses is told so.
 fn answer_outside<V: Vault>(
     alloc: Global,
     vault: &mut V,
@@ -185,7 +185,8 @@ fn answer_outside<V: Vault>(
     Ok((acted, begun))
 }
 
-/// Answers a line of a session. It is answered back, unless the line is a QUIT: its maildrop's lock is then let go.
+/// Answers a line of a session. It is answered back, unless the line is a QUIT: its maildrop's lock
+/// is then let go.
 fn answer_inside<V: Vault>(
     alloc: Global,
     vault: &mut V,
@@ -223,8 +224,8 @@ fn answer_inside<V: Vault>(
     Ok((acted, Some(session)))
 }
 
-/// Answers a line: its reply is owed, and what it leaves is remembered, its session and its maildrop's lock with it. A line that the
-/// store refuses is told so.
+/// Answers a line: its reply is owed, and what it leaves is remembered, its session and its
+/// maildrop's lock with it. A line that the store refuses is told so.
 pub fn answer<V: Vault>(
     alloc: Global,
     vault: &mut V,

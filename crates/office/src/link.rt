@@ -1,5 +1,5 @@
 //! One connection: the input that isn't cut yet, and the octets that it is owed.
-ghost use Rattle.std.specs.Prelude.{◌≡◌, ◌++◌, ◌+◌, ◌≤◌, ℕ, List, [], Option, None, true, false, OnOk, OnErr, IfOk, drop, length, string_bytes};
+ghost use Rattle.std.specs.Prelude.{◌≡◌, ◌++◌, ◌+◌, ◌≤◌, ◌<◌, ◌==◌, ◌||◌, nat_lt, ℕ, List, [], Option, None, true, false, OnOk, OnErr, IfOk, drop, length, string_bytes};
 ghost use Rattle.std.specs.BTreeMap.{get};
 ghost use Rattle.popline.specs.Replies.{Greeting, bytes_of, timestamp};
 ghost use Rattle.popline.specs.Cutting.{has_newline, coming, shown, nothing_held};
@@ -29,7 +29,8 @@ use std::alloc::{AllocError, Global};
 use std::marker::Model;
 use vault::Vault;
 
-/// What is kept of a connection: of its input at most the octets of a piece, 4,096, beside the line that is being cut, 255.
+/// What is kept of a connection: of its input at most the octets of a piece, 4,096, beside the line
+/// that is being cut, 255.
 #[derive(Drop)]
 pub struct Link {
     cutter: Cutter,
@@ -91,6 +92,14 @@ impl Link {
         self.output.lent()
     }
 
+    /// Whether so many octets may be taken: some, and no more than are lent.
+    pub fn lends(&self, octets: usize) -> bool
+        ensures some { result ≡ true → (0 < octets) × (octets ≤ length (lent_of self.now.output)) }
+        ensures none { result ≡ false → (octets == 0 || nat_lt (length (lent_of self.now.output)) octets) ≡ true }
+    {
+        0 < octets && octets <= self.owed().len()
+    }
+
     /// Whether nothing is owed.
     pub fn owes_nothing(&self) -> bool
         ensures value { result ≡ is_empty self.now.output.ready }
@@ -121,7 +130,8 @@ impl Link {
         self.talk.closing
     }
 
-    /// Takes octets that stand ready, at this moment, and puts more where few are left. `false` where the store refused a page.
+    /// Takes octets that stand ready, at this moment, and puts more where few are left. `false`
+    /// where the store refused a page.
     pub fn take<V: Vault>(
         &mut self,
         alloc: Global,

@@ -1,4 +1,5 @@
-//! Logging in: the credential is looked at first, then the policy, the maildrop and its lock (RFC 1939, 4 and 7).
+//! Logging in: the credential is looked at first, then the policy, the maildrop and its lock (RFC
+//! 1939, 4 and 7).
 ghost use Rattle.std.specs.Prelude.{◌≡◌, ◌≤◌, true, [], Some, Ok, IfOk, OnOk};
 ghost use Rattle.creds.specs.Credential.{shown as proof_shown, is_admitted};
 ghost use Rattle.popline.specs.Seen.{reply_seen};
@@ -64,7 +65,8 @@ fn is_admitted<V: Vault>(
     })
 }
 
-/// Opens a maildrop for a clerk whom the policy lets in: the reply, and the session where it begins.
+/// Opens a maildrop for a clerk whom the policy lets in: the reply, and the session where it
+/// begins.
 fn enter<V: Vault>(
     alloc: Global,
     vault: &mut V,

@@ -19,7 +19,8 @@ use session::Session;
 use std::alloc::{AllocError, Global};
 use vault::Vault;
 
-/// Begins to send a message behind the first line of its reply. Where the store refuses a page, that is the reply.
+/// Begins to send a message behind the first line of its reply. Where the store refuses a page,
+/// that is the reply.
 fn serve<V: Vault>(
     alloc: Global,
     vault: &mut V,
@@ -42,7 +43,8 @@ fn serve<V: Vault>(
     Ok(Acted::Failed)
 }
 
-/// Puts a message of a session, where the policy in force lets the clerk read it (RFC 1939, 5: RETR).
+/// Puts a message of a session, where the policy in force lets the clerk read it (RFC 1939, 5:
+/// RETR).
 pub(crate) fn retrieve<V: Vault>(
     alloc: Global,
     vault: &mut V,
@@ -69,7 +71,8 @@ pub(crate) fn retrieve<V: Vault>(
     }
 }
 
-/// Puts the top of a message of a session, where the policy in force lets the clerk read it (RFC 1939, 7: TOP).
+/// Puts the top of a message of a session, where the policy in force lets the clerk read it (RFC
+/// 1939, 7: TOP).
 pub(crate) fn top<V: Vault>(
     alloc: Global,
     vault: &mut V,

@@ -3,13 +3,13 @@ ghost use Rattle.std.specs.Prelude.{◌≡◌, ◌⊎◌, ◌<◌, ◌≤◌, �
 ghost use Rattle.office.specs.Events.{Trace, given};
 ghost use Rattle.office.specs.Shown.{event_seen, outcome_seen, followed_by};
 ghost use Rattle.office.specs.Events as event;
-ghost use Rattle.office.specs.Trace.{history, rest, is_open, is_ready, IsLent};
+ghost use Rattle.office.specs.Trace.{history, rest, is_open, is_ready, IsLent, most_lent};
 ghost use Rattle.office.specs.Expected.{IsOutcome, is_full, octets_taken, asks_no_store, may_show, Succeeds};
-ghost use Rattle.office.specs.Outcomes.{mark_of, HasCause};
+ghost use Rattle.office.specs.Outcomes.{mark_of, HasCause, HasMemory};
 ghost use Rattle.creds.specs.Names.{is_host};
 ghost use Rattle.vault.specs.Changes.{Contents};
 ghost use Rattle.vault.specs.Calls.{has_grown};
-ghost use Rattle.office.specs.History.{Done, Failed};
+ghost use Rattle.office.specs.History.{Done, Failed, NoMemory};
 ghost use Rattle.office.specs.Stands.{StandsFor, Keeps, lent_by, vault_of};
 ghost use Rattle.office.specs.Taken.{IsAdmitted, AreAdmitted, IsSentExactly};
 ghost use Rattle.office.specs.Input.{input_kept, most_input};
@@ -18,9 +18,9 @@ ghost use Rattle.std.specs.Ordering.{nat_cmp};
 ghost use Rattle.std.specs.BTreeMap.{Updates};
 ghost use Rattle.office.specs.Locks.{Released};
 ghost use Rattle.office.specs.Buffered.{output_kept};
-ghost use Rattle.office.specs.Output.{most_lent, most_output};
+ghost use Rattle.office.specs.Output.{most_output};
 ghost use Rattle.office.specs.Answered.{shown_of};
-ghost use Rattle.office.specs.Runs.{Step as Shown, followed, Follows, Enters, EntersSo, Ran, HaveCauses, AreAnswered, StopLeavesRun, done_before};
+ghost use Rattle.office.specs.Runs.{Step as Shown, followed, Follows, Enters, EntersSo, Ran, HaveCauses, HaveMemory, AreAnswered, StopLeavesRun, done_before};
 
 use crate::link::Link;
 use crate::locks::{Locks, release};
@@ -85,11 +85,12 @@ fn cut_off(links: &mut BTreeMap<u64, Link>, locks: &mut Locks, c: u64, held: Opt
 }
 
 impl<V: Vault> Office<V> {
-    /// Opens an office over a vault, under a host's name and the number of this start. No connection is open. It reads the
-    /// store's policy.
+    /// Opens an office over a vault, under a host's name and the number of this start. No
+    /// connection is open. It reads the store's policy.
     ///
-    /// `BadHost` exactly where the host isn't of 1 to 64 octets of `a-z`, `0-9`, `.` and `-`, no part between dots empty or
-    /// with `-` at an end. `Store` where the store refused. After a fault the vault comes back with what it held.
+    /// `BadHost` exactly where the host isn't of 1 to 64 octets of `a-z`, `0-9`, `.` and `-`, no
+    /// part between dots empty or with `-` at an end. `Store` where the store refused. After a
+    /// fault the vault comes back with what it held.
     pub fn open(
         alloc: Global,
         vault: V,
@@ -213,11 +214,7 @@ impl<V: Vault> Office<V> {
         let Some(link) = self.links.get_mut(&c) else {
             return Outcome::Ignored(Reason::NoSuchConnection);
         };
-        let lent = link.owed().len();
-        if octets == 0 {
-            return Outcome::Ignored(Reason::NotReady);
-        }
-        if octets > lent {
+        if !link.lends(octets) {
             return Outcome::Ignored(Reason::NotReady);
         }
         let held = link.maildrop();
@@ -274,8 +271,8 @@ impl<V: Vault> Office<V> {
         }
     }
 
-    /// Does one event. An opening, the end of a connection, a tick and a restart ask no store; the last three take no memory and
-    /// never fail.
+    /// Does one event. An opening, the end of a connection, a tick and a restart ask no store; the
+    /// last three take no memory and never fail.
     pub fn step(&mut self, event: Event<'_>) -> Outcome
         ensures stands { (T : Trace) → StandsFor V.holds self.old T → V.is_clean (vault_of self.new) → StandsFor V.holds self.new (followed_by T (event_seen event.entry) result) }
         ensures outcome { (T : Trace) → StandsFor V.holds self.old T → V.is_clean (vault_of self.new) → IsOutcome T (lent_by self.old) (event_seen event.entry) (outcome_seen result) }
@@ -285,12 +282,18 @@ impl<V: Vault> Office<V> {
         ensures up { (T : Trace) → StandsFor V.holds self.old T → V.is_clean (vault_of self.new) → StaysUpUnless (V.is_up (vault_of self.old)) (V.is_up (vault_of self.new)) (outcome_seen result) }
         ensures stop { (T : Trace) → StandsFor V.holds self.old T → V.is_clean (vault_of self.new) → V.is_up (vault_of self.old) → StopLeaves (V.may_leave (vault_of self.new)) T (event_seen event.entry) (outcome_seen result) }
         ensures admitted { (T : Trace) → StandsFor V.holds self.old T → V.is_clean (vault_of self.new) → IsAdmitted T (event_seen event.entry) (mark_of (outcome_seen result)) }
-        // Where the trace before it had marks that its events may have, each connection is sent exactly what the history sends it.
+        // Where the trace before it had marks that its events may have, each connection is sent
+        // exactly what the history sends it.
         ensures sent { (T : Trace) → StandsFor V.holds self.old T → V.is_clean (vault_of self.new) → AreAdmitted T → (c : ℕ) → IsSentExactly (followed_by T (event_seen event.entry) result) c }
         ensures unasked { asks_no_store (event_seen event.entry) ≡ true → vault_of self.new ≡ vault_of self.old }
-        // An event that may not be answered `Failed` asks no store: a line that needs none, and a QUIT that removes nothing.
+        // An event that may not be answered `Failed` asks no store: a line that needs none, and a
+        // QUIT that removes nothing.
         ensures unasked_line { (T : Trace) → StandsFor V.holds self.old T → V.is_clean (vault_of self.old) → may_show T (event_seen event.entry) Failed ≡ false → vault_of self.new ≡ vault_of self.old }
         ensures succeeds { Succeeds (event_seen event.entry) (outcome_seen result) }
+        // An event that takes no memory isn't answered `NoMemory`: a piece without an end of line,
+        // a taking of some of what is owed where all of it is lent, and others
+        // (`may_lack_memory_at`).
+        ensures memory { (T : Trace) → StandsFor V.holds self.old T → V.is_clean (vault_of self.new) → may_show T (event_seen event.entry) NoMemory ≡ false → HasMemory (outcome_seen result) }
     {
         match event {
             Event::Connect => self.connect(),
@@ -304,9 +307,11 @@ impl<V: Vault> Office<V> {
         }
     }
 
-    /// Does events in order. The transcript has a step for each: its outcome, and the octets that it took.
+    /// Does events in order. The transcript has a step for each: its outcome, and the octets that
+    /// it took.
     ///
-    /// `NoMemory(done)` where the transcript couldn't grow: exactly the first `done` events are done.
+    /// `NoMemory(done)` where the transcript couldn't grow: exactly the first `done` events are
+    /// done.
     pub fn run(&mut self, events: &[Event<'_>]) -> Result<Transcript, RunFault>
         ensures ok { IfOk result (λ steps. (T : Trace) → StandsFor V.holds self.old T → V.is_clean (vault_of self.new) → Follows V.holds events.now steps T self.new) }
         ensures err_before_the_end { IfErr result (λ e. done_before e < length events.now) }
@@ -316,6 +321,7 @@ impl<V: Vault> Office<V> {
         ensures stop { IfOk result (λ steps. (T : Trace) → StandsFor V.holds self.old T → V.is_clean (vault_of self.new) → V.is_up (vault_of self.old) → StopLeavesRun (V.may_leave (vault_of self.new)) T events.now steps) }
         ensures admitted { IfOk result (λ steps. (T : Trace) → StandsFor V.holds self.old T → V.is_clean (vault_of self.new) → AreAdmitted T → AreAdmitted (followed T events.now steps)) }
         ensures sent { IfOk result (λ steps. (T : Trace) → StandsFor V.holds self.old T → V.is_clean (vault_of self.new) → AreAdmitted T → (c : ℕ) → IsSentExactly (followed T events.now steps) c) }
+        ensures memory { IfOk result (λ steps. (T : Trace) → StandsFor V.holds self.old T → V.is_clean (vault_of self.new) → HaveMemory T events.now steps) }
         // The same of the first events, where the transcript couldn't grow.
         ensures err_ran { IfErr result (λ e. (steps : List Shown) × ((T : Trace) → StandsFor V.holds self.old T → V.is_clean (vault_of self.new) → Ran V.holds V.faults V.is_up V.may_leave (take (done_before e) events.now) steps T self.old self.new)) }
         ensures counted { V.faults (vault_of self.old) ≤ V.faults (vault_of self.new) }
@@ -361,7 +367,8 @@ impl<V: Vault> Office<V> {
         Ok(octets)
     }
 
-    /// What a connection is lent of what it is owed: its first 16,384 octets, or all where it is owed fewer. Nothing, where it isn't open.
+    /// What a connection is lent of what it is owed: its first 16,384 octets, or all where it is
+    /// owed fewer. Nothing, where it isn't open.
     pub fn owed(&self, c: u64) -> &[u8]
         ensures lent { (T : Trace) → StandsFor V.holds self.now T → IsLent (rest T c) result.now }
         ensures count { length result.now ≡ lent_by self.now c }
@@ -374,8 +381,8 @@ impl<V: Vault> Office<V> {
         }
     }
 
-    /// How many octets of its input are kept of a connection, whatever the store does: at most 255 of a line and 4,096 of a piece.
-    /// None, where it isn't open.
+    /// How many octets of its input are kept of a connection, whatever the store does: at most 255
+    /// of a line and 4,096 of a piece. None, where it isn't open.
     pub fn input_kept(&self, c: u64) -> usize
         ensures value { result ≡ input_kept self.now c }
         ensures most { input_kept self.now c ≤ most_input }
@@ -386,8 +393,8 @@ impl<V: Vault> Office<V> {
         }
     }
 
-    /// How many octets of what it is owed are kept of a connection, whatever the store does: at most
-    /// 24,832, for which the room is made at its opening. None, where it isn't open.
+    /// How many octets of what it is owed are kept of a connection, whatever the store does: at
+    /// most 24,832, for which the room is made at its opening. None, where it isn't open.
     pub fn output_kept(&self, c: u64) -> usize
         ensures value { result ≡ output_kept self.now c }
         ensures most { output_kept self.now c ≤ most_output }

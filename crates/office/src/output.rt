@@ -1,4 +1,5 @@
-//! What a connection is owed: octets that stand ready, and what feeds them (RFC 1939, 3: replies of many lines).
+//! What a connection is owed: octets that stand ready, and what feeds them (RFC 1939, 3: replies of
+//! many lines).
 ghost use Rattle.std.specs.Prelude.{◌≡◌, ◌≤◌, ◌<◌, ◌++◌, ◌⊎◌, ℕ, List, [], Option, Some, true, false, IfOk, OnOk, drop, length, codes};
 ghost use Rattle.std.specs.Fmt.{decimal};
 ghost use Rattle.popline.specs.Replies.{bytes_of, one_line, scan_text, uid_row_text, scan_begun, uids_begun};
@@ -9,7 +10,8 @@ ghost use Rattle.session.specs.Session.{Session as State};
 ghost use Rattle.session.specs.Session.{octets_of, uid_of};
 ghost use Rattle.session.specs.View.{unmarked, sizes_of, uids_of};
 ghost use Rattle.office.specs.Replying.{is_empty};
-ghost use Rattle.office.specs.Output.{nothing_owed, is_feeding, reads_text, most_lent, most_output, last_line, lent_of, IsFilled, Owes, Reads, IsListed, sizes_coming, uids_coming};
+ghost use Rattle.office.specs.Output.{nothing_owed, is_feeding, reads_text, most_output, last_line, lent_of, IsFilled, Owes, Reads, IsListed, sizes_coming, uids_coming};
+ghost use Rattle.office.specs.Trace.{most_lent};
 ghost use Rattle.office.specs.Stopping.{LeavesHeld};
 
 use crate::reading::{MOST_LENT, Page, Reading};
@@ -55,7 +57,8 @@ pub struct Output {
 
 impl Model for Output {
     ghost use Rattle.std.specs.Prelude.{◌≡◌, true, drop, length, ◌≤◌};
-    ghost use Rattle.office.specs.Output.{Output, is_feeding, most_lent, most_output};
+    ghost use Rattle.office.specs.Output.{Output, is_feeding, most_output};
+    ghost use Rattle.office.specs.Trace.{most_lent};
 
     ghost Value = { Output };
 
@@ -145,8 +148,8 @@ fn end_listing(ready: &mut Vec<u8>) -> Result<(), AllocError>
     keep_within_room(ready, before)
 }
 
-/// Puts rows of a scan listing behind the first ones, as far as there is room, and answers what is then to come. More rows than
-/// can be counted are want of memory.
+/// Puts rows of a scan listing behind the first ones, as far as there is room, and answers what is
+/// then to come. More rows than can be counted are want of memory.
 fn put_sizes(
     alloc: Global,
     session: &Session,

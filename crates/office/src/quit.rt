@@ -32,8 +32,8 @@ fn farewell(denied: Option<Name>) -> Reply<'static>
     }
 }
 
-/// Removes the marked messages that the policy lets the clerk remove, all or none, and says farewell. The removal comes last: what can
-/// fail beside it was done before.
+/// Removes the marked messages that the policy lets the clerk remove, all or none, and says
+/// farewell. The removal comes last: what can fail beside it was done before.
 pub(crate) fn quit<V: Vault>(
     alloc: Global,
     vault: &mut V,

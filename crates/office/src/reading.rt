@@ -4,7 +4,8 @@ ghost use Rattle.mailtext.specs.Text.{kept_form, lines_of, stuffed_lines, top_pa
 ghost use Rattle.mailtext.specs.Streams.{stuffed_from, nothing_come};
 ghost use Rattle.vault.specs.Changes.{Contents};
 ghost use Rattle.vault.specs.Calls.{has_grown, text_under};
-ghost use Rattle.office.specs.Output.{most_lent, most_output, cut_from, text_coming, last_line, IsBegun, IsPut};
+ghost use Rattle.office.specs.Output.{most_output, cut_from, text_coming, last_line, IsBegun, IsPut};
+ghost use Rattle.office.specs.Trace.{most_lent};
 ghost use Rattle.office.specs.Stopping.{LeavesHeld};
 
 use mailtext::{Stuffer, TopCut};
@@ -19,7 +20,8 @@ const PAGE_OCTETS: usize = 4096;
 /// How many octets a page has at most once its dots are doubled.
 const STUFFED_OCTETS: usize = 8192;
 
-/// A message that is being sent: its key and its octets, how many of them were read, and how it goes on from there.
+/// A message that is being sent: its key and its octets, how many of them were read, and how it
+/// goes on from there.
 #[derive(Drop)]
 pub struct Reading {
     key: MessageKey,
@@ -70,8 +72,8 @@ impl Reading {
         }
     }
 
-    /// Reads the next page into the front of a buffer, and answers how many octets it has. `None` where the store refused, or gave a
-    /// page that no clean store gives.
+    /// Reads the next page into the front of a buffer, and answers how many octets it has. `None`
+    /// where the store refused, or gave a page that no clean store gives.
     fn read<V: Vault>(&self, vault: &mut V, page: &mut [u8]) -> Result<Option<usize>, AllocError>
         requires { 0 < length page.old }
         ensures some { IfOk result (λ read. IfSome read (λ n. (0 < n) × (n ≤ length page.new))) }

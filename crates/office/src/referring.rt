@@ -1,4 +1,5 @@
-//! Replies to commands that name a message of a session by its number, without its text (RFC 1939, 5: LIST and DELE; 7: UIDL).
+//! Replies to commands that name a message of a session by its number, without its text (RFC 1939,
+//! 5: LIST and DELE; 7: UIDL).
 ghost use Rattle.std.specs.Prelude.{◌≡◌, List};
 ghost use Rattle.popline.specs.Commands.{ListOne, UidlOne, Dele, Rset};
 ghost use Rattle.popline.specs.Seen.{reply_seen};

@@ -12,8 +12,9 @@ use crate::{Event, Limits, Office, OpenFault, Outcome};
 use std::alloc::Global;
 use vault::Vault;
 
-/// Stopped in an event, and opened again before another over what was left, an office stands for the trace before the event, or
-/// with the event taken as done, and the start; with it where the event was answered otherwise than `Failed` or `NoMemory`.
+/// Stopped in an event, and opened again before another over what was left, an office stands for
+/// the trace before the event, or with the event taken as done, and the start; with it where the
+/// event was answered otherwise than `Failed` or `NoMemory`.
 pub fn step_and_open<V: Vault>(
     alloc: Global,
     office: &mut Office<V>,
@@ -30,7 +31,8 @@ pub fn step_and_open<V: Vault>(
     (outcome, opened)
 }
 
-/// While the device hasn't failed, a stop between two events leaves what the trace says: every answered event is in.
+/// While the device hasn't failed, a stop between two events leaves what the trace says: every
+/// answered event is in.
 pub fn stop_between_events<V: Vault>(office: &Office<V>)
     ensures { (T : Trace) → StandsFor V.holds office.now T → V.is_clean (vault_of office.now) → V.is_up (vault_of office.now) → (left : Contents) → V.may_leave (vault_of office.now) left → SaysTrace left T }
 {

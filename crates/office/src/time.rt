@@ -33,7 +33,8 @@ fn release_ended(locks: &mut Locks, links: &BTreeMap<u64, Link>)
 }
 
 impl<V: Vault> Office<V> {
-    /// Sets the moment, and ends each connection that has done nothing for the idle seconds. It takes no memory.
+    /// Sets the moment, and ends each connection that has done nothing for the idle seconds. It
+    /// takes no memory.
     pub(crate) fn tick(&mut self, now: u64) -> Outcome
         ensures stands { (T : Trace) → StandsFor V.holds self.old T → V.is_clean (vault_of self.new) → StandsFor V.holds self.new (followed_by T (event.Tick now) result) }
         ensures outcome { (T : Trace) → StandsFor V.holds self.old T → V.is_clean (vault_of self.new) → IsOutcome T (lent_by self.old) (event.Tick now) (outcome_seen result) }

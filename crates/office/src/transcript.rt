@@ -4,7 +4,8 @@ ghost use Rattle.std.specs.Prelude.{◌≡◌};
 use crate::Outcome;
 use std::marker::Model;
 
-/// What one event was answered, and the octets that it took, where it was a taking that was accepted.
+/// What one event was answered, and the octets that it took, where it was a taking that was
+/// accepted.
 #[derive(Drop)]
 pub struct Step {
     outcome: Outcome,

@@ -149,7 +149,7 @@ returns-in-Err-clause-outcome g c T st clean =
     let nothing : k.output ≡ nothing_owed = c.owes_nothing.ensures.nothing c.if-not-owes_nothing.false in
     let fits : length p ≤ most_in_a_piece = search rules in
     let goes = bytes_goes T (lent_by o) n p m.opened (none_owed ct k.session k.output (untaken_of (seen T n)) m.owed nothing) fits in
-    record { tag = NoMemory; may = refl; is = rw goes refl }
+    record { tag = NoMemory; may = c.in-Err.ensures.err; is = rw goes refl }
 
 pub returns-then-piece-gt-MOST_IN_A_PIECE-clause-outcome : goal.returns-then-piece-gt-MOST_IN_A_PIECE-clause-outcome
 returns-then-piece-gt-MOST_IN_A_PIECE-clause-outcome c = search rules

@@ -1,9 +1,8 @@
-use Rattle.std.proofs.Common.{◌≡◌, ◌≤◌, true, false, Some, None, length, min, sym, ◌∙◌, ap, subst, refl, arith, nat_cmp}
+use Rattle.std.proofs.Common.{◌≡◌, true, false, Some, None, length, min, sym, ◌∙◌, ap, subst, refl, arith, nat_cmp}
 use Rattle.std.proofs.lemmas.List.{length-take}
 use Rattle.std.specs.BTreeMap.{get}
-use Rattle.office.specs.Output.{most_lent}
+use Rattle.office.specs.Trace.{most_lent, rest, is_open, IsLent}
 use Rattle.office.specs.Kept.{Kept}
-use Rattle.office.specs.Trace.{rest, is_open, IsLent}
 use Rattle.office.specs.Stands.{Matches, IsOver, IsKeptFor, seen, untaken_of, length_of_lent}
 use Rattle.office.proofs.Owing.{lent_is, lent_exactly}
 use Rattle.office.proofs.office.Office.owed.Goals as goal

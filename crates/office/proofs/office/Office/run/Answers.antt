@@ -5,6 +5,7 @@ use Rattle.office.specs.Events.{Trace}
 use Rattle.office.specs.Stands.{StandsFor, vault_of}
 use Rattle.office.specs.Runs.{Follows, Ran, followed}
 use Rattle.office.proofs.Running.{ran_more}
+use Rattle.office.proofs.Memory.{steps_have_memory}
 use Rattle.office.proofs.SentExactly.{taken_is_sent}
 use Rattle.office.proofs.Stopping.{settled_leaves}
 use Rattle.office.proofs.office.Office.run.Goals as goal
@@ -45,6 +46,9 @@ returns-clause-ok g c = λ T st clean.
     subst (λ es. Ran g.V.Vault.holds g.V.Vault.faults g.V.Vault.is_up g.V.Vault.may_leave es c.loop-done.steps.items T c.args.self.now c.loop-done.self)
     (take_all c.loop-done.done c.args.events.now c.loop-done-test.false) (c.loop-done.invariant.ran T st clean) in
     rw c.new.ensures (ran.follows)
+
+pub returns-clause-memory : goal.returns-clause-memory
+returns-clause-memory g c = λ T st clean. steps_have_memory g.V.Vault.holds T _ _ (returns-clause-ok g c T st clean).each
 
 pub returns-clause-admitted : goal.returns-clause-admitted
 returns-clause-admitted g c = λ T st clean a.

@@ -2,6 +2,7 @@ use Rattle.std.proofs.Common.{rules, true≢false}
 use Rattle.office.specs.Shown.{outcome_seen, event_seen}
 use Rattle.office.proofs.Lending.{admitted, sent_so}
 use Rattle.office.proofs.Stopping.{event_read}
+use Rattle.office.proofs.Memory.{has_memory}
 use Rattle.office.proofs.office.Office.step.Goals as goal
 
 pub returns-in-Connect-clause-stands : goal.returns-in-Connect-clause-stands
@@ -111,3 +112,27 @@ returns-in-Admin-clause-sent g c T st clean = rw c.in-Admin.is (sent_so c.args.s
 
 pub returns-in-Restart-clause-sent : goal.returns-in-Restart-clause-sent
 returns-in-Restart-clause-sent g c T st clean = rw c.in-Restart.is (sent_so c.args.self.now T _ (outcome_seen c.restart.result) st (c.restart.ensures.outcome T st clean))
+
+pub returns-in-Connect-clause-memory : goal.returns-in-Connect-clause-memory
+returns-in-Connect-clause-memory g c T st clean = rw c.in-Connect.is (has_memory T _ _ (outcome_seen c.connect.result) (c.connect.ensures.outcome T st clean))
+
+pub returns-in-Bytes-clause-memory : goal.returns-in-Bytes-clause-memory
+returns-in-Bytes-clause-memory g c T st clean = rw c.in-Bytes.is (has_memory T _ _ (outcome_seen c.bytes.result) (c.bytes.ensures.outcome T st clean))
+
+pub returns-in-Took-clause-memory : goal.returns-in-Took-clause-memory
+returns-in-Took-clause-memory g c T st clean = rw c.in-Took.is (has_memory T _ _ (outcome_seen c.took.result) (c.took.ensures.outcome T st clean))
+
+pub returns-in-Gone-clause-memory : goal.returns-in-Gone-clause-memory
+returns-in-Gone-clause-memory g c T st clean = rw c.in-Gone.is (has_memory T _ _ (outcome_seen c.gone.result) (c.gone.ensures.outcome T st clean))
+
+pub returns-in-Tick-clause-memory : goal.returns-in-Tick-clause-memory
+returns-in-Tick-clause-memory g c T st clean = rw c.in-Tick.is (has_memory T _ _ (outcome_seen c.tick.result) (c.tick.ensures.outcome T st clean))
+
+pub returns-in-Deposit-clause-memory : goal.returns-in-Deposit-clause-memory
+returns-in-Deposit-clause-memory g c T st clean = rw c.in-Deposit.is (has_memory T _ _ (outcome_seen c.deposit.result) (c.deposit.ensures.outcome T st clean))
+
+pub returns-in-Admin-clause-memory : goal.returns-in-Admin-clause-memory
+returns-in-Admin-clause-memory g c T st clean = rw c.in-Admin.is (has_memory T _ _ (outcome_seen c.administer.result) (c.administer.ensures.outcome T st clean))
+
+pub returns-in-Restart-clause-memory : goal.returns-in-Restart-clause-memory
+returns-in-Restart-clause-memory g c T st clean = rw c.in-Restart.is (has_memory T _ _ (outcome_seen c.restart.result) (c.restart.ensures.outcome T st clean))

@@ -1,13 +1,12 @@
-use Rattle.std.proofs.Common.{◌≡◌, ◌<◌, ◌≤◌, false, true, Option, Some, sym, ◌∙◌, ap, length, arith, nat_cmp, subst, rules, refl, inl, eqb}
-use Rattle.std.proofs.lemmas.Grind.{common_steps}
-use Rattle.std.specs.BTreeMap.{get, is_at}
+use Rattle.std.proofs.Common.{◌≡◌, ◌≤◌, false, true, Option, Some, sym, ◌∙◌, ap, nat_cmp, subst, rules, refl}
+use Rattle.std.specs.BTreeMap.{get}
 use Rattle.vault.specs.Changes.{AreSound}
 use Rattle.office.specs.Events.{Took, Tagged, given}
 use Rattle.office.specs.History.{Done, Failed, NoMemory}
 use Rattle.office.specs.Connections.{serving}
 use Rattle.office.specs.Trace.{acts, history, is_left}
 use Rattle.office.specs.Replying.{is_empty}
-use Rattle.office.specs.Output.{Output, nothing_owed, reads_text, Owes}
+use Rattle.office.specs.Output.{nothing_owed}
 use Rattle.office.specs.Kept.{Kept, line_after, maildrop_of}
 use Rattle.office.specs.Locks.{Released}
 use Rattle.office.specs.Answered.{tag_of, judged_at}
@@ -18,11 +17,12 @@ use Rattle.office.proofs.Hearing.{Awaits, took}
 use Rattle.office.proofs.Locking.{holds_by}
 use Rattle.office.proofs.Coming.{released, nothing_stands, ignored_event, put_back}
 use Rattle.office.proofs.Ending.{ended_by, took_ends}
-use Rattle.office.proofs.Taking.{lent_ready, took_within, took_more, took_less, took_all, some_taken, all_taken, grown_behind, lacking_ends, refused_ends, paged_stops}
+use Rattle.office.proofs.Taking.{lent_ready, took_more, took_less, took_all, some_taken, all_taken, grown_behind, lacking_ends, refused_ends, paged_stops}
 use Rattle.office.proofs.Owing.{text_feeds}
+use Rattle.office.proofs.Memory.{more_than_lent}
 use Rattle.office.proofs.TakingDone.{judged, taking_moves, taking_answered}
 use Rattle.office.specs.Outcomes as outcome
-use Rattle.office.proofs.Stopping.{stop_leaves, settled_leaves, unasked_stops, says_kept}
+use Rattle.office.proofs.Stopping.{stop_leaves, settled_leaves, unasked_stops}
 use Rattle.office.proofs.StoppingLines.{line_left, line_answered}
 use Rattle.office.proofs.Unasked.{taking_asks_none, taking_reads_none}
 use Rattle.office.proofs.office.Office.took.Goals as goal
@@ -32,17 +32,8 @@ returns-in_default-clause-stands g c T st clean =
     nothing_stands g.V.Vault.holds c.args.self.now _ T _ _ st (ignored_event T (Took c.args.c c.args.octets) st.keeps.formed) (λ k h. h) refl refl refl refl refl
     (λ q. ap (λ links. get nat_cmp links q) c.get_mut.follows.holds-at-none) (λ d. refl)
 
-pub returns-then-octets-eq0-clause-stands : goal.returns-then-octets-eq0-clause-stands
-returns-then-octets-eq0-clause-stands g c T st clean =
-    let o = c.args.self.now in
-    let k : Kept = c.in-Some.link.now in
-    let found : get nat_cmp o.links c.args.c ≡ Some k = sym c.in-Some.ensures.value in
-    let updates = (c.get_mut.follows.holds k).3 (search rules) in
-    nothing_stands g.V.Vault.holds o _ T _ _ st (ignored_event T (Took c.args.c c.args.octets) st.keeps.formed) (λ k h. h) refl refl refl refl refl
-    (put_back c.args.c k o.links (c.get_mut.follows.lender k) found updates) (λ d. refl)
-
-pub returns-then-octets-lent-clause-stands : goal.returns-then-octets-lent-clause-stands
-returns-then-octets-lent-clause-stands g c T st clean =
+pub returns-then-not-lends-clause-stands : goal.returns-then-not-lends-clause-stands
+returns-then-not-lends-clause-stands g c T st clean =
     let o = c.args.self.now in
     let k : Kept = c.in-Some.link.now in
     let found : get nat_cmp o.links c.args.c ≡ Some k = sym c.in-Some.ensures.value in
@@ -61,7 +52,8 @@ returns-then-not-owes_nothing-clause-stands g c T st clean =
     let k1 : Kept = c.take.new.self in
     let found : get nat_cmp o.links x ≡ Some k = sym c.in-Some.ensures.value in
     let m : Matches ct s k = subst (IsKeptFor ct s) found (st.links x) in
-    let fits = lent_ready k.output c.owed-lent.result.now n c.owed-lent.ensures c.if-octets-lent.false in
+    let lends = c.lends.ensures.some c.if-not-lends.false in
+    let fits = lent_ready k.output n lends.1 in
     let does = c.in-Ok.ensures in
     let yes : c.in-Ok.taken ≡ true = c.if-not-taken.false in
     let owes = does.owes yes ct (untaken_of s) st.keeps.held clean m.owed in
@@ -92,9 +84,10 @@ returns-then-not-owes_nothing-clause-outcome g c T st clean =
     let k1 : Kept = c.take.new.self in
     let found : get nat_cmp o.links x ≡ Some k = sym c.in-Some.ensures.value in
     let m : Matches ct s k = subst (IsKeptFor ct s) found (st.links x) in
-    let fits = lent_ready k.output c.owed-lent.result.now n c.owed-lent.ensures c.if-octets-lent.false in
-    let lent : n ≤ lent_by o x = subst (λ (e : Option Kept). n ≤ length_of_lent e) (sym found) (subst (λ xs. n ≤ length xs) c.owed-lent.ensures c.if-octets-lent.false) in
-    let goes = took_goes T (lent_by o) x n m.opened (search rules) lent in
+    let lends = c.lends.ensures.some c.if-not-lends.false in
+    let fits = lent_ready k.output n lends.1 in
+    let lent : n ≤ lent_by o x = subst (λ (e : Option Kept). n ≤ length_of_lent e) (sym found) lends.1 in
+    let goes = took_goes T (lent_by o) x n m.opened lends.0 lent in
     record { tag = Done; may = refl; is = rw goes refl }
 
 pub returns-then-not-taken-clause-stands : goal.returns-then-not-taken-clause-stands
@@ -108,7 +101,8 @@ returns-then-not-taken-clause-stands g c T st clean =
     let k1 : Kept = c.take.new.self in
     let found : get nat_cmp o.links x ≡ Some k = sym c.in-Some.ensures.value in
     let m : Matches ct s k = subst (IsKeptFor ct s) found (st.links x) in
-    let fits = lent_ready k.output c.owed-lent.result.now n c.owed-lent.ensures c.if-octets-lent.false in
+    let lends = c.lends.ensures.some c.if-not-lends.false in
+    let fits = lent_ready k.output n lends.1 in
     let reads = c.in-Ok.ensures.refused c.if-not-taken.true in
     let left = left_over s n (took_more ct s k n o.moment m fits (text_feeds k.output.source reads)) in
     let first = (c.get_mut.follows.holds k1).3 (search rules) in
@@ -128,9 +122,10 @@ returns-then-not-taken-clause-outcome g c T st clean =
     let k1 : Kept = c.take.new.self in
     let found : get nat_cmp o.links x ≡ Some k = sym c.in-Some.ensures.value in
     let m : Matches ct s k = subst (IsKeptFor ct s) found (st.links x) in
-    let fits = lent_ready k.output c.owed-lent.result.now n c.owed-lent.ensures c.if-octets-lent.false in
-    let lent : n ≤ lent_by o x = subst (λ (e : Option Kept). n ≤ length_of_lent e) (sym found) (subst (λ xs. n ≤ length xs) c.owed-lent.ensures c.if-octets-lent.false) in
-    let goes = took_goes T (lent_by o) x n m.opened (search rules) lent in
+    let lends = c.lends.ensures.some c.if-not-lends.false in
+    let fits = lent_ready k.output n lends.1 in
+    let lent : n ≤ lent_by o x = subst (λ (e : Option Kept). n ≤ length_of_lent e) (sym found) lends.1 in
+    let goes = took_goes T (lent_by o) x n m.opened lends.0 lent in
     let reads = c.in-Ok.ensures.refused c.if-not-taken.true in
     let left : is_left T.log (history T) x n ≡ true = left_over s n (took_more ct s k n o.moment m fits (text_feeds k.output.source reads)) in
     let serves : serving (history T) x ≡ true = m.serving reads in
@@ -147,7 +142,8 @@ returns-then-not-taken-clause-cause g c T st clean =
     let k1 : Kept = c.take.new.self in
     let found : get nat_cmp o.links x ≡ Some k = sym c.in-Some.ensures.value in
     let m : Matches ct s k = subst (IsKeptFor ct s) found (st.links x) in
-    let fits = lent_ready k.output c.owed-lent.result.now n c.owed-lent.ensures c.if-octets-lent.false in
+    let lends = c.lends.ensures.some c.if-not-lends.false in
+    let fits = lent_ready k.output n lends.1 in
     c.in-Ok.ensures.cause c.if-not-taken.true ct (untaken_of s) st.keeps.held clean m.owed
 
 pub returns-then-not-taken-clause-stop : goal.returns-then-not-taken-clause-stop
@@ -165,7 +161,8 @@ returns-in-Err-clause-stands g c T st clean =
     let k1 : Kept = c.take.new.self in
     let found : get nat_cmp o.links x ≡ Some k = sym c.in-Some.ensures.value in
     let m : Matches ct s k = subst (IsKeptFor ct s) found (st.links x) in
-    let fits = lent_ready k.output c.owed-lent.result.now n c.owed-lent.ensures c.if-octets-lent.false in
+    let lends = c.lends.ensures.some c.if-not-lends.false in
+    let fits = lent_ready k.output n lends.1 in
     let left = left_over s n (took_more ct s k n o.moment m fits c.in-Err.ensures.err) in
     let first = (c.get_mut.follows.holds k1).3 (search rules) in
     let second = c.cut_off.ensures.links in
@@ -184,11 +181,13 @@ returns-in-Err-clause-outcome g c T st clean =
     let k1 : Kept = c.take.new.self in
     let found : get nat_cmp o.links x ≡ Some k = sym c.in-Some.ensures.value in
     let m : Matches ct s k = subst (IsKeptFor ct s) found (st.links x) in
-    let fits = lent_ready k.output c.owed-lent.result.now n c.owed-lent.ensures c.if-octets-lent.false in
-    let lent : n ≤ lent_by o x = subst (λ (e : Option Kept). n ≤ length_of_lent e) (sym found) (subst (λ xs. n ≤ length xs) c.owed-lent.ensures c.if-octets-lent.false) in
-    let goes = took_goes T (lent_by o) x n m.opened (search rules) lent in
+    let lends = c.lends.ensures.some c.if-not-lends.false in
+    let fits = lent_ready k.output n lends.1 in
+    let lent : n ≤ lent_by o x = subst (λ (e : Option Kept). n ≤ length_of_lent e) (sym found) lends.1 in
+    let goes = took_goes T (lent_by o) x n m.opened lends.0 lent in
     let left : is_left T.log (history T) x n ≡ true = left_over s n (took_more ct s k n o.moment m fits c.in-Err.ensures.err) in
-    record { tag = NoMemory; may = rw left refl; is = rw goes refl }
+    let more = more_than_lent ct T x k m c.in-Err.ensures.err in
+    record { tag = NoMemory; may = rw (left, more) refl; is = rw goes refl }
 
 pub returns-in-Err-clause-stop : goal.returns-in-Err-clause-stop
 returns-in-Err-clause-stop g c T st clean up =
@@ -205,7 +204,8 @@ returns-then-is_closing-clause-stands g c T st clean =
     let k1 : Kept = c.take.new.self in
     let found : get nat_cmp o.links x ≡ Some k = sym c.in-Some.ensures.value in
     let m : Matches ct s k = subst (IsKeptFor ct s) found (st.links x) in
-    let fits = lent_ready k.output c.owed-lent.result.now n c.owed-lent.ensures c.if-octets-lent.false in
+    let lends = c.lends.ensures.some c.if-not-lends.false in
+    let fits = lent_ready k.output n lends.1 in
     let does = c.in-Ok.ensures in
     let yes : c.in-Ok.taken ≡ true = c.if-not-taken.false in
     let owes = does.owes yes ct (untaken_of s) st.keeps.held clean m.owed in
@@ -235,9 +235,10 @@ returns-then-is_closing-clause-outcome g c T st clean =
     let k1 : Kept = c.take.new.self in
     let found : get nat_cmp o.links x ≡ Some k = sym c.in-Some.ensures.value in
     let m : Matches ct s k = subst (IsKeptFor ct s) found (st.links x) in
-    let fits = lent_ready k.output c.owed-lent.result.now n c.owed-lent.ensures c.if-octets-lent.false in
-    let lent : n ≤ lent_by o x = subst (λ (e : Option Kept). n ≤ length_of_lent e) (sym found) (subst (λ xs. n ≤ length xs) c.owed-lent.ensures c.if-octets-lent.false) in
-    let goes = took_goes T (lent_by o) x n m.opened (search rules) lent in
+    let lends = c.lends.ensures.some c.if-not-lends.false in
+    let fits = lent_ready k.output n lends.1 in
+    let lent : n ≤ lent_by o x = subst (λ (e : Option Kept). n ≤ length_of_lent e) (sym found) lends.1 in
+    let goes = took_goes T (lent_by o) x n m.opened lends.0 lent in
     record { tag = Done; may = refl; is = rw goes refl }
 
 pub returns-in-Ok-resume-clause-stands : goal.returns-in-Ok-resume-clause-stands
@@ -252,7 +253,8 @@ returns-in-Ok-resume-clause-stands g c T st clean =
     let k1 : Kept = c.take.new.self in
     let found : get nat_cmp o.links x ≡ Some k = sym c.in-Some.ensures.value in
     let m : Matches ct s k = subst (IsKeptFor ct s) found (st.links x) in
-    let fits = lent_ready k.output c.owed-lent.result.now n c.owed-lent.ensures c.if-octets-lent.false in
+    let lends = c.lends.ensures.some c.if-not-lends.false in
+    let fits = lent_ready k.output n lends.1 in
     let does = c.in-Ok.ensures in
     let yes : c.in-Ok.taken ≡ true = c.if-not-taken.false in
     let owes = does.owes yes ct (untaken_of s) st.keeps.held before m.owed in
@@ -286,7 +288,8 @@ returns-in-Ok-resume-clause-cause g c T st clean =
     let k1 : Kept = c.take.new.self in
     let found : get nat_cmp o.links x ≡ Some k = sym c.in-Some.ensures.value in
     let m : Matches ct s k = subst (IsKeptFor ct s) found (st.links x) in
-    let fits = lent_ready k.output c.owed-lent.result.now n c.owed-lent.ensures c.if-octets-lent.false in
+    let lends = c.lends.ensures.some c.if-not-lends.false in
+    let fits = lent_ready k.output n lends.1 in
     let does = c.in-Ok.ensures in
     let yes : c.in-Ok.taken ≡ true = c.if-not-taken.false in
     let owes = does.owes yes ct (untaken_of s) st.keeps.held before m.owed in
@@ -315,7 +318,8 @@ returns-in-Ok-resume-clause-outcome g c T st clean =
     let k1 : Kept = c.take.new.self in
     let found : get nat_cmp o.links x ≡ Some k = sym c.in-Some.ensures.value in
     let m : Matches ct s k = subst (IsKeptFor ct s) found (st.links x) in
-    let fits = lent_ready k.output c.owed-lent.result.now n c.owed-lent.ensures c.if-octets-lent.false in
+    let lends = c.lends.ensures.some c.if-not-lends.false in
+    let fits = lent_ready k.output n lends.1 in
     let does = c.in-Ok.ensures in
     let yes : c.in-Ok.taken ≡ true = c.if-not-taken.false in
     let owes = does.owes yes ct (untaken_of s) st.keeps.held before m.owed in
@@ -329,8 +333,8 @@ returns-in-Ok-resume-clause-outcome g c T st clean =
     let w = c.in-Ok-resume.acted in
     let j = judged T x n st.keeps sound o.policy st.policy o.locks st.locks o.moment st.moment k1 ready over open_yet in
     let line = c.in-Ok-resume.ensures in
-    let lent : n ≤ lent_by o x = subst (λ (e : Option Kept). n ≤ length_of_lent e) (sym found) (subst (λ xs. n ≤ length xs) c.owed-lent.ensures c.if-octets-lent.false) in
-    let goes = took_goes T (lent_by o) x n m.opened (search rules) lent in
+    let lent : n ≤ lent_by o x = subst (λ (e : Option Kept). n ≤ length_of_lent e) (sym found) lends.1 in
+    let goes = took_goes T (lent_by o) x n m.opened lends.0 lent in
     taking_answered T x n st.keeps sound o.policy st.policy o.locks st.locks o.moment st.moment k1 ready over open_yet w c.resume.new.self o.locks (λ (f : w ≡ acted.Failed). line.may f ct j.sitting held clean j.seated)
     (line.ok ct j.sitting held clean j.seated) line.lines (lent_by o) _ goes c.shown.ensures
 
@@ -346,7 +350,8 @@ returns-in-Err-resume-clause-stands g c T st clean =
     let k1 : Kept = c.take.new.self in
     let found : get nat_cmp o.links x ≡ Some k = sym c.in-Some.ensures.value in
     let m : Matches ct s k = subst (IsKeptFor ct s) found (st.links x) in
-    let fits = lent_ready k.output c.owed-lent.result.now n c.owed-lent.ensures c.if-octets-lent.false in
+    let lends = c.lends.ensures.some c.if-not-lends.false in
+    let fits = lent_ready k.output n lends.1 in
     let does = c.in-Ok.ensures in
     let yes : c.in-Ok.taken ≡ true = c.if-not-taken.false in
     let owes = does.owes yes ct (untaken_of s) st.keeps.held before m.owed in
@@ -387,7 +392,8 @@ returns-in-Err-resume-clause-outcome g c T st clean =
     let k1 : Kept = c.take.new.self in
     let found : get nat_cmp o.links x ≡ Some k = sym c.in-Some.ensures.value in
     let m : Matches ct s k = subst (IsKeptFor ct s) found (st.links x) in
-    let fits = lent_ready k.output c.owed-lent.result.now n c.owed-lent.ensures c.if-octets-lent.false in
+    let lends = c.lends.ensures.some c.if-not-lends.false in
+    let fits = lent_ready k.output n lends.1 in
     let does = c.in-Ok.ensures in
     let yes : c.in-Ok.taken ≡ true = c.if-not-taken.false in
     let owes = does.owes yes ct (untaken_of s) st.keeps.held before m.owed in
@@ -399,8 +405,8 @@ returns-in-Err-resume-clause-outcome g c T st clean =
     let sound : AreSound ct = g.met.V.Vault.sound o.vault ct st.keeps.held (c.take.ensures.clean before) in
     let over = all_over s n all in
     let next = next_there ct (took s n o.moment) k1 k1.pending ready c.in-Err-resume.ensures.err in
-    let lent : n ≤ lent_by o x = subst (λ (e : Option Kept). n ≤ length_of_lent e) (sym found) (subst (λ xs. n ≤ length xs) c.owed-lent.ensures c.if-octets-lent.false) in
-    let goes = took_goes T (lent_by o) x n m.opened (search rules) lent in
+    let lent : n ≤ lent_by o x = subst (λ (e : Option Kept). n ≤ length_of_lent e) (sym found) lends.1 in
+    let goes = took_goes T (lent_by o) x n m.opened lends.0 lent in
     let line = next_kept T x ∙ next.1 in
     record { tag = NoMemory; may = rw (over, open_yet, line) refl; is = rw goes refl }
 
@@ -423,11 +429,8 @@ returns-then-is_closing-clause-stop g c T st clean up =
 pub returns-in_default-clause-stop : goal.returns-in_default-clause-stop
 returns-in_default-clause-stop g c T st clean up = unasked_stops T (Took c.args.c c.args.octets) (outcome.Ignored outcome.NoSuchConnection) st.keeps (returns-in_default-clause-stands g c T st clean).keeps (λ d. g.met.V.Vault.settled _ d clean up)
 
-pub returns-then-octets-eq0-clause-stop : goal.returns-then-octets-eq0-clause-stop
-returns-then-octets-eq0-clause-stop g c T st clean up = unasked_stops T (Took c.args.c c.args.octets) (outcome.Ignored outcome.NotReady) st.keeps (returns-then-octets-eq0-clause-stands g c T st clean).keeps (λ d. g.met.V.Vault.settled _ d clean up)
-
-pub returns-then-octets-lent-clause-stop : goal.returns-then-octets-lent-clause-stop
-returns-then-octets-lent-clause-stop g c T st clean up = unasked_stops T (Took c.args.c c.args.octets) (outcome.Ignored outcome.NotReady) st.keeps (returns-then-octets-lent-clause-stands g c T st clean).keeps (λ d. g.met.V.Vault.settled _ d clean up)
+pub returns-then-not-lends-clause-stop : goal.returns-then-not-lends-clause-stop
+returns-then-not-lends-clause-stop g c T st clean up = unasked_stops T (Took c.args.c c.args.octets) (outcome.Ignored outcome.NotReady) st.keeps (returns-then-not-lends-clause-stands g c T st clean).keeps (λ d. g.met.V.Vault.settled _ d clean up)
 
 pub returns-in-Ok-resume-clause-up : goal.returns-in-Ok-resume-clause-up
 returns-in-Ok-resume-clause-up g c T st clean up answered =
@@ -447,7 +450,8 @@ returns-in-Ok-resume-clause-stop g c T st clean up =
     let k1 : Kept = c.take.new.self in
     let found : get nat_cmp o.links x ≡ Some k = sym c.in-Some.ensures.value in
     let m : Matches ct s k = subst (IsKeptFor ct s) found (st.links x) in
-    let fits = lent_ready k.output c.owed-lent.result.now n c.owed-lent.ensures c.if-octets-lent.false in
+    let lends = c.lends.ensures.some c.if-not-lends.false in
+    let fits = lent_ready k.output n lends.1 in
     let does = c.in-Ok.ensures in
     let yes : c.in-Ok.taken ≡ true = c.if-not-taken.false in
     let owes = does.owes yes ct (untaken_of s) st.keeps.held before m.owed in
@@ -477,7 +481,8 @@ returns-in-Err-resume-clause-stop g c T st clean up =
     let k1 : Kept = c.take.new.self in
     let found : get nat_cmp o.links x ≡ Some k = sym c.in-Some.ensures.value in
     let m : Matches ct s k = subst (IsKeptFor ct s) found (st.links x) in
-    let fits = lent_ready k.output c.owed-lent.result.now n c.owed-lent.ensures c.if-octets-lent.false in
+    let lends = c.lends.ensures.some c.if-not-lends.false in
+    let fits = lent_ready k.output n lends.1 in
     let does = c.in-Ok.ensures in
     let yes : c.in-Ok.taken ≡ true = c.if-not-taken.false in
     let owes = does.owes yes ct (untaken_of s) st.keeps.held before m.owed in
@@ -499,7 +504,7 @@ pub resume-requires : goal.resume-requires
 resume-requires g c = c.owes_nothing.ensures.nothing c.if-not-owes_nothing.false
 
 pub take-requires : goal.take-requires
-take-requires g c = lent_ready c.in-Some.link.now.output c.owed-lent.result.now c.args.octets c.owed-lent.ensures c.if-octets-lent.false
+take-requires g c = lent_ready c.in-Some.link.now.output c.args.octets (c.lends.ensures.some c.if-not-lends.false).1
 
 pub returns-in-Err-clause-unasked : goal.returns-in-Err-clause-unasked
 returns-in-Err-clause-unasked g c T st clean none =
@@ -511,7 +516,8 @@ returns-in-Err-clause-unasked g c T st clean none =
     let ct = st.keeps.contents in
     let found : get nat_cmp o.links x ≡ Some k = sym c.in-Some.ensures.value in
     let m : Matches ct s k = subst (IsKeptFor ct s) found (st.links x) in
-    let fits = lent_ready k.output c.owed-lent.result.now n c.owed-lent.ensures c.if-octets-lent.false in
+    let lends = c.lends.ensures.some c.if-not-lends.false in
+    let fits = lent_ready k.output n lends.1 in
     c.take.ensures.unasked (taking_reads_none T x n ct k o.moment m fits none)
 
 pub returns-then-not-taken-clause-unasked : goal.returns-then-not-taken-clause-unasked
@@ -524,7 +530,8 @@ returns-then-not-taken-clause-unasked g c T st clean none =
     let ct = st.keeps.contents in
     let found : get nat_cmp o.links x ≡ Some k = sym c.in-Some.ensures.value in
     let m : Matches ct s k = subst (IsKeptFor ct s) found (st.links x) in
-    let fits = lent_ready k.output c.owed-lent.result.now n c.owed-lent.ensures c.if-octets-lent.false in
+    let lends = c.lends.ensures.some c.if-not-lends.false in
+    let fits = lent_ready k.output n lends.1 in
     c.take.ensures.unasked (taking_reads_none T x n ct k o.moment m fits none)
 
 pub returns-then-not-owes_nothing-clause-unasked : goal.returns-then-not-owes_nothing-clause-unasked
@@ -537,7 +544,8 @@ returns-then-not-owes_nothing-clause-unasked g c T st clean none =
     let ct = st.keeps.contents in
     let found : get nat_cmp o.links x ≡ Some k = sym c.in-Some.ensures.value in
     let m : Matches ct s k = subst (IsKeptFor ct s) found (st.links x) in
-    let fits = lent_ready k.output c.owed-lent.result.now n c.owed-lent.ensures c.if-octets-lent.false in
+    let lends = c.lends.ensures.some c.if-not-lends.false in
+    let fits = lent_ready k.output n lends.1 in
     c.take.ensures.unasked (taking_reads_none T x n ct k o.moment m fits none)
 
 pub returns-then-is_closing-clause-unasked : goal.returns-then-is_closing-clause-unasked
@@ -550,7 +558,8 @@ returns-then-is_closing-clause-unasked g c T st clean none =
     let ct = st.keeps.contents in
     let found : get nat_cmp o.links x ≡ Some k = sym c.in-Some.ensures.value in
     let m : Matches ct s k = subst (IsKeptFor ct s) found (st.links x) in
-    let fits = lent_ready k.output c.owed-lent.result.now n c.owed-lent.ensures c.if-octets-lent.false in
+    let lends = c.lends.ensures.some c.if-not-lends.false in
+    let fits = lent_ready k.output n lends.1 in
     c.take.ensures.unasked (taking_reads_none T x n ct k o.moment m fits none)
 
 pub returns-in-Ok-resume-clause-unasked : goal.returns-in-Ok-resume-clause-unasked
@@ -563,7 +572,8 @@ returns-in-Ok-resume-clause-unasked g c T st clean none =
     let ct = st.keeps.contents in
     let found : get nat_cmp o.links x ≡ Some k = sym c.in-Some.ensures.value in
     let m : Matches ct s k = subst (IsKeptFor ct s) found (st.links x) in
-    let fits = lent_ready k.output c.owed-lent.result.now n c.owed-lent.ensures c.if-octets-lent.false in
+    let lends = c.lends.ensures.some c.if-not-lends.false in
+    let fits = lent_ready k.output n lends.1 in
     let k1 : Kept = c.take.new.self in
     let same = c.take.ensures.unasked (taking_reads_none T x n ct k o.moment m fits none) in
     let before = subst g.V.Vault.is_clean (sym same) clean in
@@ -589,7 +599,8 @@ returns-in-Err-resume-clause-unasked g c T st clean none =
     let ct = st.keeps.contents in
     let found : get nat_cmp o.links x ≡ Some k = sym c.in-Some.ensures.value in
     let m : Matches ct s k = subst (IsKeptFor ct s) found (st.links x) in
-    let fits = lent_ready k.output c.owed-lent.result.now n c.owed-lent.ensures c.if-octets-lent.false in
+    let lends = c.lends.ensures.some c.if-not-lends.false in
+    let fits = lent_ready k.output n lends.1 in
     let k1 : Kept = c.take.new.self in
     let same = c.take.ensures.unasked (taking_reads_none T x n ct k o.moment m fits none) in
     let before = subst g.V.Vault.is_clean (sym same) clean in

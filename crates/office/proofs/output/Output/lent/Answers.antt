@@ -1,6 +1,7 @@
-use Rattle.std.proofs.Common.{◌≡◌, ◌-◌, List, ℕ, drop, take, length, min, sym, ◌∙◌, ap, arith}
-use Rattle.std.proofs.lemmas.List.{take_rest, take_min}
-use Rattle.office.specs.Output.{Output, most_lent}
+use Rattle.std.proofs.Common.{◌≡◌, ◌-◌, drop, take, length, ◌∙◌, ap}
+use Rattle.std.proofs.lemmas.List.{take_rest}
+use Rattle.office.specs.Output.{Output}
+use Rattle.office.specs.Trace.{most_lent}
 use Rattle.office.proofs.Owing.{front_lent}
 use Rattle.office.proofs.output.Output.lent.Goals as goal
 
