@@ -28,3 +28,4 @@ pub mod JudgeLemmas
 pub mod EachLemmas
 pub mod UsesLemmas
 pub mod CarryLemmas
+pub mod AgainLemmas

@@ -12,3 +12,4 @@ pub mod Numbers
 pub mod Stored
 pub mod Uses
 pub mod Carries
+pub mod Again

@@ -15,9 +15,11 @@ mod sound_deposits;
 mod sound_messages;
 mod sound_rules;
 mod sql_vault;
+mod stop_laws;
 mod totals;
 mod transaction;
 pub mod uses;
 
 pub use refusal::Refusal;
 pub use sql_vault::SqlVault;
+pub use stop_laws::adopt_again;

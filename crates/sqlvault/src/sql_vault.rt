@@ -1,9 +1,10 @@
 //! A mail store over the tables of a connection.
-ghost use Rattle.std.specs.Prelude.{◌≡◌, IfOk, IfErr, IsTrue};
+ghost use Rattle.std.specs.Prelude.{◌≡◌, false, IfOk, IfErr, IsTrue};
 ghost use Rattle.sqlite.specs.Held.{Held, state};
 ghost use Rattle.sqlite.specs.State.{HasCleanDisk};
 ghost use Rattle.vault.specs.Calls.{CountsFaults};
-ghost use Rattle.sqlvault.specs.Adopts.{IsAdopted, IsKnown, IsRefused, IsAdoptFault, LeavesEmptyToo};
+ghost use Rattle.sqlvault.specs.Adopts.{IsAdopted, IsKnown, IsRefused, IsAdoptFault, LeavesEmptyToo, RefusesSecond};
+ghost use Rattle.sqlvault.specs.Carries.{HasSecond, IsCarried, LeavesEither};
 ghost use Rattle.sqlvault.specs.Refusals.{answer_of, count_after, open_fault};
 
 use crate::adopt::settle;
@@ -100,7 +101,8 @@ fn open_fault(error: &Error) -> VaultFault
 fn take<S: Alter + Drop>(alloc: Global, conn: Connection<S>) -> Result<SqlVault<S>, VaultFault>
     ensures adopted { IfOk result (λ vault. HasCleanDisk (state S.Store vault.conn) → HasCleanDisk (state S.Store conn) × (IsKnown (state S.Store conn) → IsAdopted (state S.Store conn) (state S.Store vault.conn))) }
     ensures stop { IfOk result (λ vault. HasCleanDisk (state S.Store vault.conn) → IsKnown (state S.Store conn) → IsTrue (state S.Store conn).is_open → LeavesEmptyToo (state S.Store conn) (state S.Store vault.conn)) }
-    ensures refused { IfErr result (λ fault. (last : Held _) × (HasCleanDisk (state S.Store last) → HasCleanDisk (state S.Store conn) × (IsKnown (state S.Store conn) → IsRefused (state S.Store conn) fault))) }
+    ensures carried { IfOk result (λ vault. HasCleanDisk (state S.Store vault.conn) → HasSecond (state S.Store conn) → (state S.Store conn).in_transaction ≡ false → IsCarried (state S.Store conn) (state S.Store vault.conn) × LeavesEither (state S.Store conn) (state S.Store vault.conn)) }
+    ensures refused { IfErr result (λ fault. (last : Held _) × (HasCleanDisk (state S.Store last) → HasCleanDisk (state S.Store conn) × (IsKnown (state S.Store conn) → IsRefused (state S.Store conn) fault) × ((state S.Store conn).in_transaction ≡ false → RefusesSecond (state S.Store conn) (state S.Store last) fault))) }
     ensures kinds { IfErr result IsAdoptFault }
     ensures uncounted { IfOk result (λ vault. vault.faults ≡ 0) }
 {
@@ -118,11 +120,11 @@ fn unopened<T: Drop>(refused: (Error, T)) -> VaultFault
 }
 
 impl<S: Alter> SqlVault<S> {
-    ghost use Rattle.std.specs.Prelude.{true, false, Err};
+    ghost use Rattle.std.specs.Prelude.{true, Err};
     ghost use Rattle.vault.specs.declared.fault.VaultFault.TheVariants.{NotOurs};
     ghost use Rattle.mailsql.specs.Names.{is_taken, has_marks};
     ghost use Rattle.sqlvault.specs.Adopts.{Adopts, StaysAs};
-    ghost use Rattle.sqlvault.specs.Carries.{HasSecond, CarriesOver, LeavesEither};
+    ghost use Rattle.sqlvault.specs.Carries.{CarriesOver};
     ghost use Rattle.sqlvault.specs.Opened.{conn_of, judged_in};
     ghost use Rattle.sqlvault.specs.Stands.{WasClean};
 

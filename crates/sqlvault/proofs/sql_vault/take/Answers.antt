@@ -7,7 +7,17 @@ pub returns-in-Ok-clause-stop : goal.returns-in-Ok-clause-stop
 returns-in-Ok-clause-stop g c = λ clean known up. c.in-Ok.ensures.stop clean known up
 
 pub returns-in-Err-clause-refused : goal.returns-in-Err-clause-refused
-returns-in-Err-clause-refused g c = (c.in-Err._conn, λ clean. (c.in-Err.ensures.clean clean, λ known. c.in-Err.ensures.adopted clean known))
+returns-in-Err-clause-refused g c = (
+  c.in-Err._conn,
+  λ clean. (
+    c.in-Err.ensures.clean clean,
+    λ known. c.in-Err.ensures.adopted clean known,
+    λ out second. (c.in-Err.ensures.carried clean second out, (c.in-Err.ensures.carried_stays clean second out, c.in-Err.ensures.carried_stop clean second out)),
+  ),
+)
+
+pub returns-in-Ok-clause-carried : goal.returns-in-Ok-clause-carried
+returns-in-Ok-clause-carried g c = λ clean second out. (c.in-Ok.ensures.carried clean second out, c.in-Ok.ensures.carried_stop clean second out)
 
 pub returns-in-Err-clause-kinds : goal.returns-in-Err-clause-kinds
 returns-in-Err-clause-kinds g c = c.in-Err.ensures.kinds
