@@ -57,7 +57,8 @@ pub fn read_credential(clerk: &Name, text: &[u8]) -> Option<Credential>
     }
 }
 
-/// The policy that a body spells, or its first fault; [`PolicyFault::NotToml`] also where it isn't UTF-8.
+/// The policy that a body spells, or its first fault; [`PolicyFault::NotToml`] also where it isn't
+/// UTF-8.
 pub fn read_policy(alloc: Global, body: &[u8]) -> Result<Policy, Stop>
     ensures ok { IfOk result (λ policy. policy_of body.now ≡ Ok policy) }
     ensures fault { IfErr result (λ stop. stop ≢ Stop.NoMemory → policy_of body.now ≡ Err stop) }

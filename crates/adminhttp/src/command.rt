@@ -19,8 +19,8 @@ use std::alloc::Global;
 
 /// The command that a request asks of what its target names.
 ///
-/// [`Refusal::NotAllowed`] for a method that the route has not; then, for PUT on a clerk or the policy, what is wrong
-/// with the body.
+/// [`Refusal::NotAllowed`] for a method that the route has not; then, for PUT on a clerk or the
+/// policy, what is wrong with the body.
 pub fn read_command(
     alloc: Global,
     target: &Target,

@@ -1,5 +1,5 @@
-//! Administration over HTTP/1.0 and HTTP/1.1 (RFC 9112), one request a connection: the command that a request's octets
-//! ask for, and the octets of each response.
+//! Administration over HTTP/1.0 and HTTP/1.1 (RFC 9112), one request a connection: the command that
+//! a request's octets ask for, and the octets of each response.
 #![tactic(auto)]
 
 ghost use Rattle.adminhttp.specs.Laws.{HasMeaning, HasOneMeaning};

@@ -4,7 +4,8 @@ use crate::refusal::Refusal;
 use office::AdminCommand;
 use policy::PolicyFault;
 
-/// A request of an administrator, HTTP/1.0 or HTTP/1.1 (RFC 9112): the first on a connection, and the only one.
+/// A request of an administrator, HTTP/1.0 or HTTP/1.1 (RFC 9112): the first on a connection, and
+/// the only one.
 #[derive(Clone, Copy, Debug)]
 pub struct Request;
 

@@ -5,7 +5,8 @@ ghost use Rattle.serving.specs.FileNames.{is_dot, NamesReadBack, NamesHaveOneTex
 use creds::{DepositId, Name};
 use std::alloc::{AllocError, Global};
 
-/// The name of a spool file, `maildrop.class.id.eml`: into which maildrop it is deposited, under which class and id.
+/// The name of a spool file, `maildrop.class.id.eml`: into which maildrop it is deposited, under
+/// which class and id.
 #[derive(Clone, Copy, PartialEq, Eq, Debug)]
 pub struct FileName {
     pub maildrop: Name,

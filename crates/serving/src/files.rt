@@ -36,7 +36,8 @@ fn disposal_by(outcome: Outcome) -> Disposal
     }
 }
 
-/// Deposits a file, and removes it, renames it or leaves it, as that is answered. Whether it was removed or renamed.
+/// Deposits a file, and removes it, renames it or leaves it, as that is answered. Whether it was
+/// removed or renamed.
 fn try_file<V: Vault, S: Spool>(office: &mut Office<V>, spool: &mut S, name: &FileName) -> bool
     ensures tried { (T : Trace) (acts : List FileAct) → StandsFor V.holds office.old T → S.tells spool.old acts → V.is_clean (vault_of office.new) → IsTried V.holds S.tells T acts office.new spool.new }
     ensures clean { V.is_clean (vault_of office.new) → V.is_clean (vault_of office.old) }

@@ -8,18 +8,20 @@ use std::io::Read;
 use std::rt::Files;
 use std::time::{Clock, Duration, SystemTime};
 
-/// The messages of a folder. Who puts a file there writes it under another name, and then renames it.
+/// The messages of a folder. Who puts a file there writes it under another name, and then renames
+/// it.
 #[derive(Drop)]
 pub struct FolderSpool<'a, R: Files> {
     rt: &'a R,
     alloc: Global,
     folder: &'a str,
-    /// When the folder was changed last, where the last pass over it found nothing to try and any later change shows.
+    /// When the folder was changed last, where the last pass over it found nothing to try and any
+    /// later change shows.
     bare: Option<SystemTime>,
 }
 
-/// A system tells the moment of a folder's last change to two seconds or better. So a change shows where the one before it was
-/// longer ago.
+/// A system tells the moment of a folder's last change to two seconds or better. So a change shows
+/// where the one before it was longer ago.
 const COARSEST: u64 = 2;
 
 impl<'a, R: Files + Clock + AllocGlobal + Clone + Drop> FolderSpool<'a, R> {

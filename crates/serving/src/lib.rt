@@ -1,7 +1,8 @@
 //! Serving the links of a wire over an office, and the files of a spool.
 //!
-//! A [`Wire`] brings links, a [`Spool`] files, and [`serve_turn`] does one turn of the loop over both. [`SocketWire`] and
-//! [`FolderSpool`] are those of a running server; [`ScriptWire`] and [`ScriptSpool`] are in memory, for tests.
+//! A [`Wire`] brings links, a [`Spool`] files, and [`serve_turn`] does one turn of the loop over
+//! both. [`SocketWire`] and [`FolderSpool`] are those of a running server; [`ScriptWire`] and
+//! [`ScriptSpool`] are in memory, for tests.
 #![tactic(auto)]
 
 mod file_name;

@@ -18,8 +18,8 @@ pub struct Seat {
 /// How many links may be open at once, and how many are accepted in one turn at most.
 pub const MOST_LINKS: usize = 64;
 
-/// How many links may be held: those that are open, and as many whose connections a tick ended and which are closed later in
-/// the same turn.
+/// How many links may be held: those that are open, and as many whose connections a tick ended and
+/// which are closed later in the same turn.
 const PLACES: usize = 2 * MOST_LINKS;
 
 /// What is kept between the turns of serving: the open links, and which spool file was tried last.
@@ -57,7 +57,8 @@ impl Links {
     }
 }
 
-/// The open links of clients, by ascending number of their connections, and which spool file was tried last.
+/// The open links of clients, by ascending number of their connections, and which spool file was
+/// tried last.
 #[derive(Drop)]
 pub(crate) struct Clients {
     pub(crate) seats: ArrayVec<Seat, PLACES>,

@@ -99,7 +99,8 @@ impl Requests {
         self.exchanges.len()
     }
 
-    /// Keeps a link that was accepted, unless eight are open or memory is short. Whether it is kept.
+    /// Keeps a link that was accepted, unless eight are open or memory is short. Whether it is
+    /// kept.
     fn keep(&mut self, link: Link, now: u64) -> bool
         ensures kept { result ≡ true → HasOneMore link self.old.exchanges.items self.new.exchanges.items }
         ensures refused { result ≡ false → self.new.exchanges.items ≡ self.old.exchanges.items }
@@ -149,7 +150,8 @@ fn command<V: Vault>(alloc: Global, office: &mut Office<V>, command: &AdminComma
     response_to(alloc, &outcome)
 }
 
-/// The response to what was read of a request, once that is whole or refused. A command is given to the office.
+/// The response to what was read of a request, once that is whole or refused. A command is given to
+/// the office.
 fn ask<V: Vault>(alloc: Global, office: &mut Office<V>, read: &[u8]) -> Option<Response>
     ensures asked { (B : Records) (L : Log) → StandsFor V.holds office.old (trace_of B L) → V.is_clean (vault_of office.new) → HasAsked V.holds B L read.now office.new (option_map octets_of result) }
     ensures clean { V.is_clean (vault_of office.new) → V.is_clean (vault_of office.old) }
@@ -184,7 +186,8 @@ fn take_piece<V: Vault>(
     exchange.response = ask(alloc, office, exchange.read.as_slice());
 }
 
-/// Reads a piece of a request that isn't whole. The exchange is over where the link is at its end or broken.
+/// Reads a piece of a request that isn't whole. The exchange is over where the link is at its end
+/// or broken.
 fn hear<V: Vault, W: Wire>(
     alloc: Global,
     office: &mut Office<V>,
@@ -206,8 +209,8 @@ fn hear<V: Vault, W: Wire>(
     }
 }
 
-/// Writes once of a response. Whether octets were taken, and more may be. The exchange is over where nothing is left, or the
-/// link is broken.
+/// Writes once of a response. Whether octets were taken, and more may be. The exchange is over
+/// where nothing is left, or the link is broken.
 fn tell_once<W: Wire>(wire: &mut W, exchange: &mut Exchange) -> bool
     ensures answers { StillAnswers W.tells wire.old exchange.old wire.new exchange.new }
     ensures link { exchange.new.link ≡ exchange.old.link }
@@ -250,8 +253,8 @@ fn tell<W: Wire>(wire: &mut W, exchange: &mut Exchange) -> bool
     true
 }
 
-/// Reads of a request, and writes of its response. Whether more can be written at once. The exchange is over where its link was
-/// accepted 60 seconds ago or more.
+/// Reads of a request, and writes of its response. Whether more can be written at once. The
+/// exchange is over where its link was accepted 60 seconds ago or more.
 fn serve_exchange<V: Vault, W: Wire>(
     alloc: Global,
     office: &mut Office<V>,
@@ -294,7 +297,8 @@ fn serve_place<V: Vault, W: Wire>(
     false
 }
 
-/// Serves each link of the administration, in the order in which they were accepted, and closes those that are over.
+/// Serves each link of the administration, in the order in which they were accepted, and closes
+/// those that are over.
 pub(crate) fn serve_requests<V: Vault, W: Wire>(
     office: &mut Office<V>,
     wire: &mut W,
@@ -313,7 +317,8 @@ pub(crate) fn serve_requests<V: Vault, W: Wire>(
     }
 }
 
-/// Accepts a link of the administration; or closes it, where eight are open or memory is short. Whether one came.
+/// Accepts a link of the administration; or closes it, where eight are open or memory is short.
+/// Whether one came.
 fn accept_request<W: Wire>(wire: &mut W, requests: &mut Requests, now: u64) -> bool
     ensures { AllStillAnswer W.tells wire.old requests.old.exchanges.items wire.new requests.new.exchanges.items }
 {

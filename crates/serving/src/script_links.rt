@@ -7,7 +7,8 @@ use crate::octets::rest_of;
 use crate::wire::{Io, Link};
 use std::alloc::{AllocError, Global};
 
-/// A link that was accepted: what comes on it, how much of that was read, and what was written on it.
+/// A link that was accepted: what comes on it, how much of that was read, and what was written on
+/// it.
 #[derive(Drop)]
 pub struct ScriptLink {
     comes: Vec<u8>,

@@ -1,5 +1,5 @@
 //! A spool in memory, for tests.
-ghost use Rattle.std.specs.Prelude.{◌≡◌, ◌<◌, IfSome, length, map};
+ghost use Rattle.std.specs.Prelude.{◌≡◌, ◌<◌, [], IfSome, length, map};
 ghost use Rattle.serving.specs.ScriptSpools.{tells_once, act_seen};
 
 use crate::file_name::FileName;
@@ -34,8 +34,10 @@ pub struct ScriptSpool {
 }
 
 impl ScriptSpool {
-    /// There is no file.
-    pub fn new(alloc: Global) -> ScriptSpool {
+    /// There is no file, and nothing happened to one.
+    pub fn new(alloc: Global) -> ScriptSpool
+        ensures fresh { result.acts.items ≡ [] }
+    {
         ScriptSpool {
             alloc,
             files: Vec::new(alloc),

@@ -26,7 +26,8 @@ pub struct ScriptWire {
 }
 
 impl ScriptWire {
-    /// No link was accepted. Those that wait come the last one first; each read and each write moves at most `piece` octets.
+    /// No link was accepted. Those that wait come the last one first; each read and each write
+    /// moves at most `piece` octets.
     pub fn new(alloc: Global, waiting: Vec<Vec<u8>>, piece: usize) -> ScriptWire
         ensures fresh { (t : ToldOfPorts) → TellsOf result.clients.accepted.items result.clients.strayed t.pop → TellsOf result.requests.accepted.items result.requests.strayed t.admin → AreFresh t }
     {
@@ -57,7 +58,8 @@ impl ScriptWire {
         self.clients.connect(comes)
     }
 
-    /// A further link of the administration comes. Of those that wait the last one is accepted first.
+    /// A further link of the administration comes. Of those that wait the last one is accepted
+    /// first.
     pub fn request(&mut self, comes: Vec<u8>) -> Result<(), AllocError> {
         self.requests.connect(comes)
     }

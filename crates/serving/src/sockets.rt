@@ -11,7 +11,8 @@ use std::io::{ErrorKind, Read, Write};
 use std::net::{Net, SocketAddr};
 use std::time::Duration;
 
-/// How many links may be held: more than are served at once, so that one more can be accepted, to be closed.
+/// How many links may be held: more than are served at once, so that one more can be accepted, to
+/// be closed.
 const PLACES: u64 = 160;
 
 /// The token of the listener for clients; those below are of places.
@@ -81,7 +82,8 @@ struct Place {
     is_blocked: bool,
 }
 
-/// Links over sockets. What is ready is told by the system once (edge by edge), and kept at each place until it was used up.
+/// Links over sockets. What is ready is told by the system once (edge by edge), and kept at each
+/// place until it was used up.
 #[derive(Drop)]
 pub struct SocketWire {
     poll: Poll,
@@ -131,7 +133,8 @@ fn free_places(alloc: Global) -> io::Result<Vec<Place>> {
 }
 
 impl SocketWire {
-    /// Listens for clients at an address, and tells the port: that of the address, or where this is 0 one that the system chose.
+    /// Listens for clients at an address, and tells the port: that of the address, or where this is
+    /// 0 one that the system chose.
     pub fn bind<R: Net>(rt: &R, alloc: Global, at: SocketAddr) -> io::Result<(SocketWire, u16)> {
         let poll = Poll::new(rt)?;
         let events = Events::with_capacity(alloc, 256)?;
@@ -147,7 +150,8 @@ impl SocketWire {
         Ok((wire, port))
     }
 
-    /// Listens for the administration at an address, and tells the port, as [`SocketWire::bind`] does.
+    /// Listens for the administration at an address, and tells the port, as [`SocketWire::bind`]
+    /// does.
     pub fn bind_admin<R: Net>(&mut self, rt: &R, at: SocketAddr) -> io::Result<u16> {
         let (door, port) = Door::open(rt, &self.poll, ADMIN_LISTENER, at)?;
         self.admin_door = Some(door);
@@ -207,6 +211,16 @@ impl SocketWire {
             is_blocked: false,
         };
         Some(Link { number })
+    }
+
+    /// The address of a link's other end; `None` where the link is closed, or the system doesn't
+    /// tell.
+    pub fn peer(&self, link: Link) -> Option<SocketAddr> {
+        let place = self.places.get((link.number % PLACES) as usize)?;
+        if place.number != link.number {
+            return None;
+        }
+        place.stream.as_ref()?.peer_addr().ok()
     }
 
     /// The place of a link that is open.

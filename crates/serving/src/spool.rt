@@ -4,19 +4,21 @@ ghost use Rattle.serving.specs.Spools.{FileAct, WasRead, WasRemoved, WasRenamed}
 
 use crate::file_name::FileName;
 
-/// How many octets of a file are read at most: one more than a message may have in its kept form, so that a longer file is too
-/// large by then.
+/// How many octets of a file are read at most: one more than a message may have in its kept form,
+/// so that a longer file is too large by then.
 pub const MOST_OCTETS: usize = 26_214_401;
 
-/// A folder of messages, each a file under a name of the form `maildrop.class.id.eml`. Files of other names are left alone.
+/// A folder of messages, each a file under a name of the form `maildrop.class.id.eml`. Files of
+/// other names are left alone.
 ///
-/// Contracts see what it tells of what happened to its files. A spool over a folder tells nothing: no value of it tells anything.
+/// Contracts see what it tells of what happened to its files. A spool over a folder tells nothing:
+/// no value of it tells anything.
 pub trait Spool {
     /// What it may tell: what happened to its files, the newest last.
     ghost tells: { Self → List FileAct → Type 0 };
 
-    /// The least name behind this one, in the order of octets; the least one where none is behind it, or no name is given. `None`
-    /// where there is no file, or the folder can't be listed.
+    /// The least name behind this one, in the order of octets; the least one where none is behind
+    /// it, or no name is given. `None` where there is no file, or the folder can't be listed.
     fn next_name(&mut self, last: &Option<FileName>) -> Option<FileName>
         ensures { (a : List FileAct) → tells self.old a → tells self.new a };
 

@@ -28,8 +28,8 @@ const MOST_WRITES: usize = 64;
 /// How many milliseconds a turn waits at most.
 const MOST_MILLIS: u32 = 1000;
 
-/// Writes once of what a connection is owed, and ends the connection where the link is broken or at its end. Whether octets were
-/// taken, so that more may be.
+/// Writes once of what a connection is owed, and ends the connection where the link is broken or at
+/// its end. Whether octets were taken, so that more may be.
 fn write_once<V: Vault, W: Wire>(office: &mut Office<V>, wire: &mut W, seat: Seat) -> bool
     ensures serves { StillServesOne V.holds V.is_clean W.tells seat office.old wire.old office.new wire.new }
     ensures clean { V.is_clean (vault_of office.new) → V.is_clean (vault_of office.old) }
@@ -51,7 +51,8 @@ fn write_once<V: Vault, W: Wire>(office: &mut Office<V>, wire: &mut W, seat: Sea
     }
 }
 
-/// Writes what a connection is owed, as long as the link takes it. Whether it may take more at once.
+/// Writes what a connection is owed, as long as the link takes it. Whether it may take more at
+/// once.
 fn write_owed<V: Vault, W: Wire>(office: &mut Office<V>, wire: &mut W, seat: Seat) -> bool
     ensures serves { StillServesOne V.holds V.is_clean W.tells seat office.old wire.old office.new wire.new }
     ensures clean { V.is_clean (vault_of office.new) → V.is_clean (vault_of office.old) }
@@ -64,7 +65,8 @@ fn write_owed<V: Vault, W: Wire>(office: &mut Office<V>, wire: &mut W, seat: Sea
     true
 }
 
-/// Reads a piece from a link whose connection waits for octets, and ends the connection where the link is broken or at its end.
+/// Reads a piece from a link whose connection waits for octets, and ends the connection where the
+/// link is broken or at its end.
 fn read_once<V: Vault, W: Wire>(office: &mut Office<V>, wire: &mut W, seat: Seat)
     ensures serves { StillServesOne V.holds V.is_clean W.tells seat office.old wire.old office.new wire.new }
     ensures clean { V.is_clean (vault_of office.new) → V.is_clean (vault_of office.old) }
@@ -123,8 +125,8 @@ fn serve_links<V: Vault, W: Wire>(office: &mut Office<V>, wire: &mut W, links: &
     }
 }
 
-/// Closes the link of one seat, where its connection ended. Whether the seat stays: it and those before it have open connections
-/// then.
+/// Closes the link of one seat, where its connection ended. Whether the seat stays: it and those
+/// before it have open connections then.
 fn close_seat<V: Vault, W: Wire>(
     office: &Office<V>,
     wire: &mut W,
@@ -175,8 +177,8 @@ fn opened(outcome: Outcome) -> Option<u64>
     }
 }
 
-/// Accepts a link, and seats it with a connection of its own; or closes it, where the office opens none. Whether one came. While
-/// all places are taken none is accepted.
+/// Accepts a link, and seats it with a connection of its own; or closes it, where the office opens
+/// none. Whether one came. While all places are taken none is accepted.
 fn accept_link<V: Vault, W: Wire>(office: &mut Office<V>, wire: &mut W, links: &mut Clients) -> bool
     ensures serves { StillServes V.holds V.is_clean W.tells office.old wire.old links.old.seats.items [] office.new wire.new links.new.seats.items [] }
     ensures clean { V.is_clean (vault_of office.new) → V.is_clean (vault_of office.old) }
@@ -207,9 +209,10 @@ fn accept_links<V: Vault, W: Wire>(office: &mut Office<V>, wire: &mut W, links: 
     }
 }
 
-/// One turn: waits for at most a second, and not at all where more can be done at once; tells the office the moment, in seconds;
-/// accepts the links that came, at most 64 at each port; serves each client's link, and then each link of the administration; closes
-/// the links whose connections ended; and tries one file of the spool.
+/// One turn: waits for at most a second, and not at all where more can be done at once; tells the
+/// office the moment, in seconds; accepts the links that came, at most 64 at each port; serves each
+/// client's link, and then each link of the administration; closes the links whose connections
+/// ended; and tries one file of the spool.
 pub fn serve_turn<V: Vault, W: Wire, S: Spool>(
     links: &mut Links,
     wire: &mut W,

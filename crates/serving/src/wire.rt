@@ -32,8 +32,9 @@ pub enum Io {
 
 /// Links as they come.
 ///
-/// Contracts see what it tells of its links: those of each port are numbered from 0 on, in the order in which they were accepted.
-/// A wire over sockets tells nothing: no value of it tells anything.
+/// Contracts see what it tells of its links: those of each port are numbered from 0 on, in the
+/// order in which they were accepted. A wire over sockets tells nothing: no value of it tells
+/// anything.
 pub trait Wire {
     ghost use Rattle.serving.specs.Wires.{IsWithin, IsAccepted, SayAlikeOfPorts};
 
@@ -44,7 +45,8 @@ pub trait Wire {
     fn wait(&mut self, millis: u32)
         ensures { (t : ToldOfPorts) → tells self.old t → tells self.new t };
 
-    /// The next link that came at a port; `None` where none waits, or where it can't be accepted now.
+    /// The next link that came at a port; `None` where none waits, or where it can't be accepted
+    /// now.
     fn accept(&mut self, port: Port) -> Option<Link>
         ensures { (t : ToldOfPorts) → tells self.old t → IsAccepted (tells self.new) port t result };
 
