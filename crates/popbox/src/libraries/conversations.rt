@@ -1,4 +1,5 @@
-//! What no clause says: that a conversation comes about, that all replies are written before the next read, and which fault is told.
+//! What no clause says: that a conversation comes about, that all replies are written before the
+//! next read, and which fault is told.
 
 use crate::office_tests::opened;
 use crate::tests::{expect, run_on};
@@ -66,7 +67,8 @@ impl Write for Counted<'_> {
     }
 }
 
-/// Whether a client that says these lines, and then nothing more, is told this text, and the connection is then over.
+/// Whether a client that says these lines, and then nothing more, is told this text, and the
+/// connection is then over.
 fn says(alloc: Global, office: &mut Office<PlainVault>, lines: &[u8], want: &str) -> bool {
     let mut text = Vec::new(alloc);
     let mut reader = lines;
@@ -146,7 +148,8 @@ static MARKING: [(usize, &[u8]); 3] = [
     (91, b"DELE 1\n"),
 ];
 
-/// Whether each line of a client that takes so many octets at a time is read behind the replies before it.
+/// Whether each line of a client that takes so many octets at a time is read behind the replies
+/// before it.
 fn is_prompt(alloc: Global, office: &mut Office<PlainVault>, most: usize) -> bool {
     let written = Cell::new(0);
     let mut reader = Lines {
@@ -189,8 +192,8 @@ static PIECES: [(usize, &[u8]); 7] = [
 static FINISHED: &str =
     "+OK POP3 server ready <1.7@h.test>\r\n+OK capability list follows\r\nTOP\r\nUSER\r\nUIDL\r\nRESP-CODES\r\nPIPELINING\r\n.\r\n+OK send PASS\r\n+OK bye\r\n";
 
-/// How many calls of a reader and of a writer are met before one is refused, how many octets a call of the writer takes at most,
-/// and the fault.
+/// How many calls of a reader and of a writer are met before one is refused, how many octets a call
+/// of the writer takes at most, and the fault.
 static REFUSED: [(usize, usize, usize, Option<TalkFault>); 9] = [
     (0, 100, 20, Some(TalkFault::Read)),
     (1, 100, 20, Some(TalkFault::Read)),
@@ -203,8 +206,8 @@ static REFUSED: [(usize, usize, usize, Option<TalkFault>); 9] = [
     (100, 100, 0, Some(TalkFault::Write)),
 ];
 
-/// Whether a conversation with such a reader and such a writer has this fault, what was written is a beginning of the replies, or
-/// without a fault all of them, and the connection is over.
+/// Whether a conversation with such a reader and such a writer has this fault, what was written is
+/// a beginning of the replies, or without a fault all of them, and the connection is over.
 fn is_told(
     alloc: Global,
     office: &mut Office<PlainVault>,

@@ -77,14 +77,16 @@ fn sha256_vectors(rt: HostRuntime) -> Result<(), Fail> {
     Ok(())
 }
 
-/// Whether the secret `tanstaaf` admits by this digest under the RFC's timestamp, and under no other, and not as a password.
+/// Whether the secret `tanstaaf` admits by this digest under the RFC's timestamp, and under no
+/// other, and not as a password.
 fn is_by_secret(shared: &Credential, mrose: &Name, digest: [u8; 16]) -> bool {
     shared.admits(mrose, STAMP, &Proof::Apop(digest))
         && !shared.admits(mrose, b"<1.7@h.test>", &Proof::Apop(digest))
         && !shared.admits(mrose, STAMP, &Proof::Pass(b"tanstaaf"))
 }
 
-/// Whether the password `s3 cret` admits ann, and not with a space behind it, not another clerk, and not as a secret.
+/// Whether the password `s3 cret` admits ann, and not with a space behind it, not another clerk,
+/// and not as a secret.
 fn is_by_password(kept: &Credential, ann: &Name, mrose: &Name) -> bool {
     let digest = apop_digest(STAMP, b"s3 cret");
     kept.admits(ann, STAMP, &Proof::Pass(b"s3 cret"))

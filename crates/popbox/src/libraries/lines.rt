@@ -1,4 +1,5 @@
-//! Lines at the limit of their length, a table of lines with their readings, and the replies octet by octet.
+//! Lines at the limit of their length, a table of lines with their readings, and the replies octet
+//! by octet.
 
 use creds::{LoginName, Name, Uid};
 use popline::{
@@ -130,7 +131,8 @@ fn line_length_limit(rt: HostRuntime) {
     assert_eq!(rt; password_len(b'x', b"\r\n", 256), 0);
 }
 
-/// Lines of each keyword whose arguments don't fit it: missing, doubled, behind two spaces, or of another form.
+/// Lines of each keyword whose arguments don't fit it: missing, doubled, behind two spaces, or of
+/// another form.
 static BAD_ARGUMENTS: [(Keyword, &str); 13] = [
     (
         Keyword::Capa,

@@ -20,7 +20,7 @@ pub fn opened<V: Vault + Drop>(alloc: Global, vault: V) -> Result<Office<V>, Fai
     let limits = Limits::new(600).ok_or("idle")?;
     match Office::open(alloc, vault, "h.test", 7, limits) {
         Ok(office) => Ok(office),
-        Err(_) => Err(Fail::new("not opened")),
+        Err((fault, _)) => Err(Fail::from(fault)),
     }
 }
 

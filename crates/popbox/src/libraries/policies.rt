@@ -1,4 +1,5 @@
-//! What no clause says: that the calls succeed, each fault of a text at each kind of value, and the sample policy.
+//! What no clause says: that the calls succeed, each fault of a text at each kind of value, and the
+//! sample policy.
 use creds::Name;
 use policy::{Action, Actions, Decision, Effect, Pattern, Policy, PolicyFault, Rule};
 use std::alloc::{AllocError, Global};
@@ -102,8 +103,8 @@ fn rule_with(alloc: Global, changed: &str, setting: &str) -> Result<String, Allo
     Ok(text)
 }
 
-/// Settings of a key, `#`, to values of each kind that TOML has, none of which any key of a rule takes, and two with the key as the
-/// name of a table, and of a table of a list.
+/// Settings of a key, `#`, to values of each kind that TOML has, none of which any key of a rule
+/// takes, and two with the key as the name of a table, and of a table of a list.
 static WRONG: &str = r##"# = 3
 # = 0x1F
 # = -1.5
@@ -267,7 +268,8 @@ static SETTINGS: [(&str, &str, &str); 11] = [
     ("", "[[rule]]", "rule 2: MissingKey"),
 ];
 
-/// A second rule behind one that is named `first`, mended one fault at a time, with its first fault.
+/// A second rule behind one that is named `first`, mended one fault at a time, with its first
+/// fault.
 static MENDED: [(&str, &str); 11] = [
     (
         "name = 3\neffect = 3\nclerk = 3\nmaildrop = 3\nclass = 3\nother = 3",
@@ -370,7 +372,8 @@ fn is_copied_or_not(policy: &Policy) -> bool {
     }
 }
 
-/// Each growth that is refused is told as want of memory, and changes nothing: run with each allocation failing in turn.
+/// Each growth that is refused is told as want of memory, and changes nothing: run with each
+/// allocation failing in turn.
 #[test]
 fn refused_growths(rt: HostRuntime) -> Result<(), Fail> {
     let policy = match Policy::read(rt.alloc(), SAMPLE) {
@@ -391,7 +394,8 @@ fn written(alloc: Global, policy: &Policy) -> Result<Vec<u8>, Fail> {
     Ok(text)
 }
 
-/// Whether a text is read, what is written of its copy is that text, and what is written of that, read again, is the same.
+/// Whether a text is read, what is written of its copy is that text, and what is written of that,
+/// read again, is the same.
 fn is_read_and_written(alloc: Global, text: &str) -> Result<bool, Fail> {
     let policy = Policy::read(alloc, text)?.try_copy()?;
     let kept = written(alloc, &policy)?;
@@ -407,7 +411,8 @@ fn rules_of(alloc: Global, text: &str) -> Result<Policy, Fail> {
     Ok(Policy::from_rules(rules)?.ok_or("not sound")?)
 }
 
-/// A question to the sample policy: the clerk, the class and the action, whether it is allowed, and by which rule.
+/// A question to the sample policy: the clerk, the class and the action, whether it is allowed, and
+/// by which rule.
 static DECISIONS: [(&str, &str, &str, bool, &str); 9] = [
     ("bob", "pay", "read", false, "bob-no-pay"),
     ("bob", "pay", "remove", false, "bob-no-pay"),
@@ -526,7 +531,8 @@ fn is_listed(actions: Actions, action: Action) -> bool {
     }
 }
 
-/// What the first rule decides that matches, found by a walk over all rules: whether it allows, and its name.
+/// What the first rule decides that matches, found by a walk over all rules: whether it allows, and
+/// its name.
 fn walked(
     policy: &Policy,
     clerk: &Name,
@@ -581,7 +587,8 @@ fn lanes_agree(alloc: Global, policy: &Policy, clerk: usize) -> Result<bool, Fai
     Ok(true)
 }
 
-/// Of a thousand rules, the lane of each clerk and maildrop, also of one that no rule names, decides as a walk over all rules.
+/// Of a thousand rules, the lane of each clerk and maildrop, also of one that no rule names,
+/// decides as a walk over all rules.
 #[test]
 fn lanes_of_a_thousand_rules(rt: HostRuntime) -> Result<(), Fail> {
     let policy = a_thousand_rules(rt.alloc())?;

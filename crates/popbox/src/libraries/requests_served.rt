@@ -1,6 +1,7 @@
 //! Requests of the administration over links in memory: pieces, limits, and faults in place of reads and writes.
-use office::{Limits, Office};
-use serving::{Links, MOST_REQUESTS, ScriptSpool, ScriptWire, Stop, begin, serve_turn};
+use super::benches::{Bench, bench_over, request, turns};
+use super::turns::octets;
+use serving::{MOST_REQUESTS, Stop};
 use std::alloc::Global;
 use std::test::Fail;
 use vault::PlainVault;
@@ -21,7 +22,7 @@ static NO_SESSIONS: &[u8] =
 static BEGUN: &[u8] = b"GET /sessions HTTP/1.1\r\n";
 
 /// Requests, each with the first line of its response and its body, on an office that has seen those above it.
-static ROWS: [(&str, &str, &str); 13] = [
+pub(super) static ROWS: [(&str, &str, &str); 13] = [
     (
         "PUT /maildrops/orders HTTP/1.1\r\n\r\n",
         "HTTP/1.1 201 Created\r\n",
@@ -89,63 +90,9 @@ static ROWS: [(&str, &str, &str); 13] = [
     ),
 ];
 
-/// A vector of octets.
-fn octets(alloc: Global, text: &[u8]) -> Result<Vec<u8>, Fail> {
-    let mut copy = Vec::new(alloc);
-    copy.extend_from_slice(text)?;
-    Ok(copy)
-}
-
-/// An office without maildrops.
-fn new_office(alloc: Global) -> Result<Office<PlainVault>, Fail> {
-    let limits = Limits::new(600).ok_or("idle")?;
-    match Office::open(alloc, PlainVault::new(alloc), "h.test", 7, limits) {
-        Ok(office) => Ok(office),
-        Err(_) => Err(Fail::new("not opened")),
-    }
-}
-
-/// An office, a wire and its links.
-#[derive(Drop)]
-struct Bench {
-    alloc: Global,
-    office: Office<PlainVault>,
-    wire: ScriptWire,
-    spool: ScriptSpool,
-    links: Links,
-}
-
-/// Nothing has happened; each read and each write moves so many octets at most.
-fn new_bench(alloc: Global, piece: usize) -> Result<Bench, Fail> {
-    let office = new_office(alloc)?;
-    let wire = ScriptWire::new(alloc, Vec::new(alloc), piece);
-    let spool = ScriptSpool::new(alloc);
-    let links = begin(alloc, &office, &wire, &spool);
-    Ok(Bench {
-        alloc,
-        office,
-        wire,
-        spool,
-        links,
-    })
-}
-
-/// Serves so many turns at a moment.
-fn turns(bench: &mut Bench, count: u32, now: u64) {
-    for _ in 0..count {
-        serve_turn(
-            &mut bench.links,
-            &mut bench.wire,
-            &mut bench.office,
-            &mut bench.spool,
-            now,
-        );
-    }
-}
-
-/// A link comes that brings these octets.
-fn request(bench: &mut Bench, comes: &[u8]) -> Result<(), Fail> {
-    Ok(bench.wire.request(octets(bench.alloc, comes)?)?)
+/// An office without maildrops over a store in memory, and a wire.
+fn new_bench(alloc: Global, piece: usize) -> Result<Bench<PlainVault>, Fail> {
+    bench_over(alloc, PlainVault::new(alloc), piece)
 }
 
 /// Each row's request is answered so, in whatever pieces it comes and its response goes.

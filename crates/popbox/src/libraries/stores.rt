@@ -1,4 +1,5 @@
-//! What no clause says: that the calls succeed where there is memory, and the sample store's deposits, counts and pages.
+//! What no clause says: that the calls succeed where there is memory, and the sample store's
+//! deposits, counts and pages.
 use crate::tests::{expect, parts_of, run_at};
 use creds::{Credential, DepositId, Name, Secret};
 use mailtext::canon;
@@ -19,8 +20,9 @@ class = "*"
 actions = ["open", "read", "remove"]
 "#;
 
-/// A call of a vault. Deposits, of a class, an id and a text, go into the maildrop `orders`; a message is read by its key, eight
-/// octets behind so many, and removed by it from the maildrop that is named; the policy that is set is the one above.
+/// A call of a vault. Deposits, of a class, an id and a text, go into the maildrop `orders`; a
+/// message is read by its key, eight octets behind so many, and removed by it from the maildrop
+/// that is named; the policy that is set is the one above.
 #[derive(Clone, Copy)]
 enum Call {
     Add(&'static str),
@@ -279,7 +281,8 @@ fn said_of_office<V: Vault>(alloc: Global, vault: &mut V, call: Call) -> Result<
     }
 }
 
-/// Makes the calls one after the other, and fails with what one is answered, unless it is what is wanted.
+/// Makes the calls one after the other, and fails with what one is answered, unless it is what is
+/// wanted.
 fn tells<V: Vault>(alloc: Global, vault: &mut V, calls: &[(Call, &str)]) -> Result<(), Fail> {
     for (call, answer) in calls {
         expect(said(alloc, vault, *call)?, *answer)?;
@@ -302,7 +305,8 @@ fn story_of_a_store_over_tables(rt: HostRuntime) -> Result<(), Fail> {
 /// The sample store's first deposit.
 const FIRST: Call = Call::Deposit("note", "d1", "Subject: a\n\nhi\n.\n");
 
-/// Makes the sample store's first deposit, and makes it again where memory for it is refused, which leaves nothing of it.
+/// Makes the sample store's first deposit, and makes it again where memory for it is refused, which
+/// leaves nothing of it.
 fn is_deposited<V: Vault>(alloc: Global, vault: &mut V) -> Result<(), Fail> {
     let first = said(alloc, vault, FIRST)?;
     if first.as_str() != "out of memory" {
@@ -380,8 +384,8 @@ static EACH: [(Call, &str); 12] = [
     (Call::Policy, RULE),
 ];
 
-/// Makes the calls over a store that refuses the one of this number, and that one again: fails unless each is answered so.
-/// Gives how many were refused.
+/// Makes the calls over a store that refuses the one of this number, and that one again: fails
+/// unless each is answered so. Gives how many were refused.
 fn refusals(alloc: Global, n: u64) -> Result<u64, Fail> {
     let mut vault = Refusing::new(PlainVault::new(alloc), n);
     let mut to_come = n;

@@ -26,7 +26,8 @@ fn send_piece(
     Ok(())
 }
 
-/// What is sent of a kept text that comes in pages of 4,096 octets, through a buffer of so many octets.
+/// What is sent of a kept text that comes in pages of 4,096 octets, through a buffer of so many
+/// octets.
 fn sent_by_pages(alloc: Global, text: &[u8], size: usize) -> Result<Vec<u8>, AllocError> {
     let mut sent = Vec::new(alloc);
     let mut out = vec![in alloc; 0u8; size]?;

@@ -1,4 +1,5 @@
-//! What no clause says: worked values, that each call succeeds with ample memory, and refused growths.
+//! What no clause says: worked values, that each call succeeds with ample memory, and refused
+//! growths.
 
 use mailtext::{MailText, TextFault, canon, stuff_into, unstuff};
 use std::alloc::Global;
@@ -31,7 +32,8 @@ fn kept_forms(rt: HostRuntime) -> Result<(), Fail> {
     Ok(())
 }
 
-/// Whether a text has a header of so many octets, and is sent with so many lines of its body as these octets.
+/// Whether a text has a header of so many octets, and is sent with so many lines of its body as
+/// these octets.
 fn has_top(text: &MailText, header: usize, lines: u64, wanted: &[u8]) -> bool {
     text.header_len() == header && text.top(lines) == wanted
 }
@@ -99,7 +101,8 @@ fn is_kept_or_refused(alloc: Global, text: &[u8], wanted: &[u8]) -> bool {
     }
 }
 
-/// Whether the text is put behind what was sent, or memory is wanted and what was sent is as before.
+/// Whether the text is put behind what was sent, or memory is wanted and what was sent is as
+/// before.
 fn is_stuffed_or_refused(alloc: Global, text: &[u8], wanted: &[u8]) -> bool {
     let mut sent = Vec::new(alloc);
     let begun = sent.extend_from_slice(b"+OK\r\n").is_ok();

@@ -130,7 +130,8 @@ fn name(text: &[u8]) -> Result<Name, Fail> {
     Ok(Name::read(text).ok_or("a name")?)
 }
 
-/// Whose session it is, of which maildrop, how much it shows, and the scan listing and the unique-id listing, as they are sent.
+/// Whose session it is, of which maildrop, how much it shows, and the scan listing and the
+/// unique-id listing, as they are sent.
 fn shown(alloc: Global, session: &Session) -> Result<String, AllocError> {
     let clerk = session.clerk();
     let maildrop = session.maildrop();
@@ -161,7 +162,8 @@ fn has_no_others(session: &Session) -> bool {
         && is_picked(session, u64::MAX, &Pick::NoSuch)
 }
 
-/// Marks the third and the second number: whether the first of them is denied, and the second is marked once.
+/// Marks the third and the second number: whether the first of them is denied, and the second is
+/// marked once.
 fn marks_one(session: &mut Session, policy: &Policy) -> Result<bool, Fail> {
     let denied = Pick::Denied(name(b"default")?);
     Ok(
@@ -224,7 +226,8 @@ fn removals_under_a_new_policy(rt: HostRuntime) -> Result<(), Fail> {
     Ok(())
 }
 
-/// Whether a number is read so under a policy: with the message of this number in its class, or why not.
+/// Whether a number is read so under a policy: with the message of this number in its class, or why
+/// not.
 fn is_read(session: &Session, number: u64, policy: &Policy, k: Result<u64, Pick>) -> bool {
     match session.pick_for(number, policy) {
         Ok(head) => k == Ok(head.k),

@@ -1,0 +1,124 @@
+/*
+ * Refuses each growth of a program in turn. tools/check-growths compiles this and has the loader
+ * put it before the C library.
+ *
+ * At each growth the program forks. The child's growth is refused, and it runs on to its end with
+ * no other refused; then the parent's growth is done, and it goes on. So the parent's own run is
+ * one in which nothing is refused. A child that ends with a status other than 0 either told that
+ * its test's own memory ran out, or failed. When the parent ends, it writes how many growths there
+ * were, how many were the test's own, and how many children failed, and of the first of these at
+ * which growth and what they wrote, to the file that GROWTHS names.
+ */
+#define _GNU_SOURCE
+#include <stdio.h>
+#include <stdlib.h>
+#include <string.h>
+#include <sys/mman.h>
+#include <sys/wait.h>
+#include <unistd.h>
+#include <fcntl.h>
+
+extern void *__libc_malloc(size_t size);
+extern void *__libc_realloc(void *block, size_t size);
+extern void *__libc_memalign(size_t align, size_t size);
+
+enum { SHOWN = 5, SECONDS = 60 };
+
+static int is_off = 1;
+static unsigned long growths, own, failed;
+static char said[1024];
+
+/* Whether a child told that the test's own memory ran out. */
+static int is_own(void)
+{
+    /* A test writes on vectors alone, so that a refused write is want of memory too. */
+    static const char *const told[] = {"error: AllocError", "error: AllocFailed",
+        "error: NoMemory", "error: OutOfMemory", "error: CannotWrite"};
+    for (size_t i = 0; i < sizeof told / sizeof *told; i++)
+        if (strstr(said, told[i]))
+            return 1;
+    return 0;
+}
+
+static void report(int status, int out)
+{
+    ssize_t n = pread(out, said, sizeof said - 1, 0);
+    said[n > 0 ? n : 0] = 0;
+    if (WIFEXITED(status) && WEXITSTATUS(status) == 0)
+        return;
+    if (is_own())
+        own++;
+    else if (failed++ < SHOWN) {
+        char line[1200];
+        int len = snprintf(line, sizeof line, "growth %lu: status %d: %s\n", growths, status, said);
+        int file = open(getenv("GROWTHS"), O_WRONLY | O_APPEND | O_CREAT, 0600);
+        if (write(file, line, len < (int)sizeof line ? len : (int)sizeof line - 1) < 0)
+            _exit(3);
+        close(file);
+    }
+}
+
+/* Whether this growth is the refused one: in a child it is. */
+static int is_refused(void)
+{
+    if (is_off)
+        return 0;
+    is_off = 1;
+    growths++;
+    int out = memfd_create("said", 0);
+    pid_t child = fork();
+    if (child == 0) {
+        alarm(SECONDS);
+        dup2(out, 1);
+        dup2(out, 2);
+        return 1;
+    }
+    int status = -1;
+    if (child < 0 || out < 0 || waitpid(child, &status, 0) != child)
+        _exit(3);
+    report(status, out);
+    close(out);
+    is_off = 0;
+    return 0;
+}
+
+void *malloc(size_t size)
+{
+    return is_refused() ? NULL : __libc_malloc(size);
+}
+
+void *realloc(void *block, size_t size)
+{
+    return is_refused() ? NULL : __libc_realloc(block, size);
+}
+
+int posix_memalign(void **block, size_t align, size_t size)
+{
+    *block = is_refused() ? NULL : __libc_memalign(align, size);
+    return *block ? 0 : 12;
+}
+
+void *aligned_alloc(size_t align, size_t size)
+{
+    return is_refused() ? NULL : __libc_memalign(align, size);
+}
+
+static pid_t parent;
+
+__attribute__((constructor)) static void begin(void)
+{
+    parent = getpid();
+    is_off = getenv("GROWTHS") == NULL;
+}
+
+__attribute__((destructor)) static void end(void)
+{
+    if (getpid() != parent || getenv("GROWTHS") == NULL)
+        return;
+    is_off = 1;
+    char line[100];
+    int len = snprintf(line, sizeof line, "growths=%lu own=%lu failed=%lu\n", growths, own, failed);
+    int file = open(getenv("GROWTHS"), O_WRONLY | O_APPEND | O_CREAT, 0600);
+    if (write(file, line, len) < 0)
+        _exit(3);
+}
