@@ -1,6 +1,6 @@
 //! The command line of popbox: its subcommands, their options and defaults.
 
-use clap::{Arg, Command, value_parser};
+use clap::{Arg, ArgAction, Command, value_parser};
 use std::alloc::{AllocError, Global};
 
 /// `--NAME VALUE`.
@@ -26,29 +26,40 @@ fn store<'a>(alloc: Global, help: &'a str) -> Arg<'a> {
     option(alloc, "store", "PATH", help)
 }
 
-/// A subcommand with these arguments.
+/// `--verbose`: what a fault is about is told too.
+fn verbose<'a>(alloc: Global) -> Arg<'a> {
+    Arg::new(alloc, "verbose")
+        .long("verbose")
+        .action(ArgAction::SetTrue)
+        .help("Says on standard error what a fault is about")
+}
+
+/// A subcommand with these arguments and `--verbose`.
 fn subcommand<'a>(
     alloc: Global,
     name: &'a str,
     about: &'a str,
     arguments: Vec<Arg<'a>>,
 ) -> Result<Command<'a>, AllocError> {
-    Command::new(alloc, name).about(about).args(arguments)
+    Command::new(alloc, name)
+        .about(about)
+        .args(arguments)?
+        .arg(verbose(alloc))
 }
 
-/// `replay [--store PATH] [--host NAME] [--boot N] [SCRIPT]`.
+/// `replay [--store PATH] [--host NAME] [--boot N] [--verbose] [SCRIPT]`.
 fn replay<'a>(alloc: Global) -> Result<Command<'a>, AllocError> {
     let arguments = vec![in alloc;
         store(alloc, "The store's file, else one in memory"),
         host(alloc),
         boot(alloc).default_value("1"),
-        Arg::new(alloc, "SCRIPT").help("The script's file, else standard input"),
+        Arg::new(alloc, "SCRIPT").help("The script's file; - or none: standard input"),
     ]?;
     let about = "Runs the events of a script, and prints what each gives";
     subcommand(alloc, "replay", about, arguments)
 }
 
-/// `talk --store PATH [--host NAME] [--boot N]`.
+/// `talk --store PATH [--host NAME] [--boot N] [--verbose]`.
 fn talk<'a>(alloc: Global) -> Result<Command<'a>, AllocError> {
     let arguments = vec![in alloc;
         store(alloc, "The store's file, which is made where there is none").required(true),
@@ -59,15 +70,24 @@ fn talk<'a>(alloc: Global) -> Result<Command<'a>, AllocError> {
     subcommand(alloc, "talk", about, arguments)
 }
 
-/// `check-policy FILE`.
+/// `check-policy [--verbose] FILE`.
 fn check_policy<'a>(alloc: Global) -> Result<Command<'a>, AllocError> {
-    let file = Arg::new(alloc, "FILE").help("The policy's file");
-    Command::new(alloc, "check-policy")
-        .about("Checks a policy, and prints how many rules it has or its first fault")
-        .arg(file.required(true))
+    let file = Arg::new(alloc, "FILE").help("The policy's file; - is standard input");
+    let arguments = vec![in alloc; file.required(true)]?;
+    let about = "Checks a policy, and prints how many rules it has or its first fault";
+    subcommand(alloc, "check-policy", about, arguments)
 }
 
-/// `serve --store PATH --spool DIR [--listen IPV4] [--pop-port N] [--admin-port N] [--host NAME] [--idle N] [--turns N]`.
+/// `--log`.
+fn log<'a>(alloc: Global) -> Arg<'a> {
+    Arg::new(alloc, "log")
+        .long("log")
+        .help("Writes a line for each event to standard error")
+        .action(ArgAction::SetTrue)
+}
+
+/// `serve --store PATH --spool DIR [--listen IPV4] [--pop-port N] [--admin-port N] [--host NAME]
+/// [--idle N] [--turns N] [--log] [--verbose]`.
 fn serve<'a>(alloc: Global) -> Result<Command<'a>, AllocError> {
     let listen = option(
         alloc,
@@ -105,6 +125,7 @@ fn serve<'a>(alloc: Global) -> Result<Command<'a>, AllocError> {
         idle.default_value("600")
             .value_parser(value_parser!(u32).range(600..=86400)),
         turns.value_parser(value_parser!(u64)),
+        log(alloc),
     ]?;
     let about = "Serves clients over the network, and takes messages from a folder";
     subcommand(alloc, "serve", about, arguments)
@@ -123,6 +144,7 @@ pub fn make_command<'a>(alloc: Global) -> Result<Command<'a>, AllocError> {
     let command = Command::new(alloc, "popbox")
         .version("0.1.0")
         .about("A POP3 server for shared maildrops")
+        .after_help("--verbose behind a command: a fault is told with what it is about")
         .subcommand_required(true)
         .arg_required_else_help(true);
     let command = add(command, replay(alloc))?;

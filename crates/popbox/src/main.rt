@@ -3,6 +3,7 @@
 
 #[cfg(test)]
 mod administration_tests;
+mod causes;
 #[cfg(test)]
 mod check_policy_tests;
 mod command_line;
@@ -10,6 +11,7 @@ mod command_line;
 mod connection_tests;
 #[cfg(test)]
 mod libraries;
+mod log;
 #[cfg(test)]
 mod office_tests;
 #[cfg(test)]
@@ -17,6 +19,7 @@ mod pipelining_tests;
 mod serve;
 #[cfg(test)]
 mod session_tests;
+mod store_file;
 #[cfg(test)]
 mod store_tests;
 #[cfg(test)]
@@ -24,13 +27,18 @@ mod tests;
 #[cfg(test)]
 mod unsound_tests;
 
+use causes::{
+    STANDARD_INPUT, Watched, is_verbose, tell_bad_line, tell_bad_policy, tell_closed_store,
+    tell_host, tell_refusal, tell_stop, tell_unread,
+};
 use clap::ArgMatches;
 use clap::error::ErrorKind;
 use command_line::make_command;
 use converse::check_policy::check_policy;
 use converse::replay::replay;
+use converse::script::{ScriptFault, read_script};
 use converse::talking::talk;
-use converse::{Fault, read_fault, tell_fault};
+use converse::{Fault, tell_fault};
 use serve::serve_over;
 use sqlite::{Alter, Connection, FileStore, Wary};
 use sqlite_disk::Disk;
@@ -42,10 +50,14 @@ use std::process::ExitCode;
 use std::rt::{Env, Files};
 use std::time::Clock;
 use std::{env, fs, io};
+use store_file::{make_file, tell_readers};
 use vault::{PlainVault, Vault};
 
 /// The exit status of a command line that can't be read.
 const UNREADABLE: u8 = 2;
+
+/// What standard error says behind why a command line can't be read.
+const VERBOSE: &str = "With '--verbose' behind a command, a fault is told with what it is about.";
 
 fn main(rt: HostRuntime) -> ExitCode {
     let mut err = rt.stderr();
@@ -79,6 +91,11 @@ fn run_words<E: Write>(rt: &HostRuntime, words: &[String], err: &mut E) -> Resul
         Err(error) if error.kind() == ErrorKind::OutOfMemory => Err(Fault::OutOfMemory),
         Err(error) => {
             error.print(rt).map_err(|_| Fault::CannotWrite)?;
+            if error.kind() != ErrorKind::DisplayHelpOnMissingArgumentOrSubcommand
+                && error.use_stderr()
+            {
+                let _ = writeln!(err, "{VERBOSE}");
+            }
             Ok(error.exit_code() as u8)
         }
     }
@@ -90,12 +107,18 @@ fn run_subcommand<E: Write>(
     matches: &ArgMatches<'_>,
     err: &mut E,
 ) -> Result<u8, Fault> {
-    match matches.subcommand() {
-        Some(("replay", options)) => run_replay(rt, options, err),
-        Some(("talk", options)) => run_talk(rt, options, err),
-        Some(("serve", options)) => run_serve(rt, options, err),
-        Some(("check-policy", options)) => run_check_policy(rt, options, err),
-        _ => Ok(UNREADABLE),
+    let Some((name, options)) = matches.subcommand() else {
+        return Ok(UNREADABLE);
+    };
+    let done = match name {
+        "replay" => run_replay(rt, options, err),
+        "talk" => run_talk(rt, options, err),
+        "serve" => run_serve(rt, options, err),
+        _ => run_check_policy(rt, options, err),
+    };
+    match done {
+        Ok(status) => Ok(status),
+        Err(fault) => Ok(tell_stop(err, options, fault)),
     }
 }
 
@@ -110,8 +133,8 @@ enum Job {
     Serve(u64, SocketAddr),
 }
 
-/// Runs `popbox replay`: the script is the file that is named, which is opened first, or standard input. Its store is the
-/// one that is named, or an empty one in memory.
+/// Runs `popbox replay`: the script is the file that is named, which is opened first, or standard
+/// input. Its store is the one that is named, or an empty one in memory.
 fn run_replay<E: Write>(
     rt: &HostRuntime,
     options: &ArgMatches<'_>,
@@ -119,11 +142,11 @@ fn run_replay<E: Write>(
 ) -> Result<u8, Fault> {
     let job = Job::Replay(options.get_one::<u64>("boot").unwrap_or(1));
     match options.get_str("SCRIPT") {
-        Some(path) => {
-            let mut file = fs::open(rt, path).map_err(|error| read_fault(&error))?;
-            run_job(rt, job, &mut file, options, err)
-        }
-        None => run_job(rt, job, &mut rt.reader(), options, err),
+        None | Some("-") => run_job(rt, job, &mut rt.reader(), options, err),
+        Some(path) => match fs::open(rt, path) {
+            Ok(mut file) => run_job(rt, job, &mut file, options, err),
+            Err(error) => Ok(tell_unread(err, is_verbose(options), path, &error)),
+        },
     }
 }
 
@@ -149,6 +172,12 @@ fn run_serve<E: Write>(
     let listen = options.get_str("listen").unwrap_or("127.0.0.1");
     let Ok(address) = listen.parse::<Ipv4Addr>() else {
         let _ = writeln!(err, "popbox: bad address");
+        if is_verbose(options) {
+            let _ = writeln!(
+                err,
+                "why: --listen {listen:?}: four numbers of 0 to 255, as 192.0.2.7"
+            );
+        }
         return Ok(1);
     };
     let port = options.get_one::<u16>("pop-port").unwrap_or(1110);
@@ -178,7 +207,7 @@ fn run_job<S: Read, E: Write>(
     }
 }
 
-/// Runs a job over the store in the file at a path.
+/// Runs a job over the store in the file at a path, which is made where there is none.
 fn run_in_file<S: Read, E: Write>(
     rt: &HostRuntime,
     job: Job,
@@ -187,12 +216,25 @@ fn run_in_file<S: Read, E: Write>(
     options: &ArgMatches<'_>,
     err: &mut E,
 ) -> Result<u8, Fault> {
-    let vault = SqlVault::open(rt, path, Wary)?;
-    run_and_close(rt, job, input, vault, options, err)
+    make_file(rt, path);
+    let fault = match SqlVault::open(rt, path, Wary) {
+        Ok(vault) => {
+            if is_verbose(options) {
+                tell_readers(rt, err, path);
+            }
+            return run_and_close(rt, job, input, vault, options, err);
+        }
+        Err(fault) => fault,
+    };
+    let status = tell_fault(err, Fault::from(fault));
+    if is_verbose(options) {
+        let _ = tell_closed_store(rt, err, path, fault);
+    }
+    Ok(status)
 }
 
-/// Runs a job over a store in a file, which is then closed. What was done is in the file or in the log beside it, so
-/// that a failure to close loses nothing.
+/// Runs a job over a store in a file, which is then closed. What was done is in the file or in the
+/// log beside it, so that a failure to close loses nothing.
 fn run_and_close<D: Disk + Drop, S: Read, E: Write>(
     rt: &HostRuntime,
     job: Job,
@@ -229,14 +271,28 @@ fn run_over<V: Vault, S: Read, E: Write>(
     err: &mut E,
 ) -> (Result<u8, Fault>, V) {
     let host = options.get_str("host").unwrap_or("localhost");
+    let is_verbose = is_verbose(options);
     match job {
+        Job::Replay(boot) if is_verbose => {
+            let name = script_name(options);
+            replay_verbosely(rt, input, name, vault, host, boot, err)
+        }
         Job::Replay(boot) => replay_over(rt, input, vault, host, boot, err),
+        Job::Talk(boot) if is_verbose => talk_verbosely(rt, input, vault, host, boot, err),
         Job::Talk(boot) => {
             let mut out = io::writer(rt);
             let (status, vault) = talk(rt.alloc(), vault, host, boot, input, &mut out, err);
             (Ok(status), vault)
         }
         Job::Serve(boot, at) => serve_over(rt, vault, host, boot, at, options, err),
+    }
+}
+
+/// What faults call the script that `popbox replay` reads.
+fn script_name<'a>(options: &ArgMatches<'a>) -> &'a str {
+    match options.get_str("SCRIPT") {
+        None | Some("-") => STANDARD_INPUT,
+        Some(path) => path,
     }
 }
 
@@ -257,15 +313,118 @@ fn replay_over<V: Vault, S: Read, E: Write>(
     (Ok(status), vault)
 }
 
-/// Runs `popbox check-policy`: prints to standard output how many rules the named file has.
+/// Does so, and tells what a fault is about, and how many events failed. The script's text is kept
+/// meanwhile.
+fn replay_verbosely<V: Vault, S: Read, E: Write>(
+    rt: &HostRuntime,
+    script: &mut S,
+    name: &str,
+    vault: V,
+    host: &str,
+    boot: u64,
+    err: &mut E,
+) -> (Result<u8, Fault>, V) {
+    let alloc: Global = rt.alloc();
+    let mut text = Vec::new(alloc);
+    if let Err(error) = script.read_to_end(&mut text) {
+        return (Ok(tell_unread(err, true, name, &error)), vault);
+    }
+    let Ok(mut out) = BufWriter::new(alloc, io::writer(rt)) else {
+        return (Err(Fault::OutOfMemory), vault);
+    };
+    let mut out = Watched::new(&mut out);
+    let mut rest = text.as_slice();
+    let (status, vault) = replay(alloc, &mut rest, vault, host, boot, &mut out, err);
+    if status != 0 {
+        tell_script(alloc, err, name, text.as_slice());
+        tell_host(err, host);
+        tell_refusal(err, "standard output", out.refusal());
+    }
+    if out.failed() > 0 {
+        let _ = writeln!(
+            err,
+            "note: {name}: {} events failed, which the store refused",
+            out.failed()
+        );
+    }
+    (Ok(status), vault)
+}
+
+/// Tells why a text is no script, where it is none.
+fn tell_script<E: Write>(alloc: Global, err: &mut E, name: &str, text: &[u8]) {
+    let Err(ScriptFault::BadEvent(number)) = read_script(alloc, text) else {
+        return;
+    };
+    let at = usize::try_from(number)
+        .unwrap_or(usize::MAX)
+        .saturating_sub(1);
+    if let Some(line) = text.split(|octet| *octet == b'\n').nth(at) {
+        let _ = tell_bad_line(alloc, err, name, number, line);
+    }
+}
+
+/// Has one conversation over a vault, on standard output, and tells what a fault is about. Gives
+/// the vault back.
+fn talk_verbosely<V: Vault, S: Read, E: Write>(
+    rt: &HostRuntime,
+    input: &mut S,
+    vault: V,
+    host: &str,
+    boot: u64,
+    err: &mut E,
+) -> (Result<u8, Fault>, V) {
+    let mut out = io::writer(rt);
+    let (mut input, mut out) = (Watched::new(input), Watched::new(&mut out));
+    let (status, vault) = talk(rt.alloc(), vault, host, boot, &mut input, &mut out, err);
+    if status != 0 {
+        tell_host(err, host);
+        tell_refusal(err, STANDARD_INPUT, input.refusal());
+        tell_refusal(err, "standard output", out.refusal());
+    }
+    (Ok(status), vault)
+}
+
+/// Runs `popbox check-policy`: prints to standard output how many rules the policy of the named
+/// file, or of standard input, has.
 fn run_check_policy<E: Write>(
     rt: &HostRuntime,
     options: &ArgMatches<'_>,
     err: &mut E,
 ) -> Result<u8, Fault> {
-    let alloc: Global = rt.alloc();
+    let is_verbose = is_verbose(options);
     let path = options.get_str("FILE").unwrap_or("");
-    let mut file = fs::open(rt, path).map_err(|error| read_fault(&error))?;
+    if path == "-" {
+        return check_input(rt, &mut rt.reader(), STANDARD_INPUT, is_verbose, err);
+    }
+    match fs::open(rt, path) {
+        Ok(mut file) => check_input(rt, &mut file, path, is_verbose, err),
+        Err(error) => Ok(tell_unread(err, is_verbose, path, &error)),
+    }
+}
+
+/// Checks the policy of an input.
+fn check_input<S: Read, E: Write>(
+    rt: &HostRuntime,
+    input: &mut S,
+    name: &str,
+    is_verbose: bool,
+    err: &mut E,
+) -> Result<u8, Fault> {
+    let alloc: Global = rt.alloc();
     let mut out = BufWriter::new(alloc, io::writer(rt)).map_err(|_| Fault::OutOfMemory)?;
-    Ok(check_policy(alloc, &mut file, &mut out, err))
+    if !is_verbose {
+        return Ok(check_policy(alloc, input, &mut out, err));
+    }
+    let mut text = Vec::new(alloc);
+    if let Err(error) = input.read_to_end(&mut text) {
+        return Ok(tell_unread(err, true, name, &error));
+    }
+    let mut out = Watched::new(&mut out);
+    let mut rest = text.as_slice();
+    let status = check_policy(alloc, &mut rest, &mut out, err);
+    if status != 0 {
+        let _ = tell_bad_policy(alloc, err, name, text.as_slice());
+        tell_refusal(err, "standard output", out.refusal());
+    }
+    Ok(status)
 }

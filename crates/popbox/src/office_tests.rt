@@ -1,5 +1,5 @@
-//! Tests of the office itself, of what no clause says: that the calls which may want memory succeed where there is
-//! enough, and what is then said.
+//! Tests of the office itself, of what no clause says: that the calls which may want memory succeed
+//! where there is enough, and what is then said.
 
 use converse::replay::tell;
 use office::{Event, Limits, Office, OpenFault, RunFault, Step, Transcript};
@@ -75,7 +75,8 @@ fn limits_of_idle_seconds(rt: HostRuntime) {
     assert!(rt; Limits::new(599).is_none() && Limits::new(86_401).is_none());
 }
 
-/// The greeting, taken whole, and the reply to QUIT, taken in two pieces: of each step its octets, and what is told of it.
+/// The greeting, taken whole, and the reply to QUIT, taken in two pieces: of each step its octets,
+/// and what is told of it.
 static TAKEN: &str = "opened 1
 +OK POP3 server ready <1.7@h.test>\r
 done

@@ -1,8 +1,10 @@
 //! `popbox serve`: clients over the network.
+use crate::causes::is_verbose;
+use crate::log::{Journal, LoggedSpool, LoggedVault, LoggedWire, note_end, note_start};
 use clap::ArgMatches;
 use converse::Fault;
 use office::{Limits, Office};
-use serving::{FolderSpool, SocketWire, begin, serve_turn};
+use serving::{FolderSpool, SocketWire, Wire, begin, serve_turn};
 use std::io;
 use std::io::Write;
 use std::net::{Ipv4Addr, SocketAddr};
@@ -23,19 +25,28 @@ pub fn serve_over<V: Vault, E: Write>(
     let Some(limits) = Limits::new(idle) else {
         return (Ok(2), vault);
     };
+    let journal = Journal::new(rt, options.get_flag("log"));
+    let vault = LoggedVault::new(vault, journal);
     match Office::open(rt.alloc(), vault, host, boot, limits) {
-        Err((fault, vault)) => (Err(Fault::from(fault)), vault),
+        Err((fault, vault)) => (Err(Fault::from(fault)), vault.into_vault()),
         Ok(mut office) => {
-            let served = serve(rt, &mut office, at, options, err);
-            (served, office.into_vault())
+            let served = serve(rt, &mut office, at, options, journal, err);
+            (served, office.into_vault().into_vault())
         }
     }
 }
 
-/// Listens for clients at an address, and for the administration at a port of 127.0.0.1. Tells both ports.
-fn listen(rt: &HostRuntime, at: SocketAddr, admin: u16) -> io::Result<(SocketWire, u16, u16)> {
-    let (mut wire, port) = SocketWire::bind(rt, rt.alloc(), at)?;
-    let admin_port = wire.bind_admin(rt, SocketAddr::from((Ipv4Addr::LOCALHOST, admin)))?;
+/// Listens for clients at an address, and for the administration at a port of 127.0.0.1. Tells both
+/// ports, or where the system refused to listen, and why.
+fn listen(
+    rt: &HostRuntime,
+    at: SocketAddr,
+    admin: u16,
+) -> Result<(SocketWire, u16, u16), (SocketAddr, io::Error)> {
+    let (mut wire, port) = SocketWire::bind(rt, rt.alloc(), at).map_err(|error| (at, error))?;
+    let admin_at = SocketAddr::from((Ipv4Addr::LOCALHOST, admin));
+    let bound = wire.bind_admin(rt, admin_at);
+    let admin_port = bound.map_err(|error| (admin_at, error))?;
     Ok((wire, port, admin_port))
 }
 
@@ -45,17 +56,46 @@ fn serve<V: Vault, E: Write>(
     office: &mut Office<V>,
     at: SocketAddr,
     options: &ArgMatches<'_>,
+    journal: Journal<'_>,
     err: &mut E,
 ) -> Result<u8, Fault> {
     let admin = options.get_one::<u16>("admin-port").unwrap_or(1111);
-    let Ok((mut wire, port, admin_port)) = listen(rt, at, admin) else {
-        let _ = writeln!(err, "popbox: cannot listen");
-        return Ok(1);
+    let (wire, port, admin_port) = match listen(rt, at, admin) {
+        Ok(listening) => listening,
+        Err((at, error)) => {
+            let _ = writeln!(err, "popbox: cannot listen");
+            if is_verbose(options) {
+                let _ = writeln!(err, "why: {at}: {error}");
+            }
+            return Ok(1);
+        }
     };
     let mut out = io::writer(rt);
     writeln!(out, "pop on {}:{}", at.ip(), port).map_err(|_| Fault::CannotWrite)?;
     writeln!(out, "admin on 127.0.0.1:{admin_port}").map_err(|_| Fault::CannotWrite)?;
-    let mut spool = FolderSpool::new(rt, rt.alloc(), options.get_str("spool").unwrap_or(""));
+    let pop = SocketAddr::from((at.ip(), port));
+    note_start(
+        &journal,
+        rt,
+        pop,
+        admin_port,
+        options.get_str("store").unwrap_or(""),
+    );
+    let served = serve_turns(rt, office, LoggedWire::new(wire, journal), options, journal);
+    note_end(&journal);
+    served
+}
+
+/// Serves a wire, and the spool that is named, until so many turns are over.
+fn serve_turns<V: Vault, W: Wire + Drop>(
+    rt: &HostRuntime,
+    office: &mut Office<V>,
+    mut wire: W,
+    options: &ArgMatches<'_>,
+    journal: Journal<'_>,
+) -> Result<u8, Fault> {
+    let folder = FolderSpool::new(rt, rt.alloc(), options.get_str("spool").unwrap_or(""));
+    let mut spool = LoggedSpool::new(folder, journal);
     let mut links = begin(rt.alloc(), office, &wire, &spool);
     let Ok(start) = Instant::now(rt) else {
         return Err(Fault::NoClock);

@@ -1,4 +1,5 @@
-//! Tests of stores that are closed and opened again, of those that aren't adopted, and of what a conversation tells.
+//! Tests of stores that are closed and opened again, of those that aren't adopted, and of what a
+//! conversation tells.
 ghost use Rattle.std.specs.Prelude.{IsTrue, IfOk};
 ghost use Rattle.sqlite_disk.specs.Memory.{memory_is_usable};
 
@@ -43,7 +44,8 @@ pub fn adopted<S: Alter + Drop>(
     }
 }
 
-/// Runs a transcript's script over a connection's store, expects what is printed of it, and gives the connection back.
+/// Runs a transcript's script over a connection's store, expects what is printed of it, and gives
+/// the connection back.
 fn played<S: Alter + Drop>(
     alloc: Global,
     conn: Connection<S>,
@@ -138,9 +140,9 @@ pub fn is_refused(
     }
 }
 
-/// A store of other tables, one with the table of marks alone and the mark of the first version, which had other tables, a
-/// store of ours with another mark, and one with a transaction under way: whether it is ours before these statements, and
-/// the fault with its name.
+/// A store of other tables, one with the table of marks alone and the mark of the first version,
+/// which had other tables, a store of ours with another mark, and one with a transaction under way:
+/// whether it is ours before these statements, and the fault with its name.
 static OTHERS: [(bool, &str, VaultFault, &str); 4] = [
     (
         false,

@@ -1,0 +1,215 @@
+//! Why a store can't be opened: its file is looked at again.
+
+use mailsql::meta::{all_marks, find_mark};
+use mailsql::schema::has_marks;
+use sqlite::{Alter, Connection, MemStore, Wary};
+use sqlite_schema::names::same_name;
+use sqlite_schema::schema::{Column, Schema, Table};
+use sqlite_std_file::OpenError;
+use sqlvault::SqlVault;
+use std::alloc::Global;
+use std::io::{ErrorKind, Write};
+use std::{io, str};
+use vault::VaultFault;
+
+/// The version of the stores that this popbox makes, and the oldest that it carries over.
+const NEWEST: i64 = 3;
+
+const OLDEST: i64 = 2;
+
+/// Tells why the store at a path was refused with a fault.
+pub fn tell_closed_store<E: Write>(
+    rt: &HostRuntime,
+    err: &mut E,
+    path: &str,
+    fault: VaultFault,
+) -> io::Result<()> {
+    if path == ":memory:" || path.starts_with("file:") {
+        return writeln!(
+            err,
+            "why: {path}: this is no file's path, but a form of SQLite's own"
+        );
+    }
+    match sqlite_std_file::open(rt, path, Wary) {
+        Ok(_) => {}
+        Err(OpenError::Busy) => {
+            return writeln!(
+                err,
+                "why: {path}: another process has it open, popbox or sqlite3"
+            );
+        }
+        Err(OpenError::Io(error)) if error.kind() == ErrorKind::Unsupported => {
+            return writeln!(err, "why: {path}: it is no file, or a file of two names");
+        }
+        Err(error) => return writeln!(err, "why: {path}: {error}"),
+    }
+    match Connection::open_from(rt, path, false, Wary) {
+        Ok(mut conn) => {
+            write!(err, "why: {path}: ")?;
+            tell_tables(rt.alloc(), err, &mut conn, fault)
+        }
+        Err((error, _)) => writeln!(err, "why: {path}: {error}"),
+    }
+}
+
+/// Tells what is in the way in a database that can be opened.
+fn tell_tables<S: Alter, E: Write>(
+    alloc: Global,
+    err: &mut E,
+    conn: &mut Connection<S>,
+    fault: VaultFault,
+) -> io::Result<()> {
+    match fault {
+        VaultFault::OldVersion => tell_version(alloc, err, conn),
+        VaultFault::NotOurs if has_marks(conn) => tell_marks(alloc, err, conn),
+        VaultFault::NotOurs => {
+            let ours = SqlVault::in_memory(alloc);
+            match ours {
+                Ok(ours) => tell_taken(err, conn.schema(), ours.into_connection().schema()),
+                Err(_) => writeln!(err, "it isn't popbox's"),
+            }
+        }
+        _ => writeln!(
+            err,
+            "it can be opened, but its disk refused a part, or is full"
+        ),
+    }
+}
+
+/// Tells the version of a store of another version.
+fn tell_version<S: Alter, E: Write>(
+    alloc: Global,
+    err: &mut E,
+    conn: &mut Connection<S>,
+) -> io::Result<()> {
+    match find_mark(alloc, conn, b"popbox") {
+        Ok(Some(mark)) if mark.value > NEWEST => {
+            let found = mark.value;
+            writeln!(
+                err,
+                "a store of version {found}, newer than {NEWEST}, which this popbox makes"
+            )
+        }
+        Ok(Some(mark)) => {
+            let found = mark.value;
+            writeln!(
+                err,
+                "a store of version {found}, older than {OLDEST}, which this popbox carries over"
+            )
+        }
+        Ok(None) => writeln!(err, "a store without a version"),
+        Err(error) => writeln!(err, "{error}"),
+    }
+}
+
+/// Tells the first table, index or view that has the name of a table of ours, in a database without
+/// our marks.
+fn tell_taken<E: Write>(err: &mut E, schema: &Schema, ours: &Schema) -> io::Result<()> {
+    let mut tables = schema.tables.as_slice().iter();
+    if let Some(table) = tables.find(|table| is_our_name(table.name.as_slice(), ours)) {
+        return tell_object(err, "table", table.name.as_slice());
+    }
+    let mut indexes = schema.indexes.as_slice().iter();
+    if let Some(index) = indexes.find(|index| is_our_name(index.name.as_slice(), ours)) {
+        return tell_object(err, "index", index.name.as_slice());
+    }
+    let mut views = schema.views.as_slice().iter();
+    match views.find(|view| is_our_name(view.name.as_slice(), ours)) {
+        Some(view) => tell_object(err, "view or table", view.name.as_slice()),
+        None => writeln!(err, "it isn't popbox's"),
+    }
+}
+
+/// Whether a name is that of a table of ours, of any version.
+fn is_our_name(name: &[u8], ours: &Schema) -> bool {
+    same_name(name, b"messages")
+        || ours
+            .tables
+            .as_slice()
+            .iter()
+            .any(|table| same_name(table.name.as_slice(), name))
+}
+
+/// Tells that an object has one of our names, and isn't ours.
+fn tell_object<E: Write>(err: &mut E, kind: &str, name: &[u8]) -> io::Result<()> {
+    let name = str::from_utf8(name).unwrap_or("?");
+    writeln!(
+        err,
+        "its {kind} `{name}` isn't popbox's, and popbox needs the name"
+    )
+}
+
+/// Tells what is in the way in a database with our table of marks.
+fn tell_marks<S: Alter, E: Write>(
+    alloc: Global,
+    err: &mut E,
+    conn: &mut Connection<S>,
+) -> io::Result<()> {
+    let version = match find_mark(alloc, conn, b"popbox") {
+        Ok(Some(mark)) => mark.value,
+        Ok(None) => return writeln!(err, "its table `meta` has no row `popbox`"),
+        Err(error) => return writeln!(err, "{error}"),
+    };
+    match all_marks(alloc, conn) {
+        Ok(marks) if marks.len() == 1 => {}
+        Ok(_) => return writeln!(err, "its table `meta` has a row that isn't popbox's"),
+        Err(error) => return writeln!(err, "{error}"),
+    }
+    match SqlVault::<MemStore>::in_memory(alloc) {
+        Ok(ours) => tell_other(err, conn.schema(), ours.into_connection().schema(), version),
+        Err(_) => writeln!(err, "its tables or their rows aren't popbox's"),
+    }
+}
+
+/// Tells the first table of ours that is missing, or has other columns or keys; else that it is a
+/// row.
+fn tell_other<E: Write>(
+    err: &mut E,
+    schema: &Schema,
+    ours: &Schema,
+    version: i64,
+) -> io::Result<()> {
+    for our in ours.tables.as_slice().iter() {
+        if !is_there(schema, our) && (version == NEWEST || !is_of_groups(our)) {
+            let name = str::from_utf8(our.name.as_slice()).unwrap_or("?");
+            return writeln!(
+                err,
+                "its table `{name}` is missing, or has other columns or keys than popbox's"
+            );
+        }
+    }
+    writeln!(
+        err,
+        "its tables are popbox's, but a row in them is no sound record"
+    )
+}
+
+/// Whether a table of ours holds groups, which a store of version 2 hasn't.
+fn is_of_groups(our: &Table) -> bool {
+    our.name.as_slice() == b"groups".as_slice() || our.name.as_slice() == b"members".as_slice()
+}
+
+/// Whether a schema has a table of ours, with the same columns and keys.
+fn is_there(schema: &Schema, our: &Table) -> bool {
+    schema.tables.as_slice().iter().any(|table| {
+        table.name.as_slice() == our.name.as_slice()
+            && have_same_columns(table.columns.as_slice(), our.columns.as_slice())
+            && table.primary.as_slice() == our.primary.as_slice()
+            && our.uniques.as_slice().iter().all(|key| table
+                .uniques
+                .as_slice()
+                .iter()
+                .any(|it| it.as_slice() == key.as_slice()))
+    })
+}
+
+/// Whether two lists of columns are alike in names, kinds and what may be NULL.
+fn have_same_columns(columns: &[Column], ours: &[Column]) -> bool {
+    columns.len() == ours.len()
+        && columns.iter().zip(ours.iter()).all(|(column, our)| {
+            column.name.as_slice() == our.name.as_slice()
+                && column.kind == our.kind
+                && column.is_strict == our.is_strict
+                && column.not_null == our.not_null
+        })
+}

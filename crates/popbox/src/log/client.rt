@@ -1,0 +1,313 @@
+//! What a mail program's connection tells: its logins and its end.
+use super::journal::{Journal, quoted};
+use super::line::Line;
+use creds::LoginName;
+use popline::{Command, Cut, Cutter, Keyword, LineFault};
+use serving::Link;
+use std::alloc::{AllocError, Global};
+use std::collections::VecDeque;
+
+/// What a line asked for, as far as the log tells of it.
+#[derive(Clone, Copy)]
+enum Asked {
+    /// Nothing: the server speaks first.
+    Greeting,
+    /// USER with a name.
+    User(LoginName),
+    /// PASS.
+    Pass,
+    /// APOP with a name.
+    Apop(LoginName),
+    /// USER or APOP with what is no name.
+    NoName,
+    /// DELE.
+    Dele,
+    /// RSET.
+    Rset,
+    /// QUIT.
+    Quit,
+    /// What is answered by more lines than one, where it isn't refused.
+    Lines,
+    /// Anything else.
+    Other,
+}
+
+/// What a command asked for.
+fn asked_by(command: &Command<'_>) -> Asked {
+    match command {
+        Command::User(name) => Asked::User(*name),
+        Command::Pass(_) => Asked::Pass,
+        Command::Apop(name, _) => Asked::Apop(*name),
+        Command::Dele(_) => Asked::Dele,
+        Command::Rset => Asked::Rset,
+        Command::Quit => Asked::Quit,
+        Command::Capa | Command::Retr(_) | Command::Top(_, _) => Asked::Lines,
+        Command::List(None) | Command::Uidl(None) => Asked::Lines,
+        _ => Asked::Other,
+    }
+}
+
+/// What a line asked for.
+fn asked_in(line: &[u8]) -> Asked {
+    match Command::read(line) {
+        Ok(command) => asked_by(&command),
+        Err(LineFault::Syntax(Keyword::Pass)) => Asked::Pass,
+        Err(LineFault::Syntax(Keyword::User | Keyword::Apop)) => Asked::NoName,
+        Err(_) => Asked::Other,
+    }
+}
+
+/// What a line asked for. One that is too long is no command.
+fn asked_by_line(line: &Line) -> Asked {
+    if line.is_full() {
+        return Asked::Other;
+    }
+    asked_in(line.text())
+}
+
+/// Whether a reply says that what was asked for is done.
+fn is_done(reply: &[u8]) -> bool {
+    reply.starts_with(b"+OK")
+}
+
+/// What a reply says behind its first word.
+fn words_of(reply: &[u8]) -> &[u8] {
+    match reply {
+        [b'+', b'O', b'K', b' ', words @ ..] => words,
+        [b'-', b'E', b'R', b'R', b' ', words @ ..] => words,
+        _ => reply,
+    }
+}
+
+/// The digits behind the first `<`: the number of the connection, in a greeting.
+fn number_in(greeting: &[u8]) -> &[u8] {
+    let Some(at) = greeting.iter().position(|b| *b == b'<') else {
+        return &[];
+    };
+    let rest = &greeting[at + 1..];
+    match rest.iter().position(|b| !b.is_ascii_digit()) {
+        Some(end) => &rest[..end],
+        None => rest,
+    }
+}
+
+/// What was said on a connection so far.
+#[derive(Drop)]
+struct Talk {
+    /// The client's address, behind the connection's number where it was greeted.
+    who: String,
+    /// What was asked for and isn't answered yet, the oldest first.
+    asked: VecDeque<Asked>,
+    /// A reply goes on, up to a line of one dot.
+    is_listing: bool,
+    /// The name that USER gave.
+    user: Option<LoginName>,
+    /// Who has logged in.
+    session: Option<LoginName>,
+    /// How many messages are marked.
+    marked: u64,
+    has_quit: bool,
+    /// Memory was wanting, and which reply is to what isn't known any more.
+    is_lost: bool,
+}
+
+impl Talk {
+    /// The client connected, and will be greeted.
+    fn new(alloc: Global, who: String) -> Result<Talk, AllocError> {
+        let mut asked = VecDeque::new(alloc);
+        asked.push_back(Asked::Greeting)?;
+        Ok(Talk {
+            who,
+            asked,
+            is_listing: false,
+            user: None,
+            session: None,
+            marked: 0,
+            has_quit: false,
+            is_lost: false,
+        })
+    }
+
+    /// Keeps what a line asked for.
+    fn ask(&mut self, asked: Asked) {
+        if self.asked.push_back(asked).is_err() {
+            self.is_lost = true;
+        }
+    }
+
+    /// Takes a line that the client was sent.
+    fn hear_reply(&mut self, journal: &Journal<'_>, line: &[u8]) {
+        if self.is_lost {
+            return;
+        }
+        if self.is_listing {
+            self.is_listing = line != b".".as_slice();
+        } else if let Some(asked) = self.asked.pop_front() {
+            self.take_reply(journal, asked, line);
+        }
+    }
+
+    /// Notes what the first line of a reply tells.
+    fn take_reply(&mut self, journal: &Journal<'_>, asked: Asked, reply: &[u8]) {
+        match asked {
+            Asked::Greeting => self.greet(journal, reply),
+            Asked::User(name) if is_done(reply) => self.user = Some(name),
+            Asked::Pass => self.check_password(journal, reply),
+            Asked::Apop(name) => self.log_in(journal, name, "apop", reply),
+            Asked::NoName if self.session.is_none() => {
+                journal.note(self.nameless(journal.alloc(), reply));
+            }
+            Asked::Dele if is_done(reply) => self.marked = self.marked.saturating_add(1),
+            Asked::Rset if is_done(reply) => self.marked = 0,
+            Asked::Lines => self.is_listing = is_done(reply),
+            Asked::Quit => self.quit(journal, reply),
+            _ => {}
+        }
+    }
+
+    /// Notes a connection.
+    fn greet(&mut self, journal: &Journal<'_>, reply: &[u8]) {
+        let number = str::from_utf8(number_in(reply)).unwrap_or("");
+        let who = format!(in journal.alloc(); "connection={number} {}", self.who);
+        if let Ok(who) = who {
+            self.who = who;
+        }
+        journal.note(format!(in journal.alloc(); "event=connect {}", self.who));
+    }
+
+    /// Notes a login by PASS, where a name was given.
+    fn check_password(&mut self, journal: &Journal<'_>, reply: &[u8]) {
+        if let Some(name) = self.user {
+            self.log_in(journal, name, "pass", reply);
+        }
+    }
+
+    /// Notes a login.
+    fn log_in(&mut self, journal: &Journal<'_>, name: LoginName, by: &str, reply: &[u8]) {
+        if self.session.is_some() {
+            return;
+        }
+        if is_done(reply) {
+            self.session = Some(name);
+        }
+        journal.note(self.login(journal.alloc(), &name, by, reply));
+    }
+
+    /// The line of a login.
+    fn login(
+        &self,
+        alloc: Global,
+        name: &LoginName,
+        by: &str,
+        reply: &[u8],
+    ) -> Result<String, AllocError> {
+        let clerk = name.clerk;
+        let maildrop = name.maildrop;
+        let outcome = outcome(alloc, reply)?;
+        format!(in alloc;
+            "event=login {} clerk={clerk} maildrop={maildrop} by={by} {outcome}",
+            self.who
+        )
+    }
+
+    /// The line of a login without a name of the form.
+    fn nameless(&self, alloc: Global, reply: &[u8]) -> Result<String, AllocError> {
+        let outcome = outcome(alloc, reply)?;
+        format!(in alloc; "event=login {} {outcome}", self.who)
+    }
+
+    /// Notes a QUIT.
+    fn quit(&mut self, journal: &Journal<'_>, reply: &[u8]) {
+        self.has_quit = true;
+        journal.note(self.farewell(journal.alloc(), reply));
+    }
+
+    /// The line of a QUIT.
+    fn farewell(&self, alloc: Global, reply: &[u8]) -> Result<String, AllocError> {
+        let session = self.holder(alloc)?;
+        let answer = quoted(alloc, words_of(reply))?;
+        format!(in alloc; "event=quit {}{session} answer={answer}", self.who)
+    }
+
+    /// Who has logged in, and how many messages are marked.
+    fn holder(&self, alloc: Global) -> Result<String, AllocError> {
+        let marked = self.marked;
+        match &self.session {
+            Some(name) => format!(in alloc;
+                " clerk={} maildrop={} marked={marked}",
+                name.clerk, name.maildrop
+            ),
+            None => Ok(String::new(alloc)),
+        }
+    }
+
+    /// The line of an end without a QUIT.
+    fn loss(&self, alloc: Global) -> Result<String, AllocError> {
+        let session = self.holder(alloc)?;
+        format!(in alloc; "event=closed {}{session}", self.who)
+    }
+}
+
+/// Whether a reply accepts a login, or why not.
+fn outcome(alloc: Global, reply: &[u8]) -> Result<String, AllocError> {
+    if is_done(reply) {
+        return String::from_str(alloc, "answer=accepted");
+    }
+    let reason = quoted(alloc, words_of(reply))?;
+    format!(in alloc; "answer=refused reason={reason}")
+}
+
+/// A mail program's connection, as its link shows it.
+#[derive(Drop)]
+pub struct Client {
+    pub link: Link,
+    line: Line,
+    reply: Cutter,
+    talk: Talk,
+}
+
+impl Client {
+    /// The client at a link, with its address.
+    pub fn new(alloc: Global, link: Link, address: &str) -> Result<Client, AllocError> {
+        let who = format!(in alloc; "client={address}")?;
+        Ok(Client {
+            link,
+            line: Line::new(),
+            reply: Cutter::new(),
+            talk: Talk::new(alloc, who)?,
+        })
+    }
+
+    /// Takes octets that the client sent.
+    pub fn hear(&mut self, octets: &[u8]) {
+        for octet in octets {
+            if *octet == b'\n' {
+                self.talk.ask(asked_by_line(&self.line));
+                self.line = Line::new();
+            } else {
+                self.line.put(*octet);
+            }
+        }
+    }
+
+    /// Takes octets that the client was sent.
+    pub fn say(&mut self, journal: &Journal<'_>, octets: &[u8]) {
+        let mut rest = octets;
+        for _ in 0..octets.len() {
+            let taken = self.reply.feed(rest);
+            rest = &rest[taken..];
+            match self.reply.line() {
+                Some(Cut::Line(line)) => self.talk.hear_reply(journal, line),
+                Some(Cut::TooLong) => {}
+                None => return,
+            }
+        }
+    }
+
+    /// Notes the end, where no QUIT told of it.
+    pub fn close(&self, journal: &Journal<'_>) {
+        if !self.talk.has_quit {
+            journal.note(self.talk.loss(journal.alloc()));
+        }
+    }
+}

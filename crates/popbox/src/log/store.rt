@@ -1,0 +1,234 @@
+//! A vault whose deposits, removals and refusals are noted.
+ghost use Rattle.std.specs.Prelude.{◌≡◌};
+
+use super::journal::{Journal, Told};
+use creds::{Credential, DepositId, Name};
+use mailtext::MailText;
+use policy::Policy;
+use std::alloc::{AllocError, Global};
+use vault::{Deposited, Head, MessageKey, Total, Vault, VaultFault};
+
+/// A vault that does what the one inside does, and notes each deposit and removal with its answer,
+/// and each refusal of the store or of memory with its cause.
+#[derive(Drop)]
+pub struct LoggedVault<'a, V: Vault> {
+    pub vault: V,
+    pub journal: Journal<'a>,
+    pub told: Told,
+}
+
+/// Whether a fault is a refusal of the store or of memory, and not an answer.
+fn is_refusal(fault: VaultFault) -> bool {
+    matches!(
+        fault,
+        VaultFault::Store | VaultFault::NoMemory | VaultFault::NotOurs | VaultFault::OldVersion
+    )
+}
+
+/// The line of a refusal.
+fn refusal(alloc: Global, call: &str, fault: VaultFault) -> Result<String, AllocError> {
+    format!(in alloc; "event=refused call={call} cause=\"{fault}\"")
+}
+
+/// Hands an answer on, and notes a refusal.
+fn told<T>(
+    journal: &Journal<'_>,
+    call: &str,
+    answer: Result<T, VaultFault>,
+) -> Result<T, VaultFault>
+    ensures { result ≡ answer }
+{
+    match answer {
+        Ok(value) => Ok(value),
+        Err(fault) => {
+            if journal.is_on() && is_refusal(fault) {
+                journal.note(refusal(journal.alloc(), call, fault));
+            }
+            Err(fault)
+        }
+    }
+}
+
+/// What became of a deposit.
+fn answer_text(
+    answer: &Result<Deposited, VaultFault>,
+    alloc: Global,
+) -> Result<String, AllocError> {
+    match answer {
+        Ok(Deposited::New(uid)) => format!(in alloc; "answer=new uid={uid}"),
+        Ok(Deposited::Known(uid)) => format!(in alloc; "answer=known uid={uid}"),
+        Err(fault) => format!(in alloc; "answer=\"{fault}\""),
+    }
+}
+
+/// The line of a deposit, by the file that it came in.
+fn deposit_text(
+    alloc: Global,
+    maildrop: &Name,
+    class: &Name,
+    id: &DepositId,
+    answer: &Result<Deposited, VaultFault>,
+) -> Result<String, AllocError> {
+    let answer = answer_text(answer, alloc)?;
+    format!(in alloc; "event=deposit file={maildrop}.{class}.{id}.eml {answer}")
+}
+
+/// The line of a removal.
+fn removal_text(
+    alloc: Global,
+    maildrop: &Name,
+    messages: usize,
+    answer: &Result<(), VaultFault>,
+) -> Result<String, AllocError> {
+    match answer {
+        Ok(()) => format!(in alloc;
+            "event=remove maildrop={maildrop} messages={messages} answer=done"
+        ),
+        Err(fault) => format!(in alloc;
+            "event=remove maildrop={maildrop} messages={messages} answer=\"{fault}\""
+        ),
+    }
+}
+
+/// Whether a deposit's answer may come again each second, while its file stays where it is.
+fn comes_again(answer: &Result<Deposited, VaultFault>) -> bool {
+    !matches!(answer, Ok(Deposited::New(_)) | Err(VaultFault::Conflict))
+}
+
+/// Notes a deposit. What may come again each second is told once.
+fn note_deposit(
+    journal: Journal<'_>,
+    told: &mut Told,
+    maildrop: &Name,
+    class: &Name,
+    id: &DepositId,
+    answer: &Result<Deposited, VaultFault>,
+) {
+    if !journal.is_on() {
+        return;
+    }
+    let text = deposit_text(journal.alloc(), maildrop, class, id, answer);
+    if comes_again(answer) {
+        told.note_once(&journal, text);
+    } else {
+        journal.note(text);
+    }
+}
+
+/// Notes a removal.
+fn note_removal(
+    journal: Journal<'_>,
+    maildrop: &Name,
+    messages: usize,
+    answer: &Result<(), VaultFault>,
+) {
+    if journal.is_on() {
+        journal.note(removal_text(journal.alloc(), maildrop, messages, answer));
+    }
+}
+
+impl<'a, V: Vault> LoggedVault<'a, V> {
+    /// A vault around this one.
+    pub fn new(vault: V, journal: Journal<'a>) -> LoggedVault<'a, V> {
+        LoggedVault {
+            vault,
+            journal,
+            told: Told::new(journal.alloc()),
+        }
+    }
+
+    /// The vault inside.
+    pub fn into_vault(self) -> V {
+        let LoggedVault {
+            vault,
+            journal: _,
+            told: _,
+        } = self;
+        vault
+    }
+}
+
+/// Each call as in the vault inside.
+impl<V: Vault> Vault for LoggedVault<'_, V> {
+    ghost holds = { λ r. V.holds r.vault };
+
+    ghost faults = { λ r. V.faults r.vault };
+
+    ghost is_clean = { λ r. V.is_clean r.vault };
+
+    ghost is_up = { λ r. V.is_up r.vault };
+
+    ghost may_leave = { λ r. V.may_leave r.vault };
+
+    ghost sound = { λ r. V.sound r.vault };
+
+    ghost settled = { λ r. V.settled r.vault };
+
+    fn deposit(
+        &mut self,
+        maildrop: &Name,
+        class: &Name,
+        id: &DepositId,
+        text: &MailText,
+    ) -> Result<Deposited, VaultFault> {
+        let answer = self.vault.deposit(maildrop, class, id, text);
+        note_deposit(self.journal, &mut self.told, maildrop, class, id, &answer);
+        answer
+    }
+
+    fn remove(&mut self, maildrop: &Name, keys: &[MessageKey]) -> Result<(), VaultFault> {
+        let answer = self.vault.remove(maildrop, keys);
+        note_removal(self.journal, maildrop, keys.len(), &answer);
+        answer
+    }
+
+    fn page(&mut self, key: MessageKey, from: u64, buffer: &mut [u8]) -> Result<usize, VaultFault> {
+        let answer = self.vault.page(key, from, buffer);
+        told(&self.journal, "page", answer)
+    }
+
+    fn heads(&mut self, maildrop: &Name) -> Result<Vec<Head>, VaultFault> {
+        let answer = self.vault.heads(maildrop);
+        told(&self.journal, "heads", answer)
+    }
+
+    fn maildrops(&mut self) -> Result<Vec<Total>, VaultFault> {
+        let answer = self.vault.maildrops();
+        told(&self.journal, "maildrops", answer)
+    }
+
+    fn credential(&mut self, clerk: &Name) -> Result<Option<Credential>, VaultFault> {
+        let answer = self.vault.credential(clerk);
+        told(&self.journal, "credential", answer)
+    }
+
+    fn put_clerk(&mut self, clerk: &Name, credential: &Credential) -> Result<bool, VaultFault> {
+        let answer = self.vault.put_clerk(clerk, credential);
+        told(&self.journal, "put_clerk", answer)
+    }
+
+    fn drop_clerk(&mut self, clerk: &Name) -> Result<(), VaultFault> {
+        let answer = self.vault.drop_clerk(clerk);
+        told(&self.journal, "drop_clerk", answer)
+    }
+
+    fn add_maildrop(&mut self, maildrop: &Name) -> Result<bool, VaultFault> {
+        let answer = self.vault.add_maildrop(maildrop);
+        told(&self.journal, "add_maildrop", answer)
+    }
+
+    fn drop_maildrop(&mut self, maildrop: &Name) -> Result<(), VaultFault> {
+        let answer = self.vault.drop_maildrop(maildrop);
+        told(&self.journal, "drop_maildrop", answer)
+    }
+
+    fn policy(&mut self) -> Result<Policy, VaultFault> {
+        let answer = self.vault.policy();
+        told(&self.journal, "policy", answer)
+    }
+
+    fn set_policy(&mut self, policy: &Policy) -> Result<(), VaultFault> {
+        let answer = self.vault.set_policy(policy);
+        told(&self.journal, "set_policy", answer)
+    }
+}

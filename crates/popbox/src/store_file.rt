@@ -1,0 +1,52 @@
+//! The file of a store: who may read it.
+
+use std::fs;
+use std::fs::OpenOptions;
+use std::io::Write;
+use std::os::unix::fs::{MetadataExt, OpenOptionsExt};
+
+/// Reading and writing for the owner, nothing for others.
+const OWNER_ALONE: u32 = 0o600;
+
+/// Reading for the group or for all.
+const OTHERS_READ: u32 = 0o044;
+
+/// Makes the file of a store, empty, where there is none. Only its owner may read it, and its log,
+/// which is made with its mode. Where it can't be made, the opening of the store tells why.
+pub fn make_file(rt: &HostRuntime, path: &str) {
+    if path == ":memory:" || path.starts_with("file:") {
+        return;
+    }
+    let _ = OpenOptions::new()
+        .write(true)
+        .create_new(true)
+        .mode(OWNER_ALONE)
+        .open(rt, path);
+}
+
+/// Tells where others than the owner may read the file of a store, or its log.
+pub fn tell_readers<E: Write>(rt: &HostRuntime, err: &mut E, path: &str) {
+    tell_readers_of(rt, err, path);
+    if let Ok(log) = format!(in rt.alloc(); "{path}-wal") {
+        tell_readers_of(rt, err, log.as_str());
+    }
+}
+
+/// Tells where others than its owner may read a file.
+fn tell_readers_of<E: Write>(rt: &HostRuntime, err: &mut E, path: &str) {
+    if let Some(mode) = mode_for_others(rt, path) {
+        let _ = writeln!(
+            err,
+            "note: {path}: others than its owner may read it (mode {mode:o}), and mail and secrets lie in it in clear"
+        );
+    }
+}
+
+/// The mode of a file that others than its owner may read; none of another, or where none is there.
+pub fn mode_for_others(rt: &HostRuntime, path: &str) -> Option<u32> {
+    let mode = fs::metadata(rt, path).ok()?.mode() & 0o777;
+    if mode & OTHERS_READ == 0 {
+        return None;
+    }
+    Some(mode)
+}
