@@ -1,18 +1,15 @@
--- The number of a fault is that of the first rule that has one.
-use Rattle.std.proofs.Common.{◌≡◌, ◌⊎◌, inl, inr, ⊎_elim, ℕ, zero, suc, ◌+◌, ◌≤◌, Bool, true, false, not, ◌||◌, List, [], ◌∷◌, ◌++◌, length, Option, Some, None, Result, Ok, Err, refl, sym, ◌∙◌, ap, subst, append-nil, append_assoc, arith}
+-- A rule's number of a fault is that of the first rule that has one.
+use Rattle.std.proofs.Common.{◌≡◌, ◌⊎◌, inl, inr, ⊎_elim, ℕ, suc, ◌+◌, Bool, true, false, not, ◌||◌, List, [], ◌∷◌, ◌++◌, length, Option, Some, None, Result, Ok, Err, refl, sym, ◌∙◌, ap, subst, append-nil, append_assoc, arith}
 use Rattle.std.specs.Prelude.{codes, nat_le}
 use Rattle.toml.specs.Data.{Data, Items, no_items, item, Members, get_member, as_table}
 use Rattle.toml.specs.Parse.{parse_document}
-use Rattle.policy.specs.Policy.{Policy, is_any, most_rules}
+use Rattle.policy.specs.Policy.{Group, Policy, are_known, has_group, is_any, most_groups, most_rules}
 use Rattle.policy.specs.WrittenText.{fault_number}
-use Rattle.policy.specs.PolicyText.{◌>>=◌, value_or, demand, all_keys, is_rule_key, rule_name_of, pattern_of, effect_of, actions_of, has_name, Settings, settings_of, subject_of, decided, rule_of, rule_at, rules_from, rule_tables, is_top_key, items_len, rules_in, rules_of}
+use Rattle.policy.specs.PolicyText.{◌>>=◌, value_or, demand, all_keys, is_group_key, name_at, members_of, group_of, group_at, groups_from, is_rule_key, rule_name_of, clerks_of, pattern_of, effect_of, actions_of, has_name, Settings, settings_of, subject_of, decided, rule_of, rule_at, rules_from, tables_at, is_top_key, items_len, rules_in, rules_of}
 use Rattle.policy.specs.FirstFault.{first_items, item_at, IsFirstFault, IsFirstFaultOf, NumbersTheFirstFault}
 use Rattle.policy.specs.declared.fault.PolicyFault.{PolicyFault}
-use Rattle.policy.specs.declared.fault.PolicyFault.TheVariants.{NotToml, MissingKey, UnknownKey, BadName, DoubleName, BadEffect, BadActions, OpenWithClass, TooMany}
+use Rattle.policy.specs.declared.fault.PolicyFault.TheVariants.{NotToml, GroupKeys, GroupName, GroupDouble, GroupMembers, MissingKey, UnknownKey, BadName, UnknownGroup, DoubleName, BadEffect, BadActions, OpenWithClass, TooMany, TooManyGroups}
 use Rattle.policy.specs.declared.read.Subject.{Subject}
-use Rattle.policy.specs.declared.rule.Actions.{Actions}
-use Rattle.policy.specs.declared.rule.Effect.{Effect}
-use Rattle.policy.specs.declared.rule.Pattern.{Pattern}
 use Rattle.policy.specs.declared.rule.Rule.{Rule}
 
 -- ---- a rule's faults have its number
@@ -42,7 +39,7 @@ bound P (Ok x) g p h f q = h x f q
 never : {A : Type 0} (P : PolicyFault → Type 0) (x : A) (f : PolicyFault) → ◌≡◌ {A = Result A PolicyFault} (Ok x) (Err f) → P f
 never P x f q = cc
 
-module _ (n : ℕ) where
+module _ (groups : List Group) (n : ℕ) where
   settings_number : (ms : Members) (f : PolicyFault) → settings_of n ms ≡ Err f → HasNumber n f
   unfolding settings_of
   settings_number ms =
@@ -54,14 +51,15 @@ module _ (n : ℕ) where
       valued (HasNumber n) (get_member (codes "actions") ms) (MissingKey n) _ (inl refl) (λ actions.
       demanded (HasNumber n) (all_keys is_rule_key ms) (UnknownKey n) _ (inl refl) (λ f q. never (HasNumber n) _ f q)))))))
 
-  subject_number : (before : List Rule) (s : Settings) (f : PolicyFault) → subject_of n before s ≡ Err f → HasNumber n f
+  subject_number : (before : List Rule) (s : Settings) (f : PolicyFault) → subject_of groups n before s ≡ Err f → HasNumber n f
   unfolding subject_of
   subject_number before s =
       valued (HasNumber n) (rule_name_of s.name) (BadName n) _ (inl refl) (λ name.
-      valued (HasNumber n) (pattern_of s.clerk) (BadName n) _ (inl refl) (λ clerk.
+      valued (HasNumber n) (clerks_of s.clerk) (BadName n) _ (inl refl) (λ clerk.
       valued (HasNumber n) (pattern_of s.maildrop) (BadName n) _ (inl refl) (λ maildrop.
       valued (HasNumber n) (pattern_of s.class) (BadName n) _ (inl refl) (λ class.
-      demanded (HasNumber n) (not (has_name before name)) (DoubleName n) _ (inl refl) (λ f q. never (HasNumber n) _ f q)))))
+      demanded (HasNumber n) (are_known groups clerk) (UnknownGroup n) _ (inl refl) (
+      demanded (HasNumber n) (not (has_name before name)) (DoubleName n) _ (inl refl) (λ f q. never (HasNumber n) _ f q))))))
 
   decided_number : (subject : Subject) (s : Settings) (f : PolicyFault) → decided n subject s ≡ Err f → HasNumber n f
   unfolding decided
@@ -70,36 +68,59 @@ module _ (n : ℕ) where
       valued (HasNumber n) (actions_of s.actions) (BadActions n) _ (inl refl) (λ actions.
       demanded (HasNumber n) (not actions.open || is_any subject.class) (OpenWithClass n) _ (inl refl) (λ f q. never (HasNumber n) _ f q)))
 
-  rule_of_number : (before : List Rule) (ms : Members) (f : PolicyFault) → rule_of n before ms ≡ Err f → HasNumber n f
+  rule_of_number : (before : List Rule) (ms : Members) (f : PolicyFault) → rule_of groups n before ms ≡ Err f → HasNumber n f
   unfolding rule_of
   rule_of_number before ms =
       bound (HasNumber n) (settings_of n ms) _ (settings_number ms) (λ s.
-      bound (HasNumber n) (subject_of n before s) _ (subject_number before s) (λ subject. decided_number subject s))
+      bound (HasNumber n) (subject_of groups n before s) _ (subject_number before s) (λ subject. decided_number subject s))
 
-  rule_number : (before : List Rule) (d : Data) (f : PolicyFault) → rule_at n before d ≡ Err f → HasNumber n f
-  rule_number before d = valued (HasNumber n) (as_table d) NotToml (rule_of n before) (inr refl) (λ ms. rule_of_number before ms)
+  rule_number : (before : List Rule) (d : Data) (f : PolicyFault) → rule_at groups n before d ≡ Err f → HasNumber n f
+  rule_number before d = valued (HasNumber n) (as_table d) NotToml (rule_of groups n before) (inr refl) (λ ms. rule_of_number before ms)
 
 own_number : (n m : ℕ) (f : PolicyFault) → HasNumber n f → fault_number f ≡ Some m → m ≡ n
 own_number n m f h e = ⊎_elim (λ (k : fault_number f ≡ Some n). cc) (λ (k : fault_number f ≡ None). cc) h
 
+-- ---- a group's faults have no rule's number
+
+HasNone : PolicyFault → Type 0
+HasNone f = fault_number f ≡ None
+
+group_of_none : (n : ℕ) (before : List Group) (ms : Members) (f : PolicyFault) → group_of n before ms ≡ Err f → HasNone f
+unfolding group_of HasNone
+group_of_none n before ms =
+    valued HasNone (get_member (codes "name") ms) (GroupKeys n) _ refl (λ name.
+    valued HasNone (get_member (codes "members") ms) (GroupKeys n) _ refl (λ members.
+    demanded HasNone (all_keys is_group_key ms) (GroupKeys n) _ refl (
+    valued HasNone (name_at name) (GroupName n) _ refl (λ own.
+    demanded HasNone (not (has_group before own)) (GroupDouble n) _ refl (
+    valued HasNone (members_of members) (GroupMembers n) _ refl (λ x f q. never HasNone _ f q))))))
+
+groups_none : (n : ℕ) (before : List Group) (ds : Items) (f : PolicyFault) → groups_from n before ds ≡ Err f → HasNone f
+unfolding groups_from HasNone
+groups_none n before no_items f h = never HasNone before f h
+groups_none n before (item d ds) f h =
+    bound HasNone (group_at n before d) (λ g. groups_from (n + 1) (before ++ g ∷ []) ds)
+    (valued HasNone (as_table d) NotToml (group_of n before) refl (λ ms. group_of_none n before ms))
+    (λ g. groups_none (n + 1) (before ++ g ∷ []) ds) f h
+
 -- ---- the rules before it
 
 -- of items that are read from number k on, behind other rules
-record FirstFrom (k : ℕ) (before : List Rule) (ds : Items) (m : ℕ) (f : PolicyFault) : Type 0 where
+record FirstFrom (groups : List Group) (k : ℕ) (before : List Rule) (ds : Items) (m : ℕ) (f : PolicyFault) : Type 0 where
   more : List Rule
   number : m ≡ k + length more
-  read : rules_from k before (first_items (length more) ds) ≡ Ok (before ++ more)
+  read : rules_from groups k before (first_items (length more) ds) ≡ Ok (before ++ more)
   rule : Data
   there : item_at ds (length more) ≡ Some rule
-  faulty : rule_at m (before ++ more) rule ≡ Err f
+  faulty : rule_at groups m (before ++ more) rule ≡ Err f
 
-first_step : (k : ℕ) (before : List Rule) (d : Data) (ds : Items) (m : ℕ) (f : PolicyFault) (x : Result Rule PolicyFault) → rule_at k before d ≡ x
-    → ((r : Rule) → rules_from (k + 1) (before ++ r ∷ []) ds ≡ Err f → FirstFrom (k + 1) (before ++ r ∷ []) ds m f)
-    → (x >>= (λ r. rules_from (k + 1) (before ++ r ∷ []) ds)) ≡ Err f → fault_number f ≡ Some m → FirstFrom k before (item d ds) m f
+first_step : (groups : List Group) (k : ℕ) (before : List Rule) (d : Data) (ds : Items) (m : ℕ) (f : PolicyFault) (x : Result Rule PolicyFault) → rule_at groups k before d ≡ x
+    → ((r : Rule) → rules_from groups (k + 1) (before ++ r ∷ []) ds ≡ Err f → FirstFrom groups (k + 1) (before ++ r ∷ []) ds m f)
+    → (x >>= (λ r. rules_from groups (k + 1) (before ++ r ∷ []) ds)) ≡ Err f → fault_number f ≡ Some m → FirstFrom groups k before (item d ds) m f
 unfolding rules_from
-first_step k before d ds m f (Err g) is on h number =
+first_step groups k before d ds m f (Err g) is on h number =
     let same : g ≡ f = cc in
-    let own : m ≡ k = own_number k m f (rule_number k before d f (is ∙ ap (λ (x : PolicyFault). Err x) same)) number in
+    let own : m ≡ k = own_number k m f (rule_number groups k before d f (is ∙ ap (λ (x : PolicyFault). Err x) same)) number in
     record {
       more = [];
       number = omega (arith, own);
@@ -108,7 +129,7 @@ first_step k before d ds m f (Err g) is on h number =
       there = refl;
       faulty = rw (append-nil before, own) (is ∙ ap (λ (x : PolicyFault). Err x) same);
     }
-first_step k before d ds m f (Ok r) is on h number =
+first_step groups k before d ds m f (Ok r) is on h number =
     let w = on r h in
     let joined : (before ++ r ∷ []) ++ w.more ≡ before ++ r ∷ w.more = append_assoc before (r ∷ []) w.more in
     let count = w.number in
@@ -118,58 +139,87 @@ first_step k before d ds m f (Ok r) is on h number =
       read = rw is (w.read ∙ ap (λ (xs : List Rule). Ok xs) joined);
       rule = w.rule;
       there = w.there;
-      faulty = subst (λ (xs : List Rule). rule_at m xs w.rule ≡ Err f) joined w.faulty;
+      faulty = subst (λ (xs : List Rule). rule_at groups m xs w.rule ≡ Err f) joined w.faulty;
     }
 
-first_from : (k : ℕ) (before : List Rule) (ds : Items) (m : ℕ) (f : PolicyFault) → rules_from k before ds ≡ Err f → fault_number f ≡ Some m → FirstFrom k before ds m f
+first_from : (groups : List Group) (k : ℕ) (before : List Rule) (ds : Items) (m : ℕ) (f : PolicyFault) → rules_from groups k before ds ≡ Err f → fault_number f ≡ Some m → FirstFrom groups k before ds m f
 unfolding rules_from
-first_from k before no_items m f h number = cc
-first_from k before (item d ds) m f h number =
-    first_step k before d ds m f (rule_at k before d) refl (λ r q. first_from (k + 1) (before ++ r ∷ []) ds m f q number) h number
+first_from groups k before no_items m f h number = cc
+first_from groups k before (item d ds) m f h number =
+    first_step groups k before d ds m f (rule_at groups k before d) refl (λ r q. first_from groups (k + 1) (before ++ r ∷ []) ds m f q number) h number
 
 -- ---- a text
 
 module _ (n : ℕ) (f : PolicyFault) (number : fault_number f ≡ Some (suc n)) where
-  first_of : (ds : Items) → rules_from 1 [] ds ≡ Err f → IsFirstFault ds (suc n) f
-  first_of ds h =
-      let w = first_from 1 [] ds (suc n) f h number in
+  first_of : (groups : List Group) (ds : Items) → rules_from groups 1 [] ds ≡ Err f → IsFirstFault groups ds (suc n) f
+  first_of groups ds h =
+      let w = first_from groups 1 [] ds (suc n) f h number in
       let count = w.number in
       record { before = w.more; number = omega (arith, count); read = w.read; rule = w.rule; there = w.there; faulty = w.faulty }
 
-  rules_faulty : (r : Result (List Rule) PolicyFault) → (let g : List Rule → Result Policy PolicyFault = λ rules. Ok (record { rules = rules }) in (r >>= g) ≡ Err f) → r ≡ Err f
-  rules_faulty (Ok rules) h = cc
-  rules_faulty (Err e) h = let q : e ≡ f = cc in ap (λ (x : PolicyFault). Err x) q
+  -- what the rules are joined to
+  joined_to : List Group → List Rule → Result Policy PolicyFault
+  joined_to groups rules = Ok (record { groups = groups; rules = rules })
 
-  of_tables : (ds : Items) (c : Bool) → (let g : List Rule → Result Policy PolicyFault = λ rules. Ok (record { rules = rules }) in (demand c TooMany >>= (λ few. rules_from 1 [] ds >>= g)) ≡ Err f)
-      → IsFirstFault ds (suc n) f
-  of_tables ds true h = first_of ds (rules_faulty (rules_from 1 [] ds) h)
-  of_tables ds false h = let q : TooMany ≡ f = cc in let k : fault_number TooMany ≡ Some (suc n) = ap fault_number q ∙ number in cc
+  rules_faulty : (groups : List Group) (r : Result (List Rule) PolicyFault) → (r >>= joined_to groups) ≡ Err f → r ≡ Err f
+  unfolding joined_to
+  rules_faulty groups (Ok rules) h = cc
+  rules_faulty groups (Err e) h = let q : e ≡ f = cc in ap (λ (x : PolicyFault). Err x) q
 
-  of_keys : (ds : Items) (b : Bool) (r : Result Policy PolicyFault) → (demand b (UnknownKey 0) >>= (λ known. r)) ≡ Err f → r ≡ Err f
-  of_keys ds true r h = h
-  of_keys ds false r h =
+  -- a fault without a rule's number isn't this one
+  unnumbered : {A : Type 0} (e : PolicyFault) → fault_number e ≡ None → e ≡ f → A
+  unnumbered e none q = let k : fault_number e ≡ Some (suc n) = ap fault_number q ∙ number in absurd (let z : None ≡ Some (suc n) = sym none ∙ k in cc)
+
+  -- the groups are read, and the rules have the fault
+  record OfGroups (ds rs : Items) : Type 0 where
+    groups : List Group
+    read : groups_from 1 [] ds ≡ Ok groups
+    first : IsFirstFault groups rs (suc n) f
+
+  of_groups : (ds rs : Items) (x : Result (List Group) PolicyFault) → groups_from 1 [] ds ≡ x → (x >>= (λ groups. rules_from groups 1 [] rs >>= joined_to groups)) ≡ Err f → OfGroups ds rs
+  unfolding HasNone
+  of_groups ds rs (Ok groups) is h = record { groups = groups; read = is; first = first_of groups rs (rules_faulty groups (rules_from groups 1 [] rs) h) }
+  of_groups ds rs (Err e) is h = let q : e ≡ f = cc in unnumbered e (groups_none 1 [] ds e is) q
+
+  of_tables : (ds rs : Items) (b c : Bool)
+      → (demand b TooMany >>= (λ few. demand c TooManyGroups >>= (λ few_groups. groups_from 1 [] ds >>= (λ groups. rules_from groups 1 [] rs >>= joined_to groups)))) ≡ Err f
+      → OfGroups ds rs
+  of_tables ds rs true true h = of_groups ds rs (groups_from 1 [] ds) refl h
+  of_tables ds rs true false h = let q : TooManyGroups ≡ f = cc in unnumbered TooManyGroups refl q
+  of_tables ds rs false c h = let q : TooMany ≡ f = cc in unnumbered TooMany refl q
+
+  of_keys : (b : Bool) (r : Result Policy PolicyFault) → (demand b (UnknownKey 0) >>= (λ known. r)) ≡ Err f → r ≡ Err f
+  of_keys true r h = h
+  of_keys false r h =
       let q : UnknownKey 0 ≡ f = cc in
       let k : Some 0 ≡ Some (suc n) = ap fault_number q ∙ number in
       let z : 0 ≡ suc n = cc in
       absurd (omega (arith, z))
 
-  of_members : (text : List ℕ) (ms : Members) → parse_document text ≡ Some ms → (o : Option Items) → rule_tables (get_member (codes "rule") ms) ≡ o
-      → (let g : List Rule → Result Policy PolicyFault = λ rules. Ok (record { rules = rules }) in
-      (value_or o NotToml >>= (λ tables. demand (all_keys is_top_key ms) (UnknownKey 0) >>= (λ known. demand (nat_le (items_len tables) most_rules) TooMany >>= (λ few. rules_from 1 [] tables >>= g)))) ≡ Err f)
+  of_members : (text : List ℕ) (ms : Members) → parse_document text ≡ Some ms → (o p : Option Items) → tables_at (get_member (codes "group") ms) ≡ o → tables_at (get_member (codes "rule") ms) ≡ p
+      → (value_or o NotToml >>= (λ ds. value_or p NotToml >>= (λ rs. demand (all_keys is_top_key ms) (UnknownKey 0) >>= (λ known. demand (nat_le (items_len rs) most_rules) TooMany >>= (λ few.
+      demand (nat_le (items_len ds) most_groups) TooManyGroups >>= (λ few_groups. groups_from 1 [] ds >>= (λ groups. rules_from groups 1 [] rs >>= joined_to groups))))))) ≡ Err f
       → IsFirstFaultOf text (suc n) f
-  of_members text ms parsed None is h = let q : NotToml ≡ f = cc in let k : fault_number NotToml ≡ Some (suc n) = ap fault_number q ∙ number in cc
-  of_members text ms parsed (Some ds) is h = record {
-    members = ms;
-    parsed = parsed;
-    tables = ds;
-    listed = is;
-    first = of_tables ds (nat_le (items_len ds) most_rules) (of_keys ds (all_keys is_top_key ms) _ h);
-  }
+  of_members text ms parsed None p is it h = let q : NotToml ≡ f = cc in unnumbered NotToml refl q
+  of_members text ms parsed (Some ds) None is it h = let q : NotToml ≡ f = cc in unnumbered NotToml refl q
+  of_members text ms parsed (Some ds) (Some rs) is it h =
+      let w = of_tables ds rs (nat_le (items_len rs) most_rules) (nat_le (items_len ds) most_groups) (of_keys (all_keys is_top_key ms) _ h) in
+      record {
+        members = ms;
+        parsed = parsed;
+        group_tables = ds;
+        groups_listed = is;
+        groups = w.groups;
+        groups_read = w.read;
+        rule_tables = rs;
+        rules_listed = it;
+        first = w.first;
+      }
 
   of_document : (text : List ℕ) (o : Option Members) → parse_document text ≡ o → (value_or o NotToml >>= rules_in) ≡ Err f → IsFirstFaultOf text (suc n) f
-  unfolding rules_in
-  of_document text None is h = let q : NotToml ≡ f = cc in let k : fault_number NotToml ≡ Some (suc n) = ap fault_number q ∙ number in cc
-  of_document text (Some ms) is h = of_members text ms is (rule_tables (get_member (codes "rule") ms)) refl h
+  unfolding rules_in joined_to
+  of_document text None is h = let q : NotToml ≡ f = cc in unnumbered NotToml refl q
+  of_document text (Some ms) is h = of_members text ms is (tables_at (get_member (codes "group") ms)) (tables_at (get_member (codes "rule") ms)) refl refl h
 
 pub numbers_the_first_fault : NumbersTheFirstFault
 unfolding rules_of

@@ -1,32 +1,32 @@
--- The four keys that a rule about a clerk and a maildrop may have: both names, one of them with `*`, and `*` twice.
-use Rattle.std.proofs.Common.{◌≡◌, ℕ, ◌+◌, Bool, true, false, ◌&&◌, ◌||◌, cond, List, [], ◌∷◌, length, min, refl, sym, ap, ◌∙◌, arith}
-use Rattle.std.specs.Prelude.{filter}
+-- The keys that a rule about a clerk and a maildrop may have: without a group both names, one of them with `*`, and `*` twice;
+-- with a group the maildrop's name, and `*`.
+use Rattle.std.proofs.Common.{◌≡◌, ℕ, ◌+◌, Bool, true, false, ◌&&◌, ◌||◌, List, [], ◌∷◌, length, min, refl, sym, ap, ◌∙◌, arith, true≢false, ◌<◌, ◌++◌, take, get_or}
+use Rattle.std.specs.List.{list_any}
+use Rattle.std.proofs.lemmas.List.{take_more}
+use Rattle.std.proofs.lemmas.List.Folds.{list_any-append}
 use Rattle.std.specs.Str.{bytes_eq}
 use Rattle.policy.specs.declared.key.Key.{Key}
 use Rattle.policy.specs.declared.rule.Action.{Action}
+use Rattle.policy.specs.declared.rule.Clerks.{Clerks}
+use Rattle.policy.specs.declared.rule.Clerks.TheVariants as clerks
 use Rattle.policy.specs.declared.rule.Pattern.{Pattern}
 use Rattle.policy.specs.declared.rule.Pattern.TheVariants.{Any, Is}
 use Rattle.policy.specs.declared.rule.Rule.{Rule}
-use Rattle.policy.specs.Policy.{fits, lists, fits_class, matches}
-use Rattle.policy.specs.Index.{same_pattern, has_key, place_from}
-use Rattle.policy.specs.Lane.{is_about, is_about_action}
+use Rattle.policy.specs.Policy.{Group, fits, fits_clerk, has_member, is_member, lists, fits_class, matches}
+use Rattle.policy.specs.Index.{same_clerks, same_pattern, has_key, place_from}
+use Rattle.policy.specs.Lane.{is_about_action, is_about_group, is_about_groups, is_about_one, names_one}
 use Rattle.policy.proofs.Walking.{place_from-or, place_from-congr}
 
-key : Pattern → Pattern → Key
+key : Clerks → Pattern → Key
 key clerk maildrop = record { clerk = clerk; maildrop = maildrop }
 
 -- the rule has one of the four
 has_one : (c d : List ℕ) → Rule → Bool
-has_one c d r = ((has_key (key (Is c) (Is d)) r || has_key (key (Is c) Any) r) || has_key (key Any (Is d)) r) || has_key (key Any Any) r
-
--- how many of four tests hold
-num : Bool → ℕ
-num true = 1
-num false = 0
+has_one c d r = ((has_key (key (clerks.Is c) (Is d)) r || has_key (key (clerks.Is c) Any) r) || has_key (key clerks.Any (Is d)) r) || has_key (key clerks.Any Any) r
 
 -- ---- of one rule
 
-has_one-is : (c d : List ℕ) (r : Rule) → has_one c d r ≡ is_about c d r
+has_one-is : (c d : List ℕ) (r : Rule) → has_one c d r ≡ is_about_one c d r
 unfolding has_one key
 has_one-is c d r = at r.clerk r.maildrop
   where
@@ -43,39 +43,18 @@ has_one-is c d r = at r.clerk r.maildrop
     last true = refl
     last false = refl
 
-    at : (p m : Pattern)
-        → (((same_pattern p (Is c) && same_pattern m (Is d) || same_pattern p (Is c) && same_pattern m Any) || same_pattern p Any && same_pattern m (Is d)) || same_pattern p Any && same_pattern m Any)
-        ≡ (fits p c && fits m d)
-    at Any Any = refl
-    at Any (Is v) = last (bytes_eq v d)
-    at (Is w) Any = first (bytes_eq w c)
-    at (Is w) (Is v) = named (bytes_eq w c) (bytes_eq v d)
+    none : (b : Bool) → (((false && b || false && false) || false && b) || false && false) ≡ (false && b)
+    none b = refl
 
-num-one : (c d : List ℕ) (r : Rule)
-    → num (has_key (key (Is c) (Is d)) r) + num (has_key (key (Is c) Any) r) + num (has_key (key Any (Is d)) r) + num (has_key (key Any Any) r) ≡ num (is_about c d r)
-unfolding key num
-num-one c d r = at r.clerk r.maildrop
-  where
-    named : (a b : Bool) → num (a && b) + num (a && false) + num (false && b) + num (false && false) ≡ num (a && b)
-    named true true = refl
-    named true false = refl
-    named false b = refl
-
-    first : (a : Bool) → num (a && false) + num (a && true) + num (false && false) + num (false && true) ≡ num (a && true)
-    first true = refl
-    first false = refl
-
-    last : (b : Bool) → num (false && b) + num (false && false) + num (true && b) + num (true && false) ≡ num (true && b)
-    last true = refl
-    last false = refl
-
-    at : (p m : Pattern)
-        → num (same_pattern p (Is c) && same_pattern m (Is d)) + num (same_pattern p (Is c) && same_pattern m Any) + num (same_pattern p Any && same_pattern m (Is d)) + num (same_pattern p Any && same_pattern m Any)
-        ≡ num (fits p c && fits m d)
-    at Any Any = refl
-    at Any (Is v) = last (bytes_eq v d)
-    at (Is w) Any = first (bytes_eq w c)
-    at (Is w) (Is v) = named (bytes_eq w c) (bytes_eq v d)
+    at : (p : Clerks) (m : Pattern)
+        → (((same_clerks p (clerks.Is c) && same_pattern m (Is d) || same_clerks p (clerks.Is c) && same_pattern m Any) || same_clerks p clerks.Any && same_pattern m (Is d)) || same_clerks p clerks.Any && same_pattern m Any)
+        ≡ (names_one p c && fits m d)
+    at clerks.Any Any = refl
+    at clerks.Any (Is v) = last (bytes_eq v d)
+    at (clerks.Is w) Any = first (bytes_eq w c)
+    at (clerks.Is w) (Is v) = named (bytes_eq w c) (bytes_eq v d)
+    at (clerks.MembersOf w) Any = refl
+    at (clerks.MembersOf w) (Is v) = refl
 
 -- ---- of all
 
@@ -106,77 +85,193 @@ spread false false false d false = at d
     at true = refl
     at false = refl
 
-regroup : (l f m s : Bool) → ((f && m) && (l && s)) ≡ (l && f && m && s)
-regroup true true true s = refl
-regroup true true false s = refl
-regroup true false m s = refl
-regroup false true true s = refl
-regroup false true false s = refl
-regroup false false m s = refl
-
 of_one : (c d class : List ℕ) (action : Action) (r : Rule)
-    → ((((has_key (key (Is c) (Is d)) r && is_about_action action class r) || (has_key (key (Is c) Any) r && is_about_action action class r))
-    || (has_key (key Any (Is d)) r && is_about_action action class r)) || (has_key (key Any Any) r && is_about_action action class r))
-    ≡ matches c d class action r
+    → ((((has_key (key (clerks.Is c) (Is d)) r && is_about_action action class r) || (has_key (key (clerks.Is c) Any) r && is_about_action action class r))
+    || (has_key (key clerks.Any (Is d)) r && is_about_action action class r)) || (has_key (key clerks.Any Any) r && is_about_action action class r))
+    ≡ (is_about_one c d r && is_about_action action class r)
 unfolding has_one
 of_one c d class action r =
-    spread (has_key (key (Is c) (Is d)) r) (has_key (key (Is c) Any) r) (has_key (key Any (Is d)) r) (has_key (key Any Any) r) (is_about_action action class r)
+    spread (has_key (key (clerks.Is c) (Is d)) r) (has_key (key (clerks.Is c) Any) r) (has_key (key clerks.Any (Is d)) r) (has_key (key clerks.Any Any) r) (is_about_action action class r)
     ∙ ap (λ (b : Bool). b && is_about_action action class r) (has_one-is c d r)
-    ∙ regroup (lists r.actions action) (fits r.clerk c) (fits r.maildrop d) (fits_class action r.class class)
 
--- the first that matches is the first of the four first ones
+-- the first of them is the first of the four first ones
 pub first_of_four : (c d class : List ℕ) (action : Action) (rules : List Rule)
-    → min (min (min (place_from (λ r. has_key (record { clerk = Is c; maildrop = Is d }) r && is_about_action action class r) 0 rules)
-    (place_from (λ r. has_key (record { clerk = Is c; maildrop = Any }) r && is_about_action action class r) 0 rules))
-    (place_from (λ r. has_key (record { clerk = Any; maildrop = Is d }) r && is_about_action action class r) 0 rules))
-    (place_from (λ r. has_key (record { clerk = Any; maildrop = Any }) r && is_about_action action class r) 0 rules)
-    ≡ place_from (matches c d class action) 0 rules
+    → min (min (min (place_from (λ r. has_key (record { clerk = clerks.Is c; maildrop = Is d }) r && is_about_action action class r) 0 rules)
+    (place_from (λ r. has_key (record { clerk = clerks.Is c; maildrop = Any }) r && is_about_action action class r) 0 rules))
+    (place_from (λ r. has_key (record { clerk = clerks.Any; maildrop = Is d }) r && is_about_action action class r) 0 rules))
+    (place_from (λ r. has_key (record { clerk = clerks.Any; maildrop = Any }) r && is_about_action action class r) 0 rules)
+    ≡ place_from (λ r. is_about_one c d r && is_about_action action class r) 0 rules
 unfolding key
 first_of_four c d class action rules =
     let q = is_about_action action class in
-    let p1 : Rule → Bool = λ r. has_key (key (Is c) (Is d)) r && q r in
-    let p2 : Rule → Bool = λ r. has_key (key (Is c) Any) r && q r in
-    let p3 : Rule → Bool = λ r. has_key (key Any (Is d)) r && q r in
-    let p4 : Rule → Bool = λ r. has_key (key Any Any) r && q r in
+    let p1 : Rule → Bool = λ r. has_key (key (clerks.Is c) (Is d)) r && q r in
+    let p2 : Rule → Bool = λ r. has_key (key (clerks.Is c) Any) r && q r in
+    let p3 : Rule → Bool = λ r. has_key (key clerks.Any (Is d)) r && q r in
+    let p4 : Rule → Bool = λ r. has_key (key clerks.Any Any) r && q r in
     let three = place_from p3 0 rules in
     let four = place_from p4 0 rules in
     ap (λ (n : ℕ). min (min n three) four) (sym (place_from-or p1 p2 0 rules))
     ∙ ap (λ (n : ℕ). min n four) (sym (place_from-or (λ r. p1 r || p2 r) p3 0 rules))
     ∙ sym (place_from-or (λ r. (p1 r || p2 r) || p3 r) p4 0 rules)
-    ∙ place_from-congr (λ r. ((p1 r || p2 r) || p3 r) || p4 r) (matches c d class action) (of_one c d class action) 0 rules
+    ∙ place_from-congr (λ r. ((p1 r || p2 r) || p3 r) || p4 r) (λ r. is_about_one c d r && q r) (of_one c d class action) 0 rules
 
-filter_step : (p : Rule → Bool) (x : Rule) (xs : List Rule) → length (filter p (x ∷ xs)) ≡ num (p x) + length (filter p xs)
-unfolding num
-filter_step p x xs = at (p x) (filter p xs)
-  where
-    at : (b : Bool) (ys : List Rule) → length (cond b (x ∷ ys) ys) ≡ num b + length ys
-    at true ys = omega arith
-    at false ys = omega arith
+-- ---- a group
 
-sum : (c d : List ℕ) (rules : List Rule)
-    → length (filter (has_key (key (Is c) (Is d))) rules) + length (filter (has_key (key (Is c) Any)) rules) + length (filter (has_key (key Any (Is d))) rules) + length (filter (has_key (key Any Any)) rules)
-    ≡ length (filter (is_about c d) rules)
-sum c d [] = refl
-sum c d (x ∷ xs) =
-    let a1 = filter_step (has_key (key (Is c) (Is d))) x xs in
-    let a2 = filter_step (has_key (key (Is c) Any)) x xs in
-    let a3 = filter_step (has_key (key Any (Is d))) x xs in
-    let a4 = filter_step (has_key (key Any Any)) x xs in
-    let b = filter_step (is_about c d) x xs in
-    let one = num-one c d x in
-    let rest = sum c d xs in
-    joined (num (has_key (key (Is c) (Is d)) x)) (num (has_key (key (Is c) Any) x)) (num (has_key (key Any (Is d)) x)) (num (has_key (key Any Any) x))
-    (length (filter (has_key (key (Is c) (Is d))) xs)) (length (filter (has_key (key (Is c) Any)) xs)) (length (filter (has_key (key Any (Is d))) xs)) (length (filter (has_key (key Any Any)) xs))
-    (num (is_about c d x)) (length (filter (is_about c d) xs)) a1 a2 a3 a4 b one rest
-  where
-    joined : {m1 m2 m3 m4 m : ℕ} (n1 n2 n3 n4 l1 l2 l3 l4 n l : ℕ) → m1 ≡ n1 + l1 → m2 ≡ n2 + l2 → m3 ≡ n3 + l3 → m4 ≡ n4 + l4 → m ≡ n + l
-        → n1 + n2 + n3 + n4 ≡ n → l1 + l2 + l3 + l4 ≡ l → m1 + m2 + m3 + m4 ≡ m
-    joined n1 n2 n3 n4 l1 l2 l3 l4 n l a1 a2 a3 a4 b one rest = omega arith
-
--- the four have as many rules as are about the clerk and the maildrop
-pub sum_of_four : (c d : List ℕ) (rules : List Rule)
-    → length (filter (has_key (record { clerk = Is c; maildrop = Is d })) rules) + length (filter (has_key (record { clerk = Is c; maildrop = Any })) rules)
-    + length (filter (has_key (record { clerk = Any; maildrop = Is d })) rules) + length (filter (has_key (record { clerk = Any; maildrop = Any })) rules)
-    ≡ length (filter (is_about c d) rules)
+of_group : (g d : List ℕ) (q : Rule → Bool) (r : Rule)
+    → ((has_key (key (clerks.MembersOf g) (Is d)) r && q r) || (has_key (key (clerks.MembersOf g) Any) r && q r)) ≡ (is_about_group g d r && q r)
 unfolding key
-sum_of_four c d rules = sum c d rules
+of_group g d q r = at r.maildrop
+  where
+    named : (a b c : Bool) → (((a && b) && c) || ((a && false) && c)) ≡ ((a && b) && c)
+    named true true true = refl
+    named true true false = refl
+    named true false c = refl
+    named false b c = refl
+
+    all : (a c : Bool) → (((a && false) && c) || ((a && true) && c)) ≡ ((a && true) && c)
+    all true c = refl
+    all false c = refl
+
+    at : (m : Pattern)
+        → (((same_clerks r.clerk (clerks.MembersOf g) && same_pattern m (Is d)) && q r) || ((same_clerks r.clerk (clerks.MembersOf g) && same_pattern m Any) && q r))
+        ≡ ((same_clerks r.clerk (clerks.MembersOf g) && fits m d) && q r)
+    at Any = all (same_clerks r.clerk (clerks.MembersOf g)) (q r)
+    at (Is v) = named (same_clerks r.clerk (clerks.MembersOf g)) (bytes_eq v d) (q r)
+
+-- the first rule about a group is the first of two first ones
+pub first_of_two : (g d : List ℕ) (q : Rule → Bool) (rules : List Rule)
+    → min (place_from (λ r. has_key (record { clerk = clerks.MembersOf g; maildrop = Is d }) r && q r) 0 rules)
+    (place_from (λ r. has_key (record { clerk = clerks.MembersOf g; maildrop = Any }) r && q r) 0 rules)
+    ≡ place_from (λ r. is_about_group g d r && q r) 0 rules
+unfolding key
+first_of_two g d q rules =
+    let p1 : Rule → Bool = λ r. has_key (key (clerks.MembersOf g) (Is d)) r && q r in
+    let p2 : Rule → Bool = λ r. has_key (key (clerks.MembersOf g) Any) r && q r in
+    sym (place_from-or p1 p2 0 rules) ∙ place_from-congr (λ r. p1 r || p2 r) (λ r. is_about_group g d r && q r) (of_group g d q) 0 rules
+
+-- ---- the clerk's groups
+
+none_passes : (n : ℕ) (rules : List Rule) → place_from (λ r. false) n rules ≡ n + length rules
+none_passes n [] = omega arith
+none_passes n (r ∷ rules) = none_passes (n + 1) rules ∙ omega arith
+
+-- no group
+pub groups-none : (c d : List ℕ) (q : Rule → Bool) (rules : List Rule) → length rules ≡ place_from (λ r. is_about_groups [] c d r && q r) 0 rules
+groups-none c d q rules = sym (none_passes 0 rules ∙ omega arith)
+
+more : (groups : List Group) (g : Group) (c d : List ℕ) (r : Rule) → is_about_groups (groups ++ g ∷ []) c d r ≡ (is_about_groups groups c d r || (has_member g c && is_about_group g.name d r))
+more groups g c d r = list_any-append (λ (h : Group). has_member h c && is_about_group h.name d r) groups (g ∷ []) ∙ at (is_about_groups groups c d r) (has_member g c && is_about_group g.name d r)
+  where
+    at : (a b : Bool) → (a || (b || false)) ≡ (a || b)
+    at true b = refl
+    at false true = refl
+    at false false = refl
+
+-- one more, of which the clerk is a member
+pub groups-with : (groups : List Group) (i : ℕ) (g : Group) (c d : List ℕ) (q : Rule → Bool) (rules : List Rule) → i < length groups → has_member (get_or groups i g) c ≡ true
+    → place_from (λ r. is_about_groups (take (i + 1) groups) c d r && q r) 0 rules
+    ≡ min (place_from (λ r. is_about_groups (take i groups) c d r && q r) 0 rules) (place_from (λ r. is_about_group (get_or groups i g).name d r && q r) 0 rules)
+groups-with groups i g c d q rules lt is =
+    let x = get_or groups i g in
+    let before = take i groups in
+    let p1 : Rule → Bool = λ r. is_about_groups before c d r && q r in
+    let p2 : Rule → Bool = λ r. is_about_group x.name d r && q r in
+    rw (take_more groups i g lt) (place_from-congr (λ r. is_about_groups (before ++ x ∷ []) c d r && q r) (λ r. p1 r || p2 r) each 0 rules ∙ place_from-or p1 p2 0 rules)
+  where
+    at : (a m b e : Bool) → m ≡ true → ((a || (m && b)) && e) ≡ ((a && e) || (b && e))
+    at true true true true h = refl
+    at true true false true h = refl
+    at true true true false h = refl
+    at true true false false h = refl
+    at false true b e h = refl
+    at a false b e h = absurd (true≢false (sym h))
+
+    each : (r : Rule) → (is_about_groups (take i groups ++ get_or groups i g ∷ []) c d r && q r)
+        ≡ ((is_about_groups (take i groups) c d r && q r) || (is_about_group (get_or groups i g).name d r && q r))
+    each r = ap (λ (b : Bool). b && q r) (more (take i groups) (get_or groups i g) c d r) ∙ at (is_about_groups (take i groups) c d r) (has_member (get_or groups i g) c) (is_about_group (get_or groups i g).name d r) (q r) is
+
+-- one more, of which the clerk is no member
+pub groups-without : (groups : List Group) (i : ℕ) (g : Group) (c d : List ℕ) (q : Rule → Bool) (rules : List Rule) → i < length groups → has_member (get_or groups i g) c ≡ false
+    → place_from (λ r. is_about_groups (take (i + 1) groups) c d r && q r) 0 rules ≡ place_from (λ r. is_about_groups (take i groups) c d r && q r) 0 rules
+groups-without groups i g c d q rules lt is =
+    rw (take_more groups i g lt) (place_from-congr (λ r. is_about_groups (take i groups ++ get_or groups i g ∷ []) c d r && q r) (λ r. is_about_groups (take i groups) c d r && q r) each 0 rules)
+  where
+    at : (a m b e : Bool) → m ≡ false → ((a || (m && b)) && e) ≡ (a && e)
+    at true m b e h = refl
+    at false false b e h = refl
+    at false true b e h = absurd (true≢false h)
+
+    each : (r : Rule) → (is_about_groups (take i groups ++ get_or groups i g ∷ []) c d r && q r) ≡ (is_about_groups (take i groups) c d r && q r)
+    each r = ap (λ (b : Bool). b && q r) (more (take i groups) (get_or groups i g) c d r) ∙ at (is_about_groups (take i groups) c d r) (has_member (get_or groups i g) c) (is_about_group (get_or groups i g).name d r) (q r) is
+
+-- ---- all
+
+-- of rules that name no group
+no_group : (groups : List Group) (h : Group → Bool) → list_any (λ g. h g && false) groups ≡ false
+no_group [] h = refl
+no_group (g ∷ groups) h = at (h g) ∙ no_group groups h
+  where
+    at : {b : Bool} (a : Bool) → ((a && false) || b) ≡ b
+    at true = refl
+    at false = refl
+
+-- of rules that name one
+its_group : (groups : List Group) (h b : Group → Bool) (f : Bool) → list_any (λ g. h g && (b g && f)) groups ≡ (list_any (λ g. b g && h g) groups && f)
+its_group [] h b f = refl
+its_group (g ∷ groups) h b f = ap (λ (x : Bool). (h g && (b g && f)) || x) (its_group groups h b f) ∙ at (h g) (b g) f (list_any (λ x. b x && h x) groups)
+  where
+    at : (a c e l : Bool) → ((a && (c && e)) || (l && e)) ≡ (((c && a) || l) && e)
+    at true true true l = refl
+    at true true false true = refl
+    at true true false false = refl
+    at true false e l = refl
+    at false true e l = refl
+    at false false e l = refl
+
+of_all : (groups : List Group) (c d class : List ℕ) (action : Action) (r : Rule)
+    → ((is_about_one c d r && is_about_action action class r) || (is_about_groups groups c d r && is_about_action action class r)) ≡ matches groups c d class action r
+of_all groups c d class action r = at r.clerk
+  where
+    one : (l n f s : Bool) → (((n && f) && (l && s)) || (false && (l && s))) ≡ (l && n && f && s)
+    one true true true true = refl
+    one true true true false = refl
+    one true true false s = refl
+    one true false f s = refl
+    one false true true s = refl
+    one false true false s = refl
+    one false false f s = refl
+
+    by_group : (l n f s : Bool) → (((false && f) && (l && s)) || ((n && f) && (l && s))) ≡ (l && n && f && s)
+    by_group true true true s = refl
+    by_group true true false s = refl
+    by_group true false f s = refl
+    by_group false true true s = refl
+    by_group false true false s = refl
+    by_group false false f s = refl
+
+    at : (p : Clerks)
+        → (((names_one p c && fits r.maildrop d) && (lists r.actions action && fits_class action r.class class))
+        || (list_any (λ g. has_member g c && (same_clerks p (clerks.MembersOf g.name) && fits r.maildrop d)) groups && (lists r.actions action && fits_class action r.class class)))
+        ≡ (lists r.actions action && fits_clerk groups p c && fits r.maildrop d && fits_class action r.class class)
+    at clerks.Any =
+        ap (λ (b : Bool). ((true && fits r.maildrop d) && (lists r.actions action && fits_class action r.class class)) || (b && (lists r.actions action && fits_class action r.class class)))
+        (no_group groups (λ g. has_member g c))
+        ∙ one (lists r.actions action) true (fits r.maildrop d) (fits_class action r.class class)
+    at (clerks.Is w) =
+        ap (λ (b : Bool). ((bytes_eq w c && fits r.maildrop d) && (lists r.actions action && fits_class action r.class class)) || (b && (lists r.actions action && fits_class action r.class class)))
+        (no_group groups (λ g. has_member g c))
+        ∙ one (lists r.actions action) (bytes_eq w c) (fits r.maildrop d) (fits_class action r.class class)
+    at (clerks.MembersOf w) =
+        ap (λ (b : Bool). ((false && fits r.maildrop d) && (lists r.actions action && fits_class action r.class class)) || (b && (lists r.actions action && fits_class action r.class class)))
+        (its_group groups (λ g. has_member g c) (λ g. bytes_eq w g.name) (fits r.maildrop d))
+        ∙ by_group (lists r.actions action) (is_member groups w c) (fits r.maildrop d) (fits_class action r.class class)
+
+-- the first that matches is the first of those that name no group, or of those that name a group of the clerk's
+pub first_of_all : (groups : List Group) (c d class : List ℕ) (action : Action) (rules : List Rule)
+    → min (place_from (λ r. is_about_one c d r && is_about_action action class r) 0 rules) (place_from (λ r. is_about_groups groups c d r && is_about_action action class r) 0 rules)
+    ≡ place_from (matches groups c d class action) 0 rules
+first_of_all groups c d class action rules =
+    let q = is_about_action action class in
+    let p1 : Rule → Bool = λ r. is_about_one c d r && q r in
+    let p2 : Rule → Bool = λ r. is_about_groups groups c d r && q r in
+    sym (place_from-or p1 p2 0 rules) ∙ place_from-congr (λ r. p1 r || p2 r) (matches groups c d class action) (of_all groups c d class action) 0 rules

@@ -11,10 +11,12 @@ use Rattle.std.specs.declared.cmp.Ordering.{Ordering}
 use Rattle.std.specs.declared.cmp.Ordering.TheVariants.{Less, Equal, Greater}
 use Rattle.std.proofs.lemmas.Map.Text.{is_eq-slice_cmp}
 use Rattle.policy.specs.declared.key.Key.{Key}
+use Rattle.policy.specs.declared.rule.Clerks.{Clerks}
+use Rattle.policy.specs.declared.rule.Clerks.TheVariants as clerks
 use Rattle.policy.specs.declared.rule.Pattern.{Pattern}
 use Rattle.policy.specs.declared.rule.Pattern.TheVariants.{Any, Is}
 use Rattle.policy.specs.declared.rule.Rule.{Rule}
-use Rattle.policy.specs.Index.{same_pattern, key_of, has_key, place_from, key_cmp, first_place, ListsFrom}
+use Rattle.policy.specs.Index.{same_clerks, same_pattern, key_of, has_key, place_from, key_cmp, first_place, ListsFrom}
 
 -- ---- the order of keys
 
@@ -31,32 +33,63 @@ is_eq-pattern_cmp Any (Is b) = refl
 is_eq-pattern_cmp (Is a) Any = refl
 is_eq-pattern_cmp (Is a) (Is b) = is_eq-slice_cmp a b
 
+clerks_cmp : Clerks → Clerks → Ordering
+clerks_cmp clerks.Any clerks.Any = Equal
+clerks_cmp clerks.Any (clerks.Is b) = Less
+clerks_cmp clerks.Any (clerks.MembersOf b) = Less
+clerks_cmp (clerks.Is a) clerks.Any = Greater
+clerks_cmp (clerks.Is a) (clerks.Is b) = slice_cmp nat_cmp a b
+clerks_cmp (clerks.Is a) (clerks.MembersOf b) = Less
+clerks_cmp (clerks.MembersOf a) clerks.Any = Greater
+clerks_cmp (clerks.MembersOf a) (clerks.Is b) = Greater
+clerks_cmp (clerks.MembersOf a) (clerks.MembersOf b) = slice_cmp nat_cmp a b
+
+is_eq-clerks_cmp : (p q : Clerks) → is_eq (clerks_cmp p q) ≡ same_clerks p q
+unfolding clerks_cmp
+is_eq-clerks_cmp clerks.Any clerks.Any = refl
+is_eq-clerks_cmp clerks.Any (clerks.Is b) = refl
+is_eq-clerks_cmp clerks.Any (clerks.MembersOf b) = refl
+is_eq-clerks_cmp (clerks.Is a) clerks.Any = refl
+is_eq-clerks_cmp (clerks.Is a) (clerks.Is b) = is_eq-slice_cmp a b
+is_eq-clerks_cmp (clerks.Is a) (clerks.MembersOf b) = refl
+is_eq-clerks_cmp (clerks.MembersOf a) clerks.Any = refl
+is_eq-clerks_cmp (clerks.MembersOf a) (clerks.Is b) = refl
+is_eq-clerks_cmp (clerks.MembersOf a) (clerks.MembersOf b) = is_eq-slice_cmp a b
+
 is_eq-then : (o p : Ordering) → is_eq (ordering_then o p) ≡ (is_eq o && is_eq p)
 is_eq-then Less p = refl
 is_eq-then Equal p = refl
 is_eq-then Greater p = refl
 
--- by the clerk, and then by the maildrop
-by_parts : (c m d n : Pattern) → key_cmp (record { clerk = c; maildrop = m }) (record { clerk = d; maildrop = n }) ≡ ordering_then (pattern_cmp c d) (pattern_cmp m n)
-unfolding pattern_cmp
-by_parts Any Any Any Any = refl
-by_parts Any Any Any (Is z) = refl
-by_parts Any (Is y) Any Any = refl
-by_parts Any (Is y) Any (Is z) = refl
-by_parts Any m (Is b) n = refl
-by_parts (Is a) m Any n = refl
-by_parts (Is a) Any (Is b) Any = refl
-by_parts (Is a) Any (Is b) (Is z) = refl
-by_parts (Is a) (Is y) (Is b) Any = refl
-by_parts (Is a) (Is y) (Is b) (Is z) = refl
+-- by the clerks, and then by the maildrop
+by_parts : (c d : Clerks) (m n : Pattern) → key_cmp (record { clerk = c; maildrop = m }) (record { clerk = d; maildrop = n }) ≡ ordering_then (clerks_cmp c d) (pattern_cmp m n)
+unfolding clerks_cmp pattern_cmp
+by_parts clerks.Any clerks.Any Any Any = refl
+by_parts clerks.Any clerks.Any Any (Is z) = refl
+by_parts clerks.Any clerks.Any (Is y) Any = refl
+by_parts clerks.Any clerks.Any (Is y) (Is z) = refl
+by_parts clerks.Any (clerks.Is b) m n = refl
+by_parts clerks.Any (clerks.MembersOf b) m n = refl
+by_parts (clerks.Is a) clerks.Any m n = refl
+by_parts (clerks.Is a) (clerks.Is b) Any Any = refl
+by_parts (clerks.Is a) (clerks.Is b) Any (Is z) = refl
+by_parts (clerks.Is a) (clerks.Is b) (Is y) Any = refl
+by_parts (clerks.Is a) (clerks.Is b) (Is y) (Is z) = refl
+by_parts (clerks.Is a) (clerks.MembersOf b) m n = refl
+by_parts (clerks.MembersOf a) clerks.Any m n = refl
+by_parts (clerks.MembersOf a) (clerks.Is b) m n = refl
+by_parts (clerks.MembersOf a) (clerks.MembersOf b) Any Any = refl
+by_parts (clerks.MembersOf a) (clerks.MembersOf b) Any (Is z) = refl
+by_parts (clerks.MembersOf a) (clerks.MembersOf b) (Is y) Any = refl
+by_parts (clerks.MembersOf a) (clerks.MembersOf b) (Is y) (Is z) = refl
 
 -- keys tie where they are the same
-is_eq-key_cmp : (k q : Key) → is_eq (key_cmp k q) ≡ (same_pattern k.clerk q.clerk && same_pattern k.maildrop q.maildrop)
+is_eq-key_cmp : (k q : Key) → is_eq (key_cmp k q) ≡ (same_clerks k.clerk q.clerk && same_pattern k.maildrop q.maildrop)
 is_eq-key_cmp k q =
-    ap is_eq (by_parts k.clerk k.maildrop q.clerk q.maildrop)
-    ∙ is_eq-then (pattern_cmp k.clerk q.clerk) (pattern_cmp k.maildrop q.maildrop)
-    ∙ ap (λ (b : Bool). b && is_eq (pattern_cmp k.maildrop q.maildrop)) (is_eq-pattern_cmp k.clerk q.clerk)
-    ∙ ap (λ (b : Bool). same_pattern k.clerk q.clerk && b) (is_eq-pattern_cmp k.maildrop q.maildrop)
+    ap is_eq (by_parts k.clerk q.clerk k.maildrop q.maildrop)
+    ∙ is_eq-then (clerks_cmp k.clerk q.clerk) (pattern_cmp k.maildrop q.maildrop)
+    ∙ ap (λ (b : Bool). b && is_eq (pattern_cmp k.maildrop q.maildrop)) (is_eq-clerks_cmp k.clerk q.clerk)
+    ∙ ap (λ (b : Bool). same_clerks k.clerk q.clerk && b) (is_eq-pattern_cmp k.maildrop q.maildrop)
 
 -- ---- one rule more
 

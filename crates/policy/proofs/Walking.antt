@@ -10,10 +10,12 @@ use Rattle.std.specs.List.{position_or_len}
 use Rattle.std.specs.Str.{bytes_eq}
 use Rattle.policy.specs.declared.index.Index.{Index}
 use Rattle.policy.specs.declared.key.Key.{Key}
+use Rattle.policy.specs.declared.rule.Clerks.{Clerks}
+use Rattle.policy.specs.declared.rule.Clerks.TheVariants as clerks
 use Rattle.policy.specs.declared.rule.Pattern.{Pattern}
 use Rattle.policy.specs.declared.rule.Pattern.TheVariants.{Any, Is}
 use Rattle.policy.specs.declared.rule.Rule.{Rule}
-use Rattle.policy.specs.Index.{same_pattern, key_of, has_key, place_from, IsIndexOf}
+use Rattle.policy.specs.Index.{same_clerks, same_pattern, key_of, has_key, place_from, IsIndexOf}
 
 -- ---- places
 
@@ -127,27 +129,30 @@ same_patterns Any (Is b) e = absurd (true≢false (sym e))
 same_patterns (Is a) Any e = absurd (true≢false (sym e))
 same_patterns (Is a) (Is b) e = ap Is (same_names a b e)
 
+same_clerks-is : (p q : Clerks) → same_clerks p q ≡ true → p ≡ q
+same_clerks-is clerks.Any clerks.Any e = refl
+same_clerks-is clerks.Any (clerks.Is b) e = absurd (true≢false (sym e))
+same_clerks-is clerks.Any (clerks.MembersOf b) e = absurd (true≢false (sym e))
+same_clerks-is (clerks.Is a) clerks.Any e = absurd (true≢false (sym e))
+same_clerks-is (clerks.Is a) (clerks.Is b) e = ap clerks.Is (same_names a b e)
+same_clerks-is (clerks.Is a) (clerks.MembersOf b) e = absurd (true≢false (sym e))
+same_clerks-is (clerks.MembersOf a) clerks.Any e = absurd (true≢false (sym e))
+same_clerks-is (clerks.MembersOf a) (clerks.Is b) e = absurd (true≢false (sym e))
+same_clerks-is (clerks.MembersOf a) (clerks.MembersOf b) e = ap clerks.MembersOf (same_names a b e)
+
 -- what has the key k has no other
 key_is : (k : Key) (r : Rule) → has_key k r ≡ true → key_of r ≡ k
 key_is k r e =
-    let both = and_parts (same_pattern r.clerk k.clerk) (same_pattern r.maildrop k.maildrop) e in
-    rw (same_patterns r.clerk k.clerk both.0, same_patterns r.maildrop k.maildrop both.1) refl
+    let both = and_parts (same_clerks r.clerk k.clerk) (same_pattern r.maildrop k.maildrop) e in
+    rw (same_clerks-is r.clerk k.clerk both.0, same_patterns r.maildrop k.maildrop both.1) refl
 
 -- the walk stands at a place of the key, or behind the end, and no rule before it is the one that is looked for
 pub record Walks (h q : Rule → Bool) (rules : List Rule) (place : ℕ) : Type 0 where
   pub here : place_from h place (drop place rules) ≡ place
   pub same : place_from (λ r. h r && q r) 0 rules ≡ place_from (λ r. h r && q r) place (drop place rules)
 
--- the walk stands there, and so many rules of the key stand before it
-pub record Counts (h : Rule → Bool) (rules : List Rule) (place count : ℕ) : Type 0 where
-  pub here : place_from h place (drop place rules) ≡ place
-  pub so_far : length (filter h rules) ≡ count + length (filter h (drop place rules))
-
 pub walks_start : (h q : Rule → Bool) (rules : List Rule) (start : ℕ) → start ≡ place_from h 0 rules → Walks h q rules start
 walks_start h q rules start e = let r = reaches h q 0 rules in rw e (record { here = r.here; same = r.same })
-
-pub counts_start : (h : Rule → Bool) (rules : List Rule) (start : ℕ) → start ≡ place_from h 0 rules → Counts h rules start 0
-counts_start h rules start e = let r = reaches h h 0 rules in rw e (record { here = r.here; so_far = r.as_many ∙ omega arith })
 
 -- the walk stands at a rule that has the key
 stands : (b : Bool) (place later : ℕ) → place + 1 ≤ later → cond b place later ≡ place → b ≡ true
@@ -200,21 +205,6 @@ walks_on k q rules i place next r l lt own not_it n w =
     ap (place_from (λ s. h s && q s) place) there ∙ rw (has, not_it) refl in
     rw to (record { here = m.here; same = w.same ∙ passed ∙ m.same })
 
-pub counts_on : (k : Key) (rules : List Rule) (i : Index) (place next count : ℕ) → IsIndexOf rules i → place < length rules
-    → next ≡ get_or i.next.items place next → Counts (has_key k) rules place count → Counts (has_key k) rules next (count + 1)
-counts_on k rules i place next count l lt n w =
-    let h = has_key k in
-    let d = some_rule rules place lt in
-    let r = get_or rules place d in
-    let own : r ≡ get_or rules place r = get_or_default rules place d r lt in
-    let there = standing rules place r lt own in
-    let has = has_the_key h rules place r there w.here in
-    let to = next_of k r rules place next has own (next_place rules i place r next l lt n) in
-    let m = reaches h h (place + 1) rules in
-    let one : length (filter h (drop place rules)) ≡ suc (length (filter h (drop (place + 1) rules))) =
-    ap (λ (rs : List Rule). length (filter h rs)) there ∙ rw has refl in
-    rw to (record { here = m.here; so_far = omega (arith, w.so_far, one, m.as_many) })
-
 -- the one is here
 pub walks_found : (h q : Rule → Bool) (rules : List Rule) (place : ℕ) (r : Rule) → place < length rules → r ≡ get_or rules place r → q r ≡ true
     → Walks h q rules place → place ≡ place_from (λ s. h s && q s) 0 rules
@@ -226,8 +216,3 @@ walks_found h q rules place r lt own is_it w =
 -- there is none
 pub walks_end : (h q : Rule → Bool) (rules : List Rule) (place : ℕ) → length rules ≤ place → Walks h q rules place → place ≡ place_from (λ s. h s && q s) 0 rules
 walks_end h q rules place le w = sym (w.same ∙ ap (place_from (λ s. h s && q s) place) (drop_of_length-le rules le))
-
-pub counts_end : (h : Rule → Bool) (rules : List Rule) (place count : ℕ) → length rules ≤ place → Counts h rules place count → count ≡ length (filter h rules)
-counts_end h rules place count le w =
-    let none : length (filter h (drop place rules)) ≡ 0 = ap (λ (rs : List Rule). length (filter h rs)) (drop_of_length-le rules le) in
-    omega (arith, w.so_far, none)

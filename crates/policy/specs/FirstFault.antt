@@ -1,9 +1,10 @@
--- What the number of a fault says: the rules before that one are read, and it has the fault behind them.
+-- What a rule's number of a fault says: the groups and the rules before that one are read, and it has the fault behind them.
 use Rattle.std.specs.Prelude.{◌≡◌, ℕ, zero, suc, ◌+◌, List, [], length, codes, Option, Some, None, Ok, Err}
 use Rattle.toml.specs.Data.{Data, Items, no_items, item, Members, get_member}
 use Rattle.toml.specs.Parse.{parse_document}
 use Rattle.policy.specs.WrittenText.{fault_number}
-use Rattle.policy.specs.PolicyText.{rule_at, rules_from, rule_tables, rules_of}
+use Rattle.policy.specs.Policy.{Group}
+use Rattle.policy.specs.PolicyText.{groups_from, rule_at, rules_from, tables_at, rules_of}
 use Rattle.policy.specs.declared.fault.PolicyFault.{PolicyFault}
 use Rattle.policy.specs.declared.rule.Rule.{Rule}
 
@@ -20,22 +21,26 @@ item_at (item d ds) zero = Some d
 item_at (item d ds) (suc n) = item_at ds n
 
 -- the items before number n are these rules, and behind them item n has this fault; numbers count from 1
-pub record IsFirstFault (ds : Items) (n : ℕ) (f : PolicyFault) : Type 0 where
+pub record IsFirstFault (groups : List Group) (ds : Items) (n : ℕ) (f : PolicyFault) : Type 0 where
   pub before : List Rule
   pub number : n ≡ length before + 1
-  pub read : rules_from 1 [] (first_items (length before) ds) ≡ Ok before
+  pub read : rules_from groups 1 [] (first_items (length before) ds) ≡ Ok before
   pub rule : Data
   pub there : item_at ds (length before) ≡ Some rule
-  pub faulty : rule_at n before rule ≡ Err f
+  pub faulty : rule_at groups n before rule ≡ Err f
 
 -- the same, of the items of a text
 pub record IsFirstFaultOf (text : List ℕ) (n : ℕ) (f : PolicyFault) : Type 0 where
   pub members : Members
   pub parsed : parse_document text ≡ Some members
-  pub tables : Items
-  pub listed : rule_tables (get_member (codes "rule") members) ≡ Some tables
-  pub first : IsFirstFault tables n f
+  pub group_tables : Items
+  pub groups_listed : tables_at (get_member (codes "group") members) ≡ Some group_tables
+  pub groups : List Group
+  pub groups_read : groups_from 1 [] group_tables ≡ Ok groups
+  pub rule_tables : Items
+  pub rules_listed : tables_at (get_member (codes "rule") members) ≡ Some rule_tables
+  pub first : IsFirstFault groups rule_tables n f
 
--- a text's fault with a rule's number is the first: the rules before that one are read
+-- a text's fault with a rule's number is the first: all groups, and the rules before that one, are read
 abbrev pub NumbersTheFirstFault : Type 0
 NumbersTheFirstFault = (text : List ℕ) (n : ℕ) (f : PolicyFault) → rules_of text ≡ Err f → fault_number f ≡ Some (suc n) → IsFirstFaultOf text (suc n) f

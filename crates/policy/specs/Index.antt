@@ -6,6 +6,8 @@ use Rattle.std.specs.declared.cmp.Ordering.{Ordering}
 use Rattle.policy.specs.declared.index.Index.{Index}
 use Rattle.policy.specs.declared.key.Key.{Key}
 use Rattle.policy.specs.contracts.key.KeyOrd.TheImpl as key_ord
+use Rattle.policy.specs.declared.rule.Clerks.{Clerks}
+use Rattle.policy.specs.declared.rule.Clerks.TheVariants as clerks
 use Rattle.policy.specs.declared.rule.Pattern.{Pattern}
 use Rattle.policy.specs.declared.rule.Pattern.TheVariants.{Any, Is}
 use Rattle.policy.specs.declared.rule.Rule.{Rule}
@@ -17,20 +19,32 @@ same_pattern Any (Is b) = false
 same_pattern (Is a) Any = false
 same_pattern (Is a) (Is b) = bytes_eq a b
 
--- the clerk and the maildrop that a rule names
+-- both are `*`, or both the same name, or both the group of the same name
+abbrev pub same_clerks : Clerks → Clerks → Bool
+same_clerks clerks.Any clerks.Any = true
+same_clerks clerks.Any (clerks.Is b) = false
+same_clerks clerks.Any (clerks.MembersOf b) = false
+same_clerks (clerks.Is a) clerks.Any = false
+same_clerks (clerks.Is a) (clerks.Is b) = bytes_eq a b
+same_clerks (clerks.Is a) (clerks.MembersOf b) = false
+same_clerks (clerks.MembersOf a) clerks.Any = false
+same_clerks (clerks.MembersOf a) (clerks.Is b) = false
+same_clerks (clerks.MembersOf a) (clerks.MembersOf b) = bytes_eq a b
+
+-- the clerks and the maildrop that a rule names
 abbrev pub key_of : Rule → Key
 key_of r = record { clerk = r.clerk; maildrop = r.maildrop }
 
--- the rule names the clerk and the maildrop so
+-- the rule names the clerks and the maildrop so
 abbrev pub has_key : Key → Rule → Bool
-has_key k r = same_pattern r.clerk k.clerk && same_pattern r.maildrop k.maildrop
+has_key k r = same_clerks r.clerk k.clerk && same_pattern r.maildrop k.maildrop
 
 -- the place of the first rule that passes the test, where the first of all has place n; the place behind them where none does
 abbrev pub place_from : (Rule → Bool) → ℕ → List Rule → ℕ
 place_from p n [] = n
 place_from p n (r ∷ rs) = cond (p r) n (place_from p (n + 1) rs)
 
--- the order of keys: `*` comes before the names, which are in the order of their octets
+-- the order of keys: `*` comes before the names, those before the groups, and names are in the order of their octets
 abbrev pub key_cmp : Key → Key → Ordering
 key_cmp = (key_ord.ghosts).cmp
 

@@ -1,12 +1,16 @@
 -- The rules about one clerk and one maildrop.
-use Rattle.std.specs.Prelude.{◌≡◌, ℕ, Bool, ◌&&◌, List, filter}
+use Rattle.std.specs.Prelude.{◌≡◌, ℕ, Bool, true, false, ◌&&◌, List, filter}
+use Rattle.std.specs.List.{list_any}
+use Rattle.std.specs.Str.{bytes_eq}
 use Rattle.policy.specs.declared.index.Starts.{Starts}
 use Rattle.policy.specs.declared.rule.Action.{Action}
+use Rattle.policy.specs.declared.rule.Clerks.{Clerks}
+use Rattle.policy.specs.declared.rule.Clerks.TheVariants as clerks
 use Rattle.policy.specs.declared.rule.Pattern.{Pattern}
 use Rattle.policy.specs.declared.rule.Pattern.TheVariants.{Any, Is}
 use Rattle.policy.specs.declared.rule.Rule.{Rule}
-use Rattle.policy.specs.Index.{has_key, place_from}
-use Rattle.policy.specs.Policy.{Policy, fits, fits_class, lists}
+use Rattle.policy.specs.Index.{has_key, place_from, same_clerks}
+use Rattle.policy.specs.Policy.{Group, Policy, fits, fits_class, fits_clerk, has_member, lists}
 
 -- a clerk and a maildrop, under a policy
 pub record Lane : Type 0 where
@@ -15,24 +19,42 @@ pub record Lane : Type 0 where
   pub maildrop : List ℕ
 
 -- the rule is about the clerk and the maildrop
-abbrev pub is_about : (clerk maildrop : List ℕ) → Rule → Bool
-is_about clerk maildrop r = fits r.clerk clerk && fits r.maildrop maildrop
+abbrev pub is_about : List Group → (clerk maildrop : List ℕ) → Rule → Bool
+is_about groups clerk maildrop r = fits_clerk groups r.clerk clerk && fits r.maildrop maildrop
+
+-- `*`, or the clerk's name
+abbrev pub names_one : Clerks → (clerk : List ℕ) → Bool
+names_one clerks.Any clerk = true
+names_one (clerks.Is wanted) clerk = bytes_eq wanted clerk
+names_one (clerks.MembersOf name) clerk = false
 
 -- the rules that are about them, in order
 abbrev pub rules_about : Lane → List Rule
-rules_about lane = filter (is_about lane.clerk lane.maildrop) lane.policy.rules
+rules_about lane = filter (is_about lane.policy.groups lane.clerk lane.maildrop) lane.policy.rules
 
 -- the rule is about the action, and about the class
 abbrev pub is_about_action : Action → (class : List ℕ) → Rule → Bool
 is_about_action action class r = lists r.actions action && fits_class action r.class class
 
--- the place of the first rule that names the clerk and the maildrop so
-abbrev pub start_of : List Rule → (clerk maildrop : Pattern) → ℕ
+-- the rule is about the clerk by name or by `*`, and about the maildrop
+abbrev pub is_about_one : (clerk maildrop : List ℕ) → Rule → Bool
+is_about_one clerk maildrop r = names_one r.clerk clerk && fits r.maildrop maildrop
+
+-- the rule is about the group of that name, and about the maildrop
+abbrev pub is_about_group : (name maildrop : List ℕ) → Rule → Bool
+is_about_group name maildrop r = same_clerks r.clerk (clerks.MembersOf name) && fits r.maildrop maildrop
+
+-- the rule is about a group that the clerk is a member of, and about the maildrop
+abbrev pub is_about_groups : List Group → (clerk maildrop : List ℕ) → Rule → Bool
+is_about_groups groups clerk maildrop r = list_any (λ g. has_member g clerk && is_about_group g.name maildrop r) groups
+
+-- the place of the first rule that names the clerks and the maildrop so
+abbrev pub start_of : List Rule → (clerk : Clerks) (maildrop : Pattern) → ℕ
 start_of rules clerk maildrop = place_from (has_key (record { clerk = clerk; maildrop = maildrop })) 0 rules
 
--- where the rules about a clerk and a maildrop begin: those of both names, of one, and of none
+-- where the rules about a clerk and a maildrop that name no group begin: those of both names, of one, and of none
 pub record AreStarts (clerk maildrop : List ℕ) (rules : List Rule) (s : Starts) : Type 0 where
-  pub both : s.both ≡ start_of rules (Is clerk) (Is maildrop)
-  pub one_clerk : s.clerk ≡ start_of rules (Is clerk) Any
-  pub one_maildrop : s.maildrop ≡ start_of rules Any (Is maildrop)
-  pub all : s.all ≡ start_of rules Any Any
+  pub both : s.both ≡ start_of rules (clerks.Is clerk) (Is maildrop)
+  pub one_clerk : s.clerk ≡ start_of rules (clerks.Is clerk) Any
+  pub one_maildrop : s.maildrop ≡ start_of rules clerks.Any (Is maildrop)
+  pub all : s.all ≡ start_of rules clerks.Any Any

@@ -1,5 +1,5 @@
--- A policy: its rules, which of them decides, and when a policy is sound.
-use Rattle.std.specs.Prelude.{ℕ, Bool, true, false, ◌&&◌, ◌||◌, not, nat_le, List, [], ◌∷◌, length, codes, Option, Some, None, if◌then◌else◌, find}
+-- A policy: its groups and its rules, which of them decides, and when a policy is sound.
+use Rattle.std.specs.Prelude.{ℕ, Bool, true, false, ◌&&◌, ◌||◌, not, nat_le, nat_lt, List, [], ◌∷◌, length, codes, Option, Some, None, if◌then◌else◌, find}
 use Rattle.std.specs.List.{list_all, list_any}
 use Rattle.std.specs.Str.{bytes_eq}
 use Rattle.creds.specs.Names.{is_name}
@@ -7,14 +7,22 @@ use Rattle.policy.specs.declared.decide.Decision.{Decision}
 use Rattle.policy.specs.declared.rule.Action.{Action}
 use Rattle.policy.specs.declared.rule.Action.TheVariants.{Open, Read, Remove}
 use Rattle.policy.specs.declared.rule.Actions.{Actions}
+use Rattle.policy.specs.declared.rule.Clerks.{Clerks}
+use Rattle.policy.specs.declared.rule.Clerks.TheVariants as clerks
 use Rattle.policy.specs.declared.rule.Effect.{Effect}
 use Rattle.policy.specs.declared.rule.Effect.TheVariants.{Allow, Deny}
 use Rattle.policy.specs.declared.rule.Pattern.{Pattern}
 use Rattle.policy.specs.declared.rule.Pattern.TheVariants.{Any, Is}
 use Rattle.policy.specs.declared.rule.Rule.{Rule}
 
--- a policy is its rules, in order
+-- a group of clerks is its name and its members, in order
+pub record Group : Type 0 where
+  pub name : List ℕ
+  pub members : List (List ℕ)
+
+-- a policy is its groups and its rules, in order
 pub record Policy : Type 0 where
+  pub groups : List Group
   pub rules : List Rule
 
 -- ---- the decision
@@ -27,6 +35,20 @@ default_rule = codes "default"
 abbrev pub fits : Pattern → List ℕ → Bool
 fits Any name = true
 fits (Is wanted) name = bytes_eq wanted name
+
+-- the clerk is one of the group
+abbrev pub has_member : Group → (clerk : List ℕ) → Bool
+has_member g clerk = list_any (λ m. bytes_eq m clerk) g.members
+
+-- the clerk is one of the group of that name
+abbrev pub is_member : List Group → (name clerk : List ℕ) → Bool
+is_member groups name clerk = list_any (λ g. bytes_eq name g.name && has_member g clerk) groups
+
+-- `*` fits every clerk, a name the clerk of that name, and `@` with a name the members of that group
+abbrev pub fits_clerk : List Group → Clerks → (clerk : List ℕ) → Bool
+fits_clerk groups clerks.Any clerk = true
+fits_clerk groups (clerks.Is wanted) clerk = bytes_eq wanted clerk
+fits_clerk groups (clerks.MembersOf name) clerk = is_member groups name clerk
 
 -- the action is one of those listed
 abbrev pub lists : Actions → Action → Bool
@@ -41,9 +63,9 @@ fits_class Read wanted class = fits wanted class
 fits_class Remove wanted class = fits wanted class
 
 -- a rule matches where it lists the action and is about the clerk, the maildrop and the class
-abbrev pub matches : (clerk maildrop class : List ℕ) → Action → Rule → Bool
-matches clerk maildrop class action r =
-    lists r.actions action && fits r.clerk clerk && fits r.maildrop maildrop && fits_class action r.class class
+abbrev pub matches : List Group → (clerk maildrop class : List ℕ) → Action → Rule → Bool
+matches groups clerk maildrop class action r =
+    lists r.actions action && fits_clerk groups r.clerk clerk && fits r.maildrop maildrop && fits_class action r.class class
 
 -- the effect allows
 abbrev pub allows : Effect → Bool
@@ -57,7 +79,7 @@ decision_of (Some r) = record { allowed = allows r.effect; rule = r.name }
 
 -- the first rule that matches decides
 abbrev pub decide : Policy → (clerk maildrop class : List ℕ) → Action → Decision
-decide p clerk maildrop class action = decision_of (find (matches clerk maildrop class action) p.rules)
+decide p clerk maildrop class action = decision_of (find (matches p.groups clerk maildrop class action) p.rules)
 
 -- ---- soundness
 
@@ -80,6 +102,12 @@ abbrev pub is_pattern : Pattern → Bool
 is_pattern Any = true
 is_pattern (Is name) = is_name name
 
+-- `*`, a clerk's name, or `@` and a group's name
+abbrev pub are_clerks : Clerks → Bool
+are_clerks clerks.Any = true
+are_clerks (clerks.Is name) = is_name name
+are_clerks (clerks.MembersOf name) = is_name name
+
 -- at least one action is listed
 abbrev pub lists_any : Actions → Bool
 lists_any listed = listed.open || listed.read || listed.remove
@@ -87,7 +115,7 @@ lists_any listed = listed.open || listed.read || listed.remove
 -- a rule's name is a name but `default`, it lists an action, and it is about any class where it lists `open`
 abbrev pub is_sound_rule : Rule → Bool
 is_sound_rule r =
-    is_name r.name && not (bytes_eq r.name default_rule) && is_pattern r.clerk && is_pattern r.maildrop && is_pattern r.class
+    is_name r.name && not (bytes_eq r.name default_rule) && are_clerks r.clerk && is_pattern r.maildrop && is_pattern r.class
     && lists_any r.actions && (not r.actions.open || is_any r.class)
 
 -- the greatest number of rules
@@ -98,10 +126,52 @@ most_rules = 1000
 abbrev pub are_sound_rules : List Rule → Bool
 are_sound_rules rules = list_all is_sound_rule rules && are_distinct same_name rules && nat_le (length rules) most_rules
 
--- its rules are sound
-abbrev pub is_sound_policy : Policy → Bool
-is_sound_policy p = are_sound_rules p.rules
+-- the greatest number of members of a group
+abbrev pub most_members : ℕ
+most_members = 200
 
--- the policy of these rules, where they are sound
+-- at least one member, no two the same, and not too many
+abbrev pub are_members : List (List ℕ) → Bool
+are_members names = nat_lt 0 (length names) && nat_le (length names) most_members && are_distinct bytes_eq names
+
+-- a group's name and its members' names are names
+abbrev pub is_sound_group : Group → Bool
+is_sound_group g = is_name g.name && list_all is_name g.members && are_members g.members
+
+-- two groups with one name
+abbrev pub same_group : Group → Group → Bool
+same_group g h = bytes_eq g.name h.name
+
+-- the greatest number of groups
+abbrev pub most_groups : ℕ
+most_groups = 100
+
+-- sound groups, each with a name of its own, and not too many
+abbrev pub are_sound_groups : List Group → Bool
+are_sound_groups groups = list_all is_sound_group groups && are_distinct same_group groups && nat_le (length groups) most_groups
+
+-- one of the groups has the name
+abbrev pub has_group : List Group → (name : List ℕ) → Bool
+has_group groups name = list_any (λ g. bytes_eq g.name name) groups
+
+-- a group that is named is there
+abbrev pub are_known : List Group → Clerks → Bool
+are_known groups clerks.Any = true
+are_known groups (clerks.Is name) = true
+are_known groups (clerks.MembersOf name) = has_group groups name
+
+-- each rule is about clerks that are known
+abbrev pub know_groups : List Group → List Rule → Bool
+know_groups groups rules = list_all (λ r. are_known groups r.clerk) rules
+
+-- its groups and its rules are sound, and its rules name no other groups
+abbrev pub is_sound_policy : Policy → Bool
+is_sound_policy p = are_sound_groups p.groups && are_sound_rules p.rules && know_groups p.groups p.rules
+
+-- the policy of these groups and rules, where it is sound
+abbrev pub policy_with : List Group → List Rule → Option Policy
+policy_with groups rules = if is_sound_policy (record { groups = groups; rules = rules }) then Some (record { groups = groups; rules = rules }) else None
+
+-- the policy of these rules without groups
 abbrev pub policy_of : List Rule → Option Policy
-policy_of rules = if are_sound_rules rules then Some (record { rules = rules }) else None
+policy_of rules = policy_with [] rules

@@ -1,19 +1,21 @@
--- The text of a policy, which is TOML 1.0: its rules or its first fault. What is written of a policy stands in WrittenText.
-use Rattle.std.specs.Prelude.{ℕ, ◌+◌, ◌&&◌, ◌||◌, not, nat_le, Bool, true, false, List, [], ◌∷◌, ◌++◌, codes, Option, Some, None, option_and_then, is_some, Result, Ok, Err, if◌then◌else◌}
+-- The text of a policy, which is TOML 1.0: its groups and rules, or its first fault. What is written of a policy stands in WrittenText.
+use Rattle.std.specs.Prelude.{ℕ, ◌+◌, ◌&&◌, ◌||◌, not, nat_le, Bool, true, false, List, [], ◌∷◌, ◌++◌, codes, Option, Some, None, option_and_then, option_map, is_some, take, drop, Result, Ok, Err, if◌then◌else◌}
 use Rattle.std.specs.List.{list_any}
 use Rattle.std.specs.Str.{bytes_eq}
 use Rattle.toml.specs.Data.{Data, Items, no_items, item, Members, no_members, member, get_member, as_str, as_array, as_table}
 use Rattle.toml.specs.View.{view}
 use Rattle.toml.specs.Parse.{parse_document}
 use Rattle.creds.specs.Names.{name_of, is_name}
-use Rattle.policy.specs.Policy.{Policy, default_rule, is_any, is_pattern, most_rules}
+use Rattle.policy.specs.Policy.{Group, Policy, default_rule, has_group, are_known, are_clerks, are_members, is_any, is_pattern, most_groups, most_rules}
 use Rattle.policy.specs.declared.fault.PolicyFault.{PolicyFault}
-use Rattle.policy.specs.declared.fault.PolicyFault.TheVariants.{NotToml, MissingKey, UnknownKey, BadName, DoubleName, BadEffect, BadActions, OpenWithClass, TooMany}
+use Rattle.policy.specs.declared.fault.PolicyFault.TheVariants.{NotToml, GroupKeys, GroupName, GroupDouble, GroupMembers, MissingKey, UnknownKey, BadName, UnknownGroup, DoubleName, BadEffect, BadActions, OpenWithClass, TooMany, TooManyGroups}
 use Rattle.policy.specs.declared.read.Settings.{Settings as SettingValues}
 use Rattle.policy.specs.declared.read.Subject.{Subject}
 use Rattle.policy.specs.declared.rule.Action.{Action}
 use Rattle.policy.specs.declared.rule.Action.TheVariants.{Open, Read, Remove}
 use Rattle.policy.specs.declared.rule.Actions.{Actions}
+use Rattle.policy.specs.declared.rule.Clerks.{Clerks}
+use Rattle.policy.specs.declared.rule.Clerks.TheVariants as clerks
 use Rattle.policy.specs.declared.rule.Effect.{Effect}
 use Rattle.policy.specs.declared.rule.Effect.TheVariants.{Allow, Deny}
 use Rattle.policy.specs.declared.rule.Pattern.{Pattern}
@@ -43,6 +45,51 @@ abbrev pub all_keys : (List ℕ → Bool) → Members → Bool
 all_keys p no_members = true
 all_keys p (member k d ms) = p k && all_keys p ms
 
+-- ---- the groups
+
+-- the keys of a group
+unfoldable pub is_group_key : List ℕ → Bool
+is_group_key k = bytes_eq k (codes "name") || bytes_eq k (codes "members")
+
+-- a text that is a name
+abbrev pub name_at : Data → Option (List ℕ)
+name_at d = option_and_then name_of (as_str d)
+
+-- the names of the items, behind the names before them
+unfoldable pub names_from : List (List ℕ) → Items → Option (List (List ℕ))
+names_from before no_items = Some before
+names_from before (item d ds) = option_and_then (λ name. names_from (before ++ name ∷ []) ds) (name_at d)
+
+-- the names, where they can be a group's members
+abbrev pub members_if : List (List ℕ) → Option (List (List ℕ))
+members_if names = if are_members names then Some names else None
+
+-- the members of an array
+abbrev pub members_of : Data → Option (List (List ℕ))
+members_of d = option_and_then (λ ds. option_and_then members_if (names_from [] ds)) (as_array d)
+
+-- the group of number n, behind the groups before it, or its first fault
+unfoldable pub group_of : ℕ → List Group → Members → Result Group PolicyFault
+group_of n before ms = do
+  name_value ← value_or (get_member (codes "name") ms) (GroupKeys n)
+  members_value ← value_or (get_member (codes "members") ms) (GroupKeys n)
+  known ← demand (all_keys is_group_key ms) (GroupKeys n)
+  name ← value_or (name_at name_value) (GroupName n)
+  single ← demand (not (has_group before name)) (GroupDouble n)
+  members ← value_or (members_of members_value) (GroupMembers n)
+  Ok (record { name = name; members = members })
+
+-- the group of an item of number n
+abbrev pub group_at : ℕ → List Group → Data → Result Group PolicyFault
+group_at n before d = value_or (as_table d) NotToml >>= group_of n before
+
+-- the groups of the items, the first of them of number n, behind the groups before them
+unfoldable pub groups_from : ℕ → List Group → Items → Result (List Group) PolicyFault
+groups_from n before no_items = Ok before
+groups_from n before (item d ds) = group_at n before d >>= (λ g. groups_from (n + 1) (before ++ g ∷ []) ds)
+
+-- ---- a rule
+
 -- the keys of a rule
 unfoldable pub is_rule_key : List ℕ → Bool
 is_rule_key k =
@@ -61,6 +108,17 @@ named (Some name) = Some (Is name)
 -- `*`, or a name
 abbrev pub pattern_of : Data → Option Pattern
 pattern_of d = option_and_then (λ s. if bytes_eq s (codes "*") then Some Any else named (name_of s)) (as_str d)
+
+-- the clerks of a text: `*`, `@` and a group's name, or a clerk's name
+abbrev pub clerks_named : List ℕ → Option Clerks
+clerks_named s =
+    if bytes_eq s (codes "*") then Some clerks.Any
+    else if bytes_eq (take 1 s) (codes "@") then option_map clerks.MembersOf (name_of (drop 1 s))
+    else option_map clerks.Is (name_of s)
+
+-- the same, of a value
+abbrev pub clerks_of : Data → Option Clerks
+clerks_of d = option_and_then clerks_named (as_str d)
 
 -- `allow` or `deny`
 abbrev pub effect_of : Data → Option Effect
@@ -131,15 +189,16 @@ settings_of n ms = do
 
 -- a name but `default`, and patterns
 abbrev pub is_sound_subject : Subject → Bool
-is_sound_subject s = is_name s.name && not (bytes_eq s.name default_rule) && is_pattern s.clerk && is_pattern s.maildrop && is_pattern s.class
+is_sound_subject s = is_name s.name && not (bytes_eq s.name default_rule) && are_clerks s.clerk && is_pattern s.maildrop && is_pattern s.class
 
--- the names of rule n, behind the rules before it
-unfoldable pub subject_of : ℕ → List Rule → Settings → Result Subject PolicyFault
-subject_of n before settings = do
+-- the names of rule n, behind the groups and the rules before it
+unfoldable pub subject_of : List Group → ℕ → List Rule → Settings → Result Subject PolicyFault
+subject_of groups n before settings = do
   name ← value_or (rule_name_of settings.name) (BadName n)
-  clerk ← value_or (pattern_of settings.clerk) (BadName n)
+  clerk ← value_or (clerks_of settings.clerk) (BadName n)
   maildrop ← value_or (pattern_of settings.maildrop) (BadName n)
   class ← value_or (pattern_of settings.class) (BadName n)
+  there ← demand (are_known groups clerk) (UnknownGroup n)
   single ← demand (not (has_name before name)) (DoubleName n)
   Ok (record { name = name; clerk = clerk; maildrop = maildrop; class = class })
 
@@ -151,21 +210,23 @@ decided n subject settings = do
   general ← demand (not actions.open || is_any subject.class) (OpenWithClass n)
   Ok (record { name = subject.name; effect = effect; clerk = subject.clerk; maildrop = subject.maildrop; class = subject.class; actions = actions })
 
--- the rule of number n, behind the rules before it, or its first fault
-unfoldable pub rule_of : ℕ → List Rule → Members → Result Rule PolicyFault
-rule_of n before ms = do
+-- the rule of number n, behind the groups and the rules before it, or its first fault
+unfoldable pub rule_of : List Group → ℕ → List Rule → Members → Result Rule PolicyFault
+rule_of groups n before ms = do
   settings ← settings_of n ms
-  subject ← subject_of n before settings
+  subject ← subject_of groups n before settings
   decided n subject settings
 
 -- the rule of an item of number n
-abbrev pub rule_at : ℕ → List Rule → Data → Result Rule PolicyFault
-rule_at n before d = value_or (as_table d) NotToml >>= rule_of n before
+abbrev pub rule_at : List Group → ℕ → List Rule → Data → Result Rule PolicyFault
+rule_at groups n before d = value_or (as_table d) NotToml >>= rule_of groups n before
 
--- the rules of the items, the first of them of number n, behind the rules before them
-unfoldable pub rules_from : ℕ → List Rule → Items → Result (List Rule) PolicyFault
-rules_from n before no_items = Ok before
-rules_from n before (item d ds) = rule_at n before d >>= (λ r. rules_from (n + 1) (before ++ r ∷ []) ds)
+-- the rules of the items, the first of them of number n, behind the groups and the rules before them
+unfoldable pub rules_from : List Group → ℕ → List Rule → Items → Result (List Rule) PolicyFault
+rules_from groups n before no_items = Ok before
+rules_from groups n before (item d ds) = rule_at groups n before d >>= (λ r. rules_from groups (n + 1) (before ++ r ∷ []) ds)
+
+-- ---- a document
 
 -- each item is a table
 abbrev pub are_tables : Items → Bool
@@ -181,23 +242,26 @@ items_len (item d ds) = 1 + items_len ds
 abbrev pub tables_of : Items → Option Items
 tables_of ds = if are_tables ds then Some ds else None
 
--- the array of tables at `rule`; no items where the key is absent
-abbrev pub rule_tables : Option Data → Option Items
-rule_tables None = Some no_items
-rule_tables (Some d) = option_and_then tables_of (as_array d)
+-- the array of tables at a key; no items where the key is absent
+abbrev pub tables_at : Option Data → Option Items
+tables_at None = Some no_items
+tables_at (Some d) = option_and_then tables_of (as_array d)
 
--- the one key of a document
+-- the two keys of a document
 abbrev pub is_top_key : List ℕ → Bool
-is_top_key k = bytes_eq k (codes "rule")
+is_top_key k = bytes_eq k (codes "group") || bytes_eq k (codes "rule")
 
 -- the policy of a document
 unfoldable pub rules_in : Members → Result Policy PolicyFault
 rules_in ms = do
-  tables ← value_or (rule_tables (get_member (codes "rule") ms)) NotToml
+  group_tables ← value_or (tables_at (get_member (codes "group") ms)) NotToml
+  rule_tables ← value_or (tables_at (get_member (codes "rule") ms)) NotToml
   known ← demand (all_keys is_top_key ms) (UnknownKey 0)
-  few ← demand (nat_le (items_len tables) most_rules) TooMany
-  rules ← rules_from 1 [] tables
-  Ok (record { rules = rules })
+  few ← demand (nat_le (items_len rule_tables) most_rules) TooMany
+  few_groups ← demand (nat_le (items_len group_tables) most_groups) TooManyGroups
+  groups ← groups_from 1 [] group_tables
+  rules ← rules_from groups 1 [] rule_tables
+  Ok (record { groups = groups; rules = rules })
 
 -- the policy of a text, or its first fault
 unfoldable pub rules_of : List ℕ → Result Policy PolicyFault

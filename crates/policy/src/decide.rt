@@ -1,8 +1,9 @@
 //! Which rule decides.
 ghost use Rattle.std.specs.Prelude.{◌≡◌, slice_get};
-ghost use Rattle.policy.specs.Policy.{default_rule, fits, lists, fits_class, decision_of};
+ghost use Rattle.policy.specs.Policy.{default_rule, fits, fits_clerk, is_member, lists, fits_class, decision_of};
 
-use crate::rule::{Action, Actions, Effect, Pattern, Rule};
+use crate::group::Group;
+use crate::rule::{Action, Actions, Clerks, Effect, Pattern, Rule};
 use creds::Name;
 
 /// What a policy answers.
@@ -23,12 +24,32 @@ fn default_name() -> Name
     }
 }
 
-fn pattern_fits(pattern: &Pattern, name: &Name) -> bool
+/// Whether the pattern fits the name.
+pub(crate) fn pattern_fits(pattern: &Pattern, name: &Name) -> bool
     ensures { result ≡ fits pattern.now name.now }
 {
     match pattern {
         Pattern::Any => true,
         Pattern::Is(wanted) => wanted == name,
+    }
+}
+
+fn is_member(groups: &[Group], name: &Name, clerk: &Name) -> bool
+    ensures { result ≡ is_member groups.now name.now clerk.now }
+{
+    groups
+        .iter()
+        .any(|group| *name == *group.name() && group.has(clerk))
+}
+
+/// Whether the rule's clerks have this one among them.
+pub(crate) fn clerk_fits(groups: &[Group], clerks: &Clerks, clerk: &Name) -> bool
+    ensures { result ≡ fits_clerk groups.now clerks.now clerk.now }
+{
+    match clerks {
+        Clerks::Any => true,
+        Clerks::Is(wanted) => wanted == clerk,
+        Clerks::MembersOf(name) => is_member(groups, name, clerk),
     }
 }
 

@@ -1,23 +1,37 @@
 //! Why a text is no policy.
 ghost use Rattle.std.specs.Prelude.{◌≡◌, Some};
-ghost use Rattle.policy.specs.WrittenText.{fault_name, fault_number, fault_text};
+ghost use Rattle.policy.specs.WrittenText.{fault_name, fault_number, fault_text, group_number};
 
 use std::error::Error;
 use std::fmt;
 
-/// Why a text is no policy: its first fault, with the rule's number, counted from 1, where it is a rule's.
+/// Why a text is no policy: its first fault, with the number, counted from 1, of the group or the
+/// rule that has it.
 ///
-/// Printed it is `rule N: ` and the fault's name, or the name alone where the fault has no number.
+/// Printed it is `group N: ` or `rule N: ` and the fault's name, or the name alone where the fault
+/// has no number.
 #[derive(Clone, Copy, PartialEq, Eq)]
 pub enum PolicyFault {
-    /// The text is no TOML 1.0, or `rule` is no array of tables alone.
+    /// The text is no TOML 1.0, or `group` or `rule` is no array of tables alone.
     NotToml,
+    /// A group lacks one of its two keys, or has a third.
+    GroupKeys(usize),
+    /// The group's name is no name.
+    GroupName(usize),
+    /// An earlier group has the name.
+    GroupDouble(usize),
+    /// The members are no array of 1 to 200 names, each another.
+    GroupMembers(usize),
     /// A rule lacks one of its six keys.
     MissingKey(usize),
-    /// A rule has a seventh key, or at number 0 the text has a top key other than `rule`.
+    /// A rule has a seventh key, or at number 0 the text has a top key other than `group` and
+    /// `rule`.
     UnknownKey(usize),
-    /// The rule's name is no name or is `default`, or its clerk, maildrop or class is neither a name nor `*`.
+    /// The rule's name is no name or is `default`, its maildrop or class is neither a name nor `*`,
+    /// or its clerk neither one of these nor `@` with a name.
     BadName(usize),
+    /// The clerk is `@` with a name that no group has.
+    UnknownGroup(usize),
     /// An earlier rule has the name.
     DoubleName(usize),
     /// The effect is neither `allow` nor `deny`.
@@ -28,6 +42,8 @@ pub enum PolicyFault {
     OpenWithClass(usize),
     /// There are more than 1,000 rules.
     TooMany,
+    /// There are more than 100 groups.
+    TooManyGroups,
     /// Memory ran out.
     NoMemory,
 }
@@ -39,19 +55,26 @@ impl PolicyFault {
     {
         match self {
             PolicyFault::NotToml => "NotToml",
+            PolicyFault::GroupKeys(_) => "GroupKeys",
+            PolicyFault::GroupName(_) => "GroupName",
+            PolicyFault::GroupDouble(_) => "GroupDouble",
+            PolicyFault::GroupMembers(_) => "GroupMembers",
             PolicyFault::MissingKey(_) => "MissingKey",
             PolicyFault::UnknownKey(_) => "UnknownKey",
             PolicyFault::BadName(_) => "BadName",
+            PolicyFault::UnknownGroup(_) => "UnknownGroup",
             PolicyFault::DoubleName(_) => "DoubleName",
             PolicyFault::BadEffect(_) => "BadEffect",
             PolicyFault::BadActions(_) => "BadActions",
             PolicyFault::OpenWithClass(_) => "OpenWithClass",
             PolicyFault::TooMany => "TooMany",
+            PolicyFault::TooManyGroups => "TooManyGroups",
             PolicyFault::NoMemory => "NoMemory",
         }
     }
 
-    /// The number of the rule that has the fault, counted from 1; 0 stands for the keys beside the rules.
+    /// The number of the rule that has the fault, counted from 1; 0 stands for the keys beside the
+    /// rules.
     pub fn rule_number(&self) -> Option<usize>
         ensures { result ≡ fault_number self.now }
     {
@@ -59,11 +82,43 @@ impl PolicyFault {
             PolicyFault::MissingKey(n)
             | PolicyFault::UnknownKey(n)
             | PolicyFault::BadName(n)
+            | PolicyFault::UnknownGroup(n)
             | PolicyFault::DoubleName(n)
             | PolicyFault::BadEffect(n)
             | PolicyFault::BadActions(n)
             | PolicyFault::OpenWithClass(n) => Some(*n),
-            PolicyFault::NotToml | PolicyFault::TooMany | PolicyFault::NoMemory => None,
+            PolicyFault::NotToml
+            | PolicyFault::GroupKeys(_)
+            | PolicyFault::GroupName(_)
+            | PolicyFault::GroupDouble(_)
+            | PolicyFault::GroupMembers(_)
+            | PolicyFault::TooMany
+            | PolicyFault::TooManyGroups
+            | PolicyFault::NoMemory => None,
+        }
+    }
+
+    /// The number of the group that has the fault, counted from 1.
+    pub fn group_number(&self) -> Option<usize>
+        ensures { result ≡ group_number self.now }
+    {
+        match self {
+            PolicyFault::GroupKeys(n)
+            | PolicyFault::GroupName(n)
+            | PolicyFault::GroupDouble(n)
+            | PolicyFault::GroupMembers(n) => Some(*n),
+            PolicyFault::NotToml
+            | PolicyFault::MissingKey(_)
+            | PolicyFault::UnknownKey(_)
+            | PolicyFault::BadName(_)
+            | PolicyFault::UnknownGroup(_)
+            | PolicyFault::DoubleName(_)
+            | PolicyFault::BadEffect(_)
+            | PolicyFault::BadActions(_)
+            | PolicyFault::OpenWithClass(_)
+            | PolicyFault::TooMany
+            | PolicyFault::TooManyGroups
+            | PolicyFault::NoMemory => None,
         }
     }
 }
@@ -73,9 +128,10 @@ impl fmt::Display for PolicyFault {
 
     fn fmt<W: fmt::Write>(&self, f: &mut fmt::Formatter<W>) -> fmt::Result {
         let name = self.name();
-        match self.rule_number() {
-            Some(n) => write!(f, "rule {n}: {name}"),
-            None => f.write_str(name),
+        match (self.group_number(), self.rule_number()) {
+            (Some(n), _) => write!(f, "group {n}: {name}"),
+            (None, Some(n)) => write!(f, "rule {n}: {name}"),
+            (None, None) => f.write_str(name),
         }
     }
 }

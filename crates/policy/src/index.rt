@@ -5,12 +5,13 @@ ghost use Rattle.policy.specs.Index.{IsIndexOf, first_place, key_of};
 ghost use Rattle.policy.specs.Lane.{AreStarts};
 
 use crate::key::Key;
-use crate::rule::{Pattern, Rule};
+use crate::rule::{Clerks, Pattern, Rule};
 use creds::Name;
 use std::alloc::{AllocError, Global};
 use std::collections::BTreeMap;
 
-/// The places of the rules by their keys: the first rule of each key, and behind each rule the next one of its key.
+/// The places of the rules by their keys: the first rule of each key, and behind each rule the next
+/// one of its key.
 ///
 /// A place is a rule's number, counted from 0; the number of rules stands for no place.
 #[derive(Drop)]
@@ -53,7 +54,7 @@ pub(crate) fn no_index(alloc: Global) -> Index
 }
 
 /// The first place of a key.
-fn first_place(index: &Index, clerk: &Pattern, maildrop: &Pattern) -> usize
+pub(crate) fn first_place(index: &Index, clerk: &Clerks, maildrop: &Pattern) -> usize
     ensures { result ≡ first_place index.now.first (record { clerk = clerk.now; maildrop = maildrop.now }) (length index.now.next.items) }
 {
     let key = Key {
@@ -66,7 +67,8 @@ fn first_place(index: &Index, clerk: &Pattern, maildrop: &Pattern) -> usize
     }
 }
 
-/// Where the rules about a clerk and a maildrop begin: of those that name both, one of them, and none, the first place each.
+/// Where the rules about a clerk and a maildrop that name no group begin: of those that name both,
+/// one of them, and none, the first place each.
 #[derive(Clone, Copy, Drop)]
 pub(crate) struct Starts {
     pub(crate) both: usize,
@@ -75,17 +77,18 @@ pub(crate) struct Starts {
     pub(crate) all: usize,
 }
 
-/// Where the rules about the clerk and the maildrop begin.
+/// Where the rules about the clerk and the maildrop that name no group begin.
 pub(crate) fn starts_of(index: &Index, clerk: &Name, maildrop: &Name) -> Starts
     ensures { (rules : List Rule) → IsIndexOf rules index.now → AreStarts clerk.now maildrop.now rules result }
 {
-    let clerk = Pattern::Is(*clerk);
+    let clerk = Clerks::Is(*clerk);
     let maildrop = Pattern::Is(*maildrop);
     let any = Pattern::Any;
+    let all = Clerks::Any;
     Starts {
         both: first_place(index, &clerk, &maildrop),
         clerk: first_place(index, &clerk, &any),
-        maildrop: first_place(index, &any, &maildrop),
-        all: first_place(index, &any, &any),
+        maildrop: first_place(index, &all, &maildrop),
+        all: first_place(index, &all, &any),
     }
 }

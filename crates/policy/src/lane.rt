@@ -1,19 +1,21 @@
 //! The rules about one clerk and one maildrop.
-ghost use Rattle.std.specs.Prelude.{◌≡◌, length};
-ghost use Rattle.policy.specs.Lane.{rules_about};
+ghost use Rattle.std.specs.Prelude.{◌≡◌, ◌≤◌, length, filter};
+ghost use Rattle.policy.specs.Lane.{is_about, rules_about};
 ghost use Rattle.policy.specs.Policy.{decide};
 
-use crate::decide::{Decision, decided_at};
+use crate::decide::{Decision, clerk_fits, decided_at, pattern_fits};
+use crate::group::Group;
 use crate::index::Starts;
 use crate::policy::Policy;
-use crate::rule::Action;
-use crate::walk::{count, first_match};
+use crate::rule::{Action, Rule};
+use crate::walk::{first_by_group, first_by_name};
 use creds::Name;
 use std::marker::Model;
 
 /// The rules of a policy that are about one clerk and one maildrop. It takes no memory.
 ///
-/// To ask it costs time by the number of these rules, however many others the policy has.
+/// What it decides costs time by the number of these rules, however many others the policy has, and
+/// by the number of the groups' members.
 #[derive(Drop)]
 pub struct Lane<'a> {
     pub(crate) policy: &'a Policy,
@@ -32,23 +34,52 @@ impl<'a> Model for Lane<'a> {
     ghost invariant = { λ l. AreStarts l.clerk l.maildrop l.policy.now.rules l.starts };
 }
 
+fn is_about(groups: &[Group], clerk: &Name, maildrop: &Name, rule: &Rule) -> bool
+    ensures { result ≡ is_about groups.now clerk.now maildrop.now rule.now }
+{
+    clerk_fits(groups, &rule.clerk, clerk) && pattern_fits(&rule.maildrop, maildrop)
+}
+
+fn count(groups: &[Group], rules: &[Rule], clerk: &Name, maildrop: &Name) -> usize
+    ensures { result ≡ length (filter (is_about groups.now clerk.now maildrop.now) rules.now) }
+{
+    let mut count = 0;
+    for rule in rules {
+        if is_about(groups, clerk, maildrop, rule) {
+            count += 1;
+        }
+    }
+    count
+}
+
 impl<'a> Lane<'a> {
-    /// Whether the clerk may do this to messages of the class in the maildrop, and which rule decides: the policy's first that matches.
+    /// Whether the clerk may do this to messages of the class in the maildrop, and which rule
+    /// decides: the policy's first that matches.
     ///
     /// To open a maildrop is about no class: there `class` plays no part. It takes no memory.
     pub fn decide(&self, class: &Name, action: Action) -> Decision
         ensures { result ≡ decide self.now.policy self.now.clerk self.now.maildrop class.now action }
     {
         let policy = self.policy;
-        let place = first_match(&policy.index, &policy.rules, &self.starts, class, action);
-        decided_at(&policy.rules, place)
+        let named = first_by_name(&policy.index, &policy.rules, &self.starts, class, action);
+        let grouped = first_by_group(
+            &policy.index,
+            &policy.rules,
+            &policy.groups,
+            &self.clerk,
+            &self.maildrop,
+            class,
+            action,
+        );
+        decided_at(&policy.rules, named.min(grouped))
     }
 
-    /// How many rules of the policy are about the clerk and the maildrop. It takes no memory.
+    /// How many rules of the policy are about the clerk and the maildrop. It looks at each rule,
+    /// and takes no memory.
     pub fn places(&self) -> usize
         ensures { result ≡ length (rules_about self.now) }
     {
         let policy = self.policy;
-        count(&policy.index, &policy.rules, &self.starts)
+        count(&policy.groups, &policy.rules, &self.clerk, &self.maildrop)
     }
 }

@@ -1,17 +1,20 @@
 //! An office's policy: which clerk may open, read and remove what.
 //!
-//! A policy is a list of rules, of which the first that matches decides.
-//! It is written as TOML 1.0 (an array of tables `rule`), read with the first fault named, and written back.
+//! A policy is a list of rules, of which the first that matches decides, and the groups of clerks
+//! that they name. It is written as TOML 1.0 (the arrays of tables `group` and `rule`), read with
+//! the first fault named, and written back.
 #![tactic(auto)]
 
 mod decide;
 mod fault;
+mod group;
 mod index;
 mod key;
 mod lane;
 mod laws;
 mod policy;
 mod read;
+mod read_groups;
 mod rule;
 mod sound;
 mod walk;
@@ -19,7 +22,8 @@ mod write;
 
 pub use decide::Decision;
 pub use fault::PolicyFault;
+pub use group::Group;
 pub use lane::Lane;
 pub use laws::numbers_the_first_fault;
-pub use policy::{MAX_RULES, Policy};
-pub use rule::{Action, Actions, Effect, Pattern, Rule};
+pub use policy::{MAX_GROUPS, MAX_MEMBERS, MAX_RULES, Policy};
+pub use rule::{Action, Actions, Clerks, Effect, Pattern, Rule};

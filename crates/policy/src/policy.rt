@@ -1,11 +1,12 @@
 //! A policy and its calls.
 ghost use Rattle.std.specs.Prelude.{◌≡◌, ◌≢◌, ◌==◌, ◌++◌, [], length, true, IsTrue, IfOk, IfErr, OnOk, OnErr};
-ghost use Rattle.policy.specs.Policy.{are_sound_rules, decide, is_sound_policy, policy_of};
+ghost use Rattle.policy.specs.Policy.{decide, is_sound_policy, policy_of, policy_with};
 ghost use Rattle.policy.specs.PolicyText.{rules_of};
 ghost use Rattle.policy.specs.WrittenText.{policy_text};
 
 use crate::decide::Decision;
 use crate::fault::PolicyFault;
+use crate::group::{Group, copies_of};
 use crate::index::{Index, index_of, no_index, starts_of};
 use crate::lane::Lane;
 use crate::read::read_text;
@@ -19,11 +20,21 @@ use std::marker::Model;
 /// The greatest number of rules of a policy.
 pub const MAX_RULES: usize = 1000;
 
-/// An office's policy: at most 1,000 rules in order, each with a name of its own, of which the first that matches decides.
+/// The greatest number of groups of a policy.
+pub const MAX_GROUPS: usize = 100;
+
+/// The greatest number of members of a group.
+pub const MAX_MEMBERS: usize = 200;
+
+/// An office's policy: at most 1,000 rules in order, each with a name of its own, of which the
+/// first that matches decides; and at most 100 groups of 1 to 200 clerks, each group with a name of
+/// its own among groups.
 ///
-/// It is always sound: no rule is named `default`, each lists an action, and one that lists `open` is about any class.
+/// It is always sound: no rule is named `default`, each lists an action, one that lists `open` is
+/// about any class, and a group that a rule names is there.
 #[derive(Drop)]
 pub struct Policy {
+    pub(crate) groups: Vec<Group>,
     pub(crate) rules: Vec<Rule>,
     pub(crate) index: Index,
 }
@@ -31,62 +42,86 @@ pub struct Policy {
 impl Model for Policy {
     ghost use Rattle.std.specs.Prelude.{◌≡◌, true};
     ghost use Rattle.policy.specs.Index.{IsIndexOf};
-    ghost use Rattle.policy.specs.Policy.{Policy, are_sound_rules};
+    ghost use Rattle.policy.specs.Policy.{Policy, is_sound_policy};
 
     ghost Value = { Policy };
 
-    ghost view = { λ p. record { rules = p.rules.items } };
+    ghost view = { λ p. record { groups = p.groups.items; rules = p.rules.items } };
 
-    ghost invariant = { λ p. (are_sound_rules p.rules.items ≡ true) × IsIndexOf p.rules.items p.index };
+    ghost invariant = { λ p. (is_sound_policy (record { groups = p.groups.items; rules = p.rules.items }) ≡ true) × IsIndexOf p.rules.items p.index };
 }
 
-/// The policy of sound rules, with their index.
-fn indexed(rules: Vec<Rule>) -> Result<Policy, AllocError>
-    requires { are_sound_rules rules.items ≡ true }
-    ensures { IfOk result (λ policy. policy ≡ record { rules = rules.items }) }
+/// The policy of these groups and rules, which are sound, with the rules' index.
+fn indexed(groups: Vec<Group>, rules: Vec<Rule>) -> Result<Policy, AllocError>
+    requires { is_sound_policy (record { groups = groups.items; rules = rules.items }) ≡ true }
+    ensures { IfOk result (λ policy. policy ≡ record { groups = groups.items; rules = rules.items }) }
 {
     let index = index_of(*rules.allocator(), &rules)?;
-    Ok(Policy { rules, index })
+    Ok(Policy {
+        groups,
+        rules,
+        index,
+    })
 }
 
 impl Policy {
-    /// The policy without rules, which denies everything. It takes no memory.
+    /// The policy without groups and rules, which denies everything. It takes no memory.
     pub fn new(alloc: Global) -> Policy
-        ensures { result.rules ≡ [] }
+        ensures { result ≡ record { groups = []; rules = [] } }
     {
         Policy {
+            groups: Vec::new(alloc),
             rules: Vec::new(alloc),
             index: no_index(alloc),
         }
     }
 
-    /// Reads a policy's text, TOML 1.0 with the array of tables `rule`.
+    /// Reads a policy's text, TOML 1.0 with the arrays of tables `group` and `rule`.
     ///
-    /// Of the faults `NotToml` comes first, then `UnknownKey(0)` for another top key, then `TooMany`; then the first rule with a
-    /// fault is told, and of its faults the first in the order of `PolicyFault`'s variants. `NoMemory` may come wherever a growth
-    /// is refused.
+    /// Of the faults `NotToml` comes first, then `UnknownKey(0)` for another top key, then
+    /// `TooMany`, then `TooManyGroups`; then the first group with a fault is told, or else the
+    /// first rule with one, and of its faults the first in the order of `PolicyFault`'s variants.
+    /// `NoMemory` may come wherever a growth is refused.
     pub fn read(alloc: Global, text: &str) -> Result<Policy, PolicyFault>
         ensures ok { IfOk result (λ policy. rules_of text.now ≡ Ok policy) }
         ensures fault { IfErr result (λ e. e ≢ PolicyFault.NoMemory → rules_of text.now ≡ Err e) }
         ensures sound { IfOk result (λ policy. IsTrue (is_sound_policy policy)) }
     {
-        let rules = read_text(alloc, text)?;
-        match indexed(rules) {
+        let parts = read_text(alloc, text)?;
+        match indexed(parts.groups, parts.rules) {
             Ok(policy) => Ok(policy),
             Err(_) => Err(PolicyFault::NoMemory),
         }
     }
 
-    /// The policy of these rules, in their order, or `None` where they are not sound:
-    /// more than 1,000, two of one name, or one that no text could spell. An `Err` is want of memory.
+    /// The policy of these rules, in their order, and of no groups; or `None` where they are not
+    /// sound: more than 1,000, two of one name, or one that no text without groups could spell. An
+    /// `Err` is want of memory.
     pub fn from_rules(rules: Vec<Rule>) -> Result<Option<Policy>, AllocError>
         ensures { IfOk result (λ policy. policy ≡ policy_of rules.items) }
     {
-        if !are_sound(&rules) {
+        Policy::from_parts(Vec::new(*rules.allocator()), rules)
+    }
+
+    /// The policy of these groups and rules, each in their order, or `None` where they are not
+    /// sound: more than 100 groups or 1,000 rules, two groups or two rules of one name, one that no
+    /// text could spell, or a rule that names another group. An `Err` is want of memory.
+    pub fn from_parts(groups: Vec<Group>, rules: Vec<Rule>) -> Result<Option<Policy>, AllocError>
+        ensures { IfOk result (λ policy. policy ≡ policy_with groups.items rules.items) }
+    {
+        if !are_sound(&groups, &rules) {
             return Ok(None);
         }
-        let policy = indexed(rules)?;
+        let policy = indexed(groups, rules)?;
         Ok(Some(policy))
+    }
+
+    /// The groups, in order, at most 100.
+    pub fn groups(&self) -> &[Group]
+        ensures value { result.now ≡ self.now.groups }
+        ensures sound { IsTrue (is_sound_policy self.now) }
+    {
+        self.groups.as_slice()
     }
 
     /// The rules, in order.
@@ -112,7 +147,8 @@ impl Policy {
         self.rules.is_empty()
     }
 
-    /// Whether the clerk may do this to messages of the class in the maildrop, and which rule decides.
+    /// Whether the clerk may do this to messages of the class in the maildrop, and which rule
+    /// decides.
     ///
     /// To open a maildrop is about no class: there `class` plays no part. It takes no memory.
     pub fn decide(&self, clerk: &Name, maildrop: &Name, class: &Name, action: Action) -> Decision
@@ -121,7 +157,8 @@ impl Policy {
         self.lane(clerk, maildrop).decide(class, action)
     }
 
-    /// The rules that are about the clerk and the maildrop, as one who asks about them often wants them. It takes no memory.
+    /// The rules that are about the clerk and the maildrop, as one who asks about them often wants
+    /// them. It takes no memory.
     pub fn lane(&self, clerk: &Name, maildrop: &Name) -> Lane<'_>
         ensures { result ≡ record { policy = self.now; clerk = clerk.now; maildrop = maildrop.now } }
     {
@@ -133,14 +170,15 @@ impl Policy {
         }
     }
 
-    /// Appends the policy's text: six settings a rule, and an empty line between two rules.
+    /// Appends the policy's text: its groups, of two settings each, then its rules, of six, and an
+    /// empty line between each two.
     ///
     /// On an `Err`, want of memory, nothing is appended.
     pub fn write(&self, out: &mut Vec<u8>) -> Result<(), AllocError>
         ensures ok { OnOk result (out.new.items ≡ out.old.items ++ policy_text self.now) }
         ensures err { OnErr result (out.new.items ≡ out.old.items) }
     {
-        let text = text_of(*out.allocator(), &self.rules)?;
+        let text = text_of(*out.allocator(), &self.groups, &self.rules)?;
         out.extend_from_slice(&text)
     }
 
@@ -150,6 +188,7 @@ impl Policy {
     {
         let mut rules = Vec::new(*self.rules.allocator());
         rules.extend_from_slice(&self.rules)?;
-        indexed(rules)
+        let groups = copies_of(*self.rules.allocator(), &self.groups)?;
+        indexed(groups, rules)
     }
 }

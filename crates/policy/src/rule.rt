@@ -41,13 +41,24 @@ pub enum Effect {
     Deny,
 }
 
-/// Which clerks, maildrops or classes a rule is about.
+/// Which maildrops or classes a rule is about.
 #[derive(Clone, Copy, PartialEq, Eq, PartialOrd, Ord)]
 pub enum Pattern {
     /// All of them, written `*`.
     Any,
     /// The one of this name.
     Is(Name),
+}
+
+/// Which clerks a rule is about.
+#[derive(Clone, Copy, PartialEq, Eq, PartialOrd, Ord)]
+pub enum Clerks {
+    /// All of them, written `*`.
+    Any,
+    /// The one of this name.
+    Is(Name),
+    /// The members of the policy's group of this name, written `@` and the name.
+    MembersOf(Name),
 }
 
 /// The actions that a rule lists.
@@ -69,7 +80,7 @@ pub struct Rule {
     /// What it decides.
     pub effect: Effect,
     /// Which clerks it is about.
-    pub clerk: Pattern,
+    pub clerk: Clerks,
     /// Which maildrops it is about.
     pub maildrop: Pattern,
     /// Which classes of messages it is about; any, where it lists `open`.

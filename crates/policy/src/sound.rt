@@ -1,12 +1,14 @@
-//! Which rules make a policy.
+//! Which groups and rules make a policy.
 ghost use Rattle.std.specs.Prelude.{◌≡◌};
 ghost use Rattle.std.specs.List.{list_all, list_any};
 ghost use Rattle.creds.specs.Names.{is_name};
-ghost use Rattle.policy.specs.Policy.{is_any, is_pattern, lists_any, is_sound_rule, are_distinct, same_name, are_sound_rules};
+ghost use Rattle.std.specs.Str.{bytes_eq};
+ghost use Rattle.policy.specs.Policy.{are_clerks, are_known, are_members, are_sound_groups, has_group, is_any, is_pattern, is_sound_group, is_sound_policy, know_groups, lists_any, is_sound_rule, are_distinct, same_group, same_name, are_sound_rules};
 ghost use Rattle.policy.specs.PolicyText.{has_name};
 
-use crate::policy::MAX_RULES;
-use crate::rule::{Actions, Pattern, Rule};
+use crate::group::Group;
+use crate::policy::{MAX_GROUPS, MAX_MEMBERS, MAX_RULES};
+use crate::rule::{Actions, Clerks, Pattern, Rule};
 use creds::Name;
 
 /// Whether the text of a name has a name's form. Each `Name` has it, and here the contract says so.
@@ -22,6 +24,15 @@ fn is_formed_pattern(pattern: &Pattern) -> bool
     match pattern {
         Pattern::Any => true,
         Pattern::Is(name) => is_formed(name),
+    }
+}
+
+fn are_formed_clerks(clerks: &Clerks) -> bool
+    ensures { result ≡ are_clerks clerks.now }
+{
+    match clerks {
+        Clerks::Any => true,
+        Clerks::Is(name) | Clerks::MembersOf(name) => is_formed(name),
     }
 }
 
@@ -46,7 +57,7 @@ fn rule_is_sound(rule: &Rule) -> bool
 {
     is_formed(&rule.name)
         && rule.name.as_bytes() != b"default".as_slice()
-        && is_formed_pattern(&rule.clerk)
+        && are_formed_clerks(&rule.clerk)
         && is_formed_pattern(&rule.maildrop)
         && is_formed_pattern(&rule.class)
         && list_some(rule.actions)
@@ -83,9 +94,105 @@ fn have_own_names(rules: &[Rule]) -> bool
     true
 }
 
-/// Whether the rules, in this order, make a policy.
-pub(crate) fn are_sound(rules: &[Rule]) -> bool
+fn are_sound_in_order(rules: &[Rule]) -> bool
     ensures { result ≡ are_sound_rules rules.now }
 {
     each_is_sound(rules) && have_own_names(rules) && rules.len() <= MAX_RULES
+}
+
+// ---- groups
+
+fn are_formed(names: &[Name]) -> bool
+    ensures { result ≡ list_all is_name names.now }
+{
+    names.iter().all(|name| is_formed(name))
+}
+
+fn is_among(name: &Name, names: &[Name]) -> bool
+    ensures { result ≡ list_any (bytes_eq name.now) names.now }
+{
+    names.iter().any(|other| *name == *other)
+}
+
+fn are_apart(names: &[Name]) -> bool
+    ensures { result ≡ are_distinct bytes_eq names.now }
+{
+    for (i, name) in names.iter().enumerate() {
+        if is_among(name, &names[i + 1..]) {
+            return false;
+        }
+    }
+    true
+}
+
+/// Whether the names can be the members of a group.
+pub(crate) fn make_members(names: &[Name]) -> bool
+    ensures { result ≡ are_members names.now }
+{
+    !names.is_empty() && names.len() <= MAX_MEMBERS && are_apart(names)
+}
+
+fn group_is_sound(group: &Group) -> bool
+    ensures { result ≡ is_sound_group group.now }
+{
+    is_formed(group.name()) && are_formed(group.members()) && make_members(group.members())
+}
+
+fn each_group_is_sound(groups: &[Group]) -> bool
+    ensures { result ≡ list_all is_sound_group groups.now }
+{
+    groups.iter().all(|group| group_is_sound(group))
+}
+
+/// Whether one of the groups has the name.
+pub(crate) fn is_group(groups: &[Group], name: &Name) -> bool
+    ensures { result ≡ has_group groups.now name.now }
+{
+    groups.iter().any(|group| *group.name() == *name)
+}
+
+fn is_group_later(group: &Group, groups: &[Group]) -> bool
+    ensures { result ≡ list_any (same_group group.now) groups.now }
+{
+    groups.iter().any(|later| *group.name() == *later.name())
+}
+
+fn have_own_group_names(groups: &[Group]) -> bool
+    ensures { result ≡ are_distinct same_group groups.now }
+{
+    for (i, group) in groups.iter().enumerate() {
+        if is_group_later(group, &groups[i + 1..]) {
+            return false;
+        }
+    }
+    true
+}
+
+fn are_groups(groups: &[Group]) -> bool
+    ensures { result ≡ are_sound_groups groups.now }
+{
+    each_group_is_sound(groups) && have_own_group_names(groups) && groups.len() <= MAX_GROUPS
+}
+
+/// Whether the group that is named, if one is, is one of these.
+pub(crate) fn is_known(groups: &[Group], clerks: &Clerks) -> bool
+    ensures { result ≡ are_known groups.now clerks.now }
+{
+    match clerks {
+        Clerks::Any | Clerks::Is(_) => true,
+        Clerks::MembersOf(name) => is_group(groups, name),
+    }
+}
+
+fn all_are_known(groups: &[Group], rules: &[Rule]) -> bool
+    ensures { result ≡ know_groups groups.now rules.now }
+{
+    rules.iter().all(|rule| is_known(groups, &rule.clerk))
+}
+
+/// Whether the groups and the rules, in this order, make a policy.
+pub(crate) fn are_sound(groups: &[Group], rules: &[Rule]) -> bool
+    ensures { result ≡ is_sound_policy (record { groups = groups.now; rules = rules.now }) }
+{
+    are_groups(groups) && are_sound_in_order(rules) && all_are_known(groups, rules)
 }

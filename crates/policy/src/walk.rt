@@ -1,13 +1,14 @@
 //! Walks over the rules about a clerk and a maildrop, from place to place.
-ghost use Rattle.std.specs.Prelude.{◌≡◌, ◌≤◌, List, ℕ, ◌&&◌, length, filter};
+ghost use Rattle.std.specs.Prelude.{◌≡◌, List, ℕ, ◌&&◌};
 ghost use Rattle.policy.specs.declared.key.Key.{Key};
 ghost use Rattle.policy.specs.Index.{IsIndexOf, has_key, place_from};
-ghost use Rattle.policy.specs.Lane.{AreStarts, is_about, is_about_action};
-ghost use Rattle.policy.specs.Policy.{fits_class, lists, matches};
+ghost use Rattle.policy.specs.Lane.{AreStarts, is_about_action, is_about_group, is_about_groups, is_about_one};
+ghost use Rattle.policy.specs.Policy.{fits_class, lists};
 
 use crate::decide::{actions_list, class_fits};
-use crate::index::{Index, Starts};
-use crate::rule::{Action, Rule};
+use crate::group::Group;
+use crate::index::{Index, Starts, first_place};
+use crate::rule::{Action, Clerks, Pattern, Rule};
 use creds::Name;
 
 fn is_about_action(rule: &Rule, class: &Name, action: Action) -> bool
@@ -16,7 +17,8 @@ fn is_about_action(rule: &Rule, class: &Name, action: Action) -> bool
     actions_list(rule.actions, action) && class_fits(action, &rule.class, class)
 }
 
-/// From a place on, the place of the first rule of the same key that is about the action; the number of rules where there is none.
+/// From a place on, the place of the first rule of the same key that is about the action; the
+/// number of rules where there is none.
 fn first_of_key(index: &Index, rules: &[Rule], start: usize, class: &Name, action: Action) -> usize
     requires { IsIndexOf rules.now index.now }
     ensures { (k : Key) → start ≡ place_from (has_key k) 0 rules.now
@@ -32,23 +34,9 @@ fn first_of_key(index: &Index, rules: &[Rule], start: usize, class: &Name, actio
     place
 }
 
-/// From a place on, how many rules of the same key there are.
-fn count_of_key(index: &Index, rules: &[Rule], start: usize) -> usize
-    requires { IsIndexOf rules.now index.now }
-    ensures bound { result ≤ length rules.now }
-    ensures count { (k : Key) → start ≡ place_from (has_key k) 0 rules.now → result ≡ length (filter (has_key k) rules.now) }
-{
-    let mut place = start;
-    let mut count = 0;
-    while place < rules.len() {
-        count += 1;
-        place = index.next[place];
-    }
-    count
-}
-
-/// The place of the first rule that decides; the number of rules where none does.
-pub(crate) fn first_match(
+/// The place of the first rule that names no group and decides; the number of rules where none
+/// does.
+pub(crate) fn first_by_name(
     index: &Index,
     rules: &[Rule],
     starts: &Starts,
@@ -57,7 +45,7 @@ pub(crate) fn first_match(
 ) -> usize
     requires { IsIndexOf rules.now index.now }
     ensures { (clerk maildrop : List ℕ) → AreStarts clerk maildrop rules.now starts.now
-        → result ≡ place_from (matches clerk maildrop class.now action) 0 rules.now }
+        → result ≡ place_from (λ r. is_about_one clerk maildrop r && is_about_action action class.now r) 0 rules.now }
 {
     first_of_key(index, rules, starts.both, class, action)
         .min(first_of_key(index, rules, starts.clerk, class, action))
@@ -65,15 +53,46 @@ pub(crate) fn first_match(
         .min(first_of_key(index, rules, starts.all, class, action))
 }
 
-/// How many rules are about the clerk and the maildrop.
-pub(crate) fn count(index: &Index, rules: &[Rule], starts: &Starts) -> usize
-    requires index { IsIndexOf rules.now index.now }
-    requires few { length rules.now ≤ 1000 }
-    ensures { (clerk maildrop : List ℕ) → AreStarts clerk maildrop rules.now starts.now
-        → result ≡ length (filter (is_about clerk maildrop) rules.now) }
+/// The place of the first rule that names the group and decides; the number of rules where none
+/// does.
+fn first_of_group(
+    index: &Index,
+    rules: &[Rule],
+    group: &Name,
+    maildrop: &Name,
+    class: &Name,
+    action: Action,
+) -> usize
+    requires { IsIndexOf rules.now index.now }
+    ensures { result ≡ place_from (λ r. is_about_group group.now maildrop.now r && is_about_action action class.now r) 0 rules.now }
 {
-    count_of_key(index, rules, starts.both)
-        + count_of_key(index, rules, starts.clerk)
-        + count_of_key(index, rules, starts.maildrop)
-        + count_of_key(index, rules, starts.all)
+    let clerks = Clerks::MembersOf(*group);
+    let here = first_place(index, &clerks, &Pattern::Is(*maildrop));
+    let everywhere = first_place(index, &clerks, &Pattern::Any);
+    first_of_key(index, rules, here, class, action).min(first_of_key(
+        index, rules, everywhere, class, action,
+    ))
+}
+
+/// The place of the first rule that names a group of the clerk's and decides; the number of rules
+/// where none does.
+pub(crate) fn first_by_group(
+    index: &Index,
+    rules: &[Rule],
+    groups: &[Group],
+    clerk: &Name,
+    maildrop: &Name,
+    class: &Name,
+    action: Action,
+) -> usize
+    requires { IsIndexOf rules.now index.now }
+    ensures { result ≡ place_from (λ r. is_about_groups groups.now clerk.now maildrop.now r && is_about_action action class.now r) 0 rules.now }
+{
+    let mut place = rules.len();
+    for group in groups {
+        if group.has(clerk) {
+            place = place.min(first_of_group(index, rules, group.name(), maildrop, class, action));
+        }
+    }
+    place
 }

@@ -8,11 +8,11 @@ use Rattle.vault.specs.declared.record.Message.{Message}
 use Rattle.vault.specs.declared.record.Receipt.{Receipt}
 use Rattle.vault.specs.Changes.{Contents, AreSound, kept_in}
 
--- no rules
+-- no groups and no rules
 abbrev pub no_policy : Policy
-no_policy = record { rules = [] }
+no_policy = record { groups = []; rules = [] }
 
--- no clerks, no maildrops, no messages, no deposits, no rules
+-- no clerks, no maildrops, no messages, no deposits, no groups, no rules
 abbrev pub no_contents : Contents
 no_contents = record { clerks = []; maildrops = []; messages = []; deposits = []; policy = no_policy }
 
