@@ -37,6 +37,16 @@ unfolding understood everything
 add_message_plain false = (refl, refl)
 add_message_plain true = (refl, refl)
 
+pub add_keyed_is : (c : Bool) → command_of (understood (schema_of c) s.add_keyed_text) ≡ s.add_keyed_command c
+unfolding understood everything
+add_keyed_is false = refl
+add_keyed_is true = refl
+
+pub add_keyed_plain : (c : Bool) → IsPlain (understood (schema_of c) s.add_keyed_text)
+unfolding understood everything
+add_keyed_plain false = (refl, refl)
+add_keyed_plain true = (refl, refl)
+
 pub remove_message_is : (c : Bool) → command_of (understood (schema_of c) s.remove_message_text) ≡ Delete (mail_place c) (record { lets = []; body = s.remove_message_query c })
 unfolding understood everything
 remove_message_is false = refl

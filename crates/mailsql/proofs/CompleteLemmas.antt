@@ -12,7 +12,7 @@ use Rattle.sqlite.specs.State.{State, IsLive, Writes, Executes, CommitsBy, MayCo
 use Rattle.sqlite.proofs.Callers.{IsPlain, command_of, statement_of, runs_as}
 use Rattle.mailsql.specs.Tables as t
 use Rattle.mailsql.specs.Tables.{schema_of, old_schema, old_stage, lacked_text, lacked_texts, fresh_tables}
-use Rattle.mailsql.specs.Rows.{AreEmpty, AreKeyed, AreKept, IsOld, IsBegunOn, IsHalted, IsUndone, GoesOn, CompletesTables, completed, is_carried, rows_in, rows_at, IsKept}
+use Rattle.mailsql.specs.Rows.{AreEmpty, AreKeyed, AreKept, IsBegunOn, GoesOn, CompletesTables, completed, is_carried, rows_in, rows_at}
 use Rattle.mailsql.proofs.Texts as x
 use Rattle.mailsql.proofs.CreateLemmas.{Makes, grows, one_more, keyed_none}
 use Rattle.mailsql.proofs.ListedLemmas.{carried_is}

@@ -1,5 +1,5 @@
 -- The queries on mail.
-use Rattle.std.proofs.Common.{arith, false, true, Bool, ◌≡◌, List, [], ◌∷◌, map, filter, refl, ◌∙◌}
+use Rattle.std.proofs.Common.{false, true, Bool, ◌≡◌, List, [], ◌∷◌, map, filter, refl, ◌∙◌}
 use Rattle.sqlite_tied.specs.Compute.{everything}
 use Rattle.sqlite_value.specs.declared.value.Value.TheVariants.{Text}
 use Rattle.sqlite_value.specs.Order.{Row, column}

@@ -1,8 +1,10 @@
 -- The keys of the tables keep the records apart, and each reference has its parent.
-use Rattle.std.proofs.Common.{◌≡◌, inl, inr, ℕ, Bool, true, false, not, List, [], ◌∷◌, Option, Some, map, Less, is_eq, refl, sym, ap, ap₂, subst, ◌∙◌, true≢false}
+use Rattle.std.proofs.Common.{◌≡◌, inl, inr, ℕ, ℤ, ◌<ℤ◌, int_cmp, IsTrue, arith, Bool, true, false, not, List, [], ◌∷◌, Option, Some, map, Less, is_eq, refl, sym, ap, ap₂, subst, ◌∙◌, true≢false}
 use Rattle.std.specs.Prelude.{◌&&◌, ◌||◌, bytes_eq, codes}
 use Rattle.std.specs.Ordering.{is_ne}
 use Rattle.std.specs.List.{AllByRecursion, list_any, list_all}
+use Rattle.std.proofs.lemmas.Bool.Decides.{nat_tests}
+use Rattle.std.proofs.lemmas.Int.{ints}
 use Rattle.std.proofs.lemmas.Bool.{and_parts, and_from, or_parts, or_from, not-true, not_from_false}
 use Rattle.sqlite_value.specs.declared.value.Value.{Value}
 use Rattle.sqlite_value.specs.declared.value.Value.TheVariants.{Int}
@@ -25,9 +27,9 @@ use Rattle.sqlite_rules.proofs.ListLemmas.{all_has, test_has, some_has, some_fro
 use Rattle.sqlite_rules.proofs.TableLemmas.{int_is}
 use Rattle.sqlite.specs.Effect.{Database, IsDatabase}
 use Rattle.sqlite.specs.State.{State, IsLive}
-use Rattle.mailsql.specs.Apart.{are_apart, AreApart}
+use Rattle.mailsql.specs.Apart.{are_apart, AreRising, AreApart}
 use Rattle.mailsql.specs.Tables.{schema_of, mail_tree, meta_at, clerks_at, maildrops_at, counts_at, deposits_at, mail_at, rules_at, sheets_at, groups_at, members_at, key_of, clerks_key_of, plain_order, to_maildrops, to_mail, to_groups}
-use Rattle.mailsql.specs.Rows.{IsOurs, is_carried, IsReady, AreKeyed, AreKept, same_int, has_name, Mark, Clerk, Count, Deposit, Message, Sheet, Rule, Group, Member, rows_in, mark_of, clerk_of, maildrop_of, count_of, deposit_of, message_of, sheet_of, rule_of, group_of, member_of, text_at, number_at}
+use Rattle.mailsql.specs.Rows.{IsOurs, is_carried, IsReady, AreKeyed, AreKept, same_int, has_name, Mark, Clerk, Count, Deposit, Message, Sheet, Rule, Group, Member, Body, bodies_at, rows_in, mark_of, clerk_of, maildrop_of, count_of, deposit_of, message_of, sheet_of, rule_of, group_of, member_of, body_of, text_at, number_at}
 use Rattle.mailsql.proofs.TypedLemmas.{IsText, IsInt, marks_typed, clerks_typed, names_typed, counts_typed, deposits_typed, messages_typed, sheets_typed}
 use Rattle.mailsql.proofs.HeldLemmas.{row_in, members_in, messages_in}
 use Rattle.mailsql.proofs.HeadLemmas.{mail_keyed}
@@ -84,6 +86,25 @@ ids_apart a b x y less = ap₂ (λ v w. same_int (id_in v) (id_in w)) x.1 y.1 �
 ids_differ : (a b : Value) → IsInt a → IsInt b → value_cmp a b ≡ Less → differ a b ≡ true
 unfolding binary
 ids_differ a b x y less = ap₂ differ x.1 y.1 ∙ truth_back (is_ne (value_cmp (Int x.0) (Int y.0))) ∙ ap is_ne (sym (ap₂ value_cmp x.1 y.1) ∙ less)
+
+-- ---- the messages of version 1
+
+id_below : (a b : ℤ) → int_cmp a b ≡ Less → a <ℤ b
+id_below a b h = grind (arith, ints, nat_tests)
+
+below_each : (r : Row) (rows : List Row) → IsTrue (is_int (rowid r)) → AllByRecursion (λ x. IsTrue (is_int (rowid x))) rows → AllByRecursion (λ x. value_cmp (rowid r) (rowid x) ≡ Less) rows → AllByRecursion (λ (b : Body). (body_of r).head.key <ℤ b.head.key) (map body_of rows)
+below_each r [] int ints_are less = tt
+below_each r (x ∷ rows) int ints_are less =
+    let here = sym (value_cmp-Int (id_in (rowid r)) (id_in (rowid x))) ∙ sym (ap₂ value_cmp (int_is (rowid r) int) (int_is (rowid x) ints_are.0)) ∙ less.0 in
+    (id_below (id_in (rowid r)) (id_in (rowid x)) here, below_each r rows int ints_are.1 less.1)
+
+rising_rows : (rows : List Row) → IsTable rows → AllByRecursion (λ r. IsTrue (is_int (rowid r))) rows → AreRising (map body_of rows)
+rising_rows [] up ints_are = tt
+rising_rows (r ∷ rows) up ints_are = (below_each r rows ints_are.0 ints_are.1 up.0, rising_rows rows up.1 ints_are.1)
+
+bodies_rise : (carried : Bool) (db : Trees) → AreKept (schema_of carried).tables db → AreRising (bodies_at carried db)
+bodies_rise false db kept = tt
+bodies_rise true db kept = let keyed = kept.1.1.1.1.1.0 in rising_rows (db 10) keyed.0 keyed.1
 
 -- ---- rows under a unique index
 
@@ -317,6 +338,7 @@ module _ (db : Database) (ours : IsOurs db) (sound : IsDatabase db) (kept : AreK
     members = members_apart;
     member_clerks = member_clerks_apart;
     member_groups = members_have_groups;
+    bodies = bodies_rise c db.trees kept;
   }
 
 -- so it is while the connection is open, over a store of ours

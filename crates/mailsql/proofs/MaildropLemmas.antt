@@ -1,5 +1,5 @@
 -- The statements on maildrops.
-use Rattle.std.proofs.Common.{arith, false, true, Bool, ◌≡◌, ℕ, List, [], ◌∷◌, map, Option, None, Ok, refl, sym, ap, subst, ◌∙◌}
+use Rattle.std.proofs.Common.{arith, false, true, Bool, ◌≡◌, ℕ, List, [], ◌∷◌, map, Option, None, Ok, refl, ap, subst, ◌∙◌}
 use Rattle.std.specs.Prelude.{bytes_eq}
 use Rattle.sqlite_tied.specs.Compute.{everything}
 use Rattle.sqlite_value.specs.declared.value.Value.TheVariants.{Null, Int, Text}

@@ -1,9 +1,8 @@
 -- The statements on members.
-use Rattle.std.proofs.Common.{arith, false, true, Bool, ◌≡◌, ℕ, ℤ, List, [], ◌∷◌, map, filter, Option, None, Ok, refl, sym, ap, ap₂, subst, ◌∙◌}
-use Rattle.std.specs.Prelude.{◌&&◌}
+use Rattle.std.proofs.Common.{arith, false, true, Bool, ◌≡◌, ℕ, ℤ, List, [], ◌∷◌, map, Option, None, Ok, refl, ap, subst, ◌∙◌}
 use Rattle.sqlite_tied.specs.Compute.{everything}
 use Rattle.sqlite_value.specs.declared.value.Value.TheVariants.{Null, Int, Text}
-use Rattle.sqlite_value.specs.Order.{Row, column}
+use Rattle.sqlite_value.specs.Order.{Row}
 use Rattle.sqlite_trees.specs.Tree.{Trees, put_row}
 use Rattle.sqlite_sql.specs.Term.{lit, col}
 use Rattle.sqlite_rules.specs.declared.error.Rowids.TheVariants.{Chosen}
@@ -25,10 +24,7 @@ use Rattle.mailsql.proofs.FrameLemmas as frame
 use Rattle.mailsql.proofs.FrameLemmas.{framed, kept_framed}
 use Rattle.mailsql.proofs.CastLemmas.{cast_null, cast_int}
 use Rattle.mailsql.proofs.StateLemmas.{changes, commits}
-use Rattle.mailsql.proofs.TypedLemmas as typed
-use Rattle.mailsql.proofs.EqualLemmas.{column_int}
-use Rattle.mailsql.proofs.FindLemmas.{and_true}
-use Rattle.mailsql.proofs.ReadLemmas.{Asks, kept, sound, listed, everything_listed}
+use Rattle.mailsql.proofs.ReadLemmas.{Asks, kept, sound, everything_listed}
 
 pub add_member_is : (c : Bool) → command_of (understood (schema_of c) st.add_member_text) ≡ st.add_member_command
 unfolding understood everything

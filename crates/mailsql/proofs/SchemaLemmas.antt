@@ -19,6 +19,13 @@ second_columns = refl
 pub first_columns : has_first_columns first_schema.tables ≡ true
 first_columns = refl
 
+-- the one has not the tables of the other
+pub not_second : has_second_columns first_schema.tables ≡ false
+not_second = refl
+
+pub not_first : has_first_columns second_schema.tables ≡ false
+not_first = refl
+
 -- ---- of an older store
 
 pub old_taken : (c : Bool) → is_taken (old_schema c) ≡ true

@@ -14,7 +14,7 @@ use Rattle.sqlite_schema.specs.declared.command.Command.{Command}
 use Rattle.sqlite_schema.specs.declared.command.Command.TheVariants.{Select, Insert}
 use Rattle.sqlite_schema.specs.declared.command.Source.TheVariants.{Values}
 use Rattle.mailsql.specs.Tables.{mail_tree, mail_place}
-pub use Rattle.mailsql.specs.Statements.{add_mark_text, drop_mark_text, find_mark_text, all_marks_text, add_clerk_text, drop_clerk_text, find_clerk_text, all_clerks_text, clerk_count_text, add_maildrop_text, drop_maildrop_text, find_maildrop_text, all_maildrops_text, maildrops_text, maildrop_count_text, add_count_text, clear_count_text, find_count_text, all_counts_text, add_deposit_text, find_deposit_text, all_deposits_text, add_message_text, remove_message_text, heads_text, all_messages_text, message_count_text, add_sheet_text, find_sheet_text, all_sheets_text, sheet_count_text, add_rule_text, clear_rules_text, all_rules_text, add_group_text, clear_groups_text, all_groups_text, add_member_text, members_text, all_members_text, old_messages_text, find_body_text, clear_bodies_text, all_sequences_text}
+pub use Rattle.mailsql.specs.Statements.{add_mark_text, drop_mark_text, find_mark_text, all_marks_text, add_clerk_text, drop_clerk_text, find_clerk_text, all_clerks_text, clerk_count_text, add_maildrop_text, drop_maildrop_text, find_maildrop_text, all_maildrops_text, maildrops_text, maildrop_count_text, add_count_text, clear_count_text, find_count_text, all_counts_text, add_deposit_text, find_deposit_text, all_deposits_text, add_message_text, add_keyed_text, remove_message_text, heads_text, all_messages_text, message_count_text, add_sheet_text, find_sheet_text, all_sheets_text, sheet_count_text, add_rule_text, clear_rules_text, all_rules_text, add_group_text, clear_groups_text, all_groups_text, add_member_text, members_text, all_members_text, old_messages_text, find_body_text, clear_bodies_text, all_sequences_text}
 
 abbrev pub query_of : Join → List Term → List Term → List (Term × Key) → Query
 query_of from filter project order = record {
@@ -153,8 +153,18 @@ message_columns = col 1 0 ∷ col 1 2 ∷ col 1 3 ∷ col 1 4 ∷ col 1 5 ∷ []
 abbrev pub message_names : List (List ℕ)
 message_names = codes "key" ∷ codes "maildrop" ∷ codes "class" ∷ codes "k" ∷ codes "octets" ∷ []
 
+abbrev pub add_message_terms : List Term
+add_message_terms = lit Null ∷ lit Null ∷ col 0 0 ∷ col 0 1 ∷ col 0 2 ∷ col 0 3 ∷ []
+
 abbrev pub add_message_command : (carried : Bool) → Command
-add_message_command carried = Insert (mail_place carried) (Values (lit Null ∷ lit Null ∷ col 0 0 ∷ col 0 1 ∷ col 0 2 ∷ col 0 3 ∷ []) 6)
+add_message_command carried = Insert (mail_place carried) (Values add_message_terms 6)
+
+-- the key stands for the rowid
+abbrev pub add_keyed_terms : List Term
+add_keyed_terms = col 0 0 ∷ lit Null ∷ col 0 1 ∷ col 0 2 ∷ col 0 3 ∷ col 0 4 ∷ []
+
+abbrev pub add_keyed_command : (carried : Bool) → Command
+add_keyed_command carried = Insert (mail_place carried) (Values add_keyed_terms 6)
 
 abbrev pub remove_message_terms : List Term
 remove_message_terms = eq (col 1 0) (col 0 0) ∷ eq (col 1 2) (col 0 1) ∷ []

@@ -1,13 +1,18 @@
 -- What the keys of the tables and the references between them make sure of in the rows of every store of ours.
-use Rattle.std.specs.Prelude.{◌≡◌, Bool, true, not, ◌&&◌, List, [], ◌∷◌, bytes_eq}
-use Rattle.std.specs.List.{list_any, list_all}
-use Rattle.mailsql.specs.Columns.{Mark, Clerk, Count, Deposit, Message, Sheet, Rule, Group, Member, Rows}
+use Rattle.std.specs.Prelude.{◌≡◌, ⊤, ◌<ℤ◌, Bool, true, not, ◌&&◌, List, [], ◌∷◌, bytes_eq}
+use Rattle.std.specs.List.{list_any, list_all, AllByRecursion}
+use Rattle.mailsql.specs.Columns.{Mark, Clerk, Count, Deposit, Message, Sheet, Rule, Group, Member, Body, Rows}
 use Rattle.mailsql.specs.Rows.{same_int, has_name}
 
 -- no two of them are the same, as the test tells it
 abbrev pub are_apart : {X : Type 0} → (X → X → Bool) → List X → Bool
 are_apart same [] = true
 are_apart same (x ∷ xs) = not (list_any (same x) xs) && are_apart same xs
+
+-- each has a key above those before it
+abbrev pub AreRising : List Body → Type 0
+AreRising [] = ⊤
+AreRising (b ∷ bodies) = AllByRecursion (λ (x : Body). b.head.key <ℤ x.head.key) bodies × AreRising bodies
 
 -- No two rows of a table have one key; each message has its maildrop, each sheet its message, and each member its group.
 pub record AreApart (rows : Rows) : Type 0 where
@@ -27,3 +32,4 @@ pub record AreApart (rows : Rows) : Type 0 where
   pub members : are_apart (λ (a b : Member). same_int a.group b.group && same_int a.place b.place) rows.members ≡ true
   pub member_clerks : are_apart (λ (a b : Member). same_int a.group b.group && bytes_eq a.clerk b.clerk) rows.members ≡ true
   pub member_groups : list_all (λ (m : Member). list_any (λ (g : Group). same_int g.place m.group) rows.groups) rows.members ≡ true
+  pub bodies : AreRising rows.bodies

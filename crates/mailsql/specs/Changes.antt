@@ -57,6 +57,10 @@ pub record AddsMessage (message : Message) (old new : Rows) : Type 0 where
   pub added : new ≡ record old { messages = old.messages ++ message ∷ [] }
   pub above : AllByRecursion (λ m. m.key <ℤ message.key) old.messages
 
+-- it comes so where its key is above theirs
+abbrev pub AddsKeyed : Message → Rows → Rows → Type 0
+AddsKeyed message old new = AllByRecursion (λ (m : Message). m.key <ℤ message.key) old.messages → AddsMessage message old new
+
 -- so it comes under some key
 abbrev pub Arrives : Name → Name → ℤ → ℤ → Rows → Rows → Type 0
 Arrives maildrop class k octets old new = (key : ℤ) × AddsMessage (record { key = key; maildrop = maildrop; class = class; k = k; octets = octets }) old new

@@ -119,6 +119,10 @@ all_deposits_text = codes "SELECT maildrop, id, class, k, digest FROM deposits O
 abbrev pub add_message_text : List ℕ
 add_message_text = codes "INSERT INTO mail (maildrop, class, k, octets) VALUES (?1, ?2, ?3, ?4)"
 
+-- a message comes under a given key
+abbrev pub add_keyed_text : List ℕ
+add_keyed_text = codes "INSERT INTO mail (key, maildrop, class, k, octets) VALUES (?1, ?2, ?3, ?4, ?5)"
+
 -- a message of a maildrop goes
 abbrev pub remove_message_text : List ℕ
 remove_message_text = codes "DELETE FROM mail WHERE key = ?1 AND maildrop = ?2"

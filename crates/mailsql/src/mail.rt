@@ -8,7 +8,7 @@ ghost use Rattle.mailsql.specs.Rows as rows;
 ghost use Rattle.mailsql.specs.Rows.{IsOurs, IsReady, HasTables, MayLeave, Changes, IsUndone, rows_in};
 ghost use Rattle.sqlite_value.specs.declared.value.Value.TheVariants.{Int, Text};
 ghost use Rattle.mailsql.specs.Errors.{FailsToRun, FailsToRead, FailsToCount};
-ghost use Rattle.mailsql.specs.Statements.{add_message_text, remove_message_text, heads_text, all_messages_text, message_count_text};
+ghost use Rattle.mailsql.specs.Statements.{add_message_text, add_keyed_text, remove_message_text, heads_text, all_messages_text, message_count_text};
 
 use crate::rows::Message;
 use crate::run::{count, list, run};
@@ -43,6 +43,33 @@ pub fn add_message<'x, S: Alter>(
         Ok(_) => Ok(conn.last_insert_rowid()),
         Err(error) => Err(error),
     }
+}
+
+/// Adds a message under this key, which is above those of all others.
+pub fn add_keyed<'x, S: Alter>(
+    conn: &mut Connection<S>,
+    key: i64,
+    maildrop: &'x [u8],
+    class: &'x [u8],
+    k: i64,
+    octets: i64,
+) -> Result<(), Error>
+    ensures ok { HasCleanDisk (state S.Store conn.new) → IsReady (state S.Store conn.old) → OnOk result (Changes (changes.AddsKeyed (record { key = key; maildrop = maildrop.now; class = class.now; k = k; octets = octets })) (state S.Store conn.old) (state S.Store conn.new)) }
+    ensures err { HasCleanDisk (state S.Store conn.new) → OnErr result (IsUndone (state S.Store conn.old) (state S.Store conn.new)) }
+    ensures cause { HasCleanDisk (state S.Store conn.new) → IfErr result (FailsToRun add_keyed_text (Int key ∷ Text maildrop.now ∷ Text class.now ∷ Int k ∷ Int octets ∷ []) (state S.Store conn.old) (state S.Store conn.new)) }
+    ensures survives { Survives (state S.Store conn.old) (state S.Store conn.new) (MayLeave (changes.AddsKeyed (record { key = key; maildrop = maildrop.now; class = class.now; k = k; octets = octets })) (state S.Store conn.old)) }
+{
+    run(
+        conn,
+        "INSERT INTO mail (key, maildrop, class, k, octets) VALUES (?1, ?2, ?3, ?4, ?5)",
+        &[
+            ValueRef::Int(key),
+            ValueRef::Text(maildrop),
+            ValueRef::Text(class),
+            ValueRef::Int(k),
+            ValueRef::Int(octets),
+        ],
+    )
 }
 
 /// Takes out a message of the maildrop, and its pages.

@@ -291,6 +291,7 @@ pub fn has_columns<S: Alter>(conn: &Connection<S>) -> bool
 pub fn has_second_columns<S: Alter>(conn: &Connection<S>) -> bool
     ensures value { result ≡ has_second_columns (state S.Store conn.now).now.schema.tables }
     ensures second { (state S.Store conn.now).now.schema ≡ second_schema → result ≡ true }
+    ensures first { (state S.Store conn.now).now.schema ≡ first_schema → result ≡ false }
 {
     has_mail_columns(conn.schema().tables.as_slice())
 }
@@ -299,6 +300,7 @@ pub fn has_second_columns<S: Alter>(conn: &Connection<S>) -> bool
 pub fn has_first_columns<S: Alter>(conn: &Connection<S>) -> bool
     ensures value { result ≡ has_first_columns (state S.Store conn.now).now.schema.tables }
     ensures first { (state S.Store conn.now).now.schema ≡ first_schema → result ≡ true }
+    ensures second { (state S.Store conn.now).now.schema ≡ second_schema → result ≡ false }
 {
     has_messages_columns(conn.schema().tables.as_slice())
 }

@@ -137,6 +137,7 @@ whole rows marks xy both =
         deposits = deposits.same;
         messages = messages.same;
         sheets = messages.sheets;
+        groups = both.0.1.groups;
         rules = both.0.1.same;
         keys = messages.keys;
         sound = record {
@@ -170,7 +171,7 @@ parts rows c k =
             record { same = k.clerks; sound = is.clerks; apart = is.clerks_apart; fit = is.clerks_fit },
             record { same = k.maildrops; sound = is.maildrops; apart = is.maildrops_apart; fit = is.maildrops_fit },
           ),
-          record { same = k.rules; sound = is.policy },
+          record { groups = k.groups; same = k.rules; sound = is.policy },
         ),
         (
           record { same = k.deposits; counts = k.counts; sound = is.deposits; ids_apart = is.ids_apart; uids_apart = is.uids_apart },

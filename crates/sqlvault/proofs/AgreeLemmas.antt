@@ -14,12 +14,14 @@ use Rattle.creds.specs.Names.{is_name, put_by_name, by_name}
 use Rattle.creds.specs.declared.credential.Credential.{Credential}
 use Rattle.creds.specs.declared.credential.Credential.TheVariants as kept
 use Rattle.policy.specs.declared.rule.Actions.{Actions}
+use Rattle.policy.specs.declared.rule.Clerks.{Clerks}
+use Rattle.policy.specs.declared.rule.Clerks.TheVariants as clerks
 use Rattle.policy.specs.declared.rule.Effect.{Effect}
 use Rattle.policy.specs.declared.rule.Effect.TheVariants.{Allow, Deny}
 use Rattle.policy.specs.declared.rule.Pattern.{Pattern}
 use Rattle.policy.specs.declared.rule.Pattern.TheVariants.{Any, Is}
 use Rattle.policy.specs.declared.rule.Rule as policy
-use Rattle.policy.specs.Policy.{Policy, is_pattern, is_sound_rule}
+use Rattle.policy.specs.Policy.{Policy, are_clerks, is_pattern, is_sound_rule}
 use Rattle.vault.specs.declared.record.Clerk as vault
 use Rattle.vault.specs.declared.record.Keyed.{Keyed}
 use Rattle.vault.specs.declared.record.Receipt.{Receipt}
@@ -40,11 +42,11 @@ use Rattle.mailsql.specs.Sheets.{octets_at, sheet_count}
 use Rattle.sqlite_trees.specs.Tree.{Trees}
 use Rattle.sqlite.specs.State.{State}
 use Rattle.sqlvault.specs.Stops.{MayHold}
-use Rattle.sqlvault.specs.Keeps.{Keeps, kind_of, secret_of, clerk_row, deposit_row, row_key, message_row, effect_number, pattern_text, actions_number, rule_row}
+use Rattle.sqlvault.specs.Keeps.{Keeps, kind_of, secret_of, clerk_row, deposit_row, row_key, message_row, effect_number, clerks_text, pattern_text, actions_number, rule_row}
 use Rattle.sqlvault.proofs.RemoveLemmas.{low}
 use Rattle.sqlvault.proofs.ClerkLemmas.{found_rows}
 use Rattle.sqlvault.proofs.PageLemmas.{text_is, sheet_read, no_sheet}
-use Rattle.sqlvault.proofs.RuleLemmas.{parts, sound_rules}
+use Rattle.sqlvault.proofs.RuleLemmas.{parts, sound_rules, at_no_name}
 
 -- ---- clerks
 
@@ -109,6 +111,23 @@ pattern_same (Is name) form = go (bytes_eq name (codes "*")) refl
     go false e = refl
     go true e = absurd (true≢false (sym form ∙ ap is_name (bytes_are name (codes "*") e)))
 
+clerks_back : List ℕ → Clerks
+clerks_back text = cond (bytes_eq text (codes "*")) clerks.Any (cond (bytes_eq (take 1 text) (codes "@")) (clerks.MembersOf (drop 1 text)) (clerks.Is text))
+
+clerks_same : (x : Clerks) → are_clerks x ≡ true → clerks_back (clerks_text x) ≡ x
+unfolding clerks_back
+clerks_same clerks.Any form = refl
+clerks_same (clerks.MembersOf name) form = refl
+clerks_same (clerks.Is name) form = go (bytes_eq name (codes "*")) refl
+  where
+    named : (b : Bool) → bytes_eq (take 1 name) (codes "@") ≡ b → cond b (clerks.MembersOf (drop 1 name)) (clerks.Is name) ≡ clerks.Is name
+    named false e = refl
+    named true e = absurd (true≢false (sym (form) ∙ at_no_name name e))
+
+    go : (b : Bool) → bytes_eq name (codes "*") ≡ b → cond b clerks.Any (cond (bytes_eq (take 1 name) (codes "@")) (clerks.MembersOf (drop 1 name)) (clerks.Is name)) ≡ clerks.Is name
+    go false e = named (bytes_eq (take 1 name) (codes "@")) refl
+    go true e = absurd (true≢false (sym form ∙ ap is_name (bytes_are name (codes "*") e)))
+
 effect_back : ℤ → Effect
 effect_back n = cond (same_int n (pos 1)) Allow Deny
 
@@ -145,14 +164,14 @@ actions_same a = go a.open a.read a.remove
     go false false false = refl
 
 rule_back : Rule → policy.Rule
-rule_back r = record { name = r.name; effect = effect_back r.effect; clerk = pattern_back r.clerk; maildrop = pattern_back r.maildrop; class = pattern_back r.class; actions = actions_back r.actions }
+rule_back r = record { name = r.name; effect = effect_back r.effect; clerk = clerks_back r.clerk; maildrop = pattern_back r.maildrop; class = pattern_back r.class; actions = actions_back r.actions }
 
 rule_same : (r : policy.Rule) → is_sound_rule r ≡ true → rule_back (rule_row (pos 0) r) ≡ r
 unfolding rule_back
 rule_same r sound =
     let p = parts r sound in
     let a = effect_same r.effect in
-    let b = pattern_same r.clerk p.clerk in
+    let b = clerks_same r.clerk p.clerk in
     let d = pattern_same r.maildrop p.maildrop in
     let e = pattern_same r.class p.class in
     let f = actions_same r.actions in
@@ -168,8 +187,9 @@ rules_back (r ∷ rs) sound =
 
 policy_same : (rows : Rows) (a b : Contents) → Keeps rows a → Keeps rows b → a.policy ≡ b.policy
 policy_same rows a b j k =
-    ap (λ rs. let p : Policy = record { rules = rs } in p)
-    (sym (rules_back a.policy.rules (sound_rules a.policy j.sound.records.policy)) ∙ ap (map rule_back) (sym j.rules ∙ k.rules) ∙ rules_back b.policy.rules (sound_rules b.policy k.sound.records.policy))
+    let groups = sym j.groups ∙ k.groups in
+    let rules = sym (rules_back a.policy.rules (sound_rules a.policy j.sound.records.policy)) ∙ ap (map rule_back) (sym j.rules ∙ k.rules) ∙ rules_back b.policy.rules (sound_rules b.policy k.sound.records.policy) in
+    λ i. let p : Policy = record { groups = groups i; rules = rules i } in p
 
 -- ---- texts
 

@@ -1,6 +1,6 @@
 -- Statements of one transaction that carries a store over, and what is left where one is refused.
-use Rattle.std.proofs.Common.{◌≡◌, ◌≢◌, ◌⊎◌, inl, inr, IsTrue, Bool, true, false, cond, not, List, [], ◌∷◌, ◌++◌, filter, refl, sym, ap, subst, ◌∙◌, true≢false, arith}
-use Rattle.std.specs.Prelude.{codes, find, Some, None, Option, pos, length, Result, Ok, Err, OnOk, OnErr, IfErr}
+use Rattle.std.proofs.Common.{◌≡◌, ◌≢◌, inl, inr, IsTrue, Bool, true, false, cond, not, ℤ, List, [], ◌∷◌, ◌++◌, map, filter, refl, sym, ap, subst, ◌∙◌, true≢false, arith}
+use Rattle.std.specs.Prelude.{codes, flat_map, find, Some, None, pos, length, Result, Ok, Err, OnOk, OnErr, IfErr}
 use Rattle.sqlite_trees.specs.Tree.{Trees}
 use Rattle.sqlite.specs.declared.error.Error.{Error}
 use Rattle.sqlite.specs.Effect.{Database}
@@ -8,16 +8,17 @@ use Rattle.sqlite.specs.State.{State, HasCleanDisk, Survives, Shows, IsUnchanged
 use Rattle.vault.specs.declared.fault.VaultFault.TheVariants as fault
 use Rattle.vault.specs.Changes.{Contents}
 use Rattle.mailsql.specs.Changes.{PutsMark}
-use Rattle.mailsql.specs.Rows.{Rows, IsOld, IsOldSchema, HasOldTables, rows_in, is_carried, completed, is_mark, IsKept, IsReady, IsBegunOn, IsHalted, IsGone, GoesOn, Changes, MayLeave, CompletesTables}
-use Rattle.sqlvault.specs.Keeps.{Keeps, our_mark}
-use Rattle.sqlvault.specs.Carries.{HasSecond, IsNotSecond, JudgesSecond, IsOfRows, CarriesOver, IsSecond, IsCarried, IsUncarried, KeepsSecond, LeavesEither, brought, second_mark}
+use Rattle.mailsql.specs.Rows.{Rows, IsOld, IsOldSchema, HasOldTables, rows_in, is_carried, completed, is_mark, IsKept, IsReady, IsBegunOn, IsHalted, GoesOn, Changes, MayLeave}
+use Rattle.sqlvault.specs.Keeps.{Keeps, our_mark, version}
+use Rattle.sqlvault.specs.Carries.{HasOlder, IsOfNoVersion, IsNoOlder, JudgesOlder, IsOfRows, CarriesOver, IsOlder, IsCarried, IsUncarried, KeepsOlder, LeavesEither, brought, brought_in, old_mark, old_version}
+use Rattle.sqlvault.specs.Moves.{MovesOld, body_head, body_sheets}
 use Rattle.sqlvault.specs.Refusals.{is_memory, fault_of, told, answer_of}
 use Rattle.sqlvault.specs.Adopts.{StaysAs, IsAdoptFault}
 use Rattle.sqlvault.specs.declared.refusal.Refusal.{Refusal}
 use Rattle.mailsql.specs.declared.rows.Mark.{Mark}
 use Rattle.vault.specs.declared.fault.VaultFault.{VaultFault}
 use Rattle.vault.proofs.ListLemmas.{bytes_are}
-use Rattle.sqlvault.specs.Stands.{Holds, LeavesNoMore}
+use Rattle.sqlvault.specs.Stands.{LeavesNoMore}
 
 -- ---- one statement behind another
 
@@ -50,8 +51,8 @@ looked_on a b c p same = record { was_open = p.was_open; is_open = same.0.is_ope
 pub no_more_in : (P : Rows → Rows → Type 0) (a b : State) → a.in_transaction ≡ true → IsReady a → HasCleanDisk b → Survives a b (MayLeave P a) → LeavesNoMore a b
 no_more_in P a b inside ready clean s db may = elim (s.crash clean db may) [ inl was ↦ was | inr more ↦ absurd (true≢false (sym inside ∙ (more ready).0)) ]
 
-pub completes_no_more : (a b : State) → IsBegunOn a → is_carried a.now.trees ≡ false → HasCleanDisk b → Survives a b (λ _. IsBegunOn a → is_carried a.now.trees ≡ false → ⊥) → LeavesNoMore a b
-completes_no_more a b begun un clean s db may = elim (s.crash clean db may) [ inl was ↦ was | inr none ↦ absurd (none begun un) ]
+pub completes_no_more : (carried : Bool) (a b : State) → IsBegunOn a → is_carried a.now.trees ≡ carried → HasCleanDisk b → Survives a b (λ _. IsBegunOn a → is_carried a.now.trees ≡ carried → ⊥) → LeavesNoMore a b
+completes_no_more carried a b begun un clean s db may = elim (s.crash clean db may) [ inl was ↦ was | inr none ↦ absurd (none begun un) ]
 
 pub nothing_more : (a b : State) → HasCleanDisk b → Survives a b (λ _. ⊥) → LeavesNoMore a b
 nothing_more a b clean s db may = elim (s.crash clean db may) [ inl was ↦ was | inr none ↦ absurd none ]
@@ -61,31 +62,47 @@ more_then a b c p q db may = p db (q db may)
 
 -- ---- the rows
 
-marks_put : (old : Rows) → old.marks ≡ second_mark ∷ [] → filter (λ m. not (is_mark (codes "popbox") m)) old.marks ++ our_mark ∷ [] ≡ our_mark ∷ []
-marks_put old is = ap (λ ms. filter (λ m. not (is_mark (codes "popbox") m)) ms ++ our_mark ∷ []) is
+marks_put : (carried : Bool) (old : Rows) → old.marks ≡ old_mark carried ∷ [] → filter (λ m. not (is_mark (codes "popbox") m)) old.marks ++ our_mark ∷ [] ≡ our_mark ∷ []
+marks_put carried old is = ap (λ ms. filter (λ m. not (is_mark (codes "popbox") m)) ms ++ our_mark ∷ []) is
 
-pub brought_is : (old mid new : Rows) → mid ≡ completed false old → old.marks ≡ second_mark ∷ [] → PutsMark our_mark mid new → new ≡ brought old
-brought_is old mid new made is put =
-    put ∙ ap (λ (r : Rows). let w : Rows = record r { marks = filter (λ m. not (is_mark (codes "popbox") m)) r.marks ++ our_mark ∷ [] } in w) made
-    ∙ ap (λ ms. let w : Rows = record (completed false old) { marks = ms } in w) (marks_put old is)
+marked_so : (carried : Bool) (old moved new : Rows) → moved.marks ≡ old.marks → old.marks ≡ old_mark carried ∷ [] → PutsMark our_mark moved new → new ≡ record moved { marks = our_mark ∷ [] }
+marked_so carried old moved new same is put = put ∙ ap (λ ms. let w : Rows = record moved { marks = ms } in w) (marks_put carried moved (same ∙ is))
+
+pub brought_is : (carried : Bool) (old made moved new : Rows) → made ≡ completed carried old → MovesOld carried made moved → old.marks ≡ old_mark carried ∷ [] → PutsMark our_mark moved new → new ≡ brought carried old
+brought_is false old made moved new is moves mark put =
+    marked_so false old moved new (ap (λ (r : Rows). r.marks) (moves ∙ is)) mark put
+    ∙ ap (λ (r : Rows). let w : Rows = record r { marks = our_mark ∷ [] } in w) (moves ∙ is)
+brought_is true old made moved new is moves mark put =
+    let all : moved ≡ record (completed true old) { messages = map body_head old.bodies; sheets = flat_map body_sheets old.bodies; bodies = [] } =
+    moves ∙ ap (λ (r : Rows). let w : Rows = record r { messages = r.messages ++ map body_head r.bodies; sheets = r.sheets ++ flat_map body_sheets r.bodies; bodies = [] } in w) is in
+    marked_so true old moved new (ap (λ (r : Rows). r.marks) all) mark put ∙ ap (λ (r : Rows). let w : Rows = record r { marks = our_mark ∷ [] } in w) all
 
 -- ---- the transaction
 
-pub begun_on : (s0 s1 : State) → IsSecond s0 → Shows s0 s1 s0.now s0.committed true → IsBegunOn s1
-begun_on s0 s1 second shows = record { is_open = shows.is_open; inside = shows.mode; old = subst (λ (d : Database). IsOld d) (sym shows.now_is) second.old }
+module _ (carried : Bool) (s0 s1 : State) (older : IsOlder carried s0) (shows : Shows s0 s1 s0.now s0.committed true) where
+  pub begun_on : IsBegunOn s1
+  begun_on = record { is_open = shows.is_open; inside = shows.mode; old = subst (λ (d : Database). IsOld d) (sym shows.now_is) older.old }
 
-pub uncarried_on : (s0 s1 : State) → IsSecond s0 → Shows s0 s1 s0.now s0.committed true → is_carried s1.now.trees ≡ false
-uncarried_on s0 s1 second shows = ap (λ (d : Database). is_carried d.trees) shows.now_is ∙ second.uncarried
+  pub order_on : is_carried s1.now.trees ≡ carried
+  order_on = ap (λ (d : Database). is_carried d.trees) shows.now_is ∙ older.order
 
-pub marked_on : (s0 s1 : State) → IsSecond s0 → Shows s0 s1 s0.now s0.committed true → (rows_in s1.now.trees).marks ≡ second_mark ∷ []
-marked_on s0 s1 second shows = ap (λ (d : Database). (rows_in d.trees).marks) shows.now_is ∙ second.mark
+  pub marked_on : (rows_in s1.now.trees).marks ≡ old_mark carried ∷ []
+  marked_on = ap (λ (d : Database). (rows_in d.trees).marks) shows.now_is ∙ older.mark
 
--- the rows are those that were brought over
-pub brought_on : (s0 s1 s2 : State) → Shows s0 s1 s0.now s0.committed true → rows_in s2.now.trees ≡ brought (rows_in s1.now.trees) → rows_in s2.now.trees ≡ brought (rows_in s0.now.trees)
-brought_on s0 s1 s2 shows is = is ∙ ap (λ (d : Database). brought (rows_in d.trees)) shows.now_is
+  -- the rows are those that were brought over
+  pub brought_on : (s2 : State) → rows_in s2.now.trees ≡ brought carried (rows_in s1.now.trees) → rows_in s2.now.trees ≡ brought_in s0.now.trees
+  brought_on s2 is = is ∙ ap (λ (d : Database). brought carried (rows_in d.trees)) shows.now_is ∙ ap (λ c. brought c (rows_in s0.now.trees)) (sym older.order)
+
+-- the mark is ours then
+pub our_marks : (db : Trees) (rows : Rows) → rows ≡ brought_in db → rows.marks ≡ our_mark ∷ []
+our_marks db rows is = go (is_carried db) (rows_in db) is
+  where
+    go : (c : Bool) (old : Rows) → rows ≡ brought c old → rows.marks ≡ our_mark ∷ []
+    go true old e = ap (λ (r : Rows). r.marks) e
+    go false old e = ap (λ (r : Rows). r.marks) e
 
 -- it is committed
-pub carried_at : (s0 s3 s4 : State) → IsKept s3.now → rows_in s3.now.trees ≡ brought (rows_in s0.now.trees) → Shows s3 s4 s3.now s3.now false → (c : Contents) × Keeps (rows_in s3.now.trees) c → IsCarried s0 s4
+pub carried_at : (s0 s3 s4 : State) → IsKept s3.now → rows_in s3.now.trees ≡ brought_in s0.now.trees → Shows s3 s4 s3.now s3.now false → (c : Contents) × Keeps (rows_in s3.now.trees) c → IsCarried s0 s4
 carried_at s0 s3 s4 kept is shows found = record {
   is_open = shows.is_open;
   held = (found.0, subst (λ r. Keeps r found.0) is found.1);
@@ -99,7 +116,7 @@ carried_at s0 s3 s4 kept is shows found = record {
 }
 
 -- a stop in the commit
-pub left_at : (s0 s3 s4 : State) → rows_in s3.now.trees ≡ brought (rows_in s0.now.trees) → LeavesNoMore s0 s3 → HasCleanDisk s4 → Survives s3 s4 (λ db. db ≡ s3.now.trees) → LeavesEither s0 s4
+pub left_at : (s0 s3 s4 : State) → rows_in s3.now.trees ≡ brought_in s0.now.trees → LeavesNoMore s0 s3 → HasCleanDisk s4 → Survives s3 s4 (λ db. db ≡ s3.now.trees) → LeavesEither s0 s4
 left_at s0 s3 s4 is first clean s db may = elim (s.crash clean db may) [ inl was ↦ inl (first db was) | inr here ↦ inr (ap rows_in here ∙ is) ]
 
 pub either : (a b : State) → LeavesNoMore a b → LeavesEither a b
@@ -124,24 +141,31 @@ met_of_rows e = at (is_memory e)
     at true = tt
     at false = tt
 
-pub met_judged : (rows : Rows) (e : Error) → JudgesSecond rows (fault_of e)
+pub met_judged : (rows : Rows) (e : Error) → JudgesOlder rows (fault_of e)
 met_judged rows e = at (is_memory e)
   where
-    at : (b : Bool) → JudgesSecond rows (cond b fault.NoMemory fault.Store)
+    at : (b : Bool) → JudgesOlder rows (cond b fault.NoMemory fault.Store)
     at true = tt
     at false = tt
 
+-- the mark of an older version is of a version
+pub of_version : (carried : Bool) (rows : Rows) → rows.marks ≡ old_mark carried ∷ [] → IsOfNoVersion rows → ⊥
+of_version carried rows is none =
+    let found : Some (old_mark carried) ≡ Some none.0 = sym (ap (find (is_mark (codes "popbox"))) is) ∙ none.1 in
+    let e : old_mark carried ≡ none.0 = cc in
+    none.2 carried (sym (ap (λ (m : Mark). m.value) e))
+
 -- the rows are no records
-pub rows_uncarried : (s : State) (f : VaultFault) → IsOfRows f → ((c : Contents) → KeepsSecond s c → ⊥) → IsUncarried s f
-rows_uncarried s fault.Store is none = tt
-rows_uncarried s fault.NoMemory is none = tt
-rows_uncarried s fault.NotOurs is none = λ mark. none
-rows_uncarried s fault.OldVersion is none = absurd is
-rows_uncarried s fault.NoMaildrop is none = absurd is
-rows_uncarried s fault.Conflict is none = absurd is
-rows_uncarried s fault.Full is none = absurd is
-rows_uncarried s fault.NotEmpty is none = absurd is
-rows_uncarried s fault.NoClerk is none = absurd is
+pub rows_uncarried : (carried : Bool) (s : State) (f : VaultFault) → IsOlder carried s → IsOfRows f → ((c : Contents) → KeepsOlder s c → ⊥) → IsUncarried s f
+rows_uncarried carried s fault.Store older is none = tt
+rows_uncarried carried s fault.NoMemory older is none = tt
+rows_uncarried carried s fault.NotOurs older is none = (of_version carried (rows_in s.now.trees) older.mark, λ mark. none)
+rows_uncarried carried s fault.OldVersion older is none = absurd is
+rows_uncarried carried s fault.NoMaildrop older is none = absurd is
+rows_uncarried carried s fault.Conflict older is none = absurd is
+rows_uncarried carried s fault.Full older is none = absurd is
+rows_uncarried carried s fault.NotEmpty older is none = absurd is
+rows_uncarried carried s fault.NoClerk older is none = absurd is
 
 pub rows_adopt : (f : VaultFault) → IsOfRows f → IsAdoptFault f
 rows_adopt fault.Store is = tt
@@ -155,10 +179,10 @@ rows_adopt fault.NotEmpty is = absurd is
 rows_adopt fault.NoClerk is = absurd is
 
 -- the marks don't fit
-pub judged_uncarried : (s : State) (f : VaultFault) → JudgesSecond (rows_in s.now.trees) f → IsUncarried s f
+pub judged_uncarried : (s : State) (f : VaultFault) → JudgesOlder (rows_in s.now.trees) f → IsUncarried s f
 judged_uncarried s fault.Store is = tt
 judged_uncarried s fault.NoMemory is = tt
-judged_uncarried s fault.NotOurs is = λ mark c k. is mark
+judged_uncarried s fault.NotOurs is = (is.0, λ mark c k. is.1 (is_carried s.now.trees) mark)
 judged_uncarried s fault.OldVersion is = is
 judged_uncarried s fault.NoMaildrop is = absurd is
 judged_uncarried s fault.Conflict is = absurd is
@@ -166,41 +190,88 @@ judged_uncarried s fault.Full is = absurd is
 judged_uncarried s fault.NotEmpty is = absurd is
 judged_uncarried s fault.NoClerk is = absurd is
 
--- ---- the mark of version 2
-
-pub one_second : (marks : List Mark) (mark : Mark) → find (is_mark (codes "popbox")) marks ≡ Some mark → mark.value ≡ pos 2 → length marks ≡ 1 → marks ≡ second_mark ∷ []
-one_second [] mark found value one = cc
-one_second (x ∷ y ∷ more) mark found value one = absurd (omega (arith, one))
-one_second (x ∷ []) mark found value one = at (is_mark (codes "popbox") x) refl found
+-- the tables are those of the other older version
+pub order_uncarried : (carried : Bool) (s : State) → (rows_in s.now.trees).marks ≡ old_mark carried ∷ [] → (is_carried s.now.trees ≡ carried → ⊥) → IsUncarried s fault.NotOurs
+order_uncarried carried s is other = (of_version carried (rows_in s.now.trees) is, λ mark c k. other (one_version (is_carried s.now.trees) carried (sym mark ∙ is)))
   where
-    at : (b : Bool) → is_mark (codes "popbox") x ≡ b → cond b (Some x) None ≡ Some mark → x ∷ [] ≡ second_mark ∷ []
-    at true e same = let is : x ≡ mark = cc in let name : x.name ≡ codes "popbox" = bytes_are x.name (codes "popbox") e in let v : x.value ≡ pos 2 = ap (λ (m : Mark). m.value) is ∙ value in rw (name, v) refl
+    one_version : (a b : Bool) → old_mark a ∷ [] ≡ old_mark b ∷ [] → a ≡ b
+    one_version true true e = refl
+    one_version false false e = refl
+    one_version true false e = let m : old_mark true ≡ old_mark false = cc in let v : pos 1 ≡ pos 2 = ap (λ (x : Mark). x.value) m in cc
+    one_version false true e = let m : old_mark false ≡ old_mark true = cc in let v : pos 2 ≡ pos 1 = ap (λ (x : Mark). x.value) m in cc
+
+-- ---- the mark of an older version
+
+pub no_older : (value : ℤ) → value ≢ pos 1 → value ≢ pos 2 → (carried : Bool) → value ≢ old_version carried
+no_older value first second true = first
+no_older value first second false = second
+
+pub one_older : (carried : Bool) (marks : List Mark) (mark : Mark) → find (is_mark (codes "popbox")) marks ≡ Some mark → mark.value ≡ old_version carried → length marks ≡ 1 → marks ≡ old_mark carried ∷ []
+one_older carried [] mark found value one = cc
+one_older carried (x ∷ y ∷ more) mark found value one = absurd (omega (arith, one))
+one_older carried (x ∷ []) mark found value one = at (is_mark (codes "popbox") x) refl found
+  where
+    at : (b : Bool) → is_mark (codes "popbox") x ≡ b → cond b (Some x) None ≡ Some mark → x ∷ [] ≡ old_mark carried ∷ []
+    at true e same = let is : x ≡ mark = cc in let name : x.name ≡ codes "popbox" = bytes_are x.name (codes "popbox") e in let v : x.value ≡ old_version carried = ap (λ (m : Mark). m.value) is ∙ value in rw (name, v) refl
     at false e same = cc
 
--- what is found where it is there alone
-pub second_found : (marks : List Mark) (o : Option Mark) → o ≡ find (is_mark (codes "popbox")) marks → marks ≡ second_mark ∷ [] → o ≡ Some second_mark
-second_found marks o is one = is ∙ ap (find (is_mark (codes "popbox"))) one
+-- a mark that was found is the one that is of no version, or that is there alone
+found_same : (rows : Rows) (mark other : Mark) → find (is_mark (codes "popbox")) rows.marks ≡ Some mark → find (is_mark (codes "popbox")) rows.marks ≡ Some other → mark.value ≡ other.value
+found_same rows mark other a b = let e : Some mark ≡ Some other = sym a ∙ b in let m : mark ≡ other = cc in ap (λ (x : Mark). x.value) m
 
--- another mark is found, or none
-pub other_found : (marks : List Mark) (mark : Mark) (o : Option Mark) → o ≡ find (is_mark (codes "popbox")) marks → o ≡ Some mark → mark.value ≡ pos 3 → marks ≢ second_mark ∷ []
-other_found marks mark o is some three one =
-    let same : Some mark ≡ Some second_mark = sym some ∙ second_found marks o is one in
-    let e : mark ≡ second_mark = cc in
-    let clash : pos 3 ≡ pos 2 = sym three ∙ ap (λ (m : Mark). m.value) e in
-    cc
+found_alone : (carried : Bool) (rows : Rows) (mark : Mark) → find (is_mark (codes "popbox")) rows.marks ≡ Some mark → rows.marks ≡ old_mark carried ∷ [] → mark.value ≡ old_version carried
+found_alone carried rows mark a is = found_same rows mark (old_mark carried) a (ap (find (is_mark (codes "popbox"))) is)
 
-pub none_found : (marks : List Mark) (o : Option Mark) → o ≡ find (is_mark (codes "popbox")) marks → o ≡ None → marks ≢ second_mark ∷ []
-none_found marks o is none one = let e : None ≡ Some second_mark = sym none ∙ second_found marks o is one in cc
+not_both : (carried : Bool) → version ≢ old_version carried
+not_both true e = cc
+not_both false e = cc
 
-pub second_length : (marks : List Mark) → marks ≡ second_mark ∷ [] → length marks ≡ 1
-second_length marks one = ap length one
+-- it is of no older version
+pub judged_no_older : (rows : Rows) (mark : Mark) (f : VaultFault) → find (is_mark (codes "popbox")) rows.marks ≡ Some mark → IsNoOlder mark.value f → JudgesOlder rows f
+judged_no_older rows mark fault.NotOurs found is = (
+  λ none. none.3 (found_same rows none.0 mark none.1 found ∙ is),
+  λ carried alone. not_both carried (sym is ∙ found_alone carried rows mark found alone),
+)
+judged_no_older rows mark fault.OldVersion found is = (mark, found, is.0, is.1)
+judged_no_older rows mark fault.Store found is = absurd is
+judged_no_older rows mark fault.NoMemory found is = absurd is
+judged_no_older rows mark fault.NoMaildrop found is = absurd is
+judged_no_older rows mark fault.Conflict found is = absurd is
+judged_no_older rows mark fault.Full found is = absurd is
+judged_no_older rows mark fault.NotEmpty found is = absurd is
+judged_no_older rows mark fault.NoClerk found is = absurd is
+
+pub no_older_kinds : (value : ℤ) (f : VaultFault) → IsNoOlder value f → IsAdoptFault f
+no_older_kinds value fault.NotOurs is = tt
+no_older_kinds value fault.OldVersion is = tt
+no_older_kinds value fault.Store is = tt
+no_older_kinds value fault.NoMemory is = tt
+no_older_kinds value fault.NoMaildrop is = absurd is
+no_older_kinds value fault.Conflict is = absurd is
+no_older_kinds value fault.Full is = absurd is
+no_older_kinds value fault.NotEmpty is = absurd is
+no_older_kinds value fault.NoClerk is = absurd is
+
+-- there is none
+pub judged_none : (rows : Rows) → find (is_mark (codes "popbox")) rows.marks ≡ None → JudgesOlder rows fault.NotOurs
+judged_none rows none = (
+  λ other. let e : None ≡ Some other.0 = sym none ∙ other.1 in cc,
+  λ carried alone. let e : None ≡ Some (old_mark carried) = sym none ∙ ap (find (is_mark (codes "popbox"))) alone in cc,
+)
+
+-- it is there, with others
+pub judged_more : (carried : Bool) (rows : Rows) (mark : Mark) → find (is_mark (codes "popbox")) rows.marks ≡ Some mark → mark.value ≡ old_version carried → length rows.marks ≢ 1 → JudgesOlder rows fault.NotOurs
+judged_more carried rows mark found value more = (
+  λ none. none.2 carried (found_same rows none.0 mark none.1 found ∙ value),
+  λ other alone. more (ap length alone),
+)
 
 -- ---- behind queries that changed nothing
 
-pub second_on : (s0 s1 : State) → IsUnchanged s0 s1 → HasSecond s0 → s0.in_transaction ≡ false → (IsTrue s0.is_open → s0.now ≡ s0.committed) → (rows_in s0.now.trees).marks ≡ second_mark ∷ [] → IsSecond s1
-second_on s0 s1 same second out settled mark = record {
-  old = subst (λ (d : Database). IsOld d) (sym same.0.now_is) second.0;
-  uncarried = ap (λ (d : Database). is_carried d.trees) same.0.now_is ∙ second.1;
+pub older_on : (carried : Bool) (s0 s1 : State) → IsUnchanged s0 s1 → HasOlder s0 → is_carried s1.now.trees ≡ carried → s0.in_transaction ≡ false → (IsTrue s0.is_open → s0.now ≡ s0.committed) → (rows_in s0.now.trees).marks ≡ old_mark carried ∷ [] → IsOlder carried s1
+older_on carried s0 s1 same older order out settled mark = record {
+  old = subst (λ (d : Database). IsOld d) (sym same.0.now_is) older;
+  order = order;
   mark = ap (λ (d : Database). (rows_in d.trees).marks) same.0.now_is ∙ mark;
   autocommit = same.0.mode ∙ out;
   settled = λ up. same.0.now_is ∙ settled same.0.was_open ∙ sym same.0.committed_is;
@@ -208,18 +279,18 @@ second_on s0 s1 same second out settled mark = record {
 
 pub carried_on : (s0 s1 s2 : State) → IsUnchanged s0 s1 → IsCarried s1 s2 → IsCarried s0 s2
 carried_on s0 s1 s2 same it =
-    let rows = ap (λ (d : Database). rows_in d.trees) same.0.now_is in
+    let rows = ap (λ (d : Database). brought_in d.trees) same.0.now_is in
     record {
       is_open = it.is_open;
-      held = (it.held.0, subst (λ r. Keeps (brought r) it.held.0) rows it.held.1);
-      kept = λ c k. it.kept c (subst (λ r. Keeps (brought r) c) (sym rows) k);
+      held = (it.held.0, subst (λ r. Keeps r it.held.0) rows it.held.1);
+      kept = λ c k. it.kept c (subst (λ r. Keeps r c) (sym rows) k);
     }
 
 pub uncarried_from : (s0 s1 : State) (f : VaultFault) → IsUnchanged s0 s1 → IsUncarried s1 f → IsUncarried s0 f
 uncarried_from s0 s1 fault.Store same is = tt
 uncarried_from s0 s1 fault.NoMemory same is = tt
-uncarried_from s0 s1 fault.NotOurs same is = subst (λ (d : Database). (rows_in d.trees).marks ≡ second_mark ∷ [] → (c : Contents) → Keeps (brought (rows_in d.trees)) c → ⊥) same.0.now_is is
-uncarried_from s0 s1 fault.OldVersion same is = subst (λ (d : Database). IsNotSecond (rows_in d.trees)) same.0.now_is is
+uncarried_from s0 s1 fault.NotOurs same is = subst (λ (d : Database). (IsOfNoVersion (rows_in d.trees) → ⊥) × ((rows_in d.trees).marks ≡ old_mark (is_carried d.trees) ∷ [] → (c : Contents) → Keeps (brought_in d.trees) c → ⊥)) same.0.now_is is
+uncarried_from s0 s1 fault.OldVersion same is = subst (λ (d : Database). IsOfNoVersion (rows_in d.trees)) same.0.now_is is
 uncarried_from s0 s1 fault.NoMaildrop same is = absurd is
 uncarried_from s0 s1 fault.Conflict same is = absurd is
 uncarried_from s0 s1 fault.Full same is = absurd is
@@ -232,7 +303,7 @@ stays_on s0 s1 s2 same stays up =
     (same.0.was_open, (it.1.0 ∙ same.0.now_is, it.1.1 ∙ same.0.committed_is), it.2 ∙ same.0.mode)
 
 pub either_on : (s0 s1 s2 : State) → IsUnchanged s0 s1 → LeavesNoMore s0 s1 → LeavesEither s1 s2 → LeavesEither s0 s2
-either_on s0 s1 s2 same first then db may = elim (then db may) [ inl was ↦ inl (first db was) | inr now ↦ inr (now ∙ ap (λ (d : Database). brought (rows_in d.trees)) same.0.now_is) ]
+either_on s0 s1 s2 same first then db may = elim (then db may) [ inl was ↦ inl (first db was) | inr now ↦ inr (now ∙ ap (λ (d : Database). brought_in d.trees) same.0.now_is) ]
 
 -- a query of an older store commits nothing
 pub asked_old : (a b : State) → IsOldSchema a.now → HasCleanDisk b → Survives a b (λ _. IsOldSchema a.now → ⊥) → LeavesNoMore a b

@@ -153,6 +153,7 @@ keeps_clerks rows c clerks held k p s = record {
   deposits = k.deposits;
   messages = k.messages;
   sheets = k.sheets;
+  groups = k.groups;
   rules = k.rules;
   keys = k.keys;
   sound = s;

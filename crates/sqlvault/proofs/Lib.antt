@@ -9,6 +9,7 @@ pub mod DepositLemmas
 pub mod HeadLemmas
 pub mod PageLemmas
 pub mod RemoveLemmas
+pub mod GroupLemmas
 pub mod RuleLemmas
 pub mod TotalLemmas
 pub mod AdoptLemmas
@@ -27,5 +28,6 @@ pub mod GatherLemmas
 pub mod JudgeLemmas
 pub mod EachLemmas
 pub mod UsesLemmas
+pub mod MoveLemmas
 pub mod CarryLemmas
 pub mod AgainLemmas

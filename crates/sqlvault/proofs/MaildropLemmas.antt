@@ -90,6 +90,7 @@ keeps_names rows c names k s = record {
   deposits = k.deposits;
   messages = k.messages;
   sheets = k.sheets;
+  groups = k.groups;
   rules = k.rules;
   keys = k.keys;
   sound = s;

@@ -20,6 +20,7 @@ keeps_nothing = record {
   deposits = refl;
   messages = refl;
   sheets = IsPermutation-refl [];
+  groups = refl;
   rules = refl;
   keys = refl;
   sound = nothing_sound;

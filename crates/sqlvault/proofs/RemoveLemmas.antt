@@ -220,6 +220,7 @@ one_removed d key rows after fits change c keeps =
       messages = ap (filter (λ (m : Message). not (is_message (row_key key) d m))) keeps.messages ∙ messages_left key d c.messages fits low_keys;
       sheets = subst (λ l. IsPermutation l (filter (λ (s : Sheet). passes s.mail) rows.sheets)) (sheets_left passes stays c.messages same)
           (IsPermutation-filter (λ (s : Sheet). passes s.mail) (flat_map message_sheets c.messages) rows.sheets keeps.sheets);
+      groups = keeps.groups;
       rules = keeps.rules;
       keys = all_filter (λ (x : Keyed). nat_lt x.key 18446744073709551616) stays c.messages keeps.keys;
       sound = sound_left c stays keeps.sound;

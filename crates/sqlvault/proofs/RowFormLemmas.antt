@@ -13,7 +13,7 @@ use Rattle.creds.specs.Names.{is_name, name_of, is_secret}
 use Rattle.creds.specs.declared.credential.Credential.{Credential}
 use Rattle.creds.specs.declared.credential.Credential.TheVariants as kept
 use Rattle.policy.specs.declared.rule.Rule as rule
-use Rattle.policy.specs.Policy.{Policy, are_distinct, is_sound_rule, are_sound_rules, is_sound_policy, policy_of}
+use Rattle.policy.specs.Policy.{Group, Policy, are_distinct, is_sound_rule, is_sound_group, is_sound_policy, policy_with}
 use Rattle.vault.specs.declared.record.Clerk as vault
 use Rattle.vault.specs.Records.{is_sound_clerk, is_sound_credential, most_clerks, most_maildrops}
 use Rattle.vault.proofs.ListLemmas.{distinct-map, length-map}
@@ -22,12 +22,12 @@ use Rattle.mailsql.specs.declared.rows.Rule.{Rule}
 use Rattle.mailsql.specs.Columns.{Rows}
 use Rattle.mailsql.specs.Rows.{same_int}
 use Rattle.mailsql.specs.Apart.{AreApart, are_apart}
-use Rattle.sqlvault.specs.Keeps.{kind_of, secret_of, clerk_row, rule_row, at_place, pattern_text, effect_number, actions_number}
+use Rattle.sqlvault.specs.Keeps.{kind_of, secret_of, clerk_row, rule_row, at_place, groups_in, clerks_text, pattern_text, effect_number, actions_number}
 use Rattle.sqlvault.specs.Parts.{Finds, ClerksAre, MaildropsAre, PolicyIs}
 use Rattle.sqlvault.specs.RowForms.{is_credential_row, is_clerk_row, are_clerk_rows, are_maildrop_rows}
 use Rattle.sqlvault.proofs.PermutationLemmas.{all_permuted}
 use Rattle.sqlvault.proofs.ClerkLemmas.{row_made}
-use Rattle.sqlvault.proofs.RuleLemmas.{some_same, take_next, sound_rules}
+use Rattle.sqlvault.proofs.RuleLemmas.{some_same, take_next, sound_rules, each_sound}
 
 both : (a b : Bool) → a ≡ true → b ≡ true → (a && b) ≡ true
 both a b e f = rw (e, f) refl
@@ -157,7 +157,7 @@ name_was text name e = at (is_name text) e
     at false e = absurd (cc)
 
 -- a row that was read is the rule's
-pub row_read : (row : Rule) (r : rule.Rule) → row.name ≡ r.name → row.effect ≡ effect_number r.effect → row.clerk ≡ pattern_text r.clerk → row.maildrop ≡ pattern_text r.maildrop
+pub row_read : (row : Rule) (r : rule.Rule) → row.name ≡ r.name → row.effect ≡ effect_number r.effect → row.clerk ≡ clerks_text r.clerk → row.maildrop ≡ pattern_text r.maildrop
     → row.class ≡ pattern_text r.class → row.actions ≡ actions_number r.actions → at_place (pos 0) row ≡ rule_row (pos 0) r
 row_read row r a b d e f h i =
     let made : Rule = record { place = pos 0; name = a i; effect = b i; clerk = d i; maildrop = e i; class = f i; actions = h i } in made
@@ -173,27 +173,31 @@ pub items_more : (rs items grown : List rule.Rule) (i : ℕ) (r s : rule.Rule) �
 items_more rs items grown i r s lt is read grows held =
     grows ∙ ap (λ x. items ++ x ∷ []) (some_same (Some r) r s refl read) ∙ ap (λ l. l ++ s ∷ []) held ∙ sym (take_next rs i s lt is)
 
--- these rows are those of this policy
-abbrev pub IsPolicyOf : List Rule → Policy → Type 0
-IsPolicyOf rows p = (map (at_place (pos 0)) rows ≡ map (rule_row (pos 0)) p.rules) × (is_sound_policy p ≡ true)
+-- these groups and rows are those of this policy
+abbrev pub IsPolicyOf : List Group → List Rule → Policy → Type 0
+IsPolicyOf groups rows p = (groups ≡ p.groups) × (map (at_place (pos 0)) rows ≡ map (rule_row (pos 0)) p.rules) × (is_sound_policy p ≡ true)
 
--- where the rows have been read, the rules tell
-pub read_judged : (rows : List Rule) (items : List rule.Rule) (b : Bool) → map (at_place (pos 0)) rows ≡ map (rule_row (pos 0)) items
+-- where the rows have been read, the groups and the rules tell
+pub read_judged : (groups : List Group) (rows : List Rule) (items : List rule.Rule) (b : Bool) → map (at_place (pos 0)) rows ≡ map (rule_row (pos 0)) items
     → ((rs : List rule.Rule) → list_all is_sound_rule rs ≡ true → map (at_place (pos 0)) rows ≡ map (rule_row (pos 0)) rs → items ≡ rs)
-    → b ≡ is_some (policy_of items) → Finds (IsPolicyOf rows) b
-read_judged rows items b held all e = at (are_sound_rules items) b refl e
+    → b ≡ is_some (policy_with groups items) → Finds (IsPolicyOf groups rows) b
+read_judged groups rows items b held all e = at (is_sound_policy (record { groups = groups; rules = items })) b refl e
   where
-    at : (s b : Bool) → are_sound_rules items ≡ s → b ≡ is_some (let p : Policy = record { rules = items } in cond s (Some p) None) → Finds (IsPolicyOf rows) b
-    at true true f e = (record { rules = items }, (held, f))
+    at : (s b : Bool) → is_sound_policy (record { groups = groups; rules = items }) ≡ s → b ≡ is_some (let p : Policy = record { groups = groups; rules = items } in cond s (Some p) None) → Finds (IsPolicyOf groups rows) b
+    at true true f e = (record { groups = groups; rules = items }, (refl, held, f))
     at true false f e = absurd (true≢false (sym e))
     at false true f e = absurd (true≢false e)
-    at false false f e = λ p m. true≢false (sym m.1 ∙ ap are_sound_rules (sym (all p.rules (sound_rules p m.1) m.0)) ∙ f)
+    at false false f e = λ p m. true≢false (sym m.2 ∙ ap is_sound_policy (λ i. let made : Policy = record { groups = sym m.0 i; rules = sym (all p.rules (sound_rules p m.2) m.1) i } in made) ∙ f)
 
 -- where a row is no sound rule's, there is no policy
-pub none_judged : (rows : List Rule) → ((rs : List rule.Rule) → list_all is_sound_rule rs ≡ true → map (at_place (pos 0)) rows ≡ map (rule_row (pos 0)) rs → ⊥) → Finds (IsPolicyOf rows) false
-none_judged rows none = λ p m. none p.rules (sound_rules p m.1) m.0
+pub none_judged : (groups : List Group) (rows : List Rule) → ((rs : List rule.Rule) → list_all is_sound_rule rs ≡ true → map (at_place (pos 0)) rows ≡ map (rule_row (pos 0)) rs → ⊥) → Finds (IsPolicyOf groups rows) false
+none_judged groups rows none = λ p m. none p.rules (sound_rules p m.2) m.1
 
 -- rows that were read are those of the store
-pub policy_judged : (rows : Rows) (read : List Rule) (b : Bool) → read ≡ rows.rules → Finds (IsPolicyOf read) b → Finds (PolicyIs rows) b
-policy_judged rows read true same f = (f.0, record { same = ap (map (at_place (pos 0))) (sym same) ∙ f.1.0; sound = f.1.1 })
-policy_judged rows read false same f = λ p m. f p (ap (map (at_place (pos 0))) same ∙ m.same, m.sound)
+pub policy_judged : (rows : Rows) (groups : List Group) (read : List Rule) (b : Bool) → groups ≡ groups_in rows → read ≡ rows.rules → Finds (IsPolicyOf groups read) b → Finds (PolicyIs rows) b
+policy_judged rows groups read true are same f = (f.0, record { groups = sym are ∙ f.1.0; same = ap (map (at_place (pos 0))) (sym same) ∙ f.1.1; sound = f.1.2 })
+policy_judged rows groups read false are same f = λ p m. f p (are ∙ m.groups, ap (map (at_place (pos 0))) same ∙ m.same, m.sound)
+
+-- where the groups' rows are no sound groups', there is no policy
+pub no_groups : (rows : Rows) → (list_all is_sound_group (groups_in rows) ≡ true → ⊥) → Finds (PolicyIs rows) false
+no_groups rows none = λ p m. none (ap (list_all is_sound_group) m.groups ∙ each_sound p m.sound)

@@ -14,8 +14,8 @@ use Rattle.sqlite.proofs.Callers.{memory_is_clean}
 use Rattle.vault.specs.declared.fault.VaultFault.{VaultFault}
 use Rattle.vault.specs.declared.fault.VaultFault.TheVariants.{Store, NoMemory}
 use Rattle.vault.specs.Plain.{no_contents}
-use Rattle.sqlvault.specs.Adopts.{IsBlank, IsKnown, IsAdopted, IsRefused, LeavesEmptyToo, RefusesSecond, OpensIn}
-use Rattle.sqlvault.specs.Carries.{HasSecond, IsCarried, LeavesEither}
+use Rattle.sqlvault.specs.Adopts.{IsBlank, IsKnown, IsAdopted, IsRefused, LeavesEmptyToo, RefusesOlder, OpensIn}
+use Rattle.sqlvault.specs.Carries.{HasOlder, IsCarried, LeavesEither}
 use Rattle.sqlvault.specs.Opened.{Opened}
 use Rattle.sqlvault.specs.Stands.{Holds}
 use Rattle.sqlvault.proofs.AdoptLemmas.{refused_blank}
@@ -26,8 +26,8 @@ pub opens_in : {D : Type 0} {g : Ghosts D} (image : Image) (first : Held (FileSt
     → (HasCleanDisk (file_state first) → IsOpened first) → (HasCleanDisk (file_state first) → FindsIn image (file_state first))
     → IfOk r (λ vault. HasCleanDisk (file_state vault.conn) → HasCleanDisk (file_state first) × (IsKnown (file_state first) → IsAdopted (file_state first) (file_state vault.conn)))
     → IfOk r (λ vault. HasCleanDisk (file_state vault.conn) → IsKnown (file_state first) → IsTrue (file_state first).is_open → LeavesEmptyToo (file_state first) (file_state vault.conn))
-    → IfOk r (λ vault. HasCleanDisk (file_state vault.conn) → HasSecond (file_state first) → (file_state first).in_transaction ≡ false → IsCarried (file_state first) (file_state vault.conn) × LeavesEither (file_state first) (file_state vault.conn))
-    → IfErr r (λ fault. (last : Held (FileStore D g)) × (HasCleanDisk (file_state last) → HasCleanDisk (file_state first) × (IsKnown (file_state first) → IsRefused (file_state first) fault) × ((file_state first).in_transaction ≡ false → RefusesSecond (file_state first) (file_state last) fault)))
+    → IfOk r (λ vault. HasCleanDisk (file_state vault.conn) → HasOlder (file_state first) → (file_state first).in_transaction ≡ false → IsCarried (file_state first) (file_state vault.conn) × LeavesEither (file_state first) (file_state vault.conn))
+    → IfErr r (λ fault. (last : Held (FileStore D g)) × (HasCleanDisk (file_state last) → HasCleanDisk (file_state first) × (IsKnown (file_state first) → IsRefused (file_state first) fault) × ((file_state first).in_transaction ≡ false → RefusesOlder (file_state first) (file_state last) fault)))
     → OpensIn image r
 opens_in image first (Ok vault) opened found adopted stop carried refused = λ clean.
     let a = adopted clean in
@@ -38,8 +38,8 @@ opens_in image first (Ok vault) opened found adopted stop carried refused = λ c
       found = found a.0;
       adopted = a.1;
       stop = λ known. stop clean known (opened a.0).0.is_open;
-      carried = λ second. (carried clean second out).0;
-      carried_stop = λ second. (carried clean second out).1;
+      carried = λ older. (carried clean older out).0;
+      carried_stop = λ older. (carried clean older out).1;
     }
 opens_in image first (Err fault) opened found adopted stop carried refused = inr (
   first,
@@ -56,7 +56,7 @@ memory_taken first (Ok vault) blank adopted = let a = (adopted (memory_is_clean 
 memory_taken first (Err fault) blank adopted = tt
 
 pub memory_refused : (first : Held MemStore) (r : Result (Opened MemStore) VaultFault) → IsBlank (state over_memory first) → (state over_memory first).in_transaction ≡ false
-    → IfErr r (λ fault. (last : Held MemStore) × (HasCleanDisk (state over_memory last) → HasCleanDisk (state over_memory first) × (IsKnown (state over_memory first) → IsRefused (state over_memory first) fault) × ((state over_memory first).in_transaction ≡ false → RefusesSecond (state over_memory first) (state over_memory last) fault)))
+    → IfErr r (λ fault. (last : Held MemStore) × (HasCleanDisk (state over_memory last) → HasCleanDisk (state over_memory first) × (IsKnown (state over_memory first) → IsRefused (state over_memory first) fault) × ((state over_memory first).in_transaction ≡ false → RefusesOlder (state over_memory first) (state over_memory last) fault)))
     → IfErr r (λ fault. (fault ≡ Store) ⊎ (fault ≡ NoMemory))
 memory_refused first (Ok vault) blank out refused = tt
 memory_refused first (Err fault) blank out refused = refused_blank (state over_memory first) fault blank out ((refused.1 (memory_is_clean refused.0)).1 (inl blank))

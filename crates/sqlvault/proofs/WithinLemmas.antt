@@ -8,7 +8,7 @@ use Rattle.mailsql.specs.Rows.{Rows, rows_in, IsKept, IsReady, MayLeave, Changes
 use Rattle.sqlvault.specs.Keeps.{Keeps}
 use Rattle.sqlvault.specs.Stands.{Holds, Leaves, Within, Under, Halted, Makes}
 use Rattle.sqlvault.specs.Stops.{LeavesLast}
-use Rattle.std.specs.Prelude.{OnOk, OnErr}
+use Rattle.std.specs.Prelude.{OnOk, OnErr, IsErrAnd}
 use Rattle.std.proofs.Common.{Result, Ok, Err}
 use Rattle.sqlite.specs.declared.error.Error.{Error}
 
@@ -90,6 +90,11 @@ makes Change Said old new (Ok x) clean does was s say = λ base rows w.
     let a = step_ok Change Change old new base rows clean does s w in
     (a.0, say rows a.0 a.1, a.2)
 makes Change Said old new (Err e) clean does was s say = λ base rows w. step_err Change old new base rows clean was s w
+
+-- a part that failed before it did anything
+pub makes_none : {A : Type 0} (Change : A → Rows → Rows → Type 0) (s : State) (r : Result A Error) (P : Error → Type 0) → IsErrAnd r P → Makes Change s s r
+makes_none Change s (Ok x) P failed = absurd failed
+makes_none Change s (Err e) P failed = λ base rows w. (inl (record { inside = w.inside; under = w.under; base_is = w.base_is }), w.stop)
 
 -- a part behind a step that was done
 pub makes_after : (First Second Both : Rows → Rows → Type 0) (s0 s1 s2 : State) (r : Result (Unit {0}) Error)

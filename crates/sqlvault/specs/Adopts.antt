@@ -20,7 +20,7 @@ use Rattle.mailsql.specs.Uses.{marked}
 use Rattle.mailsql.specs.Tables.{no_schema}
 use Rattle.mailsql.specs.Rows.{Rows, rows_in, IsKept, IsBare, is_mark}
 use Rattle.sqlvault.specs.Keeps.{Keeps, our_mark, version}
-use Rattle.sqlvault.specs.Carries.{HasSecond, IsCarried, IsUncarried, LeavesEither}
+use Rattle.sqlvault.specs.Carries.{HasOlder, IsCarried, IsUncarried, LeavesEither}
 use Rattle.sqlvault.specs.Opened.{Opened}
 use Rattle.sqlvault.specs.Refusals.{open_fault}
 use Rattle.sqlvault.specs.Stands.{Holds}
@@ -97,25 +97,25 @@ abbrev pub IsMarked : {A : Type 0} → Rows → Result A VaultFault → Type 0
 IsMarked rows (Ok _) = rows.marks ≡ our_mark ∷ []
 IsMarked rows (Err fault) = JudgesMarks rows fault
 
--- the files held this image: the connection found the database of it, and was then adopted, its store of version 2 carried over
+-- the files held this image: the connection found the database of it, and was then adopted, an older store of it carried over
 pub record IsFoundIn {D : Type 0} {g : Ghosts D} (image : Image) (now : Held (FileStore D g)) : Type 0 where
   pub first : Held (FileStore D g)
   pub opened : IsOpened first
   pub found : FindsIn image (file_state first)
   pub adopted : IsKnown (file_state first) → IsAdopted (file_state first) (file_state now)
   pub stop : IsKnown (file_state first) → LeavesEmptyToo (file_state first) (file_state now)
-  pub carried : HasSecond (file_state first) → IsCarried (file_state first) (file_state now)
-  pub carried_stop : HasSecond (file_state first) → LeavesEither (file_state first) (file_state now)
+  pub carried : HasOlder (file_state first) → IsCarried (file_state first) (file_state now)
+  pub carried_stop : HasOlder (file_state first) → LeavesEither (file_state first) (file_state now)
 
--- a store of version 2 is refused for a cause: its tables stay as they were, and a stop leaves the old store or the new one
-abbrev pub RefusesSecond : State → State → VaultFault → Type 0
-RefusesSecond old new fault = HasSecond old → IsUncarried old fault × (StaysAs old new × LeavesEither old new)
+-- an older store is refused for a cause: its tables stay as they were, and a stop leaves the old store or the new one
+abbrev pub RefusesOlder : State → State → VaultFault → Type 0
+RefusesOlder old new fault = HasOlder old → IsUncarried old fault × (StaysAs old new × LeavesEither old new)
 
 -- the files weren't opened, for an error of the kit's, or they held this image, and the connection that found the database of it was refused
 abbrev pub IsRefusedIn : {D : Type 0} → Ghosts D → Image → VaultFault → Type 0
 IsRefusedIn {D} g image fault =
     ((e : Error) × IsTrue (is_open_error e) × (fault ≡ open_fault e))
-    ⊎ ((first : Held (FileStore D g)) × (last : Held (FileStore D g)) × (HasCleanDisk (file_state last) → (IsOpened first × FindsIn image (file_state first)) × (IsKnown (file_state first) → IsRefused (file_state first) fault) × RefusesSecond (file_state first) (file_state last) fault))
+    ⊎ ((first : Held (FileStore D g)) × (last : Held (FileStore D g)) × (HasCleanDisk (file_state last) → (IsOpened first × FindsIn image (file_state first)) × (IsKnown (file_state first) → IsRefused (file_state first) fault) × RefusesOlder (file_state first) (file_state last) fault))
 
 -- what opening files that held this image comes to
 abbrev pub OpensIn : {D : Type 0} {g : Ghosts D} → Image → Result (Opened (FileStore D g)) VaultFault → Type 0

@@ -1,57 +1,72 @@
--- What carrying a store of version 2 over comes to: its lists stay, groups and members are made, and the mark is ours.
-use Rattle.std.specs.Prelude.{◌≡◌, ◌≢◌, ◌⊎◌, ⊤, false, IsTrue, pos, Result, Ok, Err, Some, [], ◌∷◌, codes}
+-- What carrying an older store over comes to: its lists stay, the tables that it lacks are made, and the mark is ours.
+use Rattle.std.specs.Prelude.{◌≡◌, ◌≢◌, ◌⊎◌, ⊤, Bool, true, false, IsTrue, ℤ, pos, Result, Ok, Err, Some, [], ◌∷◌, map, flat_map, codes}
 use Rattle.std.specs.List.{find}
 use Rattle.sqlite_trees.specs.Tree.{Trees}
-use Rattle.sqlite.specs.Effect.{Database}
 use Rattle.sqlite.specs.State.{State}
 use Rattle.vault.specs.declared.fault.VaultFault.{VaultFault}
 use Rattle.vault.specs.declared.fault.VaultFault.TheVariants.{Store, NoMemory, NotOurs, OldVersion}
 use Rattle.vault.specs.Changes.{Contents}
 use Rattle.mailsql.specs.declared.rows.Mark.{Mark}
 use Rattle.mailsql.specs.Rows.{Rows, rows_in, is_carried, completed, is_mark, IsOld}
-use Rattle.sqlvault.specs.Keeps.{Keeps, our_mark}
+use Rattle.sqlvault.specs.Keeps.{Keeps, our_mark, version}
+use Rattle.sqlvault.specs.Moves.{body_head, body_sheets}
 use Rattle.sqlvault.specs.Stands.{Holds}
 
--- the mark of version 2
-abbrev pub second_mark : Mark
-second_mark = record { name = codes "popbox"; value = pos 2 }
+-- ---- the older versions
 
--- the rows of a store of version 2, as they stand once it is carried over
-abbrev pub brought : Rows → Rows
-brought rows = record (completed false rows) { marks = our_mark ∷ [] }
+-- the number of version 1, which has a table of messages with their texts, and of version 2
+abbrev pub old_version : (carried : Bool) → ℤ
+old_version true = pos 1
+old_version false = pos 2
 
--- our mark has another version than 2
-abbrev pub IsNotSecond : Rows → Type 0
-IsNotSecond rows = (mark : Mark) × (find (is_mark (codes "popbox")) rows.marks ≡ Some mark) × (mark.value ≢ pos 2)
+-- the mark of that version
+abbrev pub old_mark : (carried : Bool) → Mark
+old_mark carried = record { name = codes "popbox"; value = old_version carried }
 
--- the tables are those of version 2
-abbrev pub HasSecond : State → Type 0
-HasSecond s = IsOld s.now × (is_carried s.now.trees ≡ false)
+-- The rows of an older store, as they stand once it is carried over: the lists are the same. Those of a store of version 1 have each message under
+-- its key, with its text in sheets.
+abbrev pub brought : (carried : Bool) → Rows → Rows
+brought false rows = record (completed false rows) { marks = our_mark ∷ [] }
+brought true rows = record (completed true rows) { marks = our_mark ∷ []; messages = map body_head rows.bodies; sheets = flat_map body_sheets rows.bodies; bodies = [] }
 
--- The tables are those of version 2 under its mark, no transaction is under way, and while the connection is open all is committed.
-pub record IsSecond (s : State) : Type 0 where
+-- those of the older store that stands in these trees
+abbrev pub brought_in : Trees → Rows
+brought_in db = brought (is_carried db) (rows_in db)
+
+-- our mark has none of the versions 1, 2 and 3
+abbrev pub IsOfNoVersion : Rows → Type 0
+IsOfNoVersion rows = (mark : Mark) × (find (is_mark (codes "popbox")) rows.marks ≡ Some mark) × ((carried : Bool) → mark.value ≢ old_version carried) × (mark.value ≢ version)
+
+-- the tables are those of version 1 or of version 2
+abbrev pub HasOlder : State → Type 0
+HasOlder s = IsOld s.now
+
+-- The tables are those of the one older version under its mark, no transaction is under way, and while the connection is open all is committed.
+pub record IsOlder (carried : Bool) (s : State) : Type 0 where
   pub old : IsOld s.now
-  pub uncarried : is_carried s.now.trees ≡ false
-  pub mark : (rows_in s.now.trees).marks ≡ second_mark ∷ []
+  pub order : is_carried s.now.trees ≡ carried
+  pub mark : (rows_in s.now.trees).marks ≡ old_mark carried ∷ []
   pub autocommit : s.in_transaction ≡ false
   pub settled : IsTrue s.is_open → s.now ≡ s.committed
 
--- what the rows of a store of version 2 hold
-abbrev pub KeepsSecond : State → Contents → Type 0
-KeepsSecond s c = Keeps (brought (rows_in s.now.trees)) c
+-- ---- what comes of it
+
+-- what the rows of an older store hold
+abbrev pub KeepsOlder : State → Contents → Type 0
+KeepsOlder s c = Keeps (brought_in s.now.trees) c
 
 -- its rows are contents, and these are held from then on
 pub record IsCarried (old new : State) : Type 0 where
   pub is_open : IsTrue new.is_open
-  pub held : (c : Contents) × KeepsSecond old c
-  pub kept : (c : Contents) → KeepsSecond old c → Holds new c
+  pub held : (c : Contents) × KeepsOlder old c
+  pub kept : (c : Contents) → KeepsOlder old c → Holds new c
 
 -- why it is not carried over
 abbrev pub IsUncarried : State → VaultFault → Type 0
 IsUncarried old Store = ⊤
 IsUncarried old NoMemory = ⊤
-IsUncarried old NotOurs = (rows_in old.now.trees).marks ≡ second_mark ∷ [] → (c : Contents) → KeepsSecond old c → ⊥
-IsUncarried old OldVersion = IsNotSecond (rows_in old.now.trees)
+IsUncarried old NotOurs = (IsOfNoVersion (rows_in old.now.trees) → ⊥) × ((rows_in old.now.trees).marks ≡ old_mark (is_carried old.now.trees) ∷ [] → (c : Contents) → KeepsOlder old c → ⊥)
+IsUncarried old OldVersion = IsOfNoVersion (rows_in old.now.trees)
 IsUncarried old _ = ⊥
 
 -- the fault is a statement's, or that the rows are no records
@@ -61,24 +76,30 @@ IsOfRows NoMemory = ⊤
 IsOfRows NotOurs = ⊤
 IsOfRows _ = ⊥
 
+-- why a number is no older version's
+abbrev pub IsNoOlder : ℤ → VaultFault → Type 0
+IsNoOlder value NotOurs = value ≡ version
+IsNoOlder value OldVersion = ((carried : Bool) → value ≢ old_version carried) × (value ≢ version)
+IsNoOlder value _ = ⊥
+
 -- what the marks say of the version
-abbrev pub JudgesSecond : Rows → VaultFault → Type 0
-JudgesSecond rows Store = ⊤
-JudgesSecond rows NoMemory = ⊤
-JudgesSecond rows NotOurs = rows.marks ≢ second_mark ∷ []
-JudgesSecond rows OldVersion = IsNotSecond rows
-JudgesSecond rows _ = ⊥
+abbrev pub JudgesOlder : Rows → VaultFault → Type 0
+JudgesOlder rows Store = ⊤
+JudgesOlder rows NoMemory = ⊤
+JudgesOlder rows NotOurs = (IsOfNoVersion rows → ⊥) × ((carried : Bool) → rows.marks ≢ old_mark carried ∷ [])
+JudgesOlder rows OldVersion = IsOfNoVersion rows
+JudgesOlder rows _ = ⊥
 
--- the mark of version 2 is there alone, or why not
-abbrev pub IsMarkedSecond : {A : Type 0} → Rows → Result A VaultFault → Type 0
-IsMarkedSecond rows (Ok _) = rows.marks ≡ second_mark ∷ []
-IsMarkedSecond rows (Err fault) = JudgesSecond rows fault
+-- the mark of this older version is there alone, or why none is
+abbrev pub IsMarkedOlder : Rows → Result Bool VaultFault → Type 0
+IsMarkedOlder rows (Ok carried) = rows.marks ≡ old_mark carried ∷ []
+IsMarkedOlder rows (Err fault) = JudgesOlder rows fault
 
--- what taking over a store with the tables of version 2 comes to
+-- what taking over a store with the tables of an older version comes to
 abbrev pub CarriesOver : {A : Type 0} → State → State → Result A VaultFault → Type 0
 CarriesOver old new (Ok _) = IsCarried old new
 CarriesOver old new (Err fault) = IsUncarried old fault
 
 -- a stop leaves the old store or the new one
 abbrev pub LeavesEither : State → State → Type 0
-LeavesEither old new = (db : Trees) → new.may_leave db → old.may_leave db ⊎ (rows_in db ≡ brought (rows_in old.now.trees))
+LeavesEither old new = (db : Trees) → new.may_leave db → old.may_leave db ⊎ (rows_in db ≡ brought_in old.now.trees)

@@ -1,17 +1,20 @@
 -- How the rows of a store's tables are the contents of a vault. Each record of the contents has one row, and the rows say nothing else:
 -- a number counted from AUTOINCREMENT is a message's key, a text lies in sheets, and a count is how many deposits its class had.
-use Rattle.std.specs.Prelude.{◌≡◌, ◌+ℤ◌, ℕ, ℤ, pos, true, nat_lt, List, [], ◌∷◌, length, map, flat_map, Option, Some, None, codes, if◌then◌else◌}
+use Rattle.std.specs.Prelude.{◌≡◌, ◌+ℤ◌, ℕ, ℤ, pos, true, nat_lt, List, [], ◌∷◌, ◌++◌, length, map, flat_map, filter, Option, Some, None, codes, if◌then◌else◌}
 use Rattle.std.specs.Int.{cast_signed, w64}
 use Rattle.std.specs.List.{find, list_all}
 use Rattle.std.specs.List.Sorted.{IsPermutation}
 use Rattle.creds.specs.declared.credential.Credential.{Credential}
 use Rattle.creds.specs.declared.credential.Credential.TheVariants as kept
 use Rattle.policy.specs.declared.rule.Actions.{Actions}
+use Rattle.policy.specs.declared.rule.Clerks.{Clerks}
+use Rattle.policy.specs.declared.rule.Clerks.TheVariants as clerks
 use Rattle.policy.specs.declared.rule.Effect.{Effect}
 use Rattle.policy.specs.declared.rule.Effect.TheVariants.{Allow, Deny}
 use Rattle.policy.specs.declared.rule.Pattern.{Pattern}
 use Rattle.policy.specs.declared.rule.Pattern.TheVariants.{Any, Is}
 use Rattle.policy.specs.declared.rule.Rule as policy
+use Rattle.policy.specs.Policy as groups
 use Rattle.vault.specs.declared.record.Clerk as vault
 use Rattle.vault.specs.declared.record.Keyed.{Keyed}
 use Rattle.vault.specs.declared.record.Receipt.{Receipt}
@@ -24,8 +27,10 @@ use Rattle.mailsql.specs.declared.rows.Deposit.{Deposit}
 use Rattle.mailsql.specs.declared.rows.Message.{Message}
 use Rattle.mailsql.specs.declared.rows.Sheet.{Sheet}
 use Rattle.mailsql.specs.declared.rows.Rule.{Rule}
+use Rattle.mailsql.specs.declared.rows.Group.{Group}
+use Rattle.mailsql.specs.declared.rows.Member.{Member}
 use Rattle.mailsql.specs.Columns.{Name, Rows}
-use Rattle.mailsql.specs.Rows.{is_count}
+use Rattle.mailsql.specs.Rows.{is_count, is_member_of}
 use Rattle.mailsql.specs.Sheets.{sheets_of}
 
 -- the version of the layout, which a store of ours is marked with
@@ -81,6 +86,20 @@ message_row x = record { key = row_key x.key; maildrop = x.message.maildrop; cla
 abbrev pub message_sheets : Keyed → List Sheet
 message_sheets x = sheets_of (row_key x.key) x.message.text
 
+-- ---- groups
+
+-- the names of a group's members, in the order in which they came
+abbrev pub member_names : (group : ℤ) → List Member → List Name
+member_names group members = map (λ (m : Member). m.clerk) (filter (is_member_of group) members)
+
+-- the group of a row
+abbrev pub group_in : List Member → Group → groups.Group
+group_in members g = record { name = g.name; members = member_names g.place members }
+
+-- all of them, in order
+abbrev pub groups_in : Rows → List groups.Group
+groups_in rows = map (group_in rows.members) rows.groups
+
 -- ---- rules
 
 -- the number of an effect
@@ -93,6 +112,12 @@ abbrev pub pattern_text : Pattern → List ℕ
 pattern_text Any = codes "*"
 pattern_text (Is name) = name
 
+-- the text of the clerks that a rule is about
+abbrev pub clerks_text : Clerks → List ℕ
+clerks_text clerks.Any = codes "*"
+clerks_text (clerks.Is name) = name
+clerks_text (clerks.MembersOf name) = codes "@" ++ name
+
 -- 1 for open, 2 for read and 4 for remove, added up
 abbrev pub actions_number : Actions → ℤ
 actions_number a = (if a.open then pos 1 else pos 0) +ℤ ((if a.read then pos 2 else pos 0) +ℤ (if a.remove then pos 4 else pos 0))
@@ -103,7 +128,7 @@ rule_row place r = record {
   place = place;
   name = r.name;
   effect = effect_number r.effect;
-  clerk = pattern_text r.clerk;
+  clerk = clerks_text r.clerk;
   maildrop = pattern_text r.maildrop;
   class = pattern_text r.class;
   actions = actions_number r.actions;
@@ -115,8 +140,8 @@ at_place place r = record r { place = place }
 
 -- ---- the contents
 
--- The rows are these contents, and those are sound. The order of clerks, of counts and of sheets means nothing, nor do the places of rules but for
--- their order.
+-- The rows are these contents, and those are sound. The order of clerks, of counts and of sheets means nothing, nor do the places of groups and of
+-- rules but for their order.
 pub record Keeps (rows : Rows) (c : Contents) : Type 0 where
   pub mark : rows.marks ≡ our_mark ∷ []
   pub clerks : IsPermutation (map clerk_row c.clerks) rows.clerks
@@ -125,6 +150,7 @@ pub record Keeps (rows : Rows) (c : Contents) : Type 0 where
   pub deposits : rows.deposits ≡ map deposit_row c.deposits
   pub messages : rows.messages ≡ map message_row c.messages
   pub sheets : IsPermutation (flat_map message_sheets c.messages) rows.sheets
+  pub groups : groups_in rows ≡ c.policy.groups
   pub rules : map (at_place (pos 0)) rows.rules ≡ map (rule_row (pos 0)) c.policy.rules
   pub keys : list_all (λ (x : Keyed). nat_lt x.key 18446744073709551616) c.messages ≡ true
   pub sound : AreSound c

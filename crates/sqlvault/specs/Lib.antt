@@ -11,5 +11,6 @@ pub mod RowForms
 pub mod Numbers
 pub mod Stored
 pub mod Uses
+pub mod Moves
 pub mod Carries
 pub mod Again

@@ -11,7 +11,7 @@ use Rattle.vault.specs.declared.record.Message.{Message}
 use Rattle.vault.specs.declared.record.Receipt.{Receipt}
 use Rattle.vault.specs.Records.{Records, most_clerks, most_maildrops, most_messages, receipts_of, class_count, in_maildrop, same_message, same_id, same_uid, is_sound_clerk, is_sound_message, is_sound_receipt}
 use Rattle.mailsql.specs.Columns.{Rows}
-use Rattle.sqlvault.specs.Keeps.{clerk_row, deposit_row, count_in, message_row, message_sheets, rule_row, at_place}
+use Rattle.sqlvault.specs.Keeps.{clerk_row, deposit_row, count_in, message_row, message_sheets, groups_in, rule_row, at_place}
 
 -- A test of something that is looked for: passed, it is there, and failed, there is none.
 abbrev pub Finds : {X : Type 0} → (X → Type 0) → Bool → Type 0
@@ -34,12 +34,13 @@ pub record MaildropsAre (rows : Rows) (maildrops : List (List ℕ)) : Type 0 whe
 
 -- the policy of the rows
 pub record PolicyIs (rows : Rows) (policy : Policy) : Type 0 where
+  pub groups : groups_in rows ≡ policy.groups
   pub same : map (at_place (pos 0)) rows.rules ≡ map (rule_row (pos 0)) policy.rules
   pub sound : is_sound_policy policy ≡ true
 
 -- records of maildrops and deposits alone
 abbrev pub records_with : List (List ℕ) → List Receipt → Records
-records_with maildrops deposits = record { clerks = []; maildrops = maildrops; messages = []; deposits = deposits; policy = record { rules = [] } }
+records_with maildrops deposits = record { clerks = []; maildrops = maildrops; messages = []; deposits = deposits; policy = record { groups = []; rules = [] } }
 
 -- the deposits of the rows, with their counts
 pub record DepositsAre (rows : Rows) (deposits : List Receipt) : Type 0 where

@@ -1,8 +1,51 @@
--- What the statements of a policy leave of the rules' rows.
-use Rattle.std.specs.Prelude.{◌≡◌, pos, List, ◌++◌, map}
+-- What the statements of a policy leave of the rows of its groups and its rules.
+use Rattle.std.specs.Prelude.{◌≡◌, ◌+◌, ℕ, ℤ, pos, List, [], ◌∷◌, ◌++◌, map}
 use Rattle.policy.specs.declared.rule.Rule as policy
-use Rattle.mailsql.specs.Columns.{Rows}
+use Rattle.policy.specs.Policy.{Group, Policy}
+use Rattle.mailsql.specs.declared.rows.Group as row
+use Rattle.mailsql.specs.declared.rows.Member.{Member}
+use Rattle.mailsql.specs.Changes.{next_group}
+use Rattle.mailsql.specs.Columns.{Name, Rows}
 use Rattle.sqlvault.specs.Keeps.{at_place, rule_row}
+
+-- ---- groups
+
+-- the rows of a group's members, at places from this one on
+abbrev pub member_rows : (group : ℤ) → (place : ℕ) → List Name → List Member
+member_rows group place [] = []
+member_rows group place (name ∷ names) = record { group = group; place = pos place; clerk = name } ∷ member_rows group (place + 1) names
+
+-- the row of a group
+abbrev pub group_row : (place : ℤ) → Group → row.Group
+group_row place g = record { place = place; name = g.name }
+
+-- the rows of groups, at places from this one on
+abbrev pub group_rows : (place : ℕ) → List Group → List row.Group
+group_rows place [] = []
+group_rows place (g ∷ gs) = group_row (pos place) g ∷ group_rows (place + 1) gs
+
+-- those of their members, which each group counts from 1
+abbrev pub all_member_rows : (place : ℕ) → List Group → List Member
+all_member_rows place [] = []
+all_member_rows place (g ∷ gs) = member_rows (pos place) 1 g.members ++ all_member_rows (place + 1) gs
+
+-- these members come, the group's first
+abbrev pub AddsMembers : (group : ℤ) → List Name → Rows → Rows → Type 0
+AddsMembers group names old new = new ≡ record old { members = old.members ++ member_rows group 1 names }
+
+-- the group comes behind the others with its members, where this is the next place
+abbrev pub AddsGroup : (place : ℤ) → Group → Rows → Rows → Type 0
+AddsGroup place g old new = next_group old.groups ≡ place → new ≡ record old { groups = old.groups ++ group_row place g ∷ []; members = old.members ++ member_rows place 1 g.members }
+
+-- these groups come, where there is none
+abbrev pub AddsGroups : List Group → Rows → Rows → Type 0
+AddsGroups gs old new = old.groups ≡ [] → new ≡ record old { groups = group_rows 1 gs; members = old.members ++ all_member_rows 1 gs }
+
+-- the groups are these, and nothing else changes
+abbrev pub SetsGroups : List Group → Rows → Rows → Type 0
+SetsGroups gs old new = new ≡ record old { groups = group_rows 1 gs; members = all_member_rows 1 gs }
+
+-- ---- rules
 
 -- these rules come behind the others, whatever their places, and nothing else changes
 pub record AddsRules (rules : List policy.Rule) (old new : Rows) : Type 0 where
@@ -13,3 +56,9 @@ pub record AddsRules (rules : List policy.Rule) (old new : Rows) : Type 0 where
 pub record SetsRules (rules : List policy.Rule) (old new : Rows) : Type 0 where
   pub set : map (at_place (pos 0)) new.rules ≡ map (rule_row (pos 0)) rules
   pub others : new ≡ record old { rules = new.rules }
+
+-- ---- both
+
+-- the groups are set, and then the rules
+abbrev pub SetsPolicy : Policy → Rows → Rows → Type 0
+SetsPolicy policy old new = (mid : Rows) × SetsGroups policy.groups old mid × SetsRules policy.rules mid new

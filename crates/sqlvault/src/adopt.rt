@@ -11,7 +11,7 @@ ghost use Rattle.sqlvault.specs.Adopts.{Adopts, IsBlank, IsKnown, StaysAs, Leave
 ghost use Rattle.vault.specs.declared.fault.VaultFault.TheVariants.{NotOurs};
 ghost use Rattle.mailsql.specs.Names.{is_taken, has_marks};
 ghost use Rattle.sqlvault.specs.declared.refusal.Refusal.TheVariants.{Answered};
-ghost use Rattle.sqlvault.specs.Carries.{HasSecond, CarriesOver, LeavesEither};
+ghost use Rattle.sqlvault.specs.Carries.{HasOlder, CarriesOver, LeavesEither};
 ghost use Rattle.sqlvault.specs.Refusals.{answer_of, told};
 ghost use Rattle.sqlvault.specs.Stands.{Holds, WasClean, LeavesNoMore};
 
@@ -162,9 +162,9 @@ pub(crate) fn settle<S: Alter>(alloc: Global, conn: &mut Connection<S>) -> Resul
         → (result ≡ Err (Answered NotOurs)) × (conn.new ≡ conn.old) }
     ensures kinds { IfErr result (λ refusal. IsAdoptFault (told refusal)) }
     ensures clean { WasClean (state S.Store conn.old) (state S.Store conn.new) }
-    ensures carried { HasCleanDisk (state S.Store conn.new) → HasSecond (state S.Store conn.old) → (state S.Store conn.old).in_transaction ≡ false → CarriesOver (state S.Store conn.old) (state S.Store conn.new) (answer_of result) }
-    ensures carried_stays { HasCleanDisk (state S.Store conn.new) → HasSecond (state S.Store conn.old) → (state S.Store conn.old).in_transaction ≡ false → OnErr result (StaysAs (state S.Store conn.old) (state S.Store conn.new)) }
-    ensures carried_stop { HasCleanDisk (state S.Store conn.new) → HasSecond (state S.Store conn.old) → (state S.Store conn.old).in_transaction ≡ false → LeavesEither (state S.Store conn.old) (state S.Store conn.new) }
+    ensures carried { HasCleanDisk (state S.Store conn.new) → HasOlder (state S.Store conn.old) → (state S.Store conn.old).in_transaction ≡ false → CarriesOver (state S.Store conn.old) (state S.Store conn.new) (answer_of result) }
+    ensures carried_stays { HasCleanDisk (state S.Store conn.new) → HasOlder (state S.Store conn.old) → (state S.Store conn.old).in_transaction ≡ false → OnErr result (StaysAs (state S.Store conn.old) (state S.Store conn.new)) }
+    ensures carried_stop { HasCleanDisk (state S.Store conn.new) → HasOlder (state S.Store conn.old) → (state S.Store conn.old).in_transaction ≡ false → LeavesEither (state S.Store conn.old) (state S.Store conn.new) }
 {
     if !conn.is_autocommit() {
         return Err(Refusal::Answered(VaultFault::NotOurs));

@@ -1,45 +1,59 @@
 //! Carrying an older store over.
-ghost use Rattle.std.specs.Prelude.{◌≡◌, false, IsTrue, IfErr, OnOk, OnErr, [], ◌∷◌};
+ghost use Rattle.std.specs.Prelude.{◌≡◌, true, false, Bool, IsTrue, IfOk, IfErr, OnOk, OnErr, [], ◌∷◌};
 ghost use Rattle.sqlite.specs.Held.{Held, state};
 ghost use Rattle.sqlite.specs.State.{HasCleanDisk, Survives, IsUnchanged};
+ghost use Rattle.mailsql.specs.Tables.{old_schema};
 ghost use Rattle.mailsql.specs.Rows.{IsOld, HasOldTables, IsKept, IsUndone, IsHalted, IsGone, IsBegunOn, GoesOn, is_carried, rows_in};
 ghost use Rattle.sqlvault.specs.Adopts.{StaysAs, IsAdoptFault};
-ghost use Rattle.sqlvault.specs.Carries.{HasSecond, IsSecond, IsCarried, IsUncarried, IsOfRows, IsMarkedSecond, CarriesOver, LeavesEither, brought, second_mark};
+ghost use Rattle.sqlvault.specs.Carries.{HasOlder, IsOlder, IsCarried, IsUncarried, IsOfRows, IsNoOlder, IsMarkedOlder, CarriesOver, LeavesEither, brought, old_mark, old_version};
 ghost use Rattle.sqlvault.specs.Refusals.{answer_of, told};
 ghost use Rattle.sqlvault.specs.Stands.{WasClean, LeavesNoMore};
 
 use crate::adopt::{VERSION, are_rows_sound};
+use crate::moves::move_old;
 use crate::refusal::Refusal;
 use crate::transaction::undo;
-use mailsql::schema::has_second_columns;
+use mailsql::schema::{has_first_columns, has_second_columns};
 use mailsql::{meta, mode, tables};
 use sqlite::{Alter, Connection, Error};
 use std::alloc::Global;
 use vault::VaultFault;
 
+/// The version of the layout with the messages and their texts in one table.
+const FIRST: i64 = 1;
+
 /// The version of the layout without groups.
 const SECOND: i64 = 2;
 
-/// Makes the tables of groups and members, and puts our mark in place of that of version 2, inside a transaction.
-fn bring<S: Alter>(conn: &mut Connection<S>) -> Result<(), Error>
-    ensures done { HasCleanDisk (state S.Store conn.new) → IsBegunOn (state S.Store conn.old) → is_carried (state S.Store conn.old).now.trees ≡ false → (rows_in (state S.Store conn.old).now.trees).marks ≡ second_mark ∷ [] → OnOk result ((IsKept (state S.Store conn.new).now × (rows_in (state S.Store conn.new).now.trees ≡ brought (rows_in (state S.Store conn.old).now.trees))) × GoesOn (state S.Store conn.old) (state S.Store conn.new)) }
-    ensures err { HasCleanDisk (state S.Store conn.new) → IsBegunOn (state S.Store conn.old) → is_carried (state S.Store conn.old).now.trees ≡ false → (rows_in (state S.Store conn.old).now.trees).marks ≡ second_mark ∷ [] → OnErr result (IsHalted (state S.Store conn.old) (state S.Store conn.new)) }
-    ensures stop { HasCleanDisk (state S.Store conn.new) → IsBegunOn (state S.Store conn.old) → is_carried (state S.Store conn.old).now.trees ≡ false → (rows_in (state S.Store conn.old).now.trees).marks ≡ second_mark ∷ [] → LeavesNoMore (state S.Store conn.old) (state S.Store conn.new) }
+/// Makes the tables that a store of version 1, which is `carried`, or of version 2 lacks, moves the messages of version 1, and puts
+/// our mark in place of the older one, inside a transaction.
+fn bring<S: Alter>(alloc: Global, conn: &mut Connection<S>, carried: bool) -> Result<(), Error>
+    ensures done { HasCleanDisk (state S.Store conn.new) → IsBegunOn (state S.Store conn.old) → is_carried (state S.Store conn.old).now.trees ≡ carried → (rows_in (state S.Store conn.old).now.trees).marks ≡ old_mark carried ∷ [] → OnOk result ((IsKept (state S.Store conn.new).now × (rows_in (state S.Store conn.new).now.trees ≡ brought carried (rows_in (state S.Store conn.old).now.trees))) × GoesOn (state S.Store conn.old) (state S.Store conn.new)) }
+    ensures err { HasCleanDisk (state S.Store conn.new) → IsBegunOn (state S.Store conn.old) → is_carried (state S.Store conn.old).now.trees ≡ carried → (rows_in (state S.Store conn.old).now.trees).marks ≡ old_mark carried ∷ [] → OnErr result (IsHalted (state S.Store conn.old) (state S.Store conn.new)) }
+    ensures stop { HasCleanDisk (state S.Store conn.new) → IsBegunOn (state S.Store conn.old) → is_carried (state S.Store conn.old).now.trees ≡ carried → (rows_in (state S.Store conn.old).now.trees).marks ≡ old_mark carried ∷ [] → LeavesNoMore (state S.Store conn.old) (state S.Store conn.new) }
     ensures clean { WasClean (state S.Store conn.old) (state S.Store conn.new) }
 {
-    match tables::complete_tables(conn, false) {
+    match tables::complete_tables(conn, carried) {
+        Ok(()) => {}
+        Err(error) => return Err(error),
+    }
+    match move_old(alloc, conn, carried) {
         Ok(()) => meta::put_mark(conn, b"popbox", VERSION),
         Err(error) => Err(error),
     }
 }
 
-/// Carries a store of version 2 over, in one transaction: its rows stay, and are all read once. Where they aren't sound records it is as it
-/// was, as after every refusal.
-pub(crate) fn carry<S: Alter>(alloc: Global, conn: &mut Connection<S>) -> Result<(), Refusal>
-    ensures carried { HasCleanDisk (state S.Store conn.new) → IsSecond (state S.Store conn.old) → OnOk result (IsCarried (state S.Store conn.old) (state S.Store conn.new)) }
-    ensures refused { HasCleanDisk (state S.Store conn.new) → IsSecond (state S.Store conn.old) → IfErr result (λ refusal. IsUncarried (state S.Store conn.old) (told refusal)) }
-    ensures stays { HasCleanDisk (state S.Store conn.new) → IsSecond (state S.Store conn.old) → OnErr result (StaysAs (state S.Store conn.old) (state S.Store conn.new)) }
-    ensures stop { HasCleanDisk (state S.Store conn.new) → IsSecond (state S.Store conn.old) → LeavesEither (state S.Store conn.old) (state S.Store conn.new) }
+/// Carries a store of version 1, which is `carried`, or of version 2 over, in one transaction: its lists stay, and its rows are all
+/// read once. Where they aren't sound records it is as it was, as after every refusal.
+pub(crate) fn carry<S: Alter>(
+    alloc: Global,
+    conn: &mut Connection<S>,
+    carried: bool,
+) -> Result<(), Refusal>
+    ensures carried { HasCleanDisk (state S.Store conn.new) → IsOlder carried (state S.Store conn.old) → OnOk result (IsCarried (state S.Store conn.old) (state S.Store conn.new)) }
+    ensures refused { HasCleanDisk (state S.Store conn.new) → IsOlder carried (state S.Store conn.old) → IfErr result (λ refusal. IsUncarried (state S.Store conn.old) (told refusal)) }
+    ensures stays { HasCleanDisk (state S.Store conn.new) → IsOlder carried (state S.Store conn.old) → OnErr result (StaysAs (state S.Store conn.old) (state S.Store conn.new)) }
+    ensures stop { HasCleanDisk (state S.Store conn.new) → IsOlder carried (state S.Store conn.old) → LeavesEither (state S.Store conn.old) (state S.Store conn.new) }
     ensures kinds { IfErr result (λ refusal. IsAdoptFault (told refusal)) }
     ensures clean { WasClean (state S.Store conn.old) (state S.Store conn.new) }
 {
@@ -47,7 +61,7 @@ pub(crate) fn carry<S: Alter>(alloc: Global, conn: &mut Connection<S>) -> Result
         Ok(()) => {}
         Err(error) => return Err(Refusal::Met(error)),
     }
-    match bring(conn) {
+    match bring(alloc, conn, carried) {
         Ok(()) => {}
         Err(error) => return Err(Refusal::Met(undo(conn, error))),
     }
@@ -74,31 +88,44 @@ fn unsound<S: Alter>(conn: &mut Connection<S>) -> Refusal
     }
 }
 
-/// Whether the mark of version 2 is there, and no other mark.
-fn is_second<S: Alter>(alloc: Global, conn: &mut Connection<S>) -> Result<(), Refusal>
-    ensures judged { HasCleanDisk (state S.Store conn.new) → HasOldTables (state S.Store conn.old) → IsMarkedSecond (rows_in (state S.Store conn.old).now.trees) (answer_of result) }
+/// Whether an older version is the first.
+fn version_of(value: i64) -> Result<bool, VaultFault>
+    ensures older { IfOk result (λ carried. value ≡ old_version carried) }
+    ensures fault { IfErr result (IsNoOlder value) }
+{
+    if value == FIRST {
+        return Ok(true);
+    }
+    if value == SECOND {
+        return Ok(false);
+    }
+    if value == VERSION {
+        return Err(VaultFault::NotOurs);
+    }
+    Err(VaultFault::OldVersion)
+}
+
+/// The older version whose mark is there, and no other mark: whether it is the first.
+fn find_older<S: Alter>(alloc: Global, conn: &mut Connection<S>) -> Result<bool, Refusal>
+    ensures judged { HasCleanDisk (state S.Store conn.new) → HasOldTables (state S.Store conn.old) → IsMarkedOlder (rows_in (state S.Store conn.old).now.trees) (answer_of result) }
     ensures same { HasCleanDisk (state S.Store conn.new) → HasOldTables (state S.Store conn.old) → OnOk result (IsUnchanged (state S.Store conn.old) (state S.Store conn.new)) }
     ensures err { HasCleanDisk (state S.Store conn.new) → HasOldTables (state S.Store conn.old) → OnErr result (IsUndone (state S.Store conn.old) (state S.Store conn.new)) }
     ensures stop { HasCleanDisk (state S.Store conn.new) → IsOld (state S.Store conn.old).now → LeavesNoMore (state S.Store conn.old) (state S.Store conn.new) }
     ensures kinds { IfErr result (λ refusal. IsAdoptFault (told refusal)) }
     ensures clean { WasClean (state S.Store conn.old) (state S.Store conn.new) }
 {
-    match meta::find_mark(alloc, conn, b"popbox") {
-        Ok(Some(mark)) => {
-            if mark.value == VERSION {
-                return Err(Refusal::Answered(VaultFault::NotOurs));
-            }
-            if mark.value != SECOND {
-                return Err(Refusal::Answered(VaultFault::OldVersion));
-            }
-        }
+    let carried = match meta::find_mark(alloc, conn, b"popbox") {
+        Ok(Some(mark)) => match version_of(mark.value) {
+            Ok(carried) => carried,
+            Err(fault) => return Err(Refusal::Answered(fault)),
+        },
         Ok(None) => return Err(Refusal::Answered(VaultFault::NotOurs)),
         Err(error) => return Err(Refusal::Met(error)),
-    }
+    };
     match meta::all_marks(alloc, conn) {
         Ok(marks) => {
             if marks.len() == 1 {
-                Ok(())
+                Ok(carried)
             } else {
                 Err(Refusal::Answered(VaultFault::NotOurs))
             }
@@ -107,20 +134,32 @@ fn is_second<S: Alter>(alloc: Global, conn: &mut Connection<S>) -> Result<(), Re
     }
 }
 
-/// Carries a store that lacks some of our tables over where it has those of version 2, and its mark alone.
+/// Whether the tables of version 1, which is `carried`, or of version 2 are there.
+fn has_older_columns<S: Alter>(conn: &Connection<S>, carried: bool) -> bool
+    ensures fits { (state S.Store conn.now).now.schema ≡ old_schema carried → result ≡ true }
+    ensures order { (c : Bool) → (state S.Store conn.now).now.schema ≡ old_schema c → result ≡ true → c ≡ carried }
+{
+    if carried {
+        has_first_columns(conn)
+    } else {
+        has_second_columns(conn)
+    }
+}
+
+/// Carries a store that lacks some of our tables over where it has those of an older version, and its mark alone.
 pub(crate) fn carry_marked<S: Alter>(alloc: Global, conn: &mut Connection<S>) -> Result<(), Refusal>
-    ensures carried { HasCleanDisk (state S.Store conn.new) → HasSecond (state S.Store conn.old) → (state S.Store conn.old).in_transaction ≡ false → (IsTrue (state S.Store conn.old).is_open → (state S.Store conn.old).now ≡ (state S.Store conn.old).committed) → CarriesOver (state S.Store conn.old) (state S.Store conn.new) (answer_of result) }
-    ensures stays { HasCleanDisk (state S.Store conn.new) → HasSecond (state S.Store conn.old) → (state S.Store conn.old).in_transaction ≡ false → (IsTrue (state S.Store conn.old).is_open → (state S.Store conn.old).now ≡ (state S.Store conn.old).committed) → OnErr result (StaysAs (state S.Store conn.old) (state S.Store conn.new)) }
-    ensures stop { HasCleanDisk (state S.Store conn.new) → HasSecond (state S.Store conn.old) → (state S.Store conn.old).in_transaction ≡ false → (IsTrue (state S.Store conn.old).is_open → (state S.Store conn.old).now ≡ (state S.Store conn.old).committed) → LeavesEither (state S.Store conn.old) (state S.Store conn.new) }
+    ensures carried { HasCleanDisk (state S.Store conn.new) → HasOlder (state S.Store conn.old) → (state S.Store conn.old).in_transaction ≡ false → (IsTrue (state S.Store conn.old).is_open → (state S.Store conn.old).now ≡ (state S.Store conn.old).committed) → CarriesOver (state S.Store conn.old) (state S.Store conn.new) (answer_of result) }
+    ensures stays { HasCleanDisk (state S.Store conn.new) → HasOlder (state S.Store conn.old) → (state S.Store conn.old).in_transaction ≡ false → (IsTrue (state S.Store conn.old).is_open → (state S.Store conn.old).now ≡ (state S.Store conn.old).committed) → OnErr result (StaysAs (state S.Store conn.old) (state S.Store conn.new)) }
+    ensures stop { HasCleanDisk (state S.Store conn.new) → HasOlder (state S.Store conn.old) → (state S.Store conn.old).in_transaction ≡ false → (IsTrue (state S.Store conn.old).is_open → (state S.Store conn.old).now ≡ (state S.Store conn.old).committed) → LeavesEither (state S.Store conn.old) (state S.Store conn.new) }
     ensures kinds { IfErr result (λ refusal. IsAdoptFault (told refusal)) }
     ensures clean { WasClean (state S.Store conn.old) (state S.Store conn.new) }
 {
-    match is_second(alloc, conn) {
-        Ok(()) => {}
+    let carried = match find_older(alloc, conn) {
+        Ok(carried) => carried,
         Err(refusal) => return Err(refusal),
-    }
-    if !has_second_columns(conn) {
+    };
+    if !has_older_columns(conn, carried) {
         return Err(Refusal::Answered(VaultFault::NotOurs));
     }
-    carry(alloc, conn)
+    carry(alloc, conn, carried)
 }

@@ -1,25 +1,29 @@
-//! The rules of the policy.
-ghost use Rattle.std.specs.Prelude.{◌≡◌, true, pos, List, [], ◌∷◌, map, Some, IfOk, IfSome, IsSomeAnd};
+//! The policy.
+ghost use Rattle.std.specs.Prelude.{◌≡◌, true, false, codes, take, drop, pos, List, [], ◌∷◌, map, Some, MatchOption, IsTrue, OnOk, IfOk, IfSome, IsSomeAnd};
 ghost use Rattle.std.specs.List.{list_all};
+ghost use Rattle.std.specs.Str.{bytes_eq};
 ghost use Rattle.sqlite.specs.Held.{state};
 ghost use Rattle.sqlite.specs.State.{HasCleanDisk};
+ghost use Rattle.mailsql.specs.Rows.{IsReady};
 ghost use Rattle.policy.specs.declared.rule.Actions as actions;
 ghost use Rattle.policy.specs.declared.rule.Pattern as pattern;
 ghost use Rattle.policy.specs.declared.rule.Rule as rule;
 ghost use Rattle.policy.specs.Policy.{Policy, is_pattern, is_sound_rule, is_sound_policy};
+ghost use Rattle.policy.specs.PolicyText.{clerks_named};
 ghost use Rattle.vault.specs.Changes.{Contents};
 ghost use Rattle.vault.specs.Calls.{IsPolicy, IsPolicySet};
-ghost use Rattle.sqlvault.specs.Keeps.{pattern_text, effect_number, actions_number, rule_row, at_place};
-ghost use Rattle.sqlvault.specs.Rules.{AddsRules, SetsRules};
+ghost use Rattle.sqlvault.specs.Keeps.{clerks_text, pattern_text, effect_number, actions_number, rule_row, at_place};
+ghost use Rattle.sqlvault.specs.Rules.{AddsRules, SetsRules, SetsPolicy};
 ghost use Rattle.sqlvault.specs.Refusals.{answer_of};
-ghost use Rattle.sqlvault.specs.Stands.{Holds, WasClean, Makes};
+ghost use Rattle.sqlvault.specs.Stands.{Holds, WasClean, Makes, LeavesNoMore};
 ghost use Rattle.sqlvault.specs.Stops.{StopsBefore, StopsEither, StaysOpen};
 
+use crate::groups::{read_groups, replace_groups};
 use crate::refusal::{Refusal, unreadable};
 use crate::transaction::{end, undo};
 use creds::Name;
 use mailsql::{mode, rows, rules};
-use policy::{Actions, Effect, Pattern, Policy, Rule};
+use policy::{Actions, Clerks, Effect, Group, Pattern, Policy, Rule};
 use sqlite::{Alter, Connection, Error};
 use std::alloc::{AllocError, Global};
 
@@ -30,6 +34,22 @@ fn pattern_text(pattern: &Pattern) -> &[u8]
         Pattern::Any => b"*",
         Pattern::Is(name) => name.as_bytes(),
     }
+}
+
+/// The text of the clerks that a rule is about: `@` and the name, where they are a group's.
+fn clerks_text(alloc: Global, clerks: &Clerks) -> Result<Vec<u8>, AllocError>
+    ensures { IfOk result (λ text. text.items ≡ clerks_text clerks.now) }
+{
+    let mut text = Vec::new(alloc);
+    match clerks {
+        Clerks::Any => text.extend_from_slice(b"*")?,
+        Clerks::Is(name) => text.extend_from_slice(name.as_bytes())?,
+        Clerks::MembersOf(name) => {
+            text.extend_from_slice(b"@")?;
+            text.extend_from_slice(name.as_bytes())?;
+        }
+    }
+    Ok(text)
 }
 
 fn effect_number(effect: Effect) -> i64
@@ -61,6 +81,27 @@ fn read_pattern(text: &[u8]) -> Option<Pattern>
             Some(name) => Some(Pattern::Is(name)),
             None => None,
         }
+    }
+}
+
+/// The name behind `@` at the text's head, if that is its first octet.
+fn behind_at(text: &[u8]) -> Option<&[u8]>
+    ensures { MatchOption result (bytes_eq (take 1 text.now) (codes "@") ≡ false)
+        (λ name. (bytes_eq (take 1 text.now) (codes "@") ≡ true) × (name.now ≡ drop 1 text.now)) }
+{
+    text.strip_prefix(b"@".as_slice())
+}
+
+/// The clerks of a text: `*`, `@` and a group's name, or a clerk's name.
+fn read_clerks(text: &[u8]) -> Option<Clerks>
+    ensures { result ≡ clerks_named text.now }
+{
+    if text == b"*".as_slice() {
+        return Some(Clerks::Any);
+    }
+    match behind_at(text) {
+        Some(name) => Name::read(name).map(Clerks::MembersOf),
+        None => Name::read(text).map(Clerks::Is),
     }
 }
 
@@ -101,7 +142,7 @@ fn read_rule(row: &rows::Rule) -> Option<Rule>
     Some(Rule {
         name: Name::read(row.name.as_slice())?,
         effect: read_effect(row.effect)?,
-        clerk: read_pattern(row.clerk.as_slice())?,
+        clerk: read_clerks(row.clerk.as_slice())?,
         maildrop: read_pattern(row.maildrop.as_slice())?,
         class: read_pattern(row.class.as_slice())?,
         actions: read_actions(row.actions)?,
@@ -123,16 +164,36 @@ pub(crate) fn rules_of(alloc: Global, rows: &[rows::Rule]) -> Result<Option<Vec<
     Ok(Some(rules))
 }
 
-/// The policy of the rows.
-fn read_policy(alloc: Global, rows: &[rows::Rule]) -> Result<Policy, Error>
-    ensures { (p : Policy) → is_sound_policy p ≡ true → map (at_place (pos 0)) rows.now ≡ map (rule_row (pos 0)) p.rules → IfOk result (λ read. read ≡ p) }
+/// The policy of these groups and of the rules of the rows.
+fn read_policy(alloc: Global, groups: Vec<Group>, rows: &[rows::Rule]) -> Result<Policy, Error>
+    ensures { (p : Policy) → is_sound_policy p ≡ true → groups.items ≡ p.groups → map (at_place (pos 0)) rows.now ≡ map (rule_row (pos 0)) p.rules → IfOk result (λ read. read ≡ p) }
 {
     match rules_of(alloc, rows)? {
-        Some(rules) => match Policy::from_rules(rules)? {
+        Some(rules) => match Policy::from_parts(groups, rules)? {
             Some(policy) => Ok(policy),
             None => Err(unreadable()),
         },
         None => Err(unreadable()),
+    }
+}
+
+/// The policy of these groups and of the store's rules.
+fn policy_with<S: Alter>(
+    alloc: Global,
+    conn: &mut Connection<S>,
+    groups: Vec<Group>,
+) -> Result<Policy, Refusal>
+    ensures done { (c : Contents) → HasCleanDisk (state S.Store conn.new) → Holds (state S.Store conn.old) c → groups.items ≡ c.policy.groups → IsPolicy (Holds (state S.Store conn.new)) c (answer_of result) }
+    ensures clean { WasClean (state S.Store conn.old) (state S.Store conn.new) }
+    ensures up { StaysOpen (state S.Store conn.old) (state S.Store conn.new) (answer_of result) }
+    ensures stop { HasCleanDisk (state S.Store conn.new) → IsReady (state S.Store conn.old) → LeavesNoMore (state S.Store conn.old) (state S.Store conn.new) }
+{
+    match rules::all_rules(alloc, conn) {
+        Ok(rows) => match read_policy(alloc, groups, rows.as_slice()) {
+            Ok(policy) => Ok(policy),
+            Err(error) => Err(Refusal::Met(error)),
+        },
+        Err(error) => Err(Refusal::Met(error)),
     }
 }
 
@@ -143,25 +204,24 @@ pub(crate) fn policy<S: Alter>(alloc: Global, conn: &mut Connection<S>) -> Resul
     ensures up { StaysOpen (state S.Store conn.old) (state S.Store conn.new) (answer_of result) }
     ensures stop { StopsBefore (state S.Store conn.old) (state S.Store conn.new) }
 {
-    match rules::all_rules(alloc, conn) {
-        Ok(rows) => match read_policy(alloc, rows.as_slice()) {
-            Ok(policy) => Ok(policy),
-            Err(error) => Err(Refusal::Met(error)),
-        },
+    match read_groups(alloc, conn) {
+        Ok(Some(groups)) => policy_with(alloc, conn, groups),
+        Ok(None) => Err(Refusal::Met(unreadable())),
         Err(error) => Err(Refusal::Met(error)),
     }
 }
 
 /// Adds a rule behind the others, inside a transaction.
-fn add_rule<S: Alter>(conn: &mut Connection<S>, rule: &Rule) -> Result<(), Error>
+fn add_rule<S: Alter>(alloc: Global, conn: &mut Connection<S>, rule: &Rule) -> Result<(), Error>
     ensures made { HasCleanDisk (state S.Store conn.new) → Makes (λ _. AddsRules (rule.now ∷ [])) (state S.Store conn.old) (state S.Store conn.new) result }
     ensures clean { WasClean (state S.Store conn.old) (state S.Store conn.new) }
 {
+    let clerk = clerks_text(alloc, &rule.clerk)?;
     rules::add_rule(
         conn,
         rule.name.as_bytes(),
         effect_number(rule.effect),
-        pattern_text(&rule.clerk),
+        clerk.as_slice(),
         pattern_text(&rule.maildrop),
         pattern_text(&rule.class),
         actions_number(rule.actions),
@@ -169,12 +229,12 @@ fn add_rule<S: Alter>(conn: &mut Connection<S>, rule: &Rule) -> Result<(), Error
 }
 
 /// Adds the rules behind the others, inside a transaction.
-fn add_rules<S: Alter>(conn: &mut Connection<S>, rules: &[Rule]) -> Result<(), Error>
+fn add_rules<S: Alter>(alloc: Global, conn: &mut Connection<S>, rules: &[Rule]) -> Result<(), Error>
     ensures made { HasCleanDisk (state S.Store conn.new) → Makes (λ _. AddsRules rules.now) (state S.Store conn.old) (state S.Store conn.new) result }
     ensures clean { WasClean (state S.Store conn.old) (state S.Store conn.new) }
 {
     for rule in rules {
-        match add_rule(conn, rule) {
+        match add_rule(alloc, conn, rule) {
             Ok(()) => {}
             Err(error) => return Err(error),
         }
@@ -183,18 +243,42 @@ fn add_rules<S: Alter>(conn: &mut Connection<S>, rules: &[Rule]) -> Result<(), E
 }
 
 /// Puts the rules in place of those that are there, inside a transaction.
-fn replace_rules<S: Alter>(conn: &mut Connection<S>, rules: &[Rule]) -> Result<(), Error>
+fn replace_rules<S: Alter>(
+    alloc: Global,
+    conn: &mut Connection<S>,
+    rules: &[Rule],
+) -> Result<(), Error>
     ensures made { HasCleanDisk (state S.Store conn.new) → Makes (λ _. SetsRules rules.now) (state S.Store conn.old) (state S.Store conn.new) result }
     ensures clean { WasClean (state S.Store conn.old) (state S.Store conn.new) }
 {
     match rules::clear_rules(conn) {
-        Ok(()) => add_rules(conn, rules),
+        Ok(()) => add_rules(alloc, conn, rules),
+        Err(error) => Err(error),
+    }
+}
+
+/// Puts the policy in place of the one that is there, inside a transaction.
+fn replace_policy<S: Alter>(
+    alloc: Global,
+    conn: &mut Connection<S>,
+    policy: &Policy,
+) -> Result<(), Error>
+    ensures made { HasCleanDisk (state S.Store conn.new) → Makes (λ _. SetsPolicy policy.now) (state S.Store conn.old) (state S.Store conn.new) result }
+    ensures sound { OnOk result (IsTrue (is_sound_policy policy.now)) }
+    ensures clean { WasClean (state S.Store conn.old) (state S.Store conn.new) }
+{
+    match replace_groups(conn, policy) {
+        Ok(()) => replace_rules(alloc, conn, policy.rules()),
         Err(error) => Err(error),
     }
 }
 
 /// Sets the policy, in one transaction.
-pub(crate) fn set_policy<S: Alter>(conn: &mut Connection<S>, policy: &Policy) -> Result<(), Refusal>
+pub(crate) fn set_policy<S: Alter>(
+    alloc: Global,
+    conn: &mut Connection<S>,
+    policy: &Policy,
+) -> Result<(), Refusal>
     ensures done { (c : Contents) → HasCleanDisk (state S.Store conn.new) → Holds (state S.Store conn.old) c → IsPolicySet (Holds (state S.Store conn.new)) c policy.now (answer_of result) }
     ensures clean { WasClean (state S.Store conn.old) (state S.Store conn.new) }
     ensures up { StaysOpen (state S.Store conn.old) (state S.Store conn.new) (answer_of result) }
@@ -204,7 +288,7 @@ pub(crate) fn set_policy<S: Alter>(conn: &mut Connection<S>, policy: &Policy) ->
         Ok(()) => {}
         Err(error) => return Err(Refusal::Met(error)),
     }
-    match replace_rules(conn, policy.rules()) {
+    match replace_policy(alloc, conn, policy) {
         Ok(()) => match end(conn) {
             Ok(()) => Ok(()),
             Err(error) => Err(Refusal::Met(error)),

@@ -1,30 +1,49 @@
-//! Whether the rows of the rules are a policy.
+//! Whether the rows of the groups and the rules are a policy.
 ghost use Rattle.std.specs.Prelude.{◌≡◌, true, pos, map, IfOk, OnOk, OnErr};
 ghost use Rattle.policy.specs.Policy.{is_sound_policy};
 ghost use Rattle.sqlite.specs.Held.{state};
 ghost use Rattle.sqlite.specs.State.{HasCleanDisk, IsUnchanged};
 ghost use Rattle.mailsql.specs.Rows.{HasTables, IsReady, IsUndone, rows_in};
-ghost use Rattle.sqlvault.specs.Keeps.{rule_row, at_place};
+ghost use Rattle.sqlvault.specs.Keeps.{groups_in, rule_row, at_place};
 ghost use Rattle.sqlvault.specs.Parts.{Finds, PolicyIs};
 ghost use Rattle.sqlvault.specs.Stands.{WasClean, LeavesNoMore};
 
+use crate::groups::read_groups;
 use crate::rules::rules_of;
 use mailsql::{rows, rules};
-use policy::Policy;
+use policy::{Group, Policy};
 use sqlite::{Alter, Connection, Error};
 use std::alloc::{AllocError, Global};
 
-/// Whether the rows are those of a policy.
-fn are_rules(alloc: Global, rows: &[rows::Rule]) -> Result<bool, AllocError>
-    ensures { IfOk result (Finds (λ p. (map (at_place (pos 0)) rows.now ≡ map (rule_row (pos 0)) p.rules) × (is_sound_policy p ≡ true))) }
+/// Whether the rows are the rules of a policy with these groups.
+fn are_rules(alloc: Global, groups: Vec<Group>, rows: &[rows::Rule]) -> Result<bool, AllocError>
+    ensures { IfOk result (Finds (λ p. (groups.items ≡ p.groups) × (map (at_place (pos 0)) rows.now ≡ map (rule_row (pos 0)) p.rules) × (is_sound_policy p ≡ true))) }
 {
     match rules_of(alloc, rows)? {
-        Some(rules) => Ok(Policy::from_rules(rules)?.is_some()),
+        Some(rules) => Ok(Policy::from_parts(groups, rules)?.is_some()),
         None => Ok(false),
     }
 }
 
-/// Whether the rows of the rules are those of a policy.
+/// Whether the rows of the rules are those of a policy with these groups.
+fn are_rules_with<S: Alter>(
+    alloc: Global,
+    conn: &mut Connection<S>,
+    groups: Vec<Group>,
+) -> Result<bool, Error>
+    ensures judged { HasCleanDisk (state S.Store conn.new) → HasTables (state S.Store conn.old) → groups.items ≡ groups_in (rows_in (state S.Store conn.old).now.trees) → IfOk result (Finds (PolicyIs (rows_in (state S.Store conn.old).now.trees))) }
+    ensures same { HasCleanDisk (state S.Store conn.new) → HasTables (state S.Store conn.old) → OnOk result (IsUnchanged (state S.Store conn.old) (state S.Store conn.new)) }
+    ensures err { HasCleanDisk (state S.Store conn.new) → HasTables (state S.Store conn.old) → OnErr result (IsUndone (state S.Store conn.old) (state S.Store conn.new)) }
+    ensures stop { HasCleanDisk (state S.Store conn.new) → IsReady (state S.Store conn.old) → LeavesNoMore (state S.Store conn.old) (state S.Store conn.new) }
+    ensures clean { WasClean (state S.Store conn.old) (state S.Store conn.new) }
+{
+    match rules::all_rules(alloc, conn) {
+        Ok(rows) => Ok(are_rules(alloc, groups, rows.as_slice())?),
+        Err(error) => Err(error),
+    }
+}
+
+/// Whether the rows of the groups and the rules are those of a policy.
 pub(crate) fn are_rules_sound<S: Alter>(
     alloc: Global,
     conn: &mut Connection<S>,
@@ -35,8 +54,9 @@ pub(crate) fn are_rules_sound<S: Alter>(
     ensures stop { HasCleanDisk (state S.Store conn.new) → IsReady (state S.Store conn.old) → LeavesNoMore (state S.Store conn.old) (state S.Store conn.new) }
     ensures clean { WasClean (state S.Store conn.old) (state S.Store conn.new) }
 {
-    match rules::all_rules(alloc, conn) {
-        Ok(rows) => Ok(are_rules(alloc, rows.as_slice())?),
+    match read_groups(alloc, conn) {
+        Ok(Some(groups)) => are_rules_with(alloc, conn, groups),
+        Ok(None) => Ok(false),
         Err(error) => Err(error),
     }
 }

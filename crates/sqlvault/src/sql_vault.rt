@@ -3,8 +3,8 @@ ghost use Rattle.std.specs.Prelude.{◌≡◌, false, IfOk, IfErr, IsTrue};
 ghost use Rattle.sqlite.specs.Held.{Held, state};
 ghost use Rattle.sqlite.specs.State.{HasCleanDisk};
 ghost use Rattle.vault.specs.Calls.{CountsFaults};
-ghost use Rattle.sqlvault.specs.Adopts.{IsAdopted, IsKnown, IsRefused, IsAdoptFault, LeavesEmptyToo, RefusesSecond};
-ghost use Rattle.sqlvault.specs.Carries.{HasSecond, IsCarried, LeavesEither};
+ghost use Rattle.sqlvault.specs.Adopts.{IsAdopted, IsKnown, IsRefused, IsAdoptFault, LeavesEmptyToo, RefusesOlder};
+ghost use Rattle.sqlvault.specs.Carries.{HasOlder, IsCarried, LeavesEither};
 ghost use Rattle.sqlvault.specs.Refusals.{answer_of, count_after, open_fault};
 
 use crate::adopt::settle;
@@ -101,8 +101,8 @@ fn open_fault(error: &Error) -> VaultFault
 fn take<S: Alter + Drop>(alloc: Global, conn: Connection<S>) -> Result<SqlVault<S>, VaultFault>
     ensures adopted { IfOk result (λ vault. HasCleanDisk (state S.Store vault.conn) → HasCleanDisk (state S.Store conn) × (IsKnown (state S.Store conn) → IsAdopted (state S.Store conn) (state S.Store vault.conn))) }
     ensures stop { IfOk result (λ vault. HasCleanDisk (state S.Store vault.conn) → IsKnown (state S.Store conn) → IsTrue (state S.Store conn).is_open → LeavesEmptyToo (state S.Store conn) (state S.Store vault.conn)) }
-    ensures carried { IfOk result (λ vault. HasCleanDisk (state S.Store vault.conn) → HasSecond (state S.Store conn) → (state S.Store conn).in_transaction ≡ false → IsCarried (state S.Store conn) (state S.Store vault.conn) × LeavesEither (state S.Store conn) (state S.Store vault.conn)) }
-    ensures refused { IfErr result (λ fault. (last : Held _) × (HasCleanDisk (state S.Store last) → HasCleanDisk (state S.Store conn) × (IsKnown (state S.Store conn) → IsRefused (state S.Store conn) fault) × ((state S.Store conn).in_transaction ≡ false → RefusesSecond (state S.Store conn) (state S.Store last) fault))) }
+    ensures carried { IfOk result (λ vault. HasCleanDisk (state S.Store vault.conn) → HasOlder (state S.Store conn) → (state S.Store conn).in_transaction ≡ false → IsCarried (state S.Store conn) (state S.Store vault.conn) × LeavesEither (state S.Store conn) (state S.Store vault.conn)) }
+    ensures refused { IfErr result (λ fault. (last : Held _) × (HasCleanDisk (state S.Store last) → HasCleanDisk (state S.Store conn) × (IsKnown (state S.Store conn) → IsRefused (state S.Store conn) fault) × ((state S.Store conn).in_transaction ≡ false → RefusesOlder (state S.Store conn) (state S.Store last) fault))) }
     ensures kinds { IfErr result IsAdoptFault }
     ensures uncounted { IfOk result (λ vault. vault.faults ≡ 0) }
 {
@@ -130,12 +130,13 @@ impl<S: Alter> SqlVault<S> {
 
     /// Takes over a connection. A store without a table, an index or a view of our names gets our tables and our mark, in one
     /// transaction, and holds nothing; one with our mark stays as it is, and holds what its tables hold, which are all read once. One with the
-    /// tables and the mark of version 2 is carried over, in one transaction: its rows stay, it gets the tables of groups and our mark, and it
-    /// holds what it held.
+    /// tables and the mark of version 1 or 2 is carried over, in one transaction: its lists stay, it gets the tables that it lacks and our
+    /// mark, and it holds what it held. The table of messages of version 1 stays, without a row.
     ///
     /// Gives the connection back, its tables as they were, with [`VaultFault::NotOurs`] where a transaction is under way, or one of our names
     /// is taken in a store without our mark, or our tables have other columns, or their rows aren't sound records with counts and octets
-    /// that agree; with [`VaultFault::OldVersion`] where our mark has another version; with [`VaultFault::NoMemory`] where memory was
+    /// that agree; with [`VaultFault::OldVersion`] where our mark has another version, and never under that of version 1 or 2 in
+    /// a store that has not all our tables; with [`VaultFault::NoMemory`] where memory was
     /// refused; and with [`VaultFault::Store`] where SQLite refused a statement for another cause.
     pub fn adopt(
         alloc: Global,
@@ -149,9 +150,9 @@ impl<S: Alter> SqlVault<S> {
         ensures uncounted { IfOk result (λ vault. vault.faults ≡ 0) }
         ensures stop { HasCleanDisk (state S.Store (conn_of result)) → IsKnown (state S.Store conn) → IsTrue (state S.Store conn).is_open → LeavesEmptyToo (state S.Store conn) (state S.Store (conn_of result)) }
         ensures clean { WasClean (state S.Store conn) (state S.Store (conn_of result)) }
-        ensures carried { HasCleanDisk (state S.Store (conn_of result)) → HasSecond (state S.Store conn) → (state S.Store conn).in_transaction ≡ false → CarriesOver (state S.Store conn) (state S.Store (conn_of result)) (judged_in result) }
-        ensures carried_stays { IfErr result (λ refused. HasCleanDisk (state S.Store refused.1) → HasSecond (state S.Store conn) → (state S.Store conn).in_transaction ≡ false → StaysAs (state S.Store conn) (state S.Store refused.1)) }
-        ensures carried_stop { HasCleanDisk (state S.Store (conn_of result)) → HasSecond (state S.Store conn) → (state S.Store conn).in_transaction ≡ false → LeavesEither (state S.Store conn) (state S.Store (conn_of result)) }
+        ensures carried { HasCleanDisk (state S.Store (conn_of result)) → HasOlder (state S.Store conn) → (state S.Store conn).in_transaction ≡ false → CarriesOver (state S.Store conn) (state S.Store (conn_of result)) (judged_in result) }
+        ensures carried_stays { IfErr result (λ refused. HasCleanDisk (state S.Store refused.1) → HasOlder (state S.Store conn) → (state S.Store conn).in_transaction ≡ false → StaysAs (state S.Store conn) (state S.Store refused.1)) }
+        ensures carried_stop { HasCleanDisk (state S.Store (conn_of result)) → HasOlder (state S.Store conn) → (state S.Store conn).in_transaction ≡ false → LeavesEither (state S.Store conn) (state S.Store (conn_of result)) }
     {
         let mut conn = conn;
         match settle(alloc, &mut conn) {
@@ -215,7 +216,7 @@ impl<S: Alter> Vault for SqlVault<S> {
     }
 
     fn set_policy(&mut self, policy: &Policy) -> Result<(), VaultFault> {
-        let answer = rules::set_policy(&mut self.conn, policy);
+        let answer = rules::set_policy(self.alloc, &mut self.conn, policy);
         self.told(answer)
     }
 

@@ -349,6 +349,7 @@ kept_rows rows c r text key k a small above =
       deposits = ap (λ (l : List Deposit). l ++ deposit_row r ∷ []) k.deposits ∙ sym (map-append deposit_row c.deposits (r ∷ []));
       messages = ap (λ (l : List Message). l ++ message_row x ∷ []) k.messages ∙ sym (map-append message_row c.messages (x ∷ []));
       sheets = sheets_kept c.messages x rows.sheets k.sheets;
+      groups = k.groups;
       rules = k.rules;
       keys = all_last (λ (y : Keyed). nat_lt y.key 18446744073709551616) c.messages x k.keys small;
       sound = sound_with c r text key k.sound a (other_keys c.messages key above);

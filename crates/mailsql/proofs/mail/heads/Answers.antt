@@ -1,4 +1,4 @@
-use Rattle.std.proofs.Common.{refl, ◌∙◌}
+use Rattle.std.proofs.Common.{◌∙◌}
 use Rattle.sqlite.specs.Held.{state}
 use Rattle.mailsql.proofs.StateLemmas.{never}
 use Rattle.mailsql.proofs.HeadLemmas.{mail_placed, mail_keyed, heads_asks, heads_shows}

@@ -1,4 +1,3 @@
-use Rattle.std.proofs.Common.{refl}
 use Rattle.sqlite.specs.Held.{state}
 use Rattle.mailsql.proofs.StateLemmas.{never}
 use Rattle.mailsql.proofs.CountLemmas.{counted_is, counted_same, counted_undone, counted_fails}

@@ -1,8 +1,8 @@
-use Rattle.std.proofs.Common.{arith, ◌+◌, ◌≡◌, ◌<◌, length, subst, ap, ◌∙◌}
+use Rattle.std.proofs.Common.{arith, ◌+◌, ◌≡◌, ◌<◌, length, subst, ◌∙◌}
 use Rattle.sqlite.specs.Held.{state}
 use Rattle.sqlite.specs.State.{HasCleanDisk}
 use Rattle.sqlite.proofs.StateLemmas.{survives_then}
-use Rattle.mailsql.specs.Tables.{create_text, lacked_text, lacked_texts}
+use Rattle.mailsql.specs.Tables.{lacked_texts}
 use Rattle.mailsql.proofs.StateLemmas.{error_undone, survives_nothing}
 use Rattle.mailsql.proofs.CreateLemmas.{stops_making}
 use Rattle.mailsql.proofs.CompleteLemmas.{Completing, none_yet, completes_next, completes_none, all_completed}

@@ -161,73 +161,73 @@ returns-then-not-has_columns-clause-clean g c clean =
     c.carry_marked.ensures.clean clean
 
 pub returns-then-not-has_columns-clause-carried : goal.returns-then-not-has_columns-clause-carried
-returns-then-not-has_columns-clause-carried g c clean second out =
-    c.carry_marked.ensures.carried clean second out (c.is_autocommit.ensures.settled c.if-not-is_autocommit.false)
+returns-then-not-has_columns-clause-carried g c clean older out =
+    c.carry_marked.ensures.carried clean older out (c.is_autocommit.ensures.settled c.if-not-is_autocommit.false)
 
 pub returns-then-not-has_columns-clause-carried_stays : goal.returns-then-not-has_columns-clause-carried_stays
-returns-then-not-has_columns-clause-carried_stays g c clean second out =
-    c.carry_marked.ensures.stays clean second out (c.is_autocommit.ensures.settled c.if-not-is_autocommit.false)
+returns-then-not-has_columns-clause-carried_stays g c clean older out =
+    c.carry_marked.ensures.stays clean older out (c.is_autocommit.ensures.settled c.if-not-is_autocommit.false)
 
 pub returns-then-not-has_columns-clause-carried_stop : goal.returns-then-not-has_columns-clause-carried_stop
-returns-then-not-has_columns-clause-carried_stop g c clean second out =
-    c.carry_marked.ensures.stop clean second out (c.is_autocommit.ensures.settled c.if-not-is_autocommit.false)
+returns-then-not-has_columns-clause-carried_stop g c clean older out =
+    c.carry_marked.ensures.stop clean older out (c.is_autocommit.ensures.settled c.if-not-is_autocommit.false)
 
 pub returns-then-not-is_autocommit-clause-carried : goal.returns-then-not-is_autocommit-clause-carried
-returns-then-not-is_autocommit-clause-carried g c clean second out =
+returns-then-not-is_autocommit-clause-carried g c clean older out =
     absurd (true≢false (sym (c.is_autocommit.ensures.value ∙ ap not out) ∙ c.if-not-is_autocommit.true))
 
 pub returns-in-Ok-clause-carried : goal.returns-in-Ok-clause-carried
-returns-in-Ok-clause-carried g c clean second out =
-    absurd (true≢false (sym (c.is_taken.ensures.old second.0.0) ∙ c.if-not-is_taken.true))
+returns-in-Ok-clause-carried g c clean older out =
+    absurd (true≢false (sym (c.is_taken.ensures.old older.0) ∙ c.if-not-is_taken.true))
 
 pub returns-in-Err-clause-carried : goal.returns-in-Err-clause-carried
-returns-in-Err-clause-carried g c clean second out =
-    absurd (true≢false (sym (c.is_taken.ensures.old second.0.0) ∙ c.if-not-is_taken.true))
+returns-in-Err-clause-carried g c clean older out =
+    absurd (true≢false (sym (c.is_taken.ensures.old older.0) ∙ c.if-not-is_taken.true))
 
 pub returns-then-not-has_marks-clause-carried : goal.returns-then-not-has_marks-clause-carried
-returns-then-not-has_marks-clause-carried g c clean second out =
-    absurd (true≢false (sym (c.has_marks.ensures.old second.0.0) ∙ c.if-not-has_marks.true))
+returns-then-not-has_marks-clause-carried g c clean older out =
+    absurd (true≢false (sym (c.has_marks.ensures.old older.0) ∙ c.if-not-has_marks.true))
 
 pub returns-clause-carried : goal.returns-clause-carried
-returns-clause-carried g c clean second out =
-    absurd (true≢false (sym c.if-not-has_columns.false ∙ c.has_columns.ensures.old second.0.0))
+returns-clause-carried g c clean older out =
+    absurd (true≢false (sym c.if-not-has_columns.false ∙ c.has_columns.ensures.old older.0))
 
 pub returns-then-not-is_autocommit-clause-carried_stays : goal.returns-then-not-is_autocommit-clause-carried_stays
-returns-then-not-is_autocommit-clause-carried_stays g c clean second out =
+returns-then-not-is_autocommit-clause-carried_stays g c clean older out =
     absurd (true≢false (sym (c.is_autocommit.ensures.value ∙ ap not out) ∙ c.if-not-is_autocommit.true))
 
 pub returns-in-Ok-clause-carried_stays : goal.returns-in-Ok-clause-carried_stays
-returns-in-Ok-clause-carried_stays g c clean second out =
-    absurd (true≢false (sym (c.is_taken.ensures.old second.0.0) ∙ c.if-not-is_taken.true))
+returns-in-Ok-clause-carried_stays g c clean older out =
+    absurd (true≢false (sym (c.is_taken.ensures.old older.0) ∙ c.if-not-is_taken.true))
 
 pub returns-in-Err-clause-carried_stays : goal.returns-in-Err-clause-carried_stays
-returns-in-Err-clause-carried_stays g c clean second out =
-    absurd (true≢false (sym (c.is_taken.ensures.old second.0.0) ∙ c.if-not-is_taken.true))
+returns-in-Err-clause-carried_stays g c clean older out =
+    absurd (true≢false (sym (c.is_taken.ensures.old older.0) ∙ c.if-not-is_taken.true))
 
 pub returns-then-not-has_marks-clause-carried_stays : goal.returns-then-not-has_marks-clause-carried_stays
-returns-then-not-has_marks-clause-carried_stays g c clean second out =
-    absurd (true≢false (sym (c.has_marks.ensures.old second.0.0) ∙ c.if-not-has_marks.true))
+returns-then-not-has_marks-clause-carried_stays g c clean older out =
+    absurd (true≢false (sym (c.has_marks.ensures.old older.0) ∙ c.if-not-has_marks.true))
 
 pub returns-clause-carried_stays : goal.returns-clause-carried_stays
-returns-clause-carried_stays g c clean second out =
-    absurd (true≢false (sym c.if-not-has_columns.false ∙ c.has_columns.ensures.old second.0.0))
+returns-clause-carried_stays g c clean older out =
+    absurd (true≢false (sym c.if-not-has_columns.false ∙ c.has_columns.ensures.old older.0))
 
 pub returns-then-not-is_autocommit-clause-carried_stop : goal.returns-then-not-is_autocommit-clause-carried_stop
-returns-then-not-is_autocommit-clause-carried_stop g c clean second out =
+returns-then-not-is_autocommit-clause-carried_stop g c clean older out =
     absurd (true≢false (sym (c.is_autocommit.ensures.value ∙ ap not out) ∙ c.if-not-is_autocommit.true))
 
 pub returns-in-Ok-clause-carried_stop : goal.returns-in-Ok-clause-carried_stop
-returns-in-Ok-clause-carried_stop g c clean second out =
-    absurd (true≢false (sym (c.is_taken.ensures.old second.0.0) ∙ c.if-not-is_taken.true))
+returns-in-Ok-clause-carried_stop g c clean older out =
+    absurd (true≢false (sym (c.is_taken.ensures.old older.0) ∙ c.if-not-is_taken.true))
 
 pub returns-in-Err-clause-carried_stop : goal.returns-in-Err-clause-carried_stop
-returns-in-Err-clause-carried_stop g c clean second out =
-    absurd (true≢false (sym (c.is_taken.ensures.old second.0.0) ∙ c.if-not-is_taken.true))
+returns-in-Err-clause-carried_stop g c clean older out =
+    absurd (true≢false (sym (c.is_taken.ensures.old older.0) ∙ c.if-not-is_taken.true))
 
 pub returns-then-not-has_marks-clause-carried_stop : goal.returns-then-not-has_marks-clause-carried_stop
-returns-then-not-has_marks-clause-carried_stop g c clean second out =
-    absurd (true≢false (sym (c.has_marks.ensures.old second.0.0) ∙ c.if-not-has_marks.true))
+returns-then-not-has_marks-clause-carried_stop g c clean older out =
+    absurd (true≢false (sym (c.has_marks.ensures.old older.0) ∙ c.if-not-has_marks.true))
 
 pub returns-clause-carried_stop : goal.returns-clause-carried_stop
-returns-clause-carried_stop g c clean second out =
-    absurd (true≢false (sym c.if-not-has_columns.false ∙ c.has_columns.ensures.old second.0.0))
+returns-clause-carried_stop g c clean older out =
+    absurd (true≢false (sym c.if-not-has_columns.false ∙ c.has_columns.ensures.old older.0))

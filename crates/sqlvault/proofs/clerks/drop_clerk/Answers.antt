@@ -1,7 +1,9 @@
-use Rattle.std.proofs.Common.{◌≡◌, true, Ok, sym, subst, ap, ◌∙◌, rules, inl}
+use Rattle.std.proofs.Common.{◌≡◌, true, false, cond, Result, Ok, Err, sym, subst, ap, ◌∙◌, inl}
 use Rattle.std.specs.Prelude.{is_some}
 use Rattle.sqlite.specs.Held.{state}
 use Rattle.sqlite.specs.State.{HasCleanDisk, IsUnchanged}
+use Rattle.vault.specs.declared.fault.VaultFault.{VaultFault}
+use Rattle.vault.specs.declared.fault.VaultFault.TheVariants.{NoClerk}
 use Rattle.vault.specs.Records.{credential_in}
 use Rattle.vault.specs.Changes.{without_clerk, with_clerks}
 use Rattle.vault.specs.Calls.{IsClerkDropped, drop_clerk_result}
@@ -75,7 +77,14 @@ returns-in-Err-drop_clerk-clause-stop g c held clean2 up h0 =
     )) h1
 
 pub returns-in-Ok-false-clause-done : goal.returns-in-Ok-false-clause-done
-returns-in-Ok-false-clause-done g c = search rules
+returns-in-Ok-false-clause-done g c held clean1 h0 =
+    let s0 = state g.S.Store c.args.conn.now in
+    let s1 = state g.S.Store c.has_clerk.new.conn in
+    let none : is_some (credential_in c.args.clerk.now held.clerks) ≡ false = sym (c.in-Ok-false.ensures.there held clean1 h0) ∙ c.in-Ok-false.field-0-test in
+    record {
+      answer = ap (λ b. let r : Result (Unit {0}) VaultFault = cond b (Ok tt) (Err NoClerk) in r) none;
+      held = holds_unchanged s0 s1 held (c.in-Ok-false.ensures.same clean1 h0.tables) h0;
+    }
 
 pub returns-in-Err-clause-done : goal.returns-in-Err-clause-done
 returns-in-Err-clause-done g c held clean1 h =

@@ -1,8 +1,10 @@
-use Rattle.std.proofs.Common.{◌≡◌, false, min, length, sym, ◌∙◌, arith, rules}
+use Rattle.std.proofs.Common.{◌≡◌, true, false, min, length, sym, ap, ◌∙◌, arith}
 use Rattle.std.specs.Prelude.{is_some}
 use Rattle.sqlite.specs.Held.{state}
 use Rattle.sqlite.specs.State.{HasCleanDisk, IsUnchanged}
-use Rattle.vault.specs.Records.{credential_in}
+use Rattle.vault.specs.Records.{credential_in, most_clerks}
+use Rattle.vault.specs.Changes.{put_answer}
+use Rattle.vault.specs.Calls.{put_result}
 use Rattle.mailsql.specs.Rows.{rows_in}
 use Rattle.sqlvault.specs.Stands.{Holds}
 use Rattle.sqlvault.proofs.HoldsLemmas.{seen, holds_unchanged, met, holds_undone}
@@ -125,7 +127,11 @@ returns-in-Err-clerk_count-clause-stop g c k clean2 up0 h0 =
     looked s1 s2 k (λ d o m. g.met.S.Store.settled c.has_clerk.new.conn.store d o m) clean2 c.clerk_count.ensures.survives (c.in-Ok-false.ensures.same clean1 h0.tables).0.is_open h1
 
 pub returns-in-Ok-true-clause-judged : goal.returns-in-Ok-true-clause-judged
-returns-in-Ok-true-clause-judged g c = search rules
+returns-in-Ok-true-clause-judged g c held clean1 h0 =
+    let s0 = state g.S.Store c.args.conn.now in
+    let s1 = state g.S.Store c.has_clerk.new.conn in
+    let there : is_some (credential_in c.args.clerk.now held.clerks) ≡ true = sym (c.in-Ok-true.ensures.there held clean1 h0) ∙ c.in-Ok-true.field-0-test in
+    (holds_unchanged s0 s1 held (c.in-Ok-true.ensures.same clean1 h0.tables) h0, ap (λ b. put_result (put_answer b (length held.clerks) most_clerks)) there)
 
 pub returns-in-Err-clause-judged : goal.returns-in-Err-clause-judged
 returns-in-Err-clause-judged g c held clean1 h =

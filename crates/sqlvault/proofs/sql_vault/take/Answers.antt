@@ -12,12 +12,12 @@ returns-in-Err-clause-refused g c = (
   λ clean. (
     c.in-Err.ensures.clean clean,
     λ known. c.in-Err.ensures.adopted clean known,
-    λ out second. (c.in-Err.ensures.carried clean second out, (c.in-Err.ensures.carried_stays clean second out, c.in-Err.ensures.carried_stop clean second out)),
+    λ out older. (c.in-Err.ensures.carried clean older out, (c.in-Err.ensures.carried_stays clean older out, c.in-Err.ensures.carried_stop clean older out)),
   ),
 )
 
 pub returns-in-Ok-clause-carried : goal.returns-in-Ok-clause-carried
-returns-in-Ok-clause-carried g c = λ clean second out. (c.in-Ok.ensures.carried clean second out, c.in-Ok.ensures.carried_stop clean second out)
+returns-in-Ok-clause-carried g c = λ clean older out. (c.in-Ok.ensures.carried clean older out, c.in-Ok.ensures.carried_stop clean older out)
 
 pub returns-in-Err-clause-kinds : goal.returns-in-Err-clause-kinds
 returns-in-Err-clause-kinds g c = c.in-Err.ensures.kinds

@@ -1,55 +1,40 @@
-use Rattle.std.proofs.Common.{◌≡◌, ◌≢◌, ◌∙◌, ap, sym, inl, inr, pos, length, arith, rules}
+use Rattle.std.proofs.Common.{◌≡◌, ◌≢◌, ◌∙◌, ap, sym, subst, inl, length, rules, SFits, w64, to_z-of_z}
 use Rattle.sqlite.specs.Held.{state}
 use Rattle.sqlite.specs.State.{HasCleanDisk, IsUnchanged}
 use Rattle.mailsql.specs.Rows.{Rows, rows_in}
+use Rattle.sqlvault.specs.Carries.{IsNoOlder}
 use Rattle.sqlvault.proofs.AdoptLemmas.{rows_on, unchanged_on, undone_on, kinds_met}
-use Rattle.sqlvault.proofs.CarryLemmas.{met_judged, one_second, other_found, none_found, second_length, asked_old, old_on, more_then}
+use Rattle.sqlvault.proofs.CarryLemmas.{met_judged, one_older, judged_no_older, no_older_kinds, judged_none, judged_more, asked_old, old_on, more_then}
 use Rattle.sqlvault.proofs.StayLemmas.{clean_before}
-use Rattle.sqlvault.proofs.carry.is_second.Goals as goal
+use Rattle.sqlvault.proofs.carry.find_older.Goals as goal
 
-pub returns-then-mark-eq-VERSION-clause-clean : goal.returns-then-mark-eq-VERSION-clause-clean
-returns-then-mark-eq-VERSION-clause-clean g c clean1 =
+pub returns-in-Err-version_of-clause-clean : goal.returns-in-Err-version_of-clause-clean
+returns-in-Err-version_of-clause-clean g c clean1 =
     let s0 = state g.S.Store c.args.conn.now in
     let s1 = state g.S.Store c.find_mark.new.conn in
     clean_before s0 s1 c.find_mark.ensures.survives.clean clean1
 
-pub returns-then-mark-eq-VERSION-clause-stop : goal.returns-then-mark-eq-VERSION-clause-stop
-returns-then-mark-eq-VERSION-clause-stop g c clean1 old =
+pub returns-in-Err-version_of-clause-stop : goal.returns-in-Err-version_of-clause-stop
+returns-in-Err-version_of-clause-stop g c clean1 old =
     let s0 = state g.S.Store c.args.conn.now in
     let s1 = state g.S.Store c.find_mark.new.conn in
     asked_old s0 s1 old.0 clean1 c.find_mark.ensures.old_survives
 
-pub returns-then-mark-eq-VERSION-clause-err : goal.returns-then-mark-eq-VERSION-clause-err
-returns-then-mark-eq-VERSION-clause-err g c clean1 tables =
+pub returns-in-Err-version_of-clause-err : goal.returns-in-Err-version_of-clause-err
+returns-in-Err-version_of-clause-err g c clean1 tables =
     inl (c.in-Ok-Some.ensures.old_same clean1 tables)
 
-pub returns-then-mark-eq-VERSION-clause-judged : goal.returns-then-mark-eq-VERSION-clause-judged
-returns-then-mark-eq-VERSION-clause-judged g c clean1 tables =
+pub returns-in-Err-version_of-clause-judged : goal.returns-in-Err-version_of-clause-judged
+returns-in-Err-version_of-clause-judged g c clean1 tables =
     let s0 = state g.S.Store c.args.conn.now in
     let s1 = state g.S.Store c.find_mark.new.conn in
-    let value : c.in-Ok-Some.mark.value ≡ pos 3 = search rules in
-    other_found (rows_in s0.now.trees).marks c.in-Ok-Some.mark c.in-Ok-Some.field-0 (c.in-Ok-Some.ensures.old_ok clean1 tables) c.in-Ok-Some.field-0-is value
+    let value = (let f : SFits w64 c.in-Ok-Some.mark.value = search rules in to_z-of_z f) in
+    judged_no_older (rows_in s0.now.trees) c.in-Ok-Some.mark c.in-Err-version_of.fault (sym (c.in-Ok-Some.ensures.old_ok clean1 tables) ∙ c.in-Ok-Some.field-0-is) (subst (λ v. IsNoOlder v c.in-Err-version_of.fault) value c.in-Err-version_of.ensures.fault)
 
-pub returns-then-mark-ne-SECOND-clause-clean : goal.returns-then-mark-ne-SECOND-clause-clean
-returns-then-mark-ne-SECOND-clause-clean g c clean1 =
-    let s0 = state g.S.Store c.args.conn.now in
-    let s1 = state g.S.Store c.find_mark.new.conn in
-    clean_before s0 s1 c.find_mark.ensures.survives.clean clean1
-
-pub returns-then-mark-ne-SECOND-clause-stop : goal.returns-then-mark-ne-SECOND-clause-stop
-returns-then-mark-ne-SECOND-clause-stop g c clean1 old =
-    let s0 = state g.S.Store c.args.conn.now in
-    let s1 = state g.S.Store c.find_mark.new.conn in
-    asked_old s0 s1 old.0 clean1 c.find_mark.ensures.old_survives
-
-pub returns-then-mark-ne-SECOND-clause-err : goal.returns-then-mark-ne-SECOND-clause-err
-returns-then-mark-ne-SECOND-clause-err g c clean1 tables =
-    inl (c.in-Ok-Some.ensures.old_same clean1 tables)
-
-pub returns-then-mark-ne-SECOND-clause-judged : goal.returns-then-mark-ne-SECOND-clause-judged
-returns-then-mark-ne-SECOND-clause-judged g c clean1 tables =
-    let value : c.in-Ok-Some.mark.value ≢ pos 2 = search rules in
-    (c.in-Ok-Some.mark, sym (c.in-Ok-Some.ensures.old_ok clean1 tables) ∙ c.in-Ok-Some.field-0-is, value)
+pub returns-in-Err-version_of-clause-kinds : goal.returns-in-Err-version_of-clause-kinds
+returns-in-Err-version_of-clause-kinds g c =
+    let value = (let f : SFits w64 c.in-Ok-Some.mark.value = search rules in to_z-of_z f) in
+    no_older_kinds c.in-Ok-Some.mark.value c.in-Err-version_of.fault (subst (λ v. IsNoOlder v c.in-Err-version_of.fault) value c.in-Err-version_of.ensures.fault)
 
 pub returns-in-Ok-None-clause-clean : goal.returns-in-Ok-None-clause-clean
 returns-in-Ok-None-clause-clean g c clean1 =
@@ -71,7 +56,7 @@ pub returns-in-Ok-None-clause-judged : goal.returns-in-Ok-None-clause-judged
 returns-in-Ok-None-clause-judged g c clean1 tables =
     let s0 = state g.S.Store c.args.conn.now in
     let s1 = state g.S.Store c.find_mark.new.conn in
-    none_found (rows_in s0.now.trees).marks c.in-Ok-None.field-0 (c.in-Ok-None.ensures.old_ok clean1 tables) c.in-Ok-None.field-0-is
+    judged_none (rows_in s0.now.trees) (sym (c.in-Ok-None.ensures.old_ok clean1 tables) ∙ c.in-Ok-None.field-0-is)
 
 pub returns-in-Err-clause-clean : goal.returns-in-Err-clause-clean
 returns-in-Err-clause-clean g c clean1 =
@@ -122,7 +107,7 @@ returns-then-len-eq1-clause-same g c clean2 tables =
     let clean1 : HasCleanDisk s1 = clean_before s1 s2 c.all_marks.ensures.survives.clean clean2 in
     let u1 : IsUnchanged s0 s1 = c.in-Ok-Some.ensures.old_same clean1 tables in
     let t1 = old_on s0 s1 u1 tables in
-    unchanged_on s0 s1 s2 u1 (c.in-Ok.ensures.old_same clean2 t1)
+    unchanged_on s0 s1 s2 u1 (c.in-Ok-all_marks.ensures.old_same clean2 t1)
 
 pub returns-then-len-eq1-clause-judged : goal.returns-then-len-eq1-clause-judged
 returns-then-len-eq1-clause-judged g c clean2 tables =
@@ -132,21 +117,22 @@ returns-then-len-eq1-clause-judged g c clean2 tables =
     let clean1 : HasCleanDisk s1 = clean_before s1 s2 c.all_marks.ensures.survives.clean clean2 in
     let u1 : IsUnchanged s0 s1 = c.in-Ok-Some.ensures.old_same clean1 tables in
     let t1 = old_on s0 s1 u1 tables in
-    let all = c.in-Ok.ensures.old_ok clean2 t1 ∙ ap (λ (r : Rows). r.marks) (rows_on s0 s1 u1) in
-    let value : c.in-Ok-Some.mark.value ≡ pos 2 = search rules in
-    let count : length c.in-Ok.marks.items ≡ 1 = search rules in
-    one_second (rows_in s0.now.trees).marks c.in-Ok-Some.mark (sym (c.in-Ok-Some.ensures.old_ok clean1 tables) ∙ c.in-Ok-Some.field-0-is) value (sym (ap length all) ∙ count)
+    let all = c.in-Ok-all_marks.ensures.old_ok clean2 t1 ∙ ap (λ (r : Rows). r.marks) (rows_on s0 s1 u1) in
+    let found = sym (c.in-Ok-Some.ensures.old_ok clean1 tables) ∙ c.in-Ok-Some.field-0-is in
+    let value = (let f : SFits w64 c.in-Ok-Some.mark.value = search rules in to_z-of_z f) in
+    let count : length c.in-Ok-all_marks.marks.items ≡ 1 = search rules in
+    one_older c.in-Ok.carried (rows_in s0.now.trees).marks c.in-Ok-Some.mark found (sym value ∙ c.in-Ok.ensures.older) (sym (ap length all) ∙ count)
 
-pub returns-in-Ok-clause-clean : goal.returns-in-Ok-clause-clean
-returns-in-Ok-clause-clean g c clean2 =
+pub returns-in-Ok-all_marks-clause-clean : goal.returns-in-Ok-all_marks-clause-clean
+returns-in-Ok-all_marks-clause-clean g c clean2 =
     let s0 = state g.S.Store c.args.conn.now in
     let s1 = state g.S.Store c.find_mark.new.conn in
     let s2 = state g.S.Store c.all_marks.new.conn in
     let clean1 : HasCleanDisk s1 = clean_before s1 s2 c.all_marks.ensures.survives.clean clean2 in
     clean_before s0 s1 c.find_mark.ensures.survives.clean clean1
 
-pub returns-in-Ok-clause-stop : goal.returns-in-Ok-clause-stop
-returns-in-Ok-clause-stop g c clean2 old =
+pub returns-in-Ok-all_marks-clause-stop : goal.returns-in-Ok-all_marks-clause-stop
+returns-in-Ok-all_marks-clause-stop g c clean2 old =
     let s0 = state g.S.Store c.args.conn.now in
     let s1 = state g.S.Store c.find_mark.new.conn in
     let s2 = state g.S.Store c.all_marks.new.conn in
@@ -154,27 +140,29 @@ returns-in-Ok-clause-stop g c clean2 old =
     let u1 : IsUnchanged s0 s1 = c.in-Ok-Some.ensures.old_same clean1 (λ _. old) in
     more_then s0 s1 s2 (asked_old s0 s1 old.0 clean1 c.find_mark.ensures.old_survives) (asked_old s1 s2 (old_on s0 s1 u1 (λ _. old) u1.0.is_open).0 clean2 c.all_marks.ensures.old_survives)
 
-pub returns-in-Ok-clause-err : goal.returns-in-Ok-clause-err
-returns-in-Ok-clause-err g c clean2 tables =
+pub returns-in-Ok-all_marks-clause-err : goal.returns-in-Ok-all_marks-clause-err
+returns-in-Ok-all_marks-clause-err g c clean2 tables =
     let s0 = state g.S.Store c.args.conn.now in
     let s1 = state g.S.Store c.find_mark.new.conn in
     let s2 = state g.S.Store c.all_marks.new.conn in
     let clean1 : HasCleanDisk s1 = clean_before s1 s2 c.all_marks.ensures.survives.clean clean2 in
     let u1 : IsUnchanged s0 s1 = c.in-Ok-Some.ensures.old_same clean1 tables in
     let t1 = old_on s0 s1 u1 tables in
-    inl (unchanged_on s0 s1 s2 u1 (c.in-Ok.ensures.old_same clean2 t1))
+    inl (unchanged_on s0 s1 s2 u1 (c.in-Ok-all_marks.ensures.old_same clean2 t1))
 
-pub returns-in-Ok-clause-judged : goal.returns-in-Ok-clause-judged
-returns-in-Ok-clause-judged g c clean2 tables one =
+pub returns-in-Ok-all_marks-clause-judged : goal.returns-in-Ok-all_marks-clause-judged
+returns-in-Ok-all_marks-clause-judged g c clean2 tables =
     let s0 = state g.S.Store c.args.conn.now in
     let s1 = state g.S.Store c.find_mark.new.conn in
     let s2 = state g.S.Store c.all_marks.new.conn in
     let clean1 : HasCleanDisk s1 = clean_before s1 s2 c.all_marks.ensures.survives.clean clean2 in
     let u1 : IsUnchanged s0 s1 = c.in-Ok-Some.ensures.old_same clean1 tables in
     let t1 = old_on s0 s1 u1 tables in
-    let all = c.in-Ok.ensures.old_ok clean2 t1 ∙ ap (λ (r : Rows). r.marks) (rows_on s0 s1 u1) in
-    let count : length c.in-Ok.marks.items ≢ 1 = search rules in
-    count (ap length all ∙ second_length (rows_in s0.now.trees).marks one)
+    let all = c.in-Ok-all_marks.ensures.old_ok clean2 t1 ∙ ap (λ (r : Rows). r.marks) (rows_on s0 s1 u1) in
+    let found = sym (c.in-Ok-Some.ensures.old_ok clean1 tables) ∙ c.in-Ok-Some.field-0-is in
+    let value = (let f : SFits w64 c.in-Ok-Some.mark.value = search rules in to_z-of_z f) in
+    let count : length c.in-Ok-all_marks.marks.items ≢ 1 = search rules in
+    judged_more c.in-Ok.carried (rows_in s0.now.trees) c.in-Ok-Some.mark found (sym value ∙ c.in-Ok.ensures.older) (λ one. count (ap length all ∙ one))
 
 pub returns-clause-clean : goal.returns-clause-clean
 returns-clause-clean g c clean2 =

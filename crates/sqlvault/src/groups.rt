@@ -1,0 +1,162 @@
+//! The groups of the policy.
+ghost use Rattle.std.specs.Prelude.{◌≡◌, ◌≤◌, true, Some, length, map, IfOk, IfSome, IsSomeAnd, OnOk, OnErr};
+ghost use Rattle.std.specs.List.{list_all};
+ghost use Rattle.creds.specs.Names.{is_name};
+ghost use Rattle.sqlite.specs.Held.{state};
+ghost use Rattle.sqlite.specs.State.{HasCleanDisk, IsUnchanged};
+ghost use Rattle.policy.specs.Policy.{is_sound_group, most_members};
+ghost use Rattle.mailsql.specs.Rows.{HasTables, IsReady, IsUndone, rows_in};
+ghost use Rattle.sqlvault.specs.Keeps.{member_names, group_in, groups_in};
+ghost use Rattle.sqlvault.specs.Rules.{AddsMembers, AddsGroup, AddsGroups, SetsGroups};
+ghost use Rattle.sqlvault.specs.Stands.{WasClean, Makes, LeavesNoMore};
+
+use creds::Name;
+use mailsql::{groups, rows};
+use policy::{Group, Policy};
+use sqlite::{Alter, Connection, Error};
+use std::alloc::{AllocError, Global};
+
+/// The names of the group's members, in the order of their rows; `None` where one is no name.
+fn members_of(
+    alloc: Global,
+    rows: &[rows::Member],
+    group: i64,
+) -> Result<Option<Vec<Name>>, AllocError>
+    ensures names { IfOk result (λ read. IfSome read (λ names. names.items ≡ member_names group rows.now)) }
+    ensures all { list_all is_name (member_names group rows.now) ≡ true → IfOk result (λ read. IsSomeAnd read (λ names. names.items ≡ member_names group rows.now)) }
+{
+    let mut names = Vec::new(alloc);
+    for row in rows {
+        if row.group == group {
+            let Some(name) = Name::read(row.clerk.as_slice()) else {
+                return Ok(None);
+            };
+            names.extend_from_slice(&[name])?;
+        }
+    }
+    Ok(Some(names))
+}
+
+/// The group of a row, with its members; `None` where a name is none.
+fn group_of(
+    alloc: Global,
+    row: &rows::Group,
+    members: &[rows::Member],
+) -> Result<Option<Group>, AllocError>
+    ensures row { IfOk result (λ read. IfSome read (λ group. group ≡ group_in members.now row.now)) }
+    ensures all { is_sound_group (group_in members.now row.now) ≡ true → IfOk result (λ read. read ≡ Some (group_in members.now row.now)) }
+{
+    let Some(name) = Name::read(row.name.as_slice()) else {
+        return Ok(None);
+    };
+    match members_of(alloc, members, row.place)? {
+        Some(members) => Ok(Some(Group::new(name, members))),
+        None => Ok(None),
+    }
+}
+
+/// The groups of the rows, in order, each with its members; `None` where a name is none.
+fn groups_of(
+    alloc: Global,
+    rows: &[rows::Group],
+    members: &[rows::Member],
+) -> Result<Option<Vec<Group>>, AllocError>
+    ensures rows { IfOk result (λ read. IfSome read (λ groups. groups.items ≡ map (group_in members.now) rows.now)) }
+    ensures all { list_all is_sound_group (map (group_in members.now) rows.now) ≡ true → IfOk result (λ read. IsSomeAnd read (λ groups. groups.items ≡ map (group_in members.now) rows.now)) }
+{
+    let mut groups = Vec::new(alloc);
+    for row in rows {
+        let Some(group) = group_of(alloc, row, members)? else {
+            return Ok(None);
+        };
+        groups.push(group)?;
+    }
+    Ok(Some(groups))
+}
+
+/// The groups of the store; `None` where a name is none.
+pub(crate) fn read_groups<S: Alter>(
+    alloc: Global,
+    conn: &mut Connection<S>,
+) -> Result<Option<Vec<Group>>, Error>
+    ensures rows { HasCleanDisk (state S.Store conn.new) → HasTables (state S.Store conn.old) → IfOk result (λ read. IfSome read (λ groups. groups.items ≡ groups_in (rows_in (state S.Store conn.old).now.trees))) }
+    ensures all { HasCleanDisk (state S.Store conn.new) → HasTables (state S.Store conn.old) → list_all is_sound_group (groups_in (rows_in (state S.Store conn.old).now.trees)) ≡ true
+        → IfOk result (λ read. IsSomeAnd read (λ groups. groups.items ≡ groups_in (rows_in (state S.Store conn.old).now.trees))) }
+    ensures same { HasCleanDisk (state S.Store conn.new) → HasTables (state S.Store conn.old) → OnOk result (IsUnchanged (state S.Store conn.old) (state S.Store conn.new)) }
+    ensures err { HasCleanDisk (state S.Store conn.new) → HasTables (state S.Store conn.old) → OnErr result (IsUndone (state S.Store conn.old) (state S.Store conn.new)) }
+    ensures stop { HasCleanDisk (state S.Store conn.new) → IsReady (state S.Store conn.old) → LeavesNoMore (state S.Store conn.old) (state S.Store conn.new) }
+    ensures clean { WasClean (state S.Store conn.old) (state S.Store conn.new) }
+{
+    match groups::all_groups(alloc, conn) {
+        Ok(rows) => match groups::all_members(alloc, conn) {
+            Ok(members) => Ok(groups_of(alloc, rows.as_slice(), members.as_slice())?),
+            Err(error) => Err(error),
+        },
+        Err(error) => Err(error),
+    }
+}
+
+/// Adds these members to the group at a place, which has none, inside a transaction: the first at
+/// place 1.
+fn add_members<S: Alter>(
+    conn: &mut Connection<S>,
+    group: i64,
+    members: &[Name],
+) -> Result<(), Error>
+    requires { length members.now ≤ most_members }
+    ensures made { HasCleanDisk (state S.Store conn.new) → Makes (λ _. AddsMembers group members.now) (state S.Store conn.old) (state S.Store conn.new) result }
+    ensures clean { WasClean (state S.Store conn.old) (state S.Store conn.new) }
+{
+    let mut place: i64 = 0;
+    for member in members {
+        place += 1;
+        match groups::add_member(conn, group, place, member.as_bytes()) {
+            Ok(()) => {}
+            Err(error) => return Err(error),
+        }
+    }
+    Ok(())
+}
+
+/// Adds a group with its members behind the others, inside a transaction: its place is the next
+/// one.
+fn add_group<S: Alter>(conn: &mut Connection<S>, place: i64, group: &Group) -> Result<(), Error>
+    requires { length group.now.members ≤ most_members }
+    ensures made { HasCleanDisk (state S.Store conn.new) → Makes (λ _. AddsGroup place group.now) (state S.Store conn.old) (state S.Store conn.new) result }
+    ensures clean { WasClean (state S.Store conn.old) (state S.Store conn.new) }
+{
+    match groups::add_group(conn, group.name().as_bytes()) {
+        Ok(()) => add_members(conn, place, group.members()),
+        Err(error) => Err(error),
+    }
+}
+
+/// Adds the policy's groups where there is none, inside a transaction.
+fn add_groups<S: Alter>(conn: &mut Connection<S>, policy: &Policy) -> Result<(), Error>
+    ensures made { HasCleanDisk (state S.Store conn.new) → Makes (λ _. AddsGroups policy.now.groups) (state S.Store conn.old) (state S.Store conn.new) result }
+    ensures clean { WasClean (state S.Store conn.old) (state S.Store conn.new) }
+{
+    let mut place: i64 = 0;
+    for group in policy.groups() {
+        place += 1;
+        match add_group(conn, place, group) {
+            Ok(()) => {}
+            Err(error) => return Err(error),
+        }
+    }
+    Ok(())
+}
+
+/// Puts the policy's groups in place of those that are there, inside a transaction.
+pub(crate) fn replace_groups<S: Alter>(
+    conn: &mut Connection<S>,
+    policy: &Policy,
+) -> Result<(), Error>
+    ensures made { HasCleanDisk (state S.Store conn.new) → Makes (λ _. SetsGroups policy.now.groups) (state S.Store conn.old) (state S.Store conn.new) result }
+    ensures clean { WasClean (state S.Store conn.old) (state S.Store conn.new) }
+{
+    match groups::clear_groups(conn) {
+        Ok(()) => add_groups(conn, policy),
+        Err(error) => Err(error),
+    }
+}
