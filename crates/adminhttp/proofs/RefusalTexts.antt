@@ -2,7 +2,7 @@
 use Rattle.std.proofs.Common.{◌≡◌, codes, refl}
 use Rattle.std.specs.Fmt.{digits}
 use Rattle.adminhttp.specs.Responses.{refusal_response, response_text}
-use Rattle.adminhttp.specs.declared.route.Route.TheVariants.{Maildrops, Maildrop, Clerk, Policy, Sessions, Session, Explain}
+use Rattle.adminhttp.specs.declared.route.Route.TheVariants.{Maildrops, Maildrop, Clerk, Policy, Groups, Sessions, Session, Explain}
 use Rattle.adminhttp.specs.declared.refusal.Refusal.TheVariants.{BadRequest, NotFound, NotAllowed, LengthRequired, TooLarge, StoreFailed, OutOfMemory}
 
 pub bad_request : refusal_response BadRequest ≡ codes "HTTP/1.1 400 Bad Request\r\nContent-Type: text/plain\r\nContent-Length: 12\r\nConnection: close\r\n\r\nbad request\n"
@@ -44,6 +44,10 @@ not_allowed_clerk = refl
 pub not_allowed_policy : refusal_response (NotAllowed Policy) ≡ codes "HTTP/1.1 405 Method Not Allowed\r\nContent-Type: text/plain\r\nAllow: GET, PUT\r\nContent-Length: 19\r\nConnection: close\r\n\r\nmethod not allowed\n"
 unfolding digits refusal_response response_text
 not_allowed_policy = refl
+
+pub not_allowed_groups : refusal_response (NotAllowed Groups) ≡ codes "HTTP/1.1 405 Method Not Allowed\r\nContent-Type: text/plain\r\nAllow: GET\r\nContent-Length: 19\r\nConnection: close\r\n\r\nmethod not allowed\n"
+unfolding digits refusal_response response_text
+not_allowed_groups = refl
 
 pub not_allowed_sessions : refusal_response (NotAllowed Sessions) ≡ codes "HTTP/1.1 405 Method Not Allowed\r\nContent-Type: text/plain\r\nAllow: GET\r\nContent-Length: 19\r\nConnection: close\r\n\r\nmethod not allowed\n"
 unfolding digits refusal_response response_text

@@ -20,7 +20,7 @@ use Rattle.matchit.proofs.OnLiterals.{matchit_on_literals}
 use Rattle.adminhttp.specs.declared.route.Route.{Route}
 use Rattle.adminhttp.specs.declared.route.Route.TheVariants as route
 use Rattle.adminhttp.specs.declared.target.Target.{Target}
-use Rattle.adminhttp.specs.declared.target.Target.TheVariants.{Maildrops, Maildrop, Clerk, Policy, Sessions, Session, Explain}
+use Rattle.adminhttp.specs.declared.target.Target.TheVariants.{Maildrops, Maildrop, Clerk, Policy, Groups, Sessions, Session, Explain}
 use Rattle.adminhttp.specs.Rows.{route_rows, value_of}
 use Rattle.office.specs.Numbers.{is_number, number_of}
 use Rattle.adminhttp.specs.Targets.{◌>>=◌, is_slash, first_part, behind, alone, explained, target_on, found_on, first_of, target_among, routes, target_of}
@@ -165,6 +165,10 @@ on_policy : found_by (codes "/policy") ≡ Some route.Policy
 unfolding matchit_on_literals
 on_policy = refl
 
+on_groups : found_by (codes "/groups") ≡ Some route.Groups
+unfolding matchit_on_literals
+on_groups = refl
+
 on_sessions : found_by (codes "/sessions") ≡ Some route.Sessions
 unfolding matchit_on_literals
 on_sessions = refl
@@ -205,6 +209,7 @@ route_found route.Clerk path found h =
     begun (codes "/clerks/") path (λ part. option_map Clerk (name_of part)) found route.Clerk
     (λ rest is. let name = map_is Clerk (name_of rest) found is in on_clerk rest (name_is rest name.0 name.1)) h
 route_found route.Policy path found h = ap found_by (alone_is path (codes "/policy") Policy found h) ∙ on_policy
+route_found route.Groups path found h = ap found_by (alone_is path (codes "/groups") Groups found h) ∙ on_groups
 route_found route.Sessions path found h = ap found_by (alone_is path (codes "/sessions") Sessions found h) ∙ on_sessions
 route_found route.Session path found h =
     begun (codes "/sessions/") path (λ part. option_map Session (number_of part)) found route.Session
@@ -244,14 +249,16 @@ none_on r path h =
     let five = neither _ _ four.1 in
     let six = neither _ _ five.1 in
     let seven = neither _ _ six.1 in
+    let eight = neither _ _ seven.1 in
     elim r as (λ r. target_on r path ≡ None) [
       | route.Maildrops ↦ one.0
       | route.Maildrop ↦ two.0
       | route.Clerk ↦ three.0
       | route.Policy ↦ four.0
-      | route.Sessions ↦ five.0
-      | route.Session ↦ six.0
-      | route.Explain ↦ seven.0
+      | route.Groups ↦ five.0
+      | route.Sessions ↦ six.0
+      | route.Session ↦ seven.0
+      | route.Explain ↦ eight.0
     ]
 
 found_none : (o : Option Route) (path : List ℕ) → target_among routes path ≡ None → found_on o path ≡ None

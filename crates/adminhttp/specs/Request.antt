@@ -3,7 +3,7 @@ use Rattle.std.specs.Prelude.{◌≡◌, ◌⊎◌, ℕ, nat_le, List, codes, le
 use Rattle.std.specs.Str.{bytes_eq}
 use Rattle.httparse.specs.Grammar.{RequestHead}
 use Rattle.httparse.specs.Spans.{name_and_value}
-use Rattle.office.specs.Answers.{AdminCommand, ListMaildrops, ShowMaildrop, AddMaildrop, DropMaildrop, ShowClerk, PutClerk, DropClerk, ShowPolicy, SetPolicy, ListSessions, EndSession, Explain}
+use Rattle.office.specs.Answers.{AdminCommand, ListMaildrops, ShowMaildrop, AddMaildrop, DropMaildrop, ShowClerk, PutClerk, DropClerk, ShowPolicy, SetPolicy, ListGroups, ListSessions, EndSession, Explain}
 use Rattle.office.specs.Shown.{command_seen}
 use Rattle.adminhttp.specs.Lines.{head_at, most_in_head}
 use Rattle.adminhttp.specs.Head.{IsHead, IsNoHead, head_text, behind_head}
@@ -77,6 +77,7 @@ asked_of target.Maildrops method headers behind = by_get route.Maildrops method 
 asked_of (target.Maildrop maildrop) method headers behind = maildrop_asked maildrop method
 asked_of (target.Clerk clerk) method headers behind = clerk_asked clerk method headers behind
 asked_of target.Policy method headers behind = policy_asked method headers behind
+asked_of target.Groups method headers behind = by_get route.Groups method ListGroups
 asked_of target.Sessions method headers behind = by_get route.Sessions method ListSessions
 asked_of (target.Session number) method headers behind = session_asked number method
 asked_of (target.Explain clerk maildrop class action) method headers behind =

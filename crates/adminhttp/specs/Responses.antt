@@ -6,7 +6,7 @@ use Rattle.policy.specs.declared.fault.PolicyFault.{PolicyFault}
 use Rattle.office.specs.Answers as answer
 use Rattle.office.specs.Answers.{Answer, body_line, body_of}
 use Rattle.adminhttp.specs.declared.route.Route.{Route}
-use Rattle.adminhttp.specs.declared.route.Route.TheVariants.{Maildrops, Maildrop, Clerk, Policy, Sessions, Session, Explain}
+use Rattle.adminhttp.specs.declared.route.Route.TheVariants.{Maildrops, Maildrop, Clerk, Policy, Groups, Sessions, Session, Explain}
 use Rattle.adminhttp.specs.declared.refusal.Refusal.{Refusal}
 use Rattle.adminhttp.specs.declared.refusal.Refusal.TheVariants.{BadRequest, NotFound, NotAllowed, LengthRequired, TooLarge, StoreFailed, OutOfMemory}
 
@@ -44,6 +44,7 @@ status_of answer.NoSuchClerk = codes "404 Not Found"
 status_of answer.Replaced = codes "200 OK"
 status_of (answer.PolicyIs policy) = codes "200 OK"
 status_of (answer.RuleCount n) = codes "200 OK"
+status_of (answer.GroupsOf policy) = codes "200 OK"
 status_of (answer.Sessions rows) = codes "200 OK"
 status_of answer.Ended = codes "200 OK"
 status_of answer.NoSuchSession = codes "404 Not Found"
@@ -65,6 +66,7 @@ methods_of Maildrops = codes "GET"
 methods_of Maildrop = codes "GET, PUT, DELETE"
 methods_of Clerk = codes "GET, PUT, DELETE"
 methods_of Policy = codes "GET, PUT"
+methods_of Groups = codes "GET"
 methods_of Sessions = codes "GET"
 methods_of Session = codes "DELETE"
 methods_of Explain = codes "GET"

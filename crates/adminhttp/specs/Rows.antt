@@ -5,7 +5,7 @@ use Rattle.matchit.specs.Order.{placed}
 use Rattle.matchit.specs.Route.{Scan, parse_route}
 use Rattle.matchit.specs.Router.{RouteOf, route_from}
 use Rattle.adminhttp.specs.declared.route.Route.{Route}
-use Rattle.adminhttp.specs.declared.route.Route.TheVariants.{Maildrops, Maildrop, Clerk, Policy, Sessions, Session, Explain}
+use Rattle.adminhttp.specs.declared.route.Route.TheVariants.{Maildrops, Maildrop, Clerk, Policy, Groups, Sessions, Session, Explain}
 
 -- the routes with the text of each, in the order of the table
 abbrev pub table : List (List ℕ × Route)
@@ -14,6 +14,7 @@ table =
     ∷ (codes "/maildrops/{m}", Maildrop)
     ∷ (codes "/clerks/{c}", Clerk)
     ∷ (codes "/policy", Policy)
+    ∷ (codes "/groups", Groups)
     ∷ (codes "/sessions", Sessions)
     ∷ (codes "/sessions/{n}", Session)
     ∷ (codes "/explain/{clerk}/{maildrop}/{class}/{action}", Explain)

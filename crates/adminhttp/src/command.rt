@@ -36,6 +36,7 @@ pub fn read_command(
         Target::Maildrop(maildrop) => maildrop_command(maildrop, head.method),
         Target::Clerk(clerk) => clerk_command(clerk, head, headers),
         Target::Policy => policy_command(alloc, head, headers),
+        Target::Groups => by_get(Route::Groups, head.method, AdminCommand::ListGroups),
         Target::Sessions => by_get(Route::Sessions, head.method, AdminCommand::ListSessions),
         Target::Session(number) => session_command(*number, head.method),
         Target::Explain {

@@ -71,6 +71,7 @@ fn status_of(answer: &Answer) -> &'static str
         | Answer::Replaced
         | Answer::PolicyIs(_)
         | Answer::RuleCount(_)
+        | Answer::GroupsOf(_)
         | Answer::Sessions(_)
         | Answer::Ended
         | Answer::Explained(_) => "200 OK",

@@ -11,6 +11,8 @@ pub enum Route {
     Clerk,
     /// `/policy`, by GET and PUT.
     Policy,
+    /// `/groups`, by GET.
+    Groups,
     /// `/sessions`, by GET.
     Sessions,
     /// `/sessions/{n}`, by DELETE.

@@ -17,6 +17,7 @@ fn make_router(alloc: Global) -> Result<Router<Route>, InsertError>
     router.insert("/maildrops/{m}", Route::Maildrop)?;
     router.insert("/clerks/{c}", Route::Clerk)?;
     router.insert("/policy", Route::Policy)?;
+    router.insert("/groups", Route::Groups)?;
     router.insert("/sessions", Route::Sessions)?;
     router.insert("/sessions/{n}", Route::Session)?;
     router.insert(

@@ -14,6 +14,8 @@ pub enum Target {
     Clerk(Name),
     /// The policy.
     Policy,
+    /// The policy's groups.
+    Groups,
     /// The sessions.
     Sessions,
     /// The session of the connection of this number.

@@ -9,7 +9,7 @@ use Rattle.policy.specs.Policy.{Policy}
 use Rattle.policy.specs.PolicyText.{action_of, rules_of}
 use Rattle.policy.specs.declared.fault.PolicyFault.{PolicyFault}
 use Rattle.policy.specs.declared.fault.PolicyFault.TheVariants.{NotToml}
-use Rattle.office.specs.Answers.{AdminCommand, ListMaildrops, ShowMaildrop, AddMaildrop, DropMaildrop, ShowClerk, PutClerk, DropClerk, ShowPolicy, SetPolicy, ListSessions, EndSession, Explain}
+use Rattle.office.specs.Answers.{AdminCommand, ListMaildrops, ShowMaildrop, AddMaildrop, DropMaildrop, ShowClerk, PutClerk, DropClerk, ShowPolicy, SetPolicy, ListGroups, ListSessions, EndSession, Explain}
 use Rattle.office.specs.Events.{Event, Connect, Bytes, Took, Gone, Tick, Deposit, Admin, Restart}
 use Rattle.office.specs.Numbers.{number_of}
 use Rattle.office.specs.Shown.{command_seen}
@@ -74,6 +74,7 @@ word_line keyword =
     if bytes_eq keyword (codes "connect") then Some (Does Connect)
     else if bytes_eq keyword (codes "maildrops") then Some (Does (Admin ListMaildrops))
     else if bytes_eq keyword (codes "policy") then Some (Does (Admin ShowPolicy))
+    else if bytes_eq keyword (codes "groups") then Some (Does (Admin ListGroups))
     else if bytes_eq keyword (codes "sessions") then Some (Does (Admin ListSessions))
     else None
 

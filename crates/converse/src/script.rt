@@ -147,6 +147,8 @@ fn read_word(keyword: &[u8]) -> Option<Line>
         Some(Line::Admin(AdminCommand::ListMaildrops))
     } else if keyword == b"policy".as_slice() {
         Some(Line::Admin(AdminCommand::ShowPolicy))
+    } else if keyword == b"groups".as_slice() {
+        Some(Line::Admin(AdminCommand::ListGroups))
     } else if keyword == b"sessions".as_slice() {
         Some(Line::Admin(AdminCommand::ListSessions))
     } else {

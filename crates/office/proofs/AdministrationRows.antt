@@ -22,7 +22,7 @@ use Rattle.office.specs.Answers.{AdminCommand, ShowMaildrop, AddMaildrop, DropMa
 use Rattle.office.specs.History.{Entry}
 use Rattle.office.specs.Told.{administered, deposited}
 use Rattle.office.specs.Events.{Bytes, Deposit, Admin}
-use Rattle.office.proofs.Sample.{W, w_rules, rule, ord, freeze, d1, Step, Give, run, connect, says, received, replies, answered, deposit, as_ann, second_as_ann, second_as_bob}
+use Rattle.office.proofs.Sample.{W, w_rules, without_groups, rule, ord, freeze, d1, Step, Give, run, connect, says, received, replies, answered, deposit, as_ann, second_as_ann, second_as_bob}
 
 -- what a command is answered behind these steps
 abbrev told : List Step → AdminCommand → List ℕ
@@ -131,15 +131,15 @@ login_after_a_replacement = refl
 abbrev two_rules : List Rule
 two_rules = rule (codes "bob-open") Allow (codes "bob") ord Any true false false ∷ freeze ∷ []
 
-policy_set : told [] (SetPolicy (record { rules = w_rules })) ≡ codes "8 rules\n"
+policy_set : told [] (SetPolicy (without_groups w_rules)) ≡ codes "8 rules\n"
 unfolding digits
 policy_set = refl
 
-policy_without_rules : told [] (SetPolicy (record { rules = [] })) ≡ codes "0 rules\n"
+policy_without_rules : told [] (SetPolicy (without_groups [])) ≡ codes "0 rules\n"
 unfolding digits
 policy_without_rules = refl
 
-policy_shown : told (Give (Admin (SetPolicy (record { rules = two_rules }))) ∷ []) ShowPolicy
+policy_shown : told (Give (Admin (SetPolicy (without_groups two_rules))) ∷ []) ShowPolicy
     ≡ codes "[[rule]]\nname = \"bob-open\"\neffect = \"allow\"\nclerk = \"bob\"\nmaildrop = \"orders\"\nclass = \"*\"\nactions = [\"open\"]\n\n[[rule]]\nname = \"freeze-pay\"\neffect = \"deny\"\nclerk = \"*\"\nmaildrop = \"orders\"\nclass = \"pay\"\nactions = [\"remove\"]\n"
 unfolding digits setting rule_text
 policy_shown = refl

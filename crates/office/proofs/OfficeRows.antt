@@ -11,7 +11,7 @@ use Rattle.office.specs.Answers.{SetPolicy}
 use Rattle.office.specs.Events.{Took, Gone, Tick, Admin, Restart}
 use Rattle.office.specs.Outcomes.{Ignored, NotReady, NoSuchConnection}
 use Rattle.office.specs.Trace.{is_open}
-use Rattle.office.proofs.Sample.{w_rules, shows, both, run, connect, gives, says, received, replies, Give, outcome, Step, as_ann, ann_receives, kept_ids, deposit, freeze, answered, second_as_bob}
+use Rattle.office.proofs.Sample.{w_rules, without_groups, shows, both, run, connect, gives, says, received, replies, Give, outcome, Step, as_ann, ann_receives, kept_ids, deposit, freeze, answered, second_as_bob}
 
 -- while ann is in
 abbrev refused : List Step
@@ -26,7 +26,7 @@ unfolding digits login_name decode_pairs md5 M.digest_bytes M.hash_after M.compr
 refusals_at_login = refl
 
 abbrev frozen : List Step
-frozen = (connect 1 ++ says 1 (as_ann ++ codes "DELE 1" ∷ codes "DELE 2" ∷ []) ++ Give (Admin (SetPolicy (record { rules = freeze ∷ w_rules }))) ∷ says 1 (codes "QUIT" ∷ []))
+frozen = (connect 1 ++ says 1 (as_ann ++ codes "DELE 1" ∷ codes "DELE 2" ∷ []) ++ Give (Admin (SetPolicy (without_groups (freeze ∷ w_rules)))) ∷ says 1 (codes "QUIT" ∷ []))
 
 -- what is said, and what is left
 quit_under_a_new_policy : shows (run frozen) (λ T. both (received 1 T) (kept_ids T))

@@ -7,7 +7,7 @@ use Rattle.vault.specs.declared.fault.VaultFault.TheVariants as fault
 use Rattle.vault.specs.Records.{Agree}
 use Rattle.vault.specs.Changes.{Contents, records_of, with_policy}
 use Rattle.vault.specs.Calls.{IsPolicySet}
-use Rattle.office.specs.Answers.{ShowPolicy, SetPolicy}
+use Rattle.office.specs.Answers.{ShowPolicy, SetPolicy, ListGroups}
 use Rattle.office.specs.Answers as answer
 use Rattle.office.specs.History.{Tag, Done, Failed, NoMemory, in_force}
 use Rattle.office.specs.Sessions.{records}
@@ -29,6 +29,16 @@ policy_shown T k grown p e =
 
 pub policy_show_lacked : {Before : Contents → Type 0} (T : Trace) (k : Keeps Before T) (grown : Bool) → Became Before k.contents T (event.Admin ShowPolicy) grown outcome.NoMemory
 policy_show_lacked T k grown = lacked T (event.Admin ShowPolicy) grown tt refl k k.held
+
+-- ---- its groups listed
+
+pub groups_listed : {Before : Contents → Type 0} (T : Trace) (k : Keeps Before T) (grown : Bool) (p : Policy) → p ≡ in_force T.base (history T)
+    → Became Before k.contents T (event.Admin ListGroups) grown (outcome.Answered (answer.GroupsOf p))
+groups_listed T k grown p e =
+    done T (event.Admin ListGroups) grown _ (ap (λ x. outcome.Answered (answer.GroupsOf x)) e) (keeps_same T (event.Admin ListGroups) Done k k.held refl refl)
+
+pub groups_lacked : {Before : Contents → Type 0} (T : Trace) (k : Keeps Before T) (grown : Bool) → Became Before k.contents T (event.Admin ListGroups) grown outcome.NoMemory
+groups_lacked T k grown = lacked T (event.Admin ListGroups) grown tt refl k k.held
 
 -- ---- the policy set
 

@@ -9,7 +9,7 @@ use Rattle.vault.specs.Changes.{Contents, records_of}
 use Rattle.vault.specs.Calls.{IsAnswer, has_grown, CountsFaults}
 use Rattle.vault.specs.declared.fault.VaultFault.{VaultFault}
 use Rattle.vault.specs.declared.fault.VaultFault.TheVariants as fault
-use Rattle.office.specs.Answers.{AdminCommand, ListMaildrops, ShowMaildrop, AddMaildrop, DropMaildrop, ShowClerk, PutClerk, DropClerk, ShowPolicy, SetPolicy, ListSessions, EndSession, Explain}
+use Rattle.office.specs.Answers.{AdminCommand, ListMaildrops, ShowMaildrop, AddMaildrop, DropMaildrop, ShowClerk, PutClerk, DropClerk, ShowPolicy, SetPolicy, ListGroups, ListSessions, EndSession, Explain}
 use Rattle.office.specs.History.{Act, Administer, Tag, Done, Failed, NoMemory, Silence, Entry, in_force, is_done}
 use Rattle.office.specs.Connections.{boot_and_host, connected, closing, acted, serving, sent, user, failures}
 use Rattle.office.specs.Sessions.{live, login, marks, view, holder, records}
@@ -101,6 +101,7 @@ command_left B H (PutClerk name credential) t q m h = refl
 command_left B H (DropClerk name) t q m h = refl
 command_left B H ShowPolicy t q m h = refl
 command_left B H (SetPolicy policy) t q m h = refl
+command_left B H ListGroups t q m h = refl
 command_left B H ListSessions t q m h = refl
 command_left B H (EndSession n) t q m h = absurd h
 command_left B H (Explain clerk d class action) t q m h = refl
@@ -216,6 +217,7 @@ silent_command B G ShowPolicy t h f = refl
 silent_command B G (SetPolicy policy) Done h f = absurd (true≢false f)
 silent_command B G (SetPolicy policy) Failed h f = refl
 silent_command B G (SetPolicy policy) NoMemory h f = refl
+silent_command B G ListGroups t h f = refl
 silent_command B G ListSessions t h f = refl
 silent_command B G (EndSession n) t h f = absurd h
 silent_command B G (Explain clerk d class action) t h f = refl

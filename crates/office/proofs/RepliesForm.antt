@@ -13,7 +13,7 @@ use Rattle.mailtext.specs.Text.{lines_of, stuffed_lines, top_part}
 use Rattle.creds.specs.Names.{is_name, has_length, is_name_octet, is_host, is_host_octet, is_host_part, is_deposit_id}
 use Rattle.creds.specs.declared.login_name.LoginName.{LoginName}
 use Rattle.creds.specs.Credential.{Shown, ByPass, ByApop, is_admitted}
-use Rattle.policy.specs.Policy.{Policy, decide, decision_of, matches, is_sound_policy, is_sound_rule, are_distinct, same_name, default_rule, is_pattern, lists_any, is_any, most_rules}
+use Rattle.policy.specs.Policy.{Policy, decide, decision_of, matches, are_clerks, are_sound_groups, are_sound_rules, know_groups, is_sound_policy, is_sound_rule, are_distinct, same_name, default_rule, is_pattern, lists_any, is_any, most_rules}
 use Rattle.policy.specs.declared.decide.Decision.{Decision}
 use Rattle.policy.specs.declared.rule.Rule.{Rule}
 use Rattle.policy.specs.declared.rule.Action.{Action}
@@ -73,11 +73,11 @@ found_in {A} p (y ∷ ys) x e = at (p y) e (λ k. found_in p ys x k)
 
 sound_rule_name : (r : Rule) → is_sound_rule r ≡ true → is_name r.name ≡ true
 sound_rule_name r h =
-    let a = and_parts (is_name r.name && not (bytes_eq r.name default_rule) && is_pattern r.clerk && is_pattern r.maildrop && is_pattern r.class && lists_any r.actions) (not r.actions.open || is_any r.class) h in
-    let b = and_parts (is_name r.name && not (bytes_eq r.name default_rule) && is_pattern r.clerk && is_pattern r.maildrop && is_pattern r.class) (lists_any r.actions) a.0 in
-    let c = and_parts (is_name r.name && not (bytes_eq r.name default_rule) && is_pattern r.clerk && is_pattern r.maildrop) (is_pattern r.class) b.0 in
-    let d = and_parts (is_name r.name && not (bytes_eq r.name default_rule) && is_pattern r.clerk) (is_pattern r.maildrop) c.0 in
-    let f = and_parts (is_name r.name && not (bytes_eq r.name default_rule)) (is_pattern r.clerk) d.0 in
+    let a = and_parts (is_name r.name && not (bytes_eq r.name default_rule) && are_clerks r.clerk && is_pattern r.maildrop && is_pattern r.class && lists_any r.actions) (not r.actions.open || is_any r.class) h in
+    let b = and_parts (is_name r.name && not (bytes_eq r.name default_rule) && are_clerks r.clerk && is_pattern r.maildrop && is_pattern r.class) (lists_any r.actions) a.0 in
+    let c = and_parts (is_name r.name && not (bytes_eq r.name default_rule) && are_clerks r.clerk && is_pattern r.maildrop) (is_pattern r.class) b.0 in
+    let d = and_parts (is_name r.name && not (bytes_eq r.name default_rule) && are_clerks r.clerk) (is_pattern r.maildrop) c.0 in
+    let f = and_parts (is_name r.name && not (bytes_eq r.name default_rule)) (are_clerks r.clerk) d.0 in
     (and_parts (is_name r.name) (not (bytes_eq r.name default_rule)) f.0).0
 
 short_decision : (rules : List Rule) (o : Option Rule) → list_all is_sound_rule rules ≡ true → ((r : Rule) → o ≡ Some r → In r rules) → IsShort (decision_of o).rule
@@ -87,9 +87,11 @@ short_decision rules (Some r) h f = short_name r.name (sound_rule_name r (all_in
 -- the rule that decides has a short name
 short_rule : (p : Policy) (clerk d class : List ℕ) (action : Action) → is_sound_policy p ≡ true → IsShort (decide p clerk d class action).rule
 short_rule p clerk d class action h =
-    let a = and_parts (list_all is_sound_rule p.rules && are_distinct same_name p.rules) (nat_le (length p.rules) most_rules) h in
+    let whole = and_parts (are_sound_groups p.groups && are_sound_rules p.rules) (know_groups p.groups p.rules) h in
+    let rules = (and_parts (are_sound_groups p.groups) (are_sound_rules p.rules) whole.0).1 in
+    let a = and_parts (list_all is_sound_rule p.rules && are_distinct same_name p.rules) (nat_le (length p.rules) most_rules) rules in
     let b = and_parts (list_all is_sound_rule p.rules) (are_distinct same_name p.rules) a.0 in
-    short_decision p.rules (find (matches clerk d class action) p.rules) b.0 (λ r e. found_in (matches clerk d class action) p.rules r e)
+    short_decision p.rules (find (matches p.groups clerk d class action) p.rules) b.0 (λ r e. found_in (matches p.groups clerk d class action) p.rules r e)
 
 -- ---- messages of a small view
 

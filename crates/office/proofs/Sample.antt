@@ -5,6 +5,8 @@ use Rattle.mailtext.specs.Text.{kept_form, line_end}
 use Rattle.creds.specs.Digests.{pass_digest, text_digest}
 use Rattle.creds.specs.declared.credential.Credential.TheVariants as kept
 use Rattle.policy.specs.declared.rule.Rule.{Rule}
+use Rattle.policy.specs.Policy.{Policy}
+use Rattle.policy.specs.declared.rule.Clerks.TheVariants as clerks
 use Rattle.policy.specs.declared.rule.Effect.{Effect}
 use Rattle.policy.specs.declared.rule.Effect.TheVariants.{Allow, Deny}
 use Rattle.policy.specs.declared.rule.Pattern.{Pattern}
@@ -24,10 +26,13 @@ use Rattle.office.specs.Trace.{history, rest}
 use Rattle.office.specs.Expected.{outcome_of, octets_taken}
 
 abbrev pub rule : List ℕ → Effect → List ℕ → Pattern → Pattern → Bool → Bool → Bool → Rule
-rule name effect clerk maildrop class o r m = record { name = name; effect = effect; clerk = Is clerk; maildrop = maildrop; class = class; actions = record { «open» = o; read = r; remove = m } }
+rule name effect clerk maildrop class o r m = record { name = name; effect = effect; clerk = clerks.Is clerk; maildrop = maildrop; class = class; actions = record { «open» = o; read = r; remove = m } }
 
 abbrev pub ord : Pattern
 ord = Is (codes "orders")
+
+abbrev pub without_groups : List Rule → Policy
+without_groups rules = record { groups = []; rules = rules }
 
 abbrev pub w_rules : List Rule
 w_rules =
@@ -73,7 +78,7 @@ W = record {
   maildrops = codes "orders" ∷ [];
   messages = message (codes "note") 1 d1 ∷ message (codes "pay") 1 d2 ∷ message (codes "note") 2 d3 ∷ message (codes "todo") 1 d4 ∷ [];
   deposits = receipt (codes "d1") (codes "note") 1 d1 ∷ receipt (codes "d2") (codes "pay") 1 d2 ∷ receipt (codes "d3") (codes "note") 2 d3 ∷ receipt (codes "d4") (codes "todo") 1 d4 ∷ [];
-  policy = record { rules = w_rules };
+  policy = without_groups w_rules;
 }
 
 -- ---- running, with ample memory and a store that refuses nothing
@@ -183,7 +188,7 @@ abbrev pub deposit : List ℕ → List ℕ → List ℕ → Event
 deposit class id text = Deposit (codes "orders") class id text
 
 abbrev pub freeze : Rule
-freeze = record { name = codes "freeze-pay"; effect = Deny; clerk = Any; maildrop = ord; class = Is (codes "pay"); actions = record { «open» = false; read = false; remove = true } }
+freeze = record { name = codes "freeze-pay"; effect = Deny; clerk = clerks.Any; maildrop = ord; class = Is (codes "pay"); actions = record { «open» = false; read = false; remove = true } }
 
 abbrev pub answered : Trace → Event → List ℕ
 answered T e = answer_of (outcome T e)

@@ -1,5 +1,5 @@
 -- Administration commands, the answers to them and to deposits, and the answers' bodies.
-use Rattle.std.specs.Prelude.{ℕ, List, ◌++◌, Bool, true, false, codes}
+use Rattle.std.specs.Prelude.{ℕ, List, ◌++◌, Bool, true, false, codes, length}
 use Rattle.std.specs.List.{flat_map}
 use Rattle.std.specs.Fmt.{decimal}
 use Rattle.creds.specs.declared.login_name.LoginName.{LoginName}
@@ -7,7 +7,7 @@ use Rattle.creds.specs.declared.uid.Uid.{Uid}
 use Rattle.creds.specs.Uid.{uid_text}
 use Rattle.creds.specs.declared.credential.Credential.{Credential}
 use Rattle.vault.specs.declared.answer.Total.{Total}
-use Rattle.policy.specs.Policy.{Policy}
+use Rattle.policy.specs.Policy.{Group, Policy}
 use Rattle.policy.specs.declared.rule.Action.{Action}
 use Rattle.policy.specs.declared.decide.Decision.{Decision}
 use Rattle.policy.specs.PolicyText.{policy_text}
@@ -23,6 +23,7 @@ pub data AdminCommand : Type 0 where
   DropClerk : (clerk : List ℕ) → AdminCommand
   ShowPolicy : AdminCommand
   SetPolicy : Policy → AdminCommand
+  ListGroups : AdminCommand
   ListSessions : AdminCommand
   EndSession : (number : ℕ) → AdminCommand
   Explain : (clerk maildrop class : List ℕ) → Action → AdminCommand
@@ -49,6 +50,7 @@ pub data Answer : Type 0 where
   Replaced : Answer
   PolicyIs : Policy → Answer
   RuleCount : ℕ → Answer
+  GroupsOf : Policy → Answer
   Sessions : List (ℕ × LoginName) → Answer
   Ended : Answer
   NoSuchSession : Answer
@@ -73,6 +75,10 @@ message_text row = uid_text row.0 ++ codes " " ++ decimal row.1
 -- a connection's number, its clerk and its maildrop
 abbrev pub session_text : ℕ × LoginName → List ℕ
 session_text row = decimal row.0 ++ codes " " ++ row.1.clerk ++ codes " " ++ row.1.maildrop
+
+-- a group's name and how many members it has
+abbrev pub group_line : Group → List ℕ
+group_line g = g.name ++ codes " " ++ decimal (length g.members)
 
 -- what the policy says, and by which rule
 abbrev pub decision_text : Bool → List ℕ → List ℕ
@@ -101,6 +107,7 @@ body_of NoSuchClerk = body_line (codes "no such clerk")
 body_of Replaced = body_line (codes "replaced")
 body_of (PolicyIs policy) = policy_text policy
 body_of (RuleCount n) = body_line (decimal n ++ codes " rules")
+body_of (GroupsOf policy) = body_lines group_line policy.groups
 body_of (Sessions rows) = body_lines session_text rows
 body_of Ended = body_line (codes "ended")
 body_of NoSuchSession = body_line (codes "no such session")

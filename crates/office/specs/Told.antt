@@ -12,7 +12,7 @@ use Rattle.policy.specs.Policy.{decide}
 use Rattle.vault.specs.Records.{Records, uid_of, octets_of, most_octets}
 use Rattle.vault.specs.Changes.{DepositAnswer, Accepted, KnownAs, deposit_answer, PutAnswer, put_maildrop_answer, put_clerk_answer, DropAnswer, drop_answer, total_in}
 use Rattle.vault.specs.Changes as changes
-use Rattle.office.specs.Answers.{AdminCommand, ListMaildrops, ShowMaildrop, AddMaildrop, DropMaildrop, ShowClerk, PutClerk, DropClerk, ShowPolicy, SetPolicy, ListSessions, EndSession, Explain, Answer}
+use Rattle.office.specs.Answers.{AdminCommand, ListMaildrops, ShowMaildrop, AddMaildrop, DropMaildrop, ShowClerk, PutClerk, DropClerk, ShowPolicy, SetPolicy, ListGroups, ListSessions, EndSession, Explain, Answer}
 use Rattle.office.specs.History.{Act, Open, Line, Deposit, Administer, Tag, Done, Said, Silence, Says, Answers, Entry, in_force, clerks, credential, maildrops, exists, deposits}
 use Rattle.office.specs.Connections.{boot_and_host, heard}
 use Rattle.office.specs.Sessions.{live, in_session, holder, present}
@@ -83,6 +83,7 @@ administered B G (PutClerk name given) = answer_of_put answer.Replaced (put_cler
 administered B G (DropClerk name) = if is_some (credential B G name) then answer.Dropped else answer.NoSuchClerk
 administered B G ShowPolicy = answer.PolicyIs (in_force B G)
 administered B G (SetPolicy policy) = answer.RuleCount (length policy.rules)
+administered B G ListGroups = answer.GroupsOf (in_force B G)
 administered B G ListSessions = answer.Sessions (sessions G)
 administered B G (EndSession c) = if live G c then answer.Ended else answer.NoSuchSession
 administered B G (Explain clerk d class action) = answer.Explained (decide (in_force B G) clerk d class action)

@@ -287,6 +287,7 @@ impl<V: Vault> Office<V> {
             AdminCommand::DropClerk(clerk) => self.drop_clerk(clerk),
             AdminCommand::ShowPolicy => self.show_policy(),
             AdminCommand::SetPolicy(policy) => self.set_policy(policy),
+            AdminCommand::ListGroups => self.list_groups(),
             AdminCommand::ListSessions => self.list_sessions(),
             AdminCommand::EndSession(c) => self.end_session(*c),
             AdminCommand::Explain {

@@ -49,6 +49,8 @@ pub enum Answer {
     PolicyIs(Policy),
     /// The policy is set, and has so many rules.
     RuleCount(u64),
+    /// The policy in force, of which the groups are told.
+    GroupsOf(Policy),
     /// The sessions, by their connections' numbers.
     Sessions(Sessions),
     /// The session is ended, and its connection with it.

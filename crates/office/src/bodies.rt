@@ -1,12 +1,12 @@
 //! The texts of answers: what deposits and an administrator's commands are told.
 
 ghost use Rattle.std.specs.Prelude.{◌≡◌, IfOk, map};
-ghost use Rattle.office.specs.Answers.{body_of, body_line, body_lines, total_text, message_text, session_text, New, Known, Explained, PolicyIs, RuleCount};
+ghost use Rattle.office.specs.Answers.{body_of, body_line, body_lines, total_text, message_text, session_text, group_line, New, Known, Explained, PolicyIs, RuleCount};
 ghost use Rattle.office.specs.Shown.{answer_seen, row_seen, session_seen};
 
 use crate::answer::{Answer, MessageRow, SessionRow};
 use creds::Uid;
-use policy::{Decision, Policy};
+use policy::{Decision, Group, Policy};
 use std::alloc::{AllocError, Global};
 use vault::Total;
 
@@ -36,6 +36,7 @@ pub fn answer_body(alloc: Global, answer: &Answer) -> Result<Vec<u8>, AllocError
         Answer::Replaced => octets_of(alloc, "replaced\n"),
         Answer::PolicyIs(policy) => written(alloc, policy),
         Answer::RuleCount(rules) => count_line(alloc, *rules),
+        Answer::GroupsOf(policy) => group_lines(alloc, policy.groups()),
         Answer::Sessions(sessions) => session_lines(alloc, sessions.rows()),
         Answer::Ended => octets_of(alloc, "ended\n"),
         Answer::NoSuchSession => octets_of(alloc, "no such session\n"),
@@ -141,6 +142,28 @@ fn message_line(alloc: Global, row: MessageRow) -> Result<Vec<u8>, AllocError>
     let uid = row.uid;
     let octets = row.octets;
     let text = format!(in alloc; "{uid} {octets}\n")?;
+    Ok(text.into_bytes())
+}
+
+/// A line for each group.
+fn group_lines(alloc: Global, groups: &[Group]) -> Result<Vec<u8>, AllocError>
+    ensures { IfOk result (λ text. text.items ≡ body_lines group_line groups.now) }
+{
+    let mut text = Vec::new(alloc);
+    for group in groups {
+        let line = group_line(alloc, group)?;
+        text.extend_from_slice(&line)?;
+    }
+    Ok(text)
+}
+
+/// The line of a group: its name, and how many members it has.
+fn group_line(alloc: Global, group: &Group) -> Result<Vec<u8>, AllocError>
+    ensures { IfOk result (λ line. line.items ≡ body_line (group_line group.now)) }
+{
+    let name = group.name();
+    let members = group.members().len();
+    let text = format!(in alloc; "{name} {members}\n")?;
     Ok(text.into_bytes())
 }
 

@@ -23,6 +23,8 @@ pub enum AdminCommand {
     ShowPolicy,
     /// Sets the policy.
     SetPolicy(Policy),
+    /// The groups of the policy in force, each with how many members it has.
+    ListGroups,
     /// The sessions, by their connections' numbers.
     ListSessions,
     /// Ends the session of a connection, and the connection with it, as [`crate::Event::Gone`]

@@ -31,6 +31,22 @@ impl<V: Vault> Office<V> {
         }
     }
 
+    /// A copy of the policy in force, whose groups are told.
+    pub(crate) fn list_groups(&mut self) -> Outcome
+        ensures stands { (T : Trace) → StandsFor V.holds self.old T → V.is_clean (vault_of self.new) → StandsFor V.holds self.new (followed_by T (event.Admin asked.ListGroups) result) }
+        ensures outcome { (T : Trace) → StandsFor V.holds self.old T → V.is_clean (vault_of self.new) → IsOutcome T (lent_by self.old) (event.Admin asked.ListGroups) (outcome_seen result) }
+        ensures cause { (T : Trace) → StandsFor V.holds self.old T → V.is_clean (vault_of self.new) → HasCause (V.faults (vault_of self.old)) (V.faults (vault_of self.new)) (outcome_seen result) }
+        ensures counted { V.faults (vault_of self.old) ≤ V.faults (vault_of self.new) }
+        ensures clean { V.is_clean (vault_of self.new) → V.is_clean (vault_of self.old) }
+        ensures up { (T : Trace) → StandsFor V.holds self.old T → V.is_clean (vault_of self.new) → StaysUpUnless (V.is_up (vault_of self.old)) (V.is_up (vault_of self.new)) (outcome_seen result) }
+        ensures stop { (T : Trace) → StandsFor V.holds self.old T → V.is_clean (vault_of self.new) → V.is_up (vault_of self.old) → StopLeaves (V.may_leave (vault_of self.new)) T (event.Admin asked.ListGroups) (outcome_seen result) }
+    {
+        match self.policy.try_copy() {
+            Ok(policy) => Outcome::Answered(Answer::GroupsOf(policy)),
+            Err(_) => Outcome::NoMemory,
+        }
+    }
+
     /// Sets the policy, in the store and then here. Sessions keep what they see.
     pub(crate) fn set_policy(&mut self, policy: &Policy) -> Outcome
         ensures stands { (T : Trace) → StandsFor V.holds self.old T → V.is_clean (vault_of self.new) → StandsFor V.holds self.new (followed_by T (event.Admin (asked.SetPolicy policy.now)) result) }

@@ -9,7 +9,7 @@ use Rattle.office.specs.Connections.{connected, connected_after, closing, closin
 use Rattle.office.specs.Told.{told, said_to, answers_if_done}
 use Rattle.office.specs.Sessions.{live}
 use Rattle.office.specs.Answers as answer
-use Rattle.office.specs.Answers.{AdminCommand, ListMaildrops, ShowMaildrop, AddMaildrop, DropMaildrop, ShowClerk, PutClerk, DropClerk, ShowPolicy, SetPolicy, ListSessions, EndSession, Explain}
+use Rattle.office.specs.Answers.{AdminCommand, ListMaildrops, ShowMaildrop, AddMaildrop, DropMaildrop, ShowClerk, PutClerk, DropClerk, ShowPolicy, SetPolicy, ListGroups, ListSessions, EndSession, Explain}
 use Rattle.office.specs.Events.{Event, Mark, Tagged, Ignored, Log}
 use Rattle.office.specs.Events as event
 use Rattle.office.specs.Log.{next_number, taken, moment}
@@ -262,6 +262,7 @@ command_connected B G (PutClerk c k) t d b e = e
 command_connected B G (DropClerk c) t d b e = e
 command_connected B G ShowPolicy t d b e = e
 command_connected B G (SetPolicy p) t d b e = e
+command_connected B G ListGroups t d b e = e
 command_connected B G ListSessions t d b e = e
 command_connected B G (EndSession n) t d b e = end_connected t (live G n) n d b e
 command_connected B G (Explain c m class a) t d b e = e

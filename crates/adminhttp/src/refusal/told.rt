@@ -59,6 +59,9 @@ fn not_allowed(route: Route) -> &'static str
         Route::Policy =>
             "HTTP/1.1 405 Method Not Allowed\r\nContent-Type: text/plain\r\nAllow: GET, PUT\r\nContent-Length: 19\r\n\
          Connection: close\r\n\r\nmethod not allowed\n",
+        Route::Groups =>
+            "HTTP/1.1 405 Method Not Allowed\r\nContent-Type: text/plain\r\nAllow: GET\r\nContent-Length: 19\r\n\
+         Connection: close\r\n\r\nmethod not allowed\n",
         Route::Sessions =>
             "HTTP/1.1 405 Method Not Allowed\r\nContent-Type: text/plain\r\nAllow: GET\r\nContent-Length: 19\r\n\
          Connection: close\r\n\r\nmethod not allowed\n",

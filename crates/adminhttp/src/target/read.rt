@@ -52,6 +52,7 @@ fn read_on(route: Route, path: &[u8]) -> Option<Target>
         Route::Maildrop => Some(Target::Maildrop(Name::read(behind(path, b"/maildrops/")?)?)),
         Route::Clerk => Some(Target::Clerk(Name::read(behind(path, b"/clerks/")?)?)),
         Route::Policy => alone(path, b"/policy", Target::Policy),
+        Route::Groups => alone(path, b"/groups", Target::Groups),
         Route::Sessions => alone(path, b"/sessions", Target::Sessions),
         Route::Session => Some(Target::Session(read_number(behind(path, b"/sessions/")?)?)),
         Route::Explain => read_explain(behind(path, b"/explain/")?),

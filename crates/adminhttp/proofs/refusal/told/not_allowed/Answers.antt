@@ -2,7 +2,7 @@ use Rattle.std.proofs.Common.{sym, ap, ◌∙◌}
 use Rattle.adminhttp.specs.Responses.{refusal_response}
 use Rattle.adminhttp.specs.declared.route.Route.{Route}
 use Rattle.adminhttp.specs.declared.refusal.Refusal.TheVariants.{NotAllowed}
-use Rattle.adminhttp.proofs.RefusalTexts.{not_allowed_maildrops, not_allowed_maildrop, not_allowed_clerk, not_allowed_policy, not_allowed_sessions, not_allowed_session, not_allowed_explain}
+use Rattle.adminhttp.proofs.RefusalTexts.{not_allowed_maildrops, not_allowed_maildrop, not_allowed_clerk, not_allowed_policy, not_allowed_groups, not_allowed_sessions, not_allowed_session, not_allowed_explain}
 use Rattle.adminhttp.proofs.refusal.told.not_allowed.Goals as goal
 
 pub returns-in-Maildrops : goal.returns-in-Maildrops
@@ -16,6 +16,9 @@ returns-in-Clerk c = sym (ap (λ (r : Route). refusal_response (NotAllowed r)) c
 
 pub returns-in-Policy : goal.returns-in-Policy
 returns-in-Policy c = sym (ap (λ (r : Route). refusal_response (NotAllowed r)) c.in-Policy.is ∙ not_allowed_policy)
+
+pub returns-in-Groups : goal.returns-in-Groups
+returns-in-Groups c = sym (ap (λ (r : Route). refusal_response (NotAllowed r)) c.in-Groups.is ∙ not_allowed_groups)
 
 pub returns-in-Sessions : goal.returns-in-Sessions
 returns-in-Sessions c = sym (ap (λ (r : Route). refusal_response (NotAllowed r)) c.in-Sessions.is ∙ not_allowed_sessions)

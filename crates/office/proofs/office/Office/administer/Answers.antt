@@ -33,6 +33,9 @@ returns-in-ShowPolicy-clause-stands g c T st clean = rw c.in-ShowPolicy.is (c.sh
 pub returns-in-SetPolicy-clause-stands : goal.returns-in-SetPolicy-clause-stands
 returns-in-SetPolicy-clause-stands g c T st clean = rw c.in-SetPolicy.is (c.set_policy.ensures.stands T st clean)
 
+pub returns-in-ListGroups-clause-stands : goal.returns-in-ListGroups-clause-stands
+returns-in-ListGroups-clause-stands g c T st clean = rw c.in-ListGroups.is (c.list_groups.ensures.stands T st clean)
+
 pub returns-in-ListSessions-clause-stands : goal.returns-in-ListSessions-clause-stands
 returns-in-ListSessions-clause-stands g c T st clean = rw c.in-ListSessions.is (c.list_sessions.ensures.stands T st clean)
 
@@ -68,6 +71,9 @@ returns-in-ShowPolicy-clause-stop g c T st clean up = event_read T (outcome_seen
 
 pub returns-in-SetPolicy-clause-stop : goal.returns-in-SetPolicy-clause-stop
 returns-in-SetPolicy-clause-stop g c T st clean up = event_read T (outcome_seen c.set_policy.result) (λ x. Admin (command_seen x)) c.in-SetPolicy.is (c.set_policy.ensures.stop T st clean up)
+
+pub returns-in-ListGroups-clause-stop : goal.returns-in-ListGroups-clause-stop
+returns-in-ListGroups-clause-stop g c T st clean up = event_read T (outcome_seen c.list_groups.result) (λ x. Admin (command_seen x)) c.in-ListGroups.is (c.list_groups.ensures.stop T st clean up)
 
 pub returns-in-ListSessions-clause-stop : goal.returns-in-ListSessions-clause-stop
 returns-in-ListSessions-clause-stop g c T st clean up = event_read T (outcome_seen c.list_sessions.result) (λ x. Admin (command_seen x)) c.in-ListSessions.is (c.list_sessions.ensures.stop T st clean up)
