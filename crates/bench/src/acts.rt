@@ -2,7 +2,7 @@
 
 use crate::desk::Desk;
 use crate::fault::Fault;
-use crate::rules::text_of;
+use crate::rules::{grouped_text_of, text_of};
 use creds::{Credential, DepositId, Name, pass_digest};
 use office::{AdminCommand, Event};
 use policy::Policy;
@@ -47,20 +47,31 @@ fn administer(desk: &mut impl Desk, command: &AdminCommand) -> Result<u64, Fault
     desk.perform(Event::Admin(command), Fault::Command)
 }
 
-/// The text of a policy of so many rules about other clerks, behind which ann's stands.
-fn policy_text(alloc: Global, others: usize) -> Result<String, AllocError> {
-    let mut text = text_of(alloc, others)?;
+/// The text with ann's rule behind it.
+fn with_ann(text: String) -> Result<String, AllocError> {
+    let mut text = text;
     text.push_str(ANNS_RULE)?;
     Ok(text)
 }
 
-/// Sets a policy of so many rules about other clerks, behind which ann's stands.
-pub fn set_policy(alloc: Global, desk: &mut impl Desk, others: usize) -> Result<u64, Fault> {
-    let text = policy_text(alloc, others)?;
-    match Policy::read(alloc, text.as_str()) {
+/// Sets the policy of a text.
+fn set_text(alloc: Global, desk: &mut impl Desk, text: &str) -> Result<u64, Fault> {
+    match Policy::read(alloc, text) {
         Ok(policy) => administer(desk, &AdminCommand::SetPolicy(policy)),
         Err(_) => Err(Fault::Policy),
     }
+}
+
+/// Sets a policy of so many rules about other clerks, behind which ann's stands.
+pub fn set_policy(alloc: Global, desk: &mut impl Desk, others: usize) -> Result<u64, Fault> {
+    let text = with_ann(text_of(alloc, others)?)?;
+    set_text(alloc, desk, text.as_str())
+}
+
+/// Sets a policy of so many rules about groups of other clerks, behind which ann's stands.
+pub fn set_groups(alloc: Global, desk: &mut impl Desk, others: usize) -> Result<u64, Fault> {
+    let text = with_ann(grouped_text_of(alloc, others)?)?;
+    set_text(alloc, desk, text.as_str())
 }
 
 /// Gives ann a password, and a policy of one rule.

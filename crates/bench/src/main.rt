@@ -1,12 +1,14 @@
 //! How fast popbox's layers are. `bench WHAT N [STORE]` prints the measure WHAT of the number N;
 //! without a number it prints nothing.
 //!
-//! `texts OCTETS` is over message texts, and `rules COUNT` over a policy; `copies COUNT` holds so
+//! `texts OCTETS` is over message texts, `rules COUNT` over a policy of so many rules, and `groups
+//! COUNT` over one whose rules are all about groups, 100 of 200 members; `copies COUNT` holds so
 //! many policies of 1,000 rules, so that their memory can be seen from outside. `sheets OCTETS` is
 //! over the tables of a store in memory, or, with `[FILE]`, in a file that is not there yet;
 //! `sample 0 FILE` writes a small one.
 //!
-//! `removal MESSAGES` and `logins MESSAGES` are over an office. Its store is `plain`, which is
+//! `removal MESSAGES` and `logins MESSAGES` are over an office, `grouped MESSAGES` the logins where
+//! 999 rules about groups stand before ann's. Its store is `plain`, which is
 //! vectors in memory and need not be said, or `tables`, in memory too, or `file PATH`, which is not
 //! there yet. `opening MESSAGES file PATH` fills such a file, and opens it again.
 #![tactic(auto)]
@@ -43,10 +45,12 @@ fn run(rt: &HostRuntime, what: &str, count: u32, over: &str, path: &str) -> Resu
     match what {
         "texts" => Ok(texts::texts(rt, count as usize)?),
         "rules" => Ok(rules::measure(rt, count as usize)?),
+        "groups" => Ok(rules::measure_groups(rt, count as usize)?),
         "copies" => Ok(rules::hold(rt, count)?),
         "opening" => stores::measure_opening(rt, path, count),
         "removal" => stores::measure(rt, Job::Removal, count, over, path),
         "logins" => stores::measure(rt, Job::Logins, count, over, path),
+        "grouped" => stores::measure(rt, Job::Grouped, count, over, path),
         "sheets" => stores::measure_tables(rt, Job::Sheets, count, over),
         "sample" => stores::measure_tables(rt, Job::Sample, count, over),
         _ => Err(Fault::NoMeasure),

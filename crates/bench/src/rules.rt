@@ -1,9 +1,9 @@
-//! How long a policy takes: to be read, to decide, to be written and copied; and policies that are
-//! held.
+//! How long a policy takes, with groups and without: to be read, to decide, to be written and
+//! copied; and policies that are held.
 
 use crate::since;
 use creds::Name;
-use policy::{Action, Policy};
+use policy::{Action, MAX_GROUPS, MAX_MEMBERS, Policy};
 use std::alloc::{AllocError, Global};
 use std::io;
 use std::rt::Clock;
@@ -26,9 +26,48 @@ pub fn text_of(alloc: Global, rules: usize) -> Result<String, AllocError> {
     Ok(text)
 }
 
-/// How many decisions the clerk `nobody` is allowed, whom no rule names.
-fn allowed_decisions(policy: &Policy) -> u32 {
-    let (Some(clerk), Some(maildrop)) = (Name::read(b"nobody"), Name::read(b"orders")) else {
+/// The members of each group, as an array: `member-0` to `member-199`.
+fn members_text(alloc: Global) -> Result<String, AllocError> {
+    let mut text = String::from_str(alloc, "[\"member-0\"")?;
+    for n in 1..MAX_MEMBERS {
+        write!(text, ", \"member-{n}\"")?;
+    }
+    text.push_str("]")?;
+    Ok(text)
+}
+
+/// Puts all groups that a policy may have behind a text, each of the same 200 members.
+fn put_groups(alloc: Global, text: &mut String) -> Result<(), AllocError> {
+    let members = members_text(alloc)?;
+    for n in 0..MAX_GROUPS {
+        writeln!(
+            text,
+            "[[group]]\nname = \"group-{n}\"\nmembers = {members}\n"
+        )?;
+    }
+    Ok(())
+}
+
+/// The text of a policy of 100 groups of 200 members, and of so many rules, each of which lets a
+/// group remove what lies in `orders`.
+pub fn grouped_text_of(alloc: Global, rules: usize) -> Result<String, AllocError> {
+    let mut text = String::new(alloc);
+    put_groups(alloc, &mut text)?;
+    for n in 0..rules {
+        let group = n % MAX_GROUPS;
+        writeln!(text, "[[rule]]\nname = \"rule-{n}\"\neffect = \"allow\"")?;
+        writeln!(
+            text,
+            "clerk = \"@group-{group}\"\nmaildrop = \"orders\"\nclass = \"*\""
+        )?;
+        writeln!(text, "actions = [\"remove\"]\n")?;
+    }
+    Ok(text)
+}
+
+/// How many decisions to read a clerk is allowed.
+fn allowed_decisions(policy: &Policy, clerk: &str) -> u32 {
+    let (Some(clerk), Some(maildrop)) = (Name::read(clerk.as_bytes()), Name::read(b"orders")) else {
         return 0;
     };
     let mut allowed = 0u32;
@@ -59,6 +98,14 @@ fn copying(rt: &impl Clock, policy: &Policy) -> io::Result<(usize, u64)> {
     Ok((copy.len(), took))
 }
 
+/// Prints how many microseconds decisions about a clerk take.
+fn tell_decisions(rt: &(impl Print + Clock), policy: &Policy, clerk: &str) -> io::Result<()> {
+    let start = Instant::now(rt)?;
+    let allowed = allowed_decisions(policy, clerk);
+    let deciding = since(rt, start)?;
+    println!(rt; "{DECISIONS} decisions about {clerk}, of which {allowed} allow: {deciding} us")
+}
+
 /// Prints what the policy's uses take, of a text of so many octets that took so many microseconds
 /// to be read.
 fn tell(
@@ -69,23 +116,42 @@ fn tell(
 ) -> io::Result<()> {
     let writing = writing(rt, policy)?;
     let (copied, copying) = copying(rt, policy)?;
-    let start = Instant::now(rt)?;
-    let allowed = allowed_decisions(policy);
-    let deciding = since(rt, start)?;
     println!(rt; "{copied} rules of {octets} octets: read {reading} us, written {writing} us")?;
     println!(rt; "{copied} rules copied: {copying} us")?;
-    println!(rt; "{DECISIONS} decisions, of which {allowed} allow: {deciding} us")
+    tell_decisions(rt, policy, "nobody")
 }
 
-/// Prints how many microseconds a policy of so many rules takes.
-pub fn measure(rt: &(impl Print + AllocGlobal + Clock), rules: usize) -> io::Result<()> {
-    let text = text_of(rt.alloc(), rules)?;
+/// Reads a policy, and prints how many microseconds its uses take. None where it isn't read.
+fn measure_text(rt: &(impl Print + AllocGlobal + Clock), text: &str) -> io::Result<Option<Policy>> {
     let start = Instant::now(rt)?;
-    let read = Policy::read(rt.alloc(), &text);
+    let read = Policy::read(rt.alloc(), text);
     let reading = since(rt, start)?;
     match read {
-        Ok(policy) => tell(rt, &policy, text.len(), reading),
-        Err(_) => println!(rt; "{rules} rules: not read"),
+        Ok(policy) => {
+            tell(rt, &policy, text.len(), reading)?;
+            Ok(Some(policy))
+        }
+        Err(_) => {
+            println!(rt; "not read")?;
+            Ok(None)
+        }
+    }
+}
+
+/// Prints how many microseconds a policy of so many rules takes, each about a clerk of its own.
+pub fn measure(rt: &(impl Print + AllocGlobal + Clock), rules: usize) -> io::Result<()> {
+    let text = text_of(rt.alloc(), rules)?;
+    measure_text(rt, text.as_str())?;
+    Ok(())
+}
+
+/// The same of one whose rules all name groups; and decisions about a clerk who stands last in each
+/// group, so that each rule is looked at.
+pub fn measure_groups(rt: &(impl Print + AllocGlobal + Clock), rules: usize) -> io::Result<()> {
+    let text = grouped_text_of(rt.alloc(), rules)?;
+    match measure_text(rt, text.as_str())? {
+        Some(policy) => tell_decisions(rt, &policy, "member-199"),
+        None => Ok(()),
     }
 }
 

@@ -1,6 +1,6 @@
 //! How fast an office's sessions are, over any store.
 
-use crate::acts::{fill, let_in, log_in, mark, say, set_policy};
+use crate::acts::{fill, let_in, log_in, mark, say, set_groups, set_policy};
 use crate::desk::{Desk, opened};
 use crate::fault::Fault;
 use crate::since;
@@ -12,6 +12,9 @@ use vault::Vault;
 
 /// How often ann logs in under each policy.
 const LOGINS: u32 = 1000;
+
+/// The same under one of groups.
+const GROUPED_LOGINS: u32 = 20;
 
 /// How many other rules stand before hers.
 const OTHERS: [usize; 2] = [0, 999];
@@ -54,9 +57,9 @@ fn measure_removal(
 }
 
 /// How many microseconds so many sessions of a greeting, a login and a QUIT take together.
-fn time_visits(rt: &impl Clock, desk: &mut impl Desk) -> Result<u64, Fault> {
+fn time_visits(rt: &impl Clock, desk: &mut impl Desk, visits: u32) -> Result<u64, Fault> {
     let start = Instant::now(rt)?;
-    for _ in 0..LOGINS {
+    for _ in 0..visits {
         let c = log_in(desk)?;
         say(desk, c, b"QUIT\r\n")?;
     }
@@ -73,9 +76,23 @@ fn measure_logins(
     fill(rt.alloc(), desk, 0, count, b"x")?;
     for others in OTHERS {
         set_policy(rt.alloc(), desk, others)?;
-        let took = time_visits(rt, desk)? / u64::from(LOGINS);
+        let took = time_visits(rt, desk, LOGINS)? / u64::from(LOGINS);
         println!(rt; "login: {took} us into {count} messages, behind {others} other rules")?;
     }
+    Ok(())
+}
+
+/// Sessions in a maildrop of so many messages, under a policy in which 999 rules about groups stand
+/// before ann's.
+fn measure_grouped(
+    rt: &(impl Print + AllocGlobal + Clock),
+    desk: &mut impl Desk,
+    count: u32,
+) -> Result<(), Fault> {
+    fill(rt.alloc(), desk, 0, count, b"x")?;
+    set_groups(rt.alloc(), desk, 999)?;
+    let took = time_visits(rt, desk, GROUPED_LOGINS)? / u64::from(GROUPED_LOGINS);
+    println!(rt; "login: {took} us into {count} messages, behind 999 rules about groups")?;
     Ok(())
 }
 
@@ -92,6 +109,7 @@ fn measure_in(
         Job::Filling => measure_filling(rt, desk, count),
         Job::Removal => measure_removal(rt, desk, count),
         Job::Logins => measure_logins(rt, desk, count),
+        Job::Grouped => measure_grouped(rt, desk, count),
         _ => Ok(()),
     }
 }

@@ -20,6 +20,8 @@ pub enum Job {
     Removal,
     /// In an office: a clerk logs in, under a short policy and under a long one.
     Logins,
+    /// The same, under a long policy whose other rules are about groups.
+    Grouped,
     /// The sheets of a text are written and read.
     Sheets,
     /// A row or two is written in each table.

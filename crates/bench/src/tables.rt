@@ -1,7 +1,7 @@
 //! The statements that the measures run, by a trait without clauses: so no measure's proof carries
 //! those of a statement.
 
-use mailsql::{clerks, counts, deposits, mail, maildrops, mode, rules, sheets};
+use mailsql::{clerks, counts, deposits, groups, mail, maildrops, mode, rules, sheets};
 use sqlite::{Alter, Connection, Error};
 use std::alloc::Global;
 
@@ -15,7 +15,7 @@ pub trait Tables {
     /// none.
     fn sheet_octets(&mut self, alloc: Global, key: i64, place: i64) -> Result<u64, Error>;
 
-    /// Two clerks, a rule, a count and a deposit.
+    /// Two clerks, a group of both, a rule, a count and a deposit.
     fn write_others(&mut self) -> Result<(), Error>;
 }
 
@@ -40,6 +40,9 @@ impl<S: Alter> Tables for Connection<S> {
         clerks::add_clerk(self, b"ann", 2, &[200; 32])?;
         clerks::put_clerk(self, b"mrose", 1, b"tanstaaf")?;
         rules::add_rule(self, b"ann-all", 1, b"ann", b"orders", b"*", 7)?;
+        groups::add_group(self, b"sales")?;
+        groups::add_member(self, 1, 1, b"ann")?;
+        groups::add_member(self, 1, 2, b"mrose")?;
         counts::set_count(self, b"orders", b"note", 1)?;
         deposits::add_deposit(self, b"orders", b"d1", b"note", 1, &[9; 32])
     }

@@ -167,7 +167,7 @@ fn credentials_are_judged(rt: HostRuntime) -> Result<(), Fail> {
 }
 
 /// A maildrop, two clerks, and a policy that lets mrose open any maildrop.
-static OPENING: &str = r#"> maildrop add orders
+pub const OPENING: &str = r#"> maildrop add orders
 answer added
 > clerk apop mrose tanstaaf
 answer added
@@ -178,7 +178,7 @@ answer 1 rules
 "#;
 
 /// The digits of the RFC in lower case, behind another clerk's and digits of one more.
-static LOWER_CASE: &str = r"> connect
+pub const LOWER_CASE: &str = r"> connect
 opened 1896
 > drain 1896
 sent 1896 +OK POP3 server ready <1896.697170952@dbc.mtview.ca.us>\r\n

@@ -3,9 +3,11 @@
 
 ghost use Rattle.std.specs.Prelude.{◌≡◌};
 
+mod bad_group;
 mod bad_line;
 mod bad_rule;
 mod closed_store;
+mod unsound_row;
 mod watched;
 
 pub use bad_line::tell_bad_line;

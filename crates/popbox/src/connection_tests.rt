@@ -4,7 +4,7 @@ use crate::session_tests::plays_over_the_sample;
 use std::test::Fail;
 
 /// Ann marks a message, and is gone: bob is let in, and sees that message.
-static GONE: &str = r"> connect
+pub const GONE: &str = r"> connect
 opened 1
 > connect
 opened 2
@@ -35,7 +35,7 @@ done
 ";
 
 /// Ann marks a message, and is idle for 600 seconds: the same.
-static IDLE: &str = r"> tick 1000
+pub const IDLE: &str = r"> tick 1000
 done
 > connect
 opened 1
@@ -140,7 +140,7 @@ fn idle_clocks(rt: HostRuntime) -> Result<(), Fail> {
 }
 
 /// A message is removed.
-pub static BEFORE_A_RESTART: &str = r"> connect
+pub const BEFORE_A_RESTART: &str = r"> connect
 opened 1
 > drain 1
 sent 1 +OK POP3 server ready <1.7@h.test>\r\n
@@ -154,7 +154,7 @@ ended 1
 ";
 
 /// A removed message's deposit id and unique-id stay used, over a restart too.
-pub static AFTER_A_RESTART: &str = r"> connect
+pub const AFTER_A_RESTART: &str = r"> connect
 opened 1
 > drain 1
 sent 1 +OK POP3 server ready <1.8@h.test>\r\n

@@ -6,7 +6,9 @@
 mod client;
 mod journal;
 mod line;
+mod pipe;
 mod request;
+mod seen;
 mod server;
 mod spool;
 mod store;

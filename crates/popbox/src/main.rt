@@ -10,10 +10,14 @@ mod command_line;
 #[cfg(test)]
 mod connection_tests;
 #[cfg(test)]
+mod group_tests;
+#[cfg(test)]
 mod libraries;
 mod log;
 #[cfg(test)]
 mod office_tests;
+#[cfg(test)]
+mod older_store_tests;
 #[cfg(test)]
 mod pipelining_tests;
 mod serve;

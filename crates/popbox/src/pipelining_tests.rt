@@ -12,7 +12,7 @@ use vault::{PlainVault, Refusing};
 
 /// Ann says three lines at once, and takes seven octets at a time, or what is owed if less. A line acts once all before it
 /// was taken.
-static PIPELINED: &str = r"> connect
+pub const PIPELINED: &str = r"> connect
 opened 1
 > drain 1
 sent 1 +OK POP3 server ready <1.7@h.test>\r\n
@@ -67,7 +67,7 @@ answer note.3 3
 ";
 
 /// The QUIT acts, and removes what is marked.
-static QUIT: &str = r"> took 1 2
+pub const QUIT: &str = r"> took 1 2
 sent 1 \r\n
 done
 > list orders

@@ -5,6 +5,7 @@ use clap::ArgMatches;
 use converse::Fault;
 use office::{Limits, Office};
 use serving::{FolderSpool, SocketWire, Wire, begin, serve_turn};
+use std::cell::Cell;
 use std::io;
 use std::io::Write;
 use std::net::{Ipv4Addr, SocketAddr};
@@ -25,7 +26,8 @@ pub fn serve_over<V: Vault, E: Write>(
     let Some(limits) = Limits::new(idle) else {
         return (Ok(2), vault);
     };
-    let journal = Journal::new(rt, options.get_flag("log"));
+    let lost = Cell::new(0);
+    let journal = Journal::new(rt, options.get_flag("log"), &lost);
     let vault = LoggedVault::new(vault, journal);
     match Office::open(rt.alloc(), vault, host, boot, limits) {
         Err((fault, vault)) => (Err(Fault::from(fault)), vault.into_vault()),

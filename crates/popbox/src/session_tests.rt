@@ -5,7 +5,7 @@ use std::alloc::Global;
 use std::test::Fail;
 
 /// The sample store, as a transcript.
-pub static SAMPLE: &str = r#"> maildrop add orders
+pub const SAMPLE: &str = r#"> maildrop add orders
 answer added
 > clerk pass ann s3 cret
 answer added
@@ -38,7 +38,7 @@ pub fn plays_over_the_sample(alloc: Global, transcript: &str) -> Result<(), Fail
 }
 
 /// A message is read whole; a dot that begins a line comes with another.
-static RETRIEVING: &str = r"> connect
+pub const RETRIEVING: &str = r"> connect
 opened 1
 > drain 1
 sent 1 +OK POP3 server ready <1.7@h.test>\r\n
@@ -63,7 +63,7 @@ fn retrieve_with_dots(rt: HostRuntime) -> Result<(), Fail> {
 }
 
 /// A text without an empty line is sent whole.
-static TOP_WITHOUT_HEADER_END: &str = r"> connect
+pub const TOP_WITHOUT_HEADER_END: &str = r"> connect
 opened 1
 > drain 1
 sent 1 +OK POP3 server ready <1.7@h.test>\r\n
@@ -84,7 +84,7 @@ fn top_without_header_end(rt: HostRuntime) -> Result<(), Fail> {
 }
 
 /// A header, the empty line and some of the lines behind it.
-static TOP_LINES: &str = r"> connect
+pub const TOP_LINES: &str = r"> connect
 opened 1
 > drain 1
 sent 1 +OK POP3 server ready <1.7@h.test>\r\n
@@ -111,7 +111,7 @@ fn top_line_counts(rt: HostRuntime) -> Result<(), Fail> {
 }
 
 /// Arguments that don't fit, no keyword, and a keyword that has its place before a login.
-static ARGUMENTS: &str = r"> connect
+pub const ARGUMENTS: &str = r"> connect
 opened 1
 > drain 1
 sent 1 +OK POP3 server ready <1.7@h.test>\r\n
@@ -142,7 +142,7 @@ fn argument_faults(rt: HostRuntime) -> Result<(), Fail> {
 }
 
 /// Marks are set, seen and taken away, and a QUIT removes what is marked.
-static MARKING: &str = r"> connect
+pub const MARKING: &str = r"> connect
 opened 1
 > drain 1
 sent 1 +OK POP3 server ready <1.7@h.test>\r\n
@@ -184,7 +184,7 @@ fn marked_numbers_and_reset(rt: HostRuntime) -> Result<(), Fail> {
 }
 
 /// A clerk who may read nothing.
-static EMPTY_VIEW: &str = r"> connect
+pub const EMPTY_VIEW: &str = r"> connect
 opened 1
 > drain 1
 sent 1 +OK POP3 server ready <1.7@h.test>\r\n
@@ -214,7 +214,7 @@ fn empty_view(rt: HostRuntime) -> Result<(), Fail> {
 }
 
 /// Logins while another session holds the maildrop, which is then not dropped.
-static REFUSALS: &str = r"> connect
+pub const REFUSALS: &str = r"> connect
 opened 1
 > drain 1
 sent 1 +OK POP3 server ready <1.7@h.test>\r\n
@@ -270,7 +270,7 @@ fn refusals_at_login(rt: HostRuntime) -> Result<(), Fail> {
 }
 
 /// A clerk who may read some of the messages. One that came since the login is seen by the next login.
-static FILTERED_VIEW: &str = r"> connect
+pub const FILTERED_VIEW: &str = r"> connect
 opened 1
 > drain 1
 sent 1 +OK POP3 server ready <1.7@h.test>\r\n
@@ -323,7 +323,7 @@ fn deposit_during_a_session(rt: HostRuntime) -> Result<(), Fail> {
 }
 
 /// Two messages are marked. The policy in force at the QUIT keeps one of them: those of the class pay, in front of ann's rule.
-static QUITTING: &str = r#"> connect
+pub const QUITTING: &str = r#"> connect
 opened 1
 > drain 1
 sent 1 +OK POP3 server ready <1.7@h.test>\r\n

@@ -46,7 +46,7 @@ pub fn adopted<S: Alter + Drop>(
 
 /// Runs a transcript's script over a connection's store, expects what is printed of it, and gives
 /// the connection back.
-fn played<S: Alter + Drop>(
+pub fn played<S: Alter + Drop>(
     alloc: Global,
     conn: Connection<S>,
     boot: u64,
@@ -81,7 +81,7 @@ fn played_from(alloc: Global, db: Memory, boot: u64, transcript: &str) -> Result
 }
 
 /// Plays two transcripts over a new store, which is closed and opened again behind each.
-fn plays_in_turn(alloc: Global, first: &str, second: &str) -> Result<(), Fail> {
+pub fn plays_in_turn(alloc: Global, first: &str, second: &str) -> Result<(), Fail> {
     let db = played_from(alloc, Memory::new(alloc), 7, first)?;
     let db = played_from(alloc, db, 8, second)?;
     let _ = played_from(alloc, db, 8, "")?;
@@ -114,7 +114,7 @@ fn unique_ids_over_a_store_opened_again(rt: HostRuntime) -> Result<(), Fail> {
 }
 
 /// A store in memory in which these statements were run.
-fn store_of(alloc: Global, sql: &str) -> Result<Connection<MemStore>, Error> {
+pub fn store_of(alloc: Global, sql: &str) -> Result<Connection<MemStore>, Error> {
     let mut conn = Connection::open_in_memory(alloc)?;
     conn.execute_batch(sql)?;
     Ok(conn)
@@ -140,10 +140,11 @@ pub fn is_refused(
     }
 }
 
-/// A store of other tables, one with the table of marks alone and the mark of the first version,
-/// which had other tables, a store of ours with another mark, and one with a transaction under way:
-/// whether it is ours before these statements, and the fault with its name.
-static OTHERS: [(bool, &str, VaultFault, &str); 4] = [
+/// A store of other tables, two with the table of marks alone, whose mark is that of the first
+/// version, which had other tables, and one of no version; a store of ours with another mark, and
+/// one with a transaction under way: whether it is ours before these statements, and the fault with
+/// its name.
+static OTHERS: [(bool, &str, VaultFault, &str); 5] = [
     (
         false,
         "CREATE TABLE rules (x INTEGER) STRICT",
@@ -153,6 +154,12 @@ static OTHERS: [(bool, &str, VaultFault, &str); 4] = [
     (
         false,
         "CREATE TABLE meta (name TEXT PRIMARY KEY, value INTEGER NOT NULL) STRICT; INSERT INTO meta (name, value) VALUES ('popbox', 1)",
+        VaultFault::NotOurs,
+        "NotOurs",
+    ),
+    (
+        false,
+        "CREATE TABLE meta (name TEXT PRIMARY KEY, value INTEGER NOT NULL) STRICT; INSERT INTO meta (name, value) VALUES ('popbox', 4)",
         VaultFault::OldVersion,
         "OldVersion",
     ),

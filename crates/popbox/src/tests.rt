@@ -272,7 +272,7 @@ fn too_many_connections(rt: HostRuntime) -> Result<(), Fail> {
 }
 
 /// Three refused passwords.
-static WRONG_PASSWORDS: &str = r"> connect
+pub const WRONG_PASSWORDS: &str = r"> connect
 opened 1
 > drain 1
 sent 1 +OK POP3 server ready <1.7@h.test>\r\n
@@ -293,7 +293,7 @@ ended 1
 ";
 
 /// A refused password, and two refused digests.
-static WRONG_DIGESTS: &str = r"> connect
+pub const WRONG_DIGESTS: &str = r"> connect
 opened 1
 > drain 1
 sent 1 +OK POP3 server ready <1.7@h.test>\r\n
@@ -316,7 +316,7 @@ fn third_failed_login_closes(rt: HostRuntime) -> Result<(), Fail> {
 }
 
 /// Lines before a login, and the name that each leaves in force shown by the next.
-static NAMES_IN_FORCE: &str = r"> connect
+pub const NAMES_IN_FORCE: &str = r"> connect
 opened 1
 > drain 1
 sent 1 +OK POP3 server ready <1.7@h.test>\r\n

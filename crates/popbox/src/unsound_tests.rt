@@ -1,6 +1,6 @@
 //! Tests of stores with our tables and our mark, whose rows are no contents.
 
-use crate::store_tests::{adopted, changed, is_refused};
+use crate::store_tests::{adopted, changed, is_refused, played};
 use crate::tests::{expect, run_over_tables};
 use sqlite::MemStore;
 use sqlvault::SqlVault;
@@ -20,7 +20,7 @@ static SOUND_SAID: &str =
     "answer added\nanswer added\nanswer 1 rules\nanswer new note.1\nanswer new note.2\n";
 
 /// What makes it unsound. Two equal ids of deposits take a table that was made without its key.
-static UNSOUND: [(&str, &str); 7] = [
+static UNSOUND: [(&str, &str); 14] = [
     (
         "a hole in k",
         "DELETE FROM mail WHERE k < 3; UPDATE deposits SET k = 3 WHERE id = 'd2'",
@@ -40,6 +40,34 @@ static UNSOUND: [(&str, &str); 7] = [
         "INSERT INTO maildrops (name) VALUES ('aaaaaaaaaaaaaaaaaaaaaaaaaaaaaaaaa')",
     ),
     ("a rule out of its form", "UPDATE rules SET effect = 2"),
+    (
+        "a rule about a group that isn't there",
+        "UPDATE rules SET clerk = '@sales'",
+    ),
+    (
+        "a rule about a group of no name",
+        "UPDATE rules SET clerk = '@'",
+    ),
+    (
+        "a group without members",
+        "INSERT INTO groups (place, name) VALUES (1, 'sales')",
+    ),
+    (
+        "a group out of its form",
+        "INSERT INTO groups (place, name) VALUES (1, '@sales'); INSERT INTO members (grp, place, clerk) VALUES (1, 1, 'ann')",
+    ),
+    (
+        "a member out of its form",
+        "INSERT INTO groups (place, name) VALUES (1, 'sales'); INSERT INTO members (grp, place, clerk) VALUES (1, 1, 'Ann')",
+    ),
+    (
+        "201 members",
+        "INSERT INTO groups (place, name) VALUES (1, 'sales'); INSERT INTO members (grp, place, clerk) WITH RECURSIVE n (x) AS (SELECT 1 UNION ALL SELECT x + 1 FROM n WHERE x < 201) SELECT 1, x, 'c' || x FROM n",
+    ),
+    (
+        "101 groups",
+        "INSERT INTO groups (place, name) WITH RECURSIVE n (x) AS (SELECT 1 UNION ALL SELECT x + 1 FROM n WHERE x < 101) SELECT x, 'g' || x FROM n; INSERT INTO members (grp, place, clerk) SELECT place, 1, 'ann' FROM groups",
+    ),
 ];
 
 fn sound_store(alloc: Global) -> Result<SqlVault<MemStore>, Fail> {
@@ -52,6 +80,27 @@ fn sound_store(alloc: Global) -> Result<SqlVault<MemStore>, Fail> {
 fn sound_rows_are_adopted(rt: HostRuntime) -> Result<(), Fail> {
     let alloc = rt.alloc();
     assert!(rt; adopted(alloc, sound_store(alloc)?.into_connection()).is_ok());
+    Ok(())
+}
+
+/// A hundred groups, the first of 200 members, about whom the rule then is.
+static GROUPS: &str =
+    "INSERT INTO groups (place, name) WITH RECURSIVE n (x) AS (SELECT 1 UNION ALL SELECT x + 1 FROM n WHERE x < 100) SELECT x, 'g' || x FROM n; INSERT INTO members (grp, place, clerk) WITH RECURSIVE n (x) AS (SELECT 1 UNION ALL SELECT x + 1 FROM n WHERE x < 200) SELECT 1, x, 'c' || x FROM n; INSERT INTO members (grp, place, clerk) SELECT place, 1, 'ann' FROM groups WHERE place > 1; UPDATE rules SET clerk = '@g1'";
+
+/// What the policy then says.
+static GROUPS_SAY: &str = "> explain c200 orders note open
+answer allow by rule all
+> explain c201 orders note open
+answer deny by rule default
+> explain ann orders note open
+answer deny by rule default
+";
+
+#[test]
+fn rows_of_groups_are_adopted(rt: HostRuntime) -> Result<(), Fail> {
+    let alloc = rt.alloc();
+    let conn = changed(sound_store(alloc)?, GROUPS)?;
+    let _ = played(alloc, conn, 8, GROUPS_SAY)?;
     Ok(())
 }
 

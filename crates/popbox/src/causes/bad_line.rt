@@ -46,7 +46,7 @@ const TEXT: (&str, Kind) = ("TEXT", Kind::Text);
 const SECRET: (&str, Kind) = ("TEXT", Kind::Secret);
 
 /// The lines of docs/SCRIPTS.md.
-static FORMS: [Form; 20] = [
+static FORMS: [Form; 21] = [
     Form {
         words: "connect",
         fields: &[],
@@ -114,6 +114,10 @@ static FORMS: [Form; 20] = [
     Form {
         words: "policy",
         fields: &[TEXT],
+    },
+    Form {
+        words: "groups",
+        fields: &[],
     },
     Form {
         words: "sessions",

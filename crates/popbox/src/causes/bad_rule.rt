@@ -1,5 +1,6 @@
-//! Why a text is no policy: the line that isn't TOML, or the rule and its key.
+//! Why a text is no policy: the line that isn't TOML, or the group or rule and its key.
 
+use super::bad_group::tell_group_fault;
 use super::bad_line::tell_value;
 use creds::Name;
 use policy::{Policy, PolicyFault};
@@ -29,7 +30,7 @@ pub fn tell_bad_policy<E: Write>(
         return Ok(());
     };
     match toml::table_from_str(alloc, text) {
-        Ok(table) => tell_rule_fault(err, name, &table, fault),
+        Ok(table) => tell_fault_in(err, name, &table, fault),
         Err(error) => match error.span() {
             Some(span) => {
                 let line = line_at(octets, span.start);
@@ -53,42 +54,75 @@ fn line_at(octets: &[u8], place: usize) -> usize {
 }
 
 /// Tells a fault of a policy whose text is TOML.
-fn tell_rule_fault<E: Write>(
+fn tell_fault_in<E: Write>(
     err: &mut E,
     name: &str,
     table: &Table,
     fault: PolicyFault,
 ) -> io::Result<()> {
+    if let Some(number) = fault.group_number() {
+        return tell_group_fault(err, name, table, number, fault);
+    }
     match fault.rule_number() {
         Some(0) => {
             write!(err, "why: {name}: the key ")?;
-            tell_stray(err, table, &["rule"])?;
-            writeln!(err, " stands beside the rules, and `rule` alone may")
+            tell_stray(err, table, &["group", "rule"])?;
+            writeln!(
+                err,
+                " stands at the top, where `group` and `rule` alone may"
+            )
         }
         Some(number) => {
             write!(err, "why: {name}, rule {number}: ")?;
-            match rule_at(table, number) {
+            match table_at(table, "rule", number) {
                 Some(rule) => tell_key(err, table, rule, fault),
                 None => writeln!(err, "{}", fault.name()),
             }
         }
-        None => match fault {
-            PolicyFault::NotToml => {
-                writeln!(
-                    err,
-                    "why: {name}: `rule` is no array of tables, each under [[rule]]"
-                )
-            }
-            PolicyFault::TooMany => writeln!(err, "why: {name}: it has more than 1,000 rules"),
-            _ => Ok(()),
-        },
+        None => tell_whole(err, name, table, fault),
     }
 }
 
-/// The table of the rule of this number, from 1.
-fn rule_at(table: &Table, number: usize) -> Option<&Table> {
-    let rules = table.get("rule")?.as_array()?;
-    rules.get(number.checked_sub(1)?)?.as_table()
+/// Tells a fault that is no one group's and no one rule's.
+fn tell_whole<E: Write>(
+    err: &mut E,
+    name: &str,
+    table: &Table,
+    fault: PolicyFault,
+) -> io::Result<()> {
+    match fault {
+        PolicyFault::NotToml => {
+            let key = if is_array_of_tables(table.get("group")) {
+                "rule"
+            } else {
+                "group"
+            };
+            writeln!(
+                err,
+                "why: {name}: `{key}` is no array of tables, each under [[{key}]]"
+            )
+        }
+        PolicyFault::TooMany => writeln!(err, "why: {name}: it has more than 1,000 rules"),
+        PolicyFault::TooManyGroups => writeln!(err, "why: {name}: it has more than 100 groups"),
+        _ => Ok(()),
+    }
+}
+
+/// Whether a value is an array of tables alone, or isn't there.
+fn is_array_of_tables(value: Option<&Value>) -> bool {
+    match value {
+        Some(value) => match value.as_array() {
+            Some(values) => values.iter().all(|value| value.is_table()),
+            None => false,
+        },
+        None => true,
+    }
+}
+
+/// The table of the group or rule of this number, from 1.
+pub(super) fn table_at<'a>(table: &'a Table, list: &str, number: usize) -> Option<&'a Table> {
+    let values = table.get(list)?.as_array()?;
+    values.get(number.checked_sub(1)?)?.as_table()
 }
 
 /// Tells the key of a rule that has a fault.
@@ -99,7 +133,7 @@ fn tell_key<E: Write>(
     fault: PolicyFault,
 ) -> io::Result<()> {
     match fault {
-        PolicyFault::MissingKey(_) => match KEYS.iter().find(|key| rule.get(**key).is_none()) {
+        PolicyFault::MissingKey(_) => match missing_key(rule, &KEYS) {
             Some(key) => writeln!(err, "the key `{key}` is missing"),
             None => Ok(()),
         },
@@ -112,7 +146,10 @@ fn tell_key<E: Write>(
             )
         }
         PolicyFault::BadName(_) => tell_name(err, rule),
-        PolicyFault::DoubleName(_) => tell_double(err, table, rule),
+        PolicyFault::UnknownGroup(_) => {
+            tell_of_key(err, rule, "clerk", "and no group has this name")
+        }
+        PolicyFault::DoubleName(_) => tell_double(err, table, "rule", rule),
         PolicyFault::BadEffect(_) => tell_of_key(err, rule, "effect", "and not allow or deny"),
         PolicyFault::BadActions(_) => writeln!(
             err,
@@ -130,8 +167,18 @@ fn tell_key<E: Write>(
     }
 }
 
+/// The first of these keys that a table lacks.
+pub(super) fn missing_key(table: &Table, keys: &[&'static str]) -> Option<&'static str> {
+    for key in keys {
+        if table.get(*key).is_none() {
+            return Some(*key);
+        }
+    }
+    None
+}
+
 /// Tells the first key of a table that is none of these.
-fn tell_stray<E: Write>(err: &mut E, table: &Table, keys: &[&str]) -> io::Result<()> {
+pub(super) fn tell_stray<E: Write>(err: &mut E, table: &Table, keys: &[&str]) -> io::Result<()> {
     for key in table.keys() {
         if !keys.iter().any(|known| *known == key.as_str()) {
             return tell_value(err, key.as_bytes());
@@ -142,7 +189,11 @@ fn tell_stray<E: Write>(err: &mut E, table: &Table, keys: &[&str]) -> io::Result
 
 /// Tells which of a rule's names isn't of its form.
 fn tell_name<E: Write>(err: &mut E, rule: &Table) -> io::Result<()> {
-    for key in ["clerk", "maildrop", "class"] {
+    if !is_clerks(rule.get("clerk")) {
+        let form = "and not `*`, 1 to 32 of a-z, 0-9 and -, or `@` and such a name";
+        return tell_of_key(err, rule, "clerk", form);
+    }
+    for key in ["maildrop", "class"] {
         if !is_pattern(rule.get(key)) {
             return tell_of_key(err, rule, key, "and not `*` or 1 to 32 of a-z, 0-9 and -");
         }
@@ -155,36 +206,60 @@ fn tell_name<E: Write>(err: &mut E, rule: &Table) -> io::Result<()> {
     )
 }
 
+/// Whether a text is `*` or a name.
+fn is_pattern_text(text: &str) -> bool {
+    text == "*" || Name::read(text.as_bytes()).is_some()
+}
+
 /// Whether a value is `*` or a name.
 fn is_pattern(value: Option<&Value>) -> bool {
     match value {
         Some(value) => match value.as_str() {
-            Some(text) => text == "*" || Name::read(text.as_bytes()).is_some(),
+            Some(text) => is_pattern_text(text),
             None => false,
         },
         None => false,
     }
 }
 
-/// Tells which earlier rule has the rule's name.
-fn tell_double<E: Write>(err: &mut E, table: &Table, rule: &Table) -> io::Result<()> {
-    let text = text_at(rule, "name");
+/// Whether a value is `*`, a name, or `@` and a name.
+fn is_clerks(value: Option<&Value>) -> bool {
+    match value {
+        Some(value) => match value.as_str() {
+            Some(text) => match text.strip_prefix("@") {
+                Some(group) => Name::read(group.as_bytes()).is_some(),
+                None => is_pattern_text(text),
+            },
+            None => false,
+        },
+        None => false,
+    }
+}
+
+/// Tells which earlier group or rule has the name of this one.
+pub(super) fn tell_double<E: Write>(
+    err: &mut E,
+    table: &Table,
+    list: &str,
+    one: &Table,
+) -> io::Result<()> {
+    let text = text_at(one, "name");
     write!(err, "`name` is ")?;
     tell_value(err, text.as_bytes())?;
-    match first_of_name(table, text) {
-        Some(number) => writeln!(err, ", as of rule {number}"),
+    match first_of_name(table, list, text) {
+        Some(number) => writeln!(err, ", as of {list} {number}"),
         None => writeln!(err),
     }
 }
 
-/// The number, from 1, of the first rule of a name.
-fn first_of_name(table: &Table, name: &str) -> Option<usize> {
+/// The number, from 1, of the first group or rule of a name.
+fn first_of_name(table: &Table, list: &str, name: &str) -> Option<usize> {
     let mut number = 0usize;
-    for rule in table.get("rule")?.as_array()? {
+    for value in table.get(list)?.as_array()? {
         number = number.saturating_add(1);
-        if rule
+        if value
             .as_table()
-            .is_some_and(|rule| text_at(rule, "name") == name)
+            .is_some_and(|one| text_at(one, "name") == name)
         {
             return Some(number);
         }
@@ -193,20 +268,31 @@ fn first_of_name(table: &Table, name: &str) -> Option<usize> {
 }
 
 /// The text at a key; none is empty.
-fn text_at<'a>(rule: &'a Table, key: &str) -> &'a str {
-    match rule.get(key) {
+fn text_at<'a>(table: &'a Table, key: &str) -> &'a str {
+    match table.get(key) {
         Some(value) => value.as_str().unwrap_or(""),
         None => "",
     }
 }
 
-/// Tells the value at a key of a rule, and what it is to be.
-fn tell_of_key<E: Write>(err: &mut E, rule: &Table, key: &str, form: &str) -> io::Result<()> {
+/// Tells the value at a key of a group or rule, and what it is to be.
+pub(super) fn tell_of_key<E: Write>(
+    err: &mut E,
+    table: &Table,
+    key: &str,
+    form: &str,
+) -> io::Result<()> {
     write!(err, "`{key}` is ")?;
-    match rule.get(key) {
-        Some(Value::String(text)) => tell_value(err, text.as_bytes())?,
-        Some(value) => write!(err, "of type {}", value.type_str())?,
-        None => {}
+    if let Some(value) = table.get(key) {
+        tell_setting(err, value)?;
     }
     writeln!(err, ", {form}")
+}
+
+/// Tells a value: a text as it is, of any other the type.
+pub(super) fn tell_setting<E: Write>(err: &mut E, value: &Value) -> io::Result<()> {
+    match value {
+        Value::String(text) => tell_value(err, text.as_bytes()),
+        other => write!(err, "of type {}", other.type_str()),
+    }
 }

@@ -1,5 +1,6 @@
 //! Why a store can't be opened: its file is looked at again.
 
+use super::unsound_row::unsound_table;
 use mailsql::meta::{all_marks, find_mark};
 use mailsql::schema::has_marks;
 use sqlite::{Alter, Connection, MemStore, Wary};
@@ -15,7 +16,7 @@ use vault::VaultFault;
 /// The version of the stores that this popbox makes, and the oldest that it carries over.
 const NEWEST: i64 = 3;
 
-const OLDEST: i64 = 2;
+const OLDEST: i64 = 1;
 
 /// Tells why the store at a path was refused with a fault.
 pub fn tell_closed_store<E: Write>(
@@ -90,6 +91,13 @@ fn tell_version<S: Alter, E: Write>(
                 "a store of version {found}, newer than {NEWEST}, which this popbox makes"
             )
         }
+        Ok(Some(mark)) if mark.value >= OLDEST => {
+            let found = mark.value;
+            writeln!(
+                err,
+                "a store of version {found} by its mark, with the tables of version {NEWEST}"
+            )
+        }
         Ok(Some(mark)) => {
             let found = mark.value;
             writeln!(
@@ -155,38 +163,72 @@ fn tell_marks<S: Alter, E: Write>(
         Ok(_) => return writeln!(err, "its table `meta` has a row that isn't popbox's"),
         Err(error) => return writeln!(err, "{error}"),
     }
-    match SqlVault::<MemStore>::in_memory(alloc) {
-        Ok(ours) => tell_other(err, conn.schema(), ours.into_connection().schema(), version),
-        Err(_) => writeln!(err, "its tables or their rows aren't popbox's"),
+    if version == OLDEST && !has_messages(conn.schema()) {
+        return writeln!(err, "its table `messages` is missing, as version 1 has it");
+    }
+    let ours = match SqlVault::<MemStore>::in_memory(alloc) {
+        Ok(ours) => ours.into_connection(),
+        Err(_) => return writeln!(err, "its tables or their rows aren't popbox's"),
+    };
+    match other_table(conn.schema(), ours.schema(), version) {
+        Some(our) => tell_other(err, our),
+        None if version == OLDEST => {
+            writeln!(
+                err,
+                "its tables are of version 1, but a row is no sound record"
+            )
+        }
+        None => tell_row(alloc, err, conn),
     }
 }
 
-/// Tells the first table of ours that is missing, or has other columns or keys; else that it is a
-/// row.
-fn tell_other<E: Write>(
-    err: &mut E,
-    schema: &Schema,
-    ours: &Schema,
-    version: i64,
-) -> io::Result<()> {
-    for our in ours.tables.as_slice().iter() {
-        if !is_there(schema, our) && (version == NEWEST || !is_of_groups(our)) {
-            let name = str::from_utf8(our.name.as_slice()).unwrap_or("?");
-            return writeln!(
-                err,
-                "its table `{name}` is missing, or has other columns or keys than popbox's"
-            );
-        }
-    }
+/// The first table of ours that is missing in a schema, or has other columns or keys there.
+fn other_table<'a>(schema: &Schema, ours: &'a Schema, version: i64) -> Option<&'a Table> {
+    let mut tables = ours.tables.as_slice().iter();
+    tables.find(|our| !is_there(schema, our) && is_of_version(our.name.as_slice(), version))
+}
+
+/// Tells of a table of ours that is missing, or has other columns or keys.
+fn tell_other<E: Write>(err: &mut E, our: &Table) -> io::Result<()> {
+    let name = str::from_utf8(our.name.as_slice()).unwrap_or("?");
     writeln!(
         err,
-        "its tables are popbox's, but a row in them is no sound record"
+        "its table `{name}` is missing, or has other columns or keys than popbox's"
     )
 }
 
-/// Whether a table of ours holds groups, which a store of version 2 hasn't.
-fn is_of_groups(our: &Table) -> bool {
-    our.name.as_slice() == b"groups".as_slice() || our.name.as_slice() == b"members".as_slice()
+/// Tells which of our tables has a row that is no sound record.
+fn tell_row<S: Alter, E: Write>(
+    alloc: Global,
+    err: &mut E,
+    conn: &mut Connection<S>,
+) -> io::Result<()> {
+    match unsound_table(alloc, conn) {
+        Ok(Some(table)) => writeln!(err, "a row of its table `{table}` is no sound record"),
+        Ok(None) => writeln!(
+            err,
+            "its rows don't fit together: `rules` and `groups`, `deposits` and `counts`, or `mail` and `sheets`"
+        ),
+        Err(error) => writeln!(err, "{error}"),
+    }
+}
+
+/// Whether a store of a version has the table of ours that has this name: those of groups came with
+/// version 3, and those of messages with version 2.
+fn is_of_version(name: &[u8], version: i64) -> bool {
+    if name == b"groups".as_slice() || name == b"members".as_slice() {
+        return version == NEWEST;
+    }
+    if name == b"mail".as_slice() || name == b"sheets".as_slice() {
+        return version != OLDEST;
+    }
+    true
+}
+
+/// Whether a schema has a table by the name of version 1's messages.
+fn has_messages(schema: &Schema) -> bool {
+    let mut tables = schema.tables.as_slice().iter();
+    tables.any(|table| table.name.as_slice() == b"messages".as_slice())
 }
 
 /// Whether a schema has a table of ours, with the same columns and keys.

@@ -1,7 +1,7 @@
 //! What no clause says: that the calls succeed, each fault of a text at each kind of value, and the
 //! sample policy.
 use creds::Name;
-use policy::{Action, Actions, Decision, Effect, Pattern, Policy, PolicyFault, Rule};
+use policy::{Action, Actions, Clerks, Decision, Effect, Pattern, Policy, PolicyFault, Rule};
 use std::alloc::{AllocError, Global};
 use std::str;
 use std::test::Fail;
@@ -92,7 +92,7 @@ static USUAL: [(&str, &str); 6] = [
 ];
 
 /// A rule in which `setting` stands for the usual one of the key.
-fn rule_with(alloc: Global, changed: &str, setting: &str) -> Result<String, AllocError> {
+pub(super) fn rule_with(alloc: Global, changed: &str, setting: &str) -> Result<String, AllocError> {
     let mut text = String::from_str(alloc, "[[rule]]\n")?;
     for (key, usual) in &USUAL {
         if *key != changed {
@@ -105,7 +105,7 @@ fn rule_with(alloc: Global, changed: &str, setting: &str) -> Result<String, Allo
 
 /// Settings of a key, `#`, to values of each kind that TOML has, none of which any key of a rule
 /// takes, and two with the key as the name of a table, and of a table of a list.
-static WRONG: &str = r##"# = 3
+pub(super) static WRONG: &str = r##"# = 3
 # = 0x1F
 # = -1.5
 # = inf
@@ -128,7 +128,7 @@ static WRONG: &str = r##"# = 3
 "##;
 
 /// Fails with what is answered, unless it is what is wanted.
-fn expect(alloc: Global, text: &str, wanted: &str) -> Result<(), Fail> {
+pub(super) fn expect(alloc: Global, text: &str, wanted: &str) -> Result<(), Fail> {
     let said = answer(alloc, text)?;
     if said.as_str() == wanted {
         Ok(())
@@ -137,8 +137,8 @@ fn expect(alloc: Global, text: &str, wanted: &str) -> Result<(), Fail> {
     }
 }
 
-/// Texts that have no table of a rule, or a rule without its keys.
-static TEXTS: [(&str, &str); 14] = [
+/// Texts that have no table of a group or rule, or one without its keys.
+static TEXTS: [(&str, &str); 20] = [
     ("", "ok, 0 rules"),
     ("rule = []", "ok, 0 rules"),
     ("rule", "NotToml"),
@@ -153,17 +153,29 @@ static TEXTS: [(&str, &str); 14] = [
     ("x = 1\nx = 1", "NotToml"),
     ("rule = [{}]", "rule 1: MissingKey"),
     ("[[rule]]\nname = \"a\"\nother = 1", "rule 1: MissingKey"),
+    ("group = []\nrule = []", "ok, 0 rules"),
+    ("group", "NotToml"),
+    ("group = [{}]\nrule = 3", "NotToml"),
+    ("group = [{}, 1979-05-27]\nx = 1", "NotToml"),
+    ("group = [{}]\nx = 1", "rule 0: UnknownKey"),
+    ("rule = [{}]\ngroup = [{}]", "group 1: GroupKeys"),
 ];
 
-/// A value in the place of the rules, and of a key that no policy has.
-fn expect_at_the_top(alloc: Global, value: &str) -> Result<(), Fail> {
+/// A value at the top, where `keys` is the fault of an array of one table without keys.
+fn expect_tables(alloc: Global, key: &str, value: &str, keys: &str) -> Result<(), Fail> {
     let wanted = match value {
         " = []" => "ok, 0 rules",
-        " = [{}]" => "rule 1: MissingKey",
+        " = [{}]" => keys,
         _ => "NotToml",
     };
-    let text = format!(in alloc; "rule{value}")?;
-    expect(alloc, text.as_str(), wanted)?;
+    let text = format!(in alloc; "{key}{value}")?;
+    expect(alloc, text.as_str(), wanted)
+}
+
+/// A value in the place of the rules, of the groups, and of a key that no policy has.
+fn expect_at_the_top(alloc: Global, value: &str) -> Result<(), Fail> {
+    expect_tables(alloc, "rule", value, "rule 1: MissingKey")?;
+    expect_tables(alloc, "group", value, "group 1: GroupKeys")?;
     let text = format!(in alloc; "other{value}")?;
     expect(alloc, text.as_str(), "rule 0: UnknownKey")
 }
@@ -182,7 +194,12 @@ fn policy_text_faults(rt: HostRuntime) -> Result<(), Fail> {
 }
 
 /// Fails unless a rule with this setting in the place of the usual one of the key is answered so.
-fn expect_with(alloc: Global, key: &str, setting: &str, wanted: &str) -> Result<(), Fail> {
+pub(super) fn expect_rule_with(
+    alloc: Global,
+    key: &str,
+    setting: &str,
+    wanted: &str,
+) -> Result<(), Fail> {
     let text = rule_with(alloc, key, setting)?;
     expect(alloc, text.as_str(), wanted)
 }
@@ -196,7 +213,7 @@ fn expect_around(
     wanted: &str,
 ) -> Result<(), Fail> {
     let setting = format!(in alloc; "{front}{key}{back}")?;
-    expect_with(alloc, key, setting.as_str(), wanted)
+    expect_rule_with(alloc, key, setting.as_str(), wanted)
 }
 
 fn expect_values(alloc: Global, key: &str, wanted: &str) -> Result<(), Fail> {
@@ -211,8 +228,8 @@ fn expect_values(alloc: Global, key: &str, wanted: &str) -> Result<(), Fail> {
 /// A key that stands twice, and one that another stands for.
 fn expect_twice_and_without(alloc: Global, key: &str, usual: &str) -> Result<(), Fail> {
     let twice = format!(in alloc; "{key} = {usual}\n{key} = {usual}")?;
-    expect_with(alloc, key, twice.as_str(), "NotToml")?;
-    expect_with(alloc, key, "other = 1", "rule 1: MissingKey")
+    expect_rule_with(alloc, key, twice.as_str(), "NotToml")?;
+    expect_rule_with(alloc, key, "other = 1", "rule 1: MissingKey")
 }
 
 /// The keys, with the fault of each at a value that it doesn't take.
@@ -326,7 +343,7 @@ fn expect_behind(alloc: Global, settings: &str, wanted: &str) -> Result<(), Fail
 #[test]
 fn faults_of_a_rule(rt: HostRuntime) -> Result<(), Fail> {
     for (key, setting, wanted) in &SETTINGS {
-        expect_with(rt.alloc(), *key, *setting, *wanted)?;
+        expect_rule_with(rt.alloc(), *key, *setting, *wanted)?;
     }
     for (settings, wanted) in &MENDED {
         expect_behind(rt.alloc(), *settings, *wanted)?;
@@ -388,7 +405,7 @@ fn refused_growths(rt: HostRuntime) -> Result<(), Fail> {
     Ok(())
 }
 
-fn written(alloc: Global, policy: &Policy) -> Result<Vec<u8>, Fail> {
+pub(super) fn written(alloc: Global, policy: &Policy) -> Result<Vec<u8>, Fail> {
     let mut text = Vec::new(alloc);
     policy.write(&mut text)?;
     Ok(text)
@@ -396,7 +413,7 @@ fn written(alloc: Global, policy: &Policy) -> Result<Vec<u8>, Fail> {
 
 /// Whether a text is read, what is written of its copy is that text, and what is written of that,
 /// read again, is the same.
-fn is_read_and_written(alloc: Global, text: &str) -> Result<bool, Fail> {
+pub(super) fn is_read_and_written(alloc: Global, text: &str) -> Result<bool, Fail> {
     let policy = Policy::read(alloc, text)?.try_copy()?;
     let kept = written(alloc, &policy)?;
     let again = Policy::read(alloc, str::from_utf8(&kept)?)?;
@@ -429,7 +446,12 @@ fn name(text: &str) -> Result<Name, Fail> {
     Ok(Name::read(text.as_bytes()).ok_or("a name")?)
 }
 
-fn decision(policy: &Policy, clerk: &str, class: &str, action: &str) -> Result<Decision, Fail> {
+pub(super) fn decision(
+    policy: &Policy,
+    clerk: &str,
+    class: &str,
+    action: &str,
+) -> Result<Decision, Fail> {
     let clerk = name(clerk)?;
     let maildrop = name("orders")?;
     let class = name(class)?;
@@ -459,7 +481,7 @@ fn sample_policy(rt: HostRuntime) -> Result<(), Fail> {
 }
 
 /// How many rules of the sample policy are about the clerk and the maildrop.
-fn places(policy: &Policy, clerk: &str, maildrop: &str) -> Result<usize, Fail> {
+pub(super) fn places(policy: &Policy, clerk: &str, maildrop: &str) -> Result<usize, Fail> {
     Ok(policy.lane(&name(clerk)?, &name(maildrop)?).places())
 }
 
@@ -472,13 +494,31 @@ fn sample_lanes(rt: HostRuntime) -> Result<(), Fail> {
     Ok(())
 }
 
-/// The clerk of the rule of a number: some rules are about all.
+/// The clerk of the rule of a number: some rules are about all, and some about a group.
 fn clerk_of(alloc: Global, n: usize) -> Result<String, AllocError> {
     if n % 50 == 49 {
         return String::from_str(alloc, "*");
     }
+    if n % 3 == 1 {
+        let group = n % 8;
+        return format!(in alloc; "@g{group}");
+    }
     let clerk = n % 40;
     format!(in alloc; "c{clerk}")
+}
+
+/// Puts eight groups into a policy's text, with some clerks in none, in one, in two, and c39 in all.
+fn put_groups(text: &mut String) -> Result<(), AllocError> {
+    for n in 0..8usize {
+        let next = n.saturating_add(8);
+        let other = 15usize.saturating_sub(n);
+        let last = n.saturating_add(20);
+        writeln!(
+            text,
+            "[[group]]\nname = \"g{n}\"\nmembers = [\"c{n}\", \"c{next}\", \"c{other}\", \"c{last}\", \"c39\"]"
+        )?;
+    }
+    Ok(())
 }
 
 /// The maildrop of the rule of a number: some rules are about all.
@@ -501,9 +541,10 @@ fn rest_of(n: usize) -> &'static str {
     }
 }
 
-/// A policy of a thousand rules about 40 clerks, 30 maildrops, and all.
+/// A policy of a thousand rules about 40 clerks, eight groups of them, 30 maildrops, and all.
 fn a_thousand_rules(alloc: Global) -> Result<Policy, Fail> {
     let mut text = String::new(alloc);
+    put_groups(&mut text)?;
     for n in 0..1000usize {
         let clerk = clerk_of(alloc, n)?;
         let maildrop = maildrop_of(alloc, n)?;
@@ -520,6 +561,24 @@ fn fits(pattern: &Pattern, name: &Name) -> bool {
     match pattern {
         Pattern::Any => true,
         Pattern::Is(wanted) => wanted == name,
+    }
+}
+
+/// Whether a group of this name has the clerk.
+fn has_member(policy: &Policy, group: &Name, clerk: &Name) -> bool {
+    for one in policy.groups() {
+        if one.name() == group {
+            return one.members().iter().any(|member| member == clerk);
+        }
+    }
+    false
+}
+
+fn are_with(policy: &Policy, clerks: &Clerks, clerk: &Name) -> bool {
+    match clerks {
+        Clerks::Any => true,
+        Clerks::Is(wanted) => wanted == clerk,
+        Clerks::MembersOf(group) => has_member(policy, group, clerk),
     }
 }
 
@@ -542,10 +601,9 @@ fn walked(
 ) -> Option<Rule> {
     for rule in policy.rules() {
         let fits_class = action == Action::Open || fits(&rule.class, class);
-        if fits(&rule.clerk, clerk) && fits(&rule.maildrop, maildrop) && fits_class {
-            if is_listed(rule.actions, action) {
-                return Some(*rule);
-            }
+        let fits_rest = fits(&rule.maildrop, maildrop) && fits_class;
+        if fits_rest && is_listed(rule.actions, action) && are_with(policy, &rule.clerk, clerk) {
+            return Some(*rule);
         }
     }
     None
@@ -587,8 +645,8 @@ fn lanes_agree(alloc: Global, policy: &Policy, clerk: usize) -> Result<bool, Fai
     Ok(true)
 }
 
-/// Of a thousand rules, the lane of each clerk and maildrop, also of one that no rule names,
-/// decides as a walk over all rules.
+/// Of a thousand rules, the lane of each clerk and maildrop, also of one that no rule and no group
+/// names, decides as a walk over all rules.
 #[test]
 fn lanes_of_a_thousand_rules(rt: HostRuntime) -> Result<(), Fail> {
     let policy = a_thousand_rules(rt.alloc())?;

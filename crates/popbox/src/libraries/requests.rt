@@ -9,7 +9,7 @@ use std::test::Fail;
 use vault::PlainVault;
 
 /// Requests, each with its refusal.
-static REFUSED: [(&str, Refusal); 18] = [
+static REFUSED: [(&str, Refusal); 20] = [
     ("bad\r\n\r\n", Refusal::BadRequest),
     ("\r\n\n GET /maildrops HTTP/1.1\n\n", Refusal::BadRequest),
     ("\r\r\nGET /maildrops HTTP/1.1\n\n", Refusal::BadRequest),
@@ -28,6 +28,11 @@ static REFUSED: [(&str, Refusal); 18] = [
         "POST /policy HTTP/1.1\r\n\r\n",
         Refusal::NotAllowed(Route::Policy),
     ),
+    (
+        "PUT /groups HTTP/1.1\r\n\r\n",
+        Refusal::NotAllowed(Route::Groups),
+    ),
+    ("GET /groups/sales HTTP/1.1\r\n\r\n", Refusal::NotFound),
     (
         "HEAD /maildrops/a HTTP/1.0\n\n",
         Refusal::NotAllowed(Route::Maildrop),
@@ -143,6 +148,12 @@ fn method_not_allowed(rt: HostRuntime) -> Result<(), Fail> {
             "HTTP/1.1 405 Method Not Allowed\r\nContent-Type: text/plain\r\nAllow: GET, PUT\r\nContent-Length: 19\r\nConnection: close\r\n\r\nmethod not allowed\n"
         )
     );
+    assert!(rt;
+        allows(
+            &Refusal::NotAllowed(Route::Groups),
+            "HTTP/1.1 405 Method Not Allowed\r\nContent-Type: text/plain\r\nAllow: GET\r\nContent-Length: 19\r\nConnection: close\r\n\r\nmethod not allowed\n"
+        )
+    );
     Ok(())
 }
 
@@ -173,8 +184,31 @@ fn policy_with_a_fault(rt: HostRuntime) -> Result<(), Fail> {
     Ok(())
 }
 
+/// Policies with a fault of a group, and the fault's text.
+static GROUP_FAULTS: [(&str, &str); 2] = [
+    (
+        "PUT /policy HTTP/1.1\r\nContent-Length: 38\r\n\r\n[[group]]\nname = \"sales\"\nmembers = []\n",
+        "group 1: GroupMembers\n",
+    ),
+    (
+        "PUT /policy HTTP/1.1\r\nContent-Length: 99\r\n\r\n[[rule]]\nname = \"a\"\neffect = \"allow\"\nclerk = \"@none\"\nmaildrop = \"*\"\nclass = \"*\"\nactions = [\"open\"]\n",
+        "rule 1: UnknownGroup\n",
+    ),
+];
+
+#[test]
+fn policies_with_a_fault_of_a_group(rt: HostRuntime) -> Result<(), Fail> {
+    let alloc = rt.alloc();
+    for (asked, body) in &GROUP_FAULTS {
+        let told = told_fault(alloc, asked.as_bytes()).ok_or("no fault")?;
+        assert!(rt; told.starts_with(b"HTTP/1.1 400 Bad Request\r\n"), "{body}");
+        assert!(rt; told.ends_with(body.as_bytes()), "{body}");
+    }
+    Ok(())
+}
+
 /// Requests to an office, each with the response.
-static ANSWERED: [(&str, &str); 12] = [
+static ANSWERED: [(&str, &str); 16] = [
     (
         "PUT /maildrops/sales HTTP/1.1\r\n\r\n",
         "HTTP/1.1 201 Created\r\nContent-Type: text/plain\r\nContent-Length: 6\r\nConnection: close\r\n\r\nadded\n",
@@ -210,6 +244,22 @@ static ANSWERED: [(&str, &str); 12] = [
     (
         "GET /explain/bob/orders/pay/read HTTP/1.1\r\n\r\n",
         "HTTP/1.1 200 OK\r\nContent-Type: text/plain\r\nContent-Length: 24\r\nConnection: close\r\n\r\ndeny by rule bob-no-pay\n",
+    ),
+    (
+        "GET /groups HTTP/1.1\r\n\r\n",
+        "HTTP/1.1 200 OK\r\nContent-Type: text/plain\r\nContent-Length: 0\r\nConnection: close\r\n\r\n",
+    ),
+    (
+        "PUT /policy HTTP/1.1\r\nContent-Length: 160\r\n\r\n[[group]]\nname = \"sales\"\nmembers = [\"ann\", \"bob\"]\n[[rule]]\nname = \"s-open\"\neffect = \"allow\"\nclerk = \"@sales\"\nmaildrop = \"orders\"\nclass = \"*\"\nactions = [\"open\"]\n",
+        "HTTP/1.1 200 OK\r\nContent-Type: text/plain\r\nContent-Length: 8\r\nConnection: close\r\n\r\n1 rules\n",
+    ),
+    (
+        "GET /groups HTTP/1.1\r\n\r\n",
+        "HTTP/1.1 200 OK\r\nContent-Type: text/plain\r\nContent-Length: 8\r\nConnection: close\r\n\r\nsales 2\n",
+    ),
+    (
+        "GET /explain/bob/orders/note/open HTTP/1.1\r\n\r\n",
+        "HTTP/1.1 200 OK\r\nContent-Type: text/plain\r\nContent-Length: 21\r\nConnection: close\r\n\r\nallow by rule s-open\n",
     ),
     (
         "GET /sessions HTTP/1.1\r\n\r\n",

@@ -19,8 +19,16 @@ const RULE: &str = "[[rule]]\nname = \"ann-all\"\neffect = \"allow\"\nclerk = \"
 const RULE_LINE: &str =
     r#"policy [[rule]]\nname = "ann-all"\neffect = "allow"\nclerk = "ann"\nmaildrop = "*"\nclass = "*"\nactions = ["open", "read", "remove"]\n"#;
 
+/// Groups without a rule, as a body.
+const GROUPS: &str = "[[group]]\nname = \"sales\"\nmembers = [\"ann\", \"bob\"]\n\
+    [[group]]\nname = \"books\"\nmembers = [\"cat\"]\n";
+
+/// The same, as a line.
+const GROUPS_LINE: &str =
+    r#"policy [[group]]\nname = "sales"\nmembers = ["ann", "bob"]\n[[group]]\nname = "books"\nmembers = ["cat"]\n"#;
+
 /// Commands to an office without maildrops.
-static FIRST: [Row; 21] = [
+static FIRST: [Row; 26] = [
     ("PUT /maildrops/orders", None, "maildrop add orders"),
     ("PUT /maildrops/orders", None, "maildrop add orders"),
     ("PUT /maildrops/sales", None, "maildrop add sales"),
@@ -47,6 +55,11 @@ static FIRST: [Row; 21] = [
     ),
     ("GET /clerks/bob", None, "clerk show bob"),
     ("GET /clerks/zoe", None, "clerk show zoe"),
+    ("GET /groups", None, "groups"),
+    ("PUT /policy", Some(GROUPS), GROUPS_LINE),
+    ("GET /groups", None, "groups"),
+    ("GET /policy", None, "policy"),
+    ("PUT /policy", Some("group = [{}]"), "policy group = [{}]"),
     ("PUT /policy", Some(RULE), RULE_LINE),
     ("GET /policy", None, "policy"),
     ("PUT /policy", Some("x = 1"), "policy x = 1"),
@@ -167,13 +180,14 @@ fn told_by_replay(alloc: Global) -> Result<String, Fail> {
 }
 
 /// What some are answered, as the formats give it.
-static SOME: [&str; 6] = [
+static SOME: [&str; 7] = [
     "answer added\nanswer was there\nanswer added\nanswer orders 0 0\nanswer sales 0 0\nanswer\n",
     "answer rule 0: UnknownKey\nanswer allow by rule ann-all\nanswer deny by rule default\nanswer\n",
     "answer new note.1\nanswer 1 ann orders\nanswer orders 1 4\nanswer sales 0 0\nanswer note.1 4\n",
     "answer in use\nanswer ended\nanswer no such session\nanswer not empty\nanswer dropped\n",
     "answer no such maildrop\nanswer dropped\nanswer no such clerk\nanswer 0 rules\n",
-    "answer apop\nanswer replaced\nanswer pass\nanswer no such clerk\nanswer 1 rules\n",
+    "answer apop\nanswer replaced\nanswer pass\nanswer no such clerk\nanswer\nanswer 0 rules\n",
+    "answer sales 2\nanswer books 1\nanswer [[group]]\nanswer name = \"sales\"\nanswer members = [\"ann\", \"bob\"]\n",
 ];
 
 #[test]

@@ -22,7 +22,7 @@ static NO_SESSIONS: &[u8] =
 static BEGUN: &[u8] = b"GET /sessions HTTP/1.1\r\n";
 
 /// Requests, each with the first line of its response and its body, on an office that has seen those above it.
-pub(super) static ROWS: [(&str, &str, &str); 13] = [
+pub(super) static ROWS: [(&str, &str, &str); 15] = [
     (
         "PUT /maildrops/orders HTTP/1.1\r\n\r\n",
         "HTTP/1.1 201 Created\r\n",
@@ -67,6 +67,16 @@ pub(super) static ROWS: [(&str, &str, &str); 13] = [
         "POST /policy HTTP/1.1\r\n\r\n",
         "HTTP/1.1 405 Method Not Allowed\r\n",
         "Allow: GET, PUT\r\nContent-Length: 19\r\nConnection: close\r\n\r\nmethod not allowed\n",
+    ),
+    (
+        "PUT /policy HTTP/1.1\r\nContent-Length: 50\r\n\r\n[[group]]\nname = \"sales\"\nmembers = [\"ann\", \"bob\"]\n",
+        "HTTP/1.1 200 OK\r\n",
+        "Content-Length: 8\r\nConnection: close\r\n\r\n0 rules\n",
+    ),
+    (
+        "GET /groups HTTP/1.1\r\n\r\n",
+        "HTTP/1.1 200 OK\r\n",
+        "Content-Length: 8\r\nConnection: close\r\n\r\nsales 2\n",
     ),
     (
         "GET /explain/bob/orders/pay/read HTTP/1.1\r\n\r\n",
@@ -114,7 +124,7 @@ fn rows_in_pieces(alloc: Global, piece: usize, count: u32) -> Result<bool, Fail>
 
 #[test]
 fn rows_of_the_administration(rt: HostRuntime) -> Result<(), Fail> {
-    assert!(rt; rows_in_pieces(rt.alloc(), 1, 90)?);
+    assert!(rt; rows_in_pieces(rt.alloc(), 1, 100)?);
     assert!(rt; rows_in_pieces(rt.alloc(), 7, 20)?);
     assert!(rt; rows_in_pieces(rt.alloc(), 4096, 1)?);
     Ok(())

@@ -10,11 +10,19 @@ use std::str;
 use std::test::Fail;
 use vault::{Deposited, Head, MessageKey, PlainVault, Refusing, Total, Vault, VaultFault};
 
-/// A policy of one rule, as it is written.
-const RULE: &str = r#"[[rule]]
-name = "ann-all"
+/// A policy of two groups and a rule about one of them, as it is written.
+const POLICY: &str = r#"[[group]]
+name = "sales"
+members = ["bob", "ann"]
+
+[[group]]
+name = "books"
+members = ["cat"]
+
+[[rule]]
+name = "sales-all"
 effect = "allow"
-clerk = "ann"
+clerk = "@sales"
 maildrop = "orders"
 class = "*"
 actions = ["open", "read", "remove"]
@@ -104,7 +112,7 @@ static STORY: [(Call, &str); 44] = [
     (Call::Credential("ann"), "pass 7"),
     (Call::Credential("bob"), "none"),
     (Call::SetPolicy, "done"),
-    (Call::Policy, RULE),
+    (Call::Policy, POLICY),
     (Call::Put("ann", "s3 cret"), "known"),
     (Call::Credential("ann"), "apop s3 cret"),
 ];
@@ -276,7 +284,7 @@ fn said_of_office<V: Vault>(alloc: Global, vault: &mut V, call: Call) -> Result<
             Ok(String::from_str(alloc, word)?)
         }
         Call::DropClerk(clerk) => said_of_done(alloc, vault.drop_clerk(&name(clerk)?)),
-        Call::SetPolicy => said_of_done(alloc, vault.set_policy(&Policy::read(alloc, RULE)?)),
+        Call::SetPolicy => said_of_done(alloc, vault.set_policy(&Policy::read(alloc, POLICY)?)),
         _ => said_of_policy(alloc, vault.policy()),
     }
 }
@@ -381,7 +389,7 @@ static EACH: [(Call, &str); 12] = [
     (Call::Credential("ann"), "apop s3 cret"),
     (Call::DropClerk("ann"), "done"),
     (Call::SetPolicy, "done"),
-    (Call::Policy, RULE),
+    (Call::Policy, POLICY),
 ];
 
 /// Makes the calls over a store that refuses the one of this number, and that one again: fails

@@ -1,6 +1,8 @@
 //! Where the lines of a log go.
+use super::pipe::takes_a_line;
 use jiff::Timestamp;
 use std::alloc::{AllocError, Global};
+use std::cell::Cell;
 use std::io::Write;
 use std::time::Clock;
 
@@ -9,12 +11,13 @@ use std::time::Clock;
 pub struct Journal<'a> {
     rt: &'a HostRuntime,
     is_on: bool,
+    lost: &'a Cell<u64>,
 }
 
 impl<'a> Journal<'a> {
-    /// A journal that writes its lines, or drops them.
-    pub fn new(rt: &'a HostRuntime, is_on: bool) -> Journal<'a> {
-        Journal { rt, is_on }
+    /// A journal that writes its lines, or drops them. It counts those that it lost.
+    pub fn new(rt: &'a HostRuntime, is_on: bool, lost: &'a Cell<u64>) -> Journal<'a> {
+        Journal { rt, is_on, lost }
     }
 
     /// Whether lines are written.
@@ -28,15 +31,29 @@ impl<'a> Journal<'a> {
     }
 
     /// Writes a line by one write: the moment in UTC, to a second, a space, the text and LF. A line
-    /// that can't be put together or written is lost.
+    /// that can't be put together or written at once is lost; before the next one that can be
+    /// stands how many were lost.
     pub fn note(&self, text: Result<String, AllocError>) {
         if !self.is_on {
             return;
         }
+        let lost = self.lost.get();
+        if lost > 0 && self.write(format!(in self.alloc(); "event=lost lines={lost}")) {
+            self.lost.set(0);
+        }
+        if self.lost.get() > 0 || !self.write(text) {
+            self.lost.set(self.lost.get().saturating_add(1));
+        }
+    }
+
+    /// Writes the line of a text. Tells whether it is written.
+    fn write(&self, text: Result<String, AllocError>) -> bool {
         if let Ok(text) = text
             && let Ok(line) = self.line(text.as_str())
         {
-            let _ = self.rt.stderr().write(line.as_bytes());
+            takes_a_line(self.rt) && self.rt.stderr().write(line.as_bytes()).is_ok()
+        } else {
+            false
         }
     }
 

@@ -14,7 +14,7 @@ fn is_route(first: &[u8], parts: usize) -> bool {
     if first == b"clerks".as_slice() {
         return parts == 2;
     }
-    if first == b"policy".as_slice() {
+    if first == b"policy".as_slice() || first == b"groups".as_slice() {
         return parts == 1;
     }
     first == b"explain".as_slice() && parts == 5

@@ -2,6 +2,7 @@
 ghost use Rattle.std.specs.Prelude.{◌≡◌};
 
 use super::journal::{Journal, Told};
+use super::seen::Seen;
 use creds::{Credential, DepositId, Name};
 use mailtext::MailText;
 use policy::Policy;
@@ -15,6 +16,7 @@ pub struct LoggedVault<'a, V: Vault> {
     pub vault: V,
     pub journal: Journal<'a>,
     pub told: Told,
+    pub seen: Seen,
 }
 
 /// Whether a fault is a refusal of the store or of memory, and not an answer.
@@ -115,15 +117,20 @@ fn note_deposit(
     }
 }
 
-/// Notes a removal.
+/// Notes a removal, and the unique-ids of what was removed.
 fn note_removal(
     journal: Journal<'_>,
+    seen: &Seen,
     maildrop: &Name,
-    messages: usize,
+    keys: &[MessageKey],
     answer: &Result<(), VaultFault>,
 ) {
-    if journal.is_on() {
-        journal.note(removal_text(journal.alloc(), maildrop, messages, answer));
+    if !journal.is_on() {
+        return;
+    }
+    journal.note(removal_text(journal.alloc(), maildrop, keys.len(), answer));
+    if answer.is_ok() {
+        seen.note_removed(&journal, maildrop, keys);
     }
 }
 
@@ -134,6 +141,7 @@ impl<'a, V: Vault> LoggedVault<'a, V> {
             vault,
             journal,
             told: Told::new(journal.alloc()),
+            seen: Seen::new(journal.alloc()),
         }
     }
 
@@ -143,6 +151,7 @@ impl<'a, V: Vault> LoggedVault<'a, V> {
             vault,
             journal: _,
             told: _,
+            seen: _,
         } = self;
         vault
     }
@@ -178,7 +187,7 @@ impl<V: Vault> Vault for LoggedVault<'_, V> {
 
     fn remove(&mut self, maildrop: &Name, keys: &[MessageKey]) -> Result<(), VaultFault> {
         let answer = self.vault.remove(maildrop, keys);
-        note_removal(self.journal, maildrop, keys.len(), &answer);
+        note_removal(self.journal, &self.seen, maildrop, keys, &answer);
         answer
     }
 
@@ -189,6 +198,7 @@ impl<V: Vault> Vault for LoggedVault<'_, V> {
 
     fn heads(&mut self, maildrop: &Name) -> Result<Vec<Head>, VaultFault> {
         let answer = self.vault.heads(maildrop);
+        self.seen.remember(self.journal, maildrop, &answer);
         told(&self.journal, "heads", answer)
     }
 
