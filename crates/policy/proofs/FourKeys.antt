@@ -1,6 +1,7 @@
 -- The keys that a rule about a clerk and a maildrop may have: without a group both names, one of them with `*`, and `*` twice;
 -- with a group the maildrop's name, and `*`.
-use Rattle.std.proofs.Common.{◌≡◌, ℕ, ◌+◌, Bool, true, false, ◌&&◌, ◌||◌, List, [], ◌∷◌, length, min, refl, sym, ap, ◌∙◌, arith, true≢false, ◌<◌, ◌++◌, take, get_or}
+use Rattle.std.proofs.Common.{◌≡◌, ℕ, ◌+◌, Bool, true, false, ◌&&◌, ◌||◌, List, [], ◌∷◌, length, min, refl, sym, ap, ◌∙◌, arith, ◌<◌, ◌++◌, cond, take, get_or}
+use Rattle.std.specs.Prelude.{filter}
 use Rattle.std.specs.List.{list_any}
 use Rattle.std.proofs.lemmas.List.{take_more}
 use Rattle.std.proofs.lemmas.List.Folds.{list_any-append}
@@ -155,54 +156,58 @@ none_passes : (n : ℕ) (rules : List Rule) → place_from (λ r. false) n rules
 none_passes n [] = omega arith
 none_passes n (r ∷ rules) = none_passes (n + 1) rules ∙ omega arith
 
+-- a rule about one of these groups
+about_any : (d : List ℕ) → List Group → Rule → Bool
+about_any d own r = list_any (λ g. is_about_group g.name d r) own
+
 -- no group
-pub groups-none : (c d : List ℕ) (q : Rule → Bool) (rules : List Rule) → length rules ≡ place_from (λ r. is_about_groups [] c d r && q r) 0 rules
-groups-none c d q rules = sym (none_passes 0 rules ∙ omega arith)
+pub own-none : (own : List Group) (d : List ℕ) (q : Rule → Bool) (rules : List Rule) → length rules ≡ place_from (λ r. list_any (λ (g : Group). is_about_group g.name d r) (take 0 own) && q r) 0 rules
+own-none own d q rules = sym (none_passes 0 rules ∙ omega arith)
 
-more : (groups : List Group) (g : Group) (c d : List ℕ) (r : Rule) → is_about_groups (groups ++ g ∷ []) c d r ≡ (is_about_groups groups c d r || (has_member g c && is_about_group g.name d r))
-more groups g c d r = list_any-append (λ (h : Group). has_member h c && is_about_group h.name d r) groups (g ∷ []) ∙ at (is_about_groups groups c d r) (has_member g c && is_about_group g.name d r)
-  where
-    at : (a b : Bool) → (a || (b || false)) ≡ (a || b)
-    at true b = refl
-    at false true = refl
-    at false false = refl
-
--- one more, of which the clerk is a member
-pub groups-with : (groups : List Group) (i : ℕ) (g : Group) (c d : List ℕ) (q : Rule → Bool) (rules : List Rule) → i < length groups → has_member (get_or groups i g) c ≡ true
-    → place_from (λ r. is_about_groups (take (i + 1) groups) c d r && q r) 0 rules
-    ≡ min (place_from (λ r. is_about_groups (take i groups) c d r && q r) 0 rules) (place_from (λ r. is_about_group (get_or groups i g).name d r && q r) 0 rules)
-groups-with groups i g c d q rules lt is =
-    let x = get_or groups i g in
-    let before = take i groups in
-    let p1 : Rule → Bool = λ r. is_about_groups before c d r && q r in
+-- one group more
+pub own-more : (own : List Group) (i : ℕ) (g : Group) (d : List ℕ) (q : Rule → Bool) (rules : List Rule) → i < length own
+    → place_from (λ r. list_any (λ (h : Group). is_about_group h.name d r) (take (i + 1) own) && q r) 0 rules
+    ≡ min (place_from (λ r. list_any (λ (h : Group). is_about_group h.name d r) (take i own) && q r) 0 rules) (place_from (λ r. is_about_group (get_or own i g).name d r && q r) 0 rules)
+unfolding about_any
+own-more own i g d q rules lt =
+    let x = get_or own i g in
+    let before = take i own in
+    let p1 : Rule → Bool = λ r. about_any d before r && q r in
     let p2 : Rule → Bool = λ r. is_about_group x.name d r && q r in
-    rw (take_more groups i g lt) (place_from-congr (λ r. is_about_groups (before ++ x ∷ []) c d r && q r) (λ r. p1 r || p2 r) each 0 rules ∙ place_from-or p1 p2 0 rules)
+    rw (take_more own i g lt) (place_from-congr (λ r. about_any d (before ++ x ∷ []) r && q r) (λ r. p1 r || p2 r) each 0 rules ∙ place_from-or p1 p2 0 rules)
   where
-    at : (a m b e : Bool) → m ≡ true → ((a || (m && b)) && e) ≡ ((a && e) || (b && e))
-    at true true true true h = refl
-    at true true false true h = refl
-    at true true true false h = refl
-    at true true false false h = refl
-    at false true b e h = refl
-    at a false b e h = absurd (true≢false (sym h))
+    at : (a b e : Bool) → ((a || (b || false)) && e) ≡ ((a && e) || (b && e))
+    at true true true = refl
+    at true true false = refl
+    at true false true = refl
+    at true false false = refl
+    at false true true = refl
+    at false true false = refl
+    at false false e = refl
 
-    each : (r : Rule) → (is_about_groups (take i groups ++ get_or groups i g ∷ []) c d r && q r)
-        ≡ ((is_about_groups (take i groups) c d r && q r) || (is_about_group (get_or groups i g).name d r && q r))
-    each r = ap (λ (b : Bool). b && q r) (more (take i groups) (get_or groups i g) c d r) ∙ at (is_about_groups (take i groups) c d r) (has_member (get_or groups i g) c) (is_about_group (get_or groups i g).name d r) (q r) is
+    each : (r : Rule) → (about_any d (take i own ++ get_or own i g ∷ []) r && q r) ≡ ((about_any d (take i own) r && q r) || (is_about_group (get_or own i g).name d r && q r))
+    each r =
+        ap (λ (b : Bool). b && q r) (list_any-append (λ (h : Group). is_about_group h.name d r) (take i own) (get_or own i g ∷ []))
+        ∙ at (about_any d (take i own) r) (is_about_group (get_or own i g).name d r) (q r)
 
--- one more, of which the clerk is no member
-pub groups-without : (groups : List Group) (i : ℕ) (g : Group) (c d : List ℕ) (q : Rule → Bool) (rules : List Rule) → i < length groups → has_member (get_or groups i g) c ≡ false
-    → place_from (λ r. is_about_groups (take (i + 1) groups) c d r && q r) 0 rules ≡ place_from (λ r. is_about_groups (take i groups) c d r && q r) 0 rules
-groups-without groups i g c d q rules lt is =
-    rw (take_more groups i g lt) (place_from-congr (λ r. is_about_groups (take i groups ++ get_or groups i g ∷ []) c d r && q r) (λ r. is_about_groups (take i groups) c d r && q r) each 0 rules)
+-- of all groups those of the clerk's
+about_own : (groups : List Group) (c d : List ℕ) (r : Rule) → list_any (λ (g : Group). is_about_group g.name d r) (filter (λ (g : Group). has_member g c) groups) ≡ is_about_groups groups c d r
+about_own [] c d r = refl
+about_own (g ∷ groups) c d r = at (has_member g c) (about_own groups c d r)
   where
-    at : (a m b e : Bool) → m ≡ false → ((a || (m && b)) && e) ≡ (a && e)
-    at true m b e h = refl
-    at false false b e h = refl
-    at false true b e h = absurd (true≢false h)
+    at : (b : Bool) → list_any (λ (h : Group). is_about_group h.name d r) (filter (λ (h : Group). has_member h c) groups) ≡ is_about_groups groups c d r
+        → list_any (λ (h : Group). is_about_group h.name d r) (cond b (g ∷ filter (λ (h : Group). has_member h c) groups) (filter (λ (h : Group). has_member h c) groups))
+        ≡ ((b && is_about_group g.name d r) || is_about_groups groups c d r)
+    at true e = ap (λ (x : Bool). is_about_group g.name d r || x) e
+    at false e = e
 
-    each : (r : Rule) → (is_about_groups (take i groups ++ get_or groups i g ∷ []) c d r && q r) ≡ (is_about_groups (take i groups) c d r && q r)
-    each r = ap (λ (b : Bool). b && q r) (more (take i groups) (get_or groups i g) c d r) ∙ at (is_about_groups (take i groups) c d r) (has_member (get_or groups i g) c) (is_about_group (get_or groups i g).name d r) (q r) is
+-- the first rule about one of the clerk's groups
+pub own-all : (groups : List Group) (c d : List ℕ) (q : Rule → Bool) (rules : List Rule)
+    → place_from (λ r. list_any (λ (g : Group). is_about_group g.name d r) (filter (λ (g : Group). has_member g c) groups) && q r) 0 rules
+    ≡ place_from (λ r. is_about_groups groups c d r && q r) 0 rules
+own-all groups c d q rules =
+    place_from-congr (λ r. list_any (λ (g : Group). is_about_group g.name d r) (filter (λ (g : Group). has_member g c) groups) && q r) (λ r. is_about_groups groups c d r && q r)
+    (λ r. ap (λ (b : Bool). b && q r) (about_own groups c d r)) 0 rules
 
 -- ---- all
 

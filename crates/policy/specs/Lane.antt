@@ -1,7 +1,9 @@
 -- The rules about one clerk and one maildrop.
-use Rattle.std.specs.Prelude.{◌≡◌, ℕ, Bool, true, false, ◌&&◌, List, filter}
+use Rattle.std.specs.Prelude.{◌≡◌, ◌≤◌, ℕ, Bool, true, false, ◌&&◌, List, filter, map, take, length}
 use Rattle.std.specs.List.{list_any}
 use Rattle.std.specs.Str.{bytes_eq}
+use Rattle.policy.specs.declared.group_starts.GroupStart.{GroupStart}
+use Rattle.policy.specs.declared.group_starts.GroupStarts.{GroupStarts}
 use Rattle.policy.specs.declared.index.Starts.{Starts}
 use Rattle.policy.specs.declared.rule.Action.{Action}
 use Rattle.policy.specs.declared.rule.Clerks.{Clerks}
@@ -58,3 +60,16 @@ pub record AreStarts (clerk maildrop : List ℕ) (rules : List Rule) (s : Starts
   pub one_clerk : s.clerk ≡ start_of rules (clerks.Is clerk) Any
   pub one_maildrop : s.maildrop ≡ start_of rules clerks.Any (Is maildrop)
   pub all : s.all ≡ start_of rules clerks.Any Any
+
+-- where the rules about a group and a maildrop begin: those of the maildrop's name, and those of `*`
+abbrev pub group_start : List Rule → (maildrop group : List ℕ) → GroupStart
+group_start rules maildrop group = record { maildrop = start_of rules (clerks.MembersOf group) (Is maildrop); all = start_of rules (clerks.MembersOf group) Any }
+
+-- the same of each group that the clerk is a member of, in the groups' order
+abbrev pub group_starts : List Group → (clerk maildrop : List ℕ) → List Rule → List GroupStart
+group_starts groups clerk maildrop rules = map (λ g. group_start rules maildrop g.name) (filter (λ g. has_member g clerk) groups)
+
+-- what is kept of the clerk's groups is where their rules begin
+pub record AreGroupStarts (groups : List Group) (clerk maildrop : List ℕ) (rules : List Rule) (s : GroupStarts) : Type 0 where
+  pub fit : s.len ≤ length s.starts
+  pub are : take s.len s.starts ≡ group_starts groups clerk maildrop rules

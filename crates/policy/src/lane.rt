@@ -5,6 +5,7 @@ ghost use Rattle.policy.specs.Policy.{decide};
 
 use crate::decide::{Decision, clerk_fits, decided_at, pattern_fits};
 use crate::group::Group;
+use crate::group_starts::GroupStarts;
 use crate::index::Starts;
 use crate::policy::Policy;
 use crate::rule::{Action, Rule};
@@ -14,24 +15,28 @@ use std::marker::Model;
 
 /// The rules of a policy that are about one clerk and one maildrop. It takes no memory.
 ///
-/// What it decides costs time by the number of these rules, however many others the policy has, and
-/// by the number of the groups' members.
+/// It is made in the time of one search through all groups' members, and of a few look-ups, two of
+/// them for each group that the clerk is in. What it then decides costs time by the number of these
+/// groups and of the lane's rules, however many other rules the policy has, and however many groups
+/// and members.
 #[derive(Drop)]
 pub struct Lane<'a> {
     pub(crate) policy: &'a Policy,
     pub(crate) clerk: Name,
     pub(crate) maildrop: Name,
     pub(crate) starts: Starts,
+    pub(crate) group_starts: GroupStarts,
 }
 
 impl<'a> Model for Lane<'a> {
-    ghost use Rattle.policy.specs.Lane.{AreStarts, Lane};
+    ghost use Rattle.policy.specs.Lane.{AreGroupStarts, AreStarts, Lane};
 
     ghost Value = { Lane };
 
     ghost view = { λ l. record { policy = l.policy.now; clerk = l.clerk; maildrop = l.maildrop } };
 
-    ghost invariant = { λ l. AreStarts l.clerk l.maildrop l.policy.now.rules l.starts };
+    ghost invariant = { λ l. AreStarts l.clerk l.maildrop l.policy.now.rules l.starts
+        × AreGroupStarts l.policy.now.groups l.clerk l.maildrop l.policy.now.rules l.group_starts };
 }
 
 fn is_about(groups: &[Group], clerk: &Name, maildrop: &Name, rule: &Rule) -> bool
@@ -65,9 +70,7 @@ impl<'a> Lane<'a> {
         let grouped = first_by_group(
             &policy.index,
             &policy.rules,
-            &policy.groups,
-            &self.clerk,
-            &self.maildrop,
+            self.group_starts.as_slice(),
             class,
             action,
         );

@@ -8,6 +8,7 @@
 mod decide;
 mod fault;
 mod group;
+mod group_starts;
 mod index;
 mod key;
 mod lane;

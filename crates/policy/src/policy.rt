@@ -7,6 +7,7 @@ ghost use Rattle.policy.specs.WrittenText.{policy_text};
 use crate::decide::Decision;
 use crate::fault::PolicyFault;
 use crate::group::{Group, copies_of};
+use crate::group_starts::group_starts_of;
 use crate::index::{Index, index_of, no_index, starts_of};
 use crate::lane::Lane;
 use crate::read::read_text;
@@ -167,6 +168,7 @@ impl Policy {
             clerk: *clerk,
             maildrop: *maildrop,
             starts: starts_of(&self.index, clerk, maildrop),
+            group_starts: group_starts_of(&self.index, &self.groups, clerk, maildrop),
         }
     }
 

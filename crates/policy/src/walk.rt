@@ -2,13 +2,13 @@
 ghost use Rattle.std.specs.Prelude.{◌≡◌, List, ℕ, ◌&&◌};
 ghost use Rattle.policy.specs.declared.key.Key.{Key};
 ghost use Rattle.policy.specs.Index.{IsIndexOf, has_key, place_from};
-ghost use Rattle.policy.specs.Lane.{AreStarts, is_about_action, is_about_group, is_about_groups, is_about_one};
-ghost use Rattle.policy.specs.Policy.{fits_class, lists};
+ghost use Rattle.policy.specs.Lane.{AreStarts, group_start, group_starts, is_about_action, is_about_group, is_about_groups, is_about_one};
+ghost use Rattle.policy.specs.Policy.{Group, fits_class, lists};
 
 use crate::decide::{actions_list, class_fits};
-use crate::group::Group;
-use crate::index::{Index, Starts, first_place};
-use crate::rule::{Action, Clerks, Pattern, Rule};
+use crate::group_starts::GroupStart;
+use crate::index::{Index, Starts};
+use crate::rule::{Action, Rule};
 use creds::Name;
 
 fn is_about_action(rule: &Rule, class: &Name, action: Action) -> bool
@@ -53,46 +53,41 @@ pub(crate) fn first_by_name(
         .min(first_of_key(index, rules, starts.all, class, action))
 }
 
-/// The place of the first rule that names the group and decides; the number of rules where none
-/// does.
+/// The place of the first rule about a group that decides, by where the rules about it begin; the
+/// number of rules where none does.
 fn first_of_group(
     index: &Index,
     rules: &[Rule],
-    group: &Name,
-    maildrop: &Name,
+    start: &GroupStart,
     class: &Name,
     action: Action,
 ) -> usize
     requires { IsIndexOf rules.now index.now }
-    ensures { result ≡ place_from (λ r. is_about_group group.now maildrop.now r && is_about_action action class.now r) 0 rules.now }
+    ensures { (maildrop group : List ℕ) → start.now ≡ group_start rules.now maildrop group
+        → result ≡ place_from (λ r. is_about_group group maildrop r && is_about_action action class.now r) 0 rules.now }
 {
-    let clerks = Clerks::MembersOf(*group);
-    let here = first_place(index, &clerks, &Pattern::Is(*maildrop));
-    let everywhere = first_place(index, &clerks, &Pattern::Any);
-    first_of_key(index, rules, here, class, action).min(first_of_key(
-        index, rules, everywhere, class, action,
+    first_of_key(index, rules, start.maildrop, class, action).min(first_of_key(
+        index, rules, start.all, class, action,
     ))
 }
 
-/// The place of the first rule that names a group of the clerk's and decides; the number of rules
-/// where none does.
+/// The place of the first rule that names a group of the clerk's and decides, by where the rules
+/// about these groups begin; the number of rules where none does.
 pub(crate) fn first_by_group(
     index: &Index,
     rules: &[Rule],
-    groups: &[Group],
-    clerk: &Name,
-    maildrop: &Name,
+    starts: &[GroupStart],
     class: &Name,
     action: Action,
 ) -> usize
     requires { IsIndexOf rules.now index.now }
-    ensures { result ≡ place_from (λ r. is_about_groups groups.now clerk.now maildrop.now r && is_about_action action class.now r) 0 rules.now }
+    ensures { (groups : List Group) (clerk maildrop : List ℕ)
+        → starts.now ≡ group_starts groups clerk maildrop rules.now
+        → result ≡ place_from (λ r. is_about_groups groups clerk maildrop r && is_about_action action class.now r) 0 rules.now }
 {
     let mut place = rules.len();
-    for group in groups {
-        if group.has(clerk) {
-            place = place.min(first_of_group(index, rules, group.name(), maildrop, class, action));
-        }
+    for start in starts {
+        place = place.min(first_of_group(index, rules, start, class, action));
     }
     place
 }

@@ -1,37 +1,39 @@
-use Rattle.std.proofs.Common.{◌≡◌, ◌∙◌, ℕ, List, true, false, min, get_or, sym, ap, arith, rules, take_all, ◌&&◌}
+use Rattle.std.proofs.Common.{◌≡◌, ◌∙◌, ◌<◌, ◌≤◌, List, [], filter, length, min, get_or, sym, ap, arith, rules, take_all, ◌&&◌}
+use Rattle.std.proofs.lemmas.List.{get_or-map, length-map}
+use Rattle.std.specs.List.{list_any}
+use Rattle.policy.specs.declared.group_starts.GroupStart.{GroupStart}
 use Rattle.policy.specs.Index.{place_from}
-use Rattle.policy.specs.Lane.{is_about_action, is_about_group, is_about_groups}
+use Rattle.policy.specs.Lane.{group_start, is_about_action, is_about_group}
 use Rattle.policy.specs.Policy.{Group, has_member}
-use Rattle.policy.proofs.FourKeys.{groups-none, groups-with, groups-without}
+use Rattle.policy.proofs.FourKeys.{own-none, own-more, own-all}
 use Rattle.policy.proofs.walk.first_by_group.Goals as goal
-use Rattle.policy.proofs.walk.first_by_group.Goals.{then-has, else-has}
 
-pub loop-group-init : goal.loop-group-init
-loop-group-init c = groups-none c.args.clerk.now c.args.maildrop.now (is_about_action c.args.action c.args.class.now) c.args.rules.now
+pub loop-start-init : goal.loop-start-init
+loop-start-init c = λ own maildrop e. own-none own maildrop (is_about_action c.args.action c.args.class.now) c.args.rules.now
 
-pub loop-group-preserved : goal.loop-group-preserved
-loop-group-preserved c =
-    let groups = c.args.groups.now in
-    let clerk = c.args.clerk.now in
-    let maildrop = c.args.maildrop.now in
+some_group : Group
+some_group = record { name = []; members = [] }
+
+pub loop-start-preserved : goal.loop-start-preserved
+loop-start-preserved c = λ own maildrop e.
     let q = is_about_action c.args.action c.args.class.now in
     let all = c.args.rules.now in
-    let i = c.loop-group.group-index in
-    let item = c.group-item.result in
-    elim c.if-has.branch [
-      | then-has w ↦
-          let has : has_member (get_or groups i item) clerk ≡ true = sym (ap (λ (g : Group). has_member g clerk) c.group-item.is) ∙ sym c.has.ensures ∙ w.if-has.true in
-          let own : w.first_of_group.result ≡ place_from (λ r. is_about_group (get_or groups i item).name maildrop r && q r) 0 all =
-          w.first_of_group.ensures ∙ ap (λ (n : List ℕ). place_from (λ r. is_about_group n maildrop r && q r) 0 all) (w.name.ensures ∙ ap (λ (g : Group). g.name) c.group-item.is) in
-          let least : w.min-place.result ≡ min c.loop-group.place w.first_of_group.result = search rules in
-          rw w.place-is (least ∙ rw (c.loop-group.invariant, own) (sym (groups-with groups i item clerk maildrop q all (omega arith) has)))
-      | else-has w ↦
-          let has : has_member (get_or groups i item) clerk ≡ false = sym (ap (λ (g : Group). has_member g clerk) c.group-item.is) ∙ sym c.has.ensures ∙ w.if-has.false in
-          rw w.place-is (c.loop-group.invariant ∙ sym (groups-without groups i item clerk maildrop q all (omega arith) has))
-    ]
+    let i = c.loop-start.start-index in
+    let none : GroupStart = record { maildrop = 0; all = 0 } in
+    let start : Group → GroupStart = λ g. group_start all maildrop g.name in
+    let within : i < length own = omega (arith, ap (λ (s : List GroupStart). length s) e ∙ length-map own start) in
+    let at : get_or c.args.starts.now i none ≡ start (get_or own i some_group) = ap (λ (s : List GroupStart). get_or s i none) e ∙ get_or-map start own i some_group none within in
+    let one = c.first_of_group.ensures maildrop (get_or own i some_group).name at in
+    let least : c.min-place.result ≡ min c.loop-start.place c.first_of_group.result = search rules in
+    least ∙ rw (c.loop-start.invariant own maildrop e, one) (sym (own-more own i some_group maildrop q all within))
 
 pub returns : goal.returns
-returns c =
+returns c = λ groups clerk maildrop e.
     let q = is_about_action c.args.action c.args.class.now in
-    c.loop-group.invariant ∙ ap (λ (gs : List Group). place_from (λ r. is_about_groups gs c.args.clerk.now c.args.maildrop.now r && q r) 0 c.args.rules.now)
-    (take_all c.loop-group.group-index c.args.groups.now c.loop-group-test.false)
+    let all = c.args.rules.now in
+    let own = filter (λ (g : Group). has_member g clerk) groups in
+    let start : Group → GroupStart = λ g. group_start all maildrop g.name in
+    let ends : length own ≤ c.loop-start.start-index = omega (arith, ap (λ (s : List GroupStart). length s) e ∙ length-map own start) in
+    c.loop-start.invariant own maildrop e
+    ∙ ap (λ (gs : List Group). place_from (λ r. list_any (λ (g : Group). is_about_group g.name maildrop r) gs && q r) 0 all) (take_all c.loop-start.start-index own ends)
+    ∙ own-all groups clerk maildrop q all

@@ -1,4 +1,5 @@
-use Rattle.std.proofs.Common.{rules, min, ◌≡◌, ◌∙◌}
+use Rattle.std.proofs.Common.{rules, min, ap, ◌≡◌, ◌∙◌}
+use Rattle.policy.specs.declared.group_starts.GroupStart.{GroupStart}
 use Rattle.policy.specs.declared.key.Key.{Key}
 use Rattle.policy.specs.declared.rule.Clerks.{Clerks}
 use Rattle.policy.specs.declared.rule.Clerks.TheVariants as clerks
@@ -13,13 +14,8 @@ key clerks maildrop = record { clerk = clerks; maildrop = maildrop }
 
 pub returns : goal.returns
 unfolding key
-returns c =
-    let group = c.args.group.now in
-    let maildrop = c.args.maildrop.now in
-    let lists = c.requires in
-    let here = key (clerks.MembersOf group) (Is maildrop) in
-    let all = key (clerks.MembersOf group) Any in
-    let a = c.first_of_key.ensures here (c.first_place-here.ensures ∙ rw lists.one_each (lists.firsts here)) in
-    let b = c.first_of_key-2.ensures all (c.first_place-everywhere.ensures ∙ rw lists.one_each (lists.firsts all)) in
+returns c = λ maildrop group start.
+    let a = c.first_of_key.ensures (key (clerks.MembersOf group) (Is maildrop)) (ap (λ (s : GroupStart). s.maildrop) start) in
+    let b = c.first_of_key-2.ensures (key (clerks.MembersOf group) Any) (ap (λ (s : GroupStart). s.all) start) in
     let m : c.min.result ≡ min c.first_of_key.result c.first_of_key-2.result = search rules in
     m ∙ rw (a, b) (first_of_two group maildrop (is_about_action c.args.action c.args.class.now) c.args.rules.now)
