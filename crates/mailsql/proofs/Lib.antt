@@ -46,3 +46,4 @@ pub mod PlaceLemmas
 pub mod ListedLemmas
 pub mod BodyLemmas
 pub mod CompleteLemmas
+pub mod MarkedLemmas

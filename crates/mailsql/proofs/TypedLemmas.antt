@@ -11,6 +11,8 @@ use Rattle.sqlite_value.specs.Order.{Row, column}
 use Rattle.sqlite_trees.specs.Tree.{Trees}
 use Rattle.sqlite_schema.specs.declared.schema.Kind.TheVariants as kind
 use Rattle.sqlite_schema.specs.declared.schema.Schema.{Schema}
+use Rattle.sqlite_schema.specs.declared.schema.Table.{Table}
+use Rattle.sqlite_schema.specs.declared.schema.Constraint.{Constraint}
 use Rattle.sqlite_schema.specs.declared.schema.Constraint.TheVariants.{Datatype, NotNull}
 use Rattle.sqlite_schema.specs.Rules.{passes, Obeys, is_of}
 use Rattle.sqlite_sql.specs.Ops.{is_null}
@@ -115,6 +117,12 @@ mail_typed true db obeys = both (message_typed (schema_of true) 22 db) (db 22) (
 pub old_marks_typed : (c : Bool) (db : Trees) → Obeys (old_schema c) db → (r : Row) → Has (db 0) r → IsText (column r 1)
 old_marks_typed false db obeys r = all_has _ (db 0) r (both (mark_typed (old_schema false) db) (db 0) (obeys.rules Datatype).0 (obeys.rules NotNull).0)
 old_marks_typed true db obeys r = all_has _ (db 0) r (both (mark_typed (old_schema true) db) (db 0) (obeys.rules Datatype).0 (obeys.rules NotNull).0)
+
+-- in a store of any version
+pub first_marks_typed : (schema : Schema) (db : Trees) (others : List Table) → schema.tables ≡ meta_at 0 ∷ others → Obeys schema db → (r : Row) → Has (db 0) r → IsText (column r 1)
+first_marks_typed schema db others is obeys r =
+    let held : (rule : Constraint) → AllByRecursion (λ row. passes rule schema db (meta_at 0) row ≡ true) (db 0) = λ rule. (subst (AllByRecursion (λ t. AllByRecursion (λ row. passes rule schema db t row ≡ true) (db t.tree))) is (obeys.rules rule)).0 in
+    all_has _ (db 0) r (both (mark_typed schema db) (db 0) (held Datatype) (held NotNull))
 
 module _ (db : Database) (ours : IsOurs db) (sound : IsDatabase db) where
   obeys : Obeys (schema_of (is_carried db.trees)) db.trees

@@ -1,4 +1,5 @@
-//! The messages of version 1, each with its octets in one column, in a store that was carried over: its table of them is emptied then.
+//! The messages of version 1, each with its octets in one column, in a store that was carried over:
+//! its table of them is emptied then.
 
 ghost use Rattle.std.specs.Prelude.{◌≡◌, IsTrue, map, IfOk, IfErr, OnOk, OnErr, [], ◌∷◌};
 ghost use Rattle.std.specs.List.{find};

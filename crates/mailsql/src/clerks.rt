@@ -101,7 +101,8 @@ pub fn clerk_count<S: Alter>(conn: &mut Connection<S>) -> Result<u64, Error>
     count(conn, "SELECT count(*) FROM clerks", &[])
 }
 
-/// Puts the clerk in place of the one of its name, if there is one. These are two statements: call it inside a transaction, and an error between them can be rolled back.
+/// Puts the clerk in place of the one of its name, if there is one. These are two statements: call
+/// it inside a transaction, and an error between them can be rolled back.
 pub fn put_clerk<'x, S: Alter>(
     conn: &mut Connection<S>,
     name: &'x [u8],

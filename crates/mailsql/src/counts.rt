@@ -95,7 +95,8 @@ pub fn all_counts<S: Alter>(alloc: Global, conn: &mut Connection<S>) -> Result<V
     )
 }
 
-/// Raises the count of the class to `k`, or sets it. These are two statements: call it inside a transaction, and an error between them can be rolled back.
+/// Raises the count of the class to `k`, or sets it. These are two statements: call it inside a
+/// transaction, and an error between them can be rolled back.
 pub fn set_count<'x, S: Alter>(
     conn: &mut Connection<S>,
     maildrop: &'x [u8],

@@ -1,4 +1,5 @@
-//! The groups of clerks that the policy names, in the order of their places, and the members of each.
+//! The groups of clerks that the policy names, in the order of their places, and the members of
+//! each.
 
 ghost use Rattle.std.specs.Prelude.{◌≡◌, filter, IfOk, IfErr, OnOk, OnErr, [], ◌∷◌};
 ghost use Rattle.sqlite.specs.Held.{state};
@@ -17,7 +18,8 @@ use sqlite::{Alter, Connection, Error};
 use sqlite_value::value::ValueRef;
 use std::alloc::Global;
 
-/// Adds a group after the others, without a member, under a name that none of them has. Its place is one above theirs, or 1.
+/// Adds a group after the others, without a member, under a name that none of them has. Its place
+/// is one above theirs, or 1.
 pub fn add_group<S: Alter>(conn: &mut Connection<S>, name: &[u8]) -> Result<(), Error>
     ensures ok { HasCleanDisk (state S.Store conn.new) → IsReady (state S.Store conn.old) → OnOk result (Changes (changes.AddsGroup name.now) (state S.Store conn.old) (state S.Store conn.new)) }
     ensures err { HasCleanDisk (state S.Store conn.new) → OnErr result (IsUndone (state S.Store conn.old) (state S.Store conn.new)) }
@@ -31,7 +33,8 @@ pub fn add_group<S: Alter>(conn: &mut Connection<S>, name: &[u8]) -> Result<(), 
     )
 }
 
-/// Adds a clerk's name to a group that is there, at a place that it has not, where none of its members has the name.
+/// Adds a clerk's name to a group that is there, at a place that it has not, where none of its
+/// members has the name.
 pub fn add_member<S: Alter>(
     conn: &mut Connection<S>,
     group: i64,

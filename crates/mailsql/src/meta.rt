@@ -8,6 +8,7 @@ ghost use Rattle.mailsql.specs.Changes as changes;
 ghost use Rattle.mailsql.specs.Rows as rows;
 ghost use Rattle.mailsql.specs.Rows.{IsOurs, IsReady, HasTables, HasOldTables, IsOldSchema, MayLeave, Changes, IsUndone, IsHalted, rows_in, HoldsMark};
 ghost use Rattle.sqlite_value.specs.declared.value.Value.TheVariants.{Null, Int, Text};
+ghost use Rattle.mailsql.specs.Marked.{HasMarks};
 ghost use Rattle.mailsql.specs.Errors.{FailsToRun, FailsAfter, FailsToRead, FailsToReadAs};
 ghost use Rattle.mailsql.specs.Statements.{add_mark_text, drop_mark_text, find_mark_text, all_marks_text, all_sequences_text};
 
@@ -45,7 +46,8 @@ pub fn drop_mark<S: Alter>(conn: &mut Connection<S>, name: &[u8]) -> Result<(), 
     )
 }
 
-/// Puts the mark in place of the one of its name, if there is one. These are two statements: call it inside a transaction, and an error between them can be rolled back.
+/// Puts the mark in place of the one of its name, if there is one. These are two statements: call
+/// it inside a transaction, and an error between them can be rolled back.
 pub fn put_mark<S: Alter>(conn: &mut Connection<S>, name: &[u8], value: i64) -> Result<(), Error>
     ensures ok { HasCleanDisk (state S.Store conn.new) → IsReady (state S.Store conn.old) → OnOk result (Changes (changes.PutsMark (record { name = name.now; value = value })) (state S.Store conn.old) (state S.Store conn.new)) }
     ensures err { HasCleanDisk (state S.Store conn.new) → IsReady (state S.Store conn.old) → IsTrue (state S.Store conn.old).in_transaction → OnErr result (IsHalted (state S.Store conn.old) (state S.Store conn.new)) }
@@ -58,7 +60,8 @@ pub fn put_mark<S: Alter>(conn: &mut Connection<S>, name: &[u8], value: i64) -> 
     }
 }
 
-/// The mark of this name, if there is one; of an older store too.
+/// The mark of this name, if there is one; of a store of any version too, whatever its other tables
+/// are.
 pub fn find_mark<S: Alter>(
     alloc: Global,
     conn: &mut Connection<S>,
@@ -73,6 +76,10 @@ pub fn find_mark<S: Alter>(
     ensures old_same { HasCleanDisk (state S.Store conn.new) → HasOldTables (state S.Store conn.old) → OnOk result (IsUnchanged (state S.Store conn.old) (state S.Store conn.new)) }
     ensures old_err { HasCleanDisk (state S.Store conn.new) → HasOldTables (state S.Store conn.old) → OnErr result (IsUndone (state S.Store conn.old) (state S.Store conn.new)) }
     ensures old_survives { Survives (state S.Store conn.old) (state S.Store conn.new) (λ _. IsOldSchema (state S.Store conn.old).now → ⊥) }
+    ensures marked_ok { HasCleanDisk (state S.Store conn.new) → HasMarks (state S.Store conn.old).now → IfOk result (λ found. found ≡ find (rows.is_mark name.now) (rows_in (state S.Store conn.old).now.trees).marks) }
+    ensures marked_same { HasCleanDisk (state S.Store conn.new) → HasMarks (state S.Store conn.old).now → OnOk result (IsUnchanged (state S.Store conn.old) (state S.Store conn.new)) }
+    ensures marked_err { HasCleanDisk (state S.Store conn.new) → HasMarks (state S.Store conn.old).now → OnErr result (IsUndone (state S.Store conn.old) (state S.Store conn.new)) }
+    ensures marked_survives { Survives (state S.Store conn.old) (state S.Store conn.new) (λ _. HasMarks (state S.Store conn.old).now → ⊥) }
 {
     first(
         alloc,
@@ -102,7 +109,8 @@ pub fn all_marks<S: Alter>(alloc: Global, conn: &mut Connection<S>) -> Result<Ve
     )
 }
 
-/// How far SQLite has counted the keys of each table with AUTOINCREMENT, in the order of the rowids: a new message has a key above that of `mail`.
+/// How far SQLite has counted the keys of each table with AUTOINCREMENT, in the order of the
+/// rowids: a new message has a key above that of `mail`.
 pub fn all_sequences<S: Alter>(alloc: Global, conn: &mut Connection<S>) -> Result<Vec<Mark>, Error>
     ensures ok { HasCleanDisk (state S.Store conn.new) → HasTables (state S.Store conn.old) → IfOk result (λ all. all.items ≡ rows.sequences_in (state S.Store conn.old).now.trees) }
     ensures same { HasCleanDisk (state S.Store conn.new) → HasTables (state S.Store conn.old) → OnOk result (IsUnchanged (state S.Store conn.old) (state S.Store conn.new)) }

@@ -20,7 +20,8 @@ pub fn begin<S: Alter>(conn: &mut Connection<S>) -> Result<(), Error>
     run(conn, "BEGIN", &[])
 }
 
-/// Commits the transaction. It is refused where none is under way. After an error nothing of the transaction is left, or it is still under way.
+/// Commits the transaction. It is refused where none is under way. After an error nothing of the
+/// transaction is left, or it is still under way.
 pub fn commit<S: Alter>(conn: &mut Connection<S>) -> Result<(), Error>
     ensures ok { HasCleanDisk (state S.Store conn.new) → OnOk result (IsTrue (state S.Store conn.old).in_transaction × Shows (state S.Store conn.old) (state S.Store conn.new) (state S.Store conn.old).now (state S.Store conn.old).now false) }
     ensures err { HasCleanDisk (state S.Store conn.new) → OnErr result (IsUndone (state S.Store conn.old) (state S.Store conn.new)) }
@@ -30,7 +31,8 @@ pub fn commit<S: Alter>(conn: &mut Connection<S>) -> Result<(), Error>
     run(conn, "COMMIT", &[])
 }
 
-/// Rolls the transaction back. It is refused where none is under way. Whatever it answers, nothing of the transaction is left.
+/// Rolls the transaction back. It is refused where none is under way. Whatever it answers, nothing
+/// of the transaction is left.
 pub fn rollback<S: Alter>(conn: &mut Connection<S>) -> Result<(), Error>
     ensures ok { HasCleanDisk (state S.Store conn.new) → OnOk result (IsTrue (state S.Store conn.old).in_transaction) }
     ensures undone { HasCleanDisk (state S.Store conn.new) → IsTrue (state S.Store conn.old).in_transaction → IsRolledBack (state S.Store conn.old) (state S.Store conn.new) }

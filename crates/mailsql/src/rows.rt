@@ -1,5 +1,5 @@
-//! The rows of the store's tables, as the tables' columns hold them: texts and blobs as octets, numbers as signed 64-bit integers.
-//! They have no `Debug`, since they hold mail and secrets.
+//! The rows of the store's tables, as the tables' columns hold them: texts and blobs as octets,
+//! numbers as signed 64-bit integers. They have no `Debug`, since they hold mail and secrets.
 
 use sqlite_value::value::Bytes;
 
@@ -36,7 +36,8 @@ pub struct Deposit {
     pub digest: Bytes,
 }
 
-/// A row of `mail`: a message that is present, without its sheets. `octets` is its length in octets.
+/// A row of `mail`: a message that is present, without its sheets. `octets` is its length in
+/// octets.
 #[derive(Drop)]
 pub struct Message {
     pub key: i64,
@@ -54,7 +55,8 @@ pub struct Sheet {
     pub octets: Bytes,
 }
 
-/// A row of `rules`. The effect is 1 for allow and 0 for deny; the actions are the sum of 1 for open, 2 for read and 4 for remove.
+/// A row of `rules`. The effect is 1 for allow and 0 for deny; the actions are the sum of 1 for
+/// open, 2 for read and 4 for remove.
 #[derive(Drop)]
 pub struct Rule {
     pub place: i64,
@@ -66,14 +68,16 @@ pub struct Rule {
     pub actions: i64,
 }
 
-/// A row of `groups`: a group of clerks that the policy names. Groups are in the order of their places.
+/// A row of `groups`: a group of clerks that the policy names. Groups are in the order of their
+/// places.
 #[derive(Drop)]
 pub struct Group {
     pub place: i64,
     pub name: Bytes,
 }
 
-/// A row of `members`: a clerk's name in a group, which is given by its place. The members of a group are in the order of their places.
+/// A row of `members`: a clerk's name in a group, which is given by its place. The members of a
+/// group are in the order of their places.
 #[derive(Drop)]
 pub struct Member {
     pub group: i64,

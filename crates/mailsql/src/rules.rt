@@ -16,7 +16,8 @@ use sqlite::{Alter, Connection, Error};
 use sqlite_value::value::ValueRef;
 use std::alloc::Global;
 
-/// Adds a rule after the others, under a name that none of them has. Its place is one above theirs, or 1.
+/// Adds a rule after the others, under a name that none of them has. Its place is one above theirs,
+/// or 1.
 pub fn add_rule<'x, S: Alter>(
     conn: &mut Connection<S>,
     name: &'x [u8],

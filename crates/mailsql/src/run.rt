@@ -1,4 +1,5 @@
-//! A statement over a connection, as each function of the crate runs it: what it did or showed, and what its error tells.
+//! A statement over a connection, as each function of the crate runs it: what it did or showed, and
+//! what its error tells.
 
 ghost use Rattle.std.specs.Prelude.{◌≡◌, ◌<◌, ◌⊎◌, ℕ, Ok, Err, pos, map, length, slice_get, List, IfOk, IfErr, OnOk, OnErr};
 ghost use Rattle.std.specs.Option.{option_map};

@@ -1,8 +1,10 @@
-//! What the schema of a store tells: whether names of ours are taken, and whether our columns and keys are there.
+//! What the schema of a store tells: whether names of ours are taken, and whether our columns and
+//! keys are there.
 
 ghost use Rattle.std.specs.Prelude.{◌≡◌, true, false, ◌||◌, map, bytes_eq};
 ghost use Rattle.std.specs.List.{list_any};
 ghost use Rattle.sqlite.specs.Held.{state};
+ghost use Rattle.mailsql.specs.Marked.{HasMarks};
 ghost use Rattle.mailsql.specs.Apart.{AreApart};
 ghost use Rattle.mailsql.specs.Rows.{IsOurs, IsOldSchema, IsReady, rows_in};
 ghost use Rattle.mailsql.specs.Tables.{no_schema, first_schema, second_schema, members_at};
@@ -59,12 +61,14 @@ fn takes_our_name(schema: &Schema) -> bool
         | has_our_view(schema.views.as_slice())
 }
 
-/// Whether a table, an index or a view of the store has the name of one of our tables, but for the case of ASCII letters.
+/// Whether a table, an index or a view of the store has the name of one of our tables, but for the
+/// case of ASCII letters.
 pub fn is_taken<S: Alter>(conn: &Connection<S>) -> bool
     ensures value { result ≡ is_taken (state S.Store conn.now).now.schema }
     ensures ours { IsOurs (state S.Store conn.now).now → result ≡ true }
     ensures none { (state S.Store conn.now).now.schema ≡ no_schema → result ≡ false }
     ensures old { IsOldSchema (state S.Store conn.now).now → result ≡ true }
+    ensures marked { HasMarks (state S.Store conn.now).now → result ≡ true }
 {
     takes_our_name(conn.schema())
 }
@@ -81,7 +85,8 @@ fn is_kind(column: &Column, kind: Kind) -> bool
     }
 }
 
-/// Whether the column is STRICT, has this name and this kind, and is NOT NULL where that is asked for.
+/// Whether the column is STRICT, has this name and this kind, and is NOT NULL where that is asked
+/// for.
 fn is_column(column: &Column, name: &[u8], kind: Kind, required: bool) -> bool
     ensures { result ≡ is_column name.now kind required column.now }
 {
@@ -186,7 +191,8 @@ const MEMBERS: [Made; 3] = [
     (b"clerk", Kind::Text, true),
 ];
 
-/// Whether these are STRICT columns of the same names and kinds, in the same order, and NOT NULL where that is asked for.
+/// Whether these are STRICT columns of the same names and kinds, in the same order, and NOT NULL
+/// where that is asked for.
 fn are_columns(columns: &[Column], ours: &[Made]) -> bool
     ensures { result ≡ are_columns (map made ours.now) columns.now }
 {
@@ -224,11 +230,13 @@ fn has_meta(tables: &[Table]) -> bool
     has_table(tables, b"meta", &META, &[1], &[1])
 }
 
-/// Whether the table of marks is there, with the columns and the key that its text makes. It is so in a store of every version.
+/// Whether the table of marks is there, with the columns and the key that its text makes. It is so
+/// in a store of every version.
 pub fn has_marks<S: Alter>(conn: &Connection<S>) -> bool
     ensures value { result ≡ has_marks (state S.Store conn.now).now.schema.tables }
     ensures ours { IsOurs (state S.Store conn.now).now → result ≡ true }
     ensures old { IsOldSchema (state S.Store conn.now).now → result ≡ true }
+    ensures marked { HasMarks (state S.Store conn.now).now → result ≡ true }
 {
     has_meta(conn.schema().tables.as_slice())
 }
@@ -277,8 +285,9 @@ fn has_our_columns(tables: &[Table]) -> bool
         & has_members(tables)
 }
 
-/// Whether each of our tables is there with the columns and the keys that its text makes: the same names and kinds, in order, STRICT and NOT
-/// NULL as there, the same primary key, and unique in the same columns.
+/// Whether each of our tables is there with the columns and the keys that its text makes: the same
+/// names and kinds, in order, STRICT and NOT NULL as there, the same primary key, and unique in the
+/// same columns.
 pub fn has_columns<S: Alter>(conn: &Connection<S>) -> bool
     ensures value { result ≡ has_columns (state S.Store conn.now).now.schema.tables }
     ensures ours { IsOurs (state S.Store conn.now).now → result ≡ true }
@@ -296,7 +305,8 @@ pub fn has_second_columns<S: Alter>(conn: &Connection<S>) -> bool
     has_mail_columns(conn.schema().tables.as_slice())
 }
 
-/// Whether the tables of version 1 are there so: those of version 2, with `messages` in place of `mail` and `sheets`.
+/// Whether the tables of version 1 are there so: those of version 2, with `messages` in place of
+/// `mail` and `sheets`.
 pub fn has_first_columns<S: Alter>(conn: &Connection<S>) -> bool
     ensures value { result ≡ has_first_columns (state S.Store conn.now).now.schema.tables }
     ensures first { (state S.Store conn.now).now.schema ≡ first_schema → result ≡ true }

@@ -70,7 +70,10 @@ fn add_sheet_at<S: Alter>(
     add_sheet(conn, mail, place as i64, &text[start..end])
 }
 
-/// Adds the sheets of a text, of a message that is there and has none: pieces of `SHEET_OCTETS` octets, the last of 1 to `SHEET_OCTETS`, in places counted from 0. Of an empty text there are none. These are as many statements: call it inside a transaction, and an error between them can be rolled back. Outside one, an error or a stop leaves the first of them.
+/// Adds the sheets of a text, of a message that is there and has none: pieces of `SHEET_OCTETS`
+/// octets, the last of 1 to `SHEET_OCTETS`, in places counted from 0. Of an empty text there are
+/// none. These are as many statements: call it inside a transaction, and an error between them can
+/// be rolled back. Outside one, an error or a stop leaves the first of them.
 pub fn add_sheets<S: Alter>(conn: &mut Connection<S>, mail: i64, text: &[u8]) -> Result<(), Error>
     ensures ok { HasCleanDisk (state S.Store conn.new) → IsReady (state S.Store conn.old) → OnOk result (Changes (changes.AddsSheets mail text.now) (state S.Store conn.old) (state S.Store conn.new)) }
     ensures err { HasCleanDisk (state S.Store conn.new) → IsReady (state S.Store conn.old) → IsTrue (state S.Store conn.old).in_transaction → OnErr result (IsHalted (state S.Store conn.old) (state S.Store conn.new)) }
@@ -119,7 +122,8 @@ pub fn sheet_count<S: Alter>(conn: &mut Connection<S>) -> Result<u64, Error>
     count(conn, "SELECT count(*) FROM sheets", &[])
 }
 
-/// Every page of every message, in the order in which they were added. It takes memory for all their octets.
+/// Every page of every message, in the order in which they were added. It takes memory for all
+/// their octets.
 pub fn all_sheets<S: Alter>(alloc: Global, conn: &mut Connection<S>) -> Result<Vec<Sheet>, Error>
     ensures ok { HasCleanDisk (state S.Store conn.new) → HasTables (state S.Store conn.old) → IfOk result (λ all. all.items ≡ (rows_in (state S.Store conn.old).now.trees).sheets) }
     ensures same { HasCleanDisk (state S.Store conn.new) → HasTables (state S.Store conn.old) → OnOk result (IsUnchanged (state S.Store conn.old) (state S.Store conn.new)) }
@@ -135,7 +139,8 @@ pub fn all_sheets<S: Alter>(alloc: Global, conn: &mut Connection<S>) -> Result<V
     )
 }
 
-/// The sheets of a text, joined, are the text; each but the last has `SHEET_OCTETS` octets, and none is empty.
+/// The sheets of a text, joined, are the text; each but the last has `SHEET_OCTETS` octets, and
+/// none is empty.
 pub fn sheets_are_the_text()
     ensures { SheetsAreTheText }
 {}

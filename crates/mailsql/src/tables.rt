@@ -37,7 +37,8 @@ fn create_text(at: usize) -> &'static str
     }
 }
 
-/// Makes the tables, inside a transaction over a store that has none. After an error the transaction is under way still, or gone with all that it wrote.
+/// Makes the tables, inside a transaction over a store that has none. After an error the
+/// transaction is under way still, or gone with all that it wrote.
 pub fn create_tables<S: Alter>(conn: &mut Connection<S>) -> Result<(), Error>
     ensures ok { HasCleanDisk (state S.Store conn.new) → IsBegun (state S.Store conn.old) → OnOk result (MakesTables (state S.Store conn.old) (state S.Store conn.new)) }
     ensures err { HasCleanDisk (state S.Store conn.new) → IsBegun (state S.Store conn.old) → OnErr result (IsHalted (state S.Store conn.old) (state S.Store conn.new)) }
@@ -61,7 +62,8 @@ fn lacked(carried: bool) -> usize
     if carried { 4 } else { 2 }
 }
 
-/// Where the text that makes the table at this place of those that an older store lacks stands among the texts.
+/// Where the text that makes the table at this place of those that an older store lacks stands
+/// among the texts.
 fn lacked_place(carried: bool, at: usize) -> usize
     requires { at < length (lacked_texts carried) }
     ensures low { result < TABLES }
@@ -82,7 +84,10 @@ fn lacked_place(carried: bool, at: usize) -> usize
     }
 }
 
-/// Makes the tables that an older store lacks, inside a transaction: those of groups and members in a store of version 2, those of sheets and mail too in one of version 1, which `carried` asks for. The other tables stay as they are. After an error the transaction is under way still, or gone with all that it wrote.
+/// Makes the tables that an older store lacks, inside a transaction: those of groups and members in
+/// a store of version 2, those of sheets and mail too in one of version 1, which `carried` asks
+/// for. The other tables stay as they are. After an error the transaction is under way still, or
+/// gone with all that it wrote.
 pub fn complete_tables<S: Alter>(conn: &mut Connection<S>, carried: bool) -> Result<(), Error>
     ensures ok { HasCleanDisk (state S.Store conn.new) → IsBegunOn (state S.Store conn.old) → is_carried (state S.Store conn.old).now.trees ≡ carried → OnOk result (CompletesTables (state S.Store conn.old) (state S.Store conn.new)) }
     ensures err { HasCleanDisk (state S.Store conn.new) → IsBegunOn (state S.Store conn.old) → is_carried (state S.Store conn.old).now.trees ≡ carried → OnErr result (IsHalted (state S.Store conn.old) (state S.Store conn.new)) }

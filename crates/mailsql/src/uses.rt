@@ -12,7 +12,8 @@ use crate::{deposits, mail, maildrops, meta, mode, sheets, tables};
 use sqlite::{Connection, Error, MemStore};
 use std::alloc::Global;
 
-/// Makes a store in memory: its tables, which are empty, and the mark of its version. An error is want of memory, or what one of these statements met.
+/// Makes a store in memory: its tables, which are empty, and the mark of its version. An error is
+/// want of memory, or what one of these statements met.
 pub fn open_new(alloc: Global, version: i64) -> Result<Connection<MemStore>, Error>
     ensures stands { IfOk result (λ conn. Stands (state over_memory conn) (marked version)) }
     ensures cause { IfErr result (FailsToOpenNew version) }
@@ -74,7 +75,8 @@ pub struct Seen {
     pub after: Pages,
 }
 
-/// Adds a maildrop, a deposit and a message of two pages, reads its head and its pages, removes it, and looks for its pages. An error is what one of these steps met.
+/// Adds a maildrop, a deposit and a message of two pages, reads its head and its pages, removes it,
+/// and looks for its pages. An error is what one of these steps met.
 pub fn sample(alloc: Global, first: &[u8], second: &[u8]) -> Result<Seen, Error>
     ensures saw { IfOk result (Saw first.now second.now) }
     ensures cause { IfErr result (FailsToSample first.now second.now) }

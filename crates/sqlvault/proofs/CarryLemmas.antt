@@ -3,17 +3,18 @@ use Rattle.std.proofs.Common.{◌≡◌, ◌≢◌, inl, inr, IsTrue, Bool, true
 use Rattle.std.specs.Prelude.{codes, flat_map, find, Some, None, pos, length, Result, Ok, Err, OnOk, OnErr, IfErr}
 use Rattle.sqlite_trees.specs.Tree.{Trees}
 use Rattle.sqlite.specs.declared.error.Error.{Error}
-use Rattle.sqlite.specs.Effect.{Database}
+use Rattle.sqlite.specs.Effect.{Database, IsDatabase}
 use Rattle.sqlite.specs.State.{State, HasCleanDisk, Survives, Shows, IsUnchanged}
 use Rattle.vault.specs.declared.fault.VaultFault.TheVariants as fault
 use Rattle.vault.specs.Changes.{Contents}
 use Rattle.mailsql.specs.Changes.{PutsMark}
+use Rattle.mailsql.specs.Uses.{marked}
 use Rattle.mailsql.specs.Rows.{Rows, IsOld, IsOldSchema, HasOldTables, rows_in, is_carried, completed, is_mark, IsKept, IsReady, IsBegunOn, IsHalted, GoesOn, Changes, MayLeave}
 use Rattle.sqlvault.specs.Keeps.{Keeps, our_mark, version}
-use Rattle.sqlvault.specs.Carries.{HasOlder, IsOfNoVersion, IsNoOlder, JudgesOlder, IsOfRows, CarriesOver, IsOlder, IsCarried, IsUncarried, KeepsOlder, LeavesEither, brought, brought_in, old_mark, old_version}
+use Rattle.sqlvault.specs.Carries.{HasOlder, IsOfNoVersion, IsNoOlder, JudgesOlder, IsOfRows, CarriesOver, IsOlder, IsCarried, IsUncarried, KeepsOlder, IsStoreOf, LeavesEither, brought, brought_in, old_mark, old_version}
 use Rattle.sqlvault.specs.Moves.{MovesOld, body_head, body_sheets}
 use Rattle.sqlvault.specs.Refusals.{is_memory, fault_of, told, answer_of}
-use Rattle.sqlvault.specs.Adopts.{StaysAs, IsAdoptFault}
+use Rattle.sqlvault.specs.Adopts.{StaysAs, IsAdoptFault, IsBlank, LeavesEmptyToo}
 use Rattle.sqlvault.specs.declared.refusal.Refusal.{Refusal}
 use Rattle.mailsql.specs.declared.rows.Mark.{Mark}
 use Rattle.vault.specs.declared.fault.VaultFault.{VaultFault}
@@ -101,10 +102,15 @@ our_marks db rows is = go (is_carried db) (rows_in db) is
     go true old e = ap (λ (r : Rows). r.marks) e
     go false old e = ap (λ (r : Rows). r.marks) e
 
+-- the mark is that of the tables' version
+pub own_mark : (carried : Bool) (s : State) → IsOlder carried s → (rows_in s.now.trees).marks ≡ old_mark (is_carried s.now.trees) ∷ []
+own_mark carried s older = older.mark ∙ ap (λ c. old_mark c ∷ []) (sym older.order)
+
 -- it is committed
-pub carried_at : (s0 s3 s4 : State) → IsKept s3.now → rows_in s3.now.trees ≡ brought_in s0.now.trees → Shows s3 s4 s3.now s3.now false → (c : Contents) × Keeps (rows_in s3.now.trees) c → IsCarried s0 s4
-carried_at s0 s3 s4 kept is shows found = record {
+pub carried_at : (carried : Bool) (s0 s3 s4 : State) → IsOlder carried s0 → IsKept s3.now → rows_in s3.now.trees ≡ brought_in s0.now.trees → Shows s3 s4 s3.now s3.now false → (c : Contents) × Keeps (rows_in s3.now.trees) c → IsCarried s0 s4
+carried_at carried s0 s3 s4 older kept is shows found = record {
   is_open = shows.is_open;
+  mark = own_mark carried s0 older;
   held = (found.0, subst (λ r. Keeps r found.0) is found.1);
   kept = λ c k. record {
     autocommit = shows.mode;
@@ -115,9 +121,20 @@ carried_at s0 s3 s4 kept is shows found = record {
   };
 }
 
+-- what is committed is a whole store
+pub left_here : (d : Database) (rows : Rows) (db : Trees) → db ≡ d.trees → IsDatabase d → IsKept d → rows_in d.trees ≡ rows → IsStoreOf rows db
+left_here d rows db here listed kept is = record { found = d; trees = sym here; listed = listed; kept = kept; rows_are = ap rows_in here ∙ is }
+
 -- a stop in the commit
-pub left_at : (s0 s3 s4 : State) → rows_in s3.now.trees ≡ brought_in s0.now.trees → LeavesNoMore s0 s3 → HasCleanDisk s4 → Survives s3 s4 (λ db. db ≡ s3.now.trees) → LeavesEither s0 s4
-left_at s0 s3 s4 is first clean s db may = elim (s.crash clean db may) [ inl was ↦ inl (first db was) | inr here ↦ inr (ap rows_in here ∙ is) ]
+pub left_at : (s0 s3 s4 : State) → IsDatabase s3.now → IsKept s3.now → rows_in s3.now.trees ≡ brought_in s0.now.trees → (c : Contents) × KeepsOlder s0 c → LeavesNoMore s0 s3 → HasCleanDisk s4 → Survives s3 s4 (λ db. db ≡ s3.now.trees) → LeavesEither s0 s4
+left_at s0 s3 s4 listed kept is held first clean s db may = elim (s.crash clean db may) [ inl was ↦ inl (first db was) | inr here ↦ inr (left_here s3.now (brought_in s0.now.trees) db here listed kept is, held) ]
+
+-- so is a new store
+pub made_at : (s0 s2 s3 : State) → IsBlank s0 → IsDatabase s2.now → IsKept s2.now → rows_in s2.now.trees ≡ marked version → LeavesNoMore s0 s2 → HasCleanDisk s3 → Survives s2 s3 (λ db. db ≡ s2.now.trees) → LeavesEmptyToo s0 s3
+made_at s0 s2 s3 blank listed kept is first clean s db may = elim (s.crash clean db may) [ inl was ↦ inl (first db was) | inr here ↦ inr (blank, left_here s2.now (marked version) db here listed kept is) ]
+
+pub empty_then : (a b c : State) → LeavesEmptyToo a b → LeavesNoMore b c → LeavesEmptyToo a c
+empty_then a b c p q db may = p db (q db may)
 
 pub either : (a b : State) → LeavesNoMore a b → LeavesEither a b
 either a b none db may = inl (none db may)
@@ -282,6 +299,7 @@ carried_on s0 s1 s2 same it =
     let rows = ap (λ (d : Database). brought_in d.trees) same.0.now_is in
     record {
       is_open = it.is_open;
+      mark = subst (λ (d : Database). (rows_in d.trees).marks ≡ old_mark (is_carried d.trees) ∷ []) same.0.now_is it.mark;
       held = (it.held.0, subst (λ r. Keeps r it.held.0) rows it.held.1);
       kept = λ c k. it.kept c (subst (λ r. Keeps r c) (sym rows) k);
     }
@@ -303,7 +321,7 @@ stays_on s0 s1 s2 same stays up =
     (same.0.was_open, (it.1.0 ∙ same.0.now_is, it.1.1 ∙ same.0.committed_is), it.2 ∙ same.0.mode)
 
 pub either_on : (s0 s1 s2 : State) → IsUnchanged s0 s1 → LeavesNoMore s0 s1 → LeavesEither s1 s2 → LeavesEither s0 s2
-either_on s0 s1 s2 same first then db may = elim (then db may) [ inl was ↦ inl (first db was) | inr now ↦ inr (now ∙ ap (λ (d : Database). brought_in d.trees) same.0.now_is) ]
+either_on s0 s1 s2 same first then db may = elim (then db may) [ inl was ↦ inl (first db was) | inr now ↦ inr (subst (λ (d : Database). IsStoreOf (brought_in d.trees) db × ((c : Contents) × Keeps (brought_in d.trees) c)) same.0.now_is now) ]
 
 -- a query of an older store commits nothing
 pub asked_old : (a b : State) → IsOldSchema a.now → HasCleanDisk b → Survives a b (λ _. IsOldSchema a.now → ⊥) → LeavesNoMore a b

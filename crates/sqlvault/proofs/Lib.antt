@@ -31,3 +31,4 @@ pub mod UsesLemmas
 pub mod MoveLemmas
 pub mod CarryLemmas
 pub mod AgainLemmas
+pub mod VersionLemmas

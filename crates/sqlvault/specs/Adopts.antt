@@ -19,11 +19,12 @@ use Rattle.sqlite_trees.specs.Tree.{Trees}
 use Rattle.mailsql.specs.Uses.{marked}
 use Rattle.mailsql.specs.Tables.{no_schema}
 use Rattle.mailsql.specs.Rows.{Rows, rows_in, IsKept, IsBare, is_mark}
+use Rattle.mailsql.specs.Marked.{HasMarks}
 use Rattle.sqlvault.specs.Keeps.{Keeps, our_mark, version}
-use Rattle.sqlvault.specs.Carries.{HasOlder, IsCarried, IsUncarried, LeavesEither}
+use Rattle.sqlvault.specs.Carries.{HasOlder, IsCarried, IsUncarried, IsOfNoVersion, IsStoreOf, LeavesEither}
 use Rattle.sqlvault.specs.Opened.{Opened}
 use Rattle.sqlvault.specs.Refusals.{open_fault}
-use Rattle.sqlvault.specs.Stands.{Holds}
+use Rattle.sqlvault.specs.Stands.{Holds, LeavesNoMore}
 
 -- the store has no table, index or view
 abbrev pub IsBlank : State → Type 0
@@ -76,13 +77,36 @@ abbrev pub Adopts : {A : Type 0} → State → State → Result A VaultFault →
 Adopts old new (Ok _) = IsAdopted old new
 Adopts old new (Err fault) = IsRefused old fault
 
--- a stop leaves what it could leave before or, of a store without a table, one of ours that holds nothing
+-- a stop leaves what it could leave before or, of a store without a table, a whole one of ours that holds nothing
 abbrev pub LeavesEmptyToo : State → State → Type 0
-LeavesEmptyToo old new = (db : Trees) → new.may_leave db → old.may_leave db ⊎ (IsBlank old × (rows_in db ≡ marked version))
+LeavesEmptyToo old new = (db : Trees) → new.may_leave db → old.may_leave db ⊎ (IsBlank old × IsStoreOf (marked version) db)
 
 -- the tables are as they were, and so is the transaction, if one is under way
 abbrev pub StaysAs : State → State → Type 0
 StaysAs old new = IsTrue new.is_open → IsTrue old.is_open × ((new.now ≡ old.now) × (new.committed ≡ old.committed)) × (new.in_transaction ≡ old.in_transaction)
+
+-- A store of a version that isn't known here: no transaction is under way, the table of marks is there, whatever the other tables are, and our mark has
+-- none of the versions 1, 2 and 3.
+pub record IsOfUnknownVersion (s : State) : Type 0 where
+  pub autocommit : s.in_transaction ≡ false
+  pub table : HasMarks s.now
+  pub mark : IsOfNoVersion (rows_in s.now.trees)
+
+-- the fault says so, or is a statement's
+abbrev pub IsVersionFault : VaultFault → Type 0
+IsVersionFault Store = ⊤
+IsVersionFault NoMemory = ⊤
+IsVersionFault OldVersion = ⊤
+IsVersionFault _ = ⊥
+
+-- it is refused for that: its tables stay as they were, and a stop leaves no more than before
+abbrev pub RefusesVersion : State → State → VaultFault → Type 0
+RefusesVersion old new fault = IsVersionFault fault × (StaysAs old new × LeavesNoMore old new)
+
+-- so is every answer over such a store
+abbrev pub IsVersionRefused : {A : Type 0} → State → State → Result A VaultFault → Type 0
+IsVersionRefused old new (Ok _) = ⊥
+IsVersionRefused old new (Err fault) = RefusesVersion old new fault
 
 -- what the marks say of the version
 abbrev pub JudgesMarks : Rows → VaultFault → Type 0
@@ -106,6 +130,7 @@ pub record IsFoundIn {D : Type 0} {g : Ghosts D} (image : Image) (now : Held (Fi
   pub stop : IsKnown (file_state first) → LeavesEmptyToo (file_state first) (file_state now)
   pub carried : HasOlder (file_state first) → IsCarried (file_state first) (file_state now)
   pub carried_stop : HasOlder (file_state first) → LeavesEither (file_state first) (file_state now)
+  pub known_version : IsOfUnknownVersion (file_state first) → ⊥
 
 -- an older store is refused for a cause: its tables stay as they were, and a stop leaves the old store or the new one
 abbrev pub RefusesOlder : State → State → VaultFault → Type 0
@@ -115,7 +140,8 @@ RefusesOlder old new fault = HasOlder old → IsUncarried old fault × (StaysAs 
 abbrev pub IsRefusedIn : {D : Type 0} → Ghosts D → Image → VaultFault → Type 0
 IsRefusedIn {D} g image fault =
     ((e : Error) × IsTrue (is_open_error e) × (fault ≡ open_fault e))
-    ⊎ ((first : Held (FileStore D g)) × (last : Held (FileStore D g)) × (HasCleanDisk (file_state last) → (IsOpened first × FindsIn image (file_state first)) × (IsKnown (file_state first) → IsRefused (file_state first) fault) × RefusesOlder (file_state first) (file_state last) fault))
+    ⊎ ((first : Held (FileStore D g)) × (last : Held (FileStore D g)) × (HasCleanDisk (file_state last) → (IsOpened first × FindsIn image (file_state first)) × (IsKnown (file_state first) → IsRefused (file_state first) fault) × RefusesOlder (file_state first) (file_state last) fault
+    × (IsOfUnknownVersion (file_state first) → RefusesVersion (file_state first) (file_state last) fault)))
 
 -- what opening files that held this image comes to
 abbrev pub OpensIn : {D : Type 0} {g : Ghosts D} → Image → Result (Opened (FileStore D g)) VaultFault → Type 0

@@ -2,12 +2,13 @@
 use Rattle.std.specs.Prelude.{◌≡◌, ◌≢◌, ◌⊎◌, ⊤, Bool, true, false, IsTrue, ℤ, pos, Result, Ok, Err, Some, [], ◌∷◌, map, flat_map, codes}
 use Rattle.std.specs.List.{find}
 use Rattle.sqlite_trees.specs.Tree.{Trees}
+use Rattle.sqlite.specs.Effect.{Database, IsDatabase}
 use Rattle.sqlite.specs.State.{State}
 use Rattle.vault.specs.declared.fault.VaultFault.{VaultFault}
 use Rattle.vault.specs.declared.fault.VaultFault.TheVariants.{Store, NoMemory, NotOurs, OldVersion}
 use Rattle.vault.specs.Changes.{Contents}
 use Rattle.mailsql.specs.declared.rows.Mark.{Mark}
-use Rattle.mailsql.specs.Rows.{Rows, rows_in, is_carried, completed, is_mark, IsOld}
+use Rattle.mailsql.specs.Rows.{Rows, rows_in, is_carried, completed, is_mark, IsOld, IsKept}
 use Rattle.sqlvault.specs.Keeps.{Keeps, our_mark, version}
 use Rattle.sqlvault.specs.Moves.{body_head, body_sheets}
 use Rattle.sqlvault.specs.Stands.{Holds}
@@ -55,9 +56,10 @@ pub record IsOlder (carried : Bool) (s : State) : Type 0 where
 abbrev pub KeepsOlder : State → Contents → Type 0
 KeepsOlder s c = Keeps (brought_in s.now.trees) c
 
--- its rows are contents, and these are held from then on
+-- it has the mark of its version alone, its rows are contents, and these are held from then on
 pub record IsCarried (old new : State) : Type 0 where
   pub is_open : IsTrue new.is_open
+  pub mark : (rows_in old.now.trees).marks ≡ old_mark (is_carried old.now.trees) ∷ []
   pub held : (c : Contents) × KeepsOlder old c
   pub kept : (c : Contents) → KeepsOlder old c → Holds new c
 
@@ -100,6 +102,14 @@ abbrev pub CarriesOver : {A : Type 0} → State → State → Result A VaultFaul
 CarriesOver old new (Ok _) = IsCarried old new
 CarriesOver old new (Err fault) = IsUncarried old fault
 
--- a stop leaves the old store or the new one
+-- The trees are a whole store of ours with these rows: they list our tables, all of them and no other, and the rows of each are in order.
+pub record IsStoreOf (rows : Rows) (db : Trees) : Type 0 where
+  pub found : Database
+  pub trees : found.trees ≡ db
+  pub listed : IsDatabase found
+  pub kept : IsKept found
+  pub rows_are : rows_in db ≡ rows
+
+-- a stop leaves the old store or the new one, which is whole, and whose rows are contents
 abbrev pub LeavesEither : State → State → Type 0
-LeavesEither old new = (db : Trees) → new.may_leave db → old.may_leave db ⊎ (rows_in db ≡ brought_in old.now.trees)
+LeavesEither old new = (db : Trees) → new.may_leave db → old.may_leave db ⊎ (IsStoreOf (brought_in old.now.trees) db × ((c : Contents) × KeepsOlder old c))

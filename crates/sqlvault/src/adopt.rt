@@ -7,7 +7,7 @@ ghost use Rattle.mailsql.specs.Uses.{marked};
 ghost use Rattle.mailsql.specs.Rows.{HasTables, IsReady, IsUndone, IsHalted, IsBegun, GoesOn, rows_in, IsKept};
 ghost use Rattle.sqlvault.specs.Keeps.{Keeps, our_mark, version};
 ghost use Rattle.sqlvault.specs.Parts.{Finds};
-ghost use Rattle.sqlvault.specs.Adopts.{Adopts, IsBlank, IsKnown, StaysAs, LeavesEmptyToo, IsAdoptFault, IsMarked};
+ghost use Rattle.sqlvault.specs.Adopts.{Adopts, IsBlank, IsKnown, StaysAs, LeavesEmptyToo, IsAdoptFault, IsMarked, IsOfUnknownVersion, IsVersionRefused};
 ghost use Rattle.vault.specs.declared.fault.VaultFault.TheVariants.{NotOurs};
 ghost use Rattle.mailsql.specs.Names.{is_taken, has_marks};
 ghost use Rattle.sqlvault.specs.declared.refusal.Refusal.TheVariants.{Answered};
@@ -21,7 +21,7 @@ use crate::sound_clerks::{are_clerks_sound, are_maildrops_sound};
 use crate::sound_deposits::are_deposits_sound;
 use crate::sound_messages::are_messages_sound;
 use crate::sound_rules::are_rules_sound;
-use crate::transaction::undo;
+use crate::transaction::{tables_are_listed, undo};
 use mailsql::schema::{has_columns, has_marks, is_taken, keys_hold};
 use mailsql::{meta, mode, tables};
 use sqlite::{Alter, Connection, Error};
@@ -59,6 +59,7 @@ fn make<S: Alter>(conn: &mut Connection<S>) -> Result<(), Error>
         Ok(()) => {}
         Err(error) => return Err(undo(conn, error)),
     }
+    tables_are_listed(conn);
     match mode::commit(conn) {
         Ok(()) => Ok(()),
         Err(error) => Err(undo(conn, error)),
@@ -73,6 +74,7 @@ fn judge_marks<S: Alter>(alloc: Global, conn: &mut Connection<S>) -> Result<(), 
     ensures stop { HasCleanDisk (state S.Store conn.new) → IsReady (state S.Store conn.old) → LeavesNoMore (state S.Store conn.old) (state S.Store conn.new) }
     ensures kinds { IfErr result (λ refusal. IsAdoptFault (told refusal)) }
     ensures clean { WasClean (state S.Store conn.old) (state S.Store conn.new) }
+    ensures unknown { HasCleanDisk (state S.Store conn.new) → IsOfUnknownVersion (state S.Store conn.old) → (IsTrue (state S.Store conn.old).is_open → (state S.Store conn.old).now ≡ (state S.Store conn.old).committed) → IsVersionRefused (state S.Store conn.old) (state S.Store conn.new) (answer_of result) }
 {
     match meta::find_mark(alloc, conn, b"popbox") {
         Ok(Some(mark)) => {
@@ -137,6 +139,7 @@ fn judge<S: Alter>(alloc: Global, conn: &mut Connection<S>) -> Result<(), Refusa
     ensures stop { HasCleanDisk (state S.Store conn.new) → IsReady (state S.Store conn.old) → LeavesNoMore (state S.Store conn.old) (state S.Store conn.new) }
     ensures kinds { IfErr result (λ refusal. IsAdoptFault (told refusal)) }
     ensures clean { WasClean (state S.Store conn.old) (state S.Store conn.new) }
+    ensures unknown { HasCleanDisk (state S.Store conn.new) → IsOfUnknownVersion (state S.Store conn.old) → (IsTrue (state S.Store conn.old).is_open → (state S.Store conn.old).now ≡ (state S.Store conn.old).committed) → IsVersionRefused (state S.Store conn.old) (state S.Store conn.new) (answer_of result) }
 {
     match judge_marks(alloc, conn) {
         Ok(()) => {}
@@ -152,7 +155,8 @@ fn judge<S: Alter>(alloc: Global, conn: &mut Connection<S>) -> Result<(), Refusa
     }
 }
 
-/// Makes our tables where the connection has none of our names, carries those of version 2 over, and judges ours.
+/// Makes our tables where the connection has none of our names, carries those of version 2 over,
+/// and judges ours.
 pub(crate) fn settle<S: Alter>(alloc: Global, conn: &mut Connection<S>) -> Result<(), Refusal>
     ensures adopted { HasCleanDisk (state S.Store conn.new) → IsKnown (state S.Store conn.old) → Adopts (state S.Store conn.old) (state S.Store conn.new) (answer_of result) }
     ensures stays { HasCleanDisk (state S.Store conn.new) → IsKnown (state S.Store conn.old) → OnErr result (StaysAs (state S.Store conn.old) (state S.Store conn.new)) }
@@ -165,6 +169,7 @@ pub(crate) fn settle<S: Alter>(alloc: Global, conn: &mut Connection<S>) -> Resul
     ensures carried { HasCleanDisk (state S.Store conn.new) → HasOlder (state S.Store conn.old) → (state S.Store conn.old).in_transaction ≡ false → CarriesOver (state S.Store conn.old) (state S.Store conn.new) (answer_of result) }
     ensures carried_stays { HasCleanDisk (state S.Store conn.new) → HasOlder (state S.Store conn.old) → (state S.Store conn.old).in_transaction ≡ false → OnErr result (StaysAs (state S.Store conn.old) (state S.Store conn.new)) }
     ensures carried_stop { HasCleanDisk (state S.Store conn.new) → HasOlder (state S.Store conn.old) → (state S.Store conn.old).in_transaction ≡ false → LeavesEither (state S.Store conn.old) (state S.Store conn.new) }
+    ensures unknown { HasCleanDisk (state S.Store conn.new) → IsOfUnknownVersion (state S.Store conn.old) → IsVersionRefused (state S.Store conn.old) (state S.Store conn.new) (answer_of result) }
 {
     if !conn.is_autocommit() {
         return Err(Refusal::Answered(VaultFault::NotOurs));

@@ -4,7 +4,7 @@ ghost use Rattle.sqlite.specs.Held.{Held, state};
 ghost use Rattle.sqlite.specs.State.{HasCleanDisk, Survives, IsUnchanged};
 ghost use Rattle.mailsql.specs.Tables.{old_schema};
 ghost use Rattle.mailsql.specs.Rows.{IsOld, HasOldTables, IsKept, IsUndone, IsHalted, IsGone, IsBegunOn, GoesOn, is_carried, rows_in};
-ghost use Rattle.sqlvault.specs.Adopts.{StaysAs, IsAdoptFault};
+ghost use Rattle.sqlvault.specs.Adopts.{StaysAs, IsAdoptFault, IsOfUnknownVersion, IsVersionRefused};
 ghost use Rattle.sqlvault.specs.Carries.{HasOlder, IsOlder, IsCarried, IsUncarried, IsOfRows, IsNoOlder, IsMarkedOlder, CarriesOver, LeavesEither, brought, old_mark, old_version};
 ghost use Rattle.sqlvault.specs.Refusals.{answer_of, told};
 ghost use Rattle.sqlvault.specs.Stands.{WasClean, LeavesNoMore};
@@ -12,7 +12,7 @@ ghost use Rattle.sqlvault.specs.Stands.{WasClean, LeavesNoMore};
 use crate::adopt::{VERSION, are_rows_sound};
 use crate::moves::move_old;
 use crate::refusal::Refusal;
-use crate::transaction::undo;
+use crate::transaction::{tables_are_listed, undo};
 use mailsql::schema::{has_first_columns, has_second_columns};
 use mailsql::{meta, mode, tables};
 use sqlite::{Alter, Connection, Error};
@@ -25,8 +25,8 @@ const FIRST: i64 = 1;
 /// The version of the layout without groups.
 const SECOND: i64 = 2;
 
-/// Makes the tables that a store of version 1, which is `carried`, or of version 2 lacks, moves the messages of version 1, and puts
-/// our mark in place of the older one, inside a transaction.
+/// Makes the tables that a store of version 1, which is `carried`, or of version 2 lacks, moves the
+/// messages of version 1, and puts our mark in place of the older one, inside a transaction.
 fn bring<S: Alter>(alloc: Global, conn: &mut Connection<S>, carried: bool) -> Result<(), Error>
     ensures done { HasCleanDisk (state S.Store conn.new) → IsBegunOn (state S.Store conn.old) → is_carried (state S.Store conn.old).now.trees ≡ carried → (rows_in (state S.Store conn.old).now.trees).marks ≡ old_mark carried ∷ [] → OnOk result ((IsKept (state S.Store conn.new).now × (rows_in (state S.Store conn.new).now.trees ≡ brought carried (rows_in (state S.Store conn.old).now.trees))) × GoesOn (state S.Store conn.old) (state S.Store conn.new)) }
     ensures err { HasCleanDisk (state S.Store conn.new) → IsBegunOn (state S.Store conn.old) → is_carried (state S.Store conn.old).now.trees ≡ carried → (rows_in (state S.Store conn.old).now.trees).marks ≡ old_mark carried ∷ [] → OnErr result (IsHalted (state S.Store conn.old) (state S.Store conn.new)) }
@@ -43,8 +43,9 @@ fn bring<S: Alter>(alloc: Global, conn: &mut Connection<S>, carried: bool) -> Re
     }
 }
 
-/// Carries a store of version 1, which is `carried`, or of version 2 over, in one transaction: its lists stay, and its rows are all
-/// read once. Where they aren't sound records it is as it was, as after every refusal.
+/// Carries a store of version 1, which is `carried`, or of version 2 over, in one transaction: its
+/// lists stay, and its rows are all read once. Where they aren't sound records it is as it was, as
+/// after every refusal.
 pub(crate) fn carry<S: Alter>(
     alloc: Global,
     conn: &mut Connection<S>,
@@ -70,6 +71,7 @@ pub(crate) fn carry<S: Alter>(
         Ok(false) => return Err(unsound(conn)),
         Err(error) => return Err(Refusal::Met(undo(conn, error))),
     }
+    tables_are_listed(conn);
     match mode::commit(conn) {
         Ok(()) => Ok(()),
         Err(error) => Err(Refusal::Met(undo(conn, error))),
@@ -113,6 +115,7 @@ fn find_older<S: Alter>(alloc: Global, conn: &mut Connection<S>) -> Result<bool,
     ensures stop { HasCleanDisk (state S.Store conn.new) → IsOld (state S.Store conn.old).now → LeavesNoMore (state S.Store conn.old) (state S.Store conn.new) }
     ensures kinds { IfErr result (λ refusal. IsAdoptFault (told refusal)) }
     ensures clean { WasClean (state S.Store conn.old) (state S.Store conn.new) }
+    ensures unknown { HasCleanDisk (state S.Store conn.new) → IsOfUnknownVersion (state S.Store conn.old) → (IsTrue (state S.Store conn.old).is_open → (state S.Store conn.old).now ≡ (state S.Store conn.old).committed) → IsVersionRefused (state S.Store conn.old) (state S.Store conn.new) (answer_of result) }
 {
     let carried = match meta::find_mark(alloc, conn, b"popbox") {
         Ok(Some(mark)) => match version_of(mark.value) {
@@ -146,13 +149,15 @@ fn has_older_columns<S: Alter>(conn: &Connection<S>, carried: bool) -> bool
     }
 }
 
-/// Carries a store that lacks some of our tables over where it has those of an older version, and its mark alone.
+/// Carries a store that lacks some of our tables over where it has those of an older version, and
+/// its mark alone.
 pub(crate) fn carry_marked<S: Alter>(alloc: Global, conn: &mut Connection<S>) -> Result<(), Refusal>
     ensures carried { HasCleanDisk (state S.Store conn.new) → HasOlder (state S.Store conn.old) → (state S.Store conn.old).in_transaction ≡ false → (IsTrue (state S.Store conn.old).is_open → (state S.Store conn.old).now ≡ (state S.Store conn.old).committed) → CarriesOver (state S.Store conn.old) (state S.Store conn.new) (answer_of result) }
     ensures stays { HasCleanDisk (state S.Store conn.new) → HasOlder (state S.Store conn.old) → (state S.Store conn.old).in_transaction ≡ false → (IsTrue (state S.Store conn.old).is_open → (state S.Store conn.old).now ≡ (state S.Store conn.old).committed) → OnErr result (StaysAs (state S.Store conn.old) (state S.Store conn.new)) }
     ensures stop { HasCleanDisk (state S.Store conn.new) → HasOlder (state S.Store conn.old) → (state S.Store conn.old).in_transaction ≡ false → (IsTrue (state S.Store conn.old).is_open → (state S.Store conn.old).now ≡ (state S.Store conn.old).committed) → LeavesEither (state S.Store conn.old) (state S.Store conn.new) }
     ensures kinds { IfErr result (λ refusal. IsAdoptFault (told refusal)) }
     ensures clean { WasClean (state S.Store conn.old) (state S.Store conn.new) }
+    ensures unknown { HasCleanDisk (state S.Store conn.new) → IsOfUnknownVersion (state S.Store conn.old) → (IsTrue (state S.Store conn.old).is_open → (state S.Store conn.old).now ≡ (state S.Store conn.old).committed) → IsVersionRefused (state S.Store conn.old) (state S.Store conn.new) (answer_of result) }
 {
     let carried = match find_older(alloc, conn) {
         Ok(carried) => carried,

@@ -186,7 +186,8 @@ fn judge_clerk<S: Alter>(
 
 /// Puts a clerk's credential, in place of the one that is there. Answers whether the clerk was new.
 ///
-/// Answers [`VaultFault::Full`] for a new name beyond 1,000. After any refusal the clerks are as they were.
+/// Answers [`VaultFault::Full`] for a new name beyond 1,000. After any refusal the clerks are as
+/// they were.
 pub(crate) fn put_clerk<S: Alter>(
     alloc: Global,
     conn: &mut Connection<S>,
@@ -209,7 +210,8 @@ pub(crate) fn put_clerk<S: Alter>(
 
 /// Drops a clerk.
 ///
-/// Answers [`VaultFault::NoClerk`] where there is none of that name. After any refusal the clerks are as they were.
+/// Answers [`VaultFault::NoClerk`] where there is none of that name. After any refusal the clerks
+/// are as they were.
 pub(crate) fn drop_clerk<S: Alter>(
     alloc: Global,
     conn: &mut Connection<S>,

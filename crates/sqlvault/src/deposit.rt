@@ -266,12 +266,14 @@ fn receipt_for(maildrop: &Name, class: &Name, id: &DepositId, k: u64, digest: [u
     }
 }
 
-/// Puts a message into a maildrop, once for each deposit id of the maildrop's name: the message, its sheets, its receipt
-/// and the count of its class are committed together, or nothing is changed.
+/// Puts a message into a maildrop, once for each deposit id of the maildrop's name: the message,
+/// its sheets, its receipt and the count of its class are committed together, or nothing is
+/// changed.
 ///
-/// Answers [`VaultFault::NoMaildrop`] where the maildrop is missing, else [`VaultFault::Conflict`] where the id was used
-/// with another class or text, else [`VaultFault::Full`] where the maildrop has 10,000 messages or its name had
-/// 1,000,000,000 deposits of the class. An error of a statement leaves what was held before.
+/// Answers [`VaultFault::NoMaildrop`] where the maildrop is missing, else [`VaultFault::Conflict`]
+/// where the id was used with another class or text, else [`VaultFault::Full`] where the maildrop
+/// has 10,000 messages or its name had 1,000,000,000 deposits of the class. An error of a statement
+/// leaves what was held before.
 pub(crate) fn deposit<S: Alter>(
     alloc: Global,
     conn: &mut Connection<S>,

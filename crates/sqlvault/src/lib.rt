@@ -1,4 +1,5 @@
-//! A mail store in a SQLite database: every call of a vault over the tables of a store, by the statements of `mailsql` alone.
+//! A mail store in a SQLite database: every call of a vault over the tables of a store, by the
+//! statements of `mailsql` alone.
 #![tactic(auto)]
 
 mod adopt;

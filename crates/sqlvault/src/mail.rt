@@ -37,7 +37,8 @@ fn read_head(row: &Message) -> Option<Head>
     }
 }
 
-/// The messages of these rows, as a login sees them. Where each row is that of a message, memory alone can be wanting.
+/// The messages of these rows, as a login sees them. Where each row is that of a message, memory
+/// alone can be wanting.
 fn read_heads(alloc: Global, rows: &[Message]) -> Result<Vec<Head>, Error>
     ensures items { (ms : List Keyed) → rows.now ≡ map message_row ms → list_all (λ x. is_name x.message.class) ms ≡ true → list_all (λ x. nat_lt x.key (2 ^ 64)) ms ≡ true → IfOk result (λ heads. heads.items ≡ map head_of ms) }
     ensures memory { (ms : List Keyed) → rows.now ≡ map message_row ms → list_all (λ x. is_name x.message.class) ms ≡ true → list_all (λ x. nat_lt x.key (2 ^ 64)) ms ≡ true → IfErr result IsWantOfMemory }
@@ -54,7 +55,8 @@ fn read_heads(alloc: Global, rows: &[Message]) -> Result<Vec<Head>, Error>
 
 /// The heads of a maildrop's messages, in order of arrival. Nothing is changed.
 ///
-/// Answers [`VaultFault::NoMaildrop`] where the maildrop is missing, else the error that a query met.
+/// Answers [`VaultFault::NoMaildrop`] where the maildrop is missing, else the error that a query
+/// met.
 pub(crate) fn heads<S: Alter>(
     alloc: Global,
     conn: &mut Connection<S>,
@@ -94,8 +96,8 @@ fn remove_all<S: Alter>(
     Ok(())
 }
 
-/// Removes those of the maildrop's messages that the keys name, all or none. Keys that aren't there are passed over, in a
-/// missing maildrop all.
+/// Removes those of the maildrop's messages that the keys name, all or none. Keys that aren't there
+/// are passed over, in a missing maildrop all.
 ///
 /// Answers the error that a statement met; nothing is then changed.
 pub(crate) fn remove<S: Alter>(

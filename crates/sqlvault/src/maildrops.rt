@@ -18,7 +18,8 @@ pub(crate) const MAX_MAILDROPS: u64 = 1000;
 
 /// Adds a maildrop of this name. Answers whether it was new.
 ///
-/// Answers [`VaultFault::Full`] for a new name beyond 1,000. After any refusal the maildrops are as they were.
+/// Answers [`VaultFault::Full`] for a new name beyond 1,000. After any refusal the maildrops are as
+/// they were.
 pub(crate) fn add_maildrop<S: Alter>(conn: &mut Connection<S>, name: &Name) -> Result<bool, Refusal>
     ensures done { (c : Contents) → HasCleanDisk (state S.Store conn.new) → Holds (state S.Store conn.old) c → IsMaildropAdded (Holds (state S.Store conn.new)) c name.now (answer_of result) }
     ensures clean { WasClean (state S.Store conn.old) (state S.Store conn.new) }
@@ -47,8 +48,8 @@ pub(crate) fn add_maildrop<S: Alter>(conn: &mut Connection<S>, name: &Name) -> R
 
 /// Drops an empty maildrop. The deposits and the counts of its name stay.
 ///
-/// Answers [`VaultFault::NoMaildrop`] where the maildrop is missing, else [`VaultFault::NotEmpty`] where it has a message. After any refusal
-/// the maildrops are as they were.
+/// Answers [`VaultFault::NoMaildrop`] where the maildrop is missing, else [`VaultFault::NotEmpty`]
+/// where it has a message. After any refusal the maildrops are as they were.
 pub(crate) fn drop_maildrop<S: Alter>(conn: &mut Connection<S>, name: &Name) -> Result<(), Refusal>
     ensures done { (c : Contents) → HasCleanDisk (state S.Store conn.new) → Holds (state S.Store conn.old) c → IsMaildropDropped (Holds (state S.Store conn.new)) c name.now (answer_of result) }
     ensures clean { WasClean (state S.Store conn.old) (state S.Store conn.new) }

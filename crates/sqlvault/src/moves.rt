@@ -38,7 +38,8 @@ fn put_body<S: Alter>(conn: &mut Connection<S>, body: &Body) -> Result<(), Error
     }
 }
 
-/// Puts the message of version 1 that is found under a key into the tables of ours, inside a transaction.
+/// Puts the message of version 1 that is found under a key into the tables of ours, inside a
+/// transaction.
 fn move_one<S: Alter>(alloc: Global, conn: &mut Connection<S>, key: i64) -> Result<(), Error>
     ensures part { (body : rows.Body) → HasCleanDisk (state S.Store conn.new) → IsInside (state S.Store conn.old) → is_carried (state S.Store conn.old).now.trees ≡ true → find (is_body key) (rows_in (state S.Store conn.old).now.trees).bodies ≡ Some body
         → AllByRecursion (λ (m : heads.Message). m.key <ℤ body.head.key) (rows_in (state S.Store conn.old).now.trees).messages → Part (Moves (body ∷ [])) (state S.Store conn.old) (state S.Store conn.new) result }
@@ -51,7 +52,8 @@ fn move_one<S: Alter>(alloc: Global, conn: &mut Connection<S>, key: i64) -> Resu
     }
 }
 
-/// Puts each message of version 1 into the tables of ours, which have none, inside a transaction. These are their heads.
+/// Puts each message of version 1 into the tables of ours, which have none, inside a transaction.
+/// These are their heads.
 fn move_all<S: Alter>(
     alloc: Global,
     conn: &mut Connection<S>,
@@ -89,7 +91,8 @@ fn move_messages<S: Alter>(alloc: Global, conn: &mut Connection<S>) -> Result<()
     }
 }
 
-/// Moves the messages of a store of version 1, inside a transaction. One of version 2, where `carried` is false, has them in the tables of ours.
+/// Moves the messages of a store of version 1, inside a transaction. One of version 2, where
+/// `carried` is false, has them in the tables of ours.
 pub(crate) fn move_old<S: Alter>(
     alloc: Global,
     conn: &mut Connection<S>,

@@ -71,7 +71,8 @@ fn are_clerks(rows: &[Clerk]) -> bool
     rows.len() as u64 <= MAX_CLERKS && each_is_clerk(rows)
 }
 
-/// Whether the rows of the clerks are sound: names and credentials of their forms, and no more than 1,000.
+/// Whether the rows of the clerks are sound: names and credentials of their forms, and no more than
+/// 1,000.
 pub(crate) fn are_clerks_sound<S: Alter>(
     alloc: Global,
     conn: &mut Connection<S>,

@@ -143,8 +143,8 @@ fn are_sound(alloc: Global, rows: &[Deposit], counts: &[Count]) -> Result<bool, 
     }
 }
 
-/// Whether the rows of the deposits are sound: names, ids and digests of their forms, and the numbers of each class in a
-/// maildrop's name are 1 to its count, which is 1,000,000,000 at most.
+/// Whether the rows of the deposits are sound: names, ids and digests of their forms, and the
+/// numbers of each class in a maildrop's name are 1 to its count, which is 1,000,000,000 at most.
 pub(crate) fn are_deposits_sound<S: Alter>(
     alloc: Global,
     conn: &mut Connection<S>,

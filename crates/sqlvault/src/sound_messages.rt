@@ -195,7 +195,8 @@ fn judge_maildrop<S: Alter>(
     }
 }
 
-/// How many sheets the messages of these maildrops have, 2^64 - 1 at most, if the rows of each are sound.
+/// How many sheets the messages of these maildrops have, 2^64 - 1 at most, if the rows of each are
+/// sound.
 fn judge_maildrops<S: Alter>(
     alloc: Global,
     conn: &mut Connection<S>,
@@ -217,8 +218,9 @@ fn judge_maildrops<S: Alter>(
     Ok(Some(sheets))
 }
 
-/// Whether the rows of the messages are sound: each has a deposit of its class and number, and its sheets are a text in its kept
-/// form, with as many octets as the row says; no maildrop has more than 10,000; and there is no other sheet.
+/// Whether the rows of the messages are sound: each has a deposit of its class and number, and its
+/// sheets are a text in its kept form, with as many octets as the row says; no maildrop has more
+/// than 10,000; and there is no other sheet.
 pub(crate) fn are_messages_sound<S: Alter>(
     alloc: Global,
     conn: &mut Connection<S>,

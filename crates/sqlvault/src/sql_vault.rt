@@ -3,7 +3,7 @@ ghost use Rattle.std.specs.Prelude.{◌≡◌, false, IfOk, IfErr, IsTrue};
 ghost use Rattle.sqlite.specs.Held.{Held, state};
 ghost use Rattle.sqlite.specs.State.{HasCleanDisk};
 ghost use Rattle.vault.specs.Calls.{CountsFaults};
-ghost use Rattle.sqlvault.specs.Adopts.{IsAdopted, IsKnown, IsRefused, IsAdoptFault, LeavesEmptyToo, RefusesOlder};
+ghost use Rattle.sqlvault.specs.Adopts.{IsAdopted, IsKnown, IsRefused, IsAdoptFault, LeavesEmptyToo, RefusesOlder, IsOfUnknownVersion, RefusesVersion};
 ghost use Rattle.sqlvault.specs.Carries.{HasOlder, IsCarried, LeavesEither};
 ghost use Rattle.sqlvault.specs.Refusals.{answer_of, count_after, open_fault};
 
@@ -18,7 +18,8 @@ use std::alloc::Global;
 use std::marker::Model;
 use vault::{Deposited, Head, MessageKey, Total, Vault, VaultFault};
 
-/// A mail store over the tables of a connection. Contracts see the connection and its count of faults.
+/// A mail store over the tables of a connection. Contracts see the connection and its count of
+/// faults.
 #[derive(Drop)]
 pub struct SqlVault<S: Alter> {
     alloc: Global,
@@ -43,9 +44,11 @@ impl SqlVault<MemStore> {
     ghost use Rattle.vault.specs.Plain.{no_contents};
     ghost use Rattle.sqlvault.specs.Stands.{Holds};
 
-    /// A new store in memory, which holds nothing. Its tables are those of a file, and it is gone with the process.
+    /// A new store in memory, which holds nothing. Its tables are those of a file, and it is gone
+    /// with the process.
     ///
-    /// Answers [`VaultFault::NoMemory`] where memory was refused, and [`VaultFault::Store`] where SQLite refused a statement.
+    /// Answers [`VaultFault::NoMemory`] where memory was refused, and [`VaultFault::Store`] where
+    /// SQLite refused a statement.
     pub fn in_memory(alloc: Global) -> Result<SqlVault<MemStore>, VaultFault>
         ensures empty { IfOk result (λ vault. IsTrue (state over_memory vault.conn).is_open × Holds (state over_memory vault.conn) no_contents) }
         ensures uncounted { IfOk result (λ vault. vault.faults ≡ 0) }
@@ -64,11 +67,13 @@ impl<S: Start> SqlVault<FileStore<FileFrom<S>>> {
     ghost use Rattle.sqlite_wal.specs.Files.{image_at};
     ghost use Rattle.sqlvault.specs.Adopts.{OpensIn};
 
-    /// Opens the database file at the path, or makes it, and adopts it as [`SqlVault::adopt`] does. `start` stands for what the files
-    /// hold, as in `open_from` of `sqlite`. An empty file, or none, is a store without a table.
+    /// Opens the database file at the path, or makes it, and adopts it as [`SqlVault::adopt`] does.
+    /// `start` stands for what the files hold, as in `open_from` of `sqlite`. An empty file, or
+    /// none, is a store without a table.
     ///
-    /// Answers what `adopt` answers; [`VaultFault::NotOurs`] for a file that is no database, [`VaultFault::NoMemory`] where memory was
-    /// refused, and [`VaultFault::Store`] where the file can't be opened for another cause: so of the path `:memory:`, which is no file's.
+    /// Answers what `adopt` answers; [`VaultFault::NotOurs`] for a file that is no database,
+    /// [`VaultFault::NoMemory`] where memory was refused, and [`VaultFault::Store`] where the file
+    /// can't be opened for another cause: so of the path `:memory:`, which is no file's.
     pub fn open(
         rt: &HostRuntime,
         path: &str,
@@ -102,7 +107,8 @@ fn take<S: Alter + Drop>(alloc: Global, conn: Connection<S>) -> Result<SqlVault<
     ensures adopted { IfOk result (λ vault. HasCleanDisk (state S.Store vault.conn) → HasCleanDisk (state S.Store conn) × (IsKnown (state S.Store conn) → IsAdopted (state S.Store conn) (state S.Store vault.conn))) }
     ensures stop { IfOk result (λ vault. HasCleanDisk (state S.Store vault.conn) → IsKnown (state S.Store conn) → IsTrue (state S.Store conn).is_open → LeavesEmptyToo (state S.Store conn) (state S.Store vault.conn)) }
     ensures carried { IfOk result (λ vault. HasCleanDisk (state S.Store vault.conn) → HasOlder (state S.Store conn) → (state S.Store conn).in_transaction ≡ false → IsCarried (state S.Store conn) (state S.Store vault.conn) × LeavesEither (state S.Store conn) (state S.Store vault.conn)) }
-    ensures refused { IfErr result (λ fault. (last : Held _) × (HasCleanDisk (state S.Store last) → HasCleanDisk (state S.Store conn) × (IsKnown (state S.Store conn) → IsRefused (state S.Store conn) fault) × ((state S.Store conn).in_transaction ≡ false → RefusesOlder (state S.Store conn) (state S.Store last) fault))) }
+    ensures refused { IfErr result (λ fault. (last : Held _) × (HasCleanDisk (state S.Store last) → HasCleanDisk (state S.Store conn) × (IsKnown (state S.Store conn) → IsRefused (state S.Store conn) fault) × ((state S.Store conn).in_transaction ≡ false → RefusesOlder (state S.Store conn) (state S.Store last) fault) × (IsOfUnknownVersion (state S.Store conn) → RefusesVersion (state S.Store conn) (state S.Store last) fault))) }
+    ensures known_version { IfOk result (λ vault. HasCleanDisk (state S.Store vault.conn) → IsOfUnknownVersion (state S.Store conn) → ⊥) }
     ensures kinds { IfErr result IsAdoptFault }
     ensures uncounted { IfOk result (λ vault. vault.faults ≡ 0) }
 {
@@ -123,21 +129,25 @@ impl<S: Alter> SqlVault<S> {
     ghost use Rattle.std.specs.Prelude.{true, Err};
     ghost use Rattle.vault.specs.declared.fault.VaultFault.TheVariants.{NotOurs};
     ghost use Rattle.mailsql.specs.Names.{is_taken, has_marks};
-    ghost use Rattle.sqlvault.specs.Adopts.{Adopts, StaysAs};
+    ghost use Rattle.sqlvault.specs.Adopts.{Adopts, StaysAs, IsVersionRefused};
     ghost use Rattle.sqlvault.specs.Carries.{CarriesOver};
     ghost use Rattle.sqlvault.specs.Opened.{conn_of, judged_in};
     ghost use Rattle.sqlvault.specs.Stands.{WasClean};
 
-    /// Takes over a connection. A store without a table, an index or a view of our names gets our tables and our mark, in one
-    /// transaction, and holds nothing; one with our mark stays as it is, and holds what its tables hold, which are all read once. One with the
-    /// tables and the mark of version 1 or 2 is carried over, in one transaction: its lists stay, it gets the tables that it lacks and our
-    /// mark, and it holds what it held. The table of messages of version 1 stays, without a row.
+    /// Takes over a connection. A store without a table, an index or a view of our names gets our
+    /// tables and our mark, in one transaction, and holds nothing; one with our mark stays as it
+    /// is, and holds what its tables hold, which are all read once. One with the tables and the
+    /// mark of version 1 or 2 is carried over, in one transaction: its lists stay, it gets the
+    /// tables that it lacks and our mark, and it holds what it held. The table of messages of
+    /// version 1 stays, without a row.
     ///
-    /// Gives the connection back, its tables as they were, with [`VaultFault::NotOurs`] where a transaction is under way, or one of our names
-    /// is taken in a store without our mark, or our tables have other columns, or their rows aren't sound records with counts and octets
-    /// that agree; with [`VaultFault::OldVersion`] where our mark has another version, and never under that of version 1 or 2 in
-    /// a store that has not all our tables; with [`VaultFault::NoMemory`] where memory was
-    /// refused; and with [`VaultFault::Store`] where SQLite refused a statement for another cause.
+    /// Gives the connection back, its tables as they were, with [`VaultFault::NotOurs`] where a
+    /// transaction is under way, or one of our names is taken in a store without our mark, or our
+    /// tables have other columns, or their rows aren't sound records with counts and octets that
+    /// agree; with [`VaultFault::OldVersion`] where our mark has another version, whatever the
+    /// other tables of the store are, but never under that of version 1 or 2 in a store that has
+    /// not all our tables; with [`VaultFault::NoMemory`] where memory was refused; and with
+    /// [`VaultFault::Store`] where SQLite refused a statement for another cause.
     pub fn adopt(
         alloc: Global,
         conn: Connection<S>,
@@ -153,6 +163,7 @@ impl<S: Alter> SqlVault<S> {
         ensures carried { HasCleanDisk (state S.Store (conn_of result)) → HasOlder (state S.Store conn) → (state S.Store conn).in_transaction ≡ false → CarriesOver (state S.Store conn) (state S.Store (conn_of result)) (judged_in result) }
         ensures carried_stays { IfErr result (λ refused. HasCleanDisk (state S.Store refused.1) → HasOlder (state S.Store conn) → (state S.Store conn).in_transaction ≡ false → StaysAs (state S.Store conn) (state S.Store refused.1)) }
         ensures carried_stop { HasCleanDisk (state S.Store (conn_of result)) → HasOlder (state S.Store conn) → (state S.Store conn).in_transaction ≡ false → LeavesEither (state S.Store conn) (state S.Store (conn_of result)) }
+        ensures unknown { HasCleanDisk (state S.Store (conn_of result)) → IsOfUnknownVersion (state S.Store conn) → IsVersionRefused (state S.Store conn) (state S.Store (conn_of result)) (judged_in result) }
     {
         let mut conn = conn;
         match settle(alloc, &mut conn) {

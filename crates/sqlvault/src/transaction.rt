@@ -1,7 +1,7 @@
 //! The end of a transaction.
 ghost use Rattle.std.specs.Prelude.{◌≡◌, ◌⊎◌, IsTrue, OnOk};
 ghost use Rattle.sqlite.specs.Held.{Held, state};
-ghost use Rattle.sqlite.specs.State.{HasCleanDisk, Survives};
+ghost use Rattle.sqlite.specs.State.{HasCleanDisk, IsLive, Survives};
 ghost use Rattle.vault.specs.Changes.{Contents};
 ghost use Rattle.mailsql.specs.Rows.{Rows, IsHalted, IsGone};
 ghost use Rattle.sqlvault.specs.Keeps.{Keeps};
@@ -12,7 +12,8 @@ use crate::refusal::is_memory;
 use mailsql::mode;
 use sqlite::{Alter, Connection, Error};
 
-/// Ends the transaction, if it is not gone, after an error. Tells that error; where it is the want of memory and the end is refused too, the refusal's.
+/// Ends the transaction, if it is not gone, after an error. Tells that error; where it is the want
+/// of memory and the end is refused too, the refusal's.
 pub(crate) fn undo<S: Alter>(conn: &mut Connection<S>, error: Error) -> Error
     ensures holds { (base : Contents) → HasCleanDisk (state S.Store conn.new) → Halted (state S.Store conn.old) base → Holds (state S.Store conn.new) base }
     ensures gone { (first : Held _) → HasCleanDisk (state S.Store conn.new) → IsHalted (state S.Store first) (state S.Store conn.old) → IsGone (state S.Store first) (state S.Store conn.new) }
@@ -26,6 +27,13 @@ pub(crate) fn undo<S: Alter>(conn: &mut Connection<S>, error: Error) -> Error
         Ok(()) => error,
         Err(other) => { if is_memory(&error) { other } else { error } }
     }
+}
+
+/// Says that what an open connection shows, and what was committed last, list their tables.
+pub(crate) fn tables_are_listed<S: Alter>(conn: &Connection<S>)
+    ensures live { IsLive (state S.Store conn.now) }
+{
+    let _schema = conn.schema();
 }
 
 /// Commits the transaction, or undoes it.

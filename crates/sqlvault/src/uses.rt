@@ -72,7 +72,8 @@ pub struct Mail {
     pub octets_read: usize,
 }
 
-/// Looks at the mail, and reads the message into the front of the buffer. An error is a refusal of any call.
+/// Looks at the mail, and reads the message into the front of the buffer. An error is a refusal of
+/// any call.
 fn look<V: Vault>(vault: &mut V, stock: &Stock, buffer: &mut [u8]) -> Result<Mail, VaultFault>
     ensures shown { (key : ℕ) → V.is_clean vault.new → V.holds vault.old (filled key stock.now) → IfOk result (ShowsMail stock.now buffer.new) }
     ensures key { (key : ℕ) → V.is_clean vault.new → V.holds vault.old (filled key stock.now) → IfOk result (λ mail. mail.key ≡ key) }
@@ -116,7 +117,8 @@ fn look_up<V: Vault>(vault: &mut V, stock: &Stock) -> Result<Kept, VaultFault>
     Ok(Kept { credential, policy })
 }
 
-/// Removes the message, and drops the clerk and the maildrop. Answers the heads that were left. An error is a refusal of any call.
+/// Removes the message, and drops the clerk and the maildrop. Answers the heads that were left. An
+/// error is a refusal of any call.
 fn empty<V: Vault>(vault: &mut V, stock: &Stock, key: MessageKey) -> Result<Vec<Head>, VaultFault>
     ensures none { V.is_clean vault.new → V.holds vault.old (filled key stock.now) → IfOk result (λ left. left.items ≡ []) }
     ensures held { V.is_clean vault.new → V.holds vault.old (filled key stock.now) → OnOk result (V.holds vault.new (emptied stock.now)) }
@@ -143,7 +145,8 @@ pub struct Seen {
     pub left: Vec<Head>,
 }
 
-/// Puts the stock into a store that holds nothing, looks at all of it, and takes it out again. An error is a refusal of any call.
+/// Puts the stock into a store that holds nothing, looks at all of it, and takes it out again. An
+/// error is a refusal of any call.
 fn go_through<V: Vault>(vault: &mut V, stock: &Stock, buffer: &mut [u8]) -> Result<Seen, VaultFault>
     ensures saw { V.is_clean vault.new → V.holds vault.old no_contents → IfOk result (Saw stock.now buffer.new) }
     ensures left { V.is_clean vault.new → V.holds vault.old no_contents → OnOk result (V.holds vault.new (emptied stock.now)) }
@@ -162,8 +165,8 @@ fn go_through<V: Vault>(vault: &mut V, stock: &Stock, buffer: &mut [u8]) -> Resu
     })
 }
 
-/// Puts the stock into a new store in memory, looks at all of it, and takes it out again, by each call of the store. An error is want of
-/// memory, or that the store refused a statement.
+/// Puts the stock into a new store in memory, looks at all of it, and takes it out again, by each
+/// call of the store. An error is want of memory, or that the store refused a statement.
 pub fn sample(alloc: Global, stock: &Stock, buffer: &mut [u8]) -> Result<Seen, VaultFault>
     ensures saw { IfOk result (Saw stock.now buffer.new) }
     ensures cause { IfErr result IsOfAnyCall }

@@ -7,6 +7,7 @@ use Rattle.mailsql.proofs.MetaLemmas.{find_old_mark_asks, find_old_mark_shows, f
 use Rattle.mailsql.proofs.ErrorLemmas.{asked_same_of, asked_undone_of, asked_ok, asked_same, asked_undone, asked_fails}
 use Rattle.mailsql.proofs.HeldLemmas.{marks_held}
 use Rattle.mailsql.proofs.QueryLemmas.{shown_open}
+use Rattle.mailsql.proofs.MarkedLemmas.{find_first_asks, find_first_shows, never_first}
 use Rattle.mailsql.proofs.meta.find_mark.Goals as goal
 
 pub returns-clause-ok : goal.returns-clause-ok
@@ -35,3 +36,15 @@ returns-clause-old_err g c clean tables = asked_undone_of _ _ _ _ _ _ (find_old_
 
 pub returns-clause-old_survives : goal.returns-clause-old_survives
 returns-clause-old_survives g c = never_old _ _ (state g.S.Store c.args.conn.now) (state g.S.Store c.first.new.conn) (λ b. (find_old_mark_asks b).plain) c.first.ensures.survives
+
+pub returns-clause-marked_ok : goal.returns-clause-marked_ok
+returns-clause-marked_ok g c clean it = asked_ok _ _ _ _ _ _ _ (c.first.ensures.ok clean) (λ found rows shown e. e ∙ first_is _ (is_mark c.args.name.now) rows _ (find_first_shows (state g.S.Store c.args.conn.now) (state g.S.Store c.first.new.conn) c.args.name.now rows it (c.first.ensures.live (shown_open _ _ _ _ rows shown)).0 shown))
+
+pub returns-clause-marked_same : goal.returns-clause-marked_same
+returns-clause-marked_same g c clean it = asked_same_of _ _ _ _ _ _ (find_first_asks _ it.others it.first) (λ db. refl) (state g.S.Store c.args.conn.now) (state g.S.Store c.first.new.conn) _ (λ up. refl) _ _ (c.first.ensures.ok clean)
+
+pub returns-clause-marked_err : goal.returns-clause-marked_err
+returns-clause-marked_err g c clean it = asked_undone_of _ _ _ _ _ _ (find_first_asks _ it.others it.first) (λ db. refl) (state g.S.Store c.args.conn.now) (state g.S.Store c.first.new.conn) _ (λ up. refl) _ _ (c.first.ensures.err clean)
+
+pub returns-clause-marked_survives : goal.returns-clause-marked_survives
+returns-clause-marked_survives g c = never_first _ (state g.S.Store c.args.conn.now) (state g.S.Store c.first.new.conn) c.first.ensures.survives

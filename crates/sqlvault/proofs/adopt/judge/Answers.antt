@@ -107,3 +107,20 @@ returns-in-Err-are_rows_sound-clause-kinds g c =
 pub returns-in-Err-are_rows_sound-clause-adopted : goal.returns-in-Err-are_rows_sound-clause-adopted
 returns-in-Err-are_rows_sound-clause-adopted g c clean out settled kept =
     refused_met (state g.S.Store c.args.conn.now) c.in-Err-are_rows_sound.error
+
+-- ---- of no version that is known here
+
+pub returns-in-Err-clause-unknown : goal.returns-in-Err-clause-unknown
+returns-in-Err-clause-unknown g c clean1 it settled = c.in-Err.ensures.unknown clean1 it settled
+
+pub returns-then-not-has_columns-clause-unknown : goal.returns-then-not-has_columns-clause-unknown
+returns-then-not-has_columns-clause-unknown g c clean1 it settled = absurd (c.in-Ok.ensures.unknown clean1 it settled)
+
+pub returns-in-Ok-true-clause-unknown : goal.returns-in-Ok-true-clause-unknown
+returns-in-Ok-true-clause-unknown g c clean2 it settled = absurd (c.in-Ok.ensures.unknown (c.are_rows_sound.ensures.clean clean2) it settled)
+
+pub returns-in-Ok-false-clause-unknown : goal.returns-in-Ok-false-clause-unknown
+returns-in-Ok-false-clause-unknown g c clean2 it settled = absurd (c.in-Ok.ensures.unknown (c.are_rows_sound.ensures.clean clean2) it settled)
+
+pub returns-in-Err-are_rows_sound-clause-unknown : goal.returns-in-Err-are_rows_sound-clause-unknown
+returns-in-Err-are_rows_sound-clause-unknown g c clean2 it settled = absurd (c.in-Ok.ensures.unknown (c.are_rows_sound.ensures.clean clean2) it settled)

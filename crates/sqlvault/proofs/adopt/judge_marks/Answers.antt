@@ -2,9 +2,13 @@ use Rattle.std.proofs.Common.{◌≡◌, sym, ap, length, ◌∙◌, arith, rule
 use Rattle.sqlite.specs.Held.{state}
 use Rattle.sqlite.specs.State.{HasCleanDisk, IsUnchanged}
 use Rattle.mailsql.specs.Rows.{Rows, rows_in}
+use Rattle.vault.specs.declared.fault.VaultFault.TheVariants.{OldVersion}
 use Rattle.sqlvault.specs.Keeps.{version}
+use Rattle.sqlvault.specs.Refusals.{told}
+use Rattle.sqlvault.specs.declared.refusal.Refusal.TheVariants.{Met}
 use Rattle.sqlvault.proofs.AdoptLemmas.{tables_on, rows_on, one_mark, unchanged_on, undone_on, kinds_met, marks_met}
 use Rattle.sqlvault.proofs.StayLemmas.{clean_before, asked, leaves_on, tables_of, stays_unchanged}
+use Rattle.sqlvault.proofs.VersionLemmas.{found_mark, not_ours, version_met, refused_version}
 use Rattle.sqlvault.proofs.adopt.judge_marks.Goals as goal
 
 pub returns-then-len-eq1-clause-judged : goal.returns-then-len-eq1-clause-judged
@@ -170,3 +174,53 @@ returns-in-Err-clause-judged g c clean h =
 pub returns-clause-judged : goal.returns-clause-judged
 returns-clause-judged g c clean h =
     marks_met (rows_in (state g.S.Store c.args.conn.now).now.trees) c.in-Err-all_marks.error
+
+-- ---- of no version that is known here
+
+pub returns-then-mark-ne-VERSION-clause-unknown : goal.returns-then-mark-ne-VERSION-clause-unknown
+returns-then-mark-ne-VERSION-clause-unknown g c clean1 it settled =
+    let s0 = state g.S.Store c.args.conn.now in
+    let s1 = state g.S.Store c.find_mark.new.conn in
+    refused_version s0 s1 OldVersion it settled clean1 (inl (c.in-Ok-Some.ensures.marked_same clean1 it.table)) c.find_mark.ensures.marked_survives tt
+
+pub returns-in-Ok-None-clause-unknown : goal.returns-in-Ok-None-clause-unknown
+returns-in-Ok-None-clause-unknown g c clean1 it settled =
+    let s0 = state g.S.Store c.args.conn.now in
+    let s1 = state g.S.Store c.find_mark.new.conn in
+    absurd (found_mark (rows_in s0.now.trees) it.mark (sym (c.in-Ok-None.ensures.marked_ok clean1 it.table) ∙ c.in-Ok-None.field-0-is))
+
+pub returns-in-Err-clause-unknown : goal.returns-in-Err-clause-unknown
+returns-in-Err-clause-unknown g c clean1 it settled =
+    let s0 = state g.S.Store c.args.conn.now in
+    let s1 = state g.S.Store c.find_mark.new.conn in
+    refused_version s0 s1 (told (Met c.in-Err.error)) it settled clean1 (c.in-Err.ensures.marked_err clean1 it.table) c.find_mark.ensures.marked_survives (version_met c.in-Err.error)
+
+pub returns-then-len-eq1-clause-unknown : goal.returns-then-len-eq1-clause-unknown
+returns-then-len-eq1-clause-unknown g c clean2 it settled =
+    let s0 = state g.S.Store c.args.conn.now in
+    let s1 = state g.S.Store c.find_mark.new.conn in
+    let s2 = state g.S.Store c.all_marks.new.conn in
+    let clean1 : HasCleanDisk s1 = clean_before s1 s2 c.all_marks.ensures.survives.clean clean2 in
+    let found = sym (c.in-Ok-Some.ensures.marked_ok clean1 it.table) ∙ c.in-Ok-Some.field-0-is in
+    let value : c.in-Ok-Some.mark.value ≡ version = search rules in
+    absurd (not_ours (rows_in s0.now.trees) it.mark c.in-Ok-Some.mark found value)
+
+pub returns-in-Ok-clause-unknown : goal.returns-in-Ok-clause-unknown
+returns-in-Ok-clause-unknown g c clean2 it settled =
+    let s0 = state g.S.Store c.args.conn.now in
+    let s1 = state g.S.Store c.find_mark.new.conn in
+    let s2 = state g.S.Store c.all_marks.new.conn in
+    let clean1 : HasCleanDisk s1 = clean_before s1 s2 c.all_marks.ensures.survives.clean clean2 in
+    let found = sym (c.in-Ok-Some.ensures.marked_ok clean1 it.table) ∙ c.in-Ok-Some.field-0-is in
+    let value : c.in-Ok-Some.mark.value ≡ version = search rules in
+    absurd (not_ours (rows_in s0.now.trees) it.mark c.in-Ok-Some.mark found value)
+
+pub returns-clause-unknown : goal.returns-clause-unknown
+returns-clause-unknown g c clean2 it settled =
+    let s0 = state g.S.Store c.args.conn.now in
+    let s1 = state g.S.Store c.find_mark.new.conn in
+    let s2 = state g.S.Store c.all_marks.new.conn in
+    let clean1 : HasCleanDisk s1 = clean_before s1 s2 c.all_marks.ensures.survives.clean clean2 in
+    let found = sym (c.in-Ok-Some.ensures.marked_ok clean1 it.table) ∙ c.in-Ok-Some.field-0-is in
+    let value : c.in-Ok-Some.mark.value ≡ version = search rules in
+    absurd (not_ours (rows_in s0.now.trees) it.mark c.in-Ok-Some.mark found value)

@@ -231,3 +231,29 @@ returns-then-not-has_marks-clause-carried_stop g c clean older out =
 pub returns-clause-carried_stop : goal.returns-clause-carried_stop
 returns-clause-carried_stop g c clean older out =
     absurd (true≢false (sym c.if-not-has_columns.false ∙ c.has_columns.ensures.old older.0))
+
+-- ---- a store of no version that is known here
+
+pub returns-then-not-is_autocommit-clause-unknown : goal.returns-then-not-is_autocommit-clause-unknown
+returns-then-not-is_autocommit-clause-unknown g c clean it =
+    absurd (true≢false (sym (c.is_autocommit.ensures.value ∙ ap not it.autocommit) ∙ c.if-not-is_autocommit.true))
+
+pub returns-in-Ok-clause-unknown : goal.returns-in-Ok-clause-unknown
+returns-in-Ok-clause-unknown g c clean it =
+    absurd (true≢false (sym (c.is_taken.ensures.marked it.table) ∙ c.if-not-is_taken.true))
+
+pub returns-in-Err-clause-unknown : goal.returns-in-Err-clause-unknown
+returns-in-Err-clause-unknown g c clean it =
+    absurd (true≢false (sym (c.is_taken.ensures.marked it.table) ∙ c.if-not-is_taken.true))
+
+pub returns-then-not-has_marks-clause-unknown : goal.returns-then-not-has_marks-clause-unknown
+returns-then-not-has_marks-clause-unknown g c clean it =
+    absurd (true≢false (sym (c.has_marks.ensures.marked it.table) ∙ c.if-not-has_marks.true))
+
+pub returns-then-not-has_columns-clause-unknown : goal.returns-then-not-has_columns-clause-unknown
+returns-then-not-has_columns-clause-unknown g c clean it =
+    c.carry_marked.ensures.unknown clean it (c.is_autocommit.ensures.settled c.if-not-is_autocommit.false)
+
+pub returns-clause-unknown : goal.returns-clause-unknown
+returns-clause-unknown g c clean it =
+    c.judge.ensures.unknown clean it (c.is_autocommit.ensures.settled c.if-not-is_autocommit.false)

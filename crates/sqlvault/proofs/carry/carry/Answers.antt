@@ -267,7 +267,7 @@ returns-in-Ok-commit-clause-carried g c clean4 older =
     let is3 = rows_on s2 s3 same3 ∙ is2 in
     let found = subst (Finds (Keeps (rows_in s2.now.trees))) c.in-Ok-true.field-0-test (c.in-Ok-true.ensures.judged clean3 tables ours) in
     let kept3 : IsKept s3.now = subst (λ (d : Database). IsKept d) (sym same3.0.now_is) done.0.0 in
-    carried_at s0 s3 s4 kept3 is3 (c.in-Ok-commit.ensures.ok clean4).1 (found.0, subst (λ r. Keeps r found.0) (sym (rows_on s2 s3 same3)) found.1)
+    carried_at c.args.carried s0 s3 s4 older kept3 is3 (c.in-Ok-commit.ensures.ok clean4).1 (found.0, subst (λ r. Keeps r found.0) (sym (rows_on s2 s3 same3)) found.1)
 
 pub returns-in-Ok-commit-clause-stop : goal.returns-in-Ok-commit-clause-stop
 returns-in-Ok-commit-clause-stop g c clean4 older =
@@ -292,7 +292,10 @@ returns-in-Ok-commit-clause-stop g c clean4 older =
     let same3 = c.in-Ok-true.ensures.same clean3 tables in
     let on3 = looked_on s1 s2 s3 done.1 same3 in
     let is3 = rows_on s2 s3 same3 ∙ is2 in
-    left_at s0 s3 s4 is3 stop3 clean4 c.commit.ensures.survives
+    let kept3 : IsKept s3.now = subst (λ (d : Database). IsKept d) (sym same3.0.now_is) done.0.0 in
+    let listed3 = (c.tables_are_listed.ensures.live same3.0.is_open).0 in
+    let found = subst (Finds (Keeps (rows_in s2.now.trees))) c.in-Ok-true.field-0-test (c.in-Ok-true.ensures.judged clean3 tables ours) in
+    left_at s0 s3 s4 listed3 kept3 is3 (found.0, subst (λ r. Keeps r found.0) is2 found.1) stop3 clean4 c.commit.ensures.survives
 
 pub returns-in-Err-commit-clause-clean : goal.returns-in-Err-commit-clause-clean
 returns-in-Err-commit-clause-clean g c clean5 =
@@ -360,7 +363,10 @@ returns-in-Err-commit-clause-stop g c clean5 older =
     let same3 = c.in-Ok-true.ensures.same clean3 tables in
     let on3 = looked_on s1 s2 s3 done.1 same3 in
     let is3 = rows_on s2 s3 same3 ∙ is2 in
-    either_then s0 s4 s5 (left_at s0 s3 s4 is3 stop3 clean4 c.commit.ensures.survives) (nothing_more s4 s5 clean5 c.undo-in-Err-commit.ensures.survives)
+    let kept3 : IsKept s3.now = subst (λ (d : Database). IsKept d) (sym same3.0.now_is) done.0.0 in
+    let listed3 = (c.tables_are_listed.ensures.live same3.0.is_open).0 in
+    let found = subst (Finds (Keeps (rows_in s2.now.trees))) c.in-Ok-true.field-0-test (c.in-Ok-true.ensures.judged clean3 tables ours) in
+    either_then s0 s4 s5 (left_at s0 s3 s4 listed3 kept3 is3 (found.0, subst (λ r. Keeps r found.0) is2 found.1) stop3 clean4 c.commit.ensures.survives) (nothing_more s4 s5 clean5 c.undo-in-Err-commit.ensures.survives)
 
 pub returns-in-Err-commit-clause-refused : goal.returns-in-Err-commit-clause-refused
 returns-in-Err-commit-clause-refused g c clean5 older =

@@ -95,3 +95,14 @@ returns-clause-stop g c clean2 older out settled =
     let schema : s1.now.schema ≡ old_schema (is_carried s1.now.trees) = (old_on s0 s1 u1 tables u1.0.is_open).0 in
     let now = older_on c.in-Ok.carried s0 s1 u1 older (c.has_older_columns.ensures.order (is_carried s1.now.trees) schema c.if-not-has_older_columns.false) out settled is in
     either_on s0 s1 s2 u1 (c.find_older.ensures.stop clean1 older) (c.carry.ensures.stop clean2 now)
+
+-- ---- of no version that is known here
+
+pub returns-in-Err-clause-unknown : goal.returns-in-Err-clause-unknown
+returns-in-Err-clause-unknown g c clean1 it settled = c.in-Err.ensures.unknown clean1 it settled
+
+pub returns-then-not-has_older_columns-clause-unknown : goal.returns-then-not-has_older_columns-clause-unknown
+returns-then-not-has_older_columns-clause-unknown g c clean1 it settled = absurd (c.in-Ok.ensures.unknown clean1 it settled)
+
+pub returns-clause-unknown : goal.returns-clause-unknown
+returns-clause-unknown g c clean2 it settled = absurd (c.in-Ok.ensures.unknown (c.carry.ensures.clean clean2) it settled)

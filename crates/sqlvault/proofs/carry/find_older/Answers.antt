@@ -3,9 +3,12 @@ use Rattle.sqlite.specs.Held.{state}
 use Rattle.sqlite.specs.State.{HasCleanDisk, IsUnchanged}
 use Rattle.mailsql.specs.Rows.{Rows, rows_in}
 use Rattle.sqlvault.specs.Carries.{IsNoOlder}
+use Rattle.sqlvault.specs.Refusals.{told}
+use Rattle.sqlvault.specs.declared.refusal.Refusal.TheVariants.{Met}
 use Rattle.sqlvault.proofs.AdoptLemmas.{rows_on, unchanged_on, undone_on, kinds_met}
 use Rattle.sqlvault.proofs.CarryLemmas.{met_judged, one_older, judged_no_older, no_older_kinds, judged_none, judged_more, asked_old, old_on, more_then}
 use Rattle.sqlvault.proofs.StayLemmas.{clean_before}
+use Rattle.sqlvault.proofs.VersionLemmas.{found_mark, not_older, told_of_none, version_met, refused_version}
 use Rattle.sqlvault.proofs.carry.find_older.Goals as goal
 
 pub returns-in-Err-version_of-clause-clean : goal.returns-in-Err-version_of-clause-clean
@@ -198,3 +201,57 @@ returns-clause-judged g c clean2 tables =
 pub returns-clause-kinds : goal.returns-clause-kinds
 returns-clause-kinds g c =
     kinds_met c.in-Err-all_marks.error
+
+-- ---- of no version that is known here
+
+pub returns-in-Err-version_of-clause-unknown : goal.returns-in-Err-version_of-clause-unknown
+returns-in-Err-version_of-clause-unknown g c clean1 it settled =
+    let s0 = state g.S.Store c.args.conn.now in
+    let s1 = state g.S.Store c.find_mark.new.conn in
+    let value = (let f : SFits w64 c.in-Ok-Some.mark.value = search rules in to_z-of_z f) in
+    let found = sym (c.in-Ok-Some.ensures.marked_ok clean1 it.table) ∙ c.in-Ok-Some.field-0-is in
+    let none = subst (λ v. IsNoOlder v c.in-Err-version_of.fault) value c.in-Err-version_of.ensures.fault in
+    refused_version s0 s1 c.in-Err-version_of.fault it settled clean1 (inl (c.in-Ok-Some.ensures.marked_same clean1 it.table)) c.find_mark.ensures.marked_survives
+    (told_of_none (rows_in s0.now.trees) it.mark c.in-Ok-Some.mark c.in-Err-version_of.fault found none)
+
+pub returns-in-Ok-None-clause-unknown : goal.returns-in-Ok-None-clause-unknown
+returns-in-Ok-None-clause-unknown g c clean1 it settled =
+    let s0 = state g.S.Store c.args.conn.now in
+    let s1 = state g.S.Store c.find_mark.new.conn in
+    absurd (found_mark (rows_in s0.now.trees) it.mark (sym (c.in-Ok-None.ensures.marked_ok clean1 it.table) ∙ c.in-Ok-None.field-0-is))
+
+pub returns-in-Err-clause-unknown : goal.returns-in-Err-clause-unknown
+returns-in-Err-clause-unknown g c clean1 it settled =
+    let s0 = state g.S.Store c.args.conn.now in
+    let s1 = state g.S.Store c.find_mark.new.conn in
+    refused_version s0 s1 (told (Met c.in-Err.error)) it settled clean1 (c.in-Err.ensures.marked_err clean1 it.table) c.find_mark.ensures.marked_survives (version_met c.in-Err.error)
+
+pub returns-then-len-eq1-clause-unknown : goal.returns-then-len-eq1-clause-unknown
+returns-then-len-eq1-clause-unknown g c clean2 it settled =
+    let s0 = state g.S.Store c.args.conn.now in
+    let s1 = state g.S.Store c.find_mark.new.conn in
+    let s2 = state g.S.Store c.all_marks.new.conn in
+    let clean1 : HasCleanDisk s1 = clean_before s1 s2 c.all_marks.ensures.survives.clean clean2 in
+    let value = (let f : SFits w64 c.in-Ok-Some.mark.value = search rules in to_z-of_z f) in
+    let found = sym (c.in-Ok-Some.ensures.marked_ok clean1 it.table) ∙ c.in-Ok-Some.field-0-is in
+    absurd (not_older (rows_in s0.now.trees) it.mark c.in-Ok.carried c.in-Ok-Some.mark found (sym value ∙ c.in-Ok.ensures.older))
+
+pub returns-in-Ok-all_marks-clause-unknown : goal.returns-in-Ok-all_marks-clause-unknown
+returns-in-Ok-all_marks-clause-unknown g c clean2 it settled =
+    let s0 = state g.S.Store c.args.conn.now in
+    let s1 = state g.S.Store c.find_mark.new.conn in
+    let s2 = state g.S.Store c.all_marks.new.conn in
+    let clean1 : HasCleanDisk s1 = clean_before s1 s2 c.all_marks.ensures.survives.clean clean2 in
+    let value = (let f : SFits w64 c.in-Ok-Some.mark.value = search rules in to_z-of_z f) in
+    let found = sym (c.in-Ok-Some.ensures.marked_ok clean1 it.table) ∙ c.in-Ok-Some.field-0-is in
+    absurd (not_older (rows_in s0.now.trees) it.mark c.in-Ok.carried c.in-Ok-Some.mark found (sym value ∙ c.in-Ok.ensures.older))
+
+pub returns-clause-unknown : goal.returns-clause-unknown
+returns-clause-unknown g c clean2 it settled =
+    let s0 = state g.S.Store c.args.conn.now in
+    let s1 = state g.S.Store c.find_mark.new.conn in
+    let s2 = state g.S.Store c.all_marks.new.conn in
+    let clean1 : HasCleanDisk s1 = clean_before s1 s2 c.all_marks.ensures.survives.clean clean2 in
+    let value = (let f : SFits w64 c.in-Ok-Some.mark.value = search rules in to_z-of_z f) in
+    let found = sym (c.in-Ok-Some.ensures.marked_ok clean1 it.table) ∙ c.in-Ok-Some.field-0-is in
+    absurd (not_older (rows_in s0.now.trees) it.mark c.in-Ok.carried c.in-Ok-Some.mark found (sym value ∙ c.in-Ok.ensures.older))

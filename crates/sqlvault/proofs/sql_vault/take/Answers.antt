@@ -13,6 +13,7 @@ returns-in-Err-clause-refused g c = (
     c.in-Err.ensures.clean clean,
     λ known. c.in-Err.ensures.adopted clean known,
     λ out older. (c.in-Err.ensures.carried clean older out, (c.in-Err.ensures.carried_stays clean older out, c.in-Err.ensures.carried_stop clean older out)),
+    λ it. c.in-Err.ensures.unknown clean it,
   ),
 )
 
@@ -24,3 +25,6 @@ returns-in-Err-clause-kinds g c = c.in-Err.ensures.kinds
 
 pub returns-in-Ok-clause-uncounted : goal.returns-in-Ok-clause-uncounted
 returns-in-Ok-clause-uncounted g c = c.in-Ok.ensures.uncounted
+
+pub returns-in-Ok-clause-known_version : goal.returns-in-Ok-clause-known_version
+returns-in-Ok-clause-known_version g c = λ clean it. c.in-Ok.ensures.unknown clean it
