@@ -28,8 +28,8 @@ fn parse_head(text: &[u8], headers: &mut [HeaderSpan]) -> Option<RequestSpans>
 
 /// The head of a request, whose headers' spans are put into `headers`.
 ///
-/// [`Stop::More`] where it hasn't ended in at most 8,192 octets; [`Refusal::BadRequest`] where it hasn't in more, or is
-/// no head of at most 64 headers.
+/// [`Stop::More`] where it hasn't ended in at most 8,192 octets; [`Refusal::BadRequest`] where it
+/// hasn't in more, or is no head of at most 64 headers.
 pub fn read_head<'b>(octets: &'b [u8], headers: &mut [HeaderSpan]) -> Result<Head<'b>, Stop>
     requires { length headers.old ≡ most_headers }
     ensures ok { IfOk result (IsLent octets.now headers.new) }

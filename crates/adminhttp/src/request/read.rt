@@ -18,10 +18,11 @@ use std::alloc::Global;
 impl Request {
     /// What the octets that have come of a request come to.
     ///
-    /// Empty lines in front are dropped. Faults are looked for in this order: a head that hasn't ended within 8,192 octets
-    /// or is none; a target of no route, or with a part of another form; a method that the route has not; for PUT on a
-    /// clerk and on the policy a length that isn't told, that isn't one number, or that is over 1,048,576 octets, and
-    /// then the body's own. What follows the body is ignored.
+    /// Empty lines in front are dropped. Faults are looked for in this order: a head that hasn't
+    /// ended within 8,192 octets or is none; a target of no route, or with a part of another form;
+    /// a method that the route has not; for PUT on a clerk and on the policy a length that isn't
+    /// told, that isn't one number, or that is over 1,048,576 octets, and then the body's own. What
+    /// follows the body is ignored.
     pub fn read(alloc: Global, octets: &[u8]) -> Got
         ensures { IfSome (asked_in result) (IsRequest octets.now) }
     {

@@ -18,7 +18,8 @@ use policy::Action;
 use std::alloc::Global;
 use std::str;
 
-/// What a target names; [`Refusal::NotFound`] where it is of no route, or a part of it has not its form.
+/// What a target names; [`Refusal::NotFound`] where it is of no route, or a part of it has not its
+/// form.
 pub fn read_target(alloc: Global, target: &[u8]) -> Result<Target, Stop>
     requires { IsUtf8 target.now }
     ensures ok { IfOk result (λ found. value_or (target_of target.now) NotFound ≡ Ok found) }
