@@ -3,7 +3,8 @@ use crate::digest::{apop_digest, pass_digest};
 use crate::name::Name;
 use crate::secret::Secret;
 
-/// What is kept of a clerk, who has one kind of credential. It has no `Debug`, so that no digest of a password is shown by accident.
+/// What is kept of a clerk, who has one kind of credential. It has no `Debug`, so that no digest of
+/// a password is shown by accident.
 #[derive(Clone, Copy, PartialEq, Eq)]
 pub enum Credential {
     /// The secret shared with a clerk who logs in by APOP.
@@ -25,8 +26,8 @@ impl Credential {
     ghost use Rattle.std.specs.Prelude.{◌≡◌};
     ghost use Rattle.creds.specs.Credential.{admits, shown};
 
-    /// Whether a proof admits the clerk `name` of this credential, on a connection that was greeted with the
-    /// timestamp `stamp`: the two are of one kind, and their digests are equal.
+    /// Whether a proof admits the clerk `name` of this credential, on a connection that was greeted
+    /// with the timestamp `stamp`: the two are of one kind, and their digests are equal.
     pub fn admits(&self, name: &Name, stamp: &[u8], proof: &Proof<'_>) -> bool
         ensures { result ≡ admits self.now name.now stamp.now (shown proof.now) }
     {

@@ -6,7 +6,8 @@ use crate::name::Name;
 use md5::Md5;
 use sha2::Sha256;
 
-/// The digest that an APOP line shows (RFC 1939, 7): MD5 (RFC 1321) of the greeting's timestamp and the secret.
+/// The digest that an APOP line shows (RFC 1939, 7): MD5 (RFC 1321) of the greeting's timestamp and
+/// the secret.
 pub fn apop_digest(stamp: &[u8], secret: &[u8]) -> [u8; 16]
     ensures { result ≡ apop_digest stamp.now secret.now }
 {
@@ -17,7 +18,8 @@ pub fn apop_digest(stamp: &[u8], secret: &[u8]) -> [u8; 16]
     hasher.finalize()
 }
 
-/// The digest that is kept of a password: SHA-256 (FIPS 180-4, 6.2) of the clerk's name, `:` and the password.
+/// The digest that is kept of a password: SHA-256 (FIPS 180-4, 6.2) of the clerk's name, `:` and
+/// the password.
 pub fn pass_digest(name: &Name, password: &[u8]) -> [u8; 32]
     ensures { result ≡ pass_digest name.now password.now }
 {

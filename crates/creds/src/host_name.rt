@@ -10,8 +10,8 @@ use std::marker::Model;
 /// The greatest length of a host name, in octets.
 const HOST_LEN: usize = 64;
 
-/// The name of a host: 1 to 64 characters of `a-z`, `0-9`, `.` and `-`, where no part between the dots
-/// is empty or has `-` at an end.
+/// The name of a host: 1 to 64 characters of `a-z`, `0-9`, `.` and `-`, where no part between the
+/// dots is empty or has `-` at an end.
 #[derive(Clone, Copy, PartialEq, Eq, Debug)]
 pub struct HostName {
     text: Text<HOST_LEN>,

@@ -1,4 +1,5 @@
-//! Names, deposit ids, secrets and unique-ids, each held in place, and the credentials by which clerks log in.
+//! Names, deposit ids, secrets and unique-ids, each held in place, and the credentials by which
+//! clerks log in.
 #![tactic(auto)]
 
 mod credential;

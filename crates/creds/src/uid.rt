@@ -7,7 +7,8 @@ use std::fmt;
 pub struct Uid {
     /// The class of the message.
     pub class: Name,
-    /// The place of the message, from 1, among the deposits ever accepted of that class in the maildrop.
+    /// The place of the message, from 1, among the deposits ever accepted of that class in the
+    /// maildrop.
     pub k: u64,
 }
 

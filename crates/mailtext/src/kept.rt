@@ -51,8 +51,8 @@ impl From<AllocError> for TextFault {
     }
 }
 
-/// A message in its kept form: at least one line, each followed by CRLF, and at most [`MAX_OCTETS`] octets. Contracts
-/// see its octets. It has no `Debug`, so that no mail is shown by accident.
+/// A message in its kept form: at least one line, each followed by CRLF, and at most [`MAX_OCTETS`]
+/// octets. Contracts see its octets. It has no `Debug`, so that no mail is shown by accident.
 #[derive(Drop)]
 pub struct MailText {
     octets: Vec<u8>,
@@ -79,11 +79,12 @@ impl Clone for MailText {
     }
 }
 
-/// The kept form of a text: LF ends a line, one CR directly before it belongs to the line's end, and a last line
-/// needs no end. All other octets stay.
+/// The kept form of a text: LF ends a line, one CR directly before it belongs to the line's end,
+/// and a last line needs no end. All other octets stay.
 ///
-/// Answers [`TextFault::Empty`] for a text without an octet, else [`TextFault::TooLarge`] for one whose kept form has
-/// more than [`MAX_OCTETS`] octets, else [`TextFault::NoMemory`] where memory for the kept form was refused.
+/// Answers [`TextFault::Empty`] for a text without an octet, else [`TextFault::TooLarge`] for one
+/// whose kept form has more than [`MAX_OCTETS`] octets, else [`TextFault::NoMemory`] where memory
+/// for the kept form was refused.
 pub fn canon(alloc: Global, text: &[u8]) -> Result<MailText, TextFault>
     ensures ok { IfOk result (λ kept. kept ≡ kept_form text.now) }
     ensures lines { IfOk result (λ kept. lines_of kept ≡ lines_of text.now) }
@@ -126,15 +127,16 @@ impl MailText {
         line_ends(&self.octets)
     }
 
-    /// How many octets it has through its first empty line, or all where no line is empty (RFC 822, section 3.1).
+    /// How many octets it has through its first empty line, or all where no line is empty (RFC 822,
+    /// section 3.1).
     pub fn header_len(&self) -> usize
         ensures { result ≡ header_len (lines_of self.now) }
     {
         header_end(&self.octets)
     }
 
-    /// What TOP sends of it: its lines through the first empty one and then the first `n`, or all where none is
-    /// empty (RFC 1939, section 7). It is a beginning of the octets.
+    /// What TOP sends of it: its lines through the first empty one and then the first `n`, or all
+    /// where none is empty (RFC 1939, section 7). It is a beginning of the octets.
     pub fn top(&self, n: u64) -> &[u8]
         ensures part { result.now ≡ ended (top_part (lines_of self.now) n) }
         ensures lines { lines_of result.now ≡ top_part (lines_of self.now) n }

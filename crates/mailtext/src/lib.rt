@@ -1,5 +1,5 @@
-//! Message texts: the form in which they are kept, and the lines of a reply as POP3 sends and reads them
-//! (RFC 1939, sections 3 and 7; RFC 822, section 3.1).
+//! Message texts: the form in which they are kept, and the lines of a reply as POP3 sends and reads
+//! them (RFC 1939, sections 3 and 7; RFC 822, section 3.1).
 #![tactic(auto)]
 
 mod kept;

@@ -39,7 +39,8 @@ fn in_place_of(octet: u8, previous: u8, dots: Dots) -> Option<&'static [u8]>
     None
 }
 
-/// What is written at the end of a text whose last octet is `previous`: an unfinished line is ended.
+/// What is written at the end of a text whose last octet is `previous`: an unfinished line is
+/// ended.
 #[inline]
 fn end_behind(previous: u8) -> &'static [u8]
     ensures { result.now ≡ end_of previous }

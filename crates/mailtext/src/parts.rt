@@ -1,4 +1,5 @@
-//! Where the parts of a message in its kept form end: its lines, its header, and what TOP sends of it.
+//! Where the parts of a message in its kept form end: its lines, its header, and what TOP sends of
+//! it.
 
 ghost use Rattle.std.specs.Prelude.{◌≡◌, ◌==◌, ◌≤◌, length, take, count_by};
 ghost use Rattle.mailtext.specs.Text.{kept_form, lines_of, ended, top_part, header_len};

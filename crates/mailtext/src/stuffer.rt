@@ -81,8 +81,8 @@ impl Stuffer {
         (taken, put)
     }
 
-    /// Puts octets up to a dot at the front of a line, as many as there is room for; where there are
-    /// none, the added dot.
+    /// Puts octets up to a dot at the front of a line, as many as there is room for; where there
+    /// are none, the added dot.
     fn put_some(&mut self, piece: &[u8], out: &mut [u8]) -> (usize, usize)
         requires piece { 0 < length piece.now }
         requires out { 0 < length out.old }

@@ -1,5 +1,5 @@
-//! The lines of a reply of many lines: as a server sends them, a dot put before each that begins with one, and as a
-//! client reads them (RFC 1939, section 3).
+//! The lines of a reply of many lines: as a server sends them, a dot put before each that begins
+//! with one, and as a client reads them (RFC 1939, section 3).
 
 ghost use Rattle.std.specs.Prelude.{◌≡◌, ◌≤◌, ◌+◌, ◌++◌, ℕ, List, length, take, map, codes, IfOk, OnOk, OnErr, IfSome, MatchOption};
 ghost use Rattle.std.specs.Str.{bytes_eq};
@@ -9,8 +9,9 @@ use crate::lines::{Dots, LF, write_lines, written_len};
 use std::alloc::{AllocError, Global};
 use std::ops::Range;
 
-/// Appends the lines of `lines`, each with CRLF and with a dot put before each that begins with one. They are meant
-/// to be a kept form, or a part of one that ends with a line; of any other text they are the lines of its kept form.
+/// Appends the lines of `lines`, each with CRLF and with a dot put before each that begins with
+/// one. They are meant to be a kept form, or a part of one that ends with a line; of any other text
+/// they are the lines of its kept form.
 ///
 /// The room for them all is made first, so that where memory is refused `out` stays as it was.
 pub fn stuff_into(out: &mut Vec<u8>, lines: &[u8]) -> Result<(), AllocError>
@@ -23,9 +24,9 @@ pub fn stuff_into(out: &mut Vec<u8>, lines: &[u8]) -> Result<(), AllocError>
     Ok(())
 }
 
-/// What a client reads of `octets`, which begin behind the first line of a reply of many lines: the lines before the
-/// first ended line that is a dot, each with CRLF and without one dot at its front, and how many octets were read
-/// with the dot's line. `None` where no such line has come.
+/// What a client reads of `octets`, which begin behind the first line of a reply of many lines: the
+/// lines before the first ended line that is a dot, each with CRLF and without one dot at its
+/// front, and how many octets were read with the dot's line. `None` where no such line has come.
 pub fn unstuff(alloc: Global, octets: &[u8]) -> Result<Option<(Vec<u8>, usize)>, AllocError>
     ensures { IfOk result (λ read. MatchOption read (unstuffed octets.now ≡ None)
         (λ found. unstuffed octets.now ≡ Some (found.0.items, found.1))) }
@@ -40,8 +41,8 @@ pub fn unstuff(alloc: Global, octets: &[u8]) -> Result<Option<(Vec<u8>, usize)>,
     Ok(Some((read, dot.end)))
 }
 
-/// A client reads back the lines that a server stuffed, and has read through the dot's line, whatever follows it. The
-/// function does nothing: its contract is the law.
+/// A client reads back the lines that a server stuffed, and has read through the dot's line,
+/// whatever follows it. The function does nothing: its contract is the law.
 pub fn stuffing_is_undone()
     ensures { (text rest : List ℕ) → unstuffed (stuffed_lines (lines_of text) ++ dot_line ++ rest)
         ≡ Some (kept_form text, length (stuffed_lines (lines_of text) ++ dot_line)) }

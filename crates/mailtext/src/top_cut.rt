@@ -38,8 +38,8 @@ impl Model for TopCut {
 }
 
 impl TopCut {
-    /// At the beginning of a message of whose body the first `n` lines are sent, or all where it has
-    /// no more.
+    /// At the beginning of a message of whose body the first `n` lines are sent, or all where it
+    /// has no more.
     pub fn new(n: u64) -> TopCut
         ensures front { result ≡ nothing_come n }
         ensures part { (text : List ℕ) → kept_form text ≡ text
@@ -55,7 +55,8 @@ impl TopCut {
         }
     }
 
-    /// How many first octets of the piece belong; where these aren't all, none of what follows does.
+    /// How many first octets of the piece belong; where these aren't all, none of what follows
+    /// does.
     ///
     /// The next piece begins behind this one, however many of its octets belong.
     pub fn feed(&mut self, piece: &[u8]) -> usize

@@ -46,7 +46,8 @@ pub(crate) fn without_trailing_spaces(line: &[u8]) -> &[u8]
     rest
 }
 
-/// The number that decimal digits write, or 2^64 - 1 where it is above that. `None` where there is no digit, or another octet.
+/// The number that decimal digits write, or 2^64 - 1 where it is above that. `None` where there is
+/// no digit, or another octet.
 pub(crate) fn read_number(digits: &[u8]) -> Option<u64>
     ensures { result ≡ number_of digits.now }
 {

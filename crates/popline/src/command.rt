@@ -39,7 +39,8 @@ pub enum Keyword {
     Noop,
 }
 
-/// What a command line asks for. A number that is written above 2^64 - 1 counts as that. It has no `Debug`, since it may hold a password.
+/// What a command line asks for. A number that is written above 2^64 - 1 counts as that. It has no
+/// `Debug`, since it may hold a password.
 #[derive(Clone, Copy, PartialEq, Eq)]
 pub enum Command<'a> {
     /// The list of capabilities (RFC 2449, 5).
@@ -82,9 +83,10 @@ pub enum LineFault {
 impl<'a> Command<'a> {
     /// Reads a line, without its end, as a command.
     ///
-    /// The keyword is what stands before the first space. One space stands before each argument; spaces at the end are
-    /// ignored. Of PASS all that stands behind the first space is the password. `Unknown` comes where there is no such
-    /// keyword, else `Syntax` where the arguments don't fit it.
+    /// The keyword is what stands before the first space. One space stands before each argument;
+    /// spaces at the end are ignored. Of PASS all that stands behind the first space is the
+    /// password. `Unknown` comes where there is no such keyword, else `Syntax` where the arguments
+    /// don't fit it.
     pub fn read(line: &'a [u8]) -> Result<Command<'a>, LineFault>
         ensures { reading_seen result ≡ command_of line.now }
     {

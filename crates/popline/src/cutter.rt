@@ -48,7 +48,8 @@ impl Cutter {
         }
     }
 
-    /// Gives up a complete line that stood, then takes octets up to and with the next LF, or all. Returns how many it took.
+    /// Gives up a complete line that stood, then takes octets up to and with the next LF, or all.
+    /// Returns how many it took.
     pub fn feed(&mut self, piece: &[u8]) -> usize
         ensures taken { result ≡ through_newline piece.now }
         ensures within { result ≤ length piece.now }

@@ -1,4 +1,5 @@
-//! What the definitions promise of every stream and every line. A law is a function with nothing to do: its contract says it.
+//! What the definitions promise of every stream and every line. A law is a function with nothing to
+//! do: its contract says it.
 
 ghost use Rattle.popline.specs.Cutting.{CutsAnyPieces};
 ghost use Rattle.popline.specs.Spelling.{ReadsWhatIsSpelled, SpellsWhatIsRead, NamesTheFault};
@@ -19,13 +20,14 @@ pub fn spells_what_is_read()
     ensures { SpellsWhatIsRead }
 {}
 
-/// A fault comes where the line spells no command: `Unknown` where its first word is no keyword, else `Syntax` of that keyword.
+/// A fault comes where the line spells no command: `Unknown` where its first word is no keyword,
+/// else `Syntax` of that keyword.
 pub fn names_the_fault()
     ensures { NamesTheFault }
 {}
 
-/// A reply begins with `+OK` or `-ERR`, its first line has at most 512 octets, and its text begins with `[` where the
-/// maildrop is in use alone.
+/// A reply begins with `+OK` or `-ERR`, its first line has at most 512 octets, and its text begins
+/// with `[` where the maildrop is in use alone.
 pub fn form_of_replies()
     ensures { FormOfReplies }
 {}

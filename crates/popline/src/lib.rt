@@ -1,5 +1,5 @@
-//! The lines of POP3 (RFC 1939): the octets of a connection cut into command lines, what a line commands, and the octets of
-//! each reply.
+//! The lines of POP3 (RFC 1939): the octets of a connection cut into command lines, what a line
+//! commands, and the octets of each reply.
 #![tactic(auto)]
 
 mod arguments;

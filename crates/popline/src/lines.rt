@@ -1,4 +1,5 @@
-//! Replies of many lines, put part by part (RFC 1939, 3): a first line, the others one after another, and the line of the dot.
+//! Replies of many lines, put part by part (RFC 1939, 3): a first line, the others one after
+//! another, and the line of the dot.
 //!
 //! After an error of any of these calls nothing is appended by it.
 
@@ -44,7 +45,8 @@ pub fn begin_uid_listing(out: &mut Vec<u8>) -> Result<(), AllocError>
     put_octets(out, b"+OK unique-id listing follows\r\n")
 }
 
-/// Appends the line of one message, of its number and its unique-id, to a listing of unique-ids that has begun.
+/// Appends the line of one message, of its number and its unique-id, to a listing of unique-ids
+/// that has begun.
 pub fn put_uid_row(
     alloc: Global,
     out: &mut Vec<u8>,
@@ -61,7 +63,8 @@ pub fn put_uid_row(
     Ok(())
 }
 
-/// Appends the first line of a message of so many octets (RFC 1939, 5: RETR). Its stuffed lines and `end_lines` follow.
+/// Appends the first line of a message of so many octets (RFC 1939, 5: RETR). Its stuffed lines and
+/// `end_lines` follow.
 pub fn begin_message(alloc: Global, out: &mut Vec<u8>, octets: u64) -> Result<(), AllocError>
     ensures ok { OnOk result (out.new.items ≡ out.old.items ++ one_line (codes "+OK " ++ decimal octets ++ codes " octets")) }
     ensures err { OnErr result (out.new.items ≡ out.old.items) }
@@ -69,7 +72,8 @@ pub fn begin_message(alloc: Global, out: &mut Vec<u8>, octets: u64) -> Result<()
     out.extend_from_slice(texts::message_follows(alloc, octets)?.as_bytes())
 }
 
-/// Appends the first line of a part of a message (RFC 1939, 7: TOP). Its stuffed lines and `end_lines` follow.
+/// Appends the first line of a part of a message (RFC 1939, 7: TOP). Its stuffed lines and
+/// `end_lines` follow.
 pub fn begin_top(out: &mut Vec<u8>) -> Result<(), AllocError>
     ensures ok { OnOk result (out.new.items ≡ out.old.items ++ one_line (codes "+OK top follows")) }
     ensures err { OnErr result (out.new.items ≡ out.old.items) }

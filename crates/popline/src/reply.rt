@@ -8,8 +8,8 @@ use crate::texts;
 use creds::{Name, Uid};
 use std::alloc::{AllocError, Global};
 
-/// A reply, one for each thing that a server has to say. Listings are put line by line (`begin_scan_listing`,
-/// `begin_uid_listing`), so that no copy of theirs is made.
+/// A reply, one for each thing that a server has to say. Listings are put line by line
+/// (`begin_scan_listing`, `begin_uid_listing`), so that no copy of theirs is made.
 #[derive(Clone, Copy)]
 pub enum Reply<'a> {
     /// The first line of a connection, with the timestamp that APOP signs (RFC 1939, 4 and 7).
@@ -176,7 +176,8 @@ fn put_text(out: &mut Vec<u8>, text: Result<String, AllocError>) -> Result<(), A
     out.extend_from_slice(text?.as_bytes())
 }
 
-/// Appends a message's first line, where memory for it was not refused, its lines and the line of the dot.
+/// Appends a message's first line, where memory for it was not refused, its lines and the line of
+/// the dot.
 fn put_message(
     out: &mut Vec<u8>,
     first: Result<String, AllocError>,

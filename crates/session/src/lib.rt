@@ -1,4 +1,5 @@
-//! One logged-in session of a maildrop (RFC 1939, 5 and 6), without a store: its view, its marks, and what QUIT removes.
+//! One logged-in session of a maildrop (RFC 1939, 5 and 6), without a store: its view, its marks,
+//! and what QUIT removes.
 #![tactic(auto)]
 
 mod laws;

@@ -8,6 +8,7 @@ pub enum Pick {
     NoSuch,
     /// The message is marked as deleted.
     Deleted,
-    /// The policy denies the reading or the removal, by the rule of this name, or by `default` where none matches.
+    /// The policy denies the reading or the removal, by the rule of this name, or by `default`
+    /// where none matches.
     Denied(Name),
 }

@@ -15,9 +15,11 @@ use std::alloc::{AllocError, Global};
 use std::marker::Model;
 use vault::{Head, MessageKey};
 
-/// One logged-in session: the messages that the clerk sees, numbered from 1, and which of them are marked as deleted.
+/// One logged-in session: the messages that the clerk sees, numbered from 1, and which of them are
+/// marked as deleted.
 ///
-/// The view is that of the login: what comes into the maildrop or leaves it afterwards changes nothing here.
+/// The view is that of the login: what comes into the maildrop or leaves it afterwards changes
+/// nothing here.
 #[derive(Drop)]
 pub struct Session {
     name: LoginName,
@@ -34,10 +36,11 @@ impl Model for Session {
 }
 
 impl Session {
-    /// Starts the session of a clerk who logged in to a maildrop whose messages, in order of arrival, have these heads.
+    /// Starts the session of a clerk who logged in to a maildrop whose messages, in order of
+    /// arrival, have these heads.
     ///
-    /// The view is what the policy lets the clerk read, in order, numbered from 1, and nothing is marked.
-    /// The room for the marks is made here. An `Err` is want of memory.
+    /// The view is what the policy lets the clerk read, in order, numbered from 1, and nothing is
+    /// marked. The room for the marks is made here. An `Err` is want of memory.
     pub fn start(
         alloc: Global,
         clerk: Name,
@@ -70,8 +73,8 @@ impl Session {
 
     /// How many messages of the view are unmarked, and their octets (RFC 1939, 5: STAT).
     ///
-    /// A sum that a `u64` can't hold counts as its greatest value. No maildrop has such a sum: the octets of 10,000 messages of
-    /// 26,214,400 octets fit. It takes no memory.
+    /// A sum that a `u64` can't hold counts as its greatest value. No maildrop has such a sum: the
+    /// octets of 10,000 messages of 26,214,400 octets fit. It takes no memory.
     pub fn stat(&self) -> (u64, u64)
         ensures messages { result.0 ≡ length (unmarked self.now.marks self.now.view) }
         ensures octets { result.1 ≡ min (total_of octets_of (unmarked self.now.marks self.now.view)) u64.MAX }
@@ -81,32 +84,35 @@ impl Session {
         totals(&self.rows)
     }
 
-    /// The numbers and octets of the unmarked messages, in ascending order of the numbers (RFC 1939, 5: LIST). It takes no memory.
+    /// The numbers and octets of the unmarked messages, in ascending order of the numbers (RFC
+    /// 1939, 5: LIST). It takes no memory.
     pub fn list(&self) -> Sizes<'_>
         ensures { result ≡ sizes_of octets_of (unmarked self.now.marks self.now.view) }
     {
         Sizes::new(&self.rows)
     }
 
-    /// The numbers and unique-ids of the unmarked messages, in ascending order of the numbers (RFC 1939, 7: UIDL). It takes no
-    /// memory.
+    /// The numbers and unique-ids of the unmarked messages, in ascending order of the numbers (RFC
+    /// 1939, 7: UIDL). It takes no memory.
     pub fn uidl(&self) -> Uids<'_>
         ensures { result ≡ uids_of uid_of (unmarked self.now.marks self.now.view) }
     {
         Uids::new(&self.rows)
     }
 
-    /// The head of the message of a number. `NoSuch` where the view has none, and `Deleted` where it is marked. It takes no memory.
+    /// The head of the message of a number. `NoSuch` where the view has none, and `Deleted` where
+    /// it is marked. It takes no memory.
     pub fn pick(&self, n: u64) -> Result<Head, Pick>
         ensures { result ≡ picked self.now n }
     {
         head_at(&self.rows, n)
     }
 
-    /// The head of the message of a number, where the policy lets the clerk read its class now (RFC 1939, 5: RETR; 7: TOP).
+    /// The head of the message of a number, where the policy lets the clerk read its class now (RFC
+    /// 1939, 5: RETR; 7: TOP).
     ///
-    /// `NoSuch` where the view has none, `Deleted` where it is marked, `Denied` where the policy denies it, in this order.
-    /// It takes no memory.
+    /// `NoSuch` where the view has none, `Deleted` where it is marked, `Denied` where the policy
+    /// denies it, in this order. It takes no memory.
     pub fn pick_for(&self, n: u64, policy: &Policy) -> Result<Head, Pick>
         ensures { result ≡ picked_for policy.now self.now n }
     {
@@ -119,10 +125,11 @@ impl Session {
         Ok(head)
     }
 
-    /// Marks the message of a number as deleted, where the policy lets the clerk remove its class (RFC 1939, 5: DELE).
+    /// Marks the message of a number as deleted, where the policy lets the clerk remove its class
+    /// (RFC 1939, 5: DELE).
     ///
-    /// `NoSuch` where the view has none, `Deleted` where it is marked already, `Denied` where the policy denies it, in this
-    /// order; nothing is marked then. It takes no memory.
+    /// `NoSuch` where the view has none, `Deleted` where it is marked already, `Denied` where the
+    /// policy denies it, in this order; nothing is marked then. It takes no memory.
     pub fn mark(&mut self, n: u64, policy: &Policy) -> Result<(), Pick>
         ensures answer { result ≡ marking policy.now self.old n }
         ensures kept { self.new ≡ record self.old { marks = self.new.marks } }
@@ -146,9 +153,9 @@ impl Session {
         unmark_all(&mut self.rows);
     }
 
-    /// What a QUIT removes under this policy: the keys of the marked messages that it lets the clerk remove, in order, and the
-    /// name of the rule that denies the marked message of least number whose removal is denied, if there is one
-    /// (RFC 1939, 6). An `Err` is want of memory.
+    /// What a QUIT removes under this policy: the keys of the marked messages that it lets the
+    /// clerk remove, in order, and the name of the rule that denies the marked message of least
+    /// number whose removal is denied, if there is one (RFC 1939, 6). An `Err` is want of memory.
     pub fn to_remove(&self, policy: &Policy) -> Result<(Vec<MessageKey>, Option<Name>), AllocError>
         ensures keys { IfOk result (λ r. r.0.items
             ≡ map key_of (to_remove class_of policy.now self.now.name self.now.marks self.now.view)) }

@@ -7,7 +7,8 @@ use creds::{Name, Uid};
 pub enum Deposited {
     /// The message was put into the maildrop, under this unique-id.
     New(Uid),
-    /// The deposit id was used before for the same class and text, which got this unique-id; nothing was changed.
+    /// The deposit id was used before for the same class and text, which got this unique-id;
+    /// nothing was changed.
     Known(Uid),
 }
 
@@ -18,7 +19,8 @@ pub struct Head {
     pub key: MessageKey,
     /// Its class.
     pub class: Name,
-    /// The place of the message, from 1, among the deposits ever accepted of that class in the maildrop.
+    /// The place of the message, from 1, among the deposits ever accepted of that class in the
+    /// maildrop.
     pub k: u64,
     /// How many octets its kept form has (RFC 1939, section 11).
     pub octets: u64,

@@ -110,7 +110,8 @@ pub(crate) fn judge(
     }))
 }
 
-/// Puts a message and its receipt behind the others, both or none, the message under the number of the deposits.
+/// Puts a message and its receipt behind the others, both or none, the message under the number of
+/// the deposits.
 fn put_both(
     messages: &mut Vec<Keyed>,
     deposits: &mut Vec<Receipt>,

@@ -14,7 +14,8 @@ pub enum VaultFault {
     NoMaildrop,
     /// The deposit id was used before, with another class or another text.
     Conflict,
-    /// A limit is reached: of the messages in a maildrop, of the deposits of a class, of maildrops or of clerks.
+    /// A limit is reached: of the messages in a maildrop, of the deposits of a class, of maildrops
+    /// or of clerks.
     Full,
     /// The store refused a statement.
     Store,

@@ -59,7 +59,8 @@ fn message_under(messages: &[Keyed], key: MessageKey) -> Option<&Keyed>
     messages.iter().find(|kept| kept.key == key)
 }
 
-/// Reads octets of the message under the key, from that place on; how many. Under an unknown key there is none.
+/// Reads octets of the message under the key, from that place on; how many. Under an unknown key
+/// there is none.
 pub(crate) fn read_page(messages: &[Keyed], key: MessageKey, from: u64, buffer: &mut [u8]) -> usize
     ensures within { result ≤ length buffer.new }
     ensures page { IsPage (text_under key messages.now) from (length buffer.new) (take result buffer.new) }

@@ -70,8 +70,8 @@ fn pages_of(alloc: Global, octets: &[u8]) -> Result<Vec<Page>, AllocError>
     Ok(pages)
 }
 
-/// A text as pages of [`PAGE_OCTETS`], each with memory of its own, so that a long text needs no long
-/// growth. Contracts see its octets.
+/// A text as pages of [`PAGE_OCTETS`], each with memory of its own, so that a long text needs no
+/// long growth. Contracts see its octets.
 #[derive(Drop)]
 pub struct PagedText {
     pages: Vec<Page>,

@@ -20,8 +20,9 @@ use policy::Policy;
 use std::alloc::Global;
 use std::marker::Model;
 
-/// A mail store in memory, of vectors. It is always clean, and its count of faults stays 0. Contracts see its contents.
-/// It stands on no device, so contracts know of no stop that leaves something else; with the process it is gone.
+/// A mail store in memory, of vectors. It is always clean, and its count of faults stays 0.
+/// Contracts see its contents. It stands on no device, so contracts know of no stop that leaves
+/// something else; with the process it is gone.
 #[derive(Drop)]
 pub struct PlainVault {
     alloc: Global,

@@ -19,7 +19,8 @@ pub struct Message {
     pub maildrop: Name,
     /// Its class.
     pub class: Name,
-    /// The place of the message, from 1, among the deposits ever accepted of that class in the maildrop.
+    /// The place of the message, from 1, among the deposits ever accepted of that class in the
+    /// maildrop.
     pub k: u64,
     /// Its text, in the kept form.
     pub text: PagedText,

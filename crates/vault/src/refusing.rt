@@ -40,8 +40,8 @@ impl Countdown {
 }
 
 /// A vault of which one call is refused: that call changes nothing, counts as a fault and answers
-/// [`VaultFault::Store`]. All others go to the vault inside. Contracts see that vault, how many calls are to come up to
-/// the refused one, and how many were refused.
+/// [`VaultFault::Store`]. All others go to the vault inside. Contracts see that vault, how many
+/// calls are to come up to the refused one, and how many were refused.
 #[derive(Drop)]
 pub struct Refusing<V: Vault> {
     vault: V,
@@ -57,7 +57,8 @@ impl<V: Vault> Model for Refusing<V> {
 }
 
 impl<V: Vault> Refusing<V> {
-    /// A vault of which call number `n` is refused, counted from 1 over all its calls; 0 refuses none.
+    /// A vault of which call number `n` is refused, counted from 1 over all its calls; 0 refuses
+    /// none.
     pub fn new(vault: V, n: u64) -> Refusing<V>
         ensures { result ≡ refusing_call vault n }
     {

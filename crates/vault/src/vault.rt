@@ -11,19 +11,22 @@ use creds::{Credential, DepositId, Name};
 use mailtext::MailText;
 use policy::Policy;
 
-/// A mail store: what it keeps of clerks, maildrops, messages, deposits and the policy, and the calls on them.
+/// A mail store: what it keeps of clerks, maildrops, messages, deposits and the policy, and the
+/// calls on them.
 ///
-/// Contracts see which contents it holds, how often it was refused by what it stands on, and whether it is clean:
-/// what a call promises beyond safety holds where the store is clean as the call ends. A store that is not clean may
-/// hold any contents, and never becomes clean again. The contents that a clean store holds are sound. A refusal changes no
-/// content.
+/// Contracts see which contents it holds, how often it was refused by what it stands on, and
+/// whether it is clean: what a call promises beyond safety holds where the store is clean as the
+/// call ends. A store that is not clean may hold any contents, and never becomes clean again. The
+/// contents that a clean store holds are sound. A refusal changes no content.
 ///
-/// They see too what a stop of the device may leave (a crash, the power gone), while the store is clean: a call that
-/// began with the device up leaves what was held or, where it changes records, what it makes of it when it is done.
-/// An answer of the call's own means that the device is up still, and a stop then leaves what is held alone.
+/// They see too what a stop of the device may leave (a crash, the power gone), while the store is
+/// clean: a call that began with the device up leaves what was held or, where it changes records,
+/// what it makes of it when it is done. An answer of the call's own means that the device is up
+/// still, and a stop then leaves what is held alone.
 ///
-/// Beside the refusals that each call names, any call may answer [`VaultFault::NoMemory`] where memory was refused,
-/// and [`VaultFault::Store`] where the store was refused a statement, which its count of faults shows.
+/// Beside the refusals that each call names, any call may answer [`VaultFault::NoMemory`] where
+/// memory was refused, and [`VaultFault::Store`] where the store was refused a statement, which its
+/// count of faults shows.
 pub trait Vault {
     /// The contents that it holds.
     ghost holds: { Self → Contents → Type 0 };
@@ -40,12 +43,14 @@ pub trait Vault {
     /// What it may hold when it is opened again after a stop now (a crash, the power gone).
     ghost may_leave: { Self → Contents → Type 0 };
 
-    /// Puts a message into a maildrop, once for each deposit id of the maildrop's name: a second deposit of the same
-    /// class and text is [`Deposited::Known`] and changes nothing, also where the message is gone.
+    /// Puts a message into a maildrop, once for each deposit id of the maildrop's name: a second
+    /// deposit of the same class and text is [`Deposited::Known`] and changes nothing, also where
+    /// the message is gone.
     ///
-    /// Answers [`VaultFault::NoMaildrop`] where the maildrop is missing, else [`VaultFault::Conflict`] where the id was
-    /// used with another class or text, else [`VaultFault::Full`] where the maildrop has 10,000 messages or its name
-    /// had 1,000,000,000 deposits of the class.
+    /// Answers [`VaultFault::NoMaildrop`] where the maildrop is missing, else
+    /// [`VaultFault::Conflict`] where the id was used with another class or text, else
+    /// [`VaultFault::Full`] where the maildrop has 10,000 messages or its name had 1,000,000,000
+    /// deposits of the class.
     fn deposit(
         &mut self,
         maildrop: &Name,
@@ -69,8 +74,9 @@ pub trait Vault {
         ensures up { (c : Contents) → is_clean self.new → holds self.old c → StaysUp (is_up self.old) (is_up self.new) result }
         ensures stop { (c : Contents) → is_clean self.new → is_up self.old → holds self.old c → LeavesBefore (may_leave self.new) c };
 
-    /// Reads octets of a message, from that place on, into the front of the buffer; how many: at least one where one
-    /// is left and the buffer isn't empty, else 0. Under an unknown key there is none.
+    /// Reads octets of a message, from that place on, into the front of the buffer; how many: at
+    /// least one where one is left and the buffer isn't empty, else 0. Under an unknown key there
+    /// is none.
     fn page(&mut self, key: MessageKey, from: u64, buffer: &mut [u8]) -> Result<usize, VaultFault>
         ensures done { (c : Contents) → holds self.old c → is_clean self.new → IsPaged (holds self.new) c key from buffer.new result }
         ensures counted { CountsFaults (faults self.old) (faults self.new) result }
@@ -78,8 +84,8 @@ pub trait Vault {
         ensures up { (c : Contents) → is_clean self.new → holds self.old c → StaysUp (is_up self.old) (is_up self.new) result }
         ensures stop { (c : Contents) → is_clean self.new → is_up self.old → holds self.old c → LeavesBefore (may_leave self.new) c };
 
-    /// Removes those of the maildrop's messages that the keys name, all or none. Keys that aren't there are passed
-    /// over, in a missing maildrop all.
+    /// Removes those of the maildrop's messages that the keys name, all or none. Keys that aren't
+    /// there are passed over, in a missing maildrop all.
     fn remove(&mut self, maildrop: &Name, keys: &[MessageKey]) -> Result<(), VaultFault>
         ensures done { (c : Contents) → holds self.old c → is_clean self.new → AreRemoved (holds self.new) c maildrop.now keys.now result }
         ensures counted { CountsFaults (faults self.old) (faults self.new) result }
@@ -87,7 +93,8 @@ pub trait Vault {
         ensures up { (c : Contents) → is_clean self.new → holds self.old c → StaysUp (is_up self.old) (is_up self.new) result }
         ensures stop { (c : Contents) → is_clean self.new → is_up self.old → holds self.old c → LeavesEither (may_leave self.new) c (λ Held. AreRemoved Held c maildrop.now keys.now) };
 
-    /// Each maildrop with how many messages it has and their octets, by name, in the order of octets.
+    /// Each maildrop with how many messages it has and their octets, by name, in the order of
+    /// octets.
     fn maildrops(&mut self) -> Result<Vec<Total>, VaultFault>
         ensures done { (c : Contents) → holds self.old c → is_clean self.new → AreTotals (holds self.new) c (seen_as result (λ v. v.items)) }
         ensures counted { CountsFaults (faults self.old) (faults self.new) result }
@@ -103,7 +110,8 @@ pub trait Vault {
         ensures up { (c : Contents) → is_clean self.new → holds self.old c → StaysUp (is_up self.old) (is_up self.new) result }
         ensures stop { (c : Contents) → is_clean self.new → is_up self.old → holds self.old c → LeavesBefore (may_leave self.new) c };
 
-    /// Puts a clerk's credential, in place of the one that is there. Answers whether the clerk was new.
+    /// Puts a clerk's credential, in place of the one that is there. Answers whether the clerk was
+    /// new.
     ///
     /// Answers [`VaultFault::Full`] for a new name beyond 1,000.
     fn put_clerk(&mut self, clerk: &Name, credential: &Credential) -> Result<bool, VaultFault>
@@ -123,7 +131,8 @@ pub trait Vault {
         ensures up { (c : Contents) → is_clean self.new → holds self.old c → StaysUp (is_up self.old) (is_up self.new) result }
         ensures stop { (c : Contents) → is_clean self.new → is_up self.old → holds self.old c → LeavesEither (may_leave self.new) c (λ Held. IsClerkDropped Held c clerk.now) };
 
-    /// Adds a maildrop of this name, with the deposits that its name ever had. Answers whether it was new.
+    /// Adds a maildrop of this name, with the deposits that its name ever had. Answers whether it
+    /// was new.
     ///
     /// Answers [`VaultFault::Full`] for a new name beyond 1,000.
     fn add_maildrop(&mut self, maildrop: &Name) -> Result<bool, VaultFault>
@@ -133,10 +142,11 @@ pub trait Vault {
         ensures up { (c : Contents) → is_clean self.new → holds self.old c → StaysUp (is_up self.old) (is_up self.new) result }
         ensures stop { (c : Contents) → is_clean self.new → is_up self.old → holds self.old c → LeavesEither (may_leave self.new) c (λ Held. IsMaildropAdded Held c maildrop.now) };
 
-    /// Drops an empty maildrop. The deposits of its name stay, so that counts and ids go on where it is added again.
+    /// Drops an empty maildrop. The deposits of its name stay, so that counts and ids go on where
+    /// it is added again.
     ///
-    /// Answers [`VaultFault::NoMaildrop`] where the maildrop is missing, else [`VaultFault::NotEmpty`] where it has a
-    /// message.
+    /// Answers [`VaultFault::NoMaildrop`] where the maildrop is missing, else
+    /// [`VaultFault::NotEmpty`] where it has a message.
     fn drop_maildrop(&mut self, maildrop: &Name) -> Result<(), VaultFault>
         ensures done { (c : Contents) → holds self.old c → is_clean self.new → IsMaildropDropped (holds self.new) c maildrop.now result }
         ensures counted { CountsFaults (faults self.old) (faults self.new) result }
