@@ -17,6 +17,8 @@ mod script_spool;
 mod script_wire;
 mod sockets;
 mod spool;
+#[cfg(test)]
+mod tests;
 mod turn;
 mod wire;
 

@@ -1,0 +1,13 @@
+//! Tests of turns, over wires in memory: turns by chance, and strangers whose links are cut off at
+//! each read and write.
+
+mod chance;
+mod guest;
+mod random_turns;
+mod random_wire;
+mod reckoning;
+mod scenes;
+mod sent;
+mod strangers_cut_off;
+mod stream;
+mod two_clerks;
