@@ -2,12 +2,14 @@
  * Refuses each growth of a program in turn. tools/check-growths compiles this and has the loader
  * put it before the C library.
  *
- * At each growth the program forks. The child's growth is refused, and it runs on to its end with
- * no other refused; then the parent's growth is done, and it goes on. So the parent's own run is
- * one in which nothing is refused. A child that ends with a status other than 0 either told that
- * its test's own memory ran out, or failed. When the parent ends, it writes how many growths there
- * were, how many were the test's own, and how many children failed, and of the first of these at
- * which growth and what they wrote, to the file that GROWTHS names.
+ * At each growth the program forks. The child's growth is refused, and it runs on to its end
+ * with no other refused; then the parent's growth is done, and it goes on. So the parent's own
+ * run is one in which nothing is refused. A child that ends with a status other than 0 either
+ * told that its test's own memory ran out, or failed. When the parent ends, it writes how many
+ * growths there were, how many were the test's own, and how many children failed, and of the
+ * first of these at which growth and what they wrote, to the file that GROWTHS names. Where
+ * ONE_OF is a number above 1, those growths alone are refused and counted whose number, from 1
+ * on, divided by it leaves FIRST.
  */
 #define _GNU_SOURCE
 #include <stdio.h>
@@ -25,7 +27,7 @@ extern void *__libc_memalign(size_t align, size_t size);
 enum { SHOWN = 5, SECONDS = 60 };
 
 static int is_off = 1;
-static unsigned long growths, own, failed;
+static unsigned long grown, one_of = 1, first, growths, own, failed;
 static char said[1024];
 
 /* Whether a child told that the test's own memory ran out. */
@@ -50,7 +52,7 @@ static void report(int status, int out)
         own++;
     else if (failed++ < SHOWN) {
         char line[1200];
-        int len = snprintf(line, sizeof line, "growth %lu: status %d: %s\n", growths, status, said);
+        int len = snprintf(line, sizeof line, "growth %lu: status %d: %s\n", grown, status, said);
         int file = open(getenv("GROWTHS"), O_WRONLY | O_APPEND | O_CREAT, 0600);
         if (write(file, line, len < (int)sizeof line ? len : (int)sizeof line - 1) < 0)
             _exit(3);
@@ -61,7 +63,7 @@ static void report(int status, int out)
 /* Whether this growth is the refused one: in a child it is. */
 static int is_refused(void)
 {
-    if (is_off)
+    if (is_off || ++grown % one_of != first)
         return 0;
     is_off = 1;
     growths++;
@@ -103,12 +105,21 @@ void *aligned_alloc(size_t align, size_t size)
     return is_refused() ? NULL : __libc_memalign(align, size);
 }
 
+/* The number that a variable of the environment has, and this one where it has none above 0. */
+static unsigned long number(const char *name, unsigned long none)
+{
+    const char *text = getenv(name);
+    return text != NULL && atol(text) > 0 ? (unsigned long)atol(text) : none;
+}
+
 static pid_t parent;
 
 __attribute__((constructor)) static void begin(void)
 {
     parent = getpid();
     is_off = getenv("GROWTHS") == NULL;
+    one_of = number("ONE_OF", 1);
+    first = number("FIRST", 0);
 }
 
 __attribute__((destructor)) static void end(void)

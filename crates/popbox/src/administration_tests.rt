@@ -1,4 +1,5 @@
-//! Tests of a script's deposits and administration: what they are answered, and what clerks' logins are.
+//! Tests of a script's deposits and administration: what they are answered, and what clerks' logins
+//! are.
 
 use crate::tests::{expect, parts_of, plays, run_at};
 use std::alloc::Global;
@@ -225,7 +226,8 @@ done
 ended 1896
 ";
 
-/// Fails unless, after 1,895 connections that came and went, a transcript is what comes of its script.
+/// Fails unless, after 1,895 connections that came and went, a transcript is what comes of its
+/// script.
 fn plays_with_the_rfc_greeting(alloc: Global, transcript: &str) -> Result<(), Fail> {
     let mut text = String::from_str(alloc, OPENING)?;
     for number in 1..=1895 {

@@ -1,4 +1,5 @@
-//! Tests of many connections over the sample store: the lock, the idle clock, restarts, and sessions that are ended from outside.
+//! Tests of many connections over the sample store: the lock, the idle clock, restarts, and
+//! sessions that are ended from outside.
 
 use crate::session_tests::plays_over_the_sample;
 use std::test::Fail;
@@ -75,8 +76,8 @@ fn gone_and_idle_remove_nothing(rt: HostRuntime) -> Result<(), Fail> {
     plays_over_the_sample(alloc, IDLE)
 }
 
-/// Half a line doesn't set the clock; a taking does, a partial one too, and so does a line that acts. An earlier moment counts
-/// as the last. All that are idle are ended at once.
+/// Half a line doesn't set the clock; a taking does, a partial one too, and so does a line that
+/// acts. An earlier moment counts as the last. All that are idle are ended at once.
 static CLOCKS: &str = r"> connect
 opened 1
 > drain 1
@@ -174,7 +175,8 @@ answer note.2 15
 answer todo.2 6
 ";
 
-/// A restart ends every connection, whatever it is owed, removes nothing, lets the maildrops go, and begins time anew.
+/// A restart ends every connection, whatever it is owed, removes nothing, lets the maildrops go,
+/// and begins time anew.
 static WITH_OCTETS_OWED: &str = r"> connect
 opened 1
 > drain 1
@@ -235,7 +237,8 @@ fn restart_with_octets_owed(rt: HostRuntime) -> Result<(), Fail> {
     plays_over_the_sample(rt.alloc(), WITH_OCTETS_OWED)
 }
 
-/// Half a line does nothing; of a connection that isn't open nothing is taken, and of an open one not no octet.
+/// Half a line does nothing; of a connection that isn't open nothing is taken, and of an open one
+/// not no octet.
 static HALF_A_LINE: &str = r"> connect
 opened 1
 > drain 1

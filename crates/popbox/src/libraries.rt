@@ -1,13 +1,17 @@
-//! Tests of the libraries below. A library with tests of its own would be proved once more for them.
+//! Tests of the libraries below. A library with tests of its own is proved once more for them;
+//! serving alone has some of its own, which would make the check of this crate's tests too long.
 
 mod benches;
+mod calls;
 mod conversations;
 mod credentials;
 mod folders;
 mod groups;
+mod growths;
 mod lines;
 mod looks;
 mod loopback;
+mod no_growths;
 mod offices;
 mod policies;
 mod requests;
@@ -25,4 +29,6 @@ mod streams;
 mod text_pieces;
 mod texts;
 mod turns;
+mod twins;
 mod views;
+mod worked;

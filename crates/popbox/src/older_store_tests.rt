@@ -168,16 +168,24 @@ fn a_store_of_version_2_is_carried_over(rt: HostRuntime) -> Result<(), Fail> {
     Ok(())
 }
 
-/// What makes the sample store of version 1 another: its rows no records, its tables those of
-/// another version than its mark's, or its mark one of no version.
-static SPOILED: [(&str, VaultFault, &str); 5] = [
+/// Statements, and the fault with which a store is refused behind them, by its name too.
+type Spoiled = (&'static str, VaultFault, &'static str);
+
+/// What makes the sample store of an older version another: its rows no records, its mark missing,
+/// not alone, that of our version, or one of no version.
+static SPOILED: [Spoiled; 6] = [
     ("DELETE FROM counts", VaultFault::NotOurs, "NotOurs"),
     (
-        "UPDATE messages SET octets = 20 WHERE key = 1",
+        "UPDATE rules SET effect = 2",
         VaultFault::NotOurs,
         "NotOurs",
     ),
-    ("UPDATE meta SET value = 2", VaultFault::NotOurs, "NotOurs"),
+    ("DELETE FROM meta", VaultFault::NotOurs, "NotOurs"),
+    (
+        "INSERT INTO meta (name, value) VALUES ('more', 1)",
+        VaultFault::NotOurs,
+        "NotOurs",
+    ),
     ("UPDATE meta SET value = 3", VaultFault::NotOurs, "NotOurs"),
     (
         "UPDATE meta SET value = 4",
@@ -186,15 +194,50 @@ static SPOILED: [(&str, VaultFault, &str); 5] = [
     ),
 ];
 
-#[test]
-fn other_stores_of_version_1_are_refused(rt: HostRuntime) -> Result<(), Fail> {
-    let alloc = rt.alloc();
-    for (sql, fault, name) in &SPOILED {
-        let mut conn = store_of(alloc, first_text(alloc)?.as_str())?;
+/// The same of that of version 1: a message no record, and the mark of version 2.
+static SPOILED_FIRST: [Spoiled; 2] = [
+    (
+        "UPDATE messages SET octets = 20 WHERE key = 1",
+        VaultFault::NotOurs,
+        "NotOurs",
+    ),
+    ("UPDATE meta SET value = 2", VaultFault::NotOurs, "NotOurs"),
+];
+
+/// The same of that of version 2: a message no record, and the mark of version 1.
+static SPOILED_SECOND: [Spoiled; 2] = [
+    (
+        "UPDATE mail SET octets = 20 WHERE key = 1",
+        VaultFault::NotOurs,
+        "NotOurs",
+    ),
+    ("UPDATE meta SET value = 1", VaultFault::NotOurs, "NotOurs"),
+];
+
+/// Fails unless a store of these statements is refused behind each of those that spoil it.
+fn expect_refused(alloc: Global, text: &str, spoiled: &[Spoiled]) -> Result<(), Fail> {
+    for (sql, fault, name) in spoiled {
+        let mut conn = store_of(alloc, text)?;
         conn.execute_batch(*sql)?;
-        assert!(rt; is_refused(alloc, conn, *fault, *name), "{sql}");
+        if !is_refused(alloc, conn, *fault, *name) {
+            return Err(Fail::new(*sql));
+        }
     }
     Ok(())
+}
+
+#[test]
+fn other_stores_of_version_1_are_refused(rt: HostRuntime) -> Result<(), Fail> {
+    let text = first_text(rt.alloc())?;
+    expect_refused(rt.alloc(), text.as_str(), &SPOILED)?;
+    expect_refused(rt.alloc(), text.as_str(), &SPOILED_FIRST)
+}
+
+#[test]
+fn other_stores_of_version_2_are_refused(rt: HostRuntime) -> Result<(), Fail> {
+    let text = second_text(rt.alloc())?;
+    expect_refused(rt.alloc(), text.as_str(), &SPOILED)?;
+    expect_refused(rt.alloc(), text.as_str(), &SPOILED_SECOND)
 }
 
 /// Whether a store of version 1 is as it was.
@@ -203,6 +246,14 @@ fn is_first(conn: &mut Connection<MemStore>) -> Result<bool, Error> {
     let messages = number(conn, "SELECT count(*) FROM messages")?;
     let mail = "SELECT count(*) FROM sqlite_schema WHERE name = 'mail'";
     Ok(mark == 1 && messages == 3 && number(conn, mail)? == 0)
+}
+
+/// Whether a store of version 2 is as it was.
+fn is_second(conn: &mut Connection<MemStore>) -> Result<bool, Error> {
+    let mark = number(conn, "SELECT value FROM meta WHERE name = 'popbox'")?;
+    let mail = number(conn, "SELECT count(*) FROM mail")?;
+    let groups = "SELECT count(*) FROM sqlite_schema WHERE name = 'groups'";
+    Ok(mark == 2 && mail == 3 && number(conn, groups)? == 0)
 }
 
 /// The connection of a store that isn't adopted.
@@ -220,5 +271,15 @@ fn a_refused_store_of_version_1_stays_as_it_was(rt: HostRuntime) -> Result<(), F
     conn.execute_batch("DELETE FROM counts")?;
     let mut conn = refused(alloc, conn).ok_or("carried over")?;
     assert!(rt; is_first(&mut conn)?);
+    Ok(())
+}
+
+#[test]
+fn a_refused_store_of_version_2_stays_as_it_was(rt: HostRuntime) -> Result<(), Fail> {
+    let alloc = rt.alloc();
+    let mut conn = store_of(alloc, second_text(alloc)?.as_str())?;
+    conn.execute_batch("DELETE FROM counts")?;
+    let mut conn = refused(alloc, conn).ok_or("carried over")?;
+    assert!(rt; is_second(&mut conn)?);
     Ok(())
 }

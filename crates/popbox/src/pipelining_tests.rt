@@ -1,4 +1,5 @@
-//! Tests of a client that doesn't wait for replies: by a script, as one list of events, and over stores that refuse a call.
+//! Tests of a client that doesn't wait for replies: by a script, as one list of events, and over
+//! stores that refuse a call.
 
 use crate::office_tests::opened;
 use crate::session_tests::{SAMPLE, plays_over_the_sample};
@@ -10,8 +11,8 @@ use std::alloc::{AllocError, Global};
 use std::test::Fail;
 use vault::{PlainVault, Refusing};
 
-/// Ann says three lines at once, and takes seven octets at a time, or what is owed if less. A line acts once all before it
-/// was taken.
+/// Ann says three lines at once, and takes seven octets at a time, or what is owed if less. A line
+/// acts once all before it was taken.
 pub const PIPELINED: &str = r"> connect
 opened 1
 > drain 1
@@ -217,8 +218,8 @@ fn pipelined_as_one_run(rt: HostRuntime) -> Result<(), Fail> {
     Ok(())
 }
 
-/// Runs the script over stores that refuse their first call, their second, and so on until none is refused. Whether in one of
-/// them the QUIT was refused.
+/// Runs the script over stores that refuse their first call, their second, and so on until none is
+/// refused. Whether in one of them the QUIT was refused.
 fn has_refused_quit(alloc: Global, script: &str, free: &str, quit: &str) -> Result<bool, Fail> {
     let mut was_refused = false;
     for call in 1..100 {

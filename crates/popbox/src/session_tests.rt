@@ -1,4 +1,5 @@
-//! Tests of sessions over the sample store: what a clerk sees, marks and removes (RFC 1939, 5 to 7).
+//! Tests of sessions over the sample store: what a clerk sees, marks and removes (RFC 1939, 5 to
+//! 7).
 
 use crate::tests::plays;
 use std::alloc::Global;
@@ -269,7 +270,8 @@ fn refusals_at_login(rt: HostRuntime) -> Result<(), Fail> {
     plays_over_the_sample(rt.alloc(), REFUSALS)
 }
 
-/// A clerk who may read some of the messages. One that came since the login is seen by the next login.
+/// A clerk who may read some of the messages. One that came since the login is seen by the next
+/// login.
 pub const FILTERED_VIEW: &str = r"> connect
 opened 1
 > drain 1
@@ -322,7 +324,8 @@ fn deposit_during_a_session(rt: HostRuntime) -> Result<(), Fail> {
     plays_over_the_sample(rt.alloc(), FILTERED_VIEW)
 }
 
-/// Two messages are marked. The policy in force at the QUIT keeps one of them: those of the class pay, in front of ann's rule.
+/// Two messages are marked. The policy in force at the QUIT keeps one of them: those of the class
+/// pay, in front of ann's rule.
 pub const QUITTING: &str = r#"> connect
 opened 1
 > drain 1
@@ -352,7 +355,8 @@ fn quit_under_a_new_policy(rt: HostRuntime) -> Result<(), Fail> {
     plays_over_the_sample(rt.alloc(), QUITTING)
 }
 
-/// What a policy denies during a session isn't served any more. The numbers, the sizes and the marks stay those of the login's view.
+/// What a policy denies during a session isn't served any more. The numbers, the sizes and the
+/// marks stay those of the login's view.
 static REVOKED: &str = r#"> connect
 opened 1
 > drain 1

@@ -14,7 +14,8 @@ use std::test::Fail;
 use std::{io, str};
 use vault::{PlainVault, Vault};
 
-/// What a run leaves, as one text: standard output, and behind a fault the exit status in brackets and standard error.
+/// What a run leaves, as one text: standard output, and behind a fault the exit status in brackets
+/// and standard error.
 pub fn run_text(alloc: Global, status: u8, out: &[u8], err: &[u8]) -> Result<String, Fail> {
     let mut text = String::from_str(alloc, str::from_utf8(out)?)?;
     if status != 0 || !err.is_empty() {
@@ -46,8 +47,8 @@ pub fn run_at(alloc: Global, host: &str, boot: u64, script: &str) -> Result<Stri
     Ok(ran)
 }
 
-/// Runs a script over an empty store of tables in memory, at the host name and with the boot number of the worked examples,
-/// and gives the store back.
+/// Runs a script over an empty store of tables in memory, at the host name and with the boot number
+/// of the worked examples, and gives the store back.
 pub fn run_over_tables(alloc: Global, script: &str) -> Result<(String, SqlVault<MemStore>), Fail> {
     run_on(alloc, SqlVault::in_memory(alloc)?, "h.test", 7, script)
 }
@@ -61,16 +62,17 @@ pub fn expect(ran: String, want: &str) -> Result<(), Fail> {
     }
 }
 
-/// Fails unless the script prints this, and has no fault, over a store of vectors and over one of tables.
+/// Fails unless the script prints this, and has no fault, over a store of vectors and over one of
+/// tables.
 fn expect_output(alloc: Global, script: &str, out: &str) -> Result<(), Fail> {
     expect(run_at(alloc, "h.test", 7, script)?, out)?;
     let (ran, _) = run_over_tables(alloc, script)?;
     expect(ran, out)
 }
 
-/// The script of a transcript and what is printed of it. Of the transcript's lines the script has those behind `> `; a line
-/// behind `C: ` is said on connection 1, which then takes all that it is owed, and that is the line behind `S: `. All other
-/// lines are printed.
+/// The script of a transcript and what is printed of it. Of the transcript's lines the script has
+/// those behind `> `; a line behind `C: ` is said on connection 1, which then takes all that it is
+/// owed, and that is the line behind `S: `. All other lines are printed.
 pub fn parts_of(alloc: Global, transcript: &str) -> Result<(String, String), Fail> {
     let mut script = String::new(alloc);
     let mut want = String::new(alloc);
@@ -182,7 +184,8 @@ fn write_cut(
     writeln!(text, "> gone {at}\ndone\nended {at}")
 }
 
-/// Gives `NOOP`, so many spaces and a line end, in two pieces that are cut at each place in turn, and expects this reply.
+/// Gives `NOOP`, so many spaces and a line end, in two pieces that are cut at each place in turn,
+/// and expects this reply.
 fn cut_everywhere(alloc: Global, spaces: usize, end: &str, reply: &str) -> Result<(), Fail> {
     let line = format!(in alloc; "NOOP{:spaces$}{end}", "")?;
     let mut text = String::new(alloc);
@@ -575,8 +578,8 @@ fn refused_files(rt: HostRuntime) -> Result<(), Fail> {
     Ok(())
 }
 
-/// Whether the matches are of a subcommand, and have the options that `replay` has by default, those that `check-policy` was
-/// given, or those of `talk`, without a boot number.
+/// Whether the matches are of a subcommand, and have the options that `replay` has by default,
+/// those that `check-policy` was given, or those of `talk`, without a boot number.
 fn are_as_wanted(matches: &ArgMatches<'_>) -> bool {
     match matches.subcommand() {
         Some(("replay", options)) => has_defaults(options),
@@ -617,8 +620,8 @@ static WORDS: [(&[&str], Option<i32>); 9] = [
     (&["popbox", "play", "x"], Some(2)),
 ];
 
-/// The exit status of a command line that asks for help, or can't be read, and none of one that is read. Fails where the
-/// options of that one are others than those of its subcommand.
+/// The exit status of a command line that asks for help, or can't be read, and none of one that is
+/// read. Fails where the options of that one are others than those of its subcommand.
 fn refused_status(alloc: Global, words: &[&str]) -> Result<Option<i32>, Fail> {
     let command = make_command(alloc)?;
     match command.try_get_matches_from(words) {

@@ -172,10 +172,10 @@ fn tell_marks<S: Alter, E: Write>(
     };
     match other_table(conn.schema(), ours.schema(), version) {
         Some(our) => tell_other(err, our),
-        None if version == OLDEST => {
+        None if version != NEWEST => {
             writeln!(
                 err,
-                "its tables are of version 1, but a row is no sound record"
+                "its tables are of version {version}, but a row is no sound record"
             )
         }
         None => tell_row(alloc, err, conn),

@@ -283,8 +283,8 @@ fn clerks_of_a_rule(rt: HostRuntime) -> Result<(), Fail> {
     )
 }
 
-/// A second rule behind one that is named `first`, where no group is there: a group that isn't there
-/// is told behind a name that is none, and before a name that another rule has.
+/// A second rule behind one that is named `first`, where no group is there: a group that isn't
+/// there is told behind a name that is none, and before a name that another rule has.
 static UNKNOWN: [(&str, &str); 3] = [
     (
         "name = 'first'\nclerk = '@a'\nclass = 3\neffect = 3\nmaildrop = '*'\nactions = []",

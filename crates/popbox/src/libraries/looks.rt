@@ -8,7 +8,8 @@ use vault::Vault;
 
 /// What asks for all that the offices of these tests keep: the messages, the clerks, the policy and
 /// the sessions.
-static LOOK: &str = "maildrops\nlist orders\nlist sales\nclerk show ann\nclerk show bob\n\
+pub(super) static LOOK: &str =
+    "maildrops\nlist orders\nlist sales\nclerk show ann\nclerk show bob\n\
     clerk show cat\nclerk show dan\nclerk show eve\nclerk show mrose\npolicy\nsessions\n";
 
 /// What an office keeps. Fails where memory for this text is refused.

@@ -507,7 +507,8 @@ fn clerk_of(alloc: Global, n: usize) -> Result<String, AllocError> {
     format!(in alloc; "c{clerk}")
 }
 
-/// Puts eight groups into a policy's text, with some clerks in none, in one, in two, and c39 in all.
+/// Puts eight groups into a policy's text, with some clerks in none, in one, in two, and c39 in
+/// all.
 fn put_groups(text: &mut String) -> Result<(), AllocError> {
     for n in 0..8usize {
         let next = n.saturating_add(8);

@@ -120,7 +120,8 @@ fn put_answer(text: &mut String, body: &str) -> Result<(), AllocError> {
     Ok(())
 }
 
-/// Asks each, the first of which comes on the link at a place, and puts their answers behind `text`.
+/// Asks each, the first of which comes on the link at a place, and puts their answers behind
+/// `text`.
 fn ask_all(
     bench: &mut Bench<PlainVault>,
     rows: &[Row],

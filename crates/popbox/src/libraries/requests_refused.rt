@@ -1,22 +1,65 @@
-//! Requests of the administration where a growth is refused: each is answered as ever, or told that
-//! memory ran out, or its link is closed; its command is done wholly or not at all.
+//! Requests of the administration where a growth or a call of the store is refused: each is
+//! answered as ever, or told that memory ran out or that the store failed; where memory ran out,
+//! its link may be closed instead. Its command is done wholly or not at all.
 //!
-//! The tests pass with memory; tools/check-growths runs them with each growth refused.
+//! The tests of growths pass with memory; tools/check-growths runs them with each growth refused.
 use super::benches::{Bench, bench_over, request, turns};
 use super::looks::look;
 use super::requests_served::ROWS;
 use super::turns::octets;
+use super::worked::{Setting, filled};
 use sqlvault::SqlVault;
 use std::alloc::Global;
 use std::test::Fail;
-use vault::{PlainVault, Vault};
+use vault::{PlainVault, Refusing, Vault};
 
 /// The response where memory ran out.
 static OUT_OF_MEMORY: &[u8] =
     b"HTTP/1.1 503 Service Unavailable\r\nContent-Type: text/plain\r\nContent-Length: 14\r\nConnection: close\r\n\r\nout of memory\n";
 
+/// The response where the store refused a call.
+static STORE_FAILED: &[u8] =
+    b"HTTP/1.1 503 Service Unavailable\r\nContent-Type: text/plain\r\nContent-Length: 13\r\nConnection: close\r\n\r\nstore failed\n";
+
+/// How many calls the rows have at most.
+const MOST_CALLS: u64 = 100;
+
 /// A request, and what its response begins and ends with.
 type Row = (&'static str, &'static str, &'static str);
+
+/// Requests over the sample store, while ann is in.
+static SAMPLE_ROWS: [Row; 5] = [
+    (
+        "GET /explain/bob/orders/pay/read HTTP/1.1\r\n\r\n",
+        "HTTP/1.1 200 OK\r\n",
+        "Content-Length: 24\r\nConnection: close\r\n\r\ndeny by rule bob-no-pay\n",
+    ),
+    (
+        "DELETE /maildrops/orders HTTP/1.1\r\n\r\n",
+        "HTTP/1.1 409 Conflict\r\n",
+        "\r\n\r\nin use\n",
+    ),
+    (
+        "GET /sessions HTTP/1.1\r\n\r\n",
+        "HTTP/1.1 200 OK\r\n",
+        "\r\n\r\n1 ann orders\n",
+    ),
+    (
+        "DELETE /sessions/1 HTTP/1.1\r\n\r\n",
+        "HTTP/1.1 200 OK\r\n",
+        "\r\n\r\nended\n",
+    ),
+    (
+        "DELETE /maildrops/orders HTTP/1.1\r\n\r\n",
+        "HTTP/1.1 409 Conflict\r\n",
+        "\r\n\r\nnot empty\n",
+    ),
+];
+
+/// What ann says, and what the last reply to it is.
+static ANN: &[u8] = b"USER ann/orders\r\nPASS s3 cret\r\n";
+
+static ANN_IS_IN: &[u8] = b"+OK maildrop has 4 messages (80 octets)\r\n";
 
 /// An office that is asked, and how many requests came.
 #[derive(Drop)]
@@ -25,7 +68,7 @@ struct Asked<V: Vault> {
     came: usize,
 }
 
-/// An office without maildrops.
+/// An office over this vault.
 fn asked_over<V: Vault + Drop>(alloc: Global, vault: V) -> Result<Asked<V>, Fail> {
     let bench = bench_over(alloc, vault, 4096)?;
     Ok(Asked { bench, came: 0 })
@@ -71,11 +114,12 @@ fn keep_the_same<V: Vault>(
 }
 
 /// What the other office is sent for a request that was sent something else than ever: it was done
-/// wholly, or not at all.
+/// not at all, or, where memory ran out, wholly.
 fn whole_or_nothing<V: Vault>(
     tested: &mut Asked<V>,
     free: &mut Asked<PlainVault>,
     row: &Row,
+    refusal: &[u8],
 ) -> Result<(Vec<u8>, Vec<u8>), Fail> {
     let is_undone = keep_the_same(tested, free)?;
     let first = told(free, row.0)?;
@@ -83,22 +127,29 @@ fn whole_or_nothing<V: Vault>(
         let again = octets(free.bench.alloc, first.as_slice())?;
         return Ok((first, again));
     }
-    if !keep_the_same(tested, free)? {
-        return Err(Fail::new("half a record"));
+    if refusal == STORE_FAILED || !keep_the_same(tested, free)? {
+        return Err(Fail::new("half a record, or one that was refused"));
     }
     Ok((first, told(free, row.0)?))
 }
 
-/// A request was sent something else than ever: that memory ran out, or a beginning. It is made
-/// again, and answered as by the other office.
+/// Whether a request was told a refusal: in this response, or, where memory ran out, in a beginning
+/// of the one as ever.
+fn is_told(said: &[u8], refusal: &[u8], first: &[u8]) -> bool {
+    said == refusal || (refusal == OUT_OF_MEMORY && first.starts_with(said))
+}
+
+/// A request was sent something else than ever: a refusal. It is made again, and answered as by the
+/// other office.
 fn was_refused<V: Vault>(
     tested: &mut Asked<V>,
     free: &mut Asked<PlainVault>,
     row: &Row,
     said: &[u8],
+    refusal: &[u8],
 ) -> Result<(), Fail> {
-    let (first, again) = whole_or_nothing(tested, free, row)?;
-    if said != OUT_OF_MEMORY && !first.starts_with(said) {
+    let (first, again) = whole_or_nothing(tested, free, row, refusal)?;
+    if !is_told(said, refusal, first.as_slice()) {
         return Err(Fail::new("another response"));
     }
     if told(tested, row.0)? != again || !keep_the_same(tested, free)? {
@@ -112,10 +163,11 @@ fn ask<V: Vault>(
     tested: &mut Asked<V>,
     free: &mut Asked<PlainVault>,
     row: &Row,
+    refusal: &[u8],
 ) -> Result<bool, Fail> {
     let said = told(tested, row.0)?;
     if !is_as_ever(said.as_slice(), row) {
-        was_refused(tested, free, row, said.as_slice())?;
+        was_refused(tested, free, row, said.as_slice(), refusal)?;
         return Ok(true);
     }
     if said == told_as_ever(free, row)? {
@@ -125,26 +177,92 @@ fn ask<V: Vault>(
     }
 }
 
-/// Both are asked each row.
-fn ask_rows<V: Vault + Drop>(alloc: Global, vault: V) -> Result<(), Fail> {
-    let mut tested = asked_over(alloc, vault)?;
-    let mut free = asked_over(alloc, PlainVault::new(alloc))?;
+/// Both are asked each row. Whether the first was once sent something else than ever.
+fn ask_rows<V: Vault>(
+    tested: &mut Asked<V>,
+    free: &mut Asked<PlainVault>,
+    rows: &[Row],
+    refusal: &[u8],
+) -> Result<bool, Fail> {
     let mut is_refused = false;
-    for row in &ROWS {
-        is_refused |= ask(&mut tested, &mut free, row)?;
+    for row in rows {
+        is_refused |= ask(tested, free, row, refusal)?;
     }
-    if is_refused && !keep_the_same(&mut tested, &mut free)? {
+    if is_refused && !keep_the_same(tested, free)? {
         return Err(Fail::new("other records"));
     }
-    Ok(())
+    Ok(is_refused)
+}
+
+/// Over empty stores. Whether a request was refused.
+fn ask_empty<V: Vault + Drop>(alloc: Global, vault: V, refusal: &[u8]) -> Result<bool, Fail> {
+    let mut tested = asked_over(alloc, vault)?;
+    let mut free = asked_over(alloc, PlainVault::new(alloc))?;
+    ask_rows(&mut tested, &mut free, ROWS.as_slice(), refusal)
+}
+
+/// An office over this vault, which is filled, with ann in.
+fn with_ann<V: Vault + Drop>(alloc: Global, vault: V) -> Result<Asked<V>, Fail> {
+    let mut asked = asked_over(alloc, vault)?;
+    asked.bench.wire.connect(octets(alloc, ANN)?)?;
+    turns(&mut asked.bench, 4, 0);
+    if asked.bench.wire.written(0).ends_with(ANN_IS_IN) {
+        Ok(asked)
+    } else {
+        Err(Fail::new("error: OutOfMemory"))
+    }
+}
+
+/// Over sample stores, with ann in. Whether a request was refused.
+fn ask_sample<V: Vault + Drop>(alloc: Global, vault: V, refusal: &[u8]) -> Result<bool, Fail> {
+    let mut tested = with_ann(alloc, vault)?;
+    let sample = filled(alloc, PlainVault::new(alloc), Setting::Sample)?;
+    let mut free = with_ann(alloc, sample)?;
+    ask_rows(&mut tested, &mut free, SAMPLE_ROWS.as_slice(), refusal)
 }
 
 #[test]
 fn growths_of_requests(rt: HostRuntime) -> Result<(), Fail> {
-    ask_rows(rt.alloc(), PlainVault::new(rt.alloc()))
+    let alloc = rt.alloc();
+    let _ = ask_empty(alloc, PlainVault::new(alloc), OUT_OF_MEMORY)?;
+    let vault = filled(alloc, PlainVault::new(alloc), Setting::Sample)?;
+    let _ = ask_sample(alloc, vault, OUT_OF_MEMORY)?;
+    Ok(())
 }
 
 #[test]
 fn growths_of_requests_over_tables(rt: HostRuntime) -> Result<(), Fail> {
-    ask_rows(rt.alloc(), SqlVault::in_memory(rt.alloc())?)
+    let alloc = rt.alloc();
+    let _ = ask_empty(alloc, SqlVault::in_memory(alloc)?, OUT_OF_MEMORY)?;
+    let vault = filled(alloc, SqlVault::in_memory(alloc)?, Setting::Sample)?;
+    let _ = ask_sample(alloc, vault, OUT_OF_MEMORY)?;
+    Ok(())
+}
+
+/// How many runs over empty stores met a refused call, from the first behind the opening's on.
+fn calls_refused(alloc: Global) -> Result<u64, Fail> {
+    for call in 2..MOST_CALLS {
+        let vault = Refusing::new(PlainVault::new(alloc), call);
+        if !ask_empty(alloc, vault, STORE_FAILED)? {
+            return Ok(call.saturating_sub(2));
+        }
+    }
+    Err(Fail::new("a call was refused in each run"))
+}
+
+/// Whether a request over sample stores met a refused call, ann being in.
+fn is_refused_with_ann(alloc: Global, call: u64) -> Result<bool, Fail> {
+    let sample = filled(alloc, PlainVault::new(alloc), Setting::Sample)?;
+    ask_sample(alloc, Refusing::new(sample, call), STORE_FAILED)
+}
+
+/// Eight of the rows ask the store, once each: the maildrop added, added again, listed and dropped,
+/// the clerk put and shown, the policy set, and the groups listed.
+#[test]
+fn calls_of_requests(rt: HostRuntime) -> Result<(), Fail> {
+    assert_eq!(rt; calls_refused(rt.alloc())?, 8);
+    // behind the opening's call and the two of her login there is one, which drops the maildrop
+    assert!(rt; is_refused_with_ann(rt.alloc(), 4)?);
+    assert!(rt; !is_refused_with_ann(rt.alloc(), 5)?);
+    Ok(())
 }

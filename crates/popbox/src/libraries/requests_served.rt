@@ -1,4 +1,5 @@
-//! Requests of the administration over links in memory: pieces, limits, and faults in place of reads and writes.
+//! Requests of the administration over links in memory: pieces, limits, and faults in place of
+//! reads and writes.
 use super::benches::{Bench, bench_over, request, turns};
 use super::turns::octets;
 use serving::{MOST_REQUESTS, Stop};
@@ -21,7 +22,8 @@ static NO_SESSIONS: &[u8] =
 /// The first octets of a request.
 static BEGUN: &[u8] = b"GET /sessions HTTP/1.1\r\n";
 
-/// Requests, each with the first line of its response and its body, on an office that has seen those above it.
+/// Requests, each with the first line of its response and its body, on an office that has seen
+/// those above it.
 pub(super) static ROWS: [(&str, &str, &str); 15] = [
     (
         "PUT /maildrops/orders HTTP/1.1\r\n\r\n",
@@ -130,7 +132,8 @@ fn rows_of_the_administration(rt: HostRuntime) -> Result<(), Fail> {
     Ok(())
 }
 
-/// Eight links wait; a ninth is closed without an octet, and one that comes once there is room is served.
+/// Eight links wait; a ninth is closed without an octet, and one that comes once there is room is
+/// served.
 #[test]
 fn ninth_link(rt: HostRuntime) -> Result<(), Fail> {
     let alloc = rt.alloc();
@@ -151,7 +154,8 @@ fn ninth_link(rt: HostRuntime) -> Result<(), Fail> {
     Ok(())
 }
 
-/// A link is closed 60 seconds after it was accepted, whether its request is whole or its response is taken.
+/// A link is closed 60 seconds after it was accepted, whether its request is whole or its response
+/// is taken.
 #[test]
 fn sixty_seconds(rt: HostRuntime) -> Result<(), Fail> {
     let alloc = rt.alloc();
@@ -173,7 +177,8 @@ fn sixty_seconds(rt: HostRuntime) -> Result<(), Fail> {
     Ok(())
 }
 
-/// A request's link that ends before it is whole is closed without a response; a whole one is answered.
+/// A request's link that ends before it is whole is closed without a response; a whole one is
+/// answered.
 #[test]
 fn end_before_the_request_is_whole(rt: HostRuntime) -> Result<(), Fail> {
     let alloc = rt.alloc();
@@ -187,8 +192,8 @@ fn end_before_the_request_is_whole(rt: HostRuntime) -> Result<(), Fail> {
     Ok(())
 }
 
-/// What two requests and a client are sent, where a fault comes in place of one call: a beginning of what they are owed, all is
-/// closed, and at most one of the three lacks its end.
+/// What two requests and a client are sent, where a fault comes in place of one call: a beginning
+/// of what they are owed, all is closed, and at most one of the three lacks its end.
 fn with_stop(alloc: Global, call: u64, stop: Stop) -> Result<bool, Fail> {
     let mut bench = new_bench(alloc, 7)?;
     bench.wire.connect(octets(alloc, b"QUIT\r\n")?)?;

@@ -399,44 +399,18 @@ impl Count {
     }
 }
 
-/// After how many calls a file fails in which run: from the first on, after one more in each run;
-/// where `is_thin` is asked for, behind the fortieth after seven more.
-#[derive(Clone, Copy)]
-struct Runs {
-    is_log: bool,
-    first: u64,
-    is_thin: bool,
-}
-
-/// How many runs are one call apart, where then they are more.
-const EACH: u64 = 40;
-
-/// How many calls apart they then are.
-const STRIDE: u64 = 7;
-
-/// The stop of the run of this number, from 0.
-fn stop_of(runs: Runs, run: u64) -> Stop {
-    let more = if runs.is_thin {
-        run.saturating_sub(EACH).saturating_mul(STRIDE - 1)
-    } else {
-        0
-    };
-    Stop {
-        is_log: runs.is_log,
-        calls: runs.first.saturating_add(run).saturating_add(more),
-    }
-}
-
-/// Runs until a run meets no stop: in that one each act is answered.
-fn counted(alloc: Global, row: &Row<'_>, runs: Runs) -> Result<Count, Fail> {
+/// A file fails from this call on, then from the next one, until a run meets no stop: in that one
+/// each act is answered.
+fn counted(alloc: Global, row: &Row<'_>, first: Stop) -> Result<Count, Fail> {
     let script = script_of(alloc, row.acts)?;
     let mut seen = Vec::new(alloc);
     let mut count = Count {
         refused: 0,
         failed: 0,
     };
-    for run in 0..u64::MAX {
-        let (end, files) = run_to(alloc, row, script.as_str(), stop_of(runs, run))?;
+    for calls in first.calls..u64::MAX {
+        let stop = Stop { calls, ..first };
+        let (end, files) = run_to(alloc, row, script.as_str(), stop)?;
         expect_ended(alloc, row, end, files, &mut seen)?;
         if !end.is_stopped {
             expect_whole(row, end)?;
@@ -469,42 +443,15 @@ pub fn changes(row: &Row<'_>) -> u64 {
     count
 }
 
-/// Stops in the opening of the store: after each number of calls of a file below 40, and behind
-/// them after every seventh, since most calls of an opening only read.
-pub fn stops_in_opening(alloc: Global, row: &Row<'_>, is_log: bool) -> Result<Count, Fail> {
-    let begun = row.begun;
-    let opening = Row {
-        begun,
-        acts: &[],
-        look: row.look,
-        before: row.before,
-    };
-    let runs = Runs {
-        is_log,
-        first: 0,
-        is_thin: true,
-    };
-    counted(alloc, &opening, runs)
-}
-
-/// Stops in an opening that writes: after each number of calls of a file.
-pub fn stops_in_carrying(alloc: Global, row: &Row<'_>, is_log: bool) -> Result<Count, Fail> {
-    let runs = Runs {
-        is_log,
-        first: 0,
-        is_thin: false,
-    };
-    counted(alloc, row, runs)
+/// Stops in the opening of the store, and in the acts: after each number of calls of a file.
+pub fn stops_from_opening(alloc: Global, row: &Row<'_>, is_log: bool) -> Result<Count, Fail> {
+    counted(alloc, row, Stop { is_log, calls: 0 })
 }
 
 /// Stops in the acts: after each number of calls of a file from the store's opening on.
 pub fn stops_in_acts(alloc: Global, row: &Row<'_>, is_log: bool) -> Result<Count, Fail> {
-    let runs = Runs {
-        is_log,
-        first: opening_calls(alloc, row, is_log)?,
-        is_thin: false,
-    };
-    counted(alloc, row, runs)
+    let calls = opening_calls(alloc, row, is_log)?;
+    counted(alloc, row, Stop { is_log, calls })
 }
 
 /// How many calls an opening takes at most.

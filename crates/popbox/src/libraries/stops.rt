@@ -2,7 +2,7 @@
 //! over what is left: once with nothing lost, as after a kill, and once without all that wasn't
 //! synced, as after a lost power.
 use super::stopping::{
-    Act, NOTHING_HELD, Row, changes, held_in, left_after, stops_in_acts, stops_in_opening,
+    Act, NOTHING_HELD, Row, changes, held_in, left_after, stops_from_opening, stops_in_acts,
 };
 use crate::session_tests::SAMPLE;
 use crate::tests::parts_of;
@@ -519,8 +519,8 @@ fn expect_stopped_acts(alloc: Global, row: &Row<'_>) -> Result<(), Fail> {
 
 /// Stops of both files in the opening of a store.
 fn expect_stopped_openings(alloc: Global, row: &Row<'_>) -> Result<(), Fail> {
-    let of_log = stops_in_opening(alloc, row, true)?;
-    let of_db = stops_in_opening(alloc, row, false)?;
+    let of_log = stops_from_opening(alloc, row, true)?;
+    let of_db = stops_from_opening(alloc, row, false)?;
     if of_log.refused == 0 || of_db.refused == 0 {
         return Err(Fail::new("no opening was stopped"));
     }

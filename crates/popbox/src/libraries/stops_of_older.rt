@@ -1,5 +1,5 @@
 //! Stops as an older store is carried over: it is the old one or the new one, with the same lists.
-use super::stopping::{Row, held_in, made_by, stops_in_carrying};
+use super::stopping::{Row, held_in, made_by, stops_from_opening};
 use crate::older_store_tests::{first_text, second_text};
 use std::alloc::Global;
 use std::test::Fail;
@@ -39,8 +39,8 @@ fn expect_stopped_carrying(alloc: Global, sql: &str) -> Result<(), Fail> {
         look: LOOK,
         before: HELD,
     };
-    let of_log = stops_in_carrying(alloc, &row, true)?;
-    let of_db = stops_in_carrying(alloc, &row, false)?;
+    let of_log = stops_from_opening(alloc, &row, true)?;
+    let of_db = stops_from_opening(alloc, &row, false)?;
     if of_log.refused == 0 || of_db.refused == 0 {
         return Err(Fail::new("no carry-over was stopped"));
     }

@@ -8,7 +8,7 @@ use std::test::Fail;
 use vault::{Head, MessageKey};
 
 /// The sample policy's rules about bob.
-static RULES: &str = r#"
+pub(super) static RULES: &str = r#"
 [[rule]]
 name = "bob-open"
 effect = "allow"
@@ -85,7 +85,7 @@ fn sample_heads(alloc: Global) -> Result<Vec<Head>, Fail> {
     Ok(heads)
 }
 
-fn bob_session(alloc: Global, policy: &Policy) -> Result<Session, Fail> {
+pub(super) fn bob_session(alloc: Global, policy: &Policy) -> Result<Session, Fail> {
     let clerk = Name::read(b"bob").ok_or("a clerk")?;
     let maildrop = Name::read(b"orders").ok_or("a maildrop")?;
     let heads = sample_heads(alloc)?;
