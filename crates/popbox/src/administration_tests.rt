@@ -6,7 +6,7 @@ use std::alloc::Global;
 use std::test::Fail;
 
 /// Deposits, and how the maildrop grows by them.
-static DEPOSITS: &str = r"> maildrops
+pub const DEPOSITS: &str = r"> maildrops
 answer
 > maildrop add orders
 answer added
@@ -47,7 +47,7 @@ fn deposits_are_answered(rt: HostRuntime) -> Result<(), Fail> {
 }
 
 /// A maildrop that was dropped begins anew.
-static DROPPED: &str = r"> maildrop add orders
+pub const DROPPED: &str = r"> maildrop add orders
 answer added
 > maildrop add billing
 answer added
@@ -74,7 +74,7 @@ fn dropped_maildrop_is_added_again(rt: HostRuntime) -> Result<(), Fail> {
 }
 
 /// A clerk comes, gets another credential, and goes.
-static CLERKS: &str = r"> clerk show ann
+pub const CLERKS: &str = r"> clerk show ann
 answer no such clerk
 > clerk pass ann s3 cret
 answer added
@@ -100,7 +100,7 @@ fn clerks_are_answered(rt: HostRuntime) -> Result<(), Fail> {
 }
 
 /// A policy with a fault leaves the one in force.
-static POLICIES: &str = r#"> policy
+pub const POLICIES: &str = r#"> policy
 answer
 > policy [[rule]]\nname = "all"\neffect = "allow"\nclerk = "*"\nmaildrop = "*"\nclass = "*"\nactions = ["open", "read", "remove"]\n
 answer 1 rules
@@ -134,7 +134,7 @@ fn policies_are_answered(rt: HostRuntime) -> Result<(), Fail> {
 }
 
 /// An unknown clerk, a wrong and a right password, and a password of a clerk who logs in by APOP.
-static CREDENTIALS: &str = r"> clerk pass ann s3 cret
+pub const CREDENTIALS: &str = r"> clerk pass ann s3 cret
 answer added
 > clerk apop mrose tanstaaf
 answer added
@@ -208,7 +208,7 @@ ended 1896
 ";
 
 /// The same digits in upper case.
-static UPPER_CASE: &str = r"> connect
+pub const UPPER_CASE: &str = r"> connect
 opened 1896
 > drain 1896
 sent 1896 +OK POP3 server ready <1896.697170952@dbc.mtview.ca.us>\r\n

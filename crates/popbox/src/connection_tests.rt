@@ -275,7 +275,7 @@ fn half_a_line_and_ignored_events(rt: HostRuntime) -> Result<(), Fail> {
 }
 
 /// A session is ended from outside, and with it its connection; one that has said QUIT is none.
-static SESSIONS: &str = r"> sessions
+pub const SESSIONS: &str = r"> sessions
 answer
 > maildrop add sales
 answer added

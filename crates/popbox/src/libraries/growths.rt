@@ -1,9 +1,10 @@
-//! The worked rows where a growth is refused: what met the refusal says so and changes nothing, or
-//! ends its connection.
+//! The worked rows, and a reply of several takings, where a growth is refused: what met the refusal
+//! says so and changes nothing, or ends its connection.
 //!
-//! The tests pass with memory; tools/check-growths runs them with each growth refused.
+//! The tests pass with memory; tools/check-growths runs them with each growth refused, and counts
+//! them by the rows that they name.
 use super::twins::{play, twins_of};
-use super::worked::{ROWS, Row, filled, opened_at};
+use super::worked::{LONG, OFFICE_ROWS, Row, SESSION_ROWS, filled, opened_at};
 use sqlvault::SqlVault;
 use std::alloc::Global;
 use std::test::Fail;
@@ -11,7 +12,7 @@ use vault::{PlainVault, Vault};
 
 /// Does a row in two offices, in the first of which a growth may be refused. Whether one was.
 fn meets<V: Vault + Drop>(alloc: Global, vault: V, row: &Row) -> Result<bool, Fail> {
-    let setting = row.0;
+    let setting = row.1;
     let free = filled(alloc, PlainVault::new(alloc), setting)?;
     let free = opened_at(alloc, free, setting)?;
     let tested = opened_at(alloc, filled(alloc, vault, setting)?, setting)?;
@@ -20,10 +21,22 @@ fn meets<V: Vault + Drop>(alloc: Global, vault: V, row: &Row) -> Result<bool, Fa
     Ok(twins.is_met)
 }
 
+/// The same over a store of vectors, behind the row's name.
+fn meets_over_vectors(rt: &HostRuntime, row: &Row) -> Result<bool, Fail> {
+    println!(rt; "row {}", row.0)?;
+    meets(rt.alloc(), PlainVault::new(rt.alloc()), row)
+}
+
+/// The same over a store of tables, behind the row's name.
+fn meets_over_tables(rt: &HostRuntime, row: &Row) -> Result<bool, Fail> {
+    println!(rt; "row {}", row.0)?;
+    meets(rt.alloc(), SqlVault::in_memory(rt.alloc())?, row)
+}
+
 #[test]
-fn growths_of_rows(rt: HostRuntime) -> Result<(), Fail> {
-    for row in &ROWS {
-        if meets(rt.alloc(), PlainVault::new(rt.alloc()), row)? {
+fn growths_of_administration(rt: HostRuntime) -> Result<(), Fail> {
+    for row in &OFFICE_ROWS {
+        if meets_over_vectors(&rt, row)? {
             break;
         }
     }
@@ -31,11 +44,43 @@ fn growths_of_rows(rt: HostRuntime) -> Result<(), Fail> {
 }
 
 #[test]
-fn growths_of_rows_over_tables(rt: HostRuntime) -> Result<(), Fail> {
-    for row in &ROWS {
-        if meets(rt.alloc(), SqlVault::in_memory(rt.alloc())?, row)? {
+fn growths_of_administration_over_tables(rt: HostRuntime) -> Result<(), Fail> {
+    for row in &OFFICE_ROWS {
+        if meets_over_tables(&rt, row)? {
             break;
         }
     }
+    Ok(())
+}
+
+#[test]
+fn growths_of_sessions(rt: HostRuntime) -> Result<(), Fail> {
+    for row in &SESSION_ROWS {
+        if meets_over_vectors(&rt, row)? {
+            break;
+        }
+    }
+    Ok(())
+}
+
+#[test]
+fn growths_of_sessions_over_tables(rt: HostRuntime) -> Result<(), Fail> {
+    for row in &SESSION_ROWS {
+        if meets_over_tables(&rt, row)? {
+            break;
+        }
+    }
+    Ok(())
+}
+
+#[test]
+fn growths_of_a_long_reply(rt: HostRuntime) -> Result<(), Fail> {
+    let _ = meets_over_vectors(&rt, &LONG)?;
+    Ok(())
+}
+
+#[test]
+fn growths_of_a_long_reply_over_tables(rt: HostRuntime) -> Result<(), Fail> {
+    let _ = meets_over_tables(&rt, &LONG)?;
     Ok(())
 }

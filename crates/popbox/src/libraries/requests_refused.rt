@@ -1,8 +1,9 @@
 //! Requests of the administration where a growth or a call of the store is refused: each is
-//! answered as ever, or told that memory ran out or that the store failed; where memory ran out,
-//! its link may be closed instead. Its command is done wholly or not at all.
+//! answered as ever, or told that memory ran out or that the store failed; the first one's link may
+//! be closed instead, where there is no memory to keep it. Its command is done wholly or not at all.
 //!
-//! The tests of growths pass with memory; tools/check-growths runs them with each growth refused.
+//! The tests of growths pass with memory; tools/check-growths runs them with each growth refused,
+//! and counts them by the rows that they name.
 use super::benches::{Bench, bench_over, request, turns};
 use super::looks::look;
 use super::requests_served::ROWS;
@@ -61,6 +62,9 @@ static ANN: &[u8] = b"USER ann/orders\r\nPASS s3 cret\r\n";
 
 static ANN_IS_IN: &[u8] = b"+OK maildrop has 4 messages (80 octets)\r\n";
 
+/// The reply that she has where the store is told to have refused her.
+static REFUSED: &[u8] = b"-ERR store failed\r\n";
+
 /// An office that is asked, and how many requests came.
 #[derive(Drop)]
 struct Asked<V: Vault> {
@@ -113,30 +117,29 @@ fn keep_the_same<V: Vault>(
     Ok(kept == look(alloc, &mut free.bench.office)?)
 }
 
-/// What the other office is sent for a request that was sent something else than ever: it was done
-/// not at all, or, where memory ran out, wholly.
+/// The other office is sent a request that was sent something else than ever: it was done not at
+/// all, or, where memory ran out, wholly. What the other is sent for it where it comes again.
 fn whole_or_nothing<V: Vault>(
     tested: &mut Asked<V>,
     free: &mut Asked<PlainVault>,
     row: &Row,
     refusal: &[u8],
-) -> Result<(Vec<u8>, Vec<u8>), Fail> {
+) -> Result<Vec<u8>, Fail> {
     let is_undone = keep_the_same(tested, free)?;
     let first = told(free, row.0)?;
     if is_undone {
-        let again = octets(free.bench.alloc, first.as_slice())?;
-        return Ok((first, again));
+        return Ok(first);
     }
     if refusal == STORE_FAILED || !keep_the_same(tested, free)? {
         return Err(Fail::new("half a record, or one that was refused"));
     }
-    Ok((first, told(free, row.0)?))
+    told(free, row.0)
 }
 
-/// Whether a request was told a refusal: in this response, or, where memory ran out, in a beginning
-/// of the one as ever.
-fn is_told(said: &[u8], refusal: &[u8], first: &[u8]) -> bool {
-    said == refusal || (refusal == OUT_OF_MEMORY && first.starts_with(said))
+/// Whether a request was told a refusal; or, where memory ran out and no link was kept before its
+/// own, nothing.
+fn is_told(said: &[u8], refusal: &[u8], came: usize) -> bool {
+    said == refusal || (refusal == OUT_OF_MEMORY && said.is_empty() && came == 1)
 }
 
 /// A request was sent something else than ever: a refusal. It is made again, and answered as by the
@@ -148,10 +151,10 @@ fn was_refused<V: Vault>(
     said: &[u8],
     refusal: &[u8],
 ) -> Result<(), Fail> {
-    let (first, again) = whole_or_nothing(tested, free, row, refusal)?;
-    if !is_told(said, refusal, first.as_slice()) {
+    if !is_told(said, refusal, tested.came) {
         return Err(Fail::new("another response"));
     }
+    let again = whole_or_nothing(tested, free, row, refusal)?;
     if told(tested, row.0)? != again || !keep_the_same(tested, free)? {
         return Err(Fail::new("another answer"));
     }
@@ -188,10 +191,16 @@ fn ask_rows<V: Vault>(
     for row in rows {
         is_refused |= ask(tested, free, row, refusal)?;
     }
-    if is_refused && !keep_the_same(tested, free)? {
-        return Err(Fail::new("other records"));
+    // a look calls the store: where a call is to be refused, not before it was
+    if !is_refused && refusal == STORE_FAILED {
+        return Ok(false);
     }
-    Ok(is_refused)
+    // where memory is refused to the first look, the second tells
+    if keep_the_same(tested, free)? || keep_the_same(tested, free)? {
+        Ok(is_refused)
+    } else {
+        Err(Fail::new("other records"))
+    }
 }
 
 /// Over empty stores. Whether a request was refused.
@@ -206,8 +215,11 @@ fn with_ann<V: Vault + Drop>(alloc: Global, vault: V) -> Result<Asked<V>, Fail> 
     let mut asked = asked_over(alloc, vault)?;
     asked.bench.wire.connect(octets(alloc, ANN)?)?;
     turns(&mut asked.bench, 4, 0);
-    if asked.bench.wire.written(0).ends_with(ANN_IS_IN) {
+    let said = asked.bench.wire.written(0);
+    if said.ends_with(ANN_IS_IN) {
         Ok(asked)
+    } else if said.ends_with(REFUSED) {
+        Err(Fail::new("ann was refused"))
     } else {
         Err(Fail::new("error: OutOfMemory"))
     }
@@ -224,7 +236,9 @@ fn ask_sample<V: Vault + Drop>(alloc: Global, vault: V, refusal: &[u8]) -> Resul
 #[test]
 fn growths_of_requests(rt: HostRuntime) -> Result<(), Fail> {
     let alloc = rt.alloc();
+    println!(rt; "row requests over an empty store")?;
     let _ = ask_empty(alloc, PlainVault::new(alloc), OUT_OF_MEMORY)?;
+    println!(rt; "row explain_and_drop_over_http")?;
     let vault = filled(alloc, PlainVault::new(alloc), Setting::Sample)?;
     let _ = ask_sample(alloc, vault, OUT_OF_MEMORY)?;
     Ok(())
@@ -233,36 +247,55 @@ fn growths_of_requests(rt: HostRuntime) -> Result<(), Fail> {
 #[test]
 fn growths_of_requests_over_tables(rt: HostRuntime) -> Result<(), Fail> {
     let alloc = rt.alloc();
+    println!(rt; "row requests over an empty store")?;
     let _ = ask_empty(alloc, SqlVault::in_memory(alloc)?, OUT_OF_MEMORY)?;
+    println!(rt; "row explain_and_drop_over_http")?;
     let vault = filled(alloc, SqlVault::in_memory(alloc)?, Setting::Sample)?;
     let _ = ask_sample(alloc, vault, OUT_OF_MEMORY)?;
     Ok(())
 }
 
-/// How many runs over empty stores met a refused call, from the first behind the opening's on.
-fn calls_refused(alloc: Global) -> Result<u64, Fail> {
-    for call in 2..MOST_CALLS {
+/// Whether a request met a refused call of an empty store, of vectors or of tables.
+fn is_refused(alloc: Global, call: u64, is_over_tables: bool) -> Result<bool, Fail> {
+    if is_over_tables {
+        let vault = Refusing::new(SqlVault::in_memory(alloc)?, call);
+        ask_empty(alloc, vault, STORE_FAILED)
+    } else {
         let vault = Refusing::new(PlainVault::new(alloc), call);
-        if !ask_empty(alloc, vault, STORE_FAILED)? {
+        ask_empty(alloc, vault, STORE_FAILED)
+    }
+}
+
+/// How many runs over empty stores met a refused call, from the first behind the opening's on.
+fn calls_refused(alloc: Global, is_over_tables: bool) -> Result<u64, Fail> {
+    for call in 2..MOST_CALLS {
+        if !is_refused(alloc, call, is_over_tables)? {
             return Ok(call.saturating_sub(2));
         }
     }
     Err(Fail::new("a call was refused in each run"))
 }
 
-/// Whether a request over sample stores met a refused call, ann being in.
-fn is_refused_with_ann(alloc: Global, call: u64) -> Result<bool, Fail> {
-    let sample = filled(alloc, PlainVault::new(alloc), Setting::Sample)?;
-    ask_sample(alloc, Refusing::new(sample, call), STORE_FAILED)
+/// Whether a request met a refused call of a sample store, ann being in.
+fn is_refused_with_ann(alloc: Global, call: u64, is_over_tables: bool) -> Result<bool, Fail> {
+    if is_over_tables {
+        let sample = filled(alloc, SqlVault::in_memory(alloc)?, Setting::Sample)?;
+        ask_sample(alloc, Refusing::new(sample, call), STORE_FAILED)
+    } else {
+        let sample = filled(alloc, PlainVault::new(alloc), Setting::Sample)?;
+        ask_sample(alloc, Refusing::new(sample, call), STORE_FAILED)
+    }
 }
 
 /// Eight of the rows ask the store, once each: the maildrop added, added again, listed and dropped,
-/// the clerk put and shown, the policy set, and the groups listed.
+/// the clerk put and shown, and the policy set twice.
 #[test]
 fn calls_of_requests(rt: HostRuntime) -> Result<(), Fail> {
-    assert_eq!(rt; calls_refused(rt.alloc())?, 8);
-    // behind the opening's call and the two of her login there is one, which drops the maildrop
-    assert!(rt; is_refused_with_ann(rt.alloc(), 4)?);
-    assert!(rt; !is_refused_with_ann(rt.alloc(), 5)?);
+    for is_over_tables in [false, true] {
+        assert_eq!(rt; calls_refused(rt.alloc(), is_over_tables)?, 8);
+        // behind the opening's call and the two of her login there is one, which drops the maildrop
+        assert!(rt; is_refused_with_ann(rt.alloc(), 4, is_over_tables)?);
+        assert!(rt; !is_refused_with_ann(rt.alloc(), 5, is_over_tables)?);
+    }
     Ok(())
 }

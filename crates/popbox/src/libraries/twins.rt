@@ -109,34 +109,31 @@ fn put(alloc: Global, text: &mut Vec<u8>, outcome: &Outcome) -> Result<(), Wrong
     }
 }
 
-/// What an office keeps, as it answers these lines.
-fn kept<D: Desk>(alloc: Global, desk: &mut D, look: &[Line]) -> Result<Vec<u8>, Wrong> {
+/// What an office keeps, as it answers these lines. A look takes memory: where that is refused and
+/// no event met a refusal yet, the refusal is the test's own.
+fn kept<D: Desk>(
+    alloc: Global,
+    desk: &mut D,
+    look: &[Line],
+    is_met: bool,
+) -> Result<Vec<u8>, Wrong> {
     let mut text = Vec::new(alloc);
     for line in look {
         if let Some(event) = event_of(line) {
             let outcome = desk.give(event);
+            expect(is_met || !matches!(outcome, Outcome::NoMemory), OWN)?;
             put(alloc, &mut text, &outcome)?;
         }
     }
     Ok(text)
 }
 
-/// Whether both tell the same of all that they keep.
-fn look_alike<T: Desk, F: Desk>(twins: &mut Twins<T, F>) -> Result<bool, Wrong> {
-    let text = kept(twins.alloc, &mut twins.tested, &twins.look)?;
-    Ok(text == kept(twins.alloc, &mut twins.free, &twins.look)?)
-}
-
-/// Fails unless both keep the same. A look takes memory: where that is refused, they tell the same
-/// when they are asked again.
+/// Fails unless both tell the same of all that they keep.
 fn keep_the_same<T: Desk, F: Desk>(twins: &mut Twins<T, F>) -> Result<(), Wrong> {
-    if look_alike(twins)? {
-        return Ok(());
-    }
-    if !twins.is_met && look_alike(twins)? {
-        return Err(OWN);
-    }
-    Err("other records or sessions")
+    let (alloc, is_met) = (twins.alloc, twins.is_met);
+    let text = kept(alloc, &mut twins.tested, &twins.look, is_met)?;
+    let wanted = kept(alloc, &mut twins.free, &twins.look, is_met)?;
+    expect(text == wanted, "other records or sessions")
 }
 
 /// Whether two outcomes are printed alike.
@@ -332,7 +329,7 @@ fn play_lines<T: Desk, F: Desk>(twins: &mut Twins<T, F>, lines: &[Line]) -> Resu
 
 /// Both do a row, to its end, or to the line whose connection ends for the refusal.
 pub fn play<T: Desk, F: Desk>(twins: &mut Twins<T, F>, row: &Row) -> Result<(), Fail> {
-    let (_, parts) = row;
+    let (_, _, parts) = row;
     for part in *parts {
         let lines = lines_of(twins.alloc, *part)?;
         match play_lines(twins, &lines) {

@@ -1,7 +1,9 @@
 //! The worked rows of sessions, deposits and administration, each with what it begins with, for the
 //! tests that refuse a growth or a call of the store in them.
-use crate::administration_tests::{LOWER_CASE, OPENING};
-use crate::connection_tests::{AFTER_A_RESTART, BEFORE_A_RESTART, GONE, IDLE};
+use crate::administration_tests::{
+    CLERKS, CREDENTIALS, DEPOSITS, DROPPED, LOWER_CASE, OPENING, POLICIES, UPPER_CASE,
+};
+use crate::connection_tests::{AFTER_A_RESTART, BEFORE_A_RESTART, GONE, IDLE, SESSIONS};
 use crate::pipelining_tests::{PIPELINED, QUIT};
 use crate::session_tests::{
     ARGUMENTS, EMPTY_VIEW, FILTERED_VIEW, MARKING, QUITTING, REFUSALS, RETRIEVING, SAMPLE,
@@ -21,43 +23,108 @@ pub enum Setting {
     Empty,
     /// The sample store.
     Sample,
+    /// The sample store with a note of 31,003 octets.
+    Long,
     /// The store of the digest of RFC 1939, 7, behind 1,895 connections.
     Digest,
 }
 
-/// A row: what it begins with, and its transcript, in parts.
-pub type Row = (Setting, &'static [&'static str]);
+/// A row: its name, what it begins with, and its transcript, in parts.
+pub type Row = (&'static str, Setting, &'static [&'static str]);
 
-pub static ROWS: [Row; 18] = [
-    (Setting::Empty, &[SAMPLE]),
-    (Setting::Sample, &[RETRIEVING]),
-    (Setting::Sample, &[TOP_WITHOUT_HEADER_END]),
-    (Setting::Sample, &[TOP_LINES]),
-    (Setting::Digest, &[LOWER_CASE]),
-    (Setting::Empty, &[NAMES_IN_FORCE]),
-    (Setting::Sample, &[EMPTY_VIEW]),
-    (Setting::Sample, &[REFUSALS]),
-    (Setting::Sample, &[FILTERED_VIEW]),
-    (Setting::Sample, &[MARKING]),
-    (Setting::Sample, &[QUITTING]),
-    (Setting::Sample, &[GONE]),
-    (Setting::Sample, &[IDLE]),
+/// Deposits and administration.
+pub static OFFICE_ROWS: [Row; 6] = [
+    ("the_sample_store", Setting::Empty, &[SAMPLE]),
+    ("deposits_are_answered", Setting::Empty, &[DEPOSITS]),
     (
+        "dropped_maildrop_is_added_again",
+        Setting::Empty,
+        &[DROPPED],
+    ),
+    ("clerks_are_answered", Setting::Empty, &[CLERKS]),
+    ("policies_are_answered", Setting::Empty, &[POLICIES]),
+    ("sessions_ended_from_outside", Setting::Sample, &[SESSIONS]),
+];
+
+/// Sessions, and what comes before them.
+pub static SESSION_ROWS: [Row; 19] = [
+    ("retrieve_with_dots", Setting::Sample, &[RETRIEVING]),
+    (
+        "top_without_header_end",
+        Setting::Sample,
+        &[TOP_WITHOUT_HEADER_END],
+    ),
+    ("top_line_counts", Setting::Sample, &[TOP_LINES]),
+    ("apop_with_the_rfc_digest", Setting::Digest, &[LOWER_CASE]),
+    (
+        "apop_with_the_rfc_digest in upper case",
+        Setting::Digest,
+        &[UPPER_CASE],
+    ),
+    ("user_name_in_force", Setting::Sample, &[NAMES_IN_FORCE]),
+    ("credentials_are_judged", Setting::Empty, &[CREDENTIALS]),
+    ("empty_view", Setting::Sample, &[EMPTY_VIEW]),
+    ("refusals_at_login", Setting::Sample, &[REFUSALS]),
+    (
+        "deposit_during_a_session",
+        Setting::Sample,
+        &[FILTERED_VIEW],
+    ),
+    ("marked_numbers_and_reset", Setting::Sample, &[MARKING]),
+    ("quit_under_a_new_policy", Setting::Sample, &[QUITTING]),
+    ("gone_removes_nothing", Setting::Sample, &[GONE]),
+    ("idle_removes_nothing", Setting::Sample, &[IDLE]),
+    (
+        "unique_ids_over_a_restart",
         Setting::Sample,
         &[BEFORE_A_RESTART, "> restart 8\n", AFTER_A_RESTART],
     ),
-    (Setting::Sample, &[PIPELINED, QUIT]),
-    (Setting::Empty, &[WRONG_PASSWORDS]),
-    (Setting::Empty, &[WRONG_DIGESTS]),
-    (Setting::Sample, &[ARGUMENTS]),
+    (
+        "pipelined_retrieve_delete_quit",
+        Setting::Sample,
+        &[PIPELINED, QUIT],
+    ),
+    (
+        "third_failed_login_closes",
+        Setting::Sample,
+        &[WRONG_PASSWORDS],
+    ),
+    (
+        "third_failed_digest_closes",
+        Setting::Sample,
+        &[WRONG_DIGESTS],
+    ),
+    ("argument_faults", Setting::Sample, &[ARGUMENTS]),
 ];
 
+/// A reply of several takings, for which pages of a message are read.
+const READING_ON: &str = "> connect
+> drain 1
+C: USER ann/orders
+C: PASS s3 cret
+C: RETR 5
+C: QUIT
+";
+
+/// The row of that reply.
+pub static LONG: Row = ("long_reply", Setting::Long, &[READING_ON]);
+
+/// Ann's password and the policy in the store of the digest, by which the tests' visitor comes in.
+static ANN_COMES_IN: &str = r#"> clerk pass ann s3 cret
+> policy [[rule]]\nname = "open"\neffect = "allow"\nclerk = "*"\nmaildrop = "*"\nclass = "*"\nactions = ["open"]\n
+"#;
+
 /// A setting's host and boot number, how many connections came and went, and what was done before.
-fn begun(setting: Setting) -> (&'static str, u64, u64, &'static str) {
+fn begun(setting: Setting) -> (&'static str, u64, u64, [&'static str; 2]) {
     match setting {
-        Setting::Empty => ("h.test", 7, 0, ""),
-        Setting::Sample => ("h.test", 7, 0, SAMPLE),
-        Setting::Digest => ("dbc.mtview.ca.us", 697_170_952, 1895, OPENING),
+        Setting::Empty => ("h.test", 7, 0, ["", ""]),
+        Setting::Sample | Setting::Long => ("h.test", 7, 0, [SAMPLE, ""]),
+        Setting::Digest => (
+            "dbc.mtview.ca.us",
+            697_170_952,
+            1895,
+            [OPENING, ANN_COMES_IN],
+        ),
     }
 }
 
@@ -97,23 +164,35 @@ fn opened<V: Vault + Drop>(alloc: Global, vault: V, setting: Setting) -> Result<
     }
 }
 
-/// Does an event before a row. A refusal ends the test.
+/// Does an event before a row. Where memory is refused to it, the refusal is the test's own.
 fn begin<V: Vault>(office: &mut Office<V>, event: Event<'_>) -> Result<(), Fail> {
     match office.step(event) {
-        Outcome::NoMemory | Outcome::Failed => Err(Fail::new("error: OutOfMemory")),
+        Outcome::NoMemory => Err(Fail::new("error: OutOfMemory")),
+        Outcome::Failed => Err(Fail::new("failed before the row")),
         _ => Ok(()),
     }
 }
 
-/// Does what is before a row in an empty vault, and gives the vault back.
-pub fn filled<V: Vault + Drop>(alloc: Global, vault: V, setting: Setting) -> Result<V, Fail> {
-    let (_, _, _, before) = begun(setting);
+/// Does what a transcript's script says before a row.
+fn begin_with<V: Vault>(alloc: Global, office: &mut Office<V>, before: &str) -> Result<(), Fail> {
     let lines = lines_of(alloc, before)?;
-    let mut office = opened(alloc, vault, setting)?;
     for line in &lines {
         if let Some(event) = event_of(line) {
-            begin(&mut office, event)?;
+            begin(office, event)?;
         }
+    }
+    Ok(())
+}
+
+/// Does what is before a row in an empty vault, and gives the vault back.
+pub fn filled<V: Vault + Drop>(alloc: Global, vault: V, setting: Setting) -> Result<V, Fail> {
+    let (_, _, _, [before, behind]) = begun(setting);
+    let mut office = opened(alloc, vault, setting)?;
+    begin_with(alloc, &mut office, before)?;
+    begin_with(alloc, &mut office, behind)?;
+    if let Setting::Long = setting {
+        let long = format!(in alloc; "> deposit orders note long x{:31000}", "")?;
+        begin_with(alloc, &mut office, long.as_str())?;
     }
     Ok(office.into_vault())
 }
