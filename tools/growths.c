@@ -5,11 +5,12 @@
  * At each growth the program forks. The child's growth is refused, and it runs on to its end
  * with no other refused; then the parent's growth is done, and it goes on. So the parent's own
  * run is one in which nothing is refused. A child that ends with a status other than 0 either
- * told that its test's own memory ran out, or failed. When the parent ends, it writes how many
- * growths there were, how many were the test's own, and how many children failed, and of the
- * first of these at which growth and what they wrote, to the file that GROWTHS names. Where
- * ONE_OF is a number above 1, those growths alone are refused and counted whose number, from 1
- * on, divided by it leaves FIRST.
+ * told that its test's own memory ran out, or failed. Whenever more stands on the parent's
+ * standard output, which is a file, and when it ends, it writes to the file that GROWTHS names how
+ * many octets stood there till then, and how many growths there were meanwhile, how many were the
+ * test's own, and how many children failed; of the first of these also at which growth and what
+ * they wrote. Where ONE_OF is a number above 1, those growths alone are refused and counted whose
+ * number, from 1 on, divided by it leaves FIRST.
  */
 #define _GNU_SOURCE
 #include <stdio.h>
@@ -27,12 +28,15 @@ extern void *__libc_memalign(size_t align, size_t size);
 enum { SHOWN = 5, SECONDS = 60 };
 
 static int is_off = 1;
-static unsigned long grown, one_of = 1, first, growths, own, failed;
+static unsigned long grown, one_of = 1, first, growths, own, failed, shown;
+static off_t stood;
 static char said[1024];
 
-/* Whether a child told that the test's own memory ran out. */
-static int is_own(void)
+/* Whether a child that ended by itself told that the test's own memory ran out. */
+static int is_own(int status)
 {
+    if (!WIFEXITED(status))
+        return 0;
     /* A test writes on vectors alone, so that a refused write is want of memory too. */
     static const char *const told[] = {"error: AllocError", "error: AllocFailed",
         "error: NoMemory", "error: OutOfMemory", "error: CannotWrite"};
@@ -42,21 +46,40 @@ static int is_own(void)
     return 0;
 }
 
+/* Puts a line behind those of the file that GROWTHS names. */
+static void put(const char *line, int len)
+{
+    int file = open(getenv("GROWTHS"), O_WRONLY | O_APPEND | O_CREAT, 0600);
+    if (write(file, line, len) < 0)
+        _exit(3);
+    close(file);
+}
+
+/* Tells what was counted since the last time. */
+static void tell(void)
+{
+    char line[200];
+    put(line, snprintf(line, sizeof line, "stood=%ld growths=%lu own=%lu failed=%lu\n",
+        (long)stood, growths, own, failed));
+    growths = own = failed = 0;
+}
+
 static void report(int status, int out)
 {
     ssize_t n = pread(out, said, sizeof said - 1, 0);
     said[n > 0 ? n : 0] = 0;
+    growths++;
     if (WIFEXITED(status) && WEXITSTATUS(status) == 0)
         return;
-    if (is_own())
+    if (is_own(status)) {
         own++;
-    else if (failed++ < SHOWN) {
+        return;
+    }
+    failed++;
+    if (shown++ < SHOWN) {
         char line[1200];
         int len = snprintf(line, sizeof line, "growth %lu: status %d: %s\n", grown, status, said);
-        int file = open(getenv("GROWTHS"), O_WRONLY | O_APPEND | O_CREAT, 0600);
-        if (write(file, line, len < (int)sizeof line ? len : (int)sizeof line - 1) < 0)
-            _exit(3);
-        close(file);
+        put(line, len < (int)sizeof line ? len : (int)sizeof line - 1);
     }
 }
 
@@ -66,7 +89,11 @@ static int is_refused(void)
     if (is_off || ++grown % one_of != first)
         return 0;
     is_off = 1;
-    growths++;
+    off_t stands = lseek(1, 0, SEEK_END);
+    if (stands != stood) {
+        tell();
+        stood = stands;
+    }
     int out = memfd_create("said", 0);
     pid_t child = fork();
     if (child == 0) {
@@ -127,9 +154,5 @@ __attribute__((destructor)) static void end(void)
     if (getpid() != parent || getenv("GROWTHS") == NULL)
         return;
     is_off = 1;
-    char line[100];
-    int len = snprintf(line, sizeof line, "growths=%lu own=%lu failed=%lu\n", growths, own, failed);
-    int file = open(getenv("GROWTHS"), O_WRONLY | O_APPEND | O_CREAT, 0600);
-    if (write(file, line, len) < 0)
-        _exit(3);
+    tell();
 }
