@@ -1,6 +1,6 @@
 //! The command line of popbox: its subcommands, their options and defaults.
 
-use clap::{Arg, ArgAction, Command, value_parser};
+use clap::{Arg, ArgAction, ArgMatches, Command, value_parser};
 use std::alloc::{AllocError, Global};
 
 /// `--NAME VALUE`.
@@ -32,6 +32,11 @@ fn verbose<'a>(alloc: Global) -> Arg<'a> {
         .long("verbose")
         .action(ArgAction::SetTrue)
         .help("Says on standard error what a fault is about")
+}
+
+/// Whether a command is to say what its faults are about.
+pub fn is_verbose(options: &ArgMatches<'_>) -> bool {
+    options.get_flag("verbose")
 }
 
 /// A subcommand with these arguments and `--verbose`.

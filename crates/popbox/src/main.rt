@@ -1,43 +1,19 @@
 //! popbox, a POP3 server for shared maildrops: the program.
 #![tactic(auto)]
 
-#[cfg(test)]
-mod administration_tests;
-mod causes;
-#[cfg(test)]
-mod check_policy_tests;
 mod command_line;
 #[cfg(test)]
-mod connection_tests;
-#[cfg(test)]
-mod group_tests;
-#[cfg(test)]
-mod libraries;
-mod log;
-#[cfg(test)]
-mod office_tests;
-#[cfg(test)]
-mod older_store_tests;
-#[cfg(test)]
-mod pipelining_tests;
+mod command_line_tests;
 mod serve;
-#[cfg(test)]
-mod session_tests;
 mod store_file;
-#[cfg(test)]
-mod store_tests;
-#[cfg(test)]
-mod tests;
-#[cfg(test)]
-mod unsound_tests;
 
 use causes::{
-    STANDARD_INPUT, Watched, is_verbose, tell_bad_line, tell_bad_policy, tell_closed_store,
-    tell_host, tell_refusal, tell_stop, tell_unread,
+    STANDARD_INPUT, Watched, tell_bad_line, tell_bad_policy, tell_closed_store, tell_host,
+    tell_refusal, tell_stop, tell_unread,
 };
 use clap::ArgMatches;
 use clap::error::ErrorKind;
-use command_line::make_command;
+use command_line::{is_verbose, make_command};
 use converse::check_policy::check_policy;
 use converse::replay::replay;
 use converse::script::{ScriptFault, read_script};
@@ -122,7 +98,10 @@ fn run_subcommand<E: Write>(
     };
     match done {
         Ok(status) => Ok(status),
-        Err(fault) => Ok(tell_stop(err, options, fault)),
+        Err(fault) => {
+            let host = options.get_str("host").unwrap_or("");
+            Ok(tell_stop(err, is_verbose(options), host, fault))
+        }
     }
 }
 

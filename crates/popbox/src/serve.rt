@@ -1,8 +1,8 @@
 //! `popbox serve`: clients over the network.
-use crate::causes::is_verbose;
-use crate::log::{Journal, LoggedSpool, LoggedVault, LoggedWire, note_end, note_start};
+use crate::command_line::is_verbose;
 use clap::ArgMatches;
 use converse::Fault;
+use journal::{Journal, LoggedSpool, LoggedVault, LoggedWire, note_end, note_start};
 use office::{Limits, Office};
 use serving::{FolderSpool, SocketWire, Wire, begin, serve_turn};
 use std::cell::Cell;

@@ -1,0 +1,72 @@
+//! What `--verbose` adds to a fault: a line `why: ..` on standard error, which says what the fault
+//! is about: the file, the line, the key or the value, and what is wrong with it.
+#![tactic(auto)]
+
+ghost use Rattle.std.specs.Prelude.{◌≡◌};
+
+mod bad_group;
+mod bad_line;
+mod bad_rule;
+mod closed_store;
+mod unsound_row;
+mod watched;
+
+pub use bad_line::tell_bad_line;
+pub use bad_rule::tell_bad_policy;
+pub use closed_store::tell_closed_store;
+use converse::{Fault, read_fault, tell_fault};
+use creds::HostName;
+use std::io::{Error, Write};
+pub use watched::Watched;
+
+/// What faults call standard input.
+pub const STANDARD_INPUT: &str = "standard input";
+
+/// Tells that a file, or standard input, can't be opened or read. Gives the exit status.
+pub fn tell_unread<E: Write>(err: &mut E, is_verbose: bool, name: &str, error: &Error) -> u8
+    ensures { result ≡ 1 }
+{
+    let status = tell_fault(err, read_fault(error));
+    if is_verbose {
+        let _ = writeln!(err, "why: {name}: {error}");
+    }
+    status
+}
+
+/// Tells what the system answered to standard input or output, where it refused.
+pub fn tell_refusal<E: Write>(err: &mut E, name: &str, refusal: Option<Error>) {
+    if let Some(error) = refusal {
+        let _ = writeln!(err, "why: {name}: {error}");
+    }
+}
+
+/// Tells the form of a host's name, where this is none.
+pub fn tell_host<E: Write>(err: &mut E, host: &str) {
+    if HostName::read(host.as_bytes()).is_none() {
+        let _ = writeln!(
+            err,
+            "why: --host {host:?}: 1 to 64 of a-z, 0-9, . and -; no part between dots is empty, or has - at an end"
+        );
+    }
+}
+
+/// Tells a fault of a command that ran under a host's name, and under `--verbose` what it is about.
+/// Gives the exit status.
+pub fn tell_stop<E: Write>(err: &mut E, is_verbose: bool, host: &str, fault: Fault) -> u8
+    ensures { result ≡ 1 }
+{
+    let status = tell_fault(err, fault);
+    if is_verbose {
+        match fault {
+            Fault::BadHost => tell_host(err, host),
+            Fault::NoClock => {
+                let _ = writeln!(err, "why: the system's clock gives no time since 1970");
+            }
+            Fault::CannotWrite => {
+                let _ = writeln!(err, "why: standard output takes nothing more");
+            }
+            _ => {}
+        }
+    }
+    status
+}

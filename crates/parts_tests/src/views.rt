@@ -1,0 +1,258 @@
+//! What no clause says: that the calls succeed, and the sample store's rows of the clerk bob.
+use crate::expecting::expect;
+use creds::Name;
+use policy::Policy;
+use session::{Pick, Session};
+use std::alloc::{AllocError, Global};
+use std::test::Fail;
+use vault::{Head, MessageKey};
+
+/// The sample policy's rules about bob.
+pub(super) static RULES: &str = r#"
+[[rule]]
+name = "bob-open"
+effect = "allow"
+clerk = "bob"
+maildrop = "orders"
+class = "*"
+actions = ["open"]
+
+[[rule]]
+name = "bob-no-pay"
+effect = "deny"
+clerk = "bob"
+maildrop = "orders"
+class = "pay"
+actions = ["read", "remove"]
+
+[[rule]]
+name = "bob-read"
+effect = "allow"
+clerk = "bob"
+maildrop = "orders"
+class = "*"
+actions = ["read"]
+
+[[rule]]
+name = "bob-rm"
+effect = "allow"
+clerk = "bob"
+maildrop = "orders"
+class = "note"
+actions = ["remove"]
+"#;
+
+/// A rule that, put in front, lets bob remove nothing.
+static FREEZE: &str = r#"
+[[rule]]
+name = "freeze"
+effect = "deny"
+clerk = "*"
+maildrop = "orders"
+class = "*"
+actions = ["remove"]
+"#;
+
+/// A rule that, put in front, lets nobody read notes.
+static HIDE: &str = r#"
+[[rule]]
+name = "hide"
+effect = "deny"
+clerk = "*"
+maildrop = "*"
+class = "note"
+actions = ["read"]
+"#;
+
+/// The heads of the sample store's maildrop `orders`.
+fn sample_heads(alloc: Global) -> Result<Vec<Head>, Fail> {
+    let mut heads = Vec::new(alloc);
+    for (key, class, k, octets) in [
+        (11, "note", 1, 21),
+        (12, "pay", 1, 19),
+        (13, "note", 2, 15),
+        (14, "todo", 1, 25),
+    ] {
+        let class = Name::read(class.as_bytes()).ok_or("a class")?;
+        let key = MessageKey::new(key);
+        heads.push(Head {
+            key,
+            class,
+            k,
+            octets,
+        })?;
+    }
+    Ok(heads)
+}
+
+pub(super) fn bob_session(alloc: Global, policy: &Policy) -> Result<Session, Fail> {
+    let clerk = Name::read(b"bob").ok_or("a clerk")?;
+    let maildrop = Name::read(b"orders").ok_or("a maildrop")?;
+    let heads = sample_heads(alloc)?;
+    Ok(Session::start(alloc, clerk, maildrop, &heads, policy)?)
+}
+
+/// Whether a number is picked so.
+fn is_picked(session: &Session, number: u64, pick: &Pick) -> bool {
+    match session.pick(number) {
+        Ok(_) => false,
+        Err(refusal) => refusal == *pick,
+    }
+}
+
+/// Marks a number: whether it was answered so.
+fn is_marked(
+    session: &mut Session,
+    number: u64,
+    policy: &Policy,
+    answer: &Result<(), Pick>,
+) -> bool {
+    session.mark(number, policy) == *answer
+}
+
+/// Whether the session shows so many messages of so many octets.
+fn has_total(session: &Session, messages: u64, octets: u64) -> bool {
+    session.stat() == (messages, octets)
+}
+
+/// Whether these keys are removed under a policy, and this rule keeps others.
+fn removes(
+    session: &Session,
+    policy: &Policy,
+    keys: &[MessageKey],
+    rule: Option<Name>,
+) -> Result<bool, Fail> {
+    let (removed, kept) = session.to_remove(policy)?;
+    Ok(removed.as_slice() == keys && kept == rule)
+}
+
+fn name(text: &[u8]) -> Result<Name, Fail> {
+    Ok(Name::read(text).ok_or("a name")?)
+}
+
+/// Whose session it is, of which maildrop, how much it shows, and the scan listing and the
+/// unique-id listing, as they are sent.
+fn shown(alloc: Global, session: &Session) -> Result<String, AllocError> {
+    let clerk = session.clerk();
+    let maildrop = session.maildrop();
+    let (messages, octets) = session.stat();
+    let mut text = format!(in alloc; "{clerk} {maildrop}\n{messages} {octets}\n")?;
+    for (number, octets) in session.list() {
+        writeln!(text, "{number} {octets}")?;
+    }
+    for (number, uid) in session.uidl() {
+        writeln!(text, "{number} {uid}")?;
+    }
+    Ok(text)
+}
+
+/// What is shown of bob's.
+static FILTERED: &str = "bob orders\n3 61\n1 21\n2 15\n3 25\n1 note.1\n2 note.2\n3 todo.1\n";
+
+#[test]
+fn filtered_view(rt: HostRuntime) -> Result<(), Fail> {
+    let session = bob_session(rt.alloc(), &Policy::read(rt.alloc(), RULES)?)?;
+    expect(shown(rt.alloc(), &session)?, FILTERED)
+}
+
+/// Whether no number but those of the view is picked.
+fn has_no_others(session: &Session) -> bool {
+    is_picked(session, 0, &Pick::NoSuch)
+        && is_picked(session, 4, &Pick::NoSuch)
+        && is_picked(session, u64::MAX, &Pick::NoSuch)
+}
+
+/// Marks the third and the second number: whether the first of them is denied, and the second is
+/// marked once.
+fn marks_one(session: &mut Session, policy: &Policy) -> Result<bool, Fail> {
+    let denied = Pick::Denied(name(b"default")?);
+    Ok(
+        is_marked(session, 3, policy, &Err(denied))
+            && is_marked(session, 2, policy, &Ok(()))
+            && is_marked(session, 2, policy, &Err(Pick::Deleted)),
+    )
+}
+
+/// Whether the number that was marked is hidden, and shown again behind a reset.
+fn is_reset(session: &mut Session) -> bool {
+    let is_hidden = is_picked(session, 2, &Pick::Deleted) && has_total(session, 2, 46);
+    session.reset();
+    is_hidden && has_total(session, 3, 61) && has_k(session, 2, 2)
+}
+
+/// Whether the message of a number is the one of this number in its class.
+fn has_k(session: &Session, number: u64, k: u64) -> bool {
+    match session.pick(number) {
+        Ok(head) => head.k == k,
+        Err(_) => false,
+    }
+}
+
+#[test]
+fn marked_numbers_and_reset(rt: HostRuntime) -> Result<(), Fail> {
+    let policy = Policy::read(rt.alloc(), RULES)?;
+    let mut session = bob_session(rt.alloc(), &policy)?;
+    assert!(rt; has_no_others(&session));
+    assert!(rt; marks_one(&mut session, &policy)?);
+    assert!(rt; is_reset(&mut session));
+    Ok(())
+}
+
+/// Bob's session, with the first two numbers marked, the second before the first.
+fn marked(alloc: Global, policy: &Policy) -> Result<Session, Fail> {
+    let mut session = bob_session(alloc, policy)?;
+    if is_marked(&mut session, 2, policy, &Ok(())) && is_marked(&mut session, 1, policy, &Ok(())) {
+        Ok(session)
+    } else {
+        Err(Fail::from("a mark was refused"))
+    }
+}
+
+/// The policy behind a rule that lets nobody remove anything.
+fn frozen(alloc: Global) -> Result<Policy, Fail> {
+    let text = format!(in alloc; "{FREEZE}{RULES}")?;
+    Ok(Policy::read(alloc, &text)?)
+}
+
+#[test]
+fn removals_under_a_new_policy(rt: HostRuntime) -> Result<(), Fail> {
+    let freeze = name(b"freeze")?;
+    let policy = Policy::read(rt.alloc(), RULES)?;
+    let session = marked(rt.alloc(), &policy)?;
+    let keys = [MessageKey::new(11), MessageKey::new(13)];
+    assert!(rt; removes(&session, &policy, &keys, None)?);
+    let frozen = frozen(rt.alloc())?;
+    assert!(rt; removes(&session, &frozen, &[], Some(freeze))?);
+    Ok(())
+}
+
+/// Whether a number is read so under a policy: with the message of this number in its class, or why
+/// not.
+fn is_read(session: &Session, number: u64, policy: &Policy, k: Result<u64, Pick>) -> bool {
+    match session.pick_for(number, policy) {
+        Ok(head) => k == Ok(head.k),
+        Err(refusal) => k == Err(refusal),
+    }
+}
+
+#[test]
+fn read_under_a_new_policy(rt: HostRuntime) -> Result<(), Fail> {
+    let policy = Policy::read(rt.alloc(), RULES)?;
+    let text = format!(in rt.alloc(); "{HIDE}{RULES}")?;
+    let hidden = Policy::read(rt.alloc(), &text)?;
+    let hide = Pick::Denied(name(b"hide")?);
+    let session = marked(rt.alloc(), &policy)?;
+    assert!(rt; is_read(&session, 1, &hidden, Err(Pick::Deleted)));
+    assert!(rt; is_read(&session, 3, &hidden, Ok(1)));
+    assert!(rt; is_read(&session, 4, &hidden, Err(Pick::NoSuch)));
+    let session = bob_session(rt.alloc(), &policy)?;
+    assert!(rt; is_read(&session, 2, &hidden, Err(hide)));
+    assert!(rt; is_read(&session, 2, &policy, Ok(2)));
+    assert!(rt; is_picked_still(&session, 2));
+    Ok(())
+}
+
+/// Whether the number is still one of the view's.
+fn is_picked_still(session: &Session, number: u64) -> bool {
+    session.pick(number).is_ok()
+}

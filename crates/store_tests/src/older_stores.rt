@@ -1,0 +1,285 @@
+//! Tests of stores of versions 1 and 2, which are carried over as they are opened.
+
+use crate::opened_again::{is_refused, played, store_of};
+use sqlite::{Connection, Error, MemStore};
+use sqlvault::SqlVault;
+use std::alloc::{AllocError, Global};
+use std::test::Fail;
+use vault::VaultFault;
+
+/// The tables that both older versions have in front of that of the messages.
+static FRONT: &str = "CREATE TABLE meta (name TEXT PRIMARY KEY, value INTEGER NOT NULL) STRICT;
+CREATE TABLE clerks (name TEXT PRIMARY KEY, kind INTEGER NOT NULL, secret BLOB NOT NULL) STRICT;
+CREATE TABLE maildrops (name TEXT PRIMARY KEY) STRICT;
+CREATE TABLE counts (maildrop TEXT, class TEXT, k INTEGER NOT NULL,
+    PRIMARY KEY (maildrop, class)) STRICT;
+CREATE TABLE deposits (maildrop TEXT, id TEXT, class TEXT NOT NULL, k INTEGER NOT NULL,
+    digest BLOB NOT NULL, PRIMARY KEY (maildrop, id)) STRICT;
+";
+
+/// The messages of version 1, each with its text in one column.
+static MESSAGES: &str = "CREATE TABLE messages (key INTEGER PRIMARY KEY AUTOINCREMENT,
+    maildrop TEXT NOT NULL REFERENCES maildrops, class TEXT NOT NULL, k INTEGER NOT NULL,
+    octets INTEGER NOT NULL, body BLOB NOT NULL, UNIQUE (maildrop, class, k)) STRICT;
+";
+
+/// The messages of version 2, without their texts.
+static MAIL: &str = "CREATE TABLE mail (key INTEGER PRIMARY KEY AUTOINCREMENT,
+    maildrop TEXT NOT NULL REFERENCES maildrops, class TEXT NOT NULL, k INTEGER NOT NULL,
+    octets INTEGER NOT NULL, UNIQUE (maildrop, class, k)) STRICT;
+";
+
+static RULES: &str = "CREATE TABLE rules (place INTEGER PRIMARY KEY, name TEXT NOT NULL UNIQUE,
+    effect INTEGER NOT NULL, clerk TEXT NOT NULL, maildrop TEXT NOT NULL, class TEXT NOT NULL,
+    actions INTEGER NOT NULL) STRICT;
+";
+
+/// The texts of version 2.
+static SHEETS: &str =
+    "CREATE TABLE sheets (mail INTEGER REFERENCES mail ON DELETE CASCADE, place INTEGER,
+    octets BLOB NOT NULL, PRIMARY KEY (mail, place)) STRICT;
+";
+
+/// The sample store's clerks, with digests by SHA-256 of `NAME:PASSWORD`; its rules; and its
+/// deposits, with digests by SHA-256 of their texts.
+static ROWS: &str = "INSERT INTO clerks (name, kind, secret) VALUES
+    ('ann', 2, x'b43a467a63f3c6f08cee5d5081ae0b9de24ab8663cdca739aa854abb29861820'),
+    ('bob', 2, x'5d66dff90fab059f8007035beb841c60b3e67cfdd7a1e38528e295ee89d26aa6'),
+    ('cat', 2, x'7a04d0050845a65716591f5d50e0e61f7d663805fb3ed8ecee643b5c91f49c39'),
+    ('dan', 2, x'1c88ee6d4950a9223ce454193c24ca4043d3faa1e4cf88f6701fb37f2703baf9'),
+    ('eve', 2, x'2c374d18395a5bb1183a5b10d747f01664768a3d0f593857d14dabfea043d670'),
+    ('mrose', 1, x'74616e7374616166');
+INSERT INTO maildrops (name) VALUES ('orders');
+INSERT INTO counts (maildrop, class, k) VALUES
+    ('orders', 'note', 2), ('orders', 'pay', 1), ('orders', 'todo', 1);
+INSERT INTO deposits (maildrop, id, class, k, digest) VALUES
+    ('orders', 'd1', 'note', 1,
+        x'7e26da887e311a7cec49a0c5726a1ced23c01c411cb5b2d1f6386f1be3f802b3'),
+    ('orders', 'd2', 'pay', 1,
+        x'a2a88d37189ac34218be71067b6b4c887a96ff63e9e3fe54b63801c63c673497'),
+    ('orders', 'd3', 'note', 2,
+        x'716e99a163873337d384d59cf16bf5961e004b7adf3e3c8ca3f9cabf7a017542'),
+    ('orders', 'd4', 'todo', 1,
+        x'96230f340ed44ca48b5f8dfbcc9570dad7fa8576252978613e29d51a2bbdd85b');
+INSERT INTO rules (name, effect, clerk, maildrop, class, actions) VALUES
+    ('ann-all', 1, 'ann', 'orders', '*', 7), ('bob-open', 1, 'bob', 'orders', '*', 1),
+    ('bob-no-pay', 0, 'bob', 'orders', 'pay', 6), ('bob-read', 1, 'bob', 'orders', '*', 2),
+    ('bob-rm', 1, 'bob', 'orders', 'note', 4), ('cat-open', 1, 'cat', 'orders', '*', 1),
+    ('eve-any', 1, 'eve', '*', '*', 1), ('mrose-open', 1, 'mrose', '*', '*', 1);
+";
+
+/// Its messages, but the fourth, in version 1.
+static FIRST_ROWS: &str = "INSERT INTO messages (key, maildrop, class, k, octets, body) VALUES
+    (1, 'orders', 'note', 1, 21, x'5375626a6563743a20610d0a0d0a68690d0a2e0d0a'),
+    (2, 'orders', 'pay', 1, 19, x'5375626a6563743a207061790d0a0d0a780d0a'),
+    (3, 'orders', 'note', 2, 15, x'6e6f2068656164657220656e640d0a');
+INSERT INTO meta (name, value) VALUES ('popbox', 1);
+";
+
+/// The same in version 2.
+static SECOND_ROWS: &str = "INSERT INTO mail (key, maildrop, class, k, octets) VALUES
+    (1, 'orders', 'note', 1, 21), (2, 'orders', 'pay', 1, 19), (3, 'orders', 'note', 2, 15);
+INSERT INTO sheets (mail, place, octets) VALUES
+    (1, 0, x'5375626a6563743a20610d0a0d0a68690d0a2e0d0a'),
+    (2, 0, x'5375626a6563743a207061790d0a0d0a780d0a'),
+    (3, 0, x'6e6f2068656164657220656e640d0a');
+INSERT INTO meta (name, value) VALUES ('popbox', 2);
+";
+
+/// What is done in the sample store of an older version, whose fourth message is gone: its deposit
+/// id and its unique-id stay used.
+static FOUND: &str = r"> connect
+opened 1
+> drain 1
+sent 1 +OK POP3 server ready <1.7@h.test>\r\n
+done
+C: USER ann/orders
+S: +OK send PASS
+C: PASS s3 cret
+S: +OK maildrop has 3 messages (55 octets)
+C: UIDL
+S: +OK unique-id listing follows\r\n1 note.1\r\n2 pay.1\r\n3 note.2\r\n.
+C: RETR 1
+S: +OK 21 octets\r\nSubject: a\r\n\r\nhi\r\n..\r\n.
+> deposit orders todo d4 A: 1\r\n\r\none\r\ntwo\r\nthree\r\n
+answer known todo.1
+> deposit orders todo d6 A: 2\n
+answer new todo.2
+> explain bob orders pay read
+answer deny by rule bob-no-pay
+";
+
+/// What it then holds, when it is opened again.
+static THEN: &str = r"> list orders
+answer note.1 21
+answer pay.1 19
+answer note.2 15
+answer todo.2 6
+> maildrops
+answer orders 4 61
+> clerk show mrose
+answer apop
+";
+
+/// The statements that make the sample store in version 1, without its fourth message.
+pub fn first_text(alloc: Global) -> Result<String, AllocError> {
+    format!(in alloc; "{FRONT}{MESSAGES}{RULES}{ROWS}{FIRST_ROWS}")
+}
+
+/// The same in version 2.
+pub fn second_text(alloc: Global) -> Result<String, AllocError> {
+    format!(in alloc; "{FRONT}{MAIL}{RULES}{SHEETS}{ROWS}{SECOND_ROWS}")
+}
+
+/// The number that a query of one row and one column shows.
+fn number(conn: &mut Connection<MemStore>, sql: &str) -> Result<i64, Error> {
+    let row = conn.query_row(sql, &[])?;
+    row.get(0)
+}
+
+/// Opens an older store of these statements, and again what it became.
+fn carried_over(alloc: Global, sql: &str) -> Result<Connection<MemStore>, Fail> {
+    let conn = played(alloc, store_of(alloc, sql)?, 7, FOUND)?;
+    played(alloc, conn, 8, THEN)
+}
+
+/// Whether a store has our mark, no group, and so many messages in `mail`.
+fn is_ours(conn: &mut Connection<MemStore>, messages: i64) -> Result<bool, Error> {
+    let mark = number(conn, "SELECT value FROM meta WHERE name = 'popbox'")?;
+    let groups = number(conn, "SELECT count(*) FROM groups")?;
+    let mail = number(conn, "SELECT count(*) FROM mail")?;
+    Ok(mark == 3 && groups == 0 && mail == messages)
+}
+
+#[test]
+fn a_store_of_version_1_is_carried_over(rt: HostRuntime) -> Result<(), Fail> {
+    let alloc = rt.alloc();
+    let mut conn = carried_over(alloc, first_text(alloc)?.as_str())?;
+    assert!(rt; is_ours(&mut conn, 4)?);
+    assert!(rt; number(&mut conn, "SELECT count(*) FROM messages")? == 0);
+    Ok(())
+}
+
+#[test]
+fn a_store_of_version_2_is_carried_over(rt: HostRuntime) -> Result<(), Fail> {
+    let alloc = rt.alloc();
+    let mut conn = carried_over(alloc, second_text(alloc)?.as_str())?;
+    assert!(rt; is_ours(&mut conn, 4)?);
+    Ok(())
+}
+
+/// Statements, and the fault with which a store is refused behind them, by its name too.
+type Spoiled = (&'static str, VaultFault, &'static str);
+
+/// What makes the sample store of an older version another: its rows no records, its mark missing,
+/// not alone, that of our version, or one of no version.
+static SPOILED: [Spoiled; 6] = [
+    ("DELETE FROM counts", VaultFault::NotOurs, "NotOurs"),
+    (
+        "UPDATE rules SET effect = 2",
+        VaultFault::NotOurs,
+        "NotOurs",
+    ),
+    ("DELETE FROM meta", VaultFault::NotOurs, "NotOurs"),
+    (
+        "INSERT INTO meta (name, value) VALUES ('more', 1)",
+        VaultFault::NotOurs,
+        "NotOurs",
+    ),
+    ("UPDATE meta SET value = 3", VaultFault::NotOurs, "NotOurs"),
+    (
+        "UPDATE meta SET value = 4",
+        VaultFault::OldVersion,
+        "OldVersion",
+    ),
+];
+
+/// The same of that of version 1: a message no record, and the mark of version 2.
+static SPOILED_FIRST: [Spoiled; 2] = [
+    (
+        "UPDATE messages SET octets = 20 WHERE key = 1",
+        VaultFault::NotOurs,
+        "NotOurs",
+    ),
+    ("UPDATE meta SET value = 2", VaultFault::NotOurs, "NotOurs"),
+];
+
+/// The same of that of version 2: a message no record, and the mark of version 1.
+static SPOILED_SECOND: [Spoiled; 2] = [
+    (
+        "UPDATE mail SET octets = 20 WHERE key = 1",
+        VaultFault::NotOurs,
+        "NotOurs",
+    ),
+    ("UPDATE meta SET value = 1", VaultFault::NotOurs, "NotOurs"),
+];
+
+/// Fails unless a store of these statements is refused behind each of those that spoil it.
+fn expect_refused(alloc: Global, text: &str, spoiled: &[Spoiled]) -> Result<(), Fail> {
+    for (sql, fault, name) in spoiled {
+        let mut conn = store_of(alloc, text)?;
+        conn.execute_batch(*sql)?;
+        if !is_refused(alloc, conn, *fault, *name) {
+            return Err(Fail::new(*sql));
+        }
+    }
+    Ok(())
+}
+
+#[test]
+fn other_stores_of_version_1_are_refused(rt: HostRuntime) -> Result<(), Fail> {
+    let text = first_text(rt.alloc())?;
+    expect_refused(rt.alloc(), text.as_str(), &SPOILED)?;
+    expect_refused(rt.alloc(), text.as_str(), &SPOILED_FIRST)
+}
+
+#[test]
+fn other_stores_of_version_2_are_refused(rt: HostRuntime) -> Result<(), Fail> {
+    let text = second_text(rt.alloc())?;
+    expect_refused(rt.alloc(), text.as_str(), &SPOILED)?;
+    expect_refused(rt.alloc(), text.as_str(), &SPOILED_SECOND)
+}
+
+/// Whether a store of version 1 is as it was.
+fn is_first(conn: &mut Connection<MemStore>) -> Result<bool, Error> {
+    let mark = number(conn, "SELECT value FROM meta WHERE name = 'popbox'")?;
+    let messages = number(conn, "SELECT count(*) FROM messages")?;
+    let mail = "SELECT count(*) FROM sqlite_schema WHERE name = 'mail'";
+    Ok(mark == 1 && messages == 3 && number(conn, mail)? == 0)
+}
+
+/// Whether a store of version 2 is as it was.
+fn is_second(conn: &mut Connection<MemStore>) -> Result<bool, Error> {
+    let mark = number(conn, "SELECT value FROM meta WHERE name = 'popbox'")?;
+    let mail = number(conn, "SELECT count(*) FROM mail")?;
+    let groups = "SELECT count(*) FROM sqlite_schema WHERE name = 'groups'";
+    Ok(mark == 2 && mail == 3 && number(conn, groups)? == 0)
+}
+
+/// The connection of a store that isn't adopted.
+fn refused(alloc: Global, conn: Connection<MemStore>) -> Option<Connection<MemStore>> {
+    match SqlVault::adopt(alloc, conn) {
+        Ok(_vault) => None,
+        Err((_fault, conn)) => Some(conn),
+    }
+}
+
+#[test]
+fn a_refused_store_of_version_1_stays_as_it_was(rt: HostRuntime) -> Result<(), Fail> {
+    let alloc = rt.alloc();
+    let mut conn = store_of(alloc, first_text(alloc)?.as_str())?;
+    conn.execute_batch("DELETE FROM counts")?;
+    let mut conn = refused(alloc, conn).ok_or("carried over")?;
+    assert!(rt; is_first(&mut conn)?);
+    Ok(())
+}
+
+#[test]
+fn a_refused_store_of_version_2_stays_as_it_was(rt: HostRuntime) -> Result<(), Fail> {
+    let alloc = rt.alloc();
+    let mut conn = store_of(alloc, second_text(alloc)?.as_str())?;
+    conn.execute_batch("DELETE FROM counts")?;
+    let mut conn = refused(alloc, conn).ok_or("carried over")?;
+    assert!(rt; is_second(&mut conn)?);
+    Ok(())
+}

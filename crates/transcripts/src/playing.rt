@@ -1,0 +1,119 @@
+//! Scripts that are run, and what is printed of them.
+
+use crate::sessions::SAMPLE;
+use converse::replay::replay;
+use sqlite::MemStore;
+use sqlvault::SqlVault;
+use std::alloc::Global;
+use std::io::{ErrorKind, Read, Write};
+use std::test::Fail;
+use std::{io, str};
+use vault::{PlainVault, Vault};
+
+/// What a run leaves, as one text: standard output, and behind a fault the exit status in brackets
+/// and standard error.
+pub fn run_text(alloc: Global, status: u8, out: &[u8], err: &[u8]) -> Result<String, Fail> {
+    let mut text = String::from_str(alloc, str::from_utf8(out)?)?;
+    if status != 0 || !err.is_empty() {
+        let fault = str::from_utf8(err)?;
+        write!(text, "[{status}] {fault}")?;
+    }
+    Ok(text)
+}
+
+/// Runs a script over a store, at a host name and with a boot number, and gives the store back.
+pub fn run_on<V: Vault + Drop>(
+    alloc: Global,
+    vault: V,
+    host: &str,
+    boot: u64,
+    script: &str,
+) -> Result<(String, V), Fail> {
+    let mut script = script.as_bytes();
+    let mut out = Vec::new(alloc);
+    let mut err = Vec::new(alloc);
+    let (status, vault) = replay(alloc, &mut script, vault, host, boot, &mut out, &mut err);
+    let text = run_text(alloc, status, out.as_slice(), err.as_slice())?;
+    Ok((text, vault))
+}
+
+/// Runs a script over an empty store, at a host name and with a boot number.
+pub fn run_at(alloc: Global, host: &str, boot: u64, script: &str) -> Result<String, Fail> {
+    let (ran, _) = run_on(alloc, PlainVault::new(alloc), host, boot, script)?;
+    Ok(ran)
+}
+
+/// Runs a script over an empty store of tables in memory, at the host name and with the boot number
+/// of the worked examples, and gives the store back.
+pub fn run_over_tables(alloc: Global, script: &str) -> Result<(String, SqlVault<MemStore>), Fail> {
+    run_on(alloc, SqlVault::in_memory(alloc)?, "h.test", 7, script)
+}
+
+/// Fails with what a run left, unless it is what is wanted.
+pub fn expect(ran: String, want: &str) -> Result<(), Fail> {
+    if ran.as_str() == want {
+        Ok(())
+    } else {
+        Err(Fail::from(ran))
+    }
+}
+
+/// Fails unless the script prints this, and has no fault, over a store of vectors and over one of
+/// tables.
+pub fn expect_output(alloc: Global, script: &str, out: &str) -> Result<(), Fail> {
+    expect(run_at(alloc, "h.test", 7, script)?, out)?;
+    let (ran, _) = run_over_tables(alloc, script)?;
+    expect(ran, out)
+}
+
+/// The script of a transcript and what is printed of it. Of the transcript's lines the script has
+/// those behind `> `; a line behind `C: ` is said on connection 1, which then takes all that it is
+/// owed, and that is the line behind `S: `. All other lines are printed.
+pub fn parts_of(alloc: Global, transcript: &str) -> Result<(String, String), Fail> {
+    let mut script = String::new(alloc);
+    let mut want = String::new(alloc);
+    for line in transcript.lines() {
+        if let Some(event) = line.strip_prefix("> ") {
+            writeln!(script, "{event}")?;
+        } else if let Some(said) = line.strip_prefix("C: ") {
+            writeln!(script, "bytes 1 {said}\\r\\n\ndrain 1")?;
+        } else if let Some(reply) = line.strip_prefix("S: ") {
+            writeln!(want, "done\nsent 1 {reply}\\r\\n\ndone")?;
+        } else {
+            writeln!(want, "{line}")?;
+        }
+    }
+    Ok((script, want))
+}
+
+/// Fails unless a transcript is what comes of its script over an empty store.
+pub fn plays(alloc: Global, transcript: &str) -> Result<(), Fail> {
+    let (script, want) = parts_of(alloc, transcript)?;
+    expect_output(alloc, script.as_str(), want.as_str())
+}
+
+/// Fails unless a transcript is what comes of its script over the sample store.
+pub fn plays_over_the_sample(alloc: Global, transcript: &str) -> Result<(), Fail> {
+    let whole = format!(in alloc; "{SAMPLE}{transcript}")?;
+    plays(alloc, whole.as_str())
+}
+
+/// Standard output or a file that refuses every call.
+#[derive(Drop)]
+pub struct Refusing;
+
+impl Read for Refusing {
+    fn read(&mut self, _: &mut [u8]) -> io::Result<usize> {
+        Err(io::Error::from(ErrorKind::PermissionDenied))
+    }
+}
+
+impl Write for Refusing {
+    fn write(&mut self, _: &[u8]) -> io::Result<usize> {
+        Err(io::Error::from(ErrorKind::BrokenPipe))
+    }
+
+    fn flush(&mut self) -> io::Result<()> {
+        Err(io::Error::from(ErrorKind::BrokenPipe))
+    }
+}

@@ -1,0 +1,23 @@
+//! Tests of links, requests and the spool.
+#![tactic(auto)]
+
+#[cfg(test)]
+mod benches;
+#[cfg(test)]
+mod folders;
+#[cfg(test)]
+mod loopback;
+#[cfg(test)]
+mod requests;
+#[cfg(test)]
+mod requests_compared;
+#[cfg(test)]
+mod requests_refused;
+#[cfg(test)]
+mod requests_served;
+#[cfg(test)]
+mod spools;
+#[cfg(test)]
+mod strangers;
+#[cfg(test)]
+mod turns;

@@ -1,0 +1,301 @@
+//! Requests of the administration where a growth or a call of the store is refused: each is
+//! answered as ever, or told that memory ran out or that the store failed; the first one's link may
+//! be closed instead, where there is no memory to keep it. Its command is done wholly or not at all.
+//!
+//! The tests of growths pass with memory; tools/check-growths runs them with each growth refused,
+//! and counts them by the rows that they name.
+use crate::benches::{Bench, bench_over, request, turns};
+use crate::requests_served::ROWS;
+use crate::turns::octets;
+use sqlvault::SqlVault;
+use std::alloc::Global;
+use std::test::Fail;
+use transcripts::looks::look;
+use transcripts::worked::{Setting, filled};
+use vault::{PlainVault, Refusing, Vault};
+
+/// The response where memory ran out.
+static OUT_OF_MEMORY: &[u8] =
+    b"HTTP/1.1 503 Service Unavailable\r\nContent-Type: text/plain\r\nContent-Length: 14\r\nConnection: close\r\n\r\nout of memory\n";
+
+/// The response where the store refused a call.
+static STORE_FAILED: &[u8] =
+    b"HTTP/1.1 503 Service Unavailable\r\nContent-Type: text/plain\r\nContent-Length: 13\r\nConnection: close\r\n\r\nstore failed\n";
+
+/// How many calls the rows have at most.
+const MOST_CALLS: u64 = 100;
+
+/// A request, and what its response begins and ends with.
+type Row = (&'static str, &'static str, &'static str);
+
+/// Requests over the sample store, while ann is in.
+static SAMPLE_ROWS: [Row; 5] = [
+    (
+        "GET /explain/bob/orders/pay/read HTTP/1.1\r\n\r\n",
+        "HTTP/1.1 200 OK\r\n",
+        "Content-Length: 24\r\nConnection: close\r\n\r\ndeny by rule bob-no-pay\n",
+    ),
+    (
+        "DELETE /maildrops/orders HTTP/1.1\r\n\r\n",
+        "HTTP/1.1 409 Conflict\r\n",
+        "\r\n\r\nin use\n",
+    ),
+    (
+        "GET /sessions HTTP/1.1\r\n\r\n",
+        "HTTP/1.1 200 OK\r\n",
+        "\r\n\r\n1 ann orders\n",
+    ),
+    (
+        "DELETE /sessions/1 HTTP/1.1\r\n\r\n",
+        "HTTP/1.1 200 OK\r\n",
+        "\r\n\r\nended\n",
+    ),
+    (
+        "DELETE /maildrops/orders HTTP/1.1\r\n\r\n",
+        "HTTP/1.1 409 Conflict\r\n",
+        "\r\n\r\nnot empty\n",
+    ),
+];
+
+/// What ann says, and what the last reply to it is.
+static ANN: &[u8] = b"USER ann/orders\r\nPASS s3 cret\r\n";
+
+static ANN_IS_IN: &[u8] = b"+OK maildrop has 4 messages (80 octets)\r\n";
+
+/// The reply that she has where the store is told to have refused her.
+static REFUSED: &[u8] = b"-ERR store failed\r\n";
+
+/// An office that is asked, and how many requests came.
+#[derive(Drop)]
+struct Asked<V: Vault> {
+    bench: Bench<V>,
+    came: usize,
+}
+
+/// An office over this vault.
+fn asked_over<V: Vault + Drop>(alloc: Global, vault: V) -> Result<Asked<V>, Fail> {
+    let bench = bench_over(alloc, vault, 4096)?;
+    Ok(Asked { bench, came: 0 })
+}
+
+/// What a request is sent, whose link is then closed.
+fn told<V: Vault>(asked: &mut Asked<V>, text: &str) -> Result<Vec<u8>, Fail> {
+    let place = asked.came;
+    request(&mut asked.bench, text.as_bytes())?;
+    asked.came = place.saturating_add(1);
+    turns(&mut asked.bench, 4, 0);
+    let wire = &asked.bench.wire;
+    if !wire.is_request_closed(place) || wire.strayed() {
+        return Err(Fail::new("not closed"));
+    }
+    octets(asked.bench.alloc, wire.response(place))
+}
+
+/// Whether a response is the row's.
+fn is_as_ever(said: &[u8], row: &Row) -> bool {
+    let (_, begins, ends) = row;
+    said.starts_with(begins.as_bytes()) && said.ends_with(ends.as_bytes())
+}
+
+/// What a request is sent by the office in which nothing is to be refused.
+fn told_as_ever(free: &mut Asked<PlainVault>, row: &Row) -> Result<Vec<u8>, Fail> {
+    let said = told(free, row.0)?;
+    if is_as_ever(said.as_slice(), row) {
+        Ok(said)
+    } else {
+        Err(Fail::new("error: OutOfMemory"))
+    }
+}
+
+/// Whether both offices keep the same.
+fn keep_the_same<V: Vault>(
+    tested: &mut Asked<V>,
+    free: &mut Asked<PlainVault>,
+) -> Result<bool, Fail> {
+    let alloc = tested.bench.alloc;
+    let kept = look(alloc, &mut tested.bench.office)?;
+    Ok(kept == look(alloc, &mut free.bench.office)?)
+}
+
+/// The other office is sent a request that was sent something else than ever: it was done not at
+/// all, or, where memory ran out, wholly. What the other is sent for it where it comes again.
+fn whole_or_nothing<V: Vault>(
+    tested: &mut Asked<V>,
+    free: &mut Asked<PlainVault>,
+    row: &Row,
+    refusal: &[u8],
+) -> Result<Vec<u8>, Fail> {
+    let is_undone = keep_the_same(tested, free)?;
+    let first = told(free, row.0)?;
+    if is_undone {
+        return Ok(first);
+    }
+    if refusal == STORE_FAILED || !keep_the_same(tested, free)? {
+        return Err(Fail::new("half a record, or one that was refused"));
+    }
+    told(free, row.0)
+}
+
+/// Whether a request was told a refusal; or, where memory ran out and no link was kept before its
+/// own, nothing.
+fn is_told(said: &[u8], refusal: &[u8], came: usize) -> bool {
+    said == refusal || (refusal == OUT_OF_MEMORY && said.is_empty() && came == 1)
+}
+
+/// A request was sent something else than ever: a refusal. It is made again, and answered as by the
+/// other office.
+fn was_refused<V: Vault>(
+    tested: &mut Asked<V>,
+    free: &mut Asked<PlainVault>,
+    row: &Row,
+    said: &[u8],
+    refusal: &[u8],
+) -> Result<(), Fail> {
+    if !is_told(said, refusal, tested.came) {
+        return Err(Fail::new("another response"));
+    }
+    let again = whole_or_nothing(tested, free, row, refusal)?;
+    if told(tested, row.0)? != again || !keep_the_same(tested, free)? {
+        return Err(Fail::new("another answer"));
+    }
+    Ok(())
+}
+
+/// Both are asked. Whether the first was sent something else than ever.
+fn ask<V: Vault>(
+    tested: &mut Asked<V>,
+    free: &mut Asked<PlainVault>,
+    row: &Row,
+    refusal: &[u8],
+) -> Result<bool, Fail> {
+    let said = told(tested, row.0)?;
+    if !is_as_ever(said.as_slice(), row) {
+        was_refused(tested, free, row, said.as_slice(), refusal)?;
+        return Ok(true);
+    }
+    if said == told_as_ever(free, row)? {
+        Ok(false)
+    } else {
+        Err(Fail::new("another response as ever"))
+    }
+}
+
+/// Both are asked each row. Whether the first was once sent something else than ever.
+fn ask_rows<V: Vault>(
+    tested: &mut Asked<V>,
+    free: &mut Asked<PlainVault>,
+    rows: &[Row],
+    refusal: &[u8],
+) -> Result<bool, Fail> {
+    let mut is_refused = false;
+    for row in rows {
+        is_refused |= ask(tested, free, row, refusal)?;
+    }
+    // a look calls the store: where a call is to be refused, not before it was
+    if !is_refused && refusal == STORE_FAILED {
+        return Ok(false);
+    }
+    // where memory is refused to the first look, the second tells
+    if keep_the_same(tested, free)? || keep_the_same(tested, free)? {
+        Ok(is_refused)
+    } else {
+        Err(Fail::new("other records"))
+    }
+}
+
+/// Over empty stores. Whether a request was refused.
+fn ask_empty<V: Vault + Drop>(alloc: Global, vault: V, refusal: &[u8]) -> Result<bool, Fail> {
+    let mut tested = asked_over(alloc, vault)?;
+    let mut free = asked_over(alloc, PlainVault::new(alloc))?;
+    ask_rows(&mut tested, &mut free, ROWS.as_slice(), refusal)
+}
+
+/// An office over this vault, which is filled, with ann in.
+fn with_ann<V: Vault + Drop>(alloc: Global, vault: V) -> Result<Asked<V>, Fail> {
+    let mut asked = asked_over(alloc, vault)?;
+    asked.bench.wire.connect(octets(alloc, ANN)?)?;
+    turns(&mut asked.bench, 4, 0);
+    let said = asked.bench.wire.written(0);
+    if said.ends_with(ANN_IS_IN) {
+        Ok(asked)
+    } else if said.ends_with(REFUSED) {
+        Err(Fail::new("ann was refused"))
+    } else {
+        Err(Fail::new("error: OutOfMemory"))
+    }
+}
+
+/// Over sample stores, with ann in. Whether a request was refused.
+fn ask_sample<V: Vault + Drop>(alloc: Global, vault: V, refusal: &[u8]) -> Result<bool, Fail> {
+    let mut tested = with_ann(alloc, vault)?;
+    let sample = filled(alloc, PlainVault::new(alloc), Setting::Sample)?;
+    let mut free = with_ann(alloc, sample)?;
+    ask_rows(&mut tested, &mut free, SAMPLE_ROWS.as_slice(), refusal)
+}
+
+#[test]
+fn growths_of_requests(rt: HostRuntime) -> Result<(), Fail> {
+    let alloc = rt.alloc();
+    println!(rt; "row requests over an empty store")?;
+    let _ = ask_empty(alloc, PlainVault::new(alloc), OUT_OF_MEMORY)?;
+    println!(rt; "row explain_and_drop_over_http")?;
+    let vault = filled(alloc, PlainVault::new(alloc), Setting::Sample)?;
+    let _ = ask_sample(alloc, vault, OUT_OF_MEMORY)?;
+    Ok(())
+}
+
+#[test]
+fn growths_of_requests_over_tables(rt: HostRuntime) -> Result<(), Fail> {
+    let alloc = rt.alloc();
+    println!(rt; "row requests over an empty store")?;
+    let _ = ask_empty(alloc, SqlVault::in_memory(alloc)?, OUT_OF_MEMORY)?;
+    println!(rt; "row explain_and_drop_over_http")?;
+    let vault = filled(alloc, SqlVault::in_memory(alloc)?, Setting::Sample)?;
+    let _ = ask_sample(alloc, vault, OUT_OF_MEMORY)?;
+    Ok(())
+}
+
+/// Whether a request met a refused call of an empty store, of vectors or of tables.
+fn is_refused(alloc: Global, call: u64, is_over_tables: bool) -> Result<bool, Fail> {
+    if is_over_tables {
+        let vault = Refusing::new(SqlVault::in_memory(alloc)?, call);
+        ask_empty(alloc, vault, STORE_FAILED)
+    } else {
+        let vault = Refusing::new(PlainVault::new(alloc), call);
+        ask_empty(alloc, vault, STORE_FAILED)
+    }
+}
+
+/// How many runs over empty stores met a refused call, from the first behind the opening's on.
+fn calls_refused(alloc: Global, is_over_tables: bool) -> Result<u64, Fail> {
+    for call in 2..MOST_CALLS {
+        if !is_refused(alloc, call, is_over_tables)? {
+            return Ok(call.saturating_sub(2));
+        }
+    }
+    Err(Fail::new("a call was refused in each run"))
+}
+
+/// Whether a request met a refused call of a sample store, ann being in.
+fn is_refused_with_ann(alloc: Global, call: u64, is_over_tables: bool) -> Result<bool, Fail> {
+    if is_over_tables {
+        let sample = filled(alloc, SqlVault::in_memory(alloc)?, Setting::Sample)?;
+        ask_sample(alloc, Refusing::new(sample, call), STORE_FAILED)
+    } else {
+        let sample = filled(alloc, PlainVault::new(alloc), Setting::Sample)?;
+        ask_sample(alloc, Refusing::new(sample, call), STORE_FAILED)
+    }
+}
+
+/// Eight of the rows ask the store, once each: the maildrop added, added again, listed and dropped,
+/// the clerk put and shown, and the policy set twice.
+#[test]
+fn calls_of_requests(rt: HostRuntime) -> Result<(), Fail> {
+    for is_over_tables in [false, true] {
+        assert_eq!(rt; calls_refused(rt.alloc(), is_over_tables)?, 8);
+        // behind the opening's call and the two of her login there is one, which drops the maildrop
+        assert!(rt; is_refused_with_ann(rt.alloc(), 4, is_over_tables)?);
+        assert!(rt; !is_refused_with_ann(rt.alloc(), 5, is_over_tables)?);
+    }
+    Ok(())
+}

@@ -1,0 +1,78 @@
+//! The spool, one file a turn.
+use crate::turns::new_office;
+use serving::{FileName, ScriptSpool, ScriptWire, begin, serve_turn};
+use std::test::Fail;
+
+#[test]
+fn four_turns_over_four_names(rt: HostRuntime) -> Result<(), Fail> {
+    let alloc = rt.alloc();
+    let mut office = new_office(alloc)?;
+    let mut wire = ScriptWire::new(alloc, Vec::new(alloc), 4096);
+    let mut spool = ScriptSpool::new(alloc);
+    spool.put("orders.note.b2.eml", b"")?;
+    spool.put("readme.txt", b"x")?;
+    spool.put("orders.note.a1.eml", b"x\n")?;
+    spool.put("nowhere.note.c3.eml", b"x")?;
+    let mut links = begin(alloc, &office, &wire, &spool);
+    serve_turn(&mut links, &mut wire, &mut office, &mut spool, 0);
+    assert!(rt; spool.has("nowhere.note.c3.eml") && spool.acts().len() == 1);
+    assert_eq!(rt; wire.waited(), 1000);
+    serve_turn(&mut links, &mut wire, &mut office, &mut spool, 0);
+    assert!(rt; !spool.has("orders.note.a1.eml") && spool.acts().len() == 3);
+    assert_eq!(rt; wire.waited(), 1000);
+    serve_turn(&mut links, &mut wire, &mut office, &mut spool, 0);
+    assert!(rt; spool.has("orders.note.b2.eml.bad") && spool.acts().len() == 5);
+    assert_eq!(rt; wire.waited(), 0);
+    serve_turn(&mut links, &mut wire, &mut office, &mut spool, 0);
+    assert!(rt; spool.has("nowhere.note.c3.eml") && spool.acts().len() == 6);
+    assert!(rt; spool.has("readme.txt") && !spool.has("orders.note.b2.eml"));
+    Ok(())
+}
+
+/// A file that can't be removed is known the next time, and stays.
+#[test]
+fn a_file_that_stays(rt: HostRuntime) -> Result<(), Fail> {
+    let alloc = rt.alloc();
+    let mut office = new_office(alloc)?;
+    let mut wire = ScriptWire::new(alloc, Vec::new(alloc), 4096);
+    let mut spool = ScriptSpool::new(alloc);
+    spool.put("orders.note.a1.eml", b"x\n")?;
+    spool.refuse();
+    let mut links = begin(alloc, &office, &wire, &spool);
+    for _ in 0..3u32 {
+        serve_turn(&mut links, &mut wire, &mut office, &mut spool, 0);
+        assert_eq!(rt; wire.waited(), 1000);
+    }
+    assert!(rt; spool.has("orders.note.a1.eml") && spool.acts().len() == 3);
+    Ok(())
+}
+
+/// Texts, and whether each is the name of a spool file.
+static NAMES: [(&str, bool); 12] = [
+    ("orders.note.x.eml", true),
+    ("orders-2.note.X_y-9.eml", true),
+    ("orders.note.eml", false),
+    (".orders.note.x.eml", false),
+    ("ORDERS.note.x.eml", false),
+    ("orders.note.x.eml.bad", false),
+    ("orders.note.x.eml.", false),
+    ("orders.note..eml", false),
+    ("orders.note.x.EML", false),
+    ("orders.note.x", false),
+    ("", false),
+    ("orders.note.x.y.eml", false),
+];
+
+#[test]
+fn names(rt: HostRuntime) -> Result<(), Fail> {
+    for (text, is_name) in &NAMES {
+        let text: &str = *text;
+        assert!(rt;
+            FileName::read(text.as_bytes()).is_some() == *is_name,
+            "{text}"
+        );
+    }
+    let name = FileName::read(b"orders.note.x.eml").ok_or("name")?;
+    assert!(rt; name.text(rt.alloc())?.as_str() == "orders.note.x.eml");
+    Ok(())
+}

@@ -1,0 +1,99 @@
+//! Turns over a wire in memory.
+use office::Office;
+use serving::{Links, ScriptSpool, ScriptWire, begin, serve_turn};
+use std::alloc::Global;
+use std::test::Fail;
+use transcripts::offices::{deposit, prepared};
+use vault::PlainVault;
+
+/// What a client of the first row is sent.
+static GREETING_ROW: &[u8] =
+    b"+OK POP3 server ready <1.7@h.test>\r\n+OK capability list follows\r\nTOP\r\nUSER\r\nUIDL\r\nRESP-CODES\r\nPIPELINING\r\n.\r\n+OK bye\r\n";
+
+/// A login as ann, and a pipelined retrieval, deletion and end.
+static PIPELINED: &[u8] = b"USER ann/orders\r\nPASS s3 cret\r\nRETR 1\r\nDELE 1\r\nQUIT\r\n";
+
+/// What it is answered.
+static PIPELINED_ROW: &[u8] =
+    b"+OK POP3 server ready <1.7@h.test>\r\n+OK send PASS\r\n+OK maildrop has 1 messages (21 octets)\r\n+OK 21 octets\r\nSubject: a\r\n\r\nhi\r\n..\r\n.\r\n+OK message 1 deleted\r\n+OK bye\r\n";
+
+/// A vector of octets.
+pub(super) fn octets(alloc: Global, text: &[u8]) -> Result<Vec<u8>, Fail> {
+    let mut copy = Vec::new(alloc);
+    copy.extend_from_slice(text)?;
+    Ok(copy)
+}
+
+/// An office with the maildrop `orders` and the clerk ann, whose message d1 is in it.
+pub(super) fn new_office(alloc: Global) -> Result<Office<PlainVault>, Fail> {
+    let mut office = prepared(alloc, PlainVault::new(alloc))?;
+    deposit(&mut office, "orders", b"Subject: a\n\nhi\n.\n")?;
+    Ok(office)
+}
+
+/// A wire with one link that waits.
+pub(super) fn one_link(alloc: Global, comes: &[u8], piece: usize) -> Result<ScriptWire, Fail> {
+    let mut waiting = Vec::new(alloc);
+    waiting.push(octets(alloc, comes)?)?;
+    Ok(ScriptWire::new(alloc, waiting, piece))
+}
+
+/// Serves so many turns, with no spool file.
+pub(super) fn turns(
+    alloc: Global,
+    links: &mut Links,
+    wire: &mut ScriptWire,
+    office: &mut Office<PlainVault>,
+    count: u64,
+) {
+    let mut spool = ScriptSpool::new(alloc);
+    for turn in 0..count {
+        serve_turn(links, wire, office, &mut spool, turn / 100);
+    }
+}
+
+/// What is written on one link that brings these octets, in pieces of this size.
+fn served(alloc: Global, comes: &[u8], piece: usize, count: u64) -> Result<ScriptWire, Fail> {
+    let mut office = new_office(alloc)?;
+    let mut wire = one_link(alloc, comes, piece)?;
+    let mut links = begin(alloc, &office, &wire, &ScriptSpool::new(alloc));
+    turns(alloc, &mut links, &mut wire, &mut office, count);
+    Ok(wire)
+}
+
+#[test]
+fn greeting_row(rt: HostRuntime) -> Result<(), Fail> {
+    for piece in [1usize, 7, 4096] {
+        let wire = served(rt.alloc(), b"CAPA\r\nQUIT\r\n", piece, 60)?;
+        assert!(rt; wire.written(0) == GREETING_ROW);
+        assert!(rt; wire.is_closed(0));
+    }
+    Ok(())
+}
+
+#[test]
+fn pipelined_row(rt: HostRuntime) -> Result<(), Fail> {
+    for piece in [1usize, 7, 4096] {
+        let wire = served(rt.alloc(), PIPELINED, piece, 200)?;
+        assert!(rt; wire.written(0) == PIPELINED_ROW);
+        assert!(rt; wire.is_closed(0));
+    }
+    Ok(())
+}
+
+/// A half-closed client gets the replies to all that it sent, and is then gone.
+#[test]
+fn half_closed(rt: HostRuntime) -> Result<(), Fail> {
+    let alloc = rt.alloc();
+    let mut office = new_office(alloc)?;
+    let mut wire = one_link(alloc, b"NOOP\r\nNOOP\r\n", 4096)?;
+    wire.end_links();
+    let mut links = begin(alloc, &office, &wire, &ScriptSpool::new(alloc));
+    turns(alloc, &mut links, &mut wire, &mut office, 10);
+    assert!(rt;
+        wire.written(0)
+            == b"+OK POP3 server ready <1.7@h.test>\r\n-ERR wrong state\r\n-ERR wrong state\r\n".as_slice()
+    );
+    assert!(rt; wire.is_closed(0) && links.count() == 0);
+    Ok(())
+}
