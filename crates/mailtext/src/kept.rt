@@ -1,11 +1,11 @@
 //! A message in its kept form: its lines, each followed by CRLF, and what POP3 asks of it.
 
-ghost use Rattle.std.specs.Prelude.{◌≡◌, ◌<◌, ◌↔◌, [], length, take, IfOk};
+ghost use Rattle.std.specs.Prelude.{◌≡◌, ◌<◌, ◌↔◌, [], true, length, take, IfOk};
 ghost use Rattle.mailtext.specs.Text.{kept_form, lines_of, ended, top_part, header_len};
 ghost use Rattle.mailtext.specs.MailText.{IsMailText};
 ghost use Rattle.mailtext.specs.declared.kept.TextFault.TheVariants.{NoMemory};
 
-use crate::lines::{Dots, write_lines, written_len};
+use crate::lines::{Dots, are_ended_lines, write_lines, written_len};
 use crate::parts::{header_end, line_ends, top_end};
 use std::alloc::{AllocError, Global};
 use std::error::Error;
@@ -101,6 +101,19 @@ pub fn canon(alloc: Global, text: &[u8]) -> Result<MailText, TextFault>
     let mut kept = Vec::with_capacity(alloc, octets)?;
     write_lines(&mut kept, text, Dots::Kept);
     Ok(MailText { octets: kept })
+}
+
+/// Whether the octets are a message in its kept form. It takes no memory.
+pub fn is_kept(octets: &[u8]) -> bool
+    ensures { (result ≡ true) ↔ IsMailText octets.now }
+{
+    if octets.is_empty() {
+        return false;
+    }
+    if octets.len() > MAX_OCTETS {
+        return false;
+    }
+    are_ended_lines(octets)
 }
 
 impl MailText {

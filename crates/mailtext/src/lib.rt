@@ -9,7 +9,7 @@ mod stuffer;
 mod stuffing;
 mod top_cut;
 
-pub use kept::{MAX_OCTETS, MailText, TextFault, canon};
+pub use kept::{MAX_OCTETS, MailText, TextFault, canon, is_kept};
 pub use stuffer::Stuffer;
 pub use stuffing::{stuff_into, stuffing_is_undone, unstuff};
 pub use top_cut::TopCut;

@@ -2,7 +2,7 @@
 
 ghost use Rattle.std.specs.Prelude.{◌≡◌, ◌+◌, ◌^◌, ◌<◌, ◌≤◌, ◌++◌, length, vec_len, vec_capacity};
 ghost use Rattle.std.specs.Option.{SomeIff, option_map};
-ghost use Rattle.mailtext.specs.Written.{written, in_place, end_of};
+ghost use Rattle.mailtext.specs.Written.{written, in_place, end_of, are_ended};
 
 /// CR, the octet that stands before the LF of a line's end.
 pub const CR: u8 = b'\r';
@@ -91,4 +91,18 @@ pub fn write_lines(out: &mut Vec<u8>, text: &[u8], dots: Dots)
         previous = *octet;
     }
     append_both(out, &text[start..], end_behind(previous));
+}
+
+/// Whether these are lines, each followed by CRLF.
+pub fn are_ended_lines(octets: &[u8]) -> bool
+    ensures { result ≡ are_ended 10 octets.now }
+{
+    let mut previous = LF;
+    for octet in octets {
+        if *octet == LF && previous != CR {
+            return false;
+        }
+        previous = *octet;
+    }
+    previous == LF
 }

@@ -235,13 +235,16 @@ impl SocketWire {
 }
 
 impl Place {
-    /// Reads. What may be there is used up where nothing came.
+    /// Reads, where something may be there. It is used up where nothing came.
     fn read(&mut self, buffer: &mut [u8]) -> Io
         ensures { IsWithin (length buffer.old) result }
     {
         let Some(stream) = &mut self.stream else {
             return Io::Broken;
         };
+        if !self.unread {
+            return Io::Later;
+        }
         match stream.read(buffer) {
             Ok(count) => counted(count, buffer.len()),
             Err(error) => {

@@ -8,6 +8,7 @@ mod random_wire;
 mod reckoning;
 mod scenes;
 mod sent;
+mod shares;
 mod strangers_cut_off;
 mod stream;
 mod two_clerks;

@@ -25,76 +25,114 @@ const MOST_AT_ONCE: usize = 4096;
 /// How many writes a link has in one turn at most.
 const MOST_WRITES: usize = 64;
 
+/// Behind so many octets a link that is alone has written its turn's share: 64 full writes.
+const SHARE_ALONE: usize = 1_048_576;
+
+/// The share of a link where others are open, so that none of them waits long: one full write.
+const SHARE_BESIDE: usize = 16_384;
+
 /// How many milliseconds a turn waits at most.
 const MOST_MILLIS: u32 = 1000;
 
 /// Writes once of what a connection is owed, and ends the connection where the link is broken or at
-/// its end. Whether octets were taken, so that more may be.
-fn write_once<V: Vault, W: Wire>(office: &mut Office<V>, wire: &mut W, seat: Seat) -> bool
+/// its end. How many octets were taken.
+fn write_once<V: Vault, W: Wire>(office: &mut Office<V>, wire: &mut W, seat: Seat) -> usize
     ensures serves { StillServesOne V.holds V.is_clean W.tells seat office.old wire.old office.new wire.new }
     ensures clean { V.is_clean (vault_of office.new) → V.is_clean (vault_of office.old) }
 {
     let lent = office.owed(seat.connection);
     if lent.is_empty() {
-        return false;
+        return 0;
     }
     match wire.write(Port::Pop, seat.link, lent) {
         Io::Count(count) => {
             let _ = office.step(Event::Took(seat.connection, count));
-            true
+            count
         }
-        Io::Later => false,
+        Io::Later => 0,
         Io::End | Io::Broken => {
             let _ = office.step(Event::Gone(seat.connection));
-            false
+            0
         }
     }
 }
 
-/// Writes what a connection is owed, as long as the link takes it. Whether it may take more at
-/// once.
-fn write_owed<V: Vault, W: Wire>(office: &mut Office<V>, wire: &mut W, seat: Seat) -> bool
+/// Writes what a connection is owed, as long as the link takes it, up to its share. Whether it may
+/// take more at once.
+fn write_owed<V: Vault, W: Wire>(
+    office: &mut Office<V>,
+    wire: &mut W,
+    seat: Seat,
+    share: usize,
+) -> bool
     ensures serves { StillServesOne V.holds V.is_clean W.tells seat office.old wire.old office.new wire.new }
     ensures clean { V.is_clean (vault_of office.new) → V.is_clean (vault_of office.old) }
 {
+    let mut written: usize = 0;
     for _ in 0..MOST_WRITES {
-        if !write_once(office, wire, seat) {
+        let count = write_once(office, wire, seat);
+        if count == 0 {
             return false;
+        }
+        written = written.saturating_add(count);
+        if written >= share {
+            return true;
         }
     }
     true
 }
 
 /// Reads a piece from a link whose connection waits for octets, and ends the connection where the
-/// link is broken or at its end.
-fn read_once<V: Vault, W: Wire>(office: &mut Office<V>, wire: &mut W, seat: Seat)
+/// link is broken or at its end. Whether octets came.
+fn read_once<V: Vault, W: Wire>(office: &mut Office<V>, wire: &mut W, seat: Seat) -> bool
     ensures serves { StillServesOne V.holds V.is_clean W.tells seat office.old wire.old office.new wire.new }
     ensures clean { V.is_clean (vault_of office.new) → V.is_clean (vault_of office.old) }
 {
     let connection = seat.connection;
     if !office.ready(connection) {
-        return;
+        return false;
     }
     let mut room = [0; MOST_AT_ONCE];
     match wire.read(Port::Pop, seat.link, &mut room) {
         Io::Count(count) => {
             let _ = office.step(Event::Bytes(connection, &room[..count]));
+            true
         }
-        Io::Later => {}
+        Io::Later => false,
         Io::End | Io::Broken => {
             let _ = office.step(Event::Gone(connection));
+            false
         }
     }
 }
 
-/// Writes on a link and reads from it. Whether more can be written at once.
-fn serve_link<V: Vault, W: Wire>(office: &mut Office<V>, wire: &mut W, seat: Seat) -> bool
+/// Writes on a link up to its share, and where all is written reads from it and writes what that
+/// gave. Whether more can be written at once.
+fn serve_link<V: Vault, W: Wire>(
+    office: &mut Office<V>,
+    wire: &mut W,
+    seat: Seat,
+    share: usize,
+) -> bool
     ensures serves { StillServesOne V.holds V.is_clean W.tells seat office.old wire.old office.new wire.new }
     ensures clean { V.is_clean (vault_of office.new) → V.is_clean (vault_of office.old) }
 {
-    let goes = write_owed(office, wire, seat);
-    read_once(office, wire, seat);
-    goes
+    if write_owed(office, wire, seat, share) {
+        return true;
+    }
+    if !read_once(office, wire, seat) {
+        return false;
+    }
+    write_owed(office, wire, seat, share)
+}
+
+/// The share of each link.
+fn share_of(links: &Clients) -> usize {
+    if links.seats.len() > 1 {
+        SHARE_BESIDE
+    } else {
+        SHARE_ALONE
+    }
 }
 
 /// Serves the link of one seat.
@@ -110,7 +148,8 @@ fn serve_seat<V: Vault, W: Wire>(
     ensures seats { links.new.seats ≡ links.old.seats }
 {
     let seat = links.seats[place];
-    links.presses |= serve_link(office, wire, seat);
+    let share = share_of(links);
+    links.presses |= serve_link(office, wire, seat, share);
 }
 
 /// Serves each link, by ascending number of the connections.

@@ -1,19 +1,20 @@
 -- A message as its row, its number and its text tell it.
 use Rattle.std.proofs.Common.{◌≡◌, ℕ, zero, suc, ◌+◌, ◌<◌, ◌≤◌, ℤ, pos, SFits, w64, of_z, to_z-of_z, Bool, true, List, [], ◌∷◌, length, map, Option, Some, None, nat_abs, refl, sym, ap, subst, ◌∙◌, arith, negsuc, ◌<ℤ◌, ◌≤ℤ◌, false, Result, Ok, Err, true≢false}
-use Rattle.std.specs.Prelude.{◌&&◌, ◌==◌, nat_lt, nat_le, unwrap_or, IfOk}
+use Rattle.std.specs.Prelude.{◌&&◌, ◌==◌, ◌≢◌, ◌↔◌, nat_lt, nat_le, unwrap_or, IfOk}
 use Rattle.std.specs.List.{find, list_all, list_any, range_with_len}
 use Rattle.std.specs.Str.{bytes_eq}
 use Rattle.std.specs.Int.{div_ceil}
-use Rattle.std.proofs.lemmas.Bool.{and_parts}
+use Rattle.std.proofs.lemmas.Bool.{and_parts, false≢true}
 use Rattle.std.proofs.lemmas.Bool.Decides.{nat_tests}
 use Rattle.std.proofs.lemmas.Int.{ints}
 use Rattle.mailtext.specs.Text.{kept_form}
+use Rattle.mailtext.specs.MailText.{IsMailText}
 use Rattle.creds.specs.Names.{is_name, is_deposit_id}
 use Rattle.vault.specs.declared.record.Keyed.{Keyed}
 use Rattle.vault.specs.declared.record.Message as vault
 use Rattle.vault.specs.declared.record.Receipt.{Receipt}
 use Rattle.vault.specs.Records.{most_octets, most_deposits, receipts_of, class_count, is_receipt_for, is_sound_receipt, is_counted}
-use Rattle.vault.proofs.ListLemmas.{all_in, found, bytes_are}
+use Rattle.vault.proofs.ListLemmas.{all_in, found, bytes_are, bytes_same}
 use Rattle.sqlite.specs.declared.error.Error.{Error}
 use Rattle.mailsql.specs.declared.rows.Count.{Count}
 use Rattle.mailsql.specs.declared.rows.Message.{Message}
@@ -157,6 +158,35 @@ not_numbered deposits row k none n = clash (class_count row.class (receipts_of r
     clash n k a b c = let zero : 0 ≡ n = cc in grind (arith, nat_tests, zero, b, c)
 
 -- ---- what the test of the text tells
+
+both_ways : (a b : Bool) → (a ≡ true → b ≡ true) → (b ≡ true → a ≡ true) → a ≡ b
+both_ways true b f g = sym (f refl)
+both_ways false true f g = g refl
+both_ways false false f g = refl
+
+two_hold : (a b : Bool) → a ≡ true → b ≡ true → (a && b) ≡ true
+two_hold a b e f = rw (e, f) refl
+
+kept_is : (text : List ℕ) → is_kept_text text ≡ true → IsMailText text
+kept_is text h =
+    let a = and_parts (bytes_eq (kept_form text) text && nat_lt 0 (length text)) (nat_le (length text) most_octets) h in
+    let b = and_parts (bytes_eq (kept_form text) text) (nat_lt 0 (length text)) a.0 in record {
+      nonempty = λ e. absurd (false≢true (subst (λ t. nat_lt 0 (length t) ≡ true) e b.1));
+      kept = bytes_are (kept_form text) text b.0;
+      within = at_most (length text) most_octets a.1;
+    }
+
+is_kept_so : (text : List ℕ) → IsMailText text → is_kept_text text ≡ true
+is_kept_so text m =
+    two_hold (bytes_eq (kept_form text) text && nat_lt 0 (length text)) (nat_le (length text) most_octets)
+    (two_hold (bytes_eq (kept_form text) text) (nat_lt 0 (length text)) (ap (λ t. bytes_eq t text) m.kept ∙ bytes_same text) (some text m.nonempty)) (grind (arith, nat_tests, m.within))
+  where
+    some : (text : List ℕ) → text ≢ [] → nat_lt 0 (length text) ≡ true
+    some [] full = absurd (full refl)
+    some (b ∷ bs) full = lt_test 0 (length (b ∷ bs)) (omega arith)
+
+pub kept_told : (kept : Bool) (text : List ℕ) → ((kept ≡ true) ↔ IsMailText text) → kept ≡ is_kept_text text
+kept_told kept text is = both_ways kept (is_kept_text text) (λ yes. is_kept_so text (is.0 yes)) (λ yes. is.1 (kept_is text yes))
 
 pub kept_judged : (rows : Rows) (deposits : List Receipt) (row : Message) (octets : ℕ) (text shown : List ℕ) (r : Result Bool Error) → IfOk r (λ b. b ≡ is_kept_text shown) → shown ≡ text → HasText rows row.key octets text
     → row.octets ≡ pos octets → SFits w64 row.key → DepositsAre rows deposits → (k : ℕ) × IsNumber deposits row k → IfOk r (Finds (IsStored rows deposits row))

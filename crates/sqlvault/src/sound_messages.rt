@@ -12,8 +12,8 @@ ghost use Rattle.sqlvault.specs.Stored.{Goes, Tells, Counts, Brings, IsPiece, Ha
 use mailsql::rows::{Message, Sheet};
 use mailsql::sheets::{self, SHEET_OCTETS};
 use mailsql::{counts, mail, maildrops};
-use mailtext::{MAX_OCTETS, TextFault, canon};
-use sqlite::{Alter, Connection, Error, ErrorCode};
+use mailtext::MAX_OCTETS;
+use sqlite::{Alter, Connection, Error};
 use sqlite_value::value::Bytes;
 use std::alloc::Global;
 
@@ -72,14 +72,10 @@ fn find_text<S: Alter>(
 }
 
 /// Whether the octets are a message in its kept form.
-fn is_kept(alloc: Global, text: &[u8]) -> Result<bool, Error>
-    ensures { IfOk result (λ kept. kept ≡ is_kept_text text.now) }
+fn is_kept(text: &[u8]) -> bool
+    ensures { result ≡ is_kept_text text.now }
 {
-    match canon(alloc, text) {
-        Ok(kept) => Ok(kept.bytes() == text),
-        Err(TextFault::NoMemory) => Err(Error::SqliteFailure(ErrorCode::OutOfMemory)),
-        Err(TextFault::Empty | TextFault::TooLarge) => Ok(false),
-    }
+    mailtext::is_kept(text)
 }
 
 /// Whether the number of the row is one of those that its class was given.
@@ -131,7 +127,7 @@ fn is_message_sound<S: Alter>(
         return Ok(false);
     }
     match find_text(alloc, conn, row.key, row.octets as u32) {
-        Ok(Some(text)) => is_kept(alloc, &text),
+        Ok(Some(text)) => Ok(is_kept(&text)),
         Ok(None) => Ok(false),
         Err(error) => Err(error),
     }

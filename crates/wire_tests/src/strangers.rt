@@ -82,7 +82,7 @@ fn more_than_64_writes(rt: HostRuntime) -> Result<(), Fail> {
     let mut office = new_office(alloc)?;
     let mut wire = one_link(alloc, b"CAPA\r\n", 1)?;
     let mut links = begin(alloc, &office, &wire, &ScriptSpool::new(alloc));
-    turns(alloc, &mut links, &mut wire, &mut office, 6);
+    turns(alloc, &mut links, &mut wire, &mut office, 5);
     let before = wire.written(0).len();
     turns(alloc, &mut links, &mut wire, &mut office, 1);
     assert_eq!(rt; wire.written(0).len(), before + 64);

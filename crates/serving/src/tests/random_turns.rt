@@ -18,7 +18,7 @@ use vault::PlainVault;
 /// By which seed the numbers come, and how many turns there are, unless the file says otherwise.
 const SEED: u64 = 1;
 
-const TURNS: u64 = 2000;
+const TURNS: u64 = 2500;
 
 /// A file with another seed and another number of turns, which tools/check-turns writes.
 const FILE: &str = "random-turns";

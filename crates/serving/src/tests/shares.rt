@@ -1,0 +1,66 @@
+//! How much of a long reply one turn writes: all of it on a link that is alone, and a share beside
+//! another.
+
+use super::two_clerks::{name, office_of_two};
+use crate::script_spool::ScriptSpool;
+use crate::script_wire::ScriptWire;
+use crate::turn::{begin, serve_turn};
+use creds::DepositId;
+use office::{Event, Office};
+use std::alloc::Global;
+use std::test::Fail;
+use vault::PlainVault;
+
+/// An office with a message of 80,000 octets in the maildrop `orders`.
+fn office_with_a_long_message(alloc: Global) -> Result<Office<PlainVault>, Fail> {
+    let mut office = office_of_two(alloc, &["orders"])?;
+    let orders = name("orders")?;
+    let note = name("note")?;
+    let id = DepositId::read(b"d1").ok_or("id")?;
+    let mut text = Vec::new(alloc);
+    for _ in 0..2000u32 {
+        text.extend_from_slice(b"A line of forty octets with its end...\r\n")?;
+    }
+    let _ = office.step(Event::Deposit(&orders, &note, &id, &text));
+    Ok(office)
+}
+
+/// What ann sends.
+const ANN: &[u8] = b"USER ann/orders\r\nPASS s3 cret\r\nRETR 1\r\n";
+
+/// How many octets ann was told behind each of three turns, with so many silent links beside hers.
+fn told(alloc: Global, silent: u32) -> Result<[usize; 3], Fail> {
+    let mut office = office_with_a_long_message(alloc)?;
+    let mut wire = ScriptWire::new(alloc, Vec::new(alloc), 20_000);
+    // The wire gives the link that came last first.
+    for _ in 0..silent {
+        wire.connect(Vec::new(alloc))?;
+    }
+    wire.connect(Vec::from_slice(alloc, ANN)?)?;
+    let mut spool = ScriptSpool::new(alloc);
+    let mut links = begin(alloc, &office, &wire, &spool);
+    let mut behind = [0; 3];
+    for turn in 0..3usize {
+        serve_turn(&mut links, &mut wire, &mut office, &mut spool, 0);
+        behind[turn] = wire.written(0).len();
+    }
+    Ok(behind)
+}
+
+#[test]
+fn alone(rt: HostRuntime) -> Result<(), Fail> {
+    let behind = told(rt.alloc(), 0)?;
+    assert!(rt; behind[0] > 80_000);
+    assert_eq!(rt; behind[1], behind[0]);
+    assert_eq!(rt; behind[2], behind[0]);
+    Ok(())
+}
+
+#[test]
+fn beside_another(rt: HostRuntime) -> Result<(), Fail> {
+    let behind = told(rt.alloc(), 1)?;
+    assert!(rt; behind[0] < 20_000);
+    assert_eq!(rt; behind[1], behind[0].saturating_add(16_384));
+    assert_eq!(rt; behind[2], behind[1].saturating_add(16_384));
+    Ok(())
+}
