@@ -1,3 +1,4 @@
+pub mod FrameLemmas
 pub mod HoldsLemmas
 pub mod WithinLemmas
 pub mod FaultLemmas

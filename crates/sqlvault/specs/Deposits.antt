@@ -1,5 +1,8 @@
 -- What a deposit leaves of the rows, and what the contents must say of it before.
-use Rattle.std.specs.Prelude.{◌≡◌, ℕ, true, nat_lt, pos, List, length, Ok}
+use Rattle.std.specs.Prelude.{◌≡◌, ℕ, true, nat_lt, pos, List, length, Result, Ok}
+use Rattle.sqlite_trees.specs.declared.store.Store.{Ghosts}
+use Rattle.sqlite.specs.Held.{Held}
+use Rattle.sqlite.specs.declared.error.Error.{Error}
 use Rattle.mailtext.specs.MailText.{IsMailText}
 use Rattle.creds.specs.Names.{is_name, is_deposit_id}
 use Rattle.creds.specs.Digests.{text_digest}
@@ -7,11 +10,12 @@ use Rattle.vault.specs.declared.answer.Deposited.TheVariants as stored
 use Rattle.vault.specs.declared.record.Keyed.{Keyed}
 use Rattle.vault.specs.declared.record.Message.{Message}
 use Rattle.vault.specs.declared.record.Receipt.{Receipt}
-use Rattle.vault.specs.Changes.{Contents, message_for}
+use Rattle.vault.specs.Changes.{Contents, message_for, with_deposit}
 use Rattle.vault.specs.Calls.{deposit_result, deposit_answer_in}
 use Rattle.mailsql.specs.declared.rows.Count.{Count}
 use Rattle.mailsql.specs.Columns.{Rows}
 use Rattle.mailsql.specs.Changes.{SetsCount, AddsDeposit, AddsMessage, AddsSheets}
+use Rattle.sqlvault.specs.Frame.{IsOk, MadeOr, Turns}
 use Rattle.sqlvault.specs.Keeps.{deposit_row, row_key, message_row}
 
 -- the count of a receipt's class, which is the receipt's number
@@ -43,3 +47,11 @@ pub record Accepts (c : Contents) (r : Receipt) (text : List ℕ) : Type 0 where
   pub digest : r.digest ≡ text_digest text
   pub sized : length r.digest ≡ 32
   pub answer : deposit_result (deposit_answer_in c r.maildrop r.class r.id text) ≡ Ok (stored.New (record { class = r.class; k = r.k }))
+
+-- the deposit lies under some key
+abbrev pub IsStored : Receipt → List ℕ → Contents → (Contents → Type 0) → Type 0
+IsStored r text c Held = (key : ℕ) × Held (with_deposit key (message_of r text) r c)
+
+-- it is stored, or nothing is changed
+abbrev pub Stores : {S : Type 0} → Ghosts S → (old new : Held S) → Receipt → List ℕ → Contents → Result (Unit {0}) Error → Type 0
+Stores store old new r text c result = Turns store old new (IsOk result) (MadeOr result (IsStored r text c) c) (IsStored r text c) c

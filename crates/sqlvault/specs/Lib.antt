@@ -1,3 +1,4 @@
+pub mod Frame
 pub mod Keeps
 pub mod Parts
 pub mod Adopts

@@ -12,6 +12,7 @@ ghost use Rattle.mailsql.specs.Changes as changes;
 ghost use Rattle.sqlvault.specs.Keeps.{Keeps, kind_of, secret_of, clerk_row};
 ghost use Rattle.sqlvault.specs.Refusals.{answer_of};
 ghost use Rattle.sqlvault.specs.RowForms.{is_credential_row};
+ghost use Rattle.sqlvault.specs.Frame.{IsMet, Looks};
 ghost use Rattle.sqlvault.specs.Stands.{Holds, WasClean, Ends};
 ghost use Rattle.sqlvault.specs.Stops.{LeavesOr, StopsBefore, StopsEither, IsOpenAfter, StaysOpen};
 
@@ -97,9 +98,7 @@ pub(crate) fn find_credential<S: Alter>(
     clerk: &Name,
 ) -> Result<Option<Credential>, Refusal>
     ensures done { (c : Contents) → HasCleanDisk (state S.Store conn.new) → Holds (state S.Store conn.old) c → IsCredential (Holds (state S.Store conn.new)) c clerk.now (answer_of result) }
-    ensures clean { WasClean (state S.Store conn.old) (state S.Store conn.new) }
-    ensures up { StaysOpen (state S.Store conn.old) (state S.Store conn.new) (answer_of result) }
-    ensures stop { StopsBefore (state S.Store conn.old) (state S.Store conn.new) }
+    ensures looks { Looks S.Store conn.old conn.new (IsMet result) }
 {
     match clerks::find_clerk(alloc, conn, clerk.as_bytes()) {
         Ok(Some(row)) => match read_credential(&row) {

@@ -1,5 +1,5 @@
 //! A deposit, in one transaction.
-ghost use Rattle.std.specs.Prelude.{◌≡◌, ◌≤◌, ◌&&◌, ◌+◌, ℕ, List, length, pos, true, None, Ok, Option, IfOk, OnOk, OnErr, IsTrue};
+ghost use Rattle.std.specs.Prelude.{◌≡◌, ◌≤◌, ◌&&◌, ◌+◌, ℕ, List, length, pos, true, None, Ok, Option, IfOk};
 ghost use Rattle.std.specs.Str.{bytes_eq};
 ghost use Rattle.mailtext.specs.MailText.{IsMailText};
 ghost use Rattle.creds.specs.Names.{is_name, is_deposit_id};
@@ -10,13 +10,13 @@ ghost use Rattle.sqlite.specs.State.{HasCleanDisk};
 ghost use Rattle.vault.specs.declared.answer.Deposited.TheVariants as stored;
 ghost use Rattle.vault.specs.declared.record.Receipt as receipt;
 ghost use Rattle.vault.specs.Records.{receipts_of, class_count, most_deposits};
-ghost use Rattle.vault.specs.Changes.{Contents, deposit_answered, is_full, known_or_conflict, with_deposit};
+ghost use Rattle.vault.specs.Changes.{Contents, deposit_answered, is_full, known_or_conflict};
 ghost use Rattle.vault.specs.Calls.{IsAnswer, IsDeposited, deposit_result, deposit_answer_in, present_in};
 ghost use Rattle.sqlvault.specs.Keeps.{deposit_row, number_in};
-ghost use Rattle.sqlvault.specs.Deposits.{PutsReceipt, PutsMessage, Accepts, message_of};
+ghost use Rattle.sqlvault.specs.Deposits.{PutsReceipt, PutsMessage, Accepts, Stores, message_of};
 ghost use Rattle.sqlvault.specs.Refusals.{answer_of};
-ghost use Rattle.sqlvault.specs.Stands.{Holds, WasClean, Makes};
-ghost use Rattle.sqlvault.specs.Stops.{LeavesOr, StopsBefore, StopsEither, IsOpenAfter, StaysOpen};
+ghost use Rattle.sqlvault.specs.Frame.{IsOk, IsMet, Looks, Acts, Writes};
+ghost use Rattle.sqlvault.specs.Stands.{Holds, WasClean};
 
 use crate::refusal::{Refusal, unreadable};
 use crate::transaction::{end, undo};
@@ -86,10 +86,7 @@ fn find_before<S: Alter>(
     class: &Name,
 ) -> Result<u64, Error>
     ensures answered { (c : Contents) → HasCleanDisk (state S.Store conn.new) → Holds (state S.Store conn.old) c → IfOk result (λ n. n ≡ class_count class.now (receipts_of maildrop.now c.deposits)) }
-    ensures held { (c : Contents) → HasCleanDisk (state S.Store conn.new) → Holds (state S.Store conn.old) c → Holds (state S.Store conn.new) c }
-    ensures clean { WasClean (state S.Store conn.old) (state S.Store conn.new) }
-    ensures up { IsOpenAfter (state S.Store conn.old) (state S.Store conn.new) result }
-    ensures stop { StopsBefore (state S.Store conn.old) (state S.Store conn.new) }
+    ensures looks { Looks S.Store conn.old conn.new (IsOk result) }
 {
     match counts::find_count(alloc, conn, maildrop.as_bytes(), class.as_bytes()) {
         Ok(count) => number_of(&count),
@@ -106,10 +103,7 @@ fn judge_new<S: Alter>(
 ) -> Result<Deposited, Refusal>
     ensures answered { (c : Contents) (text : List ℕ) → HasCleanDisk (state S.Store conn.new) → Holds (state S.Store conn.old) c
         → IsAnswer (deposit_result (deposit_answered None class.now text (is_full (present_in maildrop.now c) (receipts_of maildrop.now c.deposits) class.now) (class_count class.now (receipts_of maildrop.now c.deposits) + 1))) (answer_of result) }
-    ensures held { (c : Contents) → HasCleanDisk (state S.Store conn.new) → Holds (state S.Store conn.old) c → Holds (state S.Store conn.new) c }
-    ensures clean { WasClean (state S.Store conn.old) (state S.Store conn.new) }
-    ensures up { StaysOpen (state S.Store conn.old) (state S.Store conn.new) (answer_of result) }
-    ensures stop { StopsBefore (state S.Store conn.old) (state S.Store conn.new) }
+    ensures looks { Looks S.Store conn.old conn.new (IsMet result) }
     ensures within { (u : uid.Uid) → result ≡ Ok (stored.New u) → u.k ≤ most_deposits }
 {
     let present = match mail::message_count(conn, maildrop.as_bytes()) {
@@ -143,10 +137,7 @@ fn judge<S: Alter>(
 ) -> Result<Deposited, Refusal>
     ensures answered { (c : Contents) (text : List ℕ) → HasCleanDisk (state S.Store conn.new) → Holds (state S.Store conn.old) c → digest.now ≡ text_digest text
         → IsAnswer (deposit_result (deposit_answer_in c maildrop.now class.now id.now text)) (answer_of result) }
-    ensures held { (c : Contents) → HasCleanDisk (state S.Store conn.new) → Holds (state S.Store conn.old) c → Holds (state S.Store conn.new) c }
-    ensures clean { WasClean (state S.Store conn.old) (state S.Store conn.new) }
-    ensures up { StaysOpen (state S.Store conn.old) (state S.Store conn.new) (answer_of result) }
-    ensures stop { StopsBefore (state S.Store conn.old) (state S.Store conn.new) }
+    ensures looks { Looks S.Store conn.old conn.new (IsMet result) }
     ensures within { (u : uid.Uid) → result ≡ Ok (stored.New u) → u.k ≤ most_deposits }
 {
     match maildrops::has_maildrop(conn, maildrop.as_bytes()) {
@@ -164,8 +155,7 @@ fn judge<S: Alter>(
 /// The count of the receipt's class, and the receipt, inside a transaction.
 fn put_receipt<S: Alter>(conn: &mut Connection<S>, receipt: &Receipt) -> Result<(), Error>
     requires { receipt.now.k ≤ most_deposits }
-    ensures made { HasCleanDisk (state S.Store conn.new) → Makes (λ _. PutsReceipt receipt.now) (state S.Store conn.old) (state S.Store conn.new) result }
-    ensures clean { WasClean (state S.Store conn.old) (state S.Store conn.new) }
+    ensures { Writes S.Store conn.old conn.new (λ _. PutsReceipt receipt.now) result }
 {
     let k = receipt.k as i64;
     match counts::set_count(
@@ -194,8 +184,7 @@ fn put_message<S: Alter>(
     text: &MailText,
 ) -> Result<(), Error>
     requires { receipt.now.k ≤ most_deposits }
-    ensures made { HasCleanDisk (state S.Store conn.new) → Makes (λ _. PutsMessage (message_of receipt.now text.now)) (state S.Store conn.old) (state S.Store conn.new) result }
-    ensures clean { WasClean (state S.Store conn.old) (state S.Store conn.new) }
+    ensures { Writes S.Store conn.old conn.new (λ _. PutsMessage (message_of receipt.now text.now)) result }
 {
     let k = receipt.k as i64;
     let octets = text.octets() as i64;
@@ -221,13 +210,9 @@ fn store<S: Alter>(
     text: &MailText,
 ) -> Result<(), Error>
     requires { receipt.now.k ≤ most_deposits }
-    ensures stored { (c : Contents) → HasCleanDisk (state S.Store conn.new) → Holds (state S.Store conn.old) c → Accepts c receipt.now text.now
-        → OnOk result ((key : ℕ) × Holds (state S.Store conn.new) (with_deposit key (message_of receipt.now text.now) receipt.now c)) }
-    ensures held { (c : Contents) → HasCleanDisk (state S.Store conn.new) → Holds (state S.Store conn.old) c → Accepts c receipt.now text.now → OnErr result (Holds (state S.Store conn.new) c) }
     ensures clean { WasClean (state S.Store conn.old) (state S.Store conn.new) }
-    ensures up { IsOpenAfter (state S.Store conn.old) (state S.Store conn.new) result }
-    ensures stop { (c : Contents) → HasCleanDisk (state S.Store conn.new) → IsTrue (state S.Store conn.old).is_open → Holds (state S.Store conn.old) c → Accepts c receipt.now text.now
-        → LeavesOr (state S.Store conn.new) c (λ Held. (key : ℕ) × Held (with_deposit key (message_of receipt.now text.now) receipt.now c)) }
+    ensures stored { (c : Contents) → HasCleanDisk (state S.Store conn.new) → Holds (state S.Store conn.old) c → Accepts c receipt.now text.now
+        → Stores S.Store conn.old conn.new receipt.now text.now c result }
 {
     match mode::begin(conn) {
         Ok(()) => {}
@@ -282,10 +267,7 @@ pub(crate) fn deposit<S: Alter>(
     id: &DepositId,
     text: &MailText,
 ) -> Result<Deposited, Refusal>
-    ensures done { (c : Contents) → HasCleanDisk (state S.Store conn.new) → Holds (state S.Store conn.old) c → IsDeposited (Holds (state S.Store conn.new)) c maildrop.now class.now id.now text.now (answer_of result) }
-    ensures clean { WasClean (state S.Store conn.old) (state S.Store conn.new) }
-    ensures up { StaysOpen (state S.Store conn.old) (state S.Store conn.new) (answer_of result) }
-    ensures stop { StopsEither (state S.Store conn.old) (state S.Store conn.new) (λ c Held. IsDeposited Held c maildrop.now class.now id.now text.now) }
+    ensures { Acts S.Store conn.old conn.new (λ c Held answered. IsDeposited Held c maildrop.now class.now id.now text.now answered) (answer_of result) }
 {
     let digest = creds::text_digest(text.bytes());
     match judge(alloc, conn, maildrop, class, id, &digest) {

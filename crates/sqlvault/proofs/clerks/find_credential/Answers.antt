@@ -7,8 +7,7 @@ use Rattle.mailsql.specs.Rows.{rows_in}
 use Rattle.sqlvault.specs.Stands.{Holds}
 use Rattle.sqlvault.proofs.HoldsLemmas.{seen, holds_unchanged, holds_undone, refused}
 use Rattle.sqlvault.proofs.ClerkLemmas.{is_found, not_found, answered}
-use Rattle.sqlvault.proofs.StayLemmas.{clean_before}
-use Rattle.sqlvault.proofs.StopLemmas.{looked, not_own}
+use Rattle.sqlvault.proofs.FrameLemmas.{asked, failed}
 use Rattle.sqlvault.proofs.clerks.find_credential.Goals as goal
 
 pub returns-in-Some-clause-done : goal.returns-in-Some-clause-done
@@ -45,62 +44,14 @@ returns-in-Ok-Some-clause-done g c held clean h =
     let s1 = state g.S.Store c.find_clerk.new.conn in
     refused (Holds s1) held held (Ok (credential_in c.args.clerk.now held.clerks)) c.unreadable.result (holds_unchanged s0 s1 held (c.in-Ok-Some.ensures.same clean h.tables) h)
 
-pub returns-in-Some-clause-clean : goal.returns-in-Some-clause-clean
-returns-in-Some-clause-clean g c clean1 =
-    let s0 = state g.S.Store c.args.conn.now in
-    let s1 = state g.S.Store c.find_clerk.new.conn in
-    clean_before s0 s1 c.find_clerk.ensures.survives.clean clean1
+pub returns-in-Some-clause-looks : goal.returns-in-Some-clause-looks
+returns-in-Some-clause-looks g c = asked g.S.Store c.args.conn.now c.find_clerk.new.conn c.in-Ok-Some.ensures.same c.find_clerk.ensures.survives
 
-pub returns-in-Some-clause-up : goal.returns-in-Some-clause-up
-returns-in-Some-clause-up g c k clean1 up0 h0 own = (c.in-Ok-Some.ensures.same clean1 h0.tables).0.is_open
+pub returns-in-Ok-Some-clause-looks : goal.returns-in-Ok-Some-clause-looks
+returns-in-Ok-Some-clause-looks g c = asked g.S.Store c.args.conn.now c.find_clerk.new.conn c.in-Ok-Some.ensures.same c.find_clerk.ensures.survives
 
-pub returns-in-Some-clause-stop : goal.returns-in-Some-clause-stop
-returns-in-Some-clause-stop g c k clean1 up0 h0 =
-    let s0 = state g.S.Store c.args.conn.now in
-    let s1 = state g.S.Store c.find_clerk.new.conn in
-    looked s0 s1 k (λ d o m. g.met.S.Store.settled c.args.conn.now.store d o m) clean1 c.find_clerk.ensures.survives up0 h0
+pub returns-in-Ok-None-clause-looks : goal.returns-in-Ok-None-clause-looks
+returns-in-Ok-None-clause-looks g c = asked g.S.Store c.args.conn.now c.find_clerk.new.conn c.in-Ok-None.ensures.same c.find_clerk.ensures.survives
 
-pub returns-in-Ok-Some-clause-clean : goal.returns-in-Ok-Some-clause-clean
-returns-in-Ok-Some-clause-clean g c clean1 =
-    let s0 = state g.S.Store c.args.conn.now in
-    let s1 = state g.S.Store c.find_clerk.new.conn in
-    clean_before s0 s1 c.find_clerk.ensures.survives.clean clean1
-
-pub returns-in-Ok-Some-clause-up : goal.returns-in-Ok-Some-clause-up
-returns-in-Ok-Some-clause-up g c k clean1 up0 h0 own = (c.in-Ok-Some.ensures.same clean1 h0.tables).0.is_open
-
-pub returns-in-Ok-Some-clause-stop : goal.returns-in-Ok-Some-clause-stop
-returns-in-Ok-Some-clause-stop g c k clean1 up0 h0 =
-    let s0 = state g.S.Store c.args.conn.now in
-    let s1 = state g.S.Store c.find_clerk.new.conn in
-    looked s0 s1 k (λ d o m. g.met.S.Store.settled c.args.conn.now.store d o m) clean1 c.find_clerk.ensures.survives up0 h0
-
-pub returns-in-Ok-None-clause-clean : goal.returns-in-Ok-None-clause-clean
-returns-in-Ok-None-clause-clean g c clean1 =
-    let s0 = state g.S.Store c.args.conn.now in
-    let s1 = state g.S.Store c.find_clerk.new.conn in
-    clean_before s0 s1 c.find_clerk.ensures.survives.clean clean1
-
-pub returns-in-Ok-None-clause-up : goal.returns-in-Ok-None-clause-up
-returns-in-Ok-None-clause-up g c k clean1 up0 h0 own = (c.in-Ok-None.ensures.same clean1 h0.tables).0.is_open
-
-pub returns-in-Ok-None-clause-stop : goal.returns-in-Ok-None-clause-stop
-returns-in-Ok-None-clause-stop g c k clean1 up0 h0 =
-    let s0 = state g.S.Store c.args.conn.now in
-    let s1 = state g.S.Store c.find_clerk.new.conn in
-    looked s0 s1 k (λ d o m. g.met.S.Store.settled c.args.conn.now.store d o m) clean1 c.find_clerk.ensures.survives up0 h0
-
-pub returns-clause-clean : goal.returns-clause-clean
-returns-clause-clean g c clean1 =
-    let s0 = state g.S.Store c.args.conn.now in
-    let s1 = state g.S.Store c.find_clerk.new.conn in
-    clean_before s0 s1 c.find_clerk.ensures.survives.clean clean1
-
-pub returns-clause-up : goal.returns-clause-up
-returns-clause-up g c k clean1 up0 h0 own = absurd (not_own (Unit {0}) c.in-Err.error own)
-
-pub returns-clause-stop : goal.returns-clause-stop
-returns-clause-stop g c k clean1 up0 h0 =
-    let s0 = state g.S.Store c.args.conn.now in
-    let s1 = state g.S.Store c.find_clerk.new.conn in
-    looked s0 s1 k (λ d o m. g.met.S.Store.settled c.args.conn.now.store d o m) clean1 c.find_clerk.ensures.survives up0 h0
+pub returns-clause-looks : goal.returns-clause-looks
+returns-clause-looks g c = failed g.S.Store c.args.conn.now c.find_clerk.new.conn c.in-Err.ensures.err c.find_clerk.ensures.survives

@@ -1,19 +1,29 @@
 use Rattle.std.proofs.Common.{ap}
+use Rattle.sqlite.specs.Held.{state}
 use Rattle.sqlvault.specs.Opened.{Opened}
-use Rattle.sqlvault.proofs.StopLemmas.{deposited_as, clean_told, done_by}
-use Rattle.vault.specs.Calls.{IsDeposited}
+use Rattle.sqlvault.specs.Stops.{leaves_last}
+use Rattle.sqlvault.proofs.FrameLemmas.{acts_told}
+use Rattle.sqlvault.proofs.StopLemmas.{left_deposited}
 use Rattle.sqlvault.proofs.sql_vault.SqlVaultVault.deposit.Goals as goal
 
-pub returns-clause-stop : goal.returns-clause-stop
-returns-clause-stop g c b clean up h left may =
-    deposited_as g.S.Store c.args.self.now.conn c.self.inside.conn c.told.new.self.conn c.deposit-answer.new.conn b left c.args.maildrop.now c.args.class.now c.args.id.now c.args.text.now
-    (ap (λ (o : Opened g.row.S.Denot). o.conn) c.self.view_is) c.told.ensures.conn (c.deposit-answer.ensures.stop b) clean up h may
+pub returns-clause-done : goal.returns-clause-done
+returns-clause-done g c k h clean =
+    ((acts_told g.S.Store _ c.args.self.now.conn c.self.inside.conn c.told.new.self.conn c.deposit-answer.new.conn c.told.result _ (ap (λ (o : Opened g.row.S.Denot). o.conn) c.self.view_is)
+    c.told.ensures.conn c.told.ensures.answer c.deposit-answer.ensures).turns clean k h).done
 
 pub returns-clause-clean : goal.returns-clause-clean
 returns-clause-clean g c clean =
-    clean_told g.S.Store c.args.self.now.conn c.self.inside.conn c.told.new.self.conn c.deposit-answer.new.conn (ap (λ (o : Opened g.row.S.Denot). o.conn) c.self.view_is) c.told.ensures.conn c.deposit-answer.ensures.clean clean
+    (acts_told g.S.Store _ c.args.self.now.conn c.self.inside.conn c.told.new.self.conn c.deposit-answer.new.conn c.told.result _ (ap (λ (o : Opened g.row.S.Denot). o.conn) c.self.view_is)
+    c.told.ensures.conn c.told.ensures.answer c.deposit-answer.ensures).clean clean
 
-pub returns-clause-done : goal.returns-clause-done
-returns-clause-done g c b h clean =
-    done_by g.S.Store (λ Held a. IsDeposited Held b c.args.maildrop.now c.args.class.now c.args.id.now c.args.text.now a) c.args.self.now.conn c.self.inside.conn c.told.new.self.conn c.deposit-answer.new.conn b c.told.result _ (ap (λ (o : Opened g.row.S.Denot). o.conn) c.self.view_is) c.told.ensures.conn c.told.ensures.answer
-    (c.deposit-answer.ensures.done b) h clean
+pub returns-clause-up : goal.returns-clause-up
+returns-clause-up g c k clean h up own =
+    ((acts_told g.S.Store _ c.args.self.now.conn c.self.inside.conn c.told.new.self.conn c.deposit-answer.new.conn c.told.result _ (ap (λ (o : Opened g.row.S.Denot). o.conn) c.self.view_is)
+    c.told.ensures.conn c.told.ensures.answer c.deposit-answer.ensures).turns clean k h).up up own
+
+pub returns-clause-stop : goal.returns-clause-stop
+returns-clause-stop g c k clean up h left may =
+    let s = state g.S.Store c.args.self.now.conn in
+    left_deposited (state g.S.Store c.told.new.self.conn) k left c.args.maildrop.now c.args.class.now c.args.id.now c.args.text.now
+    (((acts_told g.S.Store _ c.args.self.now.conn c.self.inside.conn c.told.new.self.conn c.deposit-answer.new.conn c.told.result _ (ap (λ (o : Opened g.row.S.Denot). o.conn) c.self.view_is)
+    c.told.ensures.conn c.told.ensures.answer c.deposit-answer.ensures).turns clean k h).stop up (leaves_last s k (λ db o m. g.met.S.Store.settled c.args.self.now.conn.store db o m) up h)) may
