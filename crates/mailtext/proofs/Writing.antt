@@ -1,5 +1,7 @@
 -- The lines of a text written out octet by octet.
-use Rattle.std.proofs.Common.{◌≡◌, ℕ, ◌+◌, ◌<◌, List, [], ◌∷◌, ◌++◌, Bool, true, false, ◌&&◌, not, map, length, get_or, drop, refl, sym, ◌∙◌, ap, arith, append_assoc, eqb, ⊎_elim, eqb-true, Some, None, unwrap_or}
+use Rattle.std.proofs.Common.{◌≡◌, ℕ, ◌+◌, ◌<◌, List, [], ◌∷◌, ◌++◌, Bool, true, false, ◌&&◌, not}
+use Rattle.std.proofs.Common.{map, length, get_or, drop, refl, sym, ◌∙◌, ap, arith, append_assoc}
+use Rattle.std.proofs.Common.{eqb, ⊎_elim, eqb-true, Some, None, unwrap_or}
 use Rattle.std.proofs.lemmas.List.{drop_more, length-append}
 use Rattle.std.proofs.lemmas.Bool.{cases_Bool, and_parts, true≢false, false≢true}
 use Rattle.std.proofs.lemmas.Bool.Decides.{nat_tests}
@@ -161,23 +163,28 @@ not_ended : (p : ℕ) → eqb p 10 ≡ false → end_of p ≡ [] → ⊥
 not_ended p e h = absurd (omega (arith, ap length (rw e at h)))
 
 put-ended : (p b : ℕ) → (eqb b 10 && not (eqb p 13)) ≡ false → put Kept p b ≡ b ∷ []
-put-ended p b e = rw e (⊎_elim (λ (d : (eqb b 46 && eqb p 10) ≡ true). rw d refl) (λ (d : (eqb b 46 && eqb p 10) ≡ false). rw d refl) (cases_Bool (eqb b 46 && eqb p 10)))
+put-ended p b e = rw e
+    (⊎_elim (λ (d : (eqb b 46 && eqb p 10) ≡ true). rw d refl)
+    (λ (d : (eqb b 46 && eqb p 10) ≡ false). rw d refl) (cases_Bool (eqb b 46 && eqb p 10)))
 
 -- they are their own kept form
 pub written_from-ended : (p : ℕ) (bs : List ℕ) → are_ended p bs ≡ true → written_from Kept p bs ≡ bs
 written_from-ended p [] h = rw h refl
 written_from-ended p (b ∷ bs) h =
     ⊎_elim (λ (e : (eqb b 10 && not (eqb p 13)) ≡ true). absurd (false≢true (rw e at h)))
-    (λ (e : (eqb b 10 && not (eqb p 13)) ≡ false). rw (put-ended p b e) (ap (λ ys. b ∷ ys) (written_from-ended b bs (rw e at h))))
+    (λ (e : (eqb b 10 && not (eqb p 13)) ≡ false). rw (put-ended p b e)
+    (ap (λ ys. b ∷ ys) (written_from-ended b bs (rw e at h))))
     (cases_Bool (eqb b 10 && not (eqb p 13)))
 
 -- a text that is its own kept form consists of them
 pub ended-written_from : (p : ℕ) (bs : List ℕ) → written_from Kept p bs ≡ bs → are_ended p bs ≡ true
-ended-written_from p [] h = ⊎_elim (λ (e : eqb p 10 ≡ true). e) (λ (e : eqb p 10 ≡ false). absurd (not_ended p e h)) (cases_Bool (eqb p 10))
+ended-written_from p [] h = ⊎_elim (λ (e : eqb p 10 ≡ true). e)
+    (λ (e : eqb p 10 ≡ false). absurd (not_ended p e h)) (cases_Bool (eqb p 10))
 ended-written_from p (b ∷ bs) h =
     ⊎_elim (λ (e : (eqb b 10 && not (eqb p 13)) ≡ true).
     let newline = (and_parts (eqb b 10) (not (eqb p 13)) e).0 in
-    absurd (true≢false (sym newline ∙ ap (λ x. eqb x 10) (sym (ap (λ ys. get_or ys 0 0) (rw e at h))))))
+    absurd (true≢false (sym newline ∙ ap
+    (λ x. eqb x 10) (sym (ap (λ ys. get_or ys 0 0) (rw e at h))))))
     (λ (e : (eqb b 10 && not (eqb p 13)) ≡ false).
     let same = rw (put-ended p b e) at h in
     rw e (ended-written_from b bs (ap (drop 1) same)))

@@ -1,6 +1,7 @@
 -- The three ways in which the lines of a text are written out: as they are kept, as a reply sends them, and as a
 -- client reads them (RFC 1939, section 3).
-use Rattle.std.specs.Prelude.{Bool, false, List, [], ◌∷◌, ℕ, map, ◌==◌, ◌&&◌, not, if◌then◌else◌, Option, Some, None}
+use Rattle.std.specs.Prelude.{Bool, false, List, [], ◌∷◌, ℕ, map, ◌==◌, ◌&&◌, not, if◌then◌else◌}
+use Rattle.std.specs.Prelude.{Option, Some, None}
 use Rattle.mailtext.specs.Text.{lines_of, line_end, ended, kept_form, stuffed_lines, without_dot}
 use Rattle.mailtext.specs.declared.lines.Dots.{Dots}
 use Rattle.mailtext.specs.declared.lines.Dots.TheVariants.{Kept, Doubled, Dropped}
@@ -28,7 +29,8 @@ in_place dots previous b =
 abbrev pub end_of : ℕ → List ℕ
 end_of last = if last == 10 then [] else line_end
 
--- whether the octets that follow one are the rest of lines, each followed by CRLF: no LF stands without CR, and LF ends them
+-- whether the octets that follow one are the rest of lines, each followed by CRLF: no LF stands
+-- without CR, and LF ends them
 abbrev pub are_ended : ℕ → List ℕ → Bool
 are_ended previous [] = previous == 10
 are_ended previous (b ∷ bs) = if b == 10 && not (previous == 13) then false else are_ended b bs

@@ -127,7 +127,10 @@ fn serve_link<V: Vault, W: Wire>(
 }
 
 /// The share of each link.
-fn share_of(links: &Clients) -> usize {
+fn share_of(links: &Clients) -> usize
+    ensures alone { array_vec_len links.now.seats ≤ 1 → result ≡ SHARE_ALONE }
+    ensures beside { 1 < array_vec_len links.now.seats → result ≡ SHARE_BESIDE }
+{
     if links.seats.len() > 1 {
         SHARE_BESIDE
     } else {

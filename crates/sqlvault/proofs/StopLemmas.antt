@@ -95,15 +95,6 @@ done_as {A} {S} g expected old was new now c after left e f stop clean up h may 
     (stop (subst (λ (x : Conn S). HasCleanDisk (state g x)) f clean) (subst (λ (x : Conn S). IsTrue (state g x).is_open) (sym e) up) (subst (λ (x : Conn S). Holds (state g x) c) (sym e) h))
     (subst (λ (x : Conn S). MayHold (state g x) left) f may)
 
-pub deposited_as : {S : Type 0} (g : Ghosts S) (old was new now : Conn S) (c left : Contents) (d class id text : List ℕ) → was ≡ old → new ≡ now
-    → (HasCleanDisk (state g now) → IsTrue (state g was).is_open → Holds (state g was) c → LeavesOr (state g now) c (λ Held. (x : Deposited) × IsDeposited Held c d class id text (Ok x)))
-    → HasCleanDisk (state g new) → IsTrue (state g old).is_open → Holds (state g old) c → MayHold (state g new) left
-    → SaySame left c ⊎ ((x : Deposited) × IsDeposited (SaySame left) c d class id text (Ok x))
-deposited_as {S} g old was new now c left d class id text e f stop clean up h may =
-    left_deposited (state g now) c left d class id text
-    (stop (subst (λ (x : Conn S). HasCleanDisk (state g x)) f clean) (subst (λ (x : Conn S). IsTrue (state g x).is_open) (sym e) up) (subst (λ (x : Conn S). Holds (state g x) c) (sym e) h))
-    (subst (λ (x : Conn S). MayHold (state g x) left) f may)
-
 pub done_told : {A S : Type 0} (g : Ghosts S) (expected : Result A VaultFault) (old was new now : Conn S) (c after : Contents) (r said : Result A VaultFault) → was ≡ old → new ≡ now → r ≡ said
     → (HasCleanDisk (state g now) → Holds (state g was) c → IsDone (Holds (state g now)) c after expected said) → Holds (state g old) c → HasCleanDisk (state g new) → IsDone (Holds (state g new)) c after expected r
 done_told {A} {S} g expected old was new now c after r said e f same done h clean =

@@ -169,7 +169,8 @@ two_hold a b e f = rw (e, f) refl
 
 kept_is : (text : List ℕ) → is_kept_text text ≡ true → IsMailText text
 kept_is text h =
-    let a = and_parts (bytes_eq (kept_form text) text && nat_lt 0 (length text)) (nat_le (length text) most_octets) h in
+    let a = and_parts (bytes_eq (kept_form text) text && nat_lt 0 (length text))
+    (nat_le (length text) most_octets) h in
     let b = and_parts (bytes_eq (kept_form text) text) (nat_lt 0 (length text)) a.0 in record {
       nonempty = λ e. absurd (false≢true (subst (λ t. nat_lt 0 (length t) ≡ true) e b.1));
       kept = bytes_are (kept_form text) text b.0;
@@ -178,15 +179,20 @@ kept_is text h =
 
 is_kept_so : (text : List ℕ) → IsMailText text → is_kept_text text ≡ true
 is_kept_so text m =
-    two_hold (bytes_eq (kept_form text) text && nat_lt 0 (length text)) (nat_le (length text) most_octets)
-    (two_hold (bytes_eq (kept_form text) text) (nat_lt 0 (length text)) (ap (λ t. bytes_eq t text) m.kept ∙ bytes_same text) (some text m.nonempty)) (grind (arith, nat_tests, m.within))
+    two_hold (bytes_eq (kept_form text) text && nat_lt 0 (length text))
+    (nat_le (length text) most_octets)
+    (two_hold (bytes_eq (kept_form text) text) (nat_lt 0 (length text))
+    (ap (λ t. bytes_eq t text) m.kept ∙ bytes_same text) (some text m.nonempty))
+    (grind (arith, nat_tests, m.within))
   where
     some : (text : List ℕ) → text ≢ [] → nat_lt 0 (length text) ≡ true
     some [] full = absurd (full refl)
     some (b ∷ bs) full = lt_test 0 (length (b ∷ bs)) (omega arith)
 
-pub kept_told : (kept : Bool) (text : List ℕ) → ((kept ≡ true) ↔ IsMailText text) → kept ≡ is_kept_text text
-kept_told kept text is = both_ways kept (is_kept_text text) (λ yes. is_kept_so text (is.0 yes)) (λ yes. is.1 (kept_is text yes))
+pub kept_told : (kept : Bool) (text : List ℕ) → ((kept ≡ true) ↔ IsMailText text)
+    → kept ≡ is_kept_text text
+kept_told kept text is = both_ways kept (is_kept_text text) (λ yes. is_kept_so text (is.0 yes))
+    (λ yes. is.1 (kept_is text yes))
 
 pub kept_judged : (rows : Rows) (deposits : List Receipt) (row : Message) (octets : ℕ) (text shown : List ℕ) (r : Result Bool Error) → IfOk r (λ b. b ≡ is_kept_text shown) → shown ≡ text → HasText rows row.key octets text
     → row.octets ≡ pos octets → SFits w64 row.key → DepositsAre rows deposits → (k : ℕ) × IsNumber deposits row k → IfOk r (Finds (IsStored rows deposits row))

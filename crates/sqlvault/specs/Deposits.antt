@@ -53,5 +53,7 @@ abbrev pub IsStored : Receipt → List ℕ → Contents → (Contents → Type 0
 IsStored r text c Held = (key : ℕ) × Held (with_deposit key (message_of r text) r c)
 
 -- it is stored, or nothing is changed
-abbrev pub Stores : {S : Type 0} → Ghosts S → (old new : Held S) → Receipt → List ℕ → Contents → Result (Unit {0}) Error → Type 0
-Stores store old new r text c result = Turns store old new (IsOk result) (MadeOr result (IsStored r text c) c) (IsStored r text c) c
+abbrev pub Stores : {S : Type 0} → Ghosts S → (old new : Held S) → Receipt → List ℕ → Contents
+    → Result (Unit {0}) Error → Type 0
+Stores store old new r text c result =
+    Turns store old new (IsOk result) (MadeOr result (IsStored r text c) c) (IsStored r text c) c

@@ -1,5 +1,7 @@
--- What a part of a call does to the connection, whatever it answers, in one word: it only looks, or it changes records once.
--- Both words compose: `looks_then` and `looks_changes` of proofs/FrameLemmas.
+-- What a part of a call does to the connection, whatever it answers, in one word: it only looks
+-- (`Looks`), it changes records once, as a whole call (`Acts`) or as a part of one (`Turns`), or it
+-- is a part of a transaction (`Writes`). Two parts compose: `looks_then`, `rests_turns` and
+-- `writes_then` of proofs/FrameLemmas.
 use Rattle.std.specs.Prelude.{IsTrue, ⊤, Result, Ok, Err}
 use Rattle.sqlite_trees.specs.declared.store.Store.{Ghosts}
 use Rattle.sqlite.specs.Held.{Held, state}
@@ -26,35 +28,47 @@ IsMet (Err (Answered _)) = ⊤
 IsMet (Err (Met _)) = ⊥
 
 -- what is made of the contents where it is done, and else the contents
-abbrev pub MadeOr : {A E : Type 0} → Result A E → ((Contents → Type 0) → Type 0) → Contents → (Contents → Type 0) → Type 0
+abbrev pub MadeOr : {A E : Type 0} → Result A E → ((Contents → Type 0) → Type 0) → Contents
+    → (Contents → Type 0) → Type 0
 MadeOr (Ok _) Made c Held = Made Held
 MadeOr (Err _) Made c Held = Held c
 
 module _ {S : Type 0} (store : Ghosts S) (old new : Held S) where
-  -- These contents are held still. Where the connection was open, it is open still behind an own answer, and a stop that left them leaves them.
+  -- These contents are held still. Where the connection was open, it is open still behind an own
+  -- answer, and a stop that left them leaves them.
   pub record Rests (Own : Type 0) (c : Contents) : Type 0 where
     pub held : Holds (state store new) c
     pub up : IsTrue (state store old).is_open → Own → IsTrue (state store new).is_open
-    pub stop : IsTrue (state store old).is_open → LeavesHeld (state store old) c → LeavesHeld (state store new) c
+    pub stop : IsTrue (state store old).is_open → LeavesHeld (state store old) c
+        → LeavesHeld (state store new) c
 
   -- a part only looks: all of this holds where the connection is clean as it ends, and then it was
   pub record Looks (Own : Type 0) : Type 0 where
     pub clean : WasClean (state store old) (state store new)
-    pub rests : HasCleanDisk (state store new) → (c : Contents) → Holds (state store old) c → Rests Own c
+    pub rests : HasCleanDisk (state store new) → (c : Contents) → Holds (state store old) c
+        → Rests Own c
 
-  -- What is held is as this says. Where the connection was open, it is open still behind an own answer, and a stop leaves these contents, or what is made of them.
-  pub record Turns (Own : Type 0) (Done Made : (Contents → Type 0) → Type 0) (c : Contents) : Type 0 where
+  -- What is held is as this says. Where the connection was open, it is open still behind an own
+  -- answer, and a stop leaves these contents, or what is made of them.
+  pub record Turns (Own : Type 0) (Done Made : (Contents → Type 0) → Type 0)
+      (c : Contents) : Type 0 where
     pub done : Done (Holds (state store new))
     pub up : IsTrue (state store old).is_open → Own → IsTrue (state store new).is_open
-    pub stop : IsTrue (state store old).is_open → LeavesHeld (state store old) c → LeavesOr (state store new) c Made
+    pub stop : IsTrue (state store old).is_open → LeavesHeld (state store old) c
+        → LeavesOr (state store new) c Made
 
   -- a call is answered as this relation says, and changes records once, whole or not at all
-  pub record Acts {A : Type 0} (Done : Contents → (Contents → Type 0) → Result A VaultFault → Type 0) (answered : Result A VaultFault) : Type 0 where
+  pub record Acts {A : Type 0}
+      (Done : Contents → (Contents → Type 0) → Result A VaultFault → Type 0)
+      (answered : Result A VaultFault) : Type 0 where
     pub clean : WasClean (state store old) (state store new)
     pub turns : HasCleanDisk (state store new) → (c : Contents) → Holds (state store old) c
-        → Turns (IsOwn answered) (λ Held. Done c Held answered) (λ Held. (x : A) × Done c Held (Ok x)) c
+        → Turns (IsOwn answered) (λ Held. Done c Held answered)
+        (λ Held. (x : A) × Done c Held (Ok x)) c
 
   -- a part of a transaction makes this change of the rows, or halts it
-  pub record Writes {A : Type 0} (Change : A → Rows → Rows → Type 0) (result : Result A Error) : Type 0 where
+  pub record Writes {A : Type 0} (Change : A → Rows → Rows → Type 0)
+      (result : Result A Error) : Type 0 where
     pub clean : WasClean (state store old) (state store new)
-    pub made : HasCleanDisk (state store new) → Makes Change (state store old) (state store new) result
+    pub made : HasCleanDisk (state store new)
+        → Makes Change (state store old) (state store new) result

@@ -1,5 +1,6 @@
 //! A deposit, in one transaction.
-ghost use Rattle.std.specs.Prelude.{◌≡◌, ◌≤◌, ◌&&◌, ◌+◌, ℕ, List, length, pos, true, None, Ok, Option, IfOk};
+ghost use Rattle.std.specs.Prelude.{◌≡◌, ◌≤◌, ◌&&◌, ◌+◌, ℕ, List, length, pos, true, None, Ok};
+ghost use Rattle.std.specs.Prelude.{Option, IfOk};
 ghost use Rattle.std.specs.Str.{bytes_eq};
 ghost use Rattle.mailtext.specs.MailText.{IsMailText};
 ghost use Rattle.creds.specs.Names.{is_name, is_deposit_id};
@@ -184,7 +185,8 @@ fn put_message<S: Alter>(
     text: &MailText,
 ) -> Result<(), Error>
     requires { receipt.now.k ≤ most_deposits }
-    ensures { Writes S.Store conn.old conn.new (λ _. PutsMessage (message_of receipt.now text.now)) result }
+    ensures { Writes S.Store conn.old conn.new
+        (λ _. PutsMessage (message_of receipt.now text.now)) result }
 {
     let k = receipt.k as i64;
     let octets = text.octets() as i64;
@@ -211,7 +213,8 @@ fn store<S: Alter>(
 ) -> Result<(), Error>
     requires { receipt.now.k ≤ most_deposits }
     ensures clean { WasClean (state S.Store conn.old) (state S.Store conn.new) }
-    ensures stored { (c : Contents) → HasCleanDisk (state S.Store conn.new) → Holds (state S.Store conn.old) c → Accepts c receipt.now text.now
+    ensures stored { (c : Contents) → HasCleanDisk (state S.Store conn.new)
+        → Holds (state S.Store conn.old) c → Accepts c receipt.now text.now
         → Stores S.Store conn.old conn.new receipt.now text.now c result }
 {
     match mode::begin(conn) {
@@ -267,7 +270,9 @@ pub(crate) fn deposit<S: Alter>(
     id: &DepositId,
     text: &MailText,
 ) -> Result<Deposited, Refusal>
-    ensures { Acts S.Store conn.old conn.new (λ c Held answered. IsDeposited Held c maildrop.now class.now id.now text.now answered) (answer_of result) }
+    ensures { Acts S.Store conn.old conn.new
+        (λ c Held answered. IsDeposited Held c maildrop.now class.now id.now text.now answered)
+        (answer_of result) }
 {
     let digest = creds::text_digest(text.bytes());
     match judge(alloc, conn, maildrop, class, id, &digest) {

@@ -45,13 +45,21 @@ returns-in-Ok-Some-clause-done g c held clean h =
     refused (Holds s1) held held (Ok (credential_in c.args.clerk.now held.clerks)) c.unreadable.result (holds_unchanged s0 s1 held (c.in-Ok-Some.ensures.same clean h.tables) h)
 
 pub returns-in-Some-clause-looks : goal.returns-in-Some-clause-looks
-returns-in-Some-clause-looks g c = asked g.S.Store c.args.conn.now c.find_clerk.new.conn c.in-Ok-Some.ensures.same c.find_clerk.ensures.survives
+returns-in-Some-clause-looks g c =
+    asked g.S.Store c.args.conn.now c.find_clerk.new.conn c.in-Ok-Some.ensures.same
+    c.find_clerk.ensures.survives
 
 pub returns-in-Ok-Some-clause-looks : goal.returns-in-Ok-Some-clause-looks
-returns-in-Ok-Some-clause-looks g c = asked g.S.Store c.args.conn.now c.find_clerk.new.conn c.in-Ok-Some.ensures.same c.find_clerk.ensures.survives
+returns-in-Ok-Some-clause-looks g c =
+    asked g.S.Store c.args.conn.now c.find_clerk.new.conn c.in-Ok-Some.ensures.same
+    c.find_clerk.ensures.survives
 
 pub returns-in-Ok-None-clause-looks : goal.returns-in-Ok-None-clause-looks
-returns-in-Ok-None-clause-looks g c = asked g.S.Store c.args.conn.now c.find_clerk.new.conn c.in-Ok-None.ensures.same c.find_clerk.ensures.survives
+returns-in-Ok-None-clause-looks g c =
+    asked g.S.Store c.args.conn.now c.find_clerk.new.conn c.in-Ok-None.ensures.same
+    c.find_clerk.ensures.survives
 
 pub returns-clause-looks : goal.returns-clause-looks
-returns-clause-looks g c = failed g.S.Store c.args.conn.now c.find_clerk.new.conn c.in-Err.ensures.err c.find_clerk.ensures.survives
+returns-clause-looks g c =
+    failed g.S.Store c.args.conn.now c.find_clerk.new.conn c.in-Err.ensures.err
+    c.find_clerk.ensures.survives

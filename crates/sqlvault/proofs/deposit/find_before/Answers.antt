@@ -17,7 +17,11 @@ returns-in-Ok-clause-answered g c k clean h =
     (count_seen (rows_in s0.now.trees) k c.as_bytes.result.now d c.as_bytes-2.result.now class c.in-Ok.count kept c.as_bytes.ensures.value c.as_bytes-2.ensures.value (c.in-Ok.ensures.ok clean h.tables)))
 
 pub returns-in-Ok-clause-looks : goal.returns-in-Ok-clause-looks
-returns-in-Ok-clause-looks g c = asked g.S.Store c.args.conn.now c.find_count.new.conn c.in-Ok.ensures.same c.find_count.ensures.survives
+returns-in-Ok-clause-looks g c =
+    asked g.S.Store c.args.conn.now c.find_count.new.conn c.in-Ok.ensures.same
+    c.find_count.ensures.survives
 
 pub returns-in-Err-clause-looks : goal.returns-in-Err-clause-looks
-returns-in-Err-clause-looks g c = failed g.S.Store c.args.conn.now c.find_count.new.conn c.in-Err.ensures.err c.find_count.ensures.survives
+returns-in-Err-clause-looks g c =
+    failed g.S.Store c.args.conn.now c.find_count.new.conn c.in-Err.ensures.err
+    c.find_count.ensures.survives

@@ -70,22 +70,32 @@ returns-in-Ok-Some-clause-within g c u is =
     absurd (c.known_or_conflict.ensures.old u is)
 
 pub returns-in-Err-clause-looks : goal.returns-in-Err-clause-looks
-returns-in-Err-clause-looks g c = failed g.S.Store c.args.conn.now c.has_maildrop.new.conn (λ clean _. c.in-Err.ensures.err clean) c.has_maildrop.ensures.survives
+returns-in-Err-clause-looks g c = failed g.S.Store c.args.conn.now c.has_maildrop.new.conn
+    (λ clean _. c.in-Err.ensures.err clean) c.has_maildrop.ensures.survives
 
 pub returns-in-Ok-false-clause-looks : goal.returns-in-Ok-false-clause-looks
-returns-in-Ok-false-clause-looks g c = asked g.S.Store c.args.conn.now c.has_maildrop.new.conn c.in-Ok-false.ensures.same c.has_maildrop.ensures.survives
+returns-in-Ok-false-clause-looks g c =
+    asked g.S.Store c.args.conn.now c.has_maildrop.new.conn c.in-Ok-false.ensures.same
+    c.has_maildrop.ensures.survives
 
 pub returns-in-Err-find_deposit-clause-looks : goal.returns-in-Err-find_deposit-clause-looks
 returns-in-Err-find_deposit-clause-looks g c =
-    let is_there = asked g.S.Store c.args.conn.now c.has_maildrop.new.conn c.in-Ok-true.ensures.same c.has_maildrop.ensures.survives in
-    looks_then is_there (failed g.S.Store c.has_maildrop.new.conn c.find_deposit.new.conn c.in-Err-find_deposit.ensures.err c.find_deposit.ensures.survives)
+    let is_there = asked g.S.Store c.args.conn.now c.has_maildrop.new.conn c.in-Ok-true.ensures.same
+    c.has_maildrop.ensures.survives in
+    looks_then is_there (failed g.S.Store c.has_maildrop.new.conn c.find_deposit.new.conn
+    c.in-Err-find_deposit.ensures.err c.find_deposit.ensures.survives)
 
 pub returns-in-Ok-Some-clause-looks : goal.returns-in-Ok-Some-clause-looks
 returns-in-Ok-Some-clause-looks g c =
-    let is_there = asked g.S.Store c.args.conn.now c.has_maildrop.new.conn c.in-Ok-true.ensures.same c.has_maildrop.ensures.survives in
-    looks_then is_there (asked g.S.Store c.has_maildrop.new.conn c.find_deposit.new.conn c.in-Ok-Some.ensures.same c.find_deposit.ensures.survives)
+    let is_there = asked g.S.Store c.args.conn.now c.has_maildrop.new.conn c.in-Ok-true.ensures.same
+    c.has_maildrop.ensures.survives in
+    looks_then is_there (asked g.S.Store c.has_maildrop.new.conn c.find_deposit.new.conn
+    c.in-Ok-Some.ensures.same c.find_deposit.ensures.survives)
 
 pub returns-in-Ok-None-clause-looks : goal.returns-in-Ok-None-clause-looks
 returns-in-Ok-None-clause-looks g c =
-    let is_there = asked g.S.Store c.args.conn.now c.has_maildrop.new.conn c.in-Ok-true.ensures.same c.has_maildrop.ensures.survives in
-    looks_then is_there (looks_then (asked g.S.Store c.has_maildrop.new.conn c.find_deposit.new.conn c.in-Ok-None.ensures.same c.find_deposit.ensures.survives) c.judge_new.ensures.looks)
+    let is_there = asked g.S.Store c.args.conn.now c.has_maildrop.new.conn c.in-Ok-true.ensures.same
+    c.has_maildrop.ensures.survives in
+    looks_then is_there (looks_then
+    (asked g.S.Store c.has_maildrop.new.conn c.find_deposit.new.conn c.in-Ok-None.ensures.same
+    c.find_deposit.ensures.survives) c.judge_new.ensures.looks)

@@ -60,19 +60,28 @@ returns-then-before-ge-MAX_DEPOSITS-clause-within g c u is =
     absurd (no_new _ u is)
 
 pub returns-in-Err-clause-looks : goal.returns-in-Err-clause-looks
-returns-in-Err-clause-looks g c = failed g.S.Store c.args.conn.now c.message_count.new.conn c.in-Err.ensures.err c.message_count.ensures.survives
+returns-in-Err-clause-looks g c =
+    failed g.S.Store c.args.conn.now c.message_count.new.conn c.in-Err.ensures.err
+    c.message_count.ensures.survives
 
-pub returns-then-present-ge-MAX_MESSAGES-clause-looks : goal.returns-then-present-ge-MAX_MESSAGES-clause-looks
-returns-then-present-ge-MAX_MESSAGES-clause-looks g c = asked g.S.Store c.args.conn.now c.message_count.new.conn c.in-Ok.ensures.same c.message_count.ensures.survives
+pub returns-then-present-ge-MAX_MESSAGES-clause-looks :
+    goal.returns-then-present-ge-MAX_MESSAGES-clause-looks
+returns-then-present-ge-MAX_MESSAGES-clause-looks g c =
+    asked g.S.Store c.args.conn.now c.message_count.new.conn c.in-Ok.ensures.same
+    c.message_count.ensures.survives
 
 pub returns-in-Err-find_before-clause-looks : goal.returns-in-Err-find_before-clause-looks
 returns-in-Err-find_before-clause-looks g c =
-    looks_then (asked g.S.Store c.args.conn.now c.message_count.new.conn c.in-Ok.ensures.same c.message_count.ensures.survives) c.in-Err-find_before.ensures.looks
+    looks_then (asked g.S.Store c.args.conn.now c.message_count.new.conn c.in-Ok.ensures.same
+    c.message_count.ensures.survives) c.in-Err-find_before.ensures.looks
 
-pub returns-then-before-ge-MAX_DEPOSITS-clause-looks : goal.returns-then-before-ge-MAX_DEPOSITS-clause-looks
+pub returns-then-before-ge-MAX_DEPOSITS-clause-looks :
+    goal.returns-then-before-ge-MAX_DEPOSITS-clause-looks
 returns-then-before-ge-MAX_DEPOSITS-clause-looks g c =
-    looks_then (asked g.S.Store c.args.conn.now c.message_count.new.conn c.in-Ok.ensures.same c.message_count.ensures.survives) c.in-Ok-find_before.ensures.looks
+    looks_then (asked g.S.Store c.args.conn.now c.message_count.new.conn c.in-Ok.ensures.same
+    c.message_count.ensures.survives) c.in-Ok-find_before.ensures.looks
 
 pub returns-clause-looks : goal.returns-clause-looks
 returns-clause-looks g c =
-    looks_then (asked g.S.Store c.args.conn.now c.message_count.new.conn c.in-Ok.ensures.same c.message_count.ensures.survives) c.in-Ok-find_before.ensures.looks
+    looks_then (asked g.S.Store c.args.conn.now c.message_count.new.conn c.in-Ok.ensures.same
+    c.message_count.ensures.survives) c.in-Ok-find_before.ensures.looks

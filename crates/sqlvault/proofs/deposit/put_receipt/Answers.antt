@@ -11,7 +11,9 @@ use Rattle.sqlvault.proofs.deposit.put_receipt.Goals as goal
 pub returns-in-Err : goal.returns-in-Err
 returns-in-Err g c =
     let row : Count = record { maildrop = c.as_bytes.result.now; class = c.as_bytes-2.result.now; k = to_z w64 c.args.receipt.now.k } in
-    halted_in g.S.Store c.args.conn.now c.set_count.new.conn (λ _. PutsReceipt c.args.receipt.now) (λ from to. ClearsCount row.maildrop row.class from to ⊎ SetsCount row from to) c.in-Err.error
+    halted_in g.S.Store c.args.conn.now c.set_count.new.conn (λ _. PutsReceipt c.args.receipt.now)
+    (λ from to. ClearsCount row.maildrop row.class from to ⊎ SetsCount row from to)
+    c.in-Err.error
     c.in-Err.ensures.err c.set_count.ensures.survives
 
 pub returns : goal.returns
@@ -21,8 +23,12 @@ returns g c =
     let put : Deposit = record { maildrop = c.as_bytes-3.result.now; id = c.as_bytes-4.result.now; class = c.as_bytes-5.result.now; k = to_z w64 receipt.k; digest = c.as_slice.result.now } in
     let First : Unit {0} → _ = λ _. SetsCount row in
     writes_then First (AddsDeposit put) (PutsReceipt receipt) tt c.add_deposit.result
-    (wrote g.S.Store c.args.conn.now c.set_count.new.conn First (λ from to. ClearsCount row.maildrop row.class from to ⊎ SetsCount row from to) tt c.in-Ok.ensures.ok c.set_count.ensures.survives)
-    (written g.S.Store c.set_count.new.conn c.add_deposit.new.conn (AddsDeposit put) c.add_deposit.result c.add_deposit.ensures.ok c.add_deposit.ensures.err c.add_deposit.ensures.survives)
+    (wrote g.S.Store c.args.conn.now c.set_count.new.conn First
+    (λ from to. ClearsCount row.maildrop row.class from to ⊎ SetsCount row from to) tt
+    c.in-Ok.ensures.ok c.set_count.ensures.survives)
+    (written g.S.Store c.set_count.new.conn c.add_deposit.new.conn (AddsDeposit put)
+    c.add_deposit.result c.add_deposit.ensures.ok c.add_deposit.ensures.err
+    c.add_deposit.ensures.survives)
     (λ from mid to set add.
     receipt_put receipt row.maildrop row.class put.maildrop put.id put.class put.digest (to_z w64 receipt.k) from mid to c.as_bytes.ensures.value c.as_bytes-2.ensures.value c.as_bytes-3.ensures.value c.as_bytes-4.ensures.value
     c.as_bytes-5.ensures.value c.as_slice.ensures (to_z_pos w64 receipt.k (omega arith)) set add)

@@ -1,4 +1,5 @@
-use Rattle.std.proofs.Common.{ℕ, pos, Ok, ◌≤ℤ◌, Vec, Global, nat_abs, arith, rules, subst, SFits, w64, to_z, of_z}
+use Rattle.std.proofs.Common.{ℕ, pos, Ok, ◌≤ℤ◌, Vec, Global, nat_abs, arith, rules, subst, SFits}
+use Rattle.std.proofs.Common.{w64, to_z, of_z}
 use Rattle.std.proofs.Math.Facts as back
 use Rattle.std.proofs.lemmas.Int.{ints, to_z-of_z}
 use Rattle.sqlite.specs.Held.{state}
@@ -29,7 +30,8 @@ returns-in-Ok-Some-clause-judged g c deposits clean h d =
     let n = nat_abs (to_z w64 (of_z w64 c.args.row.now.octets)) in
     let stay = rows_stay s0 s1 stays in
     let text = text_read (λ (v : Vec ℕ Global). v.items) (rows_in s0.now.trees) (rows_in s1.now.trees) c.args.row.now.key (to_z w64 (of_z w64 c.args.row.now.key)) n c.in-Ok-Some.field-0 c.in-Ok-Some.text stay (back.to_z-of_z f) c.in-Ok-Some.field-0-is judged in
-    kept_judged (rows_in s0.now.trees) deposits c.args.row.now n c.in-Ok-Some.text.items c.deref.result.now (Ok c.is_kept.result) c.is_kept.ensures c.deref.ensures.value text
+    kept_judged (rows_in s0.now.trees) deposits c.args.row.now n c.in-Ok-Some.text.items
+    c.deref.result.now (Ok c.is_kept.result) c.is_kept.ensures c.deref.ensures.value text
     (octets_back c.args.row.now.octets (to_z w64 (of_z w64 c.args.row.now.octets)) (back.to_z-of_z f2) low) f d number
 
 pub returns-in-Ok-false-clause-clean : goal.returns-in-Ok-false-clause-clean
@@ -123,4 +125,5 @@ returns-in-Ok-Some-clause-goes g c clean2 h =
     let s1 = state g.S.Store c.is_numbered.new.conn in
     let s2 = state g.S.Store c.find_text.new.conn in
     let stays = c.in-Ok-true.ensures.goes (c.find_text.ensures.clean clean2) h in
-    goes_either s0 s2 (Ok c.is_kept.result) (stays_more s0 s1 s2 stays (c.in-Ok-Some.ensures.goes clean2 (tables_stay s0 s1 stays h)))
+    goes_either s0 s2 (Ok c.is_kept.result)
+    (stays_more s0 s1 s2 stays (c.in-Ok-Some.ensures.goes clean2 (tables_stay s0 s1 stays h)))
