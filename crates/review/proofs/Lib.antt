@@ -1,0 +1,6 @@
+pub mod CoverLemmas
+pub mod Telling
+pub mod Naming
+pub mod Alike
+pub mod TableLemmas
+pub mod Pieces

@@ -1,0 +1,78 @@
+-- What a review prints.
+use Rattle.std.specs.Prelude.{ℕ, Bool, true, false, ◌&&◌, List, [], ◌∷◌, ◌++◌, codes, Option, Some, None, is_some}
+use Rattle.policy.specs.Policy.{Policy}
+use Rattle.review.specs.declared.choice.Choice.{Choice}
+use Rattle.review.specs.declared.label.Label.{Label}
+use Rattle.review.specs.declared.label.Label.TheVariants.{Named}
+use Rattle.review.specs.declared.rows.Format.{Format}
+use Rattle.review.specs.declared.rows.Format.TheVariants.{Text, Csv}
+use Rattle.review.specs.Covers.{covered_text}
+use Rattle.review.specs.Differences.{differences_text, questions}
+use Rattle.review.specs.Names.{classes_in, clerks_in, labels, maildrops_in}
+use Rattle.review.specs.Questions.{columns}
+use Rattle.review.specs.Table.{answers_text, csv_head, tables_text}
+
+-- the one that was chosen, or all
+abbrev pub chosen : Option (List ℕ) → List Label → List Label
+chosen None all = all
+chosen (Some name) all = Named name ∷ []
+
+-- the clerks that a review of two policies speaks of
+abbrev pub clerks_of : Choice → (old new : Policy) → List Label
+clerks_of choice old new = chosen choice.clerk (labels (clerks_in old ++ clerks_in new))
+
+-- the maildrops
+abbrev pub maildrops_of : Choice → (old new : Policy) → List Label
+maildrops_of choice old new = chosen choice.maildrop (labels (maildrops_in old ++ maildrops_in new))
+
+-- the classes
+abbrev pub classes_of : (old new : Policy) → List Label
+classes_of old new = labels (classes_in old ++ classes_in new)
+
+-- one clerk and one maildrop are chosen
+abbrev pub is_narrow : Choice → Bool
+is_narrow choice = is_some choice.clerk && is_some choice.maildrop
+
+-- who may do what for a reader: a line for each question where one clerk and one maildrop are chosen, else tables
+abbrev pub plain_text : (narrow : Bool) → Policy → (clerks maildrops classes : List Label) → List ℕ
+plain_text true p clerks maildrops classes = answers_text Text p (questions clerks maildrops (columns classes))
+plain_text false p clerks maildrops classes = tables_text p clerks maildrops classes
+
+-- who may do what
+abbrev pub who_text : Choice → Format → Policy → (clerks maildrops classes : List Label) → List ℕ
+who_text choice Text p clerks maildrops classes = plain_text (is_narrow choice) p clerks maildrops classes
+who_text choice Csv p clerks maildrops classes = csv_head ++ answers_text Csv p (questions clerks maildrops (columns classes))
+
+-- the lines, or the word for none
+abbrev pub or_none : List ℕ → List ℕ
+or_none [] = codes "no decision differs\n"
+or_none (b ∷ bs) = b ∷ bs
+
+-- there are lines
+abbrev pub has_lines : List ℕ → Bool
+has_lines [] = false
+has_lines (b ∷ bs) = true
+
+-- what a change changes, which CSV doesn't tell
+abbrev pub change_text : Format → (lines : List ℕ) → List ℕ
+change_text Text lines = or_none lines
+change_text Csv lines = []
+
+-- the rules that never decide, which CSV doesn't tell
+abbrev pub rules_text : Format → Policy → List ℕ
+rules_text Text p = covered_text p
+rules_text Csv p = []
+
+-- the review of one policy
+abbrev pub review_text : Choice → Policy → List ℕ
+review_text choice p = who_text choice choice.format p (clerks_of choice p p) (maildrops_of choice p p) (classes_of p p) ++ rules_text choice.format p
+
+-- the lines of what the new policy changes
+abbrev pub changes_of : Choice → (old new : Policy) → List ℕ
+changes_of choice old new = differences_text old new (questions (clerks_of choice old new) (maildrops_of choice old new) (columns (classes_of old new)))
+
+-- the review of a policy against the old one
+abbrev pub against_text : Choice → (old new : Policy) → List ℕ
+against_text choice old new =
+    who_text choice choice.format new (clerks_of choice old new) (maildrops_of choice old new) (classes_of old new)
+    ++ change_text choice.format (changes_of choice old new) ++ rules_text choice.format new

@@ -1,0 +1,74 @@
+-- The differences of one clerk and one maildrop, of one clerk, and of all: what the text is put together from.
+use Rattle.std.specs.Prelude.{ℕ, Bool, List, ◌++◌, codes, find}
+use Rattle.std.specs.List.{filter, flat_map}
+use Rattle.policy.specs.declared.decide.Decision.{Decision}
+use Rattle.policy.specs.declared.rule.Rule.{Rule}
+use Rattle.policy.specs.Policy.{Group, Policy, decision_of}
+use Rattle.review.specs.declared.label.Label.{Label}
+use Rattle.review.specs.declared.question.Column.{Column}
+use Rattle.review.specs.declared.question.Column.TheVariants as column
+use Rattle.review.specs.Questions.{fits_label, has_clerk, is_about}
+use Rattle.review.specs.declared.question.Question.{Question}
+use Rattle.review.specs.declared.rows.Format.{Format}
+use Rattle.review.specs.Differences.{becomes, change_line, text_if}
+use Rattle.review.specs.Table.{Row, answer_line, class_cell, mark}
+
+-- the first of the rules that is about the column decides
+abbrev pub decide_among : List Rule → Column → Decision
+decide_among rules asked = decision_of (find (is_about asked) rules)
+
+-- the rules that are about the clerk
+abbrev pub of_clerk : List Group → List Rule → (clerk : Label) → List Rule
+of_clerk groups rules clerk = filter (λ r. has_clerk groups r.clerk clerk) rules
+
+-- the rules that are about the maildrop
+abbrev pub of_maildrop : List Rule → (maildrop : Label) → List Rule
+of_maildrop rules maildrop = filter (λ r. fits_label r.maildrop maildrop) rules
+
+-- the line of a question, where its answer becomes so
+abbrev pub told : (allowed : Bool) → Question → (was is : Decision) → List ℕ
+told allowed q was is = text_if (becomes allowed was is) (change_line q was is)
+
+-- the lines of the columns, by the rules that are about the clerk and the maildrop
+abbrev pub told_column : (allowed : Bool) → (clerk maildrop : Label) → (olds news : List Rule) → Column → List ℕ
+told_column allowed clerk maildrop olds news asked =
+    told allowed (record { clerk = clerk; maildrop = maildrop; asked = asked }) (decide_among olds asked) (decide_among news asked)
+
+-- the lines of a maildrop, by the rules that are about the clerk
+unfoldable pub told_maildrop : (allowed : Bool) → (clerk : Label) → List Column → (olds news : List Rule) → (maildrop : Label) → List ℕ
+told_maildrop allowed clerk asked olds news maildrop =
+    flat_map (told_column allowed clerk maildrop (of_maildrop olds maildrop) (of_maildrop news maildrop)) asked
+
+-- the lines of a clerk
+unfoldable pub told_clerk : (allowed : Bool) → (old new : Policy) → (maildrops : List Label) → List Column → (clerk : Label) → List ℕ
+told_clerk allowed old new maildrops asked clerk =
+    flat_map (told_maildrop allowed clerk asked (of_clerk old.groups old.rules clerk) (of_clerk new.groups new.rules clerk)) maildrops
+
+-- ---- a line for each question
+
+-- the lines of a clerk and a maildrop, by the rules that are about both
+abbrev pub answers_column : Format → (clerk maildrop : Label) → List Rule → Column → List ℕ
+answers_column format clerk maildrop rules asked = answer_line format (record { clerk = clerk; maildrop = maildrop; asked = asked }) (decide_among rules asked)
+
+-- those of a maildrop, by the rules that are about the clerk
+unfoldable pub answers_maildrop : Format → (clerk : Label) → List Column → List Rule → (maildrop : Label) → List ℕ
+answers_maildrop format clerk asked rules maildrop = flat_map (answers_column format clerk maildrop (of_maildrop rules maildrop)) asked
+
+-- those of a clerk
+unfoldable pub answers_clerk : Format → Policy → (maildrops : List Label) → List Column → (clerk : Label) → List ℕ
+answers_clerk format p maildrops asked clerk = flat_map (answers_maildrop format clerk asked (of_clerk p.groups p.rules clerk)) maildrops
+
+-- ---- tables
+
+-- the marks of the classes, by the rules that are about the clerk and the maildrop
+abbrev pub cells : List Rule → (classes : List Label) → List ℕ
+cells rules classes =
+    flat_map (λ class. class_cell class ((decide_among rules (column.Read class)).allowed) ((decide_among rules (column.Remove class)).allowed)) classes
+
+-- all marks
+abbrev pub marks_among : List Rule → (classes : List Label) → List ℕ
+marks_among rules classes = mark ((decide_among rules column.Open).allowed) ++ codes "     " ++ cells rules classes
+
+-- a clerk's row, by the rules that are about the maildrop
+abbrev pub row_among : List Group → List Rule → (classes : List Label) → (clerk : Label) → Row
+row_among groups rules classes clerk = record { clerk = clerk; marks = marks_among (of_clerk groups rules clerk) classes }

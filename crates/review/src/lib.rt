@@ -1,0 +1,25 @@
+//! What a policy means as a whole, before it is in force: which of its rules never decide, and
+//! which decisions another policy would change.
+#![tactic(auto)]
+
+mod changes;
+mod choice;
+mod covers;
+mod label;
+mod laws;
+mod names;
+mod question;
+mod report;
+mod rows;
+mod table;
+
+pub use changes::{Names, differences};
+pub use choice::Choice;
+pub use covers::{covered, covering};
+pub use label::Label;
+pub use laws::{asks_the_policy, names_are_told, others_are_alike};
+pub use names::names_of;
+pub use question::{Column, columns};
+pub use report::{names_for, review_against, review_policy};
+pub use rows::{Format, answers};
+pub use table::tables;
