@@ -163,6 +163,10 @@ impl<W: Wire + Peers> Wire for LoggedWire<'_, W> {
         Some(link)
     }
 
+    fn look(&mut self, port: Port, link: Link, buffer: &mut [u8]) -> Io {
+        self.wire.look(port, link, buffer)
+    }
+
     fn read(&mut self, port: Port, link: Link, buffer: &mut [u8]) -> Io {
         let came = self.wire.read(port, link, buffer);
         if let Io::Count(count) = came

@@ -71,4 +71,5 @@ pub mod Stopping
 pub mod StoppingLines
 mod Unasked
 mod Memory
+mod MeetingLocks
 mod Sending

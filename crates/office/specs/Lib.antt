@@ -38,6 +38,7 @@ pub mod Runs
 pub mod Sitting
 pub mod Locks
 pub mod Idle
+pub mod Waiting
 pub mod Entering
 pub mod VaultAnswers
 pub mod InSession

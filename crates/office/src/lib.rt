@@ -32,6 +32,7 @@ mod stop_laws;
 mod talk;
 mod time;
 mod transcript;
+mod waiting;
 
 pub use answer::{Answer, MessageRow, Messages, SessionRow, Sessions, Totals};
 pub use bodies::answer_body;

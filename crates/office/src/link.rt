@@ -1,5 +1,5 @@
 //! One connection: the input that isn't cut yet, and the octets that it is owed.
-ghost use Rattle.std.specs.Prelude.{◌≡◌, ◌++◌, ◌+◌, ◌≤◌, ◌<◌, ◌==◌, ◌||◌, nat_lt, ℕ, List, [], Option, None, true, false, OnOk, OnErr, IfOk, drop, length, string_bytes};
+ghost use Rattle.std.specs.Prelude.{◌≡◌, ◌++◌, ◌+◌, ◌≤◌, ◌<◌, ◌==◌, ◌||◌, nat_lt, ℕ, List, [], Option, None, true, false, is_some, OnOk, OnErr, IfOk, drop, length, string_bytes};
 ghost use Rattle.std.specs.BTreeMap.{get};
 ghost use Rattle.popline.specs.Replies.{Greeting, bytes_of, timestamp};
 ghost use Rattle.popline.specs.Cutting.{has_newline, coming, shown, nothing_held};
@@ -15,12 +15,14 @@ ghost use Rattle.office.specs.InSession.{name_of};
 ghost use Rattle.office.specs.Input.{most_input};
 ghost use Rattle.office.specs.Connections.{reading};
 ghost use Rattle.office.specs.Expected.{most_in_a_piece};
-ghost use Rattle.office.specs.Answered.{judged_at, reply_of, name_cmp, IsSeated, BecomesIf, LocksFollow, held_if};
+ghost use Rattle.office.specs.Answered.{judged_at, reply_of, name_cmp, is_locked_by, IsSeated, BecomesIf, LocksFollow, held_if};
+ghost use Rattle.office.specs.Waiting.{meets_held, line_with};
 
 use crate::lines;
 use crate::locks::Locks;
 use crate::output::{Output, Source};
 use crate::talk::{Acted, Desk, Talk};
+use crate::waiting::asks_locked;
 use creds::{LoginName, Name};
 use policy::Policy;
 use popline::{Cutter, Reply};
@@ -201,6 +203,22 @@ impl Link {
                 maildrop: session.maildrop(),
             }),
         }
+    }
+
+    /// Whether the line that is whole with this piece is a login to a maildrop that is locked. The
+    /// piece isn't taken.
+    pub fn meets_lock(&self, locks: &Locks, piece: &[u8]) -> bool
+        ensures { result ≡ meets_held (is_locked_by locks.now) (is_some self.now.session) self.now.talk.user (line_with self.now piece.now) }
+    {
+        if self.session.is_some() {
+            return false;
+        }
+        let mut cutter = self.cutter.copied();
+        let _ = cutter.feed(piece);
+        let Some(cut) = cutter.line() else {
+            return false;
+        };
+        asks_locked(locks, cut, self.talk.user)
     }
 
     /// Takes the next piece at this moment, and answers the first line that is whole now.

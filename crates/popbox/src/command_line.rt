@@ -92,7 +92,7 @@ fn log<'a>(alloc: Global) -> Arg<'a> {
 }
 
 /// `serve --store PATH --spool DIR [--listen IPV4] [--pop-port N] [--admin-port N] [--host NAME]
-/// [--idle N] [--turns N] [--log] [--verbose]`.
+/// [--idle N] [--wait N] [--turns N] [--log] [--verbose]`.
 fn serve<'a>(alloc: Global) -> Result<Command<'a>, AllocError> {
     let listen = option(
         alloc,
@@ -113,6 +113,12 @@ fn serve<'a>(alloc: Global) -> Result<Command<'a>, AllocError> {
         "N",
         "After so many seconds an idle client is ended",
     );
+    let wait = option(
+        alloc,
+        "wait",
+        "N",
+        "For so many seconds a login waits for a maildrop that is in use",
+    );
     let turns = option(alloc, "turns", "N", "Ends after so many turns");
     let spool = option(
         alloc,
@@ -129,6 +135,8 @@ fn serve<'a>(alloc: Global) -> Result<Command<'a>, AllocError> {
         host(alloc),
         idle.default_value("600")
             .value_parser(value_parser!(u32).range(600..=86400)),
+        wait.default_value("0")
+            .value_parser(value_parser!(u32).range(0..=60)),
         turns.value_parser(value_parser!(u64)),
         log(alloc),
     ]?;

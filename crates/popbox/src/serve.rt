@@ -99,6 +99,8 @@ fn serve_turns<V: Vault, W: Wire + Drop>(
     let folder = FolderSpool::new(rt, rt.alloc(), options.get_str("spool").unwrap_or(""));
     let mut spool = LoggedSpool::new(folder, journal);
     let mut links = begin(rt.alloc(), office, &wire, &spool);
+    let wait = options.get_one::<u32>("wait").unwrap_or(0);
+    links.set_wait(u64::from(wait));
     let Ok(start) = Instant::now(rt) else {
         return Err(Fault::NoClock);
     };

@@ -48,6 +48,17 @@ impl Cutter {
         }
     }
 
+    /// A cutter that holds the same, to look ahead with.
+    pub fn copied(&self) -> Self
+        ensures { result ≡ self.now }
+    {
+        Cutter {
+            buffer: self.buffer,
+            len: self.len,
+            whole: self.whole,
+        }
+    }
+
     /// Gives up a complete line that stood, then takes octets up to and with the next LF, or all.
     /// Returns how many it took.
     pub fn feed(&mut self, piece: &[u8]) -> usize

@@ -5,6 +5,7 @@
 //! [`ScriptSpool`] are in memory, for tests.
 #![tactic(auto)]
 
+mod ahead;
 mod file_name;
 mod files;
 mod folder_spool;

@@ -1,5 +1,5 @@
 //! The open links, each with its connection.
-ghost use Rattle.std.specs.Prelude.{◌≡◌, []};
+ghost use Rattle.std.specs.Prelude.{◌≡◌, [], min};
 
 use crate::file_name::FileName;
 use crate::requests::Requests;
@@ -17,6 +17,9 @@ pub struct Seat {
 
 /// How many links may be open at once, and how many are accepted in one turn at most.
 pub const MOST_LINKS: usize = 64;
+
+/// For how many seconds a login may wait at most. It is far below the idle time of any office.
+const MOST_WAIT: u64 = 60;
 
 /// How many links may be held: those that are open, and as many whose connections a tick ended and
 /// which are closed later in the same turn.
@@ -39,6 +42,16 @@ impl Links {
             clients: Clients::new(),
             requests: Requests::new(alloc),
         }
+    }
+
+    /// Lets a login wait for its maildrop's lock, until so many seconds after the last line or
+    /// taking of its connection, at most 60. Links begin with 0: none waits.
+    pub fn set_wait(&mut self, seconds: u64)
+        ensures wait { self.new.clients.wait ≡ min seconds 60 }
+        ensures seats { self.new.clients.seats ≡ self.old.clients.seats }
+        ensures requests { self.new.requests ≡ self.old.requests }
+    {
+        self.clients.wait = seconds.min(MOST_WAIT);
     }
 
     /// How many links of clients are open.
@@ -66,6 +79,8 @@ pub(crate) struct Clients {
     pub(crate) last: Option<FileName>,
     /// More can be done at once: the next turn doesn't wait.
     pub(crate) presses: bool,
+    /// For how many seconds a login waits for its maildrop's lock.
+    pub(crate) wait: u64,
 }
 
 impl Clients {
@@ -77,6 +92,7 @@ impl Clients {
             seats: ArrayVec::new(),
             last: None,
             presses: false,
+            wait: 0,
         }
     }
 }

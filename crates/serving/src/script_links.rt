@@ -128,6 +128,16 @@ impl ScriptLinks {
         read_at(&mut self.accepted[place], stop, piece, ends, buffer)
     }
 
+    /// Shows what a read of a link would give, without its end and without faults.
+    pub(crate) fn look(&self, link: Link, piece: usize, buffer: &mut [u8]) -> Io
+        ensures { IsWithin (length buffer.old) result }
+    {
+        match place_of(self.accepted.as_slice(), link) {
+            Some(place) => look_at(&self.accepted[place], piece, buffer),
+            None => Io::Later,
+        }
+    }
+
     /// Writes at most `piece` octets on a link, unless a fault comes in place of that.
     pub(crate) fn write(
         &mut self,
@@ -186,6 +196,19 @@ fn read_from(link: &mut ScriptLink, piece: usize, ends: bool, buffer: &mut [u8])
     }
     buffer[..count].copy_from_slice(&rest[..count]);
     link.at += count;
+    Io::Count(count)
+}
+
+/// Shows what comes next on a link, in the front of a buffer.
+fn look_at(link: &ScriptLink, piece: usize, buffer: &mut [u8]) -> Io
+    ensures { IsWithin (length buffer.old) result }
+{
+    let rest = rest_of(link.comes.as_slice(), link.at);
+    let count = rest.len().min(piece).min(buffer.len());
+    if count == 0 {
+        return Io::Later;
+    }
+    buffer[..count].copy_from_slice(&rest[..count]);
     Io::Count(count)
 }
 

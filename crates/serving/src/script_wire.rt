@@ -154,6 +154,13 @@ impl Wire for ScriptWire {
         }
     }
 
+    fn look(&mut self, port: Port, link: Link, buffer: &mut [u8]) -> Io {
+        match port {
+            Port::Pop => self.clients.look(link, self.piece, buffer),
+            Port::Admin => self.requests.look(link, self.piece, buffer),
+        }
+    }
+
     fn read(&mut self, port: Port, link: Link, buffer: &mut [u8]) -> Io {
         let stop = self.next_stop();
         match port {

@@ -1,7 +1,8 @@
 //! A wire over sockets.
-ghost use Rattle.std.specs.Prelude.{◌≡◌, ◌≤◌, ◌⊎◌, length};
-ghost use Rattle.serving.specs.Wires.{IsWithin};
+ghost use Rattle.std.specs.Prelude.{◌≡◌, ◌≤◌, ◌⊎◌, ◌++◌, ℕ, List, [], length, take};
+ghost use Rattle.serving.specs.Wires.{IsWithin, counted as shown_of};
 
+use crate::ahead::Ahead;
 use crate::wire::{Io, Link, Port, Wire};
 use mio::net::{TcpListener, TcpStream};
 use mio::{Events, Interest, Poll, Token};
@@ -76,6 +77,8 @@ struct Place {
     /// The number of the link that has it, or had it last.
     number: u64,
     stream: Option<TcpStream>,
+    /// What came and was looked at, but not read yet.
+    ahead: Ahead,
     /// Something may be there that was not read to `Later`.
     unread: bool,
     /// The last write was `Later`, and the system didn't say since that more may be written.
@@ -86,6 +89,7 @@ struct Place {
 /// place until it was used up.
 #[derive(Drop)]
 pub struct SocketWire {
+    alloc: Global,
     poll: Poll,
     events: Events,
     door: Door,
@@ -99,7 +103,8 @@ pub struct SocketWire {
 /// What a count of octets tells.
 fn counted(count: usize, room: usize) -> Io
     requires { count ≤ room }
-    ensures { IsWithin room result }
+    ensures within { IsWithin room result }
+    ensures told { (octets : List ℕ) → shown_of result octets ≡ take count octets }
 {
     if count == 0 {
         Io::End
@@ -125,6 +130,7 @@ fn free_places(alloc: Global) -> io::Result<Vec<Place>> {
         places.push(Place {
             number,
             stream: None,
+            ahead: Ahead::new(alloc),
             unread: false,
             is_blocked: false,
         })?;
@@ -140,6 +146,7 @@ impl SocketWire {
         let events = Events::with_capacity(alloc, 256)?;
         let (door, port) = Door::open(rt, &poll, LISTENER, at)?;
         let wire = SocketWire {
+            alloc,
             poll,
             events,
             door,
@@ -168,9 +175,7 @@ impl SocketWire {
         {
             return true;
         }
-        self.places
-            .iter()
-            .any(|place| place.unread && !place.is_blocked)
+        self.places.iter().any(Place::is_pressing)
     }
 
     /// Keeps what the system told.
@@ -207,6 +212,7 @@ impl SocketWire {
         *place = Place {
             number,
             stream: Some(stream),
+            ahead: Ahead::new(self.alloc),
             unread: true,
             is_blocked: false,
         };
@@ -235,9 +241,60 @@ impl SocketWire {
 }
 
 impl Place {
-    /// Reads, where something may be there. It is used up where nothing came.
+    /// Whether something may be read at once. What was looked at and left waits for another link.
+    fn is_pressing(&self) -> bool {
+        self.unread && !self.is_blocked && self.ahead.is_empty()
+    }
+
+    /// Reads what was looked at, or else what comes.
     fn read(&mut self, buffer: &mut [u8]) -> Io
-        ensures { IsWithin (length buffer.old) result }
+        ensures within { IsWithin (length buffer.old) result }
+        ensures ahead { (self.old.ahead ≡ []) ⊎ (shown_of result buffer.new ++ self.new.ahead ≡ self.old.ahead) }
+    {
+        if self.ahead.is_empty() {
+            return self.read_stream(buffer);
+        }
+        let room = buffer.len();
+        counted(self.ahead.read(buffer), room)
+    }
+
+    /// Shows what the next read gives. The link is broken where there is no memory for what came.
+    fn look(&mut self, buffer: &mut [u8]) -> Io
+        ensures within { IsWithin (length buffer.old) result }
+        ensures shown { shown_of result buffer.new ≡ shown_of result self.new.ahead }
+    {
+        let room = buffer.len();
+        if !self.ahead.is_empty() {
+            return counted(self.ahead.show(buffer), room);
+        }
+        if self.ahead.make_room(room).is_err() {
+            return Io::Later;
+        }
+        let came = self.read_stream(buffer);
+        self.keep(came, buffer)
+    }
+
+    /// Keeps what came to be looked at, where nothing was kept.
+    fn keep(&mut self, came: Io, buffer: &[u8]) -> Io
+        requires { IsWithin (length buffer.now) came × (self.old.ahead ≡ []) }
+        ensures within { IsWithin (length buffer.now) result }
+        ensures shown { shown_of result buffer.now ≡ shown_of result self.new.ahead }
+    {
+        let Io::Count(count) = came else {
+            return came;
+        };
+        if self.ahead.keep(&buffer[..count]).is_err() {
+            self.stream = None;
+            return Io::Broken;
+        }
+        came
+    }
+
+    /// Reads, where something may be there. It is used up where nothing came.
+    fn read_stream(&mut self, buffer: &mut [u8]) -> Io
+        ensures within { IsWithin (length buffer.old) result }
+        ensures ahead { self.new.ahead ≡ self.old.ahead }
+        ensures room { length buffer.new ≡ length buffer.old }
     {
         let Some(stream) = &mut self.stream else {
             return Io::Broken;
@@ -300,6 +357,13 @@ impl Wire for SocketWire {
         self.seat(stream)
     }
 
+    fn look(&mut self, _port: Port, link: Link, buffer: &mut [u8]) -> Io {
+        match self.place(link) {
+            Some(place) => place.look(buffer),
+            None => Io::Later,
+        }
+    }
+
     fn read(&mut self, _port: Port, link: Link, buffer: &mut [u8]) -> Io {
         match self.place(link) {
             Some(place) => place.read(buffer),
@@ -317,6 +381,7 @@ impl Wire for SocketWire {
     fn close(&mut self, _port: Port, link: Link) {
         if let Some(place) = self.place(link) {
             place.stream = None;
+            place.ahead.clear();
             place.unread = false;
             place.is_blocked = false;
         }

@@ -12,3 +12,4 @@ mod shares;
 mod strangers_cut_off;
 mod stream;
 mod two_clerks;
+mod waits;

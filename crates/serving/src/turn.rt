@@ -1,10 +1,11 @@
 //! One turn of serving.
-ghost use Rattle.std.specs.Prelude.{◌≡◌, ◌<◌, ◌+◌, ◌≤◌, ℕ, false, List, [], Option, Some, length, take, if◌then◌else◌};
+ghost use Rattle.std.specs.Prelude.{◌≡◌, ◌<◌, ◌+◌, ◌≤◌, ℕ, true, false, List, [], Option, Some, length, take, if◌then◌else◌};
 ghost use Rattle.office.specs.Events.{Trace};
 ghost use Rattle.office.specs.Trace.{is_open};
 ghost use Rattle.office.specs.Taken.{AreAdmitted};
 ghost use Rattle.office.specs.Stands.{StandsFor, vault_of};
 ghost use Rattle.office.specs.Shown.{outcome_seen};
+ghost use Rattle.office.specs.Waiting.{waits};
 ghost use Rattle.serving.specs.Wires.{ToldOfPorts, AreFresh, opened_by};
 ghost use Rattle.serving.specs.Served.{StillServes, StillServesOne, Serves};
 ghost use Rattle.serving.specs.declared.links.Seat as declared;
@@ -82,14 +83,35 @@ fn write_owed<V: Vault, W: Wire>(
     true
 }
 
+/// Whether what comes next on a link is a login that waits for its maildrop's lock: it stays
+/// unread. With no seconds to wait nothing is looked at.
+fn is_held_back<V: Vault, W: Wire>(office: &Office<V>, wire: &mut W, seat: Seat, wait: u64) -> bool
+    ensures told { (t : ToldOfPorts) → W.tells wire.old t → W.tells wire.new t }
+    ensures so { result ≡ true → (piece : List ℕ) × ((T : Trace) → StandsFor V.holds office.now T → waits T seat.connection piece wait ≡ true) }
+    ensures none { wait ≡ 0 → result ≡ false }
+    ensures alone { wait ≡ 0 → wire.new ≡ wire.old }
+{
+    if wait == 0 {
+        return false;
+    }
+    let mut room = [0; MOST_AT_ONCE];
+    match wire.look(Port::Pop, seat.link, &mut room) {
+        Io::Count(count) => office.waits(seat.connection, &room[..count], wait),
+        _ => false,
+    }
+}
+
 /// Reads a piece from a link whose connection waits for octets, and ends the connection where the
-/// link is broken or at its end. Whether octets came.
-fn read_once<V: Vault, W: Wire>(office: &mut Office<V>, wire: &mut W, seat: Seat) -> bool
+/// link is broken or at its end. Whether octets came. A login that waits for a lock isn't read.
+fn read_once<V: Vault, W: Wire>(office: &mut Office<V>, wire: &mut W, seat: Seat, wait: u64) -> bool
     ensures serves { StillServesOne V.holds V.is_clean W.tells seat office.old wire.old office.new wire.new }
     ensures clean { V.is_clean (vault_of office.new) → V.is_clean (vault_of office.old) }
 {
     let connection = seat.connection;
     if !office.ready(connection) {
+        return false;
+    }
+    if is_held_back(office, wire, seat, wait) {
         return false;
     }
     let mut room = [0; MOST_AT_ONCE];
@@ -113,6 +135,7 @@ fn serve_link<V: Vault, W: Wire>(
     wire: &mut W,
     seat: Seat,
     share: usize,
+    wait: u64,
 ) -> bool
     ensures serves { StillServesOne V.holds V.is_clean W.tells seat office.old wire.old office.new wire.new }
     ensures clean { V.is_clean (vault_of office.new) → V.is_clean (vault_of office.old) }
@@ -120,7 +143,7 @@ fn serve_link<V: Vault, W: Wire>(
     if write_owed(office, wire, seat, share) {
         return true;
     }
-    if !read_once(office, wire, seat) {
+    if !read_once(office, wire, seat, wait) {
         return false;
     }
     write_owed(office, wire, seat, share)
@@ -152,7 +175,7 @@ fn serve_seat<V: Vault, W: Wire>(
 {
     let seat = links.seats[place];
     let share = share_of(links);
-    links.presses |= serve_link(office, wire, seat, share);
+    links.presses |= serve_link(office, wire, seat, share, links.wait);
 }
 
 /// Serves each link, by ascending number of the connections.
@@ -185,6 +208,8 @@ fn close_seat<V: Vault, W: Wire>(
     }
     wire.close(Port::Pop, seat.link);
     links.seats.remove(place);
+    // A login may have waited for what this connection held.
+    links.presses |= links.wait > 0;
     false
 }
 

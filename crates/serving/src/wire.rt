@@ -50,6 +50,12 @@ pub trait Wire {
     fn accept(&mut self, port: Port) -> Option<Link>
         ensures { (t : ToldOfPorts) → tells self.old t → IsAccepted (tells self.new) port t result };
 
+    /// Shows in the front of the buffer what comes next on a link, and reads nothing: the next read
+    /// gives these octets first. `Later` also where there is no memory to look.
+    fn look(&mut self, port: Port, link: Link, buffer: &mut [u8]) -> Io
+        ensures within { IsWithin (length buffer.old) result }
+        ensures told { (t : ToldOfPorts) → tells self.old t → tells self.new t };
+
     /// Reads from a link into the front of the buffer.
     fn read(&mut self, port: Port, link: Link, buffer: &mut [u8]) -> Io
         ensures within { IsWithin (length buffer.old) result }

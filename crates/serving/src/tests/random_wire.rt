@@ -156,6 +156,10 @@ impl Wire for RandomWire {
         }
     }
 
+    fn look(&mut self, _port: Port, _link: Link, _buffer: &mut [u8]) -> Io {
+        Io::Later
+    }
+
     fn read(&mut self, port: Port, link: Link, buffer: &mut [u8]) -> Io {
         let room = buffer.len();
         let io = self.read_some(port, link.number, buffer);

@@ -272,6 +272,18 @@ fn play<S: Spool>(
     play_on(&mut stage, spool, scene)
 }
 
+/// Plays acts without a fault, where a login waits so many seconds for its maildrop's lock.
+pub fn play_waiting<S: Spool>(
+    alloc: Global,
+    spool: &mut S,
+    acts: &[Act],
+    wait: u64,
+) -> Result<(), Fail> {
+    let mut stage = staged(alloc, spool, 4096, u64::MAX, Stop::End)?;
+    stage.links.set_wait(wait);
+    play_acts(&mut stage, spool, acts)
+}
+
 /// Plays a scene as it stands, and with a fault in place of each of its calls in turn, by which one
 /// guest alone is lost each time. How many calls it has.
 pub fn cut_by<S: Spool>(

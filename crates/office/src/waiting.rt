@@ -1,0 +1,67 @@
+//! Logins that wait for a lock: which piece of a connection's octets would meet one.
+ghost use Rattle.std.specs.Prelude.{◌≡◌};
+ghost use Rattle.popline.specs.Seen.{cut_seen};
+ghost use Rattle.office.specs.Connections.{reading};
+ghost use Rattle.office.specs.Events.{Trace};
+ghost use Rattle.office.specs.Answered.{is_locked_by};
+ghost use Rattle.office.specs.Stands.{StandsFor};
+ghost use Rattle.office.specs.Waiting.{login_asked as login_asked_by, is_held_for, kept_waits, waits as waits_at};
+
+use crate::Office;
+use crate::inside::read;
+use crate::link::Link;
+use crate::locks::Locks;
+use creds::LoginName;
+use popline::{Command, Cut};
+use vault::Vault;
+
+/// Whom a line would log in: a PASS the name in force, an APOP its own.
+fn login_asked(cut: Cut<'_>, user: Option<LoginName>) -> Option<LoginName>
+    ensures { result ≡ login_asked_by (reading (cut_seen cut.entry)) user }
+{
+    match read(cut) {
+        Ok(Command::Pass(_)) => user,
+        Ok(Command::Apop(name, _)) => Some(name),
+        _ => None,
+    }
+}
+
+/// Whether a line is a login to a maildrop that is locked.
+pub(crate) fn asks_locked(locks: &Locks, cut: Cut<'_>, user: Option<LoginName>) -> bool
+    ensures { result ≡ is_held_for (is_locked_by locks.now) (login_asked_by (reading (cut_seen cut.entry)) user) }
+{
+    match login_asked(cut, user) {
+        None => false,
+        Some(name) => locks.contains_key(&name.maildrop),
+    }
+}
+
+/// Whether a connection that owes nothing waits with this piece: its last line or taking was less
+/// than so many seconds ago, and its next line would meet a lock.
+fn link_waits(link: &Link, locks: &Locks, piece: &[u8], moment: u64, seconds: u64) -> bool
+    ensures { result ≡ kept_waits (is_locked_by locks.now) moment seconds link.now piece.now }
+{
+    !link.is_idle(moment, seconds) && link.meets_lock(locks, piece)
+}
+
+impl<V: Vault> Office<V> {
+    /// Whether a piece that isn't given yet may wait, because a login in it would be told that the
+    /// maildrop is in use: octets may come on the connection, its last line or taking was less than
+    /// so many seconds ago, and the next line, with this piece behind what came before, is a PASS
+    /// or an APOP (RFC 1939, section 7) for a maildrop that another session holds.
+    ///
+    /// It reads the line as the office would: for a PASS the name in force counts, for an APOP its
+    /// own. It asks no store, takes no memory and changes nothing; whether the credential is right
+    /// isn't looked at. Lines behind the next one aren't looked at either.
+    pub fn waits(&self, c: u64, piece: &[u8], seconds: u64) -> bool
+        ensures { (T : Trace) → StandsFor V.holds self.now T → result ≡ waits_at T c piece.now seconds }
+    {
+        let Some(link) = self.links.get(&c) else {
+            return false;
+        };
+        if !link.owes_nothing() {
+            return false;
+        }
+        link_waits(link, &self.locks, piece, self.moment, seconds)
+    }
+}

@@ -1,0 +1,81 @@
+//! Logins that wait for a lock: bob comes to a maildrop while ann has it.
+
+use super::scenes::{Act, play_waiting};
+use crate::script_spool::ScriptSpool;
+use std::alloc::Global;
+use std::test::Fail;
+
+/// How ann logs in, and what she is told.
+const ANN: &str = "USER ann/orders\r\nPASS s3 cret\r\n";
+
+const ANN_TOLD: &str = "+OK POP3 server ready <1.7@h.test>\r\n+OK send PASS\r\n\
+    +OK maildrop has 1 messages (21 octets)\r\n";
+
+/// What bob is told before his PASS.
+const BOB_TOLD: &str = "+OK POP3 server ready <2.7@h.test>\r\n+OK send PASS\r\n";
+
+/// How he is let in, and how not.
+const LET_IN: &str = "+OK maildrop has 1 messages (21 octets)\r\n";
+
+const IN_USE: &str = "-ERR [IN-USE] maildrop is in use\r\n";
+
+/// Ann logs in at moment 0; bob is told to send his password at moment 3, and sends it, in two
+/// pieces.
+static BOTH: [Act; 11] = [
+    Act::Comes(0),
+    Act::Sends(0, ANN, 1),
+    Act::Turns(4, 0),
+    Act::Told(0, ANN_TOLD, 1),
+    Act::Comes(1),
+    Act::Sends(1, "USER bob/orders\r\n", 1),
+    Act::Turns(4, 3),
+    Act::Told(1, BOB_TOLD, 1),
+    Act::Sends(1, "PASS hun", 1),
+    Act::Turns(1, 3),
+    Act::Sends(1, "ter\r\n", 1),
+];
+
+/// Ann ends her session at moment 12, the tenth second of bob's wait.
+static ENDS_IN_TIME: [Act; 6] = [
+    Act::Turns(2, 12),
+    Act::Told(1, "", 0),
+    Act::Sends(0, "QUIT\r\n", 1),
+    Act::Turns(2, 12),
+    Act::Told(1, LET_IN, 1),
+    Act::Open(1),
+];
+
+/// She doesn't: ten seconds behind what he took last bob is told so.
+static ENDS_TOO_LATE: [Act; 5] = [
+    Act::Turns(2, 12),
+    Act::Told(1, "", 0),
+    Act::Turns(2, 13),
+    Act::Told(1, IN_USE, 1),
+    Act::Open(1),
+];
+
+/// Bob is told so at once.
+static AT_ONCE: [Act; 3] = [Act::Turns(2, 3), Act::Told(1, IN_USE, 1), Act::Open(1)];
+
+/// Plays what comes before, and then these acts.
+fn plays(alloc: Global, then: &[Act], wait: u64) -> Result<(), Fail> {
+    let mut acts = Vec::new(alloc);
+    acts.extend_from_slice(&BOTH)?;
+    acts.extend_from_slice(then)?;
+    play_waiting(alloc, &mut ScriptSpool::new(alloc), acts.as_slice(), wait)
+}
+
+#[test]
+fn let_in_as_the_lock_is_free(rt: HostRuntime) -> Result<(), Fail> {
+    plays(rt.alloc(), &ENDS_IN_TIME, 10)
+}
+
+#[test]
+fn told_in_use_in_the_end(rt: HostRuntime) -> Result<(), Fail> {
+    plays(rt.alloc(), &ENDS_TOO_LATE, 10)
+}
+
+#[test]
+fn without_a_wait_told_at_once(rt: HostRuntime) -> Result<(), Fail> {
+    plays(rt.alloc(), &AT_ONCE, 0)
+}
