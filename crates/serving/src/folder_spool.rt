@@ -1,15 +1,24 @@
 //! A spool over a folder.
+ghost use Rattle.std.specs.Prelude.{IsTrue};
+ghost use Rattle.std.specs.Fs.{IsFile, file_type};
+
 use crate::file_name::FileName;
 use crate::next_name::NextName;
 use crate::spool::{MOST_OCTETS, Spool};
 use std::alloc::{AllocError, Global};
 use std::fs;
+use std::fs::{Metadata, OpenFile};
 use std::io::Read;
+use std::os::unix::fs::MetadataExt;
 use std::rt::Files;
 use std::time::{Clock, Duration, SystemTime};
 
 /// The messages of a folder. Who puts a file there writes it under another name, and then renames
 /// it.
+///
+/// A file is read only where it is a regular one, and its name in the folder is its only name. So
+/// no link is followed, and nothing that lies elsewhere is read, also where it takes a file's place
+/// meanwhile: what was opened is compared with what stands at the name then.
 #[derive(Drop)]
 pub struct FolderSpool<'a, R: Files> {
     rt: &'a R,
@@ -23,6 +32,18 @@ pub struct FolderSpool<'a, R: Files> {
 /// A system tells the moment of a folder's last change to two seconds or better. So a change shows
 /// where the one before it was longer ago.
 const COARSEST: u64 = 2;
+
+/// Whether what was opened is a regular file that stands at a name, and has no other name.
+fn is_own(opened: &Metadata, named: &Metadata) -> bool
+    ensures regular { IsTrue result → IsFile (file_type opened.now) × IsFile (file_type named.now) }
+{
+    // The number of names is that of the look at the name, which came last.
+    opened.is_file()
+        && named.is_file()
+        && opened.dev() == named.dev()
+        && opened.ino() == named.ino()
+        && named.nlink() == 1
+}
 
 impl<'a, R: Files + Clock + AllocGlobal + Clone + Drop> FolderSpool<'a, R> {
     /// The folder at a path. It need not be there yet.
@@ -69,12 +90,25 @@ impl<'a, R: Files + Clock + AllocGlobal + Clone + Drop> FolderSpool<'a, R> {
         true
     }
 
-    /// Reads a file that is there.
-    fn read_file(&self, path: &str) -> Option<Vec<u8>> {
-        if !fs::metadata(self.rt, path).ok()?.is_file() {
+    /// Opens a file that is there.
+    fn open_own(&self, path: &str) -> Option<R::File> {
+        // A pipe would be waited for, once it is opened.
+        if !fs::symlink_metadata(self.rt, path).ok()?.is_file() {
             return None;
         }
         let file = fs::open(self.rt, path).ok()?;
+        let opened = file.metadata().ok()?;
+        let named = fs::symlink_metadata(self.rt, path).ok()?;
+        if is_own(&opened, &named) {
+            Some(file)
+        } else {
+            None
+        }
+    }
+
+    /// Reads a file that is there.
+    fn read_file(&self, path: &str) -> Option<Vec<u8>> {
+        let file = self.open_own(path)?;
         let mut text = Vec::new(self.alloc);
         file.take(MOST_OCTETS as u64).read_to_end(&mut text).ok()?;
         Some(text)

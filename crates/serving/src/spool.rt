@@ -22,7 +22,8 @@ pub trait Spool {
     fn next_name(&mut self, last: &Option<FileName>) -> Option<FileName>
         ensures { (a : List FileAct) → tells self.old a → tells self.new a };
 
-    /// The first [`MOST_OCTETS`] octets of a file; `None` where it can't be read, or isn't a file.
+    /// The first [`MOST_OCTETS`] octets of a file; `None` where it can't be read, or isn't
+    /// a file of the folder's own.
     fn read(&mut self, name: &FileName) -> Option<Vec<u8>>
         ensures { (a : List FileAct) → tells self.old a → MatchOption result (tells self.new a) (λ text. tells self.new (a ++ WasRead name.now text.items ∷ [])) };
 
