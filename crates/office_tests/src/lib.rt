@@ -1,15 +1,11 @@
-//! Tests of the office and of scripts: sessions, connections, administration, and what a growth or
-//! a call that is refused leaves.
+//! Tests of the office and of scripts, of what no transcript shows: single calls, what a growth or
+//! a call that is refused leaves, and replies taken in any pieces.
 #![tactic(auto)]
 
-#[cfg(test)]
-mod administration;
 #[cfg(test)]
 mod calls;
 #[cfg(test)]
 mod check_policy;
-#[cfg(test)]
-mod connections;
 #[cfg(test)]
 mod conversations;
 #[cfg(test)]
@@ -22,8 +18,6 @@ mod offices;
 mod pipelining;
 #[cfg(test)]
 mod scripts;
-#[cfg(test)]
-mod sessions;
 #[cfg(test)]
 mod streams;
 #[cfg(test)]

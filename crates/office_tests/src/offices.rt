@@ -5,7 +5,6 @@ use converse::replay::tell;
 use office::{Event, Limits, Office, OpenFault, RunFault, Step, Transcript};
 use std::alloc::Global;
 use std::test::Fail;
-use transcripts::pipelining::QUIT;
 use vault::PlainVault;
 
 /// An office over a store, under a host's name.

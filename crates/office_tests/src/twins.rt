@@ -7,7 +7,6 @@ use office::{Event, Office, Outcome};
 use std::alloc::Global;
 use std::test::Fail;
 use transcripts::looks::LOOK;
-use transcripts::pipelining::QUIT;
 use transcripts::worked::{Row, event_of, lines_of};
 use vault::Vault;
 

@@ -2,8 +2,6 @@
 #![tactic(auto)]
 
 mod command_line;
-#[cfg(test)]
-mod command_line_tests;
 mod serve;
 mod store_file;
 

@@ -1,10 +1,11 @@
-//! Tests of a store in a file: opened again, stopped at each call, of older versions, and unsound.
+//! Tests of a store: calls with their answers, stops at each call of its files, and a store that
+//! isn't adopted.
 #![tactic(auto)]
 
 #[cfg(test)]
 mod older_stores;
 #[cfg(test)]
-mod opened_again;
+mod refusals;
 #[cfg(test)]
 mod stopping;
 #[cfg(test)]
@@ -13,5 +14,3 @@ mod stops;
 mod stops_of_older;
 #[cfg(test)]
 mod stores;
-#[cfg(test)]
-mod unsound;

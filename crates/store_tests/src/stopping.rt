@@ -8,7 +8,7 @@ use std::alloc::{AllocError, Global};
 use std::io;
 use std::io::{ErrorKind, Write};
 use std::test::Fail;
-use transcripts::playing::{expect, plays};
+use transcripts::playing::expect;
 use vault::Vault;
 
 /// An event, as a line of a script; what is printed of it; and what a look prints after it.

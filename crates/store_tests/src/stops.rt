@@ -6,7 +6,6 @@ use crate::stopping::{
 };
 use std::alloc::Global;
 use std::test::Fail;
-use transcripts::pipelining::QUIT;
 use transcripts::playing::parts_of;
 use transcripts::sessions::SAMPLE;
 

@@ -7,7 +7,7 @@ use sqlvault::SqlVault;
 use std::alloc::{AllocError, Global};
 use std::str;
 use std::test::Fail;
-use transcripts::playing::{expect, parts_of, run_at};
+use transcripts::playing::{expect, plays_over_vectors};
 use vault::{Deposited, Head, MessageKey, PlainVault, Refusing, Total, Vault, VaultFault};
 
 /// A policy of two groups and a rule about one of them, as it is written.
@@ -343,12 +343,6 @@ fn pages_join_to_the_kept_text(rt: HostRuntime) -> Result<(), Fail> {
     tells(rt.alloc(), &mut vault, &[(Call::Add("orders"), "new")])?;
     is_deposited(rt.alloc(), &mut vault)?;
     tells(rt.alloc(), &mut vault, PAGES.as_slice())
-}
-
-/// Fails unless a transcript is what comes of its script over a store of vectors.
-fn plays_over_vectors(alloc: Global, transcript: &str) -> Result<(), Fail> {
-    let (script, want) = parts_of(alloc, transcript)?;
-    expect(run_at(alloc, "h.test", 7, script.as_str())?, want.as_str())
 }
 
 /// Behind a thousand maildrops and clerks another is refused, and the last are still known.

@@ -1,8 +1,6 @@
 //! Scripts that are run, and what is printed of them.
 
-use crate::sessions::SAMPLE;
 use converse::replay::replay;
-use sqlite::MemStore;
 use sqlvault::SqlVault;
 use std::alloc::Global;
 use std::io::{ErrorKind, Read, Write};
@@ -43,12 +41,6 @@ pub fn run_at(alloc: Global, host: &str, boot: u64, script: &str) -> Result<Stri
     Ok(ran)
 }
 
-/// Runs a script over an empty store of tables in memory, at the host name and with the boot number
-/// of the worked examples, and gives the store back.
-pub fn run_over_tables(alloc: Global, script: &str) -> Result<(String, SqlVault<MemStore>), Fail> {
-    run_on(alloc, SqlVault::in_memory(alloc)?, "h.test", 7, script)
-}
-
 /// Fails with what a run left, unless it is what is wanted.
 pub fn expect(ran: String, want: &str) -> Result<(), Fail> {
     if ran.as_str() == want {
@@ -56,14 +48,6 @@ pub fn expect(ran: String, want: &str) -> Result<(), Fail> {
     } else {
         Err(Fail::from(ran))
     }
-}
-
-/// Fails unless the script prints this, and has no fault, over a store of vectors and over one of
-/// tables.
-pub fn expect_output(alloc: Global, script: &str, out: &str) -> Result<(), Fail> {
-    expect(run_at(alloc, "h.test", 7, script)?, out)?;
-    let (ran, _) = run_over_tables(alloc, script)?;
-    expect(ran, out)
 }
 
 /// The script of a transcript and what is printed of it. Of the transcript's lines the script has
@@ -86,16 +70,19 @@ pub fn parts_of(alloc: Global, transcript: &str) -> Result<(String, String), Fai
     Ok((script, want))
 }
 
-/// Fails unless a transcript is what comes of its script over an empty store.
-pub fn plays(alloc: Global, transcript: &str) -> Result<(), Fail> {
+/// Fails unless a transcript is what comes of its script over an empty store of vectors.
+pub fn plays_over_vectors(alloc: Global, transcript: &str) -> Result<(), Fail> {
     let (script, want) = parts_of(alloc, transcript)?;
-    expect_output(alloc, script.as_str(), want.as_str())
+    expect(run_at(alloc, "h.test", 7, script.as_str())?, want.as_str())
 }
 
-/// Fails unless a transcript is what comes of its script over the sample store.
-pub fn plays_over_the_sample(alloc: Global, transcript: &str) -> Result<(), Fail> {
-    let whole = format!(in alloc; "{SAMPLE}{transcript}")?;
-    plays(alloc, whole.as_str())
+/// The same, and over one of tables.
+pub fn plays(alloc: Global, transcript: &str) -> Result<(), Fail> {
+    plays_over_vectors(alloc, transcript)?;
+    let (script, want) = parts_of(alloc, transcript)?;
+    let vault = SqlVault::in_memory(alloc)?;
+    let (ran, _) = run_on(alloc, vault, "h.test", 7, script.as_str())?;
+    expect(ran, want.as_str())
 }
 
 /// Standard output or a file that refuses every call.

@@ -5,7 +5,6 @@ use crate::turns::octets;
 use serving::{MOST_REQUESTS, Stop};
 use std::alloc::Global;
 use std::test::Fail;
-use transcripts::pipelining::QUIT;
 use vault::PlainVault;
 
 /// A request that adds a maildrop, and its response.

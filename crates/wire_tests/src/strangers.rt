@@ -3,7 +3,6 @@ use crate::turns::{new_office, octets, one_link, turns};
 use serving::{ScriptSpool, ScriptWire, Stop, begin, serve_turn};
 use std::alloc::Global;
 use std::test::Fail;
-use transcripts::pipelining::QUIT;
 
 /// What two links are sent, where a fault comes in place of one call: the other link's octets don't
 /// change.

@@ -1,0 +1,56 @@
+//! A store that isn't adopted, since a transaction is under way, and conversations that are broken
+//! off.
+
+use converse::fault_text;
+use converse::talking::talk;
+use sqlite::{Connection, MemStore};
+use sqlvault::SqlVault;
+use std::alloc::Global;
+use std::io::Write;
+use std::test::Fail;
+use transcripts::playing::Refusing;
+use vault::{PlainVault, VaultFault};
+
+/// The connection of a new store, with a transaction under way.
+fn begun(alloc: Global) -> Result<Connection<MemStore>, Fail> {
+    let mut conn = SqlVault::in_memory(alloc)?.into_connection();
+    conn.execute_batch("BEGIN")?;
+    Ok(conn)
+}
+
+/// Whether a store is refused with this fault, which has this name.
+fn is_refused(alloc: Global, conn: Connection<MemStore>, fault: VaultFault, text: &str) -> bool {
+    match SqlVault::adopt(alloc, conn) {
+        Ok(_) => false,
+        Err((other, _)) => other == fault && fault_text(&other) == text,
+    }
+}
+
+#[test]
+fn a_store_in_a_transaction_is_refused(rt: HostRuntime) -> Result<(), Fail> {
+    let conn = begun(rt.alloc())?;
+    assert!(rt; is_refused(rt.alloc(), conn, VaultFault::NotOurs, "NotOurs"));
+    Ok(())
+}
+
+/// Whether a conversation with a reader that refuses has status 1. Its fault goes to `err`.
+fn is_broken_off<W: Write>(alloc: Global, writer: &mut W, err: &mut Vec<u8>) -> bool {
+    let vault = PlainVault::new(alloc);
+    let (status, _) = talk(alloc, vault, "h", 1, &mut Refusing, writer, err);
+    status == 1
+}
+
+/// Whether the first refusal is told, of the reader, or of the writer, which is asked before it.
+fn are_broken_off(alloc: Global) -> bool {
+    let mut out = Vec::new(alloc);
+    let mut err = Vec::new(alloc);
+    is_broken_off(alloc, &mut out, &mut err)
+        && is_broken_off(alloc, &mut Refusing, &mut err)
+        && err.as_slice() == b"popbox: Read\npopbox: Write\n".as_slice()
+}
+
+#[test]
+fn conversations_are_broken_off(rt: HostRuntime) -> Result<(), Fail> {
+    assert!(rt; are_broken_off(rt.alloc()));
+    Ok(())
+}
