@@ -59,7 +59,7 @@ module _ (c : Contents) (s : Session) (kept : List Keyed) (lies : LiesIn c s kep
   pub uid_said : (r : Result Head Pick) → r ≡ picked s n → answer_by (λ (h : Head). UidLine n (head.uid_of h)) n r ≡ told_inside p s kept (UidlOne n)
   uid_said r e = said_alike c s kept lies n (λ (h : Head). Ok h) (λ (h : Head). UidLine n (head.uid_of h)) (λ (m : Stored). UidLine n (records.uid_of m)) (λ x. refl) r e
 
-  marked_by : (d : Decision) → answer_by (λ (u : Unit {0}). Marked n) n (mark_answer d) ≡ deleted_if d n
+  marked_by : (d : Decision) → answer_by (λ (u : Unit {0}). Marked n) n (mark_answer s.removals d) ≡ deleted_if s.removals d n
   marked_by d = at d.allowed
     where
       at : (b : Bool) → answer_by (λ (u : Unit {0}). Marked n) n (if b then Ok tt else Err (Denied d.rule)) ≡ (if b then Marked n else DeniedBy d.rule)
@@ -67,5 +67,5 @@ module _ (c : Contents) (s : Session) (kept : List Keyed) (lies : LiesIn c s kep
       at false = refl
 
   pub dele_said : (r : Result (Unit {0}) Pick) → r ≡ marking p s n → answer_by (λ (u : Unit {0}). Marked n) n r ≡ told_inside p s kept (Dele n)
-  dele_said r e = said_alike c s kept lies n (λ (h : Head). mark_answer (removal p s.name h.class)) (λ (u : Unit {0}). Marked n)
-      (λ (m : Stored). deleted_if (removal p s.name m.class) n) (λ x. marked_by (removal p s.name x.message.class)) r e
+  dele_said r e = said_alike c s kept lies n (λ (h : Head). mark_answer s.removals (removal p s.name h.class)) (λ (u : Unit {0}). Marked n)
+      (λ (m : Stored). deleted_if s.removals (removal p s.name m.class) n) (λ x. marked_by (removal p s.name x.message.class)) r e
