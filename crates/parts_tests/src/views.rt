@@ -2,7 +2,7 @@
 use crate::expecting::expect;
 use creds::Name;
 use policy::Policy;
-use session::{Pick, Session};
+use session::{Pick, Removals, Session};
 use std::alloc::{AllocError, Global};
 use std::test::Fail;
 use vault::{Head, MessageKey};
@@ -89,7 +89,8 @@ pub(super) fn bob_session(alloc: Global, policy: &Policy) -> Result<Session, Fai
     let clerk = Name::read(b"bob").ok_or("a clerk")?;
     let maildrop = Name::read(b"orders").ok_or("a maildrop")?;
     let heads = sample_heads(alloc)?;
-    Ok(Session::start(alloc, clerk, maildrop, &heads, policy)?)
+    let removals = Removals::JudgedAtDele;
+    Ok(Session::start(alloc, clerk, maildrop, &heads, policy, removals)?)
 }
 
 /// Whether a number is picked so.

@@ -20,6 +20,7 @@ fn are_as_wanted(matches: &ArgMatches<'_>) -> bool {
 fn has_defaults(options: &ArgMatches<'_>) -> bool {
     options.get_str("host") == Some("localhost")
         && options.get_one::<u64>("boot") == Some(1)
+        && options.get_str("removals") == Some("dele")
         && options.get_str("store").is_none()
         && options.get_str("SCRIPT").is_none()
 }
@@ -32,7 +33,7 @@ fn has_store_alone(options: &ArgMatches<'_>) -> bool {
 }
 
 /// Command lines, and the exit status of each that asks for help, or can't be read.
-static WORDS: [(&[&str], Option<i32>); 9] = [
+static WORDS: [(&[&str], Option<i32>); 10] = [
     (&["popbox", "replay"], None),
     (&["popbox", "check-policy", "office.toml"], None),
     (&["popbox", "talk", "--store", "office.db"], None),
@@ -40,6 +41,7 @@ static WORDS: [(&[&str], Option<i32>); 9] = [
     (&["popbox", "check-policy"], Some(2)),
     (&["popbox", "replay", "--help"], Some(0)),
     (&["popbox", "replay", "--turns"], Some(2)),
+    (&["popbox", "replay", "--removals", "rset"], Some(2)),
     (
         &["popbox", "replay", "--boot=18446744073709551616"],
         Some(2),

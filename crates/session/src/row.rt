@@ -35,11 +35,7 @@ pub(crate) fn removal(lane: &Lane<'_>, class: &Name) -> Decision
 }
 
 /// Whether a message of a class may be marked, or the rule that denies it.
-pub(crate) fn judge_mark(
-    removals: Removals,
-    lane: &Lane<'_>,
-    class: &Name,
-) -> Result<(), Pick>
+pub(crate) fn judge_mark(removals: Removals, lane: &Lane<'_>, class: &Name) -> Result<(), Pick>
     ensures { result ≡ mark_answer removals (removal lane.now.policy (login_of lane.now) class.now) }
 {
     match removals {

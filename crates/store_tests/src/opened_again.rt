@@ -5,6 +5,7 @@ ghost use Rattle.sqlite_disk.specs.Memory.{memory_is_usable};
 
 use converse::fault_text;
 use converse::talking::talk;
+use session::Removals;
 use sqlite::{Alter, Connection, Error, FileStore, Files, MemStore, Options};
 use sqlite_disk::{Disk, Memory};
 use sqlvault::SqlVault;
@@ -233,7 +234,16 @@ fn expect_talk(alloc: Global, host: &str, want: &str) -> Result<(), Fail> {
     let mut out = Vec::new(alloc);
     let mut err = Vec::new(alloc);
     let vault = PlainVault::new(alloc);
-    let (status, _) = talk(alloc, vault, host, 7, &mut reader, &mut out, &mut err);
+    let (status, _) = talk(
+        alloc,
+        vault,
+        host,
+        7,
+        Removals::JudgedAtDele,
+        &mut reader,
+        &mut out,
+        &mut err,
+    );
     expect(
         run_text(alloc, status, out.as_slice(), err.as_slice())?,
         want,
@@ -243,7 +253,8 @@ fn expect_talk(alloc: Global, host: &str, want: &str) -> Result<(), Fail> {
 /// Whether a conversation with a reader that refuses has status 1. Its fault goes to `err`.
 fn is_broken_off<W: Write>(alloc: Global, writer: &mut W, err: &mut Vec<u8>) -> bool {
     let vault = PlainVault::new(alloc);
-    let (status, _) = talk(alloc, vault, "h", 1, &mut Refusing, writer, err);
+    let removals = Removals::JudgedAtDele;
+    let (status, _) = talk(alloc, vault, "h", 1, removals, &mut Refusing, writer, err);
     status == 1
 }
 
