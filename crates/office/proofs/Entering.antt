@@ -62,37 +62,13 @@ same_number (x ∷ xs) = ap suc (same_number xs)
 
 -- ---- a maildrop is opened
 
-module _ (c : Contents) (p : Policy) (j : Removals) (name : LoginName) where
-  abbrev begun : Session
-  begun = started p j name.clerk name.maildrop (heads name.maildrop c)
-
-  counted : length (unmarked begun.marks begun.view) ≡ length (visible class_of p name (in_maildrop name.maildrop (records_of c).messages))
-  counted = all_counted begun.view ∙ (ap length (found_heads c p name) ∙ (same_number (found c p name) ∙ ap length (found_messages c p name)))
-
-  summed : total_of head.octets_of (unmarked begun.marks begun.view) ≡ octets_of_all (visible class_of p name (in_maildrop name.maildrop (records_of c).messages))
-  summed = all_octets head.octets_of begun.view ∙ (ap (sum_by head.octets_of) (found_heads c p name) ∙ (same_octets (found c p name) ∙ ap octets_of_all (found_messages c p name)))
-
-  fits : AreSound c → sum_by head.octets_of begun.view < 2 ^ 64
-  fits a = subst (λ (view : List Head). sum_by head.octets_of view < 2 ^ 64) (sym (found_heads c p name)) (found_fit c p name a)
-
+module _ (c : Contents) (p : Policy) (name : LoginName) where
   abbrev answer_if : Bool → Result (List Head) VaultFault
   answer_if b = if b then Ok (heads name.maildrop c) else Err fault.NoMaildrop
 
   some_there : (hs : List Head) → (b : Bool) → answer_if b ≡ Ok hs → (b ≡ true) × (heads name.maildrop c ≡ hs)
   some_there hs true e = (refl, cc)
   some_there hs false e = cc
-
-  -- the maildrop is there, and isn't locked
-  pub opens : (locks : BTreeMap (List ℕ) ℕ) (hs : List Head) (s : Session) (messages octets : ℕ) → AreSound c → heads_result name.maildrop c ≡ Ok hs
-      → is_locked_by locks name.maildrop ≡ false → s ≡ started p j name.clerk name.maildrop hs → messages ≡ length (unmarked s.marks s.view)
-      → (sum_by head.octets_of s.view < 2 ^ 64 → octets ≡ total_of head.octets_of (unmarked s.marks s.view))
-      → (entered c p locks name ≡ MaildropHas messages octets) × (s ≡ begun)
-  opens locks hs s messages octets a e free is n o =
-      let there = some_there hs (is_one_of name.maildrop c.maildrops) e in
-      let same : s ≡ begun = is ∙ ap (λ (hs : List Head). started p j name.clerk name.maildrop hs) (sym there.1) in
-      let sum = subst (λ (s : Session). sum_by head.octets_of s.view < 2 ^ 64 → octets ≡ total_of head.octets_of (unmarked s.marks s.view)) same o (fits a) in
-      let number = subst (λ (s : Session). messages ≡ length (unmarked s.marks s.view)) same n in
-      (rw (there.0, free) (ap₂ (λ m k. MaildropHas m k) (sym counted ∙ sym number) (sym summed ∙ sym sum)), same)
 
   -- the maildrop is there, and is locked
   pub finds_lock : (locks : BTreeMap (List ℕ) ℕ) (hs : List Head) → heads_result name.maildrop c ≡ Ok hs → is_locked_by locks name.maildrop ≡ true → entered c p locks name ≡ InUse
@@ -105,6 +81,32 @@ module _ (c : Contents) (p : Policy) (j : Removals) (name : LoginName) where
   -- it isn't there
   pub finds_none : (locks : BTreeMap (List ℕ) ℕ) → heads_result name.maildrop c ≡ Err fault.NoMaildrop → entered c p locks name ≡ NoSuchMaildrop
   finds_none locks e = let none = none_there (is_one_of name.maildrop c.maildrops) e in rw none refl
+
+  -- the session that begins, whose removals are judged so
+  module _ (j : Removals) where
+    abbrev begun : Session
+    begun = started p j name.clerk name.maildrop (heads name.maildrop c)
+
+    counted : length (unmarked begun.marks begun.view) ≡ length (visible class_of p name (in_maildrop name.maildrop (records_of c).messages))
+    counted = all_counted begun.view ∙ (ap length (found_heads c p name) ∙ (same_number (found c p name) ∙ ap length (found_messages c p name)))
+
+    summed : total_of head.octets_of (unmarked begun.marks begun.view) ≡ octets_of_all (visible class_of p name (in_maildrop name.maildrop (records_of c).messages))
+    summed = all_octets head.octets_of begun.view ∙ (ap (sum_by head.octets_of) (found_heads c p name) ∙ (same_octets (found c p name) ∙ ap octets_of_all (found_messages c p name)))
+
+    fits : AreSound c → sum_by head.octets_of begun.view < 2 ^ 64
+    fits a = subst (λ (view : List Head). sum_by head.octets_of view < 2 ^ 64) (sym (found_heads c p name)) (found_fit c p name a)
+
+    -- the maildrop is there, and isn't locked
+    pub opens : (locks : BTreeMap (List ℕ) ℕ) (hs : List Head) (s : Session) (messages octets : ℕ) → AreSound c → heads_result name.maildrop c ≡ Ok hs
+        → is_locked_by locks name.maildrop ≡ false → s ≡ started p j name.clerk name.maildrop hs → messages ≡ length (unmarked s.marks s.view)
+        → (sum_by head.octets_of s.view < 2 ^ 64 → octets ≡ total_of head.octets_of (unmarked s.marks s.view))
+        → (entered c p locks name ≡ MaildropHas messages octets) × (s ≡ begun)
+    opens locks hs s messages octets a e free is n o =
+        let there = some_there hs (is_one_of name.maildrop c.maildrops) e in
+        let same : s ≡ begun = is ∙ ap (λ (hs : List Head). started p j name.clerk name.maildrop hs) (sym there.1) in
+        let sum = subst (λ (s : Session). sum_by head.octets_of s.view < 2 ^ 64 → octets ≡ total_of head.octets_of (unmarked s.marks s.view)) same o (fits a) in
+        let number = subst (λ (s : Session). messages ≡ length (unmarked s.marks s.view)) same n in
+        (rw (there.0, free) (ap₂ (λ m k. MaildropHas m k) (sym counted ∙ sym number) (sym summed ∙ sym sum)), same)
 
 -- ---- the session that an accepted login leaves
 
