@@ -12,7 +12,7 @@ use Rattle.office.specs.Connections.{opens, connected, sent, sent_after, octets_
 use Rattle.office.specs.Replying.{is_empty}
 use Rattle.office.specs.Answers.{AdminCommand}
 use Rattle.office.specs.Told.{told, said_to}
-use Rattle.office.specs.Events.{Event, Mark, Tagged, Ignored, Log, Trace, given}
+use Rattle.office.specs.Events.{Limits, Event, Mark, Tagged, Ignored, Log, Trace, given}
 use Rattle.office.specs.Events as event
 use Rattle.office.specs.Outcomes.{Outcome, Reason, NoSuchConnection, NotReady, PieceTooLong, mark_of}
 use Rattle.office.specs.Outcomes as outcome
@@ -211,9 +211,9 @@ module _ (B : Records) (L : Log) where
   begins_gone c Ignored d b = begins_still B L (event.Gone c) Ignored d tt refl refl b
   begins_gone c (Tagged t) d b = begins_still B L (event.Gone c) (Tagged t) d (refl, tt) refl refl b
 
-  begins_start : (host : List ℕ) (boot idle : ℕ) (m : Mark) (d : ℕ) → Begins B L d → Begins B ((event.Start host boot limits, m) ∷ L) d
-  begins_start host boot idle Ignored d b = begins_still B L (event.Start host boot limits) Ignored d tt refl refl b
-  begins_start host boot idle (Tagged t) d b = begins_still B L (event.Start host boot limits) (Tagged t) d (refl, tt) refl refl b
+  begins_start : (host : List ℕ) (boot : ℕ) (limits : Limits) (m : Mark) (d : ℕ) → Begins B L d → Begins B ((event.Start host boot limits, m) ∷ L) d
+  begins_start host boot limits Ignored d b = begins_still B L (event.Start host boot limits) Ignored d tt refl refl b
+  begins_start host boot limits (Tagged t) d b = begins_still B L (event.Start host boot limits) (Tagged t) d (refl, tt) refl refl b
 
   begins_restart : (boot : ℕ) (m : Mark) (d : ℕ) → Begins B L d → Begins B ((event.Restart boot, m) ∷ L) d
   begins_restart boot Ignored d b = begins_still B L (event.Restart boot) Ignored d tt refl refl b
@@ -228,7 +228,7 @@ module _ (B : Records) (L : Log) where
   begins_admin command (Tagged t) d b = begins_still B L (event.Admin command) (Tagged t) d (refl, tt) refl refl b
 
   begins_on : (e : Event) (m : Mark) (d : ℕ) → IsAdmitted (trace_of B L) e m → Begins B L d → Begins B ((e, m) ∷ L) d
-  begins_on (event.Start host boot limits) m d a b = begins_start host boot idle m d b
+  begins_on (event.Start host boot limits) m d a b = begins_start host boot limits m d b
   begins_on event.Connect m d a b = begins_connect m d b
   begins_on (event.Bytes c piece) m d a b = begins_bytes c piece m d b
   begins_on (event.Took c n) m d a b = begins_took c n d m a b
