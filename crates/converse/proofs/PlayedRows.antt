@@ -11,11 +11,12 @@ use Rattle.office.proofs.Sample.{W}
 use Rattle.policy.specs.declared.fault.PolicyFault.TheVariants.{NotToml}
 use Rattle.converse.specs.Script.{Does, Drains, NoPolicy}
 use Rattle.converse.specs.Played.{PlaysLine, Plays, PlaysInPart, point}
+use Rattle.session.specs.declared.removals.Removals.TheVariants.{JudgedAtDele}
 use Rattle.converse.specs.Runs.{opened_on}
 use Rattle.converse.proofs.Stopping.{begun_none, begun_acted}
 
 abbrev start : Trace
-start = opened_on (begun W) (codes "h.test") 7
+start = opened_on (begun W) (codes "h.test") 7 JudgedAtDele
 
 abbrev connected : Trace
 connected = given start event.Connect (Tagged Done)

@@ -66,7 +66,7 @@ lent_whole rest lent is e = is.beginning ∙ (ap (λ n. take n rest) (e ∙ leng
 -- ---- outcomes
 
 ignored_same : (T : Trace) (lent owed : ℕ → ℕ) → ((c : ℕ) → lent c ≡ owed c) → (e : Event) → ignored T lent e ≡ ignored T owed e
-ignored_same T lent owed same (event.Start host boot idle) = refl
+ignored_same T lent owed same (event.Start host boot limits) = refl
 ignored_same T lent owed same event.Connect = refl
 ignored_same T lent owed same (event.Bytes c piece) = refl
 ignored_same T lent owed same (event.Took c n) =

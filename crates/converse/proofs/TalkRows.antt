@@ -2,6 +2,7 @@
 use Rattle.std.specs.Prelude.{◌≡◌, ℕ, false, List, [], ◌∷◌, ◌++◌, codes}
 use Rattle.std.proofs.Common.{refl, arith}
 use Rattle.std.specs.Fmt.{digits}
+use Rattle.session.specs.declared.removals.Removals.TheVariants.{JudgedAtDele}
 use Rattle.office.specs.LoginName.{login_name}
 use Rattle.hex.specs.Hex.{decode_pairs}
 use Rattle.md5.specs.Md5 as M
@@ -12,7 +13,7 @@ use Rattle.office.proofs.Sample.{W, replies}
 use Rattle.converse.specs.Talk.{Talks, BreaksOff, BreaksOffReading, spoken, removed_last, left_unless_closing}
 
 abbrev start : List (Act × Tag)
-start = (Restart 7 (codes "h.test"), Done) ∷ []
+start = (Restart 7 (codes "h.test") JudgedAtDele, Done) ∷ []
 
 abbrev marking : List ℕ
 marking = codes "APOP ann/orders 34a3e97880fea19f455051f180c63e15\nDELE 1\n"

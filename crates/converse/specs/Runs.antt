@@ -1,6 +1,7 @@
 -- What the runs of a script and of a conversation leave in the store that they were given.
 use Rattle.std.specs.Prelude.{◌≡◌, ◌<◌, ℕ, Bool, true, List, [], ◌⊎◌, Err}
 use Rattle.vault.specs.Changes.{Contents}
+use Rattle.session.specs.declared.removals.Removals.{Removals}
 use Rattle.office.specs.Events.{Trace, Log, Tagged, given}
 use Rattle.office.specs.Events as event
 use Rattle.office.specs.History.{Done}
@@ -20,9 +21,9 @@ StillHolds Holds IsClean old new = (c : Contents) → Holds old c → IsClean ne
 abbrev pub idle_seconds : ℕ
 idle_seconds = 600
 
--- a trace with the opening of an office
-abbrev pub opened_on : Trace → (host : List ℕ) (boot : ℕ) → Trace
-opened_on T host boot = given T (event.Start host boot idle_seconds) (Tagged Done)
+-- a trace with the opening of an office whose removals are judged so
+abbrev pub opened_on : Trace → (host : List ℕ) (boot : ℕ) (removals : Removals) → Trace
+opened_on T host boot removals = given T (event.Start host boot (record { idle = idle_seconds; removals = removals })) (Tagged Done)
 
 -- A conversation came out well over an office that stood for T: the store keeps what a trace says that goes on from T by it alone. All was
 -- heard and answered, or a later part of a message couldn't be read, since the store refused a call; and an event failed for that alone:

@@ -20,6 +20,7 @@ use crate::fault::{Fault, read_fault, tell_fault};
 use crate::script::{Line, read_script};
 use office::{Event, Limits, Office, Outcome, Reason, answer_body};
 use policy::PolicyFault;
+use session::Removals;
 use std::alloc::Global;
 use std::io;
 use std::io::{Read, Write};
@@ -28,8 +29,8 @@ use vault::Vault;
 /// Seconds without an act after which a connection is ended.
 const IDLE_SECONDS: u32 = 600;
 
-/// Reads a whole script, opens an office over the vault, does the script's events in it, and
-/// prints the outcome of each to `out`. What an event gave is flushed before the next one is done.
+/// Reads a whole script, opens an office over the vault, whose removals are judged as this says,
+/// does the script's events in it, and prints the outcome of each to `out`. What an event gave is flushed before the next one is done.
 ///
 /// Gives the exit status, 0 or 1, and the vault, as the events left it. A fault has status 1 and
 /// its text on `err`. Where the script can't be read, has a line that is no event, or the host is
@@ -41,6 +42,7 @@ pub fn replay<R: Read, V: Vault, W: Write, E: Write>(
     vault: V,
     host: &str,
     boot: u64,
+    removals: Removals,
     out: &mut W,
     err: &mut E,
 ) -> (u8, V)
@@ -49,14 +51,14 @@ pub fn replay<R: Read, V: Vault, W: Write, E: Write>(
     ensures unread { (IsAtEnd (R.remaining script.new) → ⊥) → (result.0 ≡ 1) × (out.new ≡ out.old) × (result.1 ≡ vault) }
     ensures bad_line { IfSome (R.remaining script.old) (λ text. IsErr (script_of text) → (result.0 ≡ 1) × (out.new ≡ out.old) × (result.1 ≡ vault)) }
     ensures bad_host { is_host host.now ≡ false → (result.0 ≡ 1) × (out.new ≡ out.old) × StillHolds V.holds V.is_clean vault result.1 }
-    ensures told { result.0 ≡ 0 → IfSome (R.remaining script.old) (λ text. (lines : List ScriptLine) → script_of text ≡ Ok lines → (T : Trace) → Keeps (V.holds vault) T → V.is_clean result.1 → HasRun V.holds result.1 (V.faults vault) (V.faults result.1) (W.contents out.old) (W.contents out.new) (opened_on T host.now boot) lines) }
-    ensures kept { (T : Trace) → Keeps (V.holds vault) T → V.is_clean result.1 → Keeps (V.holds result.1) T ⊎ ((lines : List ScriptLine) × IfSome (R.remaining script.old) (λ text. script_of text ≡ Ok lines) × HasRunInPart V.holds result.1 (V.faults vault) (V.faults result.1) (opened_on T host.now boot) lines) }
+    ensures told { result.0 ≡ 0 → IfSome (R.remaining script.old) (λ text. (lines : List ScriptLine) → script_of text ≡ Ok lines → (T : Trace) → Keeps (V.holds vault) T → V.is_clean result.1 → HasRun V.holds result.1 (V.faults vault) (V.faults result.1) (W.contents out.old) (W.contents out.new) (opened_on T host.now boot removals) lines) }
+    ensures kept { (T : Trace) → Keeps (V.holds vault) T → V.is_clean result.1 → Keeps (V.holds result.1) T ⊎ ((lines : List ScriptLine) × IfSome (R.remaining script.old) (λ text. script_of text ≡ Ok lines) × HasRunInPart V.holds result.1 (V.faults vault) (V.faults result.1) (opened_on T host.now boot removals) lines) }
 {
     let lines = match read_all(alloc, script) {
         Ok(lines) => lines,
         Err(fault) => return (tell_fault(err, fault), vault),
     };
-    let mut office = match open_office(alloc, vault, host, boot) {
+    let mut office = match open_office(alloc, vault, host, boot, removals) {
         Ok(office) => office,
         Err((fault, vault)) => return (tell_fault(err, fault), vault),
     };
@@ -111,14 +113,15 @@ fn read_lines(alloc: Global, text: &[u8]) -> Result<Vec<Line>, Fault>
     Ok(lines)
 }
 
-/// Opens an office with the default idle time.
+/// Opens an office with the default idle time, whose removals are judged as this says.
 pub(crate) fn open_office<V: Vault>(
     alloc: Global,
     vault: V,
     host: &str,
     boot: u64,
+    removals: Removals,
 ) -> Result<Office<V>, (Fault, V)>
-    ensures opened { IfOk result (λ office. (T : Trace) → Keeps (V.holds vault) T → V.is_clean (vault_of office) → StandsFor V.holds office (opened_on T host.now boot)) }
+    ensures opened { IfOk result (λ office. (T : Trace) → Keeps (V.holds vault) T → V.is_clean (vault_of office) → StandsFor V.holds office (opened_on T host.now boot removals)) }
     ensures host { IsOk result → is_host host.now ≡ true }
     ensures kept { IfErr result (λ e. StillHolds V.holds V.is_clean vault e.1) }
     ensures counted { IfOk result (λ office. V.faults vault ≤ V.faults (vault_of office)) }
@@ -126,7 +129,7 @@ pub(crate) fn open_office<V: Vault>(
     let Some(limits) = Limits::new(IDLE_SECONDS) else {
         return Err((Fault::BadHost, vault));
     };
-    match Office::open(alloc, vault, host, boot, limits) {
+    match Office::open(alloc, vault, host, boot, limits.with_removals(removals)) {
         Ok(office) => Ok(office),
         Err((fault, vault)) => Err((Fault::from(fault), vault)),
     }

@@ -12,12 +12,13 @@ use crate::conversation;
 use crate::fault::{Fault, tell_fault};
 use crate::replay::open_office;
 use office::Office;
+use session::Removals;
 use std::alloc::Global;
 use std::io::{Read, Write};
 use vault::Vault;
 
-/// Opens an office over the vault, and has one conversation in it, whose octets come from `reader`
-/// and whose replies go to `writer`.
+/// Opens an office over the vault, whose removals are judged as this says, and has one conversation
+/// in it, whose octets come from `reader` and whose replies go to `writer`.
 ///
 /// Gives the exit status, 0 or 1, and the vault, as the conversation left it. A fault has status 1
 /// and its text on `err`. Where the host is bad nothing is read or written.
@@ -26,6 +27,7 @@ pub fn talk<V: Vault, R: Read, W: Write, E: Write>(
     vault: V,
     host: &str,
     boot: u64,
+    removals: Removals,
     reader: &mut R,
     writer: &mut W,
     err: &mut E,
@@ -34,10 +36,10 @@ pub fn talk<V: Vault, R: Read, W: Write, E: Write>(
     ensures silent { result.0 ≡ 0 → err.new ≡ err.old }
     ensures bad_host { is_host host.now ≡ false → (result.0 ≡ 1) × (reader.new ≡ reader.old) × (writer.new ≡ writer.old) × StillHolds V.holds V.is_clean vault result.1 }
     ensures talked { (octets written : List ℕ) × Consumes (R.remaining reader.old) (R.remaining reader.new) octets × Appends (W.contents writer.old) (W.contents writer.new) written
-        × (result.0 ≡ 0 → (T : Trace) → Keeps (V.holds vault) T → V.is_clean result.1 → HasTalked V.holds result.1 (has_grown (V.faults vault) (V.faults result.1)) (opened_on T host.now boot) octets written (IsAtEnd (R.remaining reader.new)))
-        × (result.0 ≡ 1 → (T : Trace) → Keeps (V.holds vault) T → V.is_clean result.1 → HasStopped V.holds result.1 (has_grown (V.faults vault) (V.faults result.1)) T (opened_on T host.now boot) octets written (IsAtEnd (R.remaining reader.new))) }
+        × (result.0 ≡ 0 → (T : Trace) → Keeps (V.holds vault) T → V.is_clean result.1 → HasTalked V.holds result.1 (has_grown (V.faults vault) (V.faults result.1)) (opened_on T host.now boot removals) octets written (IsAtEnd (R.remaining reader.new)))
+        × (result.0 ≡ 1 → (T : Trace) → Keeps (V.holds vault) T → V.is_clean result.1 → HasStopped V.holds result.1 (has_grown (V.faults vault) (V.faults result.1)) T (opened_on T host.now boot removals) octets written (IsAtEnd (R.remaining reader.new))) }
 {
-    let mut office = match open_office(alloc, vault, host, boot) {
+    let mut office = match open_office(alloc, vault, host, boot, removals) {
         Ok(office) => office,
         Err((fault, vault)) => return (tell_fault(err, fault), vault),
     };

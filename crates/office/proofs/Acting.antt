@@ -59,13 +59,14 @@ module _ (c : Contents) (p : Policy) (s : Seen) (x : Cut) (reply : Reply) where
   quit_after u q = rw q refl
 
   began_after : AreSound c → (name : LoginName) → is_quit (reading x) ≡ false → logs_in (reading x) (Says reply) s.user ≡ Some name
-      → IsSitting c after (started p name.clerk name.maildrop (heads name.maildrop c))
+      → IsSitting c after (started p s.judging name.clerk name.maildrop (heads name.maildrop c))
   began_after sound name q e = record {
     live = rw (q, e) refl;
     login = rw e refl;
+    judged = refl;
     marks = λ n. sym (ap (λ ms. is_marked ms n) (no_marks (reading x) reply s.user name s.marks e));
     kept = found c p name;
-    lies = lies_found c p name sound;
+    lies = lies_found c p name s.judging sound;
     view = rw e (found_messages c p name);
   }
 
@@ -73,6 +74,7 @@ module _ (c : Contents) (p : Policy) (s : Seen) (x : Cut) (reply : Reply) where
   stayed_after k new q e i on = record {
     live = let l = i.live in rw (q, e, l) refl;
     login = rw e (i.login ∙ ap (λ n. Some n) (sym on.name));
+    judged = on.removals ∙ i.judged;
     marks = λ n. on.marks n ∙ marks_alike k.marks s.marks i.marks (Says reply) n;
     kept = i.kept;
     lies = lies_marked c k new i.kept i.lies on.name on.view;
@@ -83,7 +85,7 @@ module _ (c : Contents) (p : Policy) (s : Seen) (x : Cut) (reply : Reply) where
   none_after q e l = rw (q, e, l) refl
 
   session_at : (old new : Option Session) (quits : Bool) (o : Option LoginName) → is_quit (reading x) ≡ quits → logs_in (reading x) (Says reply) s.user ≡ o
-      → AreSound c → IsSession c s old → SessionAfter quits o c p reply old new → (c' : Contents) → (quits ≡ false → c' ≡ c) → IsSession c' after new
+      → AreSound c → IsSession c s old → SessionAfter quits o c p s.judging reply old new → (c' : Contents) → (quits ≡ false → c' ≡ c) → IsSession c' after new
   session_at old new true o q e sound i became c' same = subst (IsSession c' after) (sym became) (quit_after s.user q)
   session_at old new false (Some name) q e sound i became c' same =
       subst (λ d. IsSession d after new) (sym (same refl)) (subst (IsSession c after) (sym became) (began_after sound name q e))
@@ -93,7 +95,7 @@ module _ (c : Contents) (p : Policy) (s : Seen) (x : Cut) (reply : Reply) where
 
   -- the session after a line
   pub session_after : (w : Acted) (old new : Option Session) → AreSound c → IsSession c s old
-      → SessionAfter (is_quit (reading x)) (logs_in (reading x) (Says reply) s.user) c p reply old new → IsSession (held_after w p old (reading x) c) after new
+      → SessionAfter (is_quit (reading x)) (logs_in (reading x) (Says reply) s.user) c p s.judging reply old new → IsSession (held_after w p old (reading x) c) after new
   session_after w old new sound i became =
       session_at old new (is_quit (reading x)) (logs_in (reading x) (Says reply) s.user) refl refl sound i became (held_after w p old (reading x) c)
       (λ q. held_same w p old (reading x) c q)

@@ -2,7 +2,7 @@
 use Rattle.std.proofs.Common.{◌≡◌, ◌⊎◌, inl, inr, ⊎_elim, ℕ, List, [], ◌∷◌, refl}
 use Rattle.std.specs.Bool.{⊤}
 use Rattle.office.specs.History.{Tag}
-use Rattle.office.specs.Events.{Event, Mark, Ignored, Tagged, Log}
+use Rattle.office.specs.Events.{Limits, Event, Mark, Ignored, Tagged, Log}
 use Rattle.office.specs.Events as event
 use Rattle.office.specs.Stopping.{taken_as_done}
 use Rattle.office.specs.Laws.{IsStart, BeginsWithStart, HasBegun, IsNewOrBegun}
@@ -31,17 +31,17 @@ pub new_log : IsNewOrBegun []
 unfolding IsNewOrBegun
 new_log = inl refl
 
-start_on : (host : List ℕ) (boot idle : ℕ) (t : Tag) (T : Log) → (T ≡ []) ⊎ BeginsWithStart T → BeginsWithStart ((event.Start host boot idle, Tagged t) ∷ T)
-start_on host boot idle t [] h = tt
-start_on host boot idle t (x ∷ T) h = ⊎_elim (λ (e : (x ∷ T) ≡ []). cc) (λ (k : BeginsWithStart (x ∷ T)). k) h
+start_on : (host : List ℕ) (boot : ℕ) (limits : Limits) (t : Tag) (T : Log) → (T ≡ []) ⊎ BeginsWithStart T → BeginsWithStart ((event.Start host boot limits, Tagged t) ∷ T)
+start_on host boot limits t [] h = tt
+start_on host boot limits t (x ∷ T) h = ⊎_elim (λ (e : (x ∷ T) ≡ []). cc) (λ (k : BeginsWithStart (x ∷ T)). k) h
 
-pub begins_anew : (host : List ℕ) (boot idle : ℕ) (t : Tag) (T : Log) → IsNewOrBegun T → HasBegun ((event.Start host boot idle, Tagged t) ∷ T)
+pub begins_anew : (host : List ℕ) (boot : ℕ) (limits : Limits) (t : Tag) (T : Log) → IsNewOrBegun T → HasBegun ((event.Start host boot limits, Tagged t) ∷ T)
 unfolding HasBegun IsNewOrBegun
-begins_anew host boot idle t T h = start_on host boot idle t T h
+begins_anew host boot limits t T h = start_on host boot limits t T h
 
 start_done : (e : Event) (m : Mark) → IsStart e m → IsStart e (taken_as_done m)
-start_done (event.Start host boot idle) Ignored h = h
-start_done (event.Start host boot idle) (Tagged t) h = tt
+start_done (event.Start host boot limits) Ignored h = h
+start_done (event.Start host boot limits) (Tagged t) h = tt
 start_done event.Connect m h = absurd h
 start_done (event.Bytes c piece) m h = absurd h
 start_done (event.Took c octets) m h = absurd h

@@ -17,9 +17,10 @@ use Rattle.vault.specs.declared.record.Message.{Message}
 use Rattle.vault.specs.declared.record.Receipt.{Receipt}
 use Rattle.vault.specs.Changes.{message_for}
 use Rattle.session.specs.View.{visible, may_read, to_remove}
+use Rattle.session.specs.declared.removals.Removals.{Removals}
 use Rattle.office.specs.Answers.{New, SetPolicy}
 use Rattle.office.specs.History.{Entry, Act, Open, Deposit, Administer, Restart, Tag, Done, Said, Answers, arrivals, arrivals_after, in_force, policy_after}
-use Rattle.office.specs.Connections.{boot_and_host, boot_and_host_after, user}
+use Rattle.office.specs.Connections.{setting, setting_after, user}
 use Rattle.office.specs.Sessions.{present, removed, removed_after, quits, view, view_after, login_by, removed_by, in_session, marks}
 use Rattle.office.specs.Told.{told, said_to}
 use Rattle.office.specs.Formed.{is_u64, is_formed_command}
@@ -84,7 +85,7 @@ without_none (m ∷ ms) = ap (λ xs. m ∷ xs) (without_none ms)
 
 abbrev pub formed_act : Act → Bool
 formed_act (Open n) = is_u64 n
-formed_act (Restart boot host) = is_u64 boot && nat_le (length host) 64
+formed_act (Restart boot host removals) = is_u64 boot && nat_le (length host) 64
 formed_act (Deposit d class id text) = is_name class
 formed_act (Administer command) = is_formed_command command
 formed_act _ = true
@@ -215,17 +216,17 @@ policies_sound B s ((a, t) ∷ H) f =
     let p = and_parts (formed_act a) (all_formed H) f in
     policy_step a t (in_force B (told B H)) p.0 (policies_sound B s H p.1)
 
-abbrev pub IsBoot : ℕ × List ℕ → Type 0
+abbrev pub IsBoot : ℕ × List ℕ × Removals → Type 0
 IsBoot x = (x.0 < 2 ^ 64) × (length x.1 ≤ 64)
 
-boot_step : (a : Act) (before : ℕ × List ℕ) → formed_act a ≡ true → IsBoot before → IsBoot (boot_and_host_after a before)
-boot_step (Restart boot host) before f h =
+boot_step : (a : Act) (before : ℕ × List ℕ × Removals) → formed_act a ≡ true → IsBoot before → IsBoot (setting_after a before)
+boot_step (Restart boot host removals) before f h =
     let p = and_parts (is_u64 boot) (nat_le (length host) 64) f in
     (ltb-true boot (2 ^ 64) p.0, leb-true (length host) 64 p.1)
 boot_step _ before f h = h
 
-pub boots_small : (B : Records) (H : List (Act × Tag)) → all_formed H ≡ true → IsBoot (boot_and_host (told B H))
+pub boots_small : (B : Records) (H : List (Act × Tag)) → all_formed H ≡ true → IsBoot (setting (told B H))
 boots_small B [] f = (ltb-true 0 (2 ^ 64) refl, leb-true 0 64 refl)
 boots_small B ((a, t) ∷ H) f =
     let p = and_parts (formed_act a) (all_formed H) f in
-    boot_step a (boot_and_host (told B H)) p.0 (boots_small B H p.1)
+    boot_step a (setting (told B H)) p.0 (boots_small B H p.1)

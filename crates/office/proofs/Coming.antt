@@ -12,11 +12,12 @@ use Rattle.popline.specs.Replies.{Greeting, bytes_of, timestamp}
 use Rattle.vault.specs.Records.{Records}
 use Rattle.vault.specs.Changes.{Contents}
 use Rattle.session.specs.Session.{Session}
+use Rattle.session.specs.declared.removals.Removals.{Removals}
 use Rattle.office.specs.History.{Act, Tag, Done, NoMemory, Entry}
-use Rattle.office.specs.Connections.{boot_and_host}
+use Rattle.office.specs.Connections.{setting, judging}
 use Rattle.office.specs.Sessions.{live, login, holds, holder}
 use Rattle.office.specs.Told.{told}
-use Rattle.office.specs.Events.{Event, Mark, Ignored, Tagged, Trace, given}
+use Rattle.office.specs.Events.{Limits, Event, Mark, Ignored, Tagged, Trace, given}
 use Rattle.office.specs.Events as event
 use Rattle.office.specs.Log.{opened, idle_seconds, moment, stream, taken, clock, next_number}
 use Rattle.office.specs.Trace.{acts, history}
@@ -121,7 +122,8 @@ nothing_stands Holds o o' T e m st n on p b s l k links locks =
       policy = p ∙ rw same st.policy;
       boot = b ∙ rw same st.boot;
       host = s ∙ rw same st.host;
-      idle = l ∙ (st.idle ∙ sym idle);
+      judged = ap (λ (x : Limits). x.removals) l ∙ rw same st.judged;
+      idle = ap (λ (x : Limits). x.idle) l ∙ (st.idle ∙ sym idle);
       moment = ap (λ (x : ℕ × ℕ). x.1) k ∙ (st.moment ∙ ap (λ (x : ℕ × ℕ). x.1) (sym number));
       numbered = λ q some. let same : opened T'.log ≡ opened T.log = ap (λ (x : ℕ × ℕ). x.0) number in rw same (st.numbered q (rw (links q) at some));
       opened = ap (λ (x : ℕ × ℕ). x.0) k ∙ (st.opened ∙ ap (λ (x : ℕ × ℕ). x.0) (sym number));
@@ -130,7 +132,7 @@ nothing_stands Holds o o' T e m st n on p b s l k links locks =
     }
 
 ignored_log : (T : Trace) (e : Event) (q : ℕ) → log (given T e Ignored) q ≡ log T q
-ignored_log T (event.Start host boot idle) q = refl
+ignored_log T (event.Start host boot limits) q = refl
 ignored_log T event.Connect q = refl
 ignored_log T (event.Bytes c piece) q = refl
 ignored_log T (event.Took c octets) q = refl
@@ -166,12 +168,12 @@ cut_anew [] = refl
 cut_anew (p ∷ ps) = refl
 
 -- what is kept of it is a greeting to send
-abbrev pub greeted : ℕ → ℕ → List ℕ → (now : ℕ) → Kept
-greeted c boot host now = record {
+abbrev pub greeted : ℕ → ℕ → List ℕ → Removals → (now : ℕ) → Kept
+greeted c boot host removals now = record {
   held = nothing_held;
   pending = [];
   output = record { ready = bytes_of (Greeting c boot host); source = source.Nothing };
-  talk = nothing_said;
+  talk = nothing_said removals;
   stamp = timestamp c boot host;
   session = None;
   clock = now;
@@ -197,7 +199,7 @@ module _ {V : Type 0} (Holds : V → Contents → Type 0) (o o' : Office V) (T :
   unheard None e h = h.outside
   unheard (Some k) e h = absurd (let fits = (st.numbered newest (rw e refl)).1 in omega (arith, fits))
 
-  come_matches : Matches st.keeps.contents (seen with_one newest) (greeted newest (boot_and_host (history T)).0 (boot_and_host (history T)).1 (moment T.log))
+  come_matches : Matches st.keeps.contents (seen with_one newest) (greeted newest (setting (history T)).0 (setting (history T)).1 (judging (history T)) (moment T.log))
   come_matches = let e = eq-eqb newest newest refl in record {
     opened = rw e refl;
     session = rw e refl;
@@ -209,6 +211,7 @@ module _ {V : Type 0} (Holds : V → Contents → Type 0) (o o' : Office V) (T :
     user = rw e refl;
     failures = rw e refl;
     stamp = refl;
+    judged = refl;
     clock = rw e refl;
     lines = λ more. rw e (cut_anew (pieces more));
     cut_whole = λ h. refl;
@@ -216,22 +219,24 @@ module _ {V : Type 0} (Holds : V → Contents → Type 0) (o o' : Office V) (T :
     piece_kept = omega arith;
   }
 
-  pub come_stands : (n : ℕ) (k : Kept) → n ≡ newest → k ≡ greeted n o.boot (string_bytes o.host) o.moment → is_formed T.log event.Connect ≡ true
+  pub come_stands : (n : ℕ) (k : Kept) → n ≡ newest → k ≡ greeted n o.boot (string_bytes o.host) o.limits.removals o.moment → is_formed T.log event.Connect ≡ true
       → ((k : Contents) → Holds o.vault k → Holds o'.vault k) → o'.policy ≡ o.policy → o'.boot ≡ o.boot → string_bytes o'.host ≡ string_bytes o.host → o'.limits ≡ o.limits
       → counters o' ≡ (n, o.moment) → Updates nat_cmp o.links o'.links n (Some k) → ((d : List ℕ) → get name_cmp o'.locks d ≡ get name_cmp o.locks d) → StandsFor Holds o' with_one
   come_stands n k number kept formed on p b s l m u locks =
       let at : Updates nat_cmp o.links o'.links newest (Some k) = subst (λ x. Updates nat_cmp o.links o'.links x (Some k)) number u in
       let there : (q : ℕ) → eqb newest q ≡ false → get nat_cmp o'.links q ≡ get nat_cmp o.links q = λ q e. at.2 q (is_apart newest q e) in
-      let here : k ≡ greeted newest (boot_and_host (history T)).0 (boot_and_host (history T)).1 (moment T.log) =
-      kept ∙ (ap (λ x. greeted x o.boot (string_bytes o.host) o.moment) number ∙ (ap (λ x. greeted newest x (string_bytes o.host) o.moment) st.boot
-      ∙ (ap (λ x. greeted newest (boot_and_host (history T)).0 x o.moment) st.host ∙ ap (greeted newest (boot_and_host (history T)).0 (boot_and_host (history T)).1) st.moment))) in
+      let here : k ≡ greeted newest (setting (history T)).0 (setting (history T)).1 (judging (history T)) (moment T.log) =
+      kept ∙ (ap (λ x. greeted x o.boot (string_bytes o.host) o.limits.removals o.moment) number ∙ (ap (λ x. greeted newest x (string_bytes o.host) o.limits.removals o.moment) st.boot
+      ∙ (ap (λ x. greeted newest (setting (history T)).0 x o.limits.removals o.moment) st.host ∙ (ap (λ x. greeted newest (setting (history T)).0 (setting (history T)).1 x o.moment) st.judged
+      ∙ ap (greeted newest (setting (history T)).0 (setting (history T)).1 (judging (history T))) st.moment)))) in
       record {
         keeps = record { contents = st.keeps.contents; held = on st.keeps.contents st.keeps.held; agree = st.keeps.agree; sound = st.keeps.sound; formed = rw formed st.keeps.formed; began = begun_on event.Connect (Tagged Done) T.log st.began };
         began = begins_on event.Connect (Tagged Done) T.log st.began;
         policy = p ∙ st.policy;
         boot = b ∙ st.boot;
         host = s ∙ st.host;
-        idle = l ∙ st.idle;
+        judged = ap (λ (x : Limits). x.removals) l ∙ st.judged;
+        idle = ap (λ (x : Limits). x.idle) l ∙ st.idle;
         moment = ap (λ (x : ℕ × ℕ). x.1) m ∙ st.moment;
         numbered = λ q some. ⊎_elim
             (λ e. subst (λ x. (1 ≤ x) × (x ≤ newest)) (eqb-true newest q e) (omega arith, omega arith))
@@ -269,25 +274,26 @@ answered A E x = Ok x
 pub same_ok : {A E : Type 0} (x y : A) → answered A E x ≡ answered A E y → y ≡ x
 same_ok x y e = cc
 
-pub start_formed : (T : Trace) (host : List ℕ) (boot idle : ℕ) → is_host host ≡ true → boot < 18446744073709551616 → 600 ≤ idle → idle ≤ 86400
-    → is_formed T.log (event.Start host boot idle) ≡ true
-start_formed T host boot idle h fits low high =
+pub start_formed : (T : Trace) (host : List ℕ) (boot : ℕ) (limits : Limits) → is_host host ≡ true → boot < 18446744073709551616 → 600 ≤ limits.idle → limits.idle ≤ 86400
+    → is_formed T.log (event.Start host boot limits) ≡ true
+start_formed T host boot limits h fits low high =
     let b : is_u64 boot ≡ true = lt-ltb boot (2 ^ 64) (omega (arith, fits)) in
-    rw (h, b, le-leb 600 idle low, le-leb idle 86400 high) refl
+    rw (h, b, le-leb 600 limits.idle low, le-leb limits.idle 86400 high) refl
 
-pub start_stands : {V : Type 0} (Holds Before : V → Contents → Type 0) (v : V) (o : Office V) (T : Trace) (host : List ℕ) (boot idle : ℕ) → (k : Keeps (Before v) T)
-    → Holds o.vault k.contents → o.policy ≡ k.contents.policy → o.boot ≡ boot → string_bytes o.host ≡ host → o.limits ≡ idle → counters o ≡ (0, 0)
-    → is_formed T.log (event.Start host boot idle) ≡ true → ((q : ℕ) → get nat_cmp o.links q ≡ None) → ((d : List ℕ) → get name_cmp o.locks d ≡ None)
-    → StandsFor Holds o (given T (event.Start host boot idle) (Tagged Done))
-start_stands Holds Before v o T host boot idle k held p b s l n formed links locks =
-    let T' = given T (event.Start host boot idle) (Tagged Done) in
+pub start_stands : {V : Type 0} (Holds Before : V → Contents → Type 0) (v : V) (o : Office V) (T : Trace) (host : List ℕ) (boot : ℕ) (limits : Limits) → (k : Keeps (Before v) T)
+    → Holds o.vault k.contents → o.policy ≡ k.contents.policy → o.boot ≡ boot → string_bytes o.host ≡ host → o.limits ≡ limits → counters o ≡ (0, 0)
+    → is_formed T.log (event.Start host boot limits) ≡ true → ((q : ℕ) → get nat_cmp o.links q ≡ None) → ((d : List ℕ) → get name_cmp o.locks d ≡ None)
+    → StandsFor Holds o (given T (event.Start host boot limits) (Tagged Done))
+start_stands Holds Before v o T host boot limits k held p b s l n formed links locks =
+    let T' = given T (event.Start host boot limits) (Tagged Done) in
     record {
-      keeps = record { contents = k.contents; held = held; agree = k.agree; sound = k.sound; formed = rw formed k.formed; began = begun_of T'.log (begins_anew host boot idle Done T.log k.began) };
-      began = begins_anew host boot idle Done T.log k.began;
+      keeps = record { contents = k.contents; held = held; agree = k.agree; sound = k.sound; formed = rw formed k.formed; began = begun_of T'.log (begins_anew host boot limits Done T.log k.began) };
+      began = begins_anew host boot limits Done T.log k.began;
       policy = p ∙ k.agree.policy;
       boot = b;
       host = s;
-      idle = l;
+      judged = ap (λ (x : Limits). x.removals) l;
+      idle = ap (λ (x : Limits). x.idle) l;
       moment = ap (λ (x : ℕ × ℕ). x.1) n;
       numbered = λ q some. let none = links q in absurd (true≢false (sym (rw none at some)));
       opened = ap (λ (x : ℕ × ℕ). x.0) n;

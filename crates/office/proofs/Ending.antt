@@ -6,12 +6,13 @@ use Rattle.creds.specs.declared.login_name.LoginName.{LoginName}
 use Rattle.vault.specs.Records.{Records, Agree}
 use Rattle.vault.specs.Changes.{Contents, records_of}
 use Rattle.session.specs.Session.{Session}
+use Rattle.session.specs.declared.removals.Removals.{Removals}
 use Rattle.office.specs.Answers.{EndSession}
 use Rattle.office.specs.History.{Act, Gone, Tag, Done, in_force}
-use Rattle.office.specs.Connections.{boot_and_host, serving}
+use Rattle.office.specs.Connections.{setting, serving}
 use Rattle.office.specs.Told.{told}
 use Rattle.office.specs.Sessions.{live, login, holder, is_login_to, records}
-use Rattle.office.specs.Events.{Event, Tagged, Trace, given}
+use Rattle.office.specs.Events.{Limits, Event, Tagged, Trace, given}
 use Rattle.office.specs.Events as event
 use Rattle.office.specs.Log.{opened, idle_seconds, moment, stream, taken, clock}
 use Rattle.office.specs.Trace.{acts, history, is_left, act_of_part, gone_act}
@@ -37,7 +38,7 @@ counted T = (opened T.log, moment T.log)
 record Leaves (T : Trace) (e : Event) (t : Tag) : Type 0 where
   stored : records T.base (history (given T e (Tagged t))) ≡ records T.base (history T)
   ruled : in_force T.base (history (given T e (Tagged t))) ≡ in_force T.base (history T)
-  office : boot_and_host (history (given T e (Tagged t))) ≡ boot_and_host (history T)
+  office : setting (history (given T e (Tagged t))) ≡ setting (history T)
   number : counted (given T e (Tagged t)) ≡ counted T
   seconds : idle_seconds (given T e (Tagged t)).log ≡ idle_seconds T.log
   formed : is_formed T.log e ≡ true
@@ -71,9 +72,10 @@ module _ {V : Type 0} (Holds : V → Contents → Type 0) (o o' : Office V) (T :
         };
         began = begins_on e (Tagged t) T.log st.began;
         policy = p ∙ (st.policy ∙ sym l.ruled);
-        boot = b ∙ (st.boot ∙ ap (λ (x : ℕ × List ℕ). x.0) (sym l.office));
-        host = s ∙ (st.host ∙ ap (λ (x : ℕ × List ℕ). x.1) (sym l.office));
-        idle = w ∙ (st.idle ∙ sym l.seconds);
+        boot = b ∙ (st.boot ∙ ap (λ (x : ℕ × List ℕ × Removals). x.0) (sym l.office));
+        host = s ∙ (st.host ∙ ap (λ (x : ℕ × List ℕ × Removals). x.1) (sym l.office));
+        judged = ap (λ (x : Limits). x.removals) w ∙ (st.judged ∙ ap (λ (x : ℕ × List ℕ × Removals). x.2) (sym l.office));
+        idle = ap (λ (x : Limits). x.idle) w ∙ (st.idle ∙ sym l.seconds);
         moment = ap (λ (x : ℕ × ℕ). x.1) n ∙ (st.moment ∙ ap (λ (x : ℕ × ℕ). x.1) (sym l.number));
         numbered = λ q some. subst (λ (m : ℕ). (1 ≤ q) × (q ≤ m)) (ap (λ (x : ℕ × ℕ). x.0) (sym l.number)) (st.numbered q (there q some));
         opened = ap (λ (x : ℕ × ℕ). x.0) n ∙ (st.opened ∙ ap (λ (x : ℕ × ℕ). x.0) (sym l.number));

@@ -17,6 +17,7 @@ use Rattle.vault.specs.Calls.{heads_result}
 use Rattle.session.specs.Session.{Session, started}
 use Rattle.session.specs.Session as head
 use Rattle.session.specs.View.{visible, is_marked, numbered_from, unmarked, total_of}
+use Rattle.session.specs.declared.removals.Removals.{Removals}
 use Rattle.office.specs.History.{Says}
 use Rattle.office.specs.Answered.{is_locked_by, SessionAfter, IsSeated}
 use Rattle.office.specs.Sitting.{Sitting}
@@ -62,36 +63,12 @@ same_number (x ∷ xs) = ap suc (same_number xs)
 -- ---- a maildrop is opened
 
 module _ (c : Contents) (p : Policy) (name : LoginName) where
-  abbrev begun : Session
-  begun = started p name.clerk name.maildrop (heads name.maildrop c)
-
-  counted : length (unmarked begun.marks begun.view) ≡ length (visible class_of p name (in_maildrop name.maildrop (records_of c).messages))
-  counted = all_counted begun.view ∙ (ap length (found_heads c p name) ∙ (same_number (found c p name) ∙ ap length (found_messages c p name)))
-
-  summed : total_of head.octets_of (unmarked begun.marks begun.view) ≡ octets_of_all (visible class_of p name (in_maildrop name.maildrop (records_of c).messages))
-  summed = all_octets head.octets_of begun.view ∙ (ap (sum_by head.octets_of) (found_heads c p name) ∙ (same_octets (found c p name) ∙ ap octets_of_all (found_messages c p name)))
-
-  fits : AreSound c → sum_by head.octets_of begun.view < 2 ^ 64
-  fits a = subst (λ (view : List Head). sum_by head.octets_of view < 2 ^ 64) (sym (found_heads c p name)) (found_fit c p name a)
-
   abbrev answer_if : Bool → Result (List Head) VaultFault
   answer_if b = if b then Ok (heads name.maildrop c) else Err fault.NoMaildrop
 
   some_there : (hs : List Head) → (b : Bool) → answer_if b ≡ Ok hs → (b ≡ true) × (heads name.maildrop c ≡ hs)
   some_there hs true e = (refl, cc)
   some_there hs false e = cc
-
-  -- the maildrop is there, and isn't locked
-  pub opens : (locks : BTreeMap (List ℕ) ℕ) (hs : List Head) (s : Session) (messages octets : ℕ) → AreSound c → heads_result name.maildrop c ≡ Ok hs
-      → is_locked_by locks name.maildrop ≡ false → s ≡ started p name.clerk name.maildrop hs → messages ≡ length (unmarked s.marks s.view)
-      → (sum_by head.octets_of s.view < 2 ^ 64 → octets ≡ total_of head.octets_of (unmarked s.marks s.view))
-      → (entered c p locks name ≡ MaildropHas messages octets) × (s ≡ begun)
-  opens locks hs s messages octets a e free is n o =
-      let there = some_there hs (is_one_of name.maildrop c.maildrops) e in
-      let same : s ≡ begun = is ∙ ap (λ (hs : List Head). started p name.clerk name.maildrop hs) (sym there.1) in
-      let sum = subst (λ (s : Session). sum_by head.octets_of s.view < 2 ^ 64 → octets ≡ total_of head.octets_of (unmarked s.marks s.view)) same o (fits a) in
-      let number = subst (λ (s : Session). messages ≡ length (unmarked s.marks s.view)) same n in
-      (rw (there.0, free) (ap₂ (λ m k. MaildropHas m k) (sym counted ∙ sym number) (sym summed ∙ sym sum)), same)
 
   -- the maildrop is there, and is locked
   pub finds_lock : (locks : BTreeMap (List ℕ) ℕ) (hs : List Head) → heads_result name.maildrop c ≡ Ok hs → is_locked_by locks name.maildrop ≡ true → entered c p locks name ≡ InUse
@@ -105,17 +82,43 @@ module _ (c : Contents) (p : Policy) (name : LoginName) where
   pub finds_none : (locks : BTreeMap (List ℕ) ℕ) → heads_result name.maildrop c ≡ Err fault.NoMaildrop → entered c p locks name ≡ NoSuchMaildrop
   finds_none locks e = let none = none_there (is_one_of name.maildrop c.maildrops) e in rw none refl
 
+  -- the session that begins, whose removals are judged so
+  module _ (j : Removals) where
+    abbrev begun : Session
+    begun = started p j name.clerk name.maildrop (heads name.maildrop c)
+
+    counted : length (unmarked begun.marks begun.view) ≡ length (visible class_of p name (in_maildrop name.maildrop (records_of c).messages))
+    counted = all_counted begun.view ∙ (ap length (found_heads c p name) ∙ (same_number (found c p name) ∙ ap length (found_messages c p name)))
+
+    summed : total_of head.octets_of (unmarked begun.marks begun.view) ≡ octets_of_all (visible class_of p name (in_maildrop name.maildrop (records_of c).messages))
+    summed = all_octets head.octets_of begun.view ∙ (ap (sum_by head.octets_of) (found_heads c p name) ∙ (same_octets (found c p name) ∙ ap octets_of_all (found_messages c p name)))
+
+    fits : AreSound c → sum_by head.octets_of begun.view < 2 ^ 64
+    fits a = subst (λ (view : List Head). sum_by head.octets_of view < 2 ^ 64) (sym (found_heads c p name)) (found_fit c p name a)
+
+    -- the maildrop is there, and isn't locked
+    pub opens : (locks : BTreeMap (List ℕ) ℕ) (hs : List Head) (s : Session) (messages octets : ℕ) → AreSound c → heads_result name.maildrop c ≡ Ok hs
+        → is_locked_by locks name.maildrop ≡ false → s ≡ started p j name.clerk name.maildrop hs → messages ≡ length (unmarked s.marks s.view)
+        → (sum_by head.octets_of s.view < 2 ^ 64 → octets ≡ total_of head.octets_of (unmarked s.marks s.view))
+        → (entered c p locks name ≡ MaildropHas messages octets) × (s ≡ begun)
+    opens locks hs s messages octets a e free is n o =
+        let there = some_there hs (is_one_of name.maildrop c.maildrops) e in
+        let same : s ≡ begun = is ∙ ap (λ (hs : List Head). started p j name.clerk name.maildrop hs) (sym there.1) in
+        let sum = subst (λ (s : Session). sum_by head.octets_of s.view < 2 ^ 64 → octets ≡ total_of head.octets_of (unmarked s.marks s.view)) same o (fits a) in
+        let number = subst (λ (s : Session). messages ≡ length (unmarked s.marks s.view)) same n in
+        (rw (there.0, free) (ap₂ (λ m k. MaildropHas m k) (sym counted ∙ sym number) (sym summed ∙ sym sum)), same)
+
 -- ---- the session that an accepted login leaves
 
-pub pass_begins : (c : Contents) (p : Policy) (name : LoginName) (password : List ℕ) (reply : Reply)
-    → SessionAfter false (logs_in (Ok (Pass password)) (Says reply) (Some name)) c p reply None (began reply (started p name.clerk name.maildrop (heads name.maildrop c)))
-pass_begins c p name password (MaildropHas n m) = refl
-pass_begins c p name password _ = refl
+pub pass_begins : (c : Contents) (p : Policy) (j : Removals) (name : LoginName) (password : List ℕ) (reply : Reply)
+    → SessionAfter false (logs_in (Ok (Pass password)) (Says reply) (Some name)) c p j reply None (began reply (started p j name.clerk name.maildrop (heads name.maildrop c)))
+pass_begins c p j name password (MaildropHas n m) = refl
+pass_begins c p j name password _ = refl
 
-pub apop_begins : (c : Contents) (p : Policy) (name : LoginName) (digest : List ℕ) (u : Option LoginName) (reply : Reply)
-    → SessionAfter false (logs_in (Ok (Apop name digest)) (Says reply) u) c p reply None (began reply (started p name.clerk name.maildrop (heads name.maildrop c)))
-apop_begins c p name digest u (MaildropHas n m) = refl
-apop_begins c p name digest u _ = refl
+pub apop_begins : (c : Contents) (p : Policy) (j : Removals) (name : LoginName) (digest : List ℕ) (u : Option LoginName) (reply : Reply)
+    → SessionAfter false (logs_in (Ok (Apop name digest)) (Says reply) u) c p j reply None (began reply (started p j name.clerk name.maildrop (heads name.maildrop c)))
+apop_begins c p j name digest u (MaildropHas n m) = refl
+apop_begins c p j name digest u _ = refl
 
 -- a password is given where a login name is in force
 pub pass_said : (d : Desk) (t : Talk) (password : List ℕ) (name : LoginName) → t.user ≡ Some name → said_outside d t (Ok (Pass password)) ≡ judged d t.failures name (ByPass password)

@@ -12,13 +12,14 @@ use Rattle.vault.specs.declared.record.Message as store
 use Rattle.session.specs.Session.{Session}
 use Rattle.vault.specs.Changes.{Contents, records_of}
 use Rattle.session.specs.View.{to_remove, visible, is_marked}
+use Rattle.session.specs.declared.removals.Removals.{Removals}
 use Rattle.office.specs.History.{Act, Line, Tag, Done, Failed, NoMemory, Entry, in_force, arrivals}
-use Rattle.office.specs.Connections.{user, failures, boot_and_host, connected, closing, acted, serving, sent, reading, is_quit}
+use Rattle.office.specs.Connections.{user, failures, setting, judging, connected, closing, acted, serving, sent, reading, is_quit}
 use Rattle.office.specs.Sessions.{live, login, in_session, holder, marks, view, removed, removed_by, removed_after, quits_if, records}
 use Rattle.office.specs.Formed.{is_formed}
 use Rattle.office.specs.Replying.{is_empty, reply_to_cut, said_to_line, stamp}
 use Rattle.office.specs.Told.{told}
-use Rattle.office.specs.Events.{Trace, Event, Bytes, Took, Mark, Tagged, given}
+use Rattle.office.specs.Events.{Limits, Trace, Event, Bytes, Took, Mark, Tagged, given}
 use Rattle.office.specs.Log.{opened, idle_seconds, moment, stream, taken, clock}
 use Rattle.office.specs.Trace.{acts, history, line_act, act_of_part, acts_of_piece, acts_of_took, next_line, is_left, is_open, untaken}
 use Rattle.office.specs.Expected.{most_in_a_piece, ignored}
@@ -47,6 +48,7 @@ pub record Facts : Type 0 where
   pub user : Option LoginName
   pub failures : ℕ
   pub stamp : List ℕ
+  pub judging : Removals
   pub login : Option LoginName
   pub marks : List ℕ
   pub view : List store.Message
@@ -62,6 +64,7 @@ facts B H q = record {
   user = user (told B H) q;
   failures = failures (told B H) q;
   stamp = stamp (told B H) q;
+  judging = judging (told B H);
   login = login (told B H) q;
   marks = marks (told B H) q;
   view = view B (told B H) q;
@@ -69,11 +72,11 @@ facts B H q = record {
 
 -- what it says of the office as a whole
 pub record Whole : Type 0 where
-  pub office : ℕ × List ℕ
+  pub office : ℕ × List ℕ × Removals
   pub rules : Policy
 
 abbrev pub whole : Records → List (Act × Tag) → Whole
-whole B H = record { office = boot_and_host (told B H); rules = in_force B (told B H) }
+whole B H = record { office = setting (told B H); rules = in_force B (told B H) }
 
 -- these with what the log says: the octets, how many were taken, and the clock
 abbrev pub seen_by : List ℕ → ℕ → (clock : ℕ) → Facts → Seen
@@ -89,6 +92,7 @@ seen_by octets took clock f = record {
   user = f.user;
   failures = f.failures;
   stamp = f.stamp;
+  judging = f.judging;
   login = f.login;
   marks = f.marks;
   view = f.view;
@@ -256,7 +260,8 @@ moved_so Holds o o' T e t c st formed p b h l n same idle number there others li
       policy = p ∙ (st.policy ∙ sym rules);
       boot = b ∙ (st.boot ∙ ap (λ (w : Whole). w.office.0) (sym same));
       host = h ∙ (st.host ∙ ap (λ (w : Whole). w.office.1) (sym same));
-      idle = l ∙ (st.idle ∙ sym idle);
+      judged = ap (λ (x : Limits). x.removals) l ∙ (st.judged ∙ ap (λ (w : Whole). w.office.2) (sym same));
+      idle = ap (λ (x : Limits). x.idle) l ∙ (st.idle ∙ sym idle);
       moment = ap (λ (x : ℕ × ℕ). x.1) n ∙ (st.moment ∙ ap (λ (x : ℕ × ℕ). x.1) (sym number));
       numbered = λ q. ⊎_elim
           (λ (e : c ≡ q) some. rw (newest, sym e) (st.numbered c there))
@@ -286,11 +291,12 @@ marked acted.Done o e = rw e refl
 marked acted.Failed o e = rw e refl
 
 -- a session that is kept is one of a trace that says the same of it
-pub same_session : (k : Contents) (s s' : Seen) (o : Option Session) → s'.live ≡ s.live → s'.login ≡ s.login → s'.marks ≡ s.marks → s'.view ≡ s.view → IsSession k s o → IsSession k s' o
-same_session k s s' None l n m v i = l ∙ i
-same_session k s s' (Some o) l n m v i = record {
+pub same_session : (k : Contents) (s s' : Seen) (o : Option Session) → s'.live ≡ s.live → s'.login ≡ s.login → s'.judging ≡ s.judging → s'.marks ≡ s.marks → s'.view ≡ s.view → IsSession k s o → IsSession k s' o
+same_session k s s' None l n j m v i = l ∙ i
+same_session k s s' (Some o) l n j m v i = record {
   live = l ∙ i.live;
   login = n ∙ i.login;
+  judged = i.judged ∙ sym j;
   marks = λ q. i.marks q ∙ ap (λ ms. is_marked ms q) (sym m);
   kept = i.kept;
   lies = i.lies;
@@ -308,7 +314,7 @@ pub awaits_bytes : (c : Contents) (s : Seen) (k : Kept) (p : List ℕ) (now : �
     → Awaits c (streamed s p now) (clocked now p k) p
 awaits_bytes c s k p now m o fits = record {
   opened = m.opened;
-  session = same_session c s (streamed s p now) k.session refl refl refl refl m.session;
+  session = same_session c s (streamed s p now) k.session refl refl refl refl refl m.session;
   open_yet = not_closing s.connected s.closing (untaken_of s) (none_owed c k.session k.output (untaken_of s) m.owed o) m.opened;
   taken = m.taken;
   nothing = o;
@@ -317,6 +323,7 @@ awaits_bytes c s k p now m o fits = record {
   user = m.user;
   failures = m.failures;
   stamp = m.stamp;
+  judged = m.judged;
   clock = ap (λ x. cond (has_newline p) now x) m.clock;
   lines = λ more. rw append_assoc (m.lines (p ++ more) ∙ ap (λ q. coming k.held (q ++ (p ++ more))) (m.cut_whole (none_owed c k.session k.output (untaken_of s) m.owed o)));
   piece = fits;
@@ -459,12 +466,13 @@ part_took c s k out n now m h owes kind =
       taken = taken_fits s n (omega (arith, h)) m.taken;
       owed = subst (λ xs. Owes c k.session out xs) (sym o) owes;
       serving = λ t. m.serving (kind t);
-      session = same_session c s (took s n now) k.session refl refl refl refl m.session;
+      session = same_session c s (took s n now) k.session refl refl refl refl refl m.session;
       parted = m.parted;
       closing = m.closing;
       user = m.user;
       failures = m.failures;
       stamp = m.stamp;
+      judged = m.judged;
       clock = refl;
       lines = m.lines;
       cut_whole = λ none. absurd (omega (arith, some, ap length (sym o ∙ none)));
@@ -483,12 +491,13 @@ awaits_took c s k n now m e b =
       taken = taken_fits s n (omega (arith, e)) m.taken;
       nothing = refl;
       owed = owed_took s n now ∙ none;
-      session = same_session c s (took s n now) k.session refl refl refl refl m.session;
+      session = same_session c s (took s n now) k.session refl refl refl refl refl m.session;
       open_yet = b;
       closing = m.closing;
       user = m.user;
       failures = m.failures;
       stamp = m.stamp;
+      judged = m.judged;
       clock = refl;
       lines = m.lines;
       piece = m.piece_kept;

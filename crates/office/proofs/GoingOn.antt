@@ -11,7 +11,7 @@ use Rattle.vault.specs.Records.{Records}
 use Rattle.session.specs.Session.{Session}
 use Rattle.session.specs.View.{is_marked}
 use Rattle.office.specs.History.{Entry, Line, Tag, Said, Says, in_force, is_no_memory}
-use Rattle.office.specs.Connections.{is_quit, opens, reading, user}
+use Rattle.office.specs.Connections.{is_quit, judging, opens, reading, user}
 use Rattle.office.specs.Sessions.{ends_session, login_by, marks, marks_after_line}
 use Rattle.office.specs.Answered.{tag_of}
 use Rattle.office.specs.Sitting.{Sitting, GoesOn, reply_inside, sitting_of}
@@ -25,11 +25,12 @@ pub record LeavesInside (B : Records) (e : Entry) (G : List Entry) (c : ℕ) (be
   pub stays : login_by e.act e.said c (user G c) ≡ None
   pub opened : opens e.act c ≡ false
   pub rules : in_force B (e ∷ G) ≡ in_force B G
+  pub set : judging (e ∷ G) ≡ judging G
   pub marked : ((n : ℕ) → is_marked before n ≡ is_marked (marks G c) n) → (n : ℕ) → is_marked now n ≡ is_marked (marks (e ∷ G) c) n
 
 module _ (B : Records) (e : Entry) (G : List Entry) (c : ℕ) (p : Policy) where
-  pub stays_inside : (v w : Sitting) → w.name ≡ v.name → w.view ≡ v.view → LeavesInside B e G c v.marks w.marks → AgreesInside B G c p v → AgreesInside B (e ∷ G) c p w
-  stays_inside v w n rows l a =
+  pub stays_inside : (v w : Sitting) → w.name ≡ v.name → w.removals ≡ v.removals → w.view ≡ v.view → LeavesInside B e G c v.marks w.marks → AgreesInside B G c p v → AgreesInside B (e ∷ G) c p w
+  stays_inside v w n j rows l a =
       let g = l.goes_on in
       let s = l.stays in
       let o = l.opened in
@@ -37,6 +38,7 @@ module _ (B : Records) (e : Entry) (G : List Entry) (c : ℕ) (p : Policy) where
       record {
         live = rw (g, s, lv) refl;
         login = rw (o, s) (a.login ∙ ap (λ k. Some k) (sym n));
+        judged = j ∙ (a.judged ∙ sym l.set);
         marks = l.marked a.marks;
         view = rows ∙ (a.view ∙ rw s refl);
         policy = a.policy ∙ sym l.rules;
@@ -76,22 +78,24 @@ module _ (B : Records) (G : List Entry) (c : ℕ) (p : Policy) (s new : Session)
         stays = rw (own, none) refl;
         opened = refl;
         rules = refl;
+        set = refl;
         marked = λ same n. rw own (on.marks n ∙ marks_alike s.marks (marks G c) same (Says told_so) n);
       }
 
   -- its own line, other than a QUIT
   pub goes_on_inside : is_quit (reading x) ≡ false → AgreesInside B G c p (sitting_of s kept) → AgreesInside B (line_said ∷ G) c p (sitting_of new kept)
-  goes_on_inside q a = stays_inside B line_said G c p (sitting_of s kept) (sitting_of new kept) on.name refl (line_leaves q) a
+  goes_on_inside q a = stays_inside B line_said G c p (sitting_of s kept) (sitting_of new kept) on.name on.removals refl (line_leaves q) a
 
 -- another connection's line
 pub other_line : (B : Records) (G : List Entry) (n c : ℕ) (p : Policy) (v : Sitting) (x : Cut) (t : Tag) (said : Said) → (n ≡ c → ⊥)
     → AgreesInside B G c p v → AgreesInside B (record { act = Line n x; tag = t; said = said } ∷ G) c p v
 other_line B G n c p v x t said apart a =
     let f = ne_eqb n c apart in
-    stays_inside B (record { act = Line n x; tag = t; said = said }) G c p v v refl refl (record {
+    stays_inside B (record { act = Line n x; tag = t; said = said }) G c p v v refl refl refl (record {
       goes_on = rw f refl;
       stays = rw f refl;
       opened = refl;
       rules = refl;
+      set = refl;
       marked = λ same k. rw f (same k);
     }) a

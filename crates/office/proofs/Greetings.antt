@@ -14,8 +14,9 @@ use Rattle.popline.specs.Cutting.{Cut, has_newline}
 use Rattle.popline.specs.Replies.{timestamp}
 use Rattle.vault.specs.Records.{Records}
 use Rattle.policy.specs.Policy.{are_distinct}
+use Rattle.session.specs.declared.removals.Removals.{Removals}
 use Rattle.office.specs.History.{Act, Open, Gone, Idle, Deposit, Administer, Restart, Tag, Done, Failed, NoMemory, Entry, Said}
-use Rattle.office.specs.Connections.{boot_and_host, boot_and_host_after, serving, closing}
+use Rattle.office.specs.Connections.{setting, setting_after, judging, serving, closing}
 use Rattle.office.specs.Told.{told, said_to}
 use Rattle.office.specs.Answers.{AdminCommand}
 use Rattle.office.specs.Events.{Event, Mark, Ignored, Tagged, Log, Trace}
@@ -89,16 +90,16 @@ record IsPast (bs : List ℕ) (now opens : ℕ) (stamp : List ℕ) : Type 0 wher
 
 -- the boot numbers are bs, and so many connections were opened since the last
 record IsGreeted (G : List Entry) (bs : List ℕ) (opens : ℕ) : Type 0 where
-  past : (s : List ℕ) → In s (stamps G) → IsPast bs (boot_and_host G).0 opens s
+  past : (s : List ℕ) → In s (stamps G) → IsPast bs (setting G).0 opens s
   apart : are_distinct bytes_eq (stamps G) ≡ true
-  current : In (boot_and_host G).0 bs
-  current_fits : (boot_and_host G).0 < 2 ^ 64
+  current : In (setting G).0 bs
+  current_fits : (setting G).0 < 2 ^ 64
 
 -- ---- acts that neither open a connection nor restart
 
 is_quiet : Act → Bool
 is_quiet (Open n) = false
-is_quiet (Restart boot host) = false
+is_quiet (Restart boot host removals) = false
 is_quiet _ = true
 
 quiet_stamps : (a : Act) (s : Said) (before : List (List ℕ)) → is_quiet a ≡ true → stamps_after a s before ≡ before
@@ -106,29 +107,29 @@ unfolding is_quiet
 quiet_stamps (Open n) s before h = absurd (true≢false (sym h))
 quiet_stamps _ s before h = refl
 
-quiet_boot : (a : Act) (before : ℕ × List ℕ) → is_quiet a ≡ true → boot_and_host_after a before ≡ before
+quiet_boot : (a : Act) (before : ℕ × List ℕ × Removals) → is_quiet a ≡ true → setting_after a before ≡ before
 unfolding is_quiet
-quiet_boot (Restart boot host) before h = absurd (true≢false (sym h))
+quiet_boot (Restart boot host removals) before h = absurd (true≢false (sym h))
 quiet_boot _ before h = refl
 
 all_quiet : List (Act × Tag) → Bool
 all_quiet As = list_all (λ (x : Act × Tag). is_quiet x.0) As
 
 quiet : (B : Records) (As H : List (Act × Tag)) → all_quiet As ≡ true
-    → (stamps (told B (As ++ H)) ≡ stamps (told B H)) × (boot_and_host (told B (As ++ H)) ≡ boot_and_host (told B H))
+    → (stamps (told B (As ++ H)) ≡ stamps (told B H)) × (setting (told B (As ++ H)) ≡ setting (told B H))
 unfolding all_quiet
 quiet B [] H h = (refl, refl)
 quiet B ((a, t) ∷ As) H h =
     let p = and_parts (is_quiet a) (list_all (λ (x : Act × Tag). is_quiet x.0) As) h in
     let q = quiet B As H p.1 in (
       quiet_stamps a (said_to B (told B (As ++ H)) a t) (stamps (told B (As ++ H))) p.0 ∙ q.0,
-      quiet_boot a (boot_and_host (told B (As ++ H))) p.0 ∙ q.1,
+      quiet_boot a (setting (told B (As ++ H))) p.0 ∙ q.1,
     )
 
 quietly : (B : Records) (As H : List (Act × Tag)) (bs : List ℕ) (n : ℕ) → all_quiet As ≡ true → IsGreeted (told B H) bs n → IsGreeted (told B (As ++ H)) bs n
 quietly B As H bs n h g =
     let q = quiet B As H h in
-    let e : (boot_and_host (told B (As ++ H))).0 ≡ (boot_and_host (told B H)).0 = ap (λ (x : ℕ × List ℕ). x.0) q.1 in
+    let e : (setting (told B (As ++ H))).0 ≡ (setting (told B H)).0 = ap (λ (x : ℕ × List ℕ × Removals). x.0) q.1 in
     record {
       past = λ s i. let i' = subst (λ xs. In s xs) q.0 i in subst (λ k. IsPast bs k n s) (sym e) (g.past s i');
       apart = ap (λ xs. are_distinct bytes_eq xs) q.0 ∙ g.apart;
@@ -141,9 +142,9 @@ quietly B As H bs n h g =
 not_known : (b : ℕ) (bs : List ℕ) → list_any (λ n. b == n) bs ≡ false → In b bs → ⊥
 not_known b bs h i = any_in (λ n. b == n) bs b h i (eq-eqb b b refl)
 
-restarted : (B : Records) (H : List (Act × Tag)) (bs : List ℕ) (n b : ℕ) (host : List ℕ) (t : Tag) → IsGreeted (told B H) bs n
-    → list_any (λ k. b == k) bs ≡ false → b < 2 ^ 64 → IsGreeted (told B ((Restart b host, t) ∷ H)) (b ∷ bs) 0
-restarted B H bs n b host t g new fits = record {
+restarted : (B : Records) (H : List (Act × Tag)) (bs : List ℕ) (n b : ℕ) (host : List ℕ) (r : Removals) (t : Tag) → IsGreeted (told B H) bs n
+    → list_any (λ k. b == k) bs ≡ false → b < 2 ^ 64 → IsGreeted (told B ((Restart b host r, t) ∷ H)) (b ∷ bs) 0
+restarted B H bs n b host r t g new fits = record {
   past = λ s i. let p = g.past s i in record {
     number = p.number;
     boot = p.boot;
@@ -159,13 +160,13 @@ restarted B H bs n b host t g new fits = record {
   current_fits = fits;
 }
 
-started : (B : Records) (b : ℕ) (host : List ℕ) (t : Tag) → b < 2 ^ 64 → IsGreeted (told B ((Restart b host, t) ∷ [])) (b ∷ []) 0
-started B b host t fits = record { past = λ s i. absurd i; apart = refl; current = inl refl; current_fits = fits }
+started : (B : Records) (b : ℕ) (host : List ℕ) (r : Removals) (t : Tag) → b < 2 ^ 64 → IsGreeted (told B ((Restart b host r, t) ∷ [])) (b ∷ []) 0
+started B b host r t fits = record { past = λ s i. absurd i; apart = refl; current = inl refl; current_fits = fits }
 
 opens_more : (B : Records) (H : List (Act × Tag)) (bs : List ℕ) (n : ℕ) → IsGreeted (told B H) bs n → n + 1 < 2 ^ 64 → IsGreeted (told B ((Open (n + 1), Done) ∷ H)) bs (n + 1)
 opens_more B H bs n g fits =
-    let b : ℕ = (boot_and_host (told B H)).0 in
-    let host : List ℕ = (boot_and_host (told B H)).1 in
+    let b : ℕ = (setting (told B H)).0 in
+    let host : List ℕ = (setting (told B H)).1 in
     record {
       past = λ s i. ⊎_elim
           (λ (e : s ≡ timestamp (n + 1) b host). record {
@@ -249,11 +250,11 @@ quiet_admin command t = refl
 -- ---- all events
 
 ignored_boots : (e : Event) (before : List ℕ) → boots_after e Ignored before ≡ before
-ignored_boots (event.Start host boot idle) before = refl
+ignored_boots (event.Start host boot limits) before = refl
 ignored_boots _ before = refl
 
 ignored_opened : (e : Event) (before : ℕ) → opened_after e Ignored before ≡ before
-ignored_opened (event.Start host boot idle) before = refl
+ignored_opened (event.Start host boot limits) before = refl
 ignored_opened _ before = refl
 
 abbrev AreGreeted : Records → Log → Type 0
@@ -273,16 +274,16 @@ next : (B : Records) (T : Log) (e : Event) (m : Mark) → (are_formed T ≡ true
 next B T e Ignored rest f d =
     let d' = rw (ignored_boots e (boots T)) at d in
     rw (ignored_boots e (boots T), ignored_opened e (opened T)) (rest f d')
-next B T (event.Start host boot idle) (Tagged t) rest f d =
-    let p = and_parts (is_formed T (event.Start host boot idle)) (are_formed T) f in
-    let a = and_parts (is_host host && is_u64 boot && nat_le 600 idle) (nat_le idle 86400) p.0 in
-    let b = and_parts (is_host host && is_u64 boot) (nat_le 600 idle) a.0 in
+next B T (event.Start host boot limits) (Tagged t) rest f d =
+    let p = and_parts (is_formed T (event.Start host boot limits)) (are_formed T) f in
+    let a = and_parts (is_host host && is_u64 boot && nat_le 600 limits.idle) (nat_le limits.idle 86400) p.0 in
+    let b = and_parts (is_host host && is_u64 boot) (nat_le 600 limits.idle) a.0 in
     let n = new_boot boot (boots T) d in
-    restarted B (acts_from B T) (boots T) (opened T) boot host t (rest p.1 n.1) n.0 (fits_u64 boot (and_parts (is_host host) (is_u64 boot) b.0).1)
+    restarted B (acts_from B T) (boots T) (opened T) boot host limits.removals t (rest p.1 n.1) n.0 (fits_u64 boot (and_parts (is_host host) (is_u64 boot) b.0).1)
 next B T (event.Restart boot) (Tagged t) rest f d =
     let p = and_parts (is_u64 boot) (are_formed T) f in
     let n = new_boot boot (boots T) d in
-    restarted B (acts_from B T) (boots T) (opened T) boot (boot_and_host (told B (acts_from B T))).1 t (rest p.1 n.1) n.0 (fits_u64 boot p.0)
+    restarted B (acts_from B T) (boots T) (opened T) boot (setting (told B (acts_from B T))).1 (judging (told B (acts_from B T))) t (rest p.1 n.1) n.0 (fits_u64 boot p.0)
 next B T event.Connect (Tagged Done) rest f d =
     let p = and_parts (is_u64 (next_number T)) (are_formed T) f in
     opens_more B (acts_from B T) (boots T) (opened T) (rest p.1 d) (fits_u64 (next_number T) p.0)
@@ -307,11 +308,11 @@ next B T (event.Admin command) (Tagged t) rest f d =
     quietly B ((Administer command, t) ∷ []) (acts_from B T) (boots T) (opened T) (quiet_admin command t) (rest p.1 d)
 
 first : (B : Records) (e : Event) (m : Mark) → IsStart e m → are_formed ((e, m) ∷ []) ≡ true → AreGreeted B ((e, m) ∷ [])
-first B (event.Start host boot idle) (Tagged t) s f =
-    let p = and_parts (is_formed [] (event.Start host boot idle)) true f in
-    let a = and_parts (is_host host && is_u64 boot && nat_le 600 idle) (nat_le idle 86400) p.0 in
-    let b = and_parts (is_host host && is_u64 boot) (nat_le 600 idle) a.0 in
-    started B boot host t (fits_u64 boot (and_parts (is_host host) (is_u64 boot) b.0).1)
+first B (event.Start host boot limits) (Tagged t) s f =
+    let p = and_parts (is_formed [] (event.Start host boot limits)) true f in
+    let a = and_parts (is_host host && is_u64 boot && nat_le 600 limits.idle) (nat_le limits.idle 86400) p.0 in
+    let b = and_parts (is_host host && is_u64 boot) (nat_le 600 limits.idle) a.0 in
+    started B boot host limits.removals t (fits_u64 boot (and_parts (is_host host) (is_u64 boot) b.0).1)
 first B e m s f = absurd s
 
 greeted : (B : Records) (T : Log) → BeginsWithStart T → are_formed T ≡ true → are_distinct differ (boots T) ≡ true → AreGreeted B T

@@ -35,10 +35,10 @@ at_end (suc n) (a ∷ xs) e = at_end n xs e
 
 -- what a trace says of a connection after more octets came at a moment, after some were taken, and after a line got this reply
 abbrev pub streamed : Seen → List ℕ → (now : ℕ) → Seen
-streamed s p now = record { connected = s.connected; closing = s.closing; live = s.live; stream = s.stream ++ p; acted = s.acted; serving = s.serving; sent = s.sent; taken = s.taken; user = s.user; failures = s.failures; stamp = s.stamp; login = s.login; marks = s.marks; view = s.view; clock = if has_newline p then now else s.clock }
+streamed s p now = record { connected = s.connected; closing = s.closing; live = s.live; stream = s.stream ++ p; acted = s.acted; serving = s.serving; sent = s.sent; taken = s.taken; user = s.user; failures = s.failures; stamp = s.stamp; judging = s.judging; login = s.login; marks = s.marks; view = s.view; clock = if has_newline p then now else s.clock }
 
 abbrev pub took : Seen → ℕ → (now : ℕ) → Seen
-took s n now = record { connected = s.connected; closing = s.closing; live = s.live; stream = s.stream; acted = s.acted; serving = s.serving; sent = s.sent; taken = s.taken + n; user = s.user; failures = s.failures; stamp = s.stamp; login = s.login; marks = s.marks; view = s.view; clock = now }
+took s n now = record { connected = s.connected; closing = s.closing; live = s.live; stream = s.stream; acted = s.acted; serving = s.serving; sent = s.sent; taken = s.taken + n; user = s.user; failures = s.failures; stamp = s.stamp; judging = s.judging; login = s.login; marks = s.marks; view = s.view; clock = now }
 
 -- `found` is what a login would find
 abbrev pub lined : Seen → Cut → Reply → (found : LoginName → List store.Message) → Seen
@@ -54,6 +54,7 @@ lined s x r found = record {
   user = user_after_line (reading x) (Says r) s.user;
   failures = if is_failure (Says r) then s.failures + 1 else s.failures;
   stamp = s.stamp;
+  judging = s.judging;
   login = login_after false (logs_in (reading x) (Says r) s.user) s.login;
   marks = marks_after_line (Says r) s.marks;
   view = view_after (logs_in (reading x) (Says r) s.user) found s.view;
@@ -137,6 +138,7 @@ pub record Awaits (c : Contents) (s : Seen) (k : Kept) (octets : List ℕ) : Typ
   pub user : k.talk.user ≡ s.user
   pub failures : min k.talk.failures 2 ≡ min s.failures 2
   pub stamp : k.stamp ≡ s.stamp
+  pub judged : k.talk.removals ≡ s.judging
   pub clock : k.clock ≡ s.clock
   pub lines : (more : List ℕ) → drop s.acted (cut (s.stream ++ more)) ≡ coming k.held (octets ++ more)
   pub piece : length octets ≤ most_in_a_piece
@@ -175,6 +177,7 @@ module _ (c : Contents) (s : Seen) (k k' : Kept) (p : List ℕ) (answer : Reply)
         closing = ap (λ (k : Kept). k.talk.closing) e' ∙ m.closing;
         user = ap (λ (k : Kept). k.talk.user) e' ∙ m.user;
         failures = ap (λ (k : Kept). min k.talk.failures 2) e' ∙ m.failures;
+        judged = ap (λ (k : Kept). k.talk.removals) e' ∙ m.judged;
         stamp = ap (λ (k : Kept). k.stamp) e ∙ m.stamp;
         clock = ap (λ (k : Kept). k.clock) e ∙ m.clock;
         lines = λ more. left more ∙ ap (λ xs. xs ++ coming k'.held (k'.pending ++ more)) (let q : shown k'.held ≡ [] = rw w refl in q);
@@ -222,6 +225,7 @@ module _ (c : Contents) (s : Seen) (k k' : Kept) (p : List ℕ) (answer : Reply)
         serving = owes.serves;
         closing = ap (λ (t : Talk). t.closing) talk_is ∙ ap (λ b. closes (reading x) (Says answer) || b) m.closing;
         user = ap (λ (t : Talk). t.user) talk_is ∙ ap (user_after_line (reading x) (Says answer)) m.user;
+        judged = ap (λ (t : Talk). t.removals) talk_is ∙ m.judged;
         failures = ap (λ (t : Talk). min t.failures 2) talk_is ∙ failures_alike (is_failure (Says answer)) k.talk.failures s.failures m.failures;
         stamp = ap (λ (k : Kept). k.stamp) e ∙ m.stamp;
         clock = ap (λ (k : Kept). k.clock) e ∙ m.clock;

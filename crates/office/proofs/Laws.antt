@@ -33,7 +33,7 @@ no_opening (Gone n) t s c h = refl
 no_opening (Idle n) t s c h = refl
 no_opening (Deposit a b i x) t s c h = refl
 no_opening (Administer a) t s c h = refl
-no_opening (Restart b h') t s c h = refl
+no_opening (Restart b h' r) t s c h = refl
 
 login_side : (op : Bool) (o : Option LoginName) (before : Option LoginName) (d : List ℕ) → op ≡ false
     → is_login_to d (login_after op o before) ≡ true
@@ -152,7 +152,7 @@ lock B G (Gone n) t c name e = absurd (no_some name e)
 lock B G (Idle n) t c name e = absurd (no_some name e)
 lock B G (Deposit a b i x) t c name e = absurd (no_some name e)
 lock B G (Administer a) t c name e = absurd (no_some name e)
-lock B G (Restart b h) t c name e = absurd (no_some name e)
+lock B G (Restart b h r) t c name e = absurd (no_some name e)
 
 same_number : (o : Option ℕ) (c q : ℕ) → o ≡ Some c → o ≡ Some q → c ≡ q
 same_number o c q h k = let e : Some c ≡ Some q = sym h ∙ k in cc
@@ -195,7 +195,7 @@ heard_more (Gone n) xs c h = h
 heard_more (Idle n) xs c h = h
 heard_more (Deposit a b i x) xs c h = h
 heard_more (Administer a) xs c h = h
-heard_more (Restart b h') xs c h = h
+heard_more (Restart b h' r) xs c h = h
 
 heard_now : (a : Act) (xs : List ℕ) (c : ℕ) → line_number a ≡ Some c → list_any (λ n. n == c) (heard_after a xs) ≡ true
 unfolding line_number
@@ -205,7 +205,7 @@ heard_now (Gone n) xs c e = absurd (no_some c e)
 heard_now (Idle n) xs c e = absurd (no_some c e)
 heard_now (Deposit a b i x) xs c e = absurd (no_some c e)
 heard_now (Administer a) xs c e = absurd (no_some c e)
-heard_now (Restart b h) xs c e = absurd (no_some c e)
+heard_now (Restart b h r) xs c e = absurd (no_some c e)
 
 pub held_heard : (B : Records) (H : List (Act × Tag)) (d : List ℕ) (c : ℕ) → holds (told B H) d c ≡ true → list_any (λ n. n == c) (heard (told B H)) ≡ true
 held_heard B [] d c h = absurd (true≢false (sym h))

@@ -3,7 +3,7 @@ use Rattle.std.proofs.Common.{◌≡◌, ◌≤◌, ℕ, Bool, true, false, List
 use Rattle.std.specs.BTreeMap.{get}
 use Rattle.vault.specs.Changes.{Contents}
 use Rattle.office.specs.History.{Done}
-use Rattle.office.specs.Events.{Event, Trace, Tagged, given}
+use Rattle.office.specs.Events.{Limits, Event, Trace, Tagged, given}
 use Rattle.office.specs.Events as event
 use Rattle.office.specs.Trace.{history, rest, rest_if, is_open, untaken, most_lent}
 use Rattle.office.specs.Expected.{IsOutcome}
@@ -41,8 +41,8 @@ pub admitted : {V : Type 0} {Holds : V → Contents → Type 0} (o : Office V) (
 admitted o T e w st is = record { lent = lent_by o; owed = lends_owed o T st; outcome = w; is = is; mark = refl }
 
 -- an opening
-pub start_admitted : (T : Trace) (host : List ℕ) (boot idle : ℕ) → IsAdmitted T (event.Start host boot idle) (Tagged Done)
-start_admitted T host boot idle = record {
+pub start_admitted : (T : Trace) (host : List ℕ) (boot : ℕ) (limits : Limits) → IsAdmitted T (event.Start host boot limits) (Tagged Done)
+start_admitted T host boot limits = record {
   lent = λ c. 0;
   owed = λ c. omega arith;
   outcome = outcome.Done;

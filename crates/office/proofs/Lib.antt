@@ -1,5 +1,6 @@
 pub mod Sample
 mod CommandRows
+mod JudgedRows
 mod OfficeRows
 mod RefusedRows
 mod Parts

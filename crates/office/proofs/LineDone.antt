@@ -17,7 +17,7 @@ use Rattle.session.specs.View.{is_marked, visible}
 use Rattle.vault.specs.Changes.{Contents, AreSound, records_of}
 use Rattle.session.specs.Session.{Session}
 use Rattle.office.specs.History.{Says, in_force, exists, maildrops, arrivals}
-use Rattle.office.specs.Connections.{reading, is_quit, user, failures}
+use Rattle.office.specs.Connections.{reading, is_quit, user, failures, judging}
 use Rattle.office.specs.Sessions.{live, login, marks, view, logs_in, login_after, view_after, holder, present, records, removed}
 use Rattle.office.specs.Replying.{reply_to_cut, stamp}
 use Rattle.office.specs.Events.{Trace, Event, Tagged, given}
@@ -64,6 +64,7 @@ carry k k' s kq stays m = record {
   user = m.user;
   failures = m.failures;
   stamp = m.stamp;
+  judged = m.judged;
   clock = m.clock;
   lines = m.lines;
   cut_whole = m.cut_whole;
@@ -76,6 +77,7 @@ carry k k' s kq stays m = record {
     at (Some q) on i = record {
       live = i.live;
       login = i.login;
+      judged = i.judged;
       marks = i.marks;
       kept = i.kept;
       lies = lies_on k k' q i.kept i.lies (on q refl i);
@@ -116,7 +118,7 @@ module _ {Before : Contents → Type 0} (T : Trace) (n : ℕ) (keeps : Keeps Bef
 
   -- the line's connection, as it waits for an answer
   module _ (s : Seen) (k : Kept) (p : List ℕ) (m : Awaits store_now s k p) (l : s.live ≡ live (history T) n) (u : s.user ≡ user (history T) n)
-      (f : s.failures ≡ failures (history T) n) (st : s.stamp ≡ stamp (history T) n) (lg : s.login ≡ login (history T) n) (mk : s.marks ≡ marks (history T) n)
+      (f : s.failures ≡ failures (history T) n) (st : s.stamp ≡ stamp (history T) n) (jg : s.judging ≡ judging (history T)) (lg : s.login ≡ login (history T) n) (mk : s.marks ≡ marks (history T) n)
       (vw : s.view ≡ view T.base (history T) n) where
     outside : IsSession store_now s None → AgreesOutside T.base (history T) n (desk k.stamp) k.talk
     outside i = record {
@@ -135,6 +137,7 @@ module _ {Before : Contents → Type 0} (T : Trace) (n : ℕ) (keeps : Keeps Bef
     inside o i = judges_inside T.base (history T) n store_now (desk k.stamp) k.talk o i.kept i.lies (record {
       live = sym l ∙ i.live;
       login = sym lg ∙ i.login;
+      judged = i.judged ∙ jg;
       marks = λ q. i.marks q ∙ ap (λ ms. is_marked ms q) mk;
       view = i.view ∙ vw;
       policy = rules;
@@ -204,10 +207,11 @@ module _ {Before : Contents → Type 0} (T : Trace) (n : ℕ) (keeps : Keeps Bef
       sits_line : has_newline p ≡ true → IsSession (held_after w policy k.session (reading x) store_now) (lined s x (reply w) (finds store_now policy)) k'.session
       sits_line h =
           session_after store_now policy s x (reply w) w k.session k'.session sound m.session
-          (subst (λ o. SessionAfter (is_quit (reading x)) (logs_in (reading x) (Says (reply w)) o) store_now policy (reply w) k.session k'.session) m.user (became_line h))
+          (subst (λ j. SessionAfter (is_quit (reading x)) (logs_in (reading x) (Says (reply w)) s.user) store_now policy j (reply w) k.session k'.session) m.judged
+          (subst (λ o. SessionAfter (is_quit (reading x)) (logs_in (reading x) (Says (reply w)) o) store_now policy k.talk.removals (reply w) k.session k'.session) m.user (became_line h)))
 
       -- the messages of a session that goes on stay
-      stays_own : (quits : Bool) (logged : Option LoginName) → is_quit (reading x) ≡ quits → SessionAfter quits logged store_now policy (reply w) k.session k'.session
+      stays_own : (quits : Bool) (logged : Option LoginName) → is_quit (reading x) ≡ quits → SessionAfter quits logged store_now policy k.talk.removals (reply w) k.session k'.session
           → StayFor store_now (held_after w policy k.session (reading x) store_now) k'.session
       stays_own true logged q is = λ o e. absurd (nobody o (sym is ∙ e))
         where
@@ -275,4 +279,4 @@ module _ {Before : Contents → Type 0} (T : Trace) (n : ℕ) (keeps : Keeps Bef
       pub locked : (d : List ℕ) → get name_cmp locks' d ≡ holder (history T') d
       locked d = sym (holder_is T.base (acts T') d (get name_cmp locks' d)
           (locks_follow (seen T) (seen T') n others locks locks' (λ m. lock_found T.base (acts T) m (get name_cmp locks m) (sym (held m))) store_now after k.session k'.session
-          (same_session store_now s (seen T n) k.session (sym l) (sym lg) (sym mk) (sym vw) m.session) here.session alone same_login follow d))
+          (same_session store_now s (seen T n) k.session (sym l) (sym lg) (sym jg) (sym mk) (sym vw) m.session) here.session alone same_login follow d))

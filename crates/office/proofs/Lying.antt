@@ -20,6 +20,7 @@ use Rattle.vault.specs.Changes.{Contents, AreSound, records_of, head_of, heads, 
 use Rattle.session.specs.Session.{Session, started}
 use Rattle.session.specs.Session as head
 use Rattle.session.specs.View.{visible, may_read}
+use Rattle.session.specs.declared.removals.Removals.{Removals}
 use Rattle.office.specs.Laws.{In}
 use Rattle.office.specs.Sitting.{LiesIn}
 use Rattle.office.proofs.Snapshot.{in_filter, filter_in, in_front}
@@ -138,8 +139,8 @@ module _ (c : Contents) (p : Policy) (name : LoginName) where
       let q = in_filter (λ (y : Keyed). bytes_eq y.message.maildrop name.maildrop) c.messages x r.0 in
       (q.0, (bytes_eq-Decides x.message.maildrop name.maildrop).0 q.1)
 
-  pub lies_found : AreSound c → LiesIn c (started p name.clerk name.maildrop (heads name.maildrop c)) found
-  lies_found a = record {
+  pub lies_found : (j : Removals) → AreSound c → LiesIn c (started p j name.clerk name.maildrop (heads name.maildrop c)) found
+  lies_found j a = record {
     heads = found_heads;
     there = λ x i. (found_there x i).0;
     within = λ x i. (found_there x i).1;
@@ -147,6 +148,6 @@ module _ (c : Contents) (p : Policy) (name : LoginName) where
   }
 
   -- what a login finds lies in the store
-  pub begins : AreSound c → (s : Session) → s ≡ started p name.clerk name.maildrop (heads name.maildrop c)
+  pub begins : (j : Removals) → AreSound c → (s : Session) → s ≡ started p j name.clerk name.maildrop (heads name.maildrop c)
       → (kept : List Keyed) × LiesIn c s kept × (map (λ (x : Keyed). x.message) kept ≡ visible records.class_of p name (in_maildrop name.maildrop (records_of c).messages))
-  begins a s e = (found, subst (λ (s : Session). LiesIn c s found) (sym e) (lies_found a), found_messages)
+  begins j a s e = (found, subst (λ (s : Session). LiesIn c s found) (sym e) (lies_found j a), found_messages)

@@ -16,12 +16,14 @@ use Rattle.vault.specs.Records.{Records, class_of, octets_of, uid_of}
 use Rattle.vault.specs.declared.record.Message.{Message}
 use Rattle.policy.specs.declared.decide.Decision.{Decision}
 use Rattle.session.specs.View.{at_number, is_marked, referred, retrieval, removal, denying}
+use Rattle.session.specs.declared.removals.Removals.TheVariants.{JudgedAtDele, JudgedAtQuit}
+use Rattle.session.specs.declared.removals.Removals.{Removals}
 use Rattle.office.specs.History.{Entry, Act, Tag, Done, Failed, NoMemory, Said, Says, Line, Open, Gone, Idle, Deposit, Administer, Restart, in_force}
 use Rattle.office.specs.Sessions.{live, login, login_by, logs_in, view, marks, marks_after, marks_after_line, ends_session}
-use Rattle.office.specs.Connections.{user, reading}
+use Rattle.office.specs.Connections.{user, reading, judging}
 use Rattle.office.specs.Told.{told, said_to}
 use Rattle.office.specs.Replying.{said_to_line, reply_to_reading, is_permitted, when_permitted, obeyed, refusal, deleted_if, served_if, quit_says, name_or_nobody}
-use Rattle.office.specs.Laws.{MarksAreByView, marks_by_view, marks_by_act, marks_by_line, marks_unless_login, is_removable}
+use Rattle.office.specs.Laws.{MarksAreByView, marks_by_view, marks_by_act, marks_by_line, marks_unless_login, is_markable}
 use Rattle.office.proofs.Laws.{live_side, no_some}
 
 quit_keeps : (o : Option (List ℕ)) (ms : List ℕ) → marks_after_line (Says (quit_says o)) ms ≡ ms
@@ -51,12 +53,13 @@ decided : (b : Bool) (rule : List ℕ) (n : ℕ) (ms : List ℕ) → marks_after
 decided true rule n ms = refl
 decided false rule n ms = refl
 
-dele_marks : (o : Option Message) (b : Bool) (n : ℕ) (policy : Policy) (name : LoginName) (ms : List ℕ)
-    → marks_after_line (Says (referred o b NoSuchMessage (AlreadyMarked n) (λ (m : Message). deleted_if (removal policy name m.class) n))) ms ≡ (if not b && is_removable o policy name then ms ++ n ∷ [] else ms)
-dele_marks None true n policy name ms = refl
-dele_marks None false n policy name ms = refl
-dele_marks (Some m) true n policy name ms = refl
-dele_marks (Some m) false n policy name ms = decided (removal policy name m.class).allowed (removal policy name m.class).rule n ms
+dele_marks : (j : Removals) (o : Option Message) (b : Bool) (n : ℕ) (policy : Policy) (name : LoginName) (ms : List ℕ)
+    → marks_after_line (Says (referred o b NoSuchMessage (AlreadyMarked n) (λ (m : Message). deleted_if j (removal policy name m.class) n))) ms ≡ (if not b && is_markable j o policy name then ms ++ n ∷ [] else ms)
+dele_marks j None true n policy name ms = refl
+dele_marks j None false n policy name ms = refl
+dele_marks j (Some m) true n policy name ms = refl
+dele_marks JudgedAtQuit (Some m) false n policy name ms = refl
+dele_marks JudgedAtDele (Some m) false n policy name ms = decided (removal policy name m.class).allowed (removal policy name m.class).rule n ms
 
 by_command : (B : Records) (G : List Entry) (c : ℕ) (command : Command) → live G c ≡ true
     → marks_after_line (Says (when_permitted (is_permitted G c (keyword_of command)) (obeyed B G c command))) (marks G c) ≡ marks_by_line B G c (Ok command) (marks G c)
@@ -72,7 +75,7 @@ by_command B G c UidlAll l = rw l refl
 by_command B G c (UidlOne n) l = rw l (picked_keeps (at_number (view B G c) n) (is_marked (marks G c) n) n (λ m. UidLine n (uid_of m)) (marks G c) (λ m. refl))
 by_command B G c (Retr n) l = rw l (served_keeps B G c n (λ (m : Message). MessageReply (octets_of m) (stuffed_lines (lines_of m.text))) (λ m. refl))
 by_command B G c (Top n k) l = rw l (served_keeps B G c n (λ (m : Message). TopPart (stuffed_lines (top_part (lines_of m.text) k))) (λ m. refl))
-by_command B G c (Dele n) l = rw l (dele_marks (at_number (view B G c) n) (is_marked (marks G c) n) n (in_force B G) (name_or_nobody (login G c)) (marks G c))
+by_command B G c (Dele n) l = rw l (dele_marks (judging G) (at_number (view B G c) n) (is_marked (marks G c) n) n (in_force B G) (name_or_nobody (login G c)) (marks G c))
 by_command B G c Rset l = rw l refl
 by_command B G c Noop l = rw l refl
 
@@ -123,7 +126,7 @@ by_act B G c (Gone n) t l = refl
 by_act B G c (Idle n) t l = refl
 by_act B G c (Deposit d class id text) t l = refl
 by_act B G c (Administer command) t l = refl
-by_act B G c (Restart boot host) t l = refl
+by_act B G c (Restart boot host removals) t l = refl
 
 login_marks : (r : Result Command LineFault) (s : Said) (u : Option LoginName) (name : LoginName) (ms : List ℕ) → logs_in r s u ≡ Some name → marks_after_line s ms ≡ []
 login_marks (Ok (Pass password)) (Says (MaildropHas n m)) u name ms e = refl
@@ -141,7 +144,7 @@ by_login (Gone n) s c u name ms e = absurd (no_some name e)
 by_login (Idle n) s c u name ms e = absurd (no_some name e)
 by_login (Deposit d class id text) s c u name ms e = absurd (no_some name e)
 by_login (Administer command) s c u name ms e = absurd (no_some name e)
-by_login (Restart boot host) s c u name ms e = absurd (no_some name e)
+by_login (Restart boot host removals) s c u name ms e = absurd (no_some name e)
 
 -- the marks of an entry, where those of its front are the same
 by_entry : (B : Records) (a : Act) (t : Tag) (G : List Entry) (c : ℕ) → (live G c ≡ true → marks G c ≡ marks_by_view B G c)

@@ -29,7 +29,7 @@ more_than_lent c T x k m feeds =
 by_tag : (T : Trace) (e : Event) (t : Tag) → may_show T e t ≡ true → may_show T e NoMemory ≡ false → HasMemory (shown_at T.base T.log (history T) e t)
 by_tag T e NoMemory may none = absurd (true≢false (sym may ∙ none))
 by_tag T e Failed may none = tt
-by_tag T (event.Start host boot idle) Done may none = tt
+by_tag T (event.Start host boot limits) Done may none = tt
 by_tag T event.Connect Done may none = tt
 by_tag T (event.Bytes c piece) Done may none = tt
 by_tag T (event.Took c octets) Done may none = tt

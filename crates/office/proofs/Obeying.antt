@@ -51,11 +51,11 @@ module _ (After : Contents → Type 0) (grown : Bool) (c : Contents) (p : Policy
 module _ (After : Contents → Type 0) (grown : Bool) (c : Contents) (p : Policy) (s : Session) (kept : List Keyed) (lies : LiesIn c s kept) (after : Output) where
   pub listed : OwesReply c (Some s) after (ScanListing (sizes_of head.octets_of (unmarked s.marks s.view))) → After c → Obeyed After grown c p s s kept after (Ok ListAll) acted.Done
   listed said held = said_so After grown c p s s kept after (Ok ListAll) acted.Done (ScanListing (sizes_of head.octets_of (unmarked s.marks s.view))) refl said
-      (list_said c s kept lies p) (record { name = refl; view = refl; marks = λ n. refl }) held
+      (list_said c s kept lies p) (record { name = refl; removals = refl; view = refl; marks = λ n. refl }) held
 
   pub identified : OwesReply c (Some s) after (UidListing (uids_of head.uid_of (unmarked s.marks s.view))) → After c → Obeyed After grown c p s s kept after (Ok UidlAll) acted.Done
   identified said held = said_so After grown c p s s kept after (Ok UidlAll) acted.Done (UidListing (uids_of head.uid_of (unmarked s.marks s.view))) refl said
-      (uidl_said c s kept lies p) (record { name = refl; view = refl; marks = λ n. refl }) held
+      (uidl_said c s kept lies p) (record { name = refl; removals = refl; view = refl; marks = λ n. refl }) held
 
 -- ---- a line and what it reads as
 

@@ -12,6 +12,8 @@ use Rattle.vault.specs.declared.record.Keyed.{Keyed}
 use Rattle.vault.specs.declared.record.Message.{Message as Stored}
 use Rattle.session.specs.declared.pick.Pick.{Pick}
 use Rattle.session.specs.declared.pick.Pick.TheVariants.{NoSuch, Deleted, Denied}
+use Rattle.session.specs.declared.removals.Removals.{Removals}
+use Rattle.session.specs.declared.removals.Removals.TheVariants.{JudgedAtDele, JudgedAtQuit}
 use Rattle.session.specs.Session.{Session, picked, marking, mark_answer}
 use Rattle.session.specs.Session as head
 use Rattle.session.specs.View.{at_number, is_marked, refer, referred, removal}
@@ -59,13 +61,14 @@ module _ (c : Contents) (s : Session) (kept : List Keyed) (lies : LiesIn c s kep
   pub uid_said : (r : Result Head Pick) → r ≡ picked s n → answer_by (λ (h : Head). UidLine n (head.uid_of h)) n r ≡ told_inside p s kept (UidlOne n)
   uid_said r e = said_alike c s kept lies n (λ (h : Head). Ok h) (λ (h : Head). UidLine n (head.uid_of h)) (λ (m : Stored). UidLine n (records.uid_of m)) (λ x. refl) r e
 
-  marked_by : (d : Decision) → answer_by (λ (u : Unit {0}). Marked n) n (mark_answer d) ≡ deleted_if d n
-  marked_by d = at d.allowed
+  marked_by : (j : Removals) (d : Decision) → answer_by (λ (u : Unit {0}). Marked n) n (mark_answer j d) ≡ deleted_if j d n
+  marked_by JudgedAtQuit d = refl
+  marked_by JudgedAtDele d = at d.allowed
     where
       at : (b : Bool) → answer_by (λ (u : Unit {0}). Marked n) n (if b then Ok tt else Err (Denied d.rule)) ≡ (if b then Marked n else DeniedBy d.rule)
       at true = refl
       at false = refl
 
   pub dele_said : (r : Result (Unit {0}) Pick) → r ≡ marking p s n → answer_by (λ (u : Unit {0}). Marked n) n r ≡ told_inside p s kept (Dele n)
-  dele_said r e = said_alike c s kept lies n (λ (h : Head). mark_answer (removal p s.name h.class)) (λ (u : Unit {0}). Marked n)
-      (λ (m : Stored). deleted_if (removal p s.name m.class) n) (λ x. marked_by (removal p s.name x.message.class)) r e
+  dele_said r e = said_alike c s kept lies n (λ (h : Head). mark_answer s.removals (removal p s.name h.class)) (λ (u : Unit {0}). Marked n)
+      (λ (m : Stored). deleted_if s.removals (removal p s.name m.class) n) (λ x. marked_by s.removals (removal p s.name x.message.class)) r e

@@ -38,7 +38,7 @@ module _ {Before : Contents → Type 0} (T : Trace) (n : ℕ) (p : List ℕ) (ke
   ready = awaits_bytes keeps.contents (seen T n) k p now m nothing fits
 
   abbrev pub judged : Judges T.base (history T) n keeps.contents (judged_at keeps.contents policy k.stamp locks) k.talk k.session
-  judged = judges T n keeps sound policy rules locks held (streamed (seen T n) p now) set p ready refl refl refl refl refl refl refl
+  judged = judges T n keeps sound policy rules locks held (streamed (seen T n) p now) set p ready refl refl refl refl refl refl refl refl
 
   abbrev replied : Acted → Reply
   replied w = reply_of w (judged_at keeps.contents policy k.stamp locks) k.talk judged.sitting (line_after k p)
@@ -53,22 +53,22 @@ module _ {Before : Contents → Type 0} (T : Trace) (n : ℕ) (p : List ℕ) (ke
       left = held_if (has_newline p) w policy k.session (reading (line_after k p)) keeps.contents
 
       piece_here : Matches left (seen (given T (Bytes n p) (Tagged (tag_of w))) n) k'
-      piece_here = here T n keeps sound policy rules locks held (streamed (seen T n) p now) set p ready refl refl refl refl refl refl refl (Bytes n p) w k' locks' may is law became follow owes refl
+      piece_here = here T n keeps sound policy rules locks held (streamed (seen T n) p now) set p ready refl refl refl refl refl refl refl refl (Bytes n p) w k' locks' may is law became follow owes refl
           (λ h nx. seen-bytes_line T n p now moment_is w (line_after k p) h nx) (λ h nx. records-bytes_line T n p w (line_after k p) h nx)
           (λ h d. rw d (seen-bytes_part T n p h now)) (λ h d. records-bytes_part T n p (tag_of w) h) (λ q e. seen-bytes_other T n p q (tag_of w) e)
 
       piece_agrees : Agree (records_of left) (records T.base (history (given T (Bytes n p) (Tagged (tag_of w)))))
-      piece_agrees = agrees T n keeps sound policy rules locks held (streamed (seen T n) p now) set p ready refl refl refl refl refl refl refl (Bytes n p) w k' locks' may is law became follow owes refl
+      piece_agrees = agrees T n keeps sound policy rules locks held (streamed (seen T n) p now) set p ready refl refl refl refl refl refl refl refl (Bytes n p) w k' locks' may is law became follow owes refl
           (λ h nx. seen-bytes_line T n p now moment_is w (line_after k p) h nx) (λ h nx. records-bytes_line T n p w (line_after k p) h nx)
           (λ h d. rw d (seen-bytes_part T n p h now)) (λ h d. records-bytes_part T n p (tag_of w) h) (λ q e. seen-bytes_other T n p q (tag_of w) e)
 
       piece_carried : (q : ℕ) → eqb n q ≡ false → (o : Option Kept) → IsKeptFor keeps.contents (seen T q) o → IsKeptFor left (seen T q) o
-      piece_carried = carried T n keeps sound policy rules locks held (streamed (seen T n) p now) set p ready refl refl refl refl refl refl refl (Bytes n p) w k' locks' may is law became follow owes refl
+      piece_carried = carried T n keeps sound policy rules locks held (streamed (seen T n) p now) set p ready refl refl refl refl refl refl refl refl (Bytes n p) w k' locks' may is law became follow owes refl
           (λ h nx. seen-bytes_line T n p now moment_is w (line_after k p) h nx) (λ h nx. records-bytes_line T n p w (line_after k p) h nx)
           (λ h d. rw d (seen-bytes_part T n p h now)) (λ h d. records-bytes_part T n p (tag_of w) h) (λ q e. seen-bytes_other T n p q (tag_of w) e)
 
       piece_locked : (d : List ℕ) → get name_cmp locks' d ≡ holder (history (given T (Bytes n p) (Tagged (tag_of w)))) d
-      piece_locked = locked T n keeps sound policy rules locks held (streamed (seen T n) p now) set p ready refl refl refl refl refl refl refl (Bytes n p) w k' locks' may is law became follow owes refl
+      piece_locked = locked T n keeps sound policy rules locks held (streamed (seen T n) p now) set p ready refl refl refl refl refl refl refl refl (Bytes n p) w k' locks' may is law became follow owes refl
           (λ h nx. seen-bytes_line T n p now moment_is w (line_after k p) h nx) (λ h nx. records-bytes_line T n p w (line_after k p) h nx)
           (λ h d. rw d (seen-bytes_part T n p h now)) (λ h d. records-bytes_part T n p (tag_of w) h) (λ q e. seen-bytes_other T n p q (tag_of w) e)
 

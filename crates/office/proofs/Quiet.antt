@@ -9,14 +9,15 @@ use Rattle.vault.specs.Changes.{Contents, records_of}
 use Rattle.vault.specs.Calls.{IsAnswer, has_grown, CountsFaults}
 use Rattle.vault.specs.declared.fault.VaultFault.{VaultFault}
 use Rattle.vault.specs.declared.fault.VaultFault.TheVariants as fault
+use Rattle.session.specs.declared.removals.Removals.{Removals}
 use Rattle.office.specs.Answers.{AdminCommand, ListMaildrops, ShowMaildrop, AddMaildrop, DropMaildrop, ShowClerk, PutClerk, DropClerk, ShowPolicy, SetPolicy, ListGroups, ListSessions, EndSession, Explain}
 use Rattle.office.specs.History.{Act, Administer, Tag, Done, Failed, NoMemory, Silence, Entry, in_force, is_done}
-use Rattle.office.specs.Connections.{boot_and_host, connected, closing, acted, serving, sent, user, failures}
+use Rattle.office.specs.Connections.{setting, connected, closing, acted, serving, sent, user, failures}
 use Rattle.office.specs.Sessions.{live, login, marks, view, holder, records}
 use Rattle.office.specs.Replying.{stamp}
 use Rattle.office.specs.Answered.{name_cmp}
 use Rattle.office.specs.Told.{told}
-use Rattle.office.specs.Events.{Event, Mark, Tagged, Trace, given}
+use Rattle.office.specs.Events.{Limits, Event, Mark, Tagged, Trace, given}
 use Rattle.office.specs.Events as event
 use Rattle.office.specs.Log.{opened, idle_seconds, moment, stream, taken, clock}
 use Rattle.office.specs.Trace.{acts, history}
@@ -67,7 +68,7 @@ record Left : Type 0 where
   login : Option LoginName
   marks : List ℕ
   view : List Message
-  office : ℕ × List ℕ
+  office : ℕ × List ℕ × Removals
   lock : Option ℕ
 
 abbrev left_at : Records → List Entry → ℕ → List ℕ → Left
@@ -84,7 +85,7 @@ left_at B G q d = record {
   login = login G q;
   marks = marks G q;
   view = view B G q;
-  office = boot_and_host G;
+  office = setting G;
   lock = holder G d;
 }
 
@@ -139,6 +140,7 @@ seen_of x l = record {
   user = l.user;
   failures = l.failures;
   stamp = l.stamp;
+  judging = l.office.2;
   login = l.login;
   marks = l.marks;
   view = l.view;
@@ -171,16 +173,17 @@ pub quiet : {V : Type 0} (Holds : V → Contents → Type 0) (o o' : Office V) (
     → ((d : List ℕ) → get name_cmp o'.locks d ≡ get name_cmp o.locks d) → StandsFor Holds o' (given T e (Tagged t))
 quiet Holds o o' T e t h st k p b s l n links locks =
     let T' = given T e (Tagged t) in
-    let office : boot_and_host (history T') ≡ boot_and_host (history T) = ap (λ (x : Left). x.office) (event_left T e t 0 [] h) in
+    let office : setting (history T') ≡ setting (history T) = ap (λ (x : Left). x.office) (event_left T e t 0 [] h) in
     let number : (opened T'.log, moment T'.log) ≡ (opened T.log, moment T.log) = ap (λ (x : Heard). x.number) (event_heard T e t 0 h) in
     let idle : idle_seconds T'.log ≡ idle_seconds T.log = ap (λ (x : Heard). x.idle) (event_heard T e t 0 h) in
     record {
       keeps = record { contents = k.stored.contents; held = k.stored.held; agree = k.stored.agree; sound = k.stored.sound; formed = k.stored.formed; began = begun_on e (Tagged t) T.log st.began };
       began = begins_on e (Tagged t) T.log st.began;
       policy = p;
-      boot = b ∙ (st.boot ∙ ap (λ (x : ℕ × List ℕ). x.0) (sym office));
-      host = s ∙ (st.host ∙ ap (λ (x : ℕ × List ℕ). x.1) (sym office));
-      idle = l ∙ (st.idle ∙ sym idle);
+      boot = b ∙ (st.boot ∙ ap (λ (x : ℕ × List ℕ × Removals). x.0) (sym office));
+      host = s ∙ (st.host ∙ ap (λ (x : ℕ × List ℕ × Removals). x.1) (sym office));
+      judged = ap (λ (x : Limits). x.removals) l ∙ (st.judged ∙ ap (λ (x : ℕ × List ℕ × Removals). x.2) (sym office));
+      idle = ap (λ (x : Limits). x.idle) l ∙ (st.idle ∙ sym idle);
       moment = ap (λ (x : ℕ × ℕ). x.1) n ∙ (st.moment ∙ ap (λ (x : ℕ × ℕ). x.1) (sym number));
       numbered = λ q some. let same : opened T'.log ≡ opened T.log = ap (λ (x : ℕ × ℕ). x.0) number in rw same (st.numbered q (rw (links q) at some));
       opened = ap (λ (x : ℕ × ℕ). x.0) n ∙ (st.opened ∙ ap (λ (x : ℕ × ℕ). x.0) (sym number));

@@ -96,6 +96,7 @@ module _ (c : Contents) (p : Policy) (s : Session) (kept : List Keyed) (lies : L
       owed = subst (λ (o : Option (List ℕ)). OwesReply c None after (quit_says o)) (e ∙ denying_alike) said;
       session = record {
         name = refl;
+        removals = refl;
         view = refl;
         marks = λ n. ap (λ (ms : List ℕ). is_marked ms n) (sym (quit_keeps (denying records.class_of p s.name s.marks (map message_of kept)) s.marks));
       };
@@ -108,7 +109,7 @@ module _ (c : Contents) (p : Policy) (s : Session) (kept : List Keyed) (lies : L
         → Obeyed After grown c p s s kept after (Ok Quit) acted.Failed
     quit_failed said some held grew = record {
       owed = said;
-      session = record { name = refl; view = refl; marks = λ n. refl };
+      session = record { name = refl; removals = refl; view = refl; marks = λ n. refl };
       held = held;
       may = λ e. asks_removal some;
       cause = λ e. grew;

@@ -6,6 +6,7 @@ use Rattle.hex.specs.Hex.{decode_pairs}
 use Rattle.md5.specs.Md5 as M
 use Rattle.md5.specs.Md5.{md5}
 use Rattle.popline.specs.Cutting as cutting
+use Rattle.session.specs.declared.removals.Removals.TheVariants.{JudgedAtDele}
 use Rattle.office.specs.History.{Act, Open, Line, Restart, Tag, Done, Failed}
 use Rattle.office.specs.Connections.{sent}
 use Rattle.office.specs.Told.{told}
@@ -43,7 +44,7 @@ stat_may_not_fail = refl
 
 -- the login that RFC 1939 shows, on the connection of that number
 abbrev apop_acts : List ℕ → List (Act × Tag)
-apop_acts line = (Line 1896 (cutting.Line line), Done) ∷ (Open 1896, Done) ∷ (Restart 697170952 (codes "dbc.mtview.ca.us"), Done) ∷ []
+apop_acts line = (Line 1896 (cutting.Line line), Done) ∷ (Open 1896, Done) ∷ (Restart 697170952 (codes "dbc.mtview.ca.us") JudgedAtDele, Done) ∷ []
 
 apop_on_its_connection : sent (told W (apop_acts (codes "APOP mrose/orders c4c9334bac560ecc979e58001b3e22fb"))) 1896
     ≡ replies (codes "+OK POP3 server ready <1896.697170952@dbc.mtview.ca.us>" ∷ codes "+OK maildrop has 0 messages (0 octets)" ∷ [])

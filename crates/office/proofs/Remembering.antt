@@ -15,6 +15,8 @@ use Rattle.vault.specs.Records.{octets_of, uid_of}
 use Rattle.mailtext.specs.Text.{lines_of, top_part, stuffed_lines}
 use Rattle.session.specs.View.{at_number, is_marked, referred, retrieval, removal, denying}
 use Rattle.vault.specs.Records as records
+use Rattle.session.specs.declared.removals.Removals.TheVariants.{JudgedAtDele, JudgedAtQuit}
+use Rattle.session.specs.declared.removals.Removals.{Removals}
 use Rattle.office.specs.History.{Says}
 use Rattle.office.specs.Connections.{reading, closes, is_quit, user_after_line, is_failure}
 use Rattle.office.specs.Replying.{is_allowed, when_permitted, quit_says, deleted_if, served_if}
@@ -40,8 +42,9 @@ referred_fine None b n f h = refl
 referred_fine (Some m) true n f h = refl
 referred_fine (Some m) false n f h = h m
 
-deleted_fine : (d : Decision) (n : ℕ) → is_failure (Says (deleted_if d n)) ≡ false
-deleted_fine d n = at d.allowed
+deleted_fine : (j : Removals) (d : Decision) (n : ℕ) → is_failure (Says (deleted_if j d n)) ≡ false
+deleted_fine JudgedAtQuit d n = refl
+deleted_fine JudgedAtDele d n = at d.allowed
   where
     at : (b : Bool) → is_failure (Says (if b then Marked n else DeniedBy d.rule)) ≡ false
     at true = refl
@@ -76,7 +79,7 @@ module _ (p : Policy) (v : Sitting) where
       (λ m. served_fine (retrieval p v.name m.class) (Message (octets_of m) (stuffed_lines (lines_of m.text))) refl)
   said_fine (Ok (Top n k)) = referred_fine (at_number v.view n) (is_marked v.marks n) n (λ m. served_if (retrieval p v.name m.class) (TopPart (stuffed_lines (top_part (lines_of m.text) k))))
       (λ m. served_fine (retrieval p v.name m.class) (TopPart (stuffed_lines (top_part (lines_of m.text) k))) refl)
-  said_fine (Ok (Dele n)) = referred_fine (at_number v.view n) (is_marked v.marks n) n (λ m. deleted_if (removal p v.name m.class) n) (λ m. deleted_fine (removal p v.name m.class) n)
+  said_fine (Ok (Dele n)) = referred_fine (at_number v.view n) (is_marked v.marks n) n (λ m. deleted_if v.removals (removal p v.name m.class) n) (λ m. deleted_fine v.removals (removal p v.name m.class) n)
   said_fine (Ok Rset) = refl
   said_fine (Ok Noop) = refl
 
@@ -109,11 +112,11 @@ module _ (p : Policy) (v : Sitting) where
   user_is acted.Done (cutting.Line l) u = said_user (command_of l) u
   user_is acted.Failed x u = refused_user (reading x) u
 
-  abbrev talk_of : Option LoginName → ℕ → Bool → Talk
-  talk_of user failures closing = record { user = user; failures = failures; closing = closing }
+  abbrev talk_of : Removals → Option LoginName → ℕ → Bool → Talk
+  talk_of removals user failures closing = record { user = user; failures = failures; closing = closing; removals = removals }
 
   pub remembered : (w : Acted) (x : Cut) (t : Talk) (user : Option LoginName) (closing : Bool) → user ≡ user_inside w (reading x) t.user → closing ≡ (is_quit (reading x) || t.closing)
-      → talk_of user t.failures closing ≡ talk_after x (reply_inside w p v x) t
+      → talk_of t.removals user t.failures closing ≡ talk_after x (reply_inside w p v x) t
   remembered w x t user closing e f =
       let reply : Reply = reply_inside w p v x in
       let fine : is_failure (Says reply) ≡ false = reply_fine w x in
@@ -121,6 +124,6 @@ module _ (p : Policy) (v : Sitting) where
       let counted : t.failures ≡ (if is_failure (Says reply) then one_more_failure t.failures else t.failures) =
       sym (ap (λ (b : Bool). if b then one_more_failure t.failures else t.failures) fine) in
       let closed : closing ≡ (closes (reading x) (Says reply) || t.closing) = f ∙ ap (λ (b : Bool). b || t.closing) (sym (closes_quit (reading x) reply fine)) in
-      ap (λ (u : Option LoginName). talk_of u t.failures closing) named
-      ∙ (ap (λ (n : ℕ). talk_of (user_after_line (reading x) (Says reply) t.user) n closing) counted
-      ∙ ap (λ (b : Bool). talk_of (user_after_line (reading x) (Says reply) t.user) (if is_failure (Says reply) then one_more_failure t.failures else t.failures) b) closed)
+      ap (λ (u : Option LoginName). talk_of t.removals u t.failures closing) named
+      ∙ (ap (λ (n : ℕ). talk_of t.removals (user_after_line (reading x) (Says reply) t.user) n closing) counted
+      ∙ ap (λ (b : Bool). talk_of t.removals (user_after_line (reading x) (Says reply) t.user) (if is_failure (Says reply) then one_more_failure t.failures else t.failures) b) closed)

@@ -31,8 +31,10 @@ use Rattle.popline.proofs.FormLemmas.{form_of_replies}
 use Rattle.vault.specs.Records.{Records, IsSound, octets_of, uid_of, class_of, most_octets, most_messages, most_deposits}
 use Rattle.vault.specs.declared.record.Message.{Message}
 use Rattle.session.specs.View.{visible, numbered, numbered_from, at_number, is_marked, referred, unmarked, marked, retrieval, removal, may_remove, total_of}
+use Rattle.session.specs.declared.removals.Removals.TheVariants.{JudgedAtDele, JudgedAtQuit}
+use Rattle.session.specs.declared.removals.Removals.{Removals}
 use Rattle.office.specs.History.{Entry, Act, Open, Line, Gone, Idle, Deposit, Administer, Restart, Tag, Done, Failed, NoMemory, in_force, credential, exists}
-use Rattle.office.specs.Connections.{boot_and_host, user, failures, serving, closing}
+use Rattle.office.specs.Connections.{setting, judging, user, failures, serving, closing}
 use Rattle.office.specs.Sessions.{present, view, marks, login, live, holder}
 use Rattle.office.specs.Replying.{stamp, login_failed, maildrop_has, opening, logging_in, deleted_if, served_if, quit_says, session_says, is_permitted, when_permitted, refusal, name_or_nobody, bye_unless, obeyed, reply_to_reading, reply_to_cut, said_to_line}
 use Rattle.office.specs.Told.{told, said_to, answers_if_done, deposited, administered}
@@ -161,8 +163,9 @@ sized_referred None b n f h = tt
 sized_referred (Some m) true n f h = (h m refl).0
 sized_referred (Some m) false n f h = (h m refl).1
 
-sized_deleted : (d : Decision) (n : ℕ) → n < 2 ^ 64 → IsShort d.rule → IsSized (deleted_if d n)
-sized_deleted d n h k = sized_if d.allowed (Marked n) (DeniedBy d.rule) h k
+sized_deleted : (j : Removals) (d : Decision) (n : ℕ) → n < 2 ^ 64 → IsShort d.rule → IsSized (deleted_if j d n)
+sized_deleted JudgedAtQuit d n h k = h
+sized_deleted JudgedAtDele d n h k = sized_if d.allowed (Marked n) (DeniedBy d.rule) h k
 
 sized_served : (d : Decision) (reply : Reply) → IsSized reply → IsShort d.rule → IsSized (served_if d reply)
 sized_served d reply h k = sized_if d.allowed reply (DeniedBy d.rule) h k
@@ -173,39 +176,39 @@ denied_short : (policy : Policy) (name : LoginName) (o : Option (ℕ × Message)
 denied_short policy name None h = tt
 denied_short policy name (Some row) h = short_rule policy name.clerk name.maildrop row.1.class to.Remove h
 
-sized_session : (policy : Policy) (name : LoginName) (marks : List ℕ) (view : List Message) (command : Command) → is_sound_policy policy ≡ true → IsSmallView view
-    → IsSized (session_says policy name marks view command)
-sized_session policy name marks view Stat p s = unmarked_small marks view s
-sized_session policy name marks view ListAll p s = tt
-sized_session policy name marks view (ListOne n) p s = sized_referred (at_number view n) (is_marked marks n) n (λ m. ScanLine n (octets_of m))
+sized_session : (policy : Policy) (judged : Removals) (name : LoginName) (marks : List ℕ) (view : List Message) (command : Command) → is_sound_policy policy ≡ true → IsSmallView view
+    → IsSized (session_says policy judged name marks view command)
+sized_session policy judged name marks view Stat p s = unmarked_small marks view s
+sized_session policy judged name marks view ListAll p s = tt
+sized_session policy judged name marks view (ListOne n) p s = sized_referred (at_number view n) (is_marked marks n) n (λ m. ScanLine n (octets_of m))
     (λ m e. let f = found_small view n m s e in (f.number, (f.number, f.octets)))
-sized_session policy name marks view UidlAll p s = tt
-sized_session policy name marks view (UidlOne n) p s = sized_referred (at_number view n) (is_marked marks n) n (λ m. UidLine n (uid_of m))
+sized_session policy judged name marks view UidlAll p s = tt
+sized_session policy judged name marks view (UidlOne n) p s = sized_referred (at_number view n) (is_marked marks n) n (λ m. UidLine n (uid_of m))
     (λ m e. let f = found_small view n m s e in (f.number, (f.number, f.k, f.class)))
-sized_session policy name marks view (Retr n) p s =
+sized_session policy judged name marks view (Retr n) p s =
     sized_referred (at_number view n) (is_marked marks n) n (λ (m : Message). served_if (retrieval policy name m.class) (MessageReply (octets_of m) (stuffed_lines (lines_of m.text))))
     (λ m e. let f = found_small view n m s e in
     (f.number, sized_served (retrieval policy name m.class) (MessageReply (octets_of m) (stuffed_lines (lines_of m.text))) f.octets (short_rule policy name.clerk name.maildrop m.class to.Read p)))
-sized_session policy name marks view (Top n k) p s =
+sized_session policy judged name marks view (Top n k) p s =
     sized_referred (at_number view n) (is_marked marks n) n (λ (m : Message). served_if (retrieval policy name m.class) (TopPart (stuffed_lines (top_part (lines_of m.text) k))))
     (λ m e. let f = found_small view n m s e in
     (f.number, sized_served (retrieval policy name m.class) (TopPart (stuffed_lines (top_part (lines_of m.text) k))) tt (short_rule policy name.clerk name.maildrop m.class to.Read p)))
-sized_session policy name marks view (Dele n) p s =
-    sized_referred (at_number view n) (is_marked marks n) n (λ (m : Message). deleted_if (removal policy name m.class) n)
+sized_session policy judged name marks view (Dele n) p s =
+    sized_referred (at_number view n) (is_marked marks n) n (λ (m : Message). deleted_if judged (removal policy name m.class) n)
     (λ m e. let f = found_small view n m s e in
-    (f.number, sized_deleted (removal policy name m.class) n f.number (short_rule policy name.clerk name.maildrop m.class to.Remove p)))
-sized_session policy name marks view Rset p s = sized_has view s
-sized_session policy name marks view Noop p s = tt
-sized_session policy name marks view Quit p s =
+    (f.number, sized_deleted judged (removal policy name m.class) n f.number (short_rule policy name.clerk name.maildrop m.class to.Remove p)))
+sized_session policy judged name marks view Rset p s = sized_has view s
+sized_session policy judged name marks view Noop p s = tt
+sized_session policy judged name marks view Quit p s =
     denied_short policy name (find (λ (row : ℕ × Message). not (may_remove policy name (class_of row.1))) (marked marks view)) p
-sized_session policy name marks view _ p s = tt
+sized_session policy judged name marks view _ p s = tt
 
 -- what a front keeps within bounds
 record IsBounded (B : Records) (G : List Entry) : Type 0 where
   policy : is_sound_policy (in_force B G) ≡ true
   views : (c : ℕ) → IsSmallView (view B G c)
   found : (name : LoginName) → IsSmallView (visible class_of (in_force B G) name (present B G name.maildrop))
-  boot : IsBoot (boot_and_host G)
+  boot : IsBoot (setting G)
 
 sized_login : (B : Records) (G : List Entry) (c : ℕ) (name : LoginName) (proof : Shown) → IsBounded B G → IsSized (logging_in B G c name proof)
 sized_login B G c name proof b =
@@ -221,18 +224,18 @@ sized_command B G c (Pass password) b = sized_login B G c (name_or_nobody (user 
 sized_command B G c (Apop name digest) b = sized_login B G c name (ByApop digest) b
 sized_command B G c Quit b = at (live G c)
   where
-    at : (l : Bool) → IsSized (bye_unless l (session_says (in_force B G) (name_or_nobody (login G c)) (marks G c) (view B G c) Quit))
-    at true = sized_session (in_force B G) (name_or_nobody (login G c)) (marks G c) (view B G c) Quit b.policy (b.views c)
+    at : (l : Bool) → IsSized (bye_unless l (session_says (in_force B G) (judging G) (name_or_nobody (login G c)) (marks G c) (view B G c) Quit))
+    at true = sized_session (in_force B G) (judging G) (name_or_nobody (login G c)) (marks G c) (view B G c) Quit b.policy (b.views c)
     at false = tt
-sized_command B G c Stat b = sized_session (in_force B G) (name_or_nobody (login G c)) (marks G c) (view B G c) Stat b.policy (b.views c)
+sized_command B G c Stat b = sized_session (in_force B G) (judging G) (name_or_nobody (login G c)) (marks G c) (view B G c) Stat b.policy (b.views c)
 sized_command B G c ListAll b = tt
-sized_command B G c (ListOne n) b = sized_session (in_force B G) (name_or_nobody (login G c)) (marks G c) (view B G c) (ListOne n) b.policy (b.views c)
+sized_command B G c (ListOne n) b = sized_session (in_force B G) (judging G) (name_or_nobody (login G c)) (marks G c) (view B G c) (ListOne n) b.policy (b.views c)
 sized_command B G c UidlAll b = tt
-sized_command B G c (UidlOne n) b = sized_session (in_force B G) (name_or_nobody (login G c)) (marks G c) (view B G c) (UidlOne n) b.policy (b.views c)
-sized_command B G c (Top n k) b = sized_session (in_force B G) (name_or_nobody (login G c)) (marks G c) (view B G c) (Top n k) b.policy (b.views c)
-sized_command B G c (Retr n) b = sized_session (in_force B G) (name_or_nobody (login G c)) (marks G c) (view B G c) (Retr n) b.policy (b.views c)
-sized_command B G c (Dele n) b = sized_session (in_force B G) (name_or_nobody (login G c)) (marks G c) (view B G c) (Dele n) b.policy (b.views c)
-sized_command B G c Rset b = sized_session (in_force B G) (name_or_nobody (login G c)) (marks G c) (view B G c) Rset b.policy (b.views c)
+sized_command B G c (UidlOne n) b = sized_session (in_force B G) (judging G) (name_or_nobody (login G c)) (marks G c) (view B G c) (UidlOne n) b.policy (b.views c)
+sized_command B G c (Top n k) b = sized_session (in_force B G) (judging G) (name_or_nobody (login G c)) (marks G c) (view B G c) (Top n k) b.policy (b.views c)
+sized_command B G c (Retr n) b = sized_session (in_force B G) (judging G) (name_or_nobody (login G c)) (marks G c) (view B G c) (Retr n) b.policy (b.views c)
+sized_command B G c (Dele n) b = sized_session (in_force B G) (judging G) (name_or_nobody (login G c)) (marks G c) (view B G c) (Dele n) b.policy (b.views c)
+sized_command B G c Rset b = sized_session (in_force B G) (judging G) (name_or_nobody (login G c)) (marks G c) (view B G c) Rset b.policy (b.views c)
 sized_command B G c Noop b = tt
 
 sized_permitted : (b : Bool) (r : Reply) → IsSized r → IsSized (when_permitted b r)
@@ -273,7 +276,7 @@ said_form B G (Deposit d class id text) t f b = said_answer t (deposited B G d c
 said_form B G (Administer command) t f b = said_answer t (administered B G command)
 said_form B G (Gone c) t f b = tt
 said_form B G (Idle c) t f b = tt
-said_form B G (Restart boot host) t f b = tt
+said_form B G (Restart boot host removals) t f b = tt
 
 small_found : (B : Records) → IsSound B → (H : List (Act × Tag)) → all_formed H ≡ true → (name : LoginName)
     → IsSmallView (visible class_of (in_force B (told B H)) name (present B (told B H) name.maildrop))
@@ -326,9 +329,9 @@ host_fits host h =
 
 formed_event : (B : Records) (T : Log) (e : Event) (t : Tag) → all_formed (acts_from B T) ≡ true → is_formed T e ≡ true
     → all_formed (acts_at T (told B (acts_from B T)) e (Tagged t)) ≡ true
-formed_event B T (event.Start host boot idle) t h f =
-    let a = and_parts (is_host host && is_u64 boot && nat_le 600 idle) (nat_le idle 86400) f in
-    let b = and_parts (is_host host && is_u64 boot) (nat_le 600 idle) a.0 in
+formed_event B T (event.Start host boot limits) t h f =
+    let a = and_parts (is_host host && is_u64 boot && nat_le 600 limits.idle) (nat_le limits.idle 86400) f in
+    let b = and_parts (is_host host && is_u64 boot) (nat_le 600 limits.idle) a.0 in
     let c = and_parts (is_host host) (is_u64 boot) b.0 in
     rw (c.1, host_fits host c.0) refl
 formed_event B T event.Connect Done h f = rw f refl
@@ -345,7 +348,7 @@ formed_event B T (event.Deposit d class id text) t h f =
 formed_event B T (event.Admin command) t h f = rw f refl
 formed_event B T (event.Restart boot) t h f =
     let b = boots_small B (acts_from B T) h in
-    rw (f, le-leb (length (boot_and_host (told B (acts_from B T))).1) 64 b.1) refl
+    rw (f, le-leb (length (setting (told B (acts_from B T))).1) 64 b.1) refl
 
 pub formed_acts : (B : Records) (T : Log) → are_formed T ≡ true → all_formed (acts_from B T) ≡ true
 formed_acts B [] f = refl

@@ -3,7 +3,7 @@ use Rattle.std.proofs.Common.{◌≡◌, ℕ, ◌<◌, ◌^◌, true, true≢fal
 use Rattle.std.specs.BTreeMap.{get}
 use Rattle.vault.specs.Changes.{Contents}
 use Rattle.office.specs.History.{Done}
-use Rattle.office.specs.Events.{Trace, Tagged, given}
+use Rattle.office.specs.Events.{Limits, Trace, Tagged, given}
 use Rattle.office.specs.Events as event
 use Rattle.office.specs.Trace.{acts}
 use Rattle.office.specs.Formed.{is_formed}
@@ -29,7 +29,8 @@ restart_stands Holds o o' T boot st formed on p b s l n links locks =
       policy = p ∙ st.policy;
       boot = b;
       host = s ∙ st.host;
-      idle = l ∙ st.idle;
+      judged = ap (λ (x : Limits). x.removals) l ∙ st.judged;
+      idle = ap (λ (x : Limits). x.idle) l ∙ st.idle;
       moment = ap (λ (x : ℕ × ℕ). x.1) n;
       numbered = λ q some. let none = links q in absurd (true≢false (sym (rw none at some)));
       opened = ap (λ (x : ℕ × ℕ). x.0) n;

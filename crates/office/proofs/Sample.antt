@@ -15,6 +15,8 @@ use Rattle.vault.specs.Records.{Records}
 use Rattle.vault.specs.declared.record.Clerk.{Clerk}
 use Rattle.vault.specs.declared.record.Message.{Message}
 use Rattle.vault.specs.declared.record.Receipt.{Receipt}
+use Rattle.session.specs.declared.removals.Removals.{Removals}
+use Rattle.session.specs.declared.removals.Removals.TheVariants.{JudgedAtDele, JudgedAtQuit}
 use Rattle.office.specs.Answers.{body_of}
 use Rattle.office.specs.History.{Done}
 use Rattle.office.specs.Sessions.{present}
@@ -113,12 +115,20 @@ abbrev pub ran : Trace → List Step → Trace
 ran T [] = T
 ran T (s ∷ steps) = ran (stepped T s) steps
 
+-- an office that was opened with removals judged so
+abbrev pub start_with : Removals → Trace
+start_with removals = given (record { base = W; log = [] }) (Start (codes "h.test") 7 (record { idle = 600; removals = removals }))
+
 abbrev pub start : Trace
-start = given (record { base = W; log = [] }) (Start (codes "h.test") 7 600)
+start = start_with JudgedAtDele
 
 -- an office that was opened, and these steps
 abbrev pub run : List Step → Trace
 run steps = ran start steps
+
+-- the same, where removals are judged at the QUIT
+abbrev pub run_judged_at_quit : List Step → Trace
+run_judged_at_quit steps = ran (start_with JudgedAtQuit) steps
 
 -- several things that one trace shows; it is run once for all of them
 abbrev pub shows : {A : Type 0} → Trace → (Trace → A) → A

@@ -12,7 +12,7 @@ use Rattle.office.specs.Connections.{opens, connected, sent, sent_after, octets_
 use Rattle.office.specs.Replying.{is_empty}
 use Rattle.office.specs.Answers.{AdminCommand}
 use Rattle.office.specs.Told.{told, said_to}
-use Rattle.office.specs.Events.{Event, Mark, Tagged, Ignored, Log, Trace, given}
+use Rattle.office.specs.Events.{Limits, Event, Mark, Tagged, Ignored, Log, Trace, given}
 use Rattle.office.specs.Events as event
 use Rattle.office.specs.Outcomes.{Outcome, Reason, NoSuchConnection, NotReady, PieceTooLong, mark_of}
 use Rattle.office.specs.Outcomes as outcome
@@ -39,7 +39,7 @@ one_more (Gone n) s d before others = ([], sym (append-nil before))
 one_more (Idle n) s d before others = ([], sym (append-nil before))
 one_more (Deposit m class id text) s d before others = ([], sym (append-nil before))
 one_more (Administer command) s d before others = ([], sym (append-nil before))
-one_more (Restart boot host) s d before others = ([], sym (append-nil before))
+one_more (Restart boot host removals) s d before others = ([], sym (append-nil before))
 
 -- they only lengthen what it is sent
 grown : (B : Records) (new H : List (Act × Tag)) (d : ℕ) → OpensNone new d → (more : List ℕ) × (sent (told B (new ++ H)) d ≡ sent (told B H) d ++ more)
@@ -211,9 +211,9 @@ module _ (B : Records) (L : Log) where
   begins_gone c Ignored d b = begins_still B L (event.Gone c) Ignored d tt refl refl b
   begins_gone c (Tagged t) d b = begins_still B L (event.Gone c) (Tagged t) d (refl, tt) refl refl b
 
-  begins_start : (host : List ℕ) (boot idle : ℕ) (m : Mark) (d : ℕ) → Begins B L d → Begins B ((event.Start host boot idle, m) ∷ L) d
-  begins_start host boot idle Ignored d b = begins_still B L (event.Start host boot idle) Ignored d tt refl refl b
-  begins_start host boot idle (Tagged t) d b = begins_still B L (event.Start host boot idle) (Tagged t) d (refl, tt) refl refl b
+  begins_start : (host : List ℕ) (boot : ℕ) (limits : Limits) (m : Mark) (d : ℕ) → Begins B L d → Begins B ((event.Start host boot limits, m) ∷ L) d
+  begins_start host boot limits Ignored d b = begins_still B L (event.Start host boot limits) Ignored d tt refl refl b
+  begins_start host boot limits (Tagged t) d b = begins_still B L (event.Start host boot limits) (Tagged t) d (refl, tt) refl refl b
 
   begins_restart : (boot : ℕ) (m : Mark) (d : ℕ) → Begins B L d → Begins B ((event.Restart boot, m) ∷ L) d
   begins_restart boot Ignored d b = begins_still B L (event.Restart boot) Ignored d tt refl refl b
@@ -228,7 +228,7 @@ module _ (B : Records) (L : Log) where
   begins_admin command (Tagged t) d b = begins_still B L (event.Admin command) (Tagged t) d (refl, tt) refl refl b
 
   begins_on : (e : Event) (m : Mark) (d : ℕ) → IsAdmitted (trace_of B L) e m → Begins B L d → Begins B ((e, m) ∷ L) d
-  begins_on (event.Start host boot idle) m d a b = begins_start host boot idle m d b
+  begins_on (event.Start host boot limits) m d a b = begins_start host boot limits m d b
   begins_on event.Connect m d a b = begins_connect m d b
   begins_on (event.Bytes c piece) m d a b = begins_bytes c piece m d b
   begins_on (event.Took c n) m d a b = begins_took c n d m a b
@@ -267,7 +267,7 @@ act_closing (Gone n) s c before e = refl
 act_closing (Idle n) s c before e = refl
 act_closing (Deposit m class id text) s c before e = refl
 act_closing (Administer command) s c before e = refl
-act_closing (Restart boot host) s c before e = refl
+act_closing (Restart boot host removals) s c before e = refl
 
 act_sent : (a : Act) (s : Said) (c : ℕ) (before : List ℕ) → concerns a c ≡ false → sent_after a s c before ≡ before
 unfolding concerns
@@ -277,7 +277,7 @@ act_sent (Gone n) s c before e = refl
 act_sent (Idle n) s c before e = refl
 act_sent (Deposit m class id text) s c before e = refl
 act_sent (Administer command) s c before e = refl
-act_sent (Restart boot host) s c before e = refl
+act_sent (Restart boot host removals) s c before e = refl
 
 closing_still : (B : Records) (new H : List (Act × Tag)) (c : ℕ) → ConcernNone new c → closing (told B (new ++ H)) c ≡ closing (told B H) c
 closing_still B [] H c none = refl
@@ -379,8 +379,8 @@ module _ (B : Records) (L : Log) (c : ℕ) where
   -- what an event other than its opening leaves
   done_on : (e : Event) (m : Mark) → IsAdmitted (trace_of B L) e m → (e ≡ event.Connect → ⊥) → IsDone L front c → IsDone ((e, m) ∷ L) (history (trace_of B ((e, m) ∷ L))) c
   unfolding concerns
-  done_on (event.Start host boot idle) Ignored a ne d = done_still (event.Start host boot idle) Ignored tt refl d
-  done_on (event.Start host boot idle) (Tagged t) a ne d = done_still (event.Start host boot idle) (Tagged t) (refl, tt) refl d
+  done_on (event.Start host boot limits) Ignored a ne d = done_still (event.Start host boot limits) Ignored tt refl d
+  done_on (event.Start host boot limits) (Tagged t) a ne d = done_still (event.Start host boot limits) (Tagged t) (refl, tt) refl d
   done_on event.Connect m a ne d = absurd (ne refl)
   done_on (event.Bytes n piece) Ignored a ne d = done_still (event.Bytes n piece) Ignored tt refl d
   done_on (event.Bytes n piece) (Tagged t) a ne d = done_bytes n piece t a d
@@ -440,7 +440,7 @@ done_other B L c e m a ne on h =
 done_event : (B : Records) (L : Log) (c : ℕ) (e : Event) (m : Mark) → IsAdmitted (trace_of B L) e m
     → (has_closed_by B L c ≡ true → IsDone L (history (trace_of B L)) c) → has_closed_by B ((e, m) ∷ L) c ≡ true → IsDone ((e, m) ∷ L) (history (trace_of B ((e, m) ∷ L))) c
 done_event B L c event.Connect m a on h = done_connect B L c m on h
-done_event B L c (event.Start host boot idle) m a on h = done_other B L c (event.Start host boot idle) m a (λ q. cc) on h
+done_event B L c (event.Start host boot limits) m a on h = done_other B L c (event.Start host boot limits) m a (λ q. cc) on h
 done_event B L c (event.Bytes n piece) m a on h = done_other B L c (event.Bytes n piece) m a (λ q. cc) on h
 done_event B L c (event.Took n count) m a on h = done_other B L c (event.Took n count) m a (λ q. cc) on h
 done_event B L c (event.Gone n) m a on h = done_other B L c (event.Gone n) m a (λ q. cc) on h

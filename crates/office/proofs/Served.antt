@@ -16,9 +16,11 @@ use Rattle.policy.specs.declared.decide.Decision.{Decision}
 use Rattle.vault.specs.Records.{Records, class_of, octets_of, uid_of}
 use Rattle.vault.specs.declared.record.Message.{Message}
 use Rattle.session.specs.View.{at_number, is_marked, referred, retrieval, removal, denying, visible}
+use Rattle.session.specs.declared.removals.Removals.TheVariants.{JudgedAtDele, JudgedAtQuit}
+use Rattle.session.specs.declared.removals.Removals.{Removals}
 use Rattle.office.specs.History.{Entry, Act, Tag, Done, Failed, NoMemory, Says, Line, Open, Gone, Idle, Deposit, Administer, Restart, in_force, credential, exists}
 use Rattle.office.specs.Sessions.{live, login, login_after, login_by, ends_session, in_session, when_live, holder, view, marks, present}
-use Rattle.office.specs.Connections.{user, opens, failures, has_message}
+use Rattle.office.specs.Connections.{judging, user, opens, failures, has_message}
 use Rattle.office.specs.Told.{told, said_to, answers_if_done, deposited, administered}
 use Rattle.office.specs.Answers.{Answer}
 use Rattle.office.specs.Replying.{said_to_line, reply_to_reading, is_permitted, when_permitted, obeyed, refusal, deleted_if, served_if, quit_says, bye_unless, name_or_nobody, logging_in, login_failed, opening, stamp, maildrop_has}
@@ -88,8 +90,9 @@ picked_is_plain None b n reply h = refl
 picked_is_plain (Some m) true n reply h = refl
 picked_is_plain (Some m) false n reply h = h m
 
-deleted_is_plain : (d : Decision) (n : ℕ) → Plain (deleted_if d n)
-deleted_is_plain d n = at d.allowed
+deleted_is_plain : (j : Removals) (d : Decision) (n : ℕ) → Plain (deleted_if j d n)
+deleted_is_plain JudgedAtQuit d n = refl
+deleted_is_plain JudgedAtDele d n = at d.allowed
   where
     at : (b : Bool) → Plain (if b then Marked n else DeniedBy d.rule)
     at true = refl
@@ -173,7 +176,7 @@ by_command B H c (Dele n) h =
     let G = told B H in
     let name = name_or_nobody (login G c) in
     plainly B G c (Ok (Dele n)) (live G c) (obeyed B G c (Dele n)) (picked_is_plain (at_number (view B G c) n) (is_marked (marks G c) n) n
-    (λ (m : Message). deleted_if (removal (in_force B G) name m.class) n) (λ m. deleted_is_plain (removal (in_force B G) name m.class) n)) h
+    (λ (m : Message). deleted_if (judging G) (removal (in_force B G) name m.class) n) (λ m. deleted_is_plain (judging G) (removal (in_force B G) name m.class) n)) h
 by_command B H c Rset h = plainly B (told B H) c (Ok Rset) (live (told B H) c) (obeyed B (told B H) c Rset) refl h
 by_command B H c Noop h = plainly B (told B H) c (Ok Noop) (live (told B H) c) (obeyed B (told B H) c Noop) refl h
 
@@ -209,7 +212,7 @@ by_act B H (Gone c) t = refl
 by_act B H (Idle c) t = refl
 by_act B H (Deposit d class id text) t = answer_is_plain t (deposited B (told B H) d class id text)
 by_act B H (Administer command) t = answer_is_plain t (administered B (told B H) command)
-by_act B H (Restart boot host) t = refl
+by_act B H (Restart boot host removals) t = refl
 
 pub served_is_allowed : ServedIsAllowed
 served_is_allowed B [] = tt

@@ -17,8 +17,10 @@ use Rattle.policy.specs.Policy.{Policy}
 use Rattle.vault.specs.Records.{Records, class_of, octets_of, uid_of}
 use Rattle.vault.specs.declared.record.Message as store
 use Rattle.session.specs.View.{is_marked, marked, unmarked, numbered, at_number, referred, retrieval, may_remove, removal, to_remove, denying, sizes_of, uids_of, total_of}
+use Rattle.session.specs.declared.removals.Removals.{Removals}
+use Rattle.session.specs.declared.removals.Removals.TheVariants.{JudgedAtDele, JudgedAtQuit}
 use Rattle.office.specs.History.{Entry, Done, Failed, Says, in_force}
-use Rattle.office.specs.Connections.{reading, user, closes, is_quit}
+use Rattle.office.specs.Connections.{reading, user, closes, is_quit, judging}
 use Rattle.policy.specs.declared.decide.Decision.{Decision}
 use Rattle.office.specs.Sessions.{live, login, logs_in, marks, view}
 use Rattle.office.specs.Replying.{session_says, quit_says, is_allowed, when_permitted, name_or_nobody, is_readable, may_serve, served_if, is_empty, pick, deleted_if, reply_to_reading, reply_to_cut, line_may_fail, reading_may_fail}
@@ -49,22 +51,22 @@ module _ (ms ns : List ℕ) (same : (n : ℕ) → is_marked ms n ≡ is_marked n
   pick_alike rows n f = ap (λ b. referred (at_number rows n) b NoSuchMessage (AlreadyMarked n) f) (same n)
 
   -- what a session says
-  pub says_alike : (p : Policy) (name : LoginName) (rows : List store.Message) (command : Command) → session_says p name ms rows command ≡ session_says p name ns rows command
-  says_alike p name rows Stat = ap (λ rs. DropListing (length rs) (total_of octets_of rs)) (unmarked_alike rows)
-  says_alike p name rows ListAll = ap (λ rs. ScanListing (sizes_of octets_of rs)) (unmarked_alike rows)
-  says_alike p name rows (ListOne n) = pick_alike rows n _
-  says_alike p name rows UidlAll = ap (λ rs. UidListing (uids_of uid_of rs)) (unmarked_alike rows)
-  says_alike p name rows (UidlOne n) = pick_alike rows n _
-  says_alike p name rows (Retr n) = pick_alike rows n _
-  says_alike p name rows (Top n k) = pick_alike rows n _
-  says_alike p name rows (Dele n) = pick_alike rows n _
-  says_alike p name rows Rset = refl
-  says_alike p name rows Noop = refl
-  says_alike p name rows Quit = ap quit_says (denying_alike class_of p name rows)
-  says_alike p name rows Capa = refl
-  says_alike p name rows (User user) = refl
-  says_alike p name rows (Pass password) = refl
-  says_alike p name rows (Apop user digest) = refl
+  pub says_alike : (p : Policy) (j : Removals) (name : LoginName) (rows : List store.Message) (command : Command) → session_says p j name ms rows command ≡ session_says p j name ns rows command
+  says_alike p j name rows Stat = ap (λ rs. DropListing (length rs) (total_of octets_of rs)) (unmarked_alike rows)
+  says_alike p j name rows ListAll = ap (λ rs. ScanListing (sizes_of octets_of rs)) (unmarked_alike rows)
+  says_alike p j name rows (ListOne n) = pick_alike rows n _
+  says_alike p j name rows UidlAll = ap (λ rs. UidListing (uids_of uid_of rs)) (unmarked_alike rows)
+  says_alike p j name rows (UidlOne n) = pick_alike rows n _
+  says_alike p j name rows (Retr n) = pick_alike rows n _
+  says_alike p j name rows (Top n k) = pick_alike rows n _
+  says_alike p j name rows (Dele n) = pick_alike rows n _
+  says_alike p j name rows Rset = refl
+  says_alike p j name rows Noop = refl
+  says_alike p j name rows Quit = ap quit_says (denying_alike class_of p name rows)
+  says_alike p j name rows Capa = refl
+  says_alike p j name rows (User user) = refl
+  says_alike p j name rows (Pass password) = refl
+  says_alike p j name rows (Apop user digest) = refl
 
 -- ---- a live session
 
@@ -72,6 +74,7 @@ module _ (ms ns : List ℕ) (same : (n : ℕ) → is_marked ms n ≡ is_marked n
 pub record AgreesInside (B : Records) (G : List Entry) (c : ℕ) (p : Policy) (v : Sitting) : Type 0 where
   pub live : live G c ≡ true
   pub login : login G c ≡ Some v.name
+  pub judged : v.removals ≡ judging G
   pub marks : (n : ℕ) → is_marked v.marks n ≡ is_marked (marks G c) n
   pub view : v.view ≡ view B G c
   pub policy : p ≡ in_force B G
@@ -96,12 +99,13 @@ module _ (B : Records) (G : List Entry) (c : ℕ) (p : Policy) (v : Sitting) (a 
       let q = sym a.policy in
       rw (n, w, q) (to_remove_alike v.marks (marks G c) a.marks class_of p v.name v.view)
 
-  says_inside : (command : Command) → session_says (in_force B G) (name_or_nobody (login G c)) (marks G c) (view B G c) command ≡ session_says p v.name v.marks v.view command
+  says_inside : (command : Command) → session_says (in_force B G) (judging G) (name_or_nobody (login G c)) (marks G c) (view B G c) command ≡ session_says p v.removals v.name v.marks v.view command
   says_inside command =
-      ap (λ q. session_says q (name_or_nobody (login G c)) (marks G c) (view B G c) command) (sym a.policy)
-      ∙ (ap (λ n. session_says p n (marks G c) (view B G c) command) name_inside
-      ∙ (ap (λ rows. session_says p v.name (marks G c) rows command) (sym a.view)
-      ∙ sym (says_alike v.marks (marks G c) a.marks p v.name v.view command)))
+      ap (λ q. session_says q (judging G) (name_or_nobody (login G c)) (marks G c) (view B G c) command) (sym a.policy)
+      ∙ (ap (λ j. session_says p j (name_or_nobody (login G c)) (marks G c) (view B G c) command) (sym a.judged)
+      ∙ (ap (λ n. session_says p v.removals n (marks G c) (view B G c) command) name_inside
+      ∙ (ap (λ rows. session_says p v.removals v.name (marks G c) rows command) (sym a.view)
+      ∙ sym (says_alike v.marks (marks G c) a.marks p v.removals v.name v.view command))))
 
   reading_inside : (r : Result Command LineFault) → reply_to_reading B G c r Done ≡ said_inside p v r
   reading_inside (Err Unknown) = refl
@@ -210,8 +214,9 @@ closes_referred r None b n f h = refl
 closes_referred r (Some m) true n f h = refl
 closes_referred r (Some m) false n f h = h m
 
-closes_deleted : (n : ℕ) (d : Decision) → closes (Ok (Dele n)) (Says (deleted_if d n)) ≡ false
-closes_deleted n d = at d.allowed
+closes_deleted : (n : ℕ) (j : Removals) (d : Decision) → closes (Ok (Dele n)) (Says (deleted_if j d n)) ≡ false
+closes_deleted n JudgedAtQuit d = refl
+closes_deleted n JudgedAtDele d = at d.allowed
   where
     at : (b : Bool) → closes (Ok (Dele n)) (Says (if b then Marked n else DeniedBy d.rule)) ≡ false
     at true = refl
@@ -248,7 +253,7 @@ closes_read p v (Ok UidlAll) = refl
 closes_read p v (Ok (UidlOne n)) = closes_referred (Ok (UidlOne n)) (at_number v.view n) (is_marked v.marks n) n _ (λ m. refl)
 closes_read p v (Ok (Retr n)) = closes_referred (Ok (Retr n)) (at_number v.view n) (is_marked v.marks n) n _ (λ m. closes_served (Ok (Retr n)) (retrieval p v.name m.class) _ refl refl)
 closes_read p v (Ok (Top n k)) = closes_referred (Ok (Top n k)) (at_number v.view n) (is_marked v.marks n) n _ (λ m. closes_served (Ok (Top n k)) (retrieval p v.name m.class) _ refl refl)
-closes_read p v (Ok (Dele n)) = closes_referred (Ok (Dele n)) (at_number v.view n) (is_marked v.marks n) n _ (λ m. closes_deleted n (removal p v.name m.class))
+closes_read p v (Ok (Dele n)) = closes_referred (Ok (Dele n)) (at_number v.view n) (is_marked v.marks n) n _ (λ m. closes_deleted n v.removals (removal p v.name m.class))
 closes_read p v (Ok Rset) = refl
 closes_read p v (Ok Noop) = refl
 

@@ -182,7 +182,7 @@ after_ascends (Gone n) xs h = h
 after_ascends (Idle n) xs h = h
 after_ascends (Deposit a b i x) xs h = h
 after_ascends (Administer a) xs h = h
-after_ascends (Restart b h') xs h = h
+after_ascends (Restart b h' r) xs h = h
 
 heard_ascends : (G : List Entry) → Ascends 0 (heard G)
 heard_ascends [] = tt

@@ -91,7 +91,7 @@ login_quits (Gone n) t s c u name e = refl
 login_quits (Idle n) t s c u name e = refl
 login_quits (Deposit a b i x) t s c u name e = refl
 login_quits (Administer a) t s c u name e = refl
-login_quits (Restart b h) t s c u name e = refl
+login_quits (Restart b h r) t s c u name e = refl
 
 quit_at : (n : ℕ) (b t : Bool) (q : ℕ) → quits_if (b && t) n ≡ Some q → (b ≡ true) × (n ≡ q)
 quit_at n true true q e = (refl, cc)
@@ -108,7 +108,7 @@ quit_ends (Gone n) t s q e = absurd (no_some q e)
 quit_ends (Idle n) t s q e = absurd (no_some q e)
 quit_ends (Deposit a b i x) t s q e = absurd (no_some q e)
 quit_ends (Administer a) t s q e = absurd (no_some q e)
-quit_ends (Restart b h) t s q e = absurd (no_some q e)
+quit_ends (Restart b h r) t s q e = absurd (no_some q e)
 
 -- a message arrived in a maildrop and wasn't removed
 pub record IsThere (B : Records) (G : List Entry) (d : List ℕ) (m : Message) : Type 0 where

@@ -33,7 +33,7 @@ module _ {Before : Contents → Type 0} (T : Trace) (n octets : ℕ) (keeps : Ke
   p = k.pending
 
   abbrev pub judged : Judges T.base (history T) n keeps.contents (judged_at keeps.contents policy k.stamp locks) k.talk k.session
-  judged = judges T n keeps sound policy rules locks held (took (seen T n) octets now) k p ready refl refl refl refl refl refl refl
+  judged = judges T n keeps sound policy rules locks held (took (seen T n) octets now) k p ready refl refl refl refl refl refl refl refl
 
   abbrev replied : Acted → Reply
   replied w = reply_of w (judged_at keeps.contents policy k.stamp locks) k.talk judged.sitting (line_after k p)
@@ -51,22 +51,22 @@ module _ {Before : Contents → Type 0} (T : Trace) (n octets : ℕ) (keeps : Ke
       left = held_if (has_newline p) w policy k.session (reading (line_after k p)) keeps.contents
 
       taking_here : Matches left (seen (given T (Took n octets) (Tagged (tag_of w))) n) k'
-      taking_here = here T n keeps sound policy rules locks held (took (seen T n) octets now) k p ready refl refl refl refl refl refl refl (Took n octets) w k' locks' may is law became follow owes refl
+      taking_here = here T n keeps sound policy rules locks held (took (seen T n) octets now) k p ready refl refl refl refl refl refl refl refl (Took n octets) w k' locks' may is law became follow owes refl
           (λ h nx. seen-took_line T n octets now moment_is w (line_after k p) all open_yet (next_kept T n ∙ nx)) (λ h nx. records-took_line T n octets w (line_after k p) all open_yet (next_kept T n ∙ nx))
           (λ h d. rw d (seen-took_none T n octets now moment_is all open_yet (none h))) (λ h d. rw d (records-took_none T n octets all open_yet (none h))) (λ q e. seen-took_other T n octets q (tag_of w) e)
 
       taking_agrees : Agree (records_of left) (records T.base (history (given T (Took n octets) (Tagged (tag_of w)))))
-      taking_agrees = agrees T n keeps sound policy rules locks held (took (seen T n) octets now) k p ready refl refl refl refl refl refl refl (Took n octets) w k' locks' may is law became follow owes refl
+      taking_agrees = agrees T n keeps sound policy rules locks held (took (seen T n) octets now) k p ready refl refl refl refl refl refl refl refl (Took n octets) w k' locks' may is law became follow owes refl
           (λ h nx. seen-took_line T n octets now moment_is w (line_after k p) all open_yet (next_kept T n ∙ nx)) (λ h nx. records-took_line T n octets w (line_after k p) all open_yet (next_kept T n ∙ nx))
           (λ h d. rw d (seen-took_none T n octets now moment_is all open_yet (none h))) (λ h d. rw d (records-took_none T n octets all open_yet (none h))) (λ q e. seen-took_other T n octets q (tag_of w) e)
 
       taking_carried : (q : ℕ) → eqb n q ≡ false → (o : Option Kept) → IsKeptFor keeps.contents (seen T q) o → IsKeptFor left (seen T q) o
-      taking_carried = carried T n keeps sound policy rules locks held (took (seen T n) octets now) k p ready refl refl refl refl refl refl refl (Took n octets) w k' locks' may is law became follow owes refl
+      taking_carried = carried T n keeps sound policy rules locks held (took (seen T n) octets now) k p ready refl refl refl refl refl refl refl refl (Took n octets) w k' locks' may is law became follow owes refl
           (λ h nx. seen-took_line T n octets now moment_is w (line_after k p) all open_yet (next_kept T n ∙ nx)) (λ h nx. records-took_line T n octets w (line_after k p) all open_yet (next_kept T n ∙ nx))
           (λ h d. rw d (seen-took_none T n octets now moment_is all open_yet (none h))) (λ h d. rw d (records-took_none T n octets all open_yet (none h))) (λ q e. seen-took_other T n octets q (tag_of w) e)
 
       taking_locked : (d : List ℕ) → get name_cmp locks' d ≡ holder (history (given T (Took n octets) (Tagged (tag_of w)))) d
-      taking_locked = locked T n keeps sound policy rules locks held (took (seen T n) octets now) k p ready refl refl refl refl refl refl refl (Took n octets) w k' locks' may is law became follow owes refl
+      taking_locked = locked T n keeps sound policy rules locks held (took (seen T n) octets now) k p ready refl refl refl refl refl refl refl refl (Took n octets) w k' locks' may is law became follow owes refl
           (λ h nx. seen-took_line T n octets now moment_is w (line_after k p) all open_yet (next_kept T n ∙ nx)) (λ h nx. records-took_line T n octets w (line_after k p) all open_yet (next_kept T n ∙ nx))
           (λ h d. rw d (seen-took_none T n octets now moment_is all open_yet (none h))) (λ h d. rw d (records-took_none T n octets all open_yet (none h))) (λ q e. seen-took_other T n octets q (tag_of w) e)
 

@@ -103,9 +103,9 @@ refused_said c p s kept lies n why reply e =
 
 -- a refusal changes no mark
 pub refused_goes_on : (n : ℕ) (why : Pick) (s : Session) → GoesOn (refused_pick n why) s s
-refused_goes_on n NoSuch s = record { name = refl; view = refl; marks = λ m. refl }
-refused_goes_on n Deleted s = record { name = refl; view = refl; marks = λ m. refl }
-refused_goes_on n (Denied rule) s = record { name = refl; view = refl; marks = λ m. refl }
+refused_goes_on n NoSuch s = record { name = refl; removals = refl; view = refl; marks = λ m. refl }
+refused_goes_on n Deleted s = record { name = refl; removals = refl; view = refl; marks = λ m. refl }
+refused_goes_on n (Denied rule) s = record { name = refl; removals = refl; view = refl; marks = λ m. refl }
 
 -- ---- what is said of it
 
@@ -249,14 +249,14 @@ module _ (c : Contents) (sound : AreSound c) (p : Policy) (s : Session) (kept : 
         let e = message_said c p s kept n head f in
         record {
           owed = subst (λ (r : Reply). OwesReply c (Some s) o r) e (record { owes = subst (λ xs. Owes c (Some s) o xs) is served.owed; serves = λ h. refl });
-          session = subst (λ (r : Reply). GoesOn r s s) e (record { name = refl; view = refl; marks = λ m. refl });
+          session = subst (λ (r : Reply). GoesOn r s s) e (record { name = refl; removals = refl; view = refl; marks = λ m. refl });
           held = served.held;
           may = λ e. cc;
           cause = λ e. cc;
         }
     retrieved acted.Failed octets is served = record {
       owed = served.owed.0;
-      session = record { name = refl; view = refl; marks = λ m. refl };
+      session = record { name = refl; removals = refl; view = refl; marks = λ m. refl };
       held = served.held;
       may = λ e. is_asked c p s kept n head f;
       cause = λ e. served.owed.1;
@@ -269,14 +269,14 @@ module _ (c : Contents) (sound : AreSound c) (p : Policy) (s : Session) (kept : 
         let e = top_said c p s kept n head f lines in
         record {
           owed = subst (λ (r : Reply). OwesReply c (Some s) o r) e (record { owes = subst (λ xs. Owes c (Some s) o xs) is served.owed; serves = λ h. refl });
-          session = subst (λ (r : Reply). GoesOn r s s) e (record { name = refl; view = refl; marks = λ m. refl });
+          session = subst (λ (r : Reply). GoesOn r s s) e (record { name = refl; removals = refl; view = refl; marks = λ m. refl });
           held = served.held;
           may = λ e. cc;
           cause = λ e. cc;
         }
     topped lines acted.Failed octets is served = record {
       owed = served.owed.0;
-      session = record { name = refl; view = refl; marks = λ m. refl };
+      session = record { name = refl; removals = refl; view = refl; marks = λ m. refl };
       held = served.held;
       may = λ e. is_asked c p s kept n head f;
       cause = λ e. served.owed.1;

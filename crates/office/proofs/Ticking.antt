@@ -16,7 +16,7 @@ use Rattle.vault.specs.Changes.{Contents}
 use Rattle.office.specs.History.{Act, Idle, Tag, Done}
 use Rattle.office.specs.Sessions.{holds, holder, records, is_login_to}
 use Rattle.office.specs.Told.{told}
-use Rattle.office.specs.Events.{Trace, Tagged, given}
+use Rattle.office.specs.Events.{Limits, Trace, Tagged, given}
 use Rattle.office.specs.Events as event
 use Rattle.office.specs.Log.{opened, clock, idle_seconds, moment, stream, taken}
 use Rattle.office.specs.Trace.{acts, history, idle_acts, idle_numbers, is_open, open_numbers_at}
@@ -183,36 +183,36 @@ module _ {V : Type 0} (Holds : V → Contents → Type 0) (o o' : Office V) (T :
   over_now q e = rw (seen-tick q true e) (record { closed = refl; outside = refl })
 
   -- a kept connection is among the idle ones by what is kept of it
-  idle_kept : (q : ℕ) (k : Kept) → get nat_cmp o.links q ≡ Some k → Matches st.keeps.contents (seen T q) k → among idle_now q ≡ is_idle (max o.moment t) o.limits k
+  idle_kept : (q : ℕ) (k : Kept) → get nat_cmp o.links q ≡ Some k → Matches st.keeps.contents (seen T q) k → among idle_now q ≡ is_idle (max o.moment t) o.limits.idle k
   idle_kept q k found m =
       let fits = st.numbered q (rw found refl) in
       open_idle T (max (moment T.log) t) q m.opened fits.0 fits.1
       ∙ (ap (λ c. nat_le (c + idle_seconds T.log) (max (moment T.log) t)) (sym m.clock)
-      ∙ (ap (λ s. nat_le (k.clock + s) (max (moment T.log) t)) (sym st.idle) ∙ ap (λ n. nat_le (k.clock + o.limits) (max n t)) (sym st.moment)))
+      ∙ (ap (λ s. nat_le (k.clock + s) (max (moment T.log) t)) (sym st.idle) ∙ ap (λ n. nat_le (k.clock + o.limits.idle) (max n t)) (sym st.moment)))
 
   kept_ticked : (q : ℕ) (l : Option Kept) → get nat_cmp o.links q ≡ l → IsKeptFor st.keeps.contents (seen T q) l
-      → IsKeptFor st.keeps.contents (seen ticked q) (unless_idle (max o.moment t) o.limits l)
+      → IsKeptFor st.keeps.contents (seen ticked q) (unless_idle (max o.moment t) o.limits.idle l)
   kept_ticked q None found h = over_still q h
-  kept_ticked q (Some k) found m = at (is_idle (max o.moment t) o.limits k) (idle_kept q k found m)
+  kept_ticked q (Some k) found m = at (is_idle (max o.moment t) o.limits.idle k) (idle_kept q k found m)
     where
       at : (b : Bool) → among idle_now q ≡ b → IsKeptFor st.keeps.contents (seen ticked q) (cond b None (Some k))
       at true e = over_now q e
       at false e = rw (seen-tick q false e) m
 
-  module _ (links : (q : ℕ) → get nat_cmp o'.links q ≡ unless_idle (max o.moment t) o.limits (get nat_cmp o.links q)) where
+  module _ (links : (q : ℕ) → get nat_cmp o'.links q ≡ unless_idle (max o.moment t) o.limits.idle (get nat_cmp o.links q)) where
     -- what is no more was there
-    was_kept : (q : ℕ) (l : Option Kept) → IsSome (unless_idle (max o.moment t) o.limits l) → IsSome l
+    was_kept : (q : ℕ) (l : Option Kept) → IsSome (unless_idle (max o.moment t) o.limits.idle l) → IsSome l
     was_kept q None h = h
     was_kept q (Some k) h = refl
 
-    gone_link : (q : ℕ) (l : Option Kept) → get nat_cmp o.links q ≡ l → IsKeptFor st.keeps.contents (seen T q) l → among idle_now q ≡ true → unless_idle (max o.moment t) o.limits l ≡ None
+    gone_link : (q : ℕ) (l : Option Kept) → get nat_cmp o.links q ≡ l → IsKeptFor st.keeps.contents (seen T q) l → among idle_now q ≡ true → unless_idle (max o.moment t) o.limits.idle l ≡ None
     gone_link q None found h e = refl
-    gone_link q (Some k) found m e = let b : is_idle (max o.moment t) o.limits k ≡ true = sym (idle_kept q k found m) ∙ e in ap (λ b. cond b None (Some k)) b
+    gone_link q (Some k) found m e = let b : is_idle (max o.moment t) o.limits.idle k ≡ true = sym (idle_kept q k found m) ∙ e in ap (λ b. cond b None (Some k)) b
 
     live_link : (d : List ℕ) (q : ℕ) (l : Option Kept) → get nat_cmp o.links q ≡ l → IsKeptFor st.keeps.contents (seen T q) l → holds (history T) d q ≡ true → among idle_now q ≡ false
-        → is_some (unless_idle (max o.moment t) o.limits l) ≡ true
+        → is_some (unless_idle (max o.moment t) o.limits.idle l) ≡ true
     live_link d q None found h held e = let out = h.outside in absurd (true≢false (sym (rw out at held)))
-    live_link d q (Some k) found m held e = let b : is_idle (max o.moment t) o.limits k ≡ false = sym (idle_kept q k found m) ∙ e in ap (λ b. is_some (cond b None (Some k))) b
+    live_link d q (Some k) found m held e = let b : is_idle (max o.moment t) o.limits.idle k ≡ false = sym (idle_kept q k found m) ∙ e in ap (λ b. is_some (cond b None (Some k))) b
 
     pub tick_stands : ((k : Contents) → Holds o.vault k → Holds o'.vault k) → o'.policy ≡ o.policy → o'.boot ≡ o.boot → string_bytes o'.host ≡ string_bytes o.host → o'.limits ≡ o.limits
         → counters o' ≡ (o.opened, max o.moment t) → ((d : List ℕ) → get name_cmp o'.locks d ≡ lock_of_kept o'.links (get name_cmp o.locks d)) → StandsFor Holds o' ticked
@@ -224,7 +224,8 @@ module _ {V : Type 0} (Holds : V → Contents → Type 0) (o o' : Office V) (T :
           policy = p ∙ (st.policy ∙ ap (λ (w : Whole). w.rules) (sym same));
           boot = b ∙ (st.boot ∙ ap (λ (w : Whole). w.office.0) (sym same));
           host = s ∙ (st.host ∙ ap (λ (w : Whole). w.office.1) (sym same));
-          idle = l ∙ st.idle;
+          judged = ap (λ (x : Limits). x.removals) l ∙ (st.judged ∙ ap (λ (w : Whole). w.office.2) (sym same));
+          idle = ap (λ (x : Limits). x.idle) l ∙ st.idle;
           moment = ap (λ (x : ℕ × ℕ). x.1) n ∙ ap (λ m. max m t) st.moment;
           numbered = λ q some. st.numbered q (was_kept q (get nat_cmp o.links q) (rw (links q) at some));
           opened = ap (λ (x : ℕ × ℕ). x.0) n ∙ st.opened;

@@ -13,6 +13,7 @@ use Rattle.popline.specs.Cutting.{Cut}
 use Rattle.vault.specs.declared.record.Keyed.{Keyed}
 use Rattle.popline.specs.Replies.{Reply, StoreFailed}
 use Rattle.session.specs.Session.{Session, started}
+use Rattle.session.specs.declared.removals.Removals.{Removals}
 use Rattle.office.specs.History as history
 use Rattle.office.specs.History.{Tag, Says}
 use Rattle.office.specs.Outcomes as outcomes
@@ -70,17 +71,17 @@ shown_of acted.Failed = outcomes.Failed
 
 -- ---- the session
 
--- A QUIT ends a session, an accepted login begins one, and else all goes on as it was.
-abbrev pub SessionAfter : (quits : Bool) → (logged_in : Option LoginName) → Contents → Policy → Reply → (old new : Option Session) → Type 0
-SessionAfter true logged_in c p reply old new = new ≡ None
-SessionAfter false (Some name) c p reply old new = new ≡ Some (started p name.clerk name.maildrop (heads name.maildrop c))
-SessionAfter false None c p reply None new = new ≡ None
-SessionAfter false None c p reply (Some s) (Some n) = GoesOn reply s n
-SessionAfter false None c p reply (Some s) None = ⊥
+-- A QUIT ends a session, an accepted login begins one, whose removals are judged so, and else all goes on as it was.
+abbrev pub SessionAfter : (quits : Bool) → (logged_in : Option LoginName) → Contents → Policy → Removals → Reply → (old new : Option Session) → Type 0
+SessionAfter true logged_in c p j reply old new = new ≡ None
+SessionAfter false (Some name) c p j reply old new = new ≡ Some (started p j name.clerk name.maildrop (heads name.maildrop c))
+SessionAfter false None c p j reply None new = new ≡ None
+SessionAfter false None c p j reply (Some s) (Some n) = GoesOn reply s n
+SessionAfter false None c p j reply (Some s) None = ⊥
 
 -- the session after a line that got this reply
 abbrev pub Becomes : Contents → Policy → Talk → Cut → Reply → (old new : Option Session) → Type 0
-Becomes c p t x reply old new = SessionAfter (is_quit (reading x)) (logs_in (reading x) (Says reply) t.user) c p reply old new
+Becomes c p t x reply old new = SessionAfter (is_quit (reading x)) (logs_in (reading x) (Says reply) t.user) c p t.removals reply old new
 
 -- the session after octets: none acts where no line is whole
 abbrev pub BecomesIf : (has_line : Bool) → Contents → Policy → Talk → Cut → Reply → (old new : Option Session) → Type 0

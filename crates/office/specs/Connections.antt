@@ -7,6 +7,8 @@ use Rattle.popline.specs.Commands.{Command, Capa, User, Quit, command_of}
 use Rattle.popline.specs.declared.command.LineFault.{LineFault}
 use Rattle.popline.specs.declared.command.LineFault.TheVariants.{Unknown}
 use Rattle.popline.specs.Replies.{LoginFailed, LoginFailedClosing, SendPass, Capabilities, Message, TopPart, bytes_of}
+use Rattle.session.specs.declared.removals.Removals.{Removals}
+use Rattle.session.specs.declared.removals.Removals.TheVariants.{JudgedAtDele}
 use Rattle.office.specs.Answers.{EndSession, Ended}
 use Rattle.office.specs.History.{NoMemory, Line, Administer, Tag, Idle, Gone, Says, Restart, Open, Said, Answers, Act, Entry}
 use Rattle.popline.specs.Cutting as cutting
@@ -28,15 +30,19 @@ abbrev pub opens : Act → ℕ → Bool
 opens (Open n) c = n == c
 opens _ c = false
 
--- the number and the host's name of the last restart
-abbrev pub boot_and_host_after : Act → ℕ × List ℕ → ℕ × List ℕ
-boot_and_host_after (Restart boot host) before = (boot, host)
-boot_and_host_after _ before = before
+-- the number and the host's name of the last restart, and when removals are judged since
+abbrev pub setting_after : Act → ℕ × List ℕ × Removals → ℕ × List ℕ × Removals
+setting_after (Restart boot host removals) before = (boot, host, removals)
+setting_after _ before = before
 
--- the boot number and the host's name that greetings have
-abbrev pub boot_and_host : List Entry → ℕ × List ℕ
-boot_and_host [] = (0, [])
-boot_and_host (e ∷ G) = boot_and_host_after e.act (boot_and_host G)
+-- the boot number and the host's name that greetings have, and when removals are judged
+abbrev pub setting : List Entry → ℕ × List ℕ × Removals
+setting [] = (0, [], JudgedAtDele)
+setting (e ∷ G) = setting_after e.act (setting G)
+
+-- when removals are judged
+abbrev pub judging : List Entry → Removals
+judging G = (setting G).2
 
 -- a connection was opened, and nothing but its own closing can have ended it since
 abbrev pub connected_after : Act → Tag → Said → ℕ → Bool → Bool
@@ -44,7 +50,7 @@ connected_after (Open n) t said c before = if n == c then true else before
 connected_after (Line n x) NoMemory said c before = if n == c then false else before
 connected_after (Gone n) t said c before = if n == c then false else before
 connected_after (Idle n) t said c before = if n == c then false else before
-connected_after (Restart boot host) t said c before = false
+connected_after (Restart boot host removals) t said c before = false
 connected_after (Administer (EndSession n)) t (Answers Ended) c before = if n == c then false else before
 connected_after _ t said c before = before
 

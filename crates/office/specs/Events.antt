@@ -1,12 +1,18 @@
 -- What an office is given, and what an event shows in a trace.
 use Rattle.std.specs.Prelude.{ℕ, List, ◌∷◌}
+use Rattle.session.specs.declared.removals.Removals.{Removals}
 use Rattle.office.specs.Answers.{AdminCommand}
 use Rattle.vault.specs.Records.{Records}
 use Rattle.office.specs.History.{Tag}
 
+-- what an office is set to: after how many seconds an idle connection is ended, and when removals are judged
+pub record Limits : Type 0 where
+  pub idle : ℕ
+  pub removals : Removals
+
 -- an office's opening stands first; the others are those that `step` takes
 pub data Event : Type 0 where
-  Start : (host : List ℕ) (boot idle : ℕ) → Event
+  Start : (host : List ℕ) (boot : ℕ) (limits : Limits) → Event
   Connect : Event
   Bytes : (number : ℕ) (piece : List ℕ) → Event
   Took : (number octets : ℕ) → Event

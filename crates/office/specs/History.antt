@@ -10,6 +10,7 @@ use Rattle.vault.specs.Records.{Records, in_maildrop, receipts_of, credential_in
 use Rattle.vault.specs.declared.record.Clerk.{Clerk}
 use Rattle.vault.specs.declared.record.Receipt.{Receipt}
 use Rattle.vault.specs.Changes.{with_clerk, without_clerk, with_maildrop, without_maildrop, message_for, receipt_for}
+use Rattle.session.specs.declared.removals.Removals.{Removals}
 use Rattle.office.specs.Answers.{AdminCommand, AddMaildrop, DropMaildrop, PutClerk, DropClerk, SetPolicy, Answer, New, Added, Dropped, Replaced}
 use Rattle.vault.specs.declared.record.Message as store
 
@@ -21,7 +22,7 @@ pub data Act : Type 0 where
   Idle : ℕ → Act
   Deposit : (maildrop class id text : List ℕ) → Act
   Administer : AdminCommand → Act
-  Restart : (boot : ℕ) (host : List ℕ) → Act
+  Restart : (boot : ℕ) (host : List ℕ) (removals : Removals) → Act
 
 -- a refusal by reply is done too
 pub data Tag : Type 0 where

@@ -13,6 +13,7 @@ use Rattle.policy.specs.declared.rule.Action.TheVariants as to
 use Rattle.vault.specs.Records.{Records, credential_in, is_one_of, in_maildrop, class_of}
 use Rattle.session.specs.View.{visible}
 use Rattle.session.specs.Session.{Session}
+use Rattle.session.specs.declared.removals.Removals.{Removals}
 use Rattle.office.specs.History.{Says}
 use Rattle.office.specs.Connections.{reading, closes, user_after_line, is_failure}
 use Rattle.office.specs.Replying.{is_allowed, when_permitted, login_reply, name_or_nobody}
@@ -65,9 +66,9 @@ abbrev pub asks : Policy → Talk → Option Sitting → Result Command LineFaul
 asks p t None r = asks_outside t r
 asks p t (Some v) r = asks_inside p v r
 
--- before the first line
-abbrev pub nothing_said : Talk
-nothing_said = record { user = None; failures = 0; closing = false }
+-- before the first line, on a connection whose removals are judged so
+abbrev pub nothing_said : Removals → Talk
+nothing_said removals = record { user = None; failures = 0; closing = false; removals = removals }
 
 -- one more, up to 255
 abbrev pub one_more_failure : ℕ → ℕ
@@ -79,6 +80,7 @@ talk_after x r t = record {
   user = user_after_line (reading x) (Says r) t.user;
   failures = if is_failure (Says r) then one_more_failure t.failures else t.failures;
   closing = closes (reading x) (Says r) || t.closing;
+  removals = t.removals;
 }
 
 -- the line that is being cut, octets that weren't cut yet, what is owed, what is remembered, the greeting's timestamp, who is in

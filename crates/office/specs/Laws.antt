@@ -14,10 +14,12 @@ use Rattle.vault.specs.declared.record.Receipt.{Receipt}
 use Rattle.popline.specs.Replies.{Reply, Greeting, timestamp}
 use Rattle.office.specs.History.{Act, Open, Line, Tag, Said, Says, Silence, Answers, Entry, Done, in_force, deposits}
 use Rattle.office.specs.Sessions.{holds, in_session, live, login, login_by, marks, view, present, records}
-use Rattle.office.specs.Connections.{user, reading}
+use Rattle.office.specs.Connections.{user, reading, judging}
 use Rattle.office.specs.Told.{told}
 use Rattle.office.specs.Replying.{name_or_nobody}
-use Rattle.office.specs.Events.{Event, Mark, Log, Trace, Tagged}
+use Rattle.session.specs.declared.removals.Removals.{Removals}
+use Rattle.session.specs.declared.removals.Removals.TheVariants.{JudgedAtDele, JudgedAtQuit}
+use Rattle.office.specs.Events.{Event, Mark, Limits, Log, Trace, Tagged}
 use Rattle.office.specs.Trace.{history}
 use Rattle.office.specs.Formed.{are_formed}
 use Rattle.office.specs.Taken.{IsAdmitted, AreAdmitted, IsSentExactly}
@@ -61,7 +63,7 @@ DepositIdsActOnce = (B : Records) → IsSound B → (H : List (Act × Tag)) (d :
 
 -- the boot numbers that a trace's openings and restarts set, the newest first
 abbrev pub boots_after : Event → Mark → List ℕ → List ℕ
-boots_after (event.Start host boot idle) (Tagged t) before = boot ∷ before
+boots_after (event.Start host boot limits) (Tagged t) before = boot ∷ before
 boots_after (event.Restart boot) (Tagged t) before = boot ∷ before
 boots_after _ m before = before
 
@@ -82,7 +84,7 @@ stamps (e ∷ G) = stamps_after e.act e.said (stamps G)
 
 -- the events begin with an office's opening
 abbrev pub IsStart : Event → Mark → Type 0
-IsStart (event.Start host boot idle) (Tagged t) = ⊤
+IsStart (event.Start host boot limits) (Tagged t) = ⊤
 IsStart _ m = ⊥
 
 -- the oldest event is an opening
@@ -136,14 +138,15 @@ abbrev pub number_to_mark : Result Command LineFault → Option ℕ
 number_to_mark (Ok (Dele n)) = Some n
 number_to_mark _ = None
 
--- a message of the view that isn't marked, and that the policy lets the clerk remove
-abbrev pub is_removable : Option Message → Policy → LoginName → Bool
-is_removable None policy name = false
-is_removable (Some m) policy name = may_remove policy name m.class
+-- a message of the view that a DELE may mark: where removals are judged at the DELE, one that the policy lets the clerk remove
+abbrev pub is_markable : Removals → Option Message → Policy → LoginName → Bool
+is_markable judged None policy name = false
+is_markable JudgedAtDele (Some m) policy name = may_remove policy name m.class
+is_markable JudgedAtQuit (Some m) policy name = true
 
--- a number may be marked: it isn't yet, and its message may be removed
+-- a number may be marked: it isn't yet, and its message may be
 abbrev pub may_mark : Records → List Entry → ℕ → LoginName → List ℕ → ℕ → Bool
-may_mark B G c name before n = not (is_marked before n) && is_removable (at_number (view B G c) n) (in_force B G) name
+may_mark B G c name before n = not (is_marked before n) && is_markable (judging G) (at_number (view B G c) n) (in_force B G) name
 
 -- the marks with a number more, where it may be marked
 abbrev pub marks_with : Option ℕ → (may_mark : ℕ → Bool) → List ℕ → List ℕ
@@ -188,4 +191,4 @@ TakenIsSent = (T : Trace) → AreAdmitted T → (c : ℕ) → IsSentExactly T c
 
 -- an office's opening may always have the mark of what is done
 abbrev pub OpeningsAreAdmitted : Type 0
-OpeningsAreAdmitted = (T : Trace) (host : List ℕ) (boot idle : ℕ) → IsAdmitted T (event.Start host boot idle) (Tagged Done)
+OpeningsAreAdmitted = (T : Trace) (host : List ℕ) (boot : ℕ) (limits : Limits) → IsAdmitted T (event.Start host boot limits) (Tagged Done)

@@ -9,7 +9,7 @@ use Rattle.office.specs.Events as event
 
 -- how many connections were opened since the last restart
 abbrev pub opened_after : Event → Mark → ℕ → ℕ
-opened_after (event.Start host boot idle) (Tagged t) before = 0
+opened_after (event.Start host boot limits) (Tagged t) before = 0
 opened_after (event.Restart boot) (Tagged t) before = 0
 opened_after event.Connect (Tagged Done) before = before + 1
 opened_after _ m before = before
@@ -25,7 +25,7 @@ next_number T = opened T + 1
 
 -- after so many seconds a connection that does nothing is ended
 abbrev pub idle_after : Event → Mark → ℕ → ℕ
-idle_after (event.Start host boot idle) (Tagged t) before = idle
+idle_after (event.Start host boot limits) (Tagged t) before = limits.idle
 idle_after _ m before = before
 
 -- the idle seconds that the office was opened with
@@ -35,7 +35,7 @@ idle_seconds ((e, m) ∷ T) = idle_after e m (idle_seconds T)
 
 -- the moment: the greatest tick since the last restart
 abbrev pub moment_after : Event → Mark → ℕ → ℕ
-moment_after (event.Start host boot idle) (Tagged t) before = 0
+moment_after (event.Start host boot limits) (Tagged t) before = 0
 moment_after (event.Restart boot) (Tagged t) before = 0
 moment_after (event.Tick now) (Tagged t) before = max before now
 moment_after _ m before = before

@@ -15,8 +15,10 @@ use Rattle.policy.specs.declared.decide.Decision.{Decision}
 use Rattle.policy.specs.declared.rule.Action.TheVariants as to
 use Rattle.vault.specs.Records.{Records, uid_of, class_of, octets_of, octets_of_all}
 use Rattle.session.specs.View.{visible, refer, is_marked, at_number, unmarked, retrieval, may_read, removal, to_remove, denying, sizes_of, uids_of, total_of}
+use Rattle.session.specs.declared.removals.Removals.{Removals}
+use Rattle.session.specs.declared.removals.Removals.TheVariants.{JudgedAtDele, JudgedAtQuit}
 use Rattle.office.specs.History.{Tag, Failed, NoMemory, Said, Silence, Says, Entry, in_force, credential, exists}
-use Rattle.office.specs.Connections.{boot_and_host, user, failures, reading}
+use Rattle.office.specs.Connections.{setting, judging, user, failures, reading}
 use Rattle.office.specs.Sessions.{login, live, holder, marks, view, present}
 use Rattle.popline.specs.Cutting as cutting
 use Rattle.vault.specs.declared.record.Message as store
@@ -25,7 +27,7 @@ use Rattle.vault.specs.declared.record.Message as store
 
 -- the timestamp of a connection's greeting; a restart ends every connection, so the last one stands before its opening
 abbrev pub stamp : List Entry → ℕ → List ℕ
-stamp G c = timestamp c (boot_and_host G).0 (boot_and_host G).1
+stamp G c = timestamp c (setting G).0 (setting G).1
 
 -- the third failure closes
 abbrev pub login_failed : ℕ → Reply
@@ -59,9 +61,10 @@ logging_in B G c name proof = login_reply (is_admitted (credential B G name.cler
 abbrev pub pick : List ℕ → List store.Message → ℕ → (store.Message → Reply) → Reply
 pick marks view n reply = refer marks view n NoSuchMessage (AlreadyMarked n) reply
 
--- a number is marked, or the rule that denies it is named
-abbrev pub deleted_if : Decision → ℕ → Reply
-deleted_if d n = if d.allowed then Marked n else DeniedBy d.rule
+-- where removals are judged at the DELE, a number is marked or the rule that denies it is named; else it is marked
+abbrev pub deleted_if : Removals → Decision → ℕ → Reply
+deleted_if JudgedAtDele d n = if d.allowed then Marked n else DeniedBy d.rule
+deleted_if JudgedAtQuit d n = Marked n
 
 -- a message is served, or the rule that denies its reading is named
 abbrev pub served_if : Decision → Reply → Reply
@@ -72,22 +75,22 @@ abbrev pub quit_says : Option (List ℕ) → Reply
 quit_says None = Bye
 quit_says (Some rule) = RemovalDenied rule
 
--- what a session says, by the rules in force, its login, its marks and its view
-abbrev pub session_says : Policy → LoginName → List ℕ → List store.Message → Command → Reply
-session_says policy name marks view Stat = DropListing (length (unmarked marks view)) (total_of octets_of (unmarked marks view))
-session_says policy name marks view ListAll = ScanListing (sizes_of octets_of (unmarked marks view))
-session_says policy name marks view (ListOne n) = pick marks view n (λ m. ScanLine n (octets_of m))
-session_says policy name marks view UidlAll = UidListing (uids_of uid_of (unmarked marks view))
-session_says policy name marks view (UidlOne n) = pick marks view n (λ m. UidLine n (uid_of m))
-session_says policy name marks view (Retr n) =
+-- what a session says, by the rules in force, when removals are judged, its login, its marks and its view
+abbrev pub session_says : Policy → Removals → LoginName → List ℕ → List store.Message → Command → Reply
+session_says policy judged name marks view Stat = DropListing (length (unmarked marks view)) (total_of octets_of (unmarked marks view))
+session_says policy judged name marks view ListAll = ScanListing (sizes_of octets_of (unmarked marks view))
+session_says policy judged name marks view (ListOne n) = pick marks view n (λ m. ScanLine n (octets_of m))
+session_says policy judged name marks view UidlAll = UidListing (uids_of uid_of (unmarked marks view))
+session_says policy judged name marks view (UidlOne n) = pick marks view n (λ m. UidLine n (uid_of m))
+session_says policy judged name marks view (Retr n) =
     pick marks view n (λ (m : store.Message). served_if (retrieval policy name m.class) (Message (octets_of m) (stuffed_lines (lines_of m.text))))
-session_says policy name marks view (Top n k) =
+session_says policy judged name marks view (Top n k) =
     pick marks view n (λ (m : store.Message). served_if (retrieval policy name m.class) (TopPart (stuffed_lines (top_part (lines_of m.text) k))))
-session_says policy name marks view (Dele n) = pick marks view n (λ (m : store.Message). deleted_if (removal policy name m.class) n)
-session_says policy name marks view Rset = maildrop_has view
-session_says policy name marks view Noop = Okay
-session_says policy name marks view Quit = quit_says (denying class_of policy name marks view)
-session_says policy name marks view _ = WrongState
+session_says policy judged name marks view (Dele n) = pick marks view n (λ (m : store.Message). deleted_if judged (removal policy name m.class) n)
+session_says policy judged name marks view Rset = maildrop_has view
+session_says policy judged name marks view Noop = Okay
+session_says policy judged name marks view Quit = quit_says (denying class_of policy name marks view)
+session_says policy judged name marks view _ = WrongState
 
 -- ---- the reply to a line
 
@@ -130,7 +133,7 @@ bye_unless false reply = Bye
 
 -- what a session says at a front
 abbrev pub reply_in_session : Records → List Entry → ℕ → Command → Reply
-reply_in_session B G c command = session_says (in_force B G) (name_or_nobody (login G c)) (marks G c) (view B G c) command
+reply_in_session B G c command = session_says (in_force B G) (judging G) (name_or_nobody (login G c)) (marks G c) (view B G c) command
 
 -- the reply to a command that may stand there and that the store doesn't refuse
 abbrev pub obeyed : Records → List Entry → ℕ → Command → Reply

@@ -44,7 +44,7 @@ ends_session (Open n) tag said c = n == c
 ends_session (Line n x) tag said c = n == c && (is_quit (reading x) || is_no_memory tag)
 ends_session (Gone n) tag said c = n == c
 ends_session (Idle n) tag said c = n == c
-ends_session (Restart boot host) tag said c = true
+ends_session (Restart boot host removals) tag said c = true
 ends_session (Administer (EndSession n)) tag (Answers Ended) c = n == c
 ends_session _ tag said c = false
 

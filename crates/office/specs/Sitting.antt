@@ -20,6 +20,7 @@ use Rattle.session.specs.declared.pick.Pick.TheVariants.{NoSuch, Deleted, Denied
 use Rattle.session.specs.Session.{Session}
 use Rattle.session.specs.Session as head
 use Rattle.session.specs.View.{is_marked, at_number, to_remove}
+use Rattle.session.specs.declared.removals.Removals.{Removals}
 use Rattle.office.specs.History.{Says}
 use Rattle.office.specs.Connections.{reading, is_quit}
 use Rattle.office.specs.Sessions.{marks_after_line}
@@ -31,9 +32,10 @@ use Rattle.office.specs.declared.talk.Acted.TheVariants as acted
 
 -- ---- a session's messages
 
--- who is logged in to which maildrop, the marked numbers, and the messages of the view
+-- who is logged in to which maildrop, when removals are judged, the marked numbers, and the messages of the view
 pub record Sitting : Type 0 where
   pub name : LoginName
+  pub removals : Removals
   pub marks : List ℕ
   pub view : List store.Message
 
@@ -46,11 +48,11 @@ pub record LiesIn (c : Contents) (s : Session) (kept : List Keyed) : Type 0 wher
 
 -- a session with the messages under its heads
 abbrev pub sitting_of : Session → List Keyed → Sitting
-sitting_of s kept = record { name = s.name; marks = s.marks; view = map (λ (x : Keyed). x.message) kept }
+sitting_of s kept = record { name = s.name; removals = s.removals; marks = s.marks; view = map (λ (x : Keyed). x.message) kept }
 
 -- what a session with these messages says to a command
 abbrev pub told_inside : Policy → Session → List Keyed → Command → Reply
-told_inside p s kept command = session_says p s.name s.marks (map (λ (x : Keyed). x.message) kept) command
+told_inside p s kept command = session_says p s.removals s.name s.marks (map (λ (x : Keyed). x.message) kept) command
 
 -- under a key lies a message text of so many octets
 pub record HasText (c : Contents) (key octets : ℕ) : Type 0 where
@@ -72,7 +74,7 @@ refused_pick n (Denied rule) = DeniedBy rule
 -- the reply to a command; a login can't be asked for again
 abbrev pub obeyed_inside : Policy → Sitting → Command → Reply
 obeyed_inside p v Capa = Capabilities
-obeyed_inside p v command = session_says p v.name v.marks v.view command
+obeyed_inside p v command = session_says p v.removals v.name v.marks v.view command
 
 -- the reply to what a line reads as
 abbrev pub said_inside : Policy → Sitting → Result Command LineFault → Reply
@@ -102,6 +104,7 @@ asks_inside p v _ = false
 -- a session goes on: its marks are those that the reply leaves, asked by number
 pub record GoesOn (reply : Reply) (s new : Session) : Type 0 where
   pub name : new.name ≡ s.name
+  pub removals : new.removals ≡ s.removals
   pub view : new.view ≡ s.view
   pub marks : (n : ℕ) → is_marked new.marks n ≡ is_marked (marks_after_line (Says reply) s.marks) n
 

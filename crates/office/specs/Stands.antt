@@ -6,8 +6,9 @@ use Rattle.creds.specs.declared.login_name.LoginName.{LoginName}
 use Rattle.popline.specs.Cutting.{cut, coming}
 use Rattle.vault.specs.Records.{Records, IsSound, Agree}
 use Rattle.vault.specs.Changes.{Contents, records_of}
+use Rattle.session.specs.declared.removals.Removals.{Removals}
 use Rattle.office.specs.History.{Entry, in_force}
-use Rattle.office.specs.Connections.{user, failures, boot_and_host, connected, closing, acted, serving, sent}
+use Rattle.office.specs.Connections.{user, failures, setting, judging, connected, closing, acted, serving, sent}
 use Rattle.office.specs.Sessions.{live, login, marks, view, holder, records}
 use Rattle.office.specs.Replying.{stamp}
 use Rattle.office.specs.Events.{Log, Trace}
@@ -57,6 +58,7 @@ pub record Seen : Type 0 where
   pub user : Option LoginName
   pub failures : ℕ
   pub stamp : List ℕ
+  pub judging : Removals
   pub login : Option LoginName
   pub marks : List ℕ
   pub view : List store.Message
@@ -76,6 +78,7 @@ seen_at B T G c = record {
   user = user G c;
   failures = failures G c;
   stamp = stamp G c;
+  judging = judging G;
   login = login G c;
   marks = marks G c;
   view = view B G c;
@@ -103,6 +106,7 @@ most_in_a_line = 255
 pub record IsSitting (c : Contents) (s : Seen) (k : Session) : Type 0 where
   pub live : s.live ≡ true
   pub login : s.login ≡ Some k.name
+  pub judged : k.removals ≡ s.judging
   pub marks : (n : ℕ) → is_marked k.marks n ≡ is_marked s.marks n
   pub kept : List Keyed
   pub lies : LiesIn c k kept
@@ -128,6 +132,7 @@ pub record Matches (c : Contents) (s : Seen) (k : Kept) : Type 0 where
   -- two and more failures are alike: the next one closes
   pub failures : min k.talk.failures 2 ≡ min s.failures 2
   pub stamp : k.stamp ≡ s.stamp
+  pub judged : k.talk.removals ≡ s.judging
   pub clock : k.clock ≡ s.clock
   -- however the stream goes on, the lines that are left of it are those that come from what is kept
   pub lines : (more : List ℕ) → drop s.acted (cut (s.stream ++ more)) ≡ coming k.held (k.pending ++ more)
@@ -154,9 +159,10 @@ pub record StandsFor {V : Type 0} (Holds : V → Contents → Type 0) (o : Offic
   pub keeps : Keeps (Holds o.vault) T
   pub began : HasBegun T.log
   pub policy : o.policy ≡ in_force T.base (history T)
-  pub boot : o.boot ≡ (boot_and_host (history T)).0
-  pub host : string_bytes o.host ≡ (boot_and_host (history T)).1
-  pub idle : o.limits ≡ idle_seconds T.log
+  pub boot : o.boot ≡ (setting (history T)).0
+  pub host : string_bytes o.host ≡ (setting (history T)).1
+  pub judged : o.limits.removals ≡ judging (history T)
+  pub idle : o.limits.idle ≡ idle_seconds T.log
   pub moment : o.moment ≡ moment T.log
   -- an open connection has one of the numbers that were given
   pub numbered : (c : ℕ) → IsSome (get nat_cmp o.links c) → (1 ≤ c) × (c ≤ opened T.log)

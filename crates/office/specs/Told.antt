@@ -14,7 +14,7 @@ use Rattle.vault.specs.Changes.{DepositAnswer, Accepted, KnownAs, deposit_answer
 use Rattle.vault.specs.Changes as changes
 use Rattle.office.specs.Answers.{AdminCommand, ListMaildrops, ShowMaildrop, AddMaildrop, DropMaildrop, ShowClerk, PutClerk, DropClerk, ShowPolicy, SetPolicy, ListGroups, ListSessions, EndSession, Explain, Answer}
 use Rattle.office.specs.History.{Act, Open, Line, Deposit, Administer, Tag, Done, Said, Silence, Says, Answers, Entry, in_force, clerks, credential, maildrops, exists, deposits}
-use Rattle.office.specs.Connections.{boot_and_host, heard}
+use Rattle.office.specs.Connections.{setting, heard}
 use Rattle.office.specs.Sessions.{live, in_session, holder, present}
 use Rattle.office.specs.Replying.{said_to_line, is_empty}
 use Rattle.vault.specs.declared.record.Message as store
@@ -97,7 +97,7 @@ answers_if_done _ answer = Silence
 
 -- what is said to an act on a front
 abbrev pub said_to : Records → List Entry → Act → Tag → Said
-said_to B G (Open c) t = Says (Greeting c (boot_and_host G).0 (boot_and_host G).1)
+said_to B G (Open c) t = Says (Greeting c (setting G).0 (setting G).1)
 said_to B G (Line c x) t = said_to_line B G c x t
 said_to B G (Deposit d class id text) t = answers_if_done t (deposited B G d class id text)
 said_to B G (Administer command) t = answers_if_done t (administered B G command)

@@ -4,7 +4,7 @@ use Rattle.std.specs.List.{range_with_len}
 use Rattle.popline.specs.Cutting.{Cut, cut, has_newline}
 use Rattle.vault.specs.Records.{Records}
 use Rattle.office.specs.History.{Act, Open, Line, Gone, Idle, Deposit, Administer, Restart, Tag, Done, Failed, NoMemory, Entry}
-use Rattle.office.specs.Connections.{boot_and_host, connected, closing, acted, serving, sent}
+use Rattle.office.specs.Connections.{setting, judging, connected, closing, acted, serving, sent}
 use Rattle.office.specs.Told.{told}
 use Rattle.office.specs.Replying.{is_empty}
 use Rattle.office.specs.Events.{Event, Mark, Ignored, Tagged, Log, Trace}
@@ -85,7 +85,7 @@ idle_acts (c ∷ numbers) = idle_acts numbers ++ (Idle c, Done) ∷ []
 
 -- the acts of an event that shows this tag, the newest first
 abbrev pub acts_of : Log → List Entry → Event → Tag → List (Act × Tag)
-acts_of T G (event.Start host boot idle) t = (Restart boot host, t) ∷ []
+acts_of T G (event.Start host boot limits) t = (Restart boot host limits.removals, t) ∷ []
 acts_of T G event.Connect t = open_act (next_number T) t
 acts_of T G (event.Bytes c piece) t = acts_of_piece (has_newline piece) c t (next_line T G c piece)
 acts_of T G (event.Took c octets) t = acts_of_took (is_left T G c octets) (serving G c) (closing G c) c t (next_line T G c [])
@@ -93,7 +93,7 @@ acts_of T G (event.Gone c) t = (Gone c, t) ∷ []
 acts_of T G (event.Tick now) t = idle_acts (idle_numbers T G (max (moment T) now))
 acts_of T G (event.Deposit d class id text) t = (Deposit d class id text, t) ∷ []
 acts_of T G (event.Admin command) t = (Administer command, t) ∷ []
-acts_of T G (event.Restart boot) t = (Restart boot (boot_and_host G).1, t) ∷ []
+acts_of T G (event.Restart boot) t = (Restart boot (setting G).1 (judging G), t) ∷ []
 
 -- the acts of an event, none where it was ignored
 abbrev pub acts_at : Log → List Entry → Event → Mark → List (Act × Tag)

@@ -176,5 +176,6 @@ pub(crate) fn next_talk(cut: Cut<'_>, acted: Acted, talk: Talk) -> Talk
         user: next_user(cut, acted, talk.user),
         failures: talk.failures,
         closing: is_quitting(cut) || talk.closing,
+        removals: talk.removals,
     }
 }

@@ -1,44 +1,68 @@
 //! What an office is set to.
 ghost use Rattle.std.specs.Prelude.{◌≡◌, ◌≤◌, ◌↔◌, IsSome, IfSome};
+ghost use Rattle.session.specs.declared.removals.Removals.TheVariants.{JudgedAtDele};
 
+use session::Removals;
 use std::marker::Model;
 
 /// How long a connection may do nothing, in seconds: 600 to 86,400 (RFC 1939, section 3, asks for
-/// at least ten minutes).
+/// at least ten minutes); and when removals are judged.
 #[derive(Clone, Copy)]
 pub struct Limits {
     idle: u32,
+    removals: Removals,
 }
 
 impl Model for Limits {
-    ghost use Rattle.std.specs.Prelude.{ℕ, ◌≤◌};
+    ghost use Rattle.std.specs.Prelude.{◌≤◌};
+    ghost use Rattle.office.specs.Events.{Limits};
 
-    ghost Value = { ℕ };
+    ghost Value = { Limits };
 
-    ghost view = { λ l. l.idle };
+    ghost view = { λ l. record { idle = l.idle; removals = l.removals } };
 
     ghost invariant = { λ l. (600 ≤ l.idle) × (l.idle ≤ 86400) };
 
-    ghost inverse = { λ n. record { idle = n } };
+    ghost inverse = { λ v. record { idle = v.idle; removals = v.removals } };
 }
 
 impl Limits {
-    /// None where the seconds are out of range.
+    /// Idle seconds, with removals judged at the DELE. None where the seconds are out of range.
     pub fn new(idle: u32) -> Option<Limits>
         ensures valid { IsSome result ↔ ((600 ≤ idle) × (idle ≤ 86400)) }
-        ensures value { IfSome result (λ limits. limits ≡ idle) }
+        ensures value { IfSome result (λ limits. limits ≡ record { idle = idle; removals = JudgedAtDele }) }
     {
         if (600..=86_400).contains(&idle) {
-            Some(Limits { idle })
+            Some(Limits {
+                idle,
+                removals: Removals::JudgedAtDele,
+            })
         } else {
             None
         }
     }
 
+    /// The same idle seconds, with removals judged as this says.
+    pub fn with_removals(self, removals: Removals) -> Limits
+        ensures { result ≡ record self { removals = removals } }
+    {
+        Limits {
+            idle: self.idle,
+            removals,
+        }
+    }
+
     /// The seconds.
     pub(crate) fn idle(&self) -> u64
-        ensures { result ≡ self.now }
+        ensures { result ≡ self.now.idle }
     {
         u64::from(self.idle)
+    }
+
+    /// When removals are judged.
+    pub(crate) fn removals(&self) -> Removals
+        ensures { result ≡ self.now.removals }
+    {
+        self.removals
     }
 }

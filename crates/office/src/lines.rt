@@ -48,7 +48,7 @@ fn obey<V: Vault>(
     talk: Talk,
 ) -> Result<(Reply<'static>, Option<Session>), VaultFault>
     ensures said { (c : Contents) → V.holds vault.old c → V.is_clean vault.new → IsDone (V.holds vault.new) c c (Ok (said_outside (desk_over c desk.entry locks.now) talk (Ok (command_seen command.now)))) (seen_as result (λ r. reply_seen r.0)) }
-    ensures session { IfOk result (λ r. (c : Contents) → V.holds vault.old c → V.is_clean vault.new → SessionAfter (is_quit (Ok (command_seen command.now))) (logs_in (Ok (command_seen command.now)) (Says (reply_seen r.0)) talk.user) c desk.entry.policy.now (reply_seen r.0) None r.1) }
+    ensures session { IfOk result (λ r. (c : Contents) → V.holds vault.old c → V.is_clean vault.new → SessionAfter (is_quit (Ok (command_seen command.now))) (logs_in (Ok (command_seen command.now)) (Says (reply_seen r.0)) talk.user) c desk.entry.policy.now talk.removals (reply_seen r.0) None r.1) }
     ensures asked { OnErr result (asks_outside talk (Ok (command_seen command.now)) ≡ true) }
     ensures counted { CountsFaults (V.faults vault.old) (V.faults vault.new) result }
     ensures clean { V.is_clean vault.new → V.is_clean vault.old }
@@ -58,6 +58,7 @@ fn obey<V: Vault>(
 {
     let user = talk.user;
     let failures = talk.failures;
+    let removals = talk.removals;
     match command {
         Command::Capa => Ok((Reply::Capabilities, None)),
         Command::User(_) => Ok((Reply::SendPass, None)),
@@ -65,12 +66,12 @@ fn obey<V: Vault>(
             None => Ok((Reply::WrongState, None)),
             Some(name) => {
                 let proof = Proof::Pass(*password);
-                judge(alloc, vault, desk, locks, failures, &name, &proof)
+                judge(alloc, vault, desk, locks, failures, removals, &name, &proof)
             }
         },
         Command::Apop(name, digest) => {
             let proof = Proof::Apop(*digest);
-            judge(alloc, vault, desk, locks, failures, name, &proof)
+            judge(alloc, vault, desk, locks, failures, removals, name, &proof)
         }
         Command::Quit => Ok((Reply::Bye, None)),
         _ => Ok((Reply::WrongState, None)),
@@ -145,6 +146,7 @@ fn next_talk(cut: Cut<'_>, reply: &Reply<'_>, talk: Talk) -> Talk
             talk.failures
         },
         closing: is_closing(cut, reply) || talk.closing,
+        removals: talk.removals,
     }
 }
 

@@ -26,7 +26,7 @@ use crate::waiting::asks_locked;
 use creds::{LoginName, Name};
 use policy::Policy;
 use popline::{Cutter, Reply};
-use session::Session;
+use session::{Removals, Session};
 use std::alloc::{AllocError, Global};
 use std::marker::Model;
 use vault::Vault;
@@ -61,15 +61,17 @@ impl Model for Link {
 }
 
 impl Link {
-    /// A connection that is owed its greeting, opened at this moment.
+    /// A connection that is owed its greeting, opened at this moment; its session's removals are
+    /// judged as this says.
     pub fn open(
         alloc: Global,
         number: u64,
         boot: u64,
         host: &str,
         now: u64,
+        removals: Removals,
     ) -> Result<Link, AllocError>
-        ensures { IfOk result (λ k. k ≡ record { held = nothing_held; pending = []; output = record { ready = bytes_of (Greeting number boot host.now); source = Source.Nothing }; talk = nothing_said; stamp = timestamp number boot host.now; session = None; clock = now }) }
+        ensures { IfOk result (λ k. k ≡ record { held = nothing_held; pending = []; output = record { ready = bytes_of (Greeting number boot host.now); source = Source.Nothing }; talk = nothing_said removals; stamp = timestamp number boot host.now; session = None; clock = now }) }
     {
         let mut output = Output::new(alloc)?;
         let greeting = Reply::Greeting { number, boot, host };
@@ -80,7 +82,7 @@ impl Link {
             pending: Vec::new(alloc),
             cut: 0,
             output,
-            talk: Talk::new(),
+            talk: Talk::new(removals),
             stamp,
             session: None,
             clock: now,

@@ -20,7 +20,7 @@ use crate::talk::Desk;
 use creds::{LoginName, Proof};
 use policy::{Action, Decision, Policy};
 use popline::Reply;
-use session::Session;
+use session::{Removals, Session};
 use std::alloc::Global;
 use vault::{Vault, VaultFault};
 
@@ -71,11 +71,12 @@ fn enter<V: Vault>(
     alloc: Global,
     vault: &mut V,
     policy: &Policy,
+    removals: Removals,
     locks: &Locks,
     name: &LoginName,
 ) -> Result<(Reply<'static>, Option<Session>), VaultFault>
     ensures said { (c : Contents) → V.holds vault.old c → V.is_clean vault.new → IsDone (V.holds vault.new) c c (Ok (entered c policy.now locks.now name.now)) (seen_as result (λ r. reply_seen r.0)) }
-    ensures session { IfOk result (λ r. (c : Contents) → V.holds vault.old c → V.is_clean vault.new → r.1 ≡ began (reply_seen r.0) (started policy.now name.now.clerk name.now.maildrop (heads name.now.maildrop c))) }
+    ensures session { IfOk result (λ r. (c : Contents) → V.holds vault.old c → V.is_clean vault.new → r.1 ≡ began (reply_seen r.0) (started policy.now removals name.now.clerk name.now.maildrop (heads name.now.maildrop c))) }
     ensures counted { CountsFaults (V.faults vault.old) (V.faults vault.new) result }
     ensures clean { V.is_clean vault.new → V.is_clean vault.old }
     ensures up { (c : Contents) → V.holds vault.old c → V.is_clean vault.new → V.is_up vault.old → OnOk result (V.is_up vault.new) }
@@ -89,7 +90,8 @@ fn enter<V: Vault>(
     if locks.contains_key(&name.maildrop) {
         return Ok((Reply::InUse, None));
     }
-    let Ok(session) = Session::start(alloc, name.clerk, name.maildrop, &heads, policy) else {
+    let Ok(session) = Session::start(alloc, name.clerk, name.maildrop, &heads, policy, removals)
+    else {
         return Err(VaultFault::NoMemory);
     };
     let (messages, octets) = session.stat();
@@ -103,11 +105,12 @@ pub(crate) fn judge<V: Vault>(
     desk: Desk<'_>,
     locks: &Locks,
     failures: u8,
+    removals: Removals,
     name: &LoginName,
     proof: &Proof<'_>,
 ) -> Result<(Reply<'static>, Option<Session>), VaultFault>
     ensures said { (c : Contents) → V.holds vault.old c → V.is_clean vault.new → IsDone (V.holds vault.new) c c (Ok (judged (desk_over c desk.entry locks.now) failures name.now (proof_shown proof.now))) (seen_as result (λ r. reply_seen r.0)) }
-    ensures session { IfOk result (λ r. (c : Contents) → V.holds vault.old c → V.is_clean vault.new → r.1 ≡ began (reply_seen r.0) (started desk.entry.policy.now name.now.clerk name.now.maildrop (heads name.now.maildrop c))) }
+    ensures session { IfOk result (λ r. (c : Contents) → V.holds vault.old c → V.is_clean vault.new → r.1 ≡ began (reply_seen r.0) (started desk.entry.policy.now removals name.now.clerk name.now.maildrop (heads name.now.maildrop c))) }
     ensures counted { CountsFaults (V.faults vault.old) (V.faults vault.new) result }
     ensures clean { V.is_clean vault.new → V.is_clean vault.old }
     ensures up { (c : Contents) → V.holds vault.old c → V.is_clean vault.new → V.is_up vault.old → OnOk result (V.is_up vault.new) }
@@ -120,5 +123,5 @@ pub(crate) fn judge<V: Vault>(
     if !opening.allowed {
         return Ok((Reply::DeniedBy(opening.rule), None));
     }
-    enter(alloc, vault, desk.policy, locks, name)
+    enter(alloc, vault, desk.policy, removals, locks, name)
 }

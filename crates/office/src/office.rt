@@ -154,7 +154,14 @@ impl<V: Vault> Office<V> {
             return Outcome::Ignored(Reason::TooManyConnections);
         }
         let c = self.opened + 1;
-        let Ok(link) = Link::open(self.alloc, c, self.boot, self.host.as_str(), self.moment) else {
+        let Ok(link) = Link::open(
+            self.alloc,
+            c,
+            self.boot,
+            self.host.as_str(),
+            self.moment,
+            self.limits.removals(),
+        ) else {
             return Outcome::NoMemory;
         };
         if self.links.insert(c, link).is_err() {

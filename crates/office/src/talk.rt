@@ -11,6 +11,7 @@ use crate::output::Output;
 use creds::LoginName;
 use policy::Policy;
 use popline::Reply;
+use session::Removals;
 use std::alloc::{AllocError, Global};
 
 /// What the next line is answered by, beside the line itself.
@@ -22,17 +23,20 @@ pub struct Talk {
     pub failures: u8,
     /// A QUIT acted, or the third refusal was answered: the connection ends once all is taken.
     pub closing: bool,
+    /// When the removals of the connection's session are judged.
+    pub removals: Removals,
 }
 
 impl Talk {
     /// Of a connection on which nothing was said yet.
-    pub fn new() -> Talk
-        ensures { result ≡ nothing_said }
+    pub fn new(removals: Removals) -> Talk
+        ensures { result ≡ nothing_said removals }
     {
         Talk {
             user: None,
             failures: 0,
             closing: false,
+            removals,
         }
     }
 }

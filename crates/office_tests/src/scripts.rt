@@ -5,6 +5,7 @@ use converse::replay::{replay, tell, write_escaped};
 use converse::script::{Line, read_script};
 use creds::{Credential, Secret};
 use office::{AdminCommand, Outcome};
+use session::Removals;
 use std::alloc::{AllocError, Global};
 use std::io::Read;
 use std::test::Fail;
@@ -109,7 +110,8 @@ fn credentials_are_read(rt: HostRuntime) -> Result<(), Fail> {
 /// Whether a run of a script has status 1, whose output is refused. What it tells goes to `err`.
 fn is_refused<R: Read>(alloc: Global, script: &mut R, err: &mut Vec<u8>) -> bool {
     let vault = PlainVault::new(alloc);
-    let (status, _) = replay(alloc, script, vault, "h", 1, &mut Refusing, err);
+    let removals = Removals::JudgedAtDele;
+    let (status, _) = replay(alloc, script, vault, "h", 1, removals, &mut Refusing, err);
     status == 1
 }
 

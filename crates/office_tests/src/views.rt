@@ -1,7 +1,7 @@
 //! The session of the clerk bob over the sample store.
 use creds::Name;
 use policy::Policy;
-use session::Session;
+use session::{Removals, Session};
 use std::alloc::Global;
 use std::test::Fail;
 use vault::{Head, MessageKey};
@@ -66,5 +66,6 @@ pub(super) fn bob_session(alloc: Global, policy: &Policy) -> Result<Session, Fai
     let clerk = Name::read(b"bob").ok_or("a clerk")?;
     let maildrop = Name::read(b"orders").ok_or("a maildrop")?;
     let heads = sample_heads(alloc)?;
-    Ok(Session::start(alloc, clerk, maildrop, &heads, policy)?)
+    let removals = Removals::JudgedAtDele;
+    Ok(Session::start(alloc, clerk, maildrop, &heads, policy, removals)?)
 }

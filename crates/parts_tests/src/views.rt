@@ -2,7 +2,7 @@
 use crate::expecting::expect;
 use creds::Name;
 use policy::Policy;
-use session::{Pick, Session};
+use session::{Pick, Removals, Session};
 use std::alloc::{AllocError, Global};
 use std::test::Fail;
 use vault::{Head, MessageKey};
@@ -86,10 +86,15 @@ fn sample_heads(alloc: Global) -> Result<Vec<Head>, Fail> {
 }
 
 pub(super) fn bob_session(alloc: Global, policy: &Policy) -> Result<Session, Fail> {
+    bob_session_with(alloc, policy, Removals::JudgedAtDele)
+}
+
+/// Bob's session, whose removals are judged so.
+fn bob_session_with(alloc: Global, policy: &Policy, removals: Removals) -> Result<Session, Fail> {
     let clerk = Name::read(b"bob").ok_or("a clerk")?;
     let maildrop = Name::read(b"orders").ok_or("a maildrop")?;
     let heads = sample_heads(alloc)?;
-    Ok(Session::start(alloc, clerk, maildrop, &heads, policy)?)
+    Ok(Session::start(alloc, clerk, maildrop, &heads, policy, removals)?)
 }
 
 /// Whether a number is picked so.
@@ -223,6 +228,25 @@ fn removals_under_a_new_policy(rt: HostRuntime) -> Result<(), Fail> {
     assert!(rt; removes(&session, &policy, &keys, None)?);
     let frozen = frozen(rt.alloc())?;
     assert!(rt; removes(&session, &frozen, &[], Some(freeze))?);
+    Ok(())
+}
+
+/// Marks the third number, which the policy denies, and the second: whether both are marked, once.
+fn marks_both(session: &mut Session, policy: &Policy) -> bool {
+    is_marked(session, 3, policy, &Ok(()))
+        && is_marked(session, 3, policy, &Err(Pick::Deleted))
+        && is_marked(session, 2, policy, &Ok(()))
+        && is_marked(session, 4, policy, &Err(Pick::NoSuch))
+}
+
+#[test]
+fn removals_judged_at_the_quit(rt: HostRuntime) -> Result<(), Fail> {
+    let policy = Policy::read(rt.alloc(), RULES)?;
+    let mut session = bob_session_with(rt.alloc(), &policy, Removals::JudgedAtQuit)?;
+    assert!(rt; marks_both(&mut session, &policy));
+    assert!(rt; has_total(&session, 1, 21));
+    let kept = name(b"default")?;
+    assert!(rt; removes(&session, &policy, &[MessageKey::new(13)], Some(kept))?);
     Ok(())
 }
 

@@ -1,6 +1,8 @@
 //! The command line of popbox: its subcommands, their options and defaults.
 
+use clap::builder::ValueParser;
 use clap::{Arg, ArgAction, ArgMatches, Command, value_parser};
+use session::Removals;
 use std::alloc::{AllocError, Global};
 
 /// `--NAME VALUE`.
@@ -19,6 +21,22 @@ fn host<'a>(alloc: Global) -> Arg<'a> {
 /// `--boot N`: the boot number that greetings have, below 2^64.
 fn boot<'a>(alloc: Global) -> Arg<'a> {
     option(alloc, "boot", "N", "The boot number in greetings").value_parser(value_parser!(u64))
+}
+
+/// `--removals WHEN`: when removals are judged, `dele` or `quit`.
+fn removals<'a>(alloc: Global) -> Arg<'a> {
+    let help = "When a denied removal is refused: at the DELE, or at the QUIT";
+    option(alloc, "removals", "WHEN", help)
+        .default_value("dele")
+        .value_parser(ValueParser::Names(&["dele", "quit"]))
+}
+
+/// When a command's removals are judged.
+pub fn removals_of(options: &ArgMatches<'_>) -> Removals {
+    match options.get_str("removals") {
+        Some("quit") => Removals::JudgedAtQuit,
+        _ => Removals::JudgedAtDele,
+    }
 }
 
 /// `--store PATH`: the file of the store.
@@ -52,24 +70,26 @@ fn subcommand<'a>(
         .arg(verbose(alloc))
 }
 
-/// `replay [--store PATH] [--host NAME] [--boot N] [--verbose] [SCRIPT]`.
+/// `replay [--store PATH] [--host NAME] [--boot N] [--removals WHEN] [--verbose] [SCRIPT]`.
 fn replay<'a>(alloc: Global) -> Result<Command<'a>, AllocError> {
     let arguments = vec![in alloc;
         store(alloc, "The store's file, else one in memory"),
         host(alloc),
         boot(alloc).default_value("1"),
+        removals(alloc),
         Arg::new(alloc, "SCRIPT").help("The script's file; - or none: standard input"),
     ]?;
     let about = "Runs the events of a script, and prints what each gives";
     subcommand(alloc, "replay", about, arguments)
 }
 
-/// `talk --store PATH [--host NAME] [--boot N] [--verbose]`.
+/// `talk --store PATH [--host NAME] [--boot N] [--removals WHEN] [--verbose]`.
 fn talk<'a>(alloc: Global) -> Result<Command<'a>, AllocError> {
     let arguments = vec![in alloc;
         store(alloc, "The store's file, which is made where there is none").required(true),
         host(alloc),
         boot(alloc),
+        removals(alloc),
     ]?;
     let about = "Has one conversation with a client, on standard input and output";
     subcommand(alloc, "talk", about, arguments)
@@ -92,7 +112,7 @@ fn log<'a>(alloc: Global) -> Arg<'a> {
 }
 
 /// `serve --store PATH --spool DIR [--listen IPV4] [--pop-port N] [--admin-port N] [--host NAME]
-/// [--idle N] [--wait N] [--turns N] [--log] [--verbose]`.
+/// [--idle N] [--wait N] [--removals WHEN] [--turns N] [--log] [--verbose]`.
 fn serve<'a>(alloc: Global) -> Result<Command<'a>, AllocError> {
     let listen = option(
         alloc,
@@ -137,6 +157,7 @@ fn serve<'a>(alloc: Global) -> Result<Command<'a>, AllocError> {
             .value_parser(value_parser!(u32).range(600..=86400)),
         wait.default_value("0")
             .value_parser(value_parser!(u32).range(0..=60)),
+        removals(alloc),
         turns.value_parser(value_parser!(u64)),
         log(alloc),
     ]?;

@@ -11,13 +11,14 @@ use causes::{
 };
 use clap::ArgMatches;
 use clap::error::ErrorKind;
-use command_line::{is_verbose, make_command};
+use command_line::{is_verbose, make_command, removals_of};
 use converse::check_policy::check_policy;
 use converse::replay::replay;
 use converse::script::{ScriptFault, read_script};
 use converse::talking::talk;
 use converse::{Fault, tell_fault};
 use serve::serve_over;
+use session::Removals;
 use sqlite::{Alter, Connection, FileStore, Wary};
 use sqlite_disk::Disk;
 use sqlvault::SqlVault;
@@ -252,17 +253,21 @@ fn run_over<V: Vault, S: Read, E: Write>(
     err: &mut E,
 ) -> (Result<u8, Fault>, V) {
     let host = options.get_str("host").unwrap_or("localhost");
+    let removals = removals_of(options);
     let is_verbose = is_verbose(options);
     match job {
         Job::Replay(boot) if is_verbose => {
             let name = script_name(options);
-            replay_verbosely(rt, input, name, vault, host, boot, err)
+            replay_verbosely(rt, input, name, vault, host, boot, removals, err)
         }
-        Job::Replay(boot) => replay_over(rt, input, vault, host, boot, err),
-        Job::Talk(boot) if is_verbose => talk_verbosely(rt, input, vault, host, boot, err),
+        Job::Replay(boot) => replay_over(rt, input, vault, host, boot, removals, err),
+        Job::Talk(boot) if is_verbose => {
+            talk_verbosely(rt, input, vault, host, boot, removals, err)
+        }
         Job::Talk(boot) => {
             let mut out = io::writer(rt);
-            let (status, vault) = talk(rt.alloc(), vault, host, boot, input, &mut out, err);
+            let alloc = rt.alloc();
+            let (status, vault) = talk(alloc, vault, host, boot, removals, input, &mut out, err);
             (Ok(status), vault)
         }
         Job::Serve(boot, at) => serve_over(rt, vault, host, boot, at, options, err),
@@ -284,13 +289,14 @@ fn replay_over<V: Vault, S: Read, E: Write>(
     vault: V,
     host: &str,
     boot: u64,
+    removals: Removals,
     err: &mut E,
 ) -> (Result<u8, Fault>, V) {
     let alloc: Global = rt.alloc();
     let Ok(mut out) = BufWriter::new(alloc, io::writer(rt)) else {
         return (Err(Fault::OutOfMemory), vault);
     };
-    let (status, vault) = replay(alloc, script, vault, host, boot, &mut out, err);
+    let (status, vault) = replay(alloc, script, vault, host, boot, removals, &mut out, err);
     (Ok(status), vault)
 }
 
@@ -303,6 +309,7 @@ fn replay_verbosely<V: Vault, S: Read, E: Write>(
     vault: V,
     host: &str,
     boot: u64,
+    removals: Removals,
     err: &mut E,
 ) -> (Result<u8, Fault>, V) {
     let alloc: Global = rt.alloc();
@@ -315,7 +322,7 @@ fn replay_verbosely<V: Vault, S: Read, E: Write>(
     };
     let mut out = Watched::new(&mut out);
     let mut rest = text.as_slice();
-    let (status, vault) = replay(alloc, &mut rest, vault, host, boot, &mut out, err);
+    let (status, vault) = replay(alloc, &mut rest, vault, host, boot, removals, &mut out, err);
     if status != 0 {
         tell_script(alloc, err, name, text.as_slice());
         tell_host(err, host);
@@ -352,11 +359,15 @@ fn talk_verbosely<V: Vault, S: Read, E: Write>(
     vault: V,
     host: &str,
     boot: u64,
+    removals: Removals,
     err: &mut E,
 ) -> (Result<u8, Fault>, V) {
     let mut out = io::writer(rt);
     let (mut input, mut out) = (Watched::new(input), Watched::new(&mut out));
-    let (status, vault) = talk(rt.alloc(), vault, host, boot, &mut input, &mut out, err);
+    let alloc = rt.alloc();
+    let (status, vault) = talk(
+        alloc, vault, host, boot, removals, &mut input, &mut out, err,
+    );
     if status != 0 {
         tell_host(err, host);
         tell_refusal(err, STANDARD_INPUT, input.refusal());

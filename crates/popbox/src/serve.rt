@@ -1,5 +1,5 @@
 //! `popbox serve`: clients over the network.
-use crate::command_line::is_verbose;
+use crate::command_line::{is_verbose, removals_of};
 use clap::ArgMatches;
 use converse::Fault;
 use journal::{Journal, LoggedSpool, LoggedVault, LoggedWire, note_end, note_start};
@@ -29,6 +29,7 @@ pub fn serve_over<V: Vault, E: Write>(
     let lost = Cell::new(0);
     let journal = Journal::new(rt, options.get_flag("log"), &lost);
     let vault = LoggedVault::new(vault, journal);
+    let limits = limits.with_removals(removals_of(options));
     match Office::open(rt.alloc(), vault, host, boot, limits) {
         Err((fault, vault)) => (Err(Fault::from(fault)), vault.into_vault()),
         Ok(mut office) => {

@@ -199,7 +199,7 @@ module _ (told : Told) (owner : Owners) (B : Records) (L : Log) where
 -- ---- with more owners
 
 own_still : (owner after : Owners) → ((k c : ℕ) → owner k ≡ Some c → after k ≡ Some c) → (e : Event) → IsOwnEvent owner e → IsOwnEvent after e
-own_still owner after more (event.Start host boot idle) i = absurd i
+own_still owner after more (event.Start host boot limits) i = absurd i
 own_still owner after more event.Connect i = tt
 own_still owner after more (event.Bytes c piece) i = (i.0, more i.0 c i.1)
 own_still owner after more (event.Took c octets) i = (i.0, more i.0 c i.1)

@@ -302,7 +302,7 @@ events_deposit owner B older L acts acts_then calls d class id text t f a = reco
 -- ---- beside requests
 
 own_no_command : (owner : Owners) (e : Event) → IsOwnEvent owner e → IsCommand e → ⊥
-own_no_command owner (event.Start host boot idle) i k = k
+own_no_command owner (event.Start host boot limits) i k = k
 own_no_command owner event.Connect i k = k
 own_no_command owner (event.Bytes c piece) i k = k
 own_no_command owner (event.Took c octets) i k = k

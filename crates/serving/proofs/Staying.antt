@@ -36,7 +36,7 @@ IsOther (Gone n) d = (n == d) ≡ false
 IsOther (Idle n) d = (n == d) ≡ false
 IsOther (Deposit m class id text) d = ⊤
 IsOther (Administer command) d = ⊥
-IsOther (Restart boot host) d = ⊥
+IsOther (Restart boot host removals) d = ⊥
 
 abbrev AreOthers : List (Act × Tag) → ℕ → Type 0
 AreOthers [] d = ⊤
@@ -51,7 +51,7 @@ one_connected (Gone n) t s d b o = rw o refl
 one_connected (Idle n) t s d b o = rw o refl
 one_connected (Deposit m class id text) t s d b o = refl
 one_connected (Administer command) t s d b o = absurd o
-one_connected (Restart boot host) t s d b o = absurd o
+one_connected (Restart boot host removals) t s d b o = absurd o
 
 one_closing : (a : Act) (s : Said) (d : ℕ) (b : Bool) → IsOther a d → closing_after a s d b ≡ b
 one_closing (Open n) s d b o = rw o refl
@@ -60,7 +60,7 @@ one_closing (Gone n) s d b o = refl
 one_closing (Idle n) s d b o = refl
 one_closing (Deposit m class id text) s d b o = refl
 one_closing (Administer command) s d b o = absurd o
-one_closing (Restart boot host) s d b o = absurd o
+one_closing (Restart boot host removals) s d b o = absurd o
 
 one_sent : (a : Act) (s : Said) (d : ℕ) (xs : List ℕ) → IsOther a d → sent_after a s d xs ≡ xs
 one_sent (Open n) s d xs o = rw o refl
@@ -69,7 +69,7 @@ one_sent (Gone n) s d xs o = refl
 one_sent (Idle n) s d xs o = refl
 one_sent (Deposit m class id text) s d xs o = refl
 one_sent (Administer command) s d xs o = absurd o
-one_sent (Restart boot host) s d xs o = absurd o
+one_sent (Restart boot host removals) s d xs o = absurd o
 
 module _ (B : Records) (H : List (Act × Tag)) (d : ℕ) where
   same_connected : (new : List (Act × Tag)) → AreOthers new d → connected (told B (new ++ H)) d ≡ connected (told B H) d
@@ -180,7 +180,7 @@ ends_push ((Line k x, u) ∷ H) n t h = absurd h
 ends_push ((Gone k, u) ∷ H) n t h = absurd h
 ends_push ((Deposit m class id text, u) ∷ H) n t h = absurd h
 ends_push ((Administer command, u) ∷ H) n t h = absurd h
-ends_push ((Restart boot host, u) ∷ H) n t h = absurd h
+ends_push ((Restart boot host removals, u) ∷ H) n t h = absurd h
 
 idle_ends : (numbers : List ℕ) → AreEnds (idle_acts numbers)
 idle_ends [] = tt
@@ -199,7 +199,7 @@ module _ (B : Records) (H : List (Act × Tag)) (d : ℕ) where
   was_connected ((Gone k, u) ∷ new) i e = absurd i
   was_connected ((Deposit m class id text, u) ∷ new) i e = absurd i
   was_connected ((Administer command, u) ∷ new) i e = absurd i
-  was_connected ((Restart boot host, u) ∷ new) i e = absurd i
+  was_connected ((Restart boot host removals, u) ∷ new) i e = absurd i
 
   ends_closing : (new : List (Act × Tag)) → AreEnds new → closing (told B (new ++ H)) d ≡ closing (told B H) d
   ends_closing [] i = refl
@@ -209,7 +209,7 @@ module _ (B : Records) (H : List (Act × Tag)) (d : ℕ) where
   ends_closing ((Gone k, u) ∷ new) i = absurd i
   ends_closing ((Deposit m class id text, u) ∷ new) i = absurd i
   ends_closing ((Administer command, u) ∷ new) i = absurd i
-  ends_closing ((Restart boot host, u) ∷ new) i = absurd i
+  ends_closing ((Restart boot host removals, u) ∷ new) i = absurd i
 
   ends_sent : (new : List (Act × Tag)) → AreEnds new → sent (told B (new ++ H)) d ≡ sent (told B H) d
   ends_sent [] i = refl
@@ -219,7 +219,7 @@ module _ (B : Records) (H : List (Act × Tag)) (d : ℕ) where
   ends_sent ((Gone k, u) ∷ new) i = absurd i
   ends_sent ((Deposit m class id text, u) ∷ new) i = absurd i
   ends_sent ((Administer command, u) ∷ new) i = absurd i
-  ends_sent ((Restart boot host, u) ∷ new) i = absurd i
+  ends_sent ((Restart boot host removals, u) ∷ new) i = absurd i
 
 fewer_true : (a' b b' : Bool) (n : ℕ) (s s' : List ℕ) → b' ≡ b → s' ≡ s → is_open_by a' b' (drop n s') ≡ true → is_open_by true b (drop n s) ≡ true
 fewer_true true b b' n s s' q r e = open_by true true b b' n n s s' refl (sym q) refl (sym r) ∙ e

@@ -13,6 +13,7 @@ use Rattle.session.specs.declared.row.Row.{Row}
 use Rattle.session.specs.Session.{Session, class_of, octets_of, key_of, picked, picked_for, read_answer, mark_answer, marking}
 use Rattle.session.specs.View.{numbered_from, at_number, is_marked, unmarked, marked, to_remove, denying, retrieval, removal, may_remove, total_of, refer, referred}
 use Rattle.session.specs.Rows.{heads_of, marked_from, marks_of, session_of, unmarked_from, unmarked_row, octets_unless_marked, row_referred, row_picked, is_removable, is_denied, removable_keys, denying_rule}
+use Rattle.session.specs.declared.removals.Removals.{Removals}
 use Rattle.session.specs.declared.pick.Pick.{Pick}
 use Rattle.session.specs.declared.pick.Pick.TheVariants.{NoSuch, Deleted}
 
@@ -169,8 +170,8 @@ refer-rows rows zero a b f = refl
 refer-rows rows (suc i) a b f =
     ap (λ (marked : Bool). referred (slice_get (heads_of rows) i) marked a b f) (is_marked-marked_from rows 1 i (suc i) (omega arith)) ∙ referred_at rows i a b f
 
-pub picked-rows : (name : LoginName) (rows : List Row) (n : ℕ) → picked (session_of name rows) n ≡ row_picked rows n
-picked-rows name rows n = refer-rows rows n (Err NoSuch) (Err Deleted) (λ (head : Head). Ok head)
+pub picked-rows : (name : LoginName) (removals : Removals) (rows : List Row) (n : ℕ) → picked (session_of name removals rows) n ≡ row_picked rows n
+picked-rows name removals rows n = refer-rows rows n (Err NoSuch) (Err Deleted) (λ (head : Head). Ok head)
 
 -- a head that is found goes on, and a refusal is the same whatever is asked for
 found_at : {C : Type 0} (row : Row) (g : Head → Result C Pick) (head : Head) (b : Bool) →
@@ -193,23 +194,23 @@ row_referred-refused : {C : Type 0} (o : Option Row) (g : Head → Result C Pick
 row_referred-refused None g why e = cc
 row_referred-refused (Some row) g why e = refused_at row g why row.is_marked e
 
-module _ (policy : Policy) (name : LoginName) (rows : List Row) (n : ℕ) where
+module _ (policy : Policy) (name : LoginName) (removals : Removals) (rows : List Row) (n : ℕ) where
   abbrev answer_for : Head → Result (Unit {0}) Pick
-  answer_for head = mark_answer (removal policy name head.class)
+  answer_for head = mark_answer removals (removal policy name head.class)
 
-  pub marking-found : (head : Head) → row_picked rows n ≡ Ok head → marking policy (session_of name rows) n ≡ answer_for head
+  pub marking-found : (head : Head) → row_picked rows n ≡ Ok head → marking policy (session_of name removals rows) n ≡ answer_for head
   marking-found head e = refer-rows rows n (Err NoSuch) (Err Deleted) answer_for ∙ row_referred-found (at_number rows n) answer_for head e
 
-  pub marking-refused : (why : Pick) → row_picked rows n ≡ Err why → marking policy (session_of name rows) n ≡ Err why
+  pub marking-refused : (why : Pick) → row_picked rows n ≡ Err why → marking policy (session_of name removals rows) n ≡ Err why
   marking-refused why e = refer-rows rows n (Err NoSuch) (Err Deleted) answer_for ∙ row_referred-refused (at_number rows n) answer_for why e
 
   abbrev reading_for : Head → Result Head Pick
   reading_for head = read_answer (retrieval policy name head.class) head
 
-  pub reading-found : (head : Head) → row_picked rows n ≡ Ok head → picked_for policy (session_of name rows) n ≡ reading_for head
+  pub reading-found : (head : Head) → row_picked rows n ≡ Ok head → picked_for policy (session_of name removals rows) n ≡ reading_for head
   reading-found head e = refer-rows rows n (Err NoSuch) (Err Deleted) reading_for ∙ row_referred-found (at_number rows n) reading_for head e
 
-  pub reading-refused : (why : Pick) → row_picked rows n ≡ Err why → picked_for policy (session_of name rows) n ≡ Err why
+  pub reading-refused : (why : Pick) → row_picked rows n ≡ Err why → picked_for policy (session_of name removals rows) n ≡ Err why
   reading-refused why e = refer-rows rows n (Err NoSuch) (Err Deleted) reading_for ∙ row_referred-refused (at_number rows n) reading_for why e
 
 -- ---- one more mark
@@ -258,12 +259,12 @@ unmarked_none (head ∷ heads) n = unmarked_none heads (n + 1)
 pub marks_of-unmarked : (heads : List Head) → marks_of (map unmarked_row heads) ≡ []
 marks_of-unmarked heads = unmarked_none heads 1
 
-abbrev pub session_with : LoginName → List Head → List ℕ → Session
-session_with name view marks = record { name = name; view = view; marks = marks }
+abbrev pub session_with : LoginName → Removals → List Head → List ℕ → Session
+session_with name removals view marks = record { name = name; removals = removals; view = view; marks = marks }
 
-pub session_of-unmarked : (name : LoginName) (heads : List Head) → session_of name (map unmarked_row heads) ≡ session_with name heads []
-session_of-unmarked name heads =
-    ap (λ (view : List Head). session_with name view (marks_of (map unmarked_row heads))) (heads_of-unmarked heads) ∙ ap (session_with name heads) (marks_of-unmarked heads)
+pub session_of-unmarked : (name : LoginName) (removals : Removals) (heads : List Head) → session_of name removals (map unmarked_row heads) ≡ session_with name removals heads []
+session_of-unmarked name removals heads =
+    ap (λ (view : List Head). session_with name removals view (marks_of (map unmarked_row heads))) (heads_of-unmarked heads) ∙ ap (session_with name removals heads) (marks_of-unmarked heads)
 
 -- the first i rows without their marks, and the others as they were
 abbrev pub first_unmarked : List Row → ℕ → List Row

@@ -9,6 +9,7 @@ use Rattle.vault.specs.declared.answer.Head.{Head}
 use Rattle.session.specs.declared.pick.Pick.{Pick}
 use Rattle.session.specs.declared.pick.Pick.TheVariants.{NoSuch, Deleted}
 use Rattle.session.specs.declared.row.Row.{Row}
+use Rattle.session.specs.declared.removals.Removals.{Removals}
 use Rattle.session.specs.Session.{Session}
 use Rattle.session.specs.View.{numbered_from, at_number, referred, removal, may_remove}
 
@@ -28,9 +29,9 @@ marked_from n rows = map (λ (row : ℕ × Row). row.0) (filter (λ (row : ℕ �
 abbrev pub marks_of : List Row → List ℕ
 marks_of rows = marked_from 1 rows
 
--- the session of who is logged in, whose messages have these rows
-abbrev pub session_of : LoginName → List Row → Session
-session_of name rows = record { name = name; view = heads_of rows; marks = marks_of rows }
+-- the session of who is logged in, whose removals are judged so, and whose messages have these rows
+abbrev pub session_of : LoginName → Removals → List Row → Session
+session_of name removals rows = record { name = name; removals = removals; view = heads_of rows; marks = marks_of rows }
 
 -- the heads of the unmarked rows with their numbers, counting up from this one
 abbrev pub unmarked_from : ℕ → List Row → List (ℕ × Head)

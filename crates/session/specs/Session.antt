@@ -7,11 +7,14 @@ use Rattle.policy.specs.declared.decide.Decision.{Decision}
 use Rattle.vault.specs.declared.answer.Head.{Head}
 use Rattle.session.specs.declared.pick.Pick.{Pick}
 use Rattle.session.specs.declared.pick.Pick.TheVariants.{NoSuch, Deleted, Denied}
+use Rattle.session.specs.declared.removals.Removals.{Removals}
+use Rattle.session.specs.declared.removals.Removals.TheVariants.{JudgedAtDele, JudgedAtQuit}
 use Rattle.session.specs.View.{visible, refer, retrieval, removal}
 
--- who is logged in to which maildrop, the messages of the view, and the numbers marked as deleted
+-- who is logged in to which maildrop, when removals are judged, the messages of the view, and the numbers marked as deleted
 pub record Session : Type 0 where
   pub name : LoginName
+  pub removals : Removals
   pub view : List Head
   pub marks : List ℕ
 
@@ -36,10 +39,10 @@ key_of head = head.key
 -- ---- calls
 
 -- the session of a login: the heads that the policy lets the clerk read, and no mark
-abbrev pub started : Policy → (clerk maildrop : List ℕ) → List Head → Session
-started policy clerk maildrop heads =
+abbrev pub started : Policy → Removals → (clerk maildrop : List ℕ) → List Head → Session
+started policy removals clerk maildrop heads =
     let name : LoginName = record { clerk = clerk; maildrop = maildrop } in
-    record { name = name; view = visible class_of policy name heads; marks = [] }
+    record { name = name; removals = removals; view = visible class_of policy name heads; marks = [] }
 
 -- the head of a number, or why a reference to it is refused
 abbrev pub picked : Session → ℕ → Result Head Pick
@@ -53,10 +56,12 @@ read_answer decision head = if decision.allowed then Ok head else Err (Denied de
 abbrev pub picked_for : Policy → Session → ℕ → Result Head Pick
 picked_for policy s n = refer s.marks s.view n (Err NoSuch) (Err Deleted) (λ head. read_answer (retrieval policy s.name head.class) head)
 
--- a removal that the policy allows is marked, and the rule that denies one is told
-abbrev pub mark_answer : Decision → Result (Unit {0}) Pick
-mark_answer decision = if decision.allowed then Ok tt else Err (Denied decision.rule)
+-- Where removals are judged at the DELE, one that the policy allows is marked, and the rule that denies one is told; where they are judged
+-- at the QUIT, it is marked.
+abbrev pub mark_answer : Removals → Decision → Result (Unit {0}) Pick
+mark_answer JudgedAtDele decision = if decision.allowed then Ok tt else Err (Denied decision.rule)
+mark_answer JudgedAtQuit decision = Ok tt
 
 -- a reference to a number that is to be marked
 abbrev pub marking : Policy → Session → ℕ → Result (Unit {0}) Pick
-marking policy s n = refer s.marks s.view n (Err NoSuch) (Err Deleted) (λ head. mark_answer (removal policy s.name head.class))
+marking policy s n = refer s.marks s.view n (Err NoSuch) (Err Deleted) (λ head. mark_answer s.removals (removal policy s.name head.class))

@@ -5,10 +5,12 @@
 mod laws;
 mod listing;
 mod pick;
+mod removals;
 mod row;
 mod session;
 
 pub use laws::marks_are_asked_by_number;
 pub use listing::{Sizes, Uids};
 pub use pick::Pick;
+pub use removals::Removals;
 pub use session::Session;

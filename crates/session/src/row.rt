@@ -2,11 +2,12 @@
 ghost use Rattle.std.specs.Prelude.{◌≡◌, ◌<◌, ◌≤◌, not, length, map, count_by, sum_by, find, min, IfOk, OnOk};
 ghost use Rattle.std.specs.Option.{option_copied};
 ghost use Rattle.session.specs.declared.row.Row.{Row};
-ghost use Rattle.session.specs.Session.{class_of};
+ghost use Rattle.session.specs.Session.{class_of, mark_answer};
 ghost use Rattle.session.specs.Rows.{login_of, heads_of, unmarked_row, octets_unless_marked, row_picked, is_denied, removable_keys, denying_rule};
 ghost use Rattle.session.specs.View.{visible, retrieval, removal};
 
 use crate::pick::Pick;
+use crate::removals::Removals;
 use creds::Name;
 use policy::{Action, Decision, Lane};
 use std::alloc::{AllocError, Global};
@@ -31,6 +32,22 @@ pub(crate) fn removal(lane: &Lane<'_>, class: &Name) -> Decision
     ensures { result ≡ removal lane.now.policy (login_of lane.now) class.now }
 {
     lane.decide(class, Action::Remove)
+}
+
+/// Whether a message of a class may be marked, or the rule that denies it.
+pub(crate) fn judge_mark(removals: Removals, lane: &Lane<'_>, class: &Name) -> Result<(), Pick>
+    ensures { result ≡ mark_answer removals (removal lane.now.policy (login_of lane.now) class.now) }
+{
+    match removals {
+        Removals::JudgedAtDele => {
+            let decision = removal(lane, class);
+            if !decision.allowed {
+                return Err(Pick::Denied(decision.rule));
+            }
+            Ok(())
+        }
+        Removals::JudgedAtQuit => Ok(()),
+    }
 }
 
 /// The rows of what the policy lets the clerk read, unmarked.

@@ -5,8 +5,9 @@ ghost use Rattle.session.specs.View.{is_marked, numbered, unmarked, sizes_of, ui
 
 use crate::listing::{Sizes, Uids};
 use crate::pick::Pick;
+use crate::removals::Removals;
 use crate::row::{
-    Row, denying_rule, head_at, removable_keys, removal, retrieval, totals, unmark_all,
+    Row, denying_rule, head_at, judge_mark, removable_keys, retrieval, totals, unmark_all,
     visible_rows,
 };
 use creds::{LoginName, Name};
@@ -23,6 +24,7 @@ use vault::{Head, MessageKey};
 #[derive(Drop)]
 pub struct Session {
     name: LoginName,
+    removals: Removals,
     rows: Vec<Row>,
 }
 
@@ -32,7 +34,7 @@ impl Model for Session {
 
     ghost Value = { Session };
 
-    ghost view = { λ s. session_of s.name s.rows.items };
+    ghost view = { λ s. session_of s.name s.removals s.rows.items };
 }
 
 impl Session {
@@ -40,21 +42,27 @@ impl Session {
     /// arrival, have these heads.
     ///
     /// The view is what the policy lets the clerk read, in order, numbered from 1, and nothing is
-    /// marked. The room for the marks is made here. An `Err` is want of memory.
+    /// marked. Its removals are judged as this says. The room for the marks is made here. An `Err`
+    /// is want of memory.
     pub fn start(
         alloc: Global,
         clerk: Name,
         maildrop: Name,
         heads: &[Head],
         policy: &Policy,
+        removals: Removals,
     ) -> Result<Session, AllocError>
-        ensures session { IfOk result (λ s. s ≡ started policy.now clerk maildrop heads.now) }
+        ensures session { IfOk result (λ s. s ≡ started policy.now removals clerk maildrop heads.now) }
         ensures octets { IfOk result (λ s. sum_by octets_of s.view ≤ sum_by octets_of heads.now) }
     {
         let name = LoginName { clerk, maildrop };
         let lane = policy.lane(&clerk, &maildrop);
         let rows = visible_rows(alloc, &lane, heads)?;
-        Ok(Session { name, rows })
+        Ok(Session {
+            name,
+            removals,
+            rows,
+        })
     }
 
     /// The clerk who is logged in.
@@ -125,11 +133,13 @@ impl Session {
         Ok(head)
     }
 
-    /// Marks the message of a number as deleted, where the policy lets the clerk remove its class
-    /// (RFC 1939, 5: DELE).
+    /// Marks the message of a number as deleted (RFC 1939, 5: DELE), where the policy lets the clerk
+    /// remove its class; whatever the policy says, where the session's removals are judged at the
+    /// QUIT.
     ///
-    /// `NoSuch` where the view has none, `Deleted` where it is marked already, `Denied` where the
-    /// policy denies it, in this order; nothing is marked then. It takes no memory.
+    /// `NoSuch` where the view has none, `Deleted` where it is marked already, `Denied` where
+    /// removals are judged at the DELE and the policy denies this one, in this order; nothing is
+    /// marked then. It takes no memory.
     pub fn mark(&mut self, n: u64, policy: &Policy) -> Result<(), Pick>
         ensures answer { result ≡ marking policy.now self.old n }
         ensures kept { self.new ≡ record self.old { marks = self.new.marks } }
@@ -138,10 +148,7 @@ impl Session {
     {
         let head = head_at(&self.rows, n)?;
         let lane = policy.lane(&self.name.clerk, &self.name.maildrop);
-        let decision = removal(&lane, &head.class);
-        if !decision.allowed {
-            return Err(Pick::Denied(decision.rule));
-        }
+        judge_mark(self.removals, &lane, &head.class)?;
         self.rows[n as usize - 1].is_marked = true;
         Ok(())
     }

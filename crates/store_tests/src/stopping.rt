@@ -1,6 +1,7 @@
 //! A file of a store fails from some call on, in an event or in an opening, and the store is opened
 //! again from what is left in its files.
 use converse::replay::replay;
+use session::Removals;
 use sqlite::{Connection, FileStore, Files, Options};
 use sqlite_disk::{Crash, Disk, Fuse, Memory, digest_of};
 use sqlvault::SqlVault;
@@ -109,7 +110,9 @@ fn files_of<D: Disk + Drop>(vault: SqlVault<FileStore<D>>) -> Files<D> {
 fn played<V: Vault>(alloc: Global, vault: V, script: &str, told: &mut Told) -> V {
     let mut script = script.as_bytes();
     let mut err = Vec::new(alloc);
-    let (_, vault) = replay(alloc, &mut script, vault, "h.test", 7, told, &mut err);
+    let removals = Removals::JudgedAtDele;
+    let host = "h.test";
+    let (_, vault) = replay(alloc, &mut script, vault, host, 7, removals, told, &mut err);
     vault
 }
 

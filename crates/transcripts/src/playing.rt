@@ -1,6 +1,7 @@
 //! Scripts that are run, and what is printed of them.
 
 use converse::replay::replay;
+use session::Removals;
 use sqlvault::SqlVault;
 use std::alloc::Global;
 use std::io::{ErrorKind, Read, Write};
@@ -30,7 +31,17 @@ pub fn run_on<V: Vault + Drop>(
     let mut script = script.as_bytes();
     let mut out = Vec::new(alloc);
     let mut err = Vec::new(alloc);
-    let (status, vault) = replay(alloc, &mut script, vault, host, boot, &mut out, &mut err);
+    let removals = Removals::JudgedAtDele;
+    let (status, vault) = replay(
+        alloc,
+        &mut script,
+        vault,
+        host,
+        boot,
+        removals,
+        &mut out,
+        &mut err,
+    );
     let text = run_text(alloc, status, out.as_slice(), err.as_slice())?;
     Ok((text, vault))
 }

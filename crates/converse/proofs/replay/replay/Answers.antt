@@ -19,10 +19,10 @@ returns-clause-told g c =
     let after = g.W.Write.contents x.new.out in λ well.
     of_known (g.R.Read.remaining c.args.script.now) (λ text. script_of text ≡ Ok (map line_seen c.in-Ok.lines.items))
     (λ text. (lines : List ScriptLine) → script_of text ≡ Ok lines → (T : Trace) → Keeps (g.V.Vault.holds c.args.vault) T → g.V.Vault.is_clean c.into_vault.result
-    → HasRun g.V.Vault.holds c.into_vault.result (g.V.Vault.faults c.args.vault) (g.V.Vault.faults c.into_vault.result) before after (opened_on T c.args.host.now c.args.boot) lines)
+    → HasRun g.V.Vault.holds c.into_vault.result (g.V.Vault.faults c.args.vault) (g.V.Vault.faults c.into_vault.result) before after (opened_on T c.args.host.now c.args.boot c.args.removals) lines)
     (λ text said lines read T keeps clean.
     (let clean2 = subst g.V.Vault.is_clean c.into_vault.ensures clean in
-    let opened = opened_on T c.args.host.now c.args.boot in
+    let opened = opened_on T c.args.host.now c.args.boot c.args.removals in
     let first = g.V.Vault.faults c.args.vault in
     let now = g.V.Vault.faults (vault_of x.new.office) in
     subst (λ n. HasRun g.V.Vault.holds c.into_vault.result first n before after opened lines) (sym (ap g.V.Vault.faults c.into_vault.ensures))
@@ -39,7 +39,7 @@ returns-clause-kept g c =
     let before = g.V.Vault.faults (vault_of c.in-Ok-open_office.office) in
     let now = g.V.Vault.faults (vault_of x.new.office) in λ T keeps clean.
     (let clean2 = subst g.V.Vault.is_clean c.into_vault.ensures clean in
-    let opened = opened_on T c.args.host.now c.args.boot in
+    let opened = opened_on T c.args.host.now c.args.boot c.args.removals in
     inr (
       lines,
       c.in-Ok.ensures.lines,

@@ -16,7 +16,7 @@ returns-clause-talked g c =
       d.3,
       λ well T keeps clean.
           (let clean2 = subst g.V.Vault.is_clean c.into_vault.ensures clean in
-          let opened = opened_on T c.args.host.now c.args.boot in
+          let opened = opened_on T c.args.host.now c.args.boot c.args.removals in
           let first = g.V.Vault.faults c.args.vault in
           let before = g.V.Vault.faults (vault_of c.in-Ok.office) in
           let now = g.V.Vault.faults (vault_of c.talk_over-status.new.office) in
@@ -26,7 +26,7 @@ returns-clause-talked g c =
           (grown_since first before now c.in-Ok.ensures.counted) (d.4 well opened (c.in-Ok.ensures.opened T keeps (c.talk_over-status.ensures.clean clean2)) clean2))),
       λ ill T keeps clean.
           (let clean2 = subst g.V.Vault.is_clean c.into_vault.ensures clean in
-          let opened = opened_on T c.args.host.now c.args.boot in
+          let opened = opened_on T c.args.host.now c.args.boot c.args.removals in
           let first = g.V.Vault.faults c.args.vault in
           let before = g.V.Vault.faults (vault_of c.in-Ok.office) in
           let now = g.V.Vault.faults (vault_of c.talk_over-status.new.office) in

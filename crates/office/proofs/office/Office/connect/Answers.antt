@@ -1,4 +1,4 @@
-use Rattle.std.proofs.Common.{◌≡◌, ◌+◌, ◌∙◌, false, sym, ap, refl, nat_cmp, rules}
+use Rattle.std.proofs.Common.{◌≡◌, ◌+◌, ◌∙◌, false, sym, ap, refl, nat_cmp, string_bytes, rules}
 use Rattle.std.specs.Map.{lookup}
 use Rattle.std.specs.BTreeMap.{is_at}
 use Rattle.office.specs.Expected.{is_full}
@@ -33,7 +33,8 @@ pub returns-clause-stands : goal.returns-clause-stands
 returns-clause-stands g c T st clean =
     let change = after_ok _ (sym c.is_err.ensures.value ∙ c.if-is_err.false) c.insert.ensures.updates in
     come_stands g.V.Vault.holds c.args.self.now _ T st _ c.in-Ok.link (ap (λ n. n + 1) st.opened)
-    (c.in-Ok.ensures ∙ ap (λ h. greeted (c.args.self.now.opened + 1) c.args.self.now.boot h c.args.self.now.moment) c.as_str.ensures.value) (number_left _ _ st.opened (c.is_full.ensures.room c.if-is_full.false))
+    (c.in-Ok.ensures ∙ ap (λ h. greeted (c.args.self.now.opened + 1) c.args.self.now.boot h c.removals.result c.args.self.now.moment) c.as_str.ensures.value
+    ∙ ap (λ j. greeted (c.args.self.now.opened + 1) c.args.self.now.boot (string_bytes c.args.self.now.host) j c.args.self.now.moment) c.removals.ensures) (number_left _ _ st.opened (c.is_full.ensures.room c.if-is_full.false))
     (λ k h. h) refl refl refl refl refl change (λ d. refl)
 
 pub returns-then-is_full-clause-outcome : goal.returns-then-is_full-clause-outcome

@@ -10,8 +10,8 @@ use Rattle.office.proofs.office.Office.open.Goals as goal
 pub returns-clause-opened : goal.returns-clause-opened
 returns-clause-opened g c T k clean =
     let h : is_host c.args.host.now ≡ true = search rules in
-    let low : 600 ≤ c.args.limits = search rules in
-    let high : c.args.limits ≤ 86400 = search rules in
+    let low : 600 ≤ c.args.limits.idle = search rules in
+    let high : c.args.limits.idle ≤ 86400 = search rules in
     let boot : c.args.boot < 18446744073709551616 = search rules in
     let done = c.in-Ok-policy.ensures.done k.contents k.held clean in
     start_stands g.V.Vault.holds g.V.Vault.holds c.args.vault _ T c.args.host.now c.args.boot c.args.limits k done.held (same_ok _ _ done.answer) refl c.in-Ok.ensures.ok refl refl

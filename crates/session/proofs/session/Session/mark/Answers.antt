@@ -1,13 +1,10 @@
-use Rattle.std.proofs.Common.{ℕ, true, false, List, set, sym, ap, ◌∙◌, ◌≡◌, ◌<◌, ◌-◌, ◌+◌, length, refl, arith, not}
+use Rattle.std.proofs.Common.{ℕ, true, List, set, sym, ap, ◌∙◌, ◌≡◌, ◌<◌, ◌-◌, ◌+◌, length, refl, arith}
 use Rattle.std.specs.Prelude.{Ok, Err, ◌||◌, ◌==◌}
 use Rattle.std.proofs.lemmas.Result.{err_from_is_err_and}
-use Rattle.std.proofs.lemmas.Bool.{not-true, not-false}
 use Rattle.creds.specs.declared.login_name.LoginName.{LoginName}
 use Rattle.policy.specs.Lane.{Lane}
 use Rattle.policy.specs.Policy.{Policy}
-use Rattle.policy.specs.declared.decide.Decision.{Decision}
 use Rattle.vault.specs.declared.answer.Head.{Head}
-use Rattle.session.specs.declared.pick.Pick.TheVariants.{Denied}
 use Rattle.session.specs.declared.row.Row.{Row}
 use Rattle.session.specs.Session.{Session, mark_answer, marking}
 use Rattle.session.specs.Rows.{login_of, row_picked, marks_of}
@@ -20,12 +17,6 @@ of_lane : (lane : Lane) (policy : Policy) (name : LoginName) (class : List ℕ) 
     → removal lane.policy (login_of lane) class ≡ removal policy name class
 of_lane lane policy name class e = ap (λ (l : Lane). removal l.policy (login_of l) class) e
 
-denied : (decision : Decision) → not decision.allowed ≡ true → mark_answer decision ≡ Err (Denied decision.rule)
-denied decision e = rw (not-true decision.allowed e) refl
-
-granted : (decision : Decision) → not decision.allowed ≡ false → mark_answer decision ≡ Ok tt
-granted decision e = rw (not-false decision.allowed e) refl
-
 pub returns-in_err-head-clause-answer : goal.returns-in_err-head-clause-answer
 returns-in_err-head-clause-answer c =
     let p = err_from_is_err_and c.from_residual.result c.from_residual.ensures.1 in
@@ -33,23 +24,25 @@ returns-in_err-head-clause-answer c =
     let policy = c.args.policy.now in
     let why = c.in_err-head.field-0.0 in
     let refused : row_picked s.rows.items c.args.n ≡ Err why = ap (λ (rows : List Row). row_picked rows c.args.n) (sym c.deref.ensures.value) ∙ sym c.in_err-head.ensures.answer in
-    p.1 ∙ ap Err p.2 ∙ sym (marking-refused policy s.name s.rows.items c.args.n why refused) ∙ ap (λ (session : Session). marking policy session c.args.n) c.self.view_is
+    p.1 ∙ ap Err p.2 ∙ sym (marking-refused policy s.name s.removals s.rows.items c.args.n why refused) ∙ ap (λ (session : Session). marking policy session c.args.n) c.self.view_is
 
-pub returns-then-not-decision-clause-answer : goal.returns-then-not-decision-clause-answer
-returns-then-not-decision-clause-answer c =
+pub returns-in_err-judge_mark-clause-answer : goal.returns-in_err-judge_mark-clause-answer
+returns-in_err-judge_mark-clause-answer c =
+    let p = err_from_is_err_and c.from_residual-in_err-judge_mark.result c.from_residual-in_err-judge_mark.ensures.1 in
     let s = c.self.inside in
     let policy = c.args.policy.now in
     let found : row_picked s.rows.items c.args.n ≡ Ok c.in_ok-head.head = ap (λ (rows : List Row). row_picked rows c.args.n) (sym c.deref.ensures.value) ∙ sym c.in_ok-head.ensures.answer in
-    sym (denied c.removal-decision.result c.if-not-decision.true) ∙ ap mark_answer (c.removal-decision.ensures ∙ of_lane c.lane-lane.result c.args.policy.now c.self.inside.name c.in_ok-head.head.class c.lane-lane.ensures)
-    ∙ sym (marking-found policy s.name s.rows.items c.args.n c.in_ok-head.head found) ∙ ap (λ (session : Session). marking policy session c.args.n) c.self.view_is
+    p.1 ∙ ap Err p.2 ∙ c.in_err-judge_mark.ensures
+    ∙ ap (mark_answer s.removals) (of_lane c.lane-lane.result c.args.policy.now c.self.inside.name c.in_ok-head.head.class c.lane-lane.ensures)
+    ∙ sym (marking-found policy s.name s.removals s.rows.items c.args.n c.in_ok-head.head found) ∙ ap (λ (session : Session). marking policy session c.args.n) c.self.view_is
 
 pub returns-clause-answer : goal.returns-clause-answer
 returns-clause-answer c =
     let s = c.self.inside in
     let policy = c.args.policy.now in
     let found : row_picked s.rows.items c.args.n ≡ Ok c.in_ok-head.head = ap (λ (rows : List Row). row_picked rows c.args.n) (sym c.deref.ensures.value) ∙ sym c.in_ok-head.ensures.answer in
-    sym (granted c.removal-decision.result c.if-not-decision.false) ∙ ap mark_answer (c.removal-decision.ensures ∙ of_lane c.lane-lane.result c.args.policy.now c.self.inside.name c.in_ok-head.head.class c.lane-lane.ensures)
-    ∙ sym (marking-found policy s.name s.rows.items c.args.n c.in_ok-head.head found) ∙ ap (λ (session : Session). marking policy session c.args.n) c.self.view_is
+    c.in_ok-judge_mark.ensures ∙ ap (mark_answer s.removals) (of_lane c.lane-lane.result c.args.policy.now c.self.inside.name c.in_ok-head.head.class c.lane-lane.ensures)
+    ∙ sym (marking-found policy s.name s.removals s.rows.items c.args.n c.in_ok-head.head found) ∙ ap (λ (session : Session). marking policy session c.args.n) c.self.view_is
 
 pub returns-clause-kept : goal.returns-clause-kept
 returns-clause-kept c =
@@ -57,7 +50,7 @@ returns-clause-kept c =
     let row : Row = record { head = c.index_mut.result.now.head; is_marked = true } in
     let marks = marks_of (set s.rows.items (c.args.n - 1) row) in
     let same = heads_of-set s.rows.items (c.args.n - 1) row c.index_mut.result.now (ap (λ (r : Row). r.head) c.index_mut.ensures.value) in
-    ap (λ (view : List Head). session_with s.name view marks) same ∙ ap (λ (session : Session). session_with session.name session.view marks) c.self.view_is
+    ap (λ (view : List Head). session_with s.name s.removals view marks) same ∙ ap (λ (session : Session). session_with session.name session.removals session.view marks) c.self.view_is
 
 pub returns-clause-marked : goal.returns-clause-marked
 returns-clause-marked c = λ m.

@@ -9,5 +9,5 @@ pub returns : goal.returns
 returns c =
     let s = c.self.inside in
     let n = c.args.n in
-    c.head_at.ensures.answer ∙ ap (λ (rows : List Row). row_picked rows n) c.deref.ensures.value ∙ sym (picked-rows s.name s.rows.items n)
+    c.head_at.ensures.answer ∙ ap (λ (rows : List Row). row_picked rows n) c.deref.ensures.value ∙ sym (picked-rows s.name s.removals s.rows.items n)
     ∙ ap (λ (session : Session). picked session n) c.self.view_is

@@ -33,7 +33,7 @@ returns-in_err-head c =
     let policy = c.args.policy.now in
     let why = c.in_err-head.field-0.0 in
     let refused : row_picked s.rows.items c.args.n ≡ Err why = ap (λ (rows : List Row). row_picked rows c.args.n) (sym c.deref.ensures.value) ∙ sym c.in_err-head.ensures.answer in
-    p.1 ∙ ap Err p.2 ∙ sym (reading-refused policy s.name s.rows.items c.args.n why refused) ∙ ap (λ (session : Session). picked_for policy session c.args.n) c.self.view_is
+    p.1 ∙ ap Err p.2 ∙ sym (reading-refused policy s.name s.removals s.rows.items c.args.n why refused) ∙ ap (λ (session : Session). picked_for policy session c.args.n) c.self.view_is
 
 pub returns-then-not-decision : goal.returns-then-not-decision
 returns-then-not-decision c =
@@ -41,7 +41,7 @@ returns-then-not-decision c =
     let policy = c.args.policy.now in
     let found : row_picked s.rows.items c.args.n ≡ Ok c.in_ok-head.head = ap (λ (rows : List Row). row_picked rows c.args.n) (sym c.deref.ensures.value) ∙ sym c.in_ok-head.ensures.answer in
     sym (denied c.retrieval-decision.result c.in_ok-head.head c.if-not-decision.true) ∙ ap (λ (d : Decision). read_answer d c.in_ok-head.head) (c.retrieval-decision.ensures ∙ of_lane c.lane-lane.result c.args.policy.now c.self.inside.name c.in_ok-head.head.class c.lane-lane.ensures)
-    ∙ sym (reading-found policy s.name s.rows.items c.args.n c.in_ok-head.head found) ∙ ap (λ (session : Session). picked_for policy session c.args.n) c.self.view_is
+    ∙ sym (reading-found policy s.name s.removals s.rows.items c.args.n c.in_ok-head.head found) ∙ ap (λ (session : Session). picked_for policy session c.args.n) c.self.view_is
 
 pub returns : goal.returns
 returns c =
@@ -49,4 +49,4 @@ returns c =
     let policy = c.args.policy.now in
     let found : row_picked s.rows.items c.args.n ≡ Ok c.in_ok-head.head = ap (λ (rows : List Row). row_picked rows c.args.n) (sym c.deref.ensures.value) ∙ sym c.in_ok-head.ensures.answer in
     sym (granted c.retrieval-decision.result c.in_ok-head.head c.if-not-decision.false) ∙ ap (λ (d : Decision). read_answer d c.in_ok-head.head) (c.retrieval-decision.ensures ∙ of_lane c.lane-lane.result c.args.policy.now c.self.inside.name c.in_ok-head.head.class c.lane-lane.ensures)
-    ∙ sym (reading-found policy s.name s.rows.items c.args.n c.in_ok-head.head found) ∙ ap (λ (session : Session). picked_for policy session c.args.n) c.self.view_is
+    ∙ sym (reading-found policy s.name s.removals s.rows.items c.args.n c.in_ok-head.head found) ∙ ap (λ (session : Session). picked_for policy session c.args.n) c.self.view_is

@@ -10,5 +10,5 @@ pub returns : goal.returns
 returns c =
     let s = c.self.inside in
     let kept = with_items_is s.rows c.unmark_all.new.rows (c.unmark_all.auto.rows ∙ c.deref_mut.ensures.len) in
-    ap (session_of s.name) (kept ∙ c.unmark_all.ensures ∙ ap (λ (rows : List Row). map unmarked_row (heads_of rows)) c.deref_mut.ensures.value)
-    ∙ session_of-unmarked s.name (heads_of s.rows.items) ∙ ap (λ (session : Session). session_with session.name session.view []) c.self.view_is
+    ap (session_of s.name s.removals) (kept ∙ c.unmark_all.ensures ∙ ap (λ (rows : List Row). map unmarked_row (heads_of rows)) c.deref_mut.ensures.value)
+    ∙ session_of-unmarked s.name s.removals (heads_of s.rows.items) ∙ ap (λ (session : Session). session_with session.name session.removals session.view []) c.self.view_is

@@ -22,7 +22,7 @@ returns-clause-session c =
     let name : LoginName = record { clerk = c.args.clerk; maildrop = c.args.maildrop } in
     let seen = visible class_of c.args.policy.now name c.args.heads.now in
     let rows : c.in_ok-rows.rows.items ≡ map unmarked_row seen = seen_by c.lane-lane.result c.args.policy.now name c.args.heads.now c.in_ok-rows.rows.items c.lane-lane.ensures c.in_ok-rows.ensures in
-    ap (session_of name) rows ∙ session_of-unmarked name seen
+    ap (session_of name c.args.removals) rows ∙ session_of-unmarked name c.args.removals seen
 
 pub returns-clause-octets : goal.returns-clause-octets
 returns-clause-octets c =
