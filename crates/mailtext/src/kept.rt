@@ -2,7 +2,7 @@
 
 ghost use Rattle.std.specs.Prelude.{◌≡◌, ◌<◌, ◌↔◌, [], true, length, take, IfOk};
 ghost use Rattle.mailtext.specs.Text.{kept_form, lines_of, ended, top_part, header_len};
-ghost use Rattle.mailtext.specs.MailText.{IsMailText};
+ghost use Rattle.mailtext.specs.MailText.{IsMailText, most_octets};
 ghost use Rattle.mailtext.specs.declared.kept.TextFault.TheVariants.{NoMemory};
 
 use crate::lines::{Dots, are_ended_lines, write_lines, written_len};
@@ -60,7 +60,7 @@ pub struct MailText {
 
 impl Model for MailText {
     ghost use Rattle.std.specs.Prelude.{List, ℕ};
-    ghost use Rattle.mailtext.specs.MailText.{IsMailText};
+    ghost use Rattle.mailtext.specs.MailText.{IsMailText, most_octets};
 
     ghost Value = { List ℕ };
 
@@ -89,7 +89,7 @@ pub fn canon(alloc: Global, text: &[u8]) -> Result<MailText, TextFault>
     ensures ok { IfOk result (λ kept. kept ≡ kept_form text.now) }
     ensures lines { IfOk result (λ kept. lines_of kept ≡ lines_of text.now) }
     ensures empty { (result ≡ Err TextFault.Empty) ↔ (text.now ≡ []) }
-    ensures too_large { (result ≡ Err TextFault.TooLarge) ↔ (MAX_OCTETS < length (kept_form text.now)) }
+    ensures too_large { (result ≡ Err TextFault.TooLarge) ↔ (most_octets < length (kept_form text.now)) }
 {
     if text.is_empty() {
         return Err(TextFault::Empty);

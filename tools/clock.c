@@ -1,0 +1,33 @@
+/*
+ * A clock that can be set on: tools/check-server has the loader put this before the C library. To
+ * each moment that a program asks for are added the seconds that the file named by CLOCK holds. It
+ * calls the system alone, since a program may ask before the C library's own parts are ready.
+ */
+#define _GNU_SOURCE
+#include <fcntl.h>
+#include <stdlib.h>
+#include <sys/syscall.h>
+#include <time.h>
+#include <unistd.h>
+
+static long added(void)
+{
+    char text[20];
+    const char *name = getenv("CLOCK");
+    long file = name ? syscall(SYS_openat, AT_FDCWD, name, O_RDONLY) : -1, seconds = 0, count = 0;
+    if (file >= 0) {
+        count = syscall(SYS_read, file, text, sizeof text);
+        syscall(SYS_close, file);
+    }
+    for (long at = 0; at < count && text[at] >= '0' && text[at] <= '9'; at++)
+        seconds = 10 * seconds + text[at] - '0';
+    return seconds;
+}
+
+int clock_gettime(clockid_t clock, struct timespec *now)
+{
+    int failed = (int)syscall(SYS_clock_gettime, clock, now);
+    if (!failed)
+        now->tv_sec += added();
+    return failed;
+}
