@@ -52,7 +52,7 @@ module _ (f : List ℕ → Bool) (k : Kept) (p : List ℕ) (out : is_some k.sess
 
   pub meets_line : (x : Cut) → has_newline p ≡ true → x ≡ line_after k p
       → is_held_for f (login_asked (reading x) k.talk.user)
-        ≡ meets_held f (is_some k.session) k.talk.user (line_with k p)
+      ≡ meets_held f (is_some k.session) k.talk.user (line_with k p)
   meets_line x h e = ap (λ y. asks_held f k.talk.user (Some y)) e ∙ (ap asks (sym h) ∙ asked)
 
   pub meets_none : has_newline p ≡ false
@@ -126,7 +126,7 @@ waits_so c T n p k m o locks held now seconds at =
     let next : line_with k p ≡ next_line T.log G n p = next_is c s k p m o (has_newline p) refl in
     let same = asks_same by_locks by_trace (λ d. ap is_some (held d)) k.talk.user (line_with k p) in
     let line : asks_held by_locks k.talk.user (line_with k p)
-        ≡ asks_held by_trace (user G n) (next_line T.log G n p) =
+    ≡ asks_held by_trace (user G n) (next_line T.log G n p) =
     same ∙ ap₂ (λ u x. asks_held by_trace u x) m.user next in
     let meets : meets_held by_locks (is_some k.session) k.talk.user (line_with k p) ≡ meets_lock T n p =
     ap₂ (λ b a. not b && a) (session_live c s k.session m.session) line in
