@@ -21,12 +21,14 @@ const IN_USE: &str = "-ERR [IN-USE] maildrop is in use\r\n";
 
 /// Ann logs in at moment 0; bob is told to send his password at moment 3, and sends it, in two
 /// pieces.
-static BOTH: [Act; 11] = [
+static BOTH: [Act; 13] = [
     Act::Comes(0),
+    Act::Turns(1, 0),
     Act::Sends(0, ANN, 1),
     Act::Turns(4, 0),
     Act::Told(0, ANN_TOLD, 1),
     Act::Comes(1),
+    Act::Turns(1, 3),
     Act::Sends(1, "USER bob/orders\r\n", 1),
     Act::Turns(4, 3),
     Act::Told(1, BOB_TOLD, 1),
