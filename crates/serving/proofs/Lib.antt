@@ -7,3 +7,4 @@ pub mod Seating
 pub mod Scripting
 pub mod Depositing
 pub mod NameTexts
+pub mod Parts

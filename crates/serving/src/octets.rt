@@ -1,5 +1,5 @@
 //! Parts of octets.
-ghost use Rattle.std.specs.Prelude.{◌≡◌, drop};
+ghost use Rattle.std.specs.Prelude.{◌≡◌, drop, take};
 
 /// What is behind a place.
 pub(crate) fn rest_of(octets: &[u8], at: usize) -> &[u8]
@@ -9,4 +9,12 @@ pub(crate) fn rest_of(octets: &[u8], at: usize) -> &[u8]
         return &[];
     }
     &octets[at..]
+}
+
+/// So many octets behind a place, or all that are there.
+pub(crate) fn part_of(octets: &[u8], at: usize, most: usize) -> &[u8]
+    ensures { result.now ≡ take most (drop at octets.now) }
+{
+    let rest = rest_of(octets, at);
+    &rest[..rest.len().min(most)]
 }

@@ -10,7 +10,7 @@ ghost use Rattle.adminhttp.specs.Responses.{refusal_response};
 ghost use Rattle.adminhttp.specs.declared.refusal.Refusal.TheVariants.{OutOfMemory};
 ghost use Rattle.serving.specs.Requests.{octets_of, IsToldBy, HasAsked, HasOneMore, StillAnswers, StillAsked, AllStillAnswer, AllStillAsked};
 
-use crate::octets::rest_of;
+use crate::octets::part_of;
 use crate::wire::{Io, Link, Port, Wire};
 use adminhttp::{Got, Refusal, Request, policy_response, response};
 use office::{AdminCommand, Event, Office, Outcome};
@@ -28,6 +28,10 @@ const MOST_AT_ONCE: usize = 4096;
 
 /// How many writes a link has in one turn at most.
 const MOST_WRITES: usize = 64;
+
+/// A link's share of a turn: so many octets are written at once at most, and behind so many no
+/// more, so that no client waits long for a response.
+const SHARE: usize = 16_384;
 
 /// A response.
 #[derive(Drop)]
@@ -209,45 +213,52 @@ fn hear<V: Vault, W: Wire>(
     }
 }
 
-/// Writes once of a response. Whether octets were taken, and more may be. The exchange is over
-/// where nothing is left, or the link is broken.
-fn tell_once<W: Wire>(wire: &mut W, exchange: &mut Exchange) -> bool
+/// Writes once of a response. How many octets were taken. The exchange is over where nothing is
+/// left, or the link is broken.
+fn tell_once<W: Wire>(wire: &mut W, exchange: &mut Exchange) -> usize
     ensures answers { StillAnswers W.tells wire.old exchange.old wire.new exchange.new }
     ensures link { exchange.new.link ≡ exchange.old.link }
 {
     if exchange.is_over {
-        return false;
+        return 0;
     }
     let Some(response) = &exchange.response else {
-        return false;
+        return 0;
     };
     let octets = response.octets();
     if exchange.written >= octets.len() {
         exchange.is_over = true;
-        return false;
+        return 0;
     }
-    let rest = rest_of(octets, exchange.written);
-    match wire.write(Port::Admin, exchange.link, rest) {
+    let part = part_of(octets, exchange.written, SHARE);
+    match wire.write(Port::Admin, exchange.link, part) {
         Io::Count(count) => {
             exchange.written += count;
-            true
+            count
         }
-        Io::Later => false,
+        Io::Later => 0,
         Io::End | Io::Broken => {
             exchange.is_over = true;
-            false
+            0
         }
     }
 }
 
-/// Writes a response as long as the link takes it. Whether more can be written at once.
+/// Writes a response as long as the link takes it, up to its share. Whether more can be written at
+/// once.
 fn tell<W: Wire>(wire: &mut W, exchange: &mut Exchange) -> bool
     ensures answers { StillAnswers W.tells wire.old exchange.old wire.new exchange.new }
     ensures link { exchange.new.link ≡ exchange.old.link }
 {
+    let mut written: usize = 0;
     for _ in 0..MOST_WRITES {
-        if !tell_once(wire, exchange) {
+        let count = tell_once(wire, exchange);
+        if count == 0 {
             return false;
+        }
+        written = written.saturating_add(count);
+        if written >= SHARE {
+            return true;
         }
     }
     true

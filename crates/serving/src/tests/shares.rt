@@ -1,12 +1,12 @@
 //! How much of a long reply one turn writes: all of it on a link that is alone, and a share beside
-//! another.
+//! another; and a share of a long response.
 
 use super::two_clerks::{name, office_of_two};
 use crate::script_spool::ScriptSpool;
 use crate::script_wire::ScriptWire;
 use crate::turn::{begin, serve_turn};
 use creds::DepositId;
-use office::{Event, Office};
+use office::{AdminCommand, Event, Office};
 use std::alloc::Global;
 use std::test::Fail;
 use vault::PlainVault;
@@ -62,5 +62,32 @@ fn beside_another(rt: HostRuntime) -> Result<(), Fail> {
     assert!(rt; behind[0] < 20_000);
     assert_eq!(rt; behind[1], behind[0].saturating_add(16_384));
     assert_eq!(rt; behind[2], behind[1].saturating_add(16_384));
+    Ok(())
+}
+
+/// An office with 500 maildrops, whose list has 18,500 octets.
+fn office_with_many_maildrops(alloc: Global) -> Result<Office<PlainVault>, Fail> {
+    let mut office = office_of_two(alloc, &[])?;
+    for number in 1000..1500u32 {
+        let text = format!(in alloc; "a-maildrop-with-a-long-name-{number}")?;
+        let maildrop = name(text.as_str())?;
+        let _ = office.step(Event::Admin(&AdminCommand::AddMaildrop(maildrop)));
+    }
+    Ok(office)
+}
+
+#[test]
+fn of_a_response(rt: HostRuntime) -> Result<(), Fail> {
+    let alloc = rt.alloc();
+    let mut office = office_with_many_maildrops(alloc)?;
+    let mut wire = ScriptWire::new(alloc, Vec::new(alloc), 20_000);
+    wire.request(Vec::from_slice(alloc, b"GET /maildrops HTTP/1.1\r\n\r\n")?)?;
+    let mut spool = ScriptSpool::new(alloc);
+    let mut links = begin(alloc, &office, &wire, &spool);
+    serve_turn(&mut links, &mut wire, &mut office, &mut spool, 0);
+    assert_eq!(rt; wire.response(0).len(), 16_384);
+    serve_turn(&mut links, &mut wire, &mut office, &mut spool, 0);
+    assert!(rt; wire.response(0).len() > 18_500);
+    assert!(rt; wire.is_request_closed(0));
     Ok(())
 }

@@ -1,6 +1,8 @@
-use Rattle.std.proofs.Common.{rules, ◌≡◌, false, [], take, drop, refl, ap, subst, ◌∙◌}
+use Rattle.std.proofs.Common.{rules, ◌≡◌, ◌≤◌, false, [], take, drop, length, refl, ap, subst, ◌∙◌}
 use Rattle.serving.specs.declared.wire.Io.TheVariants.{Later}
 use Rattle.serving.specs.Wires.{counted, is_fault, has_written}
+use Rattle.serving.specs.Requests.{octets_of}
+use Rattle.serving.proofs.Parts.{front_of_front}
 use Rattle.serving.proofs.Requesting.{wrote, waited, none_more, over_apart, straight_on}
 use Rattle.serving.proofs.requests.tell_once.Goals as goal
 
@@ -8,10 +10,17 @@ pub returns-in-Count-clause-answers : goal.returns-in-Count-clause-answers
 returns-in-Count-clause-answers g c = λ x B start L pop others s.
     (let e = c.args.exchange.now in
     let count = c.in-Count.count in
-    let rest = c.rest_of-rest.result.now in
+    let part = c.part_of-part.result.now in
+    let whole = drop e.written (octets_of c.in-Some.response) in
+    let is : part ≡ take 16384 whole =
+    c.part_of-part.ensures ∙ ap (λ xs. take 16384 (drop e.written xs)) c.octets-octets.ensures in
+    let fits : count ≤ length (take 16384 whole) =
+    subst (λ xs. count ≤ length xs) is c.in-Count.ensures.within.1 in
     let goes : e.is_over ≡ false = search rules in
-    wrote g.W.Wire.tells B start pop others e _ x L c.args.wire.now c.write.new.self s count (take count rest) _
-    (c.in-Count.ensures.told (record { pop = pop; admin = s.told }) s.tells) c.in-Some.is goes (ap (take count) (c.rest_of-rest.ensures ∙ ap (drop e.written) c.octets-octets.ensures)) refl refl refl)
+    wrote g.W.Wire.tells B start pop others e _ x L c.args.wire.now c.write.new.self s count
+    (take count part) _
+    (c.in-Count.ensures.told (record { pop = pop; admin = s.told }) s.tells) c.in-Some.is goes
+    (ap (take count) is ∙ front_of_front count 16384 whole fits) refl refl refl)
 
 pub returns-in-Later-clause-answers : goal.returns-in-Later-clause-answers
 returns-in-Later-clause-answers g c = λ x B start L pop others s.
@@ -31,7 +40,7 @@ returns-in-End-clause-answers g c = λ x B start L pop others s.
     let told = s.told in
     let io = c.write.result in
     let goes : e.is_over ≡ false = search rules in
-    let lent = c.rest_of-rest.result.now in
+    let lent = c.part_of-part.result.now in
     let none : counted io lent ≡ [] = search rules in
     let held = s.held.0 in
     let tells = subst (λ xs. g.W.Wire.tells c.write.new.self (record { pop = pop; admin = has_written told n io xs })) none (c.write.ensures.told (record { pop = pop; admin = told }) s.tells) in
