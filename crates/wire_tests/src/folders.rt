@@ -1,6 +1,8 @@
 //! A spool over a folder.
+use crate::swapped::{Guise, Swapped};
 use serving::{FileName, FolderSpool, Spool};
 use std::fs;
+use std::os::unix::fs::symlink;
 use std::test::Fail;
 
 #[test]
@@ -27,5 +29,65 @@ fn files_of_a_folder(rt: HostRuntime) -> Result<(), Fail> {
     assert!(rt; spool.rename(&first) && spool.read(&first).is_none());
     assert!(rt; spool.next_name(&None) == Some(third));
     fs::remove_dir_all(&rt, "spool-of-a-test")?;
+    Ok(())
+}
+
+/// A link to a file that lies elsewhere, and a second name of one, aren't read. Without its second
+/// name it is a file as any other.
+#[test]
+fn links_in_a_folder(rt: HostRuntime) -> Result<(), Fail> {
+    let _ = fs::remove_dir_all(&rt, "links-of-a-test");
+    fs::create_dir(&rt, "links-of-a-test")?;
+    fs::create_dir(&rt, "links-of-a-test/spool")?;
+    fs::write(&rt, "links-of-a-test/store", "secret")?;
+    symlink(&rt, "../store", "links-of-a-test/spool/a.note.x.eml")?;
+    fs::hard_link(
+        &rt,
+        "links-of-a-test/store",
+        "links-of-a-test/spool/b.note.x.eml",
+    )?;
+    let linked = FileName::read(b"a.note.x.eml").ok_or("name")?;
+    let named = FileName::read(b"b.note.x.eml").ok_or("name")?;
+    let mut spool = FolderSpool::new(&rt, rt.alloc(), "links-of-a-test/spool");
+    assert!(rt; spool.next_name(&None) == Some(linked));
+    assert!(rt; spool.read(&linked).is_none());
+    assert!(rt; spool.read(&named).is_none());
+    fs::remove_file(&rt, "links-of-a-test/store")?;
+    assert!(rt; spool.read(&linked).is_none());
+    let text = spool.read(&named).ok_or("text")?;
+    assert!(rt; text.as_slice() == b"secret".as_slice());
+    fs::remove_dir_all(&rt, "links-of-a-test")?;
+    Ok(())
+}
+
+/// What a spool reads of a file whose place another one takes just before it is opened.
+fn read_swapped(rt: &HostRuntime, guise: Guise) -> Result<Option<Vec<u8>>, Fail> {
+    let _ = fs::remove_dir_all(rt, "swaps-of-a-test");
+    fs::create_dir(rt, "swaps-of-a-test")?;
+    fs::create_dir(rt, "swaps-of-a-test/spool")?;
+    fs::write(rt, "swaps-of-a-test/store", "secret")?;
+    fs::write(rt, "swaps-of-a-test/spool/a.note.x.eml", "text")?;
+    let name = FileName::read(b"a.note.x.eml").ok_or("name")?;
+    let swapped = Swapped {
+        rt,
+        file: "swaps-of-a-test/store",
+        link: "../store",
+        guise,
+    };
+    let mut spool = FolderSpool::new(&swapped, rt.alloc(), "swaps-of-a-test/spool");
+    let text = spool.read(&name);
+    fs::remove_dir_all(rt, "swaps-of-a-test")?;
+    Ok(text)
+}
+
+/// A link or a second name that takes a file's place isn't read. A file that is renamed to it is:
+/// it lies in the folder then.
+#[test]
+fn files_swapped_while_read(rt: HostRuntime) -> Result<(), Fail> {
+    assert!(rt; read_swapped(&rt, Guise::Link)?.is_none());
+    assert!(rt; read_swapped(&rt, Guise::Name)?.is_none());
+    assert!(rt; read_swapped(&rt, Guise::LinkThenName)?.is_none());
+    let text = read_swapped(&rt, Guise::Itself)?.ok_or("text")?;
+    assert!(rt; text.as_slice() == b"secret".as_slice());
     Ok(())
 }

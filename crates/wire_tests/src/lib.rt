@@ -20,4 +20,6 @@ mod spools;
 #[cfg(test)]
 mod strangers;
 #[cfg(test)]
+mod swapped;
+#[cfg(test)]
 mod turns;
