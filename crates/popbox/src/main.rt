@@ -4,6 +4,7 @@
 mod command_line;
 #[cfg(test)]
 mod command_line_tests;
+mod looking;
 mod serve;
 mod store_file;
 
@@ -19,6 +20,7 @@ use converse::replay::replay;
 use converse::script::{ScriptFault, read_script};
 use converse::talking::talk;
 use converse::{Fault, tell_fault};
+use looking::run_review;
 use serve::serve_over;
 use sqlite::{Alter, Connection, FileStore, Wary};
 use sqlite_disk::Disk;
@@ -94,6 +96,7 @@ fn run_subcommand<E: Write>(
         "replay" => run_replay(rt, options, err),
         "talk" => run_talk(rt, options, err),
         "serve" => run_serve(rt, options, err),
+        "review-policy" => run_review(rt, options, err),
         _ => run_check_policy(rt, options, err),
     };
     match done {
