@@ -9,3 +9,4 @@ pub mod Escapes
 pub mod Script
 pub mod Runs
 pub mod Played
+pub mod Reviewed

@@ -51,7 +51,7 @@ fn tell_count<R: Read, W: Write>(alloc: Global, file: &mut R, out: &mut W) -> Re
 }
 
 /// The policy of a file.
-fn read_file<R: Read>(alloc: Global, file: &mut R) -> Result<Policy, Fault>
+pub(crate) fn read_file<R: Read>(alloc: Global, file: &mut R) -> Result<Policy, Fault>
     ensures end { IsOk result → IsAtEnd (R.remaining file.new) }
     ensures ok { IfOk result (λ policy. IfSome (R.remaining file.old) (λ octets. IsPolicyText octets policy)) }
     ensures fault { (fault : PolicyFault) → result ≡ Err (Fault.NoPolicy fault) → IfSome (R.remaining file.old) (λ octets. IsFaultOf octets fault) }

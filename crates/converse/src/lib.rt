@@ -11,6 +11,7 @@ mod conversation;
 mod fault;
 mod fields;
 pub mod replay;
+pub mod review_policy;
 pub mod script;
 pub mod talking;
 

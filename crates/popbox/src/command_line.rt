@@ -103,6 +103,32 @@ fn check_policy<'a>(alloc: Global) -> Result<Command<'a>, AllocError> {
     subcommand(alloc, "check-policy", about, arguments)
 }
 
+/// `review-policy [--against OLD] [--clerk NAME] [--maildrop NAME] [--format FORMAT] [--verbose]
+/// NEW`.
+fn review_policy<'a>(alloc: Global) -> Result<Command<'a>, AllocError> {
+    let against = option(
+        alloc,
+        "against",
+        "OLD",
+        "The file of the policy that NEW is to replace",
+    );
+    let clerk = option(alloc, "clerk", "NAME", "Tells of this clerk alone");
+    let maildrop = option(alloc, "maildrop", "NAME", "Tells of this maildrop alone");
+    let format = option(alloc, "format", "FORMAT", "How it is written");
+    let file = Arg::new(alloc, "NEW").help("The policy's file; - is standard input");
+    let arguments = vec![in alloc;
+        against,
+        clerk,
+        maildrop,
+        format
+            .value_parser(["text", "csv"].as_slice())
+            .default_value("text"),
+        file.required(true),
+    ]?;
+    let about = "Prints who may do what, what a change changes, and which rules never decide";
+    subcommand(alloc, "review-policy", about, arguments)
+}
+
 /// `--log`.
 fn log<'a>(alloc: Global) -> Arg<'a> {
     Arg::new(alloc, "log")
@@ -184,5 +210,6 @@ pub fn make_command<'a>(alloc: Global) -> Result<Command<'a>, AllocError> {
     let command = add(command, replay(alloc))?;
     let command = add(command, talk(alloc))?;
     let command = add(command, serve(alloc))?;
-    add(command, check_policy(alloc))
+    let command = add(command, check_policy(alloc))?;
+    add(command, review_policy(alloc))
 }

@@ -2,6 +2,7 @@
 #![tactic(auto)]
 
 mod command_line;
+mod looking;
 mod serve;
 mod store_file;
 
@@ -17,6 +18,7 @@ use converse::replay::replay;
 use converse::script::{ScriptFault, read_script};
 use converse::talking::talk;
 use converse::{Fault, tell_fault};
+use looking::run_review;
 use serve::serve_over;
 use session::Removals;
 use sqlite::{Alter, Connection, FileStore, Wary};
@@ -93,6 +95,7 @@ fn run_subcommand<E: Write>(
         "replay" => run_replay(rt, options, err),
         "talk" => run_talk(rt, options, err),
         "serve" => run_serve(rt, options, err),
+        "review-policy" => run_review(rt, options, err),
         _ => run_check_policy(rt, options, err),
     };
     match done {

@@ -1,0 +1,16 @@
+use Rattle.std.proofs.Common.{List, ℕ, None, Option, Some}
+use Rattle.std.specs.Prelude.{IfSome}
+use Rattle.policy.specs.Policy.{Policy}
+use Rattle.converse.specs.PolicyFile.{IsPolicyText, IsNoPolicyText}
+use Rattle.converse.proofs.review_policy.tell_review.Goals as goal
+
+-- where a text is a policy's, what is said of a text that is none holds
+not_both : (known : Option (List ℕ)) (policy : Policy) (A : Type 0) → IfSome known (λ octets. IsPolicyText octets policy) → IfSome known (λ octets. IsNoPolicyText octets → A)
+not_both None policy A h = tt
+not_both (Some octets) policy A h = λ none. absurd (none policy h)
+
+pub returns-in-Ok-clause-faulty : goal.returns-in-Ok-clause-faulty
+returns-in-Ok-clause-faulty g c = not_both (g.R.Read.remaining c.args.file.now) _ _ c.in_ok-policy.ensures.ok
+
+pub returns-clause-faulty : goal.returns-clause-faulty
+returns-clause-faulty g c = not_both (g.R.Read.remaining c.args.file.now) _ _ c.in_ok-policy.ensures.ok
