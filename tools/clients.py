@@ -114,6 +114,11 @@ class Server:
             raise Wrong(f"{' '.join(words)}: the server ended with status {self.run.wait()}")
         self.pop, self.admin = (int(line.rpartition(b":")[2]) for line in told)
 
+    def memory(self):
+        """How many kB of memory the server has."""
+        with open(f"/proc/{self.run.pid}/status", encoding="ascii") as file:
+            return int(re.search(r"VmRSS:\s*(\d+)", file.read())[1])
+
     def end(self):
         self.run.kill()
         self.run.communicate()

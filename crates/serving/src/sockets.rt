@@ -262,11 +262,14 @@ impl Place {
     fn look(&mut self, buffer: &mut [u8]) -> Io
         ensures within { IsWithin (length buffer.old) result }
         ensures shown { shown_of result buffer.new ≡ shown_of result self.new.ahead }
+        ensures kept { (self.old.ahead ≡ []) ⊎ (self.new.ahead ≡ self.old.ahead) }
     {
         let room = buffer.len();
         if !self.ahead.is_empty() {
             return counted(self.ahead.show(buffer), room);
         }
+        // What was read of it is forgotten, so that it never has more than one piece.
+        self.ahead.clear();
         if self.ahead.make_room(room).is_err() {
             return Io::Later;
         }
@@ -281,6 +284,10 @@ impl Place {
         ensures shown { shown_of result buffer.now ≡ shown_of result self.new.ahead }
     {
         let Io::Count(count) = came else {
+            // The system tells that a link is broken once, and the next read has to tell it too.
+            if matches!(came, Io::Broken) {
+                self.stream = None;
+            }
             return came;
         };
         if self.ahead.keep(&buffer[..count]).is_err() {

@@ -3,6 +3,7 @@
 
 use converse::fault_text;
 use converse::talking::talk;
+use session::Removals;
 use sqlite::{Connection, MemStore};
 use sqlvault::SqlVault;
 use std::alloc::Global;
@@ -36,7 +37,8 @@ fn a_store_in_a_transaction_is_refused(rt: HostRuntime) -> Result<(), Fail> {
 /// Whether a conversation with a reader that refuses has status 1. Its fault goes to `err`.
 fn is_broken_off<W: Write>(alloc: Global, writer: &mut W, err: &mut Vec<u8>) -> bool {
     let vault = PlainVault::new(alloc);
-    let (status, _) = talk(alloc, vault, "h", 1, &mut Refusing, writer, err);
+    let removals = Removals::JudgedAtDele;
+    let (status, _) = talk(alloc, vault, "h", 1, removals, &mut Refusing, writer, err);
     status == 1
 }
 
