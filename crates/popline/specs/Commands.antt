@@ -1,4 +1,5 @@
--- What a command line says (RFC 1939, 3 to 7; RFC 2449, 4 and 5): its keyword, its arguments, and the command or the fault that they give.
+-- What a command line says (RFC 1939, 3 to 7; RFC 2449, 4 and 5): its keyword, its arguments, and
+-- the command or the fault that they give.
 use Rattle.std.specs.Prelude.{ℕ, Bool, ◌&&◌, ◌+◌, ◌-◌, ◌*◌, ◌^◌, List, [], ◌∷◌, length, drop, map, min, ◌==◌, nat_lt, if◌then◌else◌, codes, Option, Some, None, option_map, Result, Err, ok_or}
 use Rattle.std.specs.Result.{result_ok}
 use Rattle.std.specs.List.{slice_split, list_all, fold, before_first, after_first}
@@ -12,7 +13,8 @@ use Rattle.popline.specs.declared.command.Keyword.TheVariants as keyword
 use Rattle.popline.specs.declared.command.LineFault.{LineFault}
 use Rattle.popline.specs.declared.command.LineFault.TheVariants.{Unknown, Syntax}
 
--- a command with its arguments: a login name, a password, a digest's octets, message numbers, a count of lines
+-- a command with its arguments: a login name, a password, a digest's octets, message numbers, a
+-- count of lines
 pub data Command : Type 0 where
   Capa : Command
   User : LoginName → Command
@@ -30,7 +32,7 @@ pub data Command : Type 0 where
   Rset : Command
   Noop : Command
 
--- the keyword of the lines that spell a command
+-- a command's keyword
 abbrev pub keyword_of : Command → Keyword
 keyword_of Capa = keyword.Capa
 keyword_of (User name) = keyword.User
@@ -54,11 +56,11 @@ keyword_of Noop = keyword.Noop
 abbrev pub lowered : ℕ → ℕ
 lowered b = if is_capital b then b + 32 else b
 
--- a text is this word, in letters of any case
+-- the text spells the word, which is in small letters; the text's are of any case
 abbrev pub is_spelled : List ℕ → List ℕ → Bool
 is_spelled word text = bytes_eq (map lowered text) word
 
--- the keyword of the first word of a table that a text is
+-- the keyword of a table's first row whose word the text spells
 abbrev pub keyword_in : List (List ℕ × Keyword) → List ℕ → Option Keyword
 keyword_in [] text = None
 keyword_in ((word, k) ∷ table) text = if is_spelled word text then Some k else keyword_in table text
@@ -77,12 +79,12 @@ keywords =
 abbrev pub is_space : ℕ → Bool
 is_space b = b == 32
 
--- without the spaces at the end
+-- a line without the spaces at its end
 abbrev pub trimmed : List ℕ → List ℕ
 trimmed [] = []
 trimmed (b ∷ bs) = if list_all is_space (b ∷ bs) then [] else b ∷ trimmed bs
 
--- the arguments, between single spaces
+-- a line's arguments, each behind a single space
 abbrev pub arguments : List ℕ → List (List ℕ)
 arguments line = drop 1 (slice_split is_space (trimmed line))
 
@@ -90,17 +92,17 @@ arguments line = drop 1 (slice_split is_space (trimmed line))
 abbrev pub value_of : List ℕ → ℕ
 value_of digits = fold (λ n b. n * 10 + (b - 48)) 0 digits
 
--- a decimal number; one above the greatest counts as that
+-- a decimal number, capped at 2^64 - 1
 abbrev pub number_of : List ℕ → Option ℕ
 number_of digits = if nat_lt 0 (length digits) && list_all is_digit digits then Some (min (value_of digits) (2 ^ 64 - 1)) else None
 
--- the 16 octets that 32 hexadecimal digits write, of either case
+-- the 16 octets that 32 hexadecimal digits of either case write
 abbrev pub digest_of : List ℕ → Option (List ℕ)
 digest_of digits = result_ok (decode_sized digits 16)
 
 -- ---- commands
 
--- two arguments, where both have their form
+-- a command of two arguments, where both could be read
 abbrev pub both : {A B : Type 0} → (A → B → Command) → Option A → Option B → Option Command
 both f (Some x) (Some y) = Some (f x y)
 both f _ _ = None
@@ -131,28 +133,28 @@ with_two keyword.Apop name digits = both Apop (login_name name) (digest_of digit
 with_two keyword.Top n lines = both Top (number_of n) (number_of lines)
 with_two k first second = None
 
--- the command of a keyword with these arguments; none has three
+-- the command of a keyword with these arguments; no command has three
 abbrev pub with_arguments : Keyword → List (List ℕ) → Option Command
 with_arguments k [] = alone k
 with_arguments k (argument ∷ []) = with_one k argument
 with_arguments k (first ∷ second ∷ []) = with_two k first second
 with_arguments k more = None
 
--- a password is any octets, but not none
+-- PASS with its password, which has at least one octet
 abbrev pub with_password : List ℕ → Option Command
 with_password [] = None
 with_password (b ∷ bs) = Some (Pass (b ∷ bs))
 
--- of PASS all behind the first space is the password, spaces too
+-- the command of a line with this keyword; PASS's password is all that follows the first space
 abbrev pub command_with : Keyword → List ℕ → Option Command
 command_with keyword.Pass line = with_password (after_first is_space line)
 command_with k line = with_arguments k (arguments line)
 
--- the command of a line of this keyword, or which fault the line has
+-- the command of a line with this keyword, if it has one, or the line's fault
 abbrev pub command_by : Option Keyword → List ℕ → Result Command LineFault
 command_by None line = Err Unknown
 command_by (Some k) line = ok_or (command_with k line) (Syntax k)
 
--- the command that a line spells, or which fault it has; the keyword is what stands before the first space
+-- the command that a line spells, or its fault; the keyword is the text before the first space
 abbrev pub command_of : List ℕ → Result Command LineFault
 command_of line = command_by (keyword_in keywords (before_first is_space line)) line

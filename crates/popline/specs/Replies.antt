@@ -5,7 +5,7 @@ use Rattle.std.specs.Fmt.{decimal}
 use Rattle.creds.specs.Uid.{uid_text}
 use Rattle.creds.specs.declared.uid.Uid.{Uid}
 
--- one for each thing that a server has to say; a rule is its name, or `default`; of messages the octets as they are sent
+-- the replies; `rule` is a rule's name, or `default`; `stuffed_lines` are octets as sent, with dots
 pub data Reply : Type 0 where
   Greeting : (number boot : ℕ) (host : List ℕ) → Reply
   LineTooLong : Reply
@@ -44,15 +44,15 @@ timestamp number boot host = codes "<" ++ decimal number ++ codes "." ++ decimal
 abbrev pub one_line : List ℕ → List ℕ
 one_line text = text ++ codes "\r\n"
 
--- a reply of many lines: the first, the others' octets, and the dot
+-- a multi-line reply: the first line, the octets of the others, and the line of the dot
 abbrev pub many_lines : List ℕ → List ℕ → List ℕ
 many_lines first others = one_line first ++ others ++ one_line (codes ".")
 
--- a listing's first line and these rows
+-- a listing's first line and its rows so far
 abbrev pub begun_listing : {A : Type 0} → List ℕ → (A → List ℕ) → List A → List ℕ
 begun_listing first line rows = one_line first ++ flat_map (λ row. one_line (line row)) rows
 
--- a listing, whose lines never begin with a dot
+-- a whole listing; its rows never begin with a dot, so no dot is added
 abbrev pub listing : {A : Type 0} → List ℕ → (A → List ℕ) → List A → List ℕ
 listing first line rows = begun_listing first line rows ++ one_line (codes ".")
 
@@ -64,15 +64,15 @@ scan_text row = decimal row.0 ++ codes " " ++ decimal row.1
 abbrev pub uid_row_text : ℕ × Uid → List ℕ
 uid_row_text row = decimal row.0 ++ codes " " ++ uid_text row.1
 
--- the beginning of a scan listing, with these rows
+-- a scan listing of these rows without the line of the dot
 abbrev pub scan_begun : List (ℕ × ℕ) → List ℕ
 scan_begun rows = begun_listing (codes "+OK scan listing follows") scan_text rows
 
--- the beginning of a listing of unique-ids, with these rows
+-- a listing of unique-ids of these rows without the line of the dot
 abbrev pub uids_begun : List (ℕ × Uid) → List ℕ
 uids_begun rows = begun_listing (codes "+OK unique-id listing follows") uid_row_text rows
 
--- what the server can do beside the least that a server has to do
+-- the capabilities that CAPA lists
 abbrev pub capabilities : List (List ℕ)
 capabilities = codes "TOP" ∷ codes "USER" ∷ codes "UIDL" ∷ codes "RESP-CODES" ∷ codes "PIPELINING" ∷ []
 

@@ -7,7 +7,7 @@ use Rattle.popline.specs.Replies.{Reply, Greeting, DeniedBy, InUse, MaildropHas,
 abbrev pub first_line : Reply → List ℕ
 first_line reply = taken (bytes_of reply)
 
--- what stands behind the first space of the first line, or nothing
+-- the octets behind the first space of the first line, or none
 abbrev pub behind_space : List ℕ → List ℕ
 behind_space [] = []
 behind_space (b ∷ bs) = if b == 10 then [] else if b == 32 then bs else behind_space bs
@@ -25,7 +25,7 @@ has_code reply = begins_with_bracket (behind_space (bytes_of reply))
 abbrev pub BeginsWithStatus : Reply → Type 0
 BeginsWithStatus reply = (take 3 (bytes_of reply) ≡ codes "+OK") ⊎ (take 4 (bytes_of reply) ≡ codes "-ERR")
 
--- numbers below 2^64, names of at most 32 octets, a host of at most 64
+-- numbers are below 2^64, names have at most 32 octets, a host has at most 64
 abbrev pub IsSized : Reply → Type 0
 IsSized (Greeting number boot host) = (number < 2 ^ 64) × (boot < 2 ^ 64) × (length host ≤ 64)
 IsSized (DeniedBy rule) = length rule ≤ 32
@@ -39,18 +39,18 @@ IsSized (AlreadyMarked n) = n < 2 ^ 64
 IsSized (RemovalDenied rule) = length rule ≤ 32
 IsSized reply = Unit {0}
 
--- a status indicator in front; a first line of at most 512 octets, its CR and LF counted; a response code where the maildrop
--- is in use alone
+-- the reply begins with a status indicator; its first line has at most 512 octets, CR and LF
+-- counted; only `InUse` has a response code
 pub record IsWellFormed (reply : Reply) : Type 0 where
   pub status : BeginsWithStatus reply
   pub short : length (first_line reply) ≤ 512
   pub code : has_code reply ≡ true → reply ≡ InUse
 
--- every reply has that form
+-- every reply of such sizes is well formed
 abbrev pub FormOfReplies : Type 0
 FormOfReplies = (reply : Reply) → IsSized reply → IsWellFormed reply
 
--- greetings with one timestamp are of one connection number and one boot number
+-- greetings with equal timestamps have equal connection numbers and equal boot numbers
 abbrev pub TimestampsDiffer : Type 0
 TimestampsDiffer = (number boot : ℕ) (host : List ℕ) (number' boot' : ℕ) (host' : List ℕ) → number < 2 ^ 64 → boot < 2 ^ 64 → number' < 2 ^ 64 → boot' < 2 ^ 64
     → timestamp number boot host ≡ timestamp number' boot' host' → (number ≡ number') × (boot ≡ boot')

@@ -1,4 +1,4 @@
--- What a clause sees of the values that hold references.
+-- What a clause sees of values that hold references: the octets that these refer to.
 use Rattle.std.specs.Prelude.{ℕ, List, map, [], ◌∷◌, Option, Some, None, Result, Ok, Err}
 use Rattle.std.specs.Borrow.{Bor}
 use Rattle.popline.specs.Cutting as cutting
@@ -13,7 +13,7 @@ use Rattle.popline.specs.declared.command.LineFault.{LineFault}
 use Rattle.popline.specs.declared.reply.Reply.{Reply}
 use Rattle.popline.specs.declared.reply.Reply.TheVariants as reply
 
--- what was cut, whose octets are lent
+-- a cut with its octets
 abbrev pub cut_seen : Cut → cutting.Cut
 cut_seen (cut.Line l) = cutting.Line l.now
 cut_seen cut.TooLong = cutting.TooLong
@@ -23,11 +23,11 @@ abbrev pub cuts_seen : Option Cut → List cutting.Cut
 cuts_seen None = []
 cuts_seen (Some c) = cut_seen c ∷ []
 
--- a row of a table of keywords, whose word is lent, in small letters
+-- a row of the table of keywords, its word in small letters
 abbrev pub keyword_row_seen : Bor (List ℕ) × Keyword → List ℕ × Keyword
 keyword_row_seen row = (map commands.lowered row.0.now, row.1)
 
--- a command, whose password is lent; LIST and UIDL are with a number or without
+-- a command; LIST and UIDL without a number are `ListAll` and `UidlAll`
 abbrev pub command_seen : Command → commands.Command
 command_seen command.Capa = commands.Capa
 command_seen (command.User name) = commands.User name
@@ -55,7 +55,7 @@ abbrev pub reading_seen : Result Command LineFault → Result commands.Command L
 reading_seen (Ok c) = Ok (command_seen c)
 reading_seen (Err fault) = Err fault
 
--- a reply, whose texts are lent; listings are put line by line and are no value of the code
+-- a reply; the code has no value for whole listings, which it puts line by line
 abbrev pub reply_seen : Reply → replies.Reply
 reply_seen (reply.Greeting number boot host) = replies.Greeting number boot host.now
 reply_seen reply.LineTooLong = replies.LineTooLong

@@ -1,4 +1,4 @@
--- The command grammar (RFC 1939, 3 to 7) as a relation on whole lines, which `command_of` reads.
+-- The command grammar (RFC 1939, 3 to 7): which whole lines spell a command. `command_of` reads it.
 use Rattle.std.specs.Prelude.{◌≡◌, ℕ, true, ◌-◌, ◌^◌, ◌<◌, List, [], ◌∷◌, ◌++◌, length, map, min, replicate, codes, Ok, Err}
 use Rattle.std.specs.List.{list_all, before_first, join_with_byte}
 use Rattle.hex.specs.Hex.{IsBytes, encode_lower}
@@ -26,15 +26,15 @@ word_of keyword.Dele = codes "dele"
 word_of keyword.Rset = codes "rset"
 word_of keyword.Noop = codes "noop"
 
--- a word in letters of any case
+-- the text is the word, in letters of any case
 abbrev pub IsWord : List ℕ → List ℕ → Type 0
 IsWord word text = map lowered text ≡ word
 
--- decimal digits of a number; one above the greatest counts as that
+-- decimal digits of a number; a value above 2^64 - 1 counts as 2^64 - 1
 abbrev pub IsNumeral : ℕ → List ℕ → Type 0
 IsNumeral n digits = (0 < length digits) × (list_all is_digit digits ≡ true) × (n ≡ min (value_of digits) (2 ^ 64 - 1))
 
--- the clerk, a slash and the maildrop
+-- the text is the clerk's name, a slash and the maildrop's name
 abbrev pub IsLogin : LoginName → List ℕ → Type 0
 IsLogin name text = (is_name name.clerk ≡ true) × (is_name name.maildrop ≡ true) × (text ≡ name.clerk ++ 47 ∷ name.maildrop)
 
@@ -53,26 +53,26 @@ AreArguments (Dele n) ws = (a : List ℕ) × (ws ≡ a ∷ []) × IsNumeral n a
 AreArguments (Top n lines) ws = (a : List ℕ) × (b : List ℕ) × (ws ≡ a ∷ b ∷ []) × IsNumeral n a × IsNumeral lines b
 AreArguments _ ws = ws ≡ []
 
--- a line spells a command: its word, its arguments with one space before each, and any spaces at the end;
--- of PASS all behind the first space is the password
+-- a line spells a command: its word, its arguments with one space before each, and any spaces at
+-- the end; PASS's password is all that follows the first space
 abbrev pub IsSpelling : Command → List ℕ → Type 0
 IsSpelling (Pass password) line = (w : List ℕ) × IsWord (word_of keyword.Pass) w × (0 < length password) × (line ≡ w ++ 32 ∷ password)
 IsSpelling command line = (w : List ℕ) × (ws : List (List ℕ)) × (n : ℕ) × IsWord (word_of (keyword_of command)) w
     × AreArguments command ws × (line ≡ join_with_byte 32 (w ∷ ws) ++ replicate n 32)
 
--- what is spelled is what is read
+-- a line that spells a command is read as that command
 abbrev pub ReadsWhatIsSpelled : Type 0
 ReadsWhatIsSpelled = (command : Command) (line : List ℕ) → IsSpelling command line → command_of line ≡ Ok command
 
--- what is read is what is spelled
+-- a line that is read as a command spells that command
 abbrev pub SpellsWhatIsRead : Type 0
 SpellsWhatIsRead = (command : Command) (line : List ℕ) → command_of line ≡ Ok command → IsSpelling command line
 
--- what stands before the first space is no keyword, or it is this one
+-- for `Unknown` the text before the first space is no keyword, for `Syntax k` it is `k`
 abbrev pub IsFault : LineFault → List ℕ → Type 0
 IsFault Unknown line = (k : Keyword) → ¬ (IsWord (word_of k) (before_first is_space line))
 IsFault (Syntax k) line = IsWord (word_of k) (before_first is_space line)
 
--- a fault is named where no command is spelled
+-- a line with a fault spells no command, and the fault is the one that the line has
 abbrev pub NamesTheFault : Type 0
 NamesTheFault = (fault : LineFault) (line : List ℕ) → command_of line ≡ Err fault → IsFault fault line × ((command : Command) → ¬ (IsSpelling command line))

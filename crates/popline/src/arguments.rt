@@ -7,7 +7,7 @@ ghost use Rattle.popline.specs.Commands.{is_space, trimmed, number_of, value_of,
 
 use hex::FromHex;
 
-/// What stands before the first space, or all, and what stands behind it.
+/// The octets before the first space, or all, and the octets behind it, or none.
 pub(crate) fn split_word(line: &[u8]) -> (&[u8], &[u8])
     ensures word { result.0.now ≡ before_first is_space line.now }
     ensures rest { result.1.now ≡ after_first is_space line.now }
@@ -18,7 +18,7 @@ pub(crate) fn split_word(line: &[u8]) -> (&[u8], &[u8])
     }
 }
 
-/// The same, where there is a space.
+/// The octets before the first space and those behind it; `None` where there is no space.
 pub(crate) fn split_once(line: &[u8]) -> Option<(&[u8], &[u8])>
     ensures { MatchOption result (slice_split is_space line.now ≡ line.now ∷ []) (λ parts. slice_split is_space line.now ≡ parts.0.now ∷ slice_split is_space parts.1.now) }
 {
@@ -46,8 +46,8 @@ pub(crate) fn without_trailing_spaces(line: &[u8]) -> &[u8]
     rest
 }
 
-/// The number that decimal digits write, or 2^64 - 1 where it is above that. `None` where there is
-/// no digit, or another octet.
+/// The value of decimal digits, capped at 2^64 - 1. `None` for an empty text and for one with any
+/// other octet.
 pub(crate) fn read_number(digits: &[u8]) -> Option<u64>
     ensures { result ≡ number_of digits.now }
 {
@@ -81,7 +81,7 @@ fn capped_value(digits: &[u8]) -> u64
     value
 }
 
-/// The 16 octets that 32 hexadecimal digits write, of either case. `None` for any other text.
+/// The 16 octets that 32 hexadecimal digits of either case write. `None` for any other text.
 pub(crate) fn read_digest(digits: &[u8]) -> Option<[u8; 16]>
     ensures { result ≡ digest_of digits.now }
 {

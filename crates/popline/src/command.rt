@@ -8,64 +8,64 @@ ghost use Rattle.popline.specs.Seen.{reading_seen, command_seen, found_seen, key
 use crate::arguments::{read_digest, read_number, split_once, split_word, without_trailing_spaces};
 use creds::LoginName;
 
-/// The first word of a command line, in letters of any case.
+/// The first word of a command line, which a client may spell in letters of any case.
 #[derive(Clone, Copy, Debug, PartialEq, Eq)]
 pub enum Keyword {
-    /// Capabilities (RFC 2449, 5).
+    /// Lists the capabilities (RFC 2449, 5).
     Capa,
-    /// A name to log in (RFC 1939, 7).
+    /// Names the clerk and the maildrop of a login (RFC 1939, 7).
     User,
-    /// The password of that name (RFC 1939, 7).
+    /// Logs in by the password of the clerk that USER named (RFC 1939, 7).
     Pass,
-    /// A name and a digest to log in (RFC 1939, 7).
+    /// Logs in by a name and a digest (RFC 1939, 7).
     Apop,
-    /// The end (RFC 1939, 4 and 6).
+    /// Ends the connection (RFC 1939, 4 and 6).
     Quit,
-    /// Messages and octets (RFC 1939, 5).
+    /// Counts the messages and their octets (RFC 1939, 5).
     Stat,
-    /// The scan listing (RFC 1939, 5).
+    /// Lists messages with their octets (RFC 1939, 5).
     List,
-    /// Unique-ids (RFC 1939, 7).
+    /// Lists messages with their unique-ids (RFC 1939, 7).
     Uidl,
-    /// A message (RFC 1939, 5).
+    /// Fetches a message (RFC 1939, 5).
     Retr,
-    /// A part of a message (RFC 1939, 7).
+    /// Fetches a message's header and the first lines of its body (RFC 1939, 7).
     Top,
-    /// A mark on a message (RFC 1939, 5).
+    /// Marks a message, to be removed at QUIT (RFC 1939, 5).
     Dele,
-    /// No mark on any (RFC 1939, 5).
+    /// Takes all marks away (RFC 1939, 5).
     Rset,
     /// Nothing (RFC 1939, 5).
     Noop,
 }
 
-/// What a command line asks for. A number that is written above 2^64 - 1 counts as that. It has no
-/// `Debug`, since it may hold a password.
+/// A command with its arguments. A number above 2^64 - 1 is read as 2^64 - 1. There is no `Debug`,
+/// since a command may hold a password.
 #[derive(Clone, Copy, PartialEq, Eq)]
 pub enum Command<'a> {
-    /// The list of capabilities (RFC 2449, 5).
+    /// Lists the capabilities (RFC 2449, 5).
     Capa,
-    /// The name under which PASS will log in (RFC 1939, 7).
+    /// The clerk and the maildrop that PASS will log in (RFC 1939, 7).
     User(LoginName),
-    /// The password, of one octet or more, of the name that USER gave (RFC 1939, 7).
+    /// The password, of at least one octet, of the clerk that USER named (RFC 1939, 7).
     Pass(&'a [u8]),
-    /// The login by a digest of the timestamp and a secret (RFC 1939, 7).
+    /// A name, and the digest of the greeting's timestamp and the clerk's secret (RFC 1939, 7).
     Apop(LoginName, [u8; 16]),
-    /// The end of the connection (RFC 1939, 4 and 6).
+    /// Ends the connection (RFC 1939, 4 and 6).
     Quit,
-    /// The number of messages and their octets (RFC 1939, 5).
+    /// Counts the messages and their octets (RFC 1939, 5).
     Stat,
-    /// The scan listing of all messages, or of one number (RFC 1939, 5).
+    /// The number of the message to list with its octets; all messages if `None` (RFC 1939, 5).
     List(Option<u64>),
-    /// The unique-ids of all messages, or of one number (RFC 1939, 7).
+    /// The number of the message to list with its unique-id; all messages if `None` (RFC 1939, 7).
     Uidl(Option<u64>),
-    /// The message of a number (RFC 1939, 5).
+    /// The number of the message to fetch (RFC 1939, 5).
     Retr(u64),
-    /// Of the message of a number, the header and so many lines of the body (RFC 1939, 7).
+    /// A message's number, and how many lines of its body follow the header (RFC 1939, 7).
     Top(u64, u64),
-    /// The message of a number, to be removed at QUIT (RFC 1939, 5).
+    /// The number of the message to mark, to be removed at QUIT (RFC 1939, 5).
     Dele(u64),
-    /// No message to be removed at QUIT (RFC 1939, 5).
+    /// Takes all marks away (RFC 1939, 5).
     Rset,
     /// Nothing (RFC 1939, 5).
     Noop,
@@ -81,12 +81,12 @@ pub enum LineFault {
 }
 
 impl<'a> Command<'a> {
-    /// Reads a line, without its end, as a command.
+    /// Reads a command line, given without its CRLF.
     ///
-    /// The keyword is what stands before the first space. One space stands before each argument;
-    /// spaces at the end are ignored. Of PASS all that stands behind the first space is the
-    /// password. `Unknown` comes where there is no such keyword, else `Syntax` where the arguments
-    /// don't fit it.
+    /// The keyword is the text before the first space. One space stands before each argument;
+    /// spaces at the end are ignored. PASS's password is all that follows the first space. Fails
+    /// with `Unknown` where the keyword is none of the thirteen, else with `Syntax` where the
+    /// arguments don't fit it.
     pub fn read(line: &'a [u8]) -> Result<Command<'a>, LineFault>
         ensures { reading_seen result ≡ command_of line.now }
     {
@@ -99,7 +99,7 @@ impl<'a> Command<'a> {
         }
     }
 
-    /// The keyword of a line that spells this command.
+    /// The command's keyword.
     pub fn keyword(&self) -> Keyword
         ensures { result ≡ keyword_of (command_seen self.now) }
     {
@@ -138,14 +138,14 @@ const KEYWORDS: [(&[u8], Keyword); 13] = [
     (b"noop", Keyword::Noop),
 ];
 
-/// Whether a text is this word, in letters of any case.
+/// Whether the text spells the word, in letters of any case.
 fn is_spelled(word: &[u8], text: &[u8]) -> bool
     ensures { result ≡ is_spelled (map lowered word.now) text.now }
 {
     text.eq_ignore_ascii_case(word)
 }
 
-/// The keyword of the first row whose word a text is, in letters of any case.
+/// The keyword of the first row whose word the text spells, in letters of any case.
 fn first_spelled(rows: &[(&[u8], Keyword)], text: &[u8]) -> Option<Keyword>
     ensures { result ≡ keyword_in (map keyword_row_seen rows.now) text.now }
 {
@@ -157,14 +157,14 @@ fn first_spelled(rows: &[(&[u8], Keyword)], text: &[u8]) -> Option<Keyword>
 }
 
 impl Keyword {
-    /// The keyword that a word is, in letters of any case.
+    /// The keyword that the word spells, in letters of any case.
     fn spelled(word: &[u8]) -> Option<Keyword>
         ensures { result ≡ keyword_in keywords word.now }
     {
         first_spelled(&KEYWORDS, word)
     }
 
-    /// The command that a line of this keyword spells.
+    /// The command of a line with this keyword; `None` where the arguments don't fit.
     fn command<'a>(self, line: &'a [u8]) -> Option<Command<'a>>
         ensures { found_seen result ≡ command_with self line.now }
     {
@@ -226,7 +226,7 @@ impl Keyword {
     }
 }
 
-/// The command PASS of a password, which isn't empty.
+/// PASS with its password; `None` where that is empty.
 fn password(octets: &[u8]) -> Option<Command<'_>>
     ensures { found_seen result ≡ with_password octets.now }
 {

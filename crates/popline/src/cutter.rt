@@ -5,12 +5,12 @@ ghost use Rattle.popline.specs.Cutting.{without_return as without_return_of};
 
 use std::marker::Model;
 
-/// What came of the octets up to and with a LF (RFC 1939, 3; RFC 2449, 4).
+/// What the octets through an LF amount to (RFC 1939, 3; RFC 2449, 4).
 #[derive(Clone, Copy)]
 pub enum Cut<'a> {
-    /// A command line without its LF and without one CR before that; at most 254 octets.
+    /// A command line of at most 254 octets, without its LF and one CR before the LF.
     Line(&'a [u8]),
-    /// More than 255 octets, the LF counted. They are dropped.
+    /// More than 255 octets came, the LF counted. The cutter dropped them.
     TooLong,
 }
 
@@ -48,7 +48,7 @@ impl Cutter {
         }
     }
 
-    /// A cutter that holds the same, to look ahead with.
+    /// A cutter that holds the same octets, for a look ahead.
     pub fn copied(&self) -> Self
         ensures { result ≡ self.now }
     {
@@ -59,14 +59,15 @@ impl Cutter {
         }
     }
 
-    /// Gives up a complete line that stood, then takes octets up to and with the next LF, or all.
-    /// Returns how many it took.
+    /// Drops the complete line that it holds, if any. Then takes the piece through its first LF, or
+    /// all of it, and returns how many octets it took.
     pub fn feed(&mut self, piece: &[u8]) -> usize
         ensures taken { result ≡ through_newline piece.now }
         ensures within { result ≤ length piece.now }
         ensures all { self.new.whole ≡ false → result ≡ length piece.now }
         ensures held { self.new ≡ fed self.old piece.now }
-        // However the stream goes on, its lines are the one that is whole now and those to come.
+        // Whatever comes after the piece: the next lines are the one that is whole now, if any,
+        // and those of the octets that weren't taken.
         ensures stream { (more : List ℕ) → coming self.old (piece.now ++ more) ≡ shown self.new ++ coming self.new (drop result piece.now ++ more) }
     {
         if self.whole {
@@ -86,7 +87,7 @@ impl Cutter {
         piece.len()
     }
 
-    /// How many octets of a line are held: at most 255.
+    /// How many octets of the current line are held, at most 255.
     pub fn held(&self) -> usize
         ensures value { result ≡ length self.now.octets }
         ensures most { result ≤ 255 }
@@ -94,7 +95,7 @@ impl Cutter {
         self.buffer[..self.len].len()
     }
 
-    /// The line that is whole now, until the next call of `feed`.
+    /// The complete line that is held, if any. The next `feed` drops it.
     pub fn line(&self) -> Option<Cut<'_>>
         ensures { cuts_seen result ≡ shown self.now }
     {

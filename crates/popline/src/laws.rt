@@ -1,11 +1,10 @@
-//! What the definitions promise of every stream and every line. A law is a function with nothing to
-//! do: its contract says it.
+//! Theorems about the definitions. Each is the contract of a function with an empty body.
 
 ghost use Rattle.popline.specs.Cutting.{CutsAnyPieces};
 ghost use Rattle.popline.specs.Spelling.{ReadsWhatIsSpelled, SpellsWhatIsRead, NamesTheFault};
 ghost use Rattle.popline.specs.ReplyForm.{FormOfReplies, TimestampsDiffer};
 
-/// In whatever pieces a stream comes, its lines are those of the joined pieces.
+/// In whatever pieces a stream comes, the cutter gives the lines of the joined pieces.
 pub fn cuts_any_pieces()
     ensures { CutsAnyPieces }
 {}
@@ -20,19 +19,19 @@ pub fn spells_what_is_read()
     ensures { SpellsWhatIsRead }
 {}
 
-/// A fault comes where the line spells no command: `Unknown` where its first word is no keyword,
-/// else `Syntax` of that keyword.
+/// A line with a fault spells no command. The fault is `Unknown` where the first word is no
+/// keyword, else `Syntax` of that keyword.
 pub fn names_the_fault()
     ensures { NamesTheFault }
 {}
 
-/// A reply begins with `+OK` or `-ERR`, its first line has at most 512 octets, and its text begins
-/// with `[` where the maildrop is in use alone.
+/// Every reply begins with `+OK` or `-ERR`, and its first line has at most 512 octets. Only the
+/// text of `InUse` begins with `[`.
 pub fn form_of_replies()
     ensures { FormOfReplies }
 {}
 
-/// The timestamps of two greetings differ where their connection numbers or their boot numbers do.
+/// Two greetings with different connection numbers or boot numbers have different timestamps.
 pub fn timestamps_differ()
     ensures { TimestampsDiffer }
 {}

@@ -1,7 +1,7 @@
-//! Replies of many lines, put part by part (RFC 1939, 3): a first line, the others one after
-//! another, and the line of the dot.
+//! Multi-line replies (RFC 1939, 3), put part by part: the first line, the other lines one by one,
+//! and the line of the dot.
 //!
-//! After an error of any of these calls nothing is appended by it.
+//! A call that returns an error, which is want of memory, appends nothing.
 
 ghost use Rattle.std.specs.Prelude.{◌≡◌, ◌++◌, OnOk, OnErr, ℕ, List, ◌∷◌, [], codes};
 ghost use Rattle.std.specs.Fmt.{decimal};
@@ -20,7 +20,7 @@ pub fn begin_scan_listing(out: &mut Vec<u8>) -> Result<(), AllocError>
     put_octets(out, b"+OK scan listing follows\r\n")
 }
 
-/// Appends the line of one message, of its number and its octets, to a scan listing that has begun.
+/// Appends one message's line, its number and its octets, to a scan listing that has begun.
 pub fn put_scan_row(
     alloc: Global,
     out: &mut Vec<u8>,
@@ -45,8 +45,8 @@ pub fn begin_uid_listing(out: &mut Vec<u8>) -> Result<(), AllocError>
     put_octets(out, b"+OK unique-id listing follows\r\n")
 }
 
-/// Appends the line of one message, of its number and its unique-id, to a listing of unique-ids
-/// that has begun.
+/// Appends one message's line, its number and its unique-id, to a listing of unique-ids that has
+/// begun.
 pub fn put_uid_row(
     alloc: Global,
     out: &mut Vec<u8>,
@@ -63,8 +63,8 @@ pub fn put_uid_row(
     Ok(())
 }
 
-/// Appends the first line of a message of so many octets (RFC 1939, 5: RETR). Its stuffed lines and
-/// `end_lines` follow.
+/// Appends the first line of RETR's reply (RFC 1939, 5), which tells the message's octets. The
+/// message's stuffed lines and `end_lines` are to follow.
 pub fn begin_message(alloc: Global, out: &mut Vec<u8>, octets: u64) -> Result<(), AllocError>
     ensures ok { OnOk result (out.new.items ≡ out.old.items ++ one_line (codes "+OK " ++ decimal octets ++ codes " octets")) }
     ensures err { OnErr result (out.new.items ≡ out.old.items) }
@@ -72,8 +72,8 @@ pub fn begin_message(alloc: Global, out: &mut Vec<u8>, octets: u64) -> Result<()
     out.extend_from_slice(texts::message_follows(alloc, octets)?.as_bytes())
 }
 
-/// Appends the first line of a part of a message (RFC 1939, 7: TOP). Its stuffed lines and
-/// `end_lines` follow.
+/// Appends the first line of TOP's reply (RFC 1939, 7). The part's stuffed lines and `end_lines`
+/// are to follow.
 pub fn begin_top(out: &mut Vec<u8>) -> Result<(), AllocError>
     ensures ok { OnOk result (out.new.items ≡ out.old.items ++ one_line (codes "+OK top follows")) }
     ensures err { OnErr result (out.new.items ≡ out.old.items) }
@@ -81,7 +81,7 @@ pub fn begin_top(out: &mut Vec<u8>) -> Result<(), AllocError>
     put_octets(out, b"+OK top follows\r\n")
 }
 
-/// Appends the line of the dot, which ends a reply of many lines.
+/// Appends the line of the dot, which ends a multi-line reply.
 pub fn end_lines(out: &mut Vec<u8>) -> Result<(), AllocError>
     ensures ok { OnOk result (out.new.items ≡ out.old.items ++ one_line (codes ".")) }
     ensures scan { OnOk result ((front : List ℕ) (rows : List (ℕ × ℕ)) → out.old.items ≡ front ++ scan_begun rows

@@ -8,8 +8,8 @@ use crate::texts;
 use creds::{Name, Uid};
 use std::alloc::{AllocError, Global};
 
-/// A reply, one for each thing that a server has to say. Listings are put line by line
-/// (`begin_scan_listing`, `begin_uid_listing`), so that no copy of theirs is made.
+/// A reply. The listings of a whole maildrop aren't here: they are put line by line, without a copy
+/// (`begin_scan_listing`, `begin_uid_listing`).
 #[derive(Clone, Copy)]
 pub enum Reply<'a> {
     /// The first line of a connection, with the timestamp that APOP signs (RFC 1939, 4 and 7).
@@ -25,25 +25,25 @@ pub enum Reply<'a> {
     LineTooLong,
     /// A line came whose first word is no keyword.
     UnknownCommand,
-    /// A command came that isn't allowed now.
+    /// A command came that isn't allowed in the connection's state.
     WrongState,
     /// The arguments of a command don't fit.
     BadArguments,
     /// The list of capabilities (RFC 2449, 5).
     Capabilities,
-    /// A name was given, and its password may follow.
+    /// USER gave a name, and PASS may follow.
     SendPass,
     /// No clerk has that credential.
     LoginFailed,
-    /// The same, after which the server closes the connection.
+    /// No clerk has that credential, and the server closes the connection.
     LoginFailedClosing,
-    /// The rule of this name denies the command, or `default` where no rule allows it.
+    /// The rule of this name denies the command; it is `default` where no rule matches.
     DeniedBy(Name),
     /// There is no maildrop of that name.
     NoSuchMaildrop,
     /// Another session holds the maildrop's lock (RFC 2449, 8.1.2).
     InUse,
-    /// A login was accepted, or all marks were taken away: what the session sees.
+    /// What the session sees, told after a login and after RSET.
     MaildropHas {
         /// How many messages.
         messages: u64,
@@ -85,24 +85,24 @@ pub enum Reply<'a> {
     },
     /// The message of this number is to be removed at QUIT.
     Marked(u64),
-    /// There is nothing to say.
+    /// NOOP's reply.
     Okay,
     /// No message has the number.
     NoSuchMessage,
     /// The message of this number is marked already.
     AlreadyMarked(u64),
-    /// The farewell.
+    /// QUIT's reply.
     Bye,
-    /// The farewell where the rule of this name denies the removal of a marked message.
+    /// QUIT's reply where the rule of this name denies the removal of a marked message.
     RemovalDenied(Name),
-    /// The farewell where the store refused to remove the marked messages.
+    /// QUIT's reply where the store refused to remove the marked messages.
     RemovalFailed,
-    /// The store refused.
+    /// The store refused what the command needs.
     StoreFailed,
 }
 
 impl Reply<'_> {
-    /// Appends the reply's octets. After an error nothing is appended.
+    /// Appends the reply's octets. On an error, want of memory, nothing is appended.
     pub fn put(&self, alloc: Global, out: &mut Vec<u8>) -> Result<(), AllocError>
         ensures ok { OnOk result (out.new.items ≡ out.old.items ++ bytes_of (reply_seen self.now)) }
         ensures err { OnErr result (out.new.items ≡ out.old.items) }
@@ -168,7 +168,7 @@ pub(crate) fn put_octets(out: &mut Vec<u8>, octets: &[u8]) -> Result<(), AllocEr
     out.extend_from_slice(octets)
 }
 
-/// Appends a text, where memory for it was not refused.
+/// Appends the text, or returns its error.
 fn put_text(out: &mut Vec<u8>, text: Result<String, AllocError>) -> Result<(), AllocError>
     ensures ok { (octets : List ℕ) → IfOk text (λ t. string_bytes t ≡ octets) → OnOk result (out.new.items ≡ out.old.items ++ octets) }
     ensures err { OnErr result (out.new.items ≡ out.old.items) }
@@ -176,8 +176,8 @@ fn put_text(out: &mut Vec<u8>, text: Result<String, AllocError>) -> Result<(), A
     out.extend_from_slice(text?.as_bytes())
 }
 
-/// Appends a message's first line, where memory for it was not refused, its lines and the line of
-/// the dot.
+/// Appends a message's first line, its other lines and the line of the dot, or returns the first
+/// line's error.
 fn put_message(
     out: &mut Vec<u8>,
     first: Result<String, AllocError>,
@@ -189,7 +189,7 @@ fn put_message(
     put_lines(out, first?.as_bytes(), lines)
 }
 
-/// Appends a first line, other lines and the line of the dot. After an error nothing is appended.
+/// Appends a first line, other lines and the line of the dot. On an error nothing is appended.
 fn put_lines(out: &mut Vec<u8>, first: &[u8], lines: &[u8]) -> Result<(), AllocError>
     ensures ok { OnOk result (out.new.items ≡ out.old.items ++ (first.now ++ lines.now ++ codes ".\r\n")) }
     ensures err { OnErr result (out.new.items ≡ out.old.items) }
@@ -204,7 +204,7 @@ fn put_lines(out: &mut Vec<u8>, first: &[u8], lines: &[u8]) -> Result<(), AllocE
     }
 }
 
-/// The same, where an error may leave a part of it behind what was there.
+/// Appends them as `put_lines` does, but on an error some octets may have been appended.
 fn append_lines(out: &mut Vec<u8>, first: &[u8], lines: &[u8]) -> Result<(), AllocError>
     ensures ok { OnOk result (out.new.items ≡ out.old.items ++ (first.now ++ lines.now ++ codes ".\r\n")) }
     ensures err { OnErr result (take (vec_len out.old) out.new.items ≡ out.old.items) }

@@ -1,4 +1,4 @@
-//! The first lines of replies that name a number, a rule or a host, each with its CRLF.
+//! Lines of replies that name a number, a rule or a host, each with its CRLF.
 
 ghost use Rattle.std.specs.Prelude.{◌≡◌, ◌++◌, IfOk, codes, string_bytes};
 ghost use Rattle.std.specs.Fmt.{decimal};
