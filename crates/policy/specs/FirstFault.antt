@@ -1,4 +1,5 @@
--- What a rule's number of a fault says: the groups and the rules before that one are read, and it has the fault behind them.
+-- What a fault's rule number says: the groups and the rules before that rule are read, and the rule
+-- has the fault.
 use Rattle.std.specs.Prelude.{◌≡◌, ℕ, zero, suc, ◌+◌, List, [], length, codes, Option, Some, None, Ok, Err}
 use Rattle.toml.specs.Data.{Data, Items, no_items, item, Members, get_member}
 use Rattle.toml.specs.Parse.{parse_document}
@@ -14,13 +15,13 @@ first_items zero ds = no_items
 first_items (suc n) no_items = no_items
 first_items (suc n) (item d ds) = item d (first_items n ds)
 
--- the item behind n others
+-- the item at place n, counted from 0, if any
 abbrev pub item_at : Items → ℕ → Option Data
 item_at no_items n = None
 item_at (item d ds) zero = Some d
 item_at (item d ds) (suc n) = item_at ds n
 
--- the items before number n are these rules, and behind them item n has this fault; numbers count from 1
+-- the items before number n, counted from 1, are read as rules, and item n has the fault
 pub record IsFirstFault (groups : List Group) (ds : Items) (n : ℕ) (f : PolicyFault) : Type 0 where
   pub before : List Rule
   pub number : n ≡ length before + 1
@@ -29,7 +30,7 @@ pub record IsFirstFault (groups : List Group) (ds : Items) (n : ℕ) (f : Policy
   pub there : item_at ds (length before) ≡ Some rule
   pub faulty : rule_at groups n before rule ≡ Err f
 
--- the same, of the items of a text
+-- a text's groups are read, and item n of its rules has the first fault
 pub record IsFirstFaultOf (text : List ℕ) (n : ℕ) (f : PolicyFault) : Type 0 where
   pub members : Members
   pub parsed : parse_document text ≡ Some members
@@ -41,6 +42,6 @@ pub record IsFirstFaultOf (text : List ℕ) (n : ℕ) (f : PolicyFault) : Type 0
   pub rules_listed : tables_at (get_member (codes "rule") members) ≡ Some rule_tables
   pub first : IsFirstFault groups rule_tables n f
 
--- a text's fault with a rule's number is the first: all groups, and the rules before that one, are read
+-- a text's fault with a rule's number is the first of the text
 abbrev pub NumbersTheFirstFault : Type 0
 NumbersTheFirstFault = (text : List ℕ) (n : ℕ) (f : PolicyFault) → rules_of text ≡ Err f → fault_number f ≡ Some (suc n) → IsFirstFaultOf text (suc n) f

@@ -1,4 +1,4 @@
--- Where the rules about a clerk and a maildrop stand: the first of each key, and behind each rule the next of its key.
+-- Where the rules of each key stand: the key's first rule, and for each rule the next of its key.
 use Rattle.std.specs.Prelude.{◌≡◌, ℕ, ◌+◌, ◌<◌, ◌≤◌, Bool, true, false, ◌&&◌, cond, List, [], ◌∷◌, length, drop, slice_index, slice_index_or, unwrap_or}
 use Rattle.std.specs.Str.{bytes_eq}
 use Rattle.std.specs.BTreeMap.{BTreeMap, get}
@@ -35,24 +35,25 @@ same_clerks (clerks.MembersOf a) (clerks.MembersOf b) = bytes_eq a b
 abbrev pub key_of : Rule → Key
 key_of r = record { clerk = r.clerk; maildrop = r.maildrop }
 
--- the rule names the clerks and the maildrop so
+-- the rule names the key's clerks and maildrop
 abbrev pub has_key : Key → Rule → Bool
 has_key k r = same_clerks r.clerk k.clerk && same_pattern r.maildrop k.maildrop
 
--- the place of the first rule that passes the test, where the first of all has place n; the place behind them where none does
+-- the place of the first rule that passes the test, counted from n; the place behind the last rule
+-- where none does
 abbrev pub place_from : (Rule → Bool) → ℕ → List Rule → ℕ
 place_from p n [] = n
 place_from p n (r ∷ rs) = cond (p r) n (place_from p (n + 1) rs)
 
--- the order of keys: `*` comes before the names, those before the groups, and names are in the order of their octets
+-- the order of keys: `*`, then names, then groups, both in the order of their octets
 abbrev pub key_cmp : Key → Key → Ordering
 key_cmp = (key_ord.ghosts).cmp
 
--- the place that is kept of a key; `none` where none is kept
+-- the place that the map has for a key, or `none`
 abbrev pub first_place : BTreeMap Key ℕ → Key → (none : ℕ) → ℕ
 first_place first k none = unwrap_or (get key_cmp first k) none
 
--- of the rules from place `from` on: of each key the first place, and for each place the next one of its key
+-- of the rules from place `from` on: each key's first place, and each rule's next place of its key
 pub record ListsFrom (from : ℕ) (rules : List Rule) (first : BTreeMap Key ℕ) (next : List ℕ) : Type 0 where
   pub firsts : (k : Key) → first_place first k (length rules) ≡ place_from (has_key k) from (drop from rules)
   pub nexts : (n : ℕ) (r : Rule) → from ≤ n → n < length rules

@@ -30,7 +30,7 @@ names_one clerks.Any clerk = true
 names_one (clerks.Is wanted) clerk = bytes_eq wanted clerk
 names_one (clerks.MembersOf name) clerk = false
 
--- the rules that are about them, in order
+-- the rules about the lane's clerk and maildrop, in order
 abbrev pub rules_about : Lane → List Rule
 rules_about lane = filter (is_about lane.policy.groups lane.clerk lane.maildrop) lane.policy.rules
 
@@ -50,26 +50,28 @@ is_about_group name maildrop r = same_clerks r.clerk (clerks.MembersOf name) && 
 abbrev pub is_about_groups : List Group → (clerk maildrop : List ℕ) → Rule → Bool
 is_about_groups groups clerk maildrop r = list_any (λ g. has_member g clerk && is_about_group g.name maildrop r) groups
 
--- the place of the first rule that names the clerks and the maildrop so
+-- the place of the first rule that names just these clerks and this maildrop
 abbrev pub start_of : List Rule → (clerk : Clerks) (maildrop : Pattern) → ℕ
 start_of rules clerk maildrop = place_from (has_key (record { clerk = clerk; maildrop = maildrop })) 0 rules
 
--- where the rules about a clerk and a maildrop that name no group begin: those of both names, of one, and of none
+-- where the rules about a clerk and a maildrop that name no group begin: the first that names both,
+-- that names the clerk alone, the maildrop alone, and neither
 pub record AreStarts (clerk maildrop : List ℕ) (rules : List Rule) (s : Starts) : Type 0 where
   pub both : s.both ≡ start_of rules (clerks.Is clerk) (Is maildrop)
   pub one_clerk : s.clerk ≡ start_of rules (clerks.Is clerk) Any
   pub one_maildrop : s.maildrop ≡ start_of rules clerks.Any (Is maildrop)
   pub all : s.all ≡ start_of rules clerks.Any Any
 
--- where the rules about a group and a maildrop begin: those of the maildrop's name, and those of `*`
+-- where the rules about a group and a maildrop begin: the first that names the maildrop, and the
+-- first about `*`
 abbrev pub group_start : List Rule → (maildrop group : List ℕ) → GroupStart
 group_start rules maildrop group = record { maildrop = start_of rules (clerks.MembersOf group) (Is maildrop); all = start_of rules (clerks.MembersOf group) Any }
 
--- the same of each group that the clerk is a member of, in the groups' order
+-- the starts of each group that the clerk is a member of, in the groups' order
 abbrev pub group_starts : List Group → (clerk maildrop : List ℕ) → List Rule → List GroupStart
 group_starts groups clerk maildrop rules = map (λ g. group_start rules maildrop g.name) (filter (λ g. has_member g clerk) groups)
 
--- what is kept of the clerk's groups is where their rules begin
+-- the kept starts are those of the clerk's groups
 pub record AreGroupStarts (groups : List Group) (clerk maildrop : List ℕ) (rules : List Rule) (s : GroupStarts) : Type 0 where
   pub fit : s.len ≤ length s.starts
   pub are : take s.len s.starts ≡ group_starts groups clerk maildrop rules

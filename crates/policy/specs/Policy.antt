@@ -27,7 +27,7 @@ pub record Policy : Type 0 where
 
 -- ---- the decision
 
--- the name that is told where no rule decides
+-- the name that is told where no rule matches
 abbrev pub default_rule : List ℕ
 default_rule = codes "default"
 
@@ -36,11 +36,11 @@ abbrev pub fits : Pattern → List ℕ → Bool
 fits Any name = true
 fits (Is wanted) name = bytes_eq wanted name
 
--- the clerk is one of the group
+-- the clerk is a member of the group
 abbrev pub has_member : Group → (clerk : List ℕ) → Bool
 has_member g clerk = list_any (λ m. bytes_eq m clerk) g.members
 
--- the clerk is one of the group of that name
+-- the clerk is a member of a group of that name
 abbrev pub is_member : List Group → (name clerk : List ℕ) → Bool
 is_member groups name clerk = list_any (λ g. bytes_eq name g.name && has_member g clerk) groups
 
@@ -56,7 +56,7 @@ lists listed Open = listed.open
 lists listed Read = listed.read
 lists listed Remove = listed.remove
 
--- to open a maildrop is about no message, so that the class plays no part
+-- the pattern fits the class; opening a maildrop is about no message, so there it always fits
 abbrev pub fits_class : Action → Pattern → List ℕ → Bool
 fits_class Open wanted class = true
 fits_class Read wanted class = fits wanted class
@@ -72,7 +72,7 @@ abbrev pub allows : Effect → Bool
 allows Allow = true
 allows Deny = false
 
--- a rule decides by its effect, and no rule denies
+-- a rule decides by its effect; where there is none, the answer is no
 abbrev pub decision_of : Option Rule → Decision
 decision_of None = record { allowed = false; rule = default_rule }
 decision_of (Some r) = record { allowed = allows r.effect; rule = r.name }
@@ -83,12 +83,12 @@ decide p clerk maildrop class action = decision_of (find (matches p.groups clerk
 
 -- ---- soundness
 
--- no two of them are the same
+-- no two elements are the same
 abbrev pub are_distinct : {A : Type 0} → (A → A → Bool) → List A → Bool
 are_distinct same [] = true
 are_distinct same (x ∷ xs) = not (list_any (same x) xs) && are_distinct same xs
 
--- two rules with one name
+-- the two rules have one name
 abbrev pub same_name : Rule → Rule → Bool
 same_name r s = bytes_eq r.name s.name
 
@@ -97,12 +97,12 @@ abbrev pub is_any : Pattern → Bool
 is_any Any = true
 is_any (Is name) = false
 
--- `*` or a name
+-- the pattern is `*`, or its name has a name's form
 abbrev pub is_pattern : Pattern → Bool
 is_pattern Any = true
 is_pattern (Is name) = is_name name
 
--- `*`, a clerk's name, or `@` and a group's name
+-- the clerks are `*`, or the clerk's or the group's name has a name's form
 abbrev pub are_clerks : Clerks → Bool
 are_clerks clerks.Any = true
 are_clerks (clerks.Is name) = is_name name
@@ -112,7 +112,8 @@ are_clerks (clerks.MembersOf name) = is_name name
 abbrev pub lists_any : Actions → Bool
 lists_any listed = listed.open || listed.read || listed.remove
 
--- a rule's name is a name but `default`, it lists an action, and it is about any class where it lists `open`
+-- a rule's names have their form, its own isn't `default`, it lists an action, and it is about any
+-- class where it lists `open`
 abbrev pub is_sound_rule : Rule → Bool
 is_sound_rule r =
     is_name r.name && not (bytes_eq r.name default_rule) && are_clerks r.clerk && is_pattern r.maildrop && is_pattern r.class
@@ -122,7 +123,7 @@ is_sound_rule r =
 abbrev pub most_rules : ℕ
 most_rules = 1000
 
--- sound rules, each with a name of its own, and not too many
+-- the rules are sound, no two have one name, and there are at most 1,000
 abbrev pub are_sound_rules : List Rule → Bool
 are_sound_rules rules = list_all is_sound_rule rules && are_distinct same_name rules && nat_le (length rules) most_rules
 
@@ -130,15 +131,15 @@ are_sound_rules rules = list_all is_sound_rule rules && are_distinct same_name r
 abbrev pub most_members : ℕ
 most_members = 200
 
--- at least one member, no two the same, and not too many
+-- there are 1 to 200 members, no two the same
 abbrev pub are_members : List (List ℕ) → Bool
 are_members names = nat_lt 0 (length names) && nat_le (length names) most_members && are_distinct bytes_eq names
 
--- a group's name and its members' names are names
+-- a group's name and its members' names have their form, and the members are a group's
 abbrev pub is_sound_group : Group → Bool
 is_sound_group g = is_name g.name && list_all is_name g.members && are_members g.members
 
--- two groups with one name
+-- the two groups have one name
 abbrev pub same_group : Group → Group → Bool
 same_group g h = bytes_eq g.name h.name
 
@@ -146,7 +147,7 @@ same_group g h = bytes_eq g.name h.name
 abbrev pub most_groups : ℕ
 most_groups = 100
 
--- sound groups, each with a name of its own, and not too many
+-- the groups are sound, no two have one name, and there are at most 100
 abbrev pub are_sound_groups : List Group → Bool
 are_sound_groups groups = list_all is_sound_group groups && are_distinct same_group groups && nat_le (length groups) most_groups
 
@@ -154,7 +155,7 @@ are_sound_groups groups = list_all is_sound_group groups && are_distinct same_gr
 abbrev pub has_group : List Group → (name : List ℕ) → Bool
 has_group groups name = list_any (λ g. bytes_eq g.name name) groups
 
--- a group that is named is there
+-- where the clerks are a group's members, that group is there
 abbrev pub are_known : List Group → Clerks → Bool
 are_known groups clerks.Any = true
 are_known groups (clerks.Is name) = true
@@ -164,7 +165,7 @@ are_known groups (clerks.MembersOf name) = has_group groups name
 abbrev pub know_groups : List Group → List Rule → Bool
 know_groups groups rules = list_all (λ r. are_known groups r.clerk) rules
 
--- its groups and its rules are sound, and its rules name no other groups
+-- a policy's groups and rules are sound, and its rules name no other groups
 abbrev pub is_sound_policy : Policy → Bool
 is_sound_policy p = are_sound_groups p.groups && are_sound_rules p.rules && know_groups p.groups p.rules
 

@@ -1,4 +1,5 @@
--- The text of a policy, which is TOML 1.0: its groups and rules, or its first fault. What is written of a policy stands in WrittenText.
+-- Reading the text of a policy, which is TOML 1.0: its groups and rules, or its first fault.
+-- WrittenText has how a policy is written.
 use Rattle.std.specs.Prelude.{ℕ, ◌+◌, ◌&&◌, ◌||◌, not, nat_le, Bool, true, false, List, [], ◌∷◌, ◌++◌, codes, Option, Some, None, option_and_then, option_map, is_some, take, drop, Result, Ok, Err, if◌then◌else◌}
 use Rattle.std.specs.List.{list_any}
 use Rattle.std.specs.Str.{bytes_eq}
@@ -25,7 +26,7 @@ pub use Rattle.policy.specs.WrittenText.{fault_text, policy_text}
 
 -- the first fault ends the reading
 infixl 10 ◌>>=◌
--- a reading whose first part is faulty has that fault
+-- two steps of reading; where the first has a fault, that is the answer
 abbrev pub ◌>>=◌ : {A B : Type 0} → Result A PolicyFault → (A → Result B PolicyFault) → Result B PolicyFault
 Ok x >>= f = f x
 Err e >>= f = Err e
@@ -51,16 +52,16 @@ all_keys p (member k d ms) = p k && all_keys p ms
 unfoldable pub is_group_key : List ℕ → Bool
 is_group_key k = bytes_eq k (codes "name") || bytes_eq k (codes "members")
 
--- a text that is a name
+-- the name that a value is, if it is text of a name's form
 abbrev pub name_at : Data → Option (List ℕ)
 name_at d = option_and_then name_of (as_str d)
 
--- the names of the items, behind the names before them
+-- the names before, and then those of the items, if each item is a name
 unfoldable pub names_from : List (List ℕ) → Items → Option (List (List ℕ))
 names_from before no_items = Some before
 names_from before (item d ds) = option_and_then (λ name. names_from (before ++ name ∷ []) ds) (name_at d)
 
--- the names, where they can be a group's members
+-- the names, if they can be a group's members
 abbrev pub members_if : List (List ℕ) → Option (List (List ℕ))
 members_if names = if are_members names then Some names else None
 
@@ -68,7 +69,7 @@ members_if names = if are_members names then Some names else None
 abbrev pub members_of : Data → Option (List (List ℕ))
 members_of d = option_and_then (λ ds. option_and_then members_if (names_from [] ds)) (as_array d)
 
--- the group of number n, behind the groups before it, or its first fault
+-- the group of number n, given the groups before it, or its first fault
 unfoldable pub group_of : ℕ → List Group → Members → Result Group PolicyFault
 group_of n before ms = do
   name_value ← value_or (get_member (codes "name") ms) (GroupKeys n)
@@ -83,7 +84,7 @@ group_of n before ms = do
 abbrev pub group_at : ℕ → List Group → Data → Result Group PolicyFault
 group_at n before d = value_or (as_table d) NotToml >>= group_of n before
 
--- the groups of the items, the first of them of number n, behind the groups before them
+-- the groups before, and then those of the items, numbered from n on; or the first fault
 unfoldable pub groups_from : ℕ → List Group → Items → Result (List Group) PolicyFault
 groups_from n before no_items = Ok before
 groups_from n before (item d ds) = group_at n before d >>= (λ g. groups_from (n + 1) (before ++ g ∷ []) ds)
@@ -116,7 +117,7 @@ clerks_named s =
     else if bytes_eq (take 1 s) (codes "@") then option_map clerks.MembersOf (name_of (drop 1 s))
     else option_map clerks.Is (name_of s)
 
--- the same, of a value
+-- the clerks of a value, if it is text
 abbrev pub clerks_of : Data → Option Clerks
 clerks_of d = option_and_then clerks_named (as_str d)
 
@@ -130,22 +131,22 @@ action_of s =
     if bytes_eq s (codes "open") then Some Open else if bytes_eq s (codes "read") then Some Read
     else if bytes_eq s (codes "remove") then Some Remove else None
 
--- the actions with one more, which they lack
+-- the actions with one more, if that isn't listed yet
 abbrev pub with_action : Actions → Action → Option Actions
 with_action listed Open = if listed.open then None else Some (record listed { «open» = true })
 with_action listed Read = if listed.read then None else Some (record listed { read = true })
 with_action listed Remove = if listed.remove then None else Some (record listed { remove = true })
 
--- the actions with that of an item
+-- the actions with the action of an item, if it is one and isn't listed yet
 abbrev pub with_item : Actions → Data → Option Actions
 with_item listed d = option_and_then (λ s. option_and_then (with_action listed) (action_of s)) (as_str d)
 
--- the actions with those of the items
+-- the actions with those of the items, if all are actions and different
 unfoldable pub with_items : Actions → Items → Option Actions
 with_items listed no_items = Some listed
 with_items listed (item d ds) = option_and_then (λ more. with_items more ds) (with_item listed d)
 
--- none of the three
+-- no action is listed
 abbrev pub no_actions : Actions
 no_actions = record { «open» = false; read = false; remove = false }
 
@@ -162,7 +163,7 @@ actions_of d = option_and_then actions_of_items (as_array d)
 abbrev pub has_name : List Rule → List ℕ → Bool
 has_name rules name = list_any (λ r. bytes_eq r.name name) rules
 
--- what a rule's table holds at its keys
+-- the six values of a rule's table
 pub record Settings : Type 0 where
   pub name : Data
   pub effect : Data
@@ -171,11 +172,11 @@ pub record Settings : Type 0 where
   pub class : Data
   pub actions : Data
 
--- what the values stand for
+-- the data that the values hold
 abbrev pub seen : SettingValues → Settings
 seen r = record { name = view r.name.now; effect = view r.effect.now; clerk = view r.clerk.now; maildrop = view r.maildrop.now; class = view r.class.now; actions = view r.actions.now }
 
--- the six settings of rule n, which are all that its table holds
+-- the six values of rule n's table, which must hold no others
 unfoldable pub settings_of : ℕ → Members → Result Settings PolicyFault
 settings_of n ms = do
   name ← value_or (get_member (codes "name") ms) (MissingKey n)
@@ -187,11 +188,11 @@ settings_of n ms = do
   known ← demand (all_keys is_rule_key ms) (UnknownKey n)
   Ok (record { name = name; effect = effect; clerk = clerk; maildrop = maildrop; class = class; actions = actions })
 
--- a name but `default`, and patterns
+-- the subject's names have their form, and the rule's isn't `default`
 abbrev pub is_sound_subject : Subject → Bool
 is_sound_subject s = is_name s.name && not (bytes_eq s.name default_rule) && are_clerks s.clerk && is_pattern s.maildrop && is_pattern s.class
 
--- the names of rule n, behind the groups and the rules before it
+-- the names of rule n, given the groups and the rules before it
 unfoldable pub subject_of : List Group → ℕ → List Rule → Settings → Result Subject PolicyFault
 subject_of groups n before settings = do
   name ← value_or (rule_name_of settings.name) (BadName n)
@@ -202,7 +203,7 @@ subject_of groups n before settings = do
   single ← demand (not (has_name before name)) (DoubleName n)
   Ok (record { name = name; clerk = clerk; maildrop = maildrop; class = class })
 
--- what rule n decides about its subject
+-- rule n: its subject with its effect and actions
 unfoldable pub decided : ℕ → Subject → Settings → Result Rule PolicyFault
 decided n subject settings = do
   effect ← value_or (effect_of settings.effect) (BadEffect n)
@@ -210,7 +211,7 @@ decided n subject settings = do
   general ← demand (not actions.open || is_any subject.class) (OpenWithClass n)
   Ok (record { name = subject.name; effect = effect; clerk = subject.clerk; maildrop = subject.maildrop; class = subject.class; actions = actions })
 
--- the rule of number n, behind the groups and the rules before it, or its first fault
+-- the rule of number n, given the groups and the rules before it, or its first fault
 unfoldable pub rule_of : List Group → ℕ → List Rule → Members → Result Rule PolicyFault
 rule_of groups n before ms = do
   settings ← settings_of n ms
@@ -221,7 +222,7 @@ rule_of groups n before ms = do
 abbrev pub rule_at : List Group → ℕ → List Rule → Data → Result Rule PolicyFault
 rule_at groups n before d = value_or (as_table d) NotToml >>= rule_of groups n before
 
--- the rules of the items, the first of them of number n, behind the groups and the rules before them
+-- the rules before, and then those of the items, numbered from n on; or the first fault
 unfoldable pub rules_from : List Group → ℕ → List Rule → Items → Result (List Rule) PolicyFault
 rules_from groups n before no_items = Ok before
 rules_from groups n before (item d ds) = rule_at groups n before d >>= (λ r. rules_from groups (n + 1) (before ++ r ∷ []) ds)
@@ -238,7 +239,7 @@ abbrev pub items_len : Items → ℕ
 items_len no_items = 0
 items_len (item d ds) = 1 + items_len ds
 
--- the items, where each is a table
+-- the items, if each is a table
 abbrev pub tables_of : Items → Option Items
 tables_of ds = if are_tables ds then Some ds else None
 

@@ -1,4 +1,4 @@
--- What is written of a policy: the text of a fault, and the text, which is TOML 1.0, that a policy is written as.
+-- What is written: the text of a fault, and the text of a policy, which is TOML 1.0.
 use Rattle.std.specs.Prelude.{ℕ, Bool, true, false, List, [], ◌∷◌, ◌++◌, map, codes, Option, Some, None}
 use Rattle.std.specs.Fmt.{decimal}
 use Rattle.policy.specs.Policy.{Group, Policy}
@@ -34,7 +34,7 @@ fault_name TooMany = codes "TooMany"
 fault_name TooManyGroups = codes "TooManyGroups"
 fault_name NoMemory = codes "NoMemory"
 
--- the number of the rule that has the fault
+-- the number of the rule that has the fault; 0 for an unknown top key
 abbrev pub fault_number : PolicyFault → Option ℕ
 fault_number NotToml = None
 fault_number (GroupKeys n) = None
@@ -72,18 +72,18 @@ group_number TooMany = None
 group_number TooManyGroups = None
 group_number NoMemory = None
 
--- a name, with a word and a number in front where there is one
+-- a name, with a word and a number in front if there is a number
 abbrev pub numbered : (word : List ℕ) → Option ℕ → List ℕ → List ℕ
 numbered word None name = name
 numbered word (Some n) name = word ++ decimal n ++ codes ": " ++ name
 
--- the fault's name, with its group's or its rule's number in front where it has one
+-- the fault's name, with its group's or its rule's number in front if it has one
 abbrev pub fault_text : PolicyFault → List ℕ
 fault_text f = numbered (codes "group ") (group_number f) (numbered (codes "rule ") (fault_number f) (fault_name f))
 
 -- ---- the written text
 
--- in quotes; names and words need no escapes
+-- a text in quotes; names and words need no escapes
 abbrev pub quoted : List ℕ → List ℕ
 quoted text = codes "\"" ++ text ++ codes "\""
 
@@ -103,7 +103,7 @@ abbrev pub effect_text : Effect → List ℕ
 effect_text Allow = codes "allow"
 effect_text Deny = codes "deny"
 
--- the word, where the test holds
+-- the word, if the test holds
 abbrev pub word_if : Bool → List ℕ → List (List ℕ)
 word_if true word = word ∷ []
 word_if false word = []
@@ -122,15 +122,15 @@ joined between (text ∷ following ∷ texts) = text ++ between ++ joined betwee
 abbrev pub array_text : List (List ℕ) → List ℕ
 array_text words = codes "[" ++ joined (codes ", ") (map quoted words) ++ codes "]"
 
--- a line of a group or a rule
+-- the line of a key and its value
 unfoldable pub setting : List ℕ → List ℕ → List ℕ
 setting key value = key ++ codes " = " ++ value ++ codes "\n"
 
--- the two settings of a group, behind the line of its table
+-- a group: the line of its table, then its two settings
 unfoldable pub group_text : Group → List ℕ
 group_text g = codes "[[group]]\n" ++ setting (codes "name") (quoted g.name) ++ setting (codes "members") (array_text g.members)
 
--- the six settings of a rule, behind the line of its table
+-- a rule: the line of its table, then its six settings
 unfoldable pub rule_text : Rule → List ℕ
 rule_text r =
     codes "[[rule]]\n" ++ setting (codes "name") (quoted r.name) ++ setting (codes "effect") (quoted (effect_text r.effect))
@@ -138,6 +138,6 @@ rule_text r =
     ++ setting (codes "class") (quoted (pattern_text r.class))
     ++ setting (codes "actions") (array_text (action_words r.actions))
 
--- the text that a policy is written as: its groups and then its rules, with one empty line between each two
+-- the text of a policy: its groups, then its rules, with an empty line between each two
 abbrev pub policy_text : Policy → List ℕ
 policy_text p = joined (codes "\n") (map group_text p.groups ++ map rule_text p.rules)

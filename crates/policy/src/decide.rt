@@ -42,7 +42,7 @@ fn is_member(groups: &[Group], name: &Name, clerk: &Name) -> bool
         .any(|group| *name == *group.name() && group.has(clerk))
 }
 
-/// Whether the rule's clerks have this one among them.
+/// Whether the rule is about the clerk, by `*`, by name or by a group.
 pub(crate) fn clerk_fits(groups: &[Group], clerks: &Clerks, clerk: &Name) -> bool
     ensures { result ≡ fits_clerk groups.now clerks.now clerk.now }
 {
@@ -64,7 +64,7 @@ pub(crate) fn actions_list(actions: Actions, action: Action) -> bool
     }
 }
 
-/// Whether the pattern fits the class; to open a maildrop is about none.
+/// Whether the pattern fits the class. For `Open` it always does, since opening is about no class.
 pub(crate) fn class_fits(action: Action, pattern: &Pattern, class: &Name) -> bool
     ensures { result ≡ fits_class action pattern.now class.now }
 {
@@ -74,7 +74,7 @@ pub(crate) fn class_fits(action: Action, pattern: &Pattern, class: &Name) -> boo
     }
 }
 
-/// What the rule at a place decides; the default's where there is none.
+/// What the rule at that place decides, counted from 0; a denial by `default` where no rule stands.
 pub(crate) fn decided_at(rules: &[Rule], place: usize) -> Decision
     ensures { result ≡ decision_of (slice_get rules.now place) }
 {

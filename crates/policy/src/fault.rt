@@ -5,30 +5,30 @@ ghost use Rattle.policy.specs.WrittenText.{fault_name, fault_number, fault_text,
 use std::error::Error;
 use std::fmt;
 
-/// Why a text is no policy: its first fault, with the number, counted from 1, of the group or the
+/// Why a text is no policy: its first fault, and the number, counted from 1, of the group or the
 /// rule that has it.
 ///
-/// Printed it is `group N: ` or `rule N: ` and the fault's name, or the name alone where the fault
-/// has no number.
+/// It prints as `group N: NAME` or `rule N: NAME`, and as `NAME` alone where no group or rule has
+/// the fault.
 #[derive(Clone, Copy, PartialEq, Eq)]
 pub enum PolicyFault {
-    /// The text is no TOML 1.0, or `group` or `rule` is no array of tables alone.
+    /// The text is no TOML 1.0, or `group` or `rule` isn't an array of nothing but tables.
     NotToml,
     /// A group lacks one of its two keys, or has a third.
     GroupKeys(usize),
-    /// The group's name is no name.
+    /// The group's name hasn't the form of a name.
     GroupName(usize),
     /// An earlier group has the name.
     GroupDouble(usize),
-    /// The members are no array of 1 to 200 names, each another.
+    /// The members are no array of 1 to 200 names, all different.
     GroupMembers(usize),
     /// A rule lacks one of its six keys.
     MissingKey(usize),
-    /// A rule has a seventh key, or at number 0 the text has a top key other than `group` and
+    /// A rule has a seventh key; number 0 says that the text has a top key beside `group` and
     /// `rule`.
     UnknownKey(usize),
-    /// The rule's name is no name or is `default`, its maildrop or class is neither a name nor `*`,
-    /// or its clerk neither one of these nor `@` with a name.
+    /// The rule's name is no name or is `default`; or its maildrop or class is neither a name nor
+    /// `*`; or its clerk is neither a name nor `*` nor `@` with a name.
     BadName(usize),
     /// The clerk is `@` with a name that no group has.
     UnknownGroup(usize),
@@ -38,7 +38,7 @@ pub enum PolicyFault {
     BadEffect(usize),
     /// The actions are no array of at least one of `open`, `read` and `remove`, each at most once.
     BadActions(usize),
-    /// A rule that lists `open` is about one class.
+    /// The rule lists `open`, and its class isn't `*`.
     OpenWithClass(usize),
     /// There are more than 1,000 rules.
     TooMany,
@@ -49,7 +49,7 @@ pub enum PolicyFault {
 }
 
 impl PolicyFault {
-    /// The fault's name, as the variant is called.
+    /// The variant's name.
     pub fn name(&self) -> &'static str
         ensures { result.now ≡ fault_name self.now }
     {
@@ -73,8 +73,8 @@ impl PolicyFault {
         }
     }
 
-    /// The number of the rule that has the fault, counted from 1; 0 stands for the keys beside the
-    /// rules.
+    /// The number of the rule that has the fault, counted from 1; 0 for an unknown top key; `None`
+    /// where no rule has it.
     pub fn rule_number(&self) -> Option<usize>
         ensures { result ≡ fault_number self.now }
     {
@@ -98,7 +98,7 @@ impl PolicyFault {
         }
     }
 
-    /// The number of the group that has the fault, counted from 1.
+    /// The number of the group that has the fault, counted from 1; `None` where no group has it.
     pub fn group_number(&self) -> Option<usize>
         ensures { result ≡ group_number self.now }
     {

@@ -6,7 +6,7 @@ use creds::Name;
 use std::alloc::{AllocError, Global};
 use std::marker::Model;
 
-/// A group of clerks, under a name of its own: what a rule names in the place of one clerk.
+/// A named group of clerks, which a rule can name in place of one clerk.
 ///
 /// Its members need not be clerks of the store.
 #[derive(Drop)]
@@ -52,7 +52,7 @@ impl Group {
         self.members.iter().any(|member| *member == *clerk)
     }
 
-    /// A copy with memory of its own, from the allocator that the members were made with.
+    /// A copy in memory of its own, from the members' allocator. An `Err` is want of memory.
     pub fn try_copy(&self) -> Result<Group, AllocError>
         ensures { IfOk result (λ copy. copy ≡ self.now) }
     {

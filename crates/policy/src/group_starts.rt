@@ -10,15 +10,15 @@ use crate::policy::MAX_GROUPS;
 use crate::rule::{Clerks, Pattern};
 use creds::Name;
 
-/// Where the rules about one group begin: of those that name the maildrop too, and of those about
-/// every maildrop, the first place each.
+/// Where the rules about one group begin: the place of the first that names the maildrop, and of
+/// the first about all maildrops (`*`).
 #[derive(Clone, Copy, Drop)]
 pub(crate) struct GroupStart {
     pub(crate) maildrop: usize,
     pub(crate) all: usize,
 }
 
-/// Where the rules about each of a clerk's groups begin, in the order of the groups.
+/// A [`GroupStart`] for each of a clerk's groups, in the order of the policy's groups.
 #[derive(Drop)]
 pub(crate) struct GroupStarts {
     starts: [GroupStart; MAX_GROUPS],
@@ -36,8 +36,8 @@ fn group_start(index: &Index, maildrop: &Name, group: &Name) -> GroupStart
     }
 }
 
-/// Where the rules about the clerk's groups and the maildrop begin. It looks at each member of each
-/// group.
+/// Where the rules about the clerk's groups and the maildrop begin. It looks at every member of
+/// every group.
 pub(crate) fn group_starts_of(
     index: &Index,
     groups: &[Group],
@@ -64,7 +64,7 @@ pub(crate) fn group_starts_of(
 }
 
 impl GroupStarts {
-    /// Those that are kept.
+    /// The starts that are set, one for each of the clerk's groups.
     pub(crate) fn as_slice(&self) -> &[GroupStart]
         requires { self.now.len ≤ length self.now.starts }
         ensures { result.now ≡ take self.now.len self.now.starts }

@@ -10,10 +10,10 @@ use creds::Name;
 use std::alloc::{AllocError, Global};
 use std::collections::BTreeMap;
 
-/// The places of the rules by their keys: the first rule of each key, and behind each rule the next
-/// one of its key.
+/// Where the rules of each key stand: the place of the key's first rule, and for each rule the
+/// place of the next one with the same key.
 ///
-/// A place is a rule's number, counted from 0; the number of rules stands for no place.
+/// A place counts from 0; the number of rules stands for no place.
 #[derive(Drop)]
 pub(crate) struct Index {
     pub(crate) first: BTreeMap<Key, usize>,
@@ -29,7 +29,8 @@ fn key_of(rule: &Rule) -> Key
     }
 }
 
-/// The index of the rules. It takes memory for one place a rule, and for one entry a key.
+/// The index of the rules. It takes memory for a place per rule and an entry per key; an `Err` is
+/// want of it.
 pub(crate) fn index_of(alloc: Global, rules: &[Rule]) -> Result<Index, AllocError>
     ensures { IfOk result (IsIndexOf rules.now) }
 {
@@ -53,7 +54,7 @@ pub(crate) fn no_index(alloc: Global) -> Index
     }
 }
 
-/// The first place of a key.
+/// The place of the first rule that names these clerks and this maildrop.
 pub(crate) fn first_place(index: &Index, clerk: &Clerks, maildrop: &Pattern) -> usize
     ensures { result ≡ first_place index.now.first (record { clerk = clerk.now; maildrop = maildrop.now }) (length index.now.next.items) }
 {
@@ -67,8 +68,8 @@ pub(crate) fn first_place(index: &Index, clerk: &Clerks, maildrop: &Pattern) -> 
     }
 }
 
-/// Where the rules about a clerk and a maildrop that name no group begin: of those that name both,
-/// one of them, and none, the first place each.
+/// Where the rules about a clerk and a maildrop that name no group begin: the places of the first
+/// rule that names both, that names the clerk alone, the maildrop alone, and neither.
 #[derive(Clone, Copy, Drop)]
 pub(crate) struct Starts {
     pub(crate) both: usize,

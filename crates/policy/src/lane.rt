@@ -15,10 +15,9 @@ use std::marker::Model;
 
 /// The rules of a policy that are about one clerk and one maildrop. It takes no memory.
 ///
-/// It is made in the time of one search through all groups' members, and of a few look-ups, two of
-/// them for each group that the clerk is in. What it then decides costs time by the number of these
-/// groups and of the lane's rules, however many other rules the policy has, and however many groups
-/// and members.
+/// Making one costs a search through all groups' members, four look-ups, and two more for each
+/// group that the clerk is in. A decision then costs time by the number of the clerk's groups and
+/// of the lane's rules, whatever else the policy holds.
 #[derive(Drop)]
 pub struct Lane<'a> {
     pub(crate) policy: &'a Policy,
@@ -58,10 +57,10 @@ fn count(groups: &[Group], rules: &[Rule], clerk: &Name, maildrop: &Name) -> usi
 }
 
 impl<'a> Lane<'a> {
-    /// Whether the clerk may do this to messages of the class in the maildrop, and which rule
-    /// decides: the policy's first that matches.
+    /// Whether the lane's clerk may do this to messages of the class in the lane's maildrop, and
+    /// which rule decides: the policy's first that matches.
     ///
-    /// To open a maildrop is about no class: there `class` plays no part. It takes no memory.
+    /// For `Open` the class plays no part. It takes no memory.
     pub fn decide(&self, class: &Name, action: Action) -> Decision
         ensures { result ≡ decide self.now.policy self.now.clerk self.now.maildrop class.now action }
     {
@@ -77,8 +76,8 @@ impl<'a> Lane<'a> {
         decided_at(&policy.rules, named.min(grouped))
     }
 
-    /// How many rules of the policy are about the clerk and the maildrop. It looks at each rule,
-    /// and takes no memory.
+    /// How many rules of the policy are about the clerk and the maildrop. It looks at every rule
+    /// of the policy, and takes no memory.
     pub fn places(&self) -> usize
         ensures { result ≡ length (rules_about self.now) }
     {

@@ -1,9 +1,9 @@
-//! What the definition of a policy's text promises of every text. A law is a function with nothing
-//! to do: its contract says it.
+//! A theorem about the definition of a policy's text, as the contract of a function with an empty
+//! body.
 ghost use Rattle.policy.specs.FirstFault.{NumbersTheFirstFault};
 
-/// A fault with a rule's number is the first one: the rules before that one are read, and behind
-/// them it has the fault.
+/// Where a fault has a rule's number, all groups and all rules before that rule are read, and the
+/// rule that has the number has the fault.
 pub fn numbers_the_first_fault()
     ensures { NumbersTheFirstFault }
 {}

@@ -1,8 +1,8 @@
 //! An office's policy: which clerk may open, read and remove what.
 //!
 //! A policy is a list of rules, of which the first that matches decides, and the groups of clerks
-//! that they name. It is written as TOML 1.0 (the arrays of tables `group` and `rule`), read with
-//! the first fault named, and written back.
+//! that the rules name. Its text is TOML 1.0, with the arrays of tables `group` and `rule`;
+//! `Policy::read` reads it or names its first fault, `Policy::write` writes it.
 #![tactic(auto)]
 
 mod decide;

@@ -27,12 +27,11 @@ pub const MAX_GROUPS: usize = 100;
 /// The greatest number of members of a group.
 pub const MAX_MEMBERS: usize = 200;
 
-/// An office's policy: at most 1,000 rules in order, each with a name of its own, of which the
-/// first that matches decides; and at most 100 groups of 1 to 200 clerks, each group with a name of
-/// its own among groups.
+/// An office's policy: at most 1,000 rules in order, of which the first that matches decides, and
+/// at most 100 groups of 1 to 200 clerks. No two rules share a name, and no two groups.
 ///
-/// It is always sound: no rule is named `default`, each lists an action, one that lists `open` is
-/// about any class, and a group that a rule names is there.
+/// It is always sound: no rule is named `default`, each rule lists an action, a rule that lists
+/// `open` is about any class, and each group that a rule names is there.
 #[derive(Drop)]
 pub struct Policy {
     pub(crate) groups: Vec<Group>,
@@ -52,7 +51,7 @@ impl Model for Policy {
     ghost invariant = { λ p. (is_sound_policy (record { groups = p.groups.items; rules = p.rules.items }) ≡ true) × IsIndexOf p.rules.items p.index };
 }
 
-/// The policy of these groups and rules, which are sound, with the rules' index.
+/// The policy of these groups and rules, which must be sound. An `Err` is want of memory.
 fn indexed(groups: Vec<Group>, rules: Vec<Rule>) -> Result<Policy, AllocError>
     requires { is_sound_policy (record { groups = groups.items; rules = rules.items }) ≡ true }
     ensures { IfOk result (λ policy. policy ≡ record { groups = groups.items; rules = rules.items }) }
@@ -79,10 +78,10 @@ impl Policy {
 
     /// Reads a policy's text, TOML 1.0 with the arrays of tables `group` and `rule`.
     ///
-    /// Of the faults `NotToml` comes first, then `UnknownKey(0)` for another top key, then
-    /// `TooMany`, then `TooManyGroups`; then the first group with a fault is told, or else the
-    /// first rule with one, and of its faults the first in the order of `PolicyFault`'s variants.
-    /// `NoMemory` may come wherever a growth is refused.
+    /// It tells the first fault in this order: `NotToml`, `UnknownKey(0)` for another top key,
+    /// `TooMany`, `TooManyGroups`, then the faults of the groups by number, then those of the rules
+    /// by number. A group or a rule with several faults has the first in the order of
+    /// `PolicyFault`'s variants. `NoMemory` may come instead where memory runs out.
     pub fn read(alloc: Global, text: &str) -> Result<Policy, PolicyFault>
         ensures ok { IfOk result (λ policy. rules_of text.now ≡ Ok policy) }
         ensures fault { IfErr result (λ e. e ≢ PolicyFault.NoMemory → rules_of text.now ≡ Err e) }
@@ -95,18 +94,18 @@ impl Policy {
         }
     }
 
-    /// The policy of these rules, in their order, and of no groups; or `None` where they are not
-    /// sound: more than 1,000, two of one name, or one that no text without groups could spell. An
-    /// `Err` is want of memory.
+    /// The policy of these rules, in this order, without groups. `None` where they aren't sound:
+    /// more than 1,000, two of one name, or one that no text without groups could spell. An `Err`
+    /// is want of memory.
     pub fn from_rules(rules: Vec<Rule>) -> Result<Option<Policy>, AllocError>
         ensures { IfOk result (λ policy. policy ≡ policy_of rules.items) }
     {
         Policy::from_parts(Vec::new(*rules.allocator()), rules)
     }
 
-    /// The policy of these groups and rules, each in their order, or `None` where they are not
-    /// sound: more than 100 groups or 1,000 rules, two groups or two rules of one name, one that no
-    /// text could spell, or a rule that names another group. An `Err` is want of memory.
+    /// The policy of these groups and rules, in this order. `None` where they aren't sound: more
+    /// than 100 groups or 1,000 rules, two groups or two rules of one name, a group or a rule that
+    /// no text could spell, or a rule that names a missing group. An `Err` is want of memory.
     pub fn from_parts(groups: Vec<Group>, rules: Vec<Rule>) -> Result<Option<Policy>, AllocError>
         ensures { IfOk result (λ policy. policy ≡ policy_with groups.items rules.items) }
     {
@@ -151,15 +150,15 @@ impl Policy {
     /// Whether the clerk may do this to messages of the class in the maildrop, and which rule
     /// decides.
     ///
-    /// To open a maildrop is about no class: there `class` plays no part. It takes no memory.
+    /// For `Open` the class plays no part. It takes no memory.
     pub fn decide(&self, clerk: &Name, maildrop: &Name, class: &Name, action: Action) -> Decision
         ensures { result ≡ decide self.now clerk.now maildrop.now class.now action }
     {
         self.lane(clerk, maildrop).decide(class, action)
     }
 
-    /// The rules that are about the clerk and the maildrop, as one who asks about them often wants
-    /// them. It takes no memory.
+    /// The rules about the clerk and the maildrop, for a caller that asks about them often. It
+    /// takes no memory.
     pub fn lane(&self, clerk: &Name, maildrop: &Name) -> Lane<'_>
         ensures { result ≡ record { policy = self.now; clerk = clerk.now; maildrop = maildrop.now } }
     {
@@ -172,8 +171,7 @@ impl Policy {
         }
     }
 
-    /// Appends the policy's text: its groups, of two settings each, then its rules, of six, and an
-    /// empty line between each two.
+    /// Appends the policy's text: its groups, then its rules, with an empty line between each two.
     ///
     /// On an `Err`, want of memory, nothing is appended.
     pub fn write(&self, out: &mut Vec<u8>) -> Result<(), AllocError>
@@ -184,7 +182,7 @@ impl Policy {
         out.extend_from_slice(&text)
     }
 
-    /// A copy with memory of its own, from the allocator that this policy was made with.
+    /// A copy in memory of its own, from this policy's allocator. An `Err` is want of memory.
     pub fn try_copy(&self) -> Result<Policy, AllocError>
         ensures ok { IfOk result (λ copy. copy ≡ self.now) }
     {

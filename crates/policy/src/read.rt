@@ -18,7 +18,7 @@ use creds::Name;
 use std::alloc::Global;
 use toml::{Table, Value};
 
-/// What the table of a rule holds at its keys.
+/// The six values of a rule's table.
 #[derive(Drop)]
 struct Settings<'a> {
     name: &'a Value,
@@ -29,7 +29,7 @@ struct Settings<'a> {
     actions: &'a Value,
 }
 
-/// Whom and what a rule is about, under its own name.
+/// A rule's name, and the clerks, the maildrops and the classes that the rule is about.
 #[derive(Drop)]
 struct Subject {
     name: Name,
@@ -68,7 +68,7 @@ fn read_pattern(value: &Value) -> Option<Pattern>
     Name::read(text.as_bytes()).map(Pattern::Is)
 }
 
-/// The name behind `@` at the text's head, if that is its first octet.
+/// The text behind its first octet, if that is `@`.
 fn behind_at(text: &[u8]) -> Option<&[u8]>
     ensures { MatchOption result (bytes_eq (take 1 text.now) (codes "@") ≡ false)
         (λ name. (bytes_eq (take 1 text.now) (codes "@") ≡ true) × (name.now ≡ drop 1 text.now)) }
@@ -348,7 +348,7 @@ fn read_rules(alloc: Global, groups: &[Group], values: &[Value]) -> Result<Vec<R
     Ok(rules)
 }
 
-/// What a text holds.
+/// The groups and the rules that a text holds.
 #[derive(Drop)]
 pub(crate) struct Parts {
     pub(crate) groups: Vec<Group>,
@@ -377,7 +377,7 @@ fn read_table(alloc: Global, table: &Table) -> Result<Parts, PolicyFault>
     Ok(Parts { groups, rules })
 }
 
-/// The groups and the rules of a text.
+/// The groups and the rules of a text, or its first fault.
 #[tactic(auto, unfolding(crate::specs::PolicyText::rules_of))]
 pub(crate) fn read_text(alloc: Global, text: &str) -> Result<Parts, PolicyFault>
     ensures ok { IfOk result (λ p. rules_of text.now ≡ Ok (record { groups = p.groups.items; rules = p.rules.items })) }

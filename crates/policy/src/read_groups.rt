@@ -40,7 +40,7 @@ fn read_name(value: &Value) -> Option<Name>
     Name::read(value.as_str()?.as_bytes())
 }
 
-/// The names of the values, or the fault of group `n`.
+/// The names that the values hold, or the fault of group `n`.
 fn read_names(alloc: Global, n: usize, values: &[Value]) -> Result<Vec<Name>, PolicyFault>
     ensures ok { IfOk result (λ v. names_from [] (items_view values.now) ≡ Some v.items) }
     ensures fault { IfErr result (λ e. e ≢ PolicyFault.NoMemory → (names_from [] (items_view values.now) ≡ None) × (e ≡ PolicyFault.GroupMembers n)) }
@@ -108,7 +108,7 @@ fn read_one(alloc: Global, n: usize, before: &[Group], value: &Value) -> Result<
     }
 }
 
-/// The groups of the values.
+/// The groups that the values hold, at most 100, or the first fault.
 pub(crate) fn read_groups(alloc: Global, values: &[Value]) -> Result<Vec<Group>, PolicyFault>
     requires { length values.now ≤ 100 }
     ensures ok { IfOk result (λ v. groups_from 1 [] (items_view values.now) ≡ Ok v.items) }

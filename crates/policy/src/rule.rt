@@ -7,7 +7,7 @@ use creds::Name;
 /// What a clerk asks to do.
 #[derive(Clone, Copy, PartialEq, Eq)]
 pub enum Action {
-    /// To open a maildrop, which is asked at login.
+    /// To open a maildrop, at login.
     Open,
     /// To read a message.
     Read,
@@ -75,7 +75,7 @@ pub struct Actions {
 /// A rule. It takes no memory of its own: its names hold their texts in place.
 #[derive(Clone, Copy, PartialEq, Eq)]
 pub struct Rule {
-    /// The name by which denials and explanations tell the rule.
+    /// The rule's name, which denials and explanations tell.
     pub name: Name,
     /// What it decides.
     pub effect: Effect,
@@ -83,8 +83,8 @@ pub struct Rule {
     pub clerk: Clerks,
     /// Which maildrops it is about.
     pub maildrop: Pattern,
-    /// Which classes of messages it is about; any, where it lists `open`.
+    /// Which classes of messages it is about; `Any` where it lists `open`.
     pub class: Pattern,
-    /// The actions that it decides, at least one.
+    /// The actions that it decides, at least one of them.
     pub actions: Actions,
 }

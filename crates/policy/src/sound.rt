@@ -11,7 +11,7 @@ use crate::policy::{MAX_GROUPS, MAX_MEMBERS, MAX_RULES};
 use crate::rule::{Actions, Clerks, Pattern, Rule};
 use creds::Name;
 
-/// Whether the text of a name has a name's form. Each `Name` has it, and here the contract says so.
+/// Whether the name has a name's form. Every `Name` has it; the call lets a contract say so.
 fn is_formed(name: &Name) -> bool
     ensures { result ≡ is_name name.now }
 {
@@ -174,7 +174,7 @@ fn are_groups(groups: &[Group]) -> bool
     each_group_is_sound(groups) && have_own_group_names(groups) && groups.len() <= MAX_GROUPS
 }
 
-/// Whether the group that is named, if one is, is one of these.
+/// Whether the clerks name no group, or one of these.
 pub(crate) fn is_known(groups: &[Group], clerks: &Clerks) -> bool
     ensures { result ≡ are_known groups.now clerks.now }
 {

@@ -17,8 +17,8 @@ fn is_about_action(rule: &Rule, class: &Name, action: Action) -> bool
     actions_list(rule.actions, action) && class_fits(action, &rule.class, class)
 }
 
-/// From a place on, the place of the first rule of the same key that is about the action; the
-/// number of rules where there is none.
+/// `start` is the place of a key's first rule. The place of the first rule of that key that is
+/// about the action and the class; the number of rules where there is none.
 fn first_of_key(index: &Index, rules: &[Rule], start: usize, class: &Name, action: Action) -> usize
     requires { IsIndexOf rules.now index.now }
     ensures { (k : Key) → start ≡ place_from (has_key k) 0 rules.now
@@ -34,7 +34,7 @@ fn first_of_key(index: &Index, rules: &[Rule], start: usize, class: &Name, actio
     place
 }
 
-/// The place of the first rule that names no group and decides; the number of rules where none
+/// The place of the first rule that matches and names no group; the number of rules where none
 /// does.
 pub(crate) fn first_by_name(
     index: &Index,
@@ -53,8 +53,7 @@ pub(crate) fn first_by_name(
         .min(first_of_key(index, rules, starts.all, class, action))
 }
 
-/// The place of the first rule about a group that decides, by where the rules about it begin; the
-/// number of rules where none does.
+/// The place of the first rule about one group that matches; the number of rules where none does.
 fn first_of_group(
     index: &Index,
     rules: &[Rule],
@@ -71,8 +70,8 @@ fn first_of_group(
     ))
 }
 
-/// The place of the first rule that names a group of the clerk's and decides, by where the rules
-/// about these groups begin; the number of rules where none does.
+/// The place of the first rule that matches and names one of the clerk's groups; the number of
+/// rules where none does.
 pub(crate) fn first_by_group(
     index: &Index,
     rules: &[Rule],

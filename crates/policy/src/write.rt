@@ -108,7 +108,7 @@ fn listed(alloc: Global, names: &[Name]) -> Result<Vec<u8>, AllocError>
     Ok(text)
 }
 
-/// The array of the names.
+/// The array of the names, in brackets.
 fn array_of(alloc: Global, names: &[Name]) -> Result<Vec<u8>, AllocError>
     ensures { IfOk result (λ text. text.items ≡ array_text names.now) }
 {
@@ -175,7 +175,7 @@ fn rules_text(alloc: Global, rules: &[Rule]) -> Result<Vec<u8>, AllocError>
     Ok(text)
 }
 
-/// What stands between the groups' text and the rules': a line's end where there are both.
+/// What stands between the groups' text and the rules' text: an LF where there are both.
 fn gap(groups: &[Group], rules: &[Rule]) -> &'static [u8]
     ensures { joined (codes "\n") (map group_text groups.now ++ map rule_text rules.now)
         ≡ joined (codes "\n") (map group_text groups.now) ++ result.now ++ joined (codes "\n") (map rule_text rules.now) }
