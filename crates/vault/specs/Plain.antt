@@ -16,20 +16,20 @@ no_policy = record { groups = []; rules = [] }
 abbrev pub no_contents : Contents
 no_contents = record { clerks = []; maildrops = []; messages = []; deposits = []; policy = no_policy }
 
--- a message's key is the number of the deposits when it came, so that a later one's is greater
+-- no key is above the number of deposits, so that the next message's key is greater than all
 abbrev pub have_old_keys : Contents → Bool
 have_old_keys c = list_all (λ (x : Keyed). nat_le x.key (length c.deposits)) c.messages
 
--- the contents are those kept, and they are sound
+-- the contents are the kept ones, which are sound and have old keys
 pub record HoldsKept (kept c : Contents) : Type 0 where
   pub same : c ≡ kept
   pub sound : AreSound c
   pub keys : have_old_keys c ≡ true
 
--- what lies in a maildrop, the octets as far as they can be counted
+-- a maildrop's total, its octets capped at 2^64 - 1
 abbrev pub capped_total : List Keyed → List ℕ → Total
 capped_total ms d = record { maildrop = d; messages = length (kept_in d ms); octets = min (sum_by (λ (x : Keyed). length x.message.text) (kept_in d ms)) (2 ^ 64 - 1) }
 
--- a message more, whose key is the number of these deposits
+-- the messages with one added, whose key is the number of these deposits
 abbrev pub with_message : Message → List Receipt → List Keyed → List Keyed
 with_message m deposits ms = ms ++ record { key = length deposits; message = m } ∷ []

@@ -1,4 +1,4 @@
--- What a store holds: clerks, maildrops, messages, deposits and rules, and when they are sound.
+-- What a store keeps (clerks, maildrops, messages, deposits, the policy), and when that is sound.
 use Rattle.std.specs.Prelude.{◌≡◌, ℕ, Bool, true, not, ◌&&◌, ◌==◌, ◌≤◌, nat_le, nat_lt, List, length, filter, count_by, map, sum_by, Option}
 use Rattle.std.specs.List.{find, list_any, list_all}
 use Rattle.std.specs.Option.{option_map}
@@ -13,7 +13,7 @@ use Rattle.vault.specs.declared.record.Clerk.{Clerk}
 use Rattle.vault.specs.declared.record.Message.{Message}
 use Rattle.vault.specs.declared.record.Receipt.{Receipt}
 
--- the five lists; a deposit's receipt outlives its message and its maildrop
+-- four lists and the policy; a deposit's receipt outlives its message and its maildrop
 pub record Records : Type 0 where
   pub clerks : List Clerk
   pub maildrops : List (List ℕ)
@@ -23,23 +23,23 @@ pub record Records : Type 0 where
 
 -- ---- the limits of a store
 
--- of a message in its kept form
+-- the octets of a message in its kept form
 abbrev pub most_octets : ℕ
 most_octets = 26214400
 
--- of messages in a maildrop
+-- the messages in a maildrop
 abbrev pub most_messages : ℕ
 most_messages = 10000
 
--- of deposits of a class into a maildrop's name
+-- the deposits of a class into a maildrop's name
 abbrev pub most_deposits : ℕ
 most_deposits = 1000000000
 
--- of maildrops
+-- the maildrops
 abbrev pub most_maildrops : ℕ
 most_maildrops = 1000
 
--- of clerks
+-- the clerks
 abbrev pub most_clerks : ℕ
 most_clerks = 1000
 
@@ -49,23 +49,23 @@ most_clerks = 1000
 abbrev pub uid_of : Message → Uid
 uid_of m = record { class = m.class; k = m.k }
 
--- its class, by which the policy decides
+-- a message's class, by which the policy decides
 abbrev pub class_of : Message → List ℕ
 class_of m = m.class
 
--- its size (RFC 1939, 11)
+-- a message's size (RFC 1939, 11)
 abbrev pub octets_of : Message → ℕ
 octets_of m = length m.text
 
--- the octets of all of them
+-- the sum of the messages' sizes
 abbrev pub octets_of_all : List Message → ℕ
 octets_of_all ms = sum_by octets_of ms
 
--- of one maildrop, with one unique-id
+-- the two messages have one maildrop and one unique-id
 abbrev pub same_message : Message → Message → Bool
 same_message a b = bytes_eq a.maildrop b.maildrop && bytes_eq a.class b.class && a.k == b.k
 
--- the messages that aren't among the others, in order
+-- the messages but those that are among the others, in order
 abbrev pub without : List Message → List Message → List Message
 without ms others = filter (λ m. not (list_any (same_message m) others)) ms
 
@@ -77,41 +77,41 @@ in_maildrop d ms = filter (λ m. bytes_eq m.maildrop d) ms
 abbrev pub receipts_of : List ℕ → List Receipt → List Receipt
 receipts_of d rs = filter (λ r. bytes_eq r.maildrop d) rs
 
--- the receipt of an id, where the id was used
+-- the receipt of an id, if the id was used
 abbrev pub receipt_of : List ℕ → List Receipt → Option Receipt
 receipt_of id rs = find (λ r. bytes_eq r.id id) rs
 
--- how many of a class were ever accepted
+-- how many deposits of a class were ever accepted
 abbrev pub class_count : List ℕ → List Receipt → ℕ
 class_count class rs = count_by (λ r. bytes_eq r.class class) rs
 
--- a name is among these
+-- the name is among the names
 abbrev pub is_one_of : List ℕ → List (List ℕ) → Bool
 is_one_of name names = list_any (λ x. bytes_eq x name) names
 
--- the credential of the clerk of a name, where there is one
+-- the credential of the clerk of that name, if there is one
 abbrev pub credential_in : List ℕ → List Clerk → Option Credential
 credential_in name clerks = option_map (λ (x : Clerk). x.credential) (find (λ x. bytes_eq x.name name) clerks)
 
 -- ---- sound records
 
--- two deposits into one maildrop's name, with one id
+-- the two deposits have one maildrop's name and one id
 abbrev pub same_id : Receipt → Receipt → Bool
 same_id r s = bytes_eq r.maildrop s.maildrop && bytes_eq r.id s.id
 
--- two deposits into one maildrop's name, with one unique-id
+-- the two deposits have one maildrop's name and one unique-id
 abbrev pub same_uid : Receipt → Receipt → Bool
 same_uid r s = bytes_eq r.maildrop s.maildrop && bytes_eq r.class s.class && r.k == s.k
 
--- the receipt of the deposit that brought the message
+-- the receipt is of the deposit that brought the message
 abbrev pub is_receipt_for : Message → Receipt → Bool
 is_receipt_for m r = bytes_eq m.maildrop r.maildrop && bytes_eq m.class r.class && m.k == r.k
 
--- the deposit's k is one of 1 to the number of its class
+-- the deposit's k is between 1 and the number of deposits of its class
 abbrev pub is_counted : List Receipt → Receipt → Bool
 is_counted rs r = nat_lt 0 r.k && nat_le r.k (class_count r.class (receipts_of r.maildrop rs))
 
--- a secret of its form, or a digest of 32 octets
+-- the secret has its form, or the digest has 32 octets
 abbrev pub is_sound_credential : Credential → Bool
 is_sound_credential (kept.Apop secret) = is_secret secret
 is_sound_credential (kept.Pass digest) = length digest == 32
@@ -120,17 +120,17 @@ is_sound_credential (kept.Pass digest) = length digest == 32
 abbrev pub is_sound_clerk : Clerk → Bool
 is_sound_clerk c = is_name c.name && is_sound_credential c.credential
 
--- a nonempty kept form, within the limit, in a maildrop that is there, of a deposit that was accepted
+-- the text is a nonempty kept form within the limit; its maildrop and its receipt are there
 abbrev pub is_sound_message : Records → Message → Bool
 is_sound_message B m = bytes_eq (kept_form m.text) m.text && nat_lt 0 (octets_of m) && nat_le (octets_of m) most_octets
     && is_one_of m.maildrop B.maildrops && list_any (is_receipt_for m) B.deposits
 
--- names and an id of their forms, a k that is counted, within the limit, a digest of 32 octets
+-- names and id have their forms, k is counted and within the limit, the digest has 32 octets
 abbrev pub is_sound_receipt : Records → Receipt → Bool
 is_sound_receipt B r = is_name r.maildrop && is_deposit_id r.id && is_name r.class && is_counted B.deposits r
     && nat_le (class_count r.class (receipts_of r.maildrop B.deposits)) most_deposits && length r.digest == 32
 
--- each list is sound, and its elements are apart and within the limits
+-- each list's elements are sound, all different, and within the limits
 pub record IsSound (B : Records) : Type 0 where
   pub clerks : list_all is_sound_clerk B.clerks ≡ true
   pub clerks_apart : are_distinct (λ (c e : Clerk). bytes_eq c.name e.name) B.clerks ≡ true
@@ -148,7 +148,7 @@ pub record IsSound (B : Records) : Type 0 where
 
 -- ---- records that nobody can tell apart
 
--- Order counts only among rules and among one maildrop's messages.
+-- The records agree: order counts only among rules and among one maildrop's messages.
 pub record Agree (A B : Records) : Type 0 where
   pub clerks : by_name (map (λ (c : Clerk). c.name) A.clerks) ≡ by_name (map (λ (c : Clerk). c.name) B.clerks)
   pub credentials : (name : List ℕ) → credential_in name A.clerks ≡ credential_in name B.clerks

@@ -2,13 +2,13 @@
 use crate::message_key::MessageKey;
 use creds::{Name, Uid};
 
-/// What became of a deposit that wasn't refused.
+/// The answer to a deposit that wasn't refused.
 #[derive(Clone, Copy, PartialEq, Eq)]
 pub enum Deposited {
-    /// The message was put into the maildrop, under this unique-id.
+    /// The message was put into the maildrop and got this unique-id.
     New(Uid),
-    /// The deposit id was used before for the same class and text, which got this unique-id;
-    /// nothing was changed.
+    /// The deposit id was used before, for the same class and text, and that message got this
+    /// unique-id. Nothing was changed.
     Known(Uid),
 }
 
@@ -19,20 +19,19 @@ pub struct Head {
     pub key: MessageKey,
     /// Its class.
     pub class: Name,
-    /// The place of the message, from 1, among the deposits ever accepted of that class in the
-    /// maildrop.
+    /// Its number among the deposits of its class ever accepted in the maildrop, counted from 1.
     pub k: u64,
-    /// How many octets its kept form has (RFC 1939, section 11).
+    /// The octets of its kept form (RFC 1939, section 11).
     pub octets: u64,
 }
 
-/// A maildrop with what lies in it.
+/// A maildrop, and how much lies in it.
 #[derive(Clone, Copy, PartialEq, Eq)]
 pub struct Total {
     /// The maildrop's name.
     pub maildrop: Name,
     /// How many messages it has.
     pub messages: u64,
-    /// How many octets they have together.
+    /// The sum of their octets.
     pub octets: u64,
 }

@@ -13,7 +13,7 @@ use creds::{Credential, Name};
 /// The greatest number of clerks.
 pub const MAX_CLERKS: usize = 1000;
 
-/// The credential of the clerk.
+/// The credential of the clerk of that name, if there is one.
 pub(crate) fn credential_of(clerks: &[Clerk], name: &Name) -> Option<Credential>
     ensures { result ≡ credential_in name.now clerks.now }
 {
@@ -23,7 +23,7 @@ pub(crate) fn credential_of(clerks: &[Clerk], name: &Name) -> Option<Credential>
         .map(|clerk| clerk.credential)
 }
 
-/// Gives the clerk this credential, where it is the one of that name.
+/// Gives the clerk this credential, if the clerk has that name.
 fn replace_in(clerk: &mut Clerk, name: &Name, credential: &Credential)
     ensures { clerk.new ≡ with_credential name.now credential.now clerk.old }
 {
@@ -32,7 +32,7 @@ fn replace_in(clerk: &mut Clerk, name: &Name, credential: &Credential)
     }
 }
 
-/// Gives each clerk of that name this credential.
+/// Gives every clerk of that name this credential.
 fn replace_credential(clerks: &mut [Clerk], name: &Name, credential: &Credential)
     ensures { clerks.new ≡ map (with_credential name.now credential.now) clerks.old }
 {
@@ -41,7 +41,8 @@ fn replace_credential(clerks: &mut [Clerk], name: &Name, credential: &Credential
     }
 }
 
-/// Puts a clerk's credential in place of the one that is there, else behind the other clerks.
+/// Replaces the credential of a clerk who is there; adds a new clerk at the end. Answers whether
+/// the clerk was new, or `Full` for a new one beyond 1,000.
 pub(crate) fn put_credential(
     clerks: &mut Vec<Clerk>,
     name: &Name,
@@ -67,7 +68,7 @@ pub(crate) fn put_credential(
     Ok(true)
 }
 
-/// Drops the clerk of that name.
+/// Drops the clerk of that name, or answers `NoClerk`.
 pub(crate) fn drop_credential(clerks: &mut Vec<Clerk>, name: &Name) -> Result<(), VaultFault>
     ensures answer { IsAnswer (drop_clerk_result name.now clerks.old.items) result }
     ensures in_memory { result ≢ Err VaultFault.Store }

@@ -1,4 +1,4 @@
-//! Deposits into a store in memory: what one is answered, and how one is kept.
+//! Deposits into a store in memory: how each is answered, and how it is kept.
 ghost use Rattle.std.specs.Prelude.{◌≡◌, ◌&&◌, find, option_copied, ◌+◌, ◌≤◌, ℕ, List, [], ◌∷◌, ◌++◌, length, is_ok, true, if◌then◌else◌, IfOk, OnOk, OnErr};
 ghost use Rattle.std.specs.Str.{bytes_eq};
 ghost use Rattle.creds.specs.Names.{is_name, is_deposit_id};
@@ -22,10 +22,10 @@ use std::alloc::{AllocError, Global};
 /// The greatest number of messages in a maildrop.
 pub const MAX_MESSAGES: usize = 10_000;
 
-/// The greatest number of deposits of a class into a maildrop's name.
+/// The greatest number of deposits of one class that one maildrop's name ever has.
 pub const MAX_DEPOSITS: usize = 1_000_000_000;
 
-/// What a deposit asks for.
+/// A deposit's maildrop, class, id and digest.
 #[derive(Clone, Copy)]
 pub(crate) struct Asked {
     pub(crate) maildrop: Name,
@@ -34,14 +34,14 @@ pub(crate) struct Asked {
     pub(crate) digest: [u8; 32],
 }
 
-/// Whether the receipt is of this id, in the maildrop's name.
+/// Whether the receipt has this id and this maildrop's name.
 fn is_of(receipt: &Receipt, maildrop: &Name, id: &DepositId) -> bool
     ensures { result ≡ (bytes_eq receipt.now.maildrop maildrop.now && bytes_eq receipt.now.id id.now) }
 {
     receipt.maildrop == *maildrop && receipt.id == *id
 }
 
-/// The first receipt of the id in the maildrop's name.
+/// The first receipt with the id and the maildrop's name.
 fn first_receipt<'a>(
     deposits: &'a [Receipt],
     maildrop: &Name,
@@ -52,7 +52,7 @@ fn first_receipt<'a>(
     deposits.iter().find(|receipt| is_of(receipt, maildrop, id))
 }
 
-/// The receipt of the id among those of the maildrop's name.
+/// A copy of the receipt with the id and the maildrop's name, if there is one.
 fn receipt_of(deposits: &[Receipt], maildrop: &Name, id: &DepositId) -> Option<Receipt>
     ensures { result ≡ receipt_of id.now (receipts_of maildrop.now deposits.now) }
 {
@@ -70,7 +70,7 @@ fn class_count(deposits: &[Receipt], maildrop: &Name, class: &Name) -> usize
         .count()
 }
 
-/// What a deposit whose id was used before is answered.
+/// The answer to a deposit whose id was used before.
 fn known_or_conflict(receipt: &Receipt, asked: &Asked) -> Result<Deposited, VaultFault>
     ensures { (text : List ℕ) → asked.now.digest ≡ text_digest text → result ≡ deposit_result (known_or_conflict asked.now.class text receipt.now) }
 {
@@ -84,7 +84,7 @@ fn known_or_conflict(receipt: &Receipt, asked: &Asked) -> Result<Deposited, Vaul
     }
 }
 
-/// What a deposit is answered, memory being ample.
+/// The answer to a deposit, leaving want of memory aside.
 pub(crate) fn judge(
     names: &[Name],
     messages: &[Keyed],
@@ -110,8 +110,8 @@ pub(crate) fn judge(
     }))
 }
 
-/// Puts a message and its receipt behind the others, both or none, the message under the number of
-/// the deposits.
+/// Adds a message and its receipt at the end, or on an error neither. The message's key is the
+/// number of deposits, this one counted.
 fn put_both(
     messages: &mut Vec<Keyed>,
     deposits: &mut Vec<Receipt>,
@@ -128,7 +128,7 @@ fn put_both(
     Ok(())
 }
 
-/// Keeps a deposit that was judged new, with this number.
+/// Keeps a deposit that `judge` found new, as number `k` of its class.
 pub(crate) fn accept(
     alloc: Global,
     messages: &mut Vec<Keyed>,
@@ -157,7 +157,7 @@ pub(crate) fn accept(
     put_both(messages, deposits, message, receipt)
 }
 
-/// A deposit with its digest, which have their forms.
+/// A deposit, with the digest of its text.
 pub(crate) fn ask(maildrop: &Name, class: &Name, id: &DepositId, text: &MailText) -> Asked
     ensures maildrop { result.maildrop ≡ maildrop.now }
     ensures class { result.class ≡ class.now }

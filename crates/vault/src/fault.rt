@@ -14,12 +14,12 @@ pub enum VaultFault {
     NoMaildrop,
     /// The deposit id was used before, with another class or another text.
     Conflict,
-    /// A limit is reached: of the messages in a maildrop, of the deposits of a class, of maildrops
-    /// or of clerks.
+    /// A limit is reached: 10,000 messages in a maildrop, 1,000,000,000 deposits of a class in a
+    /// maildrop's name, 1,000 maildrops or 1,000 clerks.
     Full,
-    /// The store refused a statement.
+    /// What the store stands on refused a statement.
     Store,
-    /// Memory was refused.
+    /// Memory ran out.
     NoMemory,
     /// The maildrop still has messages.
     NotEmpty,

@@ -1,5 +1,5 @@
-//! What a mail store keeps (clerks, maildrops, messages, deposits and the policy), the calls by
-//! which it is read and changed, and a store of vectors in memory.
+//! What a mail store keeps (clerks, maildrops, messages, deposits and the policy), its twelve calls
+//! (the trait `Vault`), and a store in memory.
 #![tactic(auto)]
 
 mod answer;

@@ -1,4 +1,4 @@
-//! Looking into the lists of a store in memory, and changing them.
+//! The lists of a store in memory: names of maildrops, their order, and totals.
 ghost use Rattle.std.specs.Prelude.{◌≡◌, ◌≢◌, ◌≤◌, ◌-◌, ◌^◌, ℕ, List, length, filter, map, min, sum_by, true, not, is_ok, if◌then◌else◌, unwrap_or, position, OnErr, OnOk, IfOk, insert};
 ghost use Rattle.std.specs.List.{list_any};
 ghost use Rattle.std.specs.Str.{bytes_eq};
@@ -17,14 +17,15 @@ use std::alloc::{AllocError, Global};
 /// The greatest number of maildrops.
 pub const MAX_MAILDROPS: usize = 1000;
 
-/// Whether the name is one of these.
+/// Whether the name is among the names.
 pub(crate) fn has_name(names: &[Name], name: &Name) -> bool
     ensures { result ≡ is_one_of name.now names.now }
 {
     names.iter().any(|other| other == name)
 }
 
-/// Puts a maildrop's name behind the others, where it isn't there yet.
+/// Adds a maildrop's name at the end if it isn't there. Answers whether it was new, or `Full` for
+/// a new one beyond 1,000.
 pub(crate) fn put_name(names: &mut Vec<Name>, name: &Name) -> Result<bool, VaultFault>
     ensures answer { IsAnswer (put_result (put_maildrop_answer name.now names.old.items)) result }
     ensures in_memory { result ≢ Err VaultFault.Store }
@@ -42,7 +43,8 @@ pub(crate) fn put_name(names: &mut Vec<Name>, name: &Name) -> Result<bool, Vault
     Ok(true)
 }
 
-/// Drops a maildrop's name, where it is there and no message lies in it.
+/// Drops a maildrop's name. Answers `NoMaildrop` where it isn't there, else `NotEmpty` where a
+/// message lies in the maildrop.
 pub(crate) fn drop_name(
     names: &mut Vec<Name>,
     messages: &[Keyed],
@@ -69,21 +71,21 @@ fn comes_first(first: &Name, second: &Name) -> bool
     first < second
 }
 
-/// Where the first of the names is that doesn't come before the name.
+/// The place of the first of the names that doesn't come before the name.
 fn first_behind(names: &[Name], name: &Name) -> Option<usize>
     ensures { result ≡ position (λ x. not (comes_before x name.now)) names.now }
 {
     names.iter().position(|other| !comes_first(other, name))
 }
 
-/// Where the name comes among names in order.
+/// The place where the name belongs among sorted names.
 fn place_of(names: &[Name], name: &Name) -> usize
     ensures { result ≡ unwrap_or (position (λ x. not (comes_before x name.now)) names.now) (length names.now) }
 {
     first_behind(names, name).unwrap_or(names.len())
 }
 
-/// Puts the name in its place among names in order.
+/// Puts the name in its place among sorted names.
 fn put_in_order(names: &mut Vec<Name>, name: &Name) -> Result<(), AllocError>
     ensures { OnOk result (names.new.items ≡ put_by_name name.now names.old.items) }
 {
@@ -92,7 +94,7 @@ fn put_in_order(names: &mut Vec<Name>, name: &Name) -> Result<(), AllocError>
     Ok(())
 }
 
-/// The names in the order of their octets. Its error is [`AllocError`], where memory was refused.
+/// The names, sorted by their octets. An `Err` is want of memory.
 pub fn in_order(alloc: Global, names: &[Name]) -> Result<Vec<Name>, AllocError>
     ensures { IfOk result (λ sorted. sorted.items ≡ by_name names.now) }
 {
@@ -113,7 +115,7 @@ pub(crate) fn count_in(messages: &[Keyed], maildrop: &Name) -> usize
         .count()
 }
 
-/// The octets of the messages that lie in the maildrop, 2^64 - 1 at most.
+/// The octets of the messages that lie in the maildrop, capped at 2^64 - 1.
 fn octets_in(messages: &[Keyed], maildrop: &Name) -> u64
     ensures { result ≡ min (sum_by (λ x. length x.message.text) (kept_in maildrop.now messages.now)) (2 ^ 64 - 1) }
 {
@@ -126,7 +128,7 @@ fn octets_in(messages: &[Keyed], maildrop: &Name) -> u64
     octets
 }
 
-/// What lies in the maildrop; of the octets 2^64 - 1 at most.
+/// The maildrop's total, its octets capped at 2^64 - 1.
 fn total_of(messages: &[Keyed], maildrop: &Name) -> Total
     ensures { result ≡ capped_total messages.now maildrop.now }
 {
@@ -137,7 +139,7 @@ fn total_of(messages: &[Keyed], maildrop: &Name) -> Total
     }
 }
 
-/// What lies in each of these maildrops; of the octets 2^64 - 1 at most.
+/// The total of each of these maildrops, octets capped at 2^64 - 1.
 fn totals_in(alloc: Global, names: &[Name], messages: &[Keyed]) -> Result<Vec<Total>, AllocError>
     ensures { IfOk result (λ totals. totals.items ≡ map (capped_total messages.now) names.now) }
 {
@@ -147,7 +149,7 @@ fn totals_in(alloc: Global, names: &[Name], messages: &[Keyed]) -> Result<Vec<To
         .collect(alloc)
 }
 
-/// What lies in each maildrop, by name; of the octets 2^64 - 1 at most.
+/// Every maildrop's total, sorted by name, octets capped at 2^64 - 1.
 pub(crate) fn totals_of(
     alloc: Global,
     names: &[Name],

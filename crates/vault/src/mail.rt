@@ -36,7 +36,7 @@ fn heads_in(alloc: Global, messages: &[Keyed], maildrop: &Name) -> Result<Vec<He
         .collect(alloc)
 }
 
-/// The heads of the messages of a maildrop that is there.
+/// The heads of a maildrop's messages, or `NoMaildrop` where it isn't there.
 pub(crate) fn heads_of(
     alloc: Global,
     names: &[Name],
@@ -59,8 +59,8 @@ fn message_under(messages: &[Keyed], key: MessageKey) -> Option<&Keyed>
     messages.iter().find(|kept| kept.key == key)
 }
 
-/// Reads octets of the message under the key, from that place on; how many. Under an unknown key
-/// there is none.
+/// Copies octets of the message under the key, from octet `from` on, into the front of the buffer,
+/// and returns how many. Under an unknown key there are none.
 pub(crate) fn read_page(messages: &[Keyed], key: MessageKey, from: u64, buffer: &mut [u8]) -> usize
     ensures within { result ≤ length buffer.new }
     ensures page { IsPage (text_under key messages.now) from (length buffer.new) (take result buffer.new) }
@@ -77,7 +77,7 @@ fn is_named(keys: &[MessageKey], key: MessageKey) -> bool
     keys.iter().any(|other| *other == key)
 }
 
-/// Removes those of the maildrop's messages that the keys name.
+/// Removes the maildrop's messages that have one of the keys.
 pub(crate) fn remove_named(messages: &mut Vec<Keyed>, maildrop: &Name, keys: &[MessageKey])
     ensures { messages.new.items ≡ without_keys maildrop.now keys.now messages.old.items }
 {

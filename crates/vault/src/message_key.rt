@@ -3,7 +3,7 @@ ghost use Rattle.std.specs.Prelude.{◌≡◌};
 
 use std::marker::Model;
 
-/// The key of a message, its own while it is there. Contracts see its number.
+/// A message's key. No other message has it while the message is there. Contracts see its number.
 #[derive(Clone, Copy, PartialEq, Eq)]
 pub struct MessageKey {
     number: u64,

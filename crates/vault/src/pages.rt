@@ -1,4 +1,4 @@
-//! Texts in memory, as pages.
+//! Message texts in memory, as pages.
 ghost use Rattle.std.specs.Prelude.{◌≡◌, ◌≤◌, ℕ, true, length, take, IfOk};
 ghost use Rattle.std.specs.List.{concat};
 ghost use Rattle.vault.specs.Changes.{IsPage};
@@ -8,7 +8,7 @@ use mailtext::MailText;
 use std::alloc::{AllocError, Global};
 use std::marker::Model;
 
-/// How many octets a page has. The last page of a text may have fewer.
+/// The octets of a page. The last page of a text may have fewer.
 pub const PAGE_OCTETS: usize = 4096;
 
 /// A page of a text. Contracts see its octets.
@@ -26,7 +26,7 @@ impl Model for Page {
 }
 
 impl Page {
-    /// These octets, with memory of their own.
+    /// A page of a copy of these octets. An `Err` is want of memory.
     fn copy_of(alloc: Global, octets: &[u8]) -> Result<Page, AllocError>
         ensures { IfOk result (λ page. page ≡ octets.now) }
     {
@@ -41,7 +41,8 @@ impl Page {
     }
 }
 
-/// Copies octets from that place on into the front of the buffer, as many as there are and fit.
+/// Copies octets, from octet `from` on, into the front of the buffer: all that are left, or as many
+/// as fit. Returns how many.
 fn copy_from(octets: &[u8], from: usize, buffer: &mut [u8]) -> usize
     ensures within { result ≤ length buffer.new }
     ensures page { IsPage octets.now from (length buffer.new) (take result buffer.new) }
@@ -55,7 +56,7 @@ fn copy_from(octets: &[u8], from: usize, buffer: &mut [u8]) -> usize
     len
 }
 
-/// Copies octets into pages.
+/// A copy of the octets as pages.
 fn pages_of(alloc: Global, octets: &[u8]) -> Result<Vec<Page>, AllocError>
     ensures octets { IfOk result (λ pages. concat pages.items ≡ octets.now) }
     ensures pages { IfOk result (λ pages. are_pages pages.items ≡ true) }
@@ -70,8 +71,8 @@ fn pages_of(alloc: Global, octets: &[u8]) -> Result<Vec<Page>, AllocError>
     Ok(pages)
 }
 
-/// A text as pages of [`PAGE_OCTETS`], each with memory of its own, so that a long text needs no
-/// long growth. Contracts see its octets.
+/// A text as pages of [`PAGE_OCTETS`], each allocated by itself, so that a long text needs no long
+/// allocation. Contracts see its octets.
 #[derive(Drop)]
 pub struct PagedText {
     pages: Vec<Page>,
@@ -92,7 +93,7 @@ impl Model for PagedText {
 }
 
 impl PagedText {
-    /// A copy of a text, with memory of its own.
+    /// A copy of a text. An `Err` is want of memory.
     pub(crate) fn copy_of(alloc: Global, text: &MailText) -> Result<PagedText, AllocError>
         ensures { IfOk result (λ copy. copy ≡ text.now) }
     {
@@ -111,8 +112,9 @@ impl PagedText {
         self.octets
     }
 
-    /// Copies octets from that place on into the front of the buffer, through the end of a page or
-    /// as many as fit; how many: at least one where one is left and the buffer isn't empty.
+    /// Copies octets, from octet `from` on, into the front of the buffer: through the end of a
+    /// page, or as many as fit. Returns how many: at least one where any is left and the buffer
+    /// isn't empty.
     pub(crate) fn read(&self, from: usize, buffer: &mut [u8]) -> usize
         ensures within { result ≤ length buffer.new }
         ensures page { IsPage self.now from (length buffer.new) (take result buffer.new) }

@@ -20,9 +20,9 @@ use policy::Policy;
 use std::alloc::Global;
 use std::marker::Model;
 
-/// A mail store in memory, of vectors. It is always clean, and its count of faults stays 0.
-/// Contracts see its contents. It stands on no device, so contracts know of no stop that leaves
-/// something else; with the process it is gone.
+/// A mail store in vectors, which ends with the process. It is always clean, and its count of
+/// faults stays 0. Contracts see its contents. It stands on no device, so its contracts know of no
+/// stop.
 #[derive(Drop)]
 pub struct PlainVault {
     alloc: Global,
@@ -48,7 +48,7 @@ impl Model for PlainVault {
 }
 
 impl PlainVault {
-    /// A store without clerks, maildrops, messages, deposits or rules. It takes no memory.
+    /// An empty store, with a policy without rules. It takes no memory.
     pub fn new(alloc: Global) -> PlainVault
         ensures { HoldsKept result no_contents }
     {

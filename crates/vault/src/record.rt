@@ -3,7 +3,7 @@ use crate::message_key::MessageKey;
 use crate::pages::PagedText;
 use creds::{Credential, DepositId, Name};
 
-/// A clerk, who has one kind of credential. It has no `Debug`, as the credential has none.
+/// A clerk, with a credential of one kind. It has no `Debug`, as the credential has none.
 #[derive(Clone, Copy, PartialEq, Eq)]
 pub struct Clerk {
     /// The clerk's name.
@@ -12,15 +12,14 @@ pub struct Clerk {
     pub credential: Credential,
 }
 
-/// A message where it lies.
+/// A message in its maildrop.
 #[derive(Drop)]
 pub struct Message {
-    /// The maildrop that it lies in.
+    /// The maildrop's name.
     pub maildrop: Name,
     /// Its class.
     pub class: Name,
-    /// The place of the message, from 1, among the deposits ever accepted of that class in the
-    /// maildrop.
+    /// Its number among the deposits of its class ever accepted in the maildrop, counted from 1.
     pub k: u64,
     /// Its text, in the kept form.
     pub text: PagedText,
@@ -29,7 +28,7 @@ pub struct Message {
 /// A message under its key.
 #[derive(Drop)]
 pub struct Keyed {
-    /// The key, which no other message has while this one is there.
+    /// The key. No other message has it while this one is there.
     pub key: MessageKey,
     /// The message.
     pub message: Message,
@@ -40,11 +39,11 @@ pub struct Keyed {
 pub struct Receipt {
     /// The maildrop's name.
     pub maildrop: Name,
-    /// The id, which acts once in the maildrop's name.
+    /// The deposit id, which brings at most one message into a maildrop's name.
     pub id: DepositId,
     /// The class of the message.
     pub class: Name,
-    /// The place of the deposit, from 1, among those of its class in the maildrop's name.
+    /// Its number among the deposits of its class in the maildrop's name, counted from 1.
     pub k: u64,
     /// SHA-256 (FIPS 180-4) of the kept form.
     pub digest: [u8; 32],

@@ -1,4 +1,4 @@
-//! A vault that refuses one of its calls, for tests of what stands on a vault.
+//! A vault that refuses one of its calls, to test the layers above a vault.
 ghost use Rattle.std.specs.Prelude.{◌≡◌, ◌-◌, if◌then◌else◌};
 ghost use Rattle.vault.specs.Changes.{Contents};
 ghost use Rattle.vault.specs.Stops.{StaysUp, LeavesBefore, LeavesEither};
@@ -14,17 +14,17 @@ use mailtext::MailText;
 use policy::Policy;
 use std::marker::Model;
 
-/// The calls up to the refused one.
+/// Counts down to the refused call.
 #[derive(Clone, Copy)]
 struct Countdown {
-    /// How many are to come, the refused one counted; 0 where none will be refused.
+    /// How many calls are to come, the refused one counted; 0 where none will be refused.
     to_come: u64,
-    /// How many were refused; at 2^64 - 1 the count stays.
+    /// How many calls were refused. The count stops at 2^64 - 1.
     refusals: u64,
 }
 
 impl Countdown {
-    /// Counts a call. Whether it is the refused one.
+    /// Counts a call. Returns whether it is the one to refuse.
     fn is_due(&mut self) -> bool
         ensures due { result ≡ is_next self.old.to_come }
         ensures to_come { self.new.to_come ≡ self.old.to_come - 1 }
@@ -39,9 +39,9 @@ impl Countdown {
     }
 }
 
-/// A vault of which one call is refused: that call changes nothing, counts as a fault and answers
-/// [`VaultFault::Store`]. All others go to the vault inside. Contracts see that vault, how many
-/// calls are to come up to the refused one, and how many were refused.
+/// Refuses one call: that call answers [`VaultFault::Store`], counts as a fault and changes
+/// nothing. All others go to the vault inside. Contracts see that vault, how many calls are to come
+/// up to the refused one, and how many were refused.
 #[derive(Drop)]
 pub struct Refusing<V: Vault> {
     vault: V,
@@ -57,8 +57,7 @@ impl<V: Vault> Model for Refusing<V> {
 }
 
 impl<V: Vault> Refusing<V> {
-    /// A vault of which call number `n` is refused, counted from 1 over all its calls; 0 refuses
-    /// none.
+    /// Refuses call number `n`, counted from 1 over all calls; 0 refuses none.
     pub fn new(vault: V, n: u64) -> Refusing<V>
         ensures { result ≡ refusing_call vault n }
     {
@@ -71,7 +70,7 @@ impl<V: Vault> Refusing<V> {
         }
     }
 
-    /// How many of its calls were refused, which the vault inside knows nothing of.
+    /// How many calls were refused. The vault inside never saw them.
     pub fn refusals(&self) -> u64
         ensures { result ≡ self.now.refusals }
     {
@@ -79,7 +78,7 @@ impl<V: Vault> Refusing<V> {
     }
 }
 
-/// Each call as in the vault inside, but for the refused one.
+/// Every call but the refused one goes to the vault inside.
 impl<V: Vault> Vault for Refusing<V> {
     ghost holds = { λ r. V.holds r.vault };
 

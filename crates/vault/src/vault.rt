@@ -1,4 +1,4 @@
-//! What every mail store can do.
+//! The calls that every mail store answers, and what they promise.
 ghost use Rattle.std.specs.Prelude.{◌≡◌, ◌≤◌, ℕ, List};
 ghost use Rattle.vault.specs.Changes.{Contents, AreSound};
 ghost use Rattle.vault.specs.Stops.{SaySame, StaysUp, LeavesBefore, LeavesEither};
@@ -11,41 +11,40 @@ use creds::{Credential, DepositId, Name};
 use mailtext::MailText;
 use policy::Policy;
 
-/// A mail store: what it keeps of clerks, maildrops, messages, deposits and the policy, and the
-/// calls on them.
+/// A mail store: it keeps clerks, maildrops, messages, deposits and the policy.
 ///
-/// Contracts see which contents it holds, how often it was refused by what it stands on, and
-/// whether it is clean: what a call promises beyond safety holds where the store is clean as the
-/// call ends. A store that is not clean may hold any contents, and never becomes clean again. The
-/// contents that a clean store holds are sound. A refusal changes no content.
+/// Contracts see the contents that it holds, how many faults it counted, and whether it is clean.
+/// Beyond safety, a call promises something only where the store is clean when the call ends. The
+/// contents of a clean store are sound. A store that isn't clean may hold any contents, and never
+/// becomes clean again. A refused call changes no contents.
 ///
-/// They see too what a stop of the device may leave (a crash, the power gone), while the store is
-/// clean: a call that began with the device up leaves what was held or, where it changes records,
-/// what it makes of it when it is done. An answer of the call's own means that the device is up
-/// still, and a stop then leaves what is held alone.
+/// Contracts also see what a clean store may hold after the device stopped (a crash, the power
+/// gone). A stop during a call that began with the device up leaves the contents from before the
+/// call or, if the call changes records, those from after it. Once the call has answered, with
+/// neither `Store` nor `NoMemory`, the device is still up, and a stop leaves just what is held.
 ///
-/// Beside the refusals that each call names, any call may answer [`VaultFault::NoMemory`] where
-/// memory was refused, and [`VaultFault::Store`] where the store was refused a statement, which its
-/// count of faults shows.
+/// Beside the refusals that each call names, any call may answer [`VaultFault::NoMemory`], where
+/// memory ran out, and [`VaultFault::Store`], where what the store stands on refused a statement;
+/// then the count of faults has grown.
 pub trait Vault {
-    /// The contents that it holds.
+    /// The store holds these contents.
     ghost holds: { Self → Contents → Type 0 };
 
-    /// How often it was refused; at 2^64 - 1 the count stays.
+    /// How many faults it counted. The count stops at 2^64 - 1.
     ghost faults: { Self → ℕ };
 
-    /// Nobody else wrote to what it stands on, and that gave back what was written.
+    /// Nobody else wrote to its device, and the device gave back what was written.
     ghost is_clean: { Self → Type 0 };
 
-    /// What it stands on hasn't failed so far.
+    /// The device hasn't failed so far.
     ghost is_up: { Self → Type 0 };
 
-    /// What it may hold when it is opened again after a stop now (a crash, the power gone).
+    /// After a stop now (a crash, the power gone) it may hold these contents when opened again.
     ghost may_leave: { Self → Contents → Type 0 };
 
-    /// Puts a message into a maildrop, once for each deposit id of the maildrop's name: a second
-    /// deposit of the same class and text is [`Deposited::Known`] and changes nothing, also where
-    /// the message is gone.
+    /// Puts a message into a maildrop, once for each deposit id in the maildrop's name. A second
+    /// deposit of an id, with the same class and text, answers [`Deposited::Known`] and changes
+    /// nothing, even if the message is gone.
     ///
     /// Answers [`VaultFault::NoMaildrop`] where the maildrop is missing, else
     /// [`VaultFault::Conflict`] where the id was used with another class or text, else
@@ -74,9 +73,9 @@ pub trait Vault {
         ensures up { (c : Contents) → is_clean self.new → holds self.old c → StaysUp (is_up self.old) (is_up self.new) result }
         ensures stop { (c : Contents) → is_clean self.new → is_up self.old → holds self.old c → LeavesBefore (may_leave self.new) c };
 
-    /// Reads octets of a message, from that place on, into the front of the buffer; how many: at
-    /// least one where one is left and the buffer isn't empty, else 0. Under an unknown key there
-    /// is none.
+    /// Reads octets of a message, from octet `from` on, into the front of the buffer. Returns how
+    /// many: at least one where any is left and the buffer isn't empty, else 0. Under an unknown
+    /// key there are none.
     fn page(&mut self, key: MessageKey, from: u64, buffer: &mut [u8]) -> Result<usize, VaultFault>
         ensures done { (c : Contents) → holds self.old c → is_clean self.new → IsPaged (holds self.new) c key from buffer.new result }
         ensures counted { CountsFaults (faults self.old) (faults self.new) result }
@@ -84,8 +83,8 @@ pub trait Vault {
         ensures up { (c : Contents) → is_clean self.new → holds self.old c → StaysUp (is_up self.old) (is_up self.new) result }
         ensures stop { (c : Contents) → is_clean self.new → is_up self.old → holds self.old c → LeavesBefore (may_leave self.new) c };
 
-    /// Removes those of the maildrop's messages that the keys name, all or none. Keys that aren't
-    /// there are passed over, in a missing maildrop all.
+    /// Removes the maildrop's messages that have these keys: all of them or, where it is refused,
+    /// none. Keys without a message in the maildrop are ignored.
     fn remove(&mut self, maildrop: &Name, keys: &[MessageKey]) -> Result<(), VaultFault>
         ensures done { (c : Contents) → holds self.old c → is_clean self.new → AreRemoved (holds self.new) c maildrop.now keys.now result }
         ensures counted { CountsFaults (faults self.old) (faults self.new) result }
@@ -93,8 +92,8 @@ pub trait Vault {
         ensures up { (c : Contents) → is_clean self.new → holds self.old c → StaysUp (is_up self.old) (is_up self.new) result }
         ensures stop { (c : Contents) → is_clean self.new → is_up self.old → holds self.old c → LeavesEither (may_leave self.new) c (λ Held. AreRemoved Held c maildrop.now keys.now) };
 
-    /// Each maildrop with how many messages it has and their octets, by name, in the order of
-    /// octets.
+    /// Every maildrop with the number of its messages and their octets, sorted by the octets of
+    /// the name.
     fn maildrops(&mut self) -> Result<Vec<Total>, VaultFault>
         ensures done { (c : Contents) → holds self.old c → is_clean self.new → AreTotals (holds self.new) c (seen_as result (λ v. v.items)) }
         ensures counted { CountsFaults (faults self.old) (faults self.new) result }
@@ -102,7 +101,7 @@ pub trait Vault {
         ensures up { (c : Contents) → is_clean self.new → holds self.old c → StaysUp (is_up self.old) (is_up self.new) result }
         ensures stop { (c : Contents) → is_clean self.new → is_up self.old → holds self.old c → LeavesBefore (may_leave self.new) c };
 
-    /// The credential of a clerk, where there is one of that name.
+    /// The credential of a clerk; `None` where there is no clerk of that name.
     fn credential(&mut self, clerk: &Name) -> Result<Option<Credential>, VaultFault>
         ensures done { (c : Contents) → holds self.old c → is_clean self.new → IsCredential (holds self.new) c clerk.now result }
         ensures counted { CountsFaults (faults self.old) (faults self.new) result }
@@ -110,7 +109,7 @@ pub trait Vault {
         ensures up { (c : Contents) → is_clean self.new → holds self.old c → StaysUp (is_up self.old) (is_up self.new) result }
         ensures stop { (c : Contents) → is_clean self.new → is_up self.old → holds self.old c → LeavesBefore (may_leave self.new) c };
 
-    /// Puts a clerk's credential, in place of the one that is there. Answers whether the clerk was
+    /// Adds a clerk, or replaces the credential of one who is there. Answers whether the clerk was
     /// new.
     ///
     /// Answers [`VaultFault::Full`] for a new name beyond 1,000.
@@ -131,8 +130,8 @@ pub trait Vault {
         ensures up { (c : Contents) → is_clean self.new → holds self.old c → StaysUp (is_up self.old) (is_up self.new) result }
         ensures stop { (c : Contents) → is_clean self.new → is_up self.old → holds self.old c → LeavesEither (may_leave self.new) c (λ Held. IsClerkDropped Held c clerk.now) };
 
-    /// Adds a maildrop of this name, with the deposits that its name ever had. Answers whether it
-    /// was new.
+    /// Adds a maildrop. It takes up the counts and deposit ids that its name has from before.
+    /// Answers whether it was new; one that is there stays as it is.
     ///
     /// Answers [`VaultFault::Full`] for a new name beyond 1,000.
     fn add_maildrop(&mut self, maildrop: &Name) -> Result<bool, VaultFault>
@@ -142,8 +141,8 @@ pub trait Vault {
         ensures up { (c : Contents) → is_clean self.new → holds self.old c → StaysUp (is_up self.old) (is_up self.new) result }
         ensures stop { (c : Contents) → is_clean self.new → is_up self.old → holds self.old c → LeavesEither (may_leave self.new) c (λ Held. IsMaildropAdded Held c maildrop.now) };
 
-    /// Drops an empty maildrop. The deposits of its name stay, so that counts and ids go on where
-    /// it is added again.
+    /// Drops an empty maildrop. The deposits of its name stay known, so that its counts and ids go
+    /// on when it is added again.
     ///
     /// Answers [`VaultFault::NoMaildrop`] where the maildrop is missing, else
     /// [`VaultFault::NotEmpty`] where it has a message.
@@ -173,6 +172,6 @@ pub trait Vault {
     /// The contents that a clean store holds are sound.
     ghost sound: { (vault : Self) (c : Contents) → holds vault c → is_clean vault → AreSound c };
 
-    /// Between two calls, while what it stands on hasn't failed, a stop leaves what is held alone.
+    /// Between two calls, while the device is up, a stop leaves just what is held.
     ghost settled: { (vault : Self) (c : Contents) → is_clean vault → is_up vault → holds vault c → (left : Contents) → may_leave vault left → SaySame left c };
 }
