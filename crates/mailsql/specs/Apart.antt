@@ -1,20 +1,21 @@
--- What the keys of the tables and the references between them make sure of in the rows of every store of ours.
+-- What the tables' keys and references ensure of the rows in every store of ours.
 use Rattle.std.specs.Prelude.{◌≡◌, ⊤, ◌<ℤ◌, Bool, true, not, ◌&&◌, List, [], ◌∷◌, bytes_eq}
 use Rattle.std.specs.List.{list_any, list_all, AllByRecursion}
 use Rattle.mailsql.specs.Columns.{Mark, Clerk, Count, Deposit, Message, Sheet, Rule, Group, Member, Body, Rows}
 use Rattle.mailsql.specs.Rows.{same_int, has_name}
 
--- no two of them are the same, as the test tells it
+-- no two elements are the same by the test
 abbrev pub are_apart : {X : Type 0} → (X → X → Bool) → List X → Bool
 are_apart same [] = true
 are_apart same (x ∷ xs) = not (list_any (same x) xs) && are_apart same xs
 
--- each has a key above those before it
+-- each key is above the keys before it
 abbrev pub AreRising : List Body → Type 0
 AreRising [] = ⊤
 AreRising (b ∷ bodies) = AllByRecursion (λ (x : Body). b.head.key <ℤ x.head.key) bodies × AreRising bodies
 
--- No two rows of a table have one key; each message has its maildrop, each sheet its message, and each member its group.
+-- No two rows of a table have one key; each message's maildrop, each sheet's message and each
+-- member's group is there.
 pub record AreApart (rows : Rows) : Type 0 where
   pub marks : are_apart (λ (a b : Mark). bytes_eq a.name b.name) rows.marks ≡ true
   pub clerks : are_apart (λ (a b : Clerk). bytes_eq a.name b.name) rows.clerks ≡ true

@@ -4,87 +4,87 @@ use Rattle.std.specs.List.{AllByRecursion}
 use Rattle.mailsql.specs.Rows.{Name, Mark, Clerk, Count, Deposit, Message, Sheet, Rule, Group, Member, Rows, is_mark, is_clerk, is_count, is_message, is_sheet_of}
 use Rattle.mailsql.specs.Sheets.{first_sheets, sheets_of, sheet_count}
 
--- a mark comes
+-- adds a mark
 abbrev pub AddsMark : Mark → Rows → Rows → Type 0
 AddsMark mark old new = new ≡ record old { marks = old.marks ++ mark ∷ [] }
 
--- the mark of this name goes
+-- drops the mark of this name
 abbrev pub DropsMark : Name → Rows → Rows → Type 0
 DropsMark name old new = new ≡ record old { marks = filter (λ m. not (is_mark name m)) old.marks }
 
--- the mark comes in place of the one of its name
+-- adds the mark, or replaces the one of its name
 abbrev pub PutsMark : Mark → Rows → Rows → Type 0
 PutsMark mark old new = new ≡ record old { marks = filter (λ m. not (is_mark mark.name m)) old.marks ++ mark ∷ [] }
 
--- a clerk comes
+-- adds a clerk
 abbrev pub AddsClerk : Clerk → Rows → Rows → Type 0
 AddsClerk clerk old new = new ≡ record old { clerks = old.clerks ++ clerk ∷ [] }
 
--- the clerk of this name goes
+-- drops the clerk of this name
 abbrev pub DropsClerk : Name → Rows → Rows → Type 0
 DropsClerk name old new = new ≡ record old { clerks = filter (λ c. not (is_clerk name c)) old.clerks }
 
--- the clerk comes in place of the one of its name
+-- adds the clerk, or replaces the one of its name
 abbrev pub PutsClerk : Clerk → Rows → Rows → Type 0
 PutsClerk clerk old new = new ≡ record old { clerks = filter (λ c. not (is_clerk clerk.name c)) old.clerks ++ clerk ∷ [] }
 
--- a maildrop's name comes
+-- adds a maildrop's name
 abbrev pub AddsMaildrop : Name → Rows → Rows → Type 0
 AddsMaildrop name old new = new ≡ record old { maildrops = old.maildrops ++ name ∷ [] }
 
--- the name goes
+-- drops a maildrop's name
 abbrev pub DropsMaildrop : Name → Rows → Rows → Type 0
 DropsMaildrop name old new = new ≡ record old { maildrops = filter (λ n. not (bytes_eq n name)) old.maildrops }
 
--- a count comes
+-- adds a count
 abbrev pub AddsCount : Count → Rows → Rows → Type 0
 AddsCount count old new = new ≡ record old { counts = old.counts ++ count ∷ [] }
 
--- the count of the class goes
+-- drops the count of the class
 abbrev pub ClearsCount : Name → Name → Rows → Rows → Type 0
 ClearsCount maildrop class old new = new ≡ record old { counts = filter (λ c. not (is_count maildrop class c)) old.counts }
 
--- the count comes in place of the one of its class
+-- adds the count, or replaces the one of its class
 abbrev pub SetsCount : Count → Rows → Rows → Type 0
 SetsCount count old new = new ≡ record old { counts = filter (λ c. not (is_count count.maildrop count.class c)) old.counts ++ count ∷ [] }
 
--- a deposit comes
+-- adds a deposit
 abbrev pub AddsDeposit : Deposit → Rows → Rows → Type 0
 AddsDeposit deposit old new = new ≡ record old { deposits = old.deposits ++ deposit ∷ [] }
 
--- the message comes after the others, under a key above theirs
+-- adds a message after the others, under a key above theirs
 pub record AddsMessage (message : Message) (old new : Rows) : Type 0 where
   pub added : new ≡ record old { messages = old.messages ++ message ∷ [] }
   pub above : AllByRecursion (λ m. m.key <ℤ message.key) old.messages
 
--- it comes so where its key is above theirs
+-- adds a message under its key; if that is above all others, the message comes last
 abbrev pub AddsKeyed : Message → Rows → Rows → Type 0
 AddsKeyed message old new = AllByRecursion (λ (m : Message). m.key <ℤ message.key) old.messages → AddsMessage message old new
 
--- so it comes under some key
+-- adds a message as the last, under some key
 abbrev pub Arrives : Name → Name → ℤ → ℤ → Rows → Rows → Type 0
 Arrives maildrop class k octets old new = (key : ℤ) × AddsMessage (record { key = key; maildrop = maildrop; class = class; k = k; octets = octets }) old new
 
--- the message goes, and the sheets that were of it
+-- drops the message with its sheets
 abbrev pub RemovesMessage : ℤ → Name → Rows → Rows → Type 0
 RemovesMessage key maildrop old new = new ≡ record old {
   messages = filter (λ m. not (is_message key maildrop m)) old.messages;
   sheets = filter (λ s. not (is_sheet_of key maildrop old.messages s)) old.sheets;
 }
 
--- a sheet comes
+-- adds a sheet
 abbrev pub AddsSheet : Sheet → Rows → Rows → Type 0
 AddsSheet sheet old new = new ≡ record old { sheets = old.sheets ++ sheet ∷ [] }
 
--- the first n sheets of a text come
+-- adds the first n sheets of a text
 abbrev pub AddsFirstSheets : ℕ → ℤ → List ℕ → Rows → Rows → Type 0
 AddsFirstSheets n mail text old new = new ≡ record old { sheets = old.sheets ++ first_sheets n mail text }
 
--- the sheets of a text come
+-- adds the sheets of a text
 abbrev pub AddsSheets : ℤ → List ℕ → Rows → Rows → Type 0
 AddsSheets mail text old new = new ≡ record old { sheets = old.sheets ++ sheets_of mail text }
 
--- some of them come, from the first on
+-- adds some of the sheets of a text, from the first on
 abbrev pub AddsSomeSheets : ℤ → List ℕ → Rows → Rows → Type 0
 AddsSomeSheets mail text old new = (n : ℕ) × (n ≤ sheet_count text) × AddsFirstSheets n mail text old new
 
@@ -92,12 +92,12 @@ AddsSomeSheets mail text old new = (n : ℕ) × (n ≤ sheet_count text) × Adds
 abbrev pub next_place : List Rule → ℤ
 next_place = fold (λ _ r. r.place +ℤ pos 1) (pos 1)
 
--- a rule comes after the others
+-- adds a rule after the others
 abbrev pub AddsRule : Name → ℤ → Name → Name → Name → ℤ → Rows → Rows → Type 0
 AddsRule name effect clerk maildrop class actions old new =
     new ≡ record old { rules = old.rules ++ record { place = next_place old.rules; name = name; effect = effect; clerk = clerk; maildrop = maildrop; class = class; actions = actions } ∷ [] }
 
--- every rule goes
+-- drops every rule
 abbrev pub ClearsRules : Rows → Rows → Type 0
 ClearsRules old new = new ≡ record old { rules = [] }
 
@@ -105,18 +105,18 @@ ClearsRules old new = new ≡ record old { rules = [] }
 abbrev pub next_group : List Group → ℤ
 next_group = fold (λ _ g. g.place +ℤ pos 1) (pos 1)
 
--- a group comes after the others, without a member
+-- adds a group after the others, without members
 abbrev pub AddsGroup : Name → Rows → Rows → Type 0
 AddsGroup name old new = new ≡ record old { groups = old.groups ++ record { place = next_group old.groups; name = name } ∷ [] }
 
--- a member comes
+-- adds a member
 abbrev pub AddsMember : Member → Rows → Rows → Type 0
 AddsMember member old new = new ≡ record old { members = old.members ++ member ∷ [] }
 
--- every group goes, and every member with its group
+-- drops every group with its members
 abbrev pub ClearsGroups : Rows → Rows → Type 0
 ClearsGroups old new = new ≡ record old { groups = []; members = [] }
 
--- every message of version 1 goes
+-- drops every message of version 1
 abbrev pub ClearsBodies : Rows → Rows → Type 0
 ClearsBodies old new = new ≡ record old { bodies = [] }

@@ -1,4 +1,5 @@
--- The rows of the store's tables as records: which column of a row each field is, what it must hold, and the records of every table.
+-- The rows of the store's tables as records: which column of a row each field is, what it must
+-- hold, and the records of every table.
 use Rattle.std.specs.Prelude.{◌≡◌, ◌⊎◌, ℕ, ℤ, Bool, true, false, ◌&&◌, List, [], map, bytes_eq, codes}
 use Rattle.std.specs.List.{list_any}
 use Rattle.sqlite_value.specs.declared.value.Value.TheVariants.{Text, Blob}
@@ -44,7 +45,7 @@ HoldsNumber row at = IsInt (column row at)
 abbrev pub mark_of : Row → Mark
 mark_of row = record { name = text_at row 1; value = number_at row 2 }
 
--- its columns can be read so
+-- the columns that mark_of reads have their types
 abbrev pub HoldsMark : Row → Type 0
 HoldsMark row = HoldsOctets row 1 × HoldsNumber row 2
 
@@ -52,7 +53,7 @@ HoldsMark row = HoldsOctets row 1 × HoldsNumber row 2
 abbrev pub clerk_of : Row → Clerk
 clerk_of row = record { name = text_at row 1; kind = number_at row 2; secret = text_at row 3 }
 
--- its columns can be read so
+-- the columns that clerk_of reads have their types
 abbrev pub HoldsClerk : Row → Type 0
 HoldsClerk row = HoldsOctets row 1 × HoldsNumber row 2 × HoldsOctets row 3
 
@@ -60,7 +61,7 @@ HoldsClerk row = HoldsOctets row 1 × HoldsNumber row 2 × HoldsOctets row 3
 abbrev pub maildrop_of : Row → Name
 maildrop_of row = text_at row 1
 
--- its column can be read so
+-- the column that maildrop_of reads has its type
 abbrev pub HoldsName : Row → Type 0
 HoldsName row = HoldsOctets row 1
 
@@ -68,7 +69,7 @@ HoldsName row = HoldsOctets row 1
 abbrev pub count_of : Row → Count
 count_of row = record { maildrop = text_at row 1; class = text_at row 2; k = number_at row 3 }
 
--- its columns can be read so
+-- the columns that count_of reads have their types
 abbrev pub HoldsCount : Row → Type 0
 HoldsCount row = HoldsOctets row 1 × HoldsOctets row 2 × HoldsNumber row 3
 
@@ -76,7 +77,7 @@ HoldsCount row = HoldsOctets row 1 × HoldsOctets row 2 × HoldsNumber row 3
 abbrev pub deposit_of : Row → Deposit
 deposit_of row = record { maildrop = text_at row 1; id = text_at row 2; class = text_at row 3; k = number_at row 4; digest = text_at row 5 }
 
--- its columns can be read so
+-- the columns that deposit_of reads have their types
 abbrev pub HoldsDeposit : Row → Type 0
 HoldsDeposit row = HoldsOctets row 1 × HoldsOctets row 2 × HoldsOctets row 3 × HoldsNumber row 4 × HoldsOctets row 5
 
@@ -84,7 +85,7 @@ HoldsDeposit row = HoldsOctets row 1 × HoldsOctets row 2 × HoldsOctets row 3 �
 abbrev pub message_of : Row → Message
 message_of row = record { key = id_in (rowid row); maildrop = text_at row 2; class = text_at row 3; k = number_at row 4; octets = number_at row 5 }
 
--- its columns can be read so
+-- the columns that message_of reads have their types
 abbrev pub HoldsMessage : Row → Type 0
 HoldsMessage row = HoldsNumber row 0 × HoldsOctets row 2 × HoldsOctets row 3 × HoldsNumber row 4 × HoldsNumber row 5
 
@@ -92,7 +93,7 @@ HoldsMessage row = HoldsNumber row 0 × HoldsOctets row 2 × HoldsOctets row 3 �
 abbrev pub sheet_of : Row → Sheet
 sheet_of row = record { mail = number_at row 1; place = number_at row 2; octets = text_at row 3 }
 
--- its columns can be read so
+-- the columns that sheet_of reads have their types
 abbrev pub HoldsSheet : Row → Type 0
 HoldsSheet row = HoldsNumber row 1 × HoldsNumber row 2 × HoldsOctets row 3
 
@@ -100,7 +101,7 @@ HoldsSheet row = HoldsNumber row 1 × HoldsNumber row 2 × HoldsOctets row 3
 abbrev pub rule_of : Row → Rule
 rule_of row = record { place = id_in (rowid row); name = text_at row 2; effect = number_at row 3; clerk = text_at row 4; maildrop = text_at row 5; class = text_at row 6; actions = number_at row 7 }
 
--- its columns can be read so
+-- the columns that rule_of reads have their types
 abbrev pub HoldsRule : Row → Type 0
 HoldsRule row = HoldsNumber row 0 × HoldsOctets row 2 × HoldsNumber row 3 × HoldsOctets row 4 × HoldsOctets row 5 × HoldsOctets row 6 × HoldsNumber row 7
 
@@ -108,7 +109,7 @@ HoldsRule row = HoldsNumber row 0 × HoldsOctets row 2 × HoldsNumber row 3 × H
 abbrev pub group_of : Row → Group
 group_of row = record { place = id_in (rowid row); name = text_at row 2 }
 
--- its columns can be read so
+-- the columns that group_of reads have their types
 abbrev pub HoldsGroup : Row → Type 0
 HoldsGroup row = HoldsNumber row 0 × HoldsOctets row 2
 
@@ -116,7 +117,7 @@ HoldsGroup row = HoldsNumber row 0 × HoldsOctets row 2
 abbrev pub member_of : Row → Member
 member_of row = record { group = number_at row 1; place = number_at row 2; clerk = text_at row 3 }
 
--- its columns can be read so
+-- the columns that member_of reads have their types
 abbrev pub HoldsMember : Row → Type 0
 HoldsMember row = HoldsNumber row 1 × HoldsNumber row 2 × HoldsOctets row 3
 
@@ -124,11 +125,11 @@ HoldsMember row = HoldsNumber row 1 × HoldsNumber row 2 × HoldsOctets row 3
 abbrev pub body_of : Row → Body
 body_of row = record { head = message_of row; body = text_at row 6 }
 
--- its columns can be read so
+-- the columns that body_of reads have their types
 abbrev pub HoldsBody : Row → Type 0
 HoldsBody row = HoldsMessage row × HoldsOctets row 6
 
--- the records of every table, each in the order of the rowids; a store that was not carried over has no bodies
+-- the records of every table, in the order of rowids; only a store that was carried over has bodies
 pub record Rows : Type 0 where
   pub marks : List Mark
   pub clerks : List Clerk
@@ -147,7 +148,7 @@ abbrev pub bodies_at : (carried : Bool) → Trees → List Body
 bodies_at false db = []
 bodies_at true db = map body_of (db 10)
 
--- the records that the trees hold, those of a store that was carried over from version 1 or of another
+-- the records that the trees hold; `carried` says that the store was carried over from version 1
 abbrev pub rows_at : (carried : Bool) → Trees → Rows
 rows_at carried db = record {
   marks = map mark_of (db 0);
@@ -163,7 +164,7 @@ rows_at carried db = record {
   bodies = bodies_at carried db;
 }
 
--- a store was carried over from version 1 where the table of that version's messages is in the list of its trees
+-- a store was carried over from version 1 if its catalog has the table of that version's messages
 unfoldable pub is_carried : Trees → Bool
 is_carried db = list_any (λ row. is_table_row row && bytes_eq (text_at row 2) (codes "messages")) (db catalog_tree)
 
@@ -175,6 +176,6 @@ rows_in db = rows_at (is_carried db) db
 abbrev pub no_rows : Rows
 no_rows = record { marks = []; clerks = []; maildrops = []; counts = []; deposits = []; messages = []; rules = []; sheets = []; groups = []; members = []; bodies = [] }
 
--- how far AUTOINCREMENT has counted, for each table that it counts for
+-- the greatest key that AUTOINCREMENT gave, for each table that has it
 abbrev pub sequences_in : Trees → List Mark
 sequences_in db = map mark_of (db 12)

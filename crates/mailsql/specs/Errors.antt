@@ -23,22 +23,22 @@ IsWantOfMemory e = e ≡ SqliteFailure OutOfMemory
 abbrev pub FailsToRun : List ℕ → Row → State → State → Error → Type 0
 FailsToRun text params old new e = Executes text params old new (Err e)
 
--- the statement met this error, behind others that made a change
+-- the statement met this error, after others that made a change
 abbrev pub FailsAfter : {S : Type 0} → Ghosts S → (Rows → Rows → Type 0) → List ℕ → Row → Held S → Held S → Error → Type 0
 FailsAfter {S} g Change text params old new e = (between : Held S) × Changes Change (state g old) (state g between) × FailsToRun text params (state g between) (state g new) e
 
--- one of the texts that make the tables met this error, behind those before it
+-- one of the texts that make the tables met this error, after those before it were run
 abbrev pub FailsToCreate : {S : Type 0} → Ghosts S → Held S → Held S → Error → Type 0
 FailsToCreate {S} g old new e =
     (at : ℕ) × (at < length create_texts) × (between : Held S) × IsBare (stage at) (state g between).now × GoesOn (state g old) (state g between) × FailsToRun (create_text at) [] (state g between) (state g new) e
 
--- one of the texts that make the tables which an older store lacks met this error, behind those before it
+-- one of the texts that make an older store's lacked tables met this error, after those before it
 abbrev pub FailsToComplete : {S : Type 0} → Ghosts S → (carried : Bool) → Held S → Held S → Error → Type 0
 FailsToComplete {S} g carried old new e =
     (at : ℕ) × (at < length (lacked_texts carried)) × (between : Held S) × ((state g between).now.schema ≡ old_stage carried at) × GoesOn (state g old) (state g between)
     × FailsToRun (lacked_text carried at) [] (state g between) (state g new) e
 
--- one of the sheets of a text met this error, behind those before it
+-- one of the sheets of a text met this error, after those before it were added
 abbrev pub FailsToAddSheets : {S : Type 0} → Ghosts S → ℤ → List ℕ → Held S → Held S → Error → Type 0
 FailsToAddSheets g mail text old new e =
     (place : ℕ) × (place < sheet_count text) × FailsAfter g (AddsFirstSheets place mail text) add_sheet_text (Int mail ∷ Int (pos place) ∷ Blob (octets_at text place) ∷ []) old new e
@@ -51,11 +51,12 @@ FailsToRead text params old new e = FailsToQuery text params old new e ⊎ (IsWa
 abbrev pub FailsToCount : List ℕ → Row → State → State → Error → Type 0
 FailsToCount text params old new e = FailsToQuery text params old new e ⊎ (IsWantOfMemory e × (row : Row) × QueriesRow text params old new (Ok row))
 
--- the query met this error, or showed rows; and where each holds what its record is made of, there was no memory for a record
+-- the query met this error; or it showed rows and, if each can be read as a record, there was no
+-- memory for a record
 abbrev pub FailsToReadAs : (Row → Type 0) → List ℕ → Row → State → State → Error → Type 0
 FailsToReadAs Holds text params old new e = FailsToQuery text params old new e ⊎ ((rows : List Row) × Shown text params old new rows × (AllByRecursion Holds rows → IsWantOfMemory e))
 
--- the query met this error, or showed a row; and where that holds a number, there was no memory for it
+-- the query met this error; or it showed a row and, if that holds a number, there was no memory
 abbrev pub FailsToCountAs : List ℕ → Row → State → State → Error → Type 0
 FailsToCountAs text params old new e =
     QueriesRow text params old new (Err e) ⊎ ((row : Row) × QueriesRow text params old new (Ok row) × ((count : ℕ) → column row 0 ≡ Int (pos count) → IsWantOfMemory e))

@@ -11,7 +11,7 @@ use Rattle.sqlite_schema.specs.Names.{same_name}
 use Rattle.sqlite_schema.specs.Rules.{kind_code}
 use Rattle.mailsql.specs.Tables.{column_of, table_of, meta_at, clerks_at, maildrops_at, counts_at, deposits_at, mail_at, rules_at, sheets_at, groups_at, members_at, messages_at}
 
--- the name is that of one of our tables, but for the case of ASCII letters
+-- the name is one of our tables', in ASCII letters of any case
 abbrev pub is_our_name : List ℕ → Bool
 is_our_name name = list_any (same_name name) (codes "meta" ∷ codes "clerks" ∷ codes "maildrops" ∷ codes "counts" ∷ codes "deposits" ∷ codes "mail" ∷ codes "rules" ∷ codes "sheets" ∷ codes "groups" ∷ codes "members" ∷ codes "messages" ∷ [])
 
@@ -24,59 +24,60 @@ is_taken schema =
 abbrev pub is_kind : Kind → Column → Bool
 is_kind kind c = kind_code c.kind == kind_code kind
 
--- the column is STRICT, has this name and this kind, and is NOT NULL where that is asked for
+-- the column is STRICT, has this name and this kind, and is NOT NULL if `required`
 abbrev pub is_column : List ℕ → Kind → Bool → Column → Bool
 is_column name kind required c = bytes_eq c.name name && is_kind kind c && c.is_strict && (not required || c.not_null)
 
--- the column that a text makes of its name, its kind, and whether it is NOT NULL
+-- the column of a name, a kind, and whether it is NOT NULL
 abbrev pub made : Bor (List ℕ) × Kind × Bool → Column
 made m = column_of m.0.now m.1 m.2
 
--- a table of this name, with these columns, and of keys this primary one and one more
+-- a table of this name, with these columns, this primary key and this unique key
 abbrev pub table_made : List ℕ → List (Bor (List ℕ) × Kind × Bool) → List ℕ → List ℕ → Table
 table_made name columns primary unique = table_of name 0 (map made columns) None primary (unique ∷ []) [] [] false
 
--- STRICT columns of the same names and kinds, in the same order, and NOT NULL where these are
+-- the second columns are STRICT, have the names and kinds of the first, in the same order, and are
+-- NOT NULL where those are
 abbrev pub are_columns : List Column → List Column → Bool
 are_columns [] [] = true
 are_columns [] (c ∷ cs) = false
 are_columns (o ∷ os) [] = false
 are_columns (o ∷ os) (c ∷ cs) = is_column o.name o.kind o.not_null c && are_columns os cs
 
--- the same columns, by their places in a row, which has its rowid at 0
+-- the same columns, by their places in a row; the rowid is at 0
 abbrev pub are_places : List ℕ → List ℕ → Bool
 are_places = pointwise nat_eq
 
--- the primary key is over the first columns, and no two rows may be alike in the second
+-- the primary key is over `primary`, and a unique key over `unique`
 abbrev pub has_keys : List ℕ → List ℕ → Table → Bool
 has_keys primary unique t = are_places t.primary primary && list_any (λ key. are_places key unique) t.uniques
 
--- the keys of this table of ours, in which no two rows may be alike in one list of columns
+-- the table has the primary key and every unique key of ours
 abbrev pub keeps_apart : Table → Table → Bool
 keeps_apart ours t = list_all (λ unique. has_keys ours.primary unique t) ours.uniques
 
--- the table has the name, the columns and the keys of this one
+-- the table has the name, the columns and the keys of ours
 abbrev pub is_table : Table → Table → Bool
 is_table ours t = bytes_eq t.name ours.name && are_columns ours.columns t.columns && keeps_apart ours t
 
--- the table of marks is among these
+-- the table of marks is among the tables
 abbrev pub has_marks : List Table → Bool
 has_marks tables = list_any (is_table (meta_at 0)) tables
 
--- the tables that stores of every version have are among these
+-- the tables that stores of every version have are among the tables
 abbrev pub has_common_columns : List Table → Bool
 has_common_columns tables =
     list_any (is_table (meta_at 0)) tables && list_any (is_table (clerks_at 2)) tables && list_any (is_table (maildrops_at 4)) tables && list_any (is_table (counts_at 6)) tables
     && list_any (is_table (deposits_at 8)) tables && list_any (is_table (rules_at 13)) tables
 
--- the tables of version 1 are among these
+-- the tables of version 1 are among the tables
 abbrev pub has_first_columns : List Table → Bool
 has_first_columns tables = has_common_columns tables && list_any (is_table (messages_at 10)) tables
 
--- the tables of version 2 are among these
+-- the tables of version 2 are among the tables
 abbrev pub has_second_columns : List Table → Bool
 has_second_columns tables = has_common_columns tables && list_any (is_table (mail_at 10)) tables && list_any (is_table (sheets_at 15)) tables
 
--- each of our tables is among these
+-- each of our tables is among the tables
 abbrev pub has_columns : List Table → Bool
 has_columns tables = has_second_columns tables && list_any (is_table (groups_at 17)) tables && list_any (is_table (members_at 19)) tables

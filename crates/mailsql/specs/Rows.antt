@@ -24,15 +24,15 @@ IsOurs db = db.schema ≡ schema_of (is_carried db.trees)
 abbrev pub AreKeyed : List Row → Type 0
 AreKeyed rows = IsTable rows × AllByRecursion (λ r. IsTrue (is_int (rowid r))) rows
 
--- so it is in each of these tables
+-- each of these tables is keyed so
 abbrev pub AreKept : List Table → Trees → Type 0
 AreKept tables db = AllByRecursion (λ t. AreKeyed (db t.tree)) tables
 
--- the tables are ours, and their rows are in order
+-- the tables are ours, and their rowids rise
 abbrev pub IsKept : Database → Type 0
 IsKept db = IsOurs db × AreKept (schema_of (is_carried db.trees)).tables db.trees
 
--- so it is while the connection is open
+-- if the connection is open, it is over a store of ours
 abbrev pub HasTables : State → Type 0
 HasTables s = IsTrue s.is_open → IsKept s.now
 
@@ -46,15 +46,15 @@ IsReady s = IsTrue s.is_open × IsKept s.now
 abbrev pub IsOldSchema : Database → Type 0
 IsOldSchema db = db.schema ≡ old_schema (is_carried db.trees)
 
--- and their rows are in order
+-- the schema is an older store's, and the rowids of its tables rise
 abbrev pub IsOld : Database → Type 0
 IsOld db = IsOldSchema db × AreKept (old_schema (is_carried db.trees)).tables db.trees
 
--- so it is while the connection is open
+-- if the connection is open, it is over an older store
 abbrev pub HasOldTables : State → Type 0
 HasOldTables s = IsTrue s.is_open → IsOld s.now
 
--- a transaction is under way over such a store
+-- a transaction is under way over an older store
 pub record IsBegunOn (s : State) : Type 0 where
   pub is_open : IsTrue s.is_open
   pub inside : IsTrue s.in_transaction
@@ -72,7 +72,8 @@ pub record Changes (Change : Rows → Rows → Type 0) (old new : State) : Type 
 abbrev pub IsUndone : State → State → Type 0
 IsUndone old new = IsUnchanged old new ⊎ IsRolledBack old new
 
--- what a stop in a call may leave beside what it left before: outside a transaction, the change
+-- what a stop during a call may leave beside what it might leave before: outside a transaction,
+-- the change
 abbrev pub MayLeave : (Rows → Rows → Type 0) → State → Trees → Type 0
 MayLeave Change old db = IsReady old → (old.in_transaction ≡ false) × Change (rows_in old.now.trees) (rows_in db)
 
@@ -88,7 +89,7 @@ pub record IsGone (old new : State) : Type 0 where
   pub undone : IsTrue new.is_open → (new.now ≡ old.committed) × (new.committed ≡ old.committed)
   pub autocommit : new.in_transaction ≡ false
 
--- after an error the transaction is under way still, or gone
+-- after an error the transaction is still under way, or gone
 abbrev pub IsHalted : State → State → Type 0
 IsHalted old new = GoesOn old new ⊎ IsGone old new
 
@@ -114,12 +115,13 @@ pub record MakesTables (old new : State) : Type 0 where
   pub rows : rows_in new.now.trees ≡ no_rows
   pub on : GoesOn old new
 
--- the rows of an older store, with the tables that it lacks empty; of a store of version 1 these are mail and sheets too
+-- the rows of an older store with empty tables for those that it lacks: groups and members, and in
+-- version 1 mail and sheets too
 abbrev pub completed : (carried : Bool) → Rows → Rows
 completed false rows = record rows { groups = []; members = [] }
 completed true rows = record rows { messages = []; sheets = []; groups = []; members = [] }
 
--- the tables that it lacks are made, and empty, and the others are as they were
+-- the tables that an older store lacks are made, and empty, and the others are as they were
 pub record CompletesTables (old new : State) : Type 0 where
   pub kept : IsKept new.now
   pub same : is_carried new.now.trees ≡ is_carried old.now.trees
@@ -128,7 +130,7 @@ pub record CompletesTables (old new : State) : Type 0 where
 
 -- ---- what is looked for
 
--- equal numbers
+-- the numbers are equal
 abbrev pub same_int : ℤ → ℤ → Bool
 same_int a b = is_eq (int_cmp a b)
 
@@ -140,7 +142,7 @@ is_mark name mark = bytes_eq mark.name name
 abbrev pub is_clerk : Name → Clerk → Bool
 is_clerk name clerk = bytes_eq clerk.name name
 
--- the name is among them
+-- the name is among the names
 abbrev pub has_name : Name → List Name → Bool
 has_name name names = list_any (λ x. bytes_eq x name) names
 

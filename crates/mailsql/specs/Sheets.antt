@@ -1,4 +1,5 @@
--- A text as the sheets of its message: consecutive pieces of 4,096 octets, of which the last may be shorter and none is empty, in places counted from 0.
+-- A text as the sheets of its message: consecutive pieces of 4,096 octets, of which the last may be
+-- shorter and none is empty, at places counted from 0.
 use Rattle.std.specs.Prelude.{◌≡◌, ℕ, ◌+◌, ◌*◌, ◌<◌, ◌≤◌, ℤ, pos, List, [], ◌∷◌, ◌++◌, length, map, take, drop, Some}
 use Rattle.std.specs.Int.{div_ceil}
 use Rattle.std.specs.List.{range_with_len, find}
@@ -25,7 +26,7 @@ sheet_at mail text place = record { mail = mail; place = pos place; octets = oct
 abbrev pub first_sheets : ℕ → ℤ → List ℕ → List Sheet
 first_sheets n mail text = map (sheet_at mail text) (range_with_len 0 n)
 
--- all its sheets
+-- all sheets of a text
 abbrev pub sheets_of : ℤ → List ℕ → List Sheet
 sheets_of mail text = first_sheets (sheet_count text) mail text
 
@@ -41,6 +42,6 @@ pub record IsCut (mail : ℤ) (text : List ℕ) : Type 0 where
   pub are_sized : (place : ℕ) → place < sheet_count text → (0 < length (octets_at text place)) × (length (octets_at text place) ≤ whole)
   pub are_found : (place : ℕ) → place < sheet_count text → find (is_sheet mail (pos place)) (sheets_of mail text) ≡ Some (sheet_at mail text place)
 
--- so it is for every message and every text
+-- every text is cut so, whatever its message
 abbrev pub SheetsAreTheText : Type 0
 SheetsAreTheText = (mail : ℤ) (text : List ℕ) → IsCut mail text

@@ -3,218 +3,218 @@ use Rattle.std.specs.Prelude.{ℕ, List, codes}
 
 -- ---- the transaction
 
--- it begins
+-- begins the transaction
 abbrev pub begin_text : List ℕ
 begin_text = codes "BEGIN"
 
--- it is committed
+-- commits the transaction
 abbrev pub commit_text : List ℕ
 commit_text = codes "COMMIT"
 
--- it is rolled back
+-- rolls the transaction back
 abbrev pub rollback_text : List ℕ
 rollback_text = codes "ROLLBACK"
 
 -- ---- meta
 
--- a mark comes
+-- adds a mark
 abbrev pub add_mark_text : List ℕ
 add_mark_text = codes "INSERT INTO meta (name, value) VALUES (?1, ?2)"
 
--- the mark of a name goes
+-- drops the mark of a name
 abbrev pub drop_mark_text : List ℕ
 drop_mark_text = codes "DELETE FROM meta WHERE name = ?1"
 
--- the mark of a name
+-- reads the mark of a name
 abbrev pub find_mark_text : List ℕ
 find_mark_text = codes "SELECT name, value FROM meta WHERE name = ?1 ORDER BY rowid"
 
--- every mark
+-- reads every mark
 abbrev pub all_marks_text : List ℕ
 all_marks_text = codes "SELECT name, value FROM meta ORDER BY rowid"
 
 -- ---- clerks
 
--- a clerk comes
+-- adds a clerk
 abbrev pub add_clerk_text : List ℕ
 add_clerk_text = codes "INSERT INTO clerks (name, kind, secret) VALUES (?1, ?2, ?3)"
 
--- the clerk of a name goes
+-- drops the clerk of a name
 abbrev pub drop_clerk_text : List ℕ
 drop_clerk_text = codes "DELETE FROM clerks WHERE name = ?1"
 
--- the clerk of a name
+-- reads the clerk of a name
 abbrev pub find_clerk_text : List ℕ
 find_clerk_text = codes "SELECT name, kind, secret FROM clerks WHERE name = ?1 ORDER BY rowid"
 
--- every clerk
+-- reads every clerk
 abbrev pub all_clerks_text : List ℕ
 all_clerks_text = codes "SELECT name, kind, secret FROM clerks ORDER BY rowid"
 
--- how many clerks there are
+-- reads how many clerks there are
 abbrev pub clerk_count_text : List ℕ
 clerk_count_text = codes "SELECT count(*) FROM clerks"
 
 -- ---- maildrops
 
--- a name comes
+-- adds a name
 abbrev pub add_maildrop_text : List ℕ
 add_maildrop_text = codes "INSERT INTO maildrops (name) VALUES (?1)"
 
--- a name goes
+-- drops a name
 abbrev pub drop_maildrop_text : List ℕ
 drop_maildrop_text = codes "DELETE FROM maildrops WHERE name = ?1"
 
--- the name, if it is there
+-- reads the name, if it is there
 abbrev pub find_maildrop_text : List ℕ
 find_maildrop_text = codes "SELECT name FROM maildrops WHERE name = ?1"
 
--- every name
+-- reads every name
 abbrev pub all_maildrops_text : List ℕ
 all_maildrops_text = codes "SELECT name FROM maildrops ORDER BY rowid"
 
--- every name, in the order of the octets
+-- reads every name, in the order of the octets
 abbrev pub maildrops_text : List ℕ
 maildrops_text = codes "SELECT name FROM maildrops ORDER BY name"
 
--- how many names there are
+-- reads how many names there are
 abbrev pub maildrop_count_text : List ℕ
 maildrop_count_text = codes "SELECT count(*) FROM maildrops"
 
 -- ---- counts
 
--- a count comes
+-- adds a count
 abbrev pub add_count_text : List ℕ
 add_count_text = codes "INSERT INTO counts (maildrop, class, k) VALUES (?1, ?2, ?3)"
 
--- the count of a class goes
+-- drops the count of a class
 abbrev pub clear_count_text : List ℕ
 clear_count_text = codes "DELETE FROM counts WHERE maildrop = ?1 AND class = ?2"
 
--- the count of a class
+-- reads the count of a class
 abbrev pub find_count_text : List ℕ
 find_count_text = codes "SELECT maildrop, class, k FROM counts WHERE maildrop = ?1 AND class = ?2 ORDER BY rowid"
 
--- every count
+-- reads every count
 abbrev pub all_counts_text : List ℕ
 all_counts_text = codes "SELECT maildrop, class, k FROM counts ORDER BY rowid"
 
 -- ---- deposits
 
--- a deposit comes
+-- adds a deposit
 abbrev pub add_deposit_text : List ℕ
 add_deposit_text = codes "INSERT INTO deposits (maildrop, id, class, k, digest) VALUES (?1, ?2, ?3, ?4, ?5)"
 
--- the deposit of an id
+-- reads the deposit of an id
 abbrev pub find_deposit_text : List ℕ
 find_deposit_text = codes "SELECT maildrop, id, class, k, digest FROM deposits WHERE maildrop = ?1 AND id = ?2 ORDER BY rowid"
 
--- every deposit
+-- reads every deposit
 abbrev pub all_deposits_text : List ℕ
 all_deposits_text = codes "SELECT maildrop, id, class, k, digest FROM deposits ORDER BY rowid"
 
 -- ---- mail
 
--- a message comes
+-- adds a message
 abbrev pub add_message_text : List ℕ
 add_message_text = codes "INSERT INTO mail (maildrop, class, k, octets) VALUES (?1, ?2, ?3, ?4)"
 
--- a message comes under a given key
+-- adds a message under a given key
 abbrev pub add_keyed_text : List ℕ
 add_keyed_text = codes "INSERT INTO mail (key, maildrop, class, k, octets) VALUES (?1, ?2, ?3, ?4, ?5)"
 
--- a message of a maildrop goes
+-- drops a message of a maildrop
 abbrev pub remove_message_text : List ℕ
 remove_message_text = codes "DELETE FROM mail WHERE key = ?1 AND maildrop = ?2"
 
--- the messages of a maildrop
+-- reads the messages of a maildrop
 abbrev pub heads_text : List ℕ
 heads_text = codes "SELECT key, maildrop, class, k, octets FROM mail WHERE maildrop = ?1 ORDER BY key"
 
--- every message
+-- reads every message
 abbrev pub all_messages_text : List ℕ
 all_messages_text = codes "SELECT key, maildrop, class, k, octets FROM mail ORDER BY key"
 
--- how many messages a maildrop has
+-- reads how many messages a maildrop has
 abbrev pub message_count_text : List ℕ
 message_count_text = codes "SELECT count(*) FROM mail WHERE maildrop = ?1"
 
 -- ---- sheets
 
--- a sheet comes
+-- adds a sheet
 abbrev pub add_sheet_text : List ℕ
 add_sheet_text = codes "INSERT INTO sheets (mail, place, octets) VALUES (?1, ?2, ?3)"
 
--- the sheet of a message at a place
+-- reads the sheet of a message at a place
 abbrev pub find_sheet_text : List ℕ
 find_sheet_text = codes "SELECT mail, place, octets FROM sheets WHERE mail = ?1 AND place = ?2 ORDER BY rowid"
 
--- every sheet
+-- reads every sheet
 abbrev pub all_sheets_text : List ℕ
 all_sheets_text = codes "SELECT mail, place, octets FROM sheets ORDER BY rowid"
 
--- how many sheets there are
+-- reads how many sheets there are
 abbrev pub sheet_count_text : List ℕ
 sheet_count_text = codes "SELECT count(*) FROM sheets"
 
 -- ---- rules
 
--- a rule comes
+-- adds a rule
 abbrev pub add_rule_text : List ℕ
 add_rule_text = codes "INSERT INTO rules (name, effect, clerk, maildrop, class, actions) VALUES (?1, ?2, ?3, ?4, ?5, ?6)"
 
--- every rule goes
+-- drops every rule
 abbrev pub clear_rules_text : List ℕ
 clear_rules_text = codes "DELETE FROM rules"
 
--- every rule
+-- reads every rule
 abbrev pub all_rules_text : List ℕ
 all_rules_text = codes "SELECT place, name, effect, clerk, maildrop, class, actions FROM rules ORDER BY place"
 
 -- ---- groups
 
--- a group comes
+-- adds a group
 abbrev pub add_group_text : List ℕ
 add_group_text = codes "INSERT INTO groups (name) VALUES (?1)"
 
--- every group goes
+-- drops every group
 abbrev pub clear_groups_text : List ℕ
 clear_groups_text = codes "DELETE FROM groups"
 
--- every group
+-- reads every group
 abbrev pub all_groups_text : List ℕ
 all_groups_text = codes "SELECT place, name FROM groups ORDER BY place"
 
 -- ---- members
 
--- a member comes
+-- adds a member
 abbrev pub add_member_text : List ℕ
 add_member_text = codes "INSERT INTO members (grp, place, clerk) VALUES (?1, ?2, ?3)"
 
--- the members of a group, in order
+-- reads the members of a group, in order
 abbrev pub members_text : List ℕ
 members_text = codes "SELECT grp, place, clerk FROM members WHERE grp = ?1 ORDER BY place"
 
--- every member
+-- reads every member
 abbrev pub all_members_text : List ℕ
 all_members_text = codes "SELECT grp, place, clerk FROM members ORDER BY rowid"
 
 -- ---- messages, the table of version 1
 
--- every message, without its body
+-- reads every message, without its body
 abbrev pub old_messages_text : List ℕ
 old_messages_text = codes "SELECT key, maildrop, class, k, octets FROM messages ORDER BY key"
 
--- a message with its body
+-- reads a message with its body
 abbrev pub find_body_text : List ℕ
 find_body_text = codes "SELECT key, maildrop, class, k, octets, body FROM messages WHERE key = ?1 ORDER BY key"
 
--- every message goes
+-- drops every message
 abbrev pub clear_bodies_text : List ℕ
 clear_bodies_text = codes "DELETE FROM messages"
 
 -- ---- sqlite_sequence
 
--- how far each table is counted
+-- reads the greatest key given in each table with AUTOINCREMENT
 abbrev pub all_sequences_text : List ℕ
 all_sequences_text = codes "SELECT name, seq FROM sqlite_sequence ORDER BY rowid"

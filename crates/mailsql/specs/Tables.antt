@@ -1,4 +1,5 @@
--- The tables of a store: the text that makes each, what the text defines, and the schema that the texts make in their order.
+-- The tables of a store: the text that makes each, the table that the text makes, and the schema
+-- that the texts make in their order.
 -- The layout is version 3. Version 2 has no groups and no members; version 1 has messages in place of mail and sheets.
 use Rattle.std.specs.Prelude.{ℕ, zero, suc, List, [], ◌∷◌, ◌++◌, Bool, true, false, Some, None, Option, codes, slice_index_or, length, drop}
 use Rattle.sqlite_value.specs.declared.keys.Collation.TheVariants.{Binary}
@@ -14,7 +15,7 @@ use Rattle.sqlite_schema.specs.declared.schema.Index.{Index}
 use Rattle.sqlite_schema.specs.declared.schema.Schema.{Schema}
 use Rattle.sqlite_catalog.specs.Change.{created}
 
--- a STRICT column of this type, which may be NOT NULL
+-- a STRICT column of this kind, NOT NULL if required
 abbrev pub column_of : List ℕ → Kind → Bool → Column
 column_of name kind required = record { name = name; kind = kind; is_strict = true; not_null = required; default = Null; collation = Binary }
 
@@ -39,7 +40,7 @@ table_of name tree columns key primary uniques orders references counted = recor
 abbrev pub plain_order : Order
 plain_order = record { digits = 0 }
 
--- a table with a key over these places
+-- a table with a primary key over these places
 abbrev pub keyed_table : List ℕ → ℕ → List Column → List ℕ → Table
 keyed_table name tree columns key = table_of name tree columns None key (key ∷ []) (plain_order ∷ []) [] false
 
@@ -47,7 +48,7 @@ keyed_table name tree columns key = table_of name tree columns None key (key ∷
 abbrev pub meta_text : List ℕ
 meta_text = codes "CREATE TABLE meta (name TEXT PRIMARY KEY, value INTEGER NOT NULL) STRICT"
 
--- what the text makes, in this tree
+-- the table that meta_text makes, in this tree
 abbrev pub meta_at : ℕ → Table
 meta_at tree = keyed_table (codes "meta") tree (column_of (codes "name") kind.Text true ∷ column_of (codes "value") kind.Integer true ∷ []) (1 ∷ [])
 
@@ -55,7 +56,7 @@ meta_at tree = keyed_table (codes "meta") tree (column_of (codes "name") kind.Te
 abbrev pub clerks_text : List ℕ
 clerks_text = codes "CREATE TABLE clerks (name TEXT PRIMARY KEY, kind INTEGER NOT NULL, secret BLOB NOT NULL) STRICT"
 
--- what the text makes, in this tree
+-- the table that clerks_text makes, in this tree
 abbrev pub clerks_at : ℕ → Table
 clerks_at tree = keyed_table (codes "clerks") tree (column_of (codes "name") kind.Text true ∷ column_of (codes "kind") kind.Integer true ∷ column_of (codes "secret") kind.Blob true ∷ []) (1 ∷ [])
 
@@ -63,7 +64,7 @@ clerks_at tree = keyed_table (codes "clerks") tree (column_of (codes "name") kin
 abbrev pub maildrops_text : List ℕ
 maildrops_text = codes "CREATE TABLE maildrops (name TEXT PRIMARY KEY) STRICT"
 
--- what the text makes, in this tree
+-- the table that maildrops_text makes, in this tree
 abbrev pub maildrops_at : ℕ → Table
 maildrops_at tree = keyed_table (codes "maildrops") tree (column_of (codes "name") kind.Text true ∷ []) (1 ∷ [])
 
@@ -71,7 +72,7 @@ maildrops_at tree = keyed_table (codes "maildrops") tree (column_of (codes "name
 abbrev pub counts_text : List ℕ
 counts_text = codes "CREATE TABLE counts (maildrop TEXT, class TEXT, k INTEGER NOT NULL, PRIMARY KEY (maildrop, class)) STRICT"
 
--- what the text makes, in this tree
+-- the table that counts_text makes, in this tree
 abbrev pub counts_at : ℕ → Table
 counts_at tree = keyed_table (codes "counts") tree (column_of (codes "maildrop") kind.Text true ∷ column_of (codes "class") kind.Text true ∷ column_of (codes "k") kind.Integer true ∷ []) (1 ∷ 2 ∷ [])
 
@@ -79,7 +80,7 @@ counts_at tree = keyed_table (codes "counts") tree (column_of (codes "maildrop")
 abbrev pub deposits_text : List ℕ
 deposits_text = codes "CREATE TABLE deposits (maildrop TEXT, id TEXT, class TEXT NOT NULL, k INTEGER NOT NULL, digest BLOB NOT NULL, PRIMARY KEY (maildrop, id)) STRICT"
 
--- what the text makes, in this tree
+-- the table that deposits_text makes, in this tree
 abbrev pub deposits_at : ℕ → Table
 deposits_at tree = keyed_table (codes "deposits") tree
     (column_of (codes "maildrop") kind.Text true ∷ column_of (codes "id") kind.Text true ∷ column_of (codes "class") kind.Text true ∷ column_of (codes "k") kind.Integer true ∷ column_of (codes "digest") kind.Blob true ∷ [])
@@ -89,25 +90,25 @@ deposits_at tree = keyed_table (codes "deposits") tree
 abbrev pub mail_text : List ℕ
 mail_text = codes "CREATE TABLE mail (key INTEGER PRIMARY KEY AUTOINCREMENT, maildrop TEXT NOT NULL REFERENCES maildrops, class TEXT NOT NULL, k INTEGER NOT NULL, octets INTEGER NOT NULL, UNIQUE (maildrop, class, k)) STRICT"
 
--- the maildrop of a message
+-- a message's reference to its maildrop
 abbrev pub to_maildrops : Reference
 to_maildrops = record { columns = 2 ∷ []; parent = codes "maildrops"; parent_columns = []; on_delete = NoAction; on_update = NoAction; is_deferred = false }
 
--- what the text makes, in this tree
+-- the table that mail_text makes, in this tree
 abbrev pub mail_at : ℕ → Table
 mail_at tree = table_of (codes "mail") tree
     (column_of (codes "key") kind.Integer false ∷ column_of (codes "maildrop") kind.Text true ∷ column_of (codes "class") kind.Text true ∷ column_of (codes "k") kind.Integer true ∷ column_of (codes "octets") kind.Integer true ∷ [])
     (Some 0) (0 ∷ []) ((2 ∷ 3 ∷ 4 ∷ []) ∷ []) (plain_order ∷ []) (to_maildrops ∷ []) true
 
--- the pages of the messages, which go with them
+-- the pages of the messages; removing a message removes its pages
 abbrev pub sheets_text : List ℕ
 sheets_text = codes "CREATE TABLE sheets (mail INTEGER REFERENCES mail ON DELETE CASCADE, place INTEGER, octets BLOB NOT NULL, PRIMARY KEY (mail, place)) STRICT"
 
--- the message of a sheet
+-- a sheet's reference to its message
 abbrev pub to_mail : Reference
 to_mail = record { columns = 1 ∷ []; parent = codes "mail"; parent_columns = []; on_delete = Cascade; on_update = NoAction; is_deferred = false }
 
--- what the text makes, in this tree
+-- the table that sheets_text makes, in this tree
 abbrev pub sheets_at : ℕ → Table
 sheets_at tree = table_of (codes "sheets") tree
     (column_of (codes "mail") kind.Integer true ∷ column_of (codes "place") kind.Integer true ∷ column_of (codes "octets") kind.Blob true ∷ [])
@@ -117,7 +118,7 @@ sheets_at tree = table_of (codes "sheets") tree
 abbrev pub rules_text : List ℕ
 rules_text = codes "CREATE TABLE rules (place INTEGER PRIMARY KEY, name TEXT NOT NULL UNIQUE, effect INTEGER NOT NULL, clerk TEXT NOT NULL, maildrop TEXT NOT NULL, class TEXT NOT NULL, actions INTEGER NOT NULL) STRICT"
 
--- what the text makes, in this tree
+-- the table that rules_text makes, in this tree
 abbrev pub rules_at : ℕ → Table
 rules_at tree = table_of (codes "rules") tree
     (column_of (codes "place") kind.Integer false ∷ column_of (codes "name") kind.Text true ∷ column_of (codes "effect") kind.Integer true ∷ column_of (codes "clerk") kind.Text true ∷ column_of (codes "maildrop") kind.Text true ∷ column_of (codes "class") kind.Text true ∷ column_of (codes "actions") kind.Integer true ∷ [])
@@ -127,7 +128,7 @@ rules_at tree = table_of (codes "rules") tree
 abbrev pub messages_text : List ℕ
 messages_text = codes "CREATE TABLE messages (key INTEGER PRIMARY KEY AUTOINCREMENT, maildrop TEXT NOT NULL REFERENCES maildrops, class TEXT NOT NULL, k INTEGER NOT NULL, octets INTEGER NOT NULL, body BLOB NOT NULL, UNIQUE (maildrop, class, k)) STRICT"
 
--- what the text makes, in this tree
+-- the table that messages_text makes, in this tree
 abbrev pub messages_at : ℕ → Table
 messages_at tree = table_of (codes "messages") tree
     (column_of (codes "key") kind.Integer false ∷ column_of (codes "maildrop") kind.Text true ∷ column_of (codes "class") kind.Text true ∷ column_of (codes "k") kind.Integer true ∷ column_of (codes "octets") kind.Integer true ∷ column_of (codes "body") kind.Blob true ∷ [])
@@ -137,20 +138,20 @@ messages_at tree = table_of (codes "messages") tree
 abbrev pub groups_text : List ℕ
 groups_text = codes "CREATE TABLE groups (place INTEGER PRIMARY KEY, name TEXT NOT NULL UNIQUE) STRICT"
 
--- what the text makes, in this tree
+-- the table that groups_text makes, in this tree
 abbrev pub groups_at : ℕ → Table
 groups_at tree = table_of (codes "groups") tree (column_of (codes "place") kind.Integer false ∷ column_of (codes "name") kind.Text true ∷ [])
     (Some 0) (0 ∷ []) ((2 ∷ []) ∷ []) (plain_order ∷ []) [] false
 
--- the members of the groups, which go with them
+-- the members of the groups; removing a group removes its members
 abbrev pub members_text : List ℕ
 members_text = codes "CREATE TABLE members (grp INTEGER REFERENCES groups ON DELETE CASCADE, place INTEGER, clerk TEXT NOT NULL, PRIMARY KEY (grp, place), UNIQUE (grp, clerk)) STRICT"
 
--- the group of a member
+-- a member's reference to its group
 abbrev pub to_groups : Reference
 to_groups = record { columns = 1 ∷ []; parent = codes "groups"; parent_columns = []; on_delete = Cascade; on_update = NoAction; is_deferred = false }
 
--- what the text makes, in this tree
+-- the table that members_text makes, in this tree
 abbrev pub members_at : ℕ → Table
 members_at tree = table_of (codes "members") tree
     (column_of (codes "grp") kind.Integer true ∷ column_of (codes "place") kind.Integer true ∷ column_of (codes "clerk") kind.Text true ∷ [])
@@ -160,7 +161,7 @@ members_at tree = table_of (codes "members") tree
 abbrev loose : List ℕ → Column
 loose name = record { name = name; kind = kind.Any; is_strict = false; not_null = false; default = Null; collation = Binary }
 
--- SQLite's own, which AUTOINCREMENT keeps
+-- SQLite's own table, in which AUTOINCREMENT counts
 abbrev pub sequence_at : ℕ → Table
 sequence_at tree = table_of (codes "sqlite_sequence") tree (loose (codes "name") ∷ loose (codes "seq") ∷ []) None [] [] [] [] false
 
@@ -168,33 +169,34 @@ sequence_at tree = table_of (codes "sqlite_sequence") tree (loose (codes "name")
 abbrev pub key_of : List ℕ → ℕ → List ℕ → Index
 key_of table tree places = record { name = codes "sqlite_autoindex_" ++ (table ++ codes "_1"); tree = suc tree; table = tree; columns = places; order = plain_order; is_unique = true }
 
--- the index of the key that keeps the clerks of a group apart, beside that of its places
+-- the index of the unique key over group and clerk, the second of members
 abbrev pub clerks_key_of : ℕ → Index
 clerks_key_of tree = record { name = codes "sqlite_autoindex_members_2"; tree = suc (suc tree); table = tree; columns = 1 ∷ 3 ∷ []; order = plain_order; is_unique = true }
 
--- The tables of a store stand in one of two orders. In a store that was carried over from version 1, the table messages of that version is
--- there still, without rows, and mail came last; in any other, mail stands where messages stands there.
+-- A store's tables stand in one of two orders. A store carried over from version 1 still has that
+-- version's table messages, without rows, in the sixth place, and mail last. Any other has mail in
+-- the sixth place.
 
--- the messages of version 1, or mail: the name of the table in the sixth place
+-- the name of the table in the sixth place
 abbrev pub sixth_name : (carried : Bool) → List ℕ
 sixth_name false = codes "mail"
 sixth_name true = codes "messages"
 
--- its columns
+-- the columns of the table in the sixth place
 abbrev pub sixth_columns : (carried : Bool) → List Column
 sixth_columns false = (mail_at 10).columns
 sixth_columns true = (messages_at 10).columns
 
--- the table
+-- the table in the sixth place
 abbrev pub sixth : (carried : Bool) → Table
 sixth carried = table_of (sixth_name carried) 10 (sixth_columns carried) (Some 0) (0 ∷ []) ((2 ∷ 3 ∷ 4 ∷ []) ∷ []) (plain_order ∷ []) (to_maildrops ∷ []) true
 
--- the table that came last
+-- mail, where it came last
 abbrev pub last_tables : (carried : Bool) → List Table
 last_tables false = []
 last_tables true = mail_at 22 ∷ []
 
--- and its index
+-- the index of mail, where it came last
 abbrev pub last_indexes : (carried : Bool) → List Index
 last_indexes false = []
 last_indexes true = key_of (codes "mail") 22 (2 ∷ 3 ∷ 4 ∷ []) ∷ []
@@ -218,7 +220,7 @@ schema_of carried = record {
   views = [];
 }
 
--- those of a store that was made so
+-- the schema of a store that wasn't carried over
 abbrev pub mail_schema : Schema
 mail_schema = schema_of false
 
@@ -285,11 +287,11 @@ with_members = created with_groups (members_at 0)
 abbrev pub stages : List Schema
 stages = no_schema ∷ with_meta ∷ with_clerks ∷ with_maildrops ∷ with_counts ∷ with_deposits ∷ with_mail ∷ with_rules ∷ with_sheets ∷ with_groups ∷ with_members ∷ []
 
--- the text at a place of that order
+-- the text of a table, by its number, counted from 0
 abbrev pub create_text : ℕ → List ℕ
 create_text at = slice_index_or create_texts at []
 
--- the schema before the text at this place
+-- the schema before the text of that number
 abbrev pub stage : ℕ → Schema
 stage at = slice_index_or stages at no_schema
 
@@ -311,17 +313,17 @@ abbrev pub old_schema : (carried : Bool) → Schema
 old_schema false = second_schema
 old_schema true = first_schema
 
--- the texts of the tables that it lacks, in their order
+-- the texts of the tables that an older store lacks, in their order
 abbrev pub lacked_texts : (carried : Bool) → List (List ℕ)
 lacked_texts false = groups_text ∷ members_text ∷ []
 lacked_texts true = sheets_text ∷ groups_text ∷ members_text ∷ mail_text ∷ []
 
--- what they make
+-- the tables that an older store lacks, in their order
 abbrev pub lacked_tables : (carried : Bool) → List Table
 lacked_tables false = groups_at 0 ∷ members_at 0 ∷ []
 lacked_tables true = sheets_at 0 ∷ groups_at 0 ∷ members_at 0 ∷ mail_at 0 ∷ []
 
--- the schema once the first so many of these are made
+-- the schema with the first so many of the tables added
 abbrev pub grown : Schema → List Table → ℕ → Schema
 grown schema tables zero = schema
 grown schema [] (suc n) = schema
@@ -331,10 +333,10 @@ grown schema (t ∷ tables) (suc n) = grown (created schema t) tables n
 abbrev pub old_stage : (carried : Bool) → ℕ → Schema
 old_stage carried at = grown (old_schema carried) (lacked_tables carried) at
 
--- the text at a place of their order
+-- the text of a lacked table, by its number, counted from 0
 abbrev pub lacked_text : (carried : Bool) → ℕ → List ℕ
 lacked_text carried at = slice_index_or (lacked_texts carried) at []
 
--- the first so many of these tables, in their trees
+-- the first so many of the tables that an older store lacks, in their trees
 abbrev pub fresh_tables : (carried : Bool) → ℕ → List Table
 fresh_tables carried at = drop (length (old_schema carried).tables) (old_stage carried at).tables

@@ -43,11 +43,11 @@ page_of key place octets = record { mail = key; place = place; octets = octets }
 abbrev pub arrived : ℤ → Rows → Rows
 arrived key rows = record rows { maildrops = rows.maildrops ++ orders ∷ []; deposits = rows.deposits ++ sample_deposit ∷ []; messages = rows.messages ++ sample_message key ∷ [] }
 
--- and the two pages
+-- the two pages have come too
 abbrev pub paged : ℤ → List ℕ → List ℕ → Rows → Rows
 paged key first second rows = record rows { sheets = (rows.sheets ++ page_of key (pos 0) first ∷ []) ++ page_of key (pos 1) second ∷ [] }
 
--- and the message is gone
+-- the message is gone, with its pages
 abbrev pub left_of : ℤ → Rows → Rows
 left_of key rows = record rows {
   messages = filter (λ m. not (is_message key orders m)) rows.messages;
@@ -64,19 +64,19 @@ pub record Saw (first second : List ℕ) (seen : Seen) : Type 0 where
 
 -- ---- which error a sample caller tells
 
--- a store in memory, of which this held, met this error
+-- a statement met this error on a store in memory, for which `Before` held
 abbrev pub IsMet : (State → Type 0) → (State → State → Error → Type 0) → Error → Type 0
 IsMet Before Fails e = (old : Held MemStore) × (new : Held MemStore) × Before (state over_memory old) × Fails (state over_memory old) (state over_memory new) e
 
--- a store with our tables met it, and no transaction was under way
+-- a statement met this error on a store with our tables, outside a transaction
 abbrev pub IsMetAtRest : (State → State → Error → Type 0) → Error → Type 0
 IsMetAtRest = IsMet (λ s. IsReady s × (s.in_transaction ≡ false))
 
--- the tables of a store in memory met this error
+-- making the tables of a store in memory met this error
 abbrev FailsToMakeTables : Error → Type 0
 FailsToMakeTables e = (old : Held MemStore) × (new : Held MemStore) × IsBegun (state over_memory old) × FailsToCreate over_memory old new e
 
--- there was no memory for the store, or its beginning, its tables, its mark or its commit met this error
+-- there was no memory for the store, or BEGIN, the tables, the mark or COMMIT met this error
 abbrev pub FailsToOpenNew : ℤ → Error → Type 0
 FailsToOpenNew version e =
     IsWantOfMemory e
@@ -85,18 +85,18 @@ FailsToOpenNew version e =
     ⊎ (IsMet (λ s. IsReady s × (rows_in s.now.trees ≡ no_rows)) (FailsToRun add_mark_text (Text (codes "popbox") ∷ Int version ∷ [])) e
     ⊎ IsMet (λ s. IsReady s × IsTrue s.in_transaction) (FailsToRun commit_text []) e)))
 
--- the maildrop, the deposit or the message met this error
+-- adding the maildrop, the deposit or the message met this error
 abbrev pub FailsToArrive : Error → Type 0
 FailsToArrive e =
     IsMetAtRest (FailsToRun add_maildrop_text (Text orders ∷ [])) e
     ⊎ (IsMetAtRest (FailsToRun add_deposit_text (Text orders ∷ Text (codes "d1") ∷ Text (codes "note") ∷ Int (pos 1) ∷ Blob (codes "digest") ∷ [])) e
     ⊎ IsMetAtRest (FailsToRun add_message_text (Text orders ∷ Text (codes "note") ∷ Int (pos 1) ∷ Int (pos 4097) ∷ [])) e)
 
--- a page that was added met this error
+-- adding a page met this error
 abbrev pub FailsToAddPages : ℤ → List ℕ → List ℕ → Error → Type 0
 FailsToAddPages key first second e = IsMetAtRest (FailsToRun add_sheet_text (Int key ∷ Int (pos 0) ∷ Blob first ∷ [])) e ⊎ IsMetAtRest (FailsToRun add_sheet_text (Int key ∷ Int (pos 1) ∷ Blob second ∷ [])) e
 
--- a page that was read met this error
+-- reading a page met this error
 abbrev pub FailsToReadPages : ℤ → Error → Type 0
 FailsToReadPages key e = IsMetAtRest (FailsToRead find_sheet_text (Int key ∷ Int (pos 0) ∷ [])) e ⊎ IsMetAtRest (FailsToRead find_sheet_text (Int key ∷ Int (pos 1) ∷ [])) e
 

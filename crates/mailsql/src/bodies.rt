@@ -1,5 +1,5 @@
-//! The messages of version 1, each with its octets in one column, in a store that was carried over:
-//! its table of them is emptied then.
+//! The table `messages` of version 1, which holds each message's octets in one column. A store that
+//! was carried over from version 1 still has the table, emptied.
 
 ghost use Rattle.std.specs.Prelude.{◌≡◌, IsTrue, map, IfOk, IfErr, OnOk, OnErr, [], ◌∷◌};
 ghost use Rattle.std.specs.List.{find};
@@ -18,7 +18,7 @@ use sqlite::{Alter, Connection, Error};
 use sqlite_value::value::ValueRef;
 use std::alloc::Global;
 
-/// Every message of version 1, without its octets, in the order in which they arrived.
+/// Every message of version 1, without its octets, in order of arrival.
 pub fn old_messages<S: Alter>(
     alloc: Global,
     conn: &mut Connection<S>,
@@ -57,7 +57,7 @@ pub fn find_body<S: Alter>(
     )
 }
 
-/// Takes out every message of version 1.
+/// Removes every message of version 1.
 pub fn clear_bodies<S: Alter>(conn: &mut Connection<S>) -> Result<(), Error>
     ensures ok { HasCleanDisk (state S.Store conn.new) → IsReady (state S.Store conn.old) → IsTrue (is_carried (state S.Store conn.old).now.trees) → OnOk result (Changes changes.ClearsBodies (state S.Store conn.old) (state S.Store conn.new)) }
     ensures err { HasCleanDisk (state S.Store conn.new) → OnErr result (IsUndone (state S.Store conn.old) (state S.Store conn.new)) }

@@ -17,7 +17,7 @@ use sqlite::{Alter, Connection, Error};
 use sqlite_value::value::ValueRef;
 use std::alloc::Global;
 
-/// Adds a clerk whose name is not there.
+/// Adds a clerk. The table refuses a name that is there.
 pub fn add_clerk<'x, S: Alter>(
     conn: &mut Connection<S>,
     name: &'x [u8],
@@ -40,7 +40,7 @@ pub fn add_clerk<'x, S: Alter>(
     )
 }
 
-/// Takes out the clerk, if it is there.
+/// Removes the clerk of this name, if there is one.
 pub fn drop_clerk<S: Alter>(conn: &mut Connection<S>, name: &[u8]) -> Result<(), Error>
     ensures ok { HasCleanDisk (state S.Store conn.new) → IsReady (state S.Store conn.old) → OnOk result (Changes (changes.DropsClerk name.now) (state S.Store conn.old) (state S.Store conn.new)) }
     ensures err { HasCleanDisk (state S.Store conn.new) → OnErr result (IsUndone (state S.Store conn.old) (state S.Store conn.new)) }
@@ -74,7 +74,7 @@ pub fn find_clerk<S: Alter>(
     )
 }
 
-/// Every clerk, in the order in which they were added.
+/// Every clerk, in the order of adding.
 pub fn all_clerks<S: Alter>(alloc: Global, conn: &mut Connection<S>) -> Result<Vec<Clerk>, Error>
     ensures ok { HasCleanDisk (state S.Store conn.new) → HasTables (state S.Store conn.old) → IfOk result (λ all. all.items ≡ (rows_in (state S.Store conn.old).now.trees).clerks) }
     ensures same { HasCleanDisk (state S.Store conn.new) → HasTables (state S.Store conn.old) → OnOk result (IsUnchanged (state S.Store conn.old) (state S.Store conn.new)) }
@@ -101,8 +101,8 @@ pub fn clerk_count<S: Alter>(conn: &mut Connection<S>) -> Result<u64, Error>
     count(conn, "SELECT count(*) FROM clerks", &[])
 }
 
-/// Puts the clerk in place of the one of its name, if there is one. These are two statements: call
-/// it inside a transaction, and an error between them can be rolled back.
+/// Adds the clerk, or replaces the one of its name. It runs two statements: call it inside a
+/// transaction, so that an error between them can be rolled back.
 pub fn put_clerk<'x, S: Alter>(
     conn: &mut Connection<S>,
     name: &'x [u8],

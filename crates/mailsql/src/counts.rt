@@ -1,4 +1,4 @@
-//! The greatest number given to each class of a maildrop.
+//! The counts: for each class of a maildrop the greatest number that a message of it got.
 
 ghost use Rattle.std.specs.Prelude.{◌≡◌, ◌⊎◌, IsTrue, IfOk, IfErr, OnOk, OnErr, [], ◌∷◌};
 ghost use Rattle.std.specs.List.{find};
@@ -17,7 +17,7 @@ use sqlite::{Alter, Connection, Error};
 use sqlite_value::value::ValueRef;
 use std::alloc::Global;
 
-/// Sets the count of a class that has none.
+/// Adds the count of a class. The table refuses a class that has one.
 fn add_count<'x, S: Alter>(
     conn: &mut Connection<S>,
     maildrop: &'x [u8],
@@ -40,7 +40,7 @@ fn add_count<'x, S: Alter>(
     )
 }
 
-/// Takes out the count, if it is there.
+/// Removes the count of the class, if there is one.
 fn clear_count<'x, S: Alter>(
     conn: &mut Connection<S>,
     maildrop: &'x [u8],
@@ -79,7 +79,7 @@ pub fn find_count<'x, S: Alter>(
     )
 }
 
-/// Every count, in the order in which they were added.
+/// Every count, in the order of adding.
 pub fn all_counts<S: Alter>(alloc: Global, conn: &mut Connection<S>) -> Result<Vec<Count>, Error>
     ensures ok { HasCleanDisk (state S.Store conn.new) → HasTables (state S.Store conn.old) → IfOk result (λ all. all.items ≡ (rows_in (state S.Store conn.old).now.trees).counts) }
     ensures same { HasCleanDisk (state S.Store conn.new) → HasTables (state S.Store conn.old) → OnOk result (IsUnchanged (state S.Store conn.old) (state S.Store conn.new)) }
@@ -95,8 +95,8 @@ pub fn all_counts<S: Alter>(alloc: Global, conn: &mut Connection<S>) -> Result<V
     )
 }
 
-/// Raises the count of the class to `k`, or sets it. These are two statements: call it inside a
-/// transaction, and an error between them can be rolled back.
+/// Sets the count of the class to `k`. It runs two statements: call it inside a transaction, so
+/// that an error between them can be rolled back.
 pub fn set_count<'x, S: Alter>(
     conn: &mut Connection<S>,
     maildrop: &'x [u8],

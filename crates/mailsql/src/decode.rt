@@ -15,7 +15,7 @@ use sqlite::{Error, Row};
 use sqlite_value::value::{Bytes, ValueRef};
 use std::alloc::Global;
 
-/// The octets of a text or a blob.
+/// The octets of a column that holds a text or a blob; else `InvalidColumnType`.
 fn octets(alloc: Global, row: &Row, at: usize) -> Result<Bytes, Error>
     ensures ok { IfOk result (λ octets. octets ≡ bytes (column row.now at)) }
     ensures memory { HoldsOctets row.now at → IfErr result IsWantOfMemory }
@@ -34,11 +34,11 @@ fn number(row: &Row, at: usize) -> Result<i64, Error>
     row.get(at)
 }
 
-/// What a row of an answer is read into.
+/// A type that a row of an answer is read into.
 pub(crate) trait Stored: Sized + Drop {
     ghost use Rattle.sqlite_value.specs.Order.{Row as SqlRow};
 
-    // The value that the row holds, and whether each column is of its type.
+    // `stored` is the value that the row holds; `holds` says that each column has its type.
     ghost stored: { SqlRow → Self };
 
     ghost holds: { SqlRow → Type 0 };
@@ -247,7 +247,7 @@ impl Stored for Body {
     }
 }
 
-/// Each row of the answer.
+/// Every row of the answer, read.
 pub(crate) fn read_all<T: Stored>(alloc: Global, rows: &[Row]) -> Result<Vec<T>, Error>
     ensures ok { IfOk result (λ all. all.items ≡ map T.stored rows.now) }
     ensures memory { AllByRecursion T.holds rows.now → IfErr result IsWantOfMemory }
@@ -259,7 +259,7 @@ pub(crate) fn read_all<T: Stored>(alloc: Global, rows: &[Row]) -> Result<Vec<T>,
     Ok(all)
 }
 
-/// The first row of the answer.
+/// The first row of the answer, read; `None` where the answer has no row.
 pub(crate) fn read_first<T: Stored>(alloc: Global, rows: &[Row]) -> Result<Option<T>, Error>
     ensures ok { IfOk result (λ first. first ≡ option_map T.stored (slice_get rows.now 0)) }
     ensures memory { AllByRecursion T.holds rows.now → IfErr result IsWantOfMemory }
@@ -270,7 +270,7 @@ pub(crate) fn read_first<T: Stored>(alloc: Global, rows: &[Row]) -> Result<Optio
     }
 }
 
-/// The number that a count answers.
+/// The number in the row that a `count(*)` answers.
 pub(crate) fn read_count(row: &Row) -> Result<u64, Error>
     ensures ok { IfOk result (λ count. (0 < length row.now) × (column row.now 0 ≡ Int (pos count))) }
     ensures memory { (count : ℕ) → column row.now 0 ≡ Int (pos count) → IfErr result IsWantOfMemory }

@@ -17,7 +17,7 @@ use sqlite::{Alter, Connection, Error};
 use sqlite_value::value::ValueRef;
 use std::alloc::Global;
 
-/// Adds a deposit whose id the maildrop has not.
+/// Adds a deposit. The table refuses an id that the maildrop's name had before.
 pub fn add_deposit<'x, S: Alter>(
     conn: &mut Connection<S>,
     maildrop: &'x [u8],
@@ -44,7 +44,7 @@ pub fn add_deposit<'x, S: Alter>(
     )
 }
 
-/// The deposit of this id, if the maildrop has ever accepted it.
+/// The deposit of this id, if the maildrop's name ever had it.
 pub fn find_deposit<'x, S: Alter>(
     alloc: Global,
     conn: &mut Connection<S>,
@@ -65,7 +65,7 @@ pub fn find_deposit<'x, S: Alter>(
     )
 }
 
-/// Every deposit, in the order in which they were accepted.
+/// Every deposit, in the order of adding.
 pub fn all_deposits<S: Alter>(
     alloc: Global,
     conn: &mut Connection<S>,

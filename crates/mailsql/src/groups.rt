@@ -1,5 +1,4 @@
-//! The groups of clerks that the policy names, in the order of their places, and the members of
-//! each.
+//! The groups of clerks that the policy names, and their members, both in the order of places.
 
 ghost use Rattle.std.specs.Prelude.{◌≡◌, filter, IfOk, IfErr, OnOk, OnErr, [], ◌∷◌};
 ghost use Rattle.sqlite.specs.Held.{state};
@@ -18,8 +17,8 @@ use sqlite::{Alter, Connection, Error};
 use sqlite_value::value::ValueRef;
 use std::alloc::Global;
 
-/// Adds a group after the others, without a member, under a name that none of them has. Its place
-/// is one above theirs, or 1.
+/// Adds a group without members, at the place above the last one's, or at 1. The table refuses a
+/// name that is there.
 pub fn add_group<S: Alter>(conn: &mut Connection<S>, name: &[u8]) -> Result<(), Error>
     ensures ok { HasCleanDisk (state S.Store conn.new) → IsReady (state S.Store conn.old) → OnOk result (Changes (changes.AddsGroup name.now) (state S.Store conn.old) (state S.Store conn.new)) }
     ensures err { HasCleanDisk (state S.Store conn.new) → OnErr result (IsUndone (state S.Store conn.old) (state S.Store conn.new)) }
@@ -33,8 +32,8 @@ pub fn add_group<S: Alter>(conn: &mut Connection<S>, name: &[u8]) -> Result<(), 
     )
 }
 
-/// Adds a clerk's name to a group that is there, at a place that it has not, where none of its
-/// members has the name.
+/// Adds a clerk's name to a group, at this place. The tables refuse a group that isn't there, and a
+/// place or a name that the group has.
 pub fn add_member<S: Alter>(
     conn: &mut Connection<S>,
     group: i64,
@@ -57,7 +56,7 @@ pub fn add_member<S: Alter>(
     )
 }
 
-/// Takes out every group, and with it its members.
+/// Removes every group with its members.
 pub fn clear_groups<S: Alter>(conn: &mut Connection<S>) -> Result<(), Error>
     ensures ok { HasCleanDisk (state S.Store conn.new) → IsReady (state S.Store conn.old) → OnOk result (Changes changes.ClearsGroups (state S.Store conn.old) (state S.Store conn.new)) }
     ensures err { HasCleanDisk (state S.Store conn.new) → OnErr result (IsUndone (state S.Store conn.old) (state S.Store conn.new)) }
@@ -67,7 +66,7 @@ pub fn clear_groups<S: Alter>(conn: &mut Connection<S>) -> Result<(), Error>
     run(conn, "DELETE FROM groups", &[])
 }
 
-/// Every group, in order.
+/// Every group, in the order of places.
 pub fn all_groups<S: Alter>(alloc: Global, conn: &mut Connection<S>) -> Result<Vec<Group>, Error>
     ensures ok { HasCleanDisk (state S.Store conn.new) → HasTables (state S.Store conn.old) → IfOk result (λ all. all.items ≡ (rows_in (state S.Store conn.old).now.trees).groups) }
     ensures same { HasCleanDisk (state S.Store conn.new) → HasTables (state S.Store conn.old) → OnOk result (IsUnchanged (state S.Store conn.old) (state S.Store conn.new)) }
@@ -83,7 +82,7 @@ pub fn all_groups<S: Alter>(alloc: Global, conn: &mut Connection<S>) -> Result<V
     )
 }
 
-/// The members of the group, in order.
+/// The members of the group, in the order of places.
 pub fn members<S: Alter>(
     alloc: Global,
     conn: &mut Connection<S>,
@@ -105,7 +104,7 @@ pub fn members<S: Alter>(
     }
 }
 
-/// Every member of every group, in the order in which they were added.
+/// Every member of every group, in the order of adding.
 pub fn all_members<S: Alter>(alloc: Global, conn: &mut Connection<S>) -> Result<Vec<Member>, Error>
     ensures ok { HasCleanDisk (state S.Store conn.new) → HasTables (state S.Store conn.old) → IfOk result (λ all. all.items ≡ (rows_in (state S.Store conn.old).now.trees).members) }
     ensures same { HasCleanDisk (state S.Store conn.new) → HasTables (state S.Store conn.old) → OnOk result (IsUnchanged (state S.Store conn.old) (state S.Store conn.new)) }

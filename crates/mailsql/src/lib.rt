@@ -1,12 +1,13 @@
-//! The SQL statements of a store: each stands in one public function, whose contract is its change
-//! of the typed rows or its answer, what an error leaves, and what a stop may leave.
+//! The SQL statements of a store, each in a public function of its own. The function's contract
+//! says how the statement changes the typed rows or what it answers, what an error leaves, and what
+//! a stop may leave.
 //!
 //! Every error is the connection's own (`sqlite::Error`): a constraint of a table, want of memory,
-//! a device that failed, or a store that has other tables. That the statement itself met it is the
-//! clause `cause` of each contract. After it either nothing changed, or the transaction was rolled
-//! back, which `Connection::is_autocommit` then tells. Of a function that runs several statements,
-//! outside a transaction, those before the error stay. What the contracts say of rows holds over a
-//! store with our tables, where the disk returned what was written.
+//! a device that failed, or a store that has other tables. The clause `cause` says that the
+//! statement itself met the error. After an error either nothing changed, or the transaction was
+//! rolled back, which `Connection::is_autocommit` then tells. A function that runs several
+//! statements outside a transaction leaves what those before the error did. What the contracts say
+//! of rows holds over a store with our tables, where the disk returned what was written.
 #![tactic(auto)]
 
 pub mod bodies;

@@ -16,7 +16,8 @@ use sqlite::{Alter, Connection, Error};
 use sqlite_value::value::ValueRef;
 use std::alloc::Global;
 
-/// Adds a message, and tells its key.
+/// Adds a message and returns its key, which is above all others'. The table refuses a missing
+/// maildrop, and a number that another message of the class has.
 pub fn add_message<'x, S: Alter>(
     conn: &mut Connection<S>,
     maildrop: &'x [u8],
@@ -45,7 +46,7 @@ pub fn add_message<'x, S: Alter>(
     }
 }
 
-/// Adds a message under this key, which is above those of all others.
+/// Adds a message under this key. The caller chooses one above all others.
 pub fn add_keyed<'x, S: Alter>(
     conn: &mut Connection<S>,
     key: i64,
@@ -72,7 +73,7 @@ pub fn add_keyed<'x, S: Alter>(
     )
 }
 
-/// Takes out a message of the maildrop, and its pages.
+/// Removes the message of this key with its pages, if it lies in the maildrop.
 pub fn remove_message<'x, S: Alter>(
     conn: &mut Connection<S>,
     key: i64,
@@ -90,7 +91,7 @@ pub fn remove_message<'x, S: Alter>(
     )
 }
 
-/// The messages of the maildrop, in the order in which they arrived.
+/// The messages of the maildrop, in order of arrival.
 pub fn heads<S: Alter>(
     alloc: Global,
     conn: &mut Connection<S>,
@@ -110,7 +111,7 @@ pub fn heads<S: Alter>(
     )
 }
 
-/// Every message, in the order in which they arrived.
+/// Every message, in order of arrival.
 pub fn all_messages<S: Alter>(
     alloc: Global,
     conn: &mut Connection<S>,

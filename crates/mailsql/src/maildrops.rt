@@ -16,7 +16,7 @@ use sqlite::{Alter, Connection, Error};
 use sqlite_value::value::{Bytes, ValueRef};
 use std::alloc::Global;
 
-/// Adds a name that is not there.
+/// Adds a maildrop's name. The table refuses one that is there.
 pub fn add_maildrop<S: Alter>(conn: &mut Connection<S>, name: &[u8]) -> Result<(), Error>
     ensures ok { HasCleanDisk (state S.Store conn.new) → IsReady (state S.Store conn.old) → OnOk result (Changes (changes.AddsMaildrop name.now) (state S.Store conn.old) (state S.Store conn.new)) }
     ensures err { HasCleanDisk (state S.Store conn.new) → OnErr result (IsUndone (state S.Store conn.old) (state S.Store conn.new)) }
@@ -30,7 +30,7 @@ pub fn add_maildrop<S: Alter>(conn: &mut Connection<S>, name: &[u8]) -> Result<(
     )
 }
 
-/// Takes out the name, if it is there. It is refused while a message is in the maildrop.
+/// Removes the name, if it is there. Refused while a message lies in the maildrop.
 pub fn drop_maildrop<S: Alter>(conn: &mut Connection<S>, name: &[u8]) -> Result<(), Error>
     ensures ok { HasCleanDisk (state S.Store conn.new) → IsReady (state S.Store conn.old) → OnOk result (Changes (changes.DropsMaildrop name.now) (state S.Store conn.old) (state S.Store conn.new)) }
     ensures err { HasCleanDisk (state S.Store conn.new) → OnErr result (IsUndone (state S.Store conn.old) (state S.Store conn.new)) }
@@ -73,7 +73,7 @@ pub fn maildrop_count<S: Alter>(conn: &mut Connection<S>) -> Result<u64, Error>
     count(conn, "SELECT count(*) FROM maildrops", &[])
 }
 
-/// Every name, in the order of its octets.
+/// Every name, sorted by its octets.
 pub fn maildrops_by_name<S: Alter>(
     alloc: Global,
     conn: &mut Connection<S>,
@@ -91,7 +91,7 @@ pub fn maildrops_by_name<S: Alter>(
     }
 }
 
-/// Every name, in the order in which they were added.
+/// Every name, in the order of adding.
 pub fn all_maildrops<S: Alter>(alloc: Global, conn: &mut Connection<S>) -> Result<Vec<Bytes>, Error>
     ensures ok { HasCleanDisk (state S.Store conn.new) → HasTables (state S.Store conn.old) → IfOk result (λ all. all.items ≡ (rows_in (state S.Store conn.old).now.trees).maildrops) }
     ensures same { HasCleanDisk (state S.Store conn.new) → HasTables (state S.Store conn.old) → OnOk result (IsUnchanged (state S.Store conn.old) (state S.Store conn.new)) }

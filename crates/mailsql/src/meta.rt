@@ -1,4 +1,4 @@
-//! The marks of a store: the one named `popbox` is the version of its layout.
+//! The marks of a store: named numbers. The one named `popbox` is the version of the layout.
 
 ghost use Rattle.std.specs.Prelude.{◌≡◌, ◌⊎◌, IsTrue, IfOk, IfErr, OnOk, OnErr, [], ◌∷◌};
 ghost use Rattle.std.specs.List.{find};
@@ -18,7 +18,7 @@ use sqlite::{Alter, Connection, Error};
 use sqlite_value::value::ValueRef;
 use std::alloc::Global;
 
-/// Adds a mark under a name that is not there.
+/// Adds a mark. The table refuses a name that is there.
 pub fn add_mark<S: Alter>(conn: &mut Connection<S>, name: &[u8], value: i64) -> Result<(), Error>
     ensures ok { HasCleanDisk (state S.Store conn.new) → IsReady (state S.Store conn.old) → OnOk result (Changes (changes.AddsMark (record { name = name.now; value = value })) (state S.Store conn.old) (state S.Store conn.new)) }
     ensures err { HasCleanDisk (state S.Store conn.new) → OnErr result (IsUndone (state S.Store conn.old) (state S.Store conn.new)) }
@@ -32,7 +32,7 @@ pub fn add_mark<S: Alter>(conn: &mut Connection<S>, name: &[u8], value: i64) -> 
     )
 }
 
-/// Takes out the mark, if it is there.
+/// Removes the mark of this name, if there is one.
 pub fn drop_mark<S: Alter>(conn: &mut Connection<S>, name: &[u8]) -> Result<(), Error>
     ensures ok { HasCleanDisk (state S.Store conn.new) → IsReady (state S.Store conn.old) → OnOk result (Changes (changes.DropsMark name.now) (state S.Store conn.old) (state S.Store conn.new)) }
     ensures err { HasCleanDisk (state S.Store conn.new) → OnErr result (IsUndone (state S.Store conn.old) (state S.Store conn.new)) }
@@ -46,8 +46,8 @@ pub fn drop_mark<S: Alter>(conn: &mut Connection<S>, name: &[u8]) -> Result<(), 
     )
 }
 
-/// Puts the mark in place of the one of its name, if there is one. These are two statements: call
-/// it inside a transaction, and an error between them can be rolled back.
+/// Adds the mark, or replaces the one of its name. It runs two statements: call it inside a
+/// transaction, so that an error between them can be rolled back.
 pub fn put_mark<S: Alter>(conn: &mut Connection<S>, name: &[u8], value: i64) -> Result<(), Error>
     ensures ok { HasCleanDisk (state S.Store conn.new) → IsReady (state S.Store conn.old) → OnOk result (Changes (changes.PutsMark (record { name = name.now; value = value })) (state S.Store conn.old) (state S.Store conn.new)) }
     ensures err { HasCleanDisk (state S.Store conn.new) → IsReady (state S.Store conn.old) → IsTrue (state S.Store conn.old).in_transaction → OnErr result (IsHalted (state S.Store conn.old) (state S.Store conn.new)) }
@@ -60,8 +60,8 @@ pub fn put_mark<S: Alter>(conn: &mut Connection<S>, name: &[u8], value: i64) -> 
     }
 }
 
-/// The mark of this name, if there is one; of a store of any version too, whatever its other tables
-/// are.
+/// The mark of this name, if there is one. It reads a store of any version, whatever other tables
+/// that has.
 pub fn find_mark<S: Alter>(
     alloc: Global,
     conn: &mut Connection<S>,
@@ -89,7 +89,7 @@ pub fn find_mark<S: Alter>(
     )
 }
 
-/// Every mark, in the order in which they were added; of an older store too.
+/// Every mark, in the order of adding. It reads an older store too.
 pub fn all_marks<S: Alter>(alloc: Global, conn: &mut Connection<S>) -> Result<Vec<Mark>, Error>
     ensures ok { HasCleanDisk (state S.Store conn.new) → HasTables (state S.Store conn.old) → IfOk result (λ all. all.items ≡ (rows_in (state S.Store conn.old).now.trees).marks) }
     ensures same { HasCleanDisk (state S.Store conn.new) → HasTables (state S.Store conn.old) → OnOk result (IsUnchanged (state S.Store conn.old) (state S.Store conn.new)) }
@@ -109,8 +109,8 @@ pub fn all_marks<S: Alter>(alloc: Global, conn: &mut Connection<S>) -> Result<Ve
     )
 }
 
-/// How far SQLite has counted the keys of each table with AUTOINCREMENT, in the order of the
-/// rowids: a new message has a key above that of `mail`.
+/// The greatest key that SQLite gave in each table with AUTOINCREMENT, in the order of rowids. A
+/// new message's key is above that of `mail`.
 pub fn all_sequences<S: Alter>(alloc: Global, conn: &mut Connection<S>) -> Result<Vec<Mark>, Error>
     ensures ok { HasCleanDisk (state S.Store conn.new) → HasTables (state S.Store conn.old) → IfOk result (λ all. all.items ≡ rows.sequences_in (state S.Store conn.old).now.trees) }
     ensures same { HasCleanDisk (state S.Store conn.new) → HasTables (state S.Store conn.old) → OnOk result (IsUnchanged (state S.Store conn.old) (state S.Store conn.new)) }

@@ -1,4 +1,4 @@
-//! The transaction.
+//! Beginning and ending a transaction.
 
 ghost use Rattle.std.specs.Prelude.{◌≡◌, true, false, IfErr, OnOk, OnErr, IsTrue, []};
 ghost use Rattle.sqlite.specs.Held.{state};
@@ -10,7 +10,7 @@ ghost use Rattle.mailsql.specs.Statements.{begin_text, commit_text, rollback_tex
 use crate::run::run;
 use sqlite::{Alter, Connection, Error};
 
-/// Begins a transaction. It is refused where one is under way.
+/// Begins a transaction. Refused where one is under way.
 pub fn begin<S: Alter>(conn: &mut Connection<S>) -> Result<(), Error>
     ensures ok { HasCleanDisk (state S.Store conn.new) → OnOk result (((state S.Store conn.old).in_transaction ≡ false) × Shows (state S.Store conn.old) (state S.Store conn.new) (state S.Store conn.old).now (state S.Store conn.old).committed true) }
     ensures err { HasCleanDisk (state S.Store conn.new) → OnErr result (IsUndone (state S.Store conn.old) (state S.Store conn.new)) }
@@ -20,8 +20,8 @@ pub fn begin<S: Alter>(conn: &mut Connection<S>) -> Result<(), Error>
     run(conn, "BEGIN", &[])
 }
 
-/// Commits the transaction. It is refused where none is under way. After an error nothing of the
-/// transaction is left, or it is still under way.
+/// Commits the transaction. Refused where none is under way. After an error the transaction is
+/// still under way, or was rolled back.
 pub fn commit<S: Alter>(conn: &mut Connection<S>) -> Result<(), Error>
     ensures ok { HasCleanDisk (state S.Store conn.new) → OnOk result (IsTrue (state S.Store conn.old).in_transaction × Shows (state S.Store conn.old) (state S.Store conn.new) (state S.Store conn.old).now (state S.Store conn.old).now false) }
     ensures err { HasCleanDisk (state S.Store conn.new) → OnErr result (IsUndone (state S.Store conn.old) (state S.Store conn.new)) }
@@ -31,8 +31,8 @@ pub fn commit<S: Alter>(conn: &mut Connection<S>) -> Result<(), Error>
     run(conn, "COMMIT", &[])
 }
 
-/// Rolls the transaction back. It is refused where none is under way. Whatever it answers, nothing
-/// of the transaction is left.
+/// Rolls the transaction back. Refused where none is under way. Whatever it answers, nothing of
+/// the transaction is left.
 pub fn rollback<S: Alter>(conn: &mut Connection<S>) -> Result<(), Error>
     ensures ok { HasCleanDisk (state S.Store conn.new) → OnOk result (IsTrue (state S.Store conn.old).in_transaction) }
     ensures undone { HasCleanDisk (state S.Store conn.new) → IsTrue (state S.Store conn.old).in_transaction → IsRolledBack (state S.Store conn.old) (state S.Store conn.new) }

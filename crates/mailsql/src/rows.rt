@@ -18,7 +18,7 @@ pub struct Clerk {
     pub secret: Bytes,
 }
 
-/// A row of `counts`: the greatest number that a class was given in a maildrop.
+/// A row of `counts`: the greatest number that a message of the class got in the maildrop.
 #[derive(Drop)]
 pub struct Count {
     pub maildrop: Bytes,
@@ -26,7 +26,8 @@ pub struct Count {
     pub k: i64,
 }
 
-/// A row of `deposits`: a deposit that was ever accepted.
+/// A row of `deposits`: a deposit that was ever accepted. `k` is its number in its class, `digest`
+/// the SHA-256 of its text.
 #[derive(Drop)]
 pub struct Deposit {
     pub maildrop: Bytes,
@@ -47,7 +48,7 @@ pub struct Message {
     pub octets: i64,
 }
 
-/// A row of `sheets`: a page of a message, counted from 0.
+/// A row of `sheets`: a page of the message whose key is `mail`, at `place`, counted from 0.
 #[derive(Drop)]
 pub struct Sheet {
     pub mail: i64,
@@ -76,8 +77,8 @@ pub struct Group {
     pub name: Bytes,
 }
 
-/// A row of `members`: a clerk's name in a group, which is given by its place. The members of a
-/// group are in the order of their places.
+/// A row of `members`: a clerk's name in a group. `group` is the group's place; a group's members
+/// are in the order of their own places.
 #[derive(Drop)]
 pub struct Member {
     pub group: i64,
@@ -85,7 +86,7 @@ pub struct Member {
     pub clerk: Bytes,
 }
 
-/// A row of `messages`, as version 1 has it: a message that is present, with its octets.
+/// A row of `messages`, the table of version 1: a message that is present, with its octets.
 #[derive(Drop)]
 pub struct Body {
     pub head: Message,

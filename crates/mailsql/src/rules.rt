@@ -16,8 +16,7 @@ use sqlite::{Alter, Connection, Error};
 use sqlite_value::value::ValueRef;
 use std::alloc::Global;
 
-/// Adds a rule after the others, under a name that none of them has. Its place is one above theirs,
-/// or 1.
+/// Adds a rule, at the place above the last one's, or at 1. The table refuses a name that is there.
 pub fn add_rule<'x, S: Alter>(
     conn: &mut Connection<S>,
     name: &'x [u8],
@@ -46,7 +45,7 @@ pub fn add_rule<'x, S: Alter>(
     )
 }
 
-/// Takes out every rule.
+/// Removes every rule.
 pub fn clear_rules<S: Alter>(conn: &mut Connection<S>) -> Result<(), Error>
     ensures ok { HasCleanDisk (state S.Store conn.new) → IsReady (state S.Store conn.old) → OnOk result (Changes changes.ClearsRules (state S.Store conn.old) (state S.Store conn.new)) }
     ensures err { HasCleanDisk (state S.Store conn.new) → OnErr result (IsUndone (state S.Store conn.old) (state S.Store conn.new)) }
@@ -56,7 +55,7 @@ pub fn clear_rules<S: Alter>(conn: &mut Connection<S>) -> Result<(), Error>
     run(conn, "DELETE FROM rules", &[])
 }
 
-/// Every rule, in order.
+/// Every rule, in the order of places.
 pub fn all_rules<S: Alter>(alloc: Global, conn: &mut Connection<S>) -> Result<Vec<Rule>, Error>
     ensures ok { HasCleanDisk (state S.Store conn.new) → HasTables (state S.Store conn.old) → IfOk result (λ all. all.items ≡ (rows_in (state S.Store conn.old).now.trees).rules) }
     ensures same { HasCleanDisk (state S.Store conn.new) → HasTables (state S.Store conn.old) → OnOk result (IsUnchanged (state S.Store conn.old) (state S.Store conn.new)) }

@@ -1,5 +1,5 @@
-//! A statement over a connection, as each function of the crate runs it: what it did or showed, and
-//! what its error tells.
+//! How each function of the crate runs its statement: what the statement did or showed, and what
+//! its error tells.
 
 ghost use Rattle.std.specs.Prelude.{◌≡◌, ◌<◌, ◌⊎◌, ℕ, Ok, Err, pos, map, length, slice_get, List, IfOk, IfErr, OnOk, OnErr};
 ghost use Rattle.std.specs.Option.{option_map};
@@ -35,7 +35,7 @@ pub(crate) fn run<S: Alter>(
     }
 }
 
-/// Each row that a query shows.
+/// Every row that a query shows.
 pub(crate) fn list<T: Stored, S: Alter>(
     alloc: Global,
     conn: &mut Connection<S>,
@@ -73,7 +73,7 @@ pub(crate) fn first<T: Stored, S: Alter>(
     }
 }
 
-/// The number that a count answers.
+/// The number that a `count(*)` shows.
 pub(crate) fn count<S: Alter>(
     conn: &mut Connection<S>,
     text: &str,

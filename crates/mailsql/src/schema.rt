@@ -1,5 +1,5 @@
-//! What the schema of a store tells: whether names of ours are taken, and whether our columns and
-//! keys are there.
+//! What the schema of a store tells: whether our tables' names are taken, and whether our columns
+//! and keys are there.
 
 ghost use Rattle.std.specs.Prelude.{◌≡◌, true, false, ◌||◌, map, bytes_eq};
 ghost use Rattle.std.specs.List.{list_any};
@@ -14,7 +14,7 @@ use sqlite::{Alter, Connection};
 use sqlite_schema::names::same_name;
 use sqlite_schema::schema::{Column, Index, Kind, Schema, Table, View};
 
-/// Whether the name is that of one of our tables, but for the case of ASCII letters.
+/// Whether the name is one of our tables', in ASCII letters of any case.
 fn is_our_name(name: &[u8]) -> bool
     ensures { result ≡ is_our_name name.now }
 {
@@ -61,8 +61,8 @@ fn takes_our_name(schema: &Schema) -> bool
         | has_our_view(schema.views.as_slice())
 }
 
-/// Whether a table, an index or a view of the store has the name of one of our tables, but for the
-/// case of ASCII letters.
+/// Whether a table, an index or a view of the store has one of our tables' names, in ASCII letters
+/// of any case.
 pub fn is_taken<S: Alter>(conn: &Connection<S>) -> bool
     ensures value { result ≡ is_taken (state S.Store conn.now).now.schema }
     ensures ours { IsOurs (state S.Store conn.now).now → result ≡ true }
@@ -85,8 +85,7 @@ fn is_kind(column: &Column, kind: Kind) -> bool
     }
 }
 
-/// Whether the column is STRICT, has this name and this kind, and is NOT NULL where that is asked
-/// for.
+/// Whether the column is STRICT, has this name and this kind, and is NOT NULL if `required`.
 fn is_column(column: &Column, name: &[u8], kind: Kind, required: bool) -> bool
     ensures { result ≡ is_column name.now kind required column.now }
 {
@@ -102,7 +101,7 @@ fn is_named(table: &Table, name: &[u8]) -> bool
     table.name.as_slice() == name
 }
 
-/// Whether no two rows of the table may be alike in these columns.
+/// Whether a unique key of the table is over just these columns.
 fn is_unique(table: &Table, places: &[usize]) -> bool
     ensures { result ≡ list_any (λ key. are_places key places.now) table.now.uniques }
 {
@@ -113,14 +112,14 @@ fn is_unique(table: &Table, places: &[usize]) -> bool
         .any(|key| key.as_slice() == places)
 }
 
-/// Whether the table's primary key is over these columns, and no two rows may be alike in those.
+/// Whether the table's primary key is over `primary`, and a unique key over `unique`.
 fn has_keys(table: &Table, primary: &[usize], unique: &[usize]) -> bool
     ensures { result ≡ has_keys primary.now unique.now table.now }
 {
     (table.primary.as_slice() == primary) & is_unique(table, unique)
 }
 
-/// A column that a text of ours makes: its name, its kind, and whether it is NOT NULL.
+/// A column that a CREATE TABLE of ours makes: its name, its kind, and whether it is NOT NULL.
 type Made = (&'static [u8], Kind, bool);
 
 const META: [Made; 2] = [(b"name", Kind::Text, true), (b"value", Kind::Integer, true)];
@@ -191,8 +190,8 @@ const MEMBERS: [Made; 3] = [
     (b"clerk", Kind::Text, true),
 ];
 
-/// Whether these are STRICT columns of the same names and kinds, in the same order, and NOT NULL
-/// where that is asked for.
+/// Whether the columns are STRICT, have the names and kinds of ours, in the same order, and are NOT
+/// NULL where ours are.
 fn are_columns(columns: &[Column], ours: &[Made]) -> bool
     ensures { result ≡ are_columns (map made ours.now) columns.now }
 {
@@ -230,8 +229,7 @@ fn has_meta(tables: &[Table]) -> bool
     has_table(tables, b"meta", &META, &[1], &[1])
 }
 
-/// Whether the table of marks is there, with the columns and the key that its text makes. It is so
-/// in a store of every version.
+/// Whether the table of marks is there, with our columns and key. A store of any version has it.
 pub fn has_marks<S: Alter>(conn: &Connection<S>) -> bool
     ensures value { result ≡ has_marks (state S.Store conn.now).now.schema.tables }
     ensures ours { IsOurs (state S.Store conn.now).now → result ≡ true }
@@ -241,7 +239,8 @@ pub fn has_marks<S: Alter>(conn: &Connection<S>) -> bool
     has_meta(conn.schema().tables.as_slice())
 }
 
-/// Whether the table of members is there, whose clerks are apart in a group as their places are.
+/// Whether the table of members is there, with unique keys over group and place and over group and
+/// clerk.
 fn has_members(tables: &[Table]) -> bool
     ensures { result ≡ list_any (is_table (members_at 19)) tables.now }
 {
@@ -285,9 +284,9 @@ fn has_our_columns(tables: &[Table]) -> bool
         & has_members(tables)
 }
 
-/// Whether each of our tables is there with the columns and the keys that its text makes: the same
-/// names and kinds, in order, STRICT and NOT NULL as there, the same primary key, and unique in the
-/// same columns.
+/// Whether each of our tables is there with our columns and keys: STRICT, the same names and kinds
+/// in the same order, NOT NULL where ours are, the same primary key, and unique keys over the same
+/// columns.
 pub fn has_columns<S: Alter>(conn: &Connection<S>) -> bool
     ensures value { result ≡ has_columns (state S.Store conn.now).now.schema.tables }
     ensures ours { IsOurs (state S.Store conn.now).now → result ≡ true }
@@ -296,7 +295,8 @@ pub fn has_columns<S: Alter>(conn: &Connection<S>) -> bool
     has_our_columns(conn.schema().tables.as_slice())
 }
 
-/// Whether the tables of version 2 are there so: those of ours but `groups` and `members`.
+/// Whether the tables of version 2 are there, with their columns and keys: ours but `groups` and
+/// `members`.
 pub fn has_second_columns<S: Alter>(conn: &Connection<S>) -> bool
     ensures value { result ≡ has_second_columns (state S.Store conn.now).now.schema.tables }
     ensures second { (state S.Store conn.now).now.schema ≡ second_schema → result ≡ true }
@@ -305,8 +305,8 @@ pub fn has_second_columns<S: Alter>(conn: &Connection<S>) -> bool
     has_mail_columns(conn.schema().tables.as_slice())
 }
 
-/// Whether the tables of version 1 are there so: those of version 2, with `messages` in place of
-/// `mail` and `sheets`.
+/// Whether the tables of version 1 are there, with their columns and keys: those of version 2, but
+/// `messages` in place of `mail` and `sheets`.
 pub fn has_first_columns<S: Alter>(conn: &Connection<S>) -> bool
     ensures value { result ≡ has_first_columns (state S.Store conn.now).now.schema.tables }
     ensures first { (state S.Store conn.now).now.schema ≡ first_schema → result ≡ true }
@@ -315,7 +315,7 @@ pub fn has_first_columns<S: Alter>(conn: &Connection<S>) -> bool
     has_messages_columns(conn.schema().tables.as_slice())
 }
 
-/// Says what the keys of the tables, and the references between them, make sure of in the rows.
+/// Does nothing. Its contract says what the tables' keys and references ensure of the rows.
 pub fn keys_hold<S: Alter>(conn: &Connection<S>)
     ensures apart { IsReady (state S.Store conn.now) → AreApart (rows_in (state S.Store conn.now).now.trees) }
 {

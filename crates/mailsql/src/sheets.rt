@@ -19,10 +19,11 @@ use sqlite::{Alter, Connection, Error};
 use sqlite_value::value::ValueRef;
 use std::alloc::Global;
 
-/// The octets of a whole sheet: each sheet of a message but its last has so many.
+/// The octets of a whole sheet. Only the last sheet of a message may have fewer.
 pub const SHEET_OCTETS: usize = 4096;
 
-/// Adds a page of a message that is there, at a place that it has not.
+/// Adds a page of a message, at this place. The tables refuse a message that isn't there, and a
+/// place that it has.
 pub fn add_sheet<S: Alter>(
     conn: &mut Connection<S>,
     mail: i64,
@@ -52,7 +53,7 @@ fn count_sheets(text: &[u8]) -> usize
     text.len().div_ceil(SHEET_OCTETS)
 }
 
-/// Adds the sheet of the text at this place, which is below their count.
+/// Adds the sheet of the text at this place, which must be below the text's number of sheets.
 fn add_sheet_at<S: Alter>(
     conn: &mut Connection<S>,
     mail: i64,
@@ -70,10 +71,10 @@ fn add_sheet_at<S: Alter>(
     add_sheet(conn, mail, place as i64, &text[start..end])
 }
 
-/// Adds the sheets of a text, of a message that is there and has none: pieces of `SHEET_OCTETS`
-/// octets, the last of 1 to `SHEET_OCTETS`, in places counted from 0. Of an empty text there are
-/// none. These are as many statements: call it inside a transaction, and an error between them can
-/// be rolled back. Outside one, an error or a stop leaves the first of them.
+/// Adds the sheets of a text to a message that is there and has none: pieces of `SHEET_OCTETS`
+/// octets, the last of 1 to `SHEET_OCTETS`, at places counted from 0; none for an empty text. It
+/// runs a statement for each sheet: call it inside a transaction, so that an error between them can
+/// be rolled back. Outside one, an error or a stop leaves the sheets added before it.
 pub fn add_sheets<S: Alter>(conn: &mut Connection<S>, mail: i64, text: &[u8]) -> Result<(), Error>
     ensures ok { HasCleanDisk (state S.Store conn.new) → IsReady (state S.Store conn.old) → OnOk result (Changes (changes.AddsSheets mail text.now) (state S.Store conn.old) (state S.Store conn.new)) }
     ensures err { HasCleanDisk (state S.Store conn.new) → IsReady (state S.Store conn.old) → IsTrue (state S.Store conn.old).in_transaction → OnErr result (IsHalted (state S.Store conn.old) (state S.Store conn.new)) }
@@ -111,7 +112,7 @@ pub fn find_sheet<S: Alter>(
     )
 }
 
-/// How many pages there are, of all messages.
+/// How many pages all messages have together.
 pub fn sheet_count<S: Alter>(conn: &mut Connection<S>) -> Result<u64, Error>
     ensures ok { HasCleanDisk (state S.Store conn.new) → HasTables (state S.Store conn.old) → IfOk result (λ count. count ≡ min (length (rows_in (state S.Store conn.old).now.trees).sheets) 9223372036854775807) }
     ensures same { HasCleanDisk (state S.Store conn.new) → HasTables (state S.Store conn.old) → OnOk result (IsUnchanged (state S.Store conn.old) (state S.Store conn.new)) }
@@ -122,8 +123,7 @@ pub fn sheet_count<S: Alter>(conn: &mut Connection<S>) -> Result<u64, Error>
     count(conn, "SELECT count(*) FROM sheets", &[])
 }
 
-/// Every page of every message, in the order in which they were added. It takes memory for all
-/// their octets.
+/// Every page of every message, in the order of adding. It takes memory for the octets of all.
 pub fn all_sheets<S: Alter>(alloc: Global, conn: &mut Connection<S>) -> Result<Vec<Sheet>, Error>
     ensures ok { HasCleanDisk (state S.Store conn.new) → HasTables (state S.Store conn.old) → IfOk result (λ all. all.items ≡ (rows_in (state S.Store conn.old).now.trees).sheets) }
     ensures same { HasCleanDisk (state S.Store conn.new) → HasTables (state S.Store conn.old) → OnOk result (IsUnchanged (state S.Store conn.old) (state S.Store conn.new)) }

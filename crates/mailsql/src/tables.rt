@@ -1,4 +1,4 @@
-//! The making of the tables.
+//! Making the tables.
 
 ghost use Rattle.std.specs.Prelude.{◌≡◌, ◌<◌, length, IfErr, OnOk, OnErr};
 ghost use Rattle.sqlite.specs.Held.{state};
@@ -11,7 +11,7 @@ use sqlite::{Alter, Connection, Error};
 
 const TABLES: usize = 10;
 
-/// The text that makes the table at this place of the order in which they are made.
+/// The text that makes table number `at`, counted from 0 in the order of making.
 fn create_text(at: usize) -> &'static str
     requires { at < TABLES }
     ensures { result.now ≡ text_at at }
@@ -37,8 +37,8 @@ fn create_text(at: usize) -> &'static str
     }
 }
 
-/// Makes the tables, inside a transaction over a store that has none. After an error the
-/// transaction is under way still, or gone with all that it wrote.
+/// Makes the tables. Call it inside a transaction, over a store without tables. After an error the
+/// transaction is still under way, or gone with all that it wrote.
 pub fn create_tables<S: Alter>(conn: &mut Connection<S>) -> Result<(), Error>
     ensures ok { HasCleanDisk (state S.Store conn.new) → IsBegun (state S.Store conn.old) → OnOk result (MakesTables (state S.Store conn.old) (state S.Store conn.new)) }
     ensures err { HasCleanDisk (state S.Store conn.new) → IsBegun (state S.Store conn.old) → OnErr result (IsHalted (state S.Store conn.old) (state S.Store conn.new)) }
@@ -55,15 +55,14 @@ pub fn create_tables<S: Alter>(conn: &mut Connection<S>) -> Result<(), Error>
     Ok(())
 }
 
-/// How many tables an older store lacks: of version 2 two, and of version 1 four.
+/// How many tables an older store lacks: four over version 1 (`carried`), two over version 2.
 fn lacked(carried: bool) -> usize
     ensures { result ≡ length (lacked_texts carried) }
 {
     if carried { 4 } else { 2 }
 }
 
-/// Where the text that makes the table at this place of those that an older store lacks stands
-/// among the texts.
+/// The number, among all the tables, of lacked table number `at`; both count from 0.
 fn lacked_place(carried: bool, at: usize) -> usize
     requires { at < length (lacked_texts carried) }
     ensures low { result < TABLES }
@@ -84,10 +83,10 @@ fn lacked_place(carried: bool, at: usize) -> usize
     }
 }
 
-/// Makes the tables that an older store lacks, inside a transaction: those of groups and members in
-/// a store of version 2, those of sheets and mail too in one of version 1, which `carried` asks
-/// for. The other tables stay as they are. After an error the transaction is under way still, or
-/// gone with all that it wrote.
+/// Makes the tables that an older store lacks: `groups` and `members`, and over version 1, where
+/// `carried` must be true, `sheets` and `mail` too. Call it inside a transaction. The other tables
+/// stay as they are. After an error the transaction is still under way, or gone with all that it
+/// wrote.
 pub fn complete_tables<S: Alter>(conn: &mut Connection<S>, carried: bool) -> Result<(), Error>
     ensures ok { HasCleanDisk (state S.Store conn.new) → IsBegunOn (state S.Store conn.old) → is_carried (state S.Store conn.old).now.trees ≡ carried → OnOk result (CompletesTables (state S.Store conn.old) (state S.Store conn.new)) }
     ensures err { HasCleanDisk (state S.Store conn.new) → IsBegunOn (state S.Store conn.old) → is_carried (state S.Store conn.old).now.trees ≡ carried → OnErr result (IsHalted (state S.Store conn.old) (state S.Store conn.new)) }

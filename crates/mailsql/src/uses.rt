@@ -12,8 +12,8 @@ use crate::{deposits, mail, maildrops, meta, mode, sheets, tables};
 use sqlite::{Connection, Error, MemStore};
 use std::alloc::Global;
 
-/// Makes a store in memory: its tables, which are empty, and the mark of its version. An error is
-/// want of memory, or what one of these statements met.
+/// Makes a store in memory, with empty tables and the mark of its version. An error is want of
+/// memory, or what one of the statements met.
 pub fn open_new(alloc: Global, version: i64) -> Result<Connection<MemStore>, Error>
     ensures stands { IfOk result (λ conn. Stands (state over_memory conn) (marked version)) }
     ensures cause { IfErr result (FailsToOpenNew version) }
@@ -26,7 +26,7 @@ pub fn open_new(alloc: Global, version: i64) -> Result<Connection<MemStore>, Err
     Ok(conn)
 }
 
-/// A maildrop, a deposit into it, and its message, whose key it tells.
+/// Adds a maildrop, a deposit into it and the message, and returns the message's key.
 fn arrive(conn: &mut Connection<MemStore>) -> Result<i64, Error>
     ensures stands { (rows : _) → Stands (state over_memory conn.old) rows → IfOk result (λ key. Stands (state over_memory conn.new) (arrived key rows)) }
     ensures cause { (rows : _) → Stands (state over_memory conn.old) rows → IfErr result FailsToArrive }
@@ -66,7 +66,7 @@ fn read_pages(alloc: Global, conn: &mut Connection<MemStore>, key: i64) -> Resul
     Ok(Pages { first, second })
 }
 
-/// What `sample` saw: the heads and the pages of its message, and its pages when it was gone.
+/// What `sample` saw: its message's head and pages, and the pages after the removal.
 #[derive(Drop)]
 pub struct Seen {
     pub key: i64,
