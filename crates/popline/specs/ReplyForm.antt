@@ -46,7 +46,7 @@ pub record IsWellFormed (reply : Reply) : Type 0 where
   pub short : length (first_line reply) ≤ 512
   pub code : has_code reply ≡ true → reply ≡ InUse
 
--- every reply of such sizes is well formed
+-- every reply of those sizes is well formed
 abbrev pub FormOfReplies : Type 0
 FormOfReplies = (reply : Reply) → IsSized reply → IsWellFormed reply
 
