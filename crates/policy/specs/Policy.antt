@@ -56,7 +56,7 @@ lists listed Open = listed.open
 lists listed Read = listed.read
 lists listed Remove = listed.remove
 
--- the pattern fits the class; opening a maildrop is about no message, so there it always fits
+-- the pattern fits the class; opening a maildrop is about no message, so for it any pattern does
 abbrev pub fits_class : Action → Pattern → List ℕ → Bool
 fits_class Open wanted class = true
 fits_class Read wanted class = fits wanted class

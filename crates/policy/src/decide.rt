@@ -74,7 +74,7 @@ pub(crate) fn class_fits(action: Action, pattern: &Pattern, class: &Name) -> boo
     }
 }
 
-/// What the rule at that place decides, counted from 0; a denial by `default` where no rule stands.
+/// What the rule at the place, counted from 0, decides; a denial by `default` where there is none.
 pub(crate) fn decided_at(rules: &[Rule], place: usize) -> Decision
     ensures { result ≡ decision_of (slice_get rules.now place) }
 {

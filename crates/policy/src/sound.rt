@@ -125,7 +125,7 @@ fn are_apart(names: &[Name]) -> bool
     true
 }
 
-/// Whether the names can be the members of a group.
+/// Whether the names can be a group's members: 1 to 200 of them, all different.
 pub(crate) fn make_members(names: &[Name]) -> bool
     ensures { result ≡ are_members names.now }
 {
