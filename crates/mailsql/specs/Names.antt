@@ -15,7 +15,7 @@ use Rattle.mailsql.specs.Tables.{column_of, table_of, meta_at, clerks_at, maildr
 abbrev pub is_our_name : List ℕ → Bool
 is_our_name name = list_any (same_name name) (codes "meta" ∷ codes "clerks" ∷ codes "maildrops" ∷ codes "counts" ∷ codes "deposits" ∷ codes "mail" ∷ codes "rules" ∷ codes "sheets" ∷ codes "groups" ∷ codes "members" ∷ codes "messages" ∷ [])
 
--- a table, an index or a view has such a name
+-- a table, an index or a view has one of our tables' names
 abbrev pub is_taken : Schema → Bool
 is_taken schema =
     list_any (λ t. is_our_name t.name) schema.tables || list_any (λ i. is_our_name i.name) schema.indexes || list_any (λ v. is_our_name v.name) schema.views

@@ -323,13 +323,13 @@ abbrev pub lacked_tables : (carried : Bool) → List Table
 lacked_tables false = groups_at 0 ∷ members_at 0 ∷ []
 lacked_tables true = sheets_at 0 ∷ groups_at 0 ∷ members_at 0 ∷ mail_at 0 ∷ []
 
--- the schema with the first so many of the tables added
+-- the schema with the first n of the tables added
 abbrev pub grown : Schema → List Table → ℕ → Schema
 grown schema tables zero = schema
 grown schema [] (suc n) = schema
 grown schema (t ∷ tables) (suc n) = grown (created schema t) tables n
 
--- the schema of an older store with the first so many of the tables that it lacks
+-- the schema of an older store with the first n of the tables that it lacks
 abbrev pub old_stage : (carried : Bool) → ℕ → Schema
 old_stage carried at = grown (old_schema carried) (lacked_tables carried) at
 
@@ -337,6 +337,6 @@ old_stage carried at = grown (old_schema carried) (lacked_tables carried) at
 abbrev pub lacked_text : (carried : Bool) → ℕ → List ℕ
 lacked_text carried at = slice_index_or (lacked_texts carried) at []
 
--- the first so many of the tables that an older store lacks, in their trees
+-- the first n of the tables that an older store lacks, in their trees
 abbrev pub fresh_tables : (carried : Bool) → ℕ → List Table
 fresh_tables carried at = drop (length (old_schema carried).tables) (old_stage carried at).tables
