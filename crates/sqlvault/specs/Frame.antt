@@ -68,7 +68,7 @@ module _ {S : Type 0} (store : Ghosts S) (old new : Held S) where
         → Turns (IsOwn answered) (λ Held. Done c Held answered)
         (λ Held. (x : A) × Done c Held (Ok x)) c
 
-  -- a part of a transaction makes this change of the rows, or halts it
+  -- a part of a transaction makes this change of the rows, or an error halts the transaction
   pub record Writes {A : Type 0} (Change : A → Rows → Rows → Type 0)
       (result : Result A Error) : Type 0 where
     pub clean : WasClean (state store old) (state store new)

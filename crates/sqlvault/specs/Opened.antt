@@ -4,7 +4,7 @@ use Rattle.std.specs.Coded.{Coded, code_by, coded×, coded_ℕ}
 use Rattle.sqlite.specs.Held.{Held, held_code}
 use Rattle.vault.specs.declared.fault.VaultFault.{VaultFault}
 
--- its connection, and how many statements were refused for another cause than want of memory
+-- its connection, and how many calls answered `Store`
 pub record Opened (S : Type 0) : Type 0 where
   pub conn : Held S
   pub faults : ℕ

@@ -51,7 +51,7 @@ pub record Under (s : State) (base : Contents) : Type 0 where
 abbrev pub Halted : State → Contents → Type 0
 Halted s base = Under s base ⊎ Holds s base
 
--- a part of a transaction makes a change of the rows, or halts it
+-- a part of a transaction makes this change of the rows, or an error halts the transaction
 abbrev pub Makes : {A : Type 0} → (A → Rows → Rows → Type 0) → State → State → Result A Error → Type 0
 Makes Change old new (Ok x) = (base : Contents) (rows : Rows) → Within old base rows → (after : Rows) × Change x rows after × Within new base after
 Makes Change old new (Err e) = (base : Contents) (rows : Rows) → Within old base rows → Halted new base × Leaves new (λ left. Keeps left base)

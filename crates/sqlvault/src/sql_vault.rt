@@ -18,8 +18,8 @@ use std::alloc::Global;
 use std::marker::Model;
 use vault::{Deposited, Head, MessageKey, Total, Vault, VaultFault};
 
-/// A mail store over the tables of a connection. Contracts see the connection and the count of
-/// statements that were refused for another cause than want of memory.
+/// A mail store over the tables of a connection. Contracts see the connection, and how many calls
+/// answered `Store`.
 #[derive(Drop)]
 pub struct SqlVault<S: Alter> {
     alloc: Global,
