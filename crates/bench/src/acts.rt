@@ -1,4 +1,4 @@
-//! What the measures of an office do in it. The clerk `ann` may do everything in every maildrop.
+//! What the measures do in an office. The clerk `ann` may do everything in every maildrop.
 
 use crate::desk::Desk;
 use crate::fault::Fault;
@@ -8,7 +8,7 @@ use office::{AdminCommand, Event};
 use policy::Policy;
 use std::alloc::{AllocError, Global};
 
-/// How many octets are taken at once, at most.
+/// The most octets that are taken at once.
 const AT_ONCE: usize = 16_384;
 
 static ANNS_RULE: &str = r#"
@@ -47,14 +47,14 @@ fn administer(desk: &mut impl Desk, command: &AdminCommand) -> Result<u64, Fault
     desk.perform(Event::Admin(command), Fault::Command)
 }
 
-/// The text with ann's rule behind it.
+/// The text of a policy, with ann's rule as its last.
 fn with_ann(text: String) -> Result<String, AllocError> {
     let mut text = text;
     text.push_str(ANNS_RULE)?;
     Ok(text)
 }
 
-/// Sets the policy of a text.
+/// Sets the policy that a text is.
 fn set_text(alloc: Global, desk: &mut impl Desk, text: &str) -> Result<u64, Fault> {
     match Policy::read(alloc, text) {
         Ok(policy) => administer(desk, &AdminCommand::SetPolicy(policy)),
@@ -62,13 +62,13 @@ fn set_text(alloc: Global, desk: &mut impl Desk, text: &str) -> Result<u64, Faul
     }
 }
 
-/// Sets a policy of so many rules about other clerks, behind which ann's stands.
+/// Sets a policy of `others` rules about other clerks, with ann's rule as its last.
 pub fn set_policy(alloc: Global, desk: &mut impl Desk, others: usize) -> Result<u64, Fault> {
     let text = with_ann(text_of(alloc, others)?)?;
     set_text(alloc, desk, text.as_str())
 }
 
-/// Sets a policy of so many rules about groups of other clerks, behind which ann's stands.
+/// Sets a policy of `others` rules about groups of other clerks, with ann's rule as its last.
 pub fn set_groups(alloc: Global, desk: &mut impl Desk, others: usize) -> Result<u64, Fault> {
     let text = with_ann(grouped_text_of(alloc, others)?)?;
     set_text(alloc, desk, text.as_str())
@@ -82,7 +82,7 @@ pub fn let_in(alloc: Global, desk: &mut impl Desk) -> Result<u64, Fault> {
     set_policy(alloc, desk, 0)
 }
 
-/// Adds the maildrop of this number, with so many messages of this text.
+/// Adds the maildrop of this number, with `count` messages of this text.
 pub fn fill(
     alloc: Global,
     desk: &mut impl Desk,
@@ -112,7 +112,7 @@ fn take(desk: &mut impl Desk, c: u64) -> Result<(), Fault> {
     Ok(())
 }
 
-/// Says a line, and takes the reply.
+/// Sends a line, and takes the reply, which must begin with `+OK`.
 pub fn say(desk: &mut impl Desk, c: u64, line: &[u8]) -> Result<(), Fault> {
     desk.perform(Event::Bytes(c, line), Fault::Line)?;
     if !desk.lent(c).starts_with(b"+OK") {
@@ -121,7 +121,7 @@ pub fn say(desk: &mut impl Desk, c: u64, line: &[u8]) -> Result<(), Fault> {
     take(desk, c)
 }
 
-/// Opens a connection, and logs ann in to the maildrop 0. The connection's number.
+/// Opens a connection, and logs ann in to the maildrop `m0`. Answers the connection's number.
 pub fn log_in(desk: &mut impl Desk) -> Result<u64, Fault> {
     let c = desk.perform(Event::Connect, Fault::Connection)?;
     take(desk, c)?;
@@ -130,7 +130,7 @@ pub fn log_in(desk: &mut impl Desk) -> Result<u64, Fault> {
     Ok(c)
 }
 
-/// Marks the first messages, so many of them.
+/// Marks the first `count` messages as deleted.
 pub fn mark(alloc: Global, desk: &mut impl Desk, c: u64, count: u32) -> Result<(), Fault> {
     for number in 1..=count {
         let line = format!(in alloc; "DELE {number}\r\n")?;

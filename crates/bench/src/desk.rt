@@ -1,5 +1,5 @@
-//! What the measures ask of an office, by a trait without clauses: so no measure's proof carries
-//! those of an office.
+//! What the measures ask of an office, as a trait without clauses, so that their proofs need not
+//! carry the clauses of an office.
 
 use crate::fault::Fault;
 use office::{Answer, Event, Limits, Office, Outcome};
@@ -8,10 +8,9 @@ use vault::Vault;
 
 /// An office, as the measures use it.
 pub trait Desk {
-    /// Does an event: the number of the connection that it opens, or 0. Of a deposit the message
-    /// must be new.
+    /// Does an event. Answers the number of the connection that it opens, and 0 for other events.
     ///
-    /// Gives `fault` where the event isn't done.
+    /// Gives `fault` where the event isn't done, or where it is a deposit that isn't new.
     fn perform(&mut self, event: Event<'_>, fault: Fault) -> Result<u64, Fault>;
 
     /// The octets that a connection is owed.
@@ -39,7 +38,7 @@ impl<V: Vault> Desk for Office<V> {
     }
 }
 
-/// Opens an office over a vault. Gives the vault back where that is refused.
+/// Opens an office over a vault. Gives the vault back where it isn't opened.
 pub fn opened<V: Vault>(alloc: Global, vault: V) -> Result<Office<V>, (Fault, V)> {
     let Some(limits) = Limits::new(600) else {
         return Err((Fault::Opening, vault));

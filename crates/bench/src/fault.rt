@@ -8,6 +8,7 @@ use vault::VaultFault;
 /// Why a measure stops.
 #[derive(Clone, Copy, Debug)]
 pub enum Fault {
+    /// Memory was refused.
     NoMemory,
     /// The clock, the command line or the standard output.
     System,
@@ -15,17 +16,25 @@ pub enum Fault {
     Statement,
     /// A store can't be opened.
     Store(VaultFault),
-    /// An office wasn't opened, or refused one of these.
+    /// An office wasn't opened.
     Opening,
+    /// A text is no name, or no deposit id.
     Name,
+    /// An office refused a command of the administration.
     Command,
+    /// A text is no policy.
     Policy,
+    /// An office refused a deposit, or had it already.
     Deposit,
+    /// An office opened no connection.
     Connection,
+    /// An office refused a line, or its reply is no `+OK`.
     Line,
+    /// An office refused that octets were taken.
     Taking,
-    /// There is no measure of this name, or no store.
+    /// There is no measure of this name.
     NoMeasure,
+    /// There is no store of this name.
     NoStore,
 }
 

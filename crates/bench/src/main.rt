@@ -1,16 +1,16 @@
-//! How fast popbox's layers are. `bench WHAT N [STORE]` prints the measure WHAT of the number N;
-//! without a number it prints nothing.
+//! How fast popbox's layers are. `bench WHAT N [STORE]` runs the measure WHAT with the number N and
+//! prints its times; without a number it prints nothing.
 //!
-//! `texts OCTETS` is over message texts, `rules COUNT` over a policy of so many rules, and `groups
-//! COUNT` over one whose rules are all about groups, 100 of 200 members; `copies COUNT` holds so
-//! many policies of 1,000 rules, so that their memory can be seen from outside. `sheets OCTETS` is
-//! over the tables of a store in memory, or, with `[FILE]`, in a file that is not there yet;
-//! `sample 0 FILE` writes a small one.
-//!
-//! `removal MESSAGES` and `logins MESSAGES` are over an office, `grouped MESSAGES` the logins where
-//! 999 rules about groups stand before ann's. Its store is `plain`, which is
-//! vectors in memory and need not be said, or `tables`, in memory too, or `file PATH`, which is not
-//! there yet. `opening MESSAGES file PATH` fills such a file, and opens it again.
+//! - `texts OCTETS`: keeping, sending and reading message texts.
+//! - `rules COUNT`: a policy of that many rules. `groups COUNT`: the same, where all rules are
+//!   about 100 groups of 200 members. `copies COUNT`: holds that many policies of 1,000 rules, so
+//!   that their memory can be seen from outside.
+//! - `sheets OCTETS [FILE]`: the tables of a store in memory, or in a file that isn't there yet.
+//!   `sample 0 FILE` writes a small store.
+//! - `removal MESSAGES [STORE]`, `logins MESSAGES [STORE]`: sessions in an office. `grouped
+//!   MESSAGES [STORE]`: logins where 999 rules about groups stand before ann's. STORE is `plain`
+//!   (vectors in memory, the default), `tables` (in memory too) or `file PATH` (not there yet).
+//! - `opening MESSAGES file PATH`: fills a new file, and opens it again.
 #![tactic(auto)]
 
 mod acts;
@@ -29,18 +29,18 @@ use std::time::Instant;
 use std::{env, io};
 use stores::Job;
 
-/// The microseconds since then.
+/// The microseconds since `start`.
 fn since(rt: &impl Clock, start: Instant) -> io::Result<u64> {
     let took = start.elapsed(rt)?.as_micros();
     Ok(u64::try_from(took).unwrap_or(u64::MAX))
 }
 
-/// So many in so many microseconds: millions a second.
+/// `count` in `took` microseconds, as millions a second.
 fn rate(count: u64, took: u64) -> u64 {
     count / took.max(1)
 }
 
-/// Runs the measure of this name, whatever it is over.
+/// Runs the measure of this name.
 fn run(rt: &HostRuntime, what: &str, count: u32, over: &str, path: &str) -> Result<(), Fault> {
     match what {
         "texts" => Ok(texts::texts(rt, count as usize)?),

@@ -1,5 +1,5 @@
-//! How long a policy takes, with groups and without: to be read, to decide, to be written and
-//! copied; and policies that are held.
+//! How long it takes to read, write and copy a policy, with groups and without, and to decide by
+//! it; and policies that are held in memory.
 
 use crate::since;
 use creds::Name;
@@ -9,10 +9,10 @@ use std::io;
 use std::rt::Clock;
 use std::time::Instant;
 
-/// How often the policy is asked.
+/// How many decisions are timed together.
 const DECISIONS: u32 = 1000;
 
-/// The text of a policy of so many rules, each about a clerk of its own.
+/// The text of a policy of `rules` rules, each about a clerk of its own.
 pub fn text_of(alloc: Global, rules: usize) -> Result<String, AllocError> {
     let mut text = String::new(alloc);
     for n in 0..rules {
@@ -36,7 +36,7 @@ fn members_text(alloc: Global) -> Result<String, AllocError> {
     Ok(text)
 }
 
-/// Puts all groups that a policy may have behind a text, each of the same 200 members.
+/// Puts 100 groups, the most that a policy may have, behind a text, each of the same 200 members.
 fn put_groups(alloc: Global, text: &mut String) -> Result<(), AllocError> {
     let members = members_text(alloc)?;
     for n in 0..MAX_GROUPS {
@@ -48,7 +48,7 @@ fn put_groups(alloc: Global, text: &mut String) -> Result<(), AllocError> {
     Ok(())
 }
 
-/// The text of a policy of 100 groups of 200 members, and of so many rules, each of which lets a
+/// The text of a policy of 100 groups of 200 members, and of `rules` rules, each of which lets a
 /// group remove what lies in `orders`.
 pub fn grouped_text_of(alloc: Global, rules: usize) -> Result<String, AllocError> {
     let mut text = String::new(alloc);
@@ -65,7 +65,7 @@ pub fn grouped_text_of(alloc: Global, rules: usize) -> Result<String, AllocError
     Ok(text)
 }
 
-/// How many decisions to read a clerk is allowed.
+/// How many of the decisions let a clerk read.
 fn allowed_decisions(policy: &Policy, clerk: &str) -> u32 {
     let (Some(clerk), Some(maildrop)) = (Name::read(clerk.as_bytes()), Name::read(b"orders")) else {
         return 0;
@@ -82,7 +82,7 @@ fn allowed_decisions(policy: &Policy, clerk: &str) -> u32 {
     allowed
 }
 
-/// How many microseconds the policy takes to be written.
+/// How many microseconds it takes to write the policy.
 fn writing(rt: &(impl AllocGlobal + Clock), policy: &Policy) -> io::Result<u64> {
     let mut written = Vec::new(rt.alloc());
     let start = Instant::now(rt)?;
@@ -106,8 +106,8 @@ fn tell_decisions(rt: &(impl Print + Clock), policy: &Policy, clerk: &str) -> io
     println!(rt; "{DECISIONS} decisions about {clerk}, of which {allowed} allow: {deciding} us")
 }
 
-/// Prints what the policy's uses take, of a text of so many octets that took so many microseconds
-/// to be read.
+/// Prints how long the policy's uses take. Its text has `octets` octets and took `reading`
+/// microseconds to read.
 fn tell(
     rt: &(impl Print + AllocGlobal + Clock),
     policy: &Policy,
@@ -121,7 +121,8 @@ fn tell(
     tell_decisions(rt, policy, "nobody")
 }
 
-/// Reads a policy, and prints how many microseconds its uses take. None where it isn't read.
+/// Reads a policy, and prints how many microseconds its uses take. `None` where the text is no
+/// policy.
 fn measure_text(rt: &(impl Print + AllocGlobal + Clock), text: &str) -> io::Result<Option<Policy>> {
     let start = Instant::now(rt)?;
     let read = Policy::read(rt.alloc(), text);
@@ -138,15 +139,15 @@ fn measure_text(rt: &(impl Print + AllocGlobal + Clock), text: &str) -> io::Resu
     }
 }
 
-/// Prints how many microseconds a policy of so many rules takes, each about a clerk of its own.
+/// Measures a policy of `rules` rules, each about a clerk of its own.
 pub fn measure(rt: &(impl Print + AllocGlobal + Clock), rules: usize) -> io::Result<()> {
     let text = text_of(rt.alloc(), rules)?;
     measure_text(rt, text.as_str())?;
     Ok(())
 }
 
-/// The same of one whose rules all name groups; and decisions about a clerk who stands last in each
-/// group, so that each rule is looked at.
+/// Measures a policy whose `rules` rules all name groups; and decisions about a clerk who stands
+/// last in each group, so that each rule is looked at.
 pub fn measure_groups(rt: &(impl Print + AllocGlobal + Clock), rules: usize) -> io::Result<()> {
     let text = grouped_text_of(rt.alloc(), rules)?;
     match measure_text(rt, text.as_str())? {
@@ -155,7 +156,7 @@ pub fn measure_groups(rt: &(impl Print + AllocGlobal + Clock), rules: usize) -> 
     }
 }
 
-/// Reads a policy of 1,000 rules, holds so many copies of it, and prints how many rules these have.
+/// Reads a policy of 1,000 rules, holds `copies` copies of it, and prints how many rules they have.
 pub fn hold(rt: &(impl Print + AllocGlobal), copies: u32) -> io::Result<()> {
     let text = text_of(rt.alloc(), 1000)?;
     let Ok(policy) = Policy::read(rt.alloc(), &text) else {

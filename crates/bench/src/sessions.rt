@@ -13,16 +13,16 @@ use vault::Vault;
 /// How often ann logs in under each policy.
 const LOGINS: u32 = 1000;
 
-/// The same under one of groups.
+/// How often ann logs in under a policy of groups.
 const GROUPED_LOGINS: u32 = 20;
 
-/// How many other rules stand before hers.
+/// How many other rules stand before ann's.
 const OTHERS: [usize; 2] = [0, 999];
 
-/// The octets of a message in a file that is opened again.
+/// How many octets each message has in a file that is opened again.
 const SHORT: usize = 1000;
 
-/// Fills ten maildrops, with so many messages together.
+/// Fills ten maildrops with `count` messages together.
 fn measure_filling(
     rt: &(impl Print + AllocGlobal + Clock),
     desk: &mut impl Desk,
@@ -38,7 +38,7 @@ fn measure_filling(
     Ok(())
 }
 
-/// Marks every message of a maildrop of so many, and says QUIT.
+/// Marks every message of a maildrop of `count`, and sends QUIT.
 fn measure_removal(
     rt: &(impl Print + AllocGlobal + Clock),
     desk: &mut impl Desk,
@@ -56,7 +56,7 @@ fn measure_removal(
     Ok(())
 }
 
-/// How many microseconds so many sessions of a greeting, a login and a QUIT take together.
+/// How many microseconds `visits` sessions of a greeting, a login and a QUIT take together.
 fn time_visits(rt: &impl Clock, desk: &mut impl Desk, visits: u32) -> Result<u64, Fault> {
     let start = Instant::now(rt)?;
     for _ in 0..visits {
@@ -66,8 +66,8 @@ fn time_visits(rt: &impl Clock, desk: &mut impl Desk, visits: u32) -> Result<u64
     Ok(since(rt, start)?)
 }
 
-/// Sessions in a maildrop of so many messages, under a policy of one rule and under one in which
-/// 999 others stand before it.
+/// Measures sessions in a maildrop of `count` messages, under a policy of one rule and under one in
+/// which 999 others stand before it.
 fn measure_logins(
     rt: &(impl Print + AllocGlobal + Clock),
     desk: &mut impl Desk,
@@ -82,8 +82,8 @@ fn measure_logins(
     Ok(())
 }
 
-/// Sessions in a maildrop of so many messages, under a policy in which 999 rules about groups stand
-/// before ann's.
+/// Measures sessions in a maildrop of `count` messages, under a policy in which 999 rules about
+/// groups stand before ann's.
 fn measure_grouped(
     rt: &(impl Print + AllocGlobal + Clock),
     desk: &mut impl Desk,
@@ -96,8 +96,7 @@ fn measure_grouped(
     Ok(())
 }
 
-/// Lets ann in where that isn't done, and runs a measure in an office. `Standing` measures nothing
-/// in it.
+/// Gives ann a password and a policy, and runs a measure in an office. `Standing` measures nothing.
 fn measure_in(
     rt: &(impl Print + AllocGlobal + Clock),
     desk: &mut impl Desk,
@@ -114,7 +113,7 @@ fn measure_in(
     }
 }
 
-/// Runs a measure in an office of its own over a vault, which it gives back.
+/// Runs a measure in a new office over a vault, and gives the vault back.
 pub fn measure<V: Vault>(
     rt: &(impl Print + AllocGlobal + Clock),
     vault: V,

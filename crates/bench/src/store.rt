@@ -1,4 +1,4 @@
-//! How fast sheets are written and read, over the tables of a store, which are empty.
+//! How fast sheets are written to the empty tables of a store, and read.
 
 use crate::fault::Fault;
 use crate::stores::Job;
@@ -9,7 +9,7 @@ use std::alloc::Global;
 use std::rt::Clock;
 use std::time::Instant;
 
-/// How many octets the message's sheets have, read one by one.
+/// Reads the message's sheets one by one. Answers how many octets they have.
 fn read_text(alloc: Global, tables: &mut impl Tables, key: i64) -> Result<u64, Fault> {
     let mut octets = 0u64;
     for place in 0..i64::MAX {
@@ -22,7 +22,7 @@ fn read_text(alloc: Global, tables: &mut impl Tables, key: i64) -> Result<u64, F
     Ok(octets)
 }
 
-/// The sheets of one text, written in one transaction, and read one by one.
+/// Writes the sheets of one text in one transaction, and reads them one by one.
 fn measure_sheets(
     rt: &(impl Print + AllocGlobal + Clock),
     tables: &mut impl Tables,
@@ -39,7 +39,7 @@ fn measure_sheets(
     Ok(())
 }
 
-/// A row or two in each table, for `tools/check-tables`.
+/// Writes a row or two in each table, for `tools/check-tables`.
 fn write_sample(tables: &mut impl Tables) -> Result<(), Fault> {
     tables.write_others()?;
     let mut text = [0; 4097];

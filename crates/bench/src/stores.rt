@@ -16,11 +16,11 @@ pub enum Job {
     Filling,
     /// In an office: nothing.
     Standing,
-    /// In an office: marks are set, and QUIT removes these messages.
+    /// In an office: all messages of a maildrop are marked, and QUIT removes them.
     Removal,
     /// In an office: a clerk logs in, under a short policy and under a long one.
     Logins,
-    /// The same, under a long policy whose other rules are about groups.
+    /// In an office: a clerk logs in, under a long policy whose other rules are about groups.
     Grouped,
     /// The sheets of a text are written and read.
     Sheets,
@@ -28,8 +28,7 @@ pub enum Job {
     Sample,
 }
 
-/// Runs a measure over a store in tables: of an office, or of the tables themselves. Gives its
-/// connection back.
+/// Runs a measure of an office or of the tables over a store in tables. Gives its connection back.
 fn run_over<S: Alter + Drop>(
     rt: &(impl Print + AllocGlobal + Clock),
     vault: SqlVault<S>,
@@ -55,7 +54,7 @@ fn tell_opening(rt: &(impl Print + Clock), start: Instant) -> Result<(), Fault> 
     Ok(())
 }
 
-/// Tells how long the store's opening took since `start`, and runs a measure over it. Gives its
+/// Prints how long the store's opening took, since `start`, and runs a measure over it. Gives its
 /// connection back.
 fn run_opened<S: Alter + Drop>(
     rt: &(impl Print + AllocGlobal + Clock),
@@ -70,7 +69,7 @@ fn run_opened<S: Alter + Drop>(
     }
 }
 
-/// The same over a store in a file, which is then closed.
+/// Does the same over a store in a file, and closes it.
 fn run_and_close<D: Disk + Drop>(
     rt: &(impl Print + AllocGlobal + Clock),
     start: Instant,
@@ -85,8 +84,8 @@ fn run_and_close<D: Disk + Drop>(
     Ok(())
 }
 
-/// Over a file, whose opening is timed too. A torn write may leave any octets in what was being
-/// written.
+/// Opens the store in a file, runs a measure over it, and times the opening too. `Wary`: a torn
+/// write may leave any octets where it wrote.
 fn run_in_file(rt: &HostRuntime, path: &str, job: Job, count: u32) -> Result<(), Fault> {
     let start = Instant::now(rt)?;
     match SqlVault::open(rt, path, Wary) {
@@ -95,7 +94,7 @@ fn run_in_file(rt: &HostRuntime, path: &str, job: Job, count: u32) -> Result<(),
     }
 }
 
-/// Runs a measure in an office over the store that the words behind its number name.
+/// Runs a measure in an office over the store that the command line names.
 pub fn measure(
     rt: &HostRuntime,
     job: Job,
@@ -111,7 +110,7 @@ pub fn measure(
     }
 }
 
-/// Runs a measure over the tables of a store, in memory where no path of a file is given.
+/// Runs a measure over the tables of a store in a file, or in memory where the path is empty.
 pub fn measure_tables(rt: &HostRuntime, job: Job, count: u32, path: &str) -> Result<(), Fault> {
     if path == "" {
         return run_over(rt, SqlVault::in_memory(rt.alloc())?, job, count).0;
@@ -119,7 +118,7 @@ pub fn measure_tables(rt: &HostRuntime, job: Job, count: u32, path: &str) -> Res
     run_in_file(rt, path, job, count)
 }
 
-/// Fills a file with so many messages, and opens it again.
+/// Fills a file with `count` messages, and opens it again.
 pub fn measure_opening(rt: &HostRuntime, path: &str, count: u32) -> Result<(), Fault> {
     run_in_file(rt, path, Job::Filling, count)?;
     run_in_file(rt, path, Job::Standing, count)

@@ -1,5 +1,5 @@
-//! The statements that the measures run, by a trait without clauses: so no measure's proof carries
-//! those of a statement.
+//! The statements that the measures run, as a trait without clauses, so that their proofs need not
+//! carry the clauses of the statements.
 
 use mailsql::{clerks, counts, deposits, groups, mail, maildrops, mode, rules, sheets};
 use sqlite::{Alter, Connection, Error};
@@ -7,15 +7,14 @@ use std::alloc::Global;
 
 /// The tables of a store, as the measures use them.
 pub trait Tables {
-    /// A message of this text into the maildrop `orders`, which is made for it, in one transaction.
-    /// Its key.
+    /// Makes the maildrop `orders` and puts a message of this text into it, in one transaction.
+    /// Answers its key.
     fn write_message(&mut self, text: &[u8], octets: u32) -> Result<i64, Error>;
 
-    /// How many octets the sheet has, by the message's key and the sheet's place; 0 where there is
-    /// none.
+    /// How many octets the message's sheet at a place has; 0 where there is none.
     fn sheet_octets(&mut self, alloc: Global, key: i64, place: i64) -> Result<u64, Error>;
 
-    /// Two clerks, a group of both, a rule, a count and a deposit.
+    /// Writes two clerks, a group of both, a rule, a count and a deposit.
     fn write_others(&mut self) -> Result<(), Error>;
 }
 

@@ -1,4 +1,4 @@
-//! How fast message texts are kept, stuffed and read back.
+//! How fast message texts are kept, sent with their dots, and read back.
 
 use crate::{rate, since};
 use mailtext::{MailText, Stuffer, canon, stuff_into, unstuff};
@@ -20,7 +20,7 @@ fn keep(alloc: Global, text: &[u8]) -> Option<MailText> {
     canon(alloc, text).ok()
 }
 
-/// The text's octets as they are sent, with the dot that ends them.
+/// The text's octets as they are sent, with the line of a dot that ends them.
 fn send(alloc: Global, kept: &MailText) -> Result<Vec<u8>, AllocError> {
     let mut sent = Vec::new(alloc);
     stuff_into(&mut sent, kept.bytes())?;
@@ -39,8 +39,8 @@ fn send_pages(text: &[u8], out: &mut [u8]) -> usize {
     sent
 }
 
-/// How many octets are sent by pages through a buffer of 16,384 octets, and how many of the text in
-/// a microsecond.
+/// Sends a text by pages through a buffer of 16,384 octets. Answers how many octets are sent, and
+/// how many of the text in a microsecond.
 fn streaming(rt: &(impl AllocGlobal + Clock), kept: &MailText) -> io::Result<(usize, u64)> {
     let mut out = vec![in rt.alloc(); 0u8; 16_384]?;
     let start = Instant::now(rt)?;
@@ -53,14 +53,14 @@ fn is_read(alloc: Global, sent: &[u8]) -> Result<bool, AllocError> {
     Ok(unstuff(alloc, sent)?.is_some())
 }
 
-/// Whether the octets that were sent can be read, and how many of them in a microsecond.
+/// Whether the octets that were sent can be read back, and how many of them in a microsecond.
 fn reading(rt: &(impl AllocGlobal + Clock), sent: &[u8]) -> io::Result<(bool, u64)> {
     let start = Instant::now(rt)?;
     let is_read = is_read(rt.alloc(), sent)?;
     Ok((is_read, rate(sent.len() as u64, since(rt, start)?)))
 }
 
-/// What it takes to send a text that is kept, and to read it again.
+/// Prints how fast a kept text is sent and read back.
 fn measure_kept(
     rt: &(impl Print + AllocGlobal + Clock),
     name: &str,
@@ -89,7 +89,7 @@ fn measure(rt: &(impl Print + AllocGlobal + Clock), name: &str, text: &[u8]) -> 
     }
 }
 
-/// Prints a row for each of four texts of so many octets.
+/// Measures four kinds of text, each of `octets` octets or a line more.
 pub fn texts(rt: &(impl Print + AllocGlobal + Clock), octets: usize) -> io::Result<()> {
     let rows = [
         (

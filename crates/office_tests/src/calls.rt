@@ -1,5 +1,5 @@
-//! The worked rows over stores that refuse one call: the opening's, which is the first, a row's
-//! first, its second, and so on until none is refused.
+//! The worked rows over stores that refuse one call: first the opening's, then a row's first call,
+//! its second, and so on until a row is over before its refusal comes.
 use crate::twins::{play, twins_of};
 use office::{Limits, Office, OpenFault};
 use sqlvault::SqlVault;
@@ -9,10 +9,11 @@ use transcripts::sessions::RETRIEVING;
 use transcripts::worked::{OFFICE_ROWS, Row, SESSION_ROWS, Setting, filled, opened_at};
 use vault::{PlainVault, Refusing, Vault};
 
-/// How many calls a row has at most.
+/// The most calls that a row may make.
 const MOST_CALLS: u64 = 100;
 
-/// Does a row over a vault that is filled, of which this call is refused. Whether it was.
+/// Plays a row over a filled vault that refuses its call number `call`. Answers whether the row got
+/// to that call.
 fn meets<V: Vault + Drop>(alloc: Global, vault: V, row: &Row, call: u64) -> Result<bool, Fail> {
     let setting = row.1;
     let free = filled(alloc, PlainVault::new(alloc), setting)?;
@@ -28,8 +29,8 @@ fn meets<V: Vault + Drop>(alloc: Global, vault: V, row: &Row, call: u64) -> Resu
     }
 }
 
-/// Does a row over stores of vectors, or of tables, of which each call was once refused, but for
-/// the opening's, which is the first. How many they were.
+/// Plays a row again and again, over stores of vectors or of tables, each of which refuses another
+/// of the row's calls. Answers how many calls the row has. The first call is the opening's.
 fn calls_of(alloc: Global, row: &Row, is_over_tables: bool) -> Result<u64, Fail> {
     for call in 2..MOST_CALLS {
         let is_met = if is_over_tables {
@@ -55,7 +56,8 @@ fn opening_refused<V: Vault + Drop>(alloc: Global, vault: V) -> Result<Refusing<
     }
 }
 
-/// A row over a vault that refused an opening: it is opened again, and all is as ever.
+/// Plays a row over a vault that refused an opening and is opened again. Fails unless the office
+/// answers as ever.
 fn opens_again<V: Vault + Drop>(alloc: Global, vault: V, row: &Row) -> Result<(), Fail> {
     let free = filled(alloc, PlainVault::new(alloc), row.1)?;
     let free = opened_at(alloc, free, row.1)?;

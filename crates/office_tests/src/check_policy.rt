@@ -1,4 +1,4 @@
-//! Tests of check_policy, of files that no row of text can show, and of each refusal.
+//! Tests of `check_policy`: files that no transcript can show, and each refusal.
 
 use converse::check_policy::check_policy;
 use std::alloc::Global;
@@ -6,7 +6,7 @@ use std::io::{BufWriter, Read, Write};
 use std::test::Fail;
 use transcripts::playing::{Refusing, expect, run_text};
 
-/// Fails unless the check of a file of these octets leaves this.
+/// Fails unless the check of a file of these octets prints this.
 fn expect_check(alloc: Global, octets: &[u8], want: &str) -> Result<(), Fail> {
     let mut file = octets;
     let mut out = Vec::new(alloc);

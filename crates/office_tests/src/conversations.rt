@@ -1,5 +1,5 @@
-//! What no clause says: that a conversation comes about, that all replies are written before the
-//! next read, and which fault is told.
+//! What no clause says of `talk`: that it holds a conversation, that it writes all replies before
+//! the next read, and which fault it answers.
 
 use crate::offices::opened;
 use converse::{TalkFault, talk};
@@ -13,7 +13,8 @@ use std::test::Fail;
 use transcripts::playing::{expect, run_on};
 use vault::PlainVault;
 
-/// Gives a line a read, each only where so many octets were written before. Refuses a call.
+/// A reader that gives one line a read. It fails where the number of octets written so far isn't
+/// the line's, and after `calls` reads.
 #[derive(Drop)]
 struct Lines<'a> {
     lines: &'a [(usize, &'a [u8])],
@@ -41,7 +42,7 @@ impl Read for Lines<'_> {
     }
 }
 
-/// Takes so many octets a call at most, and counts them. Refuses a call.
+/// A writer that takes `most` octets a call and counts them. It fails after so many calls.
 #[derive(Drop)]
 struct Counted<'a> {
     text: Vec<u8>,
@@ -67,7 +68,7 @@ impl Write for Counted<'_> {
     }
 }
 
-/// Whether a client that says these lines, and then nothing more, is told this text, and the
+/// Whether a client that sends these lines, and then nothing more, is sent this text, and its
 /// connection is then over.
 fn says(alloc: Global, office: &mut Office<PlainVault>, lines: &[u8], want: &str) -> bool {
     let mut text = Vec::new(alloc);
@@ -77,7 +78,7 @@ fn says(alloc: Global, office: &mut Office<PlainVault>, lines: &[u8], want: &str
         && office.ended(1)
 }
 
-/// What is told of CAPA and USER.
+/// What a client is sent for CAPA and USER.
 static UNFINISHED: &str =
     "+OK POP3 server ready <1.7@h.test>\r\n+OK capability list follows\r\nTOP\r\nUSER\r\nUIDL\r\nRESP-CODES\r\nPIPELINING\r\n.\r\n+OK send PASS\r\n";
 
@@ -90,14 +91,14 @@ fn a_reader_that_ends(rt: HostRuntime) -> Result<(), Fail> {
     Ok(())
 }
 
-/// A message in the maildrop orders, in which ann may do everything.
+/// A script that puts a message into the maildrop `orders`, in which ann may do everything.
 static MESSAGE: &str = r#"maildrop add orders
 clerk pass ann s3 cret
 policy [[rule]]\nname = "ann-all"\neffect = "allow"\nclerk = "ann"\nmaildrop = "orders"\nclass = "*"\nactions = ["open", "read", "remove"]
 deposit orders orders d1 x
 "#;
 
-/// What is printed of it.
+/// What that script prints.
 static MESSAGE_SAID: &str = "answer added\nanswer added\nanswer 1 rules\nanswer new orders.1\n";
 
 /// An office whose maildrop orders has that message.
@@ -116,15 +117,16 @@ fn messages_in(office: &mut Office<PlainVault>) -> Option<usize> {
     }
 }
 
-/// What is told of a login and a mark.
+/// What a client is sent for a login and a DELE.
 static MARKED: &str =
     "+OK POP3 server ready <1.7@h.test>\r\n+OK send PASS\r\n+OK maildrop has 1 messages (3 octets)\r\n+OK message 1 deleted\r\n";
 
-/// The same of a second client, who says QUIT.
+/// What a second client is sent for a login, a DELE and a QUIT.
 static QUIT: &str =
     "+OK POP3 server ready <2.7@h.test>\r\n+OK send PASS\r\n+OK maildrop has 1 messages (3 octets)\r\n+OK message 1 deleted\r\n+OK bye\r\n";
 
-/// Whether a client that marks the message leaves it there, and one that then quits removes it.
+/// Whether the message stays after a client that marks it and goes, and is removed after one that
+/// marks it and sends QUIT.
 fn only_a_quit(alloc: Global, office: &mut Office<PlainVault>) -> bool {
     let marks = b"USER ann/orders\nPASS s3 cret\nDELE 1\n";
     let quits = b"USER ann/orders\nPASS s3 cret\nDELE 1\nQUIT\n";
@@ -141,15 +143,15 @@ fn only_a_quit_removes(rt: HostRuntime) -> Result<(), Fail> {
     Ok(())
 }
 
-/// The lines of a login and a mark, each behind all that is owed.
+/// The lines of a login and a DELE, each with how many octets must be written before it is read.
 static MARKING: [(usize, &[u8]); 3] = [
     (36, b"USER ann/orders\n"),
     (51, b"PASS s3 cret\n"),
     (91, b"DELE 1\n"),
 ];
 
-/// Whether each line of a client that takes so many octets at a time is read behind the replies
-/// before it.
+/// Whether each line is read only after all replies to those before it are written, to a client
+/// that takes `most` octets at a time.
 fn is_prompt(alloc: Global, office: &mut Office<PlainVault>, most: usize) -> bool {
     let written = Cell::new(0);
     let mut reader = Lines {
@@ -177,7 +179,7 @@ fn replies_are_written_before_the_next_read(rt: HostRuntime) -> Result<(), Fail>
     Ok(())
 }
 
-/// CAPA, USER and QUIT, four octets a read.
+/// CAPA, USER and QUIT in pieces of four octets, each with how many octets are written before it.
 static PIECES: [(usize, &[u8]); 7] = [
     (36, b"CAPA"),
     (36, b"\nUSE"),
@@ -188,12 +190,12 @@ static PIECES: [(usize, &[u8]); 7] = [
     (124, b"T\n"),
 ];
 
-/// What is told of them.
+/// What a client is sent for them.
 static FINISHED: &str =
     "+OK POP3 server ready <1.7@h.test>\r\n+OK capability list follows\r\nTOP\r\nUSER\r\nUIDL\r\nRESP-CODES\r\nPIPELINING\r\n.\r\n+OK send PASS\r\n+OK bye\r\n";
 
-/// How many calls of a reader and of a writer are met before one is refused, how many octets a call
-/// of the writer takes at most, and the fault.
+/// How many calls of a reader and of a writer are answered before one is refused, how many octets a
+/// call of the writer takes at most, and the fault that comes of it.
 static REFUSED: [(usize, usize, usize, Option<TalkFault>); 9] = [
     (0, 100, 20, Some(TalkFault::Read)),
     (1, 100, 20, Some(TalkFault::Read)),
@@ -206,8 +208,8 @@ static REFUSED: [(usize, usize, usize, Option<TalkFault>); 9] = [
     (100, 100, 0, Some(TalkFault::Write)),
 ];
 
-/// Whether a conversation with such a reader and such a writer has this fault, what was written is
-/// a beginning of the replies, or without a fault all of them, and the connection is over.
+/// Whether a conversation with such a reader and writer ends with this fault and its connection is
+/// over. What is written must be a beginning of the replies and, without a fault, all of them.
 fn is_told(
     alloc: Global,
     office: &mut Office<PlainVault>,
@@ -248,7 +250,7 @@ fn each_call_refused(rt: HostRuntime) -> Result<(), Fail> {
     Ok(())
 }
 
-/// Whether a further conversation is refused, of which nothing is read or written.
+/// Whether a further conversation is refused, before anything of it is read or written.
 fn is_refused(alloc: Global, office: &mut Office<PlainVault>) -> bool {
     let mut text = Vec::new(alloc);
     let mut reader = b"QUIT\r\n".as_slice();

@@ -1,8 +1,8 @@
-//! The worked rows, and a reply of several takings, where a growth is refused: what met the refusal
-//! says so and changes nothing, or ends its connection.
+//! The worked rows, and a reply that is taken in several pieces, where a growth of memory is
+//! refused. An event that meets the refusal answers so and changes nothing, or ends its connection.
 //!
-//! The tests pass with memory; tools/check-growths runs them with each growth refused, and counts
-//! them by the rows that they name.
+//! Without a refusal the tests pass too. tools/check-growths runs them with each growth refused,
+//! and counts them by the rows that they print.
 use crate::twins::{play, twins_of};
 use sqlvault::SqlVault;
 use std::alloc::Global;
@@ -10,7 +10,8 @@ use std::test::Fail;
 use transcripts::worked::{LONG, OFFICE_ROWS, Row, SESSION_ROWS, filled, opened_at};
 use vault::{PlainVault, Vault};
 
-/// Does a row in two offices, in the first of which a growth may be refused. Whether one was.
+/// Plays a row in two offices, in the first of which a growth may be refused. Answers whether one
+/// was.
 fn meets<V: Vault + Drop>(alloc: Global, vault: V, row: &Row) -> Result<bool, Fail> {
     let setting = row.1;
     let free = filled(alloc, PlainVault::new(alloc), setting)?;
@@ -21,13 +22,13 @@ fn meets<V: Vault + Drop>(alloc: Global, vault: V, row: &Row) -> Result<bool, Fa
     Ok(twins.is_met)
 }
 
-/// The same over a store of vectors, behind the row's name.
+/// Prints the row's name, and plays it over a store of vectors.
 fn meets_over_vectors(rt: &HostRuntime, row: &Row) -> Result<bool, Fail> {
     println!(rt; "row {}", row.0)?;
     meets(rt.alloc(), PlainVault::new(rt.alloc()), row)
 }
 
-/// The same over a store of tables, behind the row's name.
+/// Prints the row's name, and plays it over a store of tables.
 fn meets_over_tables(rt: &HostRuntime, row: &Row) -> Result<bool, Fail> {
     println!(rt; "row {}", row.0)?;
     meets(rt.alloc(), SqlVault::in_memory(rt.alloc())?, row)

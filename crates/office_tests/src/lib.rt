@@ -1,5 +1,5 @@
-//! Tests of the office and of scripts, of what no transcript shows: single calls, what a growth or
-//! a call that is refused leaves, and replies taken in any pieces.
+//! Tests of the office and of scripts that no transcript can show: single calls, what stands after
+//! a refused growth or call, and replies taken in any pieces.
 #![tactic(auto)]
 
 #[cfg(test)]

@@ -1,14 +1,13 @@
-//! The calls that take no memory, each answered as ever.
+//! The calls that allocate nothing are answered as ever where no memory is left.
 //!
-//! These are the readings of a kept text and of its pieces; the cutter of lines and the reading
-//! of a command; names, ids, secrets, the three digests and admission; a decision, and a policy's
-//! lane; the session's numbers, listings, picks, marks and its reset; a refusal's response; a new
-//! store of vectors, and the connection of one of tables; of the office what is owed, ready and
-//! ended, its vault, and the events that a client is gone, that time passes, and that it starts
-//! again.
+//! They are: reading a kept text and its pieces; the cutter of lines, and reading a command; names,
+//! ids, secrets, the three digests and admission; a decision, and a policy's lane; a session's
+//! numbers, listings, picks, marks and reset; a refusal's response; a new store of vectors, and the
+//! connection of one of tables; of the office what is owed, ready and ended, its vault, and the
+//! events that a client is gone, that time passes, and that the office starts again.
 //!
-//! tools/check-growths runs them with each growth refused: a growth of what comes before them ends
-//! the test, and none is left that could be theirs.
+//! tools/check-growths refuses each growth of these tests. All are growths of what a test does
+//! before these calls, and end the test; these calls have none.
 use crate::twins::Desk;
 use crate::views::{RULES, bob_session};
 use adminhttp::Refusal;
@@ -46,7 +45,7 @@ fn are_sent() -> bool {
         && TopCut::new(0).feed(b"a: b\r\n\r\nc\r\n") == 8
 }
 
-/// A line and what is behind it.
+/// The cutter gives a line, and leaves what is behind it.
 fn is_cut() -> bool {
     let mut cutter = Cutter::new();
     let taken = cutter.feed(b"NOOP\r\nQUIT\r\n");
@@ -67,7 +66,7 @@ fn are_admitted(mrose: &Name, ann: &Name, secret: Secret) -> bool {
         && kept.admits(ann, stamp, &Proof::Pass(b"s3 cret"))
 }
 
-/// The other texts of a form.
+/// Whether a deposit id, a host name, a login name and limits are read.
 fn are_read() -> bool {
     DepositId::read(b"d1").is_some()
         && HostName::read(b"h.test").is_some()
@@ -110,7 +109,7 @@ fn is_marked(session: &mut Session, policy: &Policy) -> bool {
     is_picked && is_marked && is_hidden && session.stat() == (3, 61)
 }
 
-/// Whether this is done.
+/// Whether an event is done.
 fn does<D: Desk>(desk: &mut D, event: Event<'_>) -> bool {
     matches!(desk.give(event), Outcome::Done)
 }
@@ -125,13 +124,13 @@ fn come<D: Desk>(desk: &mut D) -> bool {
     true
 }
 
-/// What a connection is owed is taken; then it is ready.
+/// Takes what a connection is owed. Whether it is ready then.
 fn takes<D: Desk>(desk: &mut D, c: u64) -> bool {
     let count = desk.lends(c).len();
     does(desk, Event::Took(c, count)) && desk.is_ready(c)
 }
 
-/// They are ended, each by its event.
+/// Whether each of the three connections is ended by its event.
 fn are_ended<D: Desk>(desk: &mut D) -> bool {
     does(desk, Event::Gone(1))
         && desk.is_over(1)
@@ -145,7 +144,7 @@ fn are_ended<D: Desk>(desk: &mut D) -> bool {
         && desk.lends(3).is_empty()
 }
 
-/// Fails unless all of an office over this vault is as ever. Gives the vault back.
+/// Fails unless an office over this vault answers these events as ever. Gives the vault back.
 fn events_take_none<V: Vault + Drop>(alloc: Global, vault: V) -> Result<V, Fail> {
     let vault = filled(alloc, vault, Setting::Sample)?;
     let mut office = opened_at(alloc, vault, Setting::Sample)?;

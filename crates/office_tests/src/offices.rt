@@ -1,5 +1,5 @@
-//! Tests of the office itself, of what no clause says: that the calls which may want memory succeed
-//! where there is enough, and what is then said.
+//! Tests of what no clause says of the office: that the calls which allocate succeed where there is
+//! memory, and what they answer.
 
 use converse::replay::tell;
 use office::{Event, Limits, Office, OpenFault, RunFault, Step, Transcript};
@@ -30,7 +30,7 @@ fn refusal(alloc: Global, host: &str) -> Option<OpenFault> {
     }
 }
 
-/// Texts, and whether each is the name of a host: of at most 64 octets, in parts.
+/// Texts, and whether each is the name of a host: at most 64 octets, parts with dots between them.
 static HOSTS: [(&str, bool); 16] = [
     ("localhost", true),
     ("h.test", true),
@@ -75,8 +75,8 @@ fn limits_of_idle_seconds(rt: HostRuntime) {
     assert!(rt; Limits::new(599).is_none() && Limits::new(86_401).is_none());
 }
 
-/// The greeting, taken whole, and the reply to QUIT, taken in two pieces: of each step its octets,
-/// and what is told of it.
+/// What is printed of the greeting path, step by step. The greeting is taken whole, and the reply
+/// to QUIT in two pieces.
 static TAKEN: &str = "opened 1
 +OK POP3 server ready <1.7@h.test>\r
 done
@@ -113,7 +113,7 @@ fn is_over(office: &Office<PlainVault>) -> bool {
     office.ended(1) && !office.ready(1) && office.owed(1).is_empty()
 }
 
-/// Runs the greeting path: whether its steps are told, and its connection is over.
+/// Runs the greeting path. Whether its steps are as above, and its connection is over.
 fn is_run(alloc: Global, office: &mut Office<PlainVault>) -> Result<bool, Fail> {
     let transcript = run_greeting_path(office)?;
     Ok(are_taken(alloc, transcript.steps())? && is_over(office))

@@ -1,5 +1,5 @@
-//! Tests of a client that doesn't wait for replies: as one list of events, and over stores that
-//! refuse a call.
+//! Tests of a client that doesn't wait for replies, its events given as one list, and over stores
+//! that refuse a call.
 
 use crate::offices::opened;
 use converse::replay::{tell, write_escaped};
@@ -12,7 +12,7 @@ use transcripts::playing::{parts_of, run_on};
 use transcripts::sessions::SAMPLE;
 use vault::{PlainVault, Refusing};
 
-/// It acts, and the store refuses the removal.
+/// The QUIT acts, and the store refuses the removal.
 static REFUSED_QUIT: &str = r"> took 1 2
 sent 1 \r\n
 failed
@@ -31,14 +31,14 @@ done
 ended 1
 ";
 
-/// The sample store.
+/// A vault with the sample store.
 fn sample_vault(alloc: Global) -> Result<PlainVault, Fail> {
     let (script, _) = parts_of(alloc, SAMPLE)?;
     let (_, vault) = run_on(alloc, PlainVault::new(alloc), "h.test", 7, script.as_str())?;
     Ok(vault)
 }
 
-/// What the events of the script are lent.
+/// What the events of the script borrow.
 #[derive(Clone, Copy)]
 struct Lent<'a> {
     orders: &'a Name,
@@ -51,7 +51,7 @@ struct Lent<'a> {
     lines: &'a [u8],
 }
 
-/// What the script does, as one list of events.
+/// Runs the script's events as one list.
 fn run_lent(office: &mut Office<PlainVault>, lent: Lent<'_>) -> Result<Transcript, RunFault> {
     office.run(&[
         Event::Connect,
@@ -79,7 +79,7 @@ fn run_lent(office: &mut Office<PlainVault>, lent: Lent<'_>) -> Result<Transcrip
     ])
 }
 
-/// The list over an office, by the names of a maildrop, a class and a deposit.
+/// Runs the list over an office, with these names of the maildrop, the class and the deposit.
 fn run_named(
     office: &mut Office<PlainVault>,
     orders: &Name,
@@ -100,7 +100,7 @@ fn run_named(
     run_lent(office, lent)
 }
 
-/// The same over the sample store.
+/// Runs the list over the sample store.
 fn run_as_one_list(alloc: Global) -> Result<Transcript, Fail> {
     let orders = Name::read(b"orders").ok_or("maildrop")?;
     let note = Name::read(b"note").ok_or("class")?;
@@ -109,7 +109,7 @@ fn run_as_one_list(alloc: Global) -> Result<Transcript, Fail> {
     Ok(run_named(&mut office, &orders, &note, &id)?)
 }
 
-/// A transcript as replay prints it, but for the ending of a connection.
+/// A transcript as replay prints it, without the lines that say that a connection ended.
 fn told(alloc: Global, transcript: &Transcript) -> Result<Vec<u8>, Fail> {
     let mut out = Vec::new(alloc);
     for step in transcript.steps() {
@@ -123,7 +123,7 @@ fn told(alloc: Global, transcript: &Transcript) -> Result<Vec<u8>, Fail> {
     Ok(out)
 }
 
-/// The whole script, and what is printed of it, where the QUIT does this.
+/// The whole script with this QUIT, and what it must print.
 fn parts_with(alloc: Global, quit: &str) -> Result<(String, String), Fail> {
     let whole = format!(in alloc; "{PIPELINED}{quit}")?;
     parts_of(alloc, whole.as_str())
@@ -141,7 +141,7 @@ fn pipelined_as_one_run(rt: HostRuntime) -> Result<(), Fail> {
 }
 
 /// Runs the script over stores that refuse their first call, their second, and so on until none is
-/// refused. Whether in one of them the QUIT was refused.
+/// refused. Answers whether the QUIT was refused in one of them.
 fn has_refused_quit(alloc: Global, script: &str, free: &str, quit: &str) -> Result<bool, Fail> {
     let mut was_refused = false;
     for call in 1..100 {

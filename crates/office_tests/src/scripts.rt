@@ -1,5 +1,5 @@
-//! Tests of replay, of what no transcript shows: the octets of lines and escapes, a line that is cut
-//! at each place, and refused files.
+//! Tests of replay that no transcript can show: the octets of lines and escapes, a line that comes
+//! in two pieces, cut at each place, and refused files.
 
 use converse::replay::{replay, tell, write_escaped};
 use converse::script::{Line, read_script};
@@ -12,7 +12,8 @@ use std::test::Fail;
 use transcripts::playing::{Refusing, plays};
 use vault::PlainVault;
 
-/// A line on a connection of its own, in two pieces, the second with its end, and its reply.
+/// Writes transcript lines that send a line in two pieces, on a connection of its own, and take the
+/// reply.
 fn write_cut(
     text: &mut String,
     at: usize,
@@ -31,8 +32,8 @@ fn write_cut(
     writeln!(text, "> gone {at}\ndone\nended {at}")
 }
 
-/// Gives `NOOP`, so many spaces and a line end, in two pieces that are cut at each place in turn,
-/// and expects this reply.
+/// Fails unless `NOOP`, `spaces` spaces and a line end have this reply, wherever the line is cut in
+/// two pieces.
 fn cut_everywhere(alloc: Global, spaces: usize, end: &str, reply: &str) -> Result<(), Fail> {
     let line = format!(in alloc; "NOOP{:spaces$}{end}", "")?;
     let mut text = String::new(alloc);
@@ -107,7 +108,7 @@ fn credentials_are_read(rt: HostRuntime) -> Result<(), Fail> {
     Ok(())
 }
 
-/// Whether a run of a script has status 1, whose output is refused. What it tells goes to `err`.
+/// Whether a run of a script whose output is refused has status 1. Its fault goes to `err`.
 fn is_refused<R: Read>(alloc: Global, script: &mut R, err: &mut Vec<u8>) -> bool {
     let vault = PlainVault::new(alloc);
     let removals = Removals::JudgedAtDele;

@@ -1,5 +1,5 @@
-//! Replies that stream: the same octets whatever is taken at a time, and a page that is refused
-//! (RFC 1939, 3 and 7).
+//! Long replies, whose pages are read as the client takes them: they have the same octets however
+//! many are taken at a time, and a page may be refused (RFC 1939, 3 and 7).
 use office::{Event, Office, Outcome};
 use std::alloc::{AllocError, Global};
 use std::test::Fail;
@@ -9,13 +9,13 @@ use vault::{PlainVault, Refusing, Vault};
 /// How many octets are taken at a time: one, some, and all that are lent.
 static TAKINGS: [usize; 3] = [1, 512, usize::MAX];
 
-/// How many lines the long message has behind its header.
+/// How many lines the body of the long message has.
 const LINES: usize = 6000;
 
 /// How many octets a page has.
 const PAGE: usize = 4096;
 
-/// Takes so many of the octets that a connection is owed, or all that it is lent. Whether that was
+/// Takes `most` of the octets that a connection is lent, or all if they are fewer. Whether that was
 /// done.
 fn takes<V: Vault>(
     office: &mut Office<V>,
@@ -47,12 +47,12 @@ fn takes_all<V: Vault>(
     Ok(false)
 }
 
-/// Says a line. Whether that was done.
+/// Sends a line. Whether that was done.
 fn says<V: Vault>(office: &mut Office<V>, c: u64, line: &[u8]) -> bool {
     matches!(office.step(Event::Bytes(c, line)), Outcome::Done)
 }
 
-/// What a line is answered, taken so many octets at a time.
+/// The reply to a line, taken `most` octets at a time.
 fn answer<V: Vault>(
     alloc: Global,
     office: &mut Office<V>,
@@ -97,7 +97,7 @@ fn office_with(alloc: Global, text: &[u8]) -> Result<Office<PlainVault>, Fail> {
     Ok(office)
 }
 
-/// Fails unless a line is answered so, whatever is taken at a time.
+/// Fails unless a line has this reply, however many octets are taken at a time.
 fn expect_answer(
     alloc: Global,
     office: &mut Office<PlainVault>,
@@ -112,7 +112,7 @@ fn expect_answer(
     Ok(())
 }
 
-/// These octets, so many `a`, and those.
+/// The octets `front`, `count` times `a`, and the octets `back`.
 fn joined(alloc: Global, front: &[u8], count: usize, back: &[u8]) -> Result<Vec<u8>, AllocError> {
     let mut octets = Vec::new(alloc);
     octets.extend_from_slice(front)?;
@@ -121,7 +121,8 @@ fn joined(alloc: Global, front: &[u8], count: usize, back: &[u8]) -> Result<Vec<
     Ok(octets)
 }
 
-/// Fails unless a message that begins with so many `a` is sent so, in 4,121 octets.
+/// Fails unless a message of `count` times `a` and `text` is sent as `count` times `a` and `reply`,
+/// in 4,121 octets.
 fn expect_sent(alloc: Global, count: usize, text: &[u8], reply: &[u8]) -> Result<(), Fail> {
     let mut office = office_with(alloc, &joined(alloc, b"", count, text)?)?;
     let want = joined(alloc, b"+OK 4100 octets\r\n", count, reply)?;
@@ -131,14 +132,14 @@ fn expect_sent(alloc: Global, count: usize, text: &[u8], reply: &[u8]) -> Result
     expect_answer(alloc, &mut office, b"RETR 1\r\n", &want)
 }
 
-/// A dot that begins a page, and a line end that a page's end cuts.
+/// A dot begins a page, and a line end is cut by a page's end.
 #[test]
 fn dots_at_the_edge_of_a_page(rt: HostRuntime) -> Result<(), Fail> {
     expect_sent(rt.alloc(), 4094, b"\n.x\n", b"\r\n..x\r\n.\r\n")?;
     expect_sent(rt.alloc(), 4095, b"\n.\n", b"\r\n..\r\n.\r\n")
 }
 
-/// A line of the long message: two of three begin with a dot.
+/// Line `i` of the long message. Two of three lines begin with a dot.
 fn line(alloc: Global, i: usize) -> Result<String, AllocError> {
     match i % 3 {
         0 => format!(in alloc; ".{i}"),
@@ -158,7 +159,8 @@ fn message(alloc: Global) -> Result<Vec<u8>, AllocError> {
     Ok(text)
 }
 
-/// A reply of its header and of so many of its lines: each that begins with a dot has another.
+/// A reply with the header and `lines` lines of the long message. A line that begins with a dot has
+/// another before it.
 fn reply(alloc: Global, front: &str, lines: usize) -> Result<Vec<u8>, AllocError> {
     let mut sent = Vec::new(alloc);
     sent.extend_from_slice(front.as_bytes())?;
@@ -175,19 +177,19 @@ fn reply(alloc: Global, front: &str, lines: usize) -> Result<Vec<u8>, AllocError
     Ok(sent)
 }
 
-/// How many octets its kept form has: a CR more for each line.
+/// How many octets the long message's kept form has: a CR more for each line.
 fn kept_octets(text: &[u8]) -> usize {
     text.len().saturating_add(LINES.saturating_add(2))
 }
 
-/// The whole reply that sends it.
+/// The whole reply to RETR of the long message.
 fn whole(alloc: Global, text: &[u8]) -> Result<Vec<u8>, AllocError> {
     let octets = kept_octets(text);
     let front = format!(in alloc; "+OK {octets} octets")?;
     reply(alloc, front.as_str(), LINES)
 }
 
-/// Fails unless TOP with so many lines is answered with as many, or with all.
+/// Fails unless TOP with `lines` lines sends as many, or all if the message has fewer.
 fn expect_top(alloc: Global, office: &mut Office<PlainVault>, lines: usize) -> Result<(), Fail> {
     let line = format!(in alloc; "TOP 1 {lines}\r\n")?;
     let want = reply(alloc, "+OK top follows", lines.min(LINES))?;
@@ -206,8 +208,8 @@ fn messages_of_dots(rt: HostRuntime) -> Result<(), Fail> {
     Ok(())
 }
 
-/// An office over a store that refuses this call, with the message, in which ann is logged in.
-/// Behind the call of the opening and two of the login, the calls are those for the pages.
+/// An office over a store that has the message and refuses call `n`. Ann is logged in. Call 1 is
+/// the opening's, 2 and 3 are the login's, and the others are for the pages.
 fn refusing_office(
     alloc: Global,
     text: &[u8],
@@ -223,16 +225,15 @@ fn refusing_office(
 /// How a message was sent.
 #[derive(Clone, Copy, PartialEq, Eq)]
 enum Sending {
-    /// The line was answered that the store failed, and the connection goes on.
+    /// RETR was answered `-ERR store failed`, and the connection goes on.
     Refused,
-    /// The connection was ended, what it took is a beginning of the reply, and the maildrop is
-    /// free.
+    /// The connection was ended behind a beginning of the reply, and the maildrop is free.
     CutOff,
     /// The whole reply came.
     Whole,
 }
 
-/// This, where all is right.
+/// Answers `sending` where all is right, and else fails.
 fn told(is_right: bool, sending: Sending) -> Result<Sending, Fail> {
     if is_right {
         Ok(sending)
@@ -241,7 +242,7 @@ fn told(is_right: bool, sending: Sending) -> Result<Sending, Fail> {
     }
 }
 
-/// How the message is sent over a store that refuses this call.
+/// How the message is sent over a store that refuses call `n`.
 fn sent_over_refusals(alloc: Global, text: &[u8], want: &[u8], n: u64) -> Result<Sending, Fail> {
     let mut office = refusing_office(alloc, text, n)?;
     let heard = says(&mut office, 1, b"RETR 1\r\n");
@@ -260,8 +261,8 @@ fn sent_over_refusals(alloc: Global, text: &[u8], want: &[u8], n: u64) -> Result
     told(is_beginning && office.ended(1), Sending::CutOff)
 }
 
-/// Refuses one page after the other, until none is refused: how many were refused with the line,
-/// and how many as the client took.
+/// Refuses each page in turn. Answers how many refusals came with the line, and how many as the
+/// client took octets.
 fn refused_pages(alloc: Global, text: &[u8], want: &[u8]) -> Result<(usize, usize), Fail> {
     let mut with_line = 0usize;
     let mut later = 0usize;
@@ -275,8 +276,8 @@ fn refused_pages(alloc: Global, text: &[u8], want: &[u8]) -> Result<(usize, usiz
     Ok((with_line, later))
 }
 
-/// Each page is read once: the first ones with the line, as far as a buffer has room, and the
-/// others as the client takes.
+/// Each page is read once: the first ones with the line, as far as the output has room, and the
+/// others as the client takes octets.
 #[test]
 fn a_refused_page(rt: HostRuntime) -> Result<(), Fail> {
     let alloc = rt.alloc();
@@ -299,7 +300,7 @@ fn office_with_two(alloc: Global, first: &[u8], second: &[u8]) -> Result<Office<
     Ok(office)
 }
 
-/// Both clients take in turn, until nothing is owed.
+/// Has both clients take octets in turn, until nothing is owed.
 fn takes_in_turn(
     office: &mut Office<PlainVault>,
     most: usize,
@@ -316,7 +317,7 @@ fn takes_in_turn(
     Ok(())
 }
 
-/// Whether two messages that are fetched at once are sent so.
+/// Whether two messages that are fetched at once have these replies.
 fn are_sent(
     alloc: Global,
     office: &mut Office<PlainVault>,

@@ -1,6 +1,6 @@
-//! Two offices that are given the same events: in one of them a growth or a call of the store is
-//! refused, in the other nothing is. What the first event that meets the refusal leaves is looked
-//! at, and all others are answered alike.
+//! Two offices that are given the same events. In one of them, `tested`, a growth of memory or a
+//! call of the store is refused; in the other, `free`, nothing is. The first event that meets the
+//! refusal must change nothing or end its connection, and all others must be answered alike.
 use converse::replay::tell;
 use converse::script::{Line, read_script};
 use office::{Event, Office, Outcome};
@@ -10,7 +10,7 @@ use transcripts::looks::LOOK;
 use transcripts::worked::{Row, event_of, lines_of};
 use vault::Vault;
 
-/// An office, as these tests use it: without clauses, so that no proof of them carries an office's.
+/// An office, as these tests use it: without clauses, so that their proofs need not carry them.
 pub trait Desk {
     /// Does an event.
     fn give(&mut self, event: Event<'_>) -> Outcome;
@@ -49,9 +49,9 @@ pub struct Twins<T: Desk, F: Desk> {
     alloc: Global,
     pub tested: T,
     free: F,
-    /// What asks for all that they keep.
+    /// The commands that list all that an office keeps.
     look: Vec<Line>,
-    /// Whether a growth is refused, and not a call of the store.
+    /// Whether a growth is refused, or else a call of the store.
     is_growth: bool,
     /// Whether an event met the refusal.
     pub is_met: bool,
@@ -60,18 +60,18 @@ pub struct Twins<T: Desk, F: Desk> {
 /// What is wrong.
 type Wrong = &'static str;
 
-/// What a test says whose own memory is refused.
+/// What a test says whose own memory is refused, and not an event's.
 const OWN: Wrong = "error: OutOfMemory";
 
-/// The replies of a line that the store refused: of a QUIT, and of any other.
+/// The replies where the store refused a call: to a QUIT, and to any other line.
 static QUIT_FAILED: &[u8] = b"-ERR some deleted messages not removed\r\n";
 
 static LINE_FAILED: &[u8] = b"-ERR store failed\r\n";
 
-/// How often a client takes at most.
+/// The most pieces in which a client takes a reply.
 const TAKINGS: u32 = 100;
 
-/// What is said on a new connection behind a refusal.
+/// The lines that a new connection sends after a refusal.
 static VISIT: [&str; 4] = [
     "USER ann/orders\r\n",
     "PASS s3 cret\r\n",
@@ -96,7 +96,7 @@ pub fn twins_of<T: Desk + Drop, F: Desk + Drop>(
     })
 }
 
-/// Fails, unless this holds.
+/// Fails with `wrong` unless this holds.
 fn expect(holds: bool, wrong: Wrong) -> Result<(), Wrong> {
     if holds { Ok(()) } else { Err(wrong) }
 }
@@ -109,8 +109,8 @@ fn put(alloc: Global, text: &mut Vec<u8>, outcome: &Outcome) -> Result<(), Wrong
     }
 }
 
-/// What an office keeps, as it answers these lines. A look takes memory: where that is refused and
-/// no event met a refusal yet, the refusal is the test's own.
+/// What an office keeps, as it answers the commands of `look`. These take memory; a refusal of it
+/// is the test's own, unless an event of the row met one before.
 fn kept<D: Desk>(
     alloc: Global,
     desk: &mut D,
@@ -128,7 +128,7 @@ fn kept<D: Desk>(
     Ok(text)
 }
 
-/// Fails unless both tell the same of all that they keep.
+/// Fails unless both offices keep the same.
 fn keep_the_same<T: Desk, F: Desk>(twins: &mut Twins<T, F>) -> Result<(), Wrong> {
     let (alloc, is_met) = (twins.alloc, twins.is_met);
     let text = kept(alloc, &mut twins.tested, &twins.look, is_met)?;
@@ -149,7 +149,8 @@ fn owes_alike<T: Desk, F: Desk>(twins: &Twins<T, F>, c: u64) -> bool {
     twins.tested.lends(c) == twins.free.lends(c) && twins.tested.is_over(c) == twins.free.is_over(c)
 }
 
-/// Whether each connection of a row is owed the same in both: its first four, or behind the 1,895.
+/// Whether each connection of a row is owed the same in both. They are the first four, or the first
+/// four after the 1,895 of some rows.
 fn owe_alike<T: Desk, F: Desk>(twins: &Twins<T, F>) -> bool {
     for c in 1..=4u64 {
         if !owes_alike(twins, c) || !owes_alike(twins, 1895 + c) {
@@ -159,7 +160,7 @@ fn owe_alike<T: Desk, F: Desk>(twins: &Twins<T, F>) -> bool {
     true
 }
 
-/// Fails unless an event was answered the same.
+/// Fails unless both offices answered an event alike, and now owe the same.
 fn same<T: Desk, F: Desk>(
     twins: &Twins<T, F>,
     said: &Outcome,
@@ -170,20 +171,20 @@ fn same<T: Desk, F: Desk>(
     expect(owe_alike(twins), "another reply")
 }
 
-/// Fails unless both answer an event alike.
+/// Gives both offices an event. Fails unless they answer alike.
 fn alike<T: Desk, F: Desk>(twins: &mut Twins<T, F>, event: Event<'_>) -> Result<(), Wrong> {
     let said = twins.tested.give(event);
     let wanted = twins.free.give(event);
     same(twins, &said, &wanted)
 }
 
-/// A connection takes what it is owed.
+/// Has a connection take what it is lent, in both offices alike.
 fn take_alike<T: Desk, F: Desk>(twins: &mut Twins<T, F>, c: u64) -> Result<(), Wrong> {
     let count = twins.tested.lends(c).len();
     alike(twins, Event::Took(c, count))
 }
 
-/// A clerk comes and opens the maildrop, alike in both: no lock was left.
+/// Has a clerk connect and log in, in both offices alike. So no lock was left.
 fn visit<T: Desk, F: Desk>(twins: &mut Twins<T, F>) -> Result<(), Wrong> {
     let said = twins.tested.give(Event::Connect);
     let wanted = twins.free.give(Event::Connect);
@@ -198,7 +199,7 @@ fn visit<T: Desk, F: Desk>(twins: &mut Twins<T, F>) -> Result<(), Wrong> {
     take_alike(twins, c)
 }
 
-/// A connection is gone in both, which then keep the same, and let a clerk in alike.
+/// Ends a connection in both offices. They must then keep the same, and let a clerk in alike.
 fn be_gone<T: Desk, F: Desk>(twins: &mut Twins<T, F>, c: u64) -> Result<(), Wrong> {
     let _ = twins.tested.give(Event::Gone(c));
     let _ = twins.free.give(Event::Gone(c));
@@ -206,14 +207,15 @@ fn be_gone<T: Desk, F: Desk>(twins: &mut Twins<T, F>, c: u64) -> Result<(), Wron
     visit(twins)
 }
 
-/// A line or a taking was refused memory: its connection is ended, without an octet more.
+/// Checks what stands after a line or a taking that was refused memory: its connection is ended,
+/// and owed nothing.
 fn cut_off<T: Desk, F: Desk>(twins: &mut Twins<T, F>, c: u64) -> Result<(), Wrong> {
     expect(twins.tested.is_over(c), "not ended")?;
     expect(twins.tested.lends(c).is_empty(), "an octet of a reply")?;
     be_gone(twins, c)
 }
 
-/// All that a connection is owed is taken.
+/// Has a connection take all that it is lent.
 fn take<D: Desk>(desk: &mut D, c: u64) {
     let count = desk.lends(c).len();
     let _ = desk.give(Event::Took(c, count));
@@ -224,16 +226,16 @@ fn owes<D: Desk>(desk: &D, c: u64, octets: &[u8]) -> bool {
     desk.lends(c) == octets
 }
 
-/// Whether a connection goes on behind a line that failed: the next line is answered, which it may
-/// have said already, and be out of place without the one that failed.
+/// Whether a connection goes on after a line that failed: its next line is answered. That may be
+/// one that it sent before, which is in the wrong state without the line that failed.
 fn goes_on<D: Desk>(desk: &mut D, c: u64) -> bool {
     take(desk, c);
     let _ = desk.give(Event::Bytes(c, b"CAPA\r\n"));
     desk.lends(c).starts_with(b"+OK ") || owes(desk, c, b"-ERR wrong state\r\n")
 }
 
-/// A line's call was refused: it has its reply, nothing changed, and the connection goes on; behind
-/// a QUIT it is over.
+/// Checks what stands after a line whose call was refused: its reply says so, nothing changed, and
+/// the connection goes on, or is over if the line was QUIT.
 fn failed<T: Desk, F: Desk>(twins: &mut Twins<T, F>, c: u64) -> Result<(), Wrong> {
     if owes(&twins.tested, c, QUIT_FAILED) {
         take(&mut twins.tested, c);
@@ -245,8 +247,9 @@ fn failed<T: Desk, F: Desk>(twins: &mut Twins<T, F>, c: u64) -> Result<(), Wrong
     expect(goes_on(&mut twins.tested, c), "ended by a failed line")
 }
 
-/// An event met the refusal. Nothing changed in it, and where it is given again, it is answered as
-/// ever. Whether the row can go on.
+/// Checks what stands after an event that met the refusal: nothing changed, and a connect, a
+/// deposit or a command is answered as ever when it is given again. Answers whether the row can go
+/// on.
 fn met<T: Desk, F: Desk>(twins: &mut Twins<T, F>, event: Event<'_>) -> Result<bool, Wrong> {
     twins.is_met = true;
     match event {
@@ -267,7 +270,7 @@ fn met<T: Desk, F: Desk>(twins: &mut Twins<T, F>, event: Event<'_>) -> Result<bo
     }
 }
 
-/// Whether an outcome tells the refusal.
+/// Whether an outcome says that the refusal was met.
 fn is_told(is_growth: bool, outcome: &Outcome) -> bool {
     match outcome {
         Outcome::NoMemory => is_growth,
@@ -276,7 +279,7 @@ fn is_told(is_growth: bool, outcome: &Outcome) -> bool {
     }
 }
 
-/// Both are given an event. Whether the row can go on.
+/// Gives both offices an event. Answers whether the row can go on.
 fn give<T: Desk, F: Desk>(twins: &mut Twins<T, F>, event: Event<'_>) -> Result<bool, Wrong> {
     let said = twins.tested.give(event);
     if !twins.is_met && is_told(twins.is_growth, &said) {
@@ -287,7 +290,7 @@ fn give<T: Desk, F: Desk>(twins: &mut Twins<T, F>, event: Event<'_>) -> Result<b
     Ok(true)
 }
 
-/// A connection takes all that it is owed, in both. Whether the row can go on.
+/// Has a connection take all that it is owed, in both offices. Answers whether the row can go on.
 fn drain<T: Desk, F: Desk>(twins: &mut Twins<T, F>, c: u64) -> Result<bool, Wrong> {
     for _ in 0..TAKINGS {
         let count = twins.tested.lends(c).len();
@@ -301,7 +304,7 @@ fn drain<T: Desk, F: Desk>(twins: &mut Twins<T, F>, c: u64) -> Result<bool, Wron
     Err("owed for ever")
 }
 
-/// Both do a line. Whether the row can go on.
+/// Does a script line in both offices. Answers whether the row can go on.
 fn play_line<T: Desk, F: Desk>(twins: &mut Twins<T, F>, line: &Line) -> Result<bool, Wrong> {
     if let Line::Drain(c) = line {
         return drain(twins, *c);
@@ -312,22 +315,22 @@ fn play_line<T: Desk, F: Desk>(twins: &mut Twins<T, F>, line: &Line) -> Result<b
     }
 }
 
-/// Both do the lines, and then keep the same; or they do them to the line whose connection ends for
-/// the refusal. Whether the row can go on.
+/// Does script lines in both offices, up to one whose connection the refusal ends; after the last
+/// line they must keep the same. Answers whether the row can go on.
 fn play_lines<T: Desk, F: Desk>(twins: &mut Twins<T, F>, lines: &[Line]) -> Result<bool, Wrong> {
     for line in lines {
         if !play_line(twins, line)? {
             return Ok(false);
         }
     }
-    // a look calls the store: where a call is to be refused, not before it was
+    // a look calls the store, so it may not come before the call that is to be refused
     if twins.is_growth || twins.is_met {
         keep_the_same(twins)?;
     }
     Ok(true)
 }
 
-/// Both do a row, to its end, or to the line whose connection ends for the refusal.
+/// Plays a row in both offices, to its end or to a line whose connection the refusal ends.
 pub fn play<T: Desk, F: Desk>(twins: &mut Twins<T, F>, row: &Row) -> Result<(), Fail> {
     let (_, _, parts) = row;
     for part in *parts {

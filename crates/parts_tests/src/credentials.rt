@@ -1,4 +1,4 @@
-//! The public standards' vectors, and texts at the limits of each form.
+//! The test vectors of public standards, and texts at the limits of each form.
 use crate::expecting::expect;
 use creds::{
     Credential, DepositId, HostName, LoginName, Name, Proof, Secret, Uid, apop_digest, pass_digest,
@@ -10,7 +10,7 @@ use std::test::Fail;
 
 static STAMP: &[u8] = b"<1896.697170952@dbc.mtview.ca.us>";
 
-/// Fails with a digest's digits, unless they are these.
+/// Fails with a digest's hexadecimal digits, unless they are these.
 fn expect_digits(alloc: Global, digest: &[u8], want: &str) -> Result<(), Fail> {
     let mut said = String::new(alloc);
     for octet in digest {
@@ -39,7 +39,8 @@ static MD5: [(&str, &str); 7] = [
     ),
 ];
 
-/// A text before a secret, and as one.
+/// Fails unless a text has this MD5 digest, as the timestamp before an empty secret and as the
+/// secret behind an empty timestamp.
 fn expect_md5(alloc: Global, text: &str, want: &str) -> Result<(), Fail> {
     expect_digits(alloc, &apop_digest(text.as_bytes(), b""), want)?;
     expect_digits(alloc, &apop_digest(b"", text.as_bytes()), want)
@@ -77,15 +78,15 @@ fn sha256_vectors(rt: HostRuntime) -> Result<(), Fail> {
     Ok(())
 }
 
-/// Whether the secret `tanstaaf` admits by this digest under the RFC's timestamp, and under no
-/// other, and not as a password.
+/// Whether the secret `tanstaaf` admits mrose by this digest under the RFC's timestamp, but not
+/// under another one, and not as a password.
 fn is_by_secret(shared: &Credential, mrose: &Name, digest: [u8; 16]) -> bool {
     shared.admits(mrose, STAMP, &Proof::Apop(digest))
         && !shared.admits(mrose, b"<1.7@h.test>", &Proof::Apop(digest))
         && !shared.admits(mrose, STAMP, &Proof::Pass(b"tanstaaf"))
 }
 
-/// Whether the password `s3 cret` admits ann, and not with a space behind it, not another clerk,
+/// Whether the password `s3 cret` admits ann, but not with a space behind it, not another clerk,
 /// and not as a secret.
 fn is_by_password(kept: &Credential, ann: &Name, mrose: &Name) -> bool {
     let digest = apop_digest(STAMP, b"s3 cret");
@@ -95,7 +96,7 @@ fn is_by_password(kept: &Credential, ann: &Name, mrose: &Name) -> bool {
         && !kept.admits(ann, STAMP, &Proof::Apop(digest))
 }
 
-// RFC 1939, 7: the example of APOP. The clerk of a password has its digest by coreutils' sha256sum.
+// RFC 1939, 7: the example of APOP. The digest of ann's password is by coreutils' sha256sum.
 #[test]
 fn admission(rt: HostRuntime) -> Result<(), Fail> {
     let digest = apop_digest(STAMP, b"tanstaaf");
@@ -131,7 +132,7 @@ fn is_read(form: Form, text: &[u8]) -> bool {
     }
 }
 
-/// Texts, a line each, and whether each is of the form.
+/// Texts, one a line, and whether each has the form.
 static TEXTS: [(Form, bool, &str); 8] = [
     (Form::Name, true, "a\n0-"),
     (Form::Name, false, "\nAnn\na_b\na.b\na b\na/b\n\u{e9}"),
@@ -155,7 +156,7 @@ static TEXTS: [(Form, bool, &str); 8] = [
     ),
 ];
 
-/// Fails with the first text that is read in another way.
+/// Fails with the first text that isn't read as it should be.
 fn expect_texts() -> Result<(), Fail> {
     for (form, is_of_form, lines) in &TEXTS {
         for line in lines.lines() {
@@ -167,7 +168,7 @@ fn expect_texts() -> Result<(), Fail> {
     Ok(())
 }
 
-/// How many octets a text of a form has at most, where each is of a kind that the form takes.
+/// The most octets that a text of a form may have.
 static LIMITS: [(Form, usize); 4] = [
     (Form::Name, 32),
     (Form::DepositId, 64),
@@ -175,7 +176,7 @@ static LIMITS: [(Form, usize); 4] = [
     (Form::Secret, 128),
 ];
 
-/// Whether a text of so many octets is of the form, and one of an octet more is not.
+/// Whether a text of `most` octets has the form, and one of an octet more hasn't.
 fn is_limited(form: Form, most: usize) -> bool {
     let letters = [b'a'; 129];
     is_read(form, &letters[..most.min(128)]) && !is_read(form, &letters[..most.min(128) + 1])
@@ -209,7 +210,7 @@ fn names_and_deposit_ids(rt: HostRuntime) -> Result<(), Fail> {
     expect(format!(in rt.alloc(); "{uid}")?, "note.12")
 }
 
-/// Whether a secret of an octet that none has is refused, each in turn.
+/// Whether secrets with an octet that a secret may not have are refused.
 fn are_refused() -> bool {
     for octet in [0x00, 0x1f, 0x7f, 0x80, 0xff] {
         if is_read(Form::Secret, &[b'a', octet]) {

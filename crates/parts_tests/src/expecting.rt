@@ -1,4 +1,4 @@
-//! What a test wants of a text.
+//! Compares a text with the one that a test wants.
 use std::test::Fail;
 
 /// Fails with a text, unless it is what is wanted.

@@ -1,12 +1,12 @@
-//! Policies with groups of clerks: their parts, the limits, and refused growths. The faults of texts
-//! stand in tools/transcripts.
+//! Policies with groups of clerks: their parts, the limits, and refused growths of memory. The
+//! faults of texts are tested by tools/transcripts.
 use crate::expecting::expect;
 use crate::policies::{places, written};
 use policy::{Group, Policy, PolicyFault};
 use std::alloc::{AllocError, Global};
 use std::test::Fail;
 
-/// A text with two groups, and a rule about each, as it is written.
+/// A policy of two groups and a rule about each, as `Policy::write` writes it.
 static TWO: &str = r#"[[group]]
 name = "sales"
 members = ["ann", "bob"]
@@ -41,7 +41,7 @@ fn copies_of(alloc: Global, groups: &[Group]) -> Result<Vec<Group>, AllocError> 
     Ok(copies)
 }
 
-/// The policy of the groups and the rules that another has.
+/// The policy that is made of another's groups and rules.
 fn of_parts(alloc: Global, policy: &Policy) -> Result<Policy, Fail> {
     let groups = copies_of(alloc, policy.groups())?;
     let mut rules = Vec::new(alloc);
@@ -49,7 +49,7 @@ fn of_parts(alloc: Global, policy: &Policy) -> Result<Policy, Fail> {
     Ok(Policy::from_parts(groups, rules)?.ok_or("not sound")?)
 }
 
-/// Whether the rules of a policy are one of their own, without its groups.
+/// Whether the rules of a policy make a policy without its groups.
 fn are_a_policy(alloc: Global, policy: &Policy) -> Result<bool, AllocError> {
     let mut rules = Vec::new(alloc);
     rules.extend_from_slice(policy.rules())?;
@@ -68,7 +68,7 @@ fn policies_of_groups_and_rules(rt: HostRuntime) -> Result<(), Fail> {
     Ok(())
 }
 
-/// Puts the group of a number, of so many members, behind a text.
+/// Puts group `number`, of `members` members, behind a text.
 fn put_group(text: &mut String, number: usize, members: usize) -> Result<(), AllocError> {
     write!(text, "[[group]]\nname = \"g{number}\"\nmembers = [\"c0\"")?;
     for member in 1..members {
@@ -77,7 +77,7 @@ fn put_group(text: &mut String, number: usize, members: usize) -> Result<(), All
     text.push_str("]\n")
 }
 
-/// The text of so many groups of so many members, as it is written.
+/// The text of `groups` groups of `members` members, as `Policy::write` writes it.
 fn text_of(alloc: Global, groups: usize, members: usize) -> Result<String, AllocError> {
     let mut text = String::new(alloc);
     for number in 0..groups {
@@ -97,7 +97,8 @@ fn a_hundred_groups_of_two_hundred(rt: HostRuntime) -> Result<(), Fail> {
     Ok(())
 }
 
-/// Fails unless a text of so many groups of so many members has this fault, or is `read`.
+/// Fails unless a text of `groups` groups of `members` members has the fault `want`, or is read
+/// where `want` is `read`.
 fn expect_of(alloc: Global, groups: usize, members: usize, want: &str) -> Result<(), Fail> {
     let text = text_of(alloc, groups, members)?;
     match Policy::read(alloc, text.as_str()) {
@@ -114,7 +115,7 @@ fn one_group_or_member_more(rt: HostRuntime) -> Result<(), Fail> {
     expect_of(rt.alloc(), 2, 201, "group 1: GroupMembers")
 }
 
-/// Whether a policy is written behind what is there, or nothing of it.
+/// Whether a policy is written behind a text, or nothing of it where memory is refused.
 fn is_written_or_not(alloc: Global, policy: &Policy) -> bool {
     let mut text = Vec::new(alloc);
     match policy.write(&mut text) {
@@ -128,7 +129,7 @@ fn are_alike(group: &Group, other: &Group) -> bool {
     group.name() == other.name() && group.members() == other.members()
 }
 
-/// Whether a policy's copy has its groups, if there is one.
+/// Whether a policy's copy has its groups, or memory for it is refused.
 fn is_copied_or_not(policy: &Policy) -> bool {
     match policy.try_copy() {
         Ok(copy) => copy.groups().len() == policy.groups().len()
@@ -141,7 +142,7 @@ fn is_copied_or_not(policy: &Policy) -> bool {
     }
 }
 
-/// Each growth that is refused is told as want of memory, and changes nothing: run with each
+/// A call whose growth of memory is refused answers so, and changes nothing. Run with each
 /// allocation failing in turn.
 #[test]
 fn refused_growths_of_groups(rt: HostRuntime) -> Result<(), Fail> {

@@ -1,5 +1,5 @@
-//! Tests of what the office stands on: texts, credentials, lines and replies, policies, one login,
-//! and the statements over our tables.
+//! Tests of the parts that the office stands on: texts, credentials, lines and replies, policies,
+//! one login, and the statements over our tables.
 #![tactic(auto)]
 
 #[cfg(test)]

@@ -1,5 +1,5 @@
-//! Lines at the limit of their length, a table of lines with their readings, and the replies octet
-//! by octet.
+//! Lines at the limit of their length, a table of lines and how each is read, and the octets of the
+//! replies.
 
 use creds::{LoginName, Name, Uid};
 use popline::{
@@ -8,7 +8,7 @@ use popline::{
 };
 use std::test::Fail;
 
-/// A line of each kind, which spaces at its end leave as it is.
+/// A line of each command, which is read the same with spaces at its end.
 static COMPLETE: [&[u8]; 14] = [
     b"CAPA",
     b"QUIT",
@@ -26,7 +26,7 @@ static COMPLETE: [&[u8]; 14] = [
     b"NOOP",
 ];
 
-/// How many octets a line has, its end counted, the end, and whether it is read.
+/// How many octets a line has, with its end; its end; and whether it is read.
 static LENGTHS: [(usize, &[u8], bool); 6] = [
     (254, b"\n", true),
     (254, b"\r\n", true),
@@ -36,7 +36,8 @@ static LENGTHS: [(usize, &[u8], bool); 6] = [
     (256, b"\r\n", false),
 ];
 
-/// In front so many octets: the line, spaces or what stands for them, and the end.
+/// 256 octets, of which the first `octets` are a line, then the octet `fill` as often as there is
+/// room, then the line's end.
 fn filled(line: &[u8], fill: u8, end: &[u8], octets: usize) -> [u8; 256] {
     let mut filled = [fill; 256];
     let end_at = octets.saturating_sub(end.len());
@@ -50,7 +51,7 @@ fn filled(line: &[u8], fill: u8, end: &[u8], octets: usize) -> [u8; 256] {
     filled
 }
 
-/// A cutter that was fed a stream in two pieces, cut at a place before its last octet.
+/// A cutter that was fed a stream in two pieces, the first of which has `at` octets.
 fn fed(stream: &[u8], at: usize) -> Cutter {
     let at = at.min(stream.len().saturating_sub(1));
     let mut cutter = Cutter::new();
@@ -59,7 +60,7 @@ fn fed(stream: &[u8], at: usize) -> Cutter {
     cutter
 }
 
-/// A line's reading, by a call that says nothing of it.
+/// A line's reading, without the clauses of `Command::read`.
 fn reading(line: &[u8]) -> Result<Command<'_>, LineFault> {
     Command::read(line)
 }
@@ -69,7 +70,7 @@ fn is_read(line: &[u8], command: &Command<'_>) -> bool {
     matches!(reading(line), Ok(c) if c == *command)
 }
 
-/// Whether a line, spaces behind it, is this command.
+/// Whether the line that is shown, with spaces behind it, is the same command as `line`.
 fn is_same(shown: &[u8], line: &[u8]) -> bool {
     match reading(line) {
         Ok(command) => is_read(shown, &command),
@@ -77,7 +78,7 @@ fn is_same(shown: &[u8], line: &[u8]) -> bool {
     }
 }
 
-/// Whether a cutter shows this command, or that the line is too long.
+/// Whether a cutter shows this command or, where it may not be read, that the line is too long.
 fn shows(cutter: &Cutter, line: &[u8], is_read: bool) -> bool {
     match cutter.line() {
         Some(Cut::Line(shown)) => is_read && is_same(shown, line),
@@ -86,7 +87,8 @@ fn shows(cutter: &Cutter, line: &[u8], is_read: bool) -> bool {
     }
 }
 
-/// Whether a line of so many octets is its command, or too long, wherever its stream is cut in two.
+/// Whether a line, filled to `octets` octets, is read as its command or is too long, wherever its
+/// stream is cut in two.
 fn is_cut_at_each_place(line: &[u8], end: &[u8], octets: usize, is_read: bool) -> bool {
     let stream = filled(line, b' ', end, octets);
     let octets = octets.min(256);
@@ -98,7 +100,7 @@ fn is_cut_at_each_place(line: &[u8], end: &[u8], octets: usize, is_read: bool) -
     true
 }
 
-/// Whether a line is its command up to 255 octets, and too long from 256 on.
+/// Whether a line is its command up to 255 octets with its end, and too long from 256 on.
 fn is_limited(line: &[u8]) -> bool {
     for (octets, end, is_read) in &LENGTHS {
         if !is_cut_at_each_place(line, *end, *octets, *is_read) {
@@ -108,7 +110,8 @@ fn is_limited(line: &[u8]) -> bool {
     true
 }
 
-/// How many octets the password has on a line of PASS of so many octets, its end counted.
+/// How many octets the password has on a PASS line of `octets` octets with its end; 0 where it
+/// isn't read.
 fn password_len(fill: u8, end: &[u8], octets: usize) -> usize {
     let stream = filled(b"PASS ", fill, end, octets);
     let cutter = fed(&stream[..octets.min(256)], 5);
@@ -131,7 +134,7 @@ fn line_length_limit(rt: HostRuntime) {
     assert_eq!(rt; password_len(b'x', b"\r\n", 256), 0);
 }
 
-/// Lines of each keyword whose arguments don't fit it: missing, doubled, behind two spaces, or of
+/// Lines of each keyword whose arguments don't fit: missing, one too many, behind two spaces, or of
 /// another form.
 static BAD_ARGUMENTS: [(Keyword, &str); 13] = [
     (
@@ -279,7 +282,7 @@ static UNKNOWN: [&[u8]; 11] = [
     b"STLS",
 ];
 
-/// Lines that are read as a command without a name.
+/// Lines that are read as these commands, which have no login name.
 const READ: [(&[u8], Command<'static>); 32] = [
     (b"capa", Command::Capa),
     (b"CaPa  ", Command::Capa),
@@ -335,7 +338,7 @@ fn is_unknown(line: &[u8]) -> bool {
     matches!(reading(line), Err(LineFault::Unknown))
 }
 
-/// The first line of those with bad arguments that is read in another way.
+/// The first line of `BAD_ARGUMENTS` that isn't read so.
 fn first_with_others() -> Option<&'static str> {
     for (keyword, lines) in &BAD_ARGUMENTS {
         for line in lines.lines() {
@@ -347,7 +350,7 @@ fn first_with_others() -> Option<&'static str> {
     None
 }
 
-/// The first line of those of no keyword that is read in another way.
+/// The first line of `UNKNOWN` that isn't read so.
 fn first_with_a_keyword() -> Option<&'static [u8]> {
     for line in &UNKNOWN {
         if !is_unknown(*line) {
@@ -357,7 +360,7 @@ fn first_with_a_keyword() -> Option<&'static [u8]> {
     None
 }
 
-/// The first line of those of a command that is read in another way.
+/// The first line of `READ` that isn't read so.
 fn first_of_another_command() -> Option<&'static [u8]> {
     for (line, command) in &READ {
         if !is_read(*line, command) {
@@ -379,7 +382,7 @@ const DIGEST: [u8; 16] = [
     0xc4, 0xc9, 0x33, 0x4b, 0xac, 0x56, 0x0e, 0xcc, 0x97, 0x9e, 0x58, 0x00, 0x1b, 0x3e, 0x22, 0xfb,
 ];
 
-/// The name on a line of USER, or on one of APOP with that digest.
+/// The login name on a line of USER, or of APOP with `DIGEST`.
 fn login_on(line: &[u8]) -> Option<LoginName> {
     match reading(line) {
         Ok(Command::User(name)) => Some(name),

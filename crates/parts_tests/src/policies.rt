@@ -1,12 +1,12 @@
-//! What no clause says: that the calls succeed, the sample policy, and the lanes of a large one. The
-//! faults of texts stand in tools/transcripts.
+//! What no clause says: that the calls succeed where there is memory, the sample policy, and the
+//! lanes of a large one. The faults of texts are tested by tools/transcripts.
 use creds::Name;
 use policy::{Action, Actions, Clerks, Decision, Effect, Pattern, Policy, PolicyFault, Rule};
 use std::alloc::{AllocError, Global};
 use std::str;
 use std::test::Fail;
 
-/// The sample policy, as it is written.
+/// The sample policy, as `Policy::write` writes it.
 static SAMPLE: &str = r#"[[rule]]
 name = "ann-all"
 effect = "allow"
@@ -72,7 +72,7 @@ class = "*"
 actions = ["open"]
 "#;
 
-/// Whether a policy is written behind what is there, or nothing of it.
+/// Whether a policy is written behind a text, or nothing of it where memory is refused.
 fn is_written_or_not(alloc: Global, policy: &Policy) -> bool {
     let mut text = Vec::new(alloc);
     let before = match text.push(b'#') {
@@ -85,7 +85,7 @@ fn is_written_or_not(alloc: Global, policy: &Policy) -> bool {
     }
 }
 
-/// Whether a policy's copy has its rules, if there is one.
+/// Whether a policy's copy has its rules, or memory for it is refused.
 fn is_copied_or_not(policy: &Policy) -> bool {
     match policy.try_copy() {
         Ok(copy) => copy.rules() == policy.rules(),
@@ -93,7 +93,7 @@ fn is_copied_or_not(policy: &Policy) -> bool {
     }
 }
 
-/// Each growth that is refused is told as want of memory, and changes nothing: run with each
+/// A call whose growth of memory is refused answers so, and changes nothing. Run with each
 /// allocation failing in turn.
 #[test]
 fn refused_growths(rt: HostRuntime) -> Result<(), Fail> {
@@ -115,8 +115,8 @@ pub(super) fn written(alloc: Global, policy: &Policy) -> Result<Vec<u8>, Fail> {
     Ok(text)
 }
 
-/// Whether a text is read, what is written of its copy is that text, and what is written of that,
-/// read again, is the same.
+/// Whether a text is read, its copy is written as that text, and what is written, read again, is
+/// written the same.
 fn is_read_and_written(alloc: Global, text: &str) -> Result<bool, Fail> {
     let policy = Policy::read(alloc, text)?.try_copy()?;
     let kept = written(alloc, &policy)?;
@@ -124,7 +124,7 @@ fn is_read_and_written(alloc: Global, text: &str) -> Result<bool, Fail> {
     Ok(kept.as_slice() == text.as_bytes() && written(alloc, &again)?.as_slice() == kept.as_slice())
 }
 
-/// The policy of the rules that a text has.
+/// The policy that is made of the rules of a text.
 fn rules_of(alloc: Global, text: &str) -> Result<Policy, Fail> {
     let policy = Policy::read(alloc, text)?.try_copy()?;
     let mut rules = Vec::new(alloc);
@@ -132,8 +132,8 @@ fn rules_of(alloc: Global, text: &str) -> Result<Policy, Fail> {
     Ok(Policy::from_rules(rules)?.ok_or("not sound")?)
 }
 
-/// A question to the sample policy: the clerk, the class and the action, whether it is allowed, and
-/// by which rule.
+/// Questions to the sample policy: the clerk, the class, the action, whether it is allowed, and by
+/// which rule.
 static DECISIONS: [(&str, &str, &str, bool, &str); 9] = [
     ("bob", "pay", "read", false, "bob-no-pay"),
     ("bob", "pay", "remove", false, "bob-no-pay"),
@@ -193,7 +193,7 @@ fn sample_lanes(rt: HostRuntime) -> Result<(), Fail> {
     Ok(())
 }
 
-/// The clerk of the rule of a number: some rules are about all, and some about a group.
+/// The clerk of rule `n`. Some rules are about all clerks, and some about a group.
 fn clerk_of(alloc: Global, n: usize) -> Result<String, AllocError> {
     if n % 50 == 49 {
         return String::from_str(alloc, "*");
@@ -206,8 +206,8 @@ fn clerk_of(alloc: Global, n: usize) -> Result<String, AllocError> {
     format!(in alloc; "c{clerk}")
 }
 
-/// Puts eight groups into a policy's text, with some clerks in none, in one, in two, and c39 in
-/// all.
+/// Puts eight groups into a policy's text. Clerks are in none, in one or in two of them, and c39 is
+/// in all.
 fn put_groups(text: &mut String) -> Result<(), AllocError> {
     for n in 0..8usize {
         let next = n.saturating_add(8);
@@ -221,7 +221,7 @@ fn put_groups(text: &mut String) -> Result<(), AllocError> {
     Ok(())
 }
 
-/// The maildrop of the rule of a number: some rules are about all.
+/// The maildrop of rule `n`. Some rules are about all maildrops.
 fn maildrop_of(alloc: Global, n: usize) -> Result<String, AllocError> {
     if n % 45 == 44 {
         return String::from_str(alloc, "*");
@@ -230,7 +230,7 @@ fn maildrop_of(alloc: Global, n: usize) -> Result<String, AllocError> {
     format!(in alloc; "m{maildrop}")
 }
 
-/// What is set of the rule of a number: the class, the effect and the actions.
+/// The rest of rule `n`: its effect, its class and its actions.
 fn rest_of(n: usize) -> &'static str {
     match n % 5 {
         0 => "effect = \"allow\"\nclass = \"k0\"\nactions = [\"read\"]\n",
@@ -241,7 +241,8 @@ fn rest_of(n: usize) -> &'static str {
     }
 }
 
-/// A policy of a thousand rules about 40 clerks, eight groups of them, 30 maildrops, and all.
+/// A policy of a thousand rules, about 40 clerks, eight groups of them or all, and about 30
+/// maildrops or all.
 fn a_thousand_rules(alloc: Global) -> Result<Policy, Fail> {
     let mut text = String::new(alloc);
     put_groups(&mut text)?;
@@ -290,8 +291,7 @@ fn is_listed(actions: Actions, action: Action) -> bool {
     }
 }
 
-/// What the first rule decides that matches, found by a walk over all rules: whether it allows, and
-/// its name.
+/// The first rule that matches, found by a walk over all rules.
 fn walked(
     policy: &Policy,
     clerk: &Name,
@@ -345,8 +345,8 @@ fn lanes_agree(alloc: Global, policy: &Policy, clerk: usize) -> Result<bool, Fai
     Ok(true)
 }
 
-/// Of a thousand rules, the lane of each clerk and maildrop, also of one that no rule and no group
-/// names, decides as a walk over all rules.
+/// In a policy of a thousand rules, the lane of each clerk and maildrop decides as a walk over all
+/// rules. So does that of a clerk and a maildrop that no rule and no group names.
 #[test]
 fn lanes_of_a_thousand_rules(rt: HostRuntime) -> Result<(), Fail> {
     let policy = a_thousand_rules(rt.alloc())?;

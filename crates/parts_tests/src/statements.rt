@@ -9,7 +9,7 @@ use std::test::Fail;
 
 type Store = Connection<MemStore>;
 
-// A helper has no clause, so that a test carries none of the statements' clauses.
+// A helper has no clauses, so that a test need not carry those of the statements.
 
 fn new_store(alloc: Global) -> Result<Store, Error> {
     uses::open_new(alloc, 2)
@@ -28,7 +28,7 @@ fn holds_clerk(
     }
 }
 
-// Adds the clerks: whether each has its credential.
+// Adds two clerks. Whether each has its credential.
 fn has_both(alloc: Global, store: &mut Store) -> Result<bool, Error> {
     clerks::add_clerk(store, b"ann", 2, &[200; 32])?;
     clerks::put_clerk(store, b"mrose", 1, b"tanstaaf")?;
@@ -36,7 +36,7 @@ fn has_both(alloc: Global, store: &mut Store) -> Result<bool, Error> {
     Ok(ann && holds_clerk(alloc, store, b"mrose", 1, b"tanstaaf")?)
 }
 
-// Gives ann another credential: whether she has it, and there are two clerks.
+// Gives ann another credential. Whether she has it, and there are still two clerks.
 fn has_ann_anew(alloc: Global, store: &mut Store) -> Result<bool, Error> {
     clerks::put_clerk(store, b"ann", 1, b"s3 cret")?;
     let ann = holds_clerk(alloc, store, b"ann", 1, b"s3 cret")?;
@@ -44,7 +44,7 @@ fn has_ann_anew(alloc: Global, store: &mut Store) -> Result<bool, Error> {
     Ok(ann && count == 2 && clerks::all_clerks(alloc, store)?.len() == 2)
 }
 
-// Drops ann: whether she is gone.
+// Drops ann. Whether she is gone.
 fn has_no_ann(alloc: Global, store: &mut Store) -> Result<bool, Error> {
     clerks::drop_clerk(store, b"ann")?;
     Ok(clerks::find_clerk(alloc, store, b"ann")?.is_none())
@@ -59,7 +59,7 @@ fn credentials_of_both_kinds(rt: HostRuntime) -> Result<(), Fail> {
     Ok(())
 }
 
-// Adds two names: whether the first is then refused, and there are two.
+// Adds two maildrops. Whether the first name is then refused, and there are two.
 fn is_taken_once(store: &mut Store) -> Result<bool, Error> {
     maildrops::add_maildrop(store, b"orders")?;
     maildrops::add_maildrop(store, b"Books")?;
@@ -70,7 +70,7 @@ fn is_taken_once(store: &mut Store) -> Result<bool, Error> {
     Ok(is_refused && maildrops::maildrop_count(store)? == 2)
 }
 
-// Whether the first of the names by name, and the first of those in order, are these.
+// Whether these are the first maildrop in order of the names, and the first in order of arrival.
 fn starts_with(
     alloc: Global,
     store: &mut Store,
@@ -87,7 +87,7 @@ fn starts_with(
     )
 }
 
-// Drops the first name: whether it alone is gone.
+// Drops the first maildrop. Whether it alone is gone.
 fn is_dropped(store: &mut Store) -> Result<bool, Error> {
     maildrops::drop_maildrop(store, b"orders")?;
     let is_there = maildrops::has_maildrop(store, b"orders")?;
@@ -110,7 +110,7 @@ fn has_octets(page: &Option<Sheet>, octets: &[u8]) -> bool {
     }
 }
 
-// Whether a message of these two pages was read as it was written, and went with its pages.
+// Whether a message of these two sheets was read as it was written, and both went with it.
 fn are_seen(seen: &Seen, first: &[u8], second: &[u8]) -> bool {
     !seen.heads.is_empty()
         && seen.heads[0].octets == 4097
@@ -127,7 +127,7 @@ fn pages_of_any_octets(rt: HostRuntime) -> Result<(), Fail> {
     Ok(())
 }
 
-// A message of a text in its maildrop, and its key.
+// Adds a maildrop and a message with this text. Answers its key.
 fn add_text(store: &mut Store, text: &[u8]) -> Result<i64, Error> {
     maildrops::add_maildrop(store, b"orders")?;
     let key = mail::add_message(store, b"orders", b"note", 1, 0)?;
@@ -140,7 +140,7 @@ fn sheet_numbers(alloc: Global, store: &mut Store) -> Result<(u64, usize), Error
     Ok((count, sheets::all_sheets(alloc, store)?.len()))
 }
 
-// Whether a message has a sheet of 4,096 zeros and one of an octet, and there are no others.
+// Whether a message has a sheet of 4,096 zeros and one of one octet, and there are no other sheets.
 fn has_sheets(alloc: Global, store: &mut Store, key: i64) -> Result<bool, Error> {
     let first = has_octets(&sheets::find_sheet(alloc, store, key, 0)?, &[0; 4096]);
     let second = has_octets(&sheets::find_sheet(alloc, store, key, 1)?, &[255]);
@@ -157,7 +157,7 @@ fn a_text_as_sheets(rt: HostRuntime) -> Result<(), Fail> {
     Ok(())
 }
 
-// The maildrop `orders` with its records and a message, whose key it gives.
+// Adds the maildrop `orders` with a count, a deposit and a message. Answers its key.
 fn add_message(store: &mut Store) -> Result<i64, Error> {
     maildrops::add_maildrop(store, b"orders")?;
     counts::set_count(store, b"orders", b"note", 1)?;
@@ -186,7 +186,7 @@ fn has_deposit(alloc: Global, store: &mut Store) -> Result<bool, Error> {
     }
 }
 
-// Whether so many messages, and none elsewhere, are there, and as many sheets.
+// Whether `orders` has `messages` messages and no other maildrop has any, with as many sheets.
 fn has_mail(alloc: Global, store: &mut Store, messages: u64) -> Result<bool, Error> {
     let here = mail::message_count(store, b"orders")?;
     let there = mail::message_count(store, b"books")?;
@@ -195,13 +195,13 @@ fn has_mail(alloc: Global, store: &mut Store, messages: u64) -> Result<bool, Err
     Ok(are_counted && sheet_numbers(alloc, store)? == (messages, all))
 }
 
-// Whether this is the last key that was given.
+// Whether this is the last key that AUTOINCREMENT gave.
 fn is_last_key(alloc: Global, store: &mut Store, key: i64) -> Result<bool, Error> {
     let sequences = meta::all_sequences(alloc, store)?;
     Ok(!sequences.is_empty() && sequences[0].value == key)
 }
 
-// Whether a maildrop with a message isn't dropped, and the message's sheets go with it.
+// Whether a maildrop with a message isn't dropped, and a removed message's sheets go with it.
 fn loses_mail(alloc: Global, store: &mut Store, key: i64) -> Result<bool, Error> {
     let is_kept = maildrops::drop_maildrop(store, b"orders").is_err();
     mail::remove_message(store, key, b"orders")?;

@@ -4,12 +4,12 @@ use mailtext::{MailText, Stuffer, TextFault, TopCut, canon, stuff_into};
 use std::alloc::{AllocError, Global};
 use std::test::Fail;
 
-/// What is kept of a text, by a call that says nothing of it.
+/// The kept form of a text, without the clauses of `canon`.
 fn kept(alloc: Global, text: &[u8]) -> Result<MailText, TextFault> {
     canon(alloc, text)
 }
 
-/// Sends a piece through a buffer of at least two octets.
+/// Stuffs a piece through a buffer of at least two octets, and puts it behind `sent`.
 fn send_piece(
     stuffer: &mut Stuffer,
     sent: &mut Vec<u8>,
@@ -26,7 +26,7 @@ fn send_piece(
     Ok(())
 }
 
-/// What is sent of a kept text that comes in pages of 4,096 octets, through a buffer of so many
+/// What is sent of a kept text that comes in pages of 4,096 octets, through a buffer of `size`
 /// octets.
 fn sent_by_pages(alloc: Global, text: &[u8], size: usize) -> Result<Vec<u8>, AllocError> {
     let mut sent = Vec::new(alloc);
@@ -38,7 +38,8 @@ fn sent_by_pages(alloc: Global, text: &[u8], size: usize) -> Result<Vec<u8>, All
     Ok(sent)
 }
 
-/// Whether a kept text of so many octets is sent by pages as it is at once, in so many octets.
+/// Whether a kept text has `octets` octets, and is sent in the same `wanted` octets by pages as at
+/// once.
 fn is_sent_alike(
     alloc: Global,
     text: &MailText,
@@ -52,7 +53,7 @@ fn is_sent_alike(
     Ok(text.octets() == octets && whole.len() == wanted && parts == whole)
 }
 
-/// A text of so many octets `a`, and an end, as it is kept.
+/// The kept form of `octets` times `a` and an end.
 fn long(alloc: Global, octets: usize, end: &[u8]) -> Result<MailText, TextFault> {
     let mut text = vec![in alloc; b'a'; octets]?;
     text.extend_from_slice(end)?;
@@ -81,7 +82,7 @@ fn line_end_over_the_edge_of_a_page(rt: HostRuntime) -> Result<(), Fail> {
     Ok(())
 }
 
-/// Puts the octets of a piece that belong to what TOP sends.
+/// Puts those octets of a piece that TOP sends behind `sent`.
 fn put_part(cut: &mut TopCut, sent: &mut Vec<u8>, piece: &[u8]) -> Result<(), AllocError> {
     let octets = cut.feed(piece);
     sent.extend_from_slice(&piece[..octets])

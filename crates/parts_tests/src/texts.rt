@@ -5,12 +5,12 @@ use mailtext::{MailText, TextFault, canon, stuff_into, unstuff};
 use std::alloc::Global;
 use std::test::Fail;
 
-/// What is kept of a text, by a call that says nothing of it.
+/// The kept form of a text, without the clauses of `canon`.
 fn kept(alloc: Global, text: &[u8]) -> Result<MailText, TextFault> {
     canon(alloc, text)
 }
 
-/// Whether this is kept of a text, with so many lines.
+/// Whether this is the kept form of a text, with `lines` lines.
 fn is_kept_as(alloc: Global, text: &[u8], wanted: &[u8], lines: usize) -> Result<bool, TextFault> {
     let kept = kept(alloc, text)?;
     Ok(kept.bytes() == wanted && kept.octets() == wanted.len() && kept.lines() == lines)
@@ -20,7 +20,7 @@ fn is_empty(alloc: Global, text: &[u8]) -> bool {
     matches!(kept(alloc, text), Err(TextFault::Empty))
 }
 
-/// The longest text and a longer one, of 26 MB, are tried by tools/check-streams.
+/// tools/check-streams tries the longest text, of 26 MB, and one that is too long.
 #[test]
 fn kept_forms(rt: HostRuntime) -> Result<(), Fail> {
     let alloc = rt.alloc();
@@ -32,13 +32,12 @@ fn kept_forms(rt: HostRuntime) -> Result<(), Fail> {
     Ok(())
 }
 
-/// Whether a text has a header of so many octets, and is sent with so many lines of its body as
-/// these octets.
+/// Whether a text has a header of `header` octets, and TOP with `lines` lines sends these octets.
 fn has_top(text: &MailText, header: usize, lines: u64, wanted: &[u8]) -> bool {
     text.header_len() == header && text.top(lines) == wanted
 }
 
-/// Whether a text is sent with none, one and all of the lines of its body.
+/// Whether TOP sends a text with none, one and all of the lines of its body.
 fn has_tops(alloc: Global) -> Result<bool, TextFault> {
     let text = kept(alloc, b"A: 1\n\none\ntwo\nthree\n")?;
     Ok(
@@ -62,12 +61,12 @@ fn top_line_counts(rt: HostRuntime) -> Result<(), Fail> {
     Ok(())
 }
 
-/// Whether no end of the text is found in what was sent.
+/// Whether what was sent has no line of a dot that ends a text.
 fn has_no_end(alloc: Global, sent: &[u8]) -> Result<bool, Fail> {
     Ok(unstuff(alloc, sent)?.is_none())
 }
 
-/// Whether this text is found in what was sent, and behind how many octets it ends.
+/// Whether this text is found in what was sent, and ends behind `end` octets.
 fn ends_at(alloc: Global, sent: &[u8], text: &[u8], end: usize) -> Result<bool, Fail> {
     match unstuff(alloc, sent)? {
         Some((read, octets)) => Ok(read.as_slice() == text && octets == end),
@@ -75,7 +74,7 @@ fn ends_at(alloc: Global, sent: &[u8], text: &[u8], end: usize) -> Result<bool, 
     }
 }
 
-/// Whether a kept text is sent so, and read again behind its end only.
+/// Whether a kept text is sent so, and is read back once the dot that ends it has come.
 fn is_sent(alloc: Global, text: &[u8], wanted: &[u8]) -> Result<bool, Fail> {
     let mut sent = Vec::new(alloc);
     stuff_into(&mut sent, text)?;
@@ -93,7 +92,7 @@ fn dots_stuffed_and_unstuffed(rt: HostRuntime) -> Result<(), Fail> {
     Ok(())
 }
 
-/// Whether a text is kept as this one, or memory is wanted.
+/// Whether a text is kept as this one, or memory is refused.
 fn is_kept_or_refused(alloc: Global, text: &[u8], wanted: &[u8]) -> bool {
     match kept(alloc, text) {
         Ok(kept) => kept.bytes() == wanted,
@@ -101,7 +100,7 @@ fn is_kept_or_refused(alloc: Global, text: &[u8], wanted: &[u8]) -> bool {
     }
 }
 
-/// Whether the text is put behind what was sent, or memory is wanted and what was sent is as
+/// Whether the text is put behind what was sent, or memory is refused and what was sent is as
 /// before.
 fn is_stuffed_or_refused(alloc: Global, text: &[u8], wanted: &[u8]) -> bool {
     let mut sent = Vec::new(alloc);
@@ -113,7 +112,7 @@ fn is_stuffed_or_refused(alloc: Global, text: &[u8], wanted: &[u8]) -> bool {
     }
 }
 
-/// Whether this text is found in what was sent, ended behind so many octets, or memory is wanted.
+/// Whether this text is found in what was sent, and ends behind `end` octets, or memory is refused.
 fn is_unstuffed_or_refused(alloc: Global, sent: &[u8], text: &[u8], end: usize) -> bool {
     match unstuff(alloc, sent) {
         Ok(Some((read, octets))) => read.as_slice() == text && octets == end,
@@ -122,7 +121,7 @@ fn is_unstuffed_or_refused(alloc: Global, sent: &[u8], text: &[u8], end: usize) 
     }
 }
 
-// Passes with memory and without: each call whose growth is refused says so and changes nothing.
+// Passes with memory and without: a call whose growth is refused answers so, and changes nothing.
 #[test]
 fn refused_growths_change_nothing(rt: HostRuntime) {
     let alloc = rt.alloc();

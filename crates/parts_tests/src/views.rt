@@ -1,4 +1,4 @@
-//! What no clause says: that the calls succeed, and the sample store's rows of the clerk bob.
+//! What no clause says: that the calls of a session succeed, and bob's view of the sample store.
 use crate::expecting::expect;
 use creds::Name;
 use policy::Policy;
@@ -42,7 +42,7 @@ class = "note"
 actions = ["remove"]
 "#;
 
-/// A rule that, put in front, lets bob remove nothing.
+/// A rule that, put in front, lets nobody remove anything from `orders`.
 static FREEZE: &str = r#"
 [[rule]]
 name = "freeze"
@@ -89,7 +89,7 @@ pub(super) fn bob_session(alloc: Global, policy: &Policy) -> Result<Session, Fai
     bob_session_with(alloc, policy, Removals::JudgedAtDele)
 }
 
-/// Bob's session, whose removals are judged so.
+/// Bob's session, with this way of judging removals.
 fn bob_session_with(alloc: Global, policy: &Policy, removals: Removals) -> Result<Session, Fail> {
     let clerk = Name::read(b"bob").ok_or("a clerk")?;
     let maildrop = Name::read(b"orders").ok_or("a maildrop")?;
@@ -97,7 +97,7 @@ fn bob_session_with(alloc: Global, policy: &Policy, removals: Removals) -> Resul
     Ok(Session::start(alloc, clerk, maildrop, &heads, policy, removals)?)
 }
 
-/// Whether a number is picked so.
+/// Whether a number is refused for this cause.
 fn is_picked(session: &Session, number: u64, pick: &Pick) -> bool {
     match session.pick(number) {
         Ok(_) => false,
@@ -105,7 +105,7 @@ fn is_picked(session: &Session, number: u64, pick: &Pick) -> bool {
     }
 }
 
-/// Marks a number: whether it was answered so.
+/// Marks a number. Whether that has this answer.
 fn is_marked(
     session: &mut Session,
     number: u64,
@@ -120,7 +120,7 @@ fn has_total(session: &Session, messages: u64, octets: u64) -> bool {
     session.stat() == (messages, octets)
 }
 
-/// Whether these keys are removed under a policy, and this rule keeps others.
+/// Whether a QUIT under a policy removes these keys, and names this rule, or none.
 fn removes(
     session: &Session,
     policy: &Policy,
@@ -135,8 +135,8 @@ fn name(text: &[u8]) -> Result<Name, Fail> {
     Ok(Name::read(text).ok_or("a name")?)
 }
 
-/// Whose session it is, of which maildrop, how much it shows, and the scan listing and the
-/// unique-id listing, as they are sent.
+/// The session's clerk, its maildrop, its totals, and its scan and unique-id listings as they are
+/// sent.
 fn shown(alloc: Global, session: &Session) -> Result<String, AllocError> {
     let clerk = session.clerk();
     let maildrop = session.maildrop();
@@ -151,7 +151,7 @@ fn shown(alloc: Global, session: &Session) -> Result<String, AllocError> {
     Ok(text)
 }
 
-/// What is shown of bob's.
+/// What is shown of bob's session.
 static FILTERED: &str = "bob orders\n3 61\n1 21\n2 15\n3 25\n1 note.1\n2 note.2\n3 todo.1\n";
 
 #[test]
@@ -167,8 +167,8 @@ fn has_no_others(session: &Session) -> bool {
         && is_picked(session, u64::MAX, &Pick::NoSuch)
 }
 
-/// Marks the third and the second number: whether the first of them is denied, and the second is
-/// marked once.
+/// Marks message 3, and message 2 twice. Whether the first is denied, the second is done and the
+/// third finds it marked.
 fn marks_one(session: &mut Session, policy: &Policy) -> Result<bool, Fail> {
     let denied = Pick::Denied(name(b"default")?);
     Ok(
@@ -178,14 +178,14 @@ fn marks_one(session: &mut Session, policy: &Policy) -> Result<bool, Fail> {
     )
 }
 
-/// Whether the number that was marked is hidden, and shown again behind a reset.
+/// Whether the marked message 2 is hidden, and shown again after a reset.
 fn is_reset(session: &mut Session) -> bool {
     let is_hidden = is_picked(session, 2, &Pick::Deleted) && has_total(session, 2, 46);
     session.reset();
     is_hidden && has_total(session, 3, 61) && has_k(session, 2, 2)
 }
 
-/// Whether the message of a number is the one of this number in its class.
+/// Whether the message of a number has the number `k` in its class.
 fn has_k(session: &Session, number: u64, k: u64) -> bool {
     match session.pick(number) {
         Ok(head) => head.k == k,
@@ -203,7 +203,7 @@ fn marked_numbers_and_reset(rt: HostRuntime) -> Result<(), Fail> {
     Ok(())
 }
 
-/// Bob's session, with the first two numbers marked, the second before the first.
+/// Bob's session, in which message 2 was marked, and then message 1.
 fn marked(alloc: Global, policy: &Policy) -> Result<Session, Fail> {
     let mut session = bob_session(alloc, policy)?;
     if is_marked(&mut session, 2, policy, &Ok(())) && is_marked(&mut session, 1, policy, &Ok(())) {
@@ -213,7 +213,7 @@ fn marked(alloc: Global, policy: &Policy) -> Result<Session, Fail> {
     }
 }
 
-/// The policy behind a rule that lets nobody remove anything.
+/// Bob's rules behind one that lets nobody remove anything from `orders`.
 fn frozen(alloc: Global) -> Result<Policy, Fail> {
     let text = format!(in alloc; "{FREEZE}{RULES}")?;
     Ok(Policy::read(alloc, &text)?)
@@ -231,7 +231,7 @@ fn removals_under_a_new_policy(rt: HostRuntime) -> Result<(), Fail> {
     Ok(())
 }
 
-/// Marks the third number, which the policy denies, and the second: whether both are marked, once.
+/// Marks message 3, which the policy denies, and message 2. Whether both are marked, and each once.
 fn marks_both(session: &mut Session, policy: &Policy) -> bool {
     is_marked(session, 3, policy, &Ok(()))
         && is_marked(session, 3, policy, &Err(Pick::Deleted))
@@ -250,8 +250,8 @@ fn removals_judged_at_the_quit(rt: HostRuntime) -> Result<(), Fail> {
     Ok(())
 }
 
-/// Whether a number is read so under a policy: with the message of this number in its class, or why
-/// not.
+/// Whether reading a number under a policy gives the message with number `k` in its class, or is
+/// refused for this cause.
 fn is_read(session: &Session, number: u64, policy: &Policy, k: Result<u64, Pick>) -> bool {
     match session.pick_for(number, policy) {
         Ok(head) => k == Ok(head.k),

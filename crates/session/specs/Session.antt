@@ -11,7 +11,8 @@ use Rattle.session.specs.declared.removals.Removals.{Removals}
 use Rattle.session.specs.declared.removals.Removals.TheVariants.{JudgedAtDele, JudgedAtQuit}
 use Rattle.session.specs.View.{visible, refer, retrieval, removal}
 
--- who is logged in to which maildrop, when removals are judged, the messages of the view, and the numbers marked as deleted
+-- who is logged in to which maildrop, when removals are judged, the heads of the view, and the
+-- numbers marked as deleted
 pub record Session : Type 0 where
   pub name : LoginName
   pub removals : Removals
@@ -48,20 +49,21 @@ started policy removals clerk maildrop heads =
 abbrev pub picked : Session → ℕ → Result Head Pick
 picked s n = refer s.marks s.view n (Err NoSuch) (Err Deleted) (λ head. Ok head)
 
--- a head that the policy lets the clerk read, or the rule that denies it
+-- the head where the decision allows its reading, else the rule that denies it
 abbrev pub read_answer : Decision → Head → Result Head Pick
 read_answer decision head = if decision.allowed then Ok head else Err (Denied decision.rule)
 
--- a reference to a number whose message is to be read
+-- the answer to RETR and TOP: the head of a number, or why it isn't read
 abbrev pub picked_for : Policy → Session → ℕ → Result Head Pick
 picked_for policy s n = refer s.marks s.view n (Err NoSuch) (Err Deleted) (λ head. read_answer (retrieval policy s.name head.class) head)
 
--- Where removals are judged at the DELE, one that the policy allows is marked, and the rule that denies one is told; where they are judged
--- at the QUIT, it is marked.
+-- The answer to a DELE of an unmarked message, by the decision on its removal. Where removals are
+-- judged at the DELE, a denial refuses it with the rule's name; where they are judged at the QUIT,
+-- the message is marked whatever the decision.
 abbrev pub mark_answer : Removals → Decision → Result (Unit {0}) Pick
 mark_answer JudgedAtDele decision = if decision.allowed then Ok tt else Err (Denied decision.rule)
 mark_answer JudgedAtQuit decision = Ok tt
 
--- a reference to a number that is to be marked
+-- the answer to a DELE of a number: it is marked, or why not
 abbrev pub marking : Policy → Session → ℕ → Result (Unit {0}) Pick
 marking policy s n = refer s.marks s.view n (Err NoSuch) (Err Deleted) (λ head. mark_answer s.removals (removal policy s.name head.class))

@@ -1,8 +1,8 @@
 //! Laws of views and marks.
 ghost use Rattle.session.specs.Laws.{MarksAreAskedByNumber};
 
-/// What is listed, removed and denied of a view depends on the marks only by which numbers are
-/// marked.
+/// Two lists of marks that mark the same numbers give the same listing, the same removals and the
+/// same denial of a view.
 pub fn marks_are_asked_by_number()
     ensures { MarksAreAskedByNumber }
 {}

@@ -10,7 +10,7 @@ use creds::Uid;
 use std::marker::Model;
 use vault::Head;
 
-/// The unmarked messages that are left of a view, with their numbers.
+/// Iterates over the unmarked messages of a view, with their numbers.
 #[derive(Drop)]
 pub(crate) struct Unmarked<'a> {
     rows: &'a [Row],
@@ -54,8 +54,8 @@ impl<'a> Iterator for Unmarked<'a> {
     }
 }
 
-/// What is left of a scan listing: the number of each unmarked message, counted from 1, and its
-/// octets, in ascending order of the numbers (RFC 1939, 5: LIST). It takes no memory.
+/// Iterates over a scan listing: the number of each unmarked message, counted from 1, and its
+/// octets, in ascending order of the numbers (RFC 1939, 5: LIST). It allocates nothing.
 #[derive(Drop)]
 pub struct Sizes<'a> {
     unmarked: Unmarked<'a>,
@@ -94,8 +94,8 @@ impl<'a> Iterator for Sizes<'a> {
     }
 }
 
-/// What is left of a unique-id listing: the number of each unmarked message, counted from 1, and
-/// its unique-id, in ascending order of the numbers (RFC 1939, 7: UIDL). It takes no memory.
+/// Iterates over a unique-id listing: the number of each unmarked message, counted from 1, and its
+/// unique-id, in ascending order of the numbers (RFC 1939, 7: UIDL). It allocates nothing.
 #[derive(Drop)]
 pub struct Uids<'a> {
     unmarked: Unmarked<'a>,

@@ -20,21 +20,22 @@ pub(crate) struct Row {
     pub(crate) is_marked: bool,
 }
 
-/// What the policy says of a clerk's reading a class in the maildrop.
+/// The policy's decision on the clerk's reading messages of a class in the maildrop.
 pub(crate) fn retrieval(lane: &Lane<'_>, class: &Name) -> Decision
     ensures { result ≡ retrieval lane.now.policy (login_of lane.now) class.now }
 {
     lane.decide(class, Action::Read)
 }
 
-/// What the policy says of a clerk's removing a class in the maildrop.
+/// The policy's decision on the clerk's removing messages of a class from the maildrop.
 pub(crate) fn removal(lane: &Lane<'_>, class: &Name) -> Decision
     ensures { result ≡ removal lane.now.policy (login_of lane.now) class.now }
 {
     lane.decide(class, Action::Remove)
 }
 
-/// Whether a message of a class may be marked, or the rule that denies it.
+/// Whether a DELE may mark a message of a class: `Denied` where removals are judged at the DELE
+/// and the policy denies this one.
 pub(crate) fn judge_mark(removals: Removals, lane: &Lane<'_>, class: &Name) -> Result<(), Pick>
     ensures { result ≡ mark_answer removals (removal lane.now.policy (login_of lane.now) class.now) }
 {
@@ -50,7 +51,7 @@ pub(crate) fn judge_mark(removals: Removals, lane: &Lane<'_>, class: &Name) -> R
     }
 }
 
-/// The rows of what the policy lets the clerk read, unmarked.
+/// An unmarked row for each head that the policy lets the clerk read, in order.
 pub(crate) fn visible_rows(
     alloc: Global,
     lane: &Lane<'_>,
@@ -68,7 +69,7 @@ pub(crate) fn visible_rows(
         .collect(alloc)
 }
 
-/// How many rows are unmarked, and their octets.
+/// The number of unmarked rows, and the sum of their octets, `u64::MAX` at most.
 pub(crate) fn totals(rows: &[Row]) -> (u64, u64)
     ensures messages { result.0 ≡ count_by (λ (row : Row). not row.is_marked) rows.now }
     ensures octets { result.1 ≡ min (sum_by octets_unless_marked rows.now) u64.MAX }
@@ -84,7 +85,8 @@ pub(crate) fn totals(rows: &[Row]) -> (u64, u64)
     (messages, octets)
 }
 
-/// The head of the unmarked message of a number.
+/// The head of message `n`, counted from 1. `NoSuch` where there is none, `Deleted` where it is
+/// marked.
 pub(crate) fn head_at(rows: &[Row], n: u64) -> Result<Head, Pick>
     ensures answer { result ≡ row_picked rows.now n }
     ensures within { OnOk result ((0 < n) × (n ≤ length rows.now)) }
@@ -120,7 +122,8 @@ fn first_denied<'a>(lane: &Lane<'_>, rows: &'a [Row]) -> Option<&'a Row>
     rows.iter().find(|row| row.is_marked && !removal(lane, &row.head.class).allowed)
 }
 
-/// The rule that denies the removal of a marked message: of the first, where there are several.
+/// The name of the rule that denies the removal of the first denied marked message, if any is
+/// denied.
 pub(crate) fn denying_rule(lane: &Lane<'_>, rows: &[Row]) -> Option<Name>
     ensures { result ≡ denying_rule lane.now.policy (login_of lane.now) rows.now }
 {

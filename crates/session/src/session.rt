@@ -42,8 +42,8 @@ impl Session {
     /// arrival, have these heads.
     ///
     /// The view is what the policy lets the clerk read, in order, numbered from 1, and nothing is
-    /// marked. Its removals are judged as this says. The room for the marks is made here. An `Err`
-    /// is want of memory.
+    /// marked. `removals` says when removals are judged. The memory for the marks is allocated
+    /// here. An `Err` is want of memory.
     pub fn start(
         alloc: Global,
         clerk: Name,
@@ -79,10 +79,10 @@ impl Session {
         self.name.maildrop
     }
 
-    /// How many messages of the view are unmarked, and their octets (RFC 1939, 5: STAT).
+    /// The number of unmarked messages, and the sum of their octets (RFC 1939, 5: STAT).
     ///
-    /// A sum that a `u64` can't hold counts as its greatest value. No maildrop has such a sum: the
-    /// octets of 10,000 messages of 26,214,400 octets fit. It takes no memory.
+    /// A sum above `u64::MAX` counts as `u64::MAX`. No maildrop reaches it: the octets of 10,000
+    /// messages of 26,214,400 octets fit. It allocates nothing.
     pub fn stat(&self) -> (u64, u64)
         ensures messages { result.0 ≡ length (unmarked self.now.marks self.now.view) }
         ensures octets { result.1 ≡ min (total_of octets_of (unmarked self.now.marks self.now.view)) u64.MAX }
@@ -93,7 +93,7 @@ impl Session {
     }
 
     /// The numbers and octets of the unmarked messages, in ascending order of the numbers (RFC
-    /// 1939, 5: LIST). It takes no memory.
+    /// 1939, 5: LIST). It allocates nothing.
     pub fn list(&self) -> Sizes<'_>
         ensures { result ≡ sizes_of octets_of (unmarked self.now.marks self.now.view) }
     {
@@ -101,26 +101,26 @@ impl Session {
     }
 
     /// The numbers and unique-ids of the unmarked messages, in ascending order of the numbers (RFC
-    /// 1939, 7: UIDL). It takes no memory.
+    /// 1939, 7: UIDL). It allocates nothing.
     pub fn uidl(&self) -> Uids<'_>
         ensures { result ≡ uids_of uid_of (unmarked self.now.marks self.now.view) }
     {
         Uids::new(&self.rows)
     }
 
-    /// The head of the message of a number. `NoSuch` where the view has none, and `Deleted` where
-    /// it is marked. It takes no memory.
+    /// The head of message `n`. `NoSuch` where the view has no such message, `Deleted` where it is
+    /// marked. It allocates nothing.
     pub fn pick(&self, n: u64) -> Result<Head, Pick>
         ensures { result ≡ picked self.now n }
     {
         head_at(&self.rows, n)
     }
 
-    /// The head of the message of a number, where the policy lets the clerk read its class now (RFC
-    /// 1939, 5: RETR; 7: TOP).
+    /// The head of message `n`, where this policy lets the clerk read its class (RFC 1939, 5: RETR;
+    /// 7: TOP).
     ///
-    /// `NoSuch` where the view has none, `Deleted` where it is marked, `Denied` where the policy
-    /// denies it, in this order. It takes no memory.
+    /// `NoSuch` where the view has no such message, else `Deleted` where it is marked, else
+    /// `Denied` where the policy denies it. It allocates nothing.
     pub fn pick_for(&self, n: u64, policy: &Policy) -> Result<Head, Pick>
         ensures { result ≡ picked_for policy.now self.now n }
     {
@@ -133,13 +133,13 @@ impl Session {
         Ok(head)
     }
 
-    /// Marks the message of a number as deleted (RFC 1939, 5: DELE), where the policy lets the clerk
-    /// remove its class; whatever the policy says, where the session's removals are judged at the
+    /// Marks message `n` as deleted (RFC 1939, 5: DELE). The policy must let the clerk remove its
+    /// class where removals are judged at the DELE, and isn't asked where they are judged at the
     /// QUIT.
     ///
-    /// `NoSuch` where the view has none, `Deleted` where it is marked already, `Denied` where
-    /// removals are judged at the DELE and the policy denies this one, in this order; nothing is
-    /// marked then. It takes no memory.
+    /// `NoSuch` where the view has no such message, else `Deleted` where it is marked already, else
+    /// `Denied` where the policy denies it at the DELE. After an error the marks are as they were.
+    /// It allocates nothing.
     pub fn mark(&mut self, n: u64, policy: &Policy) -> Result<(), Pick>
         ensures answer { result ≡ marking policy.now self.old n }
         ensures kept { self.new ≡ record self.old { marks = self.new.marks } }
@@ -153,16 +153,16 @@ impl Session {
         Ok(())
     }
 
-    /// Unmarks all messages (RFC 1939, 5: RSET). It takes no memory.
+    /// Unmarks all messages (RFC 1939, 5: RSET). It allocates nothing.
     pub fn reset(&mut self)
         ensures { self.new ≡ record self.old { marks = [] } }
     {
         unmark_all(&mut self.rows);
     }
 
-    /// What a QUIT removes under this policy: the keys of the marked messages that it lets the
-    /// clerk remove, in order, and the name of the rule that denies the marked message of least
-    /// number whose removal is denied, if there is one (RFC 1939, 6). An `Err` is want of memory.
+    /// What a QUIT removes under this policy (RFC 1939, 6): the keys of the marked messages that
+    /// the clerk may remove, in order. Where the policy denies the removal of marked messages, the
+    /// name of the rule that denies the lowest numbered of them. An `Err` is want of memory.
     pub fn to_remove(&self, policy: &Policy) -> Result<(Vec<MessageKey>, Option<Name>), AllocError>
         ensures keys { IfOk result (λ r. r.0.items
             ≡ map key_of (to_remove class_of policy.now self.now.name self.now.marks self.now.view)) }

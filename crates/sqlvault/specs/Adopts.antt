@@ -1,4 +1,5 @@
--- What adopting a connection comes to: its lists are those that its tables hold, or empty where it had no tables.
+-- What adopting a connection does: the store then holds what its tables held, or nothing where it
+-- had no table.
 use Rattle.std.specs.Prelude.{◌≡◌, ◌≢◌, ◌⊎◌, false, IsTrue, ⊤, Result, Ok, Err, Some, [], ◌∷◌, codes}
 use Rattle.std.specs.List.{find}
 use Rattle.sqlite_disk.specs.declared.Disk.{Ghosts}
@@ -38,7 +39,8 @@ Stores s c = IsKept s.now × Keeps (rows_in s.now.trees) c
 abbrev pub IsOfAnotherVersion : Rows → Type 0
 IsOfAnotherVersion rows = (mark : Mark) × (find (is_mark (codes "popbox")) rows.marks ≡ Some mark) × (mark.value ≢ version)
 
--- A store without a table holds nothing from then on, and one whose tables are ours what they hold.
+-- The store is adopted: one without a table then holds nothing, and one with our tables is as it
+-- was and holds the contents of its rows.
 pub record IsAdopted (old new : State) : Type 0 where
   pub autocommit : old.in_transaction ≡ false
   pub is_open : IsTrue new.is_open
@@ -47,12 +49,14 @@ pub record IsAdopted (old new : State) : Type 0 where
   pub held : IsKept old.now → (c : Contents) × Keeps (rows_in old.now.trees) c
   pub kept : (c : Contents) → Stores old c → Holds new c
 
--- The tables aren't ours, or their rows are no contents; or a transaction is under way.
+-- Why `NotOurs`: a transaction is under way; or the store has tables, their rows are no contents,
+-- and our mark in them has no other version.
 pub record IsNotOurs (old : State) : Type 0 where
   pub outside : old.in_transaction ≡ false → (IsBlank old → ⊥) × ((c : Contents) → Stores old c → ⊥)
   pub version : old.in_transaction ≡ false → IsKept old.now → IsOfAnotherVersion (rows_in old.now.trees) → ⊥
 
--- The store has no table, index or view, or just our tables. Nothing more is said of any other, which isn't clean.
+-- The store has no table, index or view, or just our tables. Of other stores `IsAdopted` and
+-- `IsRefused` say nothing.
 abbrev pub IsKnown : State → Type 0
 IsKnown s = IsBlank s ⊎ IsKept s.now
 
@@ -72,43 +76,46 @@ IsAdoptFault NotOurs = ⊤
 IsAdoptFault OldVersion = ⊤
 IsAdoptFault _ = ⊥
 
--- what the answer says
+-- the store is adopted after `Ok`, and refused for the fault's cause after `Err`
 abbrev pub Adopts : {A : Type 0} → State → State → Result A VaultFault → Type 0
 Adopts old new (Ok _) = IsAdopted old new
 Adopts old new (Err fault) = IsRefused old fault
 
--- a stop leaves what it could leave before or, of a store without a table, a whole one of ours that holds nothing
+-- a stop leaves what it could leave before or, of a store without a table, a whole store of ours
+-- that holds nothing
 abbrev pub LeavesEmptyToo : State → State → Type 0
 LeavesEmptyToo old new = (db : Trees) → new.may_leave db → old.may_leave db ⊎ (IsBlank old × IsStoreOf (marked version) db)
 
--- the tables are as they were, and so is the transaction, if one is under way
+-- if the connection is open, it was open before, its tables are as they were, and a transaction is
+-- under way just if one was
 abbrev pub StaysAs : State → State → Type 0
 StaysAs old new = IsTrue new.is_open → IsTrue old.is_open × ((new.now ≡ old.now) × (new.committed ≡ old.committed)) × (new.in_transaction ≡ old.in_transaction)
 
--- A store of a version that isn't known here: no transaction is under way, the table of marks is there, whatever the other tables are, and our mark has
--- none of the versions 1, 2 and 3.
+-- A store of an unknown version: no transaction is under way, the table of marks is there, whatever
+-- the other tables are, and our mark has none of the versions 1, 2 and 3.
 pub record IsOfUnknownVersion (s : State) : Type 0 where
   pub autocommit : s.in_transaction ≡ false
   pub table : HasMarks s.now
   pub mark : IsOfNoVersion (rows_in s.now.trees)
 
--- the fault says so, or is a statement's
+-- the fault is `OldVersion`, or comes of a statement's error
 abbrev pub IsVersionFault : VaultFault → Type 0
 IsVersionFault Store = ⊤
 IsVersionFault NoMemory = ⊤
 IsVersionFault OldVersion = ⊤
 IsVersionFault _ = ⊥
 
--- it is refused for that: its tables stay as they were, and a stop leaves no more than before
+-- the store is refused with such a fault: its tables stay as they were, and a stop leaves no more
+-- than before
 abbrev pub RefusesVersion : State → State → VaultFault → Type 0
 RefusesVersion old new fault = IsVersionFault fault × (StaysAs old new × LeavesNoMore old new)
 
--- so is every answer over such a store
+-- the answer is such a refusal
 abbrev pub IsVersionRefused : {A : Type 0} → State → State → Result A VaultFault → Type 0
 IsVersionRefused old new (Ok _) = ⊥
 IsVersionRefused old new (Err fault) = RefusesVersion old new fault
 
--- what the marks say of the version
+-- what the marks are where the check of the version answers this fault
 abbrev pub JudgesMarks : Rows → VaultFault → Type 0
 JudgesMarks rows Store = ⊤
 JudgesMarks rows NoMemory = ⊤
@@ -116,12 +123,13 @@ JudgesMarks rows NotOurs = (rows.marks ≢ our_mark ∷ []) × (IsOfAnotherVersi
 JudgesMarks rows OldVersion = IsOfAnotherVersion rows
 JudgesMarks rows _ = ⊥
 
--- the mark of our version is there alone, or why not
+-- the mark of our version is there alone, or the fault says why not
 abbrev pub IsMarked : {A : Type 0} → Rows → Result A VaultFault → Type 0
 IsMarked rows (Ok _) = rows.marks ≡ our_mark ∷ []
 IsMarked rows (Err fault) = JudgesMarks rows fault
 
--- the files held this image: the connection found the database of it, and was then adopted, an older store of it carried over
+-- The files held this image: the connection `first` found its database, whose version is known, and
+-- was then adopted, or carried over from an older version.
 pub record IsFoundIn {D : Type 0} {g : Ghosts D} (image : Image) (now : Held (FileStore D g)) : Type 0 where
   pub first : Held (FileStore D g)
   pub opened : IsOpened first
@@ -132,18 +140,20 @@ pub record IsFoundIn {D : Type 0} {g : Ghosts D} (image : Image) (now : Held (Fi
   pub carried_stop : HasOlder (file_state first) → LeavesEither (file_state first) (file_state now)
   pub known_version : IsOfUnknownVersion (file_state first) → ⊥
 
--- an older store is refused for a cause: its tables stay as they were, and a stop leaves the old store or the new one
+-- an older store is refused for the fault's cause: its tables stay as they were, and a stop leaves
+-- the old store or the new one
 abbrev pub RefusesOlder : State → State → VaultFault → Type 0
 RefusesOlder old new fault = HasOlder old → IsUncarried old fault × (StaysAs old new × LeavesEither old new)
 
--- the files weren't opened, for an error of the kit's, or they held this image, and the connection that found the database of it was refused
+-- the files weren't opened, for an error of sqlite's; or they held this image, and the connection
+-- that found its database was refused
 abbrev pub IsRefusedIn : {D : Type 0} → Ghosts D → Image → VaultFault → Type 0
 IsRefusedIn {D} g image fault =
     ((e : Error) × IsTrue (is_open_error e) × (fault ≡ open_fault e))
     ⊎ ((first : Held (FileStore D g)) × (last : Held (FileStore D g)) × (HasCleanDisk (file_state last) → (IsOpened first × FindsIn image (file_state first)) × (IsKnown (file_state first) → IsRefused (file_state first) fault) × RefusesOlder (file_state first) (file_state last) fault
     × (IsOfUnknownVersion (file_state first) → RefusesVersion (file_state first) (file_state last) fault)))
 
--- what opening files that held this image comes to
+-- what the answer to opening files that held this image says
 abbrev pub OpensIn : {D : Type 0} {g : Ghosts D} → Image → Result (Opened (FileStore D g)) VaultFault → Type 0
 OpensIn image (Ok vault) = HasCleanDisk (file_state vault.conn) → IsFoundIn image vault.conn
 OpensIn {D} {g} image (Err fault) = IsRefusedIn g image fault

@@ -1,4 +1,5 @@
--- What carrying an older store over comes to: its lists stay, the tables that it lacks are made, and the mark is ours.
+-- What carrying an older store over does: its contents stay, the tables that it lacks are made, and
+-- the mark becomes ours.
 use Rattle.std.specs.Prelude.{◌≡◌, ◌≢◌, ◌⊎◌, ⊤, Bool, true, false, IsTrue, ℤ, pos, Result, Ok, Err, Some, [], ◌∷◌, map, flat_map, codes}
 use Rattle.std.specs.List.{find}
 use Rattle.sqlite_trees.specs.Tree.{Trees}
@@ -15,22 +16,22 @@ use Rattle.sqlvault.specs.Stands.{Holds}
 
 -- ---- the older versions
 
--- the number of version 1, which has a table of messages with their texts, and of version 2
+-- the older versions: 1 (`carried`), which has messages and texts in one table, and 2
 abbrev pub old_version : (carried : Bool) → ℤ
 old_version true = pos 1
 old_version false = pos 2
 
--- the mark of that version
+-- the mark of an older version
 abbrev pub old_mark : (carried : Bool) → Mark
 old_mark carried = record { name = codes "popbox"; value = old_version carried }
 
--- The rows of an older store, as they stand once it is carried over: the lists are the same. Those of a store of version 1 have each message under
--- its key, with its text in sheets.
+-- The rows of an older store once it is carried over. They are the old ones but for the mark and,
+-- from version 1, the messages: each has a row under its old key, and its text is in sheets.
 abbrev pub brought : (carried : Bool) → Rows → Rows
 brought false rows = record (completed false rows) { marks = our_mark ∷ [] }
 brought true rows = record (completed true rows) { marks = our_mark ∷ []; messages = map body_head rows.bodies; sheets = flat_map body_sheets rows.bodies; bodies = [] }
 
--- those of the older store that stands in these trees
+-- the rows of the older store in these trees, once it is carried over
 abbrev pub brought_in : Trees → Rows
 brought_in db = brought (is_carried db) (rows_in db)
 
@@ -42,7 +43,8 @@ IsOfNoVersion rows = (mark : Mark) × (find (is_mark (codes "popbox")) rows.mark
 abbrev pub HasOlder : State → Type 0
 HasOlder s = IsOld s.now
 
--- The tables are those of the one older version under its mark, no transaction is under way, and while the connection is open all is committed.
+-- The tables and the one mark are those of this older version, no transaction is under way, and
+-- while the connection is open all is committed.
 pub record IsOlder (carried : Bool) (s : State) : Type 0 where
   pub old : IsOld s.now
   pub order : is_carried s.now.trees ≡ carried
@@ -52,11 +54,12 @@ pub record IsOlder (carried : Bool) (s : State) : Type 0 where
 
 -- ---- what comes of it
 
--- what the rows of an older store hold
+-- the rows of this older store, once it is carried over, are these contents
 abbrev pub KeepsOlder : State → Contents → Type 0
 KeepsOlder s c = Keeps (brought_in s.now.trees) c
 
--- it has the mark of its version alone, its rows are contents, and these are held from then on
+-- The store is carried over: its one mark was that of its version, and it now holds the contents
+-- that its rows were.
 pub record IsCarried (old new : State) : Type 0 where
   pub is_open : IsTrue new.is_open
   pub mark : (rows_in old.now.trees).marks ≡ old_mark (is_carried old.now.trees) ∷ []
@@ -71,20 +74,20 @@ IsUncarried old NotOurs = (IsOfNoVersion (rows_in old.now.trees) → ⊥) × ((r
 IsUncarried old OldVersion = IsOfNoVersion (rows_in old.now.trees)
 IsUncarried old _ = ⊥
 
--- the fault is a statement's, or that the rows are no records
+-- the fault comes of a statement's error, or of rows that are no sound records
 abbrev pub IsOfRows : VaultFault → Type 0
 IsOfRows Store = ⊤
 IsOfRows NoMemory = ⊤
 IsOfRows NotOurs = ⊤
 IsOfRows _ = ⊥
 
--- why a number is no older version's
+-- why a mark's number is no older version's: it is ours, or unknown
 abbrev pub IsNoOlder : ℤ → VaultFault → Type 0
 IsNoOlder value NotOurs = value ≡ version
 IsNoOlder value OldVersion = ((carried : Bool) → value ≢ old_version carried) × (value ≢ version)
 IsNoOlder value _ = ⊥
 
--- what the marks say of the version
+-- what an older store's marks are where the check of the version answers this fault
 abbrev pub JudgesOlder : Rows → VaultFault → Type 0
 JudgesOlder rows Store = ⊤
 JudgesOlder rows NoMemory = ⊤
@@ -92,17 +95,18 @@ JudgesOlder rows NotOurs = (IsOfNoVersion rows → ⊥) × ((carried : Bool) →
 JudgesOlder rows OldVersion = IsOfNoVersion rows
 JudgesOlder rows _ = ⊥
 
--- the mark of this older version is there alone, or why none is
+-- the mark of this older version is there alone, or the fault says why not
 abbrev pub IsMarkedOlder : Rows → Result Bool VaultFault → Type 0
 IsMarkedOlder rows (Ok carried) = rows.marks ≡ old_mark carried ∷ []
 IsMarkedOlder rows (Err fault) = JudgesOlder rows fault
 
--- what taking over a store with the tables of an older version comes to
+-- an older store is carried over after `Ok`, and refused for the fault's cause after `Err`
 abbrev pub CarriesOver : {A : Type 0} → State → State → Result A VaultFault → Type 0
 CarriesOver old new (Ok _) = IsCarried old new
 CarriesOver old new (Err fault) = IsUncarried old fault
 
--- The trees are a whole store of ours with these rows: they list our tables, all of them and no other, and the rows of each are in order.
+-- The trees are a whole store of ours with these rows: they list just our tables, and the rows of
+-- each are in order.
 pub record IsStoreOf (rows : Rows) (db : Trees) : Type 0 where
   pub found : Database
   pub trees : found.trees ≡ db
@@ -110,6 +114,6 @@ pub record IsStoreOf (rows : Rows) (db : Trees) : Type 0 where
   pub kept : IsKept found
   pub rows_are : rows_in db ≡ rows
 
--- a stop leaves the old store or the new one, which is whole, and whose rows are contents
+-- a stop leaves the old store, or the new one, which is whole and whose rows are contents
 abbrev pub LeavesEither : State → State → Type 0
 LeavesEither old new = (db : Trees) → new.may_leave db → old.may_leave db ⊎ (IsStoreOf (brought_in old.now.trees) db × ((c : Contents) × KeepsOlder old c))

@@ -1,4 +1,4 @@
--- What a deposit leaves of the rows, and what the contents must say of it before.
+-- What a deposit does to the rows, and when the contents accept it.
 use Rattle.std.specs.Prelude.{◌≡◌, ℕ, true, nat_lt, pos, List, length, Result, Ok}
 use Rattle.sqlite_trees.specs.declared.store.Store.{Ghosts}
 use Rattle.sqlite.specs.Held.{Held}
@@ -18,19 +18,19 @@ use Rattle.mailsql.specs.Changes.{SetsCount, AddsDeposit, AddsMessage, AddsSheet
 use Rattle.sqlvault.specs.Frame.{IsOk, MadeOr, Turns}
 use Rattle.sqlvault.specs.Keeps.{deposit_row, row_key, message_row}
 
--- the count of a receipt's class, which is the receipt's number
+-- the count of the receipt's class after the deposit: the receipt's number
 abbrev pub count_row : Receipt → Count
 count_row r = record { maildrop = r.maildrop; class = r.class; k = pos r.k }
 
--- the count is set, and the receipt's row comes
+-- the count is set, and the receipt's row is added
 abbrev pub PutsReceipt : Receipt → Rows → Rows → Type 0
 PutsReceipt r old new = (between : Rows) × SetsCount (count_row r) old between × AddsDeposit (deposit_row r) between new
 
--- the message's row comes, and its sheets
+-- the message's row and its sheets are added
 abbrev pub PutsKeyed : Keyed → Rows → Rows → Type 0
 PutsKeyed x old new = (between : Rows) × AddsMessage (message_row x) old between × AddsSheets (row_key x.key) x.message.text between new
 
--- so it is under some key
+-- they are added under some key of 64 bits
 abbrev pub PutsMessage : Message → Rows → Rows → Type 0
 PutsMessage m old new = (key : ℕ) × (nat_lt key 18446744073709551616 ≡ true) × PutsKeyed (record { key = key; message = m }) old new
 
@@ -48,11 +48,11 @@ pub record Accepts (c : Contents) (r : Receipt) (text : List ℕ) : Type 0 where
   pub sized : length r.digest ≡ 32
   pub answer : deposit_result (deposit_answer_in c r.maildrop r.class r.id text) ≡ Ok (stored.New (record { class = r.class; k = r.k }))
 
--- the deposit lies under some key
+-- the contents with the deposit, its message under some key, are held
 abbrev pub IsStored : Receipt → List ℕ → Contents → (Contents → Type 0) → Type 0
 IsStored r text c Held = (key : ℕ) × Held (with_deposit key (message_of r text) r c)
 
--- it is stored, or nothing is changed
+-- the deposit is stored, or what was held is still held
 abbrev pub Stores : {S : Type 0} → Ghosts S → (old new : Held S) → Receipt → List ℕ → Contents
     → Result (Unit {0}) Error → Type 0
 Stores store old new r text c result =

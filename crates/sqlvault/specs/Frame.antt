@@ -27,29 +27,30 @@ IsMet (Ok _) = ⊤
 IsMet (Err (Answered _)) = ⊤
 IsMet (Err (Met _)) = ⊥
 
--- what is made of the contents where it is done, and else the contents
+-- what is held: what was made of the contents where the part is done, else the contents
 abbrev pub MadeOr : {A E : Type 0} → Result A E → ((Contents → Type 0) → Type 0) → Contents
     → (Contents → Type 0) → Type 0
 MadeOr (Ok _) Made c Held = Made Held
 MadeOr (Err _) Made c Held = Held c
 
 module _ {S : Type 0} (store : Ghosts S) (old new : Held S) where
-  -- These contents are held still. Where the connection was open, it is open still behind an own
-  -- answer, and a stop that left them leaves them.
+  -- These contents are still held. A connection that was open is still open after an answer of the
+  -- call's own, and a stop leaves these contents if it left them before.
   pub record Rests (Own : Type 0) (c : Contents) : Type 0 where
     pub held : Holds (state store new) c
     pub up : IsTrue (state store old).is_open → Own → IsTrue (state store new).is_open
     pub stop : IsTrue (state store old).is_open → LeavesHeld (state store old) c
         → LeavesHeld (state store new) c
 
-  -- a part only looks: all of this holds where the connection is clean as it ends, and then it was
+  -- A part only looks: a connection that is clean at its end was clean before, and what was held
+  -- rests as above.
   pub record Looks (Own : Type 0) : Type 0 where
     pub clean : WasClean (state store old) (state store new)
     pub rests : HasCleanDisk (state store new) → (c : Contents) → Holds (state store old) c
         → Rests Own c
 
-  -- What is held is as this says. Where the connection was open, it is open still behind an own
-  -- answer, and a stop leaves these contents, or what is made of them.
+  -- `Done` says what is held. A connection that was open is still open after an answer of the
+  -- call's own, and a stop leaves these contents, or such as `Made` says.
   pub record Turns (Own : Type 0) (Done Made : (Contents → Type 0) → Type 0)
       (c : Contents) : Type 0 where
     pub done : Done (Holds (state store new))
@@ -57,7 +58,8 @@ module _ {S : Type 0} (store : Ghosts S) (old new : Held S) where
     pub stop : IsTrue (state store old).is_open → LeavesHeld (state store old) c
         → LeavesOr (state store new) c Made
 
-  -- a call is answered as this relation says, and changes records once, whole or not at all
+  -- A call: `Done` relates the contents before it, what is held after it, and its answer. It
+  -- changes records once, wholly or not at all.
   pub record Acts {A : Type 0}
       (Done : Contents → (Contents → Type 0) → Result A VaultFault → Type 0)
       (answered : Result A VaultFault) : Type 0 where
@@ -66,7 +68,7 @@ module _ {S : Type 0} (store : Ghosts S) (old new : Held S) where
         → Turns (IsOwn answered) (λ Held. Done c Held answered)
         (λ Held. (x : A) × Done c Held (Ok x)) c
 
-  -- a part of a transaction makes this change of the rows, or halts it
+  -- a part of a transaction makes this change of the rows, or an error halts the transaction
   pub record Writes {A : Type 0} (Change : A → Rows → Rows → Type 0)
       (result : Result A Error) : Type 0 where
     pub clean : WasClean (state store old) (state store new)

@@ -1,5 +1,6 @@
--- How the rows of a store's tables are the contents of a vault. Each record of the contents has one row, and the rows say nothing else:
--- a number counted from AUTOINCREMENT is a message's key, a text lies in sheets, and a count is how many deposits its class had.
+-- How the rows of a store's tables stand for the contents of a vault. Each record has one row, and
+-- a message's key is AUTOINCREMENT's. A text lies in sheets, and a count is the number of deposits
+-- that its class had.
 use Rattle.std.specs.Prelude.{◌≡◌, ◌+ℤ◌, ℕ, ℤ, pos, true, nat_lt, List, [], ◌∷◌, ◌++◌, length, map, flat_map, filter, Option, Some, None, codes, if◌then◌else◌}
 use Rattle.std.specs.Int.{cast_signed, w64}
 use Rattle.std.specs.List.{find, list_all}
@@ -33,11 +34,11 @@ use Rattle.mailsql.specs.Columns.{Name, Rows}
 use Rattle.mailsql.specs.Rows.{is_count, is_member_of}
 use Rattle.mailsql.specs.Sheets.{sheets_of}
 
--- the version of the layout, which a store of ours is marked with
+-- the version of the tables' layout
 abbrev pub version : ℤ
 version = pos 3
 
--- the mark
+-- the mark of a store of ours
 abbrev pub our_mark : Mark
 our_mark = record { name = codes "popbox"; value = version }
 
@@ -48,7 +49,7 @@ abbrev pub kind_of : Credential → ℤ
 kind_of (kept.Apop secret) = pos 1
 kind_of (kept.Pass digest) = pos 2
 
--- what is kept of it
+-- the octets that are kept of it
 abbrev pub secret_of : Credential → List ℕ
 secret_of (kept.Apop secret) = secret
 secret_of (kept.Pass digest) = digest
@@ -68,7 +69,7 @@ abbrev pub number_in : Option Count → ℤ
 number_in None = pos 0
 number_in (Some c) = c.k
 
--- how many deposits of a class a maildrop's name had, as the counts tell it
+-- how many deposits of a class there were under a maildrop's name, by the counts
 abbrev pub count_in : (maildrop class : Name) → List Count → ℤ
 count_in d class counts = number_in (find (is_count d class) counts)
 
@@ -88,7 +89,7 @@ message_sheets x = sheets_of (row_key x.key) x.message.text
 
 -- ---- groups
 
--- the names of a group's members, in the order in which they came
+-- the names of a group's members, in the order of their rows
 abbrev pub member_names : (group : ℤ) → List Member → List Name
 member_names group members = map (λ (m : Member). m.clerk) (filter (is_member_of group) members)
 
@@ -96,7 +97,7 @@ member_names group members = map (λ (m : Member). m.clerk) (filter (is_member_o
 abbrev pub group_in : List Member → Group → groups.Group
 group_in members g = record { name = g.name; members = member_names g.place members }
 
--- all of them, in order
+-- the groups of the rows, in order
 abbrev pub groups_in : Rows → List groups.Group
 groups_in rows = map (group_in rows.members) rows.groups
 
@@ -140,8 +141,8 @@ at_place place r = record r { place = place }
 
 -- ---- the contents
 
--- The rows are these contents, and those are sound. The order of clerks, of counts and of sheets means nothing, nor do the places of groups and of
--- rules but for their order.
+-- The rows stand for these contents, which are sound. Clerks, counts and sheets may be in any
+-- order; groups and rules may have any places that give their order.
 pub record Keeps (rows : Rows) (c : Contents) : Type 0 where
   pub mark : rows.marks ≡ our_mark ∷ []
   pub clerks : IsPermutation (map clerk_row c.clerks) rows.clerks

@@ -1,5 +1,5 @@
--- How the messages of version 1 come into the tables of ours: each under its key, in their order, with its text in sheets. And what a part of the
--- transaction that carries a store over comes to.
+-- How the messages of version 1 move into our tables: each under its key, in order, with its text
+-- in sheets. And what a part of the transaction that carries a store over does.
 use Rattle.std.specs.Prelude.{◌≡◌, ◌++◌, Bool, true, false, List, [], map, flat_map, IsTrue, Result, Ok, Err}
 use Rattle.sqlite.specs.declared.error.Error.{Error}
 use Rattle.sqlite.specs.State.{State}
@@ -20,15 +20,15 @@ body_head b = b.head
 abbrev pub body_sheets : Body → List Sheet
 body_sheets b = sheets_of b.head.key b.body
 
--- these messages come after the others
+-- these messages are added behind the others
 abbrev pub Moves : List Body → Rows → Rows → Type 0
 Moves bodies old new = new ≡ record old { messages = old.messages ++ map body_head bodies; sheets = old.sheets ++ flat_map body_sheets bodies }
 
--- all those of version 1 come, and are gone where they were
+-- all messages of version 1 are added, and their old table is emptied
 abbrev pub MovesAll : Rows → Rows → Type 0
 MovesAll old new = new ≡ record old { messages = old.messages ++ map body_head old.bodies; sheets = old.sheets ++ flat_map body_sheets old.bodies; bodies = [] }
 
--- so it is of version 1; a store of version 2 has none
+-- a store of version 1 has its messages moved; one of version 2 stays as it is
 abbrev pub MovesOld : (carried : Bool) → Rows → Rows → Type 0
 MovesOld false old new = new ≡ old
 MovesOld true old new = MovesAll old new
@@ -41,7 +41,7 @@ pub record IsInside (s : State) : Type 0 where
   pub inside : IsTrue s.in_transaction
   pub tables : IsKept s.now
 
--- the rows are changed so, and a stop leaves no more
+-- the part makes this change of the rows, and a stop leaves no more than before
 pub record DoesPart (Change : Rows → Rows → Type 0) (old new : State) : Type 0 where
   pub on : GoesOn old new
   pub tables : IsKept new.now
@@ -53,7 +53,7 @@ pub record HaltsPart (old new : State) : Type 0 where
   pub halted : IsHalted old new
   pub stop : LeavesNoMore old new
 
--- one of the two
+-- the part is done after `Ok`, and halts after `Err`
 abbrev pub Part : {A : Type 0} → (Rows → Rows → Type 0) → State → State → Result A Error → Type 0
 Part Change old new (Ok x) = DoesPart Change old new
 Part Change old new (Err e) = HaltsPart old new

@@ -23,16 +23,16 @@ number_cmp x y = ordering_then (ordering_then (slice_cmp nat_cmp x.0 y.0) (slice
 abbrev pub has_number : List Number → Number → Bool
 has_number ns q = list_any (λ (x : Number). is_eq (number_cmp x q)) ns
 
--- the set has these, and no other
+-- the set has just these numbers
 abbrev pub IsSetOf : List Number → BTreeSet Number → Type 0
 IsSetOf ns s = (q : Number) → contains number_cmp s q ≡ has_number ns q
 
--- a number of a row as one from 0 on; 0 where it is below
+-- the number of a row as a natural; 0 where it is negative
 abbrev pub natural : ℤ → ℕ
 natural (pos n) = n
 natural (negsuc n) = 0
 
--- so it is, where it is not below
+-- the number of a row as a natural; `None` where it is negative
 abbrev pub natural_of : ℤ → Option ℕ
 natural_of (pos n) = Some n
 natural_of (negsuc n) = None
@@ -41,31 +41,31 @@ natural_of (negsuc n) = None
 abbrev pub number_of : Deposit → Number
 number_of d = (d.maildrop, d.class, natural d.k)
 
--- names, an id and a digest of their forms, and a number from 1 on
+-- the row's names, id and digest have their forms, and its number is 1 or more
 abbrev pub is_deposit_row : Deposit → Bool
 is_deposit_row d = is_name d.maildrop && is_deposit_id d.id && is_name d.class && nat_lt 0 (natural d.k) && length d.digest == 32
 
--- from 0 to the greatest number
+-- the number is one of 0 to the greatest number of deposits
 abbrev pub is_within : ℤ → Bool
 is_within (pos n) = nat_le n most_deposits
 is_within (negsuc n) = false
 
--- the first numbers of a class, from 1 on
+-- the numbers 1 to n of a class
 abbrev pub numbers_to : Name → Name → ℕ → List Number
 numbers_to d class n = map {B = Number} (λ (k : ℕ). (d, class, k + 1)) (range_with_len 0 n)
 
--- all of them are there
+-- the numbers 1 to n of a class are all among these
 abbrev pub has_all : List Number → Name → Name → ℕ → Bool
 has_all ns d class n = list_all (has_number ns) (numbers_to d class n)
 
--- the numbers of a class, 1 to its count, are there
+-- the count is in its range, and the numbers 1 to it of its class are all among these
 abbrev pub is_filled : List Number → Count → Bool
 is_filled ns c = is_within c.k && (natural c.k == 0 || (is_name c.maildrop && is_name c.class && has_all ns c.maildrop c.class (natural c.k)))
 
--- what a count asks for
+-- how many numbers a count asks for
 abbrev pub asked : Count → ℕ
 asked c = natural c.k
 
--- deposits' rows, whose numbers are just those that the counts ask for
+-- each row is a deposit's, and their numbers are just those that the counts ask for
 abbrev pub are_sound_rows : List Deposit → List Count → Bool
 are_sound_rows ds cs = list_all is_deposit_row ds && (list_all (is_filled (map number_of ds)) cs && sum_by asked cs == length ds)

@@ -1,4 +1,4 @@
--- What each table of a store tells of the contents, where its rows are sound records, and what a test of them answers.
+-- What the sound rows of each table say of the contents, and what a check of them answers.
 use Rattle.std.specs.Prelude.{◌≡◌, ◌≤◌, ◌==◌, ℕ, Bool, true, false, pos, nat_lt, List, [], length, map, flat_map}
 use Rattle.std.specs.List.{list_all}
 use Rattle.std.specs.List.Sorted.{IsPermutation}
@@ -13,7 +13,7 @@ use Rattle.vault.specs.Records.{Records, most_clerks, most_maildrops, most_messa
 use Rattle.mailsql.specs.Columns.{Rows}
 use Rattle.sqlvault.specs.Keeps.{clerk_row, deposit_row, count_in, message_row, message_sheets, groups_in, rule_row, at_place}
 
--- A test of something that is looked for: passed, it is there, and failed, there is none.
+-- A check answers true where some x has P, and false where none has.
 abbrev pub Finds : {X : Type 0} → (X → Type 0) → Bool → Type 0
 Finds {X} P true = (x : X) × P x
 Finds {X} P false = (x : X) → P x → ⊥
@@ -50,11 +50,11 @@ pub record DepositsAre (rows : Rows) (deposits : List Receipt) : Type 0 where
   pub ids_apart : are_distinct same_id deposits ≡ true
   pub uids_apart : are_distinct same_uid deposits ≡ true
 
--- their messages
+-- the messages without their keys
 abbrev pub messages_of : List Keyed → List Message
 messages_of ms = map (λ (x : Keyed). x.message) ms
 
--- the messages of the rows, where these are the deposits
+-- the messages of the rows, given the deposits
 pub record MessagesAre (rows : Rows) (deposits : List Receipt) (messages : List Keyed) : Type 0 where
   pub same : rows.messages ≡ map message_row messages
   pub sheets : IsPermutation (flat_map message_sheets messages) rows.sheets

@@ -9,7 +9,7 @@ use Rattle.vault.specs.Calls.{greatest_count}
 use Rattle.sqlvault.specs.declared.refusal.Refusal.{Refusal}
 use Rattle.sqlvault.specs.declared.refusal.Refusal.TheVariants.{Answered, Met}
 
--- the error is the want of memory
+-- the error is want of memory
 abbrev pub is_memory : Error → Bool
 is_memory (SqliteFailure OutOfMemory) = true
 is_memory _ = false
@@ -34,12 +34,12 @@ abbrev pub answer_of : {A : Type 0} → Result A Refusal → Result A VaultFault
 answer_of (Ok x) = Ok x
 answer_of (Err r) = Err (told r)
 
--- the fault is the store's
+-- the fault is `Store`
 abbrev pub is_store : VaultFault → Bool
 is_store fault.Store = true
 is_store _ = false
 
--- one fault more where it is told that the store refused; at its greatest the count stays
+-- the count of faults after this one: one more, but never above the greatest, where it is `Store`
 abbrev pub counted_by : VaultFault → ℕ → ℕ
 counted_by f n = if is_store f then min (n + 1) greatest_count else n
 

@@ -14,10 +14,10 @@ is_credential_row row = same_int row.kind (pos 1) && is_secret row.secret || sam
 abbrev pub is_clerk_row : Clerk → Bool
 is_clerk_row row = is_name row.name && is_credential_row row
 
--- rows of sound clerks, not too many
+-- rows of sound clerks, 1,000 at most
 abbrev pub are_clerk_rows : List Clerk → Bool
 are_clerk_rows rows = nat_le (length rows) most_clerks && list_all is_clerk_row rows
 
--- rows of sound maildrops, not too many
+-- rows of sound maildrops, 1,000 at most
 abbrev pub are_maildrop_rows : List (List ℕ) → Bool
 are_maildrop_rows rows = nat_le (length rows) most_maildrops && list_all is_name rows

@@ -1,4 +1,4 @@
--- What the statements of a policy leave of the rows of its groups and its rules.
+-- What setting a policy does to the rows of groups and rules.
 use Rattle.std.specs.Prelude.{◌≡◌, ◌+◌, ℕ, ℤ, pos, List, [], ◌∷◌, ◌++◌, map}
 use Rattle.policy.specs.declared.rule.Rule as policy
 use Rattle.policy.specs.Policy.{Group, Policy}
@@ -24,20 +24,20 @@ abbrev pub group_rows : (place : ℕ) → List Group → List row.Group
 group_rows place [] = []
 group_rows place (g ∷ gs) = group_row (pos place) g ∷ group_rows (place + 1) gs
 
--- those of their members, which each group counts from 1
+-- the rows of their members, at places from 1 on in each group
 abbrev pub all_member_rows : (place : ℕ) → List Group → List Member
 all_member_rows place [] = []
 all_member_rows place (g ∷ gs) = member_rows (pos place) 1 g.members ++ all_member_rows (place + 1) gs
 
--- these members come, the group's first
+-- these members are added, the first of their group
 abbrev pub AddsMembers : (group : ℤ) → List Name → Rows → Rows → Type 0
 AddsMembers group names old new = new ≡ record old { members = old.members ++ member_rows group 1 names }
 
--- the group comes behind the others with its members, where this is the next place
+-- if this is the next place, the group and its members are added behind the others
 abbrev pub AddsGroup : (place : ℤ) → Group → Rows → Rows → Type 0
 AddsGroup place g old new = next_group old.groups ≡ place → new ≡ record old { groups = old.groups ++ group_row place g ∷ []; members = old.members ++ member_rows place 1 g.members }
 
--- these groups come, where there is none
+-- if there is no group, these and their members are added
 abbrev pub AddsGroups : List Group → Rows → Rows → Type 0
 AddsGroups gs old new = old.groups ≡ [] → new ≡ record old { groups = group_rows 1 gs; members = old.members ++ all_member_rows 1 gs }
 
@@ -47,12 +47,12 @@ SetsGroups gs old new = new ≡ record old { groups = group_rows 1 gs; members =
 
 -- ---- rules
 
--- these rules come behind the others, whatever their places, and nothing else changes
+-- these rules are added behind the others, at any places, and nothing else changes
 pub record AddsRules (rules : List policy.Rule) (old new : Rows) : Type 0 where
   pub added : map (at_place (pos 0)) new.rules ≡ map (at_place (pos 0)) old.rules ++ map (rule_row (pos 0)) rules
   pub others : new ≡ record old { rules = new.rules }
 
--- the rules are these, whatever their places, and nothing else changes
+-- the rules are these, at any places, and nothing else changes
 pub record SetsRules (rules : List policy.Rule) (old new : Rows) : Type 0 where
   pub set : map (at_place (pos 0)) new.rules ≡ map (rule_row (pos 0)) rules
   pub others : new ≡ record old { rules = new.rules }

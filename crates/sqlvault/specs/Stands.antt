@@ -1,4 +1,4 @@
--- Where a connection stands between two calls of a vault and inside one: what it holds, and what a transaction under way would leave.
+-- What a connection holds between two calls of a vault and inside one, and what a stop then leaves.
 use Rattle.std.specs.Prelude.{◌≡◌, ◌⊎◌, false, IsTrue, Result, Ok, Err}
 use Rattle.sqlite_trees.specs.Tree.{Trees}
 use Rattle.sqlite.specs.declared.error.Error.{Error}
@@ -7,8 +7,8 @@ use Rattle.vault.specs.Changes.{Contents, AreSound}
 use Rattle.mailsql.specs.Rows.{Rows, rows_in, IsKept}
 use Rattle.sqlvault.specs.Keeps.{Keeps}
 
--- The contents are sound, and no transaction is under way; and while the connection is open, its tables are ours, all is committed, and the rows are
--- these contents.
+-- The connection holds these contents, which are sound: no transaction is under way, and while it
+-- is open, its tables are ours, all is committed, and the rows stand for these contents.
 pub record Holds (s : State) (c : Contents) : Type 0 where
   pub autocommit : s.in_transaction ≡ false
   pub tables : IsTrue s.is_open → IsKept s.now
@@ -16,7 +16,7 @@ pub record Holds (s : State) (c : Contents) : Type 0 where
   pub rows : IsTrue s.is_open → Keeps (rows_in s.now.trees) c
   pub sound : AreSound c
 
--- what a stop now leaves has such rows
+-- whatever a stop now may leave has rows with P
 abbrev pub Leaves : State → (Rows → Type 0) → Type 0
 Leaves s P = (db : Trees) → s.may_leave db → P (rows_in db)
 
@@ -24,13 +24,14 @@ Leaves s P = (db : Trees) → s.may_leave db → P (rows_in db)
 abbrev pub LeavesNoMore : State → State → Type 0
 LeavesNoMore old new = (db : Trees) → new.may_leave db → old.may_leave db
 
--- the connection was clean before
+-- a connection that is clean now was clean before
 abbrev pub WasClean : State → State → Type 0
 WasClean old new = HasCleanDisk new → HasCleanDisk old
 
 -- ---- inside a transaction
 
--- A transaction is under way, which shows these rows, over the contents of the last commit; a stop leaves the latter.
+-- A transaction is under way and shows these rows. The last commit has the contents `base`, and a
+-- stop leaves these.
 pub record Within (s : State) (base : Contents) (rows : Rows) : Type 0 where
   pub inside : IsTrue s.in_transaction
   pub is_open : IsTrue s.is_open
@@ -40,7 +41,7 @@ pub record Within (s : State) (base : Contents) (rows : Rows) : Type 0 where
   pub rows_are : rows_in s.now.trees ≡ rows
   pub stop : Leaves s (λ left. Keeps left base)
 
--- a transaction is under way, whose end without a commit leaves these contents
+-- a transaction is under way; rolled back, it leaves these contents
 pub record Under (s : State) (base : Contents) : Type 0 where
   pub inside : IsTrue s.in_transaction
   pub under : IsKept s.committed
@@ -50,12 +51,12 @@ pub record Under (s : State) (base : Contents) : Type 0 where
 abbrev pub Halted : State → Contents → Type 0
 Halted s base = Under s base ⊎ Holds s base
 
--- a part of a transaction makes a change of the rows, or halts it
+-- a part of a transaction makes this change of the rows, or an error halts the transaction
 abbrev pub Makes : {A : Type 0} → (A → Rows → Rows → Type 0) → State → State → Result A Error → Type 0
 Makes Change old new (Ok x) = (base : Contents) (rows : Rows) → Within old base rows → (after : Rows) × Change x rows after × Within new base after
 Makes Change old new (Err e) = (base : Contents) (rows : Rows) → Within old base rows → Halted new base × Leaves new (λ left. Keeps left base)
 
--- the rows are committed, or what was before is held again
+-- after `Ok` the store holds what was committed, after `Err` what it held before the transaction
 abbrev pub Ends : Contents → Contents → State → Result (Unit {0}) Error → Type 0
 Ends base after new (Ok _) = Holds new after
 Ends base after new (Err e) = Holds new base

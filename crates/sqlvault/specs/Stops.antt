@@ -12,8 +12,8 @@ use Rattle.mailsql.specs.Rows.{rows_in}
 use Rattle.sqlvault.specs.Keeps.{Keeps}
 use Rattle.sqlvault.specs.Stands.{Holds, Leaves}
 
--- A stop now may leave rows that say what these contents say: they say the same as any contents that the rows describe. So where rows that
--- describe none may be left, any contents may be held.
+-- These contents may be held after a stop: it may leave rows such that all contents for which they
+-- stand say the same as these. Where the rows left stand for no contents, any contents may be held.
 abbrev pub MayHold : State → Contents → Type 0
 MayHold s left = (db : Trees) × s.may_leave db × ((c : Contents) → Keeps (rows_in db) c → SaySame left c)
 
@@ -21,7 +21,7 @@ MayHold s left = (db : Trees) × s.may_leave db × ((c : Contents) → Keeps (ro
 abbrev pub LeavesHeld : State → Contents → Type 0
 LeavesHeld s c = Leaves s (λ rows. Keeps rows c)
 
--- a stop now leaves the rows of these contents, or of others that are such
+-- a stop now leaves the rows of these contents, or of contents with `After`
 abbrev pub LeavesOr : State → Contents → ((Contents → Type 0) → Type 0) → Type 0
 LeavesOr s c After = Leaves s (λ rows. Keeps rows c ⊎ After (Keeps rows))
 
@@ -29,7 +29,7 @@ LeavesOr s c After = Leaves s (λ rows. Keeps rows c ⊎ After (Keeps rows))
 abbrev pub StopsBefore : State → State → Type 0
 StopsBefore old new = (c : Contents) → HasCleanDisk new → IsTrue old.is_open → Holds old c → LeavesHeld new c
 
--- a call that changes records: a stop leaves what was held, or what the call makes of it when it is done
+-- a call that changes records: a stop leaves what was held, or what the call makes of it
 abbrev pub StopsEither : {A : Type 0} → State → State → (Contents → (Contents → Type 0) → Result A VaultFault → Type 0) → Type 0
 StopsEither {A} old new Done = (c : Contents) → HasCleanDisk new → IsTrue old.is_open → Holds old c → LeavesOr new c (λ Held. (x : A) × Done c Held (Ok x))
 
@@ -43,14 +43,14 @@ StaysOpen old new answered = (c : Contents) → HasCleanDisk new → IsTrue old.
 
 -- ---- between two calls
 
--- what a stop may leave of a connection that is open: a law of every store
+-- a stop of an open connection leaves just the last commit: a law of every store
 abbrev pub LeavesLast : State → Type 0
 LeavesLast s = (db : Trees) → IsTrue s.is_open → s.may_leave db → db ≡ s.committed.trees
 
--- so the rows of what is held are left
+-- so a stop leaves the rows of what is held
 pub leaves_last : (s : State) (c : Contents) → LeavesLast s → IsTrue s.is_open → Holds s c → LeavesHeld s c
 leaves_last s c law up h db may = subst (λ (t : Trees). Keeps (rows_in t) c) (sym (law db up may ∙ ap (λ (d : Database). d.trees) (h.settled up))) (h.rows up)
 
--- and they say what is held
+-- and what may be held after it says the same as what is held
 pub settled_at : (s : State) (c : Contents) → Holds s c → IsTrue s.is_open → LeavesLast s → (left : Contents) → MayHold s left → SaySame left c
 settled_at s c h up law left may = may.2 c (leaves_last s c law up h may.0 may.1)

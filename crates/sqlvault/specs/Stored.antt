@@ -1,4 +1,4 @@
--- What a row of a message is tested for, with its sheets, and where a connection stands between two queries of a test.
+-- What the check of a message's row and sheets tests, and what it leaves of the connection.
 use Rattle.std.specs.Prelude.{◌≡◌, ◌⊎◌, ◌≤◌, ◌<◌, ◌-◌, ◌^◌, ℕ, ℤ, pos, Bool, true, false, ◌&&◌, nat_le, nat_lt, min, List, length, filter, sum_by, All, Option, Some, None, Result, Ok, Err, IsTrue}
 use Rattle.std.specs.Int.{cast_unsigned, w64, div_ceil}
 use Rattle.std.specs.List.{find, list_any}
@@ -27,31 +27,31 @@ pub record Stays (old new : State) : Type 0 where
   pub counts : KeepsCounts old new
   pub marks : new.marks ≡ old.marks
 
--- so it is after tests, or an error came, and a transaction may be gone
+-- after `Ok` the connection sees what it saw; after `Err` also, unless its transaction is gone
 abbrev pub Goes : {A : Type 0} → State → State → Result A Error → Type 0
 Goes old new (Ok _) = Stays old new
 Goes old new (Err _) = Stays old new ⊎ IsRolledBack old new
 
--- ---- what a test answers
+-- ---- what a check answers
 
--- a test of a fact
+-- a check answers whether P is so
 abbrev pub Tells : Type 0 → Bool → Type 0
 Tells P true = P
 Tells P false = P → ⊥
 
--- a test of a fact, which counts too, to 2^64 - 1 at most
+-- a check answers n, 2^64 - 1 at most, where P is so, and else `None`
 abbrev pub Counts : Type 0 → ℕ → Option ℕ → Type 0
 Counts P n (Some m) = P × (m ≡ min n (2 ^ 64 - 1))
 Counts P n None = P → ⊥
 
--- what is looked for was found, or there is none
+-- a search answers an x whose `f x` has P, or `None` where nothing has P
 abbrev pub Brings : {X Y : Type 0} → (X → Y) → (Y → Type 0) → Option X → Type 0
 Brings f P (Some x) = P (f x)
 Brings {X} {Y} f P None = (y : Y) → P y → ⊥
 
 -- ---- a text and its sheets
 
--- the octets of the message's sheet at this place, so many
+-- the message's sheet at this place has these octets, `size` of them
 pub record IsPiece (rows : Rows) (mail : ℤ) (place size : ℕ) (octets : List ℕ) : Type 0 where
   pub found : find (is_sheet mail (pos place)) rows.sheets ≡ Some (record { mail = mail; place = pos place; octets = octets })
   pub long : length octets ≡ size
@@ -60,24 +60,25 @@ pub record IsPiece (rows : Rows) (mail : ℤ) (place size : ℕ) (octets : List 
 abbrev pub HasSheets : Rows → ℤ → List ℕ → Type 0
 HasSheets rows mail text = (place : ℕ) → place < sheet_count text → find (is_sheet mail (pos place)) rows.sheets ≡ Some (sheet_at mail text place)
 
--- so many octets, whose sheets are found
+-- the text has so many octets, and its sheets are found
 pub record HasText (rows : Rows) (mail : ℤ) (octets : ℕ) (text : List ℕ) : Type 0 where
   pub long : length text ≡ octets
   pub sheets : HasSheets rows mail text
 
--- a kept form that isn't empty, within the limit
+-- the text is in its kept form, of 1 to 26,214,400 octets
 abbrev pub is_kept_text : List ℕ → Bool
 is_kept_text text = bytes_eq (kept_form text) text && nat_lt 0 (length text) && nat_le (length text) most_octets
 
 -- ---- a message
 
--- the number is one of 1 to the number of the class
+-- k is the row's number, and one of 1 to the number of deposits of its class
 pub record IsNumber (deposits : List Receipt) (row : Message) (k : ℕ) : Type 0 where
   pub is : row.k ≡ pos k
   pub above : nat_lt 0 k ≡ true
   pub within : nat_le k (class_count row.class (receipts_of row.maildrop deposits)) ≡ true
 
--- the row is the message's, whose key has 64 bits; its text is a kept form and lies in its sheets; and a deposit brought it
+-- the row is that of message x: its key has 64 bits, its text is in its kept form and lies in its
+-- sheets, and it has a receipt
 pub record IsStored (rows : Rows) (deposits : List Receipt) (row : Message) (x : Keyed) : Type 0 where
   pub is : row ≡ message_row x
   pub key : nat_lt x.key 18446744073709551616 ≡ true
@@ -85,7 +86,7 @@ pub record IsStored (rows : Rows) (deposits : List Receipt) (row : Message) (x :
   pub receipt : list_any (is_receipt_for x.message) deposits ≡ true
   pub sheets : HasSheets rows (row_key x.key) x.message.text
 
--- there is such a message
+-- the row is that of some message
 abbrev pub HasMessage : Rows → List Receipt → Message → Type 0
 HasMessage rows deposits row = (x : Keyed) × IsStored rows deposits row x
 
@@ -95,10 +96,10 @@ sheets_in row = div_ceil (cast_unsigned w64 row.octets) whole
 
 -- ---- a maildrop
 
--- the maildrop has no more messages than it may, and each row is that of one
+-- the maildrop has 10,000 messages at most, and each of its rows is that of a message
 abbrev pub IsSoundIn : Rows → List Receipt → List ℕ → Type 0
 IsSoundIn rows deposits d = (length (filter (is_in d) rows.messages) ≤ most_messages) × All (HasMessage rows deposits) (filter (is_in d) rows.messages)
 
--- how many sheets its messages have
+-- how many sheets the maildrop's messages have
 abbrev pub sheets_under : Rows → List ℕ → ℕ
 sheets_under rows d = sum_by sheets_in (filter (is_in d) rows.messages)

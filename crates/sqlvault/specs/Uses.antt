@@ -14,7 +14,7 @@ use Rattle.sqlvault.specs.declared.uses.Kept.{Kept}
 use Rattle.sqlvault.specs.declared.uses.Seen.{Seen}
 use Rattle.sqlvault.specs.declared.uses.Stock.{Stock}
 
--- memory was refused, or the store refused a statement: no refusal that a call names for a cause of its own
+-- the fault is one that any call may answer: memory was refused, or the store refused a statement
 abbrev pub IsOfAnyCall : VaultFault → Type 0
 IsOfAnyCall e = IsRefusal {A = Unit {0}} (Ok tt) e
 
@@ -42,7 +42,7 @@ emptied s = record { clerks = []; maildrops = []; messages = []; deposits = rece
 
 -- ---- what the calls answer
 
--- the maildrop and the clerk were new, and so was the deposit, which got the first number of its class
+-- the maildrop, the clerk and the deposit were new, and the deposit got number 1 of its class
 pub record WasNew (s : Stock) (answers : Filled) : Type 0 where
   pub maildrop : answers.maildrop_is_new ≡ true
   pub clerk : answers.clerk_is_new ≡ true
@@ -56,7 +56,8 @@ head_of key s = record { key = key; class = s.class; k = 1; octets = length s.te
 abbrev pub total_of : Stock → Total
 total_of s = record { maildrop = s.maildrop; messages = 1; octets = length s.text }
 
--- one maildrop with one message and its octets, the message's head, and its text from the front in the front of the buffer, as far as it was read
+-- the answers show one maildrop with one message and its octets, and the message's head; the front
+-- of the buffer has its text from the front, as far as it was read
 pub record ShowsMail (s : Stock) (buffer : List ℕ) (mail : Mail) : Type 0 where
   pub total : mail.totals.items ≡ total_of s ∷ []
   pub head : mail.heads.items ≡ head_of mail.key s ∷ []
@@ -68,7 +69,8 @@ pub record ShowsKept (s : Stock) (answers : Kept) : Type 0 where
   pub found : answers.credential ≡ Some s.credential
   pub set : answers.policy ≡ s.policy
 
--- all of the stock was new, it was shown as it was put, and no head was left when the message was removed
+-- all of the stock was new, it was shown as it was put, and no head was left after the message was
+-- removed
 pub record Saw (s : Stock) (buffer : List ℕ) (seen : Seen) : Type 0 where
   pub new : WasNew s seen.filled
   pub shown : ShowsMail s buffer seen.mail

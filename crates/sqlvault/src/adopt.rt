@@ -1,4 +1,4 @@
-//! Taking over the tables of a connection.
+//! Adopting a connection: its tables are made, carried over or checked.
 ghost use Rattle.std.specs.Prelude.{◌≡◌, true, false, IsTrue, IfOk, IfErr, OnOk, OnErr, Err, [], ◌∷◌};
 ghost use Rattle.sqlite.specs.Held.{state};
 ghost use Rattle.sqlite.specs.State.{HasCleanDisk, IsUnchanged};
@@ -66,7 +66,8 @@ fn make<S: Alter>(conn: &mut Connection<S>) -> Result<(), Error>
     }
 }
 
-/// Whether the mark of our version is there, and no other mark.
+/// Checks that the store's one mark is ours, of our version. `OldVersion` where our mark has
+/// another version, `NotOurs` where it is missing or not alone. Nothing is changed.
 fn judge_marks<S: Alter>(alloc: Global, conn: &mut Connection<S>) -> Result<(), Refusal>
     ensures judged { HasCleanDisk (state S.Store conn.new) → HasTables (state S.Store conn.old) → IsMarked (rows_in (state S.Store conn.old).now.trees) (answer_of result) }
     ensures same { HasCleanDisk (state S.Store conn.new) → HasTables (state S.Store conn.old) → OnOk result (IsUnchanged (state S.Store conn.old) (state S.Store conn.new)) }
@@ -97,7 +98,7 @@ fn judge_marks<S: Alter>(alloc: Global, conn: &mut Connection<S>) -> Result<(), 
     }
 }
 
-/// Whether the rows under the mark are sound records.
+/// Whether all rows are sound records of a vault.
 pub(crate) fn are_rows_sound<S: Alter>(
     alloc: Global,
     conn: &mut Connection<S>,
@@ -132,7 +133,8 @@ pub(crate) fn are_rows_sound<S: Alter>(
     }
 }
 
-/// Judges the tables that a store under our names has.
+/// Checks the mark, the columns and the rows of a store that has our tables. `OldVersion` or
+/// `NotOurs` where they aren't ours. Nothing is changed.
 fn judge<S: Alter>(alloc: Global, conn: &mut Connection<S>) -> Result<(), Refusal>
     ensures adopted { HasCleanDisk (state S.Store conn.new) → (state S.Store conn.old).in_transaction ≡ false → (IsTrue (state S.Store conn.old).is_open → (state S.Store conn.old).now ≡ (state S.Store conn.old).committed) → IsKept (state S.Store conn.old).now → Adopts (state S.Store conn.old) (state S.Store conn.new) (answer_of result) }
     ensures stays { HasCleanDisk (state S.Store conn.new) → (state S.Store conn.old).in_transaction ≡ false → (IsTrue (state S.Store conn.old).is_open → (state S.Store conn.old).now ≡ (state S.Store conn.old).committed) → IsKept (state S.Store conn.old).now → OnErr result (StaysAs (state S.Store conn.old) (state S.Store conn.new)) }
@@ -155,8 +157,9 @@ fn judge<S: Alter>(alloc: Global, conn: &mut Connection<S>) -> Result<(), Refusa
     }
 }
 
-/// Makes our tables where the connection has none of our names, carries those of version 2 over,
-/// and judges ours.
+/// Makes our tables where no name of ours is taken, carries a store of version 1 or 2 over, and
+/// checks a store that has our tables. `NotOurs` inside a transaction, and where a name of ours is
+/// taken but there is no table of marks.
 pub(crate) fn settle<S: Alter>(alloc: Global, conn: &mut Connection<S>) -> Result<(), Refusal>
     ensures adopted { HasCleanDisk (state S.Store conn.new) → IsKnown (state S.Store conn.old) → Adopts (state S.Store conn.old) (state S.Store conn.new) (answer_of result) }
     ensures stays { HasCleanDisk (state S.Store conn.new) → IsKnown (state S.Store conn.old) → OnErr result (StaysAs (state S.Store conn.old) (state S.Store conn.new)) }

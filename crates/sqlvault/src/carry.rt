@@ -19,14 +19,15 @@ use sqlite::{Alter, Connection, Error};
 use std::alloc::Global;
 use vault::VaultFault;
 
-/// The version of the layout with the messages and their texts in one table.
+/// Version 1 of the layout: one table has the messages and their texts.
 const FIRST: i64 = 1;
 
-/// The version of the layout without groups.
+/// Version 2 of the layout: there are no groups.
 const SECOND: i64 = 2;
 
-/// Makes the tables that a store of version 1, which is `carried`, or of version 2 lacks, moves the
-/// messages of version 1, and puts our mark in place of the older one, inside a transaction.
+/// Brings a store of version 1 (`carried`) or 2 (not `carried`) to our version, inside a
+/// transaction: makes the tables that it lacks, moves the messages of version 1, and puts our mark
+/// in place of its own.
 fn bring<S: Alter>(alloc: Global, conn: &mut Connection<S>, carried: bool) -> Result<(), Error>
     ensures done { HasCleanDisk (state S.Store conn.new) → IsBegunOn (state S.Store conn.old) → is_carried (state S.Store conn.old).now.trees ≡ carried → (rows_in (state S.Store conn.old).now.trees).marks ≡ old_mark carried ∷ [] → OnOk result ((IsKept (state S.Store conn.new).now × (rows_in (state S.Store conn.new).now.trees ≡ brought carried (rows_in (state S.Store conn.old).now.trees))) × GoesOn (state S.Store conn.old) (state S.Store conn.new)) }
     ensures err { HasCleanDisk (state S.Store conn.new) → IsBegunOn (state S.Store conn.old) → is_carried (state S.Store conn.old).now.trees ≡ carried → (rows_in (state S.Store conn.old).now.trees).marks ≡ old_mark carried ∷ [] → OnErr result (IsHalted (state S.Store conn.old) (state S.Store conn.new)) }
@@ -43,9 +44,9 @@ fn bring<S: Alter>(alloc: Global, conn: &mut Connection<S>, carried: bool) -> Re
     }
 }
 
-/// Carries a store of version 1, which is `carried`, or of version 2 over, in one transaction: its
-/// lists stay, and its rows are all read once. Where they aren't sound records it is as it was, as
-/// after every refusal.
+/// Carries a store of version 1 (`carried`) or 2 (not `carried`) over, in one transaction. Its
+/// contents stay, and all its rows are read once: `NotOurs` where they aren't sound records. After
+/// any refusal the store is as it was.
 pub(crate) fn carry<S: Alter>(
     alloc: Global,
     conn: &mut Connection<S>,
@@ -78,7 +79,7 @@ pub(crate) fn carry<S: Alter>(
     }
 }
 
-/// Takes back what a transaction made of rows that aren't sound records.
+/// Rolls back a transaction whose rows aren't sound records. `NotOurs`, or the rollback's error.
 fn unsound<S: Alter>(conn: &mut Connection<S>) -> Refusal
     ensures gone { (first : Held _) → HasCleanDisk (state S.Store conn.new) → GoesOn (state S.Store first) (state S.Store conn.old) → IsGone (state S.Store first) (state S.Store conn.new) }
     ensures survives { Survives (state S.Store conn.old) (state S.Store conn.new) (λ _. ⊥) }
@@ -90,7 +91,7 @@ fn unsound<S: Alter>(conn: &mut Connection<S>) -> Refusal
     }
 }
 
-/// Whether an older version is the first.
+/// True for version 1, false for version 2. `NotOurs` for our version, `OldVersion` for any other.
 fn version_of(value: i64) -> Result<bool, VaultFault>
     ensures older { IfOk result (λ carried. value ≡ old_version carried) }
     ensures fault { IfErr result (IsNoOlder value) }
@@ -107,7 +108,8 @@ fn version_of(value: i64) -> Result<bool, VaultFault>
     Err(VaultFault::OldVersion)
 }
 
-/// The older version whose mark is there, and no other mark: whether it is the first.
+/// The older version of the store's one mark: true for 1, false for 2. `OldVersion` where our mark
+/// has an unknown version; `NotOurs` where it has our version, is missing or isn't alone.
 fn find_older<S: Alter>(alloc: Global, conn: &mut Connection<S>) -> Result<bool, Refusal>
     ensures judged { HasCleanDisk (state S.Store conn.new) → HasOldTables (state S.Store conn.old) → IsMarkedOlder (rows_in (state S.Store conn.old).now.trees) (answer_of result) }
     ensures same { HasCleanDisk (state S.Store conn.new) → HasOldTables (state S.Store conn.old) → OnOk result (IsUnchanged (state S.Store conn.old) (state S.Store conn.new)) }
@@ -137,7 +139,7 @@ fn find_older<S: Alter>(alloc: Global, conn: &mut Connection<S>) -> Result<bool,
     }
 }
 
-/// Whether the tables of version 1, which is `carried`, or of version 2 are there.
+/// Whether the store has the tables of version 1 (`carried`) or of version 2 (not `carried`).
 fn has_older_columns<S: Alter>(conn: &Connection<S>, carried: bool) -> bool
     ensures fits { (state S.Store conn.now).now.schema ≡ old_schema carried → result ≡ true }
     ensures order { (c : Bool) → (state S.Store conn.now).now.schema ≡ old_schema c → result ≡ true → c ≡ carried }
@@ -149,8 +151,8 @@ fn has_older_columns<S: Alter>(conn: &Connection<S>, carried: bool) -> bool
     }
 }
 
-/// Carries a store that lacks some of our tables over where it has those of an older version, and
-/// its mark alone.
+/// Carries a store without all our tables over, where its tables and its one mark are those of an
+/// older version. Else `OldVersion` for a mark of ours of an unknown version, or `NotOurs`.
 pub(crate) fn carry_marked<S: Alter>(alloc: Global, conn: &mut Connection<S>) -> Result<(), Refusal>
     ensures carried { HasCleanDisk (state S.Store conn.new) → HasOlder (state S.Store conn.old) → (state S.Store conn.old).in_transaction ≡ false → (IsTrue (state S.Store conn.old).is_open → (state S.Store conn.old).now ≡ (state S.Store conn.old).committed) → CarriesOver (state S.Store conn.old) (state S.Store conn.new) (answer_of result) }
     ensures stays { HasCleanDisk (state S.Store conn.new) → HasOlder (state S.Store conn.old) → (state S.Store conn.old).in_transaction ≡ false → (IsTrue (state S.Store conn.old).is_open → (state S.Store conn.old).now ≡ (state S.Store conn.old).committed) → OnErr result (StaysAs (state S.Store conn.old) (state S.Store conn.new)) }

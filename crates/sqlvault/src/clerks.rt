@@ -38,14 +38,14 @@ fn kind_of(credential: &Credential) -> i64
     }
 }
 
-/// A digest has 32 octets.
+/// For the proof: a digest has 32 octets.
 fn is_whole(digest: [u8; 32])
     ensures { length digest ≡ 32 }
 {
     let _ = digest;
 }
 
-/// What a row keeps of a credential, which has its form.
+/// The octets that a row keeps of a credential; and, for the proof, that the credential is sound.
 fn secret_of(credential: &Credential) -> &[u8]
     ensures value { result.now ≡ secret_of credential.now }
     ensures form { is_sound_credential credential.now ≡ true }
@@ -59,7 +59,7 @@ fn secret_of(credential: &Credential) -> &[u8]
     }
 }
 
-/// A digest of these octets.
+/// These 32 octets, as a digest.
 fn digest_of(octets: &[u8]) -> [u8; 32]
     requires { length octets.now ≡ 32 }
     ensures { result ≡ octets.now }
@@ -124,7 +124,8 @@ fn has_clerk<S: Alter>(alloc: Global, conn: &mut Connection<S>, clerk: &Name) ->
     }
 }
 
-/// Puts the clerk's row in place of the one of its name, in a transaction of its own.
+/// Puts the clerk's row in place of the one of that name, if there is one, in a transaction of its
+/// own.
 fn write_clerk<S: Alter>(
     conn: &mut Connection<S>,
     clerk: &Name,
@@ -183,7 +184,7 @@ fn judge_clerk<S: Alter>(
     }
 }
 
-/// Puts a clerk's credential, in place of the one that is there. Answers whether the clerk was new.
+/// Sets a clerk's credential, in place of the one that is there. Answers whether the clerk was new.
 ///
 /// Answers [`VaultFault::Full`] for a new name beyond 1,000. After any refusal the clerks are as
 /// they were.

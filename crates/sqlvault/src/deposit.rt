@@ -31,10 +31,10 @@ use vault::{Deposited, Receipt, VaultFault};
 /// The greatest number of messages in a maildrop.
 const MAX_MESSAGES: u64 = 10_000;
 
-/// The greatest number of deposits of a class into a maildrop's name.
+/// The greatest number of deposits of one class under one maildrop name.
 const MAX_DEPOSITS: u64 = 1_000_000_000;
 
-/// The number of a row, which is 0 or more.
+/// The number of a row. An error where it is below 0, which a sound store's never is.
 fn read_number(number: i64) -> Result<u64, Error>
     ensures { (n : ℕ) → number ≡ pos n → result ≡ Ok n }
 {
@@ -61,7 +61,8 @@ fn is_same(row: &rows::Deposit, class: &Name, digest: &[u8; 32]) -> bool
     row.class.as_slice() == class.as_bytes() && row.digest.as_slice() == digest.as_slice()
 }
 
-/// What a deposit whose id was used before is answered.
+/// The answer to a deposit whose id was used before, by this row: the old unique-id where class and
+/// text are the same, else `Conflict`.
 fn known_or_conflict(
     row: &rows::Deposit,
     class: &Name,
@@ -79,7 +80,7 @@ fn known_or_conflict(
     }
 }
 
-/// How many deposits of the class the maildrop's name had.
+/// How many deposits of the class there were under the maildrop's name.
 fn find_before<S: Alter>(
     alloc: Global,
     conn: &mut Connection<S>,
@@ -95,7 +96,7 @@ fn find_before<S: Alter>(
     }
 }
 
-/// What a deposit whose id is new is answered, into a maildrop that is there.
+/// The answer to a deposit with a new id into a maildrop that is there: its unique-id, or `Full`.
 fn judge_new<S: Alter>(
     alloc: Global,
     conn: &mut Connection<S>,
@@ -127,7 +128,7 @@ fn judge_new<S: Alter>(
     }))
 }
 
-/// What a deposit of a text with this digest is answered.
+/// The answer to a deposit of a text with this digest. Nothing is changed yet.
 fn judge<S: Alter>(
     alloc: Global,
     conn: &mut Connection<S>,
@@ -153,7 +154,7 @@ fn judge<S: Alter>(
     }
 }
 
-/// The count of the receipt's class, and the receipt, inside a transaction.
+/// Sets the count of the receipt's class and adds the receipt, inside a transaction.
 fn put_receipt<S: Alter>(conn: &mut Connection<S>, receipt: &Receipt) -> Result<(), Error>
     requires { receipt.now.k ≤ most_deposits }
     ensures { Writes S.Store conn.old conn.new (λ _. PutsReceipt receipt.now) result }
@@ -178,7 +179,7 @@ fn put_receipt<S: Alter>(conn: &mut Connection<S>, receipt: &Receipt) -> Result<
     )
 }
 
-/// The message of the receipt, and its sheets, inside a transaction.
+/// Adds the message of the receipt and its sheets, inside a transaction.
 fn put_message<S: Alter>(
     conn: &mut Connection<S>,
     receipt: &Receipt,
@@ -254,14 +255,13 @@ fn receipt_for(maildrop: &Name, class: &Name, id: &DepositId, k: u64, digest: [u
     }
 }
 
-/// Puts a message into a maildrop, once for each deposit id of the maildrop's name: the message,
-/// its sheets, its receipt and the count of its class are committed together, or nothing is
-/// changed.
+/// Puts a message into a maildrop, once for each deposit id under the maildrop's name. The message,
+/// its sheets, its receipt and the count of its class are committed together.
 ///
 /// Answers [`VaultFault::NoMaildrop`] where the maildrop is missing, else [`VaultFault::Conflict`]
 /// where the id was used with another class or text, else [`VaultFault::Full`] where the maildrop
-/// has 10,000 messages or its name had 1,000,000,000 deposits of the class. An error of a statement
-/// leaves what was held before.
+/// has 10,000 messages or there were 1,000,000,000 deposits of the class under its name. After any
+/// error nothing is changed.
 pub(crate) fn deposit<S: Alter>(
     alloc: Global,
     conn: &mut Connection<S>,

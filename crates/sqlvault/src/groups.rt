@@ -16,7 +16,8 @@ use policy::{Group, Policy};
 use sqlite::{Alter, Connection, Error};
 use std::alloc::{AllocError, Global};
 
-/// The names of the group's members, in the order of their rows; `None` where one is no name.
+/// The names of the group's members, in the order of their rows; `None` where one hasn't the form
+/// of a name.
 fn members_of(
     alloc: Global,
     rows: &[rows::Member],
@@ -37,7 +38,7 @@ fn members_of(
     Ok(Some(names))
 }
 
-/// The group of a row, with its members; `None` where a name is none.
+/// The group of a row, with its members; `None` where a name hasn't its form.
 fn group_of(
     alloc: Global,
     row: &rows::Group,
@@ -55,7 +56,7 @@ fn group_of(
     }
 }
 
-/// The groups of the rows, in order, each with its members; `None` where a name is none.
+/// The groups of the rows, in order, each with its members; `None` where a name hasn't its form.
 fn groups_of(
     alloc: Global,
     rows: &[rows::Group],
@@ -74,7 +75,7 @@ fn groups_of(
     Ok(Some(groups))
 }
 
-/// The groups of the store; `None` where a name is none.
+/// The groups of the store, in order; `None` where a name hasn't its form.
 pub(crate) fn read_groups<S: Alter>(
     alloc: Global,
     conn: &mut Connection<S>,
@@ -96,8 +97,8 @@ pub(crate) fn read_groups<S: Alter>(
     }
 }
 
-/// Adds these members to the group at a place, which has none, inside a transaction: the first at
-/// place 1.
+/// Adds members to the group at place `group`, which has none yet, inside a transaction. The first
+/// member is at place 1.
 fn add_members<S: Alter>(
     conn: &mut Connection<S>,
     group: i64,
@@ -118,8 +119,8 @@ fn add_members<S: Alter>(
     Ok(())
 }
 
-/// Adds a group with its members behind the others, inside a transaction: its place is the next
-/// one.
+/// Adds a group with its members behind the others, inside a transaction. `place` is the next free
+/// place.
 fn add_group<S: Alter>(conn: &mut Connection<S>, place: i64, group: &Group) -> Result<(), Error>
     requires { length group.now.members ≤ most_members }
     ensures made { HasCleanDisk (state S.Store conn.new) → Makes (λ _. AddsGroup place group.now) (state S.Store conn.old) (state S.Store conn.new) result }
@@ -131,7 +132,7 @@ fn add_group<S: Alter>(conn: &mut Connection<S>, place: i64, group: &Group) -> R
     }
 }
 
-/// Adds the policy's groups where there is none, inside a transaction.
+/// Adds the policy's groups to a store without groups, inside a transaction.
 fn add_groups<S: Alter>(conn: &mut Connection<S>, policy: &Policy) -> Result<(), Error>
     ensures made { HasCleanDisk (state S.Store conn.new) → Makes (λ _. AddsGroups policy.now.groups) (state S.Store conn.old) (state S.Store conn.new) result }
     ensures clean { WasClean (state S.Store conn.old) (state S.Store conn.new) }

@@ -22,7 +22,7 @@ use sqlite::{Alter, Connection, Error};
 use std::alloc::Global;
 use vault::{Head, MessageKey, VaultFault};
 
-/// The message of a row, as a login sees it; `None` where its class has not the form of a name.
+/// The head of a message's row; `None` where its class hasn't the form of a name.
 fn read_head(row: &Message) -> Option<Head>
     ensures { (x : Keyed) → row.now ≡ message_row x → is_name x.message.class ≡ true → x.key < 2 ^ 64 → result ≡ Some (head_of x) }
 {
@@ -37,8 +37,8 @@ fn read_head(row: &Message) -> Option<Head>
     }
 }
 
-/// The messages of these rows, as a login sees them. Where each row is that of a message, memory
-/// alone can be wanting.
+/// The heads of these rows, in order. Where each row is that of a message, want of memory is the
+/// only error.
 fn read_heads(alloc: Global, rows: &[Message]) -> Result<Vec<Head>, Error>
     ensures items { (ms : List Keyed) → rows.now ≡ map message_row ms → list_all (λ x. is_name x.message.class) ms ≡ true → list_all (λ x. nat_lt x.key (2 ^ 64)) ms ≡ true → IfOk result (λ heads. heads.items ≡ map head_of ms) }
     ensures memory { (ms : List Keyed) → rows.now ≡ map message_row ms → list_all (λ x. is_name x.message.class) ms ≡ true → list_all (λ x. nat_lt x.key (2 ^ 64)) ms ≡ true → IfErr result IsWantOfMemory }
@@ -96,10 +96,10 @@ fn remove_all<S: Alter>(
     Ok(())
 }
 
-/// Removes those of the maildrop's messages that the keys name, all or none. Keys that aren't there
-/// are passed over, in a missing maildrop all.
+/// Removes the maildrop's messages with these keys, in one transaction. A key that isn't in the
+/// maildrop is passed over; so are all keys where the maildrop is missing.
 ///
-/// Answers the error that a statement met; nothing is then changed.
+/// Answers the error that a statement met; no message is then removed.
 pub(crate) fn remove<S: Alter>(
     conn: &mut Connection<S>,
     maildrop: &Name,

@@ -1,4 +1,4 @@
-//! The names of the maildrops.
+//! Adding and dropping maildrops.
 ghost use Rattle.sqlite.specs.Held.{state};
 ghost use Rattle.sqlite.specs.State.{HasCleanDisk};
 ghost use Rattle.vault.specs.Changes.{Contents};
@@ -46,7 +46,7 @@ pub(crate) fn add_maildrop<S: Alter>(conn: &mut Connection<S>, name: &Name) -> R
     }
 }
 
-/// Drops an empty maildrop. The deposits and the counts of its name stay.
+/// Drops an empty maildrop. The receipts and the counts under its name stay.
 ///
 /// Answers [`VaultFault::NoMaildrop`] where the maildrop is missing, else [`VaultFault::NotEmpty`]
 /// where it has a message. After any refusal the maildrops are as they were.

@@ -1,4 +1,4 @@
-//! Moving the messages of version 1 into the tables of ours.
+//! Moving the messages of version 1 into our tables.
 ghost use Rattle.std.specs.Prelude.{◌≡◌, true, Some, map, [], ◌∷◌, IsTrue, OnOk};
 ghost use Rattle.std.specs.List.{find, AllByRecursion};
 ghost use Rattle.std.specs.Prelude.{◌<ℤ◌};
@@ -18,7 +18,7 @@ use mailsql::{bodies, mail, sheets};
 use sqlite::{Alter, Connection, Error};
 use std::alloc::Global;
 
-/// Puts a message of version 1 into the tables of ours, under its key, inside a transaction.
+/// Puts a message of version 1 into our tables, under its key, inside a transaction.
 fn put_body<S: Alter>(conn: &mut Connection<S>, body: &Body) -> Result<(), Error>
     ensures part { HasCleanDisk (state S.Store conn.new) → IsInside (state S.Store conn.old) → AllByRecursion (λ (m : heads.Message). m.key <ℤ body.now.head.key) (rows_in (state S.Store conn.old).now.trees).messages
         → Part (Moves (body.now ∷ [])) (state S.Store conn.old) (state S.Store conn.new) result }
@@ -38,8 +38,7 @@ fn put_body<S: Alter>(conn: &mut Connection<S>, body: &Body) -> Result<(), Error
     }
 }
 
-/// Puts the message of version 1 that is found under a key into the tables of ours, inside a
-/// transaction.
+/// Puts the message that version 1 has under a key into our tables, inside a transaction.
 fn move_one<S: Alter>(alloc: Global, conn: &mut Connection<S>, key: i64) -> Result<(), Error>
     ensures part { (body : rows.Body) → HasCleanDisk (state S.Store conn.new) → IsInside (state S.Store conn.old) → is_carried (state S.Store conn.old).now.trees ≡ true → find (is_body key) (rows_in (state S.Store conn.old).now.trees).bodies ≡ Some body
         → AllByRecursion (λ (m : heads.Message). m.key <ℤ body.head.key) (rows_in (state S.Store conn.old).now.trees).messages → Part (Moves (body ∷ [])) (state S.Store conn.old) (state S.Store conn.new) result }
@@ -52,8 +51,8 @@ fn move_one<S: Alter>(alloc: Global, conn: &mut Connection<S>, key: i64) -> Resu
     }
 }
 
-/// Puts each message of version 1 into the tables of ours, which have none, inside a transaction.
-/// These are their heads.
+/// Puts the messages of version 1, which have these heads, into our tables, which have no message
+/// yet, inside a transaction.
 fn move_all<S: Alter>(
     alloc: Global,
     conn: &mut Connection<S>,
@@ -74,7 +73,8 @@ fn move_all<S: Alter>(
     Ok(())
 }
 
-/// Moves every message of version 1 into the tables of ours, which have none, inside a transaction.
+/// Moves every message of version 1 into our tables, which have no message yet, and empties the old
+/// table, inside a transaction.
 fn move_messages<S: Alter>(alloc: Global, conn: &mut Connection<S>) -> Result<(), Error>
     ensures part { HasCleanDisk (state S.Store conn.new) → IsInside (state S.Store conn.old) → is_carried (state S.Store conn.old).now.trees ≡ true → (rows_in (state S.Store conn.old).now.trees).messages ≡ []
         → Part MovesAll (state S.Store conn.old) (state S.Store conn.new) result }
@@ -91,8 +91,8 @@ fn move_messages<S: Alter>(alloc: Global, conn: &mut Connection<S>) -> Result<()
     }
 }
 
-/// Moves the messages of a store of version 1, inside a transaction. One of version 2, where
-/// `carried` is false, has them in the tables of ours.
+/// Moves the messages of a store of version 1 (`carried`), inside a transaction. A store of version
+/// 2 (not `carried`) has them in our tables already.
 pub(crate) fn move_old<S: Alter>(
     alloc: Global,
     conn: &mut Connection<S>,

@@ -14,8 +14,8 @@ use sqlite::{Alter, Connection};
 use std::alloc::Global;
 use vault::MessageKey;
 
-/// Copies the octets from that place on into the front of the buffer, as many as there are and fit;
-/// how many.
+/// Copies the octets from place `from` on into the front of the buffer, as many as there are and
+/// fit. Answers how many.
 fn copy_from(octets: &[u8], from: usize, buffer: &mut [u8]) -> usize
     ensures count { result ≡ min (length octets.now - from) (length buffer.new) }
     ensures copied { take result buffer.new ≡ take result (drop from octets.now) }
@@ -29,11 +29,11 @@ fn copy_from(octets: &[u8], from: usize, buffer: &mut [u8]) -> usize
     count
 }
 
-/// Reads octets of a message, from that place on, into the front of the buffer; how many: at least
-/// one where one is left and the buffer isn't empty, else 0. They are of one sheet, so at most
-/// 4,096. Under an unknown key there is none. Nothing is changed.
+/// Reads octets of a message, from place `from` on, into the front of the buffer. Answers how many:
+/// 1 to 4,096, all of one sheet; or 0 where none is left, the buffer is empty or the key is
+/// unknown. Nothing is changed.
 ///
-/// Answers the error that the query met.
+/// An `Err` is the error that the query met.
 pub(crate) fn page<S: Alter>(
     alloc: Global,
     conn: &mut Connection<S>,

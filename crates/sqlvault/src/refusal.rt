@@ -28,14 +28,14 @@ impl From<Error> for Refusal {
     }
 }
 
-/// The error where a row is no record of a vault, which no store of ours has.
+/// The error for a row that is no record of a vault. A sound store has no such row.
 pub(crate) fn unreadable() -> Error
     ensures { result ≡ SqliteFailure DatabaseCorrupt }
 {
     Error::SqliteFailure(ErrorCode::DatabaseCorrupt)
 }
 
-/// Whether the error is the want of memory.
+/// Whether the error is want of memory.
 pub(crate) fn is_memory(error: &Error) -> bool
     ensures { result ≡ is_memory error.now }
 {
@@ -58,7 +58,7 @@ pub(crate) fn fault_of(refusal: Refusal) -> VaultFault
     }
 }
 
-/// Tells the refusal as the vault's fault, and counts it where that is that the store refused.
+/// The refusal as the vault's fault. Adds one to `faults`, `u64::MAX` at most, where it is `Store`.
 pub(crate) fn tell(faults: &mut u64, refusal: Refusal) -> VaultFault
     ensures told { result ≡ told refusal }
     ensures counted { faults.new ≡ counted_by (told refusal) faults.old }

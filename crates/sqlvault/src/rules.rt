@@ -1,4 +1,4 @@
-//! The policy.
+//! The policy, read from its rows and written to them.
 ghost use Rattle.std.specs.Prelude.{◌≡◌, true, false, codes, take, drop, pos, List, [], ◌∷◌, map, Some, MatchOption, IsTrue, OnOk, IfOk, IfSome, IsSomeAnd};
 ghost use Rattle.std.specs.List.{list_all};
 ghost use Rattle.std.specs.Str.{bytes_eq};
@@ -36,7 +36,7 @@ fn pattern_text(pattern: &Pattern) -> &[u8]
     }
 }
 
-/// The text of the clerks that a rule is about: `@` and the name, where they are a group's.
+/// The text of the clerks that a rule is about: `*`, a clerk's name, or `@` and a group's name.
 fn clerks_text(alloc: Global, clerks: &Clerks) -> Result<Vec<u8>, AllocError>
     ensures { IfOk result (λ text. text.items ≡ clerks_text clerks.now) }
 {
@@ -84,7 +84,7 @@ fn read_pattern(text: &[u8]) -> Option<Pattern>
     }
 }
 
-/// The name behind `@` at the text's head, if that is its first octet.
+/// What follows the `@` of a text that begins with one.
 fn behind_at(text: &[u8]) -> Option<&[u8]>
     ensures { MatchOption result (bytes_eq (take 1 text.now) (codes "@") ≡ false)
         (λ name. (bytes_eq (take 1 text.now) (codes "@") ≡ true) × (name.now ≡ drop 1 text.now)) }
@@ -134,7 +134,7 @@ fn read_actions(number: i64) -> Option<Actions>
     Some(Actions { open, read, remove })
 }
 
-/// The rule of a row, wherever it stands; `None` where the row is no rule's.
+/// The rule of a row, whatever its place; `None` where the row is no rule's.
 fn read_rule(row: &rows::Rule) -> Option<Rule>
     ensures row { IfSome result (λ r. at_place (pos 0) row.now ≡ rule_row (pos 0) r) }
     ensures read { (r : rule.Rule) → is_sound_rule r ≡ true → at_place (pos 0) row.now ≡ rule_row (pos 0) r → result ≡ Some r }
@@ -164,7 +164,7 @@ pub(crate) fn rules_of(alloc: Global, rows: &[rows::Rule]) -> Result<Option<Vec<
     Ok(Some(rules))
 }
 
-/// The policy of these groups and of the rules of the rows.
+/// The policy of these groups and of the rules of these rows.
 fn read_policy(alloc: Global, groups: Vec<Group>, rows: &[rows::Rule]) -> Result<Policy, Error>
     ensures { (p : Policy) → is_sound_policy p ≡ true → groups.items ≡ p.groups → map (at_place (pos 0)) rows.now ≡ map (rule_row (pos 0)) p.rules → IfOk result (λ read. read ≡ p) }
 {
@@ -242,7 +242,7 @@ fn add_rules<S: Alter>(alloc: Global, conn: &mut Connection<S>, rules: &[Rule]) 
     Ok(())
 }
 
-/// Puts the rules in place of those that are there, inside a transaction.
+/// Puts these rules in place of the store's, inside a transaction.
 fn replace_rules<S: Alter>(
     alloc: Global,
     conn: &mut Connection<S>,
@@ -257,7 +257,7 @@ fn replace_rules<S: Alter>(
     }
 }
 
-/// Puts the policy in place of the one that is there, inside a transaction.
+/// Puts this policy in place of the store's, inside a transaction.
 fn replace_policy<S: Alter>(
     alloc: Global,
     conn: &mut Connection<S>,

@@ -71,8 +71,8 @@ fn are_clerks(rows: &[Clerk]) -> bool
     rows.len() as u64 <= MAX_CLERKS && each_is_clerk(rows)
 }
 
-/// Whether the rows of the clerks are sound: names and credentials of their forms, and no more than
-/// 1,000.
+/// Whether the rows of the clerks are sound: 1,000 at most, and each name and credential has its
+/// form.
 pub(crate) fn are_clerks_sound<S: Alter>(
     alloc: Global,
     conn: &mut Connection<S>,
@@ -89,7 +89,7 @@ pub(crate) fn are_clerks_sound<S: Alter>(
     }
 }
 
-/// Whether the rows of the maildrops are sound: names of their form, and no more than 1,000.
+/// Whether the rows of the maildrops are sound: 1,000 at most, and each name has its form.
 pub(crate) fn are_maildrops_sound<S: Alter>(
     alloc: Global,
     conn: &mut Connection<S>,

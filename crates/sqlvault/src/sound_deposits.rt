@@ -17,10 +17,10 @@ use sqlite::{Alter, Connection, Error};
 use std::alloc::{AllocError, Global};
 use std::collections::BTreeSet;
 
-/// The greatest number of deposits of a class into a maildrop's name.
+/// The greatest number of deposits of one class under one maildrop name.
 const MAX_DEPOSITS: u64 = 1_000_000_000;
 
-/// A number that a deposit was given, behind its maildrop's name and its class.
+/// A deposit's maildrop name, its class, and its number in them.
 type Number = (Name, Name, u64);
 
 /// The number of a row; `None` where it is below 0.
@@ -75,7 +75,7 @@ fn read_count(count: &Count) -> Option<u64>
     Some(k)
 }
 
-/// Whether the first numbers of the class are all there.
+/// Whether the numbers 1 to `count` of the class are all there.
 fn has_all(numbers: &BTreeSet<Number>, maildrop: &Name, class: &Name, count: u64) -> bool
     ensures { (ns : List spec.Number) → spec.IsSetOf ns numbers.now → result ≡ spec.has_all ns maildrop.now class.now count }
 {
@@ -87,7 +87,7 @@ fn has_all(numbers: &BTreeSet<Number>, maildrop: &Name, class: &Name, count: u64
     true
 }
 
-/// Whether the row's names have their form, and the first numbers of its class are all there.
+/// Whether the row's names have their form, and its class has all the numbers 1 to `count`.
 fn has_named(numbers: &BTreeSet<Number>, row: &Count, count: u64) -> bool
     ensures { (ns : List spec.Number) → spec.IsSetOf ns numbers.now → result ≡ (is_name row.now.maildrop && is_name row.now.class && spec.has_all ns row.now.maildrop row.now.class count) }
 {
@@ -100,7 +100,7 @@ fn has_named(numbers: &BTreeSet<Number>, row: &Count, count: u64) -> bool
     has_all(numbers, &maildrop, &class, count)
 }
 
-/// The number of a count, where it is in its range and the numbers up to it are there.
+/// The number of a count; `None` where it is out of its range or a number from 1 to it is missing.
 fn filled(numbers: &BTreeSet<Number>, row: &Count) -> Option<u64>
     ensures value { (ns : List spec.Number) → spec.IsSetOf ns numbers.now → result ≡ (if spec.is_filled ns row.now then Some (spec.asked row.now) else None) }
     ensures asked { IfSome result (λ count. count ≡ spec.asked row.now) }
@@ -116,7 +116,7 @@ fn filled(numbers: &BTreeSet<Number>, row: &Count) -> Option<u64>
     }
 }
 
-/// Whether the numbers of each count are there, and so many they are in all.
+/// Whether the numbers of each count are there, and their sum is the number of deposits.
 fn are_filled(numbers: &BTreeSet<Number>, rows: &[Count], deposits: usize) -> bool
     ensures { (ns : List spec.Number) → spec.IsSetOf ns numbers.now → result ≡ (list_all (spec.is_filled ns) rows.now && sum_by spec.asked rows.now == deposits) }
 {
@@ -133,7 +133,7 @@ fn are_filled(numbers: &BTreeSet<Number>, rows: &[Count], deposits: usize) -> bo
     left == 0
 }
 
-/// Whether the rows are those of deposits, whose numbers are just those that the counts ask for.
+/// Whether each row is a deposit's, and their numbers are just those that the counts ask for.
 fn are_sound(alloc: Global, rows: &[Deposit], counts: &[Count]) -> Result<bool, AllocError>
     ensures { IfOk result (λ sound. sound ≡ spec.are_sound_rows rows.now counts.now) }
 {
@@ -143,8 +143,8 @@ fn are_sound(alloc: Global, rows: &[Deposit], counts: &[Count]) -> Result<bool, 
     }
 }
 
-/// Whether the rows of the deposits are sound: names, ids and digests of their forms, and the
-/// numbers of each class in a maildrop's name are 1 to its count, which is 1,000,000,000 at most.
+/// Whether the rows of the deposits are sound: names, ids and digests have their forms, and the
+/// numbers of each class under a maildrop's name are 1 to its count, 1,000,000,000 at most.
 pub(crate) fn are_deposits_sound<S: Alter>(
     alloc: Global,
     conn: &mut Connection<S>,

@@ -20,7 +20,7 @@ use std::alloc::Global;
 /// The greatest number of messages in a maildrop.
 const MAX_MESSAGES: usize = 10_000;
 
-/// The sheet of a message at this place, if it is there and has so many octets.
+/// The sheet of message `mail` at this place, if it is there and has `size` octets.
 fn find_piece<S: Alter>(
     alloc: Global,
     conn: &mut Connection<S>,
@@ -46,7 +46,7 @@ fn find_piece<S: Alter>(
     }
 }
 
-/// The text of a message of so many octets, if its sheets are there.
+/// The text of message `mail`, if its sheets are there and make up `octets` octets.
 fn find_text<S: Alter>(
     alloc: Global,
     conn: &mut Connection<S>,
@@ -71,14 +71,14 @@ fn find_text<S: Alter>(
     Ok(Some(text))
 }
 
-/// Whether the octets are a message in its kept form.
+/// Whether the octets are a text in its kept form, of 1 to 26,214,400 octets.
 fn is_kept(text: &[u8]) -> bool
     ensures { result ≡ is_kept_text text.now }
 {
     mailtext::is_kept(text)
 }
 
-/// Whether the number of the row is one of those that its class was given.
+/// Whether the row's number is one of 1 to the count of its class.
 fn is_numbered<S: Alter>(
     alloc: Global,
     conn: &mut Connection<S>,
@@ -104,7 +104,7 @@ fn is_numbered<S: Alter>(
     }
 }
 
-/// Whether the row is that of a message, whose sheets are there.
+/// Whether the row is that of a message whose sheets are there.
 fn is_message_sound<S: Alter>(
     alloc: Global,
     conn: &mut Connection<S>,
@@ -133,7 +133,7 @@ fn is_message_sound<S: Alter>(
     }
 }
 
-/// Whether each of these rows is that of a message, whose sheets are there.
+/// Whether each of these rows is that of a message whose sheets are there.
 fn are_all_sound<S: Alter>(
     alloc: Global,
     conn: &mut Connection<S>,
@@ -166,7 +166,8 @@ fn count_sheets(rows: &[Message]) -> u64
     sheets
 }
 
-/// How many sheets the messages of the maildrop have, if its rows are sound.
+/// How many sheets the messages of the maildrop have, 2^64 - 1 at most; `None` where its rows
+/// aren't sound.
 fn judge_maildrop<S: Alter>(
     alloc: Global,
     conn: &mut Connection<S>,
@@ -191,8 +192,8 @@ fn judge_maildrop<S: Alter>(
     }
 }
 
-/// How many sheets the messages of these maildrops have, 2^64 - 1 at most, if the rows of each are
-/// sound.
+/// How many sheets the messages of these maildrops have, 2^64 - 1 at most; `None` where the rows of
+/// one aren't sound.
 fn judge_maildrops<S: Alter>(
     alloc: Global,
     conn: &mut Connection<S>,
@@ -214,9 +215,9 @@ fn judge_maildrops<S: Alter>(
     Ok(Some(sheets))
 }
 
-/// Whether the rows of the messages are sound: each has a deposit of its class and number, and its
-/// sheets are a text in its kept form, with as many octets as the row says; no maildrop has more
-/// than 10,000; and there is no other sheet.
+/// Whether the rows of the messages and sheets are sound: each message has a deposit of its class
+/// and number, and its sheets are a text in its kept form with as many octets as the row says; no
+/// maildrop has more than 10,000 messages; and there is no other sheet.
 pub(crate) fn are_messages_sound<S: Alter>(
     alloc: Global,
     conn: &mut Connection<S>,

@@ -18,8 +18,8 @@ use std::alloc::Global;
 use std::marker::Model;
 use vault::{Deposited, Head, MessageKey, Total, Vault, VaultFault};
 
-/// A mail store over the tables of a connection. Contracts see the connection and its count of
-/// faults.
+/// A mail store over the tables of a connection. Contracts see the connection, and how many calls
+/// answered `Store`.
 #[derive(Drop)]
 pub struct SqlVault<S: Alter> {
     alloc: Global,
@@ -44,8 +44,8 @@ impl SqlVault<MemStore> {
     ghost use Rattle.vault.specs.Plain.{no_contents};
     ghost use Rattle.sqlvault.specs.Stands.{Holds};
 
-    /// A new store in memory, which holds nothing. Its tables are those of a file, and it is gone
-    /// with the process.
+    /// A new store in memory, which holds nothing. Its tables are those of a store in a file; it is
+    /// gone with the process.
     ///
     /// Answers [`VaultFault::NoMemory`] where memory was refused, and [`VaultFault::Store`] where
     /// SQLite refused a statement.
@@ -73,7 +73,7 @@ impl<S: Start> SqlVault<FileStore<FileFrom<S>>> {
     ///
     /// Answers what `adopt` answers; [`VaultFault::NotOurs`] for a file that is no database,
     /// [`VaultFault::NoMemory`] where memory was refused, and [`VaultFault::Store`] where the file
-    /// can't be opened for another cause: so of the path `:memory:`, which is no file's.
+    /// can't be opened for another cause. The path `:memory:` names no file, and gets `Store`.
     pub fn open(
         rt: &HostRuntime,
         path: &str,
@@ -102,7 +102,7 @@ fn open_fault(error: &Error) -> VaultFault
     }
 }
 
-/// Adopts a connection, and lets it go where it is refused.
+/// Adopts a connection, and drops it where it is refused.
 fn take<S: Alter + Drop>(alloc: Global, conn: Connection<S>) -> Result<SqlVault<S>, VaultFault>
     ensures adopted { IfOk result (λ vault. HasCleanDisk (state S.Store vault.conn) → HasCleanDisk (state S.Store conn) × (IsKnown (state S.Store conn) → IsAdopted (state S.Store conn) (state S.Store vault.conn))) }
     ensures stop { IfOk result (λ vault. HasCleanDisk (state S.Store vault.conn) → IsKnown (state S.Store conn) → IsTrue (state S.Store conn).is_open → LeavesEmptyToo (state S.Store conn) (state S.Store vault.conn)) }
@@ -118,7 +118,7 @@ fn take<S: Alter + Drop>(alloc: Global, conn: Connection<S>) -> Result<SqlVault<
     }
 }
 
-/// Why an opening was refused, as the vault's fault; what came with the error is let go.
+/// Why an opening was refused, as the vault's fault. Drops what came with the error.
 fn unopened<T: Drop>(refused: (Error, T)) -> VaultFault
     ensures { result ≡ open_fault refused.0 }
 {
@@ -134,20 +134,21 @@ impl<S: Alter> SqlVault<S> {
     ghost use Rattle.sqlvault.specs.Opened.{conn_of, judged_in};
     ghost use Rattle.sqlvault.specs.Stands.{WasClean};
 
-    /// Takes over a connection. A store without a table, an index or a view of our names gets our
-    /// tables and our mark, in one transaction, and holds nothing; one with our mark stays as it
-    /// is, and holds what its tables hold, which are all read once. One with the tables and the
-    /// mark of version 1 or 2 is carried over, in one transaction: its lists stay, it gets the
-    /// tables that it lacks and our mark, and it holds what it held. The table of messages of
-    /// version 1 stays, without a row.
+    /// Makes a connection a mail store.
     ///
-    /// Gives the connection back, its tables as they were, with [`VaultFault::NotOurs`] where a
+    /// - A store without a table, an index or a view of our names gets our tables and our mark, in
+    ///   one transaction, and holds nothing.
+    /// - A store with our tables and mark stays as it is. All its rows are read once.
+    /// - A store with the tables and the mark of version 1 or 2 is carried over, in one
+    ///   transaction: it gets the tables that it lacks and our mark, and holds what it held. The
+    ///   old table of messages of version 1 stays, without a row.
+    ///
+    /// Every error gives the connection back, its tables as they were. [`VaultFault::NotOurs`]: a
     /// transaction is under way, or one of our names is taken in a store without our mark, or our
     /// tables have other columns, or their rows aren't sound records with counts and octets that
-    /// agree; with [`VaultFault::OldVersion`] where our mark has another version, whatever the
-    /// other tables of the store are, but never under that of version 1 or 2 in a store that has
-    /// not all our tables; with [`VaultFault::NoMemory`] where memory was refused; and with
-    /// [`VaultFault::Store`] where SQLite refused a statement for another cause.
+    /// agree. [`VaultFault::OldVersion`]: our mark's version isn't 1, 2 or 3, whatever other tables
+    /// there are; or it is 1 or 2 in a store that has all our tables. [`VaultFault::NoMemory`]:
+    /// memory was refused. [`VaultFault::Store`]: SQLite refused a statement for another cause.
     pub fn adopt(
         alloc: Global,
         conn: Connection<S>,
@@ -176,7 +177,7 @@ impl<S: Alter> SqlVault<S> {
         }
     }
 
-    /// Gives the connection back, its tables as they are. It takes no memory.
+    /// Gives the connection back, its tables as they are. It allocates nothing.
     pub fn into_connection(self) -> Connection<S>
         ensures { result ≡ self.conn }
     {
@@ -188,7 +189,7 @@ impl<S: Alter> SqlVault<S> {
         conn
     }
 
-    /// Answers as a vault does, and counts a refusal.
+    /// The answer with its refusal as the vault's fault, which is counted where it is `Store`.
     fn told<T: Drop>(&mut self, answer: Result<T, Refusal>) -> Result<T, VaultFault>
         ensures answer { result ≡ answer_of answer }
         ensures conn { self.new.conn ≡ self.old.conn }
@@ -202,7 +203,7 @@ impl<S: Alter> SqlVault<S> {
     }
 }
 
-/// Each call over the tables of the connection.
+/// Each call of a vault, over the tables of the connection.
 impl<S: Alter> Vault for SqlVault<S> {
     ghost use Rattle.sqlvault.specs.Stands.{Holds};
     ghost use Rattle.sqlvault.specs.Stops.{MayHold, settled_at};

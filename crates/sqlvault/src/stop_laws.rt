@@ -12,10 +12,11 @@ use sqlite::{Alter, Connection};
 use std::alloc::Global;
 use vault::VaultFault;
 
-/// Adopts a connection that was just opened, and that found our tables with what a stop of the
-/// other store might leave. It then holds contents that the stop might leave: where that store's
-/// device hadn't failed, between two calls, just those that were held. There, and where the stop
-/// couldn't leave just any contents, a refusal is the want of memory or of a store that refuses.
+/// Adopts a connection that was just opened after a stop of `stopped`, and that found our tables
+/// with rows that the stop may leave. The new store holds contents that the stop may leave: where
+/// `stopped` was between two calls, with its connection open, just those that it held. In that
+/// case, and wherever the stop can't leave just any contents, the only errors are `NoMemory` and
+/// `Store`.
 pub fn adopt_again<S: Alter, T: Alter>(
     alloc: Global,
     stopped: &SqlVault<S>,

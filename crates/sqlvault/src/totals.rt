@@ -1,4 +1,4 @@
-//! The maildrops with what lies in them.
+//! The maildrops, with their messages and octets.
 ghost use Rattle.std.specs.Prelude.{◌≡◌, ◌^◌, ◌-◌, true, List, [], ◌∷◌, ◌++◌, length, map, min, sum_by, IfOk, OnOk};
 ghost use Rattle.std.specs.List.{list_all};
 ghost use Rattle.sqlite.specs.Held.{state};
@@ -22,7 +22,7 @@ use sqlite_value::value::Bytes;
 use std::alloc::Global;
 use vault::{Total, in_order};
 
-/// Reads a row behind the names.
+/// Adds the name of a row behind the others.
 fn push_name(names: &mut Vec<Name>, row: &Bytes) -> Result<(), Error>
     ensures { is_name row.now ≡ true → OnOk result (names.new.items ≡ names.old.items ++ row.now ∷ []) }
 {
@@ -72,7 +72,7 @@ fn octets_of(rows: &[Message]) -> u64
     octets
 }
 
-/// What lies in the maildrop; of the octets 2^64 - 1 at most.
+/// The number of the maildrop's messages, and the sum of their octets, 2^64 - 1 at most.
 fn total_of<S: Alter>(alloc: Global, conn: &mut Connection<S>, name: &Name) -> Result<Total, Error>
     ensures total { (c : Contents) → HasCleanDisk (state S.Store conn.new) → Holds (state S.Store conn.old) c → IfOk result (λ total. total ≡ capped_total c.messages name.now) }
     ensures held { (c : Contents) → HasCleanDisk (state S.Store conn.new) → Holds (state S.Store conn.old) c → Holds (state S.Store conn.new) c }
@@ -90,7 +90,7 @@ fn total_of<S: Alter>(alloc: Global, conn: &mut Connection<S>, name: &Name) -> R
     }
 }
 
-/// What lies in each of these maildrops; of the octets 2^64 - 1 at most.
+/// The total of each of these maildrops, in order.
 fn totals_of<S: Alter>(
     alloc: Global,
     conn: &mut Connection<S>,
@@ -110,7 +110,7 @@ fn totals_of<S: Alter>(
     Ok(totals)
 }
 
-/// Each maildrop with how many messages it has and their octets, by name.
+/// Each maildrop with the number of its messages and their octets, in order of the names.
 pub(crate) fn maildrops<S: Alter>(
     alloc: Global,
     conn: &mut Connection<S>,

@@ -12,8 +12,8 @@ use crate::refusal::is_memory;
 use mailsql::mode;
 use sqlite::{Alter, Connection, Error};
 
-/// Ends the transaction, if it is not gone, after an error. Tells that error; where it is the want
-/// of memory and the end is refused too, the refusal's.
+/// Rolls the transaction back after an error, if it is still under way. Answers that error; where
+/// it is want of memory and the rollback fails too, the rollback's error.
 pub(crate) fn undo<S: Alter>(conn: &mut Connection<S>, error: Error) -> Error
     ensures holds { (base : Contents) → HasCleanDisk (state S.Store conn.new) → Halted (state S.Store conn.old) base → Holds (state S.Store conn.new) base }
     ensures gone { (first : Held _) → HasCleanDisk (state S.Store conn.new) → IsHalted (state S.Store first) (state S.Store conn.old) → IsGone (state S.Store first) (state S.Store conn.new) }
@@ -29,14 +29,14 @@ pub(crate) fn undo<S: Alter>(conn: &mut Connection<S>, error: Error) -> Error
     }
 }
 
-/// Says that what an open connection shows, and what was committed last, list their tables.
+/// For the proof: an open connection's database, now and as last committed, lists its tables.
 pub(crate) fn tables_are_listed<S: Alter>(conn: &Connection<S>)
     ensures live { IsLive (state S.Store conn.now) }
 {
     let _schema = conn.schema();
 }
 
-/// Commits the transaction, or undoes it.
+/// Commits the transaction, or rolls it back and answers the error.
 pub(crate) fn end<S: Alter>(conn: &mut Connection<S>) -> Result<(), Error>
     ensures ended { (base after : Contents) (rows : Rows) → HasCleanDisk (state S.Store conn.new) → Within (state S.Store conn.old) base rows → Keeps rows after → Ends base after (state S.Store conn.new) result }
     ensures stop { (base after : Contents) (rows : Rows) → HasCleanDisk (state S.Store conn.new) → Within (state S.Store conn.old) base rows → Keeps rows after → Leaves (state S.Store conn.new) (λ left. Keeps left base ⊎ Keeps left after) }

@@ -30,7 +30,7 @@ pub struct Stock {
     pub policy: Policy,
 }
 
-/// What the calls answered that put the stock into the store.
+/// The answers of the calls that put the stock into the store.
 #[derive(Drop)]
 pub struct Filled {
     /// Whether the maildrop was new.
@@ -41,7 +41,7 @@ pub struct Filled {
     pub deposited: Deposited,
 }
 
-/// Puts the stock into a store that holds nothing. An error is a refusal of any call.
+/// Puts the stock into a store that holds nothing. An error is that of a call.
 fn fill<V: Vault>(vault: &mut V, stock: &Stock) -> Result<Filled, VaultFault>
     ensures answers { V.is_clean vault.new → V.holds vault.old no_contents → IfOk result (WasNew stock.now) }
     ensures held { V.is_clean vault.new → V.holds vault.old no_contents → OnOk result ((key : ℕ) × V.holds vault.new (filled key stock.now)) }
@@ -59,7 +59,7 @@ fn fill<V: Vault>(vault: &mut V, stock: &Stock) -> Result<Filled, VaultFault>
     })
 }
 
-/// What the calls answered that look at the mail.
+/// The answers of the calls that look at the mail.
 #[derive(Drop)]
 pub struct Mail {
     /// Each maildrop with its messages and octets.
@@ -72,8 +72,8 @@ pub struct Mail {
     pub octets_read: usize,
 }
 
-/// Looks at the mail, and reads the message into the front of the buffer. An error is a refusal of
-/// any call.
+/// Looks at the mail, and reads the message into the front of the buffer. An error is that of a
+/// call.
 fn look<V: Vault>(vault: &mut V, stock: &Stock, buffer: &mut [u8]) -> Result<Mail, VaultFault>
     ensures shown { (key : ℕ) → V.is_clean vault.new → V.holds vault.old (filled key stock.now) → IfOk result (ShowsMail stock.now buffer.new) }
     ensures key { (key : ℕ) → V.is_clean vault.new → V.holds vault.old (filled key stock.now) → IfOk result (λ mail. mail.key ≡ key) }
@@ -96,7 +96,7 @@ fn look<V: Vault>(vault: &mut V, stock: &Stock, buffer: &mut [u8]) -> Result<Mai
     })
 }
 
-/// What the calls answered that look up the clerk and the policy.
+/// The answers of the calls that look up the clerk and the policy.
 #[derive(Drop)]
 pub struct Kept {
     /// The clerk's credential.
@@ -105,7 +105,7 @@ pub struct Kept {
     pub policy: Policy,
 }
 
-/// Looks up the clerk's credential and the policy. An error is a refusal of any call.
+/// Looks up the clerk's credential and the policy. An error is that of a call.
 fn look_up<V: Vault>(vault: &mut V, stock: &Stock) -> Result<Kept, VaultFault>
     ensures shown { (key : ℕ) → V.is_clean vault.new → V.holds vault.old (filled key stock.now) → IfOk result (ShowsKept stock.now) }
     ensures same { (key : ℕ) → V.is_clean vault.new → V.holds vault.old (filled key stock.now) → OnOk result (V.holds vault.new (filled key stock.now)) }
@@ -118,7 +118,7 @@ fn look_up<V: Vault>(vault: &mut V, stock: &Stock) -> Result<Kept, VaultFault>
 }
 
 /// Removes the message, and drops the clerk and the maildrop. Answers the heads that were left. An
-/// error is a refusal of any call.
+/// error is that of a call.
 fn empty<V: Vault>(vault: &mut V, stock: &Stock, key: MessageKey) -> Result<Vec<Head>, VaultFault>
     ensures none { V.is_clean vault.new → V.holds vault.old (filled key stock.now) → IfOk result (λ left. left.items ≡ []) }
     ensures held { V.is_clean vault.new → V.holds vault.old (filled key stock.now) → OnOk result (V.holds vault.new (emptied stock.now)) }
@@ -135,18 +135,18 @@ fn empty<V: Vault>(vault: &mut V, stock: &Stock, key: MessageKey) -> Result<Vec<
 /// What `sample` saw.
 #[derive(Drop)]
 pub struct Seen {
-    /// As the stock was put.
+    /// The answers as the stock was put.
     pub filled: Filled,
-    /// Of its message.
+    /// What was read of the mail.
     pub mail: Mail,
-    /// Of its clerk and policy.
+    /// The clerk's credential and the policy.
     pub kept: Kept,
-    /// The heads of its maildrop when the message was removed.
+    /// The heads of the maildrop after the message was removed.
     pub left: Vec<Head>,
 }
 
 /// Puts the stock into a store that holds nothing, looks at all of it, and takes it out again. An
-/// error is a refusal of any call.
+/// error is that of a call.
 fn go_through<V: Vault>(vault: &mut V, stock: &Stock, buffer: &mut [u8]) -> Result<Seen, VaultFault>
     ensures saw { V.is_clean vault.new → V.holds vault.old no_contents → IfOk result (Saw stock.now buffer.new) }
     ensures left { V.is_clean vault.new → V.holds vault.old no_contents → OnOk result (V.holds vault.new (emptied stock.now)) }
@@ -165,8 +165,8 @@ fn go_through<V: Vault>(vault: &mut V, stock: &Stock, buffer: &mut [u8]) -> Resu
     })
 }
 
-/// Puts the stock into a new store in memory, looks at all of it, and takes it out again, by each
-/// call of the store. An error is want of memory, or that the store refused a statement.
+/// Puts the stock into a new store in memory, looks at all of it, and takes it out again, using
+/// every call of a vault. An error is want of memory, or that the store refused a statement.
 pub fn sample(alloc: Global, stock: &Stock, buffer: &mut [u8]) -> Result<Seen, VaultFault>
     ensures saw { IfOk result (Saw stock.now buffer.new) }
     ensures cause { IfErr result IsOfAnyCall }

@@ -2,7 +2,7 @@
 
 use std::alloc::{AllocError, Global};
 
-/// The tables that both older versions have in front of that of the messages.
+/// The tables that both older versions make before that of the messages.
 static FRONT: &str = "CREATE TABLE meta (name TEXT PRIMARY KEY, value INTEGER NOT NULL) STRICT;
 CREATE TABLE clerks (name TEXT PRIMARY KEY, kind INTEGER NOT NULL, secret BLOB NOT NULL) STRICT;
 CREATE TABLE maildrops (name TEXT PRIMARY KEY) STRICT;
@@ -63,7 +63,7 @@ INSERT INTO rules (name, effect, clerk, maildrop, class, actions) VALUES
     ('eve-any', 1, 'eve', '*', '*', 1), ('mrose-open', 1, 'mrose', '*', '*', 1);
 ";
 
-/// Its messages, but the fourth, in version 1.
+/// The sample store's first three messages, in version 1.
 static FIRST_ROWS: &str = "INSERT INTO messages (key, maildrop, class, k, octets, body) VALUES
     (1, 'orders', 'note', 1, 21, x'5375626a6563743a20610d0a0d0a68690d0a2e0d0a'),
     (2, 'orders', 'pay', 1, 19, x'5375626a6563743a207061790d0a0d0a780d0a'),
@@ -71,7 +71,7 @@ static FIRST_ROWS: &str = "INSERT INTO messages (key, maildrop, class, k, octets
 INSERT INTO meta (name, value) VALUES ('popbox', 1);
 ";
 
-/// The same in version 2.
+/// The sample store's first three messages, in version 2.
 static SECOND_ROWS: &str = "INSERT INTO mail (key, maildrop, class, k, octets) VALUES
     (1, 'orders', 'note', 1, 21), (2, 'orders', 'pay', 1, 19), (3, 'orders', 'note', 2, 15);
 INSERT INTO sheets (mail, place, octets) VALUES

@@ -1,4 +1,4 @@
-//! A store that isn't adopted, since a transaction is under way, and conversations that are broken
+//! A store that isn't adopted because a transaction is under way, and conversations that are broken
 //! off.
 
 use converse::fault_text;
@@ -42,7 +42,8 @@ fn is_broken_off<W: Write>(alloc: Global, writer: &mut W, err: &mut Vec<u8>) -> 
     status == 1
 }
 
-/// Whether the first refusal is told, of the reader, or of the writer, which is asked before it.
+/// Whether the fault of a reader that refuses is told, and that of a writer that refuses too, which
+/// is asked before the reader.
 fn are_broken_off(alloc: Global) -> bool {
     let mut out = Vec::new(alloc);
     let mut err = Vec::new(alloc);

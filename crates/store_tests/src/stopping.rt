@@ -1,5 +1,5 @@
-//! A file of a store fails from some call on, in an event or in an opening, and the store is opened
-//! again from what is left in its files.
+//! Stops a store: one of its files fails from some call on, in an event or in an opening. The store
+//! is then opened again from what is left in its files.
 use converse::replay::replay;
 use session::Removals;
 use sqlite::{Connection, FileStore, Files, Options};
@@ -20,13 +20,13 @@ pub struct Act {
     pub after: &'static str,
 }
 
-/// What is done to a store, and what it is asked when it is opened again.
+/// What is done to a store, and what it must hold when it is opened again.
 #[derive(Clone, Copy)]
 pub struct Row<'a> {
     /// The store's files before it.
     pub begun: Held<'a>,
     pub acts: &'static [Act],
-    /// A look: a script that lists what is held, and gives a deposit again.
+    /// A look: a script that lists what the store holds, and makes a deposit again.
     pub look: &'static str,
     /// What a look prints before the first act.
     pub before: &'static str,
@@ -45,8 +45,8 @@ pub const NOTHING_HELD: Held<'static> = Held { log: &[], db: &[] };
 /// A file that fails from some call on.
 pub type Stopping = Fuse<Memory>;
 
-/// What is printed, up to the first event that is answered `failed` or `no memory`. That line is
-/// refused, so that replay does no event behind it.
+/// What replay prints, up to the first event that is answered `failed` or `no memory`. This writer
+/// refuses that line, so that replay ends there.
 #[derive(Drop)]
 struct Told {
     text: Vec<u8>,
@@ -70,8 +70,8 @@ fn is_stop(octets: &[u8]) -> bool {
     octets == b"failed\n".as_slice() || octets == b"no memory\n".as_slice()
 }
 
-/// Opens the store in two files, or gives these back. Its log is copied into the database file
-/// behind eight pages; it keeps 32 pages, since making room for more takes time.
+/// Opens the store in two files, or gives the files back. Its log is copied into the database file
+/// once it has eight pages. The cache has only 32 pages, since making a larger one takes time.
 fn adopted<D: Disk + Drop>(
     alloc: Global,
     files: Files<D>,
@@ -90,7 +90,7 @@ fn adopted<D: Disk + Drop>(
     }
 }
 
-/// Takes a connection's store as ours, or gives its files back.
+/// Adopts a connection, or gives its files back.
 fn taken<D: Disk + Drop>(
     alloc: Global,
     conn: Connection<FileStore<D>>,
@@ -116,8 +116,8 @@ fn played<V: Vault>(alloc: Global, vault: V, script: &str, told: &mut Told) -> V
     vault
 }
 
-/// Opens the store in two files, and plays a script over it, up to a stop. Whether it was opened,
-/// and the files.
+/// Opens the store in two files, and plays a script over it, up to a stop. Answers whether it was
+/// opened, and the files.
 fn ran<D: Disk + Drop>(
     alloc: Global,
     files: Files<D>,
@@ -130,8 +130,8 @@ fn ran<D: Disk + Drop>(
     }
 }
 
-/// Runs statements over a store, and gives its files as they then are; as an error where they
-/// weren't run.
+/// Runs statements over a store, and gives its files as they then are: as an error where a
+/// statement failed.
 fn filled<D: Disk + Drop>(conn: Connection<FileStore<D>>, sql: &str) -> Result<Files<D>, Files<D>> {
     let mut conn = conn;
     let is_filled = conn.execute_batch(sql).is_ok();
@@ -139,7 +139,7 @@ fn filled<D: Disk + Drop>(conn: Connection<FileStore<D>>, sql: &str) -> Result<F
     if is_filled { Ok(files) } else { Err(files) }
 }
 
-/// Makes a store of these statements in two files, or gives these back.
+/// Makes a store by these statements in two files, or gives the files back.
 fn made<D: Disk + Drop>(alloc: Global, files: Files<D>, sql: &str) -> Result<Files<D>, Files<D>> {
     if !files.may_be_used() {
         return Err(files);
@@ -150,7 +150,7 @@ fn made<D: Disk + Drop>(alloc: Global, files: Files<D>, sql: &str) -> Result<Fil
     }
 }
 
-/// A file with these octets, which fails after so many calls.
+/// A file with these octets, which fails after `calls` calls.
 fn file_of(alloc: Global, octets: &[u8], calls: u64) -> Result<Stopping, Fail> {
     let mut file = Memory::new(alloc);
     file.write_at(0, octets)?;
@@ -197,7 +197,7 @@ pub fn made_by(alloc: Global, sql: &str) -> Result<Files<Stopping>, Fail> {
     }
 }
 
-/// The files of a new store over which a script was played, of which this is to be printed.
+/// The files of a new store after a script was played over it. Fails unless it prints this.
 pub fn left_after(alloc: Global, script: &str, want: &str) -> Result<Files<Stopping>, Fail> {
     let files = files_with(alloc, NOTHING_HELD, NEVER)?;
     let mut told = Told {
@@ -208,7 +208,7 @@ pub fn left_after(alloc: Global, script: &str, want: &str) -> Result<Files<Stopp
     Ok(files)
 }
 
-/// Fails unless the store in the files is opened, and a look prints one of these.
+/// Opens the store in the files. Fails unless it opens, and a look prints one of these two.
 fn expect_held(
     alloc: Global,
     held: Held<'_>,
@@ -253,7 +253,7 @@ fn is_stopped(files: &mut Files<Stopping>, stop: Stop) -> bool {
     }
 }
 
-/// Opens the store and plays a script, up to a stop. How it ended, and the files.
+/// Opens the store and plays a script, up to a stop. Answers how that ended, and the files.
 fn run_to(
     alloc: Global,
     row: &Row<'_>,
@@ -275,7 +275,8 @@ fn run_to(
     Ok((end, files))
 }
 
-/// How many acts were told whole. Fails where something else was told of the one behind them.
+/// How many acts were answered, by what was printed. Fails where what was printed after them isn't
+/// a beginning of the next act's answer.
 fn acts_told(acts: &[Act], told: &[u8]) -> Result<usize, Fail> {
     let mut rest = told;
     let mut done = 0usize;
@@ -290,7 +291,7 @@ fn acts_told(acts: &[Act], told: &[u8]) -> Result<usize, Fail> {
     Ok(done)
 }
 
-/// Fails unless a text is the beginning of what is told of an act.
+/// Fails unless a text is a beginning of what is printed of an act.
 fn expect_begun(act: Option<&Act>, told: &[u8]) -> Result<(), Fail> {
     let (line, want) = match act {
         Some(act) => (act.line, act.told),
@@ -303,7 +304,7 @@ fn expect_begun(act: Option<&Act>, told: &[u8]) -> Result<(), Fail> {
     }
 }
 
-/// What a look prints after so many acts.
+/// What a look prints after `done` acts.
 fn look_after(row: &Row<'_>, done: usize) -> &'static str {
     match done.checked_sub(1) {
         Some(last) => match row.acts.get(last) {
@@ -314,8 +315,8 @@ fn look_after(row: &Row<'_>, done: usize) -> &'static str {
     }
 }
 
-/// What a look may print after a run: that of the acts that were answered, or where it was opened
-/// also that of the next.
+/// The two things that a look may print after a run: that of the acts that were answered and, where
+/// the store was opened, that of the next act too.
 fn looks_of(row: &Row<'_>, end: End) -> (&'static str, &'static str) {
     let without = look_after(row, end.done);
     if !end.is_open {
@@ -327,8 +328,8 @@ fn looks_of(row: &Row<'_>, end: End) -> (&'static str, &'static str) {
     }
 }
 
-/// Fails unless what a run left in the files is as it should be, without the loss of anything, and
-/// then without all that wasn't synced.
+/// Fails unless a look prints what it may over what a run left in the files: once with nothing
+/// lost, and once without all that wasn't synced.
 fn expect_ended(
     alloc: Global,
     row: &Row<'_>,
@@ -343,7 +344,7 @@ fn expect_ended(
     expect_anew(alloc, row, end, held_in(&files), seen)
 }
 
-/// Fails unless a look prints what it may over what a run left, where that wasn't seen before.
+/// Fails unless a look prints what it may over what a run left. Passes over what was seen before.
 fn expect_anew(
     alloc: Global,
     row: &Row<'_>,
@@ -385,7 +386,7 @@ pub struct Count {
 }
 
 impl Count {
-    /// With one run more.
+    /// Counts one run more.
     fn with(self, row: &Row<'_>, end: End) -> Count {
         if !end.is_open {
             return Count {
@@ -402,8 +403,8 @@ impl Count {
     }
 }
 
-/// A file fails from this call on, then from the next one, until a run meets no stop: in that one
-/// each act is answered.
+/// Has a file fail from this call on, in the next run from the call after it, and so on until a run
+/// meets no stop. That run must answer each act.
 fn counted(alloc: Global, row: &Row<'_>, first: Stop) -> Result<Count, Fail> {
     let script = script_of(alloc, row.acts)?;
     let mut seen = Vec::new(alloc);
@@ -446,21 +447,21 @@ pub fn changes(row: &Row<'_>) -> u64 {
     count
 }
 
-/// Stops in the opening of the store, and in the acts: after each number of calls of a file.
+/// Stops a run after each number of calls of a file, in the store's opening and in the acts.
 pub fn stops_from_opening(alloc: Global, row: &Row<'_>, is_log: bool) -> Result<Count, Fail> {
     counted(alloc, row, Stop { is_log, calls: 0 })
 }
 
-/// Stops in the acts: after each number of calls of a file from the store's opening on.
+/// Stops a run after each number of calls of a file, in the acts alone.
 pub fn stops_in_acts(alloc: Global, row: &Row<'_>, is_log: bool) -> Result<Count, Fail> {
     let calls = opening_calls(alloc, row, is_log)?;
     counted(alloc, row, Stop { is_log, calls })
 }
 
-/// How many calls an opening takes at most.
+/// The most calls of a file that an opening may take.
 const MOST_CALLS: u64 = 4096;
 
-/// After how many calls of a file an office over the store is open.
+/// How many calls of a file it takes to open the store and an office over it.
 fn opening_calls(alloc: Global, row: &Row<'_>, is_log: bool) -> Result<u64, Fail> {
     let stop = Stop {
         is_log,
@@ -472,7 +473,7 @@ fn opening_calls(alloc: Global, row: &Row<'_>, is_log: bool) -> Result<u64, Fail
     } else {
         calls_left(&mut files.db)
     };
-    // One call was spent on whether it failed.
+    // `is_stopped` spent one call.
     Ok(MOST_CALLS.saturating_sub(left).saturating_sub(1))
 }
 

@@ -1,6 +1,6 @@
-//! Stops: a file of a store fails from each of its calls on in turn, and the store is opened again
-//! over what is left: once with nothing lost, as after a kill, and once without all that wasn't
-//! synced, as after a lost power.
+//! Stops: a file of a store fails from each of its calls on, in turn. The store is then opened
+//! again over what is left: once with nothing lost, as after a kill, and once without all that
+//! wasn't synced, as after a loss of power.
 use crate::stopping::{
     Act, NOTHING_HELD, Row, changes, held_in, left_after, stops_from_opening, stops_in_acts,
 };
@@ -9,35 +9,35 @@ use std::test::Fail;
 use transcripts::playing::parts_of;
 use transcripts::sessions::SAMPLE;
 
-/// What is asked of a store that is opened again, and the deposit given again.
+/// Asks a store that is opened again what it holds, and makes the deposit again.
 const LOOK: &str = "maildrops
 list orders
 deposit orders note d1 hi
 list orders
 ";
 
-/// With no maildrop.
+/// What `LOOK` prints with no maildrop.
 const NOTHING: &str = "answer
 answer no such maildrop
 answer no such maildrop
 answer no such maildrop
 ";
 
-/// With an empty maildrop.
+/// What `LOOK` prints with an empty maildrop.
 const NO_MESSAGE: &str = "answer orders 0 0
 answer
 answer new note.1
 answer note.1 4
 ";
 
-/// With the message.
+/// What `LOOK` prints with the message.
 const MESSAGE: &str = "answer orders 1 4
 answer note.1 4
 answer known note.1
 answer note.1 4
 ";
 
-/// A maildrop and a deposit, behind an event that asks no store.
+/// A maildrop and a deposit, behind an event that doesn't call the store.
 static DEPOSIT: [Act; 3] = [
     Act {
         line: "sessions",
@@ -56,7 +56,7 @@ static DEPOSIT: [Act; 3] = [
     },
 ];
 
-/// The same as a transcript.
+/// The maildrop and the deposit, as a transcript.
 static DEPOSITED: &str = "> maildrop add orders
 answer added
 > deposit orders note d1 hi
@@ -68,7 +68,7 @@ static MAILDROP: &str = "> maildrop add orders
 answer added
 ";
 
-/// A maildrop is dropped, and added again, behind an event that asks no store.
+/// A maildrop is dropped, and added again, behind an event that doesn't call the store.
 static DROP: [Act; 3] = [
     Act {
         line: "sessions",
@@ -87,14 +87,14 @@ static DROP: [Act; 3] = [
     },
 ];
 
-/// What is asked after the lines of a client that doesn't wait, and their deposit.
+/// Asks what is held after a pipelined session, and makes its deposit again.
 const PIPELINED_LOOK: &str = r"maildrops
 list orders
 deposit orders note d5 x\n
 list orders
 ";
 
-/// The sample store.
+/// What `PIPELINED_LOOK` prints with the sample store.
 const PIPELINED_BEFORE: &str = "answer orders 4 80
 answer note.1 21
 answer pay.1 19
@@ -108,7 +108,7 @@ answer todo.1 25
 answer note.3 3
 ";
 
-/// With the deposit.
+/// What `PIPELINED_LOOK` prints with the deposit.
 const PIPELINED_ARRIVED: &str = "answer orders 5 83
 answer note.1 21
 answer pay.1 19
@@ -123,7 +123,7 @@ answer todo.1 25
 answer note.3 3
 ";
 
-/// Without the message that was removed.
+/// What `PIPELINED_LOOK` prints without the message that was removed.
 const PIPELINED_REMOVED: &str = "answer orders 4 62
 answer pay.1 19
 answer note.2 15
@@ -136,7 +136,7 @@ answer todo.1 25
 answer note.3 3
 ";
 
-/// Ann says three lines at once, and takes seven octets at a time; a deposit comes meanwhile.
+/// Ann sends three lines at once, and takes seven octets at a time; a deposit comes meanwhile.
 static PIPELINED: [Act; 20] = [
     Act {
         line: "connect",
@@ -261,14 +261,14 @@ ended 1
     },
 ];
 
-/// What is asked after a restart, and the deposit that comes behind it.
+/// Asks what is held after a restart, and makes the deposit that comes behind it again.
 const RESTARTED_LOOK: &str = r"maildrops
 list orders
 deposit orders todo d6 A: 2\n
 list orders
 ";
 
-/// The sample store.
+/// What `RESTARTED_LOOK` prints with the sample store.
 const RESTARTED_BEFORE: &str = "answer orders 4 80
 answer note.1 21
 answer pay.1 19
@@ -282,7 +282,7 @@ answer todo.1 25
 answer todo.2 6
 ";
 
-/// Without the message that was removed.
+/// What `RESTARTED_LOOK` prints without the message that was removed.
 const RESTARTED_REMOVED: &str = "answer orders 3 55
 answer note.1 21
 answer pay.1 19
@@ -294,7 +294,7 @@ answer note.2 15
 answer todo.2 6
 ";
 
-/// With the deposit behind the restart.
+/// What `RESTARTED_LOOK` prints with the deposit behind the restart.
 const RESTARTED_ARRIVED: &str = "answer orders 4 61
 answer note.1 21
 answer pay.1 19
@@ -409,7 +409,7 @@ done
     },
 ];
 
-/// What is asked of a clerk and of a policy's two rules, and a deposit.
+/// Asks for a clerk and for what a policy's two rules decide, and makes a deposit.
 const CLERK_LOOK: &str = "clerk show ann
 explain ann orders note open
 explain bob orders note open
@@ -417,7 +417,7 @@ deposit orders note d1 hi
 list orders
 ";
 
-/// With no clerk and no rule.
+/// What `CLERK_LOOK` prints with no clerk and no rule.
 const NO_CLERK: &str = "answer no such clerk
 answer deny by rule default
 answer deny by rule default
@@ -425,7 +425,7 @@ answer new note.1
 answer note.1 4
 ";
 
-/// With a clerk's password.
+/// What `CLERK_LOOK` prints with the clerk's password.
 const CLERK_ADDED: &str = "answer pass
 answer deny by rule default
 answer deny by rule default
@@ -433,7 +433,7 @@ answer new note.1
 answer note.1 4
 ";
 
-/// With the clerk's secret for APOP.
+/// What `CLERK_LOOK` prints with the clerk's secret for APOP.
 const CLERK_REPLACED: &str = "answer apop
 answer deny by rule default
 answer deny by rule default
@@ -441,7 +441,7 @@ answer new note.1
 answer note.1 4
 ";
 
-/// With two rules.
+/// What `CLERK_LOOK` prints with the two rules.
 const RULED: &str = "answer apop
 answer allow by rule ann-all
 answer allow by rule bob-open
@@ -449,7 +449,7 @@ answer new note.1
 answer note.1 4
 ";
 
-/// Without the clerk.
+/// What `CLERK_LOOK` prints with the rules, after the clerk was dropped.
 const CLERK_DROPPED: &str = "answer no such clerk
 answer allow by rule ann-all
 answer allow by rule bob-open
@@ -457,7 +457,7 @@ answer new note.1
 answer note.1 4
 ";
 
-/// A clerk and a policy, behind an event that asks no store.
+/// A clerk and a policy, behind an event that doesn't call the store.
 static CLERK: [Act; 5] = [
     Act {
         line: "sessions",
@@ -486,7 +486,7 @@ static CLERK: [Act; 5] = [
     },
 ];
 
-/// Stops of both files in these acts over the store after a transcript.
+/// Stops both files in turn in these acts, over the store that a transcript leaves.
 fn expect_stops(
     alloc: Global,
     transcript: &str,
@@ -506,7 +506,7 @@ fn expect_stops(
     expect_stopped_acts(alloc, &row)
 }
 
-/// Stops of both files in a row's acts. Fails unless those of the log are as many as the acts that
+/// Stops both files in turn in a row's acts. Fails unless the log stopped at least as many acts as
 /// change what is held.
 fn expect_stopped_acts(alloc: Global, row: &Row<'_>) -> Result<(), Fail> {
     let of_log = stops_in_acts(alloc, row, true)?;
@@ -517,7 +517,7 @@ fn expect_stopped_acts(alloc: Global, row: &Row<'_>) -> Result<(), Fail> {
     Ok(())
 }
 
-/// Stops of both files in the opening of a store.
+/// Stops both files in turn in the opening of a store.
 fn expect_stopped_openings(alloc: Global, row: &Row<'_>) -> Result<(), Fail> {
     let of_log = stops_from_opening(alloc, row, true)?;
     let of_db = stops_from_opening(alloc, row, false)?;
@@ -527,7 +527,7 @@ fn expect_stopped_openings(alloc: Global, row: &Row<'_>) -> Result<(), Fail> {
     Ok(())
 }
 
-/// A deposit into a new store.
+/// Stops in a deposit into a new store.
 #[test]
 fn stops_in_a_new_store(rt: HostRuntime) -> Result<(), Fail> {
     let row = Row {
@@ -539,7 +539,7 @@ fn stops_in_a_new_store(rt: HostRuntime) -> Result<(), Fail> {
     expect_stopped_acts(rt.alloc(), &row)
 }
 
-/// Of a new store.
+/// Stops in the opening of a new store.
 #[test]
 fn stops_in_a_first_opening(rt: HostRuntime) -> Result<(), Fail> {
     let row = Row {
@@ -551,7 +551,7 @@ fn stops_in_a_first_opening(rt: HostRuntime) -> Result<(), Fail> {
     expect_stopped_openings(rt.alloc(), &row)
 }
 
-/// Of a store of which some is in the log alone.
+/// Stops in the opening of a store with records that are still only in the log.
 #[test]
 fn stops_in_an_opening(rt: HostRuntime) -> Result<(), Fail> {
     let alloc = rt.alloc();

@@ -1,11 +1,12 @@
-//! Stops as an older store is carried over: it is the old one or the new one, with the same lists.
+//! Stops as an older store is carried over: they leave the old store or the new one, and either has
+//! the same contents.
 use crate::older_stores::{first_text, second_text};
 use crate::stopping::{Row, held_in, made_by, stops_from_opening};
 use std::alloc::Global;
 use std::test::Fail;
 
-/// What is asked of the store when it is opened again, with a deposit that it knows and one that it
-/// doesn't.
+/// Asks the store that is opened again what it holds, and makes a deposit that it knows and one
+/// that it doesn't.
 const LOOK: &str = r"maildrops
 list orders
 clerk show mrose
@@ -15,7 +16,7 @@ deposit orders todo d6 A: 2\n
 list orders
 ";
 
-/// The sample store, without its fourth message.
+/// What `LOOK` prints with the sample store, without its fourth message.
 const HELD: &str = "answer orders 3 55
 answer note.1 21
 answer pay.1 19
@@ -30,7 +31,7 @@ answer note.2 15
 answer todo.2 6
 ";
 
-/// Stops of both files as the store that these statements make is opened.
+/// Stops both files in turn as the store that these statements make is opened.
 fn expect_stopped_carrying(alloc: Global, sql: &str) -> Result<(), Fail> {
     let files = made_by(alloc, sql)?;
     let row = Row {

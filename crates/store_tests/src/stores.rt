@@ -1,5 +1,5 @@
-//! What no clause says: that the calls succeed where there is memory, and the sample store's
-//! deposits, counts and pages.
+//! What no clause says: that the calls of a vault succeed where there is memory, and the sample
+//! store's deposits, counts and pages.
 use creds::{Credential, DepositId, Name, Secret};
 use mailtext::canon;
 use policy::Policy;
@@ -28,9 +28,9 @@ class = "*"
 actions = ["open", "read", "remove"]
 "#;
 
-/// A call of a vault. Deposits, of a class, an id and a text, go into the maildrop `orders`; a
-/// message is read by its key, eight octets behind so many, and removed by it from the maildrop
-/// that is named; the policy that is set is the one above.
+/// A call of a vault. `Deposit` has a class, an id and a text, and goes into the maildrop `orders`.
+/// `Page` has a message's key and the place from which eight octets are read. `Remove` has the
+/// maildrop and a message's key. `SetPolicy` sets the policy above.
 #[derive(Clone, Copy)]
 enum Call {
     Add(&'static str),
@@ -136,7 +136,7 @@ fn deposit<V: Vault>(
     Ok(vault.deposit(&orders, &class, &id, &text))
 }
 
-/// Stores a clerk by a secret.
+/// Stores a clerk with a secret for APOP.
 fn put<V: Vault>(vault: &mut V, clerk: &str, text: &str) -> Result<Result<bool, VaultFault>, Fail> {
     let secret = Secret::read(text.as_bytes()).ok_or("a secret")?;
     Ok(vault.put_clerk(&name(clerk)?, &Credential::Apop(secret)))
@@ -205,7 +205,7 @@ fn said_of_totals(alloc: Global, answer: Result<Vec<Total>, VaultFault>) -> Resu
     }
 }
 
-/// What is kept of a clerk: the secret `s3 cret`, the digest of sevens, or nothing.
+/// In a word what is kept of a clerk: the secret `s3 cret`, the digest of sevens, or nothing.
 fn word_of_credential(
     answer: &Result<Option<Credential>, VaultFault>,
 ) -> Result<&'static str, Fail> {
@@ -252,7 +252,7 @@ fn said_of_page<V: Vault>(
     }
 }
 
-/// Makes the call, and tells in words what it is answered.
+/// Makes the call, and answers its answer in words.
 fn said<V: Vault>(alloc: Global, vault: &mut V, call: Call) -> Result<String, Fail> {
     match call {
         Call::Add(maildrop) => said_of_put(alloc, vault.add_maildrop(&name(maildrop)?)),
@@ -271,7 +271,7 @@ fn said<V: Vault>(alloc: Global, vault: &mut V, call: Call) -> Result<String, Fa
     }
 }
 
-/// The same of clerks and of the policy.
+/// Does so for the calls about clerks and the policy.
 fn said_of_office<V: Vault>(alloc: Global, vault: &mut V, call: Call) -> Result<String, Fail> {
     match call {
         Call::Put(clerk, text) => said_of_put(alloc, put(vault, clerk, text)?),
@@ -289,8 +289,7 @@ fn said_of_office<V: Vault>(alloc: Global, vault: &mut V, call: Call) -> Result<
     }
 }
 
-/// Makes the calls one after the other, and fails with what one is answered, unless it is what is
-/// wanted.
+/// Makes the calls one after the other. Fails with the first answer that isn't the one wanted.
 fn tells<V: Vault>(alloc: Global, vault: &mut V, calls: &[(Call, &str)]) -> Result<(), Fail> {
     for (call, answer) in calls {
         expect(said(alloc, vault, *call)?, *answer)?;
@@ -313,8 +312,8 @@ fn story_of_a_store_over_tables(rt: HostRuntime) -> Result<(), Fail> {
 /// The sample store's first deposit.
 const FIRST: Call = Call::Deposit("note", "d1", "Subject: a\n\nhi\n.\n");
 
-/// Makes the sample store's first deposit, and makes it again where memory for it is refused, which
-/// leaves nothing of it.
+/// Makes the sample store's first deposit. Where memory for it is refused, nothing of it may be
+/// left, and it is made again.
 fn is_deposited<V: Vault>(alloc: Global, vault: &mut V) -> Result<(), Fail> {
     let first = said(alloc, vault, FIRST)?;
     if first.as_str() != "out of memory" {
@@ -327,7 +326,7 @@ fn is_deposited<V: Vault>(alloc: Global, vault: &mut V) -> Result<(), Fail> {
     )
 }
 
-/// The pages of its kept text, and those behind its end and of no message.
+/// The pages of its kept text, one behind its end, and one of no message.
 static PAGES: [(Call, &str); 5] = [
     (Call::Page(1, 0), "Subject:"),
     (Call::Page(1, 8), " a\r\n\r\nhi"),
@@ -336,7 +335,7 @@ static PAGES: [(Call, &str); 5] = [
     (Call::Page(u64::MAX, 0), ""),
 ];
 
-/// Also where one of the growths that the deposit asks for is refused.
+/// This passes too where one of the deposit's growths of memory is refused.
 #[test]
 fn pages_join_to_the_kept_text(rt: HostRuntime) -> Result<(), Fail> {
     let mut vault = PlainVault::new(rt.alloc());
@@ -345,7 +344,7 @@ fn pages_join_to_the_kept_text(rt: HostRuntime) -> Result<(), Fail> {
     tells(rt.alloc(), &mut vault, PAGES.as_slice())
 }
 
-/// Behind a thousand maildrops and clerks another is refused, and the last are still known.
+/// After a thousand maildrops and clerks one more of each is refused, and the last are still known.
 static FULL: &str = "> maildrop add n1000
 answer full
 > clerk apop n1000 s3 cret
@@ -370,7 +369,7 @@ fn maildrops_and_clerks_up_to_a_thousand(rt: HostRuntime) -> Result<(), Fail> {
     plays_over_vectors(rt.alloc(), text.as_str())
 }
 
-/// A call of each kind, the first, the second and so on, with their answers.
+/// One call of each kind, with its answer.
 static EACH: [(Call, &str); 12] = [
     (Call::Add("orders"), "new"),
     (FIRST, "new note.1"),
@@ -386,8 +385,8 @@ static EACH: [(Call, &str); 12] = [
     (Call::Policy, POLICY),
 ];
 
-/// Makes the calls over a store that refuses the one of this number, and that one again: fails
-/// unless each is answered so. Gives how many were refused.
+/// Makes the calls over a store that refuses call `n`, and makes that one again. Fails unless each
+/// is answered as it should be. Answers how many were refused.
 fn refusals(alloc: Global, n: u64) -> Result<u64, Fail> {
     let mut vault = Refusing::new(PlainVault::new(alloc), n);
     let mut to_come = n;

@@ -1,6 +1,6 @@
 //! Transcripts of deposits and administration.
 
-/// Deposits, and how the maildrop grows by them.
+/// Deposits, and the maildrop's totals and scan listing between them.
 pub const DEPOSITS: &str = r"> maildrops
 answer
 > maildrop add orders
@@ -36,7 +36,7 @@ answer note.2 5
 answer orders 2 26
 ";
 
-/// A maildrop that was dropped begins anew.
+/// A maildrop is dropped and added again: it is empty.
 pub const DROPPED: &str = r"> maildrop add orders
 answer added
 > maildrop add billing
@@ -148,7 +148,8 @@ answer added
 answer 1 rules
 "#;
 
-/// The digits of the RFC in lower case, behind another clerk's and digits of one more.
+/// APOP with the RFC's digest in lower case: refused for another clerk; refused with the last digit
+/// changed; accepted.
 pub const LOWER_CASE: &str = r"> connect
 opened 1896
 > drain 1896
@@ -177,7 +178,7 @@ done
 ended 1896
 ";
 
-/// The same digits in upper case.
+/// APOP with the same digest in upper case is accepted.
 pub const UPPER_CASE: &str = r"> connect
 opened 1896
 > drain 1896

@@ -1,6 +1,6 @@
 //! Transcripts of connections that end, wait and come back.
 
-/// Ann marks a message, and is gone: bob is let in, and sees that message.
+/// Ann marks a message, and her connection breaks: bob is let in, and sees that message.
 pub const GONE: &str = r"> connect
 opened 1
 > connect
@@ -31,7 +31,7 @@ sent 2 +OK send PASS\r\n+OK maildrop has 3 messages (61 octets)\r\n
 done
 ";
 
-/// Ann marks a message, and is idle for 600 seconds: the same.
+/// Ann marks a message, and is idle for 600 seconds: bob is let in, and sees that message.
 pub const IDLE: &str = r"> tick 1000
 done
 > connect
@@ -100,7 +100,8 @@ answer note.2 15
 answer todo.2 6
 ";
 
-/// A session is ended from outside, and with it its connection; one that has said QUIT is none.
+/// The administration ends a session, and with it its connection. A session that has said QUIT is
+/// not listed any more.
 pub const SESSIONS: &str = r"> sessions
 answer
 > maildrop add sales

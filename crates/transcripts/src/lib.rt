@@ -1,5 +1,5 @@
-//! Transcripts of the worked rows, and what plays them: for the tests of the office, of the store and
-//! of serving.
+//! Transcripts of the worked rows, and what plays them, for the tests of the office, of the store
+//! and of serving.
 #![tactic(auto)]
 
 pub mod administration;

@@ -38,7 +38,8 @@ S: -ERR login failed, closing
 ended 1
 ";
 
-/// Lines before a login, and the name that each leaves in force shown by the next.
+/// Lines before a login. The PASS behind each shows whether the name of the last USER is still in
+/// force.
 pub const NAMES_IN_FORCE: &str = r"> connect
 opened 1
 > drain 1

@@ -6,12 +6,12 @@ use std::alloc::Global;
 use std::test::Fail;
 use vault::Vault;
 
-/// What asks for all that the offices of these tests keep: the messages, the clerks, the policy and
-/// the sessions.
+/// The commands that list all that the offices of these tests keep: the messages, the clerks, the
+/// policy and the sessions.
 pub static LOOK: &str = "maildrops\nlist orders\nlist sales\nclerk show ann\nclerk show bob\n\
     clerk show cat\nclerk show dan\nclerk show eve\nclerk show mrose\npolicy\nsessions\n";
 
-/// What an office keeps. Fails where memory for this text is refused.
+/// What an office answers to `LOOK`, as one text. Fails where memory for the text is refused.
 pub fn look<V: Vault>(alloc: Global, office: &mut Office<V>) -> Result<Vec<u8>, Fail> {
     let mut told = Vec::new(alloc);
     let lines = read_script(alloc, LOOK.as_bytes())?;

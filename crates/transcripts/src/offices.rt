@@ -1,4 +1,4 @@
-//! Offices for the tests of what serves them: a maildrop, a clerk, and what is said to them.
+//! Offices for the tests of what serves them, with a maildrop and a clerk.
 use creds::{Credential, DepositId, Name, pass_digest};
 use office::{AdminCommand, Event, Limits, Office, Outcome};
 use policy::Policy;
@@ -10,12 +10,13 @@ use vault::Vault;
 static POLICY: &str =
     "[[rule]]\nname = \"ann-all\"\neffect = \"allow\"\nclerk = \"ann\"\nmaildrop = \"*\"\nclass = \"*\"\nactions = [\"open\", \"read\", \"remove\"]\n";
 
-/// The name that this text is.
+/// Reads a name. Fails where the text hasn't the form of one.
 pub fn name(text: &str) -> Result<Name, Fail> {
     Ok(Name::read(text.as_bytes()).ok_or("name")?)
 }
 
-/// An office over this vault.
+/// An office over this vault, with the host name `h.test`, boot number 7, and 600 seconds until an
+/// idle connection is ended.
 pub fn opened<V: Vault + Drop>(alloc: Global, vault: V) -> Result<Office<V>, Fail> {
     let limits = Limits::new(600).ok_or("idle")?;
     match Office::open(alloc, vault, "h.test", 7, limits) {

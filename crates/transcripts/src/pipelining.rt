@@ -1,7 +1,7 @@
 //! Transcripts of pipelined lines.
 
-/// Ann says three lines at once, and takes seven octets at a time, or what is owed if less. A line
-/// acts once all before it was taken.
+/// Ann sends three lines at once, and takes seven octets at a time, or what is owed if that is
+/// less. A line acts once the replies to those before it are taken.
 pub const PIPELINED: &str = r"> connect
 opened 1
 > drain 1

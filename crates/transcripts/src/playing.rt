@@ -1,4 +1,4 @@
-//! Scripts that are run, and what is printed of them.
+//! Runs scripts, and compares what they print.
 
 use converse::replay::replay;
 use session::Removals;
@@ -9,8 +9,8 @@ use std::test::Fail;
 use std::{io, str};
 use vault::{PlainVault, Vault};
 
-/// What a run leaves, as one text: standard output, and behind a fault the exit status in brackets
-/// and standard error.
+/// What a run printed, as one text: standard output and, where there was a fault, the exit status
+/// in brackets and standard error.
 pub fn run_text(alloc: Global, status: u8, out: &[u8], err: &[u8]) -> Result<String, Fail> {
     let mut text = String::from_str(alloc, str::from_utf8(out)?)?;
     if status != 0 || !err.is_empty() {
@@ -52,7 +52,7 @@ pub fn run_at(alloc: Global, host: &str, boot: u64, script: &str) -> Result<Stri
     Ok(ran)
 }
 
-/// Fails with what a run left, unless it is what is wanted.
+/// Fails with what a run printed, unless it is what is wanted.
 pub fn expect(ran: String, want: &str) -> Result<(), Fail> {
     if ran.as_str() == want {
         Ok(())
@@ -61,9 +61,9 @@ pub fn expect(ran: String, want: &str) -> Result<(), Fail> {
     }
 }
 
-/// The script of a transcript and what is printed of it. Of the transcript's lines the script has
-/// those behind `> `; a line behind `C: ` is said on connection 1, which then takes all that it is
-/// owed, and that is the line behind `S: `. All other lines are printed.
+/// Splits a transcript into its script and what that must print. `> X` is the line X of the script.
+/// `C: X` has connection 1 send the line X and then take all that it is owed, which `S: Y` says is
+/// the reply Y. Every other line must be printed as it stands.
 pub fn parts_of(alloc: Global, transcript: &str) -> Result<(String, String), Fail> {
     let mut script = String::new(alloc);
     let mut want = String::new(alloc);
@@ -81,13 +81,13 @@ pub fn parts_of(alloc: Global, transcript: &str) -> Result<(String, String), Fai
     Ok((script, want))
 }
 
-/// Fails unless a transcript is what comes of its script over an empty store of vectors.
+/// Fails unless a transcript's script prints what it must, over an empty store of vectors.
 pub fn plays_over_vectors(alloc: Global, transcript: &str) -> Result<(), Fail> {
     let (script, want) = parts_of(alloc, transcript)?;
     expect(run_at(alloc, "h.test", 7, script.as_str())?, want.as_str())
 }
 
-/// The same, and over one of tables.
+/// Fails unless it does so over an empty store of vectors and over one of tables.
 pub fn plays(alloc: Global, transcript: &str) -> Result<(), Fail> {
     plays_over_vectors(alloc, transcript)?;
     let (script, want) = parts_of(alloc, transcript)?;
@@ -96,7 +96,7 @@ pub fn plays(alloc: Global, transcript: &str) -> Result<(), Fail> {
     expect(ran, want.as_str())
 }
 
-/// Standard output or a file that refuses every call.
+/// A reader and writer that refuses every call.
 #[derive(Drop)]
 pub struct Refusing;
 

@@ -27,7 +27,7 @@ answer new note.2
 answer new todo.1
 "#;
 
-/// A message is read whole; a dot that begins a line comes with another.
+/// RETR sends a message whole, with one more dot before a line that begins with one.
 pub const RETRIEVING: &str = r"> connect
 opened 1
 > drain 1
@@ -47,7 +47,7 @@ C: retr 01
 S: +OK 21 octets\r\nSubject: a\r\n\r\nhi\r\n..\r\n.
 ";
 
-/// A text without an empty line is sent whole.
+/// TOP sends a text without an empty line whole.
 pub const TOP_WITHOUT_HEADER_END: &str = r"> connect
 opened 1
 > drain 1
@@ -63,7 +63,7 @@ C: TOP 3 0
 S: +OK top follows\r\nno header end\r\n.
 ";
 
-/// A header, the empty line and some of the lines behind it.
+/// TOP sends the header, the empty line and some of the lines behind it.
 pub const TOP_LINES: &str = r"> connect
 opened 1
 > drain 1
@@ -85,7 +85,7 @@ C: TOP 4 18446744073709551616
 S: +OK top follows\r\nA: 1\r\n\r\none\r\ntwo\r\nthree\r\n.
 ";
 
-/// Arguments that don't fit, no keyword, and a keyword that has its place before a login.
+/// Arguments that don't fit, an empty line, and a command that belongs before a login.
 pub const ARGUMENTS: &str = r"> connect
 opened 1
 > drain 1
@@ -173,7 +173,7 @@ S: +OK bye
 ended 1
 ";
 
-/// Logins while another session holds the maildrop, which is then not dropped.
+/// Logins while another session holds the maildrop, and a try to drop that maildrop.
 pub const REFUSALS: &str = r"> connect
 opened 1
 > drain 1
@@ -224,8 +224,8 @@ done
 answer in use
 ";
 
-/// A clerk who may read some of the messages. One that came since the login is seen by the next
-/// login.
+/// A clerk who may read some of the messages. A message that came since the login is seen by the
+/// next one.
 pub const FILTERED_VIEW: &str = r"> connect
 opened 1
 > drain 1
@@ -273,8 +273,8 @@ sent 2 +OK maildrop has 4 messages (64 octets)\r\n
 done
 ";
 
-/// Two messages are marked. The policy in force at the QUIT keeps one of them: those of the class
-/// pay, in front of ann's rule.
+/// Two messages are marked. The policy in force at the QUIT denies the removal of one of them, by a
+/// rule about the class `pay` that stands in front of ann's.
 pub const QUITTING: &str = r#"> connect
 opened 1
 > drain 1

@@ -1,5 +1,5 @@
-//! The worked rows of sessions, deposits and administration, each with what it begins with, for the
-//! tests that refuse a growth or a call of the store in them.
+//! The worked rows of sessions, deposits and administration, each with the store that it begins
+//! with, for the tests that refuse a growth of memory or a call of the store in them.
 use crate::administration::{
     CLERKS, CREDENTIALS, DEPOSITS, DROPPED, LOWER_CASE, OPENING, POLICIES, UPPER_CASE,
 };
@@ -26,7 +26,7 @@ pub enum Setting {
     Sample,
     /// The sample store with a note of 31,003 octets.
     Long,
-    /// The store of the digest of RFC 1939, 7, behind 1,895 connections.
+    /// The store of the APOP example of RFC 1939, 7, after 1,895 connections came and went.
     Digest,
 }
 
@@ -98,7 +98,7 @@ pub static SESSION_ROWS: [Row; 19] = [
     ("argument_faults", Setting::Sample, &[ARGUMENTS]),
 ];
 
-/// A reply of several takings, for which pages of a message are read.
+/// A reply that is taken in several pieces, for which pages of a message are read.
 const READING_ON: &str = "> connect
 > drain 1
 C: USER ann/orders
@@ -107,15 +107,16 @@ C: RETR 5
 C: QUIT
 ";
 
-/// The row of that reply.
+/// The row of that long reply.
 pub static LONG: Row = ("long_reply", Setting::Long, &[READING_ON]);
 
-/// Ann's password and the policy in the store of the digest, by which the tests' visitor comes in.
+/// What the store of the APOP example has besides, so that the tests' visitor can log in as ann.
 static ANN_COMES_IN: &str = r#"> clerk pass ann s3 cret
 > policy [[rule]]\nname = "open"\neffect = "allow"\nclerk = "*"\nmaildrop = "*"\nclass = "*"\nactions = ["open"]\n
 "#;
 
-/// A setting's host and boot number, how many connections came and went, and what was done before.
+/// A setting's host, boot number and number of past connections, and the transcripts that fill its
+/// store.
 fn begun(setting: Setting) -> (&'static str, u64, u64, [&'static str; 2]) {
     match setting {
         Setting::Empty => ("h.test", 7, 0, ["", ""]),
@@ -135,7 +136,7 @@ pub fn lines_of(alloc: Global, transcript: &str) -> Result<Vec<Line>, Fail> {
     Ok(read_script(alloc, script.as_bytes())?)
 }
 
-/// The event of a line, where it is one.
+/// The event of a line; `None` where the line isn't an event.
 pub fn event_of(line: &Line) -> Option<Event<'_>> {
     match line {
         Line::Connect => Some(Event::Connect),
@@ -165,7 +166,7 @@ fn opened<V: Vault + Drop>(alloc: Global, vault: V, setting: Setting) -> Result<
     }
 }
 
-/// Does an event before a row. Where memory is refused to it, the refusal is the test's own.
+/// Does an event before a row. Where it is refused memory, the test fails with `OutOfMemory`.
 fn begin<V: Vault>(office: &mut Office<V>, event: Event<'_>) -> Result<(), Fail> {
     match office.step(event) {
         Outcome::NoMemory => Err(Fail::new("error: OutOfMemory")),
@@ -185,7 +186,7 @@ fn begin_with<V: Vault>(alloc: Global, office: &mut Office<V>, before: &str) -> 
     Ok(())
 }
 
-/// Does what is before a row in an empty vault, and gives the vault back.
+/// Fills an empty vault with what a setting begins with, and gives it back.
 pub fn filled<V: Vault + Drop>(alloc: Global, vault: V, setting: Setting) -> Result<V, Fail> {
     let (_, _, _, [before, behind]) = begun(setting);
     let mut office = opened(alloc, vault, setting)?;
@@ -198,7 +199,7 @@ pub fn filled<V: Vault + Drop>(alloc: Global, vault: V, setting: Setting) -> Res
     Ok(office.into_vault())
 }
 
-/// An office over a vault, behind the connections that come before a row.
+/// An office over a filled vault, after the connections that a setting begins with.
 pub fn opened_at<V: Vault + Drop>(
     alloc: Global,
     vault: V,

@@ -7,7 +7,7 @@ use std::test::Fail;
 use transcripts::offices::opened;
 use vault::Vault;
 
-/// An office, a wire and its links.
+/// An office, a wire in memory, a spool, and the links.
 #[derive(Drop)]
 pub struct Bench<V: Vault> {
     pub alloc: Global,
@@ -17,7 +17,8 @@ pub struct Bench<V: Vault> {
     pub links: Links,
 }
 
-/// Nothing has happened over this vault; each read and each write moves so many octets at most.
+/// A bench with a new office over this vault. Each read and each write moves `piece` octets at
+/// most.
 pub fn bench_over<V: Vault + Drop>(
     alloc: Global,
     vault: V,
@@ -26,7 +27,7 @@ pub fn bench_over<V: Vault + Drop>(
     Ok(bench_of(alloc, opened(alloc, vault)?, piece))
 }
 
-/// The same of an office.
+/// A bench with this office. Each read and each write moves `piece` octets at most.
 pub fn bench_of<V: Vault>(alloc: Global, office: Office<V>, piece: usize) -> Bench<V> {
     let wire = ScriptWire::new(alloc, Vec::new(alloc), piece);
     let spool = ScriptSpool::new(alloc);
@@ -40,7 +41,7 @@ pub fn bench_of<V: Vault>(alloc: Global, office: Office<V>, piece: usize) -> Ben
     }
 }
 
-/// Serves so many turns at a moment.
+/// Serves `count` turns at the second `now`.
 pub fn turns<V: Vault>(bench: &mut Bench<V>, count: u32, now: u64) {
     for _ in 0..count {
         serve_turn(
@@ -53,7 +54,7 @@ pub fn turns<V: Vault>(bench: &mut Bench<V>, count: u32, now: u64) {
     }
 }
 
-/// A link of the administration comes that brings these octets.
+/// Has a link of the administration come that brings these octets.
 pub fn request<V: Vault>(bench: &mut Bench<V>, comes: &[u8]) -> Result<(), Fail> {
     Ok(bench.wire.request(octets(bench.alloc, comes)?)?)
 }

@@ -32,8 +32,8 @@ fn files_of_a_folder(rt: HostRuntime) -> Result<(), Fail> {
     Ok(())
 }
 
-/// A link to a file that lies elsewhere, and a second name of one, aren't read. Without its second
-/// name it is a file as any other.
+/// A symbolic link to a file that lies elsewhere isn't read, nor is a second name of such a file.
+/// Once the file has no other name, it is read.
 #[test]
 fn links_in_a_folder(rt: HostRuntime) -> Result<(), Fail> {
     let _ = fs::remove_dir_all(&rt, "links-of-a-test");
@@ -60,7 +60,7 @@ fn links_in_a_folder(rt: HostRuntime) -> Result<(), Fail> {
     Ok(())
 }
 
-/// What a spool reads of a file whose place another one takes just before it is opened.
+/// What a spool reads of a file that another one replaces just before it is opened.
 fn read_swapped(rt: &HostRuntime, guise: Guise) -> Result<Option<Vec<u8>>, Fail> {
     let _ = fs::remove_dir_all(rt, "swaps-of-a-test");
     fs::create_dir(rt, "swaps-of-a-test")?;
@@ -80,8 +80,8 @@ fn read_swapped(rt: &HostRuntime, guise: Guise) -> Result<Option<Vec<u8>>, Fail>
     Ok(text)
 }
 
-/// A link or a second name that takes a file's place isn't read. A file that is renamed to it is:
-/// it lies in the folder then.
+/// A link or a second name that replaces a file isn't read. A file that is renamed to it is read,
+/// since it then lies in the folder.
 #[test]
 fn files_swapped_while_read(rt: HostRuntime) -> Result<(), Fail> {
     assert!(rt; read_swapped(&rt, Guise::Link)?.is_none());

@@ -1,5 +1,5 @@
-//! Requests and responses as octets: each refusal's cause, limits at their edges, and what an
-//! office is asked and answers.
+//! Requests and responses as octets: the cause of each refusal, limits at their edges, and requests
+//! with the responses of an office.
 
 use adminhttp::{Got, Refusal, Request, Route, policy_response, response};
 use office::{Event, Limits, Office, Outcome};
@@ -8,7 +8,7 @@ use std::alloc::Global;
 use std::test::Fail;
 use vault::PlainVault;
 
-/// Requests, each with its refusal.
+/// Requests that are refused, each with its refusal.
 static REFUSED: [(&str, Refusal); 20] = [
     ("bad\r\n\r\n", Refusal::BadRequest),
     ("\r\n\n GET /maildrops HTTP/1.1\n\n", Refusal::BadRequest),
@@ -81,7 +81,7 @@ fn is_unfinished(alloc: Global, octets: &[u8]) -> bool {
     matches!(Request::read(alloc, octets), Got::More)
 }
 
-/// Whether a request asks something.
+/// Whether a request is read as a command.
 fn is_command(alloc: Global, octets: &[u8]) -> bool {
     matches!(Request::read(alloc, octets), Got::Command(_))
 }
@@ -135,7 +135,7 @@ fn body_at_its_limit(rt: HostRuntime) -> Result<(), Fail> {
     Ok(())
 }
 
-/// Whether the refusal of a method lists these.
+/// Whether a refusal has these octets, with the methods that are allowed.
 fn allows(refusal: &Refusal, text: &str) -> bool {
     refusal.bytes() == text.as_bytes()
 }
@@ -157,7 +157,7 @@ fn method_not_allowed(rt: HostRuntime) -> Result<(), Fail> {
     Ok(())
 }
 
-/// The response to a body that is no policy.
+/// The response to a request whose body is no policy.
 fn told_fault(alloc: Global, octets: &[u8]) -> Option<Vec<u8>> {
     match Request::read(alloc, octets) {
         Got::BadPolicy(fault) => policy_response(alloc, &fault).ok(),
@@ -184,7 +184,7 @@ fn policy_with_a_fault(rt: HostRuntime) -> Result<(), Fail> {
     Ok(())
 }
 
-/// Policies with a fault of a group, and the fault's text.
+/// Requests with policies in which a group has a fault, and the fault's text.
 static GROUP_FAULTS: [(&str, &str); 2] = [
     (
         "PUT /policy HTTP/1.1\r\nContent-Length: 38\r\n\r\n[[group]]\nname = \"sales\"\nmembers = []\n",
@@ -207,7 +207,7 @@ fn policies_with_a_fault_of_a_group(rt: HostRuntime) -> Result<(), Fail> {
     Ok(())
 }
 
-/// Requests to an office, each with the response.
+/// Requests to an office, each with its response.
 static ANSWERED: [(&str, &str); 16] = [
     (
         "PUT /maildrops/sales HTTP/1.1\r\n\r\n",
@@ -286,7 +286,7 @@ fn answer_to(alloc: Global, office: &mut Office<PlainVault>, octets: &[u8]) -> O
     }
 }
 
-/// Whether an office answers a request so.
+/// Whether an office answers a request with this response.
 fn is_answered(alloc: Global, office: &mut Office<PlainVault>, octets: &[u8], want: &[u8]) -> bool {
     match answer_to(alloc, office, octets) {
         Some(told) => told.as_slice() == want,

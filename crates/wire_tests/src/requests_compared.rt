@@ -1,4 +1,4 @@
-//! What a command is answered over HTTP, beside what replay prints of it.
+//! Commands are answered the same over HTTP as in a script that replay plays.
 use crate::benches::{Bench, bench_over, request, turns};
 use crate::turns::octets;
 use std::alloc::{AllocError, Global};
@@ -8,14 +8,14 @@ use transcripts::offices::deposit;
 use transcripts::playing::{expect, run_at};
 use vault::PlainVault;
 
-/// A command: a request's method and target, its body where it has one, and its line in a script.
+/// A command: its request's method and target, its body where it has one, and its line in a script.
 type Row = (&'static str, Option<&'static str>, &'static str);
 
 /// A rule, as a body.
 const RULE: &str = "[[rule]]\nname = \"ann-all\"\neffect = \"allow\"\nclerk = \"ann\"\n\
     maildrop = \"*\"\nclass = \"*\"\nactions = [\"open\", \"read\", \"remove\"]\n";
 
-/// The same, as a line.
+/// The rule, as a line of a script.
 const RULE_LINE: &str =
     r#"policy [[rule]]\nname = "ann-all"\neffect = "allow"\nclerk = "ann"\nmaildrop = "*"\nclass = "*"\nactions = ["open", "read", "remove"]\n"#;
 
@@ -23,7 +23,7 @@ const RULE_LINE: &str =
 const GROUPS: &str = "[[group]]\nname = \"sales\"\nmembers = [\"ann\", \"bob\"]\n\
     [[group]]\nname = \"books\"\nmembers = [\"cat\"]\n";
 
-/// The same, as a line.
+/// The groups, as a line of a script.
 const GROUPS_LINE: &str =
     r#"policy [[group]]\nname = "sales"\nmembers = ["ann", "bob"]\n[[group]]\nname = "books"\nmembers = ["cat"]\n"#;
 
@@ -77,7 +77,7 @@ static FIRST: [Row; 26] = [
     ("DELETE /sessions/1", None, "end 1"),
 ];
 
-/// Commands while ann is in, and a message lies in the maildrop `orders`.
+/// Commands while ann is logged in, and a message lies in the maildrop `orders`.
 static SECOND: [Row; 12] = [
     ("GET /sessions", None, "sessions"),
     ("GET /maildrops", None, "maildrops"),
@@ -93,7 +93,7 @@ static SECOND: [Row; 12] = [
     ("PUT /policy", Some(""), "policy "),
 ];
 
-/// What lies between them, as lines of a script.
+/// What is done between `FIRST` and `SECOND`, as lines of a script.
 static BETWEEN: &str = "deposit orders note d1 hi\nconnect\ndrain 1\n\
     bytes 1 USER ann/orders\\r\\nPASS s3 cret\\r\\n\ndrain 1\n";
 
@@ -109,7 +109,7 @@ fn request_text(alloc: Global, row: &Row) -> Result<String, AllocError> {
     }
 }
 
-/// Puts a body's lines behind `text`, as replay prints an answer.
+/// Puts the lines of a response's body behind `text`, as replay prints an answer.
 fn put_answer(text: &mut String, body: &str) -> Result<(), AllocError> {
     if body.is_empty() {
         writeln!(text, "answer")?;
@@ -120,8 +120,8 @@ fn put_answer(text: &mut String, body: &str) -> Result<(), AllocError> {
     Ok(())
 }
 
-/// Asks each, the first of which comes on the link at a place, and puts their answers behind
-/// `text`.
+/// Makes the requests of these rows, the first on the wire's request link number `from`, and puts
+/// their answers behind `text`.
 fn ask_all(
     bench: &mut Bench<PlainVault>,
     rows: &[Row],
@@ -141,7 +141,7 @@ fn ask_all(
     Ok(())
 }
 
-/// What all is answered over HTTP.
+/// The answers to all commands over HTTP.
 fn told_over_http(alloc: Global) -> Result<String, Fail> {
     let mut bench = bench_over(alloc, PlainVault::new(alloc), 4096)?;
     let mut text = String::new(alloc);
@@ -164,7 +164,7 @@ fn put_lines(script: &mut String, rows: &[Row]) -> Result<(), AllocError> {
     Ok(())
 }
 
-/// The answers that replay prints of all.
+/// The answers to all commands, as replay prints them.
 fn told_by_replay(alloc: Global) -> Result<String, Fail> {
     let mut script = String::new(alloc);
     put_lines(&mut script, FIRST.as_slice())?;
@@ -180,7 +180,7 @@ fn told_by_replay(alloc: Global) -> Result<String, Fail> {
     Ok(answers)
 }
 
-/// What some are answered, as the formats give it.
+/// Some of the answers, as they must be.
 static SOME: [&str; 7] = [
     "answer added\nanswer was there\nanswer added\nanswer orders 0 0\nanswer sales 0 0\nanswer\n",
     "answer rule 0: UnknownKey\nanswer allow by rule ann-all\nanswer deny by rule default\nanswer\n",

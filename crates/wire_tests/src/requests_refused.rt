@@ -1,9 +1,9 @@
-//! Requests of the administration where a growth or a call of the store is refused: each is
-//! answered as ever, or told that memory ran out or that the store failed; the first one's link may
-//! be closed instead, where there is no memory to keep it. Its command is done wholly or not at all.
+//! Requests of the administration where a growth of memory or a call of the store is refused. Each
+//! is answered as ever, or that memory ran out, or that the store failed; the link of the first may
+//! be closed instead, where there is no memory to keep it. A command is done wholly or not at all.
 //!
-//! The tests of growths pass with memory; tools/check-growths runs them with each growth refused,
-//! and counts them by the rows that they name.
+//! Without a refusal the tests of growths pass too. tools/check-growths runs them with each growth
+//! refused, and counts them by the rows that they print.
 use crate::benches::{Bench, bench_over, request, turns};
 use crate::requests_served::ROWS;
 use crate::turns::octets;
@@ -22,13 +22,13 @@ static OUT_OF_MEMORY: &[u8] =
 static STORE_FAILED: &[u8] =
     b"HTTP/1.1 503 Service Unavailable\r\nContent-Type: text/plain\r\nContent-Length: 13\r\nConnection: close\r\n\r\nstore failed\n";
 
-/// How many calls the rows have at most.
+/// The most calls of a store that the rows may make.
 const MOST_CALLS: u64 = 100;
 
 /// A request, and what its response begins and ends with.
 type Row = (&'static str, &'static str, &'static str);
 
-/// Requests over the sample store, while ann is in.
+/// Requests over the sample store, while ann is logged in.
 static SAMPLE_ROWS: [Row; 5] = [
     (
         "GET /explain/bob/orders/pay/read HTTP/1.1\r\n\r\n",
@@ -57,15 +57,15 @@ static SAMPLE_ROWS: [Row; 5] = [
     ),
 ];
 
-/// What ann says, and what the last reply to it is.
+/// What ann sends, and the last reply to it.
 static ANN: &[u8] = b"USER ann/orders\r\nPASS s3 cret\r\n";
 
 static ANN_IS_IN: &[u8] = b"+OK maildrop has 4 messages (80 octets)\r\n";
 
-/// The reply that she has where the store is told to have refused her.
+/// The last reply to ann where the store refused a call of her login.
 static REFUSED: &[u8] = b"-ERR store failed\r\n";
 
-/// An office that is asked, and how many requests came.
+/// An office that is sent requests, and how many came.
 #[derive(Drop)]
 struct Asked<V: Vault> {
     bench: Bench<V>,
@@ -78,7 +78,7 @@ fn asked_over<V: Vault + Drop>(alloc: Global, vault: V) -> Result<Asked<V>, Fail
     Ok(Asked { bench, came: 0 })
 }
 
-/// What a request is sent, whose link is then closed.
+/// The response to a request. Fails unless its link is closed behind it.
 fn told<V: Vault>(asked: &mut Asked<V>, text: &str) -> Result<Vec<u8>, Fail> {
     let place = asked.came;
     request(&mut asked.bench, text.as_bytes())?;
@@ -91,13 +91,14 @@ fn told<V: Vault>(asked: &mut Asked<V>, text: &str) -> Result<Vec<u8>, Fail> {
     octets(asked.bench.alloc, wire.response(place))
 }
 
-/// Whether a response is the row's.
+/// Whether a response begins and ends as the row's does.
 fn is_as_ever(said: &[u8], row: &Row) -> bool {
     let (_, begins, ends) = row;
     said.starts_with(begins.as_bytes()) && said.ends_with(ends.as_bytes())
 }
 
-/// What a request is sent by the office in which nothing is to be refused.
+/// The response of the office in which nothing is to be refused. Where it isn't the row's, memory
+/// was refused to the test itself.
 fn told_as_ever(free: &mut Asked<PlainVault>, row: &Row) -> Result<Vec<u8>, Fail> {
     let said = told(free, row.0)?;
     if is_as_ever(said.as_slice(), row) {
@@ -117,8 +118,9 @@ fn keep_the_same<V: Vault>(
     Ok(kept == look(alloc, &mut free.bench.office)?)
 }
 
-/// The other office is sent a request that was sent something else than ever: it was done not at
-/// all, or, where memory ran out, wholly. What the other is sent for it where it comes again.
+/// Gives the other office a request that was refused. Fails unless the tested office had done it
+/// not at all or, where memory ran out, wholly. Answers the response that the tested office must
+/// give when the request comes again.
 fn whole_or_nothing<V: Vault>(
     tested: &mut Asked<V>,
     free: &mut Asked<PlainVault>,
@@ -136,14 +138,13 @@ fn whole_or_nothing<V: Vault>(
     told(free, row.0)
 }
 
-/// Whether a request was told a refusal; or, where memory ran out and no link was kept before its
-/// own, nothing.
+/// Whether a response is this refusal or, where memory ran out for the first link, empty.
 fn is_told(said: &[u8], refusal: &[u8], came: usize) -> bool {
     said == refusal || (refusal == OUT_OF_MEMORY && said.is_empty() && came == 1)
 }
 
-/// A request was sent something else than ever: a refusal. It is made again, and answered as by the
-/// other office.
+/// Checks what stands after a request with another response than ever: it was this refusal, and the
+/// request, made again, is answered as by the other office.
 fn was_refused<V: Vault>(
     tested: &mut Asked<V>,
     free: &mut Asked<PlainVault>,
@@ -161,7 +162,7 @@ fn was_refused<V: Vault>(
     Ok(())
 }
 
-/// Both are asked. Whether the first was sent something else than ever.
+/// Makes a row's request to both offices. Answers whether the tested one refused it.
 fn ask<V: Vault>(
     tested: &mut Asked<V>,
     free: &mut Asked<PlainVault>,
@@ -180,7 +181,8 @@ fn ask<V: Vault>(
     }
 }
 
-/// Both are asked each row. Whether the first was once sent something else than ever.
+/// Makes each row's request to both offices. Answers whether the tested one refused one. Fails
+/// unless both then keep the same.
 fn ask_rows<V: Vault>(
     tested: &mut Asked<V>,
     free: &mut Asked<PlainVault>,
@@ -191,11 +193,11 @@ fn ask_rows<V: Vault>(
     for row in rows {
         is_refused |= ask(tested, free, row, refusal)?;
     }
-    // a look calls the store: where a call is to be refused, not before it was
+    // a look calls the store, so it may not come before the call that is to be refused
     if !is_refused && refusal == STORE_FAILED {
         return Ok(false);
     }
-    // where memory is refused to the first look, the second tells
+    // where memory is refused to the first look, the second decides
     if keep_the_same(tested, free)? || keep_the_same(tested, free)? {
         Ok(is_refused)
     } else {
@@ -203,14 +205,14 @@ fn ask_rows<V: Vault>(
     }
 }
 
-/// Over empty stores. Whether a request was refused.
+/// Makes the requests of `ROWS` over empty stores. Answers whether one was refused.
 fn ask_empty<V: Vault + Drop>(alloc: Global, vault: V, refusal: &[u8]) -> Result<bool, Fail> {
     let mut tested = asked_over(alloc, vault)?;
     let mut free = asked_over(alloc, PlainVault::new(alloc))?;
     ask_rows(&mut tested, &mut free, ROWS.as_slice(), refusal)
 }
 
-/// An office over this vault, which is filled, with ann in.
+/// An office over this filled vault, with ann logged in.
 fn with_ann<V: Vault + Drop>(alloc: Global, vault: V) -> Result<Asked<V>, Fail> {
     let mut asked = asked_over(alloc, vault)?;
     asked.bench.wire.connect(octets(alloc, ANN)?)?;
@@ -225,7 +227,8 @@ fn with_ann<V: Vault + Drop>(alloc: Global, vault: V) -> Result<Asked<V>, Fail> 
     }
 }
 
-/// Over sample stores, with ann in. Whether a request was refused.
+/// Makes the requests of `SAMPLE_ROWS` over sample stores, with ann logged in. Answers whether one
+/// was refused.
 fn ask_sample<V: Vault + Drop>(alloc: Global, vault: V, refusal: &[u8]) -> Result<bool, Fail> {
     let mut tested = with_ann(alloc, vault)?;
     let sample = filled(alloc, PlainVault::new(alloc), Setting::Sample)?;
@@ -255,7 +258,7 @@ fn growths_of_requests_over_tables(rt: HostRuntime) -> Result<(), Fail> {
     Ok(())
 }
 
-/// Whether a request met a refused call of an empty store, of vectors or of tables.
+/// Whether a request is refused where an empty store, of vectors or of tables, refuses call `call`.
 fn is_refused(alloc: Global, call: u64, is_over_tables: bool) -> Result<bool, Fail> {
     if is_over_tables {
         let vault = Refusing::new(SqlVault::in_memory(alloc)?, call);
@@ -266,7 +269,7 @@ fn is_refused(alloc: Global, call: u64, is_over_tables: bool) -> Result<bool, Fa
     }
 }
 
-/// How many runs over empty stores met a refused call, from the first behind the opening's on.
+/// How many calls the requests make over empty stores, behind the opening's: each is refused once.
 fn calls_refused(alloc: Global, is_over_tables: bool) -> Result<u64, Fail> {
     for call in 2..MOST_CALLS {
         if !is_refused(alloc, call, is_over_tables)? {
@@ -276,7 +279,7 @@ fn calls_refused(alloc: Global, is_over_tables: bool) -> Result<u64, Fail> {
     Err(Fail::new("a call was refused in each run"))
 }
 
-/// Whether a request met a refused call of a sample store, ann being in.
+/// Whether a request is refused where a sample store refuses call `call`, with ann logged in.
 fn is_refused_with_ann(alloc: Global, call: u64, is_over_tables: bool) -> Result<bool, Fail> {
     if is_over_tables {
         let sample = filled(alloc, SqlVault::in_memory(alloc)?, Setting::Sample)?;
@@ -287,13 +290,13 @@ fn is_refused_with_ann(alloc: Global, call: u64, is_over_tables: bool) -> Result
     }
 }
 
-/// Eight of the rows ask the store, once each: the maildrop added, added again, listed and dropped,
-/// the clerk put and shown, and the policy set twice.
+/// Eight of the rows call the store, once each: the maildrop is added, added again, listed and
+/// dropped, the clerk is put and shown, and the policy is set twice.
 #[test]
 fn calls_of_requests(rt: HostRuntime) -> Result<(), Fail> {
     for is_over_tables in [false, true] {
         assert_eq!(rt; calls_refused(rt.alloc(), is_over_tables)?, 8);
-        // behind the opening's call and the two of her login there is one, which drops the maildrop
+        // call 1 is the opening's, 2 and 3 are the login's, and 4 drops the maildrop
         assert!(rt; is_refused_with_ann(rt.alloc(), 4, is_over_tables)?);
         assert!(rt; !is_refused_with_ann(rt.alloc(), 5, is_over_tables)?);
     }

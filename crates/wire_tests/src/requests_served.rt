@@ -22,7 +22,7 @@ static NO_SESSIONS: &[u8] =
 /// The first octets of a request.
 static BEGUN: &[u8] = b"GET /sessions HTTP/1.1\r\n";
 
-/// Requests, each with the first line of its response and its body, on an office that has seen
+/// Requests, each with the first line of its response and its body, for an office that has seen
 /// those above it.
 pub(super) static ROWS: [(&str, &str, &str); 15] = [
     (
@@ -102,12 +102,13 @@ pub(super) static ROWS: [(&str, &str, &str); 15] = [
     ),
 ];
 
-/// An office without maildrops over a store in memory, and a wire.
+/// A bench with an office over an empty store in memory.
 fn new_bench(alloc: Global, piece: usize) -> Result<Bench<PlainVault>, Fail> {
     bench_over(alloc, PlainVault::new(alloc), piece)
 }
 
-/// Each row's request is answered so, in whatever pieces it comes and its response goes.
+/// Whether each row's request has its response, where both come in pieces of `piece` octets and
+/// `count` turns are served.
 fn rows_in_pieces(alloc: Global, piece: usize, count: u32) -> Result<bool, Fail> {
     let mut bench = new_bench(alloc, piece)?;
     let mut place = 0;
@@ -132,7 +133,7 @@ fn rows_of_the_administration(rt: HostRuntime) -> Result<(), Fail> {
     Ok(())
 }
 
-/// Eight links wait; a ninth is closed without an octet, and one that comes once there is room is
+/// While eight links wait, a ninth is closed without an octet. One that comes once there is room is
 /// served.
 #[test]
 fn ninth_link(rt: HostRuntime) -> Result<(), Fail> {
@@ -154,8 +155,8 @@ fn ninth_link(rt: HostRuntime) -> Result<(), Fail> {
     Ok(())
 }
 
-/// A link is closed 60 seconds after it was accepted, whether its request is whole or its response
-/// is taken.
+/// A link is closed 60 seconds after it was accepted, even where its request isn't whole or its
+/// response isn't taken.
 #[test]
 fn sixty_seconds(rt: HostRuntime) -> Result<(), Fail> {
     let alloc = rt.alloc();
@@ -177,8 +178,8 @@ fn sixty_seconds(rt: HostRuntime) -> Result<(), Fail> {
     Ok(())
 }
 
-/// A request's link that ends before it is whole is closed without a response; a whole one is
-/// answered.
+/// A link that ends before its request is whole is closed without a response. A whole request is
+/// answered, though its link has ended.
 #[test]
 fn end_before_the_request_is_whole(rt: HostRuntime) -> Result<(), Fail> {
     let alloc = rt.alloc();
@@ -192,8 +193,9 @@ fn end_before_the_request_is_whole(rt: HostRuntime) -> Result<(), Fail> {
     Ok(())
 }
 
-/// What two requests and a client are sent, where a fault comes in place of one call: a beginning
-/// of what they are owed, all is closed, and at most one of the three lacks its end.
+/// Puts a fault in place of one call of the wire. Whether two requests and a client are then each
+/// sent a beginning of what they are owed, two of them at least all of it, and all links are
+/// closed.
 fn with_stop(alloc: Global, call: u64, stop: Stop) -> Result<bool, Fail> {
     let mut bench = new_bench(alloc, 7)?;
     bench.wire.connect(octets(alloc, b"QUIT\r\n")?)?;

@@ -29,7 +29,7 @@ fn four_turns_over_four_names(rt: HostRuntime) -> Result<(), Fail> {
     Ok(())
 }
 
-/// A file that can't be removed is known the next time, and stays.
+/// A file that can't be removed stays, and its deposit is known the next time.
 #[test]
 fn a_file_that_stays(rt: HostRuntime) -> Result<(), Fail> {
     let alloc = rt.alloc();

@@ -4,8 +4,8 @@ use serving::{ScriptSpool, ScriptWire, Stop, begin, serve_turn};
 use std::alloc::Global;
 use std::test::Fail;
 
-/// What two links are sent, where a fault comes in place of one call: the other link's octets don't
-/// change.
+/// Serves two links with a fault in place of one call of the wire. Answers the wire, with what both
+/// were sent, and whether both are closed.
 fn with_stop(alloc: Global, call: u64, stop: Stop) -> Result<(ScriptWire, bool), Fail> {
     let mut office = new_office(alloc)?;
     let mut wire = one_link(alloc, b"CAPA\r\nQUIT\r\n", 7)?;
@@ -54,8 +54,8 @@ fn sixty_four_links_and_one_more(rt: HostRuntime) -> Result<(), Fail> {
     Ok(())
 }
 
-/// A link that sends and takes nothing is not read behind its first line, and no turn goes without
-/// a wait for it.
+/// A link that sends lines but takes nothing isn't read behind its first line, and every turn waits
+/// as if it weren't there.
 #[test]
 fn a_link_that_never_takes(rt: HostRuntime) -> Result<(), Fail> {
     let alloc = rt.alloc();
@@ -74,7 +74,8 @@ fn a_link_that_never_takes(rt: HostRuntime) -> Result<(), Fail> {
     Ok(())
 }
 
-/// Behind 64 writes in one turn more is written in the next one, which doesn't wait.
+/// A turn makes 64 writes on a link at most. The rest is written in the next turn, which doesn't
+/// wait.
 #[test]
 fn more_than_64_writes(rt: HostRuntime) -> Result<(), Fail> {
     let alloc = rt.alloc();
@@ -92,7 +93,7 @@ fn more_than_64_writes(rt: HostRuntime) -> Result<(), Fail> {
     Ok(())
 }
 
-/// A connection that idles is ended without a further octet, and its link closed.
+/// An idle connection is ended after 600 seconds without a further octet, and its link is closed.
 #[test]
 fn idle_link(rt: HostRuntime) -> Result<(), Fail> {
     let alloc = rt.alloc();

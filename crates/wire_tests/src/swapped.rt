@@ -1,28 +1,28 @@
-//! A system in which another file takes a file's place just before it is opened.
+//! A file system in which another file replaces a file just before it is opened.
 use std::alloc::{Allocator, Global};
 use std::fs::{File, Files, Metadata, OpenOptions};
 use std::io;
 use std::time::{Clock, Duration};
 
-/// What takes the place.
+/// What replaces the file.
 #[derive(Clone, Copy)]
 pub enum Guise {
     /// A symbolic link to the file.
     Link,
     /// A second name of the file.
     Name,
-    /// A symbolic link to the file, and once it is opened a second name of the file.
+    /// A symbolic link to the file, and once that is opened a second name of the file.
     LinkThenName,
     /// The file itself, which is renamed.
     Itself,
 }
 
-/// The system of this machine, in which a file takes the place of each one that is opened.
+/// This machine's file system, in which `file` replaces each file that is opened.
 #[derive(Clone, Copy, Drop)]
 pub struct Swapped<'a> {
     pub rt: &'a HostRuntime,
     pub file: &'a str,
-    /// What a link in the folder says, to lead to it.
+    /// The path to `file` that a symbolic link in the folder has.
     pub link: &'a str,
     pub guise: Guise,
 }

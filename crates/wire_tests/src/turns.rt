@@ -6,39 +6,40 @@ use std::test::Fail;
 use transcripts::offices::{deposit, prepared};
 use vault::PlainVault;
 
-/// What a client of the first row is sent.
+/// What a client that sends CAPA and QUIT is sent.
 static GREETING_ROW: &[u8] =
     b"+OK POP3 server ready <1.7@h.test>\r\n+OK capability list follows\r\nTOP\r\nUSER\r\nUIDL\r\nRESP-CODES\r\nPIPELINING\r\n.\r\n+OK bye\r\n";
 
-/// A login as ann, and a pipelined retrieval, deletion and end.
+/// A login as ann, a RETR, a DELE and a QUIT, all sent at once.
 static PIPELINED: &[u8] = b"USER ann/orders\r\nPASS s3 cret\r\nRETR 1\r\nDELE 1\r\nQUIT\r\n";
 
-/// What it is answered.
+/// What a client that sends `PIPELINED` is sent.
 static PIPELINED_ROW: &[u8] =
     b"+OK POP3 server ready <1.7@h.test>\r\n+OK send PASS\r\n+OK maildrop has 1 messages (21 octets)\r\n+OK 21 octets\r\nSubject: a\r\n\r\nhi\r\n..\r\n.\r\n+OK message 1 deleted\r\n+OK bye\r\n";
 
-/// A vector of octets.
+/// A copy of these octets in a vector.
 pub(super) fn octets(alloc: Global, text: &[u8]) -> Result<Vec<u8>, Fail> {
     let mut copy = Vec::new(alloc);
     copy.extend_from_slice(text)?;
     Ok(copy)
 }
 
-/// An office with the maildrop `orders` and the clerk ann, whose message d1 is in it.
+/// An office with the clerk ann and the maildrop `orders`, which has the message of deposit d1.
 pub(super) fn new_office(alloc: Global) -> Result<Office<PlainVault>, Fail> {
     let mut office = prepared(alloc, PlainVault::new(alloc))?;
     deposit(&mut office, "orders", b"Subject: a\n\nhi\n.\n")?;
     Ok(office)
 }
 
-/// A wire with one link that waits.
+/// A wire with one link to be accepted, which brings the octets `comes`. Each read and each write
+/// moves `piece` octets at most.
 pub(super) fn one_link(alloc: Global, comes: &[u8], piece: usize) -> Result<ScriptWire, Fail> {
     let mut waiting = Vec::new(alloc);
     waiting.push(octets(alloc, comes)?)?;
     Ok(ScriptWire::new(alloc, waiting, piece))
 }
 
-/// Serves so many turns, with no spool file.
+/// Serves `count` turns, without a spool file.
 pub(super) fn turns(
     alloc: Global,
     links: &mut Links,
@@ -52,7 +53,8 @@ pub(super) fn turns(
     }
 }
 
-/// What is written on one link that brings these octets, in pieces of this size.
+/// The wire after `count` turns with one link, which brings the octets `comes`. Each read and each
+/// write moves `piece` octets at most.
 fn served(alloc: Global, comes: &[u8], piece: usize, count: u64) -> Result<ScriptWire, Fail> {
     let mut office = new_office(alloc)?;
     let mut wire = one_link(alloc, comes, piece)?;
