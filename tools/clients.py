@@ -19,7 +19,7 @@ class = "*"
 actions = ["open", "read", "remove"]
 """
 # How many seconds a server's start may take, a reply be on its way, and a file lie in the spool.
-START, REPLY, SPOOL = 60, 20, 60
+START, REPLY, SPOOL = 120, 90, 120
 
 
 class Wrong(Exception):
@@ -30,6 +30,15 @@ def retrieved(text):
     """What RETR gives of a message (RFC 1939, section 3)."""
     stuffed = re.sub(rb"^\.", b"..", text, flags=re.MULTILINE)
     return b"+OK %d octets\r\n%s.\r\n" % (len(text), stuffed)
+
+
+def wait_for(is_so, said, seconds=REPLY):
+    """Waits until something is so, and fails where it isn't for so many seconds."""
+    end = time.monotonic() + seconds
+    while not is_so():
+        if time.monotonic() > end:
+            raise Wrong(f"{said} for {seconds} s")
+        time.sleep(0.02)
 
 
 class Client:
@@ -142,11 +151,11 @@ class Server:
 
     def wait_for_spool(self):
         """Waits until the spool has no file that may be taken."""
-        end = time.monotonic() + SPOOL
-        while left := [it for it in os.listdir(self.spool) if it.endswith(".eml")]:
-            if time.monotonic() > end:
-                raise Wrong(f"the spool keeps {left}")
-            time.sleep(0.05)
+        wait_for(
+            lambda: not any(it.endswith(".eml") for it in os.listdir(self.spool)),
+            "the spool keeps a file",
+            SPOOL,
+        )
 
     def connect(self, receives=None, host="localhost"):
         """A client that has taken its greeting."""
