@@ -19,6 +19,7 @@ mod link;
 mod listing;
 mod locks;
 mod login;
+mod logins;
 mod message;
 mod numbers;
 mod office;

@@ -16,13 +16,13 @@ ghost use Rattle.office.specs.Input.{most_input};
 ghost use Rattle.office.specs.Connections.{reading};
 ghost use Rattle.office.specs.Expected.{most_in_a_piece};
 ghost use Rattle.office.specs.Answered.{judged_at, reply_of, name_cmp, is_locked_by, IsSeated, BecomesIf, LocksFollow, held_if};
-ghost use Rattle.office.specs.Waiting.{meets_held, line_with};
+ghost use Rattle.office.specs.Waiting.{is_held_for, coming_login, line_with};
 
 use crate::lines;
 use crate::locks::Locks;
 use crate::output::{Output, Source};
 use crate::talk::{Acted, Desk, Talk};
-use crate::waiting::asks_locked;
+use crate::waiting::{asks_locked, login_asked};
 use creds::{LoginName, Name};
 use policy::Policy;
 use popline::{Cutter, Reply};
@@ -207,20 +207,42 @@ impl Link {
         }
     }
 
-    /// Whether the line that is whole with this piece is a login to a maildrop that is locked. The
-    /// piece isn't taken.
-    pub fn meets_lock(&self, locks: &Locks, piece: &[u8]) -> bool
-        ensures { result ≡ meets_held (is_locked_by locks.now) (is_some self.now.session) self.now.talk.user (line_with self.now piece.now) }
+    /// Whether somebody is in session on the connection.
+    pub fn is_in_session(&self) -> bool
+        ensures { result ≡ is_some self.now.session }
+    {
+        self.session.is_some()
+    }
+
+    /// How many credentials the connection had refused; at most 255 are counted.
+    pub fn refusals(&self) -> u8
+        ensures { result ≡ self.now.talk.failures }
+    {
+        self.talk.failures
+    }
+
+    /// Whom the line that is whole with this piece would log in: nobody where no line is whole,
+    /// where the line isn't a login, or where somebody is in session. The piece isn't taken.
+    pub fn coming_login(&self, piece: &[u8]) -> Option<LoginName>
+        ensures { result ≡ coming_login (is_some self.now.session) self.now.talk.user (line_with self.now piece.now) }
     {
         if self.session.is_some() {
-            return false;
+            return None;
         }
         let mut cutter = self.cutter.copied();
         let _ = cutter.feed(piece);
         let Some(cut) = cutter.line() else {
-            return false;
+            return None;
         };
-        asks_locked(locks, cut, self.talk.user)
+        login_asked(cut, self.talk.user)
+    }
+
+    /// Whether the line that is whole with this piece is a login to a maildrop that is locked. The
+    /// piece isn't taken.
+    pub fn meets_lock(&self, locks: &Locks, piece: &[u8]) -> bool
+        ensures { result ≡ is_held_for (is_locked_by locks.now) (coming_login (is_some self.now.session) self.now.talk.user (line_with self.now piece.now)) }
+    {
+        asks_locked(locks, self.coming_login(piece))
     }
 
     /// Takes the next piece at this moment, and answers the first line that is whole now.

@@ -16,7 +16,7 @@ use popline::{Command, Cut};
 use vault::Vault;
 
 /// Whom a line would log in: a PASS the name in force, an APOP its own.
-fn login_asked(cut: Cut<'_>, user: Option<LoginName>) -> Option<LoginName>
+pub(crate) fn login_asked(cut: Cut<'_>, user: Option<LoginName>) -> Option<LoginName>
     ensures { result ≡ login_asked_by (reading (cut_seen cut.entry)) user }
 {
     match read(cut) {
@@ -26,11 +26,11 @@ fn login_asked(cut: Cut<'_>, user: Option<LoginName>) -> Option<LoginName>
     }
 }
 
-/// Whether a line is a login to a maildrop that is locked.
-pub(crate) fn asks_locked(locks: &Locks, cut: Cut<'_>, user: Option<LoginName>) -> bool
-    ensures { result ≡ is_held_for (is_locked_by locks.now) (login_asked_by (reading (cut_seen cut.entry)) user) }
+/// Whether a login, where there is one, asks for a maildrop that is locked.
+pub(crate) fn asks_locked(locks: &Locks, login: Option<LoginName>) -> bool
+    ensures { result ≡ is_held_for (is_locked_by locks.now) login }
 {
-    match login_asked(cut, user) {
+    match login {
         None => false,
         Some(name) => locks.contains_key(&name.maildrop),
     }
