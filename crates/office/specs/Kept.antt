@@ -70,9 +70,13 @@ asks p t (Some v) r = asks_inside p v r
 abbrev pub nothing_said : Removals → Talk
 nothing_said removals = record { user = None; failures = 0; closing = false; removals = removals }
 
--- one more, up to 255
+-- at most so many failures are counted
+abbrev pub most_failures : ℕ
+most_failures = 255
+
+-- one more, up to the most
 abbrev pub one_more_failure : ℕ → ℕ
-one_more_failure n = if nat_lt n 255 then n + 1 else n
+one_more_failure n = if nat_lt n most_failures then n + 1 else n
 
 -- what is remembered after a line that got this reply
 abbrev pub talk_after : Cut → Reply → Talk → Talk

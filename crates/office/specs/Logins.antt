@@ -4,15 +4,12 @@ use Rattle.std.specs.Prelude.{ℕ, Bool, ◌&&◌, List, min, is_some, if◌then
 use Rattle.office.specs.Connections.{failures}
 use Rattle.office.specs.Events.{Trace}
 use Rattle.office.specs.Trace.{history, is_open, is_ready}
+use Rattle.office.specs.Kept.{most_failures}
 use Rattle.office.specs.Waiting.{next_login}
-
--- at most so many refusals of a connection are counted
-abbrev pub most_refusals : ℕ
-most_refusals = 255
 
 -- how many credentials an open connection had refused since it opened
 abbrev pub refusals : Trace → ℕ → ℕ
-refusals T c = if is_open T c then min (failures (history T) c) most_refusals else 0
+refusals T c = if is_open T c then min (failures (history T) c) most_failures else 0
 
 -- octets may come on a connection, and with this piece its next line is a login
 abbrev pub brings_login : Trace → ℕ → (piece : List ℕ) → Bool

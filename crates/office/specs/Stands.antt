@@ -20,7 +20,7 @@ use Rattle.office.specs.Expected.{most_in_a_piece}
 use Rattle.office.specs.Sitting.{LiesIn}
 use Rattle.office.specs.Answered.{name_cmp}
 use Rattle.office.specs.Output.{Owes, reads_text, lent_of}
-use Rattle.office.specs.Kept.{Kept}
+use Rattle.office.specs.Kept.{Kept, most_failures}
 use Rattle.session.specs.Session.{Session}
 use Rattle.session.specs.View.{is_marked}
 use Rattle.vault.specs.declared.record.Keyed.{Keyed}
@@ -129,8 +129,7 @@ pub record Matches (c : Contents) (s : Seen) (k : Kept) : Type 0 where
   pub serving : reads_text k.output.source ≡ true → s.serving ≡ true
   pub closing : k.talk.closing ≡ s.closing
   pub user : k.talk.user ≡ s.user
-  -- two and more failures are alike: the next one closes
-  pub failures : min k.talk.failures 2 ≡ min s.failures 2
+  pub failures : k.talk.failures ≡ min s.failures most_failures
   pub stamp : k.stamp ≡ s.stamp
   pub judged : k.talk.removals ≡ s.judging
   pub clock : k.clock ≡ s.clock
