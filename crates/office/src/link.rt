@@ -31,12 +31,12 @@ use std::alloc::{AllocError, Global};
 use std::marker::Model;
 use vault::Vault;
 
-/// What is kept of a connection: of its input at most the octets of a piece, 4,096, beside the line
-/// that is being cut, 255.
+/// What is kept of a connection. Of its input that is at most 4,096 octets of the last piece, and
+/// 255 of the line that is being cut.
 #[derive(Drop)]
 pub struct Link {
     cutter: Cutter,
-    /// Octets of the last piece, of which the first `cut` were cut.
+    /// Octets of the last piece; the first `cut` of them are cut into lines.
     pending: Vec<u8>,
     cut: usize,
     output: Output,
@@ -61,8 +61,8 @@ impl Model for Link {
 }
 
 impl Link {
-    /// A connection that is owed its greeting, opened at this moment; its session's removals are
-    /// judged as this says.
+    /// A connection that was opened at this moment and is owed its greeting. `removals` says when
+    /// its session's removals are judged.
     pub fn open(
         alloc: Global,
         number: u64,
@@ -89,7 +89,7 @@ impl Link {
         })
     }
 
-    /// What is lent of what is owed: all that stands ready, 16,384 octets at most.
+    /// The octets that may be taken now: all that stand ready, but at most 16,384.
     pub fn owed(&self) -> &[u8]
         ensures { result.now ≡ lent_of self.now.output }
     {
@@ -134,8 +134,8 @@ impl Link {
         self.talk.closing
     }
 
-    /// Takes octets that stand ready, at this moment, and puts more where few are left. `false`
-    /// where the store refused a page.
+    /// Takes octets that stand ready, at this moment, and reads more where few are left. `false`
+    /// where the store refused a page: the caller then ends the connection.
     pub fn take<V: Vault>(
         &mut self,
         alloc: Global,
@@ -245,7 +245,8 @@ impl Link {
         asks_locked(locks, self.coming_login(piece))
     }
 
-    /// Takes the next piece at this moment, and answers the first line that is whole now.
+    /// Takes the next piece at this moment, and answers the first line that is now whole; the lines
+    /// behind it wait for [`Link::resume`].
     pub fn hear<V: Vault>(
         &mut self,
         alloc: Global,
@@ -302,7 +303,7 @@ impl Link {
         Ok(acted)
     }
 
-    /// Answers the next line that was kept.
+    /// Answers the next whole line of the octets that were kept, if there is one.
     pub fn resume<V: Vault>(
         &mut self,
         alloc: Global,

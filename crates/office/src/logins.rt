@@ -1,5 +1,5 @@
-//! What is told of a connection's logging in: whether it did, how often it was refused, and whether
-//! a piece of octets brings its next try.
+//! Questions about logins: whether a connection is logged in, how many credentials it had refused,
+//! and whether a piece of octets brings a login.
 ghost use Rattle.std.specs.Prelude.{◌≡◌};
 ghost use Rattle.office.specs.Events.{Trace};
 ghost use Rattle.office.specs.Trace.{history};
@@ -24,9 +24,9 @@ impl<V: Vault> Office<V> {
         }
     }
 
-    /// How many credentials connection `c` had refused since it opened: 3 at most, since the third
-    /// refusal closes it. It still tells them while the reply to that refusal is owed; 0 once the
-    /// connection isn't open.
+    /// How many credentials connection `c` had refused since it opened; 0 where it isn't open. The
+    /// third refusal closes the connection, which stays open, and has 3 here, until the reply to it
+    /// is taken.
     ///
     /// It asks no store, takes no memory and changes nothing.
     pub fn refusals(&self, c: u64) -> u8
