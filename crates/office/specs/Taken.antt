@@ -57,8 +57,8 @@ has_closed T c = has_closed_by T.base T.log c
 
 -- ---- which marks a log may have
 
--- An event's mark is that of an outcome that it may have, for some numbers of octets that
--- connections are lent.
+-- An event's mark is that of an outcome that it may have, where each connection is lent some number
+-- of the octets that it is owed.
 pub record IsAdmitted (T : Trace) (e : Event) (m : Mark) : Type 0 where
   pub lent : ℕ → ℕ
   pub owed : (c : ℕ) → lent c ≤ length (rest T c)

@@ -15,7 +15,7 @@ ghost use Rattle.office.specs.Stands.{Keeps, StandsFor, begun};
 use crate::Office;
 use vault::Vault;
 
-/// At each end of a history, at most one session holds a maildrop.
+/// After any history, at most one session holds a maildrop.
 pub fn one_holder()
     ensures { OneHolder }
 {}
