@@ -16,7 +16,7 @@ use Rattle.adminhttp.specs.declared.stop.Stop.{Stop}
 use Rattle.adminhttp.specs.declared.stop.Stop.TheVariants as stop
 use Rattle.adminhttp.specs.declared.stop.Stop.TheVariants.{More, BadPolicy}
 
--- the first n octets, once that many have come
+-- the first n octets; until they have come, more is to come
 abbrev pub first_octets : (n : ℕ) → List ℕ → Result (List ℕ) Stop
 first_octets n octets = if nat_le n (length octets) then Ok (take n octets) else Err More
 
@@ -40,16 +40,16 @@ credential_of clerk text =
     else if starts_with nat_eq text (codes "pass ") then option_map (λ s. Pass (pass_digest clerk s)) (secret_of (drop 5 text))
     else None
 
--- a policy, or its first fault
+-- a policy, or the stop for its first fault
 abbrev pub or_fault : Result Policy PolicyFault → Result Policy Stop
 or_fault (Ok policy) = Ok policy
 or_fault (Err fault) = Err (BadPolicy fault)
 
--- the policy that a body spells; what isn't UTF-8 is no TOML
+-- the policy that a body spells; a body that isn't UTF-8 is no TOML
 unfoldable pub policy_of : List ℕ → Result Policy Stop
 policy_of body = if is_utf8 body then or_fault (rules_of body) else Err (BadPolicy NotToml)
 
--- why a policy that can't be read gives no command; want of memory is no fault of the body
+-- the stop for a policy's fault; want of memory is told as that
 abbrev pub stop_of : PolicyFault → Stop
 stop_of NoMemory = stop.NoMemory
 stop_of fault = BadPolicy fault

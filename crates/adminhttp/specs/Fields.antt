@@ -1,4 +1,4 @@
--- The headers that tell of a request's body (RFC 9112, 6): how long it is.
+-- The headers that give the length of a request's body (RFC 9112, 6).
 use Rattle.std.specs.Prelude.{ℕ, ◌&&◌, nat_le, nat_lt, Bool, List, [], ◌∷◌, codes, length, map, filter, Result, Ok, Err, if◌then◌else◌}
 use Rattle.std.specs.List.{list_all, list_any}
 use Rattle.std.specs.Char.{to_ascii_lowercase, is_ascii_digit}
@@ -21,19 +21,19 @@ is_named word header = bytes_eq (map to_ascii_lowercase header.0) word
 abbrev pub values_of : (word : List ℕ) → List Header → List (List ℕ)
 values_of word headers = map (λ h. h.1) (filter (is_named word) headers)
 
--- the one value; none is a length that is missing, two are a bad request
+-- the only value; without one the length is missing, and more than one are a bad request
 abbrev pub only : List (List ℕ) → Result (List ℕ) Stop
 only [] = Err (Bad LengthRequired)
 only (value ∷ []) = Ok value
 only (value ∷ second ∷ more) = Err (Bad BadRequest)
 
--- the value of Content-Length; a coded body's length isn't known
+-- the value of Content-Length; with a Transfer-Encoding the length isn't known
 abbrev pub length_text : List Header → Result (List ℕ) Stop
 length_text headers =
     if list_any (is_named (codes "transfer-encoding")) headers then Err (Bad LengthRequired)
     else only (values_of (codes "content-length") headers)
 
--- the most octets of a body
+-- a body has at most so many octets
 abbrev pub most_in_body : ℕ
 most_in_body = 1048576
 

@@ -1,4 +1,4 @@
--- What a head is (RFC 9112, 2 to 5): a text that is, as a whole, one of the grammar.
+-- What a head is (RFC 9112, 2 to 5): a text that as a whole is one by `httparse`'s grammar.
 use Rattle.std.specs.Prelude.{◌≡◌, ℕ, ◌+◌, ◌<◌, ◌≤◌, List, [], length, take, drop, map, Some, All}
 use Rattle.std.specs.Str.{IsUtf8}
 use Rattle.httparse.specs.Grammar.{RequestHead, ReadsRequest}
@@ -7,7 +7,7 @@ use Rattle.httparse.specs.declared.spans.HeaderSpan.{HeaderSpan}
 use Rattle.adminhttp.specs.Lines.{head_at}
 use Rattle.adminhttp.specs.declared.head.Head.{Head}
 
--- the most headers
+-- a head has at most so many headers
 abbrev pub most_headers : ℕ
 most_headers = 64
 
@@ -27,7 +27,7 @@ head_text b place = take place.1 (drop place.0 b)
 abbrev pub behind_head : List ℕ → ℕ × ℕ → List ℕ
 behind_head b place = drop (place.0 + place.1) b
 
--- the headers that these spans tell of a head: names, and values without the spaces and tabs around them
+-- the headers at these spans of a head: names, and values without the spaces and tabs around them
 abbrev pub headers_of : Head → List HeaderSpan → List (List ℕ × List ℕ)
 headers_of head spans = map (header_bytes head.text.now) spans
 
@@ -35,7 +35,7 @@ headers_of head spans = map (header_bytes head.text.now) spans
 abbrev pub LieIn : Head → List HeaderSpan → Type 0
 LieIn head spans = All (IsHeaderWithin (length head.text.now)) spans
 
--- what is lent of a head: its parts, and spans of its headers
+-- the parts of a head in these octets, and the spans of its headers
 pub record IsLent (b : List ℕ) (spans : List HeaderSpan) (head : Head) : Type 0 where
   pub place : ℕ × ℕ
   pub at : head_at b ≡ Some place

@@ -1,5 +1,5 @@
--- Where the head of a request begins and ends, by its lines alone. A line ends with LF, and one CR before it belongs to
--- the end; empty lines in front of a request are dropped (RFC 9112, 2.2).
+-- Where the head of a request begins and ends, by its lines alone. A line ends with LF or CR LF;
+-- empty lines in front of a request are dropped (RFC 9112, 2.2).
 use Rattle.std.specs.Prelude.{ℕ, ◌+◌, ◌==◌, ◌&&◌, if◌then◌else◌, nat_lt, Bool, true, List, [], ◌∷◌, take, drop, Option, Some, None, option_map}
 
 -- the octets of the empty line that a text begins with, LF or CR LF; 0 where it begins with none
@@ -15,18 +15,19 @@ empty_lines (b ∷ []) = if b == 10 then 1 else 0
 empty_lines (b ∷ c ∷ rest) =
     if b == 10 then 1 + empty_lines (c ∷ rest) else if b == 13 && c == 10 then 2 + empty_lines rest else 0
 
--- the octets through the first empty line; `fresh`: the text begins a line
+-- how many octets there are through the first empty line; `fresh`: the text stands at a line's
+-- beginning
 unfoldable pub through_empty_line : (fresh : Bool) → List ℕ → Option ℕ
 through_empty_line fresh [] = None
 through_empty_line fresh (b ∷ rest) =
     if fresh && nat_lt 0 (empty_line (b ∷ rest)) then Some (empty_line (b ∷ rest))
     else option_map (λ n. 1 + n) (through_empty_line (b == 10) rest)
 
--- where a head that begins at `start` ends, with its length
+-- the place and the length of the head that begins at `start`, where it ends
 abbrev pub head_from : (start : ℕ) → List ℕ → Option (ℕ × ℕ)
 head_from start front = option_map (λ n. (start, n)) (through_empty_line true (drop start front))
 
--- the most octets through a head's end, with the empty lines in front of it
+-- a head ends within so many octets, empty lines in front of it included
 abbrev pub most_in_head : ℕ
 most_in_head = 8192
 

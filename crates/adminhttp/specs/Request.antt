@@ -1,4 +1,5 @@
--- What an HTTP request asks of the administration, or why it asks nothing: by the first step that holds.
+-- The command that an HTTP request gives the administration, or why it gives none: the first cause
+-- that holds.
 use Rattle.std.specs.Prelude.{◌≡◌, ◌⊎◌, ℕ, nat_le, List, codes, length, map, Option, Some, None, Result, Ok, Err, if◌then◌else◌}
 use Rattle.std.specs.Str.{bytes_eq}
 use Rattle.httparse.specs.Grammar.{RequestHead}
@@ -21,11 +22,11 @@ use Rattle.adminhttp.specs.declared.stop.Stop.TheVariants.{More, Bad, BadPolicy}
 use Rattle.adminhttp.specs.declared.request.Got.{Got}
 use Rattle.adminhttp.specs.declared.request.Got.TheVariants as got
 
--- what a request comes to: a command, or why there is none
+-- what a request gives: a command, or why there is none
 abbrev pub Asked : Type 0
 Asked = Result AdminCommand Stop
 
--- this command, where the request has the one method of its route
+-- this command, where the method is GET, which is the route's only one
 abbrev pub by_get : Route → (method : List ℕ) → AdminCommand → Asked
 by_get r method command = if bytes_eq method (codes "GET") then Ok command else Err (Bad (NotAllowed r))
 
@@ -71,7 +72,8 @@ unfoldable pub session_asked : (number : ℕ) → (method : List ℕ) → Asked
 session_asked number method =
     if bytes_eq method (codes "DELETE") then Ok (EndSession number) else Err (Bad (NotAllowed route.Session))
 
--- what a method asks of a target: another method than the route's, then the body's faults
+-- what a method gives on a target: a refusal where the route doesn't have it, then the body's
+-- faults
 abbrev pub asked_of : Target → (method : List ℕ) → List Header → (behind : List ℕ) → Asked
 asked_of target.Maildrops method headers behind = by_get route.Maildrops method ListMaildrops
 asked_of (target.Maildrop maildrop) method headers behind = maildrop_asked maildrop method
@@ -83,7 +85,7 @@ asked_of (target.Session number) method headers behind = session_asked number me
 asked_of (target.Explain clerk maildrop class action) method headers behind =
     by_get route.Explain method (Explain clerk maildrop class action)
 
--- what a head and the octets behind it ask
+-- what a head and the octets behind it give
 unfoldable pub asked_by : (method target : List ℕ) → List Header → (behind : List ℕ) → Asked
 asked_by method target headers behind = do
   found ← value_or (target_of target) NotFound
@@ -93,22 +95,22 @@ asked_by method target headers behind = do
 abbrev pub unended : List ℕ → Stop
 unended b = if nat_le (length b) most_in_head then More else Bad BadRequest
 
--- the text of a head and the octets behind it come to this
+-- the text of a head and the octets behind it give this
 abbrev pub HeadComesTo : (text behind : List ℕ) → Asked → Type 0
 HeadComesTo text behind asked =
     ((h : RequestHead) × IsHead text h × (asked ≡ asked_by h.method h.target (map name_and_value h.fields) behind))
     ⊎ (IsNoHead text × (asked ≡ Err (Bad BadRequest)))
 
--- octets whose head has that place, if it has ended, come to this
+-- octets give this; `place` is their head's, where it has ended
 abbrev pub ComesTo : List ℕ → (place : Option (ℕ × ℕ)) → Asked → Type 0
 ComesTo b None asked = asked ≡ Err (unended b)
 ComesTo b (Some place) asked = HeadComesTo (head_text b place) (behind_head b place) asked
 
--- the octets of a request come to this
+-- the octets of a request give this
 abbrev pub IsRequest : List ℕ → Asked → Type 0
 IsRequest b asked = ComesTo b (head_at b) asked
 
--- what the code answers says of the request, if memory wasn't refused
+-- what the code returns as a request's meaning; None at want of memory
 abbrev pub asked_in : Got → Option Asked
 asked_in got.More = Some (Err More)
 asked_in (got.Bad refusal) = Some (Err (Bad refusal))

@@ -10,13 +10,14 @@ use Rattle.adminhttp.specs.declared.route.Route.TheVariants.{Maildrops, Maildrop
 use Rattle.adminhttp.specs.declared.refusal.Refusal.{Refusal}
 use Rattle.adminhttp.specs.declared.refusal.Refusal.TheVariants.{BadRequest, NotFound, NotAllowed, LengthRequired, TooLarge, StoreFailed, OutOfMemory}
 
--- the head of a response: its status with the reason, further header lines, and the length of its body
+-- the head of a response: its status with the reason, further header lines, and the length of its
+-- body
 abbrev pub response_head : (status further : List ℕ) → (octets : ℕ) → List ℕ
 response_head status further octets =
     codes "HTTP/1.1 " ++ status ++ codes "\r\nContent-Type: text/plain\r\n" ++ further
     ++ codes "Content-Length: " ++ decimal octets ++ codes "\r\nConnection: close\r\n\r\n"
 
--- a response: its head, and its body of just that length
+-- a response: its head, which tells the length of its body, and the body
 unfoldable pub response_text : (status further body : List ℕ) → List ℕ
 response_text status further body = response_head status further (length body) ++ body
 

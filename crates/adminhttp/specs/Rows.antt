@@ -20,7 +20,7 @@ table =
     ∷ (codes "/explain/{clerk}/{maildrop}/{class}/{action}", Explain)
     ∷ []
 
--- the rows with one more route
+-- the router's rows with one more route
 abbrev pub with_route : {E : Type 0} → RowsOf (RouteOf Route) → Route → Result Scan E → RowsOf (RouteOf Route)
 with_route rows r (Ok s) = placed (s.pattern, route_from s r) rows
 with_route rows r (Err e) = rows

@@ -1,4 +1,4 @@
--- Steps of a reading, of which the first that fails ends it.
+-- Steps of which the first that fails ends the reading.
 use Rattle.std.specs.Prelude.{Option, Some, None, Result, Ok, Err}
 use Rattle.adminhttp.specs.declared.refusal.Refusal.{Refusal}
 use Rattle.adminhttp.specs.declared.stop.Stop.{Stop}
@@ -10,7 +10,7 @@ abbrev pub ◌>>=◌ : {A B E : Type 0} → Result A E → (A → Result B E) �
 Ok x >>= f = f x
 Err e >>= f = Err e
 
--- what a value is seen as
+-- the value changed by a function
 abbrev pub map_ok : {A B E : Type 0} → (A → B) → Result A E → Result B E
 map_ok f (Ok x) = Ok (f x)
 map_ok f (Err e) = Err e

@@ -44,7 +44,7 @@ explained text = do
   action ← action_of third.1
   Some (Explain clerk maildrop class action)
 
--- what a path names that is of this route
+-- what a path of this route names
 abbrev pub target_on : Route → List ℕ → Option Target
 target_on route.Maildrops path = alone (codes "/maildrops") Maildrops path
 target_on route.Maildrop path = behind (codes "/maildrops/") path >>= λ part. option_map Maildrop (name_of part)
@@ -55,7 +55,7 @@ target_on route.Sessions path = alone (codes "/sessions") Sessions path
 target_on route.Session path = behind (codes "/sessions/") path >>= λ part. option_map Session (number_of part)
 target_on route.Explain path = behind (codes "/explain/") path >>= explained
 
--- what a path names that is of a route, if there is one
+-- the same, where there is a route
 abbrev pub found_on : Option Route → List ℕ → Option Target
 found_on None path = None
 found_on (Some r) path = target_on r path
@@ -65,7 +65,7 @@ abbrev pub first_of : Option Target → Option Target → Option Target
 first_of (Some target) other = Some target
 first_of None other = other
 
--- what a path names on the first of these routes that it is of
+-- what a path names, by the first of these routes that is its own
 abbrev pub target_among : List Route → List ℕ → Option Target
 target_among [] path = None
 target_among (r ∷ more) path = first_of (target_on r path) (target_among more path)
@@ -74,6 +74,6 @@ target_among (r ∷ more) path = first_of (target_on r path) (target_among more 
 abbrev pub routes : List Route
 routes = route.Maildrops ∷ route.Maildrop ∷ route.Clerk ∷ route.Policy ∷ route.Groups ∷ route.Sessions ∷ route.Session ∷ route.Explain ∷ []
 
--- what a path names; none where it is of no route, or one of its parts has not its form
+-- what a path names; None where it is of no route, or one of its parts hasn't its form
 unfoldable pub target_of : List ℕ → Option Target
 target_of path = target_among routes path

@@ -14,7 +14,8 @@ use policy::{Policy, PolicyFault};
 use std::alloc::Global;
 use std::str;
 
-/// The body that follows a head.
+/// The body that follows a head, or why there is none: its length isn't told, is too great or
+/// isn't of its form, or more octets are to come.
 #[tactic(auto, unfolding(crate::specs::Bodies::body_of))]
 pub fn read_body<'b>(head: &Head<'b>, headers: &[HeaderSpan]) -> Result<&'b [u8], Stop>
     requires { LieIn head.now headers.now }
@@ -41,7 +42,8 @@ pub fn without_line_end(text: &[u8]) -> &[u8]
     text
 }
 
-/// A clerk's credential: `apop` or `pass`, a space, and the secret or the password.
+/// The credential that a clerk's body spells: `apop` or `pass`, a space, and the secret or the
+/// password. `None` where it isn't of that form.
 #[tactic(auto, unfolding(crate::specs::Bodies::credential_of))]
 pub fn read_credential(clerk: &Name, text: &[u8]) -> Option<Credential>
     ensures { result ≡ credential_of clerk.now text.now }
@@ -57,8 +59,8 @@ pub fn read_credential(clerk: &Name, text: &[u8]) -> Option<Credential>
     }
 }
 
-/// The policy that a body spells, or its first fault; [`PolicyFault::NotToml`] also where it isn't
-/// UTF-8.
+/// The policy that a body spells, or its first fault. A body that isn't UTF-8 is
+/// [`PolicyFault::NotToml`].
 pub fn read_policy(alloc: Global, body: &[u8]) -> Result<Policy, Stop>
     ensures ok { IfOk result (λ policy. policy_of body.now ≡ Ok policy) }
     ensures fault { IfErr result (λ stop. stop ≢ Stop.NoMemory → policy_of body.now ≡ Err stop) }

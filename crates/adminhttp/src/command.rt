@@ -17,10 +17,10 @@ use httparse::spans::HeaderSpan;
 use office::AdminCommand;
 use std::alloc::Global;
 
-/// The command that a request asks of what its target names.
+/// The command that a request gives, by its target, its method and its body.
 ///
-/// [`Refusal::NotAllowed`] for a method that the route has not; then, for PUT on a clerk or the
-/// policy, what is wrong with the body.
+/// [`Refusal::NotAllowed`] for a method that the route doesn't have; else, for PUT on a clerk or
+/// the policy, what is wrong with the body.
 pub fn read_command(
     alloc: Global,
     target: &Target,
@@ -56,7 +56,7 @@ pub fn read_command(
     }
 }
 
-/// The command, where the method is GET, the one of this route.
+/// The command, where the method is GET, which is the route's only one.
 fn by_get(route: Route, method: &[u8], command: AdminCommand) -> Result<AdminCommand, Stop>
     ensures { map_ok command_seen result ≡ by_get route method.now (command_seen command) }
 {
@@ -67,7 +67,7 @@ fn by_get(route: Route, method: &[u8], command: AdminCommand) -> Result<AdminCom
     }
 }
 
-/// The command on a maildrop. A body isn't read.
+/// The command that a method gives on a maildrop. A body isn't read.
 #[tactic(auto, unfolding(crate::specs::Request::maildrop_asked))]
 fn maildrop_command(maildrop: &Name, method: &[u8]) -> Result<AdminCommand, Stop>
     ensures { map_ok command_seen result ≡ maildrop_asked maildrop.now method.now }
@@ -83,7 +83,7 @@ fn maildrop_command(maildrop: &Name, method: &[u8]) -> Result<AdminCommand, Stop
     }
 }
 
-/// The command on a clerk.
+/// The command that a method gives on a clerk.
 #[tactic(auto, unfolding(crate::specs::Request::clerk_asked))]
 fn clerk_command(
     clerk: &Name,
@@ -117,7 +117,7 @@ fn put_clerk(clerk: &Name, head: &Head<'_>, headers: &[HeaderSpan]) -> Result<Ad
     }
 }
 
-/// The command on the policy.
+/// The command that a method gives on the policy.
 #[tactic(auto, unfolding(crate::specs::Request::policy_asked))]
 fn policy_command(
     alloc: Global,
@@ -149,7 +149,7 @@ fn put_policy(alloc: Global, head: &Head<'_>, headers: &[HeaderSpan]) -> Result<
     Ok(AdminCommand::SetPolicy(policy))
 }
 
-/// The command on a session.
+/// The command that a method gives on a session.
 #[tactic(auto, unfolding(crate::specs::Request::session_asked))]
 fn session_command(number: u64, method: &[u8]) -> Result<AdminCommand, Stop>
     ensures { map_ok command_seen result ≡ session_asked number method.now }

@@ -1,4 +1,4 @@
-//! The headers that tell of a request's body: how many octets it has (RFC 9112, 6).
+//! The headers that give the length of a request's body (RFC 9112, 6).
 
 ghost use Rattle.std.specs.Prelude.{◌≡◌, ◌<◌, nat_le, length, map, All, codes, IsTrue, if◌then◌else◌};
 ghost use Rattle.std.specs.List.{list_any, list_all};
@@ -12,10 +12,10 @@ use crate::refusal::Refusal;
 use crate::stop::Stop;
 use httparse::spans::HeaderSpan;
 
-/// The most octets of a body that is read.
+/// A body has at most so many octets.
 pub const MAX_BODY: usize = 1_048_576;
 
-/// Whether a header has a name, given in small letters. Letters of either case are the same.
+/// Whether a header has this name, which is given in small letters, in letters of either case.
 fn has_name(text: &[u8], header: &HeaderSpan, word: &[u8]) -> bool
     requires within { IsHeaderWithin (length text.now) header.now }
     requires small { map to_ascii_lowercase word.now ≡ word.now }
@@ -37,7 +37,8 @@ fn is_coded(text: &[u8], headers: &[HeaderSpan]) -> bool
     false
 }
 
-/// The value of the one header named Content-Length.
+/// The value of the one header named Content-Length. None is [`Refusal::LengthRequired`], two are
+/// [`Refusal::BadRequest`].
 fn only_length<'t>(text: &'t [u8], headers: &[HeaderSpan]) -> Result<&'t [u8], Stop>
     requires { All (IsHeaderWithin (length text.now)) headers.now }
     ensures { map_ok (λ v. v.now) result ≡ only (values_of (codes "content-length") (map (header_bytes text.now) headers.now)) }
@@ -57,7 +58,8 @@ fn only_length<'t>(text: &'t [u8], headers: &[HeaderSpan]) -> Result<&'t [u8], S
     }
 }
 
-/// What Content-Length says, which stands alone and beside no Transfer-Encoding.
+/// The value of the one Content-Length. With a Transfer-Encoding the length isn't known:
+/// [`Refusal::LengthRequired`].
 fn length_field<'t>(text: &'t [u8], headers: &[HeaderSpan]) -> Result<&'t [u8], Stop>
     requires { All (IsHeaderWithin (length text.now)) headers.now }
     ensures { map_ok (λ v. v.now) result ≡ length_text (map (header_bytes text.now) headers.now) }
@@ -90,7 +92,8 @@ fn read_digits(digits: &[u8]) -> Option<usize>
     Some(length)
 }
 
-/// The length of a body, in octets, by the text of its field.
+/// The length of a body, in octets, by the value of Content-Length: digits alone, at most
+/// 1,048,576.
 fn read_length(value: &[u8]) -> Result<usize, Stop>
     ensures { result ≡ length_of value.now }
 {

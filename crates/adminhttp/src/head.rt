@@ -5,13 +5,13 @@ ghost use Rattle.adminhttp.specs.Lines.{head_from, empty_lines, most_in_head};
 
 use crate::lines::{empty_lines_len, head_len};
 
-/// The most octets through a head's end, with the empty lines in front of it.
+/// A head ends within so many octets, empty lines in front of it included.
 pub const MAX_HEAD: usize = 8192;
 
-/// The most headers.
+/// A head has at most so many headers.
 pub const MAX_HEADERS: usize = 64;
 
-/// The parts of a request whose head has come.
+/// A request whose head is whole: its parts.
 #[derive(Clone, Copy)]
 pub struct Head<'b> {
     /// The head, in which the spans of its headers lie.
@@ -26,7 +26,7 @@ pub struct Head<'b> {
     pub behind: &'b [u8],
 }
 
-/// The octets among which a head has to end.
+/// The octets within which a head has to end: the first 8,192, or all.
 fn front_of(octets: &[u8]) -> &[u8]
     ensures value { result.now ≡ take most_in_head octets.now }
     ensures short { length result.now ≤ length octets.now }
@@ -37,7 +37,7 @@ fn front_of(octets: &[u8]) -> &[u8]
     &octets[..MAX_HEAD]
 }
 
-/// Where the head begins in these octets, and how long it is.
+/// Where the head begins in these octets, and how many it has. `None` where it doesn't end in them.
 fn locate(front: &[u8]) -> Option<(usize, usize)>
     ensures value { result ≡ head_from (empty_lines front.now) front.now }
     ensures within { IfSome result (λ place. place.0 + place.1 ≤ length front.now) }

@@ -22,7 +22,7 @@ pub use request::{Got, Request};
 pub use responses::{policy_response, response};
 pub use route::Route;
 
-/// The octets of a request come to one thing at most, and none come to nothing.
+/// A law: the same octets come to one thing at most, and any octets come to something.
 pub fn has_one_meaning()
     ensures one { HasOneMeaning }
     ensures some { HasMeaning }

@@ -31,7 +31,7 @@ pub fn empty_lines_len(octets: &[u8]) -> usize
     at
 }
 
-/// The same, where the text begins a line; else 0.
+/// The same where the text stands at the beginning of a line, as `fresh` says; else 0.
 fn end_len(fresh: bool, text: &[u8]) -> usize
     ensures value { result ≡ (if fresh then empty_line text.now else 0) }
     ensures within { result ≤ length text.now }

@@ -2,18 +2,18 @@
 
 use crate::route::Route;
 
-/// Why a request isn't answered by what it asks.
+/// Why a request isn't done.
 #[derive(Clone, Copy, PartialEq, Eq, Debug)]
 pub enum Refusal {
     /// 400: the head, a body's length or a clerk's body isn't of its form.
     BadRequest,
-    /// 404: the target is of no route, or one of its parts has not its form.
+    /// 404: the target is of no route, or one of its parts hasn't its form.
     NotFound,
-    /// 405: the route has not this method.
+    /// 405: the route doesn't have this method.
     NotAllowed(Route),
-    /// 411: the length of a body that is read isn't told.
+    /// 411: a body is to be read, and Content-Length is missing or Transfer-Encoding is there.
     LengthRequired,
-    /// 413: a body that is read has over 1,048,576 octets.
+    /// 413: a body is to be read, and has over 1,048,576 octets.
     TooLarge,
     /// 503: the store failed.
     StoreFailed,

@@ -1,4 +1,4 @@
-//! Requests: what the octets of one come to.
+//! Requests: the command that the octets of one give, or why there is none.
 
 use crate::refusal::Refusal;
 use office::AdminCommand;
@@ -9,16 +9,16 @@ use policy::PolicyFault;
 #[derive(Clone, Copy, Debug)]
 pub struct Request;
 
-/// What the octets that have come of a request come to.
+/// What the octets of a request that have come so far give.
 #[derive(Drop)]
 pub enum Got {
     /// More octets are to come.
     More,
-    /// The request is refused, for the first cause that holds.
+    /// The request is refused; where several causes hold, for the first in order.
     Bad(Refusal),
-    /// The body of PUT on the policy is no policy, for this cause, which isn't want of memory.
+    /// The body of PUT on the policy is no policy, for this cause (never want of memory).
     BadPolicy(PolicyFault),
-    /// The request is whole, and asks this.
+    /// The request is whole, and gives this command.
     Command(AdminCommand),
     /// Memory ran out.
     NoMemory,

@@ -1,6 +1,6 @@
 //! The routes of the administration.
 
-/// A route: a form of path, with the methods that it has.
+/// A route: a form of path, and the methods that are allowed on it.
 #[derive(Clone, Copy, PartialEq, Eq, Debug)]
 pub enum Route {
     /// `/maildrops`, by GET.

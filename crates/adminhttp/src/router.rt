@@ -8,7 +8,7 @@ use crate::route::Route;
 use matchit::{InsertError, Router};
 use std::alloc::Global;
 
-/// A router of each route.
+/// A router that knows each route.
 fn make_router(alloc: Global) -> Result<Router<Route>, InsertError>
     ensures { IfOk result (λ router. router ≡ route_rows) }
 {
@@ -27,7 +27,7 @@ fn make_router(alloc: Global) -> Result<Router<Route>, InsertError>
     Ok(router)
 }
 
-/// The route that a path takes.
+/// The route that a path takes, if any. An error means want of memory.
 pub fn find_route(alloc: Global, path: &str) -> Result<Option<Route>, InsertError>
     ensures { IfOk result (λ route. route ≡ option_map value_of (first route_rows path.now)) }
 {

@@ -11,7 +11,7 @@ pub enum Stop {
     More,
     /// The request is refused.
     Bad(Refusal),
-    /// The body is no policy, for this cause, which isn't want of memory.
+    /// The body is no policy, for this cause (never want of memory).
     BadPolicy(PolicyFault),
     /// Memory ran out.
     NoMemory,

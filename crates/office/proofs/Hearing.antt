@@ -13,10 +13,10 @@ use Rattle.office.specs.Sessions.{logs_in, login_after, marks_after_line, view_a
 use Rattle.office.specs.Replying.{is_empty}
 use Rattle.office.specs.Expected.{most_in_a_piece}
 use Rattle.office.specs.Output.{Output, nothing_owed, reads_text, Owes, OwesReply}
-use Rattle.office.specs.Kept.{Kept, answered, line_after, talk_after}
+use Rattle.office.specs.Kept.{Kept, answered, line_after, talk_after, most_failures}
 use Rattle.office.specs.Stands.{Seen, Matches, IsSession, is_seen_open, untaken_of, most_in_a_line}
 use Rattle.office.specs.declared.talk.Talk.{Talk}
-use Rattle.office.proofs.Outside.{failures_alike}
+use Rattle.office.proofs.Outside.{failures_counted}
 use Rattle.office.proofs.Owing.{owes_none}
 
 -- what stands at a place, and what follows it
@@ -136,7 +136,7 @@ pub record Awaits (c : Contents) (s : Seen) (k : Kept) (octets : List ℕ) : Typ
   pub open_yet : s.closing ≡ false
   pub closing : k.talk.closing ≡ s.closing
   pub user : k.talk.user ≡ s.user
-  pub failures : min k.talk.failures 2 ≡ min s.failures 2
+  pub failures : k.talk.failures ≡ min s.failures most_failures
   pub stamp : k.stamp ≡ s.stamp
   pub judged : k.talk.removals ≡ s.judging
   pub clock : k.clock ≡ s.clock
@@ -176,7 +176,7 @@ module _ (c : Contents) (s : Seen) (k k' : Kept) (p : List ℕ) (answer : Reply)
         parted = quiet_yet;
         closing = ap (λ (k : Kept). k.talk.closing) e' ∙ m.closing;
         user = ap (λ (k : Kept). k.talk.user) e' ∙ m.user;
-        failures = ap (λ (k : Kept). min k.talk.failures 2) e' ∙ m.failures;
+        failures = ap (λ (k : Kept). k.talk.failures) e' ∙ m.failures;
         judged = ap (λ (k : Kept). k.talk.removals) e' ∙ m.judged;
         stamp = ap (λ (k : Kept). k.stamp) e ∙ m.stamp;
         clock = ap (λ (k : Kept). k.clock) e ∙ m.clock;
@@ -226,7 +226,7 @@ module _ (c : Contents) (s : Seen) (k k' : Kept) (p : List ℕ) (answer : Reply)
         closing = ap (λ (t : Talk). t.closing) talk_is ∙ ap (λ b. closes (reading x) (Says answer) || b) m.closing;
         user = ap (λ (t : Talk). t.user) talk_is ∙ ap (user_after_line (reading x) (Says answer)) m.user;
         judged = ap (λ (t : Talk). t.removals) talk_is ∙ m.judged;
-        failures = ap (λ (t : Talk). min t.failures 2) talk_is ∙ failures_alike (is_failure (Says answer)) k.talk.failures s.failures m.failures;
+        failures = ap (λ (t : Talk). t.failures) talk_is ∙ failures_counted (is_failure (Says answer)) k.talk.failures s.failures m.failures;
         stamp = ap (λ (k : Kept). k.stamp) e ∙ m.stamp;
         clock = ap (λ (k : Kept). k.clock) e ∙ m.clock;
         lines = λ more. (at_drop s.acted (cut (s.stream ++ more)) acting (coming k'.held (k'.pending ++ more)) (next h more)).1;

@@ -1,4 +1,5 @@
--- Which piece of a connection would meet a lock, by what is kept and by the trace.
+-- Which piece of a connection brings a login, and which would meet a lock, by what is kept and by
+-- the trace.
 use Rattle.std.proofs.Common.{◌≡◌, ℕ, ◌+◌, Bool, true, false, not, ◌&&◌, List, [], ◌∷◌, ◌++◌, drop, map}
 use Rattle.std.proofs.Common.{Option, Some, None, is_some, slice_get, append-nil, nat_le}
 use Rattle.std.proofs.Common.{refl, sym, ◌∙◌, ap, ap₂}
@@ -10,7 +11,7 @@ use Rattle.popline.specs.Cutting.{through_newline, has_newline}
 use Rattle.popline.proofs.Cuts.{coming-fed}
 use Rattle.vault.specs.Changes.{Contents}
 use Rattle.session.specs.Session.{Session}
-use Rattle.office.specs.Connections.{reading, user}
+use Rattle.office.specs.Connections.{reading}
 use Rattle.office.specs.Sessions.{holder}
 use Rattle.office.specs.Events.{Trace}
 use Rattle.office.specs.Log.{clock, moment}
@@ -20,44 +21,35 @@ use Rattle.office.specs.Idle.{is_idle}
 use Rattle.office.specs.Kept.{Kept, line_after}
 use Rattle.office.specs.Answered.{name_cmp, is_locked_by}
 use Rattle.office.specs.Stands.{Seen, Matches, IsSession, seen, untaken_of}
-use Rattle.office.specs.Waiting.{login_asked, is_held_for, asks_held, meets_held, meets_lock, waits}
+use Rattle.office.specs.Waiting.{login_asked, is_held_for, coming_login, next_login, meets_lock, waits}
 use Rattle.office.specs.Waiting.{line_with, kept_waits}
+use Rattle.office.specs.Logins.{brings_login}
 use Rattle.office.proofs.Hearing.{at_drop, at_end, pieces_none}
 use Rattle.office.proofs.Owing.{none_owed}
 
 -- ---- by what is kept
 
-module _ (f : List ℕ → Bool) where
-  -- before a login the line alone counts, and in a session it doesn't
-  outside : (live : Bool) (user : Option LoginName) (next : Option Cut) → live ≡ false
-      → meets_held f live user next ≡ asks_held f user next
-  outside true user next e = cc
-  outside false user next e = refl
-
-  pub inside : (live : Bool) (user : Option LoginName) (next : Option Cut) → live ≡ true
-      → false ≡ meets_held f live user next
-  inside true user next e = refl
-  inside false user next e = cc
-
 -- the line that is whole with a piece
 abbrev line_if : Bool → Kept → List ℕ → Option Cut
 line_if b k p = if b then Some (line_after k p) else None
 
-module _ (f : List ℕ → Bool) (k : Kept) (p : List ℕ) (out : is_some k.session ≡ false) where
-  abbrev asks : Bool → Bool
-  asks b = asks_held f k.talk.user (line_if b k p)
+-- whom it would log in: before a login the line and the name in force alone count
+module _ (k : Kept) (p : List ℕ) (out : is_some k.session ≡ false) where
+  abbrev asked : Bool → Option LoginName
+  asked b = coming_login false k.talk.user (line_if b k p)
 
-  asked : asks (has_newline p) ≡ meets_held f (is_some k.session) k.talk.user (line_with k p)
-  asked = sym (outside f (is_some k.session) k.talk.user (line_with k p) out)
+  outside : asked (has_newline p) ≡ coming_login (is_some k.session) k.talk.user (line_with k p)
+  outside = ap (λ (b : Bool). coming_login b k.talk.user (line_with k p)) (sym out)
 
-  pub meets_line : (x : Cut) → has_newline p ≡ true → x ≡ line_after k p
-      → is_held_for f (login_asked (reading x) k.talk.user)
-      ≡ meets_held f (is_some k.session) k.talk.user (line_with k p)
-  meets_line x h e = ap (λ y. asks_held f k.talk.user (Some y)) e ∙ (ap asks (sym h) ∙ asked)
+  pub comes_line : (x : Cut) → has_newline p ≡ true → x ≡ line_after k p
+      → login_asked (reading x) k.talk.user
+      ≡ coming_login (is_some k.session) k.talk.user (line_with k p)
+  comes_line x h e =
+      ap (λ y. coming_login false k.talk.user (Some y)) e ∙ (ap asked (sym h) ∙ outside)
 
-  pub meets_none : has_newline p ≡ false
-      → false ≡ meets_held f (is_some k.session) k.talk.user (line_with k p)
-  meets_none h = ap asks (sym h) ∙ asked
+  pub comes_none : has_newline p ≡ false
+      → None ≡ coming_login (is_some k.session) k.talk.user (line_with k p)
+  comes_none h = ap asked (sym h) ∙ outside
 
 -- ---- by the trace
 
@@ -90,7 +82,7 @@ module _ (c : Contents) (s : Seen) (k : Kept) (p : List ℕ) (m : Matches c s k)
   next_is true h = sym (next_some h)
   next_is false h = sym (next_none h)
 
-session_live : (c : Contents) (s : Seen) (o : Option Session) → IsSession c s o → is_some o ≡ s.live
+pub session_live : (c : Contents) (s : Seen) (o : Option Session) → IsSession c s o → is_some o ≡ s.live
 session_live c s None h = sym h
 session_live c s (Some k) h = sym h.live
 
@@ -100,34 +92,43 @@ module _ (f g : List ℕ → Bool) (e : (d : List ℕ) → f d ≡ g d) where
   held_same None = refl
   held_same (Some name) = e name.maildrop
 
-  asks_same : (who : Option LoginName) (next : Option Cut) → asks_held f who next ≡ asks_held g who next
-  asks_same who None = refl
-  asks_same who (Some x) = held_same (login_asked (reading x) who)
-
 ready_so : (T : Trace) (n : ℕ) → is_open T n ≡ true → untaken T.log (history T) n ≡ []
     → is_ready T n ≡ true
 ready_so T n o r = rw (o, r) refl
 
--- what is kept of a connection that owes nothing says whether it waits
-pub waits_so : (c : Contents) (T : Trace) (n : ℕ) (p : List ℕ) (k : Kept) → Matches c (seen T n) k
-    → k.output ≡ nothing_owed → (locks : BTreeMap (List ℕ) ℕ)
-    → ((d : List ℕ) → get name_cmp locks d ≡ holder (history T) d)
-    → (now seconds : ℕ) → now ≡ moment T.log
-    → kept_waits (is_locked_by locks) now seconds k p ≡ waits T n p seconds
-waits_so c T n p k m o locks held now seconds at =
-    let s = seen T n in
-    let G = history T in
-    let by_locks = is_locked_by locks in
-    let by_trace : List ℕ → Bool = λ d. is_some (holder G d) in
-    let late = nat_le (clock T.log n + seconds) (moment T.log) in
-    let none = none_owed c k.session k.output (untaken_of s) m.owed o in
-    let ready : is_ready T n ≡ true = ready_so T n m.opened none in
-    let idle : is_idle now seconds k ≡ late = ap₂ (λ x y. nat_le (x + seconds) y) m.clock at in
-    let next : line_with k p ≡ next_line T.log G n p = next_is c s k p m o (has_newline p) refl in
-    let same = asks_same by_locks by_trace (λ d. ap is_some (held d)) k.talk.user (line_with k p) in
-    let line : asks_held by_locks k.talk.user (line_with k p)
-    ≡ asks_held by_trace (user G n) (next_line T.log G n p) =
-    same ∙ ap₂ (λ u x. asks_held by_trace u x) m.user next in
-    let meets : meets_held by_locks (is_some k.session) k.talk.user (line_with k p) ≡ meets_lock T n p =
-    ap₂ (λ b a. not b && a) (session_live c s k.session m.session) line in
-    ap₂ (λ x y. not x && y) idle meets ∙ sym (ap (λ b. b && (not late && meets_lock T n p)) ready)
+-- what is kept of a connection that owes nothing says whom its next line would log in
+module _ (c : Contents) (T : Trace) (n : ℕ) (p : List ℕ) (k : Kept) (m : Matches c (seen T n) k)
+    (o : k.output ≡ nothing_owed) where
+  abbrev coming_by_kept : Option LoginName
+  coming_by_kept = coming_login (is_some k.session) k.talk.user (line_with k p)
+
+  ready : is_ready T n ≡ true
+  ready = ready_so T n m.opened (none_owed c k.session k.output (untaken_of (seen T n)) m.owed o)
+
+  login_so : coming_by_kept ≡ next_login T n p
+  login_so =
+      let s = seen T n in
+      let next : line_with k p ≡ next_line T.log (history T) n p =
+      next_is c s k p m o (has_newline p) refl in
+      let live = session_live c s k.session m.session in
+      ap₂ (λ b u. coming_login b u (line_with k p)) live m.user
+      ∙ ap (λ x. coming_login s.live s.user x) next
+
+  -- whether it brings a login
+  pub brings_so : is_some coming_by_kept ≡ brings_login T n p
+  brings_so =
+      ap is_some login_so ∙ sym (ap (λ b. b && is_some (next_login T n p)) ready)
+
+  -- whether it waits
+  pub waits_so : (locks : BTreeMap (List ℕ) ℕ)
+      → ((d : List ℕ) → get name_cmp locks d ≡ holder (history T) d)
+      → (now seconds : ℕ) → now ≡ moment T.log
+      → kept_waits (is_locked_by locks) now seconds k p ≡ waits T n p seconds
+  waits_so locks held now seconds at =
+      let by_trace : List ℕ → Bool = λ d. is_some (holder (history T) d) in
+      let late = nat_le (clock T.log n + seconds) (moment T.log) in
+      let idle : is_idle now seconds k ≡ late = ap₂ (λ x y. nat_le (x + seconds) y) m.clock at in
+      let same = held_same (is_locked_by locks) by_trace (λ d. ap is_some (held d)) coming_by_kept in
+      let meets : is_held_for (is_locked_by locks) coming_by_kept ≡ meets_lock T n p =
+      same ∙ ap (λ w. is_held_for by_trace w) login_so in
+      ap₂ (λ x y. not x && y) idle meets ∙ sym (ap (λ b. b && (not late && meets_lock T n p)) ready)

@@ -15,20 +15,20 @@ use Rattle.office.specs.History.{Entry, Done, Failed, credential, in_force, exis
 use Rattle.office.specs.Connections.{reading, user, failures}
 use Rattle.office.specs.Sessions.{live, holder, present}
 use Rattle.office.specs.Replying.{reply_to_reading, reply_to_cut, logging_in, login_failed, stamp, line_may_fail, reading_may_fail}
-use Rattle.office.specs.Kept.{Desk, judged, said_outside, line_outside, asks_outside, one_more_failure}
+use Rattle.office.specs.Kept.{Desk, judged, said_outside, line_outside, asks_outside, one_more_failure, most_failures}
 use Rattle.office.specs.Answered.{reply_of, tag_of}
 use Rattle.office.specs.declared.talk.Talk.{Talk}
 use Rattle.office.specs.declared.talk.Acted.{Acted}
 use Rattle.office.specs.declared.talk.Acted.TheVariants as acted
 
-same_refusal : (f g : ℕ) → min f 2 ≡ min g 2 → nat_le 2 g ≡ nat_le 2 f
+same_refusal : (f g : ℕ) → f ≡ min g most_failures → nat_le 2 g ≡ nat_le 2 f
 same_refusal f g e = grind (arith, nat_tests, e)
 
 -- What is kept of a connection without a session, and what its lines are judged by, are what the history says.
 pub record AgreesOutside (B : Records) (G : List Entry) (c : ℕ) (d : Desk) (t : Talk) : Type 0 where
   pub outside : live G c ≡ false
   pub user : t.user ≡ user G c
-  pub failures : min t.failures 2 ≡ min (failures G c) 2
+  pub failures : t.failures ≡ min (failures G c) most_failures
   pub credentials : (name : List ℕ) → credential_in name d.store.clerks ≡ credential B G name
   pub policy : d.policy ≡ in_force B G
   pub there : (name : List ℕ) → is_one_of name d.store.maildrops ≡ exists B G name
@@ -122,11 +122,13 @@ module _ (B : Records) (G : List Entry) (c : ℕ) (d : Desk) (t : Talk) (a : Agr
   pub fails_outside : (x : Cut) → asks_outside t (reading x) ≡ true → line_may_fail B G c x ≡ true
   fails_outside x h = may_be_refused (reading x) h
 
--- ---- failures, counted to two
+-- ---- failures, counted to the most
 
-one_more_alike : (f g : ℕ) → min f 2 ≡ min g 2 → min (one_more_failure f) 2 ≡ min (g + 1) 2
-one_more_alike f g e = grind (arith, nat_tests, e)
+one_more_counted : (f g : ℕ) → f ≡ min g most_failures
+    → one_more_failure f ≡ min (g + 1) most_failures
+one_more_counted f g e = grind (arith, nat_tests, e)
 
-pub failures_alike : (b : Bool) (f g : ℕ) → min f 2 ≡ min g 2 → min (if b then one_more_failure f else f) 2 ≡ min (if b then g + 1 else g) 2
-failures_alike true f g e = one_more_alike f g e
-failures_alike false f g e = e
+pub failures_counted : (b : Bool) (f g : ℕ) → f ≡ min g most_failures
+    → (if b then one_more_failure f else f) ≡ min (if b then g + 1 else g) most_failures
+failures_counted true f g e = one_more_counted f g e
+failures_counted false f g e = e

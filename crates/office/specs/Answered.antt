@@ -1,4 +1,5 @@
--- What becomes of a line that is answered: its reply, the session that it leaves, the locks, and what the store then holds.
+-- What answering a line does: its reply, the session after it, the locks, and what the store then
+-- holds.
 use Rattle.std.specs.Prelude.{◌≡◌, ℕ, Bool, true, false, List, ⊤, Option, Some, None, Result, is_some}
 use Rattle.std.specs.Ordering.{nat_cmp}
 use Rattle.std.specs.declared.cmp.Ordering.{Ordering}
@@ -33,15 +34,15 @@ use Rattle.office.specs.declared.talk.Acted.TheVariants as acted
 abbrev pub name_cmp : List ℕ → List ℕ → Ordering
 name_cmp = slice_cmp nat_cmp
 
--- which maildrops these locks lock
+-- whether a maildrop is locked
 abbrev pub is_locked_by : BTreeMap (List ℕ) ℕ → List ℕ → Bool
 is_locked_by locks name = is_some (get name_cmp locks name)
 
--- over a store with these contents, under these locks
+-- what a line is judged by, over a store with these contents and under these locks
 abbrev pub judged_at : Contents → Policy → (stamp : List ℕ) → BTreeMap (List ℕ) ℕ → Judged
 judged_at c policy stamp locks = record { store = records_of c; policy = policy; stamp = stamp; is_locked = is_locked_by locks }
 
--- the same, of what the code lends
+-- the same, by the desk that the code passes
 abbrev pub desk_over : Contents → Desk → BTreeMap (List ℕ) ℕ → Judged
 desk_over c d locks = judged_at c d.policy.now d.stamp.now locks
 
@@ -53,25 +54,26 @@ IsSeated c _ _ = ⊥
 
 -- ---- the reply
 
--- what a line is told: the answer, or that the store refused
+-- the reply to a line: its answer, or that the store failed
 abbrev pub reply_of : Acted → Judged → Talk → Option Sitting → Cut → Reply
 reply_of w d t (Some v) x = reply_inside w d.policy v x
 reply_of acted.Done d t None x = line_outside d t x
 reply_of acted.Failed d t None x = StoreFailed
 
--- what the line's event shows
+-- the tag of the event in which a line acted
 abbrev pub tag_of : Acted → Tag
 tag_of acted.Done = history.Done
 tag_of acted.Failed = history.Failed
 
--- what its event is answered
+-- the outcome of that event
 abbrev pub shown_of : Acted → Outcome
 shown_of acted.Done = outcomes.Done
 shown_of acted.Failed = outcomes.Failed
 
 -- ---- the session
 
--- A QUIT ends a session, an accepted login begins one, whose removals are judged so, and else all goes on as it was.
+-- A QUIT ends a session; an accepted login begins one, which judges removals as `Removals` says;
+-- any other line leaves the session, with the marks that its reply says.
 abbrev pub SessionAfter : (quits : Bool) → (logged_in : Option LoginName) → Contents → Policy → Removals → Reply → (old new : Option Session) → Type 0
 SessionAfter true logged_in c p j reply old new = new ≡ None
 SessionAfter false (Some name) c p j reply old new = new ≡ Some (started p j name.clerk name.maildrop (heads name.maildrop c))
@@ -83,12 +85,12 @@ SessionAfter false None c p j reply (Some s) None = ⊥
 abbrev pub Becomes : Contents → Policy → Talk → Cut → Reply → (old new : Option Session) → Type 0
 Becomes c p t x reply old new = SessionAfter (is_quit (reading x)) (logs_in (reading x) (Says reply) t.user) c p t.removals reply old new
 
--- the session after octets: none acts where no line is whole
+-- the session after octets: the same, where no line is whole
 abbrev pub BecomesIf : (has_line : Bool) → Contents → Policy → Talk → Cut → Reply → (old new : Option Session) → Type 0
 BecomesIf true c p t x reply old new = Becomes c p t x reply old new
 BecomesIf false c p t x reply old new = new ≡ old
 
--- the lock of a session that begins is taken for its connection, that of one that ends is let go
+-- a session that begins takes its maildrop's lock, one that ends lets it go, and no other changes
 abbrev pub LocksFollow : ℕ → (old new : Option Session) → (before now : BTreeMap (List ℕ) ℕ) → Type 0
 LocksFollow n None (Some s) before now = Updates name_cmp before now s.name.maildrop (Some n)
 LocksFollow n (Some s) None before now = Updates name_cmp before now s.name.maildrop None
@@ -101,7 +103,7 @@ abbrev pub held_after : Acted → Policy → Option Session → Result Command L
 held_after w p None r c = c
 held_after w p (Some s) r c = held_after_line w p s r c
 
--- what it holds after octets
+-- what it holds after octets, with a whole line or none
 abbrev pub held_if : (has_line : Bool) → Acted → Policy → Option Session → Result Command LineFault → Contents → Contents
 held_if true w p s r c = held_after w p s r c
 held_if false w p s r c = c

@@ -28,7 +28,7 @@ pub data AdminCommand : Type 0 where
   EndSession : (number : ℕ) → AdminCommand
   Explain : (clerk maildrop class : List ℕ) → Action → AdminCommand
 
--- what a deposit or a command is answered: one for each line of the tables of answers
+-- the answers to deposits and commands
 pub data Answer : Type 0 where
   New : Uid → Answer
   Known : Uid → Answer
@@ -80,7 +80,7 @@ session_text row = decimal row.0 ++ codes " " ++ row.1.clerk ++ codes " " ++ row
 abbrev pub group_line : Group → List ℕ
 group_line g = g.name ++ codes " " ++ decimal (length g.members)
 
--- what the policy says, and by which rule
+-- allow or deny, and by which rule
 abbrev pub decision_text : Bool → List ℕ → List ℕ
 decision_text true rule = codes "allow by rule " ++ rule
 decision_text false rule = codes "deny by rule " ++ rule

@@ -5,7 +5,7 @@ use Rattle.std.specs.BTreeMap.{get}
 use Rattle.office.specs.Kept.{Kept}
 use Rattle.office.specs.declared.office.Office.{Office}
 
--- those that stand ready
+-- the octets that stand ready
 abbrev pub length_of_output : Option Kept → ℕ
 length_of_output None = 0
 length_of_output (Some k) = length k.output.ready

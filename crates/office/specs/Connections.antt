@@ -1,5 +1,5 @@
--- What a history says of one connection: whether it is connected and closing, which lines acted, what it was sent, and the
--- login name in force (RFC 1939, 4; RFC 2449, 4).
+-- What a history says of one connection: whether it is connected and closing, how many lines acted,
+-- what it was sent, and the login name in force (RFC 1939, 4; RFC 2449, 4).
 use Rattle.std.specs.Prelude.{ℕ, Bool, true, false, ◌&&◌, ◌||◌, ◌+◌, ◌==◌, nat_lt, List, [], ◌∷◌, ◌++◌, Option, Some, None, Result, Ok, Err, if◌then◌else◌}
 use Rattle.creds.specs.declared.login_name.LoginName.{LoginName}
 use Rattle.popline.specs.Cutting.{Cut, TooLong}
@@ -15,7 +15,7 @@ use Rattle.popline.specs.Cutting as cutting
 
 -- ---- connections
 
--- what a line reads as; one that is too long spells nothing
+-- what a line reads as; one that is too long is an unknown command
 abbrev pub reading : Cut → Result Command LineFault
 reading (cutting.Line l) = command_of l
 reading TooLong = Err Unknown
@@ -44,7 +44,8 @@ setting (e ∷ G) = setting_after e.act (setting G)
 abbrev pub judging : List Entry → Removals
 judging G = (setting G).2
 
--- a connection was opened, and nothing but its own closing can have ended it since
+-- whether a connection is connected after an entry: it was opened, and nothing ended it since but,
+-- maybe, its own QUIT or third refused credential
 abbrev pub connected_after : Act → Tag → Said → ℕ → Bool → Bool
 connected_after (Open n) t said c before = if n == c then true else before
 connected_after (Line n x) NoMemory said c before = if n == c then false else before
@@ -59,12 +60,12 @@ abbrev pub connected : List Entry → ℕ → Bool
 connected [] c = false
 connected (e ∷ G) c = connected_after e.act e.tag e.said c (connected G c)
 
--- its QUIT acted, or its third failed credential
+-- a line closes its connection: a QUIT, or the third refused credential
 abbrev pub closes : Result Command LineFault → Said → Bool
 closes r (Says LoginFailedClosing) = true
 closes r _ = is_quit r
 
--- an opening begins anew; what closes stays so
+-- an opening begins anew; a connection that closes stays so
 abbrev pub closing_after : Act → Said → ℕ → Bool → Bool
 closing_after (Open n) said c before = if n == c then false else before
 closing_after (Line n x) said c before = if n == c then closes (reading x) said || before else before
@@ -92,7 +93,7 @@ has_message (Says (Message octets lines)) = true
 has_message (Says (TopPart lines)) = true
 has_message _ = false
 
--- each line has the last reply
+-- each line's reply becomes the last one
 abbrev pub serving_after : Act → Said → ℕ → Bool → Bool
 serving_after (Open n) said c before = if n == c then false else before
 serving_after (Line n x) said c before = if n == c then has_message said else before
@@ -108,23 +109,23 @@ abbrev pub octets_said : Said → List ℕ
 octets_said (Says reply) = bytes_of reply
 octets_said _ = []
 
--- an opening has the greeting, and each line its reply
+-- an opening sends the greeting, and each line its reply
 abbrev pub sent_after : Act → Said → ℕ → List ℕ → List ℕ
 sent_after (Open n) said c before = if n == c then octets_said said else before
 sent_after (Line n x) said c before = if n == c then before ++ octets_said said else before
 sent_after _ said c before = before
 
--- the replies to a connection's last opening and to its acts since, joined
+-- all that a connection was sent since its last opening: the greeting and each reply, joined
 abbrev pub sent : List Entry → ℕ → List ℕ
 sent [] c = []
 sent (e ∷ G) c = sent_after e.act e.said c (sent G c)
 
--- a number put in its place, once
+-- an ascending list with one number more, unless it is there
 abbrev pub put_number : ℕ → List ℕ → List ℕ
 put_number n [] = n ∷ []
 put_number n (x ∷ xs) = if n == x then x ∷ xs else if nat_lt n x then n ∷ x ∷ xs else x ∷ put_number n xs
 
--- a line puts its connection's number in its place
+-- a line adds its connection's number
 abbrev pub heard_after : Act → List ℕ → List ℕ
 heard_after (Line n x) before = put_number n before
 heard_after _ before = before
@@ -136,7 +137,8 @@ heard (e ∷ G) = heard_after e.act (heard G)
 
 -- ---- logging in
 
--- the login name that a line leaves in force: an accepted USER sets it, an answered CAPA passes it over, all else withdraws it
+-- the login name in force after a line: an accepted USER sets it, an answered CAPA leaves it, any
+-- other line withdraws it
 abbrev pub user_after_line : Result Command LineFault → Said → Option LoginName → Option LoginName
 user_after_line (Ok (User name)) (Says SendPass) before = Some name
 user_after_line (Ok Capa) (Says Capabilities) before = before
@@ -153,7 +155,7 @@ abbrev pub user : List Entry → ℕ → Option LoginName
 user [] c = None
 user (e ∷ G) c = user_after e.act e.said c (user G c)
 
--- a refused credential, closing or not
+-- a reply that refuses a credential, closing or not
 abbrev pub is_failure : Said → Bool
 is_failure (Says LoginFailed) = true
 is_failure (Says LoginFailedClosing) = true
@@ -165,7 +167,7 @@ failures_after (Open n) said c before = if n == c then 0 else before
 failures_after (Line n x) said c before = if n == c && is_failure said then before + 1 else before
 failures_after _ said c before = before
 
--- how many lines since the opening were answered as failed logins
+-- how many credentials were refused since the opening
 abbrev pub failures : List Entry → ℕ → ℕ
 failures [] c = 0
 failures (e ∷ G) c = failures_after e.act e.said c (failures G c)

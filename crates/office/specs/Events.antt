@@ -1,16 +1,17 @@
--- What an office is given, and what an event shows in a trace.
+-- The events that an office is given, and traces of them.
 use Rattle.std.specs.Prelude.{ℕ, List, ◌∷◌}
 use Rattle.session.specs.declared.removals.Removals.{Removals}
 use Rattle.office.specs.Answers.{AdminCommand}
 use Rattle.vault.specs.Records.{Records}
 use Rattle.office.specs.History.{Tag}
 
--- what an office is set to: after how many seconds an idle connection is ended, and when removals are judged
+-- an office's settings: after how many seconds an idle connection is ended, and when removals are
+-- judged
 pub record Limits : Type 0 where
   pub idle : ℕ
   pub removals : Removals
 
--- an office's opening stands first; the others are those that `step` takes
+-- Start is an office's opening; the others are those that `step` takes
 pub data Event : Type 0 where
   Start : (host : List ℕ) (boot : ℕ) (limits : Limits) → Event
   Connect : Event
@@ -22,7 +23,7 @@ pub data Event : Type 0 where
   Admin : AdminCommand → Event
   Restart : (boot : ℕ) → Event
 
--- an event that was ignored is no act; any other shows a tag
+-- what a trace records of an event's outcome: that it was ignored, or a tag
 pub data Mark : Type 0 where
   Ignored : Mark
   Tagged : Tag → Mark
@@ -31,11 +32,11 @@ pub data Mark : Type 0 where
 abbrev pub Log : Type 0
 Log = List (Event × Mark)
 
--- the records of a store, and what its office was given since
+-- the records of a store at first (`base`), and what its office was given since (`log`)
 pub record Trace : Type 0 where
   pub base : Records
   pub log : Log
 
--- a trace with one event more
+-- a trace with one more event
 abbrev pub given : Trace → Event → Mark → Trace
 given T e m = record { base = T.base; log = (e, m) ∷ T.log }

@@ -1,4 +1,4 @@
--- What the next event is answered: why it is ignored, which tags it may show, and its outcome.
+-- The outcome of the next event: why it is ignored, and which tags it may show.
 use Rattle.std.specs.Prelude.{◌≡◌, ◌⊎◌, ⊤, ℕ, Bool, true, false, not, ◌&&◌, ◌||◌, ◌-◌, ◌^◌, ◌==◌, nat_lt, nat_le, List, [], length, take, Option, Some, None, is_some, if◌then◌else◌}
 use Rattle.popline.specs.Cutting.{Cut, has_newline}
 use Rattle.vault.specs.Records.{Records}
@@ -15,11 +15,11 @@ use Rattle.office.specs.Outcomes as outcome
 
 -- ---- outcomes
 
--- so many connections may be open at once
+-- at most so many connections are open at once
 abbrev pub most_open : ℕ
 most_open = 64
 
--- so many octets may come in one piece
+-- at most so many octets come in one piece
 abbrev pub most_in_a_piece : ℕ
 most_in_a_piece = 4096
 
@@ -27,7 +27,7 @@ most_in_a_piece = 4096
 abbrev pub most_number : ℕ
 most_number = 2 ^ 64 - 1
 
--- as many connections are open as may be, or no number is left
+-- the most connections are open, or no number is left
 abbrev pub is_full_at : Log → List Entry → Bool
 is_full_at T G = nat_le most_open (length (open_numbers_at T G)) || nat_lt most_number (next_number T)
 
@@ -35,12 +35,13 @@ is_full_at T G = nat_le most_open (length (open_numbers_at T G)) || nat_lt most_
 abbrev pub is_full : Trace → Bool
 is_full T = is_full_at T.log (history T)
 
--- a reason, where a test holds
+-- this reason, where the test holds
 abbrev pub reason_if : Bool → Reason → Option Reason
 reason_if true reason = Some reason
 reason_if false reason = None
 
--- why an event is ignored: the first reason that holds; `lent` is how many octets the office lends each connection
+-- why an event is ignored: the first reason that holds; `lent` gives how many octets the office
+-- lends a connection
 abbrev pub ignored_at : Log → List Entry → (lent : ℕ → ℕ) → Event → Option Reason
 ignored_at T G lent event.Connect = reason_if (is_full_at T G) TooManyConnections
 ignored_at T G lent (event.Bytes c piece) =
@@ -57,7 +58,7 @@ ignored_at T G lent _ = None
 abbrev pub ignored : Trace → (lent : ℕ → ℕ) → Event → Option Reason
 ignored T lent e = ignored_at T.log (history T) lent e
 
--- what an event that isn't ignored is answered, where it shows this tag
+-- the outcome of an event that isn't ignored and shows this tag
 abbrev pub shown_at : Records → Log → List Entry → Event → Tag → Outcome
 shown_at B T G e Failed = outcome.Failed
 shown_at B T G e NoMemory = outcome.NoMemory
@@ -66,29 +67,30 @@ shown_at B T G (event.Deposit d class id text) Done = outcome.Answered (deposite
 shown_at B T G (event.Admin command) Done = outcome.Answered (administered B G command)
 shown_at B T G e Done = outcome.Done
 
--- an ignored event is answered its reason
+-- the reason is the outcome, where there is one
 abbrev pub or_ignored : Option Reason → Outcome → Outcome
 or_ignored (Some reason) otherwise = outcome.Ignored reason
 or_ignored None otherwise = otherwise
 
--- what an event is answered, where it shows this tag if it isn't ignored
+-- an event's outcome: its reason where it is ignored, else by this tag
 abbrev pub outcome_of : Trace → (lent : ℕ → ℕ) → Event → Tag → Outcome
 outcome_of T lent e t = or_ignored (ignored T lent e) (shown_at T.base T.log (history T) e t)
 
 -- ---- which tags an event may show
 
--- a line that is next may be refused by the store
+-- whether the store may fail at the next line
 abbrev pub next_may_fail : Records → List Entry → ℕ → Option Cut → Bool
 next_may_fail B G c None = false
 next_may_fail B G c (Some x) = line_may_fail B G c x
 
--- what a Took may meet: while something is left, and after it, where a line is next and the connection isn't closing
+-- what may come of a Took: `while_left` where something is left to take; `at_next` where nothing is
+-- left, unless the connection closes
 abbrev pub took_may : (left while_left closing at_next : Bool) → Bool
 took_may true while_left closing at_next = while_left
 took_may false while_left true at_next = false
 took_may false while_left false at_next = at_next
 
--- the store may refuse lines that need it, later parts of messages, deposits and administration
+-- the store may fail at lines that need it, at later pages of a message, deposits and commands
 abbrev pub may_fail_at : Records → Log → List Entry → Event → Bool
 may_fail_at B T G (event.Bytes c piece) = has_newline piece && next_may_fail B G c (next_line T G c piece)
 may_fail_at B T G (event.Took c octets) = took_may (is_left T G c octets) (serving G c) (closing G c) (next_may_fail B G c (next_line T G c []))
@@ -96,9 +98,8 @@ may_fail_at B T G (event.Deposit d class id text) = true
 may_fail_at B T G (event.Admin command) = true
 may_fail_at B T G _ = false
 
--- No memory is taken by a piece without an end of line; by a Took that leaves some of what is owed
--- where all of it is lent, so that nothing more is put; by a Took of all behind which no line acts;
--- by the end of a connection, a tick and a restart.
+-- These take no memory: a piece without LF; a Took of a part where all that is owed is lent
+-- already; a Took of all that is owed, where no line acts then; Gone, Tick and Restart.
 abbrev pub may_lack_memory_at : Log → List Entry → Event → Bool
 may_lack_memory_at T G event.Connect = true
 may_lack_memory_at T G (event.Bytes c piece) = has_newline piece
@@ -107,7 +108,7 @@ may_lack_memory_at T G (event.Deposit d class id text) = true
 may_lack_memory_at T G (event.Admin command) = true
 may_lack_memory_at T G _ = false
 
--- done is always possible; failed and no memory where they may come
+-- Done may always be; Failed and NoMemory where the store or memory may fail
 abbrev pub may_show_at : Records → Log → List Entry → Event → Tag → Bool
 may_show_at B T G e Done = true
 may_show_at B T G e Failed = may_fail_at B T G e
@@ -117,15 +118,15 @@ may_show_at B T G e NoMemory = may_lack_memory_at T G e
 abbrev pub may_show : Trace → Event → Tag → Bool
 may_show T e t = may_show_at T.base T.log (history T) e t
 
--- an outcome is what the event is answered with some tag that it may show
+-- this is the event's outcome by some tag that it may show
 pub record IsOutcome (T : Trace) (lent : ℕ → ℕ) (e : Event) (o : Outcome) : Type 0 where
   pub tag : Tag
   pub may : may_show T e tag ≡ true
   pub is : o ≡ outcome_of T lent e tag
 
--- ---- what is sure of an event, whatever the store does
+-- ---- what holds of an event, whatever the store does
 
--- events that ask nothing of the store
+-- events that ask no store: Connect, Gone, Tick and Restart
 abbrev pub asks_no_store : Event → Bool
 asks_no_store event.Connect = true
 asks_no_store (event.Gone c) = true
@@ -133,7 +134,7 @@ asks_no_store (event.Tick now) = true
 asks_no_store (event.Restart boot) = true
 asks_no_store _ = false
 
--- the end of a connection, a tick and a restart never fail, and only the first may be ignored
+-- Gone, Tick and Restart never fail; of them only Gone may be ignored
 abbrev pub Succeeds : Event → Outcome → Type 0
 Succeeds (event.Gone c) o = (o ≡ outcome.Done) ⊎ (o ≡ outcome.Ignored NoSuchConnection)
 Succeeds (event.Tick now) o = o ≡ outcome.Done
@@ -142,7 +143,7 @@ Succeeds _ o = ⊤
 
 -- ---- transcripts
 
--- the octets that an event takes
+-- the octets that an event takes: only a Took that wasn't ignored takes some
 abbrev pub octets_taken : Trace → Event → Mark → List ℕ
 octets_taken T (event.Took c octets) (Tagged t) = take octets (rest T c)
 octets_taken T _ m = []

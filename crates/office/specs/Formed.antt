@@ -1,4 +1,4 @@
--- What the types of an event's values give.
+-- The form that an event's values have by their types.
 use Rattle.std.specs.Prelude.{ℕ, Bool, true, ◌&&◌, ◌^◌, nat_lt, nat_le, [], ◌∷◌}
 use Rattle.creds.specs.Names.{is_name, is_host, is_deposit_id}
 use Rattle.policy.specs.Policy.{is_sound_policy}
@@ -8,7 +8,7 @@ use Rattle.office.specs.Events.{Event, Ignored, Tagged, Log}
 use Rattle.office.specs.Log.{next_number}
 use Rattle.office.specs.Events as event
 
--- ---- what the types of an event's values give
+-- ---- the form of an event's values
 
 -- a command whose names, credential and policy have their form
 abbrev pub is_formed_command : AdminCommand → Bool
@@ -17,11 +17,11 @@ is_formed_command (AddMaildrop d) = is_name d
 is_formed_command (PutClerk name credential) = is_name name && is_sound_credential credential
 is_formed_command _ = true
 
--- a number of 64 bits
+-- a number below 2^64
 abbrev pub is_u64 : ℕ → Bool
 is_u64 n = nat_lt n (2 ^ 64)
 
--- an event whose values have their form, on the events before it; a connection's number has 64 bits too
+-- an event's values have their form, and so has the number that a connection gets
 abbrev pub is_formed : Log → Event → Bool
 is_formed T (event.Start host boot limits) = is_host host && is_u64 boot && nat_le 600 limits.idle && nat_le limits.idle 86400
 is_formed T (event.Restart boot) = is_u64 boot

@@ -1,5 +1,6 @@
--- What an office did, as a list of acts, and what is in force by it: the policy, the clerks, the maildrops, and what arrived.
--- A list has its newest entry first, so what is behind an entry is the front that it acted on.
+-- What an office did, as a list of acts, and what is in force by it: the policy, the clerks, the
+-- maildrops, and what arrived. Histories are newest first; an entry's tail, its front, is the
+-- history before it.
 use Rattle.std.specs.Prelude.{ℕ, Bool, true, false, List, [], ◌∷◌, ◌++◌, Option}
 use Rattle.mailtext.specs.Text.{kept_form}
 use Rattle.creds.specs.declared.credential.Credential.{Credential}
@@ -14,7 +15,7 @@ use Rattle.session.specs.declared.removals.Removals.{Removals}
 use Rattle.office.specs.Answers.{AdminCommand, AddMaildrop, DropMaildrop, PutClerk, DropClerk, SetPolicy, Answer, New, Added, Dropped, Replaced}
 use Rattle.vault.specs.declared.record.Message as store
 
--- what may happen; idle and gone are the two ends that aren't a connection's own doing
+-- the acts; Idle and Gone end a connection from outside
 pub data Act : Type 0 where
   Open : ℕ → Act
   Line : ℕ → Cut → Act
@@ -24,7 +25,7 @@ pub data Act : Type 0 where
   Administer : AdminCommand → Act
   Restart : (boot : ℕ) (host : List ℕ) (removals : Removals) → Act
 
--- a refusal by reply is done too
+-- how an act went; one that a reply refuses is Done too
 pub data Tag : Type 0 where
   Done : Tag
   Failed : Tag
@@ -40,7 +41,7 @@ abbrev pub is_no_memory : Tag → Bool
 is_no_memory NoMemory = true
 is_no_memory _ = false
 
--- what was said to an act
+-- what was said to an act: a reply, an answer, or nothing
 pub data Said : Type 0 where
   Silence : Said
   Says : Reply → Said
@@ -52,11 +53,12 @@ pub record Entry : Type 0 where
   pub tag : Tag
   pub said : Said
 
--- Each fact below is found entry by entry: what it is after an entry, by that entry and by what it was before.
+-- Each fact below is a recursion over the history: its value after an entry, by the entry and the
+-- value before.
 
 -- ---- in force
 
--- the last policy that was set
+-- the policy in force after an act: one that was set replaces it
 abbrev pub policy_after : Act → Tag → Policy → Policy
 policy_after (Administer (SetPolicy policy)) Done before = policy
 policy_after _ _ before = before
@@ -99,7 +101,7 @@ exists B G d = is_one_of d (maildrops B G)
 
 -- ---- arrivals
 
--- the messages that ever arrived, in order
+-- the messages that ever arrived, after an act
 abbrev pub arrivals_after : Act → Said → List store.Message → List store.Message
 arrivals_after (Deposit d class id text) (Answers (New uid)) before = before ++ message_for d class (kept_form text) uid.k ∷ []
 arrivals_after _ _ before = before
@@ -113,7 +115,7 @@ arrivals B (e ∷ G) = arrivals_after e.act e.said (arrivals B G)
 abbrev pub arrived : Records → List Entry → List ℕ → List store.Message
 arrived B G d = in_maildrop d (arrivals B G)
 
--- the deposits that were ever accepted
+-- the deposits that were ever accepted, after an act
 abbrev pub receipts_after : Act → Said → List Receipt → List Receipt
 receipts_after (Deposit d class id text) (Answers (New uid)) before =
     before ++ receipt_for d class id (kept_form text) uid.k ∷ []

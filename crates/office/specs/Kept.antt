@@ -21,21 +21,21 @@ use Rattle.office.specs.Output.{Output}
 use Rattle.office.specs.Sitting.{Sitting, asks_inside}
 use Rattle.office.specs.declared.talk.Talk.{Talk}
 
--- What a line is judged by, beside what is remembered of its connection: the records of the store, the policy, the timestamp of the
--- greeting, and which maildrops are locked.
+-- What a line is judged by, beside what its connection remembers: the store's records, the policy,
+-- the greeting's timestamp, and which maildrops are locked.
 pub record Desk : Type 0 where
   pub store : Records
   pub policy : Policy
   pub stamp : List ℕ
   pub is_locked : List ℕ → Bool
 
--- the credential, the policy, the maildrop, the lock
+-- the reply to a login: it is judged by the credential, the policy, the maildrop, the lock
 abbrev pub judged : Desk → (failures : ℕ) → LoginName → Shown → Reply
 judged d failures name proof = login_reply (is_admitted (credential_in name.clerk d.store.clerks) name.clerk d.stamp proof) failures
     (decide d.policy name.clerk name.maildrop [] to.Open) (is_one_of name.maildrop d.store.maildrops) (d.is_locked name.maildrop)
     (visible class_of d.policy name (in_maildrop name.maildrop d.store.messages))
 
--- what a command is answered before a login
+-- the reply to a command before a login
 abbrev pub obeyed_outside : Desk → Talk → Command → Reply
 obeyed_outside d t Capa = Capabilities
 obeyed_outside d t (User name) = SendPass
@@ -50,7 +50,7 @@ said_outside d t (Err Unknown) = UnknownCommand
 said_outside d t (Err (Syntax k)) = when_permitted (is_allowed k false (is_some t.user)) BadArguments
 said_outside d t (Ok command) = when_permitted (is_allowed (keyword_of command) false (is_some t.user)) (obeyed_outside d t command)
 
--- what a line is answered before a login
+-- the reply to a line before a login
 abbrev pub line_outside : Desk → Talk → Cut → Reply
 line_outside d t TooLong = LineTooLong
 line_outside d t (cutting.Line l) = said_outside d t (command_of l)
@@ -66,13 +66,17 @@ abbrev pub asks : Policy → Talk → Option Sitting → Result Command LineFaul
 asks p t None r = asks_outside t r
 asks p t (Some v) r = asks_inside p v r
 
--- before the first line, on a connection whose removals are judged so
+-- what a new connection remembers: no name in force, and no credential refused
 abbrev pub nothing_said : Removals → Talk
 nothing_said removals = record { user = None; failures = 0; closing = false; removals = removals }
 
--- one more, up to 255
+-- at most so many failures are counted
+abbrev pub most_failures : ℕ
+most_failures = 255
+
+-- one more, up to the most
 abbrev pub one_more_failure : ℕ → ℕ
-one_more_failure n = if nat_lt n 255 then n + 1 else n
+one_more_failure n = if nat_lt n most_failures then n + 1 else n
 
 -- what is remembered after a line that got this reply
 abbrev pub talk_after : Cut → Reply → Talk → Talk
@@ -83,8 +87,9 @@ talk_after x r t = record {
   removals = t.removals;
 }
 
--- the line that is being cut, octets that weren't cut yet, what is owed, what is remembered, the greeting's timestamp, who is in
--- session, and the moment from which idle time is counted
+-- What an office keeps of a connection: the line that is being cut (`held`), octets that aren't cut
+-- yet, what is owed, what is remembered, the greeting's timestamp, the session, and the moment from
+-- which idle time is counted.
 pub record Kept : Type 0 where
   pub held : Held
   pub pending : List ℕ
@@ -99,11 +104,12 @@ abbrev pub maildrop_of : Option Session → Option (List ℕ)
 maildrop_of None = None
 maildrop_of (Some s) = Some s.name.maildrop
 
--- octets with a whole line in them set the clock
+-- a piece with LF sets the clock
 abbrev pub clocked : (now : ℕ) → List ℕ → Kept → Kept
 clocked now octets k = record k { clock = if has_newline octets then now else k.clock }
 
--- after the first whole line of these octets, which came behind what is held, got this reply, and left this session and this output
+-- What is kept after these octets came: where they make a line whole, it got this reply and left
+-- this session and this output.
 abbrev pub answered : Kept → List ℕ → Reply → Option Session → Output → Kept
 answered k octets reply session output =
     let w = fed k.held octets in
@@ -117,6 +123,6 @@ answered k octets reply session output =
       clock = k.clock;
     }
 
--- the line that is whole after these octets
+-- the line that these octets make whole, behind what is held
 abbrev pub line_after : Kept → List ℕ → Cut
 line_after k octets = cut_of (fed k.held octets).octets

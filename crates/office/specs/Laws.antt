@@ -1,4 +1,4 @@
--- Laws on every history, as statements.
+-- Laws over every history: their statements.
 use Rattle.std.specs.Prelude.{◌≡◌, ℕ, Bool, true, false, not, ◌&&◌, ◌⊎◌, ◌==◌, List, [], ◌∷◌, ◌++◌, ⊤, Option, Some, None, Result, Ok, if◌then◌else◌}
 use Rattle.std.specs.Str.{bytes_eq}
 use Rattle.popline.specs.ReplyForm.{IsWellFormed}
@@ -25,7 +25,7 @@ use Rattle.office.specs.Formed.{are_formed}
 use Rattle.office.specs.Taken.{IsAdmitted, AreAdmitted, IsSentExactly}
 use Rattle.office.specs.Events as event
 
--- x is an element
+-- x is an element of the list
 abbrev pub In : {A : Type 0} → A → List A → Type 0
 In x [] = ⊥
 In x (y ∷ ys) = (x ≡ y) ⊎ In x ys
@@ -51,7 +51,8 @@ uid_text_of r = uid_text (record { class = r.class; k = r.k })
 abbrev pub same_uid_text : Receipt → Receipt → Bool
 same_uid_text r s = bytes_eq (uid_text_of r) (uid_text_of s)
 
--- over sound records and events of their types, no two accepted deposits into a maildrop's name have one unique-id as it is written
+-- over sound records and events of their types, no two accepted deposits into a maildrop's name
+-- have one unique-id as it is written
 abbrev pub UniqueIdTextsDiffer : Type 0
 UniqueIdTextsDiffer = (T : Trace) → IsSound T.base → are_formed T.log ≡ true → (d : List ℕ) → are_distinct same_uid_text (deposits T.base (history T) d) ≡ true
 
@@ -72,7 +73,7 @@ abbrev pub boots : Log → List ℕ
 boots [] = []
 boots ((e, m) ∷ T) = boots_after e m (boots T)
 
--- an opening's greeting has a timestamp
+-- each opening of a connection adds its greeting's timestamp
 abbrev pub stamps_after : Act → Said → List (List ℕ) → List (List ℕ)
 stamps_after (Open n) (Says (Greeting c boot host)) before = timestamp c boot host ∷ before
 stamps_after _ _ before = before
@@ -82,7 +83,7 @@ abbrev pub stamps : List Entry → List (List ℕ)
 stamps [] = []
 stamps (e ∷ G) = stamps_after e.act e.said (stamps G)
 
--- the events begin with an office's opening
+-- an event is an office's opening
 abbrev pub IsStart : Event → Mark → Type 0
 IsStart (event.Start host boot limits) (Tagged t) = ⊤
 IsStart _ m = ⊥
@@ -93,7 +94,7 @@ BeginsWithStart [] = ⊥
 BeginsWithStart ((e, m) ∷ []) = IsStart e m
 BeginsWithStart ((e, m) ∷ x ∷ T) = BeginsWithStart (x ∷ T)
 
--- the same, as one fact
+-- the same, as one word that isn't unfolded
 unfoldable pub HasBegun : Log → Type 0
 HasBegun T = BeginsWithStart T
 
@@ -111,13 +112,13 @@ TimestampsDiffer T = are_distinct (λ (n m : ℕ). n == m) (boots T.log) ≡ tru
 
 -- ---- the form of replies
 
--- what was said is a reply of which this holds, or no reply
+-- this holds of what was said, where that is a reply
 abbrev pub IfReply : (Reply → Type 0) → Said → Type 0
 IfReply P (Says r) = P r
 IfReply P Silence = ⊤
 IfReply P (Answers a) = ⊤
 
--- it holds of every reply of a history
+-- this holds of every reply of a history
 abbrev pub AllReplies : (Reply → Type 0) → List Entry → Type 0
 AllReplies P [] = ⊤
 AllReplies P (e ∷ G) = IfReply P e.said × AllReplies P G
@@ -138,17 +139,18 @@ abbrev pub number_to_mark : Result Command LineFault → Option ℕ
 number_to_mark (Ok (Dele n)) = Some n
 number_to_mark _ = None
 
--- a message of the view that a DELE may mark: where removals are judged at the DELE, one that the policy lets the clerk remove
+-- a DELE may mark this message of the view: where removals are judged at the DELE, the policy must
+-- let the clerk remove it
 abbrev pub is_markable : Removals → Option Message → Policy → LoginName → Bool
 is_markable judged None policy name = false
 is_markable JudgedAtDele (Some m) policy name = may_remove policy name m.class
 is_markable JudgedAtQuit (Some m) policy name = true
 
--- a number may be marked: it isn't yet, and its message may be
+-- a number may be marked: it isn't marked yet, and its message may be
 abbrev pub may_mark : Records → List Entry → ℕ → LoginName → List ℕ → ℕ → Bool
 may_mark B G c name before n = not (is_marked before n) && is_markable (judging G) (at_number (view B G c) n) (in_force B G) name
 
--- the marks with a number more, where it may be marked
+-- the marks with one more number, where it may be marked
 abbrev pub marks_with : Option ℕ → (may_mark : ℕ → Bool) → List ℕ → List ℕ
 marks_with None may_mark before = before
 marks_with (Some n) may_mark before = if may_mark n then before ++ n ∷ [] else before
@@ -168,27 +170,28 @@ abbrev pub marks_unless_login : Option LoginName → List ℕ → List ℕ
 marks_unless_login (Some name) before = []
 marks_unless_login None before = before
 
--- the numbers of the DELE lines that are done since the login and the last RSET that is done
+-- a session's marks: the numbers of the DELE lines done since its login and its last RSET
 abbrev pub marks_by_view : Records → List Entry → ℕ → List ℕ
 marks_by_view B [] c = []
 marks_by_view B (e ∷ G) c = marks_unless_login (login_by e.act e.said c (user G c)) (marks_by_act B G c e.act e.tag (marks_by_view B G c))
 
--- the marks that the replies tell are these
+-- a session's marks by the replies and by the view are the same
 abbrev pub MarksAreByView : Type 0
 MarksAreByView = (B : Records) (H : List (Act × Tag)) (c : ℕ) → live (told B H) c ≡ true → marks (told B H) c ≡ marks_by_view B (told B H) c
 
 -- ---- a store of its own
 
--- every store holds its own records with no acts
+-- records agree with themselves, when nothing was done
 abbrev pub OwnRecordsAgree : Type 0
 OwnRecordsAgree = (B : Records) → Agree B (records B [])
 
 -- ---- sent exactly
 
--- over events whose marks are ones that they may have, each connection is sent exactly what the history sends it
+-- where each event has a mark that it may have, each connection is sent exactly what the history
+-- sends it
 abbrev pub TakenIsSent : Type 0
 TakenIsSent = (T : Trace) → AreAdmitted T → (c : ℕ) → IsSentExactly T c
 
--- an office's opening may always have the mark of what is done
+-- an office's opening may always have the mark Done
 abbrev pub OpeningsAreAdmitted : Type 0
 OpeningsAreAdmitted = (T : Trace) (host : List ℕ) (boot : ℕ) (limits : Limits) → IsAdmitted T (event.Start host boot limits) (Tagged Done)

@@ -44,3 +44,4 @@ pub mod VaultAnswers
 pub mod InSession
 pub mod Telling
 pub mod Stopping
+pub mod Logins

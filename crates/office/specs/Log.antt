@@ -1,4 +1,4 @@
--- What an office was given, as a list of events, the newest first, and what the events alone say.
+-- What the events alone say; the list of them has the newest first.
 use Rattle.std.specs.Prelude.{ℕ, not, ◌&&◌, ◌+◌, ◌==◌, List, [], ◌∷◌, ◌++◌, max, if◌then◌else◌}
 use Rattle.popline.specs.Cutting.{has_newline}
 use Rattle.office.specs.History.{Done, is_no_memory}
@@ -23,7 +23,7 @@ opened ((e, m) ∷ T) = opened_after e m (opened T)
 abbrev pub next_number : Log → ℕ
 next_number T = opened T + 1
 
--- after so many seconds a connection that does nothing is ended
+-- the idle seconds after an event: an opening sets them
 abbrev pub idle_after : Event → Mark → ℕ → ℕ
 idle_after (event.Start host boot limits) (Tagged t) before = limits.idle
 idle_after _ m before = before
@@ -33,7 +33,7 @@ abbrev pub idle_seconds : Log → ℕ
 idle_seconds [] = 600
 idle_seconds ((e, m) ∷ T) = idle_after e m (idle_seconds T)
 
--- the moment: the greatest tick since the last restart
+-- the moment after an event: the greatest tick since the last restart, or 0
 abbrev pub moment_after : Event → Mark → ℕ → ℕ
 moment_after (event.Start host boot limits) (Tagged t) before = 0
 moment_after (event.Restart boot) (Tagged t) before = 0
@@ -45,9 +45,9 @@ abbrev pub moment : Log → ℕ
 moment [] = 0
 moment ((e, m) ∷ T) = moment_after e m (moment T)
 
--- Of one connection, since its opening; `next` is the number that an opening gets.
+-- The facts of one connection since its opening; `next` is the number that an opening gets.
 
--- the octets that were accepted from it; a piece that met want of memory and had no LF is left out
+-- the octets that were accepted from it; a piece without LF that met want of memory isn't
 abbrev pub stream_after : Event → Mark → (next c : ℕ) → List ℕ → List ℕ
 stream_after event.Connect (Tagged Done) next c before = if next == c then [] else before
 stream_after (event.Bytes n piece) (Tagged t) next c before =

@@ -4,7 +4,7 @@ use Rattle.std.specs.List.{list_all}
 use Rattle.std.specs.Char.{is_digit}
 use Rattle.std.specs.Str.Parse.{digits_value}
 
--- decimal digits, 1 to 20 of them, of a number below 2^64
+-- 1 to 20 decimal digits of a number below 2^64
 abbrev pub is_number : List ℕ → Bool
 is_number field = nat_lt 0 (length field) && list_all (λ b. is_digit b 10) field && nat_le (length field) 20 && nat_lt (digits_value 10 field) (2 ^ 64)
 

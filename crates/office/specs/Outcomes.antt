@@ -1,4 +1,4 @@
--- What an event is answered.
+-- The outcomes of events.
 use Rattle.std.specs.Prelude.{◌≡◌, ℕ, true, ⊤}
 use Rattle.vault.specs.Calls.{has_grown}
 use Rattle.office.specs.Answers.{Answer}
@@ -6,7 +6,7 @@ use Rattle.office.specs.Events.{Mark, Tagged}
 use Rattle.office.specs.History as history
 use Rattle.office.specs.Events as event
 
--- why an event is ignored, in the order in which they are looked for
+-- why an event is ignored; the first reason in this order that holds
 pub data Reason : Type 0 where
   NoSuchConnection : Reason
   NotReady : Reason
@@ -22,7 +22,7 @@ pub data Outcome : Type 0 where
   Ignored : Reason → Outcome
   Answered : Answer → Outcome
 
--- what an outcome shows in a trace
+-- an outcome's mark in a trace
 abbrev pub mark_of : Outcome → Mark
 mark_of (Opened c) = Tagged history.Done
 mark_of Done = Tagged history.Done
@@ -31,12 +31,12 @@ mark_of NoMemory = Tagged history.NoMemory
 mark_of (Ignored reason) = event.Ignored
 mark_of (Answered answer) = Tagged history.Done
 
--- it isn't answered that memory was wanting
+-- the outcome isn't want of memory
 abbrev pub HasMemory : Outcome → Type 0
 HasMemory NoMemory = ⊥
 HasMemory _ = ⊤
 
--- that the store refused is answered only where its count of faults grew
+-- an event is answered Failed only where the store's count of faults grew
 abbrev pub HasCause : (before now : ℕ) → Outcome → Type 0
 HasCause before now Failed = has_grown before now ≡ true
 HasCause before now _ = ⊤

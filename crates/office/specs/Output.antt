@@ -1,4 +1,5 @@
--- What a connection is owed, as it is kept: octets that stand ready, and what feeds them (RFC 1939, 3: replies of many lines).
+-- What a connection is owed, as it is kept: octets that stand ready, and what feeds them (RFC 1939,
+-- 3: replies of many lines).
 use Rattle.std.specs.Prelude.{◌≡◌, ℕ, Bool, true, false, List, [], ◌++◌, ◌<◌, ◌≤◌, length, take, drop, codes, Option, Some, None}
 use Rattle.std.specs.List.{flat_map}
 use Rattle.mailtext.specs.Streams.{Come, stuffed_from, top_from}
@@ -17,7 +18,8 @@ use Rattle.office.specs.declared.reading.Page.TheVariants as page
 use Rattle.office.specs.declared.output.Source.{Source}
 use Rattle.office.specs.declared.output.Source.TheVariants.{Nothing, Sizes, Uids, Text}
 
--- at most so many are kept: what is lent, a page of a message with each dot doubled, and a line
+-- at most so many octets are kept: the most that is lent, a page of a message with each dot
+-- doubled, and a line
 abbrev pub most_output : ℕ
 most_output = 24832
 
@@ -30,21 +32,21 @@ pub record Output : Type 0 where
 abbrev pub nothing_owed : Output
 nothing_owed = record { ready = []; source = Nothing }
 
--- something comes
+-- more is to come
 abbrev pub is_feeding : Source → Bool
 is_feeding Nothing = false
 is_feeding _ = true
 
--- a message comes
+-- more of a message is to come
 abbrev pub reads_text : Source → Bool
 reads_text (Text r) = true
 reads_text _ = false
 
--- what is lent
+-- the octets that may be taken now
 abbrev pub lent_of : Output → List ℕ
 lent_of o = take most_lent o.ready
 
--- where something comes, as much stands ready as is lent at most
+-- while more is to come, at least 16,384 octets are ready
 abbrev pub IsFilled : Output → Type 0
 IsFilled o = is_feeding o.source ≡ true → most_lent ≤ length o.ready
 
@@ -54,15 +56,15 @@ IsFilled o = is_feeding o.source ≡ true → most_lent ≤ length o.ready
 abbrev pub last_line : List ℕ
 last_line = one_line (codes ".")
 
--- the lines of a scan listing behind the first ones, and the dot
+-- the lines of a scan listing from row `done` on, and the dot
 abbrev pub sizes_coming : (done : ℕ) → Session → List ℕ
 sizes_coming done s = flat_map (λ row. one_line (scan_text row)) (drop done (sizes_of octets_of (unmarked s.marks s.view))) ++ last_line
 
--- the lines of a listing of unique-ids behind the first ones, and the dot
+-- the lines of a listing of unique-ids from row `done` on, and the dot
 abbrev pub uids_coming : (done : ℕ) → Session → List ℕ
 uids_coming done s = flat_map (λ row. one_line (uid_row_text row)) (drop done (uids_of uid_of (unmarked s.marks s.view))) ++ last_line
 
--- the octets that follow as far as they are sent: TOP's part, or all
+-- how much of the octets that follow is sent: TOP's part, or all
 abbrev pub cut_from : Option Come → List ℕ → List ℕ
 cut_from None octets = octets
 cut_from (Some come) octets = top_from come octets
@@ -71,23 +73,23 @@ cut_from (Some come) octets = top_from come octets
 abbrev pub text_coming : Reading → (text : List ℕ) → List ℕ
 text_coming r text = stuffed_from r.stuffer (cut_from r.cut (drop r.place text)) ++ last_line
 
--- some of a text of so many octets is still to be read
+-- `r` reads this text, and some of it is still to be read
 pub record IsBegun (r : Reading) (text : List ℕ) : Type 0 where
   pub size : length text ≡ r.octets
   pub left : r.place < r.octets
 
--- what a listing still puts behind what it has put; a message is none
+-- what a listing is still to put; nothing for a message
 abbrev pub listing_coming : Session → Source → List ℕ
 listing_coming s (Sizes done) = sizes_coming done s
 listing_coming s (Uids done) = uids_coming done s
 listing_coming s _ = []
 
--- what a listing has put and what it still puts make the whole
+-- a listing put some of its lines, and those and the lines that are still to come are all of them
 pub record IsListed (s : Session) (source : Source) (before after coming : List ℕ) : Type 0 where
   pub put : before ++ coming ≡ after ++ listing_coming s source
   pub kind : reads_text source ≡ false
 
--- a message of the session's maildrop is read, and this is still to be sent of it
+-- `r` reads a message of the session's maildrop, of which these octets are still to be sent
 pub record Reads (c : Contents) (s : Session) (r : Reading) (octets : List ℕ) : Type 0 where
   pub stored : Keyed
   pub there : In stored c.messages
@@ -96,7 +98,7 @@ pub record Reads (c : Contents) (s : Session) (r : Reading) (octets : List ℕ) 
   pub begun : IsBegun r stored.message.text
   pub coming : octets ≡ text_coming r stored.message.text
 
--- a source puts these octets, in time
+-- a source is still to put these octets
 abbrev pub FeedsInside : Contents → Session → Source → List ℕ → Type 0
 FeedsInside c s Nothing coming = coming ≡ []
 FeedsInside c s (Sizes done) coming = coming ≡ sizes_coming done s
@@ -109,26 +111,27 @@ Feeds c None Nothing coming = coming ≡ []
 Feeds c None source coming = ⊥
 Feeds c (Some s) source coming = FeedsInside c s source coming
 
--- These octets are owed: what stands ready, and what its source puts behind it. As many stand ready as are lent at most, or all.
+-- These octets are owed: those that stand ready, followed by those that the source is still to put.
+-- While more is to come, at least 16,384 octets are ready.
 pub record Owes (c : Contents) (s : Option Session) (o : Output) (octets : List ℕ) : Type 0 where
   pub coming : List ℕ
   pub is : octets ≡ o.ready ++ coming
   pub feeds : Feeds c s o.source coming
   pub filled : IsFilled o
 
--- A reply is owed, and a message comes only where it is the reply's.
+-- A reply is owed; the source is a message only where the reply has one.
 pub record OwesReply (c : Contents) (s : Option Session) (o : Output) (reply : Reply) : Type 0 where
   pub owes : Owes c s o (bytes_of reply)
   pub serves : reads_text o.source ≡ true → has_message (Says reply) ≡ true
 
--- what is owed after octets: nothing where no line acts
+-- what is owed after octets: a line's reply, or nothing where no line acts
 abbrev pub OwesIf : (has_line : Bool) → Contents → Option Session → Output → Reply → Type 0
 OwesIf true c s o reply = OwesReply c s o reply
 OwesIf false c s o reply = o ≡ nothing_owed
 
 -- ---- a page
 
--- what was put and what is still to be put make the whole
+-- a page was put: what was put and what is still to come are what was to come before
 abbrev pub IsPut : Page → (before after coming_before coming_after : List ℕ) → Type 0
 IsPut page.More before after coming still = before ++ coming ≡ after ++ still
 IsPut page.Last before after coming still = before ++ coming ≡ after

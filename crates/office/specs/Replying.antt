@@ -1,4 +1,5 @@
--- The reply to a command line, by what one finds in the front before it (RFC 1939, 4 to 7; RFC 2449, 5 and 8).
+-- The reply to a command line, by the history before it, its front (RFC 1939, 4 to 7; RFC 2449, 5
+-- and 8).
 use Rattle.std.specs.Prelude.{ℕ, Bool, true, false, not, ◌&&◌, nat_le, List, [], ◌∷◌, length, Option, Some, None, Result, Ok, Err, if◌then◌else◌, is_some}
 use Rattle.mailtext.specs.Text.{lines_of, top_part, stuffed_lines}
 use Rattle.creds.specs.declared.login_name.LoginName.{LoginName}
@@ -25,7 +26,8 @@ use Rattle.vault.specs.declared.record.Message as store
 
 -- ---- logging in
 
--- the timestamp of a connection's greeting; a restart ends every connection, so the last one stands before its opening
+-- the timestamp of a connection's greeting; its boot number and host are the last restart's, since
+-- a restart ends every connection
 abbrev pub stamp : List Entry → ℕ → List ℕ
 stamp G c = timestamp c (setting G).0 (setting G).1
 
@@ -37,11 +39,12 @@ login_failed failures = if nat_le 2 failures then LoginFailedClosing else LoginF
 abbrev pub maildrop_has : List store.Message → Reply
 maildrop_has view = MaildropHas (length view) (octets_of_all view)
 
--- what a policy says of opening a maildrop; there is no message yet, so no class
+-- whether the policy lets a clerk open a maildrop; the class is empty, since no message is meant
 abbrev pub opening : Records → List Entry → LoginName → Decision
 opening B G name = decide (in_force B G) name.clerk name.maildrop [] to.Open
 
--- the credential, the policy, the maildrop, the lock: the first that fails gives the reply; `found` is what is let be read
+-- The reply to a login, by the credential, the policy, the maildrop and the lock: the first that
+-- fails gives it. `found` are the messages that the clerk may read.
 abbrev pub login_reply : (admitted : Bool) → (failures : ℕ) → Decision → (there locked : Bool) → (found : List store.Message) → Reply
 login_reply admitted failures opening there locked found =
     if not admitted then login_failed failures
@@ -57,11 +60,12 @@ logging_in B G c name proof = login_reply (is_admitted (credential B G name.cler
 
 -- ---- commands of a session
 
--- a reference to a number: it names a message of the view that isn't marked, or is refused
+-- the reply to a number: what `reply` gives for the unmarked message that it names, or a refusal
 abbrev pub pick : List ℕ → List store.Message → ℕ → (store.Message → Reply) → Reply
 pick marks view n reply = refer marks view n NoSuchMessage (AlreadyMarked n) reply
 
--- where removals are judged at the DELE, a number is marked or the rule that denies it is named; else it is marked
+-- the reply to a DELE: the number is marked; but where removals are judged at the DELE and a rule
+-- denies this one, the rule is named
 abbrev pub deleted_if : Removals → Decision → ℕ → Reply
 deleted_if JudgedAtDele d n = if d.allowed then Marked n else DeniedBy d.rule
 deleted_if JudgedAtQuit d n = Marked n
@@ -70,12 +74,13 @@ deleted_if JudgedAtQuit d n = Marked n
 abbrev pub served_if : Decision → Reply → Reply
 served_if d reply = if d.allowed then reply else DeniedBy d.rule
 
--- the farewell, or the rule that kept a marked message
+-- the farewell, or the rule that kept a marked message from removal
 abbrev pub quit_says : Option (List ℕ) → Reply
 quit_says None = Bye
 quit_says (Some rule) = RemovalDenied rule
 
--- what a session says, by the rules in force, when removals are judged, its login, its marks and its view
+-- the reply to a command of a session, by the policy in force, when removals are judged, the login,
+-- the marks and the view
 abbrev pub session_says : Policy → Removals → LoginName → List ℕ → List store.Message → Command → Reply
 session_says policy judged name marks view Stat = DropListing (length (unmarked marks view)) (total_of octets_of (unmarked marks view))
 session_says policy judged name marks view ListAll = ScanListing (sizes_of octets_of (unmarked marks view))
@@ -94,7 +99,7 @@ session_says policy judged name marks view _ = WrongState
 
 -- ---- the reply to a line
 
--- where a keyword may stand: before a login, after it, or in both
+-- whether a keyword may be given: before a login, after it, or in both
 abbrev pub is_allowed : Keyword → (live has_user : Bool) → Bool
 is_allowed keyword.Capa live has_user = true
 is_allowed keyword.Quit live has_user = true
@@ -103,16 +108,16 @@ is_allowed keyword.Apop live has_user = not live
 is_allowed keyword.Pass live has_user = not live && has_user
 is_allowed _ live has_user = live
 
--- a keyword may stand at this front
+-- a keyword may be given after this front
 abbrev pub is_permitted : List Entry → ℕ → Keyword → Bool
 is_permitted G c k = is_allowed k (live G c) (is_some (user G c))
 
--- a reply, or wrong state
+-- the reply, or that the command isn't for this state
 abbrev pub when_permitted : Bool → Reply → Reply
 when_permitted true reply = reply
 when_permitted false reply = WrongState
 
--- where the store refused
+-- the reply where the store failed
 abbrev pub refusal : Keyword → Reply
 refusal keyword.Quit = RemovalFailed
 refusal _ = StoreFailed
@@ -131,11 +136,11 @@ abbrev pub bye_unless : (live : Bool) → Reply → Reply
 bye_unless true reply = reply
 bye_unless false reply = Bye
 
--- what a session says at a front
+-- the reply to a command of a session, after a front
 abbrev pub reply_in_session : Records → List Entry → ℕ → Command → Reply
 reply_in_session B G c command = session_says (in_force B G) (judging G) (name_or_nobody (login G c)) (marks G c) (view B G c) command
 
--- the reply to a command that may stand there and that the store doesn't refuse
+-- the reply to a command that may be given, where the store doesn't fail
 abbrev pub obeyed : Records → List Entry → ℕ → Command → Reply
 obeyed B G c Capa = Capabilities
 obeyed B G c (User name) = SendPass
@@ -144,7 +149,7 @@ obeyed B G c (Apop name digest) = logging_in B G c name (ByApop digest)
 obeyed B G c Quit = bye_unless (live G c) (reply_in_session B G c Quit)
 obeyed B G c other = reply_in_session B G c other
 
--- the reply to a command that may stand there
+-- the reply to a command that may be given
 abbrev pub reply_to_command : Records → List Entry → ℕ → Command → Tag → Reply
 reply_to_command B G c command Failed = refusal (keyword_of command)
 reply_to_command B G c command _ = obeyed B G c command
@@ -155,24 +160,24 @@ reply_to_reading B G c (Err Unknown) t = UnknownCommand
 reply_to_reading B G c (Err (Syntax k)) t = when_permitted (is_permitted G c k) BadArguments
 reply_to_reading B G c (Ok command) t = when_permitted (is_permitted G c (keyword_of command)) (reply_to_command B G c command t)
 
--- the reply to what was cut
+-- the reply to a line; it may be too long
 abbrev pub reply_to_cut : Records → List Entry → ℕ → Cut → Tag → Reply
 reply_to_cut B G c TooLong t = LineTooLong
 reply_to_cut B G c (cutting.Line l) t = reply_to_reading B G c (command_of l) t
 
--- what is said to a line: nothing, where memory was wanting
+-- what is said to a line: nothing at want of memory
 abbrev pub said_to_line : Records → List Entry → ℕ → Cut → Tag → Said
 said_to_line B G c x NoMemory = Silence
 said_to_line B G c x t = Says (reply_to_cut B G c x t)
 
--- ---- which lines the store may refuse
+-- ---- the lines at which the store may fail
 
--- a number of the view that isn't marked, of a message that may now be read
+-- a message of the view isn't marked, and the policy lets the clerk read it
 abbrev pub is_readable : Policy → LoginName → Option store.Message → (is_marked : Bool) → Bool
 is_readable policy name None is_marked = false
 is_readable policy name (Some m) is_marked = not is_marked && may_read policy name m.class
 
--- a number of a session's view is readable at a front
+-- the same of a number of a session's view, after a front
 abbrev pub may_serve : Records → List Entry → ℕ → ℕ → Bool
 may_serve B G c n = is_readable (in_force B G) (name_or_nobody (login G c)) (at_number (view B G c) n) (is_marked (marks G c) n)
 
@@ -181,7 +186,7 @@ abbrev pub is_empty : {A : Type 0} → List A → Bool
 is_empty [] = true
 is_empty (x ∷ xs) = false
 
--- a login, a message's text, a QUIT that would remove something
+-- the commands that ask the store: a login, one for a message's text, a QUIT that would remove some
 abbrev pub asks_store : Records → List Entry → ℕ → Command → Bool
 asks_store B G c (Pass password) = true
 asks_store B G c (Apop name digest) = true
@@ -190,11 +195,11 @@ asks_store B G c (Top n k) = may_serve B G c n
 asks_store B G c Quit = live G c && not (is_empty (to_remove class_of (in_force B G) (name_or_nobody (login G c)) (marks G c) (view B G c)))
 asks_store B G c _ = false
 
--- the store may refuse what a line reads as
+-- the store may fail at a line that reads so
 abbrev pub reading_may_fail : Records → List Entry → ℕ → Result Command LineFault → Bool
 reading_may_fail B G c (Err fault) = false
 reading_may_fail B G c (Ok command) = is_permitted G c (keyword_of command) && asks_store B G c command
 
--- the store may refuse a line
+-- the store may fail at a line
 abbrev pub line_may_fail : Records → List Entry → ℕ → Cut → Bool
 line_may_fail B G c x = reading_may_fail B G c (reading x)

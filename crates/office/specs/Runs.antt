@@ -1,4 +1,5 @@
--- A list of events done in order: what each was answered, the octets that each taking took, why any failed, and what a stop leaves.
+-- A list of events done in order: the outcome of each, the octets that each taking took, why any
+-- failed, and what a stop leaves.
 use Rattle.std.specs.Prelude.{◌≡◌, ◌<◌, ◌≤◌, ◌+◌, ℕ, false, List, [], ◌∷◌, ◌++◌, ⊤}
 use Rattle.vault.specs.Changes.{Contents}
 use Rattle.vault.specs.Calls.{greatest_count}
@@ -22,7 +23,8 @@ pub record Step : Type 0 where
   pub outcome : Outcome
   pub octets : List ℕ
 
--- a step is an event's outcome, by what an office that stands for the trace lends, with the octets taken
+-- a step is an event's outcome, with the octets taken; how many octets are lent is told by an
+-- office that stands for the trace
 pub record IsStep {V : Type 0} (Holds : V → Contents → Type 0) (T : Trace) (e : Event) (s : Step) : Type 0 where
   pub office : Office V
   pub stood : StandsFor Holds office T
@@ -31,7 +33,7 @@ pub record IsStep {V : Type 0} (Holds : V → Contents → Type 0) (T : Trace) (
 
 -- ---- a list of events
 
--- a trace with these events, and what their steps showed
+-- a trace with these events, and the marks of their steps
 abbrev pub followed : Trace → List Given → List Step → Trace
 followed T (e ∷ es) (s ∷ ss) = followed (followed_by T (event_seen e) s.outcome) es ss
 followed T _ _ = T
@@ -47,7 +49,7 @@ pub record Follows {V : Type 0} (Holds : V → Contents → Type 0) (events : Li
   pub each : AreSteps Holds T events steps
   pub stands : StandsFor Holds o (followed T events steps)
 
--- one event more has its step, and the office then stands for the trace with it
+-- one more event has its step, and the office then stands for the trace with it
 pub record Enters {V : Type 0} (Holds : V → Contents → Type 0) (event : Given) (before after : List Step) (T : Trace) (o : Office V) : Type 0 where
   pub step : Step
   pub entered : after ≡ before ++ step ∷ []
@@ -60,13 +62,13 @@ done_before (NoMemory done) = done
 
 -- ---- causes
 
--- Each step leaves a count of the store's faults that isn't lower than the one before it, and a step that was answered Failed one that
--- grew: from the count before all steps to the one behind them.
+-- Between the count of faults before all steps and that after them there is one for each step: none
+-- is lower than the one before, and each step that was answered Failed raised it.
 abbrev pub HaveCauses : (before now : ℕ) → List Step → Type 0
 HaveCauses before now [] = before ≡ now
 HaveCauses before now (s ∷ ss) = (after : ℕ) × (before ≤ after) × HasCause before after (outcome_seen s.outcome) × HaveCauses after now ss
 
--- one, of an outcome that is Failed
+-- 1 for the outcome Failed, 0 for any other
 abbrev pub one_if_failed : outcomes.Outcome → ℕ
 one_if_failed outcomes.Failed = 1
 one_if_failed _ = 0
@@ -76,7 +78,8 @@ abbrev pub failures_in : List Step → ℕ
 failures_in [] = 0
 failures_in (s ∷ ss) = one_if_failed (outcome_seen s.outcome) + failures_in ss
 
--- the count of faults grew by as many at least as there are failed steps, while it isn't at its greatest: by none, none failed
+-- the count of faults grew at least by the number of failed steps, while it is below its greatest
+-- value; so where it didn't grow, no step failed
 abbrev pub FailuresAreCounted : Type 0
 FailuresAreCounted = (before now : ℕ) (ss : List Step) → now < greatest_count → HaveCauses before now ss → before + failures_in ss ≤ now
 
@@ -95,8 +98,9 @@ abbrev pub AreAnswered : List Step → Type 0
 AreAnswered [] = ⊤
 AreAnswered (s ∷ ss) = IsAnswered (outcome_seen s.outcome) × AreAnswered ss
 
--- What a stop may leave after these events, where all before the last were answered: what the trace with them says, the last with it or
--- without it as its answer tells.
+-- What a stop in the last of these events may leave, where all before it were answered: what the
+-- trace says with all events but the last, or with the last too; only the latter where that was
+-- answered.
 abbrev pub StopLeavesRun : (MayLeave : Contents → Type 0) → Trace → List Given → List Step → Type 0
 StopLeavesRun MayLeave T [] [] = LeavesTrace MayLeave T
 StopLeavesRun MayLeave T (e ∷ []) (s ∷ []) = StopLeaves MayLeave T (event_seen e) (outcome_seen s.outcome)
@@ -105,7 +109,8 @@ StopLeavesRun MayLeave T _ _ = ⊤
 
 -- ---- what a run promises beside its steps
 
--- The store's counts of faults, whether its device is up, and what a stop may leave are asked of the vault of an office before and after.
+-- The store's count of faults, whether its device is up, and what a stop may leave are those of the
+-- office's vault before and after.
 pub record Ran {V : Type 0} (Holds : V → Contents → Type 0) (faults : V → ℕ) (IsUp : V → Type 0) (MayLeave : V → Contents → Type 0)
     (events : List Given) (steps : List Step) (T : Trace) (old new : Office V) : Type 0 where
   pub follows : Follows Holds events steps T new
@@ -114,7 +119,7 @@ pub record Ran {V : Type 0} (Holds : V → Contents → Type 0) (faults : V → 
   pub up : IsUp (vault_of old) → AreAnswered steps → IsUp (vault_of new)
   pub stop : IsUp (vault_of old) → StopLeavesRun (MayLeave (vault_of new)) T events steps
 
--- one event more has its step, with its cause, and a stop leaves what the step's answer tells
+-- one more event has its step, with its cause; and a stop leaves what the step's outcome tells
 pub record EntersSo {V : Type 0} (Holds : V → Contents → Type 0) (faults : V → ℕ) (IsUp : V → Type 0) (MayLeave : V → Contents → Type 0)
     (event : Given) (before after : List Step) (T : Trace) (old new : Office V) : Type 0 where
   pub enters : Enters Holds event before after T new

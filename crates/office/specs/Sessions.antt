@@ -1,5 +1,5 @@
--- What a history says of sessions: logins, the lock, marks, views, what QUIT removed, and the records that are left
--- (RFC 1939, 4 to 6).
+-- What a history says of sessions: logins, the lock, marks, views, what a QUIT removed, and the
+-- records that are left (RFC 1939, 4 to 6).
 use Rattle.std.specs.Prelude.{ℕ, Bool, true, false, not, ◌&&◌, ◌||◌, ◌==◌, List, [], ◌∷◌, ◌++◌, Option, Some, None, Result, Ok, if◌then◌else◌, is_some}
 use Rattle.std.specs.List.{find}
 use Rattle.std.specs.Str.{bytes_eq}
@@ -16,18 +16,18 @@ use Rattle.vault.specs.declared.record.Message as store
 
 -- ---- sessions
 
--- whom an accepted line logs in; for PASS it is the name that was in force
+-- whom a line logs in, where it was accepted; for a PASS that is the name that was in force
 abbrev pub logs_in : Result Command LineFault → Said → Option LoginName → Option LoginName
 logs_in (Ok (Pass password)) (Says (MaildropHas n m)) name = name
 logs_in (Ok (Apop name digest)) (Says (MaildropHas n m)) before = Some name
 logs_in _ _ name = None
 
--- whom an entry logs in on a connection, whose name in force before it is known
+-- whom an entry logs in on a connection; the last argument is the name in force before it
 abbrev pub login_by : Act → Said → ℕ → Option LoginName → Option LoginName
 login_by (Line n x) said c name = if n == c then logs_in (reading x) said name else None
 login_by _ said c name = None
 
--- the clerk and the maildrop of a connection's login since its last opening
+-- whom a connection is logged in as after an entry
 abbrev pub login_after : (opened : Bool) → (logged_in before : Option LoginName) → Option LoginName
 login_after true logged_in before = None
 login_after false None before = before
@@ -48,7 +48,7 @@ ends_session (Restart boot host removals) tag said c = true
 ends_session (Administer (EndSession n)) tag (Answers Ended) c = n == c
 ends_session _ tag said c = false
 
--- a connection is logged in and hasn't quit
+-- a session lives on a connection: it logged in, and nothing ended the session since
 abbrev pub live : List Entry → ℕ → Bool
 live [] c = false
 live (e ∷ G) c = not (ends_session e.act e.tag e.said c) && (is_some (login_by e.act e.said c (user G c)) || live G c)
@@ -62,12 +62,12 @@ when_live false name = None
 abbrev pub in_session : List Entry → ℕ → Option LoginName
 in_session G c = when_live (live G c) (login G c)
 
--- it is a login to this maildrop
+-- a login to this maildrop
 abbrev pub is_login_to : List ℕ → Option LoginName → Bool
 is_login_to d None = false
 is_login_to d (Some name) = bytes_eq name.maildrop d
 
--- a connection is live and logged in to a maildrop
+-- a session on a connection holds a maildrop
 abbrev pub holds : List Entry → List ℕ → ℕ → Bool
 holds G d c = live G c && is_login_to d (login G c)
 
@@ -103,7 +103,7 @@ quits _ tag = None
 
 -- ---- what a session sees, and what sessions removed
 
--- what a login finds, where there is one
+-- a session's view after an entry: what its login finds, where the entry is a login
 abbrev pub view_after : Option LoginName → (found : LoginName → List store.Message) → (before : List store.Message) → List store.Message
 view_after None found before = before
 view_after (Some name) found before = found name
@@ -118,7 +118,7 @@ abbrev pub removed_after : Option ℕ → (taken : ℕ → List store.Message) �
 removed_after None taken before = before
 removed_after (Some c) taken before = before ++ taken c
 
--- A session's view is what its login found. What was removed, a session's QUIT removed.
+-- A session's view is what its login found. Messages are removed by a session's QUIT alone.
 abbrev mutual
   pub view : Records → List Entry → ℕ → List store.Message
   view B [] c = []
@@ -138,7 +138,7 @@ present B G d = without (arrived B G d) (removed B G)
 
 -- ---- the records of a history
 
--- what a store that did all this holds
+-- the records of a store after a history
 abbrev pub records : Records → List Entry → Records
 records B G = record {
   clerks = clerks B G;

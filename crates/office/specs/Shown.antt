@@ -1,4 +1,4 @@
--- What a clause sees of the events, commands, answers and outcomes of the code.
+-- The events, commands, answers and outcomes of the code, as clauses see them.
 use Rattle.std.specs.Prelude.{ℕ, map}
 use Rattle.creds.specs.declared.login_name.LoginName.{LoginName}
 use Rattle.creds.specs.declared.uid.Uid.{Uid}
@@ -98,6 +98,6 @@ outcome_seen outcome.NoMemory = outcomes.NoMemory
 outcome_seen (outcome.Ignored reason) = outcomes.Ignored (reason_seen reason)
 outcome_seen (outcome.Answered answer) = outcomes.Answered (answer_seen answer)
 
--- a trace with one more event and what its outcome shows
+-- a trace with one more event and its outcome's mark
 abbrev pub followed_by : Trace → events.Event → Outcome → Trace
 followed_by T e o = given T e (outcomes.mark_of (outcome_seen o))

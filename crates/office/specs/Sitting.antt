@@ -1,4 +1,4 @@
--- A session over a store: what a line of its connection is answered, what the session is after it, and what the store then holds
+-- A session over a store: the reply to a line, the session after it, and what the store then holds
 -- (RFC 1939, 5 and 6).
 use Rattle.std.specs.Prelude.{◌≡◌, ℕ, Bool, true, false, not, ◌<◌, ◌^◌, List, length, take, map, sum_by, Option, Some, None, Result, Ok, Err}
 use Rattle.mailtext.specs.MailText.{IsMailText}
@@ -32,14 +32,16 @@ use Rattle.office.specs.declared.talk.Acted.TheVariants as acted
 
 -- ---- a session's messages
 
--- who is logged in to which maildrop, when removals are judged, the marked numbers, and the messages of the view
+-- who is logged in to which maildrop, when removals are judged, the marked numbers, and the
+-- messages of the view
 pub record Sitting : Type 0 where
   pub name : LoginName
   pub removals : Removals
   pub marks : List ℕ
   pub view : List store.Message
 
--- a session's heads are those of messages that the store holds in its maildrop, and their octets fit 64 bits
+-- a session's heads are those of messages that its maildrop in the store has, and the sum of their
+-- octets is below 2^64
 pub record LiesIn (c : Contents) (s : Session) (kept : List Keyed) : Type 0 where
   pub heads : s.view ≡ map head_of kept
   pub there : (x : Keyed) → In x kept → In x c.messages
@@ -50,7 +52,7 @@ pub record LiesIn (c : Contents) (s : Session) (kept : List Keyed) : Type 0 wher
 abbrev pub sitting_of : Session → List Keyed → Sitting
 sitting_of s kept = record { name = s.name; removals = s.removals; marks = s.marks; view = map (λ (x : Keyed). x.message) kept }
 
--- what a session with these messages says to a command
+-- the reply of a session with these messages to a command
 abbrev pub told_inside : Policy → Session → List Keyed → Command → Reply
 told_inside p s kept command = session_says p s.removals s.name s.marks (map (λ (x : Keyed). x.message) kept) command
 
@@ -59,11 +61,11 @@ pub record HasText (c : Contents) (key octets : ℕ) : Type 0 where
   pub size : length (text_under key c.messages) ≡ octets
   pub form : IsMailText (text_under key c.messages)
 
--- octets begin as a text does, so many of them
+-- the first so many octets are those of the text
 abbrev pub Begins : ℕ → (octets text : List ℕ) → Type 0
 Begins n octets text = take n octets ≡ take n text
 
--- why a number isn't found in a view, or its message isn't read or marked
+-- the reply to a number under which no message may be read or marked
 abbrev pub refused_pick : ℕ → Pick → Reply
 refused_pick n NoSuch = NoSuchMessage
 refused_pick n Deleted = AlreadyMarked n
@@ -71,7 +73,7 @@ refused_pick n (Denied rule) = DeniedBy rule
 
 -- ---- a line of a session
 
--- the reply to a command; a login can't be asked for again
+-- the reply to a command; USER, PASS and APOP aren't for a session
 abbrev pub obeyed_inside : Policy → Sitting → Command → Reply
 obeyed_inside p v Capa = Capabilities
 obeyed_inside p v command = session_says p v.removals v.name v.marks v.view command
@@ -82,12 +84,12 @@ said_inside p v (Err Unknown) = UnknownCommand
 said_inside p v (Err (Syntax k)) = when_permitted (is_allowed k true false) BadArguments
 said_inside p v (Ok command) = when_permitted (is_allowed (keyword_of command) true false) (obeyed_inside p v command)
 
--- the reply to a line that the store doesn't refuse
+-- the reply to a line where the store doesn't fail
 abbrev pub line_inside : Policy → Sitting → Cut → Reply
 line_inside p v TooLong = LineTooLong
 line_inside p v (cutting.Line l) = said_inside p v (command_of l)
 
--- the reply to a line that the store refused
+-- the reply to a line at which the store failed
 abbrev pub refused_reading : Result Command LineFault → Reply
 refused_reading (Ok command) = refusal (keyword_of command)
 refused_reading (Err fault) = StoreFailed
@@ -101,14 +103,14 @@ asks_inside p v _ = false
 
 -- ---- after it
 
--- a session goes on: its marks are those that the reply leaves, asked by number
+-- a session goes on, the same but for its marks: a number is marked where the reply leaves it so
 pub record GoesOn (reply : Reply) (s new : Session) : Type 0 where
   pub name : new.name ≡ s.name
   pub removals : new.removals ≡ s.removals
   pub view : new.view ≡ s.view
   pub marks : (n : ℕ) → is_marked new.marks n ≡ is_marked (marks_after_line (Says reply) s.marks) n
 
--- the login name in force after a line of a session: only an answered CAPA passes it over
+-- the login name in force after a line of a session: only an answered CAPA leaves it
 abbrev pub user_inside : Acted → Result Command LineFault → Option LoginName → Option LoginName
 user_inside acted.Done (Ok Capa) user = user
 user_inside _ r user = None
@@ -121,17 +123,17 @@ keys_to_remove p s = map head.key_of (to_remove head.class_of p s.name s.marks s
 abbrev pub without_marked : Policy → Session → Contents → Contents
 without_marked p s c = with_messages (without_keys s.name.maildrop (keys_to_remove p s) c.messages) c
 
--- what the store holds after a session's line: a QUIT that is done removes
+-- what the store holds after a session's line: a QUIT that is Done removes messages
 abbrev pub held_after_line : Acted → Policy → Session → Result Command LineFault → Contents → Contents
 held_after_line acted.Done p s (Ok Quit) c = without_marked p s c
 held_after_line _ p s r c = c
 
--- what is told to what a line reads as
+-- the reply to what a line reads as, where the store fails or not
 abbrev pub answered_inside : Acted → Policy → Sitting → Result Command LineFault → Reply
 answered_inside acted.Done p v r = said_inside p v r
 answered_inside acted.Failed p v r = refused_reading r
 
--- what a line of a session is told
+-- the reply to a line of a session, where the store fails or not
 abbrev pub reply_inside : Acted → Policy → Sitting → Cut → Reply
 reply_inside acted.Done p v x = line_inside p v x
 reply_inside acted.Failed p v x = refused_reading (reading x)
@@ -145,8 +147,9 @@ session_if false s = Some s
 abbrev pub session_left : Result Command LineFault → Session → Option Session
 session_left r s = session_if (is_quit r) s
 
--- What became of a line that reads so: its reply is owed, the session goes on, and the store holds what the line leaves. A line that the
--- store refused is one that may be refused, and the refusal was counted.
+-- What came of a line that reads so: its reply is owed, the session goes on, and the store holds
+-- what the line leaves. Where the store failed, the line is one that asks it, and the fault was
+-- counted.
 pub record Obeyed (After : Contents → Type 0) (grown : Bool) (c : Contents) (p : Policy) (s new : Session) (kept : List Keyed)
     (after : Output) (r : Result Command LineFault) (w : Acted) : Type 0 where
   pub owed : OwesReply c (session_left r new) after (answered_inside w p (sitting_of s kept) r)
@@ -155,7 +158,8 @@ pub record Obeyed (After : Contents → Type 0) (grown : Bool) (c : Contents) (p
   pub may : w ≡ acted.Failed → asks_inside p (sitting_of s kept) r ≡ true
   pub cause : w ≡ acted.Failed → grown ≡ true
 
--- What became of a message that was to be sent: it is owed, or that the store refused is, which was counted.
+-- What came of a message that was to be sent: it is owed; or the reply that the store failed is,
+-- and the fault was counted.
 abbrev pub ServedOr : Acted → (grown : Bool) → Contents → Session → (octets : List ℕ) → Output → Type 0
 ServedOr acted.Done grown c s octets o = Owes c (Some s) o octets
 ServedOr acted.Failed grown c s octets o = OwesReply c (Some s) o StoreFailed × (grown ≡ true)

@@ -1,4 +1,5 @@
--- When an office stands for a trace: what it keeps of each connection and of the whole is what the trace says.
+-- When an office stands for a trace: what it keeps of each connection and of the whole is what the
+-- trace says.
 use Rattle.std.specs.Prelude.{◌≡◌, ℕ, Bool, true, false, List, [], ◌++◌, length, drop, map, min, ◌≤◌, Option, Some, None, IsSome, string_bytes}
 use Rattle.std.specs.Ordering.{nat_cmp}
 use Rattle.std.specs.BTreeMap.{get}
@@ -20,7 +21,7 @@ use Rattle.office.specs.Expected.{most_in_a_piece}
 use Rattle.office.specs.Sitting.{LiesIn}
 use Rattle.office.specs.Answered.{name_cmp}
 use Rattle.office.specs.Output.{Owes, reads_text, lent_of}
-use Rattle.office.specs.Kept.{Kept}
+use Rattle.office.specs.Kept.{Kept, most_failures}
 use Rattle.session.specs.Session.{Session}
 use Rattle.session.specs.View.{is_marked}
 use Rattle.vault.specs.declared.record.Keyed.{Keyed}
@@ -29,8 +30,8 @@ use Rattle.office.specs.declared.office.Office.{Office}
 
 -- ---- the store
 
--- A store keeps what a trace says: it holds the records of the trace's history. The records that it began with are sound, and the
--- events have their form; the first of them, where there is one, is an office's opening.
+-- A store keeps what a trace says: it holds the records of the trace's history. The records that it
+-- began with are sound, the events have their form, and the first event, if any, is an opening.
 pub record Keeps (Holds : Contents → Type 0) (T : Trace) : Type 0 where
   pub contents : Contents
   pub held : Holds contents
@@ -39,7 +40,7 @@ pub record Keeps (Holds : Contents → Type 0) (T : Trace) : Type 0 where
   pub formed : are_formed T.log ≡ true
   pub began : IsNewOrBegun T.log
 
--- records over which nothing was done
+-- the trace of these records in which nothing was done
 abbrev pub begun : Records → Trace
 begun B = record { base = B; log = [] }
 
@@ -64,7 +65,7 @@ pub record Seen : Type 0 where
   pub view : List store.Message
   pub clock : ℕ
 
--- the same, of a log and its history
+-- the same, by a log and its history
 abbrev pub seen_at : Records → Log → List Entry → ℕ → Seen
 seen_at B T G c = record {
   connected = connected G c;
@@ -85,11 +86,11 @@ seen_at B T G c = record {
   clock = clock T c;
 }
 
--- the same, of a trace
+-- the same, at the end of a trace
 abbrev pub seen : Trace → ℕ → Seen
 seen T c = seen_at T.base T.log (history T) c
 
--- what is sent and not taken
+-- what was sent and isn't taken yet
 abbrev pub untaken_of : Seen → List ℕ
 untaken_of s = drop s.taken s.sent
 
@@ -97,12 +98,12 @@ untaken_of s = drop s.taken s.sent
 abbrev pub is_seen_open : Seen → Bool
 is_seen_open s = is_open_by s.connected s.closing (untaken_of s)
 
--- how many octets of a line are kept
+-- at most so many octets of a line are kept
 abbrev pub most_in_a_line : ℕ
 most_in_a_line = 255
 
--- who is in session by the trace is in the session that is kept: with the same marks, asked by number, and a view of messages that the
--- store holds
+-- The session that is kept is the trace's: the same login, the same numbers marked, and a view of
+-- messages that the store holds.
 pub record IsSitting (c : Contents) (s : Seen) (k : Session) : Type 0 where
   pub live : s.live ≡ true
   pub login : s.login ≡ Some k.name
@@ -121,22 +122,21 @@ IsSession c s (Some k) = IsSitting c s k
 pub record Matches (c : Contents) (s : Seen) (k : Kept) : Type 0 where
   pub opened : is_seen_open s ≡ true
   pub session : IsSession c s k.session
-  -- what closes a connection ended its session
+  -- a connection that closes has no session
   pub parted : s.closing ≡ true → s.live ≡ false
   pub taken : s.taken ≤ length s.sent
   pub owed : Owes c k.session k.output (untaken_of s)
-  -- a message comes only where the last reply has one
+  -- more of a message is to come only where the last reply has one
   pub serving : reads_text k.output.source ≡ true → s.serving ≡ true
   pub closing : k.talk.closing ≡ s.closing
   pub user : k.talk.user ≡ s.user
-  -- two and more failures are alike: the next one closes
-  pub failures : min k.talk.failures 2 ≡ min s.failures 2
+  pub failures : k.talk.failures ≡ min s.failures most_failures
   pub stamp : k.stamp ≡ s.stamp
   pub judged : k.talk.removals ≡ s.judging
   pub clock : k.clock ≡ s.clock
-  -- however the stream goes on, the lines that are left of it are those that come from what is kept
+  -- whatever comes next, the lines that haven't acted are those that what is kept and it give
   pub lines : (more : List ℕ) → drop s.acted (cut (s.stream ++ more)) ≡ coming k.held (k.pending ++ more)
-  -- what was kept was cut, where nothing is owed
+  -- where nothing is owed, all octets that were kept are cut
   pub cut_whole : untaken_of s ≡ [] → k.pending ≡ []
   -- it keeps at most a line and a piece of input: 255 + 4,096 octets
   pub line_kept : length k.held.octets ≤ most_in_a_line
@@ -147,14 +147,15 @@ pub record IsOver (s : Seen) : Type 0 where
   pub closed : is_seen_open s ≡ false
   pub outside : s.live ≡ false
 
--- what is kept of a connection, if anything is, is what the trace says of it
+-- what is kept of a connection, or that nothing is, fits what the trace says of it
 abbrev pub IsKeptFor : Contents → Seen → Option Kept → Type 0
 IsKeptFor c s None = IsOver s
 IsKeptFor c s (Some k) = Matches c s k
 
 -- ---- the office
 
--- `Holds` says which contents a store holds; the trace begins with an office's opening
+-- An office stands for a trace, which begins with an opening. `Holds` says which contents a store
+-- holds.
 pub record StandsFor {V : Type 0} (Holds : V → Contents → Type 0) (o : Office V) (T : Trace) : Type 0 where
   pub keeps : Keeps (Holds o.vault) T
   pub began : HasBegun T.log
@@ -164,7 +165,7 @@ pub record StandsFor {V : Type 0} (Holds : V → Contents → Type 0) (o : Offic
   pub judged : o.limits.removals ≡ judging (history T)
   pub idle : o.limits.idle ≡ idle_seconds T.log
   pub moment : o.moment ≡ moment T.log
-  -- an open connection has one of the numbers that were given
+  -- an open connection's number was given since the last restart
   pub numbered : (c : ℕ) → IsSome (get nat_cmp o.links c) → (1 ≤ c) × (c ≤ opened T.log)
   pub opened : o.opened ≡ opened T.log
   pub links : (c : ℕ) → IsKeptFor keeps.contents (seen T c) (get nat_cmp o.links c)

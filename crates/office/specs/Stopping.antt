@@ -1,4 +1,5 @@
--- What a stop of the device in an event leaves (a crash, the power gone): what the store says when it is opened again.
+-- What a stop of the device in an event (a crash, the power gone) leaves: what the store says when
+-- it is opened again.
 use Rattle.std.specs.Prelude.{◌≡◌, ◌⊎◌, ⊤, Result, IfOk}
 use Rattle.vault.specs.Records.{Agree}
 use Rattle.vault.specs.Changes.{Contents, records_of}
@@ -16,7 +17,7 @@ use Rattle.office.specs.Outcomes as outcome
 abbrev pub SaysTrace : Contents → Trace → Type 0
 SaysTrace c T = Agree (records_of c) (records T.base (history T))
 
--- whatever a stop may leave says what a trace says
+-- all contents that a stop may leave say what a trace says
 abbrev pub LeavesTrace : (MayLeave : Contents → Type 0) → Trace → Type 0
 LeavesTrace MayLeave T = (left : Contents) → MayLeave left → SaysTrace left T
 
@@ -26,7 +27,7 @@ IsAnswered outcome.Failed = ⊥
 IsAnswered outcome.NoMemory = ⊥
 IsAnswered _ = ⊤
 
--- what an event shows that is taken as done; an ignored event stays no act
+-- the mark of an event that is taken as done; an ignored event stays ignored
 abbrev pub taken_as_done : Mark → Mark
 taken_as_done Ignored = Ignored
 taken_as_done (Tagged t) = Tagged Done
@@ -35,14 +36,15 @@ taken_as_done (Tagged t) = Tagged Done
 abbrev pub with_it_done : Trace → Event → Outcome → Trace
 with_it_done T e o = given T e (taken_as_done (mark_of o))
 
--- without the event or with it where it was answered Failed or NoMemory, else with it
+-- where an event was answered Failed or NoMemory, one of the two holds; else the one with the event
 abbrev pub EitherOrWith : Outcome → (without with_it : Type 0) → Type 0
 EitherOrWith outcome.Failed without with_it = without ⊎ with_it
 EitherOrWith outcome.NoMemory without with_it = without ⊎ with_it
 EitherOrWith _ without with_it = with_it
 
--- Whatever a stop may leave after an event that got this outcome says what the trace before it says, or that with the event taken as done; the
--- latter where the event was answered otherwise than Failed or NoMemory.
+-- All contents that a stop may leave after an event with this outcome say what the trace before the
+-- event says, or the trace with the event taken as done; only the latter where the outcome is
+-- neither Failed nor NoMemory.
 abbrev pub StopLeaves : (MayLeave : Contents → Type 0) → Trace → Event → Outcome → Type 0
 StopLeaves MayLeave T e o = (left : Contents) → MayLeave left → EitherOrWith o (SaysTrace left T) (SaysTrace left (with_it_done T e o))
 
@@ -52,11 +54,11 @@ StaysUpUnless was_up is_up o = was_up → IsAnswered o → is_up
 
 -- ---- a line
 
--- whatever a stop may leave says the same as these contents
+-- all contents that a stop may leave have the same records as these
 pub record LeavesHeld (MayLeave : Contents → Type 0) (c : Contents) : Type 0 where
   pub says : (left : Contents) → MayLeave left → SaySame left c
 
--- whatever a stop may leave says the same as one of these contents
+-- all contents that a stop may leave have the same records as one of these
 pub record LeavesOneOf (MayLeave : Contents → Type 0) (a b : Contents) : Type 0 where
   pub says : (left : Contents) → MayLeave left → SaySame left a ⊎ SaySame left b
 

@@ -1,4 +1,5 @@
--- All that a connection took since its opening, beside what the history sends it; and which marks the events of a log may have.
+-- All that a connection took since its opening, and what the history sends it; and which marks the
+-- events of a log may have.
 use Rattle.std.specs.Prelude.{◌≡◌, ℕ, Bool, true, false, ◌&&◌, ◌||◌, ◌≤◌, ◌==◌, List, [], ◌∷◌, ◌++◌, length, ⊤, if◌then◌else◌}
 use Rattle.vault.specs.Records.{Records}
 use Rattle.office.specs.History.{Done, Entry}
@@ -17,7 +18,8 @@ trace_of B L = record { base = B; log = L }
 
 -- ---- octets that were taken
 
--- an opening begins anew, and each taking that wasn't ignored adds the octets that it takes; `next` is the number that an opening gets
+-- an opening begins anew, and each taking that wasn't ignored adds its octets; `next` is the number
+-- that an opening gets
 abbrev pub all_taken_after : Event → Mark → (next c : ℕ) → (octets before : List ℕ) → List ℕ
 all_taken_after event.Connect (Tagged Done) next c octets before = if next == c then [] else before
 all_taken_after (event.Took n count) (Tagged t) next c octets before = if n == c then before ++ octets else before
@@ -34,12 +36,12 @@ all_taken T c = all_taken_by T.base T.log c
 
 -- ---- connections that closed
 
--- nothing has ended a connection, and all is taken after its QUIT or its third failed credential
+-- a connection closes by itself: it is connected and closing, and all is taken
 abbrev pub closes_at : Log → List Entry → ℕ → Bool
 closes_at L G c = connected G c && closing G c && is_empty (untaken L G c)
 
--- an opening begins anew; what closed stays closed; `now` says whether it closes behind the event, and `next` is the number that an opening
--- gets
+-- an opening begins anew; a connection that closed stays so; `now` says whether it closes by the
+-- event, and `next` is the number that an opening gets
 abbrev pub closed_after : Event → Mark → (next c : ℕ) → (now before : Bool) → Bool
 closed_after event.Connect (Tagged Done) next c now before = if next == c then false else before
 closed_after _ m next c now before = now || before
@@ -55,7 +57,8 @@ has_closed T c = has_closed_by T.base T.log c
 
 -- ---- which marks a log may have
 
--- An event's mark is that of an outcome that it may have, whatever number of the octets that it is owed a connection is lent.
+-- An event's mark is that of an outcome that it may have, where each connection is lent some number
+-- of the octets that it is owed.
 pub record IsAdmitted (T : Trace) (e : Event) (m : Mark) : Type 0 where
   pub lent : ℕ → ℕ
   pub owed : (c : ℕ) → lent c ≤ length (rest T c)
@@ -74,8 +77,8 @@ AreAdmitted T = AreAdmittedBy T.base T.log
 
 -- ---- sent exactly
 
--- What a connection took, and behind it what it is still owed, is what the history sends it. Once it is ended, what it took is a beginning
--- of that, and the whole where its own closing ended it: its QUIT, or its third failed credential, and all taken.
+-- What a connection took, followed by what it is still owed, is what the history sends it. Once it
+-- is ended, it took a beginning of that; and all of it, where it closed by itself.
 pub record IsSentExactly (T : Trace) (c : ℕ) : Type 0 where
   pub while_open : is_open T c ≡ true → all_taken T c ++ rest T c ≡ sent (history T) c
   pub beginning : (untaken : List ℕ) × (all_taken T c ++ untaken ≡ sent (history T) c)

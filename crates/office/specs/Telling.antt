@@ -1,8 +1,8 @@
--- Which commands of a session are told a reply at once.
+-- The commands of a session whose reply is one line, made without the store.
 use Rattle.std.specs.Prelude.{Bool, true, false}
 use Rattle.popline.specs.Commands.{Command, Quit, ListAll, UidlAll, Retr, Top}
 
--- the commands that neither list all messages nor ask the store
+-- the commands that list no messages and ask no store
 abbrev pub is_told : Command → Bool
 is_told ListAll = false
 is_told UidlAll = false

@@ -1,4 +1,5 @@
--- What is said to each act, by what one finds in the front before it: replies, and answers to deposits and administration.
+-- What is said to each act, by the history before it, its front: replies, and answers to deposits
+-- and commands.
 use Rattle.std.specs.Prelude.{ℕ, nat_lt, List, [], ◌∷◌, length, map, Option, Some, None, if◌then◌else◌, is_some}
 use Rattle.std.specs.List.{filter_map}
 use Rattle.mailtext.specs.Text.{kept_form}
@@ -30,7 +31,7 @@ answer_of_deposit changes.NoMaildrop = answer.NoSuchMaildrop
 answer_of_deposit changes.Conflict = answer.Conflict
 answer_of_deposit changes.Full = answer.Full
 
--- an empty text, one that is too large, and then what the store answers: the first that holds
+-- the answer to a deposit: the text is empty, it is too large, or what the store answers
 abbrev pub deposited : Records → List Entry → (maildrop class id text : List ℕ) → Answer
 deposited B G d class id text =
     if is_empty text then answer.EmptyText
@@ -70,7 +71,7 @@ answer_of_drop changes.Gone = answer.Dropped
 answer_of_drop changes.NotThere = answer.NoSuchMaildrop
 answer_of_drop changes.NotEmpty = answer.NotEmpty
 
--- the answer to a command, by the front before it
+-- the answer to a command after a front
 abbrev pub administered : Records → List Entry → AdminCommand → Answer
 administered B G ListMaildrops = answer.Maildrops (map (λ d. total_in d (present B G d)) (by_name (maildrops B G)))
 administered B G (ShowMaildrop d) = if exists B G d then answer.Messages (map row_of (present B G d)) else answer.NoSuchMaildrop
@@ -90,12 +91,12 @@ administered B G (Explain clerk d class action) = answer.Explained (decide (in_f
 
 -- ---- a history
 
--- an answer to an act that is done; one that failed or met want of memory is told as that
+-- the answer, where the act is Done; else that it failed or met want of memory
 abbrev pub answers_if_done : Tag → Answer → Said
 answers_if_done Done answer = Answers answer
 answers_if_done _ answer = Silence
 
--- what is said to an act on a front
+-- what is said to an act after a front
 abbrev pub said_to : Records → List Entry → Act → Tag → Said
 said_to B G (Open c) t = Says (Greeting c (setting G).0 (setting G).1)
 said_to B G (Line c x) t = said_to_line B G c x t

@@ -11,13 +11,13 @@ use Rattle.office.specs.Events.{Event, Mark, Ignored, Tagged, Log, Trace}
 use Rattle.office.specs.Log.{opened, clock, idle_seconds, next_number, taken, stream, moment}
 use Rattle.office.specs.Events as event
 
--- ---- what the events say with what was told: T is the events, G the history of their acts
+-- ---- what events and their history say: T is the events, G the history of their acts
 
--- the octets that a connection was sent and has not taken
+-- the octets that a connection was sent and hasn't taken
 abbrev pub untaken : Log → List Entry → ℕ → List ℕ
 untaken T G c = drop (taken T c) (sent G c)
 
--- a connection is open while it is connected, until all is taken after what closes it
+-- a connection is open while it is connected; one that closes, until all is taken
 abbrev pub is_open_by : (connected closing : Bool) → (untaken : List ℕ) → Bool
 is_open_by connected closing untaken = connected && not (closing && is_empty untaken)
 
@@ -29,15 +29,15 @@ is_open_at T G c = is_open_by (connected G c) (closing G c) (untaken T G c)
 abbrev pub open_numbers_at : Log → List Entry → List ℕ
 open_numbers_at T G = filter (is_open_at T G) (range_with_len 1 (opened T))
 
--- those that have done nothing for the idle seconds at this moment
+-- the numbers of those that have done nothing for the idle seconds at this moment
 abbrev pub idle_numbers : Log → List Entry → (moment : ℕ) → List ℕ
 idle_numbers T G moment = filter (λ c. nat_le (clock T c + idle_seconds T) moment) (open_numbers_at T G)
 
--- a connection's next line, after a further piece
+-- a connection's next line, with this piece behind what came before
 abbrev pub next_line : Log → List Entry → ℕ → (piece : List ℕ) → Option Cut
 next_line T G c piece = slice_get (cut (stream T c ++ piece)) (acted G c)
 
--- something is left after so many more octets are taken
+-- something is left to take after so many octets more
 abbrev pub is_left : Log → List Entry → ℕ → ℕ → Bool
 is_left T G c octets = nat_lt (taken T c + octets) (length (sent G c))
 
@@ -52,7 +52,8 @@ line_act c t (Some x) = (Line c x, t) ∷ []
 abbrev pub gone_act : ℕ → List (Act × Tag)
 gone_act c = (Gone c, Done) ∷ []
 
--- Taking some of what is left ends a connection at want of memory, and where a later part of a message can't be read.
+-- A taking of a part ends the connection at want of memory, and where a later page of a message
+-- can't be read.
 abbrev pub act_of_part : (serving : Bool) → ℕ → Tag → List (Act × Tag)
 act_of_part serving c NoMemory = gone_act c
 act_of_part true c Failed = gone_act c
@@ -63,7 +64,7 @@ abbrev pub act_of_all : (closing : Bool) → ℕ → Tag → Option Cut → List
 act_of_all true c t next = []
 act_of_all false c t next = line_act c t next
 
--- some or all of what is left is taken
+-- the act of a taking, of a part or of all
 abbrev pub acts_of_took : (left serving closing : Bool) → ℕ → Tag → Option Cut → List (Act × Tag)
 acts_of_took true serving closing c t next = act_of_part serving c t
 acts_of_took false serving closing c t next = act_of_all closing c t next
@@ -73,12 +74,12 @@ abbrev pub acts_of_piece : (has_line : Bool) → ℕ → Tag → Option Cut → 
 acts_of_piece true c t next = line_act c t next
 acts_of_piece false c t next = []
 
--- a connection opens, where the event is done
+-- a connection opens, where the event is Done
 abbrev pub open_act : ℕ → Tag → List (Act × Tag)
 open_act next Done = (Open next, Done) ∷ []
 open_act next _ = []
 
--- the lower number acts first, so it stands last
+-- each of these connections is ended; the lower number first, so that it stands last
 abbrev pub idle_acts : List ℕ → List (Act × Tag)
 idle_acts [] = []
 idle_acts (c ∷ numbers) = idle_acts numbers ++ (Idle c, Done) ∷ []
@@ -109,7 +110,7 @@ acts_from B ((e, m) ∷ T) = acts_at T (told B (acts_from B T)) e m ++ acts_from
 abbrev pub acts : Trace → List (Act × Tag)
 acts T = acts_from T.base T.log
 
--- the history of a trace: facts are asked of it alone
+-- the history of a trace
 abbrev pub history : Trace → List Entry
 history T = told T.base (acts T)
 
@@ -140,11 +141,11 @@ rest T c = rest_at T.log (history T) c
 abbrev pub is_ready : Trace → ℕ → Bool
 is_ready T c = is_open T c && is_empty (rest T c)
 
--- so many octets are lent at most, and stand ready where so many are owed
+-- at most so many octets are lent, and so many stand ready where they are owed
 abbrev pub most_lent : ℕ
 most_lent = 16384
 
--- what an office may lend of a rest: a beginning of it, of at least 512 octets or all
+-- what is lent of the rest that is owed: a beginning of it, of at least 512 octets or all
 pub record IsLent (rest lent : List ℕ) : Type 0 where
   pub beginning : lent ≡ take (length lent) rest
   pub enough : min (length rest) 512 ≤ length lent

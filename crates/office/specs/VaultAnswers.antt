@@ -1,4 +1,4 @@
--- What an event is answered by what the vault answered.
+-- The outcomes of events that go to the vault, by its answer.
 use Rattle.std.specs.Prelude.{ℕ, Bool, true, false, List, map, Option, Result, Ok, Err}
 use Rattle.mailtext.specs.declared.kept.TextFault.{TextFault}
 use Rattle.mailtext.specs.declared.kept.TextFault.TheVariants as text_fault
@@ -15,7 +15,7 @@ use Rattle.office.specs.Answers.{Answer}
 use Rattle.office.specs.Told.{kind_of}
 use Rattle.office.specs.Outcomes.{Outcome, Failed, NoMemory, Answered}
 
--- a refusal that is no answer
+-- the vault failed: want of memory, or Failed
 abbrev pub refused : VaultFault → Outcome
 refused fault.NoMemory = NoMemory
 refused _ = Failed
@@ -44,7 +44,7 @@ listed (Err e) = refused e
 abbrev pub row_of_head : Head → Uid × ℕ
 row_of_head head = (record { class = head.class; k = head.k }, head.octets)
 
--- a maildrop that was asked for
+-- the look at a maildrop
 abbrev pub shown : Result (List Head) VaultFault → Outcome
 shown (Ok heads) = Answered (answer.Messages (map row_of_head heads))
 shown (Err fault.NoMaildrop) = Answered answer.NoSuchMaildrop
@@ -57,25 +57,25 @@ put there_already (Ok false) = Answered there_already
 put there_already (Err fault.Full) = Answered answer.Full
 put there_already (Err e) = refused e
 
--- a maildrop that was to be dropped
+-- the dropping of a maildrop
 abbrev pub maildrop_dropped : Result (Unit {0}) VaultFault → Outcome
 maildrop_dropped (Ok done) = Answered answer.Dropped
 maildrop_dropped (Err fault.NoMaildrop) = Answered answer.NoSuchMaildrop
 maildrop_dropped (Err fault.NotEmpty) = Answered answer.NotEmpty
 maildrop_dropped (Err e) = refused e
 
--- a clerk that was to be dropped
+-- the dropping of a clerk
 abbrev pub clerk_dropped : Result (Unit {0}) VaultFault → Outcome
 clerk_dropped (Ok done) = Answered answer.Dropped
 clerk_dropped (Err fault.NoClerk) = Answered answer.NoSuchClerk
 clerk_dropped (Err e) = refused e
 
--- a clerk that was asked for
+-- the look at a clerk
 abbrev pub credential_told : Result (Option Credential) VaultFault → Outcome
 credential_told (Ok credential) = Answered (kind_of credential)
 credential_told (Err e) = refused e
 
--- a policy of so many rules that was to be set
+-- the setting of a policy of so many rules
 abbrev pub policy_set : ℕ → Result (Unit {0}) VaultFault → Outcome
 policy_set rules (Ok done) = Answered (answer.RuleCount rules)
 policy_set rules (Err e) = refused e

@@ -1,6 +1,6 @@
 -- Logins that wait for a lock: whether a connection's next line is a login to a maildrop that
 -- another session holds, and for how long it may wait.
-use Rattle.std.specs.Prelude.{ℕ, Bool, false, not, ◌&&◌, ◌+◌, nat_le, List, if◌then◌else◌}
+use Rattle.std.specs.Prelude.{ℕ, Bool, true, false, not, ◌&&◌, ◌+◌, nat_le, List, if◌then◌else◌}
 use Rattle.std.specs.Prelude.{Option, Some, None, is_some, Result, Ok}
 use Rattle.creds.specs.declared.login_name.LoginName.{LoginName}
 use Rattle.popline.specs.Cutting.{Cut, has_newline}
@@ -16,37 +16,38 @@ use Rattle.office.specs.Kept.{Kept, line_after}
 
 -- ---- a line
 
--- whom a line would log in: a PASS the name in force, an APOP its own
+-- whom a line would log in: for a PASS that is the name in force, for an APOP its own
 abbrev pub login_asked : Result Command LineFault → (user : Option LoginName) → Option LoginName
 login_asked (Ok (Pass password)) user = user
 login_asked (Ok (Apop name digest)) user = Some name
 login_asked _ user = None
 
--- a login's maildrop is held
+-- a login is to a maildrop that is held; None, no login, never is
 abbrev pub is_held_for : (is_held : List ℕ → Bool) → Option LoginName → Bool
 is_held_for is_held None = false
 is_held_for is_held (Some name) = is_held name.maildrop
 
--- a line, where there is one, asks for a maildrop that is held
-abbrev pub asks_held : (is_held : List ℕ → Bool) → (user : Option LoginName) → Option Cut → Bool
-asks_held is_held user None = false
-asks_held is_held user (Some x) = is_held_for is_held (login_asked (reading x) user)
-
--- so it does outside a session: who is in one doesn't log in
-abbrev pub meets_held : (is_held : List ℕ → Bool) → (live : Bool) (user : Option LoginName)
-    → Option Cut → Bool
-meets_held is_held live user next = not live && asks_held is_held user next
+-- whom a connection's next line would log in: nobody where no line is whole, or somebody is in
+-- session
+abbrev pub coming_login : (live : Bool) (user : Option LoginName) → Option Cut → Option LoginName
+coming_login true user next = None
+coming_login false user None = None
+coming_login false user (Some x) = login_asked (reading x) user
 
 -- ---- over a trace
 
+-- whom a connection's next line would log in, with this piece
+abbrev pub next_login : Trace → ℕ → (piece : List ℕ) → Option LoginName
+next_login T c piece =
+    let G = history T in
+    coming_login (live G c) (user G c) (next_line T.log G c piece)
+
 -- with this piece a connection's next line is a login to a maildrop that a session holds
 abbrev pub meets_lock : Trace → ℕ → (piece : List ℕ) → Bool
-meets_lock T c piece =
-    let G = history T in
-    meets_held (λ d. is_some (holder G d)) (live G c) (user G c) (next_line T.log G c piece)
+meets_lock T c piece = is_held_for (λ d. is_some (holder (history T) d)) (next_login T c piece)
 
 -- octets may come on a connection, its last line or taking was less than so many seconds ago, and
--- with this piece it would meet a lock
+-- its next line, with this piece, is a login to a maildrop that a session holds
 abbrev pub waits : Trace → ℕ → (piece : List ℕ) → (seconds : ℕ) → Bool
 waits T c piece seconds =
     is_ready T c && (not (nat_le (clock T.log c + seconds) (moment T.log)) && meets_lock T c piece)
@@ -57,8 +58,8 @@ waits T c piece seconds =
 abbrev pub line_with : Kept → List ℕ → Option Cut
 line_with k piece = if has_newline piece then Some (line_after k piece) else None
 
--- a connection that owes nothing waits, by what is kept of it
+-- a connection that is owed nothing waits with this piece, by what is kept of it
 abbrev pub kept_waits : (is_held : List ℕ → Bool) → (moment seconds : ℕ) → Kept → List ℕ → Bool
 kept_waits is_held moment seconds k piece =
     not (is_idle moment seconds k)
-    && meets_held is_held (is_some k.session) k.talk.user (line_with k piece)
+    && is_held_for is_held (coming_login (is_some k.session) k.talk.user (line_with k piece))

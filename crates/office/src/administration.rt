@@ -21,21 +21,21 @@ use policy::Action;
 use std::alloc::{AllocError, Global};
 use vault::{Head, Total, Vault, VaultFault};
 
-/// A name has its form.
+/// A fact for the proofs: each name has its form. The body does nothing.
 fn name_has_form(name: &Name)
     ensures { is_name name.now ≡ true }
 {
     let _ = name.as_bytes();
 }
 
-/// A digest has 32 octets.
+/// A fact for the proofs: a digest has 32 octets.
 fn is_whole(digest: [u8; 32])
     ensures { length digest ≡ 32 }
 {
     let _ = digest;
 }
 
-/// A credential has its form.
+/// A fact for the proofs: each credential has its form.
 fn credential_has_form(credential: &Credential)
     ensures { is_sound_credential credential.now ≡ true }
 {
@@ -47,7 +47,7 @@ fn credential_has_form(credential: &Credential)
     }
 }
 
-/// What a list of the maildrops is answered by what the vault answered.
+/// The answer to a list of the maildrops, by the vault's answer.
 fn listed(answered: Result<Vec<Total>, VaultFault>) -> Outcome
     ensures { outcome_seen result ≡ by_vault.listed (seen_as answered (λ v. v.items)) }
 {
@@ -57,7 +57,7 @@ fn listed(answered: Result<Vec<Total>, VaultFault>) -> Outcome
     }
 }
 
-/// What is told of a message.
+/// A message's unique-id and octets, as its head has them.
 fn row_of(head: &Head) -> MessageRow
     ensures { row_seen result ≡ by_vault.row_of_head head.now }
 {
@@ -70,7 +70,7 @@ fn row_of(head: &Head) -> MessageRow
     }
 }
 
-/// What is told of each message.
+/// The same of each message.
 fn rows_of(alloc: Global, heads: &[Head]) -> Result<Vec<MessageRow>, AllocError>
     ensures { IfOk result (λ rows. map row_seen rows.items ≡ map by_vault.row_of_head heads.now) }
 {
@@ -81,7 +81,7 @@ fn rows_of(alloc: Global, heads: &[Head]) -> Result<Vec<MessageRow>, AllocError>
     Ok(rows)
 }
 
-/// What a maildrop that was asked for is answered by what the vault answered; or want of memory.
+/// The answer to a look at a maildrop, by the vault's answer; or want of memory.
 fn shown(alloc: Global, answered: Result<Vec<Head>, VaultFault>) -> Outcome
     ensures { (outcome_seen result ≡ by_vault.shown (seen_as answered (λ v. v.items))) ⊎ (outcome_seen result ≡ outcomes.NoMemory) }
 {
@@ -95,7 +95,7 @@ fn shown(alloc: Global, answered: Result<Vec<Head>, VaultFault>) -> Outcome
     }
 }
 
-/// What a maildrop that was put is answered by what the vault answered.
+/// The answer to the adding of a maildrop, by the vault's answer.
 fn added(answered: Result<bool, VaultFault>) -> Outcome
     ensures { outcome_seen result ≡ by_vault.put asked.WasThere answered }
 {
@@ -107,7 +107,7 @@ fn added(answered: Result<bool, VaultFault>) -> Outcome
     }
 }
 
-/// What a maildrop that was to be dropped is answered by what the vault answered.
+/// The answer to the dropping of a maildrop, by the vault's answer.
 fn maildrop_dropped(answered: Result<(), VaultFault>) -> Outcome
     ensures { outcome_seen result ≡ by_vault.maildrop_dropped answered }
 {
@@ -119,7 +119,7 @@ fn maildrop_dropped(answered: Result<(), VaultFault>) -> Outcome
     }
 }
 
-/// What a clerk that was asked for is answered by what the vault answered.
+/// The answer to a look at a clerk, by the vault's answer.
 fn credential_told(answered: Result<Option<Credential>, VaultFault>) -> Outcome
     ensures { outcome_seen result ≡ by_vault.credential_told answered }
 {
@@ -131,7 +131,7 @@ fn credential_told(answered: Result<Option<Credential>, VaultFault>) -> Outcome
     }
 }
 
-/// What a clerk that was put is answered by what the vault answered.
+/// The answer to the putting of a clerk, by the vault's answer.
 fn clerk_put(answered: Result<bool, VaultFault>) -> Outcome
     ensures { outcome_seen result ≡ by_vault.put asked.Replaced answered }
 {
@@ -143,7 +143,7 @@ fn clerk_put(answered: Result<bool, VaultFault>) -> Outcome
     }
 }
 
-/// What a clerk that was to be dropped is answered by what the vault answered.
+/// The answer to the dropping of a clerk, by the vault's answer.
 fn clerk_dropped(answered: Result<(), VaultFault>) -> Outcome
     ensures { outcome_seen result ≡ by_vault.clerk_dropped answered }
 {
@@ -155,7 +155,7 @@ fn clerk_dropped(answered: Result<(), VaultFault>) -> Outcome
 }
 
 impl<V: Vault> Office<V> {
-    /// Each maildrop with what lies in it.
+    /// Each maildrop, with the number of its messages and their octets.
     fn list_maildrops(&mut self) -> Outcome
         ensures stands { (T : Trace) → StandsFor V.holds self.old T → V.is_clean (vault_of self.new) → StandsFor V.holds self.new (followed_by T (event.Admin asked.ListMaildrops) result) }
         ensures outcome { (T : Trace) → StandsFor V.holds self.old T → V.is_clean (vault_of self.new) → IsOutcome T (lent_by self.old) (event.Admin asked.ListMaildrops) (outcome_seen result) }
@@ -253,7 +253,7 @@ impl<V: Vault> Office<V> {
         clerk_dropped(self.vault.drop_clerk(clerk))
     }
 
-    /// What the policy says, and by which rule.
+    /// Whether the policy in force lets a clerk do this, and by which rule.
     fn explain(&mut self, clerk: &Name, maildrop: &Name, class: &Name, action: Action) -> Outcome
         ensures stands { (T : Trace) → StandsFor V.holds self.old T → V.is_clean (vault_of self.new) → StandsFor V.holds self.new (followed_by T (event.Admin (asked.Explain clerk.now maildrop.now class.now action)) result) }
         ensures outcome { (T : Trace) → StandsFor V.holds self.old T → V.is_clean (vault_of self.new) → IsOutcome T (lent_by self.old) (event.Admin (asked.Explain clerk.now maildrop.now class.now action)) (outcome_seen result) }
@@ -267,7 +267,7 @@ impl<V: Vault> Office<V> {
         Outcome::Answered(Answer::Explained(decision))
     }
 
-    /// Does a command.
+    /// Does an administrator's command, and answers it.
     pub(crate) fn administer(&mut self, command: &AdminCommand) -> Outcome
         ensures stands { (T : Trace) → StandsFor V.holds self.old T → V.is_clean (vault_of self.new) → StandsFor V.holds self.new (followed_by T (event.Admin (command_seen command.now)) result) }
         ensures outcome { (T : Trace) → StandsFor V.holds self.old T → V.is_clean (vault_of self.new) → IsOutcome T (lent_by self.old) (event.Admin (command_seen command.now)) (outcome_seen result) }

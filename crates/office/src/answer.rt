@@ -19,9 +19,9 @@ pub enum Answer {
     TextTooLarge,
     /// There is no maildrop of that name.
     NoSuchMaildrop,
-    /// The deposit's id was used with another class or text.
+    /// The deposit's id came before with another class or text; nothing was changed.
     Conflict,
-    /// There is no room: for a message, a maildrop or a clerk.
+    /// There is no room for one more message, maildrop or clerk; nothing was changed.
     Full,
     /// The maildrops, by name.
     Maildrops(Totals),
@@ -33,9 +33,9 @@ pub enum Answer {
     WasThere,
     /// The maildrop or the clerk is dropped.
     Dropped,
-    /// A session holds the maildrop.
+    /// A session holds the maildrop, which stays.
     MaildropInUse,
-    /// The maildrop has a message.
+    /// The maildrop has a message, and stays.
     NotEmpty,
     /// The clerk logs in by APOP.
     ByApopSecret,
@@ -49,7 +49,7 @@ pub enum Answer {
     PolicyIs(Policy),
     /// The policy is set, and has so many rules.
     RuleCount(u64),
-    /// The policy in force, of which the groups are told.
+    /// A copy of the policy in force; only its groups are shown.
     GroupsOf(Policy),
     /// The sessions, by their connections' numbers.
     Sessions(Sessions),
@@ -57,7 +57,7 @@ pub enum Answer {
     Ended,
     /// No connection of that number has a session.
     NoSuchSession,
-    /// What the policy says, and by which rule.
+    /// Whether the policy allows the action, and by which rule.
     Explained(Decision),
 }
 

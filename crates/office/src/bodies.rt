@@ -10,8 +10,8 @@ use policy::{Decision, Group, Policy};
 use std::alloc::{AllocError, Global};
 use vault::Total;
 
-/// The body of an answer: the written policy, or lines that each end with LF; none of a list
-/// without rows. Scripts and HTTP tell answers so.
+/// The body of an answer, as scripts and HTTP show it: the written policy, or lines that each end
+/// with LF. A list without rows has an empty body. An error means want of memory.
 pub fn answer_body(alloc: Global, answer: &Answer) -> Result<Vec<u8>, AllocError>
     ensures { IfOk result (λ body. body.items ≡ body_of (answer_seen answer.now)) }
 {

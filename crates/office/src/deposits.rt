@@ -15,7 +15,7 @@ use creds::{DepositId, Name};
 use mailtext::{TextFault, canon};
 use vault::{Deposited, Vault, VaultFault};
 
-/// What an event is answered where the vault refused it for no reason of the event's own.
+/// The outcome where the vault failed: want of memory, or `Failed`.
 pub(crate) fn refused(fault: VaultFault) -> Outcome
     ensures { outcome_seen result ≡ refused_of fault }
 {
@@ -25,7 +25,7 @@ pub(crate) fn refused(fault: VaultFault) -> Outcome
     }
 }
 
-/// What a deposit is answered whose text can't be kept.
+/// The answer to a deposit whose text is empty or too long.
 fn not_kept(fault: TextFault) -> Outcome
     ensures { outcome_seen result ≡ not_kept_of fault }
 {
@@ -36,7 +36,7 @@ fn not_kept(fault: TextFault) -> Outcome
     }
 }
 
-/// What a deposit is answered by what the vault answered.
+/// The answer to a deposit, by the vault's answer.
 fn deposited(answered: Result<Deposited, VaultFault>) -> Outcome
     ensures { outcome_seen result ≡ deposited_of answered }
 {
@@ -50,7 +50,7 @@ fn deposited(answered: Result<Deposited, VaultFault>) -> Outcome
     }
 }
 
-/// The names and the id of a deposit have their form.
+/// A fact for the proofs: the names and the id of a deposit have their form.
 fn have_form(maildrop: &Name, class: &Name, id: &DepositId)
     ensures maildrop { is_name maildrop.now ≡ true }
     ensures class { is_name class.now ≡ true }

@@ -2,21 +2,20 @@
 use crate::{AdminCommand, Answer};
 use creds::{DepositId, Name};
 
-/// What happens to an office, one at a time. It has no `Debug`, since it may hold a password or
-/// mail.
+/// One thing that happens to an office. It has no `Debug`, since it may hold a password or mail.
 #[derive(Clone, Copy)]
 pub enum Event<'a> {
     /// A client connects. The connection gets the next number, from 1 on.
     Connect,
     /// Octets came from a connection: at most 4,096, in any pieces.
     Bytes(u64, &'a [u8]),
-    /// A connection took so many octets, at least one, of those that it is lent.
+    /// A connection took so many of the octets that `owed` lends it: at least one.
     Took(u64, usize),
     /// A connection is gone: its client closed it, or it broke.
     Gone(u64),
-    /// The present moment, in seconds; one before the last counts as the last, and 0 is the first
-    /// after an opening or a restart. Connections that have done nothing for the idle seconds are
-    /// ended, without a reply and with nothing removed.
+    /// The present moment, in seconds: an earlier one than the last counts as the last. The moment
+    /// is 0 after an opening or a restart. Each connection that has done nothing for the idle
+    /// seconds is ended, without a reply and with nothing removed.
     Tick(u64),
     /// A message is put into a maildrop, once for each deposit id of the maildrop's name: the
     /// maildrop, the message's class, the deposit's id, and the message's text as it came.
@@ -33,11 +32,11 @@ pub enum Event<'a> {
 pub enum Reason {
     /// No open connection has this number.
     NoSuchConnection,
-    /// For octets: something is still owed. For a taking: no octet, or more than are lent.
+    /// Octets came while some are still owed; or none were taken, or more than are lent.
     NotReady,
     /// A piece of more than 4,096 octets.
     PieceTooLong,
-    /// As many connections are open as may be, or no number is left.
+    /// 64 connections are open, or no number is left.
     TooManyConnections,
 }
 
@@ -49,8 +48,8 @@ pub enum Outcome {
     Done,
     /// The store refused. Of a line its reply says so; of a deposit or a command no record changed.
     Failed,
-    /// Want of memory. A connection whose line it met is ended, as by [`Event::Gone`]; else nothing
-    /// changed.
+    /// Want of memory. Where it came while a connection's line or taking was done, that connection
+    /// is ended as by [`Event::Gone`]; else nothing changed.
     NoMemory,
     Ignored(Reason),
     /// What a deposit or a command is answered.

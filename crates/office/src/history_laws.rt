@@ -15,7 +15,7 @@ ghost use Rattle.office.specs.Stands.{Keeps, StandsFor, begun};
 use crate::Office;
 use vault::Vault;
 
-/// A maildrop has at most one holder, whatever was done.
+/// After any history, at most one session holds a maildrop.
 pub fn one_holder()
     ensures { OneHolder }
 {}
@@ -36,12 +36,12 @@ pub fn unique_id_texts_differ()
     ensures { UniqueIdTextsDiffer }
 {}
 
-/// Every store holds its own records with no acts.
+/// Each store's records agree with themselves when nothing was done since.
 pub fn own_records_agree()
     ensures { OwnRecordsAgree }
 {}
 
-/// The marks that the replies tell are those that the view and the policy give.
+/// The marks of a session, as replies set them, are those that its view and the policy give.
 pub fn marks_are_by_view()
     ensures { MarksAreByView }
 {}
@@ -69,34 +69,34 @@ pub fn served_is_allowed()
     ensures { ServedIsAllowed }
 {}
 
-/// Over events whose marks are ones that they may have, what each connection took, and behind it
-/// what it is still owed, is exactly what the history sends it; once it is ended, what it took is a
-/// beginning of that, and the whole where its own closing ended it.
+/// Where each event is answered as it may be, what a connection took, followed by what it is still
+/// owed, is exactly what the history sends it. Once it is ended, it took a beginning of that; and
+/// all of it, where its own closing ended it.
 pub fn taken_is_sent()
     ensures { TakenIsSent }
 {}
 
-/// An office's opening may always have the mark that `open` gives it.
+/// The opening of an office may always be answered as `open` answers it.
 pub fn openings_are_admitted()
     ensures { OpeningsAreAdmitted }
 {}
 
-/// Over a run the store's count of faults grew by as many at least as there are steps that were
-/// answered `Failed`, while it isn't at its greatest: where it didn't grow, none was.
+/// Over a run, the store's count of faults grew at least by the number of steps that were answered
+/// `Failed`, while the count is below its greatest value. So where it didn't grow, none failed.
 pub fn failures_are_counted()
     ensures { FailuresAreCounted }
 {}
 
-/// A clean store keeps the trace of its own records in which nothing was done: so an office can be
-/// opened over it.
+/// A clean store keeps the empty trace over its own records, so that an office can be opened over
+/// it.
 pub fn own_trace_is_kept<V: Vault>(vault: &V)
     ensures { (c : Contents) → V.holds vault.now c → V.is_clean vault.now → Keeps (V.holds vault.now) (begun (records_of c)) }
 {
     let _vault = vault;
 }
 
-/// Of the trace that an office stands for, with no premise but on boot numbers: where these differ,
-/// timestamps do; unique-ids as they are written differ; replies have their form; and what is
+/// Of the trace that an office stands for: where boot numbers differ, the greetings' timestamps
+/// differ; unique-ids as they are written differ; replies have their form; and each message that is
 /// served was allowed.
 pub fn laws_of_its_trace<V: Vault>(office: &Office<V>)
     ensures greetings { (T : Trace) → StandsFor V.holds office.now T → TimestampsDiffer T }

@@ -28,8 +28,8 @@ use session::Session;
 use std::alloc::{AllocError, Global};
 use vault::Vault;
 
-/// What is said to a line that doesn't read as a command. A login can't be asked for again, with
-/// whatever arguments.
+/// The reply to a line that doesn't read as a command. USER, PASS and APOP are refused as out of
+/// place, whatever arguments they have.
 fn misread(fault: LineFault) -> Reply<'static>
     ensures said { (p : Policy) (v : Sitting) → reply_seen result ≡ said_inside p v (Err fault) }
     ensures session { (s : State) → GoesOn (reply_seen result) s s }
@@ -41,8 +41,8 @@ fn misread(fault: LineFault) -> Reply<'static>
     }
 }
 
-/// What a command is told that neither lists nor asks the store; it may mark a message, or take all
-/// marks away.
+/// The reply to a command that sends no listing and asks no store. DELE marks a message, RSET takes
+/// all marks away.
 fn told(session: &mut Session, policy: &Policy, command: &Command<'_>) -> Reply<'static>
     ensures said { (c : Contents) (kept : List Keyed) → LiesIn c session.old kept → is_told (command_seen command.now) ≡ true → reply_seen result ≡ said_inside policy.now (sitting_of session.old kept) (Ok (command_seen command.now)) }
     ensures session { GoesOn (reply_seen result) session.old session.new }
@@ -111,8 +111,8 @@ fn obey<V: Vault>(
     }
 }
 
-/// Answers a line of a session: its reply is owed, and its marks are those that it leaves. A QUIT
-/// removes; the session is then over, which the caller sees to.
+/// Answers a line of a session: puts its reply, and sets or takes away marks. A QUIT removes the
+/// marked messages; the caller then ends the session.
 pub(crate) fn answer<V: Vault>(
     alloc: Global,
     vault: &mut V,
@@ -167,8 +167,8 @@ pub(crate) fn is_quitting(cut: Cut<'_>) -> bool
     matches!(read(cut), Ok(Command::Quit))
 }
 
-/// What is remembered after a line of a session of which this became. Only an answered CAPA passes
-/// a login name over, no credential is refused, and a QUIT closes.
+/// What is remembered after a line of a session. Only an answered CAPA leaves a login name in
+/// force, no line counts as a refused credential, and a QUIT closes the connection.
 pub(crate) fn next_talk(cut: Cut<'_>, acted: Acted, talk: Talk) -> Talk
     ensures { (p : Policy) (v : Sitting) → result ≡ talk_after (cut_seen cut.entry) (reply_inside acted p v (cut_seen cut.entry)) talk }
 {

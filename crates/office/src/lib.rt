@@ -1,8 +1,8 @@
 //! The office: interleaved connections over one vault.
 //!
-//! An [`Office`] is given events and answers each; what every connection is sent is exactly what
-//! the history of its acts gives (`specs/`). It owns no socket and no clock: who runs it feeds it
-//! what came, and tells it what was taken.
+//! An [`Office`] is given events, and answers each. What it sends each connection is exactly what
+//! the history of acts says (`specs/`). It owns no socket and no clock: its caller gives it the
+//! octets that came, tells it how many were taken, and what time it is.
 #![tactic(auto)]
 
 mod administration;
@@ -19,6 +19,7 @@ mod link;
 mod listing;
 mod locks;
 mod login;
+mod logins;
 mod message;
 mod numbers;
 mod office;

@@ -1,4 +1,4 @@
-//! What an office is set to.
+//! An office's settings: its idle seconds, and when removals are judged.
 ghost use Rattle.std.specs.Prelude.{◌≡◌, ◌≤◌, ◌↔◌, IsSome, IfSome};
 ghost use Rattle.session.specs.declared.removals.Removals.TheVariants.{JudgedAtDele};
 
@@ -52,7 +52,7 @@ impl Limits {
         }
     }
 
-    /// The seconds.
+    /// The idle seconds.
     pub(crate) fn idle(&self) -> u64
         ensures { result ≡ self.now.idle }
     {

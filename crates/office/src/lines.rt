@@ -1,4 +1,4 @@
-//! What a line is answered, and what is remembered of it.
+//! The reply to a line, and what is remembered after it.
 ghost use Rattle.std.specs.Prelude.{◌≡◌, ◌≤◌, ◌++◌, ℕ, List, Option, None, Some, true, false, Ok, OnOk, OnErr, IfOk};
 ghost use Rattle.std.specs.BTreeMap.{get};
 ghost use Rattle.popline.specs.Replies.{bytes_of};
@@ -26,7 +26,8 @@ use session::Session;
 use std::alloc::{AllocError, Global};
 use vault::{Vault, VaultFault};
 
-/// Whether a command may be given now.
+/// Whether a command may be given in this state: in a session or before one, with a login name in
+/// force or none.
 fn is_allowed(keyword: Keyword, live: bool, has_user: bool) -> bool
     ensures { result ≡ is_allowed_of keyword live has_user }
 {
@@ -38,7 +39,7 @@ fn is_allowed(keyword: Keyword, live: bool, has_user: bool) -> bool
     }
 }
 
-/// What a command is answered before a login, and the session where one begins.
+/// The reply to a command before a login, and the session where one begins.
 fn obey<V: Vault>(
     alloc: Global,
     vault: &mut V,
@@ -78,7 +79,7 @@ fn obey<V: Vault>(
     }
 }
 
-/// What is said to a line before a login, and the session where one begins.
+/// The reply to a line before a login, and the session where one begins.
 fn reply_to<V: Vault>(
     alloc: Global,
     vault: &mut V,
@@ -150,8 +151,8 @@ fn next_talk(cut: Cut<'_>, reply: &Reply<'_>, talk: Talk) -> Talk
     }
 }
 
-/// Answers a line before a login: its reply is owed, and what it leaves is remembered. The session
-/// is answered where one begins; its maildrop is locked. A line that the store refuses is told so.
+/// Answers a line before a login: puts its reply, and remembers what it leaves. Where a session
+/// begins, returns it and locks its maildrop. Where the store fails, the reply says so.
 fn answer_outside<V: Vault>(
     alloc: Global,
     vault: &mut V,
@@ -187,8 +188,8 @@ fn answer_outside<V: Vault>(
     Ok((acted, begun))
 }
 
-/// Answers a line of a session. It is answered back, unless the line is a QUIT: its maildrop's lock
-/// is then let go.
+/// Answers a line of a session, and returns the session. A QUIT ends it, and lets its maildrop's
+/// lock go.
 fn answer_inside<V: Vault>(
     alloc: Global,
     vault: &mut V,
@@ -226,8 +227,8 @@ fn answer_inside<V: Vault>(
     Ok((acted, Some(session)))
 }
 
-/// Answers a line: its reply is owed, and what it leaves is remembered, its session and its
-/// maildrop's lock with it. A line that the store refuses is told so.
+/// Answers a line: puts its reply, and keeps what the line leaves: what is remembered, the session
+/// and its maildrop's lock. Where the store fails, the reply says so. An error is want of memory.
 pub fn answer<V: Vault>(
     alloc: Global,
     vault: &mut V,

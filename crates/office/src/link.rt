@@ -16,13 +16,13 @@ ghost use Rattle.office.specs.Input.{most_input};
 ghost use Rattle.office.specs.Connections.{reading};
 ghost use Rattle.office.specs.Expected.{most_in_a_piece};
 ghost use Rattle.office.specs.Answered.{judged_at, reply_of, name_cmp, is_locked_by, IsSeated, BecomesIf, LocksFollow, held_if};
-ghost use Rattle.office.specs.Waiting.{meets_held, line_with};
+ghost use Rattle.office.specs.Waiting.{is_held_for, coming_login, line_with};
 
 use crate::lines;
 use crate::locks::Locks;
 use crate::output::{Output, Source};
 use crate::talk::{Acted, Desk, Talk};
-use crate::waiting::asks_locked;
+use crate::waiting::{asks_locked, login_asked};
 use creds::{LoginName, Name};
 use policy::Policy;
 use popline::{Cutter, Reply};
@@ -31,12 +31,12 @@ use std::alloc::{AllocError, Global};
 use std::marker::Model;
 use vault::Vault;
 
-/// What is kept of a connection: of its input at most the octets of a piece, 4,096, beside the line
-/// that is being cut, 255.
+/// What is kept of a connection. Of its input that is at most 4,096 octets of the last piece, and
+/// 255 of the line that is being cut.
 #[derive(Drop)]
 pub struct Link {
     cutter: Cutter,
-    /// Octets of the last piece, of which the first `cut` were cut.
+    /// Octets of the last piece; the first `cut` of them are cut into lines.
     pending: Vec<u8>,
     cut: usize,
     output: Output,
@@ -61,8 +61,8 @@ impl Model for Link {
 }
 
 impl Link {
-    /// A connection that is owed its greeting, opened at this moment; its session's removals are
-    /// judged as this says.
+    /// A connection that was opened at this moment and is owed its greeting. `removals` says when
+    /// its session's removals are judged.
     pub fn open(
         alloc: Global,
         number: u64,
@@ -89,7 +89,7 @@ impl Link {
         })
     }
 
-    /// What is lent of what is owed: all that stands ready, 16,384 octets at most.
+    /// The octets that may be taken now: all that stand ready, but at most 16,384.
     pub fn owed(&self) -> &[u8]
         ensures { result.now ≡ lent_of self.now.output }
     {
@@ -134,8 +134,8 @@ impl Link {
         self.talk.closing
     }
 
-    /// Takes octets that stand ready, at this moment, and puts more where few are left. `false`
-    /// where the store refused a page.
+    /// Takes octets that stand ready, at this moment, and reads more where few are left. `false`
+    /// where the store refused a page: the caller then ends the connection.
     pub fn take<V: Vault>(
         &mut self,
         alloc: Global,
@@ -207,23 +207,46 @@ impl Link {
         }
     }
 
-    /// Whether the line that is whole with this piece is a login to a maildrop that is locked. The
-    /// piece isn't taken.
-    pub fn meets_lock(&self, locks: &Locks, piece: &[u8]) -> bool
-        ensures { result ≡ meets_held (is_locked_by locks.now) (is_some self.now.session) self.now.talk.user (line_with self.now piece.now) }
+    /// Whether somebody is in session on the connection.
+    pub fn is_in_session(&self) -> bool
+        ensures { result ≡ is_some self.now.session }
+    {
+        self.session.is_some()
+    }
+
+    /// How many credentials the connection had refused; at most 255 are counted.
+    pub fn refusals(&self) -> u8
+        ensures { result ≡ self.now.talk.failures }
+    {
+        self.talk.failures
+    }
+
+    /// Whom the line that is whole with this piece would log in: nobody where no line is whole,
+    /// where the line isn't a login, or where somebody is in session. The piece isn't taken.
+    pub fn coming_login(&self, piece: &[u8]) -> Option<LoginName>
+        ensures { result ≡ coming_login (is_some self.now.session) self.now.talk.user (line_with self.now piece.now) }
     {
         if self.session.is_some() {
-            return false;
+            return None;
         }
         let mut cutter = self.cutter.copied();
         let _ = cutter.feed(piece);
         let Some(cut) = cutter.line() else {
-            return false;
+            return None;
         };
-        asks_locked(locks, cut, self.talk.user)
+        login_asked(cut, self.talk.user)
     }
 
-    /// Takes the next piece at this moment, and answers the first line that is whole now.
+    /// Whether the line that is whole with this piece is a login to a maildrop that is locked. The
+    /// piece isn't taken.
+    pub fn meets_lock(&self, locks: &Locks, piece: &[u8]) -> bool
+        ensures { result ≡ is_held_for (is_locked_by locks.now) (coming_login (is_some self.now.session) self.now.talk.user (line_with self.now piece.now)) }
+    {
+        asks_locked(locks, self.coming_login(piece))
+    }
+
+    /// Takes the next piece at this moment, and answers the first line that is now whole; the lines
+    /// behind it wait for [`Link::resume`].
     pub fn hear<V: Vault>(
         &mut self,
         alloc: Global,
@@ -280,7 +303,7 @@ impl Link {
         Ok(acted)
     }
 
-    /// Answers the next line that was kept.
+    /// Answers the next whole line of the octets that were kept, if there is one.
     pub fn resume<V: Vault>(
         &mut self,
         alloc: Global,

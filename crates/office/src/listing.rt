@@ -26,7 +26,7 @@ pub(crate) fn drop_listing(session: &Session) -> Reply<'static>
     Reply::DropListing { messages, octets }
 }
 
-/// Puts the numbers and octets of the heads that aren't marked.
+/// Puts the scan listing: number and octets of each message that isn't marked.
 pub(crate) fn list(
     alloc: Global,
     session: &Session,
@@ -41,7 +41,7 @@ pub(crate) fn list(
     Ok(Acted::Done)
 }
 
-/// Puts the numbers and unique-ids of the heads that aren't marked.
+/// Puts the listing of unique-ids: number and unique-id of each message that isn't marked.
 pub(crate) fn list_uids(
     alloc: Global,
     session: &Session,

@@ -1,4 +1,4 @@
-//! The locks of maildrops: each is its session's from login to the session's end.
+//! The locks of maildrops: a session holds its maildrop's lock from its login to its end.
 ghost use Rattle.std.specs.Prelude.{◌≡◌, ℕ, List, None, OnOk, OnErr};
 ghost use Rattle.office.specs.Locks.{Released};
 ghost use Rattle.std.specs.BTreeMap.{get};

@@ -27,7 +27,7 @@ use vault::{Vault, VaultFault};
 /// How many refused credentials a connection has before the next one closes it.
 const FAILURES_BEFORE_CLOSING: u8 = 2;
 
-/// The answer to a credential that was refused, after so many others.
+/// The reply to a refused credential, where so many were refused before it.
 fn refusal(failures: u8) -> Reply<'static>
     ensures { reply_seen result ≡ login_failed failures }
 {
@@ -38,15 +38,15 @@ fn refusal(failures: u8) -> Reply<'static>
     }
 }
 
-/// What the policy says of a clerk's opening a maildrop.
+/// Whether the policy lets a clerk open a maildrop.
 fn opening(policy: &Policy, name: &LoginName) -> Decision
     ensures { result ≡ decide policy.now name.now.clerk name.now.maildrop [] to.Open }
 {
-    // To open a maildrop is about no message, so that the class plays no part.
+    // Opening concerns no message, so the class, here the maildrop's name, plays no part.
     policy.decide(&name.clerk, &name.maildrop, &name.maildrop, Action::Open)
 }
 
-/// Whether a clerk's credential admits a proof.
+/// Whether a clerk's credential admits the password or digest that was sent.
 fn is_admitted<V: Vault>(
     vault: &mut V,
     stamp: &[u8],
@@ -65,8 +65,8 @@ fn is_admitted<V: Vault>(
     })
 }
 
-/// Opens a maildrop for a clerk whom the policy lets in: the reply, and the session where it
-/// begins.
+/// Opens a maildrop for a clerk whom the policy lets in: the reply, and the session unless the
+/// maildrop is missing or locked.
 fn enter<V: Vault>(
     alloc: Global,
     vault: &mut V,
@@ -98,7 +98,7 @@ fn enter<V: Vault>(
     Ok((Reply::MaildropHas { messages, octets }, Some(session)))
 }
 
-/// What a login is answered, and the session where one begins.
+/// The reply to a login, and the session where one begins.
 pub(crate) fn judge<V: Vault>(
     alloc: Global,
     vault: &mut V,

@@ -19,8 +19,8 @@ use session::Session;
 use std::alloc::{AllocError, Global};
 use vault::Vault;
 
-/// Begins to send a message behind the first line of its reply. Where the store refuses a page,
-/// that is the reply.
+/// Begins to send a message behind the first line of its reply. Where the store refuses the first
+/// pages, the reply is that the store failed.
 fn serve<V: Vault>(
     alloc: Global,
     vault: &mut V,
@@ -43,8 +43,8 @@ fn serve<V: Vault>(
     Ok(Acted::Failed)
 }
 
-/// Puts a message of a session, where the policy in force lets the clerk read it (RFC 1939, 5:
-/// RETR).
+/// Begins to send a message of a session, where the policy in force lets the clerk read it (RFC
+/// 1939, 5: RETR).
 pub(crate) fn retrieve<V: Vault>(
     alloc: Global,
     vault: &mut V,
@@ -71,8 +71,8 @@ pub(crate) fn retrieve<V: Vault>(
     }
 }
 
-/// Puts the top of a message of a session, where the policy in force lets the clerk read it (RFC
-/// 1939, 7: TOP).
+/// Begins to send the top of a message of a session, where the policy in force lets the clerk read
+/// it (RFC 1939, 7: TOP).
 pub(crate) fn top<V: Vault>(
     alloc: Global,
     vault: &mut V,

@@ -65,7 +65,7 @@ pub struct Office<V: Vault> {
     pub(crate) locks: Locks,
 }
 
-/// What a line's event shows.
+/// The outcome of the event in which a line acted.
 fn shown(acted: Acted) -> Outcome
     ensures { outcome_seen result ≡ shown_of acted }
 {
@@ -75,7 +75,7 @@ fn shown(acted: Acted) -> Outcome
     }
 }
 
-/// Ends a connection in the middle, and lets the maildrop that it holds go.
+/// Ends a connection, with nothing removed, and lets the maildrop that it holds go.
 fn cut_off(links: &mut BTreeMap<u64, Link>, locks: &mut Locks, c: u64, held: Option<Name>)
     ensures links { Updates nat_cmp links.old links.new c None }
     ensures locks { Released held locks.old locks.new }
@@ -289,17 +289,16 @@ impl<V: Vault> Office<V> {
         ensures up { (T : Trace) → StandsFor V.holds self.old T → V.is_clean (vault_of self.new) → StaysUpUnless (V.is_up (vault_of self.old)) (V.is_up (vault_of self.new)) (outcome_seen result) }
         ensures stop { (T : Trace) → StandsFor V.holds self.old T → V.is_clean (vault_of self.new) → V.is_up (vault_of self.old) → StopLeaves (V.may_leave (vault_of self.new)) T (event_seen event.entry) (outcome_seen result) }
         ensures admitted { (T : Trace) → StandsFor V.holds self.old T → V.is_clean (vault_of self.new) → IsAdmitted T (event_seen event.entry) (mark_of (outcome_seen result)) }
-        // Where the trace before it had marks that its events may have, each connection is sent
-        // exactly what the history sends it.
+        // Where each event so far was answered as it may be, each connection is sent exactly what
+        // the history sends it.
         ensures sent { (T : Trace) → StandsFor V.holds self.old T → V.is_clean (vault_of self.new) → AreAdmitted T → (c : ℕ) → IsSentExactly (followed_by T (event_seen event.entry) result) c }
         ensures unasked { asks_no_store (event_seen event.entry) ≡ true → vault_of self.new ≡ vault_of self.old }
         // An event that may not be answered `Failed` asks no store: a line that needs none, and a
         // QUIT that removes nothing.
         ensures unasked_line { (T : Trace) → StandsFor V.holds self.old T → V.is_clean (vault_of self.old) → may_show T (event_seen event.entry) Failed ≡ false → vault_of self.new ≡ vault_of self.old }
         ensures succeeds { Succeeds (event_seen event.entry) (outcome_seen result) }
-        // An event that takes no memory isn't answered `NoMemory`: a piece without an end of line,
-        // a taking of some of what is owed where all of it is lent, and others
-        // (`may_lack_memory_at`).
+        // Some events are never answered `NoMemory`: a piece without LF, a taking of a part where
+        // all that is owed is lent, and others (`may_lack_memory_at`).
         ensures memory { (T : Trace) → StandsFor V.holds self.old T → V.is_clean (vault_of self.new) → may_show T (event_seen event.entry) NoMemory ≡ false → HasMemory (outcome_seen result) }
     {
         match event {
@@ -329,7 +328,7 @@ impl<V: Vault> Office<V> {
         ensures admitted { IfOk result (λ steps. (T : Trace) → StandsFor V.holds self.old T → V.is_clean (vault_of self.new) → AreAdmitted T → AreAdmitted (followed T events.now steps)) }
         ensures sent { IfOk result (λ steps. (T : Trace) → StandsFor V.holds self.old T → V.is_clean (vault_of self.new) → AreAdmitted T → (c : ℕ) → IsSentExactly (followed T events.now steps) c) }
         ensures memory { IfOk result (λ steps. (T : Trace) → StandsFor V.holds self.old T → V.is_clean (vault_of self.new) → HaveMemory T events.now steps) }
-        // The same of the first events, where the transcript couldn't grow.
+        // The same of the events that were done before the transcript couldn't grow.
         ensures err_ran { IfErr result (λ e. (steps : List Shown) × ((T : Trace) → StandsFor V.holds self.old T → V.is_clean (vault_of self.new) → Ran V.holds V.faults V.is_up V.may_leave (take (done_before e) events.now) steps T self.old self.new)) }
         ensures counted { V.faults (vault_of self.old) ≤ V.faults (vault_of self.new) }
         ensures clean { V.is_clean (vault_of self.new) → V.is_clean (vault_of self.old) }
@@ -344,7 +343,7 @@ impl<V: Vault> Office<V> {
         Ok(Transcript::new(steps))
     }
 
-    /// Does one event and enters its step; or neither.
+    /// Does one event and enters its step into the transcript; at want of memory neither.
     fn enter(&mut self, event: Event<'_>, steps: &mut Vec<Step>) -> Result<(), AllocError>
         ensures ok { OnOk result ((T : Trace) → StandsFor V.holds self.old T → V.is_clean (vault_of self.new) → Enters V.holds event.entry steps.old.items steps.new.items T self.new) }
         ensures ok_so { OnOk result ((T : Trace) → StandsFor V.holds self.old T → V.is_clean (vault_of self.new) → EntersSo V.holds V.faults V.is_up V.may_leave event.entry steps.old.items steps.new.items T self.old self.new) }
@@ -374,8 +373,8 @@ impl<V: Vault> Office<V> {
         Ok(octets)
     }
 
-    /// What a connection is lent of what it is owed: its first 16,384 octets, or all where it is
-    /// owed fewer. Nothing, where it isn't open.
+    /// The octets that a connection may take now: the first 16,384 that it is owed, or all where
+    /// they are fewer. None where it isn't open.
     pub fn owed(&self, c: u64) -> &[u8]
         ensures lent { (T : Trace) → StandsFor V.holds self.now T → IsLent (rest T c) result.now }
         ensures count { length result.now ≡ lent_by self.now c }

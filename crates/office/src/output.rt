@@ -26,10 +26,10 @@ use std::marker::Model;
 use std::mem;
 use vault::Vault;
 
-/// How many octets of a listing are put at once, at least.
+/// Lines of a listing are put until at least so many octets stand ready.
 const LISTED: usize = 20_480;
-/// The room that is made, and never outgrown: what is lent at most, a page of a message with each
-/// dot doubled, and a line.
+/// The octets for which room is made at the opening: the most that is lent, a page of a message
+/// with each dot doubled, and a line. An output never outgrows it.
 const ROOM: usize = 24_832;
 
 /// What feeds an output.
@@ -44,9 +44,8 @@ pub enum Source {
     Text(Reading),
 }
 
-/// Octets that stand ready, and what feeds them. While something is to come, as many stand ready as
-/// are lent at most. No more octets are kept, those that were taken among them, than the room that
-/// was made.
+/// Octets that stand ready, and what feeds them. While more is to come, at least 16,384 octets are
+/// ready. At most 24,832 octets are kept, those that were taken included.
 #[derive(Drop)]
 pub struct Output {
     /// Octets to send, of which the first `taken` were taken.
@@ -67,8 +66,8 @@ impl Model for Output {
     ghost invariant = { λ o. (o.taken ≤ length o.ready.items) × (is_feeding o.source ≡ true → most_lent ≤ length (drop o.taken o.ready.items)) × (length o.ready.items ≤ most_output) };
 }
 
-/// What was put behind the first octets stays where all fits into the room. Else it is taken back:
-/// that is want of memory. No reply and no line is so long.
+/// Takes back what was put behind the first octets where it outgrows the room, and reports want of
+/// memory. No reply and no line is so long.
 fn keep_within_room(octets: &mut Vec<u8>, first: usize) -> Result<(), AllocError>
     requires { (first ≤ length octets.old.items) × (first ≤ most_output) }
     ensures ok { OnOk result (octets.new.items ≡ octets.old.items) }
@@ -148,8 +147,8 @@ fn end_listing(ready: &mut Vec<u8>) -> Result<(), AllocError>
     keep_within_room(ready, before)
 }
 
-/// Puts rows of a scan listing behind the first ones, as far as there is room, and answers what is
-/// then to come. More rows than can be counted are want of memory.
+/// Puts rows of a scan listing, from row `passed` on, while there is room, and returns what
+/// is then still to come. More rows than can be counted are want of memory.
 fn put_sizes(
     alloc: Global,
     session: &Session,
@@ -206,7 +205,7 @@ fn put_uids(
 }
 
 impl Output {
-    /// Nothing is owed; the room for what is lent is made.
+    /// An output that owes nothing, with its room of 24,832 octets.
     pub fn new(alloc: Global) -> Result<Output, AllocError>
         ensures { IfOk result (λ o. o ≡ nothing_owed) }
     {
@@ -217,7 +216,7 @@ impl Output {
         })
     }
 
-    /// What is lent of what is owed: all that stands ready, 16,384 octets at most.
+    /// The octets that may be taken now: all that stand ready, but at most 16,384.
     pub fn lent(&self) -> &[u8]
         ensures { result.now ≡ lent_of self.now }
     {
@@ -302,7 +301,8 @@ impl Output {
         keep_within_room(&mut self.ready, before)
     }
 
-    /// Takes octets that stand ready. Answers the source where few are left: it is to be put again.
+    /// Takes octets that stand ready. Where few are left, returns what feeds the output: the caller
+    /// puts more of it.
     pub fn take(&mut self, octets: usize) -> Source
         requires { octets ≤ length self.old.ready }
         ensures ready { self.new.ready ≡ drop octets self.old.ready }
@@ -318,7 +318,7 @@ impl Output {
         Source::Nothing
     }
 
-    /// Puts lines of a scan listing behind the first ones.
+    /// Puts lines of a scan listing, from row `done` on.
     pub fn send_sizes(
         &mut self,
         alloc: Global,
@@ -335,7 +335,7 @@ impl Output {
         Ok(())
     }
 
-    /// Puts lines of a listing of unique-ids behind the first ones.
+    /// Puts lines of a listing of unique-ids, from row `done` on.
     pub fn send_uids(
         &mut self,
         alloc: Global,
@@ -352,7 +352,8 @@ impl Output {
         Ok(())
     }
 
-    /// Puts pages of a message. `false` where the store refused one.
+    /// Puts pages of a message, until 16,384 octets stand ready. `false` where the store refused a
+    /// page.
     pub fn send_text<V: Vault>(&mut self, vault: &mut V, text: Reading) -> Result<bool, AllocError>
         requires { self.old.source ≡ Source.Nothing }
         ensures owes { IfOk result (λ sent. sent ≡ true → (c : Contents) (s : State) (coming : List ℕ) → V.holds vault.old c → V.is_clean vault.new → Reads c s text coming → Owes c (Some s) self.new (self.old.ready ++ coming)) }

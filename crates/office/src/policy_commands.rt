@@ -1,4 +1,4 @@
-//! The policy's commands.
+//! Commands about the policy in force.
 ghost use Rattle.std.specs.Prelude.{◌≤◌};
 ghost use Rattle.office.specs.Events.{Trace};
 ghost use Rattle.office.specs.Events as event;
@@ -31,7 +31,7 @@ impl<V: Vault> Office<V> {
         }
     }
 
-    /// A copy of the policy in force, whose groups are told.
+    /// A copy of the policy in force, of which only the groups are shown.
     pub(crate) fn list_groups(&mut self) -> Outcome
         ensures stands { (T : Trace) → StandsFor V.holds self.old T → V.is_clean (vault_of self.new) → StandsFor V.holds self.new (followed_by T (event.Admin asked.ListGroups) result) }
         ensures outcome { (T : Trace) → StandsFor V.holds self.old T → V.is_clean (vault_of self.new) → IsOutcome T (lent_by self.old) (event.Admin asked.ListGroups) (outcome_seen result) }
@@ -47,7 +47,7 @@ impl<V: Vault> Office<V> {
         }
     }
 
-    /// Sets the policy, in the store and then here. Sessions keep what they see.
+    /// Sets the policy, in the store and then here. A session keeps its view of messages.
     pub(crate) fn set_policy(&mut self, policy: &Policy) -> Outcome
         ensures stands { (T : Trace) → StandsFor V.holds self.old T → V.is_clean (vault_of self.new) → StandsFor V.holds self.new (followed_by T (event.Admin (asked.SetPolicy policy.now)) result) }
         ensures outcome { (T : Trace) → StandsFor V.holds self.old T → V.is_clean (vault_of self.new) → IsOutcome T (lent_by self.old) (event.Admin (asked.SetPolicy policy.now)) (outcome_seen result) }

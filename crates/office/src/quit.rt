@@ -22,7 +22,7 @@ use vault::{Vault, VaultFault};
 /// The octets of [`Reply::RemovalFailed`], whose room is made before the store is asked.
 const REFUSAL_OCTETS: usize = 40;
 
-/// The farewell, or the rule that kept a marked message.
+/// The farewell; or the name of the rule that kept a marked message from removal.
 fn farewell(denied: Option<Name>) -> Reply<'static>
     ensures { reply_seen result ≡ quit_says denied }
 {
@@ -33,7 +33,7 @@ fn farewell(denied: Option<Name>) -> Reply<'static>
 }
 
 /// Removes the marked messages that the policy lets the clerk remove, all or none, and says
-/// farewell. The removal comes last: what can fail beside it was done before.
+/// farewell. The removal comes last: whatever else may fail is done before it.
 pub(crate) fn quit<V: Vault>(
     alloc: Global,
     vault: &mut V,

@@ -13,26 +13,26 @@ use popline::end_lines;
 use std::alloc::AllocError;
 use vault::{MessageKey, Vault, VaultFault};
 
-/// How many octets are lent at most, and stand ready where so many are owed.
+/// At most so many octets are lent at once; while more are owed, so many at least stand ready.
 pub const MOST_LENT: usize = 16_384;
-/// How many octets are read at once.
+/// How many octets of a message are read from the store at once.
 const PAGE_OCTETS: usize = 4096;
 /// How many octets a page has at most once its dots are doubled.
 const STUFFED_OCTETS: usize = 8192;
 
-/// A message that is being sent: its key and its octets, how many of them were read, and how it
-/// goes on from there.
+/// A message that is being sent: its key, how many octets it has and how many of them were read
+/// (`place`), and the state in which dot-stuffing and TOP's cut stand there.
 #[derive(Drop)]
 pub struct Reading {
     key: MessageKey,
     octets: u64,
     place: u64,
     stuffer: Stuffer,
-    /// How far TOP goes; `None` where the whole message is sent.
+    /// Where TOP cuts the message off; `None` where all of it is sent.
     cut: Option<TopCut>,
 }
 
-/// What became of a page.
+/// What came of reading and putting a page.
 #[derive(Clone, Copy)]
 pub enum Page {
     /// It was put, and more is to come.
@@ -44,7 +44,7 @@ pub enum Page {
 }
 
 impl Reading {
-    /// The message under a key, of so many octets, from its beginning on.
+    /// The whole message under a key, of so many octets, before its first page.
     pub fn whole(key: MessageKey, octets: u64) -> Reading
         ensures is { result ≡ record { key = key; octets = octets; place = 0; stuffer = true; cut = None } }
         ensures coming { (text : List ℕ) → kept_form text ≡ text → text_coming result text ≡ stuffed_lines (lines_of text) ++ last_line }
@@ -58,7 +58,7 @@ impl Reading {
         }
     }
 
-    /// Its header, and so many lines of its body.
+    /// The header of the message under a key, and so many lines of its body, before its first page.
     pub fn top(key: MessageKey, octets: u64, lines: u64) -> Reading
         ensures is { result ≡ record { key = key; octets = octets; place = 0; stuffer = true; cut = Some (nothing_come lines) } }
         ensures coming { (text : List ℕ) → kept_form text ≡ text → text_coming result text ≡ stuffed_lines (top_part (lines_of text) lines) ++ last_line }
@@ -94,7 +94,7 @@ impl Reading {
         }
     }
 
-    /// How many first octets of a page are sent.
+    /// How many octets of a page, from its front, belong to what is sent.
     fn part_of(&mut self, page: &[u8]) -> usize
         ensures within { result ≤ length page.now }
         ensures part { (more : List ℕ) → cut_from self.old.cut (page.now ++ more) ≡ take result page.now ++ cut_from self.new.cut (drop result page.now ++ more) }
@@ -107,7 +107,7 @@ impl Reading {
         }
     }
 
-    /// Puts octets of a page, dots added.
+    /// Puts octets of a page, with a dot before each line that begins with one.
     fn put_stuffed(&mut self, octets: &[u8], ready: &mut Vec<u8>) -> Result<(), AllocError>
         requires { length octets.now ≤ PAGE_OCTETS }
         ensures ok { OnOk result ((more : List ℕ) → ready.old.items ++ stuffed_from self.old.stuffer (octets.now ++ more) ≡ ready.new.items ++ stuffed_from self.new.stuffer more) }
@@ -119,7 +119,7 @@ impl Reading {
         ready.extend_from_slice(&out[..put])
     }
 
-    /// Puts a page of the message, and answers whether more is to come.
+    /// Puts a page of the message. Returns whether more is to come; else it puts the last dot too.
     fn put(&mut self, page: &[u8], ready: &mut Vec<u8>) -> Result<bool, AllocError>
         requires { length page.now ≤ PAGE_OCTETS }
         ensures put { IfOk result (λ more. (text : List ℕ) → length text ≡ self.old.octets → page.now ≡ take (length page.now) (drop self.old.place text) → ready.old.items ++ text_coming self.old text ≡ ready.new.items ++ (if more then text_coming self.new text else [])) }
@@ -164,7 +164,8 @@ impl Reading {
         }
     }
 
-    /// Puts pages until as much stands ready as is lent at most, or nothing more is to come.
+    /// Reads and puts pages until 16,384 octets stand ready, the message ends, or the store refuses
+    /// a page.
     pub fn fill<V: Vault>(&mut self, vault: &mut V, ready: &mut Vec<u8>) -> Result<Page, AllocError>
         requires { length ready.old.items ≤ most_output }
         ensures put { IfOk result (λ page. (c : Contents) → V.holds vault.old c → V.is_clean vault.new → IsBegun self.old (text_under self.old.key c.messages) → IsPut page ready.old.items ready.new.items (text_coming self.old (text_under self.old.key c.messages)) (text_coming self.new (text_under self.old.key c.messages))) }

@@ -13,7 +13,8 @@ use policy::Policy;
 use popline::Reply;
 use session::{Pick, Session};
 
-/// Why a message isn't found under a number, or isn't read or marked.
+/// The reply to a number under which no message may be read or marked: none is there, it is marked
+/// already, or the rule that denies it.
 pub(crate) fn refused(why: Pick, n: u64) -> Reply<'static>
     ensures { reply_seen result ≡ refused_pick n why }
 {

@@ -21,7 +21,7 @@ use std::alloc::{AllocError, Global};
 use std::collections::BTreeMap;
 use vault::Vault;
 
-/// Puts a connection's session behind the others, where it has one.
+/// Adds a connection's session to the rows, where it has one.
 fn put_session(rows: &mut Vec<SessionRow>, number: u64, link: &Link) -> Result<(), AllocError>
     ensures { OnOk result (map session_seen rows.new.items ≡ map session_seen rows.old.items ++ filter_map kept_row ((number, link.now) ∷ [])) }
 {
@@ -71,7 +71,8 @@ impl<V: Vault> Office<V> {
         }
     }
 
-    /// Ends a session and its connection, and lets its maildrop go.
+    /// Ends a connection's session and the connection, with nothing removed, and lets its maildrop
+    /// go.
     pub(crate) fn end_session(&mut self, c: u64) -> Outcome
         ensures stands { (T : Trace) → StandsFor V.holds self.old T → V.is_clean (vault_of self.new) → StandsFor V.holds self.new (followed_by T (event.Admin (asked.EndSession c)) result) }
         ensures outcome { (T : Trace) → StandsFor V.holds self.old T → V.is_clean (vault_of self.new) → IsOutcome T (lent_by self.old) (event.Admin (asked.EndSession c)) (outcome_seen result) }

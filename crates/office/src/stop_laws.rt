@@ -1,4 +1,5 @@
-//! What a stop in an event leaves, and an office that is opened over it.
+//! What a stop of the device (a crash, the power gone) leaves, and the office that is opened again
+//! over that.
 ghost use Rattle.std.specs.Prelude.{IfOk};
 ghost use Rattle.vault.specs.Changes.{Contents};
 ghost use Rattle.office.specs.Events.{Trace, Tagged, given};
@@ -12,9 +13,10 @@ use crate::{Event, Limits, Office, OpenFault, Outcome};
 use std::alloc::Global;
 use vault::Vault;
 
-/// Stopped in an event, and opened again before another over what was left, an office stands for
-/// the trace before the event, or with the event taken as done, and the start; with it where the
-/// event was answered otherwise than `Failed` or `NoMemory`.
+/// Does an event and opens an office over a vault that holds what a stop in that event may leave.
+/// The new office stands for the trace before the event or for that with the event taken as done,
+/// and then its opening. The event is in wherever it was answered otherwise than `Failed` or
+/// `NoMemory`.
 pub fn step_and_open<V: Vault>(
     alloc: Global,
     office: &mut Office<V>,
@@ -31,8 +33,8 @@ pub fn step_and_open<V: Vault>(
     (outcome, opened)
 }
 
-/// While the device hasn't failed, a stop between two events leaves what the trace says: every
-/// answered event is in.
+/// While the device is up, a stop between two events leaves what the trace says: every event that
+/// was answered is in.
 pub fn stop_between_events<V: Vault>(office: &Office<V>)
     ensures { (T : Trace) → StandsFor V.holds office.now T → V.is_clean (vault_of office.now) → V.is_up (vault_of office.now) → (left : Contents) → V.may_leave (vault_of office.now) left → SaysTrace left T }
 {

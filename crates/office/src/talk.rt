@@ -1,4 +1,4 @@
-//! What is remembered of a conversation between its lines, and what a line is judged by.
+//! What a connection remembers from one line to the next, and what a line is judged by.
 
 ghost use Rattle.std.specs.Prelude.{◌≡◌, Option, IfOk};
 ghost use Rattle.popline.specs.Seen.{reply_seen};
@@ -14,7 +14,7 @@ use popline::Reply;
 use session::Removals;
 use std::alloc::{AllocError, Global};
 
-/// What the next line is answered by, beside the line itself.
+/// What a connection remembers from one line to the next, beside its session.
 #[derive(Clone, Copy)]
 pub struct Talk {
     /// The login name that the last line left in force.
@@ -28,7 +28,7 @@ pub struct Talk {
 }
 
 impl Talk {
-    /// Of a connection on which nothing was said yet.
+    /// For a new connection: no name in force and no credential refused.
     pub fn new(removals: Removals) -> Talk
         ensures { result ≡ nothing_said removals }
     {
@@ -41,7 +41,7 @@ impl Talk {
     }
 }
 
-/// What a line is judged by, beside the store and what is remembered.
+/// What a line is judged by, beside the store, the locks and what is remembered.
 #[derive(Clone, Copy)]
 pub struct Desk<'a> {
     /// The policy in force.
@@ -52,15 +52,15 @@ pub struct Desk<'a> {
     pub number: u64,
 }
 
-/// What became of a line that was answered.
+/// How a line was answered.
 #[derive(Clone, Copy)]
 pub enum Acted {
     Done,
-    /// The store refused, and the reply says so.
+    /// The store failed, and the reply says so.
     Failed,
 }
 
-/// Puts a reply that needs no store.
+/// Puts a reply for which no store was asked.
 pub(crate) fn say(
     alloc: Global,
     output: &mut Output,

@@ -25,7 +25,7 @@ fn end_idle(links: &mut BTreeMap<u64, Link>, moment: u64, seconds: u64)
     links.retain(|_, link| !link.is_idle(moment, seconds));
 }
 
-/// Lets go the maildrops of connections that are no more.
+/// Lets the maildrop of each ended connection go.
 fn release_ended(locks: &mut Locks, links: &BTreeMap<u64, Link>)
     ensures { (d : List ℕ) → get name_cmp locks.new d ≡ lock_of_kept links.now (get name_cmp locks.old d) }
 {
@@ -52,7 +52,8 @@ impl<V: Vault> Office<V> {
         Outcome::Done
     }
 
-    /// Ends every connection, and counts connections anew under another number. It takes no memory.
+    /// Ends every connection, and counts connections from 1 again, under a new boot number. It
+    /// takes no memory.
     pub(crate) fn restart(&mut self, boot: u64) -> Outcome
         ensures stands { (T : Trace) → StandsFor V.holds self.old T → V.is_clean (vault_of self.new) → StandsFor V.holds self.new (followed_by T (event.Restart boot) result) }
         ensures outcome { (T : Trace) → StandsFor V.holds self.old T → V.is_clean (vault_of self.new) → IsOutcome T (lent_by self.old) (event.Restart boot) (outcome_seen result) }

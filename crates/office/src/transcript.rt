@@ -4,8 +4,7 @@ ghost use Rattle.std.specs.Prelude.{◌≡◌};
 use crate::Outcome;
 use std::marker::Model;
 
-/// What one event was answered, and the octets that it took, where it was a taking that was
-/// accepted.
+/// The outcome of one event, and the octets that it took, where it was a taking that was accepted.
 #[derive(Drop)]
 pub struct Step {
     outcome: Outcome,
@@ -72,7 +71,7 @@ impl Transcript {
     }
 }
 
-/// Why a run stopped: want of memory for the transcript, after so many events were done.
+/// Why a run stopped early: want of memory for the transcript, after so many events were done.
 #[derive(Clone, Copy, Debug, PartialEq, Eq)]
 pub enum RunFault {
     NoMemory(usize),

@@ -1,4 +1,4 @@
-//! Logins that wait for a lock: which piece of a connection's octets would meet one.
+//! Logins that wait for a lock: whether a piece of octets brings a login to a maildrop in use.
 ghost use Rattle.std.specs.Prelude.{◌≡◌};
 ghost use Rattle.popline.specs.Seen.{cut_seen};
 ghost use Rattle.office.specs.Connections.{reading};
@@ -15,8 +15,8 @@ use creds::LoginName;
 use popline::{Command, Cut};
 use vault::Vault;
 
-/// Whom a line would log in: a PASS the name in force, an APOP its own.
-fn login_asked(cut: Cut<'_>, user: Option<LoginName>) -> Option<LoginName>
+/// Whom a line would log in: for a PASS that is the name in force, for an APOP its own.
+pub(crate) fn login_asked(cut: Cut<'_>, user: Option<LoginName>) -> Option<LoginName>
     ensures { result ≡ login_asked_by (reading (cut_seen cut.entry)) user }
 {
     match read(cut) {
@@ -26,18 +26,18 @@ fn login_asked(cut: Cut<'_>, user: Option<LoginName>) -> Option<LoginName>
     }
 }
 
-/// Whether a line is a login to a maildrop that is locked.
-pub(crate) fn asks_locked(locks: &Locks, cut: Cut<'_>, user: Option<LoginName>) -> bool
-    ensures { result ≡ is_held_for (is_locked_by locks.now) (login_asked_by (reading (cut_seen cut.entry)) user) }
+/// Whether a login is to a maildrop that is locked; `None`, no login, never is.
+pub(crate) fn asks_locked(locks: &Locks, login: Option<LoginName>) -> bool
+    ensures { result ≡ is_held_for (is_locked_by locks.now) login }
 {
-    match login_asked(cut, user) {
+    match login {
         None => false,
         Some(name) => locks.contains_key(&name.maildrop),
     }
 }
 
-/// Whether a connection that owes nothing waits with this piece: its last line or taking was less
-/// than so many seconds ago, and its next line would meet a lock.
+/// Whether a connection that is owed nothing waits with this piece: its last line or taking was
+/// less than so many seconds ago, and its next line is a login to a locked maildrop.
 fn link_waits(link: &Link, locks: &Locks, piece: &[u8], moment: u64, seconds: u64) -> bool
     ensures { result ≡ kept_waits (is_locked_by locks.now) moment seconds link.now piece.now }
 {

@@ -3,11 +3,10 @@ use Rattle.popline.specs.Cutting.{Held, fed}
 use Rattle.popline.specs.Seen.{cut_seen}
 use Rattle.office.specs.Connections.{reading}
 use Rattle.office.specs.Kept.{Kept}
-use Rattle.office.specs.Waiting.{is_held_for, login_asked}
-use Rattle.office.specs.Answered.{is_locked_by}
+use Rattle.office.specs.Waiting.{login_asked}
 use Rattle.office.proofs.Keeping.{has_line, is_line, no_line}
-use Rattle.office.proofs.MeetingLocks.{meets_line, meets_none}
-use Rattle.office.proofs.link.Link.meets_lock.Goals as goal
+use Rattle.office.proofs.MeetingLocks.{comes_line, comes_none}
+use Rattle.office.proofs.link.Link.coming_login.Goals as goal
 
 pub returns : goal.returns
 returns c =
@@ -18,11 +17,10 @@ returns c =
     let held = c.copied-cutter.ensures ∙ ap (λ (k : Kept). k.held) v in
     let fed_is = c.feed.ensures.held ∙ ap (λ (h : Held). fed h p) held in
     let out : is_some k.session ≡ false = search rules in
-    let f = is_locked_by c.args.locks.now in
     let there = has_line k c.feed.new.self p x fed_is c.in-Some.ensures in
     let same = is_line k c.feed.new.self p x fed_is c.in-Some.ensures in
-    let user = ap (λ (k : Kept). is_held_for f (login_asked (reading x) k.talk.user)) v in
-    c.asks_locked.ensures ∙ (user ∙ meets_line f k p out x there same)
+    let user = ap (λ (k : Kept). login_asked (reading x) k.talk.user) v in
+    c.login_asked.ensures ∙ (user ∙ comes_line k p out x there same)
 
 pub returns-in_default : goal.returns-in_default
 returns-in_default c =
@@ -33,4 +31,4 @@ returns-in_default c =
     let fed_is = c.feed.ensures.held ∙ ap (λ (h : Held). fed h p) held in
     let out : is_some k.session ≡ false = search rules in
     let none = no_line k c.feed.new.self p fed_is c.in_default.ensures in
-    meets_none (is_locked_by c.args.locks.now) k p out none
+    comes_none k p out none

@@ -1,0 +1,45 @@
+use Rattle.std.proofs.Common.{◌≡◌, true, false, Option, Some, None, is_some, sym, ap, ◌∙◌, subst, refl, nat_cmp}
+use Rattle.std.specs.BTreeMap.{get}
+use Rattle.creds.specs.declared.login_name.LoginName.{LoginName}
+use Rattle.office.specs.Replying.{is_empty}
+use Rattle.office.specs.Kept.{Kept}
+use Rattle.office.specs.Trace.{is_open}
+use Rattle.office.specs.Stands.{Matches, IsOver, IsKeptFor, seen, untaken_of}
+use Rattle.office.proofs.Owing.{some_owed}
+use Rattle.office.proofs.MeetingLocks.{brings_so}
+use Rattle.office.proofs.office.Office.brings_login.Goals as goal
+
+pub returns : goal.returns
+returns g c T st =
+    let n = c.args.c in
+    let k : Kept = c.in-Some.link.now in
+    let ct = st.keeps.contents in
+    let found : get nat_cmp c.args.self.now.links n ≡ Some k = sym c.in-Some.ensures.value in
+    let m : Matches ct (seen T n) k = subst (IsKeptFor ct (seen T n)) found (st.links n) in
+    let nothing = c.owes_nothing.ensures.nothing c.if-not-owes_nothing.false in
+    let p = c.args.piece.now in
+    let asked = ap (λ (x : Option LoginName). is_some x) c.coming_login.ensures in
+    c.is_some.ensures ∙ (asked ∙ brings_so ct T n p k m nothing)
+
+pub returns-in_default : goal.returns-in_default
+returns-in_default g c T st =
+    let n = c.args.c in
+    let ct = st.keeps.contents in
+    let found : get nat_cmp c.args.self.now.links n ≡ None = sym c.in_default.ensures.value in
+    let over : IsOver (seen T n) = subst (IsKeptFor ct (seen T n)) found (st.links n) in
+    let closed : is_open T n ≡ false = over.closed in
+    rw closed refl
+
+pub returns-then-not-owes_nothing : goal.returns-then-not-owes_nothing
+returns-then-not-owes_nothing g c T st =
+    let n = c.args.c in
+    let s = seen T n in
+    let k : Kept = c.in-Some.link.now in
+    let ct = st.keeps.contents in
+    let found : get nat_cmp c.args.self.now.links n ≡ Some k = sym c.in-Some.ensures.value in
+    let m : Matches ct s k = subst (IsKeptFor ct s) found (st.links n) in
+    let opened : is_open T n ≡ true = m.opened in
+    let owes = sym c.owes_nothing.ensures.value ∙ c.if-not-owes_nothing.true in
+    let some : is_empty (untaken_of s) ≡ false =
+    some_owed ct k.session k.output (untaken_of s) m.owed owes in
+    rw (opened, some) refl
