@@ -58,14 +58,13 @@ class Session:
         return [it for who, it in self.lines if who == "C" and it.split(" ")[0].upper() == verb]
 
     def replies(self, verb):
-        """The reply to each line with this command."""
-        found, asked = [], ""
+        """The reply to each line with this command; a program may send several at once."""
+        found, asked = [], []
         for who, line in self.lines:
             if who == "C":
-                asked = line.split(" ")[0].upper()
-            elif asked == verb:
+                asked.append(line.split(" ")[0].upper())
+            elif asked and asked.pop(0) == verb:
                 found.append(line)
-                asked = ""
         return found
 
 
@@ -265,8 +264,12 @@ class Program:
 
     def texts(self):
         """The stored messages as the server has them, but for line ends."""
-        added = rb"^(X-(Account-Key|UIDL|Mozilla-\S+): .*\n)+"
-        return [re.sub(added, b"", it) for it in self.stored()]
+        added = rb"(?m)^X-(Account-Key|UIDL|Mozilla-\S+|Evolution-\S+): .*\n"
+        found = []
+        for it in self.stored():
+            head, between, text = it.partition(b"\n\n")
+            found.append(re.sub(added, b"", head + b"\n")[:-1] + between + text)
+        return found
 
 
 class SECItem(ctypes.Structure):
@@ -522,6 +525,121 @@ class Sylpheed(Folders):
 
     def leave(self):
         leave_by(["sylpheed", "--configdir", self.config, "--exit"], self)
+
+
+class Evolution(Program):
+    name = "Evolution"
+    ordinary = "Mail|Inbox.*|.* — Evolution|evolution"
+
+    def prepare(self):
+        self.sources = f"{self.home}/.config/evolution/sources"
+        parts = {"pop": self.account(), "identity": IDENTITY, "transport": TRANSPORT}
+        for name, text in parts.items():
+            write(f"{self.sources}/{name}.source", text)
+        write(f"{self.home}/.config/glib-2.0/settings/keyfile", EVOLUTION)
+
+    def account(self):
+        return ACCOUNT.format(
+            port=self.port,
+            user=self.user,
+            method="+APOP" if self.apop else "",
+            leaves="true" if self.days else "false",
+            days=0,
+        )
+
+    def age(self, days):
+        """Evolution goes by the date of each message, which here is some days ago: from now on it
+        removes what is a day old."""
+        path = f"{self.sources}/pop.source"
+        with open(path, encoding="ascii") as file:
+            text = file.read()
+        write(path, re.sub(r"(?m)^DeleteAfterDays=.*$", "DeleteAfterDays=1", text))
+
+    def env(self):
+        return {
+            **{name: it for name, it in super().env().items() if not name.startswith("DBUS")},
+            "GSETTINGS_BACKEND": "keyfile",
+            "WEBKIT_DISABLE_SANDBOX_THIS_IS_DANGEROUS": "1",
+            "SECRET": self.password,
+        }
+
+    def words(self):
+        return ["dbus-run-session", "--", "sh", "-c", SESSION_OF_EVOLUTION]
+
+    def leave(self):
+        """Asks it to quit, over the bus of its session."""
+        with contextlib.suppress(FileNotFoundError, subprocess.TimeoutExpired):
+            with open(f"{self.home}/bus", encoding="ascii") as file:
+                env = {**self.env(), "DBUS_SESSION_BUS_ADDRESS": file.read().strip()}
+            how = {"stdin": subprocess.DEVNULL, "stdout": self.log, "stderr": self.log}
+            subprocess.run(["evolution", "--quit"], env=env, timeout=END, **how)
+            self.run.wait(timeout=END)
+
+    def stored(self):
+        found = []
+        for path in glob.glob(f"{self.home}/.local/share/evolution/mail/local/*/*.*.*:2,*"):
+            with open(path, "rb") as file:
+                found.append(file.read())
+        return sorted(found)
+
+
+# What Evolution's account is, and what starts it: a bus and a keyring of its own.
+ACCOUNT = """[Data Source]
+DisplayName=pop
+Enabled=true
+Parent=
+
+[Mail Account]
+BackendName=pop
+IdentityUid=identity
+
+[Authentication]
+Host=127.0.0.1
+Method={method}
+Port={port}
+User={user}
+RememberPassword=true
+
+[Security]
+Method=none
+
+[Pop Backend]
+KeepOnServer={leaves}
+DeleteAfterDays={days}
+DeleteExpunged=false
+"""
+IDENTITY = """[Data Source]
+DisplayName=pop
+Enabled=true
+Parent=pop
+
+[Mail Identity]
+Address=clerk@office.test
+Name=A Clerk
+
+[Mail Submission]
+TransportUid=transport
+"""
+TRANSPORT = """[Data Source]
+DisplayName=pop
+Enabled=true
+Parent=pop
+
+[Mail Transport]
+BackendName=sendmail
+"""
+EVOLUTION = """[org/gnome/evolution/mail]
+send-recv-on-start=true
+send-recv-all-on-start=true
+prompt-check-if-default-mailer=false
+"""
+SESSION_OF_EVOLUTION = """
+echo "$DBUS_SESSION_BUS_ADDRESS" >"$HOME/bus"
+printf x | gnome-keyring-daemon --unlock --components=secrets >/dev/null
+printf %s "$SECRET" | secret-tool store --label=pop e-source-uid pop \\
+    eds-origin evolution-data-server
+evolution --component=mail
+"""
 
 
 def leave_by(words, program):
