@@ -18,13 +18,13 @@ pub struct ScriptWire {
     requests: ScriptLinks,
     /// From where the clients come, in the order in which they are accepted.
     addresses: Vec<IpAddr>,
-    /// What comes behind the octets of each link: its end, or nothing for now.
+    /// Behind its octets each link is at its end; else nothing more comes for now.
     ends: bool,
     /// How many reads and writes there were.
     calls: u64,
-    /// In place of which read or write a fault comes.
+    /// The number of the read or write in whose place a fault comes, and the fault.
     stop: Option<(u64, Stop)>,
-    /// How long the last wait might have been, in milliseconds.
+    /// How long the last wait was allowed to be, in milliseconds.
     waited: u32,
 }
 
@@ -47,12 +47,12 @@ impl ScriptWire {
         }
     }
 
-    /// What a client sent is all that it sends.
+    /// From now on each link is at its end once all its octets are read.
     pub fn end_links(&mut self) {
         self.ends = true;
     }
 
-    /// In place of the read or write of this number, counted from 0 on, a fault comes.
+    /// Puts a fault in place of one read or write, counted from 0 on.
     pub fn stop_at(&mut self, call: u64, stop: Stop) {
         self.stop = Some((call, stop));
     }
@@ -64,7 +64,11 @@ impl ScriptWire {
 
     /// From where the clients come, in the order in which they are accepted. Until then, and of
     /// those behind the last of these, no address is known.
-    pub fn set_addresses(&mut self, addresses: Vec<IpAddr>) {
+    pub fn set_addresses(&mut self, addresses: Vec<IpAddr>)
+        ensures addresses { self.new.addresses ≡ addresses }
+        ensures clients { self.new.clients ≡ self.old.clients }
+        ensures requests { self.new.requests ≡ self.old.requests }
+    {
         self.addresses = addresses;
     }
 
@@ -104,7 +108,7 @@ impl ScriptWire {
         self.calls
     }
 
-    /// How long the last wait might have been, in milliseconds.
+    /// How long the last wait was allowed to be, in milliseconds.
     pub fn waited(&self) -> u32 {
         self.waited
     }

@@ -34,21 +34,20 @@ pub enum Io {
 
 /// Links as they come.
 ///
-/// Contracts see what it tells of its links: those of each port are numbered from 0 on, in the
-/// order in which they were accepted. A wire over sockets tells nothing: no value of it tells
-/// anything.
+/// `tells w t`: `t` is a true record of w's traffic. The links of each port are numbered in it from
+/// 0 on, in the order in which they were accepted. Of a wire over sockets no record is known.
 pub trait Wire {
     ghost use Rattle.serving.specs.Wires.{IsWithin, IsAccepted, SayAlikeOfPorts};
 
-    /// What it may tell.
+    /// `tells w t`: `t` is a true record of w's traffic.
     ghost tells: { Self → ToldOfPorts → Type 0 };
 
-    /// Waits until something may be done, or that many milliseconds.
+    /// Waits until a link may be accepted, read or written, at most so many milliseconds.
     fn wait(&mut self, millis: u32)
         ensures { (t : ToldOfPorts) → tells self.old t → tells self.new t };
 
-    /// The next link that came at a port; `None` where none waits, or where it can't be accepted
-    /// now.
+    /// Accepts the next link that came at a port; `None` where none waits, or where it can't be
+    /// accepted now.
     fn accept(&mut self, port: Port) -> Option<Link>
         ensures { (t : ToldOfPorts) → tells self.old t → IsAccepted (tells self.new) port t result };
 
@@ -75,6 +74,6 @@ pub trait Wire {
     fn close(&mut self, port: Port, link: Link)
         ensures { (t : ToldOfPorts) → tells self.old t → tells self.new (at_port port (λ of. has_closed of link.number) t) };
 
-    /// It tells one thing, or nothing.
+    /// Any two records of one wire say the same.
     ghost tells_once: { (wire : Self) (t u : ToldOfPorts) → tells wire t → tells wire u → SayAlikeOfPorts t u };
 }
