@@ -26,14 +26,16 @@ pub enum Fault {
     BadEvent(u64),
     /// The host name isn't of its form.
     BadHost,
-    /// The store can't be opened, or refused as an office was opened over it.
+    /// The store can't be opened, or it refused a call, for this cause.
     Store(VaultFault),
     /// The conversation was broken off.
     Talk(TalkFault),
-    /// The file holds no policy, for this cause, which isn't want of memory.
+    /// The file holds no policy: its first fault, which isn't want of memory.
     NoPolicy(PolicyFault),
     /// The clock can't be read.
     NoClock,
+    /// A file can't be put into a folder.
+    CannotPut,
     /// Standard output refuses octets.
     CannotWrite,
     /// Memory ran out.
@@ -52,6 +54,7 @@ impl fmt::Display for Fault {
             Fault::Talk(fault) => f.write_str(talk_fault_text(fault)),
             Fault::NoPolicy(fault) => write!(f, "{fault}"),
             Fault::NoClock => f.write_str("cannot read clock"),
+            Fault::CannotPut => f.write_str("cannot write file"),
             Fault::CannotWrite => f.write_str("cannot write"),
             Fault::OutOfMemory => f.write_str("out of memory"),
         }
@@ -135,7 +138,7 @@ fn talk_fault_text(fault: &TalkFault) -> &'static str
     }
 }
 
-/// What a file's refusal to be opened or read is told as.
+/// The fault that tells that a file can't be opened or read.
 pub fn read_fault(error: &io::Error) -> Fault
     ensures memory { (result ≡ Fault.OutOfMemory) ↔ (error_kind error.now ≡ ErrorKind.OutOfMemory) }
     ensures cause { (result ≡ Fault.CannotRead) ⊎ (result ≡ Fault.OutOfMemory) }
@@ -143,6 +146,17 @@ pub fn read_fault(error: &io::Error) -> Fault
     match error.kind() {
         ErrorKind::OutOfMemory => Fault::OutOfMemory,
         _ => Fault::CannotRead,
+    }
+}
+
+/// The fault that tells that a folder refused a file.
+pub fn put_fault(error: &io::Error) -> Fault
+    ensures memory { (result ≡ Fault.OutOfMemory) ↔ (error_kind error.now ≡ ErrorKind.OutOfMemory) }
+    ensures cause { (result ≡ Fault.CannotPut) ⊎ (result ≡ Fault.OutOfMemory) }
+{
+    match error.kind() {
+        ErrorKind::OutOfMemory => Fault::OutOfMemory,
+        _ => Fault::CannotPut,
     }
 }
 
