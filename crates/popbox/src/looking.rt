@@ -34,7 +34,15 @@ pub fn run_review<E: Write>(
         return review_alone(rt, new.as_slice(), &choice, options, err);
     };
     match fs::read(rt, path) {
-        Ok(old) => review_both(rt, path, old.as_slice(), new.as_slice(), &choice, options, err),
+        Ok(old) => review_both(
+            rt,
+            path,
+            old.as_slice(),
+            new.as_slice(),
+            &choice,
+            options,
+            err,
+        ),
         Err(error) => Ok(tell_unread(err, is_verbose(options), path, &error)),
     }
 }
