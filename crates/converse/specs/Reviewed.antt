@@ -9,7 +9,8 @@ use Rattle.review.specs.Review.{against_text, changes_of, has_lines, review_text
 
 -- a beginning of the text is printed, or all of it
 abbrev pub PrintsPart : (before after : Option (List ℕ)) → (text : List ℕ) → Type 0
-PrintsPart before after text = (told : List ℕ) × (rest : List ℕ) × (text ≡ told ++ rest) × Appends before after told
+PrintsPart before after text =
+    (told : List ℕ) × (rest : List ℕ) × (text ≡ told ++ rest) × Appends before after told
 
 -- what a file holds, where that is known, is a policy's text
 abbrev pub Holds : (file : Option (List ℕ)) → Policy → Type 0
@@ -30,21 +31,27 @@ abbrev pub status_of : (differ : Bool) → ℕ
 status_of true = 3
 status_of false = 0
 
--- of two policies' files: the new policy's review against the old one is printed; the status tells whether a decision differs
-abbrev pub TellsChange : Choice → (status : ℕ) → (old_file new_file before after : Option (List ℕ)) → Type 0
+-- of two policies' files: the new policy's review against the old one is printed; the status tells
+-- whether a decision differs
+abbrev pub TellsChange : Choice → (status : ℕ)
+    → (old_file new_file before after : Option (List ℕ)) → Type 0
 TellsChange choice status old_file new_file before after =
     (old : Policy) × (new : Policy) × Holds old_file old × Holds new_file new
-    × (status ≡ status_of (has_lines (changes_of choice old new nobody))) × Appends before after (against_text choice old new nobody)
+    × (status ≡ status_of (has_lines (changes_of choice old new nobody)))
+    × Appends before after (against_text choice old new nobody)
 
 -- or a part of it
 abbrev pub TellsChangePart : Choice → (old_file new_file before after : Option (List ℕ)) → Type 0
 TellsChangePart choice old_file new_file before after =
-    (old : Policy) × (new : Policy) × Holds old_file old × Holds new_file new × PrintsPart before after (against_text choice old new nobody)
+    (old : Policy) × (new : Policy) × Holds old_file old × Holds new_file new
+    × PrintsPart before after (against_text choice old new nobody)
 
--- of a policy's file: its review against the old policy is printed, beside a store that has these names
-abbrev pub TellsStored : Choice → (status : ℕ) → Policy → Kept → (file before after : Option (List ℕ)) → Type 0
+-- of a policy's file: its review against the old policy is printed, beside a store with these names
+abbrev pub TellsStored : Choice → (status : ℕ) → (old : Policy) → Kept
+    → (file before after : Option (List ℕ)) → Type 0
 TellsStored choice status old kept file before after =
-    (new : Policy) × Holds file new × (status ≡ status_of (has_lines (changes_of choice old new kept)))
+    (new : Policy) × Holds file new
+    × (status ≡ status_of (has_lines (changes_of choice old new kept)))
     × Appends before after (stored_text choice old new kept)
 
 -- or a part of it
@@ -53,11 +60,13 @@ TellsStoredPart choice old kept file before after =
     (new : Policy) × Holds file new × PrintsPart before after (stored_text choice old new kept)
 
 -- the same against the policy of another file
-abbrev pub TellsStoredChange : Choice → (status : ℕ) → Kept → (old_file new_file before after : Option (List ℕ)) → Type 0
+abbrev pub TellsStoredChange : Choice → (status : ℕ) → Kept
+    → (old_file new_file before after : Option (List ℕ)) → Type 0
 TellsStoredChange choice status kept old_file new_file before after =
     (old : Policy) × Holds old_file old × TellsStored choice status old kept new_file before after
 
 -- or a part of it
-abbrev pub TellsStoredChangePart : Choice → Kept → (old_file new_file before after : Option (List ℕ)) → Type 0
+abbrev pub TellsStoredChangePart : Choice → Kept
+    → (old_file new_file before after : Option (List ℕ)) → Type 0
 TellsStoredChangePart choice kept old_file new_file before after =
     (old : Policy) × Holds old_file old × TellsStoredPart choice old kept new_file before after

@@ -26,9 +26,12 @@ pub fn review_file<R: Read, W: Write, E: Write>(
 ) -> u8
     ensures status { (result ≡ 0) ⊎ (result ≡ 1) }
     ensures silent { result ≡ 0 → err.new ≡ err.old }
-    ensures good { result ≡ 0 → TellsReview choice.now (R.remaining file.old) (W.contents out.old) (W.contents out.new) }
-    ensures faulty { IfSome (R.remaining file.old) (λ octets. IsNoPolicyText octets → out.new ≡ out.old) }
-    ensures part { (out.new ≡ out.old) ⊎ TellsReviewPart choice.now (R.remaining file.old) (W.contents out.old) (W.contents out.new) }
+    ensures good { result ≡ 0 → TellsReview choice.now (R.remaining file.old)
+        (W.contents out.old) (W.contents out.new) }
+    ensures faulty { IfSome (R.remaining file.old)
+        (λ octets. IsNoPolicyText octets → out.new ≡ out.old) }
+    ensures part { (out.new ≡ out.old) ⊎ TellsReviewPart choice.now (R.remaining file.old)
+        (W.contents out.old) (W.contents out.new) }
 {
     match tell_review(alloc, file, choice, out) {
         Ok(()) => 0,
@@ -42,9 +45,12 @@ fn tell_review<R: Read, W: Write>(
     choice: &Choice,
     out: &mut W,
 ) -> Result<(), Fault>
-    ensures ok { OnOk result (TellsReview choice.now (R.remaining file.old) (W.contents out.old) (W.contents out.new)) }
-    ensures faulty { IfSome (R.remaining file.old) (λ octets. IsNoPolicyText octets → out.new ≡ out.old) }
-    ensures part { (out.new ≡ out.old) ⊎ TellsReviewPart choice.now (R.remaining file.old) (W.contents out.old) (W.contents out.new) }
+    ensures ok { OnOk result (TellsReview choice.now (R.remaining file.old)
+        (W.contents out.old) (W.contents out.new)) }
+    ensures faulty { IfSome (R.remaining file.old)
+        (λ octets. IsNoPolicyText octets → out.new ≡ out.old) }
+    ensures part { (out.new ≡ out.old) ⊎ TellsReviewPart choice.now (R.remaining file.old)
+        (W.contents out.old) (W.contents out.new) }
 {
     let policy = read_file(alloc, file)?;
     let text = review_policy(alloc, &policy, choice)?;
@@ -65,8 +71,10 @@ pub fn review_change<O: Read, R: Read, W: Write, E: Write>(
     err: &mut E,
 ) -> u8
     ensures silent { (result ≡ 1 → ⊥) → err.new ≡ err.old }
-    ensures good { (result ≡ 1 → ⊥) → TellsChange choice.now result (O.remaining old.old) (R.remaining file.old) (W.contents out.old) (W.contents out.new) }
-    ensures part { (out.new ≡ out.old) ⊎ TellsChangePart choice.now (O.remaining old.old) (R.remaining file.old) (W.contents out.old) (W.contents out.new) }
+    ensures good { (result ≡ 1 → ⊥) → TellsChange choice.now result (O.remaining old.old)
+        (R.remaining file.old) (W.contents out.old) (W.contents out.new) }
+    ensures part { (out.new ≡ out.old) ⊎ TellsChangePart choice.now (O.remaining old.old)
+        (R.remaining file.old) (W.contents out.old) (W.contents out.new) }
 {
     match tell_change(alloc, old, file, choice, out) {
         Ok(true) => 3,
@@ -82,8 +90,11 @@ fn tell_change<O: Read, R: Read, W: Write>(
     choice: &Choice,
     out: &mut W,
 ) -> Result<bool, Fault>
-    ensures ok { IfOk result (λ differ. TellsChange choice.now (status_of differ) (O.remaining old.old) (R.remaining file.old) (W.contents out.old) (W.contents out.new)) }
-    ensures part { (out.new ≡ out.old) ⊎ TellsChangePart choice.now (O.remaining old.old) (R.remaining file.old) (W.contents out.old) (W.contents out.new) }
+    ensures ok { IfOk result (λ differ. TellsChange choice.now (status_of differ)
+        (O.remaining old.old) (R.remaining file.old) (W.contents out.old)
+        (W.contents out.new)) }
+    ensures part { (out.new ≡ out.old) ⊎ TellsChangePart choice.now (O.remaining old.old)
+        (R.remaining file.old) (W.contents out.old) (W.contents out.new) }
 {
     let before = read_file(alloc, old)?;
     let policy = read_file(alloc, file)?;
@@ -107,8 +118,10 @@ pub fn review_in_store<R: Read, W: Write, E: Write>(
     err: &mut E,
 ) -> u8
     ensures silent { (result ≡ 1 → ⊥) → err.new ≡ err.old }
-    ensures good { (result ≡ 1 → ⊥) → TellsStored choice.now result before.now kept.now (R.remaining file.old) (W.contents out.old) (W.contents out.new) }
-    ensures part { (out.new ≡ out.old) ⊎ TellsStoredPart choice.now before.now kept.now (R.remaining file.old) (W.contents out.old) (W.contents out.new) }
+    ensures good { (result ≡ 1 → ⊥) → TellsStored choice.now result before.now kept.now
+        (R.remaining file.old) (W.contents out.old) (W.contents out.new) }
+    ensures part { (out.new ≡ out.old) ⊎ TellsStoredPart choice.now before.now kept.now
+        (R.remaining file.old) (W.contents out.old) (W.contents out.new) }
 {
     match tell_stored(alloc, before, kept, file, choice, out) {
         Ok(true) => 3,
@@ -125,8 +138,10 @@ fn tell_stored<R: Read, W: Write>(
     choice: &Choice,
     out: &mut W,
 ) -> Result<bool, Fault>
-    ensures ok { IfOk result (λ differ. TellsStored choice.now (status_of differ) before.now kept.now (R.remaining file.old) (W.contents out.old) (W.contents out.new)) }
-    ensures part { (out.new ≡ out.old) ⊎ TellsStoredPart choice.now before.now kept.now (R.remaining file.old) (W.contents out.old) (W.contents out.new) }
+    ensures ok { IfOk result (λ differ. TellsStored choice.now (status_of differ) before.now
+        kept.now (R.remaining file.old) (W.contents out.old) (W.contents out.new)) }
+    ensures part { (out.new ≡ out.old) ⊎ TellsStoredPart choice.now before.now kept.now
+        (R.remaining file.old) (W.contents out.old) (W.contents out.new) }
 {
     let policy = read_file(alloc, file)?;
     let (text, differ) = review_stored(alloc, before, &policy, kept, choice)?;
@@ -145,8 +160,12 @@ pub fn review_change_in_store<O: Read, R: Read, W: Write, E: Write>(
     err: &mut E,
 ) -> u8
     ensures silent { (result ≡ 1 → ⊥) → err.new ≡ err.old }
-    ensures good { (result ≡ 1 → ⊥) → TellsStoredChange choice.now result kept.now (O.remaining old.old) (R.remaining file.old) (W.contents out.old) (W.contents out.new) }
-    ensures part { (out.new ≡ out.old) ⊎ TellsStoredChangePart choice.now kept.now (O.remaining old.old) (R.remaining file.old) (W.contents out.old) (W.contents out.new) }
+    ensures good { (result ≡ 1 → ⊥) → TellsStoredChange choice.now result kept.now
+        (O.remaining old.old) (R.remaining file.old) (W.contents out.old)
+        (W.contents out.new) }
+    ensures part { (out.new ≡ out.old) ⊎ TellsStoredChangePart choice.now kept.now
+        (O.remaining old.old) (R.remaining file.old) (W.contents out.old)
+        (W.contents out.new) }
 {
     match read_file(alloc, old) {
         Ok(before) => review_in_store(alloc, &before, kept, file, choice, out, err),
@@ -154,8 +173,8 @@ pub fn review_change_in_store<O: Read, R: Read, W: Write, E: Write>(
     }
 }
 
-/// Writes some of the text, which isn't empty: at least one octet, or an `Err`. Where a signal broke
-/// in, it is none.
+/// Writes some of the text, which isn't empty, and gives how many octets: none where a signal broke
+/// in. An `Err` is a writer that refuses, or takes none.
 fn put_some<W: Write>(out: &mut W, text: &[u8]) -> Result<usize, Fault>
     ensures bound { IfOk result (λ count. count ≤ length text.now) }
     ensures bytes { WriteAppends (W.contents out.old) (W.contents out.new) result text.now }
