@@ -239,6 +239,17 @@ module _ (told : Told) (owner : Owners) (B : Records) (L : Log) (k c : ℕ) wher
     straight = straight_still a at_k here;
   }
 
+  -- a connection was ended, and its link is closed later
+  pub served_gone : (t : Tag) → AreServed told owner B L → is_open (trace_of B L) c ≡ true → AreServed told owner B ((event.Gone c, Tagged t) ∷ L)
+  served_gone t a here = record {
+    each = λ j. stays B L (event.Gone c) (Tagged t) (owner j) (told.read j) (told.written j) (a.each j) (λ d e. (refl, refl));
+    own = a.own;
+    accepted = a.accepted;
+    opened = a.opened;
+    over = over_still told owner B L ((event.Gone c, Tagged t) ∷ L) (fewer_framed B L c ((event.Gone c, Tagged t) ∷ L) here (frame_gone B L c t)) a;
+    straight = a.straight;
+  }
+
 module _ (told : Told) (owner : Owners) (B : Records) (L : Log) where
   -- time passed
   pub served_tick : (now : ℕ) (m : Mark) → AreServed told owner B L → AreServed told owner B ((event.Tick now, m) ∷ L)

@@ -8,3 +8,5 @@ pub mod Scripting
 pub mod Depositing
 pub mod NameTexts
 pub mod Parts
+pub mod Looking
+pub mod Origins

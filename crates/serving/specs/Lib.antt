@@ -7,3 +7,6 @@ pub mod Served
 pub mod Deposits
 pub mod Scripts
 pub mod ScriptSpools
+pub mod Guesses
+pub mod Newcomers
+pub mod Paces

@@ -5,11 +5,11 @@ use crate::octets::rest_of;
 use std::alloc::{AllocError, Global};
 use std::marker::Model;
 
-/// Octets that came on a link and were looked at, but not read yet. Its value is these octets.
+/// Octets that came on a link and were looked at, but not read yet. Contracts see these octets.
 #[derive(Drop)]
 pub(crate) struct Ahead {
     octets: Vec<u8>,
-    /// How many of them were read since.
+    /// How many of `octets` were read since.
     at: usize,
 }
 
@@ -24,7 +24,7 @@ impl Model for Ahead {
 }
 
 impl Ahead {
-    /// None came.
+    /// No octets.
     pub(crate) fn new(alloc: Global) -> Ahead
         ensures { result ≡ [] }
     {
@@ -34,7 +34,7 @@ impl Ahead {
         }
     }
 
-    /// Forgets them.
+    /// Drops all octets.
     pub(crate) fn clear(&mut self)
         ensures { self.new ≡ [] }
     {
@@ -42,21 +42,21 @@ impl Ahead {
         self.at = 0;
     }
 
-    /// Whether there are none.
+    /// Whether no octet is left.
     pub(crate) fn is_empty(&self) -> bool
         ensures { result ≡ (length self.now == 0) }
     {
         rest_of(self.octets.as_slice(), self.at).is_empty()
     }
 
-    /// Makes room for so many more.
+    /// Reserves memory for so many more octets.
     pub(crate) fn make_room(&mut self, count: usize) -> Result<(), AllocError>
         ensures { self.new ≡ self.old }
     {
         self.octets.reserve(count)
     }
 
-    /// Keeps octets that came behind these.
+    /// Appends octets that came.
     pub(crate) fn keep(&mut self, octets: &[u8]) -> Result<(), AllocError>
         ensures ok { OnOk result (self.new ≡ self.old ++ octets.now) }
         ensures err { OnErr result (self.new ≡ self.old) }
@@ -64,7 +64,7 @@ impl Ahead {
         self.octets.extend_from_slice(octets)
     }
 
-    /// Shows the first of them in the front of a buffer. How many.
+    /// Copies the next octets into the front of a buffer, and keeps them. Returns how many.
     pub(crate) fn show(&self, buffer: &mut [u8]) -> usize
         ensures count { result ≡ min (length self.now) (length buffer.old) }
         ensures shown { take result buffer.new ≡ take result self.now }
@@ -76,7 +76,7 @@ impl Ahead {
         count
     }
 
-    /// Reads the first of them into the front of a buffer. How many.
+    /// Moves the next octets into the front of a buffer. Returns how many.
     pub(crate) fn read(&mut self, buffer: &mut [u8]) -> usize
         ensures count { result ≡ min (length self.old) (length buffer.old) }
         ensures read { take result buffer.new ++ self.new ≡ self.old }

@@ -63,7 +63,7 @@ impl FileName {
         }
     }
 
-    /// The text of the name.
+    /// The text of the name. Its error is [`AllocError`], where memory was refused.
     pub fn text(&self, alloc: Global) -> Result<String, AllocError>
         ensures { IfOk result (λ text. string_bytes text ≡ text_of self.now) }
     {
@@ -72,7 +72,7 @@ impl FileName {
     }
 }
 
-/// Each name is what is read of its text, and of no other text.
+/// A law: the text of a name is read as that name, and no other text is.
 pub fn names_read_back()
     ensures names { NamesReadBack }
     ensures texts { NamesHaveOneText }

@@ -23,7 +23,7 @@ pub(crate) enum Disposal {
     Leave,
 }
 
-/// What becomes of a file whose deposit is answered so.
+/// What becomes of a file whose deposit had this outcome.
 fn disposal_by(outcome: Outcome) -> Disposal
     ensures { result ≡ disposal_of (outcome_seen outcome) }
 {
@@ -36,8 +36,8 @@ fn disposal_by(outcome: Outcome) -> Disposal
     }
 }
 
-/// Deposits a file, and removes it, renames it or leaves it, as that is answered. Whether it was
-/// removed or renamed.
+/// Deposits a file, and removes, renames or leaves it by the office's answer; one that can't be
+/// read is left. Returns whether it was removed or renamed.
 fn try_file<V: Vault, S: Spool>(office: &mut Office<V>, spool: &mut S, name: &FileName) -> bool
     ensures tried { (T : Trace) (acts : List FileAct) → StandsFor V.holds office.old T → S.tells spool.old acts → V.is_clean (vault_of office.new) → IsTried V.holds S.tells T acts office.new spool.new }
     ensures clean { V.is_clean (vault_of office.new) → V.is_clean (vault_of office.old) }
@@ -54,7 +54,7 @@ fn try_file<V: Vault, S: Spool>(office: &mut Office<V>, spool: &mut S, name: &Fi
     }
 }
 
-/// Tries one file of the spool: the next one behind that which was tried last.
+/// Tries one file of the spool: the one whose name follows that of the file tried last.
 pub(crate) fn serve_spool<V: Vault, S: Spool>(
     office: &mut Office<V>,
     spool: &mut S,

@@ -29,15 +29,15 @@ pub struct FolderSpool<'a, R: Files> {
     bare: Option<SystemTime>,
 }
 
-/// A system tells the moment of a folder's last change to two seconds or better. So a change shows
-/// where the one before it was longer ago.
+/// A file system tells the moment of a folder's last change to two seconds or better, so a change
+/// may not show within so many seconds of the one before it.
 const COARSEST: u64 = 2;
 
-/// Whether what was opened is a regular file that stands at a name, and has no other name.
+/// Whether the opened file is a regular one, is what stands at the name, and has no other name.
 fn is_own(opened: &Metadata, named: &Metadata) -> bool
     ensures regular { IsTrue result → IsFile (file_type opened.now) × IsFile (file_type named.now) }
 {
-    // The number of names is that of the look at the name, which came last.
+    // `named` was looked at last, so its count of names is the newer one.
     opened.is_file()
         && named.is_file()
         && opened.dev() == named.dev()
@@ -61,7 +61,7 @@ impl<'a, R: Files + Clock + AllocGlobal + Clone + Drop> FolderSpool<'a, R> {
         fs::metadata(self.rt, self.folder).ok()?.modified().ok()
     }
 
-    /// Whether any change from now on shows, behind the last one.
+    /// Whether the last change is so old that any later one will show another moment.
     fn shows_changes(&self, changed: SystemTime) -> bool {
         match changed.elapsed(self.rt) {
             Ok(age) => age > Duration::from_secs(COARSEST),
@@ -90,9 +90,9 @@ impl<'a, R: Files + Clock + AllocGlobal + Clone + Drop> FolderSpool<'a, R> {
         true
     }
 
-    /// Opens a file that is there.
+    /// Opens a file of the folder's own; `None` where it is none.
     fn open_own(&self, path: &str) -> Option<R::File> {
-        // A pipe would be waited for, once it is opened.
+        // To open a pipe would block.
         if !fs::symlink_metadata(self.rt, path).ok()?.is_file() {
             return None;
         }
@@ -106,7 +106,8 @@ impl<'a, R: Files + Clock + AllocGlobal + Clone + Drop> FolderSpool<'a, R> {
         }
     }
 
-    /// Reads a file that is there.
+    /// Reads a file of the folder's own; `None` where it is none, can't be read, or memory is
+    /// short.
     fn read_file(&self, path: &str) -> Option<Vec<u8>> {
         let file = self.open_own(path)?;
         let mut text = Vec::new(self.alloc);

@@ -2,6 +2,8 @@
 ghost use Rattle.std.specs.Prelude.{◌≡◌, [], min};
 
 use crate::file_name::FileName;
+use crate::guesses::Guesses;
+use crate::newcomers::Newcomers;
 use crate::requests::Requests;
 use crate::wire::Link;
 use arrayvec::ArrayVec;
@@ -21,11 +23,14 @@ pub const MOST_LINKS: usize = 64;
 /// For how many seconds a login may wait at most. It is far below the idle time of any office.
 const MOST_WAIT: u64 = 60;
 
-/// How many links may be held: those that are open, and as many whose connections a tick ended and
-/// which are closed later in the same turn.
+/// How many seconds a client may be given for its login at most.
+const MOST_LOGIN_SECONDS: u64 = 600;
+
+/// How many seats there are: 64 for open connections, and 64 for connections that a Tick ended in
+/// this turn, whose links are closed later in it.
 const PLACES: usize = 2 * MOST_LINKS;
 
-/// What is kept between the turns of serving: the open links, and which spool file was tried last.
+/// What serving keeps between turns: the open links, and which spool file was tried last.
 #[derive(Drop)]
 pub struct Links {
     pub(crate) clients: Clients,
@@ -39,19 +44,45 @@ impl Links {
         ensures requests { result.requests.exchanges.items ≡ [] }
     {
         Links {
-            clients: Clients::new(),
+            clients: Clients::new(alloc),
             requests: Requests::new(alloc),
         }
     }
 
-    /// Lets a login wait for its maildrop's lock, until so many seconds after the last line or
-    /// taking of its connection, at most 60. Links begin with 0: none waits.
+    /// Lets a login wait while another session holds its maildrop, until so many seconds, at most
+    /// 60, after its connection's last line or taking. Links begin with 0: no login waits.
     pub fn set_wait(&mut self, seconds: u64)
         ensures wait { self.new.clients.wait ≡ min seconds 60 }
         ensures seats { self.new.clients.seats ≡ self.old.clients.seats }
         ensures requests { self.new.requests ≡ self.old.requests }
     {
         self.clients.wait = seconds.min(MOST_WAIT);
+    }
+
+    /// Gives each client that comes from now on so many seconds for its login, at most 600. Where
+    /// its link was accepted so long ago and it hasn't logged in, its connection is ended and the
+    /// link closed, at the end of a turn. Links begin with 0: the office's idle time alone counts.
+    pub fn set_login_seconds(&mut self, seconds: u64)
+        ensures seconds { self.new.clients.newcomers.seconds ≡ min seconds 600 }
+        ensures newcomers { self.new.clients.newcomers.newcomers ≡ self.old.clients.newcomers.newcomers }
+        ensures seats { self.new.clients.seats ≡ self.old.clients.seats }
+        ensures requests { self.new.requests ≡ self.old.requests }
+    {
+        self.clients.newcomers.seconds = seconds.min(MOST_LOGIN_SECONDS);
+    }
+
+    /// Makes guesses slow, or as fast as they come. Behind a refused PASS or APOP the next one from
+    /// the same address isn't read for a second, and behind each further refusal for twice as long,
+    /// at most 15 seconds, until one is accepted or none was refused for ten minutes. An IPv6
+    /// address counts by its first 64 bits. Of 1,024 addresses refusals are known, the newest ones.
+    /// Until a client has logged in its lines are read one at a time. Links begin with fast ones.
+    pub fn set_slow_guesses(&mut self, slow: bool)
+        ensures slow { self.new.clients.guesses.are_slow ≡ slow }
+        ensures refusals { self.new.clients.guesses.refusals ≡ self.old.clients.guesses.refusals }
+        ensures seats { self.new.clients.seats ≡ self.old.clients.seats }
+        ensures requests { self.new.requests ≡ self.old.requests }
+    {
+        self.clients.guesses.are_slow = slow;
     }
 
     /// How many links of clients are open.
@@ -81,11 +112,15 @@ pub(crate) struct Clients {
     pub(crate) presses: bool,
     /// For how many seconds a login waits for its maildrop's lock.
     pub(crate) wait: u64,
+    /// Who hasn't logged in, and how long each may take.
+    pub(crate) newcomers: Newcomers,
+    /// Whose logins were refused.
+    pub(crate) guesses: Guesses,
 }
 
 impl Clients {
     /// No link is open, and no spool file was tried.
-    fn new() -> Clients
+    fn new(alloc: Global) -> Clients
         ensures { result.seats.items ≡ [] }
     {
         Clients {
@@ -93,6 +128,8 @@ impl Clients {
             last: None,
             presses: false,
             wait: 0,
+            newcomers: Newcomers::new(alloc),
+            guesses: Guesses::new(alloc),
         }
     }
 }

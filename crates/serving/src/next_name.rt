@@ -6,16 +6,16 @@ ghost use Rattle.serving.specs.NextNames.{is_file as has_form, is_behind as foll
 use crate::file_name::FileName;
 use std::alloc::{AllocError, Global};
 
-/// The next name of a spool, as its names come by in any order: the least one behind the last one,
-/// else the least one.
+/// Finds the next name of a spool, whose names are seen in any order: the least one that is greater
+/// than the last one, else the least of all.
 #[derive(Drop)]
 pub(crate) struct NextName {
     alloc: Global,
-    /// The last name, or the empty text.
+    /// The name that was tried last; the empty text where none was.
     last: String,
     /// The least name so far.
     least: Option<String>,
-    /// The least name behind the last one so far.
+    /// The least name so far that is greater than the last one.
     behind: Option<String>,
 }
 
@@ -70,7 +70,7 @@ impl NextName {
     ghost use Rattle.serving.specs.NextNames.{HasSeen, next_of};
     ghost use Rattle.serving.specs.declared.file_name.FileName.{FileName as TheName};
 
-    /// No name came by. Its error is [`AllocError`], where memory was refused.
+    /// No name was seen. Its error is [`AllocError`], where memory was refused.
     pub(crate) fn new(alloc: Global, last: &Option<FileName>) -> Result<NextName, AllocError>
         ensures { IfOk result (λ next. HasSeen last.now [] next) }
     {
@@ -86,8 +86,8 @@ impl NextName {
         })
     }
 
-    /// A name comes by. One that isn't of the form is passed over. Its error is [`AllocError`],
-    /// where memory was refused; the next name isn't to be asked for then.
+    /// Sees a name; one that isn't of the form is passed over. Its error is [`AllocError`], where
+    /// memory was refused: don't ask for the next name then.
     pub(crate) fn see(&mut self, name: &str) -> Result<(), AllocError>
         ensures { OnOk result ((last : Option TheName) (names : List (List ℕ)) → HasSeen last names self.old → HasSeen last (name.now ∷ names) self.new) }
     {
@@ -98,7 +98,7 @@ impl NextName {
         Ok(())
     }
 
-    /// The next name of those that came by: the least one behind the last one, else the least one;
+    /// The next name of those seen: the least one greater than the last one, else the least of all;
     /// `None` where none was of the form.
     pub(crate) fn get(&self) -> Option<FileName>
         ensures { (last : Option TheName) (names : List (List ℕ)) → HasSeen last names self.now → result ≡ next_of last names }

@@ -1,7 +1,7 @@
 //! Parts of octets.
 ghost use Rattle.std.specs.Prelude.{◌≡◌, drop, take};
 
-/// What is behind a place.
+/// The octets from a place on; none where it lies behind their end.
 pub(crate) fn rest_of(octets: &[u8], at: usize) -> &[u8]
     ensures { result.now ≡ drop at octets.now }
 {
@@ -11,7 +11,7 @@ pub(crate) fn rest_of(octets: &[u8], at: usize) -> &[u8]
     &octets[at..]
 }
 
-/// So many octets behind a place, or all that are there.
+/// At most so many octets from a place on.
 pub(crate) fn part_of(octets: &[u8], at: usize, most: usize) -> &[u8]
     ensures { result.now ≡ take most (drop at octets.now) }
 {

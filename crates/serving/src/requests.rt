@@ -20,7 +20,7 @@ use vault::Vault;
 /// How many links of the administration may be open at once.
 pub const MOST_REQUESTS: usize = 8;
 
-/// After how many seconds such a link is closed.
+/// How many seconds after its acceptance a link of the administration is closed.
 const MOST_SECONDS: u64 = 60;
 
 /// How many octets are read at once.
@@ -29,21 +29,21 @@ const MOST_AT_ONCE: usize = 4096;
 /// How many writes a link has in one turn at most.
 const MOST_WRITES: usize = 64;
 
-/// A link's share of a turn: so many octets are written at once at most, and behind so many no
-/// more, so that no client waits long for a response.
+/// How many octets of a response are written in one turn, and at once, so that no client waits long
+/// for it.
 const SHARE: usize = 16_384;
 
-/// A response.
+/// The response to a request.
 #[derive(Drop)]
 pub(crate) enum Response {
     /// These octets.
     Made(Vec<u8>),
-    /// That of a refusal, which takes no memory.
+    /// The fixed text of a refusal, which takes no memory.
     Fixed(Refusal),
 }
 
 impl Response {
-    /// Its octets.
+    /// The response's octets.
     fn octets(&self) -> &[u8]
         ensures { result.now ≡ octets_of self.now }
     {
@@ -124,7 +124,7 @@ impl Requests {
     }
 }
 
-/// The response of these octets, or that which tells that memory ran out.
+/// The response of these octets; where there was no memory for them, the one for want of memory.
 fn made(octets: Result<Vec<u8>, AllocError>) -> Response
     ensures { (wanted : List ℕ) → IfOk octets (λ made. made.items ≡ wanted) → (octets_of result ≡ wanted) ⊎ (octets_of result ≡ refusal_response OutOfMemory) }
 {
@@ -154,8 +154,8 @@ fn command<V: Vault>(alloc: Global, office: &mut Office<V>, command: &AdminComma
     response_to(alloc, &outcome)
 }
 
-/// The response to what was read of a request, once that is whole or refused. A command is given to
-/// the office.
+/// The response to what was read of a request; `None` while the request isn't whole. A command is
+/// given to the office.
 fn ask<V: Vault>(alloc: Global, office: &mut Office<V>, read: &[u8]) -> Option<Response>
     ensures asked { (B : Records) (L : Log) → StandsFor V.holds office.old (trace_of B L) → V.is_clean (vault_of office.new) → HasAsked V.holds B L read.now office.new (option_map octets_of result) }
     ensures clean { V.is_clean (vault_of office.new) → V.is_clean (vault_of office.old) }
@@ -169,7 +169,7 @@ fn ask<V: Vault>(alloc: Global, office: &mut Office<V>, read: &[u8]) -> Option<R
     }
 }
 
-/// Takes a piece of a request.
+/// Takes a piece of a request, and makes the response once the request is whole or refused.
 fn take_piece<V: Vault>(
     alloc: Global,
     office: &mut Office<V>,

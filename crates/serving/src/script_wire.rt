@@ -6,6 +6,7 @@ ghost use Rattle.serving.specs.Scripts.{TellsOf, tells_once};
 use crate::script_links::{ScriptLinks, Stop};
 use crate::wire::{Io, Link, Port, Wire};
 use std::alloc::{AllocError, Global};
+use std::net::IpAddr;
 
 /// A wire in memory. Each read and each write moves so many octets at most.
 #[derive(Drop)]
@@ -15,13 +16,15 @@ pub struct ScriptWire {
     clients: ScriptLinks,
     /// The links of the administration.
     requests: ScriptLinks,
-    /// What comes behind the octets of each link: its end, or nothing for now.
+    /// From where the clients come, in the order in which they are accepted.
+    addresses: Vec<IpAddr>,
+    /// Behind its octets each link is at its end; else nothing more comes for now.
     ends: bool,
     /// How many reads and writes there were.
     calls: u64,
-    /// In place of which read or write a fault comes.
+    /// The number of the read or write in whose place a fault comes, and the fault.
     stop: Option<(u64, Stop)>,
-    /// How long the last wait might have been, in milliseconds.
+    /// How long the last wait was allowed to be, in milliseconds.
     waited: u32,
 }
 
@@ -36,6 +39,7 @@ impl ScriptWire {
             piece,
             clients: ScriptLinks::new(alloc, waiting),
             requests: ScriptLinks::new(alloc, Vec::new(alloc)),
+            addresses: Vec::new(alloc),
             ends: false,
             calls: 0,
             stop: None,
@@ -43,12 +47,12 @@ impl ScriptWire {
         }
     }
 
-    /// What a client sent is all that it sends.
+    /// From now on each link is at its end once all its octets are read.
     pub fn end_links(&mut self) {
         self.ends = true;
     }
 
-    /// In place of the read or write of this number, counted from 0 on, a fault comes.
+    /// Puts a fault in place of one read or write, counted from 0 on.
     pub fn stop_at(&mut self, call: u64, stop: Stop) {
         self.stop = Some((call, stop));
     }
@@ -56,6 +60,16 @@ impl ScriptWire {
     /// A further client's link comes.
     pub fn connect(&mut self, comes: Vec<u8>) -> Result<(), AllocError> {
         self.clients.connect(comes)
+    }
+
+    /// From where the clients come, in the order in which they are accepted. Until then, and of
+    /// those behind the last of these, no address is known.
+    pub fn set_addresses(&mut self, addresses: Vec<IpAddr>)
+        ensures addresses { self.new.addresses ≡ addresses }
+        ensures clients { self.new.clients ≡ self.old.clients }
+        ensures requests { self.new.requests ≡ self.old.requests }
+    {
+        self.addresses = addresses;
     }
 
     /// A further link of the administration comes. Of those that wait the last one is accepted
@@ -94,7 +108,7 @@ impl ScriptWire {
         self.calls
     }
 
-    /// How long the last wait might have been, in milliseconds.
+    /// How long the last wait was allowed to be, in milliseconds.
     pub fn waited(&self) -> u32 {
         self.waited
     }
@@ -176,6 +190,16 @@ impl Wire for ScriptWire {
         match port {
             Port::Pop => self.clients.write(link, stop, self.piece, octets),
             Port::Admin => self.requests.write(link, stop, self.piece, octets),
+        }
+    }
+
+    fn address(&self, port: Port, link: Link) -> Option<IpAddr> {
+        match port {
+            Port::Pop => self
+                .addresses
+                .get(usize::try_from(link.number).ok()?)
+                .copied(),
+            Port::Admin => None,
         }
     }
 

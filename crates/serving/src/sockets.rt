@@ -9,7 +9,7 @@ use mio::{Events, Interest, Poll, Token};
 use std::alloc::Global;
 use std::io;
 use std::io::{ErrorKind, Read, Write};
-use std::net::{Net, SocketAddr};
+use std::net::{IpAddr, Net, SocketAddr};
 use std::time::Duration;
 
 /// How many links may be held: more than are served at once, so that one more can be accepted, to
@@ -26,9 +26,9 @@ const ADMIN_LISTENER: Token = Token(161);
 #[derive(Drop)]
 struct Door {
     listener: TcpListener,
-    /// A link may wait to be accepted.
+    /// A link may wait to be accepted: the system told so, and `accept` hasn't found none since.
     comes: bool,
-    /// The system refused to accept it: it is tried again behind the next wait.
+    /// The system refused to accept a link: `accept` is tried again after the next wait.
     is_refused: bool,
 }
 
@@ -79,14 +79,14 @@ struct Place {
     stream: Option<TcpStream>,
     /// What came and was looked at, but not read yet.
     ahead: Ahead,
-    /// Something may be there that was not read to `Later`.
+    /// Octets may have come: the system told so, and no read has given `Later` since.
     unread: bool,
-    /// The last write was `Later`, and the system didn't say since that more may be written.
+    /// The last write gave `Later`, and the system hasn't told since that more may be written.
     is_blocked: bool,
 }
 
-/// Links over sockets. What is ready is told by the system once (edge by edge), and kept at each
-/// place until it was used up.
+/// Links over sockets. The system tells once that a socket is ready (edge-triggered); its place
+/// keeps that until a read or write gives `Later`.
 #[derive(Drop)]
 pub struct SocketWire {
     alloc: Global,
@@ -100,7 +100,7 @@ pub struct SocketWire {
     accepted: u64,
 }
 
-/// What a count of octets tells.
+/// A read or write of so many octets: 0 is the end of the link.
 fn counted(count: usize, room: usize) -> Io
     requires { count ≤ room }
     ensures within { IsWithin room result }
@@ -113,7 +113,7 @@ fn counted(count: usize, room: usize) -> Io
     }
 }
 
-/// What an error tells. A call that was interrupted is made again later.
+/// A failed read or write. One that was interrupted is made again later.
 fn failed(kind: ErrorKind) -> Io
     ensures { (result ≡ Io.Later) ⊎ (result ≡ Io.Broken) }
 {
@@ -178,7 +178,7 @@ impl SocketWire {
         self.places.iter().any(Place::is_pressing)
     }
 
-    /// Keeps what the system told.
+    /// Notes which sockets the system told to be ready.
     fn note_events(&mut self) {
         for event in &self.events {
             let token = event.token();
@@ -197,7 +197,8 @@ impl SocketWire {
         }
     }
 
-    /// Gives a stream a place.
+    /// Gives a stream a free place and a number; `None` where no place is free, or the system won't
+    /// watch it.
     fn seat(&mut self, mut stream: TcpStream) -> Option<Link> {
         let at = self.places.iter().position(|place| place.stream.is_none())?;
         let both = Interest::READABLE | Interest::WRITABLE;
@@ -241,12 +242,13 @@ impl SocketWire {
 }
 
 impl Place {
-    /// Whether something may be read at once. What was looked at and left waits for another link.
+    /// Whether a read may give octets at once. Octets that were looked at and left unread don't
+    /// count: a login among them waits for another link.
     fn is_pressing(&self) -> bool {
         self.unread && !self.is_blocked && self.ahead.is_empty()
     }
 
-    /// Reads what was looked at, or else what comes.
+    /// Reads the octets that were looked at before, or else the socket.
     fn read(&mut self, buffer: &mut [u8]) -> Io
         ensures within { IsWithin (length buffer.old) result }
         ensures ahead { (self.old.ahead ≡ []) ⊎ (shown_of result buffer.new ++ self.new.ahead ≡ self.old.ahead) }
@@ -258,7 +260,8 @@ impl Place {
         counted(self.ahead.read(buffer), room)
     }
 
-    /// Shows what the next read gives. The link is broken where there is no memory for what came.
+    /// Shows what the next read gives. `Later` where there is no memory to look; where there is
+    /// none to keep what came, the link is broken.
     fn look(&mut self, buffer: &mut [u8]) -> Io
         ensures within { IsWithin (length buffer.old) result }
         ensures shown { shown_of result buffer.new ≡ shown_of result self.new.ahead }
@@ -268,7 +271,7 @@ impl Place {
         if !self.ahead.is_empty() {
             return counted(self.ahead.show(buffer), room);
         }
-        // What was read of it is forgotten, so that it never has more than one piece.
+        // Octets that were read are dropped, so that one piece at most is kept.
         self.ahead.clear();
         if self.ahead.make_room(room).is_err() {
             return Io::Later;
@@ -277,14 +280,14 @@ impl Place {
         self.keep(came, buffer)
     }
 
-    /// Keeps what came to be looked at, where nothing was kept.
+    /// Keeps a piece that was read from the socket for the next read. Nothing was kept before.
     fn keep(&mut self, came: Io, buffer: &[u8]) -> Io
         requires { IsWithin (length buffer.now) came × (self.old.ahead ≡ []) }
         ensures within { IsWithin (length buffer.now) result }
         ensures shown { shown_of result buffer.now ≡ shown_of result self.new.ahead }
     {
         let Io::Count(count) = came else {
-            // The system tells that a link is broken once, and the next read has to tell it too.
+            // The system reports a broken socket once, and the next read has to report it too.
             if matches!(came, Io::Broken) {
                 self.stream = None;
             }
@@ -297,7 +300,7 @@ impl Place {
         came
     }
 
-    /// Reads, where something may be there. It is used up where nothing came.
+    /// Reads the socket, where octets may have come.
     fn read_stream(&mut self, buffer: &mut [u8]) -> Io
         ensures within { IsWithin (length buffer.old) result }
         ensures ahead { self.new.ahead ≡ self.old.ahead }
@@ -320,7 +323,7 @@ impl Place {
         }
     }
 
-    /// Writes.
+    /// Writes on the socket.
     fn write(&mut self, octets: &[u8]) -> Io
         ensures { IsWithin (length octets.now) result }
     {
@@ -383,6 +386,10 @@ impl Wire for SocketWire {
             Some(place) => place.write(octets),
             None => Io::Broken,
         }
+    }
+
+    fn address(&self, _port: Port, link: Link) -> Option<IpAddr> {
+        Some(self.peer(link)?.ip())
     }
 
     fn close(&mut self, _port: Port, link: Link) {

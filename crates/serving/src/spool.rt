@@ -11,10 +11,10 @@ pub const MOST_OCTETS: usize = 26_214_401;
 /// A folder of messages, each a file under a name of the form `maildrop.class.id.eml`. Files of
 /// other names are left alone.
 ///
-/// Contracts see what it tells of what happened to its files. A spool over a folder tells nothing:
-/// no value of it tells anything.
+/// `tells s acts`: `acts` is a true record of what happened to s's files. Of a spool over a folder
+/// no record is known.
 pub trait Spool {
-    /// What it may tell: what happened to its files, the newest last.
+    /// `tells s acts`: `acts` is what happened to s's files, the newest act last.
     ghost tells: { Self → List FileAct → Type 0 };
 
     /// The least name behind this one, in the order of octets; the least one where none is behind
@@ -35,6 +35,6 @@ pub trait Spool {
     fn rename(&mut self, name: &FileName) -> bool
         ensures { (a : List FileAct) → tells self.old a → tells self.new (if result then a ++ WasRenamed name.now ∷ [] else a) };
 
-    /// It tells one thing, or nothing.
+    /// Any two records of one spool are the same.
     ghost tells_once: { (spool : Self) (a b : List FileAct) → tells spool a → tells spool b → a ≡ b };
 }

@@ -3,12 +3,14 @@
 
 mod chance;
 mod guest;
+mod late;
 mod random_turns;
 mod random_wire;
 mod reckoning;
 mod scenes;
 mod sent;
 mod shares;
+mod slow_guesses;
 mod strangers_cut_off;
 mod stream;
 mod two_clerks;

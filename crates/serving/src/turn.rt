@@ -5,7 +5,6 @@ ghost use Rattle.office.specs.Trace.{is_open};
 ghost use Rattle.office.specs.Taken.{AreAdmitted};
 ghost use Rattle.office.specs.Stands.{StandsFor, vault_of};
 ghost use Rattle.office.specs.Shown.{outcome_seen};
-ghost use Rattle.office.specs.Waiting.{waits};
 ghost use Rattle.serving.specs.Wires.{ToldOfPorts, AreFresh, opened_by};
 ghost use Rattle.serving.specs.Served.{StillServes, StillServesOne, Serves};
 ghost use Rattle.serving.specs.declared.links.Seat as declared;
@@ -13,6 +12,7 @@ ghost use Rattle.arrayvec.specs.ArrayVec.{array_vec_len};
 
 use crate::files::serve_spool;
 use crate::links::{Clients, Links, MOST_LINKS, Seat};
+use crate::pace::{MOST_AT_ONCE, next_part, origin_at, pace_of};
 use crate::requests::{accept_requests, serve_requests};
 use crate::spool::Spool;
 use crate::wire::{Io, Port, Wire};
@@ -20,23 +20,20 @@ use office::{Event, Office, Outcome, taken_is_sent};
 use std::alloc::Global;
 use vault::Vault;
 
-/// How many octets are read at once: as many as an office takes in one piece.
-const MOST_AT_ONCE: usize = 4096;
-
 /// How many writes a link has in one turn at most.
 const MOST_WRITES: usize = 64;
 
-/// Behind so many octets a link that is alone has written its turn's share: 64 full writes.
+/// How many octets are written in one turn on a link that is alone: 64 full writes.
 const SHARE_ALONE: usize = 1_048_576;
 
-/// The share of a link where others are open, so that none of them waits long: one full write.
+/// How many where others are open, so that none of them waits long: one full write.
 const SHARE_BESIDE: usize = 16_384;
 
 /// How many milliseconds a turn waits at most.
 const MOST_MILLIS: u32 = 1000;
 
-/// Writes once of what a connection is owed, and ends the connection where the link is broken or at
-/// its end. How many octets were taken.
+/// Writes once what the office lends of a connection's output. Ends the connection where its link
+/// is broken or at its end. Returns how many octets the link took.
 fn write_once<V: Vault, W: Wire>(office: &mut Office<V>, wire: &mut W, seat: Seat) -> usize
     ensures serves { StillServesOne V.holds V.is_clean W.tells seat office.old wire.old office.new wire.new }
     ensures clean { V.is_clean (vault_of office.new) → V.is_clean (vault_of office.old) }
@@ -58,8 +55,8 @@ fn write_once<V: Vault, W: Wire>(office: &mut Office<V>, wire: &mut W, seat: Sea
     }
 }
 
-/// Writes what a connection is owed, as long as the link takes it, up to its share. Whether it may
-/// take more at once.
+/// Writes what a connection is owed until the link takes no more, nothing is owed, or its share is
+/// written. Returns whether the link may take more at once.
 fn write_owed<V: Vault, W: Wire>(
     office: &mut Office<V>,
     wire: &mut W,
@@ -83,27 +80,15 @@ fn write_owed<V: Vault, W: Wire>(
     true
 }
 
-/// Whether what comes next on a link is a login that waits for its maildrop's lock: it stays
-/// unread. With no seconds to wait nothing is looked at.
-fn is_held_back<V: Vault, W: Wire>(office: &Office<V>, wire: &mut W, seat: Seat, wait: u64) -> bool
-    ensures told { (t : ToldOfPorts) → W.tells wire.old t → W.tells wire.new t }
-    ensures so { result ≡ true → (piece : List ℕ) × ((T : Trace) → StandsFor V.holds office.now T → waits T seat.connection piece wait ≡ true) }
-    ensures none { wait ≡ 0 → result ≡ false }
-    ensures alone { wait ≡ 0 → wire.new ≡ wire.old }
-{
-    if wait == 0 {
-        return false;
-    }
-    let mut room = [0; MOST_AT_ONCE];
-    match wire.look(Port::Pop, seat.link, &mut room) {
-        Io::Count(count) => office.waits(seat.connection, &room[..count], wait),
-        _ => false,
-    }
-}
-
-/// Reads a piece from a link whose connection waits for octets, and ends the connection where the
-/// link is broken or at its end. Whether octets came. A login that waits for a lock isn't read.
-fn read_once<V: Vault, W: Wire>(office: &mut Office<V>, wire: &mut W, seat: Seat, wait: u64) -> bool
+/// Reads once from a link whose connection waits for octets, at most as many as a buffer has, and
+/// ends the connection where the link is broken or at its end. Whether octets came.
+fn read_once<V: Vault, W: Wire>(
+    office: &mut Office<V>,
+    wire: &mut W,
+    seat: Seat,
+    buffer: &mut [u8],
+) -> bool
+    requires { length buffer.old ≤ 4096 }
     ensures serves { StillServesOne V.holds V.is_clean W.tells seat office.old wire.old office.new wire.new }
     ensures clean { V.is_clean (vault_of office.new) → V.is_clean (vault_of office.old) }
 {
@@ -111,13 +96,9 @@ fn read_once<V: Vault, W: Wire>(office: &mut Office<V>, wire: &mut W, seat: Seat
     if !office.ready(connection) {
         return false;
     }
-    if is_held_back(office, wire, seat, wait) {
-        return false;
-    }
-    let mut room = [0; MOST_AT_ONCE];
-    match wire.read(Port::Pop, seat.link, &mut room) {
+    match wire.read(Port::Pop, seat.link, buffer) {
         Io::Count(count) => {
-            let _ = office.step(Event::Bytes(connection, &room[..count]));
+            let _ = office.step(Event::Bytes(connection, &buffer[..count]));
             true
         }
         Io::Later => false,
@@ -128,22 +109,81 @@ fn read_once<V: Vault, W: Wire>(office: &mut Office<V>, wire: &mut W, seat: Seat
     }
 }
 
+/// Notes how the line went that was read last of a client that hadn't logged in before: whether it
+/// was refused, where so many refusals were before, or has logged in. Its next line is read in the
+/// next turn, which doesn't wait.
+fn note_guess<V: Vault>(
+    office: &Office<V>,
+    links: &mut Clients,
+    connection: u64,
+    origin: Option<u64>,
+    before: u8,
+    now: u64,
+)
+    ensures { links.new.seats ≡ links.old.seats }
+{
+    let Some(origin) = origin else {
+        return;
+    };
+    links.presses = true;
+    if office.refusals(connection) > before {
+        let _ = links.guesses.refuse(origin, now);
+        return;
+    }
+    if office.is_logged_in(connection) {
+        links.guesses.forget(origin);
+    }
+}
+
+/// Reads a piece from a link whose connection waits for octets, but no login that is kept back.
+/// Whether octets came.
+fn read_piece<V: Vault, W: Wire>(
+    office: &mut Office<V>,
+    wire: &mut W,
+    links: &mut Clients,
+    seat: Seat,
+    now: u64,
+) -> bool
+    ensures serves { StillServesOne V.holds V.is_clean W.tells seat office.old wire.old office.new wire.new }
+    ensures clean { V.is_clean (vault_of office.new) → V.is_clean (vault_of office.old) }
+    ensures seats { links.new.seats ≡ links.old.seats }
+{
+    if !office.ready(seat.connection) {
+        return false;
+    }
+    let origin = origin_at(office, wire, seat, &links.guesses);
+    let pace = pace_of(&links.guesses, origin, now);
+    let part = next_part(office, wire, seat, links.wait, pace);
+    if part == 0 {
+        return false;
+    }
+    let before = office.refusals(seat.connection);
+    let mut room = [0; MOST_AT_ONCE];
+    if !read_once(office, wire, seat, &mut room[..part]) {
+        return false;
+    }
+    note_guess(office, links, seat.connection, origin, before, now);
+    true
+}
+
 /// Writes on a link up to its share, and where all is written reads from it and writes what that
 /// gave. Whether more can be written at once.
 fn serve_link<V: Vault, W: Wire>(
     office: &mut Office<V>,
     wire: &mut W,
+    links: &mut Clients,
     seat: Seat,
-    share: usize,
-    wait: u64,
+    now: u64,
 ) -> bool
     ensures serves { StillServesOne V.holds V.is_clean W.tells seat office.old wire.old office.new wire.new }
     ensures clean { V.is_clean (vault_of office.new) → V.is_clean (vault_of office.old) }
+    ensures seats { links.new.seats ≡ links.old.seats }
 {
+    let share = share_of(links);
     if write_owed(office, wire, seat, share) {
         return true;
     }
-    if !read_once(office, wire, seat, wait) {
+    if !read_piece(office, wire, links, seat, now) {
         return false;
     }
     write_owed(office, wire, seat, share)
@@ -167,6 +207,7 @@ fn serve_seat<V: Vault, W: Wire>(
     wire: &mut W,
     links: &mut Clients,
     place: usize,
+    now: u64,
 )
     requires { place < array_vec_len links.old.seats }
     ensures serves { StillServes V.holds V.is_clean W.tells office.old wire.old links.old.seats.items [] office.new wire.new links.new.seats.items [] }
@@ -174,24 +215,80 @@ fn serve_seat<V: Vault, W: Wire>(
     ensures seats { links.new.seats ≡ links.old.seats }
 {
     let seat = links.seats[place];
-    let share = share_of(links);
-    links.presses |= serve_link(office, wire, seat, share, links.wait);
+    let more = serve_link(office, wire, links, seat, now);
+    links.presses |= more;
 }
 
 /// Serves each link, by ascending number of the connections.
-fn serve_links<V: Vault, W: Wire>(office: &mut Office<V>, wire: &mut W, links: &mut Clients)
+fn serve_links<V: Vault, W: Wire>(
+    office: &mut Office<V>,
+    wire: &mut W,
+    links: &mut Clients,
+    now: u64,
+)
     ensures serves { StillServes V.holds V.is_clean W.tells office.old wire.old links.old.seats.items [] office.new wire.new links.new.seats.items [] }
     ensures clean { V.is_clean (vault_of office.new) → V.is_clean (vault_of office.old) }
 {
     let mut place = 0;
     while place < links.seats.len() {
-        serve_seat(office, wire, links, place);
+        serve_seat(office, wire, links, place, now);
         place += 1;
     }
 }
 
-/// Closes the link of one seat, where its connection ended. Whether the seat stays: it and those
-/// before it have open connections then.
+/// Ends the connection of a seat, where it is open.
+fn end_seat<V: Vault, W: Wire>(office: &mut Office<V>, _wire: &W, seat: Seat)
+    ensures serves { StillServesOne V.holds V.is_clean W.tells seat office.old _wire.now office.new _wire.now }
+    ensures clean { V.is_clean (vault_of office.new) → V.is_clean (vault_of office.old) }
+{
+    if office.ended(seat.connection) {
+        return;
+    }
+    let _ = office.step(Event::Gone(seat.connection));
+}
+
+/// Ends the connection of one seat, where its client took too long to log in.
+fn end_late<V: Vault, W: Wire>(
+    office: &mut Office<V>,
+    wire: &W,
+    links: &mut Clients,
+    place: usize,
+    now: u64,
+)
+    requires { place < array_vec_len links.old.seats }
+    ensures serves { StillServes V.holds V.is_clean W.tells office.old wire.now links.old.seats.items [] office.new wire.now links.new.seats.items [] }
+    ensures clean { V.is_clean (vault_of office.new) → V.is_clean (vault_of office.old) }
+    ensures seats { links.new.seats ≡ links.old.seats }
+{
+    let seat = links.seats[place];
+    if office.is_logged_in(seat.connection) {
+        links.newcomers.forget(seat.connection);
+        return;
+    }
+    if !links.newcomers.is_late(seat.connection, now) {
+        return;
+    }
+    end_seat(office, wire, seat);
+}
+
+/// Ends the connection of each client that took too long to log in.
+fn end_late_ones<V: Vault, W: Wire>(office: &mut Office<V>, wire: &W, links: &mut Clients, now: u64)
+    ensures serves { StillServes V.holds V.is_clean W.tells office.old wire.now links.old.seats.items [] office.new wire.now links.new.seats.items [] }
+    ensures clean { V.is_clean (vault_of office.new) → V.is_clean (vault_of office.old) }
+    ensures off { links.old.newcomers.seconds ≡ 0 → office.new ≡ office.old }
+{
+    if links.newcomers.seconds == 0 {
+        return;
+    }
+    let mut place = 0;
+    while place < links.seats.len() {
+        end_late(office, wire, links, place, now);
+        place += 1;
+    }
+}
+
+/// Closes the link of one seat where its connection ended, and removes the seat. Returns whether
+/// the seat stays: then the connections of it and of all seats before it are open.
 fn close_seat<V: Vault, W: Wire>(
     office: &Office<V>,
     wire: &mut W,
@@ -208,6 +305,7 @@ fn close_seat<V: Vault, W: Wire>(
     }
     wire.close(Port::Pop, seat.link);
     links.seats.remove(place);
+    links.newcomers.forget(seat.connection);
     // A login may have waited for what this connection held.
     links.presses |= links.wait > 0;
     false
@@ -234,7 +332,7 @@ fn pass_time<V: Vault, W: Wire>(office: &mut Office<V>, wire: &mut W, millis: u3
     let _ = office.step(Event::Tick(now));
 }
 
-/// Which number was opened.
+/// The number of the connection that a Connect opened; `None` where it opened none.
 fn opened(outcome: Outcome) -> Option<u64>
     ensures { result ≡ opened_by (outcome_seen outcome) }
 {
@@ -244,9 +342,14 @@ fn opened(outcome: Outcome) -> Option<u64>
     }
 }
 
-/// Accepts a link, and seats it with a connection of its own; or closes it, where the office opens
-/// none. Whether one came. While all places are taken none is accepted.
-fn accept_link<V: Vault, W: Wire>(office: &mut Office<V>, wire: &mut W, links: &mut Clients) -> bool
+/// Accepts the next client's link. It gets a seat with its connection, or is closed where the
+/// office opens none. Returns whether one came. While all 128 seats are taken none is accepted.
+fn accept_link<V: Vault, W: Wire>(
+    office: &mut Office<V>,
+    wire: &mut W,
+    links: &mut Clients,
+    now: u64,
+) -> bool
     ensures serves { StillServes V.holds V.is_clean W.tells office.old wire.old links.old.seats.items [] office.new wire.new links.new.seats.items [] }
     ensures clean { V.is_clean (vault_of office.new) → V.is_clean (vault_of office.old) }
 {
@@ -258,19 +361,27 @@ fn accept_link<V: Vault, W: Wire>(office: &mut Office<V>, wire: &mut W, links: &
     };
     let number = opened(office.step(Event::Connect));
     match number {
-        Some(connection) => links.seats.push(Seat { link, connection }),
+        Some(connection) => {
+            links.seats.push(Seat { link, connection });
+            let _ = links.newcomers.note(connection, now);
+        }
         None => wire.close(Port::Pop, link),
     }
     true
 }
 
 /// Accepts the links that came.
-fn accept_links<V: Vault, W: Wire>(office: &mut Office<V>, wire: &mut W, links: &mut Clients)
+fn accept_links<V: Vault, W: Wire>(
+    office: &mut Office<V>,
+    wire: &mut W,
+    links: &mut Clients,
+    now: u64,
+)
     ensures serves { StillServes V.holds V.is_clean W.tells office.old wire.old links.old.seats.items [] office.new wire.new links.new.seats.items [] }
     ensures clean { V.is_clean (vault_of office.new) → V.is_clean (vault_of office.old) }
 {
     for _ in 0..MOST_LINKS {
-        if !accept_link(office, wire, links) {
+        if !accept_link(office, wire, links, now) {
             return;
         }
     }
@@ -278,8 +389,8 @@ fn accept_links<V: Vault, W: Wire>(office: &mut Office<V>, wire: &mut W, links: 
 
 /// One turn: waits for at most a second, and not at all where more can be done at once; tells the
 /// office the moment, in seconds; accepts the links that came, at most 64 at each port; serves each
-/// client's link, and then each link of the administration; closes the links whose connections
-/// ended; and tries one file of the spool.
+/// client's link, and then each link of the administration; ends the clients that took too long to
+/// log in; closes the links whose connections ended; and tries one file of the spool.
 pub fn serve_turn<V: Vault, W: Wire, S: Spool>(
     links: &mut Links,
     wire: &mut W,
@@ -293,16 +404,17 @@ pub fn serve_turn<V: Vault, W: Wire, S: Spool>(
     let millis = if links.presses() { 0 } else { MOST_MILLIS };
     links.clients.presses = false;
     pass_time(office, wire, millis, now);
-    accept_links(office, wire, &mut links.clients);
+    accept_links(office, wire, &mut links.clients, now);
     accept_requests(wire, &mut links.requests, MOST_LINKS, now);
-    serve_links(office, wire, &mut links.clients);
+    serve_links(office, wire, &mut links.clients, now);
     serve_requests(office, wire, &mut links.requests, now);
+    end_late_ones(office, wire, &mut links.clients, now);
     close_links(office, wire, &mut links.clients);
     serve_spool(office, spool, &mut links.clients);
     taken_is_sent();
 }
 
-/// No link is open: an office with no open connection begins to serve a wire and a spool.
+/// Begins to serve a wire and a spool, with no link open. The office must have no open connection.
 pub fn begin<V: Vault, W: Wire, S: Spool>(
     alloc: Global,
     _office: &Office<V>,

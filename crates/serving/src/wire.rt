@@ -2,6 +2,8 @@
 ghost use Rattle.std.specs.Prelude.{◌≡◌, length};
 ghost use Rattle.serving.specs.Wires.{ToldOfPorts, at_port, counted, has_read, has_written, has_closed};
 
+use std::net::IpAddr;
+
 /// A link at one of a wire's ports. No other link at this port ever has its number.
 #[derive(Clone, Copy, PartialEq, Eq, Default, Debug)]
 pub struct Link {
@@ -32,21 +34,20 @@ pub enum Io {
 
 /// Links as they come.
 ///
-/// Contracts see what it tells of its links: those of each port are numbered from 0 on, in the
-/// order in which they were accepted. A wire over sockets tells nothing: no value of it tells
-/// anything.
+/// `tells w t`: `t` is a true record of w's traffic. The links of each port are numbered in it from
+/// 0 on, in the order in which they were accepted. Of a wire over sockets no record is known.
 pub trait Wire {
     ghost use Rattle.serving.specs.Wires.{IsWithin, IsAccepted, SayAlikeOfPorts};
 
-    /// What it may tell.
+    /// `tells w t`: `t` is a true record of w's traffic.
     ghost tells: { Self → ToldOfPorts → Type 0 };
 
-    /// Waits until something may be done, or that many milliseconds.
+    /// Waits until a link may be accepted, read or written, at most so many milliseconds.
     fn wait(&mut self, millis: u32)
         ensures { (t : ToldOfPorts) → tells self.old t → tells self.new t };
 
-    /// The next link that came at a port; `None` where none waits, or where it can't be accepted
-    /// now.
+    /// Accepts the next link that came at a port; `None` where none waits, or where it can't be
+    /// accepted now.
     fn accept(&mut self, port: Port) -> Option<Link>
         ensures { (t : ToldOfPorts) → tells self.old t → IsAccepted (tells self.new) port t result };
 
@@ -66,10 +67,13 @@ pub trait Wire {
         ensures within { IsWithin (length octets.now) result }
         ensures told { (t : ToldOfPorts) → tells self.old t → tells self.new (at_port port (λ of. has_written of link.number result (counted result octets.now)) t) };
 
+    /// The address that a link came from; `None` where it isn't known.
+    fn address(&self, port: Port, link: Link) -> Option<IpAddr>;
+
     /// Closes a link.
     fn close(&mut self, port: Port, link: Link)
         ensures { (t : ToldOfPorts) → tells self.old t → tells self.new (at_port port (λ of. has_closed of link.number) t) };
 
-    /// It tells one thing, or nothing.
+    /// Any two records of one wire say the same.
     ghost tells_once: { (wire : Self) (t u : ToldOfPorts) → tells wire t → tells wire u → SayAlikeOfPorts t u };
 }

@@ -11,6 +11,7 @@ use crate::wire::Port;
 use creds::DepositId;
 use office::{Event, Office};
 use std::alloc::{AllocError, Global};
+use std::net::{IpAddr, Ipv4Addr};
 use std::test::Fail;
 use vault::PlainVault;
 
@@ -272,15 +273,37 @@ fn play<S: Spool>(
     play_on(&mut stage, spool, scene)
 }
 
-/// Plays acts without a fault, where a login waits so many seconds for its maildrop's lock.
-pub fn play_waiting<S: Spool>(
+/// What the links are set to, and from where the clients come: each from 192.0.2.N, where N is the
+/// number in its place.
+#[derive(Clone, Copy)]
+pub struct Settings<'a> {
+    pub wait: u64,
+    pub login_seconds: u64,
+    pub slow_guesses: bool,
+    pub from: &'a [u8],
+}
+
+/// The addresses 192.0.2.N.
+fn addresses(alloc: Global, from: &[u8]) -> Result<Vec<IpAddr>, AllocError> {
+    let mut addresses = Vec::new(alloc);
+    for number in from {
+        addresses.push(IpAddr::V4(Ipv4Addr::new(192, 0, 2, *number)))?;
+    }
+    Ok(addresses)
+}
+
+/// Plays acts without a fault, over links that are set so.
+pub fn play_set<S: Spool>(
     alloc: Global,
     spool: &mut S,
     acts: &[Act],
-    wait: u64,
+    settings: &Settings<'_>,
 ) -> Result<(), Fail> {
     let mut stage = staged(alloc, spool, 4096, u64::MAX, Stop::End)?;
-    stage.links.set_wait(wait);
+    stage.links.set_wait(settings.wait);
+    stage.links.set_login_seconds(settings.login_seconds);
+    stage.links.set_slow_guesses(settings.slow_guesses);
+    stage.wire.set_addresses(addresses(alloc, settings.from)?);
     play_acts(&mut stage, spool, acts)
 }
 

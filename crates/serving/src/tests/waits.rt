@@ -1,6 +1,6 @@
 //! Logins that wait for a lock: bob comes to a maildrop while ann has it.
 
-use super::scenes::{Act, play_waiting};
+use super::scenes::{Act, Settings, play_set};
 use crate::script_spool::ScriptSpool;
 use std::alloc::Global;
 use std::test::Fail;
@@ -64,7 +64,18 @@ fn plays(alloc: Global, then: &[Act], wait: u64) -> Result<(), Fail> {
     let mut acts = Vec::new(alloc);
     acts.extend_from_slice(&BOTH)?;
     acts.extend_from_slice(then)?;
-    play_waiting(alloc, &mut ScriptSpool::new(alloc), acts.as_slice(), wait)
+    let settings = Settings {
+        wait,
+        login_seconds: 0,
+        slow_guesses: false,
+        from: &[],
+    };
+    play_set(
+        alloc,
+        &mut ScriptSpool::new(alloc),
+        acts.as_slice(),
+        &settings,
+    )
 }
 
 #[test]

@@ -1,4 +1,4 @@
-use Rattle.std.proofs.Common.{rules, ◌≡◌, ◌∷◌, [], true, take, sym, ◌∙◌, refl, subst}
+use Rattle.std.proofs.Common.{rules, arith, ◌≡◌, ◌∷◌, [], true, take, sym, ◌∙◌, refl, subst}
 use Rattle.office.specs.Events.{Tagged}
 use Rattle.office.specs.Events as event
 use Rattle.office.specs.Shown.{outcome_seen}
@@ -23,21 +23,20 @@ returns-in-Count-clause-serves g c = λ seats these has before T beside s clean.
     let connection = c.args.seat.connection in
     let now = trace_of T.base s.log in
     let both : ToldOfPorts = record { pop = s.told; admin = beside.admin } in
-    let looked = c.is_held_back.ensures.told both s.tells in
     let o = outcome_seen c.step.result in
     let within = c.in-Count.ensures.within in
     let is_so : c.ready.result ≡ true = search rules in
     let ready = sym (c.ready.ensures now s.stands) ∙ is_so in
     let here = ready_open now connection ready in
     let at_k = seat_owns s.owner seats c.args.seat has s.seated.own in
-    let k = bytes_mark now (lent_by c.args.office.now) connection piece o ready (short_piece n most_in_a_piece c.read.new.buffer within.1) (c.step.ensures.outcome now s.stands clean) in
+    let k = bytes_mark now (lent_by c.args.office.now) connection piece o ready (short_piece n most_in_a_piece c.read.new.buffer (omega (arith, within.1, c.requires))) (c.step.ensures.outcome now s.stands clean) in
     record {
       log = (event.Bytes connection piece, mark_of o) ∷ s.log;
       told = has_read s.told number (Count n) piece;
       owner = s.owner;
       stands = c.step.ensures.stands now s.stands clean;
       admitted = (c.step.ensures.admitted now s.stands clean, s.admitted);
-      tells = c.in-Count.ensures.told both looked;
+      tells = c.in-Count.ensures.told both s.tells;
       served = subst (λ m. AreServed (has_read s.told number (Count n) piece) s.owner T.base ((event.Bytes connection piece, m) ∷ s.log)) (sym k.1)
           (served_read s.told s.owner T.base s.log number connection n piece k.0 s.served at_k here);
       seated = subst (λ m. AreSeated s.owner (trace_of T.base ((event.Bytes connection piece, m) ∷ s.log)) seats these) (sym k.1)
@@ -51,7 +50,6 @@ returns-in-Later-clause-serves g c = λ seats these has before T beside s clean.
     let connection = c.args.seat.connection in
     let now = trace_of T.base s.log in
     let both : ToldOfPorts = record { pop = s.told; admin = beside.admin } in
-    let looked = c.is_held_back.ensures.told both s.tells in
     let is_so : c.ready.result ≡ true = search rules in
     let here = ready_open now connection (sym (c.ready.ensures now s.stands) ∙ is_so) in
     let at_k = seat_owns s.owner seats c.args.seat has s.seated.own in
@@ -61,7 +59,7 @@ returns-in-Later-clause-serves g c = λ seats these has before T beside s clean.
       owner = s.owner;
       stands = s.stands;
       admitted = s.admitted;
-      tells = c.in-Later.ensures.told both looked;
+      tells = c.in-Later.ensures.told both s.tells;
       served = served_read_none s.told s.owner T.base s.log number connection s.served at_k here;
       seated = s.seated;
       adds = s.adds;
@@ -73,7 +71,6 @@ returns-in-End-clause-serves g c = λ seats these has before T beside s clean.
     let connection = c.args.seat.connection in
     let now = trace_of T.base s.log in
     let both : ToldOfPorts = record { pop = s.told; admin = beside.admin } in
-    let looked = c.is_held_back.ensures.told both s.tells in
     let o = outcome_seen c.step-in-End.result in
     let io = c.read.result in
     let fault : is_fault io ≡ true = search rules in
@@ -87,24 +84,10 @@ returns-in-End-clause-serves g c = λ seats these has before T beside s clean.
       owner = s.owner;
       stands = c.step-in-End.ensures.stands now s.stands clean;
       admitted = (c.step-in-End.ensures.admitted now s.stands clean, s.admitted);
-      tells = subst (λ xs. g.W.Wire.tells c.read.new.self (record { pop = has_read s.told number io xs; admin = beside.admin })) (fault_none io c.read.new.buffer fault) (c.read.ensures.told both looked);
+      tells = subst (λ xs. g.W.Wire.tells c.read.new.self (record { pop = has_read s.told number io xs; admin = beside.admin })) (fault_none io c.read.new.buffer fault) (c.read.ensures.told both s.tells);
       served = subst (λ m. AreServed (has_read s.told number io []) s.owner T.base ((event.Gone connection, m) ∷ s.log)) (sym k.1)
           (served_read_fault s.told s.owner T.base s.log number connection io k.0 fault s.served at_k here);
       seated = subst (λ m. AreSeated s.owner (trace_of T.base ((event.Gone connection, m) ∷ s.log)) seats these) (sym k.1)
           (seated_one s.owner T.base s.log seats these ((event.Gone connection, Tagged k.0) ∷ s.log) c.args.seat before (fewer_framed T.base s.log connection ((event.Gone connection, Tagged k.0) ∷ s.log) here (frame_gone T.base s.log connection k.0)) (frame_gone T.base s.log connection k.0) s.seated);
       adds = adds_one s.owner T.base T.log s.log beside s.told.accepted (event.Gone connection) (mark_of o) (number, at_k) (λ l Before h. h) (λ l. refl) s.adds;
     })
-
--- a login waits: nothing happens
-pub returns-then-is_held_back-clause-serves : goal.returns-then-is_held_back-clause-serves
-returns-then-is_held_back-clause-serves g c = λ seats these has before T beside s clean. record {
-  log = s.log;
-  told = s.told;
-  owner = s.owner;
-  stands = s.stands;
-  admitted = s.admitted;
-  tells = c.is_held_back.ensures.told (record { pop = s.told; admin = beside.admin }) s.tells;
-  served = s.served;
-  seated = s.seated;
-  adds = s.adds;
-}

@@ -10,7 +10,8 @@ returns-clause-serves g c = λ T s clean.
     (let Holds = g.V.Vault.holds in
     let Tells = g.W.Wire.tells in
     let start = length T.log in
-    let asked_clean = c.serve_spool.ensures.clean clean in
+    let late_clean = c.serve_spool.ensures.clean clean in
+    let asked_clean = c.end_late_ones.ensures.clean late_clean in
     let links_clean = c.serve_requests.ensures.clean asked_clean in
     let accepted_clean = c.serve_links.ensures.clean links_clean in
     let passed_clean = c.accept_links.ensures.clean accepted_clean in
@@ -35,7 +36,8 @@ returns-clause-serves g c = λ T s clean.
     asked_clean in
     let b3 : Beside = record { acts = b.acts; admin = k.is.told; x = k.x } in
     let answered = serves_asked Holds Tells T b2 _ _ _ _ _ _ links k in
-    let closed = c.close_links.ensures T b3 answered asked_clean in
+    let late = c.end_late_ones.ensures.serves T b3 answered late_clean in
+    let closed = c.close_links.ensures T b3 late late_clean in
     let tried = c.serve_spool.ensures.tried (trace_of T.base closed.log) b.acts closed.stands s.tells clean in
     let serves = serves_tried Holds Tells g.S.Spool.tells T b3 _ _ _ _ _ _ closed c.taken_is_sent.ensures k.is.held tried in
     subst (λ seats. Serves Holds Tells g.S.Spool.tells T c.serve_spool.new.office c.close_links.new.wire c.serve_spool.new.spool seats.items c.serve_requests.new.requests.exchanges.items) (sym c.serve_spool.ensures.seats) serves)

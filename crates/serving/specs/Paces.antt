@@ -1,0 +1,46 @@
+-- Logins that are kept back: what comes on a link stays unread, or is read a line at a time.
+use Rattle.std.specs.Prelude.{ℕ, Bool, true, false, ◌&&◌, ◌||◌, ◌==◌, List, length, position, suc, Option, Some, None, if◌then◌else◌}
+use Rattle.office.specs.Events.{Trace}
+use Rattle.office.specs.Waiting.{waits}
+use Rattle.office.specs.Logins.{brings_login}
+use Rattle.serving.specs.Guesses.{holds_back, refusal_of}
+use Rattle.serving.specs.declared.guesses.Guesses.{Guesses}
+use Rattle.serving.specs.declared.pace.Pace.{Pace}
+use Rattle.serving.specs.declared.pace.Pace.TheVariants.{Free, ByLine, Shut}
+
+-- the pace of an origin; free where none counts
+abbrev pub pace_by : (now : ℕ) → Guesses → (origin : Option ℕ) → Pace
+pace_by now guesses None = Free
+pace_by now guesses (Some origin) =
+    if holds_back now (refusal_of origin guesses.refusals.items) then Shut else ByLine
+
+-- logins are kept back
+abbrev pub is_shut : Pace → Bool
+is_shut Shut = true
+is_shut _ = false
+
+-- what comes is read as it comes
+abbrev pub is_free : Pace → Bool
+is_free Free = true
+is_free _ = false
+
+-- a piece stays unread: its next line is a login that waits for its maildrop's lock, or one of an
+-- origin whose logins are kept back
+abbrev pub is_held : Trace → (connection : ℕ) → (piece : List ℕ) → (wait : ℕ) → Pace → Bool
+is_held T connection piece wait pace =
+    waits T connection piece wait || (is_shut pace && brings_login T connection piece)
+
+-- how many octets the first line of a piece has, with its LF; all, where it has none
+abbrev pub line_by : (newline : Option ℕ) → (all : ℕ) → ℕ
+line_by None all = all
+line_by (Some at) all = suc at
+
+abbrev pub first_line : List ℕ → ℕ
+first_line piece = line_by (position (λ b. b == 10) piece) (length piece)
+
+-- how many octets of a piece are read that isn't held: no more than its first line, but at a free
+-- pace, at which so many are read as there is room for
+abbrev pub part_by : (is_held is_free : Bool) → (room : ℕ) → (piece : List ℕ) → ℕ
+part_by true is_free room piece = 0
+part_by false true room piece = room
+part_by false false room piece = first_line piece

@@ -1,0 +1,169 @@
+//! Guesses that wait: a login is kept back behind one that was refused.
+
+use super::scenes::{Act, Settings, play_set};
+use crate::guesses::{Guesses, origin_of};
+use crate::script_spool::ScriptSpool;
+use std::alloc::Global;
+use std::net::{IpAddr, Ipv4Addr, Ipv6Addr};
+use std::test::Fail;
+
+/// A guess, in one piece.
+const GUESS: &str = "USER ann/orders\r\nPASS wrong\r\n";
+
+const RIGHT: &str = "USER ann/orders\r\nPASS s3 cret\r\n";
+
+const SEND_PASS: &str = "+OK send PASS\r\n";
+
+const FAILED: &str = "-ERR login failed\r\n";
+
+/// What a guess is told, and one behind which a second one waits.
+const GUESS_FAILED: &str = "+OK send PASS\r\n-ERR login failed\r\n";
+
+const ONE_FAILED: &str = "+OK send PASS\r\n-ERR login failed\r\n+OK send PASS\r\n";
+
+const CLOSING: &str = "-ERR login failed, closing\r\n";
+
+const LET_IN: &str = "+OK maildrop has 1 messages (21 octets)\r\n";
+
+/// Three guesses in one piece, at moment 3: the second is kept back until moment 4, the third for
+/// two seconds behind that, and then the link is closed.
+static THREE: [Act; 15] = [
+    Act::Comes(0),
+    Act::Turns(1, 3),
+    Act::Told(0, "+OK POP3 server ready <1.7@h.test>\r\n", 1),
+    Act::Sends(0, GUESS, 3),
+    Act::Turns(6, 3),
+    Act::Told(0, ONE_FAILED, 1),
+    Act::Turns(1, 4),
+    Act::Told(0, FAILED, 1),
+    Act::Turns(3, 5),
+    Act::Told(0, SEND_PASS, 1),
+    Act::Turns(1, 6),
+    Act::Told(0, CLOSING, 1),
+    Act::Closed(0),
+    Act::Comes(1),
+    Act::Turns(1, 6),
+];
+
+/// Behind these the next one from there waits for four seconds, on another link too; one that is
+/// right is let in then, and the next guess from there isn't kept back.
+static FOUR: [Act; 14] = [
+    Act::Told(1, "+OK POP3 server ready <2.7@h.test>\r\n", 1),
+    Act::Sends(1, RIGHT, 1),
+    Act::Turns(3, 9),
+    Act::Told(1, SEND_PASS, 1),
+    Act::Turns(1, 10),
+    Act::Told(1, LET_IN, 1),
+    Act::Comes(2),
+    Act::Turns(1, 10),
+    Act::Told(2, "+OK POP3 server ready <3.7@h.test>\r\n", 1),
+    Act::Sends(2, GUESS, 1),
+    Act::Turns(2, 10),
+    Act::Told(2, GUESS_FAILED, 1),
+    Act::Open(2),
+    Act::Open(1),
+];
+
+/// A guess from another address isn't kept back.
+static ANOTHER: [Act; 7] = [
+    Act::Told(1, "+OK POP3 server ready <2.7@h.test>\r\n", 1),
+    Act::Sends(1, GUESS, 1),
+    Act::Turns(2, 6),
+    Act::Told(1, GUESS_FAILED, 1),
+    Act::Turns(1, 7),
+    Act::Open(1),
+    Act::Told(1, "", 0),
+];
+
+/// With fast guesses none waits.
+static FAST: [Act; 6] = [
+    Act::Comes(0),
+    Act::Turns(1, 3),
+    Act::Told(0, "+OK POP3 server ready <1.7@h.test>\r\n", 1),
+    Act::Sends(0, GUESS, 2),
+    Act::Turns(1, 3),
+    Act::Told(0, GUESS_FAILED, 2),
+];
+
+/// Plays acts, and then further ones, of clients from these addresses.
+fn plays(
+    alloc: Global,
+    first: &[Act],
+    then: &[Act],
+    slow_guesses: bool,
+    from: &[u8],
+) -> Result<(), Fail> {
+    let mut acts = Vec::new(alloc);
+    acts.extend_from_slice(first)?;
+    acts.extend_from_slice(then)?;
+    let settings = Settings {
+        wait: 0,
+        login_seconds: 0,
+        slow_guesses,
+        from,
+    };
+    play_set(
+        alloc,
+        &mut ScriptSpool::new(alloc),
+        acts.as_slice(),
+        &settings,
+    )
+}
+
+#[test]
+fn each_waits_longer(rt: HostRuntime) -> Result<(), Fail> {
+    plays(rt.alloc(), &THREE, &FOUR, true, &[1, 1, 1])
+}
+
+#[test]
+fn others_do_not_wait(rt: HostRuntime) -> Result<(), Fail> {
+    plays(rt.alloc(), &THREE, &ANOTHER, true, &[1, 2])
+}
+
+#[test]
+fn fast_ones_do_not_wait(rt: HostRuntime) -> Result<(), Fail> {
+    plays(rt.alloc(), &FAST, &[], false, &[1])
+}
+
+/// Guesses of so many origins: how many are known, and whether the first and the last are kept
+/// back.
+fn many(alloc: Global, count: u64) -> Result<(usize, bool, bool), Fail> {
+    let mut guesses = Guesses::new(alloc);
+    for origin in 0..count {
+        guesses.refuse(origin, 100)?;
+    }
+    let first = guesses.hold_back(0, 100);
+    let last = guesses.hold_back(count.saturating_sub(1), 100);
+    Ok((guesses.refusals.len(), first, last))
+}
+
+#[test]
+fn the_oldest_goes(rt: HostRuntime) -> Result<(), Fail> {
+    if many(rt.alloc(), 1024)? != (1024, true, true) {
+        return Err(Fail::new("1,024 have room"));
+    }
+    if many(rt.alloc(), 1025)? != (1024, false, true) {
+        return Err(Fail::new("of 1,025 the oldest goes"));
+    }
+    Ok(())
+}
+
+/// By which number an IPv6 address counts that ends so.
+fn origin_of_six(d: u16, g: u16, h: u16) -> u64 {
+    origin_of(&IpAddr::V6(Ipv6Addr::new(0x2001, 0xdb8, 0, d, 0, 0, g, h)))
+}
+
+#[test]
+fn addresses_count_by_their_numbers(_rt: HostRuntime) -> Result<(), Fail> {
+    let four = IpAddr::V4(Ipv4Addr::new(192, 0, 2, 1));
+    let within_six = IpAddr::V6(Ipv6Addr::new(0, 0, 0, 0, 0, 0xffff, 0xc000, 0x0201));
+    if origin_of(&four) != 0xc000_0201 || origin_of(&within_six) != 0xc000_0201 {
+        return Err(Fail::new("an IPv4 address counts by its 32 bits"));
+    }
+    if origin_of_six(7, 1, 2) != 0x2001_0db8_0000_0007
+        || origin_of_six(7, 3, 4) != origin_of_six(7, 1, 2)
+    {
+        return Err(Fail::new("an IPv6 address counts by its first 64 bits"));
+    }
+    Ok(())
+}
