@@ -1,22 +1,22 @@
 //! `popbox review-policy`: prints what a policy means as a whole, and what it would change.
 
-ghost use Rattle.std.specs.Prelude.{◌≡◌, ◌⊎◌, IfOk, IfSome, OnOk};
-ghost use Rattle.std.specs.Io.KnownBytes.{Appends};
+ghost use Rattle.std.specs.Prelude.{◌≡◌, ◌≤◌, ◌⊎◌, IfOk, IfSome, OnOk, length};
+ghost use Rattle.std.specs.Io.KnownBytes.{Appends, WriteAppends};
 ghost use Rattle.converse.specs.PolicyFile.{IsNoPolicyText};
-ghost use Rattle.converse.specs.Reviewed.{TellsChange, TellsReview, status_of};
+ghost use Rattle.converse.specs.Reviewed.{PrintsPart, TellsChange, TellsChangePart, TellsReview, TellsReviewPart, TellsStored, TellsStoredChange, TellsStoredChangePart, TellsStoredPart, status_of};
 
 use crate::check_policy::read_file;
 use crate::fault::{Fault, tell_fault};
-use review::{Choice, review_against, review_policy};
+use policy::Policy;
+use review::{Choice, Kept, review_against, review_policy, review_stored};
 use std::alloc::Global;
-use std::io;
-use std::io::{Read, Write};
+use std::io::{ErrorKind, Read, Write};
 
 /// Reads a policy's file to its end, and prints the policy's review to `out`, which is flushed.
 ///
 /// Gives the exit status, 0 or 1. A fault has status 1 and its text on `err`. Faults are found in
 /// the order: the file can't be read, its policy has a fault, memory runs out, `out` refuses
-/// octets. Before the last of them nothing is on `out`.
+/// octets. Before the last of them nothing is on `out`; then a beginning of the review may be.
 pub fn review_file<R: Read, W: Write, E: Write>(
     alloc: Global,
     file: &mut R,
@@ -26,8 +26,12 @@ pub fn review_file<R: Read, W: Write, E: Write>(
 ) -> u8
     ensures status { (result ≡ 0) ⊎ (result ≡ 1) }
     ensures silent { result ≡ 0 → err.new ≡ err.old }
-    ensures good { result ≡ 0 → TellsReview choice.now (R.remaining file.old) (W.contents out.old) (W.contents out.new) }
-    ensures faulty { IfSome (R.remaining file.old) (λ octets. IsNoPolicyText octets → out.new ≡ out.old) }
+    ensures good { result ≡ 0 → TellsReview choice.now (R.remaining file.old)
+        (W.contents out.old) (W.contents out.new) }
+    ensures faulty { IfSome (R.remaining file.old)
+        (λ octets. IsNoPolicyText octets → out.new ≡ out.old) }
+    ensures part { (out.new ≡ out.old) ⊎ TellsReviewPart choice.now (R.remaining file.old)
+        (W.contents out.old) (W.contents out.new) }
 {
     match tell_review(alloc, file, choice, out) {
         Ok(()) => 0,
@@ -41,15 +45,16 @@ fn tell_review<R: Read, W: Write>(
     choice: &Choice,
     out: &mut W,
 ) -> Result<(), Fault>
-    ensures ok { OnOk result (TellsReview choice.now (R.remaining file.old) (W.contents out.old) (W.contents out.new)) }
-    ensures faulty { IfSome (R.remaining file.old) (λ octets. IsNoPolicyText octets → out.new ≡ out.old) }
+    ensures ok { OnOk result (TellsReview choice.now (R.remaining file.old)
+        (W.contents out.old) (W.contents out.new)) }
+    ensures faulty { IfSome (R.remaining file.old)
+        (λ octets. IsNoPolicyText octets → out.new ≡ out.old) }
+    ensures part { (out.new ≡ out.old) ⊎ TellsReviewPart choice.now (R.remaining file.old)
+        (W.contents out.old) (W.contents out.new) }
 {
     let policy = read_file(alloc, file)?;
     let text = review_policy(alloc, &policy, choice)?;
-    match print(out, &text) {
-        Ok(()) => Ok(()),
-        Err(_) => Err(Fault::CannotWrite),
-    }
+    print(out, &text)
 }
 
 /// Reads the files of the old policy and of the new one to their ends, the old one first, and
@@ -66,7 +71,10 @@ pub fn review_change<O: Read, R: Read, W: Write, E: Write>(
     err: &mut E,
 ) -> u8
     ensures silent { (result ≡ 1 → ⊥) → err.new ≡ err.old }
-    ensures good { (result ≡ 1 → ⊥) → TellsChange choice.now result (O.remaining old.old) (R.remaining file.old) (W.contents out.old) (W.contents out.new) }
+    ensures good { (result ≡ 1 → ⊥) → TellsChange choice.now result (O.remaining old.old)
+        (R.remaining file.old) (W.contents out.old) (W.contents out.new) }
+    ensures part { (out.new ≡ out.old) ⊎ TellsChangePart choice.now (O.remaining old.old)
+        (R.remaining file.old) (W.contents out.old) (W.contents out.new) }
 {
     match tell_change(alloc, old, file, choice, out) {
         Ok(true) => 3,
@@ -82,20 +90,117 @@ fn tell_change<O: Read, R: Read, W: Write>(
     choice: &Choice,
     out: &mut W,
 ) -> Result<bool, Fault>
-    ensures { IfOk result (λ differ. TellsChange choice.now (status_of differ) (O.remaining old.old) (R.remaining file.old) (W.contents out.old) (W.contents out.new)) }
+    ensures ok { IfOk result (λ differ. TellsChange choice.now (status_of differ)
+        (O.remaining old.old) (R.remaining file.old) (W.contents out.old)
+        (W.contents out.new)) }
+    ensures part { (out.new ≡ out.old) ⊎ TellsChangePart choice.now (O.remaining old.old)
+        (R.remaining file.old) (W.contents out.old) (W.contents out.new) }
 {
     let before = read_file(alloc, old)?;
     let policy = read_file(alloc, file)?;
-    let (text, differ) = review_against(alloc, &before, &policy, choice)?;
-    match print(out, &text) {
-        Ok(()) => Ok(differ),
+    let nobody = Kept::nobody(alloc);
+    let (text, differ) = review_against(alloc, &before, &policy, &nobody, choice)?;
+    print(out, &text)?;
+    Ok(differ)
+}
+
+/// Reads a policy's file to its end, and prints the policy's review against the old one, beside a
+/// store that has these clerks and maildrops, to `out`, which is flushed.
+///
+/// Gives the exit status as `review_change` does.
+pub fn review_in_store<R: Read, W: Write, E: Write>(
+    alloc: Global,
+    before: &Policy,
+    kept: &Kept,
+    file: &mut R,
+    choice: &Choice,
+    out: &mut W,
+    err: &mut E,
+) -> u8
+    ensures silent { (result ≡ 1 → ⊥) → err.new ≡ err.old }
+    ensures good { (result ≡ 1 → ⊥) → TellsStored choice.now result before.now kept.now
+        (R.remaining file.old) (W.contents out.old) (W.contents out.new) }
+    ensures part { (out.new ≡ out.old) ⊎ TellsStoredPart choice.now before.now kept.now
+        (R.remaining file.old) (W.contents out.old) (W.contents out.new) }
+{
+    match tell_stored(alloc, before, kept, file, choice, out) {
+        Ok(true) => 3,
+        Ok(false) => 0,
+        Err(fault) => tell_fault(err, fault),
+    }
+}
+
+fn tell_stored<R: Read, W: Write>(
+    alloc: Global,
+    before: &Policy,
+    kept: &Kept,
+    file: &mut R,
+    choice: &Choice,
+    out: &mut W,
+) -> Result<bool, Fault>
+    ensures ok { IfOk result (λ differ. TellsStored choice.now (status_of differ) before.now
+        kept.now (R.remaining file.old) (W.contents out.old) (W.contents out.new)) }
+    ensures part { (out.new ≡ out.old) ⊎ TellsStoredPart choice.now before.now kept.now
+        (R.remaining file.old) (W.contents out.old) (W.contents out.new) }
+{
+    let policy = read_file(alloc, file)?;
+    let (text, differ) = review_stored(alloc, before, &policy, kept, choice)?;
+    print(out, &text)?;
+    Ok(differ)
+}
+
+/// The same against the policy of another file, which is read first.
+pub fn review_change_in_store<O: Read, R: Read, W: Write, E: Write>(
+    alloc: Global,
+    old: &mut O,
+    kept: &Kept,
+    file: &mut R,
+    choice: &Choice,
+    out: &mut W,
+    err: &mut E,
+) -> u8
+    ensures silent { (result ≡ 1 → ⊥) → err.new ≡ err.old }
+    ensures good { (result ≡ 1 → ⊥) → TellsStoredChange choice.now result kept.now
+        (O.remaining old.old) (R.remaining file.old) (W.contents out.old)
+        (W.contents out.new) }
+    ensures part { (out.new ≡ out.old) ⊎ TellsStoredChangePart choice.now kept.now
+        (O.remaining old.old) (R.remaining file.old) (W.contents out.old)
+        (W.contents out.new) }
+{
+    match read_file(alloc, old) {
+        Ok(before) => review_in_store(alloc, &before, kept, file, choice, out, err),
+        Err(fault) => tell_fault(err, fault),
+    }
+}
+
+/// Writes some of the text, which isn't empty, and gives how many octets: none where a signal broke
+/// in. An `Err` is a writer that refuses, or takes none.
+fn put_some<W: Write>(out: &mut W, text: &[u8]) -> Result<usize, Fault>
+    ensures bound { IfOk result (λ count. count ≤ length text.now) }
+    ensures bytes { WriteAppends (W.contents out.old) (W.contents out.new) result text.now }
+{
+    match out.write(text) {
+        Ok(0) => Err(Fault::CannotWrite),
+        Ok(count) => Ok(count),
+        Err(error) if error.kind() == ErrorKind::Interrupted => Ok(0),
         Err(_) => Err(Fault::CannotWrite),
     }
 }
 
-fn print<W: Write>(out: &mut W, text: &[u8]) -> io::Result<()>
-    ensures { OnOk result (Appends (W.contents out.old) (W.contents out.new) text.now) }
+/// Prints a text, and flushes. After an `Err` a beginning of it may be printed.
+fn print<W: Write>(out: &mut W, text: &[u8]) -> Result<(), Fault>
+    ensures ok { OnOk result (Appends (W.contents out.old) (W.contents out.new) text.now) }
+    ensures part { PrintsPart (W.contents out.old) (W.contents out.new) text.now }
 {
-    out.write_all(text)?;
-    out.flush()
+    let mut done: usize = 0;
+    for _ in 0..u64::MAX {
+        if done == text.len() {
+            return match out.flush() {
+                Ok(()) => Ok(()),
+                Err(_) => Err(Fault::CannotWrite),
+            };
+        }
+        done += put_some(out, &text[done..])?;
+    }
+    Err(Fault::CannotWrite)
 }

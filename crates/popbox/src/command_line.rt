@@ -103,8 +103,8 @@ fn check_policy<'a>(alloc: Global) -> Result<Command<'a>, AllocError> {
     subcommand(alloc, "check-policy", about, arguments)
 }
 
-/// `review-policy [--against OLD] [--clerk NAME] [--maildrop NAME] [--format FORMAT] [--verbose]
-/// NEW`.
+/// `review-policy [--against OLD] [--store PATH] [--clerk NAME] [--maildrop NAME] [--format FORMAT]
+/// [--verbose] NEW`.
 fn review_policy<'a>(alloc: Global) -> Result<Command<'a>, AllocError> {
     let against = option(
         alloc,
@@ -112,12 +112,17 @@ fn review_policy<'a>(alloc: Global) -> Result<Command<'a>, AllocError> {
         "OLD",
         "The file of the policy that NEW is to replace",
     );
+    let store = store(
+        alloc,
+        "The store's file, which no server has open: its names, and its policy where no OLD is",
+    );
     let clerk = option(alloc, "clerk", "NAME", "Tells of this clerk alone");
     let maildrop = option(alloc, "maildrop", "NAME", "Tells of this maildrop alone");
     let format = option(alloc, "format", "FORMAT", "How it is written");
     let file = Arg::new(alloc, "NEW").help("The policy's file; - is standard input");
     let arguments = vec![in alloc;
         against,
+        store,
         clerk,
         maildrop,
         format

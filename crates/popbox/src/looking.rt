@@ -1,17 +1,22 @@
 //! `popbox review-policy`: a policy is looked at before it is in force.
 
 use crate::command_line::is_verbose;
-use causes::tell_unread;
+use crate::stored::read_store;
+use causes::{STANDARD_INPUT, Watched, tell_bad_policy, tell_refusal, tell_unread};
 use clap::ArgMatches;
 use converse::Fault;
-use converse::review_policy::{review_change, review_file};
+use converse::review_policy::{
+    review_change, review_change_in_store, review_file, review_in_store,
+};
 use creds::Name;
-use review::{Choice, Format};
+use policy::Policy;
+use review::{Choice, Format, renamed};
 use std::alloc::Global;
 use std::io::{BufWriter, Read, Write};
-use std::{fs, io};
+use std::{fs, io, str};
 
 /// Runs `popbox review-policy`: prints to standard output what the policy of the named file means.
+/// The files of both policies are read first, to their ends, the new one before the old one.
 pub fn run_review<E: Write>(
     rt: &HostRuntime,
     options: &ArgMatches<'_>,
@@ -21,12 +26,23 @@ pub fn run_review<E: Write>(
         let _ = writeln!(err, "popbox: bad name");
         return Ok(1);
     };
-    let path = options.get_str("NEW").unwrap_or("");
-    if path == "-" {
-        return review_input(rt, &mut rt.reader(), &choice, options, err);
-    }
-    match fs::open(rt, path) {
-        Ok(mut file) => review_input(rt, &mut file, &choice, options, err),
+    let new = match read_new(rt, options) {
+        Ok(text) => text,
+        Err(error) => return Ok(tell_unread(err, is_verbose(options), new_name(options), &error)),
+    };
+    let Some(path) = options.get_str("against") else {
+        return review_alone(rt, new.as_slice(), &choice, options, err);
+    };
+    match fs::read(rt, path) {
+        Ok(old) => review_both(
+            rt,
+            path,
+            old.as_slice(),
+            new.as_slice(),
+            &choice,
+            options,
+            err,
+        ),
         Err(error) => Ok(tell_unread(err, is_verbose(options), path, &error)),
     }
 }
@@ -52,21 +68,118 @@ fn choice_of(options: &ArgMatches<'_>) -> Option<Choice> {
     })
 }
 
-/// Reviews the policy of an input, against that of the old file where one is named.
-fn review_input<S: Read, E: Write>(
+/// The octets of the new policy's file, or of standard input.
+fn read_new(rt: &HostRuntime, options: &ArgMatches<'_>) -> io::Result<Vec<u8>> {
+    let path = options.get_str("NEW").unwrap_or("");
+    if path != "-" {
+        return fs::read(rt, path);
+    }
+    let mut text = Vec::new(rt.alloc());
+    rt.reader().read_to_end(&mut text)?;
+    Ok(text)
+}
+
+/// What faults call the new policy's file.
+fn new_name<'a>(options: &ArgMatches<'a>) -> &'a str {
+    match options.get_str("NEW") {
+        None | Some("-") => STANDARD_INPUT,
+        Some(path) => path,
+    }
+}
+
+/// Reviews a policy's text, beside the store that is named, where one is.
+fn review_alone<E: Write>(
     rt: &HostRuntime,
-    input: &mut S,
+    new: &[u8],
     choice: &Choice,
     options: &ArgMatches<'_>,
     err: &mut E,
 ) -> Result<u8, Fault> {
     let alloc: Global = rt.alloc();
     let mut out = BufWriter::new(alloc, io::writer(rt)).map_err(|_| Fault::OutOfMemory)?;
-    let Some(old) = options.get_str("against") else {
-        return Ok(review_file(alloc, input, choice, &mut out, err));
+    let mut out = Watched::new(&mut out);
+    let mut rest = new;
+    let Some(path) = options.get_str("store") else {
+        let status = review_file(alloc, &mut rest, choice, &mut out, err);
+        tell_why(alloc, err, options, status, new, out.refusal());
+        return Ok(status);
     };
-    match fs::open(rt, old) {
-        Ok(mut file) => Ok(review_change(alloc, &mut file, input, choice, &mut out, err)),
-        Err(error) => Ok(tell_unread(err, is_verbose(options), old, &error)),
+    let stored = match read_store(rt, path, is_verbose(options), err) {
+        Ok(stored) => stored,
+        Err(status) => return Ok(status),
+    };
+    let (before, kept) = (&stored.policy, &stored.kept);
+    let status = review_in_store(alloc, before, kept, &mut rest, choice, &mut out, err);
+    tell_why(alloc, err, options, status, new, out.refusal());
+    Ok(status)
+}
+
+/// Reviews a policy's text against the old one's, beside the store that is named, where one is.
+fn review_both<E: Write>(
+    rt: &HostRuntime,
+    old_name: &str,
+    old: &[u8],
+    new: &[u8],
+    choice: &Choice,
+    options: &ArgMatches<'_>,
+    err: &mut E,
+) -> Result<u8, Fault> {
+    let alloc: Global = rt.alloc();
+    let mut out = BufWriter::new(alloc, io::writer(rt)).map_err(|_| Fault::OutOfMemory)?;
+    let mut out = Watched::new(&mut out);
+    let (mut first, mut rest) = (old, new);
+    let status = match options.get_str("store") {
+        None => review_change(alloc, &mut first, &mut rest, choice, &mut out, err),
+        Some(path) => match read_store(rt, path, is_verbose(options), err) {
+            Ok(stored) => review_change_in_store(
+                alloc,
+                &mut first,
+                &stored.kept,
+                &mut rest,
+                choice,
+                &mut out,
+                err,
+            ),
+            Err(status) => return Ok(status),
+        },
+    };
+    if is_verbose(options) && status == 1 {
+        let _ = tell_bad_policy(alloc, err, old_name, old);
     }
+    tell_why(alloc, err, options, status, new, out.refusal());
+    if is_verbose(options) && status != 1 {
+        tell_renamed(alloc, err, old, new);
+    }
+    Ok(status)
+}
+
+/// Tells by `--verbose` what a fault of the new policy's text, or of standard output, is about.
+fn tell_why<E: Write>(
+    alloc: Global,
+    err: &mut E,
+    options: &ArgMatches<'_>,
+    status: u8,
+    new: &[u8],
+    refusal: Option<io::Error>,
+) {
+    if is_verbose(options) && status == 1 {
+        let _ = tell_bad_policy(alloc, err, new_name(options), new);
+        tell_refusal(err, "standard output", refusal);
+    }
+}
+
+/// Tells which rules of the new policy say what a rule of another name said in the old one.
+fn tell_renamed<E: Write>(alloc: Global, err: &mut E, old: &[u8], new: &[u8]) {
+    let (Some(old), Some(new)) = (policy_of(alloc, old), policy_of(alloc, new)) else {
+        return;
+    };
+    if let Ok(lines) = renamed(alloc, &old, &new) {
+        let _ = err.write_all(lines.as_slice());
+    }
+}
+
+/// The policy that a text spells, if it is one.
+fn policy_of(alloc: Global, octets: &[u8]) -> Option<Policy> {
+    let text = str::from_utf8(octets).ok()?;
+    Policy::read(alloc, text).ok()
 }

@@ -5,6 +5,7 @@ mod command_line;
 mod looking;
 mod serve;
 mod store_file;
+mod stored;
 
 use causes::{
     STANDARD_INPUT, Watched, tell_bad_line, tell_bad_policy, tell_closed_store, tell_host,

@@ -4,3 +4,4 @@ pub mod Naming
 pub mod Alike
 pub mod TableLemmas
 pub mod Pieces
+pub mod Once

@@ -19,7 +19,7 @@ use Rattle.policy.specs.declared.rule.Pattern.TheVariants.{Any, Is}
 use Rattle.policy.specs.declared.rule.Rule.{Rule}
 use Rattle.policy.specs.Policy.{Group, Policy, has_member}
 use Rattle.review.specs.declared.label.Label.TheVariants.{Named, Others}
-use Rattle.review.specs.Names.{NamesAreTold, classes_in, clerk_of, clerks_in, is_of, labels, maildrops_in, name_in, put_names}
+use Rattle.review.specs.Names.{Kept, NamesAreTold, classes_in, clerk_of, clerks_in, is_of, labels, maildrops_in, name_in, put_names}
 use Rattle.review.specs.Questions.{clerks_name, names_class, names_clerk, names_maildrop, pattern_names}
 
 pub put_names-append : (names xs ys : List (List ℕ)) → put_names names (xs ++ ys) ≡ put_names (put_names names xs) ys
@@ -140,9 +140,12 @@ maildrops_are p name = has_flat name (λ (r : Rule). name_in r.maildrop) p.rules
 classes_are : (p : Policy) (name : List ℕ) → has name (classes_in p) ≡ names_class p name
 classes_are p name = has_flat name (λ (r : Rule). name_in r.class) p.rules ∙ any_same _ _ p.rules (λ (r : Rule). name_is name r.class)
 
+in_three : (name : List ℕ) (xs ys zs : List (List ℕ)) → list_any (is_of name) (labels (xs ++ ys ++ zs)) ≡ (has name xs || has name ys || has name zs)
+in_three name xs ys zs = in_labels name (xs ++ ys) zs ∙ ap (λ (b : Bool). b || has name zs) (list_any-append (λ x. bytes_eq x name) xs ys)
+
 pub told : NamesAreTold
 told = record {
-  clerks = λ old new name. in_labels name (clerks_in old) (clerks_in new) ∙ rw (clerks_are old name, clerks_are new name) refl;
-  maildrops = λ old new name. in_labels name (maildrops_in old) (maildrops_in new) ∙ rw (maildrops_are old name, maildrops_are new name) refl;
+  clerks = λ old new kept name. in_three name (clerks_in old) (clerks_in new) kept.clerks ∙ rw (clerks_are old name, clerks_are new name) refl;
+  maildrops = λ old new kept name. in_three name (maildrops_in old) (maildrops_in new) kept.maildrops ∙ rw (maildrops_are old name, maildrops_are new name) refl;
   classes = λ old new name. in_labels name (classes_in old) (classes_in new) ∙ rw (classes_are old name, classes_are new name) refl;
 }

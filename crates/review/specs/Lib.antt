@@ -3,5 +3,7 @@ pub mod Questions
 pub mod Differences
 pub mod Steps
 pub mod Names
+pub mod Notes
+pub mod Renames
 pub mod Table
 pub mod Review

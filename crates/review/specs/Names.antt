@@ -46,6 +46,19 @@ put_names names (name ∷ more) = put_names (insert_key (slice_cmp nat_cmp) name
 abbrev pub labels : List (List ℕ) → List Label
 labels names = map Named (put_names [] names) ++ Others ∷ []
 
+-- the clerks and the maildrops that a store has
+pub record Kept : Type 0 where
+  pub clerks : List (List ℕ)
+  pub maildrops : List (List ℕ)
+
+-- those of no store
+abbrev pub nobody : Kept
+nobody = record { clerks = []; maildrops = [] }
+
+-- the name is one of these
+abbrev pub is_one_of : (name : List ℕ) → List (List ℕ) → Bool
+is_one_of name names = list_any (λ x. bytes_eq x name) names
+
 -- ---- a law
 
 -- the label is that name's
@@ -53,8 +66,15 @@ abbrev pub is_of : (name : List ℕ) → Label → Bool
 is_of name (Named other) = bytes_eq other name
 is_of name Others = false
 
--- the names that have labels are those that a policy names: what the others stand for, neither names
+-- the names that have labels are those that a policy names or the store has: what the others stand
+-- for, neither policy names, and the store doesn't have
 pub record NamesAreTold : Type 0 where
-  pub clerks : (old new : Policy) (name : List ℕ) → list_any (is_of name) (labels (clerks_in old ++ clerks_in new)) ≡ (names_clerk old name || names_clerk new name)
-  pub maildrops : (old new : Policy) (name : List ℕ) → list_any (is_of name) (labels (maildrops_in old ++ maildrops_in new)) ≡ (names_maildrop old name || names_maildrop new name)
-  pub classes : (old new : Policy) (name : List ℕ) → list_any (is_of name) (labels (classes_in old ++ classes_in new)) ≡ (names_class old name || names_class new name)
+  pub clerks : (old new : Policy) (kept : Kept) (name : List ℕ)
+      → list_any (is_of name) (labels (clerks_in old ++ clerks_in new ++ kept.clerks))
+      ≡ (names_clerk old name || names_clerk new name || is_one_of name kept.clerks)
+  pub maildrops : (old new : Policy) (kept : Kept) (name : List ℕ)
+      → list_any (is_of name) (labels (maildrops_in old ++ maildrops_in new ++ kept.maildrops))
+      ≡ (names_maildrop old name || names_maildrop new name || is_one_of name kept.maildrops)
+  pub classes : (old new : Policy) (name : List ℕ)
+      → list_any (is_of name) (labels (classes_in old ++ classes_in new))
+      ≡ (names_class old name || names_class new name)

@@ -1,5 +1,6 @@
 -- What a review prints.
-use Rattle.std.specs.Prelude.{ℕ, Bool, true, false, ◌&&◌, List, [], ◌∷◌, ◌++◌, codes, Option, Some, None, is_some}
+use Rattle.std.specs.Prelude.{◌≢◌, ℕ, Bool, true, false, ◌&&◌, List, [], ◌∷◌, ◌++◌, codes, Option, Some, None, is_some}
+use Rattle.std.specs.List.{AllPairs}
 use Rattle.policy.specs.Policy.{Policy}
 use Rattle.review.specs.declared.choice.Choice.{Choice}
 use Rattle.review.specs.declared.label.Label.{Label}
@@ -7,8 +8,10 @@ use Rattle.review.specs.declared.label.Label.TheVariants.{Named}
 use Rattle.review.specs.declared.rows.Format.{Format}
 use Rattle.review.specs.declared.rows.Format.TheVariants.{Text, Csv}
 use Rattle.review.specs.Covers.{covered_text}
-use Rattle.review.specs.Differences.{differences_text, questions}
-use Rattle.review.specs.Names.{classes_in, clerks_in, labels, maildrops_in}
+use Rattle.review.specs.Differences.{differences, differences_text, questions}
+use Rattle.review.specs.declared.question.Question.{Question}
+use Rattle.review.specs.Names.{Kept, classes_in, clerks_in, labels, maildrops_in, nobody}
+use Rattle.review.specs.Notes.{missing_lines}
 use Rattle.review.specs.Questions.{columns}
 use Rattle.review.specs.Table.{answers_text, csv_head, tables_text}
 
@@ -17,13 +20,14 @@ abbrev pub chosen : Option (List ℕ) → List Label → List Label
 chosen None all = all
 chosen (Some name) all = Named name ∷ []
 
--- the clerks that a review of two policies speaks of
-abbrev pub clerks_of : Choice → (old new : Policy) → List Label
-clerks_of choice old new = chosen choice.clerk (labels (clerks_in old ++ clerks_in new))
+-- the clerks that a review of two policies speaks of, beside a store that has some
+abbrev pub clerks_of : Choice → (old new : Policy) → Kept → List Label
+clerks_of choice old new kept = chosen choice.clerk (labels (clerks_in old ++ clerks_in new ++ kept.clerks))
 
 -- the maildrops
-abbrev pub maildrops_of : Choice → (old new : Policy) → List Label
-maildrops_of choice old new = chosen choice.maildrop (labels (maildrops_in old ++ maildrops_in new))
+abbrev pub maildrops_of : Choice → (old new : Policy) → Kept → List Label
+maildrops_of choice old new kept =
+    chosen choice.maildrop (labels (maildrops_in old ++ maildrops_in new ++ kept.maildrops))
 
 -- the classes
 abbrev pub classes_of : (old new : Policy) → List Label
@@ -65,14 +69,38 @@ rules_text Csv p = []
 
 -- the review of one policy
 abbrev pub review_text : Choice → Policy → List ℕ
-review_text choice p = who_text choice choice.format p (clerks_of choice p p) (maildrops_of choice p p) (classes_of p p) ++ rules_text choice.format p
+review_text choice p =
+    who_text choice choice.format p (clerks_of choice p p nobody) (maildrops_of choice p p nobody) (classes_of p p)
+    ++ rules_text choice.format p
+
+-- the questions that a review of two policies asks
+abbrev pub asked_of : Choice → (old new : Policy) → Kept → List Question
+asked_of choice old new kept =
+    questions (clerks_of choice old new kept) (maildrops_of choice old new kept) (columns (classes_of old new))
 
 -- the lines of what the new policy changes
-abbrev pub changes_of : Choice → (old new : Policy) → List ℕ
-changes_of choice old new = differences_text old new (questions (clerks_of choice old new) (maildrops_of choice old new) (columns (classes_of old new)))
+abbrev pub changes_of : Choice → (old new : Policy) → Kept → List ℕ
+changes_of choice old new kept = differences_text old new (asked_of choice old new kept)
 
 -- the review of a policy against the old one
-abbrev pub against_text : Choice → (old new : Policy) → List ℕ
-against_text choice old new =
-    who_text choice choice.format new (clerks_of choice old new) (maildrops_of choice old new) (classes_of old new)
-    ++ change_text choice.format (changes_of choice old new) ++ rules_text choice.format new
+abbrev pub against_text : Choice → (old new : Policy) → Kept → List ℕ
+against_text choice old new kept =
+    who_text choice choice.format new (clerks_of choice old new kept) (maildrops_of choice old new kept) (classes_of old new)
+    ++ change_text choice.format (changes_of choice old new kept) ++ rules_text choice.format new
+
+-- what the policy speaks of and the store doesn't have, which CSV doesn't tell
+abbrev pub missing_text : Format → Policy → Kept → List ℕ
+missing_text Text p kept = missing_lines p kept
+missing_text Csv p kept = []
+
+-- the review beside a store: against the old policy, and then what the store doesn't have
+abbrev pub stored_text : Choice → (old new : Policy) → Kept → List ℕ
+stored_text choice old new kept = against_text choice old new kept ++ missing_text choice.format new kept
+
+-- ---- a law
+
+-- no question is asked twice, and no difference is told twice
+pub record ToldOnce : Type 0 where
+  pub asked : (choice : Choice) (old new : Policy) (kept : Kept) → AllPairs (λ q r. q ≢ r) (asked_of choice old new kept)
+  pub told : (choice : Choice) (old new : Policy) (kept : Kept)
+      → AllPairs (λ q r. q ≢ r) (differences old new (asked_of choice old new kept))

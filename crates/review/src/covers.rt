@@ -83,7 +83,7 @@ fn actions_cover(wide: Actions, narrow: Actions) -> bool
 }
 
 /// Whether the wide rule matches whatever the narrow one matches.
-fn rule_covers(groups: &[Group], wide: &Rule, narrow: &Rule) -> bool
+pub(crate) fn rule_covers(groups: &[Group], wide: &Rule, narrow: &Rule) -> bool
     ensures { result ≡ covers groups.now wide.now narrow.now }
 {
     actions_cover(wide.actions, narrow.actions)
@@ -131,7 +131,7 @@ fn name_at(rules: &[Rule], place: usize) -> &str
 }
 
 #[tactic(auto, unfolding(crate::specs::Covers::rule_words))]
-fn put_rule(out: &mut Vec<u8>, rules: &[Rule], place: usize) -> Result<(), AllocError>
+pub(crate) fn put_rule(out: &mut Vec<u8>, rules: &[Rule], place: usize) -> Result<(), AllocError>
     requires { place < length rules.now }
     ensures { OnOk result (out.new.items ≡ out.old.items ++ rule_words rules.now place) }
 {

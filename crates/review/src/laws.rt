@@ -2,6 +2,7 @@
 //! its contract says it.
 ghost use Rattle.review.specs.Names.{NamesAreTold};
 ghost use Rattle.review.specs.Questions.{AsksThePolicy, OthersAreAlike};
+ghost use Rattle.review.specs.Review.{ToldOnce};
 
 /// About a clerk, a maildrop and a class that are named, a review's answers are the policy's
 /// decisions.
@@ -18,4 +19,10 @@ pub fn others_are_alike()
 /// A review has a label for each name that either policy names, and for no other.
 pub fn names_are_told()
     ensures { NamesAreTold }
+{}
+
+/// A review asks each of its questions once, and tells each difference once: whatever the policies,
+/// the store's names and the choice are.
+pub fn told_once()
+    ensures { ToldOnce }
 {}

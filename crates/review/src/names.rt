@@ -1,8 +1,8 @@
-//! The names that policies speak of.
+//! The names that policies speak of, and those that a store has.
 ghost use Rattle.std.specs.Prelude.{◌≡◌, ◌++◌, ◌∷◌, [], IfOk, OnOk, map};
 ghost use Rattle.std.specs.List.{flat_map};
 ghost use Rattle.review.specs.declared.label.Label.TheVariants.{Named, Others};
-ghost use Rattle.review.specs.Names.{classes_in, clerk_of, clerks_in, labels, maildrops_in, name_in, put_names};
+ghost use Rattle.review.specs.Names.{classes_in, clerk_of, clerks_in, labels, maildrops_in, name_in, nobody, put_names};
 
 use crate::changes::Names;
 use crate::label::Label;
@@ -10,6 +10,36 @@ use creds::Name;
 use policy::{Clerks, Group, Pattern, Policy, Rule};
 use std::alloc::{AllocError, Global};
 use std::collections::BTreeSet;
+use std::marker::Model;
+
+/// The clerks and the maildrops that a store has, in any order.
+#[derive(Drop)]
+pub struct Kept {
+    /// The names of its clerks.
+    pub clerks: Vec<Name>,
+    /// The names of its maildrops.
+    pub maildrops: Vec<Name>,
+}
+
+impl Model for Kept {
+    ghost use Rattle.review.specs.Names.{Kept};
+
+    ghost Value = { Kept };
+
+    ghost view = { λ k. record { clerks = k.clerks.items; maildrops = k.maildrops.items } };
+}
+
+impl Kept {
+    /// Those of no store: no clerk and no maildrop.
+    pub fn nobody(alloc: Global) -> Kept
+        ensures { result ≡ nobody }
+    {
+        Kept {
+            clerks: Vec::new(alloc),
+            maildrops: Vec::new(alloc),
+        }
+    }
+}
 
 fn add_clerk(names: &mut BTreeSet<Name>, clerks: &Clerks) -> Result<(), AllocError>
     ensures { OnOk result (names.new.keys ≡ put_names names.old.keys (clerk_of clerks.now)) }
@@ -97,23 +127,35 @@ fn labels_of(alloc: Global, names: &BTreeSet<Name>) -> Result<Vec<Label>, AllocE
     Ok(labels)
 }
 
-fn clerks_of(alloc: Global, old: &Policy, new: &Policy) -> Result<Vec<Label>, AllocError>
+fn clerks_of(
+    alloc: Global,
+    old: &Policy,
+    new: &Policy,
+    kept: &[Name],
+) -> Result<Vec<Label>, AllocError>
     ensures { IfOk result (λ clerks. clerks.items
-        ≡ labels (clerks_in old.now ++ clerks_in new.now)) }
+        ≡ labels (clerks_in old.now ++ clerks_in new.now ++ kept.now)) }
 {
     let mut names = BTreeSet::new(alloc);
     add_clerks(&mut names, old)?;
     add_clerks(&mut names, new)?;
+    add_names(&mut names, kept)?;
     labels_of(alloc, &names)
 }
 
-fn maildrops_of(alloc: Global, old: &Policy, new: &Policy) -> Result<Vec<Label>, AllocError>
+fn maildrops_of(
+    alloc: Global,
+    old: &Policy,
+    new: &Policy,
+    kept: &[Name],
+) -> Result<Vec<Label>, AllocError>
     ensures { IfOk result (λ maildrops. maildrops.items
-        ≡ labels (maildrops_in old.now ++ maildrops_in new.now)) }
+        ≡ labels (maildrops_in old.now ++ maildrops_in new.now ++ kept.now)) }
 {
     let mut names = BTreeSet::new(alloc);
     add_maildrops(&mut names, old.rules())?;
     add_maildrops(&mut names, new.rules())?;
+    add_names(&mut names, kept)?;
     labels_of(alloc, &names)
 }
 
@@ -127,19 +169,20 @@ fn classes_of(alloc: Global, old: &Policy, new: &Policy) -> Result<Vec<Label>, A
     labels_of(alloc, &names)
 }
 
-/// The names that two policies speak of: of clerks those in rules and the members of groups, of
-/// maildrops and classes those in rules. Each stands once, in the order of its octets, and the last
-/// of each kind stands for all that are named nowhere. An `Err` is want of memory.
-pub fn names_of(alloc: Global, old: &Policy, new: &Policy) -> Result<Names, AllocError>
+/// The names that two policies speak of and that a store has: of clerks those in rules, the members
+/// of groups and the store's, of maildrops those in rules and the store's, of classes those in
+/// rules. Each stands once, in the order of its octets, and the last of each kind stands for all
+/// others. An `Err` is want of memory.
+pub fn names_of(alloc: Global, old: &Policy, new: &Policy, kept: &Kept) -> Result<Names, AllocError>
     ensures clerks { IfOk result (λ names. names.clerks.items
-        ≡ labels (clerks_in old.now ++ clerks_in new.now)) }
+        ≡ labels (clerks_in old.now ++ clerks_in new.now ++ kept.now.clerks)) }
     ensures maildrops { IfOk result (λ names. names.maildrops.items
-        ≡ labels (maildrops_in old.now ++ maildrops_in new.now)) }
+        ≡ labels (maildrops_in old.now ++ maildrops_in new.now ++ kept.now.maildrops)) }
     ensures classes { IfOk result (λ names. names.classes.items
         ≡ labels (classes_in old.now ++ classes_in new.now)) }
 {
-    let clerks = clerks_of(alloc, old, new)?;
-    let maildrops = maildrops_of(alloc, old, new)?;
+    let clerks = clerks_of(alloc, old, new, &kept.clerks)?;
+    let maildrops = maildrops_of(alloc, old, new, &kept.maildrops)?;
     let classes = classes_of(alloc, old, new)?;
     Ok(Names {
         clerks,

@@ -1,6 +1,6 @@
 //! What a review prints.
 ghost use Rattle.std.specs.Prelude.{◌≡◌, ◌++◌, IfOk, OnOk};
-ghost use Rattle.review.specs.Review.{against_text, change_text, changes_of, chosen, classes_of, clerks_of, has_lines, is_narrow, maildrops_of, plain_text, review_text, rules_text, who_text};
+ghost use Rattle.review.specs.Review.{against_text, change_text, changes_of, chosen, classes_of, clerks_of, has_lines, is_narrow, maildrops_of, missing_text, plain_text, review_text, rules_text, stored_text, who_text};
 ghost use Rattle.review.specs.declared.rows.Format.TheVariants.{Csv};
 ghost use Rattle.review.specs.Differences.{questions};
 ghost use Rattle.review.specs.Questions.{columns};
@@ -10,7 +10,8 @@ use crate::changes::{Names, differences};
 use crate::choice::Choice;
 use crate::covers::covered;
 use crate::label::Label;
-use crate::names::names_of;
+use crate::names::{Kept, names_of};
+use crate::notes::missing;
 use crate::rows::{Format, answers};
 use crate::table::tables;
 use creds::Name;
@@ -30,21 +31,22 @@ fn chosen(alloc: Global, one: &Option<Name>, all: Vec<Label>) -> Result<Vec<Labe
     }
 }
 
-/// The names that a review of two policies speaks of: of clerks and of maildrops the one that is
-/// chosen, where one is, else all that `names_of` has. An `Err` is want of memory.
+/// The names that a review of two policies beside a store speaks of: of clerks and of maildrops the
+/// one that is chosen, where one is, else all that `names_of` has. An `Err` is want of memory.
 pub fn names_for(
     alloc: Global,
     old: &Policy,
     new: &Policy,
+    kept: &Kept,
     choice: &Choice,
 ) -> Result<Names, AllocError>
     ensures clerks { IfOk result (λ names. names.clerks.items
-        ≡ clerks_of choice.now old.now new.now) }
+        ≡ clerks_of choice.now old.now new.now kept.now) }
     ensures maildrops { IfOk result (λ names. names.maildrops.items
-        ≡ maildrops_of choice.now old.now new.now) }
+        ≡ maildrops_of choice.now old.now new.now kept.now) }
     ensures classes { IfOk result (λ names. names.classes.items ≡ classes_of old.now new.now) }
 {
-    let all = names_of(alloc, old, new)?;
+    let all = names_of(alloc, old, new, kept)?;
     let clerks = chosen(alloc, &choice.clerk, all.clerks)?;
     let maildrops = chosen(alloc, &choice.maildrop, all.maildrops)?;
     Ok(Names {
@@ -128,29 +130,71 @@ fn put_change(out: &mut Vec<u8>, format: Format, lines: &[u8]) -> Result<(), All
 pub fn review_policy(alloc: Global, policy: &Policy, choice: &Choice) -> Result<Vec<u8>, AllocError>
     ensures { IfOk result (λ text. text.items ≡ review_text choice.now policy.now) }
 {
-    let names = names_for(alloc, policy, policy, choice)?;
+    let names = names_for(alloc, policy, policy, &Kept::nobody(alloc), choice)?;
     let mut text = who(alloc, policy, &names, choice)?;
     put_rules(&mut text, choice.format, policy)?;
     Ok(text)
 }
 
+fn put_notes(
+    out: &mut Vec<u8>,
+    format: Format,
+    policy: &Policy,
+    kept: &Kept,
+) -> Result<(), AllocError>
+    ensures { OnOk result (out.new.items
+        ≡ out.old.items ++ missing_text format policy.now kept.now) }
+{
+    match format {
+        Format::Text => {
+            let lines = missing(*out.allocator(), policy, kept)?;
+            out.extend_from_slice(&lines)
+        }
+        Format::Csv => Ok(()),
+    }
+}
+
 /// The review of a policy against the old one: who may do what by the new one, then what the new
 /// one changes, or `no decision differs`, and then the new one's rules that never decide; as CSV
-/// the first of these alone. With it comes whether a decision differs. An `Err` is want of memory.
+/// the first of these alone. It speaks of the names of both, and of those that are kept. With it
+/// comes whether a decision differs. An `Err` is want of memory.
 pub fn review_against(
     alloc: Global,
     old: &Policy,
     new: &Policy,
+    kept: &Kept,
     choice: &Choice,
 ) -> Result<(Vec<u8>, bool), AllocError>
-    ensures text { IfOk result (λ told. told.0.items ≡ against_text choice.now old.now new.now) }
+    ensures text { IfOk result (λ told. told.0.items
+        ≡ against_text choice.now old.now new.now kept.now) }
     ensures differ { IfOk result (λ told. told.1
-        ≡ has_lines (changes_of choice.now old.now new.now)) }
+        ≡ has_lines (changes_of choice.now old.now new.now kept.now)) }
 {
-    let names = names_for(alloc, old, new, choice)?;
+    let names = names_for(alloc, old, new, kept, choice)?;
     let lines = differences(alloc, old, new, &names)?;
     let mut text = who(alloc, new, &names, choice)?;
     put_change(&mut text, choice.format, &lines)?;
     put_rules(&mut text, choice.format, new)?;
     Ok((text, !lines.is_empty()))
+}
+
+/// The review of a policy against the old one, beside a store that has these clerks and maildrops:
+/// as `review_against` has it, and then, but for CSV, a note for whatever the new policy speaks of
+/// and the store doesn't have. With it comes whether a decision differs. An `Err` is want of
+/// memory.
+pub fn review_stored(
+    alloc: Global,
+    old: &Policy,
+    new: &Policy,
+    kept: &Kept,
+    choice: &Choice,
+) -> Result<(Vec<u8>, bool), AllocError>
+    ensures text { IfOk result (λ told. told.0.items
+        ≡ stored_text choice.now old.now new.now kept.now) }
+    ensures differ { IfOk result (λ told. told.1
+        ≡ has_lines (changes_of choice.now old.now new.now kept.now)) }
+{
+    let (mut text, differ) = review_against(alloc, old, new, kept, choice)?;
+    put_notes(&mut text, choice.format, new, kept)?;
+    Ok((text, differ))
 }

@@ -9,8 +9,5 @@ not_both : (known : Option (List ℕ)) (policy : Policy) (A : Type 0) → IfSome
 not_both None policy A h = tt
 not_both (Some octets) policy A h = λ none. absurd (none policy h)
 
-pub returns-in-Ok-clause-faulty : goal.returns-in-Ok-clause-faulty
-returns-in-Ok-clause-faulty g c = not_both (g.R.Read.remaining c.args.file.now) _ _ c.in_ok-policy.ensures.ok
-
 pub returns-clause-faulty : goal.returns-clause-faulty
 returns-clause-faulty g c = not_both (g.R.Read.remaining c.args.file.now) _ _ c.in_ok-policy.ensures.ok

@@ -18,4 +18,6 @@ returns c =
     let all : c.add_maildrops-2.new.names.keys ≡ put_names [] (xs ++ ys) =
     c.in_ok-add_maildrops-2.ensures ∙ ap (λ (rs : List Rule). put_names c.add_maildrops.new.names.keys (names rs)) c.rules-2.ensures.value
     ∙ both_parts [] c.add_maildrops.new.names.keys xs ys first in
-    subst (λ (ks : List (List ℕ)). IfOk c.labels_of.result (λ labels. labels.items ≡ map Named ks ++ Others ∷ [])) all c.labels_of.ensures
+    let with_kept : c.add_names.new.names.keys ≡ put_names [] (xs ++ ys ++ c.args.kept.now) =
+    c.in_ok-add_names.ensures ∙ both_parts [] c.add_maildrops-2.new.names.keys (xs ++ ys) c.args.kept.now all in
+    subst (λ (ks : List (List ℕ)). IfOk c.labels_of.result (λ labels. labels.items ≡ map Named ks ++ Others ∷ [])) with_kept c.labels_of.ensures

@@ -1,0 +1,119 @@
+//! Which rules of a new policy say what a rule of the old one said under another name.
+ghost use Rattle.std.specs.Prelude.{◌≡◌, ◌<◌, ◌++◌, ◌&&◌, not, Some, IfOk, IfSome, OnOk, length, slice_get};
+ghost use Rattle.std.specs.List.{position};
+ghost use Rattle.review.specs.Renames.{has_rule, renamed_from, renamed_lines, renamed_text, said_before, same_effect, says_same, was_at, was_line, was_words};
+
+use crate::covers::{put_rule, rule_covers};
+use crate::label::put;
+use creds::Name;
+use policy::{Effect, Group, Policy, Rule};
+use std::alloc::{AllocError, Global};
+
+fn has_rule(rules: &[Rule], name: &Name) -> bool
+    ensures { result ≡ has_rule rules.now name.now }
+{
+    rules.iter().any(|rule| rule.name == *name)
+}
+
+fn same_effect(was: Effect, is: Effect) -> bool
+    ensures { result ≡ same_effect was is }
+{
+    match was {
+        Effect::Allow => matches!(is, Effect::Allow),
+        Effect::Deny => matches!(is, Effect::Deny),
+    }
+}
+
+fn says_same(groups: &[Group], was: &Rule, is: &Rule) -> bool
+    ensures { result ≡ says_same groups.now was.now is.now }
+{
+    same_effect(was.effect, is.effect)
+        && rule_covers(groups, was, is)
+        && rule_covers(groups, is, was)
+}
+
+fn said_before(groups: &[Group], olds: &[Rule], news: &[Rule], is: &Rule) -> Option<usize>
+    ensures { result ≡ position (λ was. says_same groups.now was is.now
+        && not (has_rule news.now was.name)) olds.now }
+{
+    olds.iter().position(|was| says_same(groups, was, is) && !has_rule(news, &was.name))
+}
+
+/// The place of the old rule that this one was, where it got another name.
+fn renamed_from(old: &Policy, new: &Policy, is: &Rule) -> Option<usize>
+    ensures first { result ≡ renamed_from old.now new.now is.now }
+    ensures placed { IfSome result (λ was. was < length old.now.rules) }
+{
+    if has_rule(old.rules(), &is.name) {
+        return None;
+    }
+    said_before(new.groups(), old.rules(), new.rules(), is)
+}
+
+#[tactic(auto, unfolding(crate::specs::Renames::was_words))]
+fn put_was_words(
+    out: &mut Vec<u8>,
+    olds: &[Rule],
+    news: &[Rule],
+    was: usize,
+    is: usize,
+) -> Result<(), AllocError>
+    requires placed { was < length olds.now }
+    requires here { is < length news.now }
+    ensures { OnOk result (out.new.items ≡ out.old.items ++ was_words olds.now news.now was is) }
+{
+    put_rule(out, news, is)?;
+    put(out, b" was ")?;
+    put_rule(out, olds, was)?;
+    put(out, b"\n")
+}
+
+fn put_was_line(
+    out: &mut Vec<u8>,
+    olds: &[Rule],
+    news: &[Rule],
+    was: usize,
+    is: usize,
+) -> Result<(), AllocError>
+    requires placed { was < length olds.now }
+    requires here { is < length news.now }
+    ensures { OnOk result (out.new.items
+        ≡ out.old.items ++ was_line olds.now news.now is (Some was)) }
+{
+    put(out, b"note: ")?;
+    put_was_words(out, olds, news, was, is)
+}
+
+/// Appends the line of the rule at a place, where it was another.
+fn put_renamed(
+    out: &mut Vec<u8>,
+    old: &Policy,
+    new: &Policy,
+    place: usize,
+) -> Result<(), AllocError>
+    requires { place < length new.now.rules }
+    ensures { OnOk result (out.new.items ≡ out.old.items ++ was_line old.now.rules new.now.rules
+        place (was_at old.now new.now (slice_get new.now.rules place))) }
+{
+    let Some(is) = new.rules().get(place) else {
+        return Ok(());
+    };
+    match renamed_from(old, new, is) {
+        Some(was) => put_was_line(out, old.rules(), new.rules(), was, place),
+        None => Ok(()),
+    }
+}
+
+/// The text of the rules that only got another name: a line for each rule of the new policy whose
+/// name no old rule has, where an old rule, whose name no new rule has, matches the same by the new
+/// groups and decides the same. It names both rules and their numbers, counted from 1. An `Err` is
+/// want of memory.
+pub fn renamed(alloc: Global, old: &Policy, new: &Policy) -> Result<Vec<u8>, AllocError>
+    ensures { IfOk result (λ text. text.items ≡ renamed_text old.now new.now) }
+{
+    let mut text = Vec::new(alloc);
+    for place in 0..new.len() {
+        put_renamed(&mut text, old, new, place)?;
+    }
+    Ok(text)
+}
