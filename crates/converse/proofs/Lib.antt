@@ -14,3 +14,5 @@ pub mod Reading
 pub mod Running
 pub mod Playing
 pub mod Stopping
+pub mod Exporting
+pub mod Checking

@@ -10,3 +10,5 @@ pub mod Script
 pub mod Runs
 pub mod Played
 pub mod Reviewed
+pub mod Exported
+pub mod Checked

@@ -12,7 +12,7 @@ use Rattle.office.specs.Trace.{is_open}
 use Rattle.converse.specs.Escapes.{escaped}
 use Rattle.converse.specs.FaultNames.{store_fault_name, talk_fault_name}
 use Rattle.converse.specs.declared.fault.Fault.{Fault}
-use Rattle.converse.specs.declared.fault.Fault.TheVariants.{CannotRead, BadEvent, BadHost, Store, Talk, NoPolicy, NoClock, CannotWrite, OutOfMemory}
+use Rattle.converse.specs.declared.fault.Fault.TheVariants.{CannotRead, BadEvent, BadHost, Store, Talk, NoPolicy, NoClock, CannotPut, CannotWrite, OutOfMemory}
 
 -- the text of a fault; of a policy's fault its own, of a store's and of a conversation's its name
 abbrev pub fault_text : Fault → List ℕ
@@ -23,6 +23,7 @@ fault_text (Store f) = store_fault_name f
 fault_text (Talk f) = talk_fault_name f
 fault_text (NoPolicy f) = policy_fault_text f
 fault_text NoClock = codes "cannot read clock"
+fault_text CannotPut = codes "cannot write file"
 fault_text CannotWrite = codes "cannot write"
 fault_text OutOfMemory = codes "out of memory"
 

@@ -34,6 +34,8 @@ pub enum Fault {
     NoPolicy(PolicyFault),
     /// The clock can't be read.
     NoClock,
+    /// A file can't be put into a folder.
+    CannotPut,
     /// Standard output refuses octets.
     CannotWrite,
     /// Memory ran out.
@@ -52,6 +54,7 @@ impl fmt::Display for Fault {
             Fault::Talk(fault) => f.write_str(talk_fault_text(fault)),
             Fault::NoPolicy(fault) => write!(f, "{fault}"),
             Fault::NoClock => f.write_str("cannot read clock"),
+            Fault::CannotPut => f.write_str("cannot write file"),
             Fault::CannotWrite => f.write_str("cannot write"),
             Fault::OutOfMemory => f.write_str("out of memory"),
         }
@@ -143,6 +146,17 @@ pub fn read_fault(error: &io::Error) -> Fault
     match error.kind() {
         ErrorKind::OutOfMemory => Fault::OutOfMemory,
         _ => Fault::CannotRead,
+    }
+}
+
+/// What a folder's refusal of a file is told as.
+pub fn put_fault(error: &io::Error) -> Fault
+    ensures memory { (result ≡ Fault.OutOfMemory) ↔ (error_kind error.now ≡ ErrorKind.OutOfMemory) }
+    ensures cause { (result ≡ Fault.CannotPut) ⊎ (result ≡ Fault.OutOfMemory) }
+{
+    match error.kind() {
+        ErrorKind::OutOfMemory => Fault::OutOfMemory,
+        _ => Fault::CannotPut,
     }
 }
 

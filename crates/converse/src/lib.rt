@@ -1,13 +1,15 @@
 //! What runs over readers and writers: one conversation of a client over an office, and the law on
 //! what it removes; and the runs that popbox's program makes: a script of events, a conversation
-//! over a store, and the check of a policy's file.
+//! over a store, the check of a policy's file, the check of a store, and the export of a maildrop.
 #![tactic(auto)]
 
 ghost use Rattle.converse.specs.Escapes.{IsReadBack};
 ghost use Rattle.converse.specs.Talk.{RemovesByQuitAlone};
 
 pub mod check_policy;
+pub mod check_store;
 mod conversation;
+pub mod export;
 mod fault;
 mod fields;
 pub mod replay;
@@ -16,7 +18,7 @@ pub mod script;
 pub mod talking;
 
 pub use conversation::{TalkFault, talk};
-pub use fault::{Fault, fault_text, read_fault, tell_fault};
+pub use fault::{Fault, fault_text, put_fault, read_fault, tell_fault};
 
 /// A conversation removes what its QUIT removes, and nothing else.
 pub fn removes_by_quit_alone()

@@ -1,0 +1,183 @@
+-- What a contract of an export needs of the contents: the text under a message's key is the message's own.
+use Rattle.std.proofs.Common.{◌≡◌, ◌<◌, ◌≤◌, ◌+◌, ◌==◌, ◌&&◌, ℕ, Bool, true, false, not, List, [], ◌∷◌, ◌++◌, length, take, drop, get_or, map, refl, subst, sym, ◌∙◌, ap, ap₂, append_assoc, append-nil, zero, suc, cond, arith, Option, None, Some, Result, Ok, Err, true≢false, take_all}
+use Rattle.std.proofs.lemmas.List.{take_more, take-map, map-append, length-map}
+use Rattle.std.proofs.lemmas.Bool.{and_parts, or_parts, eq-eqb}
+use Rattle.std.specs.Prelude.{unwrap_or, filter, is_ok, if◌then◌else◌}
+use Rattle.std.specs.List.{All, list_any, find}
+use Rattle.std.specs.Option.{option_map}
+use Rattle.std.specs.Str.{bytes_eq}
+use Rattle.policy.specs.Policy.{are_distinct}
+use Rattle.vault.specs.declared.answer.Head.{Head}
+use Rattle.vault.specs.declared.fault.VaultFault.{VaultFault}
+use Rattle.vault.specs.declared.record.Keyed.{Keyed}
+use Rattle.vault.specs.Calls.{text_under}
+use Rattle.vault.specs.Changes.{Contents, AreSound, head_of, heads, kept_in}
+use Rattle.converse.specs.Exported.{File, file_name, file_of, files_of, file_under, IsFront, IsMeasured, Takes, TakesFirst}
+
+-- A loop over a vault kept what was held and that it was clean, and of what was held this holds.
+pub record Stays {V : Type 0} (Holds : V → Contents → Type 0) (IsClean : V → Type 0) (before now : V) (P : Contents → Type 0) : Type 0 where
+  pub clean : IsClean now → IsClean before
+  pub held : (c : Contents) → Holds before c → IsClean now → Holds now c
+  pub so : (c : Contents) → Holds before c → IsClean now → P c
+
+-- ---- what a folder takes
+
+pub takes_none : (a : Option (List File)) → Takes a a []
+takes_none None = tt
+takes_none (Some x) = sym (append-nil x)
+
+pub takes_then : (a b d : Option (List File)) (fs gs : List File) → Takes a b fs → Takes b d gs → Takes a d (fs ++ gs)
+takes_then None b d fs gs p q = tt
+takes_then (Some x) None d fs gs p q = absurd p
+takes_then (Some x) (Some y) None fs gs p q = absurd q
+takes_then (Some x) (Some y) (Some z) fs gs p q = q ∙ ap (λ l. l ++ gs) p ∙ append_assoc x fs gs
+
+-- the files of the first heads, and that of the next one
+pub takes_more : (f : Head → File) (hs : List Head) (i : ℕ) (h : Head) (a b d : Option (List File)) → i < length hs → h ≡ get_or hs i h
+    → Takes a b (map f (take i hs)) → Takes b d (f h ∷ []) → Takes a d (map f (take (i + 1) hs))
+takes_more f hs i h a b d l is p q =
+    let more : take (i + 1) hs ≡ take i hs ++ h ∷ [] = take_more hs i h l ∙ ap (λ (x : Head). take i hs ++ x ∷ []) (sym is) in
+    subst (λ (xs : List Head). Takes a d (map f xs)) (sym more)
+    (subst (λ (fs : List File). Takes a d fs) (sym (map-append f (take i hs) (h ∷ []))) (takes_then a b d (map f (take i hs)) (f h ∷ []) p q))
+
+-- those of all heads, once none is left
+pub takes_all : (f : Head → File) (hs : List Head) (i : ℕ) (a b : Option (List File)) → length hs ≤ i → Takes a b (map f (take i hs)) → Takes a b (map f hs)
+takes_all f hs i a b l p = subst (λ (xs : List Head). Takes a b (map f xs)) (take_all i hs l) p
+
+-- those of the first ones, and no other
+pub takes_first : (f : Head → File) (hs : List Head) (i : ℕ) (a b d : Option (List File)) → Takes a b (map f (take i hs)) → Takes b d [] → TakesFirst a d (map f hs)
+takes_first f hs i a b d p q =
+    (i, subst (λ (fs : List File). Takes a d fs) (append-nil (map f (take i hs)) ∙ sym (take-map f i hs)) (takes_then a b d (map f (take i hs)) [] p q))
+
+pub takes_whole : (a b : Option (List File)) (fs : List File) → Takes a b fs → TakesFirst a b fs
+takes_whole a b fs p = (length fs, subst (λ (gs : List File). Takes a b gs) (sym (take_all (length fs) fs (omega arith))) p)
+
+-- ---- the front of a text
+
+pub front_then : (xs ys text : List ℕ) → IsFront xs text → ys ≡ take (length ys) (drop (length xs) text) → IsFront (xs ++ ys) text
+front_then [] ys text e f = f
+front_then (x ∷ xs) ys [] e f = let n = ap length e in absurd (omega (arith, n))
+front_then (x ∷ xs) ys (t ∷ text) e f =
+    ap₂ (λ (h : ℕ) (l : List ℕ). h ∷ l) (ap (λ (l : List ℕ). get_or l 0 x) e) (front_then xs ys text (ap (λ (l : List ℕ). drop 1 l) e) f)
+
+pub whole_text : (xs text : List ℕ) (n : ℕ) → n ≡ length text → IsFront xs text → n ≤ length xs → xs ≡ text
+whole_text xs text n e f l = f ∙ take_all (length xs) text (omega (arith, e, l))
+
+-- the next octets stand behind the front that was read
+pub front_more : (old new more ys text : List ℕ) (from : ℕ) → from ≡ length old → new ≡ old ++ more → more ≡ ys → ys ≡ take (length ys) (drop from text)
+    → IsFront old text → IsFront new text
+front_more old new more ys text from at is same next front =
+    subst (λ (xs : List ℕ). IsFront xs text) (sym (is ∙ ap (λ (xs : List ℕ). old ++ xs) same))
+    (front_then old ys text front (subst (λ (n : ℕ). ys ≡ take (length ys) (drop n text)) at next))
+
+-- ---- what a vault answers
+
+abbrev heads_or_none : Result (List Head) VaultFault → List Head
+heads_or_none (Ok hs) = hs
+heads_or_none (Err e) = []
+
+-- heads are answered of a maildrop that is there
+pub heads_answered : (b : Bool) (hs xs : List Head) (e : VaultFault) → ◌≡◌ {A = Result (List Head) VaultFault} (if b then Ok hs else Err e) (Ok xs) → (b ≡ true) × (xs ≡ hs)
+heads_answered true hs xs e h = (refl, sym (ap heads_or_none h))
+heads_answered false hs xs e h = absurd (true≢false (sym (ap is_ok h)))
+
+-- ---- each element of a list, by recursion
+
+abbrev pub Each : {A : Type 0} → (A → Type 0) → List A → Type 0
+Each P [] = Unit {0}
+Each P (x ∷ xs) = P x × Each P xs
+
+pub all_each : {A : Type 0} (P : A → Type 0) (xs : List A) → Each P xs → All P xs
+all_each P [] e k d l = absurd (omega (arith, l))
+all_each P (x ∷ xs) e zero d l = e.0
+all_each P (x ∷ xs) e (suc k) d l = all_each P xs e.1 k d (omega (arith, l))
+
+keep : {A : Type 0} (P : A → Type 0) (b : Bool) (x : A) (xs : List A) → P x → Each P xs → Each P (if b then x ∷ xs else xs)
+keep P true x xs h e = (h, e)
+keep P false x xs h e = e
+
+each_filter : {A : Type 0} (P : A → Type 0) (p : A → Bool) (xs : List A) → Each P xs → Each P (filter p xs)
+each_filter P p [] e = tt
+each_filter P p (x ∷ xs) e = keep P (p x) x (filter p xs) e.0 (each_filter P p xs e.1)
+
+all_then : {A : Type 0} (P : A → Type 0) (xs : List A) (x : A) → All P xs → P x → All P (xs ++ x ∷ [])
+all_then P [] x a p zero d l = p
+all_then P [] x a p (suc k) d l = absurd (omega (arith, l))
+all_then P (y ∷ ys) x a p zero d l = a 0 d (omega arith)
+all_then P (y ∷ ys) x a p (suc k) d l = all_then P ys x (λ n e m. a (suc n) e (omega (arith, m))) p k d (omega (arith, l))
+
+pub all_more : {A : Type 0} (P : A → Type 0) (xs : List A) (i : ℕ) (x : A) → i < length xs → x ≡ get_or xs i x → All P (take i xs) → P x → All P (take (i + 1) xs)
+all_more {A} P xs i x l is a p =
+    subst (λ (ys : List A). All P ys) (sym (take_more xs i x l ∙ ap (λ (y : A). take i xs ++ y ∷ []) (sym is))) (all_then P (take i xs) x a p)
+
+pub at_index : {A : Type 0} (P : A → Type 0) (xs : List A) (i : ℕ) (x : A) → i < length xs → x ≡ get_or xs i x → All P xs → P x
+at_index {A} P xs i x l is a = subst (λ (y : A). P y) (sym is) (a i x l)
+
+-- ---- the text under a key
+
+find_at : (x : Keyed) (b : Bool) (o : Option Keyed) → b ≡ true → cond b (Some x) o ≡ Some x
+find_at x true o e = refl
+find_at x false o e = absurd (true≢false (sym e))
+
+find_past : (y : Keyed) (b : Bool) (o : Option Keyed) → b ≡ false → cond b (Some y) o ≡ o
+find_past y true o e = absurd (true≢false e)
+find_past y false o e = refl
+
+not_true : (b : Bool) → not b ≡ true → b ≡ false
+not_true true e = absurd (true≢false (sym e))
+not_true false e = refl
+
+-- a message is found under its key in these
+abbrev Found : List Keyed → Keyed → Type 0
+Found all x = find (λ (y : Keyed). y.key == x.key) all ≡ Some x
+
+past : (x : Keyed) (all zs : List Keyed) → list_any (λ (z : Keyed). x.key == z.key) zs ≡ false → Each (Found all) zs → Each (Found (x ∷ all)) zs
+past x all [] none e = tt
+past x all (z ∷ zs) none e =
+    let r = or_parts (x.key == z.key) (list_any (λ (z : Keyed). x.key == z.key) zs) none in
+    (find_past x (x.key == z.key) (find (λ (y : Keyed). y.key == z.key) all) r.0 ∙ e.0, past x all zs r.1 e.1)
+
+found : (xs : List Keyed) → are_distinct (λ (x y : Keyed). x.key == y.key) xs ≡ true → Each (Found xs) xs
+found [] d = tt
+found (x ∷ xs) d =
+    let r = and_parts (not (list_any (λ (z : Keyed). x.key == z.key) xs)) (are_distinct (λ (x y : Keyed). x.key == y.key) xs) d in
+    let none = not_true (list_any (λ (z : Keyed). x.key == z.key) xs) r.0 in
+    (find_at x (x.key == x.key) (find (λ (y : Keyed). y.key == x.key) xs) (eq-eqb x.key x.key refl), past x xs xs none (found xs r.1))
+
+-- the text under a message's key is its own
+abbrev HasOwn : List Keyed → Keyed → Type 0
+HasOwn all x = text_under x.key all ≡ x.message.text
+
+owned : (all xs : List Keyed) → Each (Found all) xs → Each (HasOwn all) xs
+owned all [] e = tt
+owned all (x ∷ xs) e = (ap (λ (o : Option Keyed). unwrap_or (option_map (λ (y : Keyed). y.message.text) o) []) e.0, owned all xs e.1)
+
+own_in : (d : List ℕ) (c : Contents) → AreSound c → Each (HasOwn c.messages) (kept_in d c.messages)
+own_in d c sound = each_filter (HasOwn c.messages) (λ (x : Keyed). bytes_eq x.message.maildrop d) c.messages (owned c.messages c.messages (found c.messages sound.keys))
+
+-- ---- a maildrop's heads
+
+measured : (c : Contents) (xs : List Keyed) → Each (HasOwn c.messages) xs → Each (IsMeasured c) (map head_of xs)
+measured c [] e = tt
+measured c (x ∷ xs) e = (ap (λ (t : List ℕ). length t) (sym e.0), measured c xs e.1)
+
+pub heads_measured : (d : List ℕ) (c : Contents) → AreSound c → All (IsMeasured c) (heads d c)
+heads_measured d c sound = all_each (IsMeasured c) (heads d c) (measured c (kept_in d c.messages) (own_in d c sound))
+
+same_files : (c : Contents) (xs : List Keyed) → Each (HasOwn c.messages) xs → map (file_under c) (map head_of xs) ≡ map file_of xs
+same_files c [] e = refl
+same_files c (x ∷ xs) e = ap₂ (λ (t : List ℕ) (fs : List File). record { name = file_name x.message.class x.message.k; octets = t } ∷ fs) e.0 (same_files c xs e.1)
+
+pub files_by_heads : (d : List ℕ) (c : Contents) → AreSound c → map (file_under c) (heads d c) ≡ files_of d c
+files_by_heads d c sound = same_files c (kept_in d c.messages) (own_in d c sound)
+
+-- heads that a vault answered
+pub items_measured : (d : List ℕ) (c : Contents) (hs : List Head) → AreSound c → hs ≡ heads d c → All (IsMeasured c) hs
+items_measured d c hs sound same = subst (λ (xs : List Head). All (IsMeasured c) xs) (sym same) (heads_measured d c sound)
+
+pub files_put : (d : List ℕ) (c : Contents) (hs : List Head) → AreSound c → hs ≡ heads d c → map (file_under c) hs ≡ files_of d c
+files_put d c hs sound same = ap (λ (xs : List Head). map (file_under c) xs) same ∙ files_by_heads d c sound
+
+pub count_put : (d : List ℕ) (c : Contents) (hs : List Head) (n : ℕ) → n ≡ length hs → hs ≡ heads d c → n ≡ length (files_of d c)
+count_put d c hs n is same =
+    is ∙ ap (λ (xs : List Head). length xs) same ∙ length-map head_of (kept_in d c.messages) ∙ sym (length-map file_of (kept_in d c.messages))

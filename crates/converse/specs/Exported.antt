@@ -1,0 +1,53 @@
+-- The files that an export puts into a folder: a maildrop's messages, the oldest first.
+use Rattle.std.specs.Prelude.{◌≡◌, ℕ, ⊤, List, ◌++◌, length, map, take, Option, None, Some, codes}
+use Rattle.std.specs.Fmt.{decimal}
+use Rattle.creds.specs.Uid.{uid_text}
+use Rattle.vault.specs.declared.answer.Head.{Head}
+use Rattle.vault.specs.declared.record.Keyed.{Keyed}
+use Rattle.vault.specs.Calls.{text_under}
+use Rattle.vault.specs.Changes.{Contents, kept_in}
+
+-- a file: its name and its octets
+pub record File : Type 0 where
+  pub name : List ℕ
+  pub octets : List ℕ
+
+-- the name of a message's file: its unique-id, as UIDL gives it, and `.eml`
+abbrev pub file_name : (class : List ℕ) → (k : ℕ) → List ℕ
+file_name class k = uid_text (record { class = class; k = k }) ++ codes ".eml"
+
+-- a message as a file: its text in the kept form, each line with its CRLF, as RETR sends it before dots are added
+abbrev pub file_of : Keyed → File
+file_of x = record { name = file_name x.message.class x.message.k; octets = x.message.text }
+
+-- a maildrop's messages as files, in order of arrival
+abbrev pub files_of : (maildrop : List ℕ) → Contents → List File
+files_of d c = map file_of (kept_in d c.messages)
+
+-- a folder, where it tells its files, took these behind those that it had taken
+abbrev pub Takes : (before after : Option (List File)) → List File → Type 0
+Takes None after files = ⊤
+Takes (Some had) None files = ⊥
+Takes (Some had) (Some has) files = has ≡ had ++ files
+
+-- it took the first of these files, in their order, and none of the others
+abbrev pub TakesFirst : (before after : Option (List File)) → List File → Type 0
+TakesFirst before after files = (n : ℕ) × Takes before after (take n files)
+
+-- what is printed of so many files
+abbrev pub export_line : ℕ → List ℕ
+export_line n = codes "ok, " ++ decimal n ++ codes " messages\n"
+
+-- ---- message by message
+
+-- octets are the front of a text
+abbrev pub IsFront : (octets text : List ℕ) → Type 0
+IsFront octets text = octets ≡ take (length octets) text
+
+-- the file of a message by its head
+abbrev pub file_under : Contents → Head → File
+file_under c h = record { name = file_name h.class h.k; octets = text_under h.key c.messages }
+
+-- the head tells how many octets lie under its key
+abbrev pub IsMeasured : Contents → Head → Type 0
+IsMeasured c h = h.octets ≡ length (text_under h.key c.messages)

@@ -1,0 +1,175 @@
+//! `popbox export`: puts the messages of a maildrop as files into a folder.
+
+ghost use Rattle.std.specs.Prelude.{◌≡◌, ◌≤◌, ◌<◌, ◌∷◌, [], false, ℕ, length, map, IsErr, IsOk, IfOk, OnOk, OnErr};
+ghost use Rattle.std.specs.List.{All};
+ghost use Rattle.std.specs.Io.KnownBytes.{Appends};
+ghost use Rattle.vault.specs.Records.{is_one_of};
+ghost use Rattle.vault.specs.Calls.{text_under};
+ghost use Rattle.vault.specs.Changes.{Contents};
+ghost use Rattle.converse.specs.Exported.{files_of, Takes, TakesFirst, export_line, IsFront, IsMeasured, file_under};
+
+use crate::fault::{Fault, put_fault, tell_fault};
+use creds::{Name, Uid};
+use std::alloc::Global;
+use std::io;
+use std::io::Write;
+use vault::{Head, MessageKey, Vault, VaultFault};
+
+/// How many octets of a message are read at once.
+const PAGE_OCTETS: usize = 4096;
+
+/// A folder that takes files. Contracts see which files it took, where it tells them: a real folder
+/// doesn't.
+pub trait Folder {
+    ghost use Rattle.std.specs.Prelude.{List, Option};
+    ghost use Rattle.converse.specs.Exported.{File};
+
+    /// The files that it took, in their order.
+    ghost files: { Self → Option (List File) };
+
+    /// Puts a file of this name and these octets into the folder, whole or not at all. Where the
+    /// folder has a file of the name that file stays as it is, and the call is an error.
+    fn put(&mut self, name: &str, octets: &[u8]) -> io::Result<()>
+        ensures put { OnOk result (Takes (files self.old) (files self.new) (record { name = name.now; octets = octets.now } ∷ [])) }
+        ensures refused { OnErr result (Takes (files self.old) (files self.new) []) };
+}
+
+/// Puts each message of a maildrop, the oldest first, as a file into a folder, and prints
+/// `ok, N messages` to `out`, which is flushed. The file's name is the message's unique-id with
+/// `.eml` behind it; its octets are the message's text with CRLF behind each line. Nothing in the
+/// store is changed. One message at a time is in memory.
+///
+/// Gives the exit status, 0 or 1. A fault has status 1 and its text on `err`: there is no such
+/// maildrop, the store refuses, memory runs out, the folder refuses a file, `out` refuses octets.
+/// The files that were put before a fault stay; none is put in part.
+pub fn export<V: Vault, F: Folder, W: Write, E: Write>(
+    alloc: Global,
+    vault: &mut V,
+    maildrop: &Name,
+    folder: &mut F,
+    out: &mut W,
+    err: &mut E,
+) -> u8
+    ensures status { result ≤ 1 }
+    ensures silent { result ≡ 0 → err.new ≡ err.old }
+    ensures whole { result ≡ 0 → (c : Contents) → V.holds vault.old c → V.is_clean vault.new → Takes (F.files folder.old) (F.files folder.new) (files_of maildrop.now c) }
+    ensures told { result ≡ 0 → (c : Contents) → V.holds vault.old c → V.is_clean vault.new → Appends (W.contents out.old) (W.contents out.new) (export_line (length (files_of maildrop.now c))) }
+    ensures part { (c : Contents) → V.holds vault.old c → V.is_clean vault.new → TakesFirst (F.files folder.old) (F.files folder.new) (files_of maildrop.now c) }
+    ensures missing { (c : Contents) → V.holds vault.old c → V.is_clean vault.new → is_one_of maildrop.now c.maildrops ≡ false → result ≡ 1 }
+    ensures held { (c : Contents) → V.holds vault.old c → V.is_clean vault.new → V.holds vault.new c }
+    ensures clean { V.is_clean vault.new → V.is_clean vault.old }
+{
+    match put_maildrop(alloc, vault, maildrop, folder, out) {
+        Ok(()) => 0,
+        Err(fault) => tell_fault(err, fault),
+    }
+}
+
+/// Puts the messages of a maildrop into a folder, and prints how many.
+fn put_maildrop<V: Vault, F: Folder, W: Write>(
+    alloc: Global,
+    vault: &mut V,
+    maildrop: &Name,
+    folder: &mut F,
+    out: &mut W,
+) -> Result<(), Fault>
+    ensures whole { OnOk result ((c : Contents) → V.holds vault.old c → V.is_clean vault.new → Takes (F.files folder.old) (F.files folder.new) (files_of maildrop.now c)) }
+    ensures told { OnOk result ((c : Contents) → V.holds vault.old c → V.is_clean vault.new → Appends (W.contents out.old) (W.contents out.new) (export_line (length (files_of maildrop.now c)))) }
+    ensures part { (c : Contents) → V.holds vault.old c → V.is_clean vault.new → TakesFirst (F.files folder.old) (F.files folder.new) (files_of maildrop.now c) }
+    ensures missing { (c : Contents) → V.holds vault.old c → V.is_clean vault.new → is_one_of maildrop.now c.maildrops ≡ false → IsErr result }
+    ensures held { (c : Contents) → V.holds vault.old c → V.is_clean vault.new → V.holds vault.new c }
+    ensures clean { V.is_clean vault.new → V.is_clean vault.old }
+{
+    let heads = vault.heads(maildrop)?;
+    put_messages(alloc, vault, heads.as_slice(), folder)?;
+    match print_count(out, heads.len()) {
+        Ok(()) => Ok(()),
+        Err(_) => Err(Fault::CannotWrite),
+    }
+}
+
+/// Puts the messages of these heads into a folder, in their order.
+fn put_messages<V: Vault, F: Folder>(
+    alloc: Global,
+    vault: &mut V,
+    heads: &[Head],
+    folder: &mut F,
+) -> Result<(), Fault>
+    ensures whole { OnOk result ((c : Contents) → V.holds vault.old c → V.is_clean vault.new → All (IsMeasured c) heads.now → Takes (F.files folder.old) (F.files folder.new) (map (file_under c) heads.now)) }
+    ensures part { OnErr result ((c : Contents) → V.holds vault.old c → V.is_clean vault.new → All (IsMeasured c) heads.now → TakesFirst (F.files folder.old) (F.files folder.new) (map (file_under c) heads.now)) }
+    ensures held { (c : Contents) → V.holds vault.old c → V.is_clean vault.new → V.holds vault.new c }
+    ensures clean { V.is_clean vault.new → V.is_clean vault.old }
+{
+    for head in heads {
+        put_message(alloc, vault, head, folder)?;
+    }
+    Ok(())
+}
+
+/// Puts the message of a head into a folder.
+fn put_message<V: Vault, F: Folder>(
+    alloc: Global,
+    vault: &mut V,
+    head: &Head,
+    folder: &mut F,
+) -> Result<(), Fault>
+    ensures whole { OnOk result ((c : Contents) → V.holds vault.old c → V.is_clean vault.new → IsMeasured c head.now → Takes (F.files folder.old) (F.files folder.new) (file_under c head.now ∷ [])) }
+    ensures refused { OnErr result (Takes (F.files folder.old) (F.files folder.new) []) }
+    ensures held { (c : Contents) → V.holds vault.old c → V.is_clean vault.new → V.holds vault.new c }
+    ensures clean { V.is_clean vault.new → V.is_clean vault.old }
+{
+    let text = read_text(alloc, vault, head)?;
+    let uid = Uid {
+        class: head.class,
+        k: head.k,
+    };
+    let name = format!(in alloc; "{uid}.eml")?;
+    match folder.put(name.as_str(), text.as_slice()) {
+        Ok(()) => Ok(()),
+        Err(error) => Err(put_fault(&error)),
+    }
+}
+
+/// Reads the whole text of the message of a head.
+fn read_text<V: Vault>(alloc: Global, vault: &mut V, head: &Head) -> Result<Vec<u8>, Fault>
+    ensures text { IfOk result (λ text. (c : Contents) → V.holds vault.old c → V.is_clean vault.new → IsMeasured c head.now → text.items ≡ text_under head.now.key c.messages) }
+    ensures held { (c : Contents) → V.holds vault.old c → V.is_clean vault.new → V.holds vault.new c }
+    ensures clean { V.is_clean vault.new → V.is_clean vault.old }
+{
+    let mut text = Vec::new(alloc);
+    while (text.len() as u64) < head.octets {
+        read_more(vault, head.key, &mut text)?;
+    }
+    Ok(text)
+}
+
+/// Reads the next octets of the message under a key to the end of those that were read, at least
+/// one.
+///
+/// Answers [`Fault::OutOfMemory`] where memory was refused, and [`Fault::Store`] where the store
+/// refused, or gave a page that no clean store gives.
+fn read_more<V: Vault>(vault: &mut V, key: MessageKey, text: &mut Vec<u8>) -> Result<(), Fault>
+    ensures grown { IsOk result → length text.old.items < length text.new.items }
+    ensures front { OnOk result ((c : Contents) → V.holds vault.old c → V.is_clean vault.new → IsFront text.old.items (text_under key c.messages) → IsFront text.new.items (text_under key c.messages)) }
+    ensures held { (c : Contents) → V.holds vault.old c → V.is_clean vault.new → V.holds vault.new c }
+    ensures clean { V.is_clean vault.new → V.is_clean vault.old }
+{
+    let mut page = [0u8; PAGE_OCTETS];
+    let count = vault.page(key, text.len() as u64, &mut page)?;
+    if count == 0 {
+        return Err(Fault::Store(VaultFault::Store));
+    }
+    if count > PAGE_OCTETS {
+        return Err(Fault::Store(VaultFault::Store));
+    }
+    text.extend_from_slice(&page[..count])?;
+    Ok(())
+}
+
+/// Prints how many messages were put.
+fn print_count<W: Write>(out: &mut W, count: usize) -> io::Result<()>
+    ensures { OnOk result (Appends (W.contents out.old) (W.contents out.new) (export_line count)) }
+{
+    writeln!(out, "ok, {count} messages")?;
+    out.flush()
+}
