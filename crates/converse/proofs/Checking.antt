@@ -45,14 +45,13 @@ pub rules_answered : (p q : Policy) → ◌≡◌ {A = Result Policy VaultFault}
 rules_answered p q e = sym (ap count_or_none e)
 
 -- all of it
-pub store_told : (f : StoreFile) (c : Contents) (names : List (List ℕ)) (ts : List Total) (rules : ℕ) (a b d e : Option (List ℕ))
-    → ts ≡ totals (records_of c) → rules ≡ length c.policy.rules → Appends a b (file_lines f ++ flat_map maildrop_line ts)
-    → Appends b d (flat_map (clerk_line c.clerks) names) → Appends d e (last_line ts (length names) rules) → Appends a e (store_text f c names)
-store_told f c names ts rules a b d e same count p q r =
+pub store_told : (f : StoreFile) (c : Contents) (names : List (List ℕ)) (ts us : List Total) (rules : ℕ) (a b d e : Option (List ℕ))
+    → ts ≡ totals (records_of c) → us ≡ totals (records_of c) → rules ≡ length c.policy.rules → Appends a b (file_lines f ++ flat_map maildrop_line ts)
+    → Appends b d (flat_map (clerk_line c.clerks) names) → Appends d e (last_line us (length names) rules) → Appends a e (store_text f c names)
+store_told f c names ts us rules a b d e same other count p q r =
     let all = totals (records_of c) in
     let clerks = flat_map (clerk_line c.clerks) names in
     let front = subst (λ (xs : List Total). Appends a b (file_lines f ++ flat_map maildrop_line xs)) same p in
-    let last = subst (λ (n : ℕ). Appends d e (last_line all (length names) n)) count (subst (λ (xs : List Total). Appends d e (last_line xs (length names) rules)) same r) in
-    subst (λ (xs : List ℕ). Appends a e xs) (append_assoc (file_lines f) (flat_map maildrop_line all) (clerks ++ last_line all (length names) (length c.policy.rules)))
-    (Appends-trans a b e (file_lines f ++ flat_map maildrop_line all) (clerks ++ last_line all (length names) (length c.policy.rules)) front
-    (Appends-trans b d e clerks (last_line all (length names) (length c.policy.rules)) q last))
+    let last = subst (λ (n : ℕ). Appends d e (last_line all (length names) n)) count (subst (λ (xs : List Total). Appends d e (last_line xs (length names) rules)) other r) in
+    Appends-trans a d e (file_lines f ++ flat_map maildrop_line all ++ clerks) (last_line all (length names) (length c.policy.rules))
+    (Appends-trans a b d (file_lines f ++ flat_map maildrop_line all) clerks front q) last

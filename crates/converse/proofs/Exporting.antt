@@ -2,8 +2,9 @@
 use Rattle.std.proofs.Common.{◌≡◌, ◌<◌, ◌≤◌, ◌+◌, ◌==◌, ◌&&◌, ℕ, Bool, true, false, not, List, [], ◌∷◌, ◌++◌, length, take, drop, get_or, map, refl, subst, sym, ◌∙◌, ap, ap₂, append_assoc, append-nil, zero, suc, cond, arith, Option, None, Some, Result, Ok, Err, true≢false, take_all}
 use Rattle.std.proofs.lemmas.List.{take_more, take-map, map-append, length-map}
 use Rattle.std.proofs.lemmas.Bool.{and_parts, or_parts, eq-eqb}
-use Rattle.std.specs.Prelude.{unwrap_or, filter, is_ok, if◌then◌else◌}
+use Rattle.std.specs.Prelude.{OnErr, unwrap_or, filter, is_ok, if◌then◌else◌}
 use Rattle.std.specs.List.{All, list_any, find}
+use Rattle.std.specs.Io.KnownBytes.{Appends}
 use Rattle.std.specs.Option.{option_map}
 use Rattle.std.specs.Str.{bytes_eq}
 use Rattle.policy.specs.Policy.{are_distinct}
@@ -12,7 +13,7 @@ use Rattle.vault.specs.declared.fault.VaultFault.{VaultFault}
 use Rattle.vault.specs.declared.record.Keyed.{Keyed}
 use Rattle.vault.specs.Calls.{text_under}
 use Rattle.vault.specs.Changes.{Contents, AreSound, head_of, heads, kept_in}
-use Rattle.converse.specs.Exported.{File, file_name, file_of, files_of, file_under, IsFront, IsMeasured, Takes, TakesFirst}
+use Rattle.converse.specs.Exported.{File, export_line, file_name, file_of, files_of, file_under, IsFront, IsMeasured, Takes, TakesFirst}
 
 -- A loop over a vault kept what was held and that it was clean, and of what was held this holds.
 pub record Stays {V : Type 0} (Holds : V → Contents → Type 0) (IsClean : V → Type 0) (before now : V) (P : Contents → Type 0) : Type 0 where
@@ -48,6 +49,13 @@ takes_all f hs i a b l p = subst (λ (xs : List Head). Takes a b (map f xs)) (ta
 pub takes_first : (f : Head → File) (hs : List Head) (i : ℕ) (a b d : Option (List File)) → Takes a b (map f (take i hs)) → Takes b d [] → TakesFirst a d (map f hs)
 takes_first f hs i a b d p q =
     (i, subst (λ (fs : List File). Takes a d fs) (append-nil (map f (take i hs)) ∙ sym (take-map f i hs)) (takes_then a b d (map f (take i hs)) [] p q))
+
+-- what holds in any case holds after a fault
+pub faults_first : {A E V : Type 0} (r : Result A E) (Holds : V → Contents → Type 0) (old : V) (Clean : Type 0) (hs : List Head) (a b : Option (List File))
+    → ((c : Contents) → Holds old c → Clean → All (IsMeasured c) hs → TakesFirst a b (map (file_under c) hs))
+    → OnErr r ((c : Contents) → Holds old c → Clean → All (IsMeasured c) hs → TakesFirst a b (map (file_under c) hs))
+faults_first (Ok x) Holds old Clean hs a b h = tt
+faults_first (Err e) Holds old Clean hs a b h = h
 
 pub takes_whole : (a b : Option (List File)) (fs : List File) → Takes a b fs → TakesFirst a b fs
 takes_whole a b fs p = (length fs, subst (λ (gs : List File). Takes a b gs) (sym (take_all (length fs) fs (omega arith))) p)
@@ -180,4 +188,14 @@ files_put d c hs sound same = ap (λ (xs : List Head). map (file_under c) xs) sa
 
 pub count_put : (d : List ℕ) (c : Contents) (hs : List Head) (n : ℕ) → n ≡ length hs → hs ≡ heads d c → n ≡ length (files_of d c)
 count_put d c hs n is same =
-    is ∙ ap (λ (xs : List Head). length xs) same ∙ length-map head_of (kept_in d c.messages) ∙ sym (length-map file_of (kept_in d c.messages))
+    is ∙ ap (λ (xs : List Head). length xs) same ∙ length-map (kept_in d c.messages) head_of ∙ sym (length-map (kept_in d c.messages) file_of)
+
+-- the folder took a maildrop's files where it took those of its heads
+pub files_taken : (d : List ℕ) (c : Contents) (hs : List Head) (a b : Option (List File)) → AreSound c → hs ≡ heads d c → Takes a b (map (file_under c) hs) → Takes a b (files_of d c)
+files_taken d c hs a b sound same p = subst (λ (fs : List File). Takes a b fs) (files_put d c hs sound same) p
+
+pub first_taken : (d : List ℕ) (c : Contents) (hs : List Head) (a b : Option (List File)) → AreSound c → hs ≡ heads d c → TakesFirst a b (map (file_under c) hs) → TakesFirst a b (files_of d c)
+first_taken d c hs a b sound same p = subst (λ (fs : List File). TakesFirst a b fs) (files_put d c hs sound same) p
+
+pub count_told : (d : List ℕ) (c : Contents) (hs : List Head) (n : ℕ) (a b : Option (List ℕ)) → n ≡ length hs → hs ≡ heads d c → Appends a b (export_line n) → Appends a b (export_line (length (files_of d c)))
+count_told d c hs n a b is same p = subst (λ (m : ℕ). Appends a b (export_line m)) (count_put d c hs n is same) p

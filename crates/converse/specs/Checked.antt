@@ -36,11 +36,17 @@ clerk_line clerks name = codes "clerk " ++ name ++ codes " " ++ kind_in (credent
 abbrev pub counted : ℕ → ℕ
 counted n = min n (2 ^ 64 - 1)
 
--- of all: how many maildrops, messages, octets, clerks and rules there are
+-- of all: how many maildrops and messages there are
+abbrev pub counts_front : (maildrops messages : ℕ) → List ℕ
+counts_front maildrops messages = codes "ok, " ++ decimal maildrops ++ codes " maildrops, " ++ decimal messages ++ codes " messages, "
+
+-- and how many octets, clerks and rules
+abbrev pub counts_rest : (octets clerks rules : ℕ) → List ℕ
+counts_rest octets clerks rules = decimal octets ++ codes " octets, " ++ decimal clerks ++ codes " clerks, " ++ decimal rules ++ codes " rules\n"
+
+-- the line of both
 abbrev pub counts_line : (maildrops messages octets clerks rules : ℕ) → List ℕ
-counts_line maildrops messages octets clerks rules =
-    codes "ok, " ++ decimal maildrops ++ codes " maildrops, " ++ decimal messages ++ codes " messages, " ++ decimal octets ++ codes " octets, "
-    ++ decimal clerks ++ codes " clerks, " ++ decimal rules ++ codes " rules\n"
+counts_line maildrops messages octets clerks rules = counts_front maildrops messages ++ counts_rest octets clerks rules
 
 -- of these maildrops
 abbrev pub last_line : List Total → (clerks rules : ℕ) → List ℕ

@@ -6,7 +6,7 @@ ghost use Rattle.std.specs.Io.KnownBytes.{Appends};
 ghost use Rattle.vault.specs.declared.answer.Total.{Total as Sum};
 ghost use Rattle.vault.specs.Records.{credential_in};
 ghost use Rattle.vault.specs.Changes.{Contents};
-ghost use Rattle.converse.specs.Checked.{kind_text, counted, file_lines, maildrop_line, clerk_line, counts_line, last_line, store_text};
+ghost use Rattle.converse.specs.Checked.{kind_text, counted, file_lines, maildrop_line, clerk_line, counts_front, counts_rest, counts_line, last_line, store_text};
 
 use crate::fault::{Fault, tell_fault};
 use creds::{Credential, Name};
@@ -23,10 +23,10 @@ pub struct StoreFile {
     pub octets: u64,
 }
 
-/// Prints what lies in a store, to `out`, which is flushed: the version of its tables and the octets of its file and log;
-/// a line for each maildrop with its messages and their octets, by name; a line for each of these
-/// clerks, in this order, with the kind of credential, `apop` or `pass`; and a last line `ok, ..`
-/// with how many there are. Nothing in the store is changed.
+/// Prints what lies in a store to `out`, which is flushed: the version of its tables; the octets of
+/// its file and log; a line for each maildrop with its messages and their octets, by name; a line
+/// for each of these clerks, in this order, with the kind of credential, `apop` or `pass`; and a
+/// last line `ok, ..` with how many there are. Nothing in the store is changed.
 ///
 /// Gives the exit status, 0 or 1. A fault has status 1 and its text on `err`: the store refuses or
 /// has no such clerk, memory runs out, `out` refuses octets. What was printed before it stays, and
@@ -173,7 +173,26 @@ fn print_counts<W: Write>(
 ) -> io::Result<()>
     ensures { OnOk result (Appends (W.contents out.old) (W.contents out.new) (counts_line maildrops messages octets clerks rules)) }
 {
-    write!(out, "ok, {maildrops} maildrops, {messages} messages, ")?;
+    print_counts_front(out, maildrops, messages)?;
+    print_counts_rest(out, octets, clerks, rules)
+}
+
+/// Prints how many maildrops and messages there are.
+fn print_counts_front<W: Write>(out: &mut W, maildrops: usize, messages: u64) -> io::Result<()>
+    ensures { OnOk result (Appends (W.contents out.old) (W.contents out.new) (counts_front maildrops messages)) }
+{
+    write!(out, "ok, {maildrops} maildrops, {messages} messages, ")
+}
+
+/// Prints how many octets, clerks and rules there are, and ends the line.
+fn print_counts_rest<W: Write>(
+    out: &mut W,
+    octets: u64,
+    clerks: usize,
+    rules: usize,
+) -> io::Result<()>
+    ensures { OnOk result (Appends (W.contents out.old) (W.contents out.new) (counts_rest octets clerks rules)) }
+{
     writeln!(out, "{octets} octets, {clerks} clerks, {rules} rules")
 }
 

@@ -1,5 +1,4 @@
-use Rattle.std.proofs.Common.{◌≡◌, ◌∙◌, ap, sym, rules, List, Result, Ok, Err, []}
-use Rattle.vault.specs.declared.answer.Total.{Total}
+use Rattle.std.proofs.Common.{◌∙◌}
 use Rattle.converse.proofs.Checking.{store_told, totals_answered, rules_answered}
 use Rattle.converse.proofs.check_store.tell_store.Goals as goal
 
@@ -9,6 +8,7 @@ returns-in-Ok-print_last-clause-told g c = λ d h k.
     let k1 = c.in_ok-policy.ensures.clean k2 in
     let first = c.in_ok-totals.ensures.done d h k1 in
     let second = c.in_ok-policy.ensures.done d first.held k2 in
-    store_told c.args.file.now d c.args.clerks.now c.in_ok-totals.totals.items c.len-rules.result _ _ _ _
-    (totals_answered _ _ first.answer) (c.len-rules.ensures.value ∙ rules_answered _ _ second.answer) (search rules)
-    (c.in_ok-tell_clerks.ensures.told d second.held k) (search rules)
+    store_told c.args.file.now d c.args.clerks.now c.as_slice.result.now c.as_slice-2.result.now c.len-rules.result _ _ _ _
+    (c.as_slice.ensures.value ∙ totals_answered _ _ first.answer) (c.as_slice-2.ensures.value ∙ totals_answered _ _ first.answer)
+    (c.len-rules.ensures.value ∙ rules_answered _ _ second.answer) c.in-Ok.ensures
+    (c.in_ok-tell_clerks.ensures.told d second.held k) c.in-Ok-print_last.ensures

@@ -1,5 +1,5 @@
 use Rattle.converse.specs.Exported.{IsMeasured, file_under}
-use Rattle.converse.proofs.Exporting.{at_index, takes_more, takes_all, takes_first}
+use Rattle.converse.proofs.Exporting.{at_index, takes_more, takes_all, takes_first, faults_first}
 use Rattle.converse.proofs.export.put_messages.Goals as goal
 
 pub loop-head-preserved : goal.loop-head-preserved
@@ -19,6 +19,8 @@ returns-clause-whole g c = λ d h k all.
     takes_all (file_under d) c.args.heads.now c.loop-head.head-index _ _ c.loop-head-test.false (c.loop-head.invariant.so d h k all)
 
 pub returns-in_err-put_message-clause-part : goal.returns-in_err-put_message-clause-part
-returns-in_err-put_message-clause-part g c = λ d h k all.
+returns-in_err-put_message-clause-part g c =
     let t = c.in_err-put_message.ensures in
-    takes_first (file_under d) c.args.heads.now c.loop-head.head-index _ _ _ (c.loop-head.invariant.so d h (t.clean k) all) t.refused
+    faults_first c.from_residual.result g.V.Vault.holds c.args.vault.now (g.V.Vault.is_clean c.put_message.new.vault) c.args.heads.now
+    (g.F.Folder.files c.args.folder.now) (g.F.Folder.files c.put_message.new.folder)
+    (λ d h k all. takes_first (file_under d) c.args.heads.now c.loop-head.head-index _ _ _ (c.loop-head.invariant.so d h (t.clean k) all) t.refused)
