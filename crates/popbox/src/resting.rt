@@ -38,17 +38,12 @@ enum Errand<'a> {
 }
 
 /// Why a store isn't opened.
+#[derive(Clone, Copy)]
 enum Closed {
     /// It can't be opened, or is refused.
     Refused(VaultFault),
     /// It is of this older version.
     Older(i64),
-}
-
-impl From<VaultFault> for Closed {
-    fn from(fault: VaultFault) -> Closed {
-        Closed::Refused(fault)
-    }
 }
 
 /// Runs `popbox check`: prints what lies in the store that is named.
@@ -285,6 +280,7 @@ fn export_over<V: Vault, E: Write>(
 }
 
 /// The folder at a path, and what the system answered to its last refusal.
+#[derive(Drop)]
 struct NamedFolder<'a> {
     rt: &'a HostRuntime,
     path: &'a str,

@@ -11,18 +11,18 @@ returns-in_err-put_messages-clause-part g c = λ d h k.
     let k1 = c.in_err-put_messages.ensures.clean k in
     let found = c.in_ok-heads.ensures.done d h k1 in
     let sound = g.met.V.Vault.sound _ d found.held k1 in
-    let same = (heads_answered _ _ _ _ found.answer).1 in
-    first_taken c.args.maildrop.now d c.in_ok-heads.heads.items _ _ sound same
-    (c.in_err-put_messages.ensures.part d found.held k (items_measured c.args.maildrop.now d c.in_ok-heads.heads.items sound same))
+    let same = c.as_slice.ensures.value ∙ (heads_answered _ _ _ _ found.answer).1 in
+    first_taken c.args.maildrop.now d c.as_slice.result.now _ _ sound same
+    (c.in_err-put_messages.ensures.part d found.held k (items_measured c.args.maildrop.now d c.as_slice.result.now sound same))
 
 pub returns-in-Ok-clause-whole : goal.returns-in-Ok-clause-whole
 returns-in-Ok-clause-whole g c = λ d h k.
     let k1 = c.in_ok-put_messages.ensures.clean k in
     let found = c.in_ok-heads.ensures.done d h k1 in
     let sound = g.met.V.Vault.sound _ d found.held k1 in
-    let same = (heads_answered _ _ _ _ found.answer).1 in
-    (files_taken c.args.maildrop.now d c.in_ok-heads.heads.items _ _ sound same
-    (c.in_ok-put_messages.ensures.whole d found.held k (items_measured c.args.maildrop.now d c.in_ok-heads.heads.items sound same)))
+    let same = c.as_slice.ensures.value ∙ (heads_answered _ _ _ _ found.answer).1 in
+    (files_taken c.args.maildrop.now d c.as_slice.result.now _ _ sound same
+    (c.in_ok-put_messages.ensures.whole d found.held k (items_measured c.args.maildrop.now d c.as_slice.result.now sound same)))
 
 pub returns-in-Ok-clause-told : goal.returns-in-Ok-clause-told
 returns-in-Ok-clause-told g c = λ d h k.
@@ -34,9 +34,9 @@ returns-in-Ok-clause-part g c = λ d h k.
     let k1 = c.in_ok-put_messages.ensures.clean k in
     let found = c.in_ok-heads.ensures.done d h k1 in
     let sound = g.met.V.Vault.sound _ d found.held k1 in
-    let same = (heads_answered _ _ _ _ found.answer).1 in
-    takes_whole _ _ (files_of c.args.maildrop.now d) (files_taken c.args.maildrop.now d c.in_ok-heads.heads.items _ _ sound same
-    (c.in_ok-put_messages.ensures.whole d found.held k (items_measured c.args.maildrop.now d c.in_ok-heads.heads.items sound same)))
+    let same = c.as_slice.ensures.value ∙ (heads_answered _ _ _ _ found.answer).1 in
+    takes_whole _ _ (files_of c.args.maildrop.now d) (files_taken c.args.maildrop.now d c.as_slice.result.now _ _ sound same
+    (c.in_ok-put_messages.ensures.whole d found.held k (items_measured c.args.maildrop.now d c.as_slice.result.now sound same)))
 
 pub returns-in-Ok-clause-missing : goal.returns-in-Ok-clause-missing
 returns-in-Ok-clause-missing g c = λ d h k none.
@@ -48,6 +48,6 @@ returns-clause-part g c = λ d h k.
     let k1 = c.in_ok-put_messages.ensures.clean k in
     let found = c.in_ok-heads.ensures.done d h k1 in
     let sound = g.met.V.Vault.sound _ d found.held k1 in
-    let same = (heads_answered _ _ _ _ found.answer).1 in
-    takes_whole _ _ (files_of c.args.maildrop.now d) (files_taken c.args.maildrop.now d c.in_ok-heads.heads.items _ _ sound same
-    (c.in_ok-put_messages.ensures.whole d found.held k (items_measured c.args.maildrop.now d c.in_ok-heads.heads.items sound same)))
+    let same = c.as_slice.ensures.value ∙ (heads_answered _ _ _ _ found.answer).1 in
+    takes_whole _ _ (files_of c.args.maildrop.now d) (files_taken c.args.maildrop.now d c.as_slice.result.now _ _ sound same
+    (c.in_ok-put_messages.ensures.whole d found.held k (items_measured c.args.maildrop.now d c.as_slice.result.now sound same)))
