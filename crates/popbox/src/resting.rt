@@ -56,7 +56,7 @@ pub fn run_check<E: Write>(
     match fs::metadata(rt, path) {
         Ok(file) => {
             let octets = file.len().saturating_add(log_octets(rt, path));
-            run_errand(rt, Errand::Check(octets), path, options, err)
+            run_errand(rt, &Errand::Check(octets), path, options, err)
         }
         Err(error) => Ok(tell_unread(err, is_verbose(options), path, &error)),
     }
@@ -92,14 +92,14 @@ pub fn run_export<E: Write>(
         return Ok(tell_unread(err, is_verbose(options), path, &error));
     }
     let folder = options.get_str("DIR").unwrap_or("");
-    run_errand(rt, Errand::Export(maildrop, folder), path, options, err)
+    run_errand(rt, &Errand::Export(maildrop, folder), path, options, err)
 }
 
 /// Opens the store at a path, and does an errand over it. A store that is refused is told as
 /// `popbox replay` tells it.
 fn run_errand<E: Write>(
     rt: &HostRuntime,
-    errand: Errand<'_>,
+    errand: &Errand<'_>,
     path: &str,
     options: &ArgMatches<'_>,
     err: &mut E,
@@ -152,7 +152,7 @@ fn tell_closed<E: Write>(
 fn run_over_connection<A: Alter + Drop, E: Write>(
     rt: &HostRuntime,
     conn: Connection<A>,
-    errand: Errand<'_>,
+    errand: &Errand<'_>,
     path: &str,
     options: &ArgMatches<'_>,
     err: &mut E,
@@ -171,7 +171,7 @@ fn run_over_connection<A: Alter + Drop, E: Write>(
             err,
         ),
         Errand::Export(maildrop, folder) => {
-            export_over(rt, &mut vault, &maildrop, folder, path, options, err)
+            export_over(rt, &mut vault, maildrop, folder, path, options, err)
         }
     }
 }
