@@ -19,7 +19,7 @@ use Rattle.converse.specs.declared.conversation.TalkFault.TheVariants as fault
 use Rattle.converse.specs.Talk.{spoken, are_fit, AreInTurn, TalksInPart}
 use Rattle.converse.specs.Talked.{trace_of, MetLack, IsEndless}
 
--- H is what was done before, the opening, and some of the lines; each acted where all before it was answered and written
+-- H is the history `old`, then the opening, then some of the lines; a line acted only once all replies before it were written
 pub record LinesActed (B : Records) (c : ℕ) (old : List (Act × Tag)) (octets written : List ℕ) (tags : List Tag) (H : List (Act × Tag)) : Type 0 where
   pub some : length tags ≤ length (cut octets)
   pub fit : are_fit B c octets tags old ≡ true
@@ -34,7 +34,7 @@ pub record Spoke (B : Records) (c : ℕ) (old : List (Act × Tag)) (octets writt
   pub count : acted (told B H) c ≡ length tags
   pub here : connected (told B H) c ≡ true
 
--- these octets were read and these written; where all replies are written, and none of them closes, all lines acted
+-- these octets were read and these written; where all replies are written, and no line closed the connection, every line acted
 pub record GoesOn (B : Records) (c : ℕ) (old : List (Act × Tag)) (octets written : List ℕ) (L : Log) : Type 0 where
   pub tags : List Tag
   pub heard : stream L c ≡ octets
@@ -47,7 +47,7 @@ pub record Waits (B : Records) (c : ℕ) (old : List (Act × Tag)) (octets writt
   pub on : GoesOn B c old octets written L
   pub ready : is_ready (trace_of B L) c ≡ true
 
--- it goes on, or a later part of a message couldn't be read, for which the store's count of faults grew
+-- it goes on; or a later part of a message couldn't be read, and the store's count of faults grew
 abbrev pub Midway : (before now : ℕ) → Records → ℕ → List (Act × Tag) → (octets written : List ℕ) → Log → Type 0
 Midway before now B c old octets written L =
     GoesOn B c old octets written L ⊎ (TalksInPart B c octets written old (acts (trace_of B L)) × (has_grown before now ≡ true))
@@ -62,7 +62,7 @@ pub record IsOver (before now : ℕ) (B : Records) (c : ℕ) (old : List (Act ×
   pub midway : Midway before now B c old octets written L
   pub shut : is_open (trace_of B L) c ≡ false
 
--- the acts of one that was broken off: its end isn't among them, or it ended while something was left
+-- the acts of one that was broken off: without the connection's end, or with it while the connection was still open
 abbrev pub AreBroken : Records → ℕ → (written : List ℕ) → (lines : List (Act × Tag)) → Log → Type 0
 AreBroken B c written H L =
     ((acts (trace_of B L) ≡ H) × (taken L c ≡ length written))
@@ -92,7 +92,7 @@ pub record Refuses (T : Trace) (e : TalkFault) (L : Log) : Type 0 where
   pub same : acts (trace_of T.base L) ≡ acts T
   pub cause : ((e ≡ fault.NoMemory) × MetLack L) ⊎ ((e ≡ fault.TooManyConnections) × (is_full T ≡ true))
 
--- how a conversation stands where this fault ends it, before its connection is gone
+-- how a conversation stands at this fault, before its connection is ended
 abbrev pub IsCut : TalkFault → Records → ℕ → List (Act × Tag) → (octets written : List ℕ) → Log → Type 0
 IsCut fault.Read B c old octets written L = Waits B c old octets written L
 IsCut fault.Write B c old octets written L = Breaks B c old octets written false L

@@ -21,7 +21,7 @@ escaped octets = flat_map escape octets
 
 -- ---- read
 
--- an octet in front of the octets of a rest, where that has octets
+-- an octet before the octets that a rest stands for; none where the rest has no form
 abbrev pub led : ℕ → Option (List ℕ) → Option (List ℕ)
 led b rest = option_map (λ octets. b ∷ octets) rest
 
@@ -42,6 +42,6 @@ abbrev mutual
   behind_x (high ∷ []) = None
   behind_x (high ∷ low ∷ text) = if is_digit high 16 && is_digit low 16 then led (16 * digit_value high + digit_value low) (unescaped text) else None
 
--- what is written of octets is read as these octets
+-- octets that are written are read back as themselves
 abbrev pub IsReadBack : Type 0
 IsReadBack = (octets : List ℕ) → All (λ b. b < 256) octets → unescaped (escaped octets) ≡ Some octets

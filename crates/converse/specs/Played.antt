@@ -16,7 +16,7 @@ use Rattle.converse.specs.Told.{sent_line, outcome_lines, ended_lines, has_ended
 
 -- ---- one event
 
--- what each connection is lent of what it is owed
+-- what a connection is lent of what it is owed: 16,384 octets at most
 abbrev pub lent_at : Trace → ℕ → List ℕ
 lent_at T c = take most_lent (rest T c)
 
@@ -24,16 +24,16 @@ lent_at T c = take most_lent (rest T c)
 abbrev pub owed_by : Trace → ℕ → ℕ
 owed_by T c = length (lent_at T c)
 
--- what is printed of the first n octets that are lent: nothing, where none is asked for, or more than are lent
+-- what is printed where a client takes the first n of the octets that it is lent: nothing where n is 0 or more than these
 abbrev pub taken_text : (c : ℕ) (lent : List ℕ) (n : ℕ) → List ℕ
 taken_text c lent n = if n == 0 || nat_lt (length lent) n then [] else sent_line c (take n lent)
 
--- what is printed in front of an event's outcome: the octets that a client took
+-- what is printed before an event's outcome: the octets that a client took
 abbrev pub sent_before : Trace → Event → List ℕ
 sent_before T (Took c n) = taken_text c (lent_at T c) n
 sent_before T _ = []
 
--- ---- takings of all that is lent, one after the other; their outcomes, the newest first
+-- ---- takings of all that is lent, until nothing is owed; their outcomes, the newest first
 
 -- the trace with these takings
 abbrev pub drained : ℕ → Trace → List Outcome → Trace
@@ -45,7 +45,7 @@ abbrev pub drained_octets : ℕ → Trace → List Outcome → List ℕ
 drained_octets c T [] = []
 drained_octets c T (o ∷ os) = drained_octets c T os ++ lent_at (drained c T os) c
 
--- each has an outcome of its own, and something was owed
+-- each was done while something was owed, and has an outcome that the office may give
 abbrev pub AreTakings : ℕ → Trace → List Outcome → Type 0
 AreTakings c T [] = ⊤
 AreTakings c T (o ∷ os) =
@@ -61,13 +61,13 @@ abbrev pub drained_text : ℕ → Trace → List Outcome → List ℕ
 drained_text c T [] = []
 drained_text c T (o ∷ os) = sent_line c (drained_octets c T (o ∷ os))
 
--- U is T with these takings, of which the last is answered this
+-- U is T with these takings, and o is the outcome of the last
 pub record Takes (T : Trace) (c : ℕ) (outcomes : List Outcome) (o : Outcome) (U : Trace) : Type 0 where
   pub are : AreTakings c T outcomes
   pub last : o ≡ last_of outcomes
   pub behind : U ≡ drained c T outcomes
 
--- all is taken, and these octets are printed of it as they come
+-- all is taken, and these octets are printed as they are taken
 abbrev pub TakesAll : Trace → ℕ → Outcome → (printed : List ℕ) → Trace → Type 0
 TakesAll T c o printed U = (outcomes : List Outcome) × Takes T c outcomes o U × (rest U c ≡ []) × (printed ≡ escaped (drained_octets c T outcomes))
 
@@ -117,19 +117,19 @@ Plays P [] printed Q = (Q ≡ P) × (printed ≡ [])
 Plays P (line ∷ lines) printed Q =
     (M : Point) × (first : List ℕ) × (others : List ℕ) × PlaysLine P line first M × Plays M lines others Q × (printed ≡ first ++ others)
 
--- the same from a trace in which no connection is known, to a trace
+-- the same from a trace with no connection known, to a trace with any
 abbrev pub HasPlayed : Trace → List ScriptLine → (printed : List ℕ) → Trace → Type 0
 HasPlayed T lines printed U = (known : List ℕ) × Plays (point T []) lines printed (point U known)
 
 -- ---- lines that were broken off
 
--- What a line that was broken off did to T: nothing, or its event; of takings one after the other some, or all.
+-- What a line that was broken off did to T: nothing, or its event; of a `drain` some of its takings, or all.
 abbrev pub Begun : Trace → ScriptLine → Trace → Type 0
 Begun T (Does e) U = (U ≡ T) ⊎ ((o : Outcome) × IsOutcome T (owed_by T) e o × (U ≡ given T e (mark_of o)))
 Begun T (Drains c) U = (outcomes : List Outcome) × AreTakings c T outcomes × (U ≡ drained c T outcomes)
 Begun T (NoPolicy f) U = U ≡ T
 
--- of lines one after the other the first ones were played, and one more at most was begun
+-- the first lines were played, and at most one more was begun
 abbrev pub PlaysInPart : Point → List ScriptLine → Trace → Type 0
 PlaysInPart P [] U = U ≡ P.trace
 PlaysInPart P (line ∷ lines) U = Begun P.trace line U ⊎ ((M : Point) × (printed : List ℕ) × PlaysLine P line printed M × PlaysInPart M lines U)
@@ -145,7 +145,7 @@ abbrev pub failures : Log → ℕ
 failures [] = 0
 failures ((e, m) ∷ L) = (if is_failed m then 1 else 0) + failures L
 
--- of the events that U has beyond T one failed only where the store's count of faults grew
+-- an event that U has beyond T failed only where the store's count of faults grew
 abbrev pub Caused : (before now : ℕ) → Trace → Trace → Type 0
 Caused before now T U = failures T.log < failures U.log → has_grown before now ≡ true
 
@@ -170,16 +170,16 @@ pub record Reaches {V : Type 0} (Holds : V → Contents → Type 0) (o : Office 
   pub is : Is trace
   pub caused : Caused before now T trace
 
--- Of the lines the first ones were played from T, all or none of them too, and one more at most was begun: the store keeps what the trace
--- says to which they lead, and an event failed only where the store's count of faults grew from `first` to `now`.
+-- The first lines were played from T (perhaps all, perhaps none), and at most one more was begun: the store keeps the records of the trace
+-- to which they lead, and an event failed only where the store's count of faults grew from `first` to `now`.
 pub record HasRunInPart {V : Type 0} (Holds : V → Contents → Type 0) (new : V) (first now : ℕ) (T : Trace) (lines : List ScriptLine) : Type 0 where
   pub trace : Trace
   pub keeps : Keeps (Holds new) trace
   pub plays : PlaysInPart (point T []) lines trace
   pub caused : Caused first now T trace
 
--- the lines were played from T: what they print was printed, the store keeps what the trace says to which they lead, and an event failed
--- only where the store's count of faults grew from `first` to `now`
+-- all lines were played from T: what they print was printed, the store keeps the records of the trace to which they lead, and an event
+-- failed only where the store's count of faults grew from `first` to `now`
 pub record HasRun {V : Type 0} (Holds : V → Contents → Type 0) (new : V) (first now : ℕ) (before after : Option (List ℕ)) (T : Trace) (lines : List ScriptLine) : Type 0 where
   pub printed : List ℕ
   pub trace : Trace

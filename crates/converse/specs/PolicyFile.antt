@@ -1,4 +1,4 @@
--- The policy that a file's octets spell, which are TOML 1.0 in UTF-8, or their first fault.
+-- The policy that a file's octets spell in TOML 1.0 and UTF-8, or their first fault.
 use Rattle.std.specs.Prelude.{◌≡◌, ℕ, List, Option, IfSome, Ok, Err, length}
 use Rattle.std.specs.Io.KnownBytes.{Appends}
 use Rattle.std.specs.Str.{IsUtf8}
@@ -20,7 +20,7 @@ IsFaultOf octets fault = (IsUtf8 octets → rules_of octets ≡ Err fault) × (�
 abbrev pub IsNoPolicyText : List ℕ → Type 0
 IsNoPolicyText octets = (policy : Policy) → ¬ IsPolicyText octets policy
 
--- what a file holds, where that is known, is a policy's text, and the line with the count of its rules is printed
+-- the file, where its octets are known, is a policy's text, and the count of that policy's rules is printed
 abbrev pub TellsCount : (file before after : Option (List ℕ)) → Type 0
 TellsCount file before after =
     (policy : Policy) × IfSome file (λ octets. IsPolicyText octets policy) × Appends before after (count_line (length policy.rules))

@@ -13,15 +13,15 @@ use Rattle.converse.specs.Talk.{Talks, TalksInPart}
 use Rattle.converse.specs.Talked.{trace_of, Extends, Leaves, ComesOut}
 use Rattle.converse.specs.declared.conversation.TalkFault.{TalkFault}
 
--- a store holds what it held, where its end is clean
+-- a store that is clean at the end holds what it held
 abbrev pub StillHolds : {V : Type 0} (Holds : V → Contents → Type 0) (IsClean : V → Type 0) → (old new : V) → Type 0
 StillHolds Holds IsClean old new = (c : Contents) → Holds old c → IsClean new → Holds new c
 
--- the seconds without an act after which a connection is ended, where nobody says other
+-- after so many seconds without an act a connection is ended
 abbrev pub idle_seconds : ℕ
 idle_seconds = 600
 
--- a trace with the opening of an office whose removals are judged so
+-- a trace with an office's opening, which says when removals are judged
 abbrev pub opened_on : Trace → (host : List ℕ) (boot : ℕ) (removals : Removals) → Trace
 opened_on T host boot removals = given T (event.Start host boot (record { idle = idle_seconds; removals = removals })) (Tagged Done)
 

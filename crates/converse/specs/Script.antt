@@ -1,4 +1,4 @@
--- What a line of a script asks for, and which line of a script is of no form.
+-- What a line of a script asks for, and which line has no form.
 use Rattle.std.specs.Prelude.{ℕ, ◌+◌, ◌==◌, Bool, true, List, [], ◌∷◌, ◌++◌, codes, drop, Option, Some, None, option_map, ok_or, Result, Ok, Err, if◌then◌else◌}
 use Rattle.std.specs.List.{before_first, position, slice_split}
 use Rattle.std.specs.Str.{bytes_eq, is_utf8}
@@ -47,7 +47,7 @@ None >>= f = None
 
 -- ---- fields
 
--- the octets before the first that ends them, and what stands behind that one
+-- the octets before the first `end`, and those behind it
 abbrev pub cut_at : (ends : ℕ → Bool) → List ℕ → List ℕ × Option (List ℕ)
 cut_at ends text = (before_first ends text, option_map (λ at. drop (at + 1) text) (position ends text))
 
@@ -202,7 +202,7 @@ is_skipped (b ∷ bs) = b == 35
 abbrev pub line_asks : (n : ℕ) → List ℕ → Result (List ScriptLine) ℕ
 line_asks n line = if is_skipped line then Ok [] else ok_or (option_map (λ asked. asked ∷ []) (line_of line)) n
 
--- what lines ask for, and behind it what further lines do; the number that comes first
+-- what lines ask for, then what further lines ask for; of two bad lines the number of the first
 abbrev pub asks_then : (first rest : Result (List ScriptLine) ℕ) → Result (List ScriptLine) ℕ
 asks_then (Ok asked) (Ok rest) = Ok (asked ++ rest)
 asks_then (Ok asked) (Err n) = Err n

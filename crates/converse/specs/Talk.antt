@@ -19,11 +19,11 @@ use Rattle.session.specs.View.{to_remove}
 abbrev pub opened_on : ℕ → List (Act × Tag) → List (Act × Tag)
 opened_on c H = (Open c, Done) ∷ H
 
--- a further line of it may act: it is connected, and nothing closes it
+-- a further line of the connection may act: it is connected, and no line closed it
 abbrev pub goes_on : List Entry → ℕ → Bool
 goes_on G c = connected G c && not (closing G c)
 
--- its lines act in order, through the one that closes it; what comes behind that is dropped
+-- its lines act in order, through the one that closes the connection; later lines are dropped
 abbrev pub acted_on : Records → ℕ → List (Cut × Tag) → List (Act × Tag) → List (Act × Tag)
 acted_on B c [] H = H
 acted_on B c ((x, t) ∷ lines) H = if goes_on (told B H) c then acted_on B c lines ((Line c x, t) ∷ H) else H
@@ -36,7 +36,7 @@ spoken B c octets tags H = acted_on B c (zip (cut octets) tags) (opened_on c H)
 abbrev pub left_unless_closing : Records → ℕ → List (Act × Tag) → List (Act × Tag)
 left_unless_closing B c H = if closing (told B H) c then H else (Gone c, Done) ∷ H
 
--- it is gone, where it is still open after so many octets of its replies were taken
+-- the connection is gone, where it was still open with so many octets of its replies taken
 abbrev pub left_if_open : Records → ℕ → (taken : ℕ) → List (Act × Tag) → List (Act × Tag)
 left_if_open B c taken H =
     if is_open_by (connected (told B H) c) (closing (told B H) c) (drop taken (sent (told B H) c)) then (Gone c, Done) ∷ H else H
@@ -48,7 +48,7 @@ abbrev pub may_be : Records → List Entry → ℕ → Cut → Tag → Bool
 may_be B G c x Failed = line_may_fail B G c x
 may_be B G c x _ = true
 
--- each line that acts shows a tag that it may show at its front
+-- each line that acts shows a tag that is possible after the history before it
 abbrev pub tags_fit : Records → ℕ → List (Cut × Tag) → List (Act × Tag) → Bool
 tags_fit B c [] H = true
 tags_fit B c ((x, t) ∷ lines) H =
@@ -126,7 +126,7 @@ pub record BreaksOffReading (B : Records) (c : ℕ) (octets written : List ℕ) 
 abbrev pub perhaps_gone : ℕ → (ends : Bool) → List (Act × Tag) → List (Act × Tag)
 perhaps_gone c ends H = if ends then (Gone c, Done) ∷ H else H
 
--- what an act removes at its front, where it is a QUIT of a session that is done
+-- what an act removes from the history before it: something only where it is a QUIT that was done in a session
 abbrev pub taken_by_quit : Records → List Entry → Option ℕ → List Message
 taken_by_quit B G None = []
 taken_by_quit B G (Some c) = removed_by (in_session G c) (λ name. to_remove class_of (in_force B G) name (marks G c) (view B G c))
@@ -140,8 +140,8 @@ removed_last B ((a, t) ∷ H) = taken_by_quit B (told B H) (quits a t)
 abbrev pub without_messages : List Message → Records → Records
 without_messages ms B = record { clerks = B.clerks; maildrops = B.maildrops; messages = without B.messages ms; deposits = B.deposits; policy = B.policy }
 
--- the records after a conversation are the old ones without what its QUIT removed, and the old ones where there was none; its end
--- removes nothing
+-- the records after a conversation are the old ones without what its QUIT removed, or the old ones where there was no QUIT; the
+-- connection's end removes nothing
 abbrev pub RemovesByQuitAlone : Type 0
 RemovesByQuitAlone = (B : Records) (c : ℕ) (octets : List ℕ) (tags : List Tag) (H : List (Act × Tag)) (ends : Bool)
     → records B (told B (perhaps_gone c ends (spoken B c octets tags H)))

@@ -1,4 +1,4 @@
--- What a call of `talk` leaves: of which trace the office then stands, by what the call answered.
+-- What a call of `talk` leaves, by its answer: for which trace the office then stands.
 use Rattle.std.specs.Prelude.{◌≡◌, ℕ, Bool, true, false, ◌≤◌, ◌⊎◌, ◌^◌, ◌-◌, ◌==◌, List, ◌∷◌, ◌++◌, length, Result, Ok, Err}
 use Rattle.std.specs.List.{list_all}
 use Rattle.vault.specs.Records.{Records}
@@ -46,11 +46,11 @@ pub record StandsSo {V : Type 0} (Holds : V → Contents → Type 0) (faults : V
 abbrev pub IsEndless : (octets written : List ℕ) → Type 0
 IsEndless octets written = (2 ^ 64 - 1 ≤ length octets) ⊎ (2 ^ 64 - 1 ≤ length written)
 
--- the last event of a log met want of memory; where the log extends an older one, that is the opening or an event of the connection
+-- the last event of a log found no memory
 abbrev pub MetLack : Log → Type 0
 MetLack L = (e : Event) × (before : Log) × (L ≡ (e, Tagged NoMemory) ∷ before)
 
--- the last event but one did, and the last is the connection's end
+-- the last event is the connection's end, and the one before it found no memory
 abbrev pub MetLackBefore : ℕ → Log → Type 0
 MetLackBefore c L = (m : Mark) × (before : Log) × (L ≡ (event.Gone c, m) ∷ before) × MetLack before
 

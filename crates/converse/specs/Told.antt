@@ -1,4 +1,4 @@
--- What is printed of a run: a policy's count of rules, what a script's event is answered, or the fault that stopped it.
+-- What a run prints: a policy's count of rules, the outcomes of a script's events, or the fault that stopped it.
 use Rattle.std.specs.Prelude.{ℕ, Bool, true, not, List, [], ◌∷◌, ◌++◌, ◌==◌, codes, if◌then◌else◌}
 use Rattle.std.specs.Fmt.{decimal}
 use Rattle.std.specs.List.{flat_map}
@@ -14,7 +14,7 @@ use Rattle.converse.specs.FaultNames.{store_fault_name, talk_fault_name}
 use Rattle.converse.specs.declared.fault.Fault.{Fault}
 use Rattle.converse.specs.declared.fault.Fault.TheVariants.{CannotRead, BadEvent, BadHost, Store, Talk, NoPolicy, NoClock, CannotPut, CannotWrite, OutOfMemory}
 
--- the text of a fault; of a policy's fault its own, of a store's and of a conversation's its name
+-- the text of a fault: a policy's has a text of its own, a store's and a conversation's have their name
 abbrev pub fault_text : Fault → List ℕ
 fault_text CannotRead = codes "cannot read file"
 fault_text (BadEvent n) = codes "line " ++ decimal n ++ codes ": bad event"
@@ -49,7 +49,7 @@ abbrev pub led_by : (word : List ℕ) → (at_start : Bool) → List ℕ → Lis
 led_by word at_start [] = []
 led_by word at_start (b ∷ bs) = (if at_start then word else []) ++ b ∷ led_by word (b == 10) bs
 
--- a body's lines behind `answer `; of an empty body the word alone
+-- `answer ` and a body's line, for each line; for an empty body the word alone
 abbrev pub answer_lines : List ℕ → List ℕ
 answer_lines [] = codes "answer\n"
 answer_lines (b ∷ bs) = led_by (codes "answer ") true (b ∷ bs)

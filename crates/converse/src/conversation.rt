@@ -15,7 +15,7 @@ use office::{Event, Office, Outcome};
 use std::io::{Read, Write};
 use vault::Vault;
 
-/// How many octets are read at once: as many as an office takes in one piece.
+/// How many octets are read at once: the most that an office takes in one piece.
 const MOST_AT_ONCE: usize = 4096;
 
 /// Why a conversation was broken off.
@@ -28,11 +28,11 @@ pub enum TalkFault {
     /// The office opens no further connection.
     TooManyConnections,
     NoMemory,
-    /// 2^64 - 1 octets were read or written, and there was no end.
+    /// 2^64 - 1 octets were read or written without an end.
     Endless,
 }
 
-/// Which number was opened, or why none.
+/// The number of the connection that `Connect` opened, or why it opened none.
 fn opened(outcome: Outcome) -> Result<u64, TalkFault>
     ensures { result ≡ opened_by (outcome_seen outcome) }
 {
@@ -43,7 +43,7 @@ fn opened(outcome: Outcome) -> Result<u64, TalkFault>
     }
 }
 
-/// Whether memory was wanting.
+/// Answers [`TalkFault::NoMemory`] where the office had no memory for an event.
 fn had_memory(outcome: Outcome) -> Result<(), TalkFault>
     ensures { result ≡ memory_by (outcome_seen outcome) }
 {
@@ -53,7 +53,7 @@ fn had_memory(outcome: Outcome) -> Result<(), TalkFault>
     }
 }
 
-/// Opens a connection.
+/// Opens a connection, and answers its number.
 fn connect<V: Vault>(office: &mut Office<V>) -> Result<u64, TalkFault>
     ensures began { (T : Trace) → StandsFor V.holds office.old T → V.is_clean (vault_of office.new) → StandsSo V.holds V.faults (V.faults (vault_of office.old)) office.new T (next_number T.log) (λ L. MatchResult result (λ c. (c ≡ next_number T.log) × GoesOn T.base (next_number T.log) (acts T) [] [] L) (λ e. Refuses T e L)) }
     ensures counted { V.faults (vault_of office.old) ≤ V.faults (vault_of office.new) }
@@ -62,7 +62,7 @@ fn connect<V: Vault>(office: &mut Office<V>) -> Result<u64, TalkFault>
     opened(office.step(Event::Connect))
 }
 
-/// Gives a piece to an office that waits for it.
+/// Gives a piece of input to an office that waits for input.
 fn hear<V: Vault>(office: &mut Office<V>, c: u64, piece: &[u8]) -> Result<(), TalkFault>
     requires { length piece.now ≤ most_in_a_piece }
     ensures heard { (before : ℕ) (T : Trace) (octets written : List ℕ) → before ≤ V.faults (vault_of office.old) → V.is_clean (vault_of office.new) → StandsSo V.holds V.faults before office.old T c (Waits T.base c (acts T) octets written) → StandsSo V.holds V.faults before office.new T c (λ L. MatchResult result (λ _. GoesOn T.base c (acts T) (octets ++ piece.now) written L) (λ e. IsCut e T.base c (acts T) (octets ++ piece.now) written L)) }
@@ -72,8 +72,8 @@ fn hear<V: Vault>(office: &mut Office<V>, c: u64, piece: &[u8]) -> Result<(), Ta
     had_memory(office.step(Event::Bytes(c, piece)))
 }
 
-/// Reads once, and gives the piece to an office that waits for it. Whether there was one; else the
-/// reader is at its end.
+/// Reads once, and gives what was read to an office that waits for input. `false` where the reader
+/// is at its end.
 fn listen<V: Vault, R: Read>(
     office: &mut Office<V>,
     c: u64,
@@ -95,7 +95,7 @@ fn listen<V: Vault, R: Read>(
     Ok(true)
 }
 
-/// Writes some of what is owed. Whether there was something.
+/// Writes some of what the connection is owed. `false` where nothing is owed.
 fn write_some<V: Vault, W: Write>(
     office: &mut Office<V>,
     c: u64,
@@ -122,7 +122,7 @@ fn write_some<V: Vault, W: Write>(
     Ok(true)
 }
 
-/// Writes all that is owed, and flushes.
+/// Writes all that the connection is owed, and flushes the writer.
 fn write_owed<V: Vault, W: Write>(
     office: &mut Office<V>,
     c: u64,

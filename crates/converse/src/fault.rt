@@ -26,11 +26,11 @@ pub enum Fault {
     BadEvent(u64),
     /// The host name isn't of its form.
     BadHost,
-    /// The store can't be opened, or refused as an office was opened over it.
+    /// The store can't be opened, or it refused a call, for this cause.
     Store(VaultFault),
     /// The conversation was broken off.
     Talk(TalkFault),
-    /// The file holds no policy, for this cause, which isn't want of memory.
+    /// The file holds no policy: its first fault, which isn't want of memory.
     NoPolicy(PolicyFault),
     /// The clock can't be read.
     NoClock,
@@ -138,7 +138,7 @@ fn talk_fault_text(fault: &TalkFault) -> &'static str
     }
 }
 
-/// What a file's refusal to be opened or read is told as.
+/// The fault that tells that a file can't be opened or read.
 pub fn read_fault(error: &io::Error) -> Fault
     ensures memory { (result ≡ Fault.OutOfMemory) ↔ (error_kind error.now ≡ ErrorKind.OutOfMemory) }
     ensures cause { (result ≡ Fault.CannotRead) ⊎ (result ≡ Fault.OutOfMemory) }
@@ -149,7 +149,7 @@ pub fn read_fault(error: &io::Error) -> Fault
     }
 }
 
-/// What a folder's refusal of a file is told as.
+/// The fault that tells that a folder refused a file.
 pub fn put_fault(error: &io::Error) -> Fault
     ensures memory { (result ≡ Fault.OutOfMemory) ↔ (error_kind error.now ≡ ErrorKind.OutOfMemory) }
     ensures cause { (result ≡ Fault.CannotPut) ⊎ (result ≡ Fault.OutOfMemory) }

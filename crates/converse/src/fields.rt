@@ -1,5 +1,5 @@
-//! The parts of a script's line: fields that one space parts, names, numbers, and a TEXT at the
-//! end.
+//! The parts of a script's line: fields with one space between them (names, numbers), and a TEXT
+//! at the end.
 
 ghost use Rattle.std.specs.Prelude.{◌≡◌, ◌==◌, ◌+◌, ◌*◌, ◌<◌, ◌≤◌, ◌≢◌, MatchOption, length, vec_len, IfOk, IfSome, SomeIff, option_map, option_copied, []};
 ghost use Rattle.std.specs.Char.{digit_value};
@@ -12,7 +12,8 @@ use std::alloc::{AllocError, Global};
 /// What stands between two fields.
 pub const SPACE: u8 = b' ';
 
-/// What stands before the first octet of this kind, or all, and what stands behind it.
+/// The octets before the first octet `end`, and those behind it; all of them, and none, where there
+/// is no such octet.
 pub fn cut_at(text: &[u8], end: u8) -> (&[u8], Option<&[u8]>)
     ensures { (result.0.now, option_copied result.1) ≡ parts_at (λ b. b == end) text.now }
 {
@@ -30,7 +31,7 @@ fn place_of(text: &[u8], sought: u8) -> Option<usize>
     text.iter().position(|octet| *octet == sought)
 }
 
-/// A line's first field, which another one follows, and what stands behind the space between them.
+/// A line's first field, and what stands behind the space that ends it; none without a space.
 pub fn take_field(line: &[u8]) -> Option<(&[u8], &[u8])>
     ensures { option_map (λ r. (r.0.now, r.1.now)) result ≡ two_fields line.now }
 {
@@ -79,8 +80,7 @@ fn next_octet(text: &[u8]) -> Option<(u8, &[u8])>
     }
 }
 
-/// The octet that an escape stands for, of which this is what follows its `\`, and the TEXT behind
-/// it.
+/// Reads an escape from behind its `\`: the octet that it stands for, and the TEXT behind it.
 fn escaped_octet(text: &[u8]) -> Option<(u8, &[u8])>
     ensures is { MatchOption result (behind_backslash text.now ≡ None) (λ r. behind_backslash text.now ≡ led r.0 (unescaped r.1.now)) }
     ensures shorter { IfSome result (λ r. length r.1.now < length text.now) }
@@ -94,7 +94,7 @@ fn escaped_octet(text: &[u8]) -> Option<(u8, &[u8])>
     }
 }
 
-/// The octet that two hexadecimal digits of either case write.
+/// The octet of two hexadecimal digits, which may be capitals.
 fn octet_of(high: u8, low: u8) -> Option<u8>
     ensures { SomeIff result ((digit_value high < 16) × (digit_value low < 16)) (16 * digit_value high + digit_value low) }
 {

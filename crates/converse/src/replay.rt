@@ -26,16 +26,17 @@ use std::io;
 use std::io::{Read, Write};
 use vault::Vault;
 
-/// Seconds without an act after which a connection is ended.
+/// After so many seconds without an act a connection is ended.
 const IDLE_SECONDS: u32 = 600;
 
-/// Reads a whole script, opens an office over the vault, whose removals are judged as this says,
-/// does the script's events in it, and prints the outcome of each to `out`. What an event gave is flushed before the next one is done.
+/// Reads a whole script, opens an office over the vault, does the script's events in it, and prints
+/// the outcome of each to `out`, which is flushed before the next event. `removals` says when a
+/// denied removal is refused.
 ///
-/// Gives the exit status, 0 or 1, and the vault, as the events left it. A fault has status 1 and
-/// its text on `err`. Where the script can't be read, has a line that is no event, or the host is
-/// bad, no event is done and nothing is on `out`; faults are found in that order. What was done
-/// before another fault stays done, and no line behind it is begun.
+/// Gives the exit status, 0 or 1, and the vault as the events left it. At a fault the status is 1,
+/// and `err` gets its text. Where the script can't be read, has a line that is no event, or the
+/// host is bad, no event is done and nothing is on `out`; faults are found in that order. What was
+/// done before another fault stays done, and no line behind it is begun.
 pub fn replay<R: Read, V: Vault, W: Write, E: Write>(
     alloc: Global,
     script: &mut R,
@@ -66,8 +67,8 @@ pub fn replay<R: Read, V: Vault, W: Write, E: Write>(
     (status, office.into_vault())
 }
 
-/// Does the lines in order in an office, and tells what stopped it, behind what was printed of that
-/// line. Gives the exit status.
+/// Does the lines in order in an office. A fault is told on `err` after what its line printed.
+/// Gives the exit status.
 fn play_over<V: Vault, W: Write, E: Write>(
     alloc: Global,
     office: &mut Office<V>,
@@ -113,7 +114,8 @@ fn read_lines(alloc: Global, text: &[u8]) -> Result<Vec<Line>, Fault>
     Ok(lines)
 }
 
-/// Opens an office with the default idle time, whose removals are judged as this says.
+/// Opens an office that ends idle connections after 600 seconds. `removals` says when a denied
+/// removal is refused.
 pub(crate) fn open_office<V: Vault>(
     alloc: Global,
     vault: V,
@@ -174,8 +176,8 @@ fn play_line<V: Vault, W: Write>(
     }
 }
 
-/// Prints an outcome, and the connections that ended, and flushes them. A connection that it opened
-/// is put to those that are known.
+/// Prints an outcome and the connections that ended, and flushes. A connection that was opened is
+/// added to those that are known.
 fn tell_whole<V: Vault, W: Write>(
     alloc: Global,
     office: &Office<V>,
@@ -204,7 +206,7 @@ fn flush<W: Write>(out: &mut W) -> Result<(), Fault>
     }
 }
 
-/// Puts a connection that an outcome opened to those that are known.
+/// Adds the connection that an outcome opened to those that are known.
 fn add_opened(outcome: &Outcome, known: &mut Vec<u64>) -> Result<(), Fault>
     ensures { OnOk result (known.new.items ≡ known_with (outcome_seen outcome.now) known.old.items) }
 {
@@ -217,8 +219,8 @@ fn add_opened(outcome: &Outcome, known: &mut Vec<u64>) -> Result<(), Fault>
     }
 }
 
-/// Does the events of one line, prints the octets that it takes, and gives the last outcome. A line
-/// that is no event is answered here.
+/// Does the events of one line, prints the octets that a client takes, and gives the last outcome.
+/// Of a text that is no policy it prints the fault, and gives none.
 fn act<V: Vault, W: Write>(
     office: &mut Office<V>,
     line: &Line,
@@ -262,7 +264,8 @@ fn tell_no_policy<W: Write>(out: &mut W, fault: PolicyFault) -> io::Result<()>
     out.flush()
 }
 
-/// Takes `count` octets of what a connection is owed. What is ignored prints no octets.
+/// Takes `count` octets of what a connection is owed, and prints them; none where the office
+/// ignores the event.
 fn take<V: Vault, W: Write>(
     office: &mut Office<V>,
     number: u64,
@@ -279,7 +282,7 @@ fn take<V: Vault, W: Write>(
     Ok(outcome)
 }
 
-/// Prints the first `count` octets of what a connection is owed, where there are so many.
+/// Prints the first `count` octets of what a connection is owed; nothing where it is owed fewer.
 fn tell_taken<W: Write>(out: &mut W, number: u64, owed: &[u8], count: usize) -> Result<(), Fault>
     ensures { OnOk result (Appends (W.contents out.old) (W.contents out.new) (taken_text number owed.now count)) }
 {
@@ -304,7 +307,7 @@ fn tell_sent<W: Write>(out: &mut W, number: u64, octets: &[u8]) -> io::Result<()
     out.write_all(b"\n")
 }
 
-/// Takes all that a connection is owed, which is printed in one line.
+/// Takes all that a connection is owed, and prints it in one line.
 fn drain<V: Vault, W: Write>(
     office: &mut Office<V>,
     number: u64,
@@ -328,8 +331,8 @@ fn drain<V: Vault, W: Write>(
     }
 }
 
-/// Takes what a connection is owed, and prints it, again until nothing is owed or it has ended.
-/// `Endless` after 2^64 - 1 takings.
+/// Takes what a connection is owed, and prints it, until nothing more is owed. Answers
+/// [`TalkFault::Endless`] after 2^64 - 1 takings.
 fn take_all<V: Vault, W: Write>(
     office: &mut Office<V>,
     number: u64,
@@ -355,7 +358,7 @@ fn take_all<V: Vault, W: Write>(
     Err(Fault::Talk(TalkFault::Endless))
 }
 
-/// Prints octets that are taken, and flushes them.
+/// Prints the octets that a client takes, and flushes.
 fn tell_lent<W: Write>(out: &mut W, octets: &[u8]) -> io::Result<()>
     ensures { OnOk result (Appends (W.contents out.old) (W.contents out.new) (escaped octets.now)) }
 {
@@ -454,8 +457,8 @@ fn tell_octet<W: Write>(out: &mut W, at_start: bool, octet: u8) -> io::Result<()
     out.write_all(&[octet])
 }
 
-/// Prints the connections that ended since the last event, ascending as the numbers are, and keeps
-/// the others.
+/// Prints the connections that ended since the last event, by ascending number, and keeps the
+/// others.
 fn tell_ended<V: Vault, W: Write>(
     office: &Office<V>,
     connections: &mut Vec<u64>,

@@ -16,13 +16,13 @@ use office::{AdminCommand, read_number};
 use policy::{Action, PolicyFault};
 use std::alloc::{AllocError, AllocFailed, Global};
 
-/// What one line of a script asks for. Connections are named by their numbers. It has no `Debug`,
+/// What one line of a script asks for. Connections go by their numbers. `Line` has no `Debug`,
 /// since it may hold a password or mail.
 #[derive(Drop)]
 pub enum Line {
     /// `connect`: a connection is opened.
     Connect,
-    /// `bytes C TEXT`: a piece of input of a connection, of any octets, also none.
+    /// `bytes C TEXT`: a connection's client sends a piece of any octets, also of none.
     Bytes(u64, Vec<u8>),
     /// `took C N`: a connection's client took N octets of what it is owed.
     Took(u64, usize),
@@ -49,7 +49,7 @@ pub enum Line {
     /// `maildrops`, `maildrop`, `list`, `clerk`, `policy`, `sessions`, `end` or `explain`: an
     /// administrator asks for something.
     Admin(AdminCommand),
-    /// `policy TEXT`, where TEXT is no policy: no event, and answered the text's first fault.
+    /// `policy TEXT`, where TEXT is no policy: no event is done; the text's first fault is told.
     NoPolicy(PolicyFault),
 }
 
@@ -78,7 +78,8 @@ impl<T: Drop> From<AllocFailed<T>> for ScriptFault {
     }
 }
 
-/// Reads a script. The first line that is of no form is the fault.
+/// Reads a whole script. Answers [`ScriptFault::BadEvent`] with the number of the first line that
+/// is of no form.
 pub fn read_script(alloc: Global, text: &[u8]) -> Result<Vec<Line>, ScriptFault>
     ensures ok { IfOk result (λ lines. script_of text.now ≡ Ok (map line_seen lines.items)) }
     ensures fault { (n : ℕ) → result ≡ Err (ScriptFault.BadEvent n) → script_of text.now ≡ Err n }
@@ -97,7 +98,8 @@ pub fn read_script(alloc: Global, text: &[u8]) -> Result<Vec<Line>, ScriptFault>
     Ok(lines)
 }
 
-/// Reads the line of this number to the end of the lines before it; nothing where it is skipped.
+/// Reads the line of this number, and puts it behind the lines before it. A line that is empty or
+/// a comment is skipped.
 fn read_into(
     alloc: Global,
     lines: &mut Vec<Line>,

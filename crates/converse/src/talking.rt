@@ -17,11 +17,11 @@ use std::alloc::Global;
 use std::io::{Read, Write};
 use vault::Vault;
 
-/// Opens an office over the vault, whose removals are judged as this says, and has one conversation
-/// in it, whose octets come from `reader` and whose replies go to `writer`.
+/// Opens an office over the vault, and has one conversation in it: `reader` gives the client's
+/// octets, `writer` takes the replies. `removals` says when a denied removal is refused.
 ///
-/// Gives the exit status, 0 or 1, and the vault, as the conversation left it. A fault has status 1
-/// and its text on `err`. Where the host is bad nothing is read or written.
+/// Gives the exit status, 0 or 1, and the vault as the conversation left it. At a fault the status
+/// is 1, and `err` gets its text. Where the host is bad nothing is read or written.
 pub fn talk<V: Vault, R: Read, W: Write, E: Write>(
     alloc: Global,
     vault: V,
@@ -47,7 +47,7 @@ pub fn talk<V: Vault, R: Read, W: Write, E: Write>(
     (status, office.into_vault())
 }
 
-/// Has one conversation in an office, and tells its fault. Gives the exit status.
+/// Has one conversation in an office, and tells its fault on `err`. Gives the exit status.
 fn talk_over<V: Vault, R: Read, W: Write, E: Write>(
     office: &mut Office<V>,
     reader: &mut R,
