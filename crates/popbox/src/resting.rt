@@ -166,7 +166,7 @@ fn run_over_connection<A: Alter + Drop, E: Write>(
             rt,
             &mut vault,
             clerks.as_slice(),
-            octets,
+            *octets,
             options,
             err,
         ),
