@@ -196,6 +196,32 @@ fn serve<'a>(alloc: Global) -> Result<Command<'a>, AllocError> {
     subcommand(alloc, "serve", about, arguments)
 }
 
+/// `export --store PATH --maildrop M [--verbose] DIR`.
+fn export<'a>(alloc: Global) -> Result<Command<'a>, AllocError> {
+    let maildrop = option(
+        alloc,
+        "maildrop",
+        "M",
+        "The maildrop whose messages are written",
+    );
+    let folder = Arg::new(alloc, "DIR").help("The folder, which is there; no file is replaced");
+    let arguments = vec![in alloc;
+        store(alloc, "The store's file, which no server has").required(true),
+        maildrop.required(true),
+        folder.required(true),
+    ]?;
+    let about = "Writes each message of a maildrop as a file, the oldest first";
+    subcommand(alloc, "export", about, arguments)
+}
+
+/// `check --store PATH [--verbose]`.
+fn check<'a>(alloc: Global) -> Result<Command<'a>, AllocError> {
+    let file = store(alloc, "The store's file, which no server has");
+    let arguments = vec![in alloc; file.required(true)]?;
+    let about = "Opens a store, judges all that lies in it, and prints what that is";
+    subcommand(alloc, "check", about, arguments)
+}
+
 /// Adds a subcommand that was made.
 fn add<'a>(
     command: Command<'a>,
@@ -216,5 +242,7 @@ pub fn make_command<'a>(alloc: Global) -> Result<Command<'a>, AllocError> {
     let command = add(command, talk(alloc))?;
     let command = add(command, serve(alloc))?;
     let command = add(command, check_policy(alloc))?;
-    add(command, review_policy(alloc))
+    let command = add(command, review_policy(alloc))?;
+    let command = add(command, export(alloc))?;
+    add(command, check(alloc))
 }

@@ -3,6 +3,7 @@
 
 mod command_line;
 mod looking;
+mod resting;
 mod serve;
 mod store_file;
 mod stored;
@@ -21,6 +22,7 @@ use converse::talking::talk;
 use converse::{Fault, tell_fault};
 use journal::FileId;
 use looking::run_review;
+use resting::{run_check, run_export};
 use serve::{note_store, serve_over};
 use session::Removals;
 use sqlite::{Alter, Connection, FileStore, Wary};
@@ -98,6 +100,8 @@ fn run_subcommand<E: Write>(
         "talk" => run_talk(rt, options, err),
         "serve" => run_serve(rt, options, err),
         "review-policy" => run_review(rt, options, err),
+        "export" => run_export(rt, options, err),
+        "check" => run_check(rt, options, err),
         _ => run_check_policy(rt, options, err),
     };
     match done {

@@ -1,0 +1,333 @@
+//! `popbox export` and `popbox check`: over a store that no server has, which stays as it is.
+
+use crate::command_line::is_verbose;
+use causes::{Watched, tell_closed_store, tell_refusal, tell_unread};
+use clap::ArgMatches;
+use converse::check_store::{StoreFile, check_store};
+use converse::export::{Folder, export};
+use converse::{Fault, tell_fault};
+use creds::Name;
+use mailsql::clerks::all_clerks;
+use mailsql::meta::find_mark;
+use sqlite::{Alter, Connection, Error, ErrorCode, Wary};
+use sqlvault::SqlVault;
+use std::alloc::Global;
+use std::fs::{File, OpenOptions};
+use std::io::{BufWriter, ErrorKind, Write};
+use std::os::unix::fs::OpenOptionsExt;
+use std::{fs, io};
+use vault::{Vault, VaultFault, in_order};
+
+/// The version of the tables that this popbox makes. A store of an older one would be changed by an
+/// opening.
+const VERSION: i64 = 3;
+
+/// The name under which a file is written until it is whole.
+const UNFINISHED: &str = ".popbox-export";
+
+/// Reading and writing for the owner, nothing for others.
+const OWNER_ALONE: u32 = 0o600;
+
+/// What is done over a store at rest.
+#[derive(Clone, Copy)]
+enum Errand<'a> {
+    /// `popbox check`, of a file and a log of so many octets.
+    Check(u64),
+    /// `popbox export`: a maildrop's messages into the folder at a path.
+    Export(Name, &'a str),
+}
+
+/// Why a store isn't opened.
+#[derive(Clone, Copy)]
+enum Closed {
+    /// It can't be opened, or is refused.
+    Refused(VaultFault),
+    /// It is of this older version.
+    Older(i64),
+}
+
+/// Runs `popbox check`: prints what lies in the store that is named.
+pub fn run_check<E: Write>(
+    rt: &HostRuntime,
+    options: &ArgMatches<'_>,
+    err: &mut E,
+) -> Result<u8, Fault> {
+    let path = options.get_str("store").unwrap_or("");
+    match fs::metadata(rt, path) {
+        Ok(file) => {
+            let octets = file.len().saturating_add(log_octets(rt, path));
+            run_errand(rt, &Errand::Check(octets), path, options, err)
+        }
+        Err(error) => Ok(tell_unread(err, is_verbose(options), path, &error)),
+    }
+}
+
+/// How many octets the log beside a store's file has; 0 where there is none.
+fn log_octets(rt: &HostRuntime, path: &str) -> u64 {
+    let Ok(log) = format!(in rt.alloc(); "{path}-wal") else {
+        return 0;
+    };
+    match fs::metadata(rt, log.as_str()) {
+        Ok(log) => log.len(),
+        Err(_) => 0,
+    }
+}
+
+/// Runs `popbox export`: puts the messages of the maildrop that is named into a folder.
+pub fn run_export<E: Write>(
+    rt: &HostRuntime,
+    options: &ArgMatches<'_>,
+    err: &mut E,
+) -> Result<u8, Fault> {
+    let word = options.get_str("maildrop").unwrap_or("");
+    let Some(maildrop) = Name::read(word.as_bytes()) else {
+        let _ = writeln!(err, "popbox: bad name");
+        if is_verbose(options) {
+            let _ = writeln!(err, "why: --maildrop {word:?}: 1 to 32 of a-z, 0-9 and -");
+        }
+        return Ok(1);
+    };
+    let path = options.get_str("store").unwrap_or("");
+    if let Err(error) = fs::metadata(rt, path) {
+        return Ok(tell_unread(err, is_verbose(options), path, &error));
+    }
+    let folder = options.get_str("DIR").unwrap_or("");
+    run_errand(rt, &Errand::Export(maildrop, folder), path, options, err)
+}
+
+/// Opens the store at a path, and does an errand over it. A store that is refused is told as
+/// `popbox replay` tells it.
+fn run_errand<E: Write>(
+    rt: &HostRuntime,
+    errand: &Errand<'_>,
+    path: &str,
+    options: &ArgMatches<'_>,
+    err: &mut E,
+) -> Result<u8, Fault> {
+    match Connection::open_from(rt, path, false, Wary) {
+        Ok(conn) => run_over_connection(rt, conn, errand, path, options, err),
+        Err((error, _)) => {
+            let closed = Closed::Refused(open_fault(&error));
+            Ok(tell_closed(rt, err, is_verbose(options), path, &closed))
+        }
+    }
+}
+
+/// Why a file isn't opened, as the vault's fault.
+fn open_fault(error: &Error) -> VaultFault {
+    match error {
+        Error::SqliteFailure(ErrorCode::OutOfMemory) => VaultFault::NoMemory,
+        Error::SqliteFailure(ErrorCode::NotADatabase) => VaultFault::NotOurs,
+        _ => VaultFault::Store,
+    }
+}
+
+/// Tells why a store isn't opened. Gives the exit status.
+fn tell_closed<E: Write>(
+    rt: &HostRuntime,
+    err: &mut E,
+    is_verbose: bool,
+    path: &str,
+    closed: &Closed,
+) -> u8 {
+    let fault = match closed {
+        Closed::Refused(fault) => *fault,
+        Closed::Older(_) => VaultFault::OldVersion,
+    };
+    let status = tell_fault(err, Fault::from(fault));
+    if is_verbose {
+        let _ = match closed {
+            Closed::Refused(fault) => tell_closed_store(rt, err, path, *fault),
+            Closed::Older(found) => writeln!(
+                err,
+                "why: {path}: a store of version {found}, which `replay` over a copy carries over"
+            ),
+        };
+    }
+    status
+}
+
+/// Adopts the store of a connection, and does an errand over it. The log isn't copied into the file
+/// at the end, as other commands do: both stay as they are.
+fn run_over_connection<A: Alter + Drop, E: Write>(
+    rt: &HostRuntime,
+    conn: Connection<A>,
+    errand: &Errand<'_>,
+    path: &str,
+    options: &ArgMatches<'_>,
+    err: &mut E,
+) -> Result<u8, Fault> {
+    let (mut vault, clerks) = match adopt(rt.alloc(), conn) {
+        Ok(adopted) => adopted,
+        Err(closed) => return Ok(tell_closed(rt, err, is_verbose(options), path, &closed)),
+    };
+    match errand {
+        Errand::Check(octets) => check_over(
+            rt,
+            &mut vault,
+            clerks.as_slice(),
+            *octets,
+            options,
+            err,
+        ),
+        Errand::Export(maildrop, folder) => {
+            export_over(rt, &mut vault, maildrop, folder, path, options, err)
+        }
+    }
+}
+
+/// Reads who the clerks of a store are, by name, and adopts it, which changes nothing in it.
+fn adopt<A: Alter + Drop>(
+    alloc: Global,
+    conn: Connection<A>,
+) -> Result<(SqlVault<A>, Vec<Name>), Closed> {
+    let mut conn = conn;
+    let clerks = clerks_of(alloc, &mut conn)?;
+    match SqlVault::adopt(alloc, conn) {
+        Ok(vault) => Ok((vault, clerks)),
+        Err((fault, _)) => Err(Closed::Refused(fault)),
+    }
+}
+
+/// The names of a store's clerks, in order. A database without our mark, which an adoption might
+/// make a store of, is refused here, and so is a store of another version.
+fn clerks_of<A: Alter>(alloc: Global, conn: &mut Connection<A>) -> Result<Vec<Name>, Closed> {
+    match find_mark(alloc, conn, b"popbox") {
+        Ok(Some(mark)) if mark.value == VERSION => {}
+        Ok(Some(mark)) if mark.value == 1 || mark.value == 2 => {
+            return Err(Closed::Older(mark.value));
+        }
+        Ok(Some(_)) => return Err(Closed::Refused(VaultFault::OldVersion)),
+        Ok(None) => return Err(Closed::Refused(VaultFault::NotOurs)),
+        Err(error) => return Err(Closed::Refused(read_fault_of(&error))),
+    }
+    let rows = match all_clerks(alloc, conn) {
+        Ok(rows) => rows,
+        Err(error) => return Err(Closed::Refused(read_fault_of(&error))),
+    };
+    let mut names = Vec::new(alloc);
+    for row in rows.iter() {
+        let Some(name) = Name::read(row.name.as_slice()) else {
+            return Err(Closed::Refused(VaultFault::NotOurs));
+        };
+        if names.push(name).is_err() {
+            return Err(Closed::Refused(VaultFault::NoMemory));
+        }
+    }
+    in_order(alloc, names.as_slice()).map_err(|_| Closed::Refused(VaultFault::NoMemory))
+}
+
+/// Why a statement that only reads is refused: by a database that has no such table, or for want of
+/// memory.
+fn read_fault_of(error: &Error) -> VaultFault {
+    match error {
+        Error::SqliteFailure(ErrorCode::OutOfMemory) => VaultFault::NoMemory,
+        Error::SqlInputError(_) => VaultFault::NotOurs,
+        _ => VaultFault::Store,
+    }
+}
+
+/// Prints what lies in a store to standard output.
+fn check_over<V: Vault, E: Write>(
+    rt: &HostRuntime,
+    vault: &mut V,
+    clerks: &[Name],
+    octets: u64,
+    options: &ArgMatches<'_>,
+    err: &mut E,
+) -> Result<u8, Fault> {
+    let alloc: Global = rt.alloc();
+    let mut out = BufWriter::new(alloc, io::writer(rt)).map_err(|_| Fault::OutOfMemory)?;
+    let mut out = Watched::new(&mut out);
+    let file = StoreFile {
+        version: VERSION as u64,
+        octets,
+    };
+    let status = check_store(vault, clerks, &file, &mut out, err);
+    if is_verbose(options) {
+        tell_refusal(err, "standard output", out.refusal());
+    }
+    Ok(status)
+}
+
+/// Puts a maildrop's messages into a folder, and prints how many to standard output.
+fn export_over<V: Vault, E: Write>(
+    rt: &HostRuntime,
+    vault: &mut V,
+    maildrop: &Name,
+    path: &str,
+    store: &str,
+    options: &ArgMatches<'_>,
+    err: &mut E,
+) -> Result<u8, Fault> {
+    let alloc: Global = rt.alloc();
+    let mut out = BufWriter::new(alloc, io::writer(rt)).map_err(|_| Fault::OutOfMemory)?;
+    let mut out = Watched::new(&mut out);
+    let mut folder = NamedFolder {
+        rt,
+        path,
+        refusal: None,
+    };
+    let status = export(alloc, vault, maildrop, &mut folder, &mut out, err);
+    if is_verbose(options) && status != 0 {
+        if vault.heads(maildrop).is_err() {
+            let _ = writeln!(err, "why: {store}: it has no maildrop {maildrop}");
+        }
+        tell_refusal(err, path, folder.refusal);
+        tell_refusal(err, "standard output", out.refusal());
+    }
+    Ok(status)
+}
+
+/// The folder at a path, and what the system answered to its last refusal.
+#[derive(Drop)]
+struct NamedFolder<'a> {
+    rt: &'a HostRuntime,
+    path: &'a str,
+    refusal: Option<io::Error>,
+}
+
+impl Folder for NamedFolder<'_> {
+    ghost use Rattle.std.specs.Prelude.{None};
+
+    ghost files = { λ _. None };
+
+    fn put(&mut self, name: &str, octets: &[u8]) -> io::Result<()> {
+        let put = put_file(self.rt, self.path, name, octets);
+        if let Err(error) = put {
+            self.refusal = Some(error);
+        }
+        put
+    }
+}
+
+/// Writes a file into the folder at a path under a name of its own, and gives it its name once it
+/// is whole and on the disk. A file that has the name stays.
+fn put_file(rt: &HostRuntime, path: &str, name: &str, octets: &[u8]) -> io::Result<()> {
+    let alloc: Global = rt.alloc();
+    let unfinished = format!(in alloc; "{path}/{UNFINISHED}")?;
+    let whole = format!(in alloc; "{path}/{name}")?;
+    if fs::symlink_metadata(rt, whole.as_str()).is_ok() {
+        return Err(io::Error::from(ErrorKind::AlreadyExists));
+    }
+    let mut file = OpenOptions::new()
+        .write(true)
+        .create_new(true)
+        .mode(OWNER_ALONE)
+        .open(rt, unfinished.as_str())?;
+    let written = write_whole(&mut file, octets);
+    let done = match written {
+        Ok(()) => fs::rename(rt, unfinished.as_str(), whole.as_str()),
+        Err(error) => Err(error),
+    };
+    if done.is_err() {
+        let _ = fs::remove_file(rt, unfinished.as_str());
+    }
+    done
+}
+
+/// Writes octets to a file, and waits for the disk.
+fn write_whole(file: &mut File, octets: &[u8]) -> io::Result<()> {
+    file.write_all(octets)?;
+    file.sync_all()
+}
