@@ -5,7 +5,7 @@ use super::journal::Journal;
 use super::request::Asking;
 use serving::{Io, Link, Port, SocketWire, Wire};
 use std::alloc::{AllocError, Global};
-use std::net::SocketAddr;
+use std::net::{IpAddr, SocketAddr};
 
 /// A wire that knows from where its links came.
 pub trait Peers {
@@ -185,6 +185,10 @@ impl<W: Wire + Peers> Wire for LoggedWire<'_, W> {
             self.followed.say(port, link, &octets[..count]);
         }
         went
+    }
+
+    fn address(&self, port: Port, link: Link) -> Option<IpAddr> {
+        self.wire.address(port, link)
     }
 
     fn close(&mut self, port: Port, link: Link) {

@@ -6,6 +6,7 @@ ghost use Rattle.serving.specs.Scripts.{TellsOf, tells_once};
 use crate::script_links::{ScriptLinks, Stop};
 use crate::wire::{Io, Link, Port, Wire};
 use std::alloc::{AllocError, Global};
+use std::net::IpAddr;
 
 /// A wire in memory. Each read and each write moves so many octets at most.
 #[derive(Drop)]
@@ -15,6 +16,8 @@ pub struct ScriptWire {
     clients: ScriptLinks,
     /// The links of the administration.
     requests: ScriptLinks,
+    /// From where the clients come, in the order in which they are accepted.
+    addresses: Vec<IpAddr>,
     /// What comes behind the octets of each link: its end, or nothing for now.
     ends: bool,
     /// How many reads and writes there were.
@@ -36,6 +39,7 @@ impl ScriptWire {
             piece,
             clients: ScriptLinks::new(alloc, waiting),
             requests: ScriptLinks::new(alloc, Vec::new(alloc)),
+            addresses: Vec::new(alloc),
             ends: false,
             calls: 0,
             stop: None,
@@ -56,6 +60,12 @@ impl ScriptWire {
     /// A further client's link comes.
     pub fn connect(&mut self, comes: Vec<u8>) -> Result<(), AllocError> {
         self.clients.connect(comes)
+    }
+
+    /// From where the clients come, in the order in which they are accepted. Until then, and of
+    /// those behind the last of these, no address is known.
+    pub fn set_addresses(&mut self, addresses: Vec<IpAddr>) {
+        self.addresses = addresses;
     }
 
     /// A further link of the administration comes. Of those that wait the last one is accepted
@@ -176,6 +186,16 @@ impl Wire for ScriptWire {
         match port {
             Port::Pop => self.clients.write(link, stop, self.piece, octets),
             Port::Admin => self.requests.write(link, stop, self.piece, octets),
+        }
+    }
+
+    fn address(&self, port: Port, link: Link) -> Option<IpAddr> {
+        match port {
+            Port::Pop => self
+                .addresses
+                .get(usize::try_from(link.number).ok()?)
+                .copied(),
+            Port::Admin => None,
         }
     }
 

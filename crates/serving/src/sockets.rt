@@ -9,7 +9,7 @@ use mio::{Events, Interest, Poll, Token};
 use std::alloc::Global;
 use std::io;
 use std::io::{ErrorKind, Read, Write};
-use std::net::{Net, SocketAddr};
+use std::net::{IpAddr, Net, SocketAddr};
 use std::time::Duration;
 
 /// How many links may be held: more than are served at once, so that one more can be accepted, to
@@ -383,6 +383,10 @@ impl Wire for SocketWire {
             Some(place) => place.write(octets),
             None => Io::Broken,
         }
+    }
+
+    fn address(&self, _port: Port, link: Link) -> Option<IpAddr> {
+        Some(self.peer(link)?.ip())
     }
 
     fn close(&mut self, _port: Port, link: Link) {

@@ -2,6 +2,8 @@
 ghost use Rattle.std.specs.Prelude.{◌≡◌, length};
 ghost use Rattle.serving.specs.Wires.{ToldOfPorts, at_port, counted, has_read, has_written, has_closed};
 
+use std::net::IpAddr;
+
 /// A link at one of a wire's ports. No other link at this port ever has its number.
 #[derive(Clone, Copy, PartialEq, Eq, Default, Debug)]
 pub struct Link {
@@ -65,6 +67,9 @@ pub trait Wire {
     fn write(&mut self, port: Port, link: Link, octets: &[u8]) -> Io
         ensures within { IsWithin (length octets.now) result }
         ensures told { (t : ToldOfPorts) → tells self.old t → tells self.new (at_port port (λ of. has_written of link.number result (counted result octets.now)) t) };
+
+    /// The address that a link came from; `None` where it isn't known.
+    fn address(&self, port: Port, link: Link) -> Option<IpAddr>;
 
     /// Closes a link.
     fn close(&mut self, port: Port, link: Link)

@@ -8,6 +8,7 @@ use super::reckoning::Reckoning;
 use super::sent::some_request;
 use super::stream::front;
 use crate::wire::{Io, Link, Port, Wire};
+use std::net::IpAddr;
 
 /// A wire by chance.
 #[derive(Drop)]
@@ -169,6 +170,10 @@ impl Wire for RandomWire {
     fn write(&mut self, port: Port, link: Link, octets: &[u8]) -> Io {
         let io = self.write_some(port, link.number, octets);
         within(io, octets.len())
+    }
+
+    fn address(&self, _port: Port, _link: Link) -> Option<IpAddr> {
+        None
     }
 
     fn close(&mut self, port: Port, link: Link) {
