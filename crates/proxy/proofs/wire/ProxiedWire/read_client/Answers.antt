@@ -1,0 +1,28 @@
+use Rattle.std.proofs.Common.{rules, ◌≡◌, ◌∙◌, true, sym, subst, length, [], is_some}
+use Rattle.std.specs.Ordering.{nat_cmp}
+use Rattle.std.specs.BTreeMap.{get}
+use Rattle.serving.specs.Wires.{at_port, has_read, counted}
+use Rattle.serving.specs.declared.wire.Port.TheVariants.{Pop}
+use Rattle.proxy.specs.Proxied.{IsKnown, TellsProxy}
+use Rattle.proxy.proofs.Telling.{known_read, some_there, counted_none, within_any}
+use Rattle.proxy.proofs.wire.ProxiedWire.read_client.Goals as goal
+
+pub returns-then-contains_key-clause-told : goal.returns-then-contains_key-clause-told
+returns-then-contains_key-clause-told g c u (t, h, a) =
+    let k = c.args.link.number in
+    let begun = get nat_cmp c.args.self.now.begun in
+    let known = get nat_cmp c.args.self.now.known in
+    let octets = counted c.read.result c.read.new.buffer in
+    let there : is_some (known k) ≡ true = sym c.contains_key.ensures ∙ c.if-contains_key.true in
+    let so = some_there (known k) (λ source. IsKnown t.pop k source) there (a.known_so k) in
+    (at_port Pop (λ of. has_read of k c.read.result octets) t, c.read.ensures.told t h, known_read begun known t u k c.read.result octets so.0 a so.1)
+
+pub returns-clause-within : goal.returns-clause-within
+returns-clause-within g c = within_any c.read_line.result (length c.args.buffer.now) c.read_line.ensures.within
+
+pub returns-clause-told : goal.returns-clause-told
+returns-clause-told g c u h =
+    let r = c.read_line.new.self in
+    let k = c.args.link.number in
+    let io = c.read_line.result in
+    subst (λ xs. TellsProxy g.W.Wire.tells r.wire (get nat_cmp r.begun) (get nat_cmp r.known) (at_port Pop (λ of. has_read of k io xs) u)) (sym (counted_none io c.args.buffer.now c.read_line.ensures.within)) (c.read_line.ensures.told u h)

@@ -1,0 +1,308 @@
+//! A wire whose clients come through a proxy on the same machine.
+ghost use Rattle.std.specs.Prelude.{◌≡◌, ◌<◌, ◌++◌, ◌⊎◌, ℕ, List, [], Option, Some, None, length, false, IfSome};
+ghost use Rattle.std.specs.Ordering.{nat_cmp};
+ghost use Rattle.std.specs.declared.net.ip_addr.IpAddr.{IpAddr as Address};
+ghost use Rattle.std.specs.BTreeMap.{get};
+ghost use Rattle.arrayvec.specs.ArrayVec.{array_vec_len};
+ghost use Rattle.serving.specs.Wires.{ToldOfPorts, AreFresh, at_port, has_read, has_accepted, counted, IsWithin};
+ghost use Rattle.serving.specs.declared.wire.Port.TheVariants.{Pop as ThePop};
+ghost use Rattle.serving.specs.declared.wire.Io.TheVariants.{Later as TheLater, Broken as TheBroken};
+ghost use Rattle.proxy.specs.Proxied.{TellsProxy, TellsProxied, proxy_once, IsLineRead, IsAmid, IsAsFarAs, has_line};
+
+use crate::line::{MOST_OCTETS, ProxyLine};
+use arrayvec::ArrayVec;
+use serving::{Io, Link, Port, Wire};
+use std::alloc::Global;
+use std::collections::BTreeMap;
+use std::net::IpAddr;
+use std::time::Clock;
+
+/// How many seconds behind its acceptance the first line of a link has to be whole.
+const MOST_SECONDS: u64 = 10;
+
+/// The octets of a line that isn't whole yet, or just became so.
+type Line = ArrayVec<u8, MOST_OCTETS>;
+
+/// A first line that isn't whole yet.
+#[derive(Drop)]
+pub(crate) struct Begun {
+    line: Line,
+    /// The clock's second in which the link was accepted.
+    since: u64,
+}
+
+/// How far a line was read.
+#[derive(Clone, Copy)]
+pub(crate) enum Progress {
+    /// To its end.
+    Whole,
+    /// It isn't whole; what the last read gave.
+    Open(Io),
+}
+
+/// A wire that does what the one inside does, but for the first line of each client's link, which
+/// is a proxy's.
+///
+/// That line is read here, and never handed on: a read gives `Later` until it was read whole, and a
+/// look gives `Later` too. A link is closed, and its read gives `Broken`, where the first line is no
+/// PROXY line, is longer than 107 octets, isn't whole at a read ten seconds or more behind the
+/// acceptance, or where memory for it is wanting. Links of the administration have no such line.
+///
+/// Contracts see what the wire inside tells, but of what was read from a client's link only the
+/// octets behind its first line; and that these are behind a PROXY line.
+#[derive(Drop)]
+pub struct ProxiedWire<W: Wire, C: Clock> {
+    pub wire: W,
+    pub clock: C,
+    /// The lines that aren't whole, by the numbers of their links.
+    begun: BTreeMap<u64, Begun>,
+    /// The sources that lines told, by the numbers of their links.
+    known: BTreeMap<u64, Option<IpAddr>>,
+    /// A line was read whole since the last wait, and more may lie behind it.
+    presses: bool,
+}
+
+/// Reads the next octet of a line.
+fn read_octet<W: Wire>(wire: &mut W, link: Link, line: &mut Line) -> Progress
+    requires { array_vec_len line.old < 107 }
+    ensures told { (t : ToldOfPorts) → W.tells wire.old t → IsLineRead W.tells wire.new link.number line.old.items line.new.items result t }
+    ensures so_far { has_line line.old.items ≡ false → IsAsFarAs result line.new.items }
+{
+    let mut one = [0u8; 1];
+    match wire.read(Port::Pop, link, &mut one) {
+        Io::Count(_) => {}
+        Io::Later => return Progress::Open(Io::Later),
+        Io::End => return Progress::Open(Io::End),
+        Io::Broken => return Progress::Open(Io::Broken),
+    }
+    let octet = one[0];
+    line.push(octet);
+    if octet == b'\n' {
+        return Progress::Whole;
+    }
+    Progress::Open(Io::Count(1))
+}
+
+/// Reads octets of a line, one by one, until it is whole or has 107, or no octet comes; and stops
+/// behind one more than `left`.
+fn read_octets<W: Wire>(wire: &mut W, link: Link, line: &mut Line, left: usize) -> Progress
+    requires { array_vec_len line.old < 107 }
+    ensures told { (t : ToldOfPorts) → W.tells wire.old t → IsLineRead W.tells wire.new link.number line.old.items line.new.items result t }
+    ensures so_far { has_line line.old.items ≡ false → IsAsFarAs result line.new.items }
+{
+    match read_octet(wire, link, line) {
+        Progress::Open(Io::Count(count)) => {
+            if left == 0 {
+                return Progress::Open(Io::Count(count));
+            }
+            if line.is_full() {
+                return Progress::Open(Io::Count(count));
+            }
+            read_octets(wire, link, line, left - 1)
+        }
+        Progress::Open(Io::Later) => Progress::Open(Io::Later),
+        Progress::Open(Io::End) => Progress::Open(Io::End),
+        Progress::Open(Io::Broken) => Progress::Open(Io::Broken),
+        Progress::Whole => Progress::Whole,
+    }
+}
+
+impl<W: Wire, C: Clock> ProxiedWire<W, C> {
+    /// A wire around this one, from which nothing was accepted yet. The clock tells how long a
+    /// link's first line takes.
+    pub fn new(alloc: Global, wire: W, clock: C) -> ProxiedWire<W, C>
+        ensures wire { result.wire ≡ wire }
+        ensures tells { (t : ToldOfPorts) → W.tells wire t → AreFresh t → TellsProxy W.tells result.wire (get nat_cmp result.begun) (get nat_cmp result.known) t }
+    {
+        ProxiedWire {
+            wire,
+            clock,
+            begun: BTreeMap::new(alloc),
+            known: BTreeMap::new(alloc),
+            presses: false,
+        }
+    }
+
+    /// The clock's second; 0 where it can't be read.
+    fn second(&self) -> u64 {
+        match self.clock.monotonic() {
+            Ok(time) => time.as_secs(),
+            Err(_) => 0,
+        }
+    }
+
+    /// Closes a client's link that was read from in vain, and tells that it is broken.
+    fn break_off(&mut self, link: Link) -> Io
+        ensures told { (u : ToldOfPorts) → TellsProxy W.tells self.old.wire (get nat_cmp self.old.begun) (get nat_cmp self.old.known) (at_port ThePop (λ of. has_read of link.number TheLater []) u) → TellsProxy W.tells self.new.wire (get nat_cmp self.new.begun) (get nat_cmp self.new.known) (at_port ThePop (λ of. has_read of link.number result []) u) }
+        ensures broken { result ≡ TheBroken }
+    {
+        self.wire.close(Port::Pop, link);
+        Io::Broken
+    }
+
+    /// Reads on a client's link whose first line isn't wanted any more, or never was: what lies
+    /// there stays unread, and the link is closed.
+    fn refuse(&mut self, link: Link) -> Io
+        ensures told { (u : ToldOfPorts) → TellsProxy W.tells self.old.wire (get nat_cmp self.old.begun) (get nat_cmp self.old.known) u → TellsProxy W.tells self.new.wire (get nat_cmp self.new.begun) (get nat_cmp self.new.known) (at_port ThePop (λ of. has_read of link.number result []) u) }
+        ensures within { IsWithin 0 result }
+    {
+        let mut none = [0u8; 0];
+        match self.wire.read(Port::Pop, link, &mut none) {
+            Io::End => Io::End,
+            Io::Broken => Io::Broken,
+            Io::Later | Io::Count(_) => self.break_off(link),
+        }
+    }
+
+    /// Keeps what was read of a line that isn't whole; or closes the link, where the line is too
+    /// long or takes too long.
+    fn keep(&mut self, link: Link, begun: Begun) -> Io
+        ensures told { (u : ToldOfPorts) → IsAmid W.tells self.old.wire (get nat_cmp self.old.begun) (get nat_cmp self.old.known) link.number begun.line.items u → has_line begun.line.items ≡ false → TellsProxy W.tells self.new.wire (get nat_cmp self.new.begun) (get nat_cmp self.new.known) (at_port ThePop (λ of. has_read of link.number result []) u) }
+        ensures within { IsWithin 0 result }
+    {
+        if begun.line.is_full() {
+            return self.break_off(link);
+        }
+        if self.second().saturating_sub(begun.since) >= MOST_SECONDS {
+            return self.break_off(link);
+        }
+        match self.begun.insert(link.number, begun) {
+            Ok(_) => Io::Later,
+            Err(_) => self.break_off(link),
+        }
+    }
+
+    /// Learns the source that a whole line tells; or closes the link, where it is no PROXY line.
+    fn learn(&mut self, link: Link, line: &[u8]) -> Io
+        ensures told { (u : ToldOfPorts) → IsAmid W.tells self.old.wire (get nat_cmp self.old.begun) (get nat_cmp self.old.known) link.number line.now u → IsAsFarAs Progress.Whole line.now → TellsProxy W.tells self.new.wire (get nat_cmp self.new.begun) (get nat_cmp self.new.known) (at_port ThePop (λ of. has_read of link.number result []) u) }
+        ensures within { IsWithin 0 result }
+    {
+        let Some(read) = ProxyLine::read(line) else {
+            return self.break_off(link);
+        };
+        match self.known.insert(link.number, read.source) {
+            Ok(_) => {
+                self.presses = true;
+                Io::Later
+            }
+            Err(_) => self.break_off(link),
+        }
+    }
+
+    /// Reads on a client's link whose first line isn't known.
+    fn read_line(&mut self, link: Link) -> Io
+        ensures told { (u : ToldOfPorts) → TellsProxy W.tells self.old.wire (get nat_cmp self.old.begun) (get nat_cmp self.old.known) u → TellsProxy W.tells self.new.wire (get nat_cmp self.new.begun) (get nat_cmp self.new.known) (at_port ThePop (λ of. has_read of link.number result []) u) }
+        ensures within { IsWithin 0 result }
+    {
+        let Some(mut begun) = self.begun.remove(&link.number) else {
+            return self.refuse(link);
+        };
+        if begun.line.is_full() {
+            return self.refuse(link);
+        }
+        // What is looked at comes from memory then, octet by octet.
+        let mut shown = [0; MOST_OCTETS];
+        let _ = self.wire.look(Port::Pop, link, &mut shown);
+        match read_octets(&mut self.wire, link, &mut begun.line, MOST_OCTETS) {
+            Progress::Whole => self.learn(link, begun.line.as_slice()),
+            Progress::Open(Io::End) => Io::End,
+            Progress::Open(Io::Broken) => Io::Broken,
+            Progress::Open(Io::Later) => self.keep(link, begun),
+            Progress::Open(Io::Count(_)) => self.keep(link, begun),
+        }
+    }
+
+    /// Reads from a client's link.
+    fn read_client(&mut self, link: Link, buffer: &mut [u8]) -> Io
+        ensures within { IsWithin (length buffer.old) result }
+        ensures told { (u : ToldOfPorts) → TellsProxy W.tells self.old.wire (get nat_cmp self.old.begun) (get nat_cmp self.old.known) u → TellsProxy W.tells self.new.wire (get nat_cmp self.new.begun) (get nat_cmp self.new.known) (at_port ThePop (λ of. has_read of link.number result (counted result buffer.new)) u) }
+    {
+        if self.known.contains_key(&link.number) {
+            return self.wire.read(Port::Pop, link, buffer);
+        }
+        self.read_line(link)
+    }
+
+    /// Begins to read the first line of a link that was accepted. Where memory is wanting the link
+    /// has none, and its first read closes it.
+    fn begin(&mut self, link: Link)
+        ensures { (t u : ToldOfPorts) → link.number ≡ t.pop.accepted → W.tells self.old.wire (at_port ThePop has_accepted t) → TellsProxied (get nat_cmp self.old.begun) (get nat_cmp self.old.known) t u → TellsProxy W.tells self.new.wire (get nat_cmp self.new.begun) (get nat_cmp self.new.known) (at_port ThePop has_accepted u) }
+    {
+        let begun = Begun {
+            line: ArrayVec::new(),
+            since: self.second(),
+        };
+        let _ = self.begun.insert(link.number, begun);
+    }
+}
+
+impl<W: Wire, C: Clock> Wire for ProxiedWire<W, C> {
+    ghost tells = { λ r u. TellsProxy W.tells r.wire (get nat_cmp r.begun) (get nat_cmp r.known) u };
+
+    ghost tells_once = { λ r u v a b. proxy_once W.tells W.tells_once r.wire (get nat_cmp r.begun) (get nat_cmp r.known) u v a b };
+
+    fn wait(&mut self, millis: u32) {
+        let millis = if self.presses { 0 } else { millis };
+        self.presses = false;
+        self.wire.wait(millis);
+    }
+
+    fn accept(&mut self, port: Port) -> Option<Link> {
+        let link = self.wire.accept(port)?;
+        match port {
+            Port::Pop => self.begin(link),
+            Port::Admin => {}
+        }
+        Some(link)
+    }
+
+    fn look(&mut self, port: Port, link: Link, buffer: &mut [u8]) -> Io {
+        match port {
+            Port::Pop => {
+                if self.known.contains_key(&link.number) {
+                    return self.wire.look(port, link, buffer);
+                }
+                Io::Later
+            }
+            Port::Admin => self.wire.look(port, link, buffer),
+        }
+    }
+
+    fn read(&mut self, port: Port, link: Link, buffer: &mut [u8]) -> Io {
+        match port {
+            Port::Pop => self.read_client(link, buffer),
+            Port::Admin => self.wire.read(port, link, buffer),
+        }
+    }
+
+    fn write(&mut self, port: Port, link: Link, octets: &[u8]) -> Io {
+        self.wire.write(port, link, octets)
+    }
+
+    /// The address that the link's first line told; that of the wire inside where the proxy doesn't
+    /// know it; `None` while the line isn't whole.
+    fn address(&self, port: Port, link: Link) -> Option<IpAddr>
+        ensures told { (source : Address) → port ≡ ThePop → get nat_cmp self.now.known link.number ≡ Some (Some source) → result ≡ Some source }
+        ensures open_yet { port ≡ ThePop → get nat_cmp self.now.known link.number ≡ None → result ≡ None }
+    {
+        match port {
+            Port::Pop => match self.known.get(&link.number) {
+                Some(Some(source)) => Some(*source),
+                Some(None) => self.wire.address(port, link),
+                None => None,
+            },
+            Port::Admin => self.wire.address(port, link),
+        }
+    }
+
+    fn close(&mut self, port: Port, link: Link) {
+        self.wire.close(port, link);
+        match port {
+            Port::Pop => {
+                let _ = self.begun.remove(&link.number);
+                let _ = self.known.remove(&link.number);
+            }
+            Port::Admin => {}
+        }
+    }
+}
