@@ -7,6 +7,7 @@ use popline::{Command, Cut, Cutter, Keyword, LineFault};
 use serving::Link;
 use std::alloc::{AllocError, Global};
 use std::collections::VecDeque;
+use std::net::IpAddr;
 
 /// What a line of the client asked for, in the kinds that the log tells apart.
 #[derive(Clone, Copy)]
@@ -169,6 +170,17 @@ impl Talk {
         }
     }
 
+    /// Names the client by another address from now on.
+    fn locate(&mut self, alloc: Global, address: IpAddr) {
+        let who = match self.number {
+            Some(number) => format!(in alloc; "connection={number} client={address}"),
+            None => format!(in alloc; "client={address}"),
+        };
+        if let Ok(who) = who {
+            self.who = who;
+        }
+    }
+
     /// Notes a connection.
     fn greet(&mut self, journal: &Journal<'_>, reply: &[u8]) {
         let number = str::from_utf8(number_in(reply)).unwrap_or("");
@@ -282,21 +294,37 @@ fn outcome(alloc: Global, reply: &[u8]) -> Result<String, AllocError> {
 #[derive(Drop)]
 pub struct Client {
     pub link: Link,
+    /// From where it came, where that is known.
+    ip: Option<IpAddr>,
     line: Line,
     reply: Cutter,
     talk: Talk,
 }
 
 impl Client {
-    /// The client at a link, with its address.
-    pub fn new(alloc: Global, link: Link, address: &str) -> Result<Client, AllocError> {
+    /// The client at a link, with its address, also as the log writes it.
+    pub fn new(
+        alloc: Global,
+        link: Link,
+        ip: Option<IpAddr>,
+        address: &str,
+    ) -> Result<Client, AllocError> {
         let who = format!(in alloc; "client={address}")?;
         Ok(Client {
             link,
+            ip,
             line: Line::new(),
             reply: Cutter::new(),
             talk: Talk::new(alloc, who)?,
         })
+    }
+
+    /// Takes the client's address. One that a proxy told is written without a port.
+    pub fn locate(&mut self, alloc: Global, address: IpAddr) {
+        if self.ip != Some(address) {
+            self.ip = Some(address);
+            self.talk.locate(alloc, address);
+        }
     }
 
     /// Takes octets that the client sent.

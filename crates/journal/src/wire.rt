@@ -3,9 +3,11 @@
 use super::client::Client;
 use super::journal::Journal;
 use super::request::Asking;
+use proxy::ProxiedWire;
 use serving::{Io, Link, Port, SocketWire, Wire};
 use std::alloc::{AllocError, Global};
 use std::net::{IpAddr, SocketAddr};
+use std::time::Clock;
 
 /// A wire that knows from where its links came.
 pub trait Peers {
@@ -16,6 +18,13 @@ pub trait Peers {
 impl Peers for SocketWire {
     fn peer(&self, link: Link) -> Option<SocketAddr> {
         SocketWire::peer(self, link)
+    }
+}
+
+/// Behind a proxy the other end is the proxy; a link's `address` is the client's.
+impl<W: Wire + Peers, C: Clock> Peers for ProxiedWire<W, C> {
+    fn peer(&self, link: Link) -> Option<SocketAddr> {
+        self.wire.peer(link)
     }
 }
 
@@ -53,16 +62,27 @@ impl<'a> Followed<'a> {
         address: Option<SocketAddr>,
     ) -> Result<(), AllocError> {
         let alloc = self.journal.alloc();
-        let address = address_text(alloc, address)?;
+        let text = address_text(alloc, address)?;
         match port {
-            Port::Pop => self
-                .clients
-                .push(Client::new(alloc, link, address.as_str())?)?,
-            Port::Admin => self
-                .askings
-                .push(Asking::new(alloc, link, address.as_str())?)?,
+            Port::Pop => {
+                let ip = address.map(|it| it.ip());
+                self.clients
+                    .push(Client::new(alloc, link, ip, text.as_str())?)?;
+            }
+            Port::Admin => self.askings.push(Asking::new(alloc, link, text.as_str())?)?,
         }
         Ok(())
+    }
+
+    /// Takes the address of a client's link, which a proxy may have told since.
+    fn locate(&mut self, port: Port, link: Link, address: Option<IpAddr>) {
+        let alloc = self.journal.alloc();
+        if port != Port::Pop {
+            return;
+        }
+        if let (Some(client), Some(address)) = (self.client(link), address) {
+            client.locate(alloc, address);
+        }
     }
 
     /// The client at a link.
@@ -172,6 +192,8 @@ impl<W: Wire + Peers> Wire for LoggedWire<'_, W> {
         if let Io::Count(count) = came
             && self.followed.journal.is_on()
         {
+            self.followed
+                .locate(port, link, self.wire.address(port, link));
             self.followed.hear(port, link, &buffer[..count]);
         }
         came

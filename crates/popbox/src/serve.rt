@@ -3,10 +3,12 @@ use crate::command_line::{is_verbose, removals_of};
 use clap::ArgMatches;
 use converse::{Fault, tell_fault};
 use journal::{
-    FileId, Folder, Guarded, Journal, LoggedSpool, LoggedVault, LoggedWire, Loss, Shared,
+    FileId, Folder, Guarded, Journal, LoggedSpool, LoggedVault, LoggedWire, Loss, Peers, Shared,
     StoreWatch, note_end, note_loss, note_opening, note_start,
 };
 use office::{Limits, Office};
+use proxy::ProxiedWire;
+use recent::Recent;
 use serving::{FolderSpool, SocketWire, Wire, begin, serve_turn};
 use std::io;
 use std::io::Write;
@@ -39,15 +41,15 @@ pub fn serve_over<V: Vault, E: Write>(
     };
     let shared = Shared::new(rt.alloc());
     let journal = Journal::new(rt, options.get_flag("log"), &shared);
-    let mut vault = LoggedVault::new(vault, journal);
+    let mut vault = LoggedVault::new(Recent::new(rt.alloc(), vault), journal);
     let totals = totals_of(&mut vault, &journal);
     let watch = StoreWatch::new(rt, options.get_str("store").unwrap_or(""), before);
     let limits = limits.with_removals(removals_of(options));
     match Office::open(rt.alloc(), vault, host, boot, limits) {
-        Err((fault, vault)) => (Err(Fault::from(fault)), vault.into_vault()),
+        Err((fault, vault)) => (Err(Fault::from(fault)), vault.into_vault().into_vault()),
         Ok(mut office) => {
             let served = serve(rt, &mut office, at, options, journal, &watch, &totals, err);
-            (served, office.into_vault().into_vault())
+            (served, office.into_vault().into_vault().into_vault())
         }
     }
 }
@@ -105,8 +107,12 @@ fn serve<V: Vault, E: Write>(
     if is_verbose(options) && !journal.is_on() {
         folder.tell_left(err);
     }
-    let wire = Guarded::new(LoggedWire::new(wire, journal), watch);
-    let served = serve_turns(rt, office, wire, folder, options, journal, watch);
+    let served = if options.get_flag("proxy-protocol") {
+        let wire = ProxiedWire::new(rt.alloc(), wire, rt);
+        serve_turns(rt, office, wire, folder, options, journal, watch)
+    } else {
+        serve_turns(rt, office, wire, folder, options, journal, watch)
+    };
     let status = match (served, watch.loss()) {
         (Ok(_), Some(loss)) => Ok(tell_loss(err, is_verbose(options), &journal, watch, loss)),
         (served, _) => served,
@@ -133,15 +139,16 @@ fn tell_loss<E: Write>(
 }
 
 /// Serves a wire, and the spool that is named, until so many turns are over, or the store is lost.
-fn serve_turns<V: Vault, W: Wire + Drop>(
+fn serve_turns<V: Vault, W: Wire + Peers + Drop>(
     rt: &HostRuntime,
     office: &mut Office<V>,
-    mut wire: W,
+    wire: W,
     folder: Folder<'_>,
     options: &ArgMatches<'_>,
     journal: Journal<'_>,
     watch: &StoreWatch<'_>,
 ) -> Result<u8, Fault> {
+    let mut wire = Guarded::new(LoggedWire::new(wire, journal), watch);
     let files = FolderSpool::new(rt, rt.alloc(), options.get_str("spool").unwrap_or(""));
     let mut spool = Guarded::new(LoggedSpool::new(files, journal, folder), watch);
     let mut links = begin(rt.alloc(), office, &wire, &spool);
