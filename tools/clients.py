@@ -102,9 +102,9 @@ class Server:
     def __init__(self, program, folder, *words, **how):
         self.folder, self.spool = folder, f"{folder}/spool"
         os.makedirs(self.spool, exist_ok=True)
-        paths = ["--store", f"{folder}/mail.db", "--spool", self.spool]
-        ports = ["--pop-port", "0", "--admin-port", "0"]
-        command = [program, "serve", *paths, *ports, *words]
+        store = [] if "--store" in words else ["--store", f"{folder}/mail.db"]
+        ports = ["--spool", self.spool, "--pop-port", "0", "--admin-port", "0"]
+        command = [program, "serve", *store, *ports, *words]
         self.run = subprocess.Popen(command, stdout=subprocess.PIPE, **how)
         late = threading.Timer(START, self.run.kill)
         late.start()

@@ -1,4 +1,4 @@
-//! Why a group of a policy's text is none: its key and value.
+//! Why a group of a policy's text is refused: its key and value.
 
 use super::bad_rule::{missing_key, table_at, tell_double, tell_of_key, tell_setting, tell_stray};
 use creds::Name;
@@ -10,7 +10,7 @@ use toml::{Table, Value};
 /// The keys of a group.
 const KEYS: [&str; 2] = ["name", "members"];
 
-/// Tells the fault of the group of this number, from 1.
+/// Tells the fault of the group of this number, counted from 1.
 pub(super) fn tell_group_fault<E: Write>(
     err: &mut E,
     name: &str,
@@ -43,7 +43,7 @@ fn tell_key<E: Write>(
     }
 }
 
-/// Tells the key that a group lacks, or that none has.
+/// Tells the key that a group lacks, or the one that no group has.
 fn tell_keys<E: Write>(err: &mut E, group: &Table) -> io::Result<()> {
     if let Some(key) = missing_key(group, &KEYS) {
         return writeln!(err, "the key `{key}` is missing");
@@ -89,12 +89,12 @@ fn is_name(value: &Value) -> bool {
     }
 }
 
-/// The text of a value, or an empty one where it is none.
+/// The text of a value; empty where the value isn't a text.
 fn text_of(value: &Value) -> &str {
     value.as_str().unwrap_or("")
 }
 
-/// The first value whose text stands before it too.
+/// The first value whose text an earlier value has too.
 fn first_double(values: &[Value]) -> Option<&Value> {
     for (at, value) in values.iter().enumerate() {
         let before = values.get(..at).unwrap_or(values);

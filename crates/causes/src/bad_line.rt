@@ -1,4 +1,4 @@
-//! Why a script's line is no event: which of its fields isn't of its form.
+//! Why a line of a script isn't an event: which of its fields hasn't the form that it must have.
 
 use converse::replay::write_escaped;
 use converse::script::read_script;
@@ -22,7 +22,7 @@ enum Kind {
     Secret,
 }
 
-/// A kind of line: its words, and the names and kinds of the fields behind them.
+/// A kind of line: the words that it begins with, and the names and kinds of its fields.
 #[derive(Clone, Copy)]
 struct Form {
     words: &'static str,
@@ -133,7 +133,7 @@ static FORMS: [Form; 21] = [
     },
 ];
 
-/// Tells why the line of this number, from 1, of a script is no event.
+/// Tells why a script's line isn't an event. Lines are counted from 1.
 pub fn tell_bad_line<E: Write>(
     alloc: Global,
     err: &mut E,
@@ -155,7 +155,7 @@ pub fn tell_bad_line<E: Write>(
     writeln!(err)
 }
 
-/// What stands behind the words that a line begins with: nothing, or a space and more.
+/// The rest of a line behind the words that it begins with: nothing, or a space and more.
 fn behind<'a>(line: &'a [u8], words: &[u8]) -> Option<&'a [u8]> {
     let rest = line.strip_prefix(words)?;
     match rest {
@@ -178,7 +178,7 @@ fn first_words(line: &[u8]) -> &[u8] {
     &line[..count.min(line.len())]
 }
 
-/// Tells the first field that isn't of its form.
+/// Tells the first field that hasn't the form that it must have.
 fn tell_fields<E: Write>(alloc: Global, err: &mut E, form: &Form, rest: &[u8]) -> io::Result<()> {
     let mut rest = rest;
     let mut left = form.fields.len();
@@ -198,8 +198,8 @@ fn tell_fields<E: Write>(alloc: Global, err: &mut E, form: &Form, rest: &[u8]) -
     writeln!(err, "nothing stands behind it")
 }
 
-/// The value of the next field, and what stands behind it. The last field takes the rest of the
-/// line.
+/// The value of the next field, and the rest of the line behind it. The last field takes all that
+/// is left.
 fn take(rest: &[u8], is_last: bool) -> Option<(&[u8], &[u8])> {
     let [b' ', rest @ ..] = rest else {
         return None;
@@ -225,7 +225,7 @@ fn takes(alloc: Global, kind: Kind, value: &[u8]) -> bool {
     }
 }
 
-/// Whether a script's line is an event, of which this is the beginning and the rest.
+/// Whether a line of these words and this rest is an event.
 fn is_event(alloc: Global, start: &[u8], rest: &[u8]) -> Result<bool, AllocError> {
     let mut line = Vec::new(alloc);
     line.extend_from_slice(start)?;
@@ -233,7 +233,7 @@ fn is_event(alloc: Global, start: &[u8], rest: &[u8]) -> Result<bool, AllocError
     Ok(read_script(alloc, line.as_slice()).is_ok())
 }
 
-/// Tells a line's form.
+/// Tells the form that a line must have.
 fn tell_form<E: Write>(err: &mut E, form: &Form) -> io::Result<()> {
     write!(err, "`{}", form.words)?;
     for (field, _) in form.fields {
@@ -242,7 +242,7 @@ fn tell_form<E: Write>(err: &mut E, form: &Form) -> io::Result<()> {
     write!(err, "`: ")
 }
 
-/// Tells that a field isn't of its form.
+/// Tells the value of a field and the form that it must have.
 fn tell_field<E: Write>(err: &mut E, field: &str, kind: Kind, value: &[u8]) -> io::Result<()> {
     let form = match kind {
         Kind::Number => "1 to 20 digits, below 2^64",
@@ -265,10 +265,10 @@ fn tell_field<E: Write>(err: &mut E, field: &str, kind: Kind, value: &[u8]) -> i
     writeln!(err, ", and not {form}")
 }
 
-/// The most octets of a value that are told.
+/// How many octets of a value are told at most.
 const MOST: usize = 64;
 
-/// Tells a value, in the escapes of scripts; of a long one the beginning.
+/// Tells a value with the escapes of scripts; of a long value its first octets.
 pub(super) fn tell_value<E: Write>(err: &mut E, value: &[u8]) -> io::Result<()> {
     write!(err, "`")?;
     match value.get(..MOST) {

@@ -1,4 +1,4 @@
-//! Why a text is no policy: the line that isn't TOML, or the group or rule and its key.
+//! Why a text isn't a policy: the line that isn't TOML, or the group or rule and its key.
 
 use super::bad_group::tell_group_fault;
 use super::bad_line::tell_value;
@@ -12,7 +12,7 @@ use toml::{Table, Value};
 /// The keys of a rule.
 const KEYS: [&str; 6] = ["name", "effect", "clerk", "maildrop", "class", "actions"];
 
-/// Tells why octets are no policy, where they are none.
+/// Tells why octets aren't a policy; nothing where they are one.
 pub fn tell_bad_policy<E: Write>(
     alloc: Global,
     err: &mut E,
@@ -41,7 +41,7 @@ pub fn tell_bad_policy<E: Write>(
     }
 }
 
-/// The number, from 1, of the line in which the octet at a place stands.
+/// The line of the octet at a place, counted from 1.
 fn line_at(octets: &[u8], place: usize) -> usize {
     let before = octets.get(..place).unwrap_or(octets);
     let mut line = 1usize;
@@ -83,7 +83,7 @@ fn tell_fault_in<E: Write>(
     }
 }
 
-/// Tells a fault that is no one group's and no one rule's.
+/// Tells a fault of the policy as a whole.
 fn tell_whole<E: Write>(
     err: &mut E,
     name: &str,
@@ -119,7 +119,7 @@ fn is_array_of_tables(value: Option<&Value>) -> bool {
     }
 }
 
-/// The table of the group or rule of this number, from 1.
+/// The table of the group or rule of this number, counted from 1.
 pub(super) fn table_at<'a>(table: &'a Table, list: &str, number: usize) -> Option<&'a Table> {
     let values = table.get(list)?.as_array()?;
     values.get(number.checked_sub(1)?)?.as_table()
@@ -177,7 +177,7 @@ pub(super) fn missing_key(table: &Table, keys: &[&'static str]) -> Option<&'stat
     None
 }
 
-/// Tells the first key of a table that is none of these.
+/// Tells the first key of a table that isn't one of these keys.
 pub(super) fn tell_stray<E: Write>(err: &mut E, table: &Table, keys: &[&str]) -> io::Result<()> {
     for key in table.keys() {
         if !keys.iter().any(|known| *known == key.as_str()) {
@@ -252,7 +252,7 @@ pub(super) fn tell_double<E: Write>(
     }
 }
 
-/// The number, from 1, of the first group or rule of a name.
+/// The first group or rule of a name, counted from 1.
 fn first_of_name(table: &Table, list: &str, name: &str) -> Option<usize> {
     let mut number = 0usize;
     for value in table.get(list)?.as_array()? {
@@ -267,7 +267,7 @@ fn first_of_name(table: &Table, list: &str, name: &str) -> Option<usize> {
     None
 }
 
-/// The text at a key; none is empty.
+/// The text at a key; empty where there is none.
 fn text_at<'a>(table: &'a Table, key: &str) -> &'a str {
     match table.get(key) {
         Some(value) => value.as_str().unwrap_or(""),
@@ -275,7 +275,7 @@ fn text_at<'a>(table: &'a Table, key: &str) -> &'a str {
     }
 }
 
-/// Tells the value at a key of a group or rule, and what it is to be.
+/// Tells the value at a key of a group or rule, and the form that it must have.
 pub(super) fn tell_of_key<E: Write>(
     err: &mut E,
     table: &Table,
@@ -289,7 +289,7 @@ pub(super) fn tell_of_key<E: Write>(
     writeln!(err, ", {form}")
 }
 
-/// Tells a value: a text as it is, of any other the type.
+/// Tells a value: a text itself, of any other value its type.
 pub(super) fn tell_setting<E: Write>(err: &mut E, value: &Value) -> io::Result<()> {
     match value {
         Value::String(text) => tell_value(err, text.as_bytes()),

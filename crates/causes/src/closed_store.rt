@@ -10,13 +10,16 @@ use sqlite_std_file::OpenError;
 use sqlvault::SqlVault;
 use std::alloc::Global;
 use std::io::{ErrorKind, Write};
-use std::{io, str};
+use std::{fs, io, str};
 use vault::VaultFault;
 
 /// The version of the stores that this popbox makes, and the oldest that it carries over.
 const NEWEST: i64 = 3;
 
 const OLDEST: i64 = 1;
+
+/// How many megabytes an opening takes beside the largest table, at most.
+const BESIDE: u64 = 16;
 
 /// Tells why the store at a path was refused with a fault.
 pub fn tell_closed_store<E: Write>(
@@ -30,6 +33,9 @@ pub fn tell_closed_store<E: Write>(
             err,
             "why: {path}: this is no file's path, but a form of SQLite's own"
         );
+    }
+    if fault == VaultFault::NoMemory {
+        return tell_size(rt, err, path);
     }
     match sqlite_std_file::open(rt, path, Wary) {
         Ok(_) => {}
@@ -53,7 +59,27 @@ pub fn tell_closed_store<E: Write>(
     }
 }
 
-/// Tells what is in the way in a database that can be opened.
+/// Tells how large a store is that there was no memory to open. Its opening takes as much memory as
+/// its largest table, which is less than both files have.
+fn tell_size<E: Write>(rt: &HostRuntime, err: &mut E, path: &str) -> io::Result<()> {
+    let log = format!(in rt.alloc(); "{path}-wal")?;
+    let (file, log) = (octets_of(rt, path), octets_of(rt, log.as_str()));
+    let megabytes = file.saturating_add(log) / 1_000_000 + BESIDE;
+    writeln!(
+        err,
+        "why: {path}: it has {file} octets, and its log {log}: opening it takes up to {megabytes} MB of memory"
+    )
+}
+
+/// How many octets the file at a path has; 0 where there is none.
+fn octets_of(rt: &HostRuntime, path: &str) -> u64 {
+    match fs::metadata(rt, path) {
+        Ok(metadata) => metadata.len(),
+        Err(_) => 0,
+    }
+}
+
+/// Tells why a database that can be opened was refused as a store.
 fn tell_tables<S: Alter, E: Write>(
     alloc: Global,
     err: &mut E,
@@ -77,7 +103,7 @@ fn tell_tables<S: Alter, E: Write>(
     }
 }
 
-/// Tells the version of a store of another version.
+/// Tells the version of a store that was refused as `OldVersion`.
 fn tell_version<S: Alter, E: Write>(
     alloc: Global,
     err: &mut E,
@@ -128,7 +154,7 @@ fn tell_taken<E: Write>(err: &mut E, schema: &Schema, ours: &Schema) -> io::Resu
     }
 }
 
-/// Whether a name is that of a table of ours, of any version.
+/// Whether a store of any version has a table of this name.
 fn is_our_name(name: &[u8], ours: &Schema) -> bool {
     same_name(name, b"messages")
         || ours
@@ -147,7 +173,7 @@ fn tell_object<E: Write>(err: &mut E, kind: &str, name: &[u8]) -> io::Result<()>
     )
 }
 
-/// Tells what is in the way in a database with our table of marks.
+/// Tells why a database with our table of marks is no store.
 fn tell_marks<S: Alter, E: Write>(
     alloc: Global,
     err: &mut E,

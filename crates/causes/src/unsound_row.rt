@@ -79,7 +79,7 @@ fn is_message(row: &Message) -> bool {
         && row.octets <= MAX_OCTETS as i64
 }
 
-/// The first table of those of the administration with a row that is by itself no sound record.
+/// The first table of the administration's that has a row that by itself is no sound record.
 fn unsound_settings<S: Alter>(
     alloc: Global,
     conn: &mut Connection<S>,
@@ -103,8 +103,8 @@ fn unsound_settings<S: Alter>(
     Ok(None)
 }
 
-/// The first table of a store with a row that is by itself no sound record, if there is one. An
-/// error is the store's, or want of memory.
+/// The first table of a store that has a row that by itself is no sound record. Its error is the
+/// store's, or want of memory.
 pub fn unsound_table<S: Alter>(
     alloc: Global,
     conn: &mut Connection<S>,

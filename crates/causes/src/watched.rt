@@ -1,4 +1,4 @@
-//! A reader or writer that is watched: its last refusal is kept, and lines `failed` are counted.
+//! A reader or writer that keeps its last error, and counts the lines `failed`.
 
 use std::io;
 use std::io::{Error, Read, Write};
@@ -6,15 +6,14 @@ use std::io::{Error, Read, Write};
 /// The line that `popbox replay` prints for an event that the store refused.
 const FAILED: &[u8] = b"failed\n";
 
-/// A reader or writer, what it answered at its last refusal, and how many of the lines that it took
-/// are `failed`.
+/// A reader or writer that keeps its last error, and counts the lines `failed` that were written.
 #[derive(Drop)]
 pub struct Watched<'a, T> {
     inner: &'a mut T,
     refusal: Option<Error>,
     failed: u64,
-    /// How many octets of `FAILED` the present line has, and nothing else; none where it is
-    /// another.
+    /// How many octets the present line has, while it is a beginning of `FAILED`; `None` once it is
+    /// another line.
     place: Option<usize>,
 }
 
@@ -29,12 +28,12 @@ impl<'a, T> Watched<'a, T> {
         }
     }
 
-    /// What it answered at its last refusal.
+    /// Its last error.
     pub fn refusal(&self) -> Option<Error> {
         self.refusal
     }
 
-    /// How many lines `failed` it took.
+    /// How many lines `failed` were written.
     pub fn failed(&self) -> u64 {
         self.failed
     }

@@ -1,4 +1,5 @@
 //! What a mail program's connection tells: its logins and its end.
+use super::holders::Holder;
 use super::journal::{Journal, quoted};
 use super::line::Line;
 use creds::LoginName;
@@ -7,7 +8,7 @@ use serving::Link;
 use std::alloc::{AllocError, Global};
 use std::collections::VecDeque;
 
-/// What a line asked for, as far as the log tells of it.
+/// What a line of the client asked for, in the kinds that the log tells apart.
 #[derive(Clone, Copy)]
 enum Asked {
     /// Nothing: the server speaks first.
@@ -18,7 +19,7 @@ enum Asked {
     Pass,
     /// APOP with a name.
     Apop(LoginName),
-    /// USER or APOP with what is no name.
+    /// USER or APOP with an argument that isn't a login name.
     NoName,
     /// DELE.
     Dele,
@@ -26,7 +27,7 @@ enum Asked {
     Rset,
     /// QUIT.
     Quit,
-    /// What is answered by more lines than one, where it isn't refused.
+    /// A command whose `+OK` reply has more lines behind the first.
     Lines,
     /// Anything else.
     Other,
@@ -57,7 +58,7 @@ fn asked_in(line: &[u8]) -> Asked {
     }
 }
 
-/// What a line asked for. One that is too long is no command.
+/// What a kept line asked for. A line that is too long is no command.
 fn asked_by_line(line: &Line) -> Asked {
     if line.is_full() {
         return Asked::Other;
@@ -70,7 +71,7 @@ fn is_done(reply: &[u8]) -> bool {
     reply.starts_with(b"+OK")
 }
 
-/// What a reply says behind its first word.
+/// A reply without its `+OK` or `-ERR`.
 fn words_of(reply: &[u8]) -> &[u8] {
     match reply {
         [b'+', b'O', b'K', b' ', words @ ..] => words,
@@ -79,7 +80,7 @@ fn words_of(reply: &[u8]) -> &[u8] {
     }
 }
 
-/// The digits behind the first `<`: the number of the connection, in a greeting.
+/// The digits behind the first `<` of a greeting: the connection's number.
 fn number_in(greeting: &[u8]) -> &[u8] {
     let Some(at) = greeting.iter().position(|b| *b == b'<') else {
         return &[];
@@ -94,11 +95,13 @@ fn number_in(greeting: &[u8]) -> &[u8] {
 /// What was said on a connection so far.
 #[derive(Drop)]
 struct Talk {
-    /// The client's address, behind the connection's number where it was greeted.
+    /// The values of each line: `client=ADDRESS`, and `connection=N` before it once it was greeted.
     who: String,
-    /// What was asked for and isn't answered yet, the oldest first.
+    /// The connection's number, where it was greeted.
+    number: Option<u64>,
+    /// The commands that wait for their replies, oldest first.
     asked: VecDeque<Asked>,
-    /// A reply goes on, up to a line of one dot.
+    /// Whether lines of a reply are still to come, up to that of one dot.
     is_listing: bool,
     /// The name that USER gave.
     user: Option<LoginName>,
@@ -107,17 +110,18 @@ struct Talk {
     /// How many messages are marked.
     marked: u64,
     has_quit: bool,
-    /// Memory was wanting, and which reply is to what isn't known any more.
+    /// Whether memory ran out, so that replies can't be matched with commands any more.
     is_lost: bool,
 }
 
 impl Talk {
-    /// The client connected, and will be greeted.
+    /// The client has connected, and the greeting is to come.
     fn new(alloc: Global, who: String) -> Result<Talk, AllocError> {
         let mut asked = VecDeque::new(alloc);
         asked.push_back(Asked::Greeting)?;
         Ok(Talk {
             who,
+            number: None,
             asked,
             is_listing: false,
             user: None,
@@ -147,7 +151,7 @@ impl Talk {
         }
     }
 
-    /// Notes what the first line of a reply tells.
+    /// Notes what the first line of the reply to a command tells.
     fn take_reply(&mut self, journal: &Journal<'_>, asked: Asked, reply: &[u8]) {
         match asked {
             Asked::Greeting => self.greet(journal, reply),
@@ -168,6 +172,7 @@ impl Talk {
     /// Notes a connection.
     fn greet(&mut self, journal: &Journal<'_>, reply: &[u8]) {
         let number = str::from_utf8(number_in(reply)).unwrap_or("");
+        self.number = number.parse::<u64>().ok();
         let who = format!(in journal.alloc(); "connection={number} {}", self.who);
         if let Ok(who) = who {
             self.who = who;
@@ -175,7 +180,7 @@ impl Talk {
         journal.note(format!(in journal.alloc(); "event=connect {}", self.who));
     }
 
-    /// Notes a login by PASS, where a name was given.
+    /// Notes a login by PASS, where USER gave a name before.
     fn check_password(&mut self, journal: &Journal<'_>, reply: &[u8]) {
         if let Some(name) = self.user {
             self.log_in(journal, name, "pass", reply);
@@ -189,8 +194,23 @@ impl Talk {
         }
         if is_done(reply) {
             self.session = Some(name);
+            self.begin(journal, name);
         }
         journal.note(self.login(journal.alloc(), &name, by, reply));
+    }
+
+    /// Tells the other parts of the log that a session began.
+    fn begin(&self, journal: &Journal<'_>, name: LoginName) {
+        if let Some(connection) = self.number {
+            journal.begin(Holder { connection, name });
+        }
+    }
+
+    /// Tells the other parts of the log that the session, if there was one, is over.
+    fn end(&self, journal: &Journal<'_>) {
+        if let Some(connection) = self.number {
+            journal.end(connection);
+        }
     }
 
     /// The line of a login.
@@ -210,7 +230,7 @@ impl Talk {
         )
     }
 
-    /// The line of a login without a name of the form.
+    /// The line of a USER or APOP whose argument isn't a login name.
     fn nameless(&self, alloc: Global, reply: &[u8]) -> Result<String, AllocError> {
         let outcome = outcome(alloc, reply)?;
         format!(in alloc; "event=login {} {outcome}", self.who)
@@ -229,7 +249,8 @@ impl Talk {
         format!(in alloc; "event=quit {}{session} answer={answer}", self.who)
     }
 
-    /// Who has logged in, and how many messages are marked.
+    /// The session's clerk, maildrop and marked messages, as values of a line; empty without a
+    /// session.
     fn holder(&self, alloc: Global) -> Result<String, AllocError> {
         let marked = self.marked;
         match &self.session {
@@ -241,14 +262,14 @@ impl Talk {
         }
     }
 
-    /// The line of an end without a QUIT.
+    /// The line of a connection that ended without a QUIT.
     fn loss(&self, alloc: Global) -> Result<String, AllocError> {
         let session = self.holder(alloc)?;
         format!(in alloc; "event=closed {}{session}", self.who)
     }
 }
 
-/// Whether a reply accepts a login, or why not.
+/// What a reply says of a login: accepted, or refused with the reply's words as the reason.
 fn outcome(alloc: Global, reply: &[u8]) -> Result<String, AllocError> {
     if is_done(reply) {
         return String::from_str(alloc, "answer=accepted");
@@ -257,7 +278,7 @@ fn outcome(alloc: Global, reply: &[u8]) -> Result<String, AllocError> {
     format!(in alloc; "answer=refused reason={reason}")
 }
 
-/// A mail program's connection, as its link shows it.
+/// A mail program's connection: what came on its link and what was sent, line by line.
 #[derive(Drop)]
 pub struct Client {
     pub link: Link,
@@ -304,8 +325,9 @@ impl Client {
         }
     }
 
-    /// Notes the end, where no QUIT told of it.
+    /// Notes that the link is closed, unless a QUIT was noted.
     pub fn close(&self, journal: &Journal<'_>) {
+        self.talk.end(journal);
         if !self.talk.has_quit {
             journal.note(self.talk.loss(journal.alloc()));
         }

@@ -1,23 +1,42 @@
 //! Where the lines of a log go.
+use super::holders::{Holder, Holders};
 use super::pipe::takes_a_line;
+use creds::Name;
 use jiff::Timestamp;
 use std::alloc::{AllocError, Global};
-use std::cell::Cell;
+use std::cell::{Cell, RefCell};
 use std::io::Write;
 use std::time::Clock;
+
+/// What the parts of a log share: how many lines were lost, and who is in which maildrop.
+#[derive(Drop)]
+pub struct Shared {
+    lost: Cell<u64>,
+    holders: RefCell<Holders>,
+}
+
+impl Shared {
+    /// No line was lost, and nobody is in a maildrop.
+    pub fn new(alloc: Global) -> Shared {
+        Shared {
+            lost: Cell::new(0),
+            holders: RefCell::new(Holders::new(alloc)),
+        }
+    }
+}
 
 /// Writes the lines of a log to standard error, or none where there is to be no log.
 #[derive(Clone, Copy)]
 pub struct Journal<'a> {
     rt: &'a HostRuntime,
     is_on: bool,
-    lost: &'a Cell<u64>,
+    shared: &'a Shared,
 }
 
 impl<'a> Journal<'a> {
     /// A journal that writes its lines, or drops them. It counts those that it lost.
-    pub fn new(rt: &'a HostRuntime, is_on: bool, lost: &'a Cell<u64>) -> Journal<'a> {
-        Journal { rt, is_on, lost }
+    pub fn new(rt: &'a HostRuntime, is_on: bool, shared: &'a Shared) -> Journal<'a> {
+        Journal { rt, is_on, shared }
     }
 
     /// Whether lines are written.
@@ -25,7 +44,7 @@ impl<'a> Journal<'a> {
         self.is_on
     }
 
-    /// The memory in which lines are put together.
+    /// The allocator of the lines.
     pub fn alloc(&self) -> Global {
         self.rt.alloc()
     }
@@ -37,12 +56,35 @@ impl<'a> Journal<'a> {
         if !self.is_on {
             return;
         }
-        let lost = self.lost.get();
+        let lost = self.shared.lost.get();
         if lost > 0 && self.write(format!(in self.alloc(); "event=lost lines={lost}")) {
-            self.lost.set(0);
+            self.shared.lost.set(0);
         }
-        if self.lost.get() > 0 || !self.write(text) {
-            self.lost.set(self.lost.get().saturating_add(1));
+        if self.shared.lost.get() > 0 || !self.write(text) {
+            let lost = self.shared.lost.get();
+            self.shared.lost.set(lost.saturating_add(1));
+        }
+    }
+
+    /// Keeps that a session began.
+    pub fn begin(&self, session: Holder) {
+        if let Ok(mut holders) = self.shared.holders.try_borrow_mut() {
+            holders.begin(session);
+        }
+    }
+
+    /// Keeps that the session of a connection is over.
+    pub fn end(&self, connection: u64) {
+        if let Ok(mut holders) = self.shared.holders.try_borrow_mut() {
+            holders.end(connection);
+        }
+    }
+
+    /// The session in a maildrop, where it is known.
+    pub fn holder(&self, maildrop: &Name) -> Option<Holder> {
+        match self.shared.holders.try_borrow() {
+            Ok(holders) => holders.find(maildrop),
+            Err(_) => None,
         }
     }
 
@@ -73,8 +115,8 @@ impl<'a> Journal<'a> {
     }
 }
 
-/// A text as a value of a line: between quotes, with a backslash before each quote and backslash,
-/// and other octets than those from 0x20 to 0x7E as `\x` and two digits.
+/// A text as a value of a line: between quotes, a backslash before each quote and backslash, and
+/// each octet outside 0x20 to 0x7E as `\x` and two digits. Its error is want of memory.
 pub fn quoted(alloc: Global, text: &[u8]) -> Result<String, AllocError> {
     let mut value = String::from_str(alloc, "\"")?;
     for octet in text {
@@ -96,17 +138,17 @@ fn put_escaped(value: &mut String, octet: u8) -> Result<(), AllocError> {
     }
 }
 
-/// Lines that were told, so that what comes again each second is told once.
+/// The lines that were written last, so that a line that would come each second is written once.
 #[derive(Drop)]
 pub struct Told {
     lines: Vec<String>,
 }
 
-/// How many lines are kept to be compared with.
+/// How many lines are kept at most.
 const MOST_TOLD: usize = 256;
 
 impl Told {
-    /// No line was told.
+    /// No line was written yet.
     pub fn new(alloc: Global) -> Told {
         Told {
             lines: Vec::new(alloc),
@@ -118,7 +160,8 @@ impl Told {
         self.lines.iter().any(|told| told.as_str() == line)
     }
 
-    /// Writes a line, unless it is kept from before. Behind 256 lines all are forgotten.
+    /// Writes a line, unless it is one of those that are kept. Where 256 are kept, it forgets them
+    /// first. A line that there is no memory to make isn't written.
     pub fn note_once(&mut self, journal: &Journal<'_>, text: Result<String, AllocError>) {
         let Ok(line) = text else {
             return;

@@ -2,10 +2,14 @@
 //!
 //! A [`Journal`] writes the lines. [`LoggedVault`], [`LoggedWire`] and [`LoggedSpool`] stand around
 //! a server's vault, wire and spool: each does what the one inside does, and notes what came of it.
+//! [`Guarded`] ends all that once a [`StoreWatch`] sees that the store's files are others.
 #![tactic(auto)]
 
 mod client;
+mod guarded;
+mod holders;
 mod journal;
+mod left;
 mod line;
 mod pipe;
 mod request;
@@ -13,10 +17,14 @@ mod seen;
 mod server;
 mod spool;
 mod store;
+mod watch;
 mod wire;
 
-pub use journal::Journal;
-pub use server::{note_end, note_start};
+pub use guarded::Guarded;
+pub use journal::{Journal, Shared};
+pub use left::Folder;
+pub use server::{note_end, note_loss, note_opening, note_start};
 pub use spool::LoggedSpool;
 pub use store::LoggedVault;
+pub use watch::{FileId, Loss, StoreWatch};
 pub use wire::{LoggedWire, Peers};

@@ -4,8 +4,8 @@ ghost use Rattle.std.specs.Prelude.{◌≤◌};
 /// How many octets of a line are kept.
 const MOST_KEPT: usize = 255;
 
-/// What a line of a client begins with, while it comes in pieces. Behind `PASS` and a space nothing
-/// is kept.
+/// The first 255 octets of a line that comes in pieces. Of a line `PASS ..` it keeps no octet of
+/// the password.
 #[derive(Drop)]
 pub struct Line {
     octets: [u8; 255],
@@ -22,7 +22,7 @@ impl Line {
         }
     }
 
-    /// Takes an octet.
+    /// Keeps the next octet, unless 255 are kept or it is of a password.
     pub fn put(&mut self, octet: u8) {
         if self.len < MOST_KEPT && !self.hides() {
             self.octets[self.len] = octet;
@@ -37,17 +37,17 @@ impl Line {
             .is_some_and(|front| front.eq_ignore_ascii_case(b"pass "))
     }
 
-    /// Whether the line is too long to be a command.
+    /// Whether 255 octets came, so that the line is too long to be a command.
     pub fn is_full(&self) -> bool {
         self.len == MOST_KEPT
     }
 
-    /// What is kept.
+    /// The octets that are kept.
     pub fn octets(&self) -> &[u8] {
         &self.octets[..self.len]
     }
 
-    /// What is kept, without one CR at its end.
+    /// The octets that are kept, without one CR at their end.
     pub fn text(&self) -> &[u8] {
         match self.octets() {
             [front @ .., b'\r'] => front,

@@ -8,9 +8,8 @@ use std::time::Duration;
 /// Standard error's descriptor.
 const STANDARD_ERROR: RawFd = 2;
 
-/// Whether a line of up to 4,096 octets can be written to standard error without waiting for a
-/// reader: a pipe that the system calls writable has room for so many. A file can't be waited for,
-/// and always takes a line.
+/// Whether standard error takes a line of up to 4,096 octets without waiting for its reader: a pipe
+/// that the system calls writable has room for them. A file always takes a line.
 pub fn takes_a_line(rt: &HostRuntime) -> bool {
     match Poll::new(rt) {
         Ok(poll) => is_ready(rt, poll).unwrap_or(true),
@@ -18,7 +17,7 @@ pub fn takes_a_line(rt: &HostRuntime) -> bool {
     }
 }
 
-/// Whether standard error is writable now. An error says that it can't be waited for.
+/// Whether standard error is writable now. Its error is that of a file, which can't be polled.
 fn is_ready(rt: &HostRuntime, mut poll: Poll) -> io::Result<bool> {
     let mut standard_error = SourceFd(&STANDARD_ERROR);
     let registry = poll.registry();

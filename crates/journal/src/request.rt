@@ -6,7 +6,7 @@ use popline::{Cut, Cutter};
 use serving::Link;
 use std::alloc::{AllocError, Global};
 
-/// Whether so many parts of a path, behind this first one, make a route.
+/// Whether a path of this first part and so many parts in all may be a route's.
 fn is_route(first: &[u8], parts: usize) -> bool {
     if first == b"maildrops".as_slice() || first == b"sessions".as_slice() {
         return parts <= 2;
@@ -20,7 +20,7 @@ fn is_route(first: &[u8], parts: usize) -> bool {
     first == b"explain".as_slice() && parts == 5
 }
 
-/// Whether a path is of the form of a route, and each part of it is of the form of a name.
+/// Whether a path has the form of a route, and each of its parts that of a name.
 fn is_path(path: &[u8]) -> bool {
     let [b'/', rest @ ..] = path else {
         return false;
@@ -40,13 +40,13 @@ fn is_method(word: &[u8]) -> bool {
     word == b"GET".as_slice() || word == b"PUT".as_slice() || word == b"DELETE".as_slice()
 }
 
-/// What stands before the first space, and what stands behind it.
+/// The octets before the first space of a line, and those behind it.
 fn first_word(line: &[u8]) -> Option<(&[u8], &[u8])> {
     let at = line.iter().position(|b| *b == b' ')?;
     Some((&line[..at], &line[at + 1..]))
 }
 
-/// The method and the path of a request line, where they are of the form of a route.
+/// The method and path of a request line, where they have the form of a route's.
 fn command_in(line: &[u8]) -> Option<(&[u8], &[u8])> {
     let (method, rest) = first_word(line)?;
     let (path, _) = first_word(rest)?;
@@ -56,7 +56,7 @@ fn command_in(line: &[u8]) -> Option<(&[u8], &[u8])> {
     None
 }
 
-/// Which part of a response comes.
+/// Which part of a response comes next.
 #[derive(Clone, Copy, PartialEq, Eq)]
 enum Part {
     Status,
@@ -74,18 +74,18 @@ fn status_in(line: &[u8]) -> Option<&str> {
     None
 }
 
-/// Whether a command's answer is rows or a policy, which the log leaves out.
+/// Whether a request is answered by rows or a policy, which the log leaves out.
 fn is_listing(method: &[u8], path: &[u8]) -> bool {
     method == b"GET".as_slice() && !path.starts_with(b"/clerks/") && !path.starts_with(b"/explain/")
 }
 
-/// A connection of the administration, as its link shows it.
+/// A connection of the administration: its request line, and the answer that was sent.
 #[derive(Drop)]
 pub struct Asking {
     pub link: Link,
     who: String,
     line: Line,
-    /// The request's first line is whole.
+    /// Whether the request line is whole.
     is_whole: bool,
     response: Cutter,
     part: Part,

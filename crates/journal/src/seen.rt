@@ -1,10 +1,10 @@
-//! The unique-ids of the messages that a vault told of.
+//! The unique-ids of the messages that a vault listed.
 use super::journal::Journal;
 use creds::{Name, Uid};
 use std::alloc::{AllocError, Global};
 use vault::{Head, MessageKey, VaultFault};
 
-/// How many maildrops' messages are kept: as many as there can be sessions.
+/// How many maildrops' lists are kept: as many as there can be sessions.
 const MOST_MAILDROPS: usize = 64;
 
 /// How many unique-ids are on a line, so that it has fewer than 4,096 octets.
@@ -17,8 +17,8 @@ struct Listed {
     heads: Vec<Head>,
 }
 
-/// The messages of the 64 maildrops that were opened or listed last, by which a removal can be told
-/// in unique-ids.
+/// The messages of the 64 maildrops that were opened or listed last. From them a removal's keys are
+/// told as unique-ids.
 #[derive(Drop)]
 pub struct Seen {
     lists: Vec<Listed>,
@@ -51,26 +51,27 @@ fn uids_text(alloc: Global, heads: &[Head], keys: &[MessageKey]) -> Result<Strin
     Ok(text)
 }
 
-/// The line of messages that were removed.
+/// The line of messages that were removed, by a session in their maildrop.
 fn removed_text(
     alloc: Global,
+    session: &str,
     maildrop: &Name,
     heads: &[Head],
     keys: &[MessageKey],
 ) -> Result<String, AllocError> {
     let uids = uids_text(alloc, heads, keys)?;
-    format!(in alloc; "event=removed maildrop={maildrop} uids={uids}")
+    format!(in alloc; "event=removed{session} maildrop={maildrop} uids={uids}")
 }
 
 impl Seen {
-    /// No maildrop was told of.
+    /// No maildrop was listed yet.
     pub fn new(alloc: Global) -> Seen {
         Seen {
             lists: Vec::new(alloc),
         }
     }
 
-    /// The messages of a maildrop, as it was told of last.
+    /// The messages of a maildrop, as they were listed last.
     fn heads(&self, maildrop: &Name) -> Option<&[Head]> {
         let listed = self.lists.iter().find(|it| it.maildrop == *maildrop)?;
         Some(listed.heads.as_slice())
@@ -83,8 +84,8 @@ impl Seen {
         }
     }
 
-    /// Keeps a maildrop's messages, in the place of what was told of it before, or of the maildrop
-    /// that was told of longest ago. Where memory is wanting it keeps none.
+    /// Keeps a maildrop's list in the place of its older one. Where 64 are kept, that of the
+    /// maildrop listed longest ago goes. Without memory the new list isn't kept.
     fn keep(&mut self, alloc: Global, maildrop: &Name, heads: &[Head]) {
         self.forget(maildrop);
         if self.lists.len() >= MOST_MAILDROPS {
@@ -99,7 +100,7 @@ impl Seen {
         }
     }
 
-    /// Keeps what a vault answered of a maildrop, where lines are written.
+    /// Keeps the list that a vault answered for a maildrop, where lines are written.
     pub fn remember(
         &mut self,
         journal: Journal<'_>,
@@ -115,12 +116,19 @@ impl Seen {
 
     /// Notes the unique-ids of messages that were removed, 32 on a line. Of a maildrop that isn't
     /// kept there is no line.
-    pub fn note_removed(&self, journal: &Journal<'_>, maildrop: &Name, keys: &[MessageKey]) {
+    pub fn note_removed(
+        &self,
+        journal: &Journal<'_>,
+        session: &str,
+        maildrop: &Name,
+        keys: &[MessageKey],
+    ) {
         let Some(heads) = self.heads(maildrop) else {
             return;
         };
         for some in keys.chunks(MOST_ON_A_LINE) {
-            journal.note(removed_text(journal.alloc(), maildrop, heads, some));
+            let text = removed_text(journal.alloc(), session, maildrop, heads, some);
+            journal.note(text);
         }
     }
 }

@@ -1,25 +1,28 @@
 //! A spool whose files are noted.
 
 use super::journal::{Journal, Told};
+use super::left::{Folder, Looking};
 use serving::{FileName, Spool};
 use std::alloc::{AllocError, Global};
 
 /// A spool that does what the one inside does, and notes each file that is removed, renamed or
-/// can't be.
+/// can't be, and what is left in its folder.
 #[derive(Drop)]
 pub struct LoggedSpool<'a, S: Spool> {
     pub spool: S,
     pub journal: Journal<'a>,
     pub told: Told,
+    pub looking: Looking<'a>,
 }
 
 impl<'a, S: Spool> LoggedSpool<'a, S> {
-    /// A spool around this one.
-    pub fn new(spool: S, journal: Journal<'a>) -> LoggedSpool<'a, S> {
+    /// A spool around this one, which is over a folder.
+    pub fn new(spool: S, journal: Journal<'a>, folder: Folder<'a>) -> LoggedSpool<'a, S> {
         LoggedSpool {
             spool,
             journal,
             told: Told::new(journal.alloc()),
+            looking: Looking::new(journal.alloc(), folder),
         }
     }
 }
@@ -61,11 +64,16 @@ impl<S: Spool> Spool for LoggedSpool<'_, S> {
     ghost tells_once = { λ r. S.tells_once r.spool };
 
     fn next_name(&mut self, last: &Option<FileName>) -> Option<FileName> {
+        self.looking.look(&self.journal);
         self.spool.next_name(last)
     }
 
     fn read(&mut self, name: &FileName) -> Option<Vec<u8>> {
-        self.spool.read(name)
+        let text = self.spool.read(name);
+        if text.is_none() {
+            self.looking.note_left(&self.journal, name);
+        }
+        text
     }
 
     fn remove(&mut self, name: &FileName) -> bool {

@@ -19,7 +19,7 @@ pub struct LoggedVault<'a, V: Vault> {
     pub seen: Seen,
 }
 
-/// Whether a fault is a refusal of the store or of memory, and not an answer.
+/// Whether a fault says that the store or memory refused, and isn't an answer to the call.
 fn is_refusal(fault: VaultFault) -> bool {
     matches!(
         fault,
@@ -75,29 +75,41 @@ fn deposit_text(
     format!(in alloc; "event=deposit file={maildrop}.{class}.{id}.eml {answer}")
 }
 
-/// The line of a removal.
+/// The session in a maildrop, as it stands in a line; nothing where it isn't known.
+fn session_text(journal: &Journal<'_>, maildrop: &Name) -> Result<String, AllocError> {
+    match journal.holder(maildrop) {
+        Some(holder) => format!(in journal.alloc();
+            " connection={} clerk={}",
+            holder.connection, holder.name.clerk
+        ),
+        None => Ok(String::new(journal.alloc())),
+    }
+}
+
+/// The line of a removal, by a session in the maildrop.
 fn removal_text(
     alloc: Global,
+    session: &str,
     maildrop: &Name,
     messages: usize,
     answer: &Result<(), VaultFault>,
 ) -> Result<String, AllocError> {
     match answer {
         Ok(()) => format!(in alloc;
-            "event=remove maildrop={maildrop} messages={messages} answer=done"
+            "event=remove{session} maildrop={maildrop} messages={messages} answer=done"
         ),
         Err(fault) => format!(in alloc;
-            "event=remove maildrop={maildrop} messages={messages} answer=\"{fault}\""
+            "event=remove{session} maildrop={maildrop} messages={messages} answer=\"{fault}\""
         ),
     }
 }
 
-/// Whether a deposit's answer may come again each second, while its file stays where it is.
+/// Whether a deposit's answer may come each second again, as long as its file stays in the spool.
 fn comes_again(answer: &Result<Deposited, VaultFault>) -> bool {
     !matches!(answer, Ok(Deposited::New(_)) | Err(VaultFault::Conflict))
 }
 
-/// Notes a deposit. What may come again each second is told once.
+/// Notes a deposit. An answer that may come each second again is written once.
 fn note_deposit(
     journal: Journal<'_>,
     told: &mut Told,
@@ -117,7 +129,7 @@ fn note_deposit(
     }
 }
 
-/// Notes a removal, and the unique-ids of what was removed.
+/// Notes a removal, with who asked for it, and the unique-ids of what was removed.
 fn note_removal(
     journal: Journal<'_>,
     seen: &Seen,
@@ -128,9 +140,17 @@ fn note_removal(
     if !journal.is_on() {
         return;
     }
-    journal.note(removal_text(journal.alloc(), maildrop, keys.len(), answer));
+    let session = session_text(&journal, maildrop).unwrap_or(String::new(journal.alloc()));
+    let text = removal_text(
+        journal.alloc(),
+        session.as_str(),
+        maildrop,
+        keys.len(),
+        answer,
+    );
+    journal.note(text);
     if answer.is_ok() {
-        seen.note_removed(&journal, maildrop, keys);
+        seen.note_removed(&journal, session.as_str(), maildrop, keys);
     }
 }
 

@@ -19,7 +19,7 @@ impl Peers for SocketWire {
     }
 }
 
-/// The links that are followed.
+/// The open links, of each what the log needs of it.
 #[derive(Drop)]
 pub struct Followed<'a> {
     journal: Journal<'a>,
@@ -45,7 +45,7 @@ impl<'a> Followed<'a> {
         }
     }
 
-    /// Follows a link. Where memory is wanting it isn't followed.
+    /// Follows a new link. Its error is want of memory: then the log doesn't tell of this link.
     fn follow(
         &mut self,
         port: Port,
@@ -108,7 +108,7 @@ impl<'a> Followed<'a> {
         }
     }
 
-    /// Follows a link no further.
+    /// Notes the end of a link, and forgets it.
     fn close(&mut self, port: Port, link: Link) {
         match port {
             Port::Pop => {
@@ -127,8 +127,8 @@ impl<'a> Followed<'a> {
     }
 }
 
-/// A wire that does what the one inside does, and notes what its links tell: connections, logins
-/// and their ends, and commands of the administration.
+/// A wire that does what the one inside does, and notes connections, logins, QUITs and ends of
+/// clients, and the requests of the administration.
 #[derive(Drop)]
 pub struct LoggedWire<'a, W: Wire> {
     pub wire: W,

@@ -31,7 +31,7 @@ pub fn run_review<E: Write>(
     }
 }
 
-/// What the review is about; `None` where a clerk or a maildrop isn't of the form of a name.
+/// What the review is about; `None` where `--clerk` or `--maildrop` isn't a name.
 fn choice_of(options: &ArgMatches<'_>) -> Option<Choice> {
     let clerk = match options.get_str("clerk") {
         Some(text) => Some(Name::read(text.as_bytes())?),

@@ -18,8 +18,9 @@ use converse::replay::replay;
 use converse::script::{ScriptFault, read_script};
 use converse::talking::talk;
 use converse::{Fault, tell_fault};
+use journal::FileId;
 use looking::run_review;
-use serve::serve_over;
+use serve::{note_store, serve_over};
 use session::Removals;
 use sqlite::{Alter, Connection, FileStore, Wary};
 use sqlite_disk::Disk;
@@ -34,10 +35,10 @@ use std::{env, fs, io};
 use store_file::{make_file, tell_readers};
 use vault::{PlainVault, Vault};
 
-/// The exit status of a command line that can't be read.
+/// The exit status where the command line can't be read.
 const UNREADABLE: u8 = 2;
 
-/// What standard error says behind why a command line can't be read.
+/// The last line on standard error where the command line can't be read.
 const VERBOSE: &str = "With '--verbose' behind a command, a fault is told with what it is about.";
 
 fn main(rt: HostRuntime) -> ExitCode {
@@ -49,7 +50,7 @@ fn main(rt: HostRuntime) -> ExitCode {
     ExitCode::from(status)
 }
 
-/// Reads the command line, does what it asks for, and gives the exit status.
+/// Does what the command line asks for, and gives the exit status.
 fn run<E: Write>(rt: &HostRuntime, err: &mut E) -> Result<u8, Fault> {
     let words: Vec<String> = match env::args(rt) {
         Ok(words) => words.collect(rt.alloc())?,
@@ -107,19 +108,30 @@ fn run_subcommand<E: Write>(
     }
 }
 
-/// What runs over a store, each under an office's boot number.
+/// What is run over a store. The number is the boot number that greetings have.
 #[derive(Clone, Copy)]
 enum Job {
     /// `popbox replay`: a script.
     Replay(u64),
     /// `popbox talk`: one conversation.
     Talk(u64),
-    /// `popbox serve`: clients at an address.
-    Serve(u64, SocketAddr),
+    /// `popbox serve`: clients at an address, over the file that stood at the store's path before
+    /// it was opened.
+    Serve(u64, SocketAddr, Option<FileId>),
 }
 
-/// Runs `popbox replay`: the script is the file that is named, which is opened first, or standard
-/// input. Its store is the one that is named, or an empty one in memory.
+impl Job {
+    /// The job, over the file that stands at the store's path before it is opened.
+    fn over(self, file: Option<FileId>) -> Job {
+        match self {
+            Job::Serve(boot, at, _) => Job::Serve(boot, at, file),
+            job => job,
+        }
+    }
+}
+
+/// Runs `popbox replay`: opens the script, the file that is named or standard input, and runs it
+/// over the store that is named, or over an empty one in memory.
 fn run_replay<E: Write>(
     rt: &HostRuntime,
     options: &ArgMatches<'_>,
@@ -166,11 +178,12 @@ fn run_serve<E: Write>(
         return Ok(1);
     };
     let port = options.get_one::<u16>("pop-port").unwrap_or(1110);
-    let job = Job::Serve(milliseconds(rt)?, SocketAddr::from((address, port)));
+    let job = Job::Serve(milliseconds(rt)?, SocketAddr::from((address, port)), None);
+    note_store(rt, options);
     run_job(rt, job, &mut rt.reader(), options, err)
 }
 
-/// The milliseconds since 1970.
+/// The milliseconds since 1970. Its fault is `NoClock`, where the system doesn't tell the time.
 fn milliseconds(clock: &impl Clock) -> Result<u64, Fault> {
     let Ok(now) = clock.since_1970() else {
         return Err(Fault::NoClock);
@@ -202,6 +215,7 @@ fn run_in_file<S: Read, E: Write>(
     err: &mut E,
 ) -> Result<u8, Fault> {
     make_file(rt, path);
+    let job = job.over(FileId::at(rt, path));
     let fault = match SqlVault::open(rt, path, Wary) {
         Ok(vault) => {
             if is_verbose(options) {
@@ -218,8 +232,8 @@ fn run_in_file<S: Read, E: Write>(
     Ok(status)
 }
 
-/// Runs a job over a store in a file, which is then closed. What was done is in the file or in the
-/// log beside it, so that a failure to close loses nothing.
+/// Runs a job over a store in a file, and closes the file. What was done is in the file or in its
+/// log by then, so a failure to close loses nothing and isn't told.
 fn run_and_close<D: Disk + Drop, S: Read, E: Write>(
     rt: &HostRuntime,
     job: Job,
@@ -233,7 +247,7 @@ fn run_and_close<D: Disk + Drop, S: Read, E: Write>(
     ran
 }
 
-/// Runs a job over a store in tables, and gives their connection back.
+/// Runs a job over a store in tables, and gives the connection to them back.
 fn run_over_tables<A: Alter + Drop, S: Read, E: Write>(
     rt: &HostRuntime,
     job: Job,
@@ -273,11 +287,13 @@ fn run_over<V: Vault, S: Read, E: Write>(
             let (status, vault) = talk(alloc, vault, host, boot, removals, input, &mut out, err);
             (Ok(status), vault)
         }
-        Job::Serve(boot, at) => serve_over(rt, vault, host, boot, at, options, err),
+        Job::Serve(boot, at, before) => {
+            serve_over(rt, vault, host, boot, at, before, options, err)
+        }
     }
 }
 
-/// What faults call the script that `popbox replay` reads.
+/// The name of the script that `popbox replay` reads, for its faults.
 fn script_name<'a>(options: &ArgMatches<'a>) -> &'a str {
     match options.get_str("SCRIPT") {
         None | Some("-") => STANDARD_INPUT,
@@ -303,8 +319,8 @@ fn replay_over<V: Vault, S: Read, E: Write>(
     (Ok(status), vault)
 }
 
-/// Does so, and tells what a fault is about, and how many events failed. The script's text is kept
-/// meanwhile.
+/// Runs a script over a vault as `replay_over` does, and tells what a fault is about, and how many
+/// events failed. It reads the whole script first, and keeps it until the last event is done.
 fn replay_verbosely<V: Vault, S: Read, E: Write>(
     rt: &HostRuntime,
     script: &mut S,
@@ -341,7 +357,7 @@ fn replay_verbosely<V: Vault, S: Read, E: Write>(
     (Ok(status), vault)
 }
 
-/// Tells why a text is no script, where it is none.
+/// Tells which line of a text isn't an event, and why. Of a script it tells nothing.
 fn tell_script<E: Write>(alloc: Global, err: &mut E, name: &str, text: &[u8]) {
     let Err(ScriptFault::BadEvent(number)) = read_script(alloc, text) else {
         return;
@@ -354,8 +370,8 @@ fn tell_script<E: Write>(alloc: Global, err: &mut E, name: &str, text: &[u8]) {
     }
 }
 
-/// Has one conversation over a vault, on standard output, and tells what a fault is about. Gives
-/// the vault back.
+/// Has one conversation over a vault, from the input to standard output, and tells what a fault is
+/// about. Gives the vault back.
 fn talk_verbosely<V: Vault, S: Read, E: Write>(
     rt: &HostRuntime,
     input: &mut S,
@@ -397,7 +413,7 @@ fn run_check_policy<E: Write>(
     }
 }
 
-/// Checks the policy of an input.
+/// Checks the policy that an input holds. `name` is what faults call the input.
 fn check_input<S: Read, E: Write>(
     rt: &HostRuntime,
     input: &mut S,

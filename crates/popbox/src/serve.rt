@@ -1,24 +1,35 @@
 //! `popbox serve`: clients over the network.
 use crate::command_line::{is_verbose, removals_of};
 use clap::ArgMatches;
-use converse::Fault;
-use journal::{Journal, LoggedSpool, LoggedVault, LoggedWire, note_end, note_start};
+use converse::{Fault, tell_fault};
+use journal::{
+    FileId, Folder, Guarded, Journal, LoggedSpool, LoggedVault, LoggedWire, Loss, Shared,
+    StoreWatch, note_end, note_loss, note_opening, note_start,
+};
 use office::{Limits, Office};
 use serving::{FolderSpool, SocketWire, Wire, begin, serve_turn};
-use std::cell::Cell;
 use std::io;
 use std::io::Write;
 use std::net::{Ipv4Addr, SocketAddr};
 use std::time::Instant;
-use vault::Vault;
+use vault::{Total, Vault, VaultFault};
 
-/// Serves clients at an address, over a vault, until so many turns are over. Gives the vault back.
+/// Notes, where there is a log, that the store is about to be opened, and how large its files are.
+pub fn note_store(rt: &HostRuntime, options: &ArgMatches<'_>) {
+    let shared = Shared::new(rt.alloc());
+    let journal = Journal::new(rt, options.get_flag("log"), &shared);
+    note_opening(&journal, rt, options.get_str("store").unwrap_or(""));
+}
+
+/// Serves clients at an address, over a vault, until so many turns are over, or its store is lost.
+/// `before` is the file that stood at the store's path before it was opened. Gives the vault back.
 pub fn serve_over<V: Vault, E: Write>(
     rt: &HostRuntime,
     vault: V,
     host: &str,
     boot: u64,
     at: SocketAddr,
+    before: Option<FileId>,
     options: &ArgMatches<'_>,
     err: &mut E,
 ) -> (Result<u8, Fault>, V) {
@@ -26,21 +37,31 @@ pub fn serve_over<V: Vault, E: Write>(
     let Some(limits) = Limits::new(idle) else {
         return (Ok(2), vault);
     };
-    let lost = Cell::new(0);
-    let journal = Journal::new(rt, options.get_flag("log"), &lost);
-    let vault = LoggedVault::new(vault, journal);
+    let shared = Shared::new(rt.alloc());
+    let journal = Journal::new(rt, options.get_flag("log"), &shared);
+    let mut vault = LoggedVault::new(vault, journal);
+    let totals = totals_of(&mut vault, &journal);
+    let watch = StoreWatch::new(rt, options.get_str("store").unwrap_or(""), before);
     let limits = limits.with_removals(removals_of(options));
     match Office::open(rt.alloc(), vault, host, boot, limits) {
         Err((fault, vault)) => (Err(Fault::from(fault)), vault.into_vault()),
         Ok(mut office) => {
-            let served = serve(rt, &mut office, at, options, journal, err);
+            let served = serve(rt, &mut office, at, options, journal, &watch, &totals, err);
             (served, office.into_vault().into_vault())
         }
     }
 }
 
-/// Listens for clients at an address, and for the administration at a port of 127.0.0.1. Tells both
-/// ports, or where the system refused to listen, and why.
+/// What a store holds, maildrop by maildrop, where there is a log that tells of it.
+fn totals_of<V: Vault>(vault: &mut V, journal: &Journal<'_>) -> Option<Vec<Total>> {
+    if !journal.is_on() {
+        return None;
+    }
+    vault.maildrops().ok()
+}
+
+/// Listens for clients at an address, and for the administration at a port of 127.0.0.1. Gives the
+/// wire and both ports; its error is the address at which the system refused to listen, and why.
 fn listen(
     rt: &HostRuntime,
     at: SocketAddr,
@@ -60,6 +81,8 @@ fn serve<V: Vault, E: Write>(
     at: SocketAddr,
     options: &ArgMatches<'_>,
     journal: Journal<'_>,
+    watch: &StoreWatch<'_>,
+    totals: &Option<Vec<Total>>,
     err: &mut E,
 ) -> Result<u8, Fault> {
     let admin = options.get_one::<u16>("admin-port").unwrap_or(1111);
@@ -77,28 +100,50 @@ fn serve<V: Vault, E: Write>(
     writeln!(out, "pop on {}:{}", at.ip(), port).map_err(|_| Fault::CannotWrite)?;
     writeln!(out, "admin on 127.0.0.1:{admin_port}").map_err(|_| Fault::CannotWrite)?;
     let pop = SocketAddr::from((at.ip(), port));
-    note_start(
-        &journal,
-        rt,
-        pop,
-        admin_port,
-        options.get_str("store").unwrap_or(""),
-    );
-    let served = serve_turns(rt, office, LoggedWire::new(wire, journal), options, journal);
+    note_start(&journal, rt, pop, admin_port, watch.path(), totals);
+    let folder = Folder::new(rt, options.get_str("spool").unwrap_or(""));
+    if is_verbose(options) && !journal.is_on() {
+        folder.tell_left(err);
+    }
+    let wire = Guarded::new(LoggedWire::new(wire, journal), watch);
+    let served = serve_turns(rt, office, wire, folder, options, journal, watch);
+    let status = match (served, watch.loss()) {
+        (Ok(_), Some(loss)) => Ok(tell_loss(err, is_verbose(options), &journal, watch, loss)),
+        (served, _) => served,
+    };
     note_end(&journal);
-    served
+    status
 }
 
-/// Serves a wire, and the spool that is named, until so many turns are over.
+/// Tells that the store's files aren't those any more that the server has open. Gives the exit
+/// status.
+fn tell_loss<E: Write>(
+    err: &mut E,
+    is_verbose: bool,
+    journal: &Journal<'_>,
+    watch: &StoreWatch<'_>,
+    loss: Loss,
+) -> u8 {
+    note_loss(journal, watch.path(), loss);
+    let status = tell_fault(err, Fault::from(VaultFault::Store));
+    if is_verbose {
+        let _ = writeln!(err, "why: {}: {loss}", watch.path());
+    }
+    status
+}
+
+/// Serves a wire, and the spool that is named, until so many turns are over, or the store is lost.
 fn serve_turns<V: Vault, W: Wire + Drop>(
     rt: &HostRuntime,
     office: &mut Office<V>,
     mut wire: W,
+    folder: Folder<'_>,
     options: &ArgMatches<'_>,
     journal: Journal<'_>,
+    watch: &StoreWatch<'_>,
 ) -> Result<u8, Fault> {
-    let folder = FolderSpool::new(rt, rt.alloc(), options.get_str("spool").unwrap_or(""));
-    let mut spool = LoggedSpool::new(folder, journal);
+    let files = FolderSpool::new(rt, rt.alloc(), options.get_str("spool").unwrap_or(""));
+    let mut spool = Guarded::new(LoggedSpool::new(files, journal, folder), watch);
     let mut links = begin(rt.alloc(), office, &wire, &spool);
     let wait = options.get_one::<u32>("wait").unwrap_or(0);
     links.set_wait(u64::from(wait));
@@ -106,6 +151,9 @@ fn serve_turns<V: Vault, W: Wire + Drop>(
         return Err(Fault::NoClock);
     };
     for _ in 0..options.get_one::<u64>("turns").unwrap_or(u64::MAX) {
+        if watch.is_lost() {
+            return Ok(1);
+        }
         let Ok(elapsed) = start.elapsed(rt) else {
             return Err(Fault::NoClock);
         };

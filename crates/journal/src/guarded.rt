@@ -1,0 +1,107 @@
+//! A wire and a spool that give nothing more once the server's store is lost.
+ghost use Rattle.std.specs.Prelude.{◌≡◌, ℕ, List, []};
+ghost use Rattle.serving.specs.Wires.{IsWithin, counted};
+
+use super::watch::StoreWatch;
+use serving::{FileName, Io, Link, Port, Spool, Wire};
+
+/// A wire or a spool that does what the one inside does, until the store's files are seen to be
+/// others than those that are open. From then on it accepts no link, reads and writes no octet, by
+/// which open links end, and takes no file. A wire looks at them behind each wait, and a spool
+/// before each file.
+#[derive(Drop)]
+pub struct Guarded<'a, T> {
+    pub inner: T,
+    pub watch: &'a StoreWatch<'a>,
+}
+
+impl<'a, T> Guarded<'a, T> {
+    /// Guards a wire or a spool.
+    pub fn new(inner: T, watch: &'a StoreWatch<'a>) -> Guarded<'a, T> {
+        Guarded { inner, watch }
+    }
+}
+
+/// What a read or a write without room gives: it never counts an octet.
+fn without_octets(io: Io) -> Io
+    requires { IsWithin 0 io }
+    ensures same { result ≡ io }
+    ensures none { (octets : List ℕ) → counted result octets ≡ [] }
+{
+    match io {
+        Io::Count(_) => Io::Later,
+        other => other,
+    }
+}
+
+/// Each call as in the wire inside, while the store is there.
+impl<W: Wire> Wire for Guarded<'_, W> {
+    ghost tells = { λ r. W.tells r.inner };
+
+    ghost tells_once = { λ r. W.tells_once r.inner };
+
+    fn wait(&mut self, millis: u32) {
+        self.inner.wait(millis);
+        self.watch.look();
+    }
+
+    fn accept(&mut self, port: Port) -> Option<Link> {
+        if self.watch.is_lost() {
+            return None;
+        }
+        self.inner.accept(port)
+    }
+
+    fn look(&mut self, port: Port, link: Link, buffer: &mut [u8]) -> Io {
+        if self.watch.is_lost() {
+            return Io::Later;
+        }
+        self.inner.look(port, link, buffer)
+    }
+
+    fn read(&mut self, port: Port, link: Link, buffer: &mut [u8]) -> Io {
+        if self.watch.is_lost() {
+            return without_octets(self.inner.read(port, link, &mut []));
+        }
+        self.inner.read(port, link, buffer)
+    }
+
+    fn write(&mut self, port: Port, link: Link, octets: &[u8]) -> Io {
+        if self.watch.is_lost() {
+            return without_octets(self.inner.write(port, link, &[]));
+        }
+        self.inner.write(port, link, octets)
+    }
+
+    fn close(&mut self, port: Port, link: Link) {
+        self.inner.close(port, link);
+    }
+}
+
+/// Each call as in the spool inside, while the store is there.
+impl<S: Spool> Spool for Guarded<'_, S> {
+    ghost tells = { λ r. S.tells r.inner };
+
+    ghost tells_once = { λ r. S.tells_once r.inner };
+
+    fn next_name(&mut self, last: &Option<FileName>) -> Option<FileName> {
+        let name = self.inner.next_name(last)?;
+        self.watch.look_now();
+        if self.watch.is_lost() {
+            return None;
+        }
+        Some(name)
+    }
+
+    fn read(&mut self, name: &FileName) -> Option<Vec<u8>> {
+        self.inner.read(name)
+    }
+
+    fn remove(&mut self, name: &FileName) -> bool {
+        self.inner.remove(name)
+    }
+
+    fn rename(&mut self, name: &FileName) -> bool {
+        self.inner.rename(name)
+    }
+}

@@ -1,0 +1,180 @@
+//! Whether the store's files are still those that a server has open.
+use std::cell::Cell;
+use std::fmt::{Display, Formatter, Write};
+use std::fs::Metadata;
+use std::io::ErrorKind;
+use std::os::unix::fs::MetadataExt;
+use std::time::Instant;
+use std::{fmt, fs};
+
+/// A file of this machine, by the number of its device and its own number there.
+#[derive(Clone, Copy, PartialEq, Eq)]
+pub struct FileId {
+    device: u64,
+    inode: u64,
+}
+
+impl FileId {
+    /// The file that stands at a path, behind any link; `None` where none can be looked at.
+    pub fn at(rt: &HostRuntime, path: &str) -> Option<FileId> {
+        Some(FileId::of(&fs::metadata(rt, path).ok()?))
+    }
+
+    /// The file that was looked at.
+    fn of(metadata: &Metadata) -> FileId {
+        FileId {
+            device: metadata.dev(),
+            inode: metadata.ino(),
+        }
+    }
+}
+
+/// What became of the path of a file that a server has open.
+#[derive(Clone, Copy, PartialEq, Eq)]
+pub enum Loss {
+    /// Nothing stands at the path of the store's file.
+    FileRemoved,
+    /// Another file stands at the path of the store's file.
+    FileReplaced,
+    /// Nothing stands at the path of the store's log.
+    LogRemoved,
+    /// Another file stands at the path of the store's log.
+    LogReplaced,
+}
+
+impl Display for Loss {
+    fn fmt<W: Write>(&self, f: &mut Formatter<W>) -> fmt::Result {
+        f.write_str(match self {
+            Loss::FileRemoved => "its file was moved or removed while the server had it open",
+            Loss::FileReplaced => "its file was replaced while the server had it open",
+            Loss::LogRemoved => "its log was moved or removed while the server had it open",
+            Loss::LogReplaced => "its log was replaced while the server had it open",
+        })
+    }
+}
+
+/// What stands at the path of a file that is open.
+enum Found {
+    Same,
+    Other,
+    Nothing,
+}
+
+/// Looks at a path. A path that can't be looked at, as for want of memory, counts as the same file.
+fn look_at(rt: &HostRuntime, path: &str, open: Option<FileId>) -> Found {
+    let Some(open) = open else {
+        return Found::Same;
+    };
+    match fs::metadata(rt, path) {
+        Ok(metadata) if FileId::of(&metadata) == open => Found::Same,
+        Ok(_) => Found::Other,
+        Err(error) if is_absence(error.kind()) => Found::Nothing,
+        Err(_) => Found::Same,
+    }
+}
+
+/// Whether an error says that nothing stands at a path.
+fn is_absence(kind: ErrorKind) -> bool {
+    matches!(kind, ErrorKind::NotFound | ErrorKind::NotADirectory)
+}
+
+/// The path of a store's log, which lies beside the file itself, behind any link.
+fn log_path(rt: &HostRuntime, path: &str) -> Option<String> {
+    let real = fs::canonicalize(rt, path).ok()?;
+    format!(in rt.alloc(); "{}-wal", real.as_str()).ok()
+}
+
+/// How many milliseconds lie between two looks at least.
+const BETWEEN_LOOKS: u128 = 100;
+
+/// Looks now and then whether the paths of a store's file and log are still the files that a server
+/// has open. What it has seen once it says from then on.
+#[derive(Drop)]
+pub struct StoreWatch<'a> {
+    rt: &'a HostRuntime,
+    path: &'a str,
+    file: Option<FileId>,
+    log_path: Option<String>,
+    log: Option<FileId>,
+    /// When it looked last; `None` where it never did.
+    looked: Cell<Option<Instant>>,
+    loss: Cell<Option<Loss>>,
+}
+
+impl<'a> StoreWatch<'a> {
+    /// Watches the store at a path, which is open. `before` is what stood there before it was
+    /// opened; without it what stands there now is taken for the file that is open. A path at which
+    /// nothing stands isn't watched.
+    pub fn new(rt: &'a HostRuntime, path: &'a str, before: Option<FileId>) -> StoreWatch<'a> {
+        let log_path = log_path(rt, path);
+        let log = match &log_path {
+            Some(log_path) => FileId::at(rt, log_path.as_str()),
+            None => None,
+        };
+        StoreWatch {
+            rt,
+            path,
+            file: before.or(FileId::at(rt, path)),
+            log_path,
+            log,
+            looked: Cell::new(None),
+            loss: Cell::new(None),
+        }
+    }
+
+    /// The path of the store.
+    pub fn path(&self) -> &'a str {
+        self.path
+    }
+
+    /// What became of the store's files, as far as it was seen; `None` while they are the same.
+    pub fn loss(&self) -> Option<Loss> {
+        self.loss.get()
+    }
+
+    /// Whether the store's files aren't those that are open, as far as it was seen.
+    pub fn is_lost(&self) -> bool {
+        self.loss.get().is_some()
+    }
+
+    /// Looks, unless it did so less than a tenth of a second ago.
+    pub fn look(&self) {
+        let Ok(now) = Instant::now(self.rt) else {
+            return;
+        };
+        if !self.looked_before(now) {
+            self.looked.set(Some(now));
+            self.look_now();
+        }
+    }
+
+    /// Looks.
+    pub fn look_now(&self) {
+        if !self.is_lost() {
+            self.loss.set(self.find());
+        }
+    }
+
+    /// Whether it looked less than a tenth of a second before a moment.
+    fn looked_before(&self, now: Instant) -> bool {
+        match self.looked.get() {
+            Some(looked) => now.duration_since(looked).as_millis() < BETWEEN_LOOKS,
+            None => false,
+        }
+    }
+
+    /// What became of the store's files.
+    fn find(&self) -> Option<Loss> {
+        match look_at(self.rt, self.path, self.file) {
+            Found::Nothing => return Some(Loss::FileRemoved),
+            Found::Other => return Some(Loss::FileReplaced),
+            Found::Same => {}
+        }
+        let log_path = self.log_path.as_ref()?;
+        match look_at(self.rt, log_path.as_str(), self.log) {
+            Found::Nothing => Some(Loss::LogRemoved),
+            Found::Other => Some(Loss::LogReplaced),
+            Found::Same => None,
+        }
+    }
+}
