@@ -4,6 +4,7 @@ ghost use Rattle.serving.specs.Wires.{IsWithin, counted};
 
 use super::watch::StoreWatch;
 use serving::{FileName, Io, Link, Port, Spool, Wire};
+use std::net::IpAddr;
 
 /// A wire or a spool that does what the one inside does, until the store's files are seen to be
 /// others than those that are open. From then on it accepts no link, reads and writes no octet, by
@@ -71,6 +72,10 @@ impl<W: Wire> Wire for Guarded<'_, W> {
             return without_octets(self.inner.write(port, link, &[]));
         }
         self.inner.write(port, link, octets)
+    }
+
+    fn address(&self, port: Port, link: Link) -> Option<IpAddr> {
+        self.inner.address(port, link)
     }
 
     fn close(&mut self, port: Port, link: Link) {

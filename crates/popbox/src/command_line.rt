@@ -129,16 +129,39 @@ fn review_policy<'a>(alloc: Global) -> Result<Command<'a>, AllocError> {
     subcommand(alloc, "review-policy", about, arguments)
 }
 
-/// `--log`.
-fn log<'a>(alloc: Global) -> Arg<'a> {
-    Arg::new(alloc, "log")
-        .long("log")
-        .help("Writes a line for each event to standard error")
+/// `--NAME`, which takes no value.
+fn flag<'a>(alloc: Global, name: &'a str, help: &'a str) -> Arg<'a> {
+    Arg::new(alloc, name)
+        .long(name)
+        .help(help)
         .action(ArgAction::SetTrue)
 }
 
+/// `[--idle N] [--wait N] [--login-seconds N] [--slow-guesses]`: how long clients may be idle, wait
+/// and guess.
+fn patience<'a>(alloc: Global) -> Result<Vec<Arg<'a>>, AllocError> {
+    let idle = "After so many seconds an idle client is ended";
+    let wait = "For so many seconds a login waits for a maildrop that is in use";
+    let login = "After so many seconds a client that hasn't logged in is ended; 0: it isn't";
+    let slow = "After a refused login the next one from the same address waits";
+    let arguments = vec![in alloc;
+        option(alloc, "idle", "N", idle)
+            .default_value("600")
+            .value_parser(value_parser!(u32).range(600..=86400)),
+        option(alloc, "wait", "N", wait)
+            .default_value("0")
+            .value_parser(value_parser!(u32).range(0..=60)),
+        option(alloc, "login-seconds", "N", login)
+            .default_value("0")
+            .value_parser(value_parser!(u32).range(0..=600)),
+        flag(alloc, "slow-guesses", slow),
+    ]?;
+    Ok(arguments)
+}
+
 /// `serve --store PATH --spool DIR [--listen IPV4] [--pop-port N] [--admin-port N] [--host NAME]
-/// [--idle N] [--wait N] [--removals WHEN] [--turns N] [--log] [--verbose]`.
+/// [--idle N] [--wait N] [--login-seconds N] [--slow-guesses] [--removals WHEN] [--turns N] [--log]
+/// [--verbose]`.
 fn serve<'a>(alloc: Global) -> Result<Command<'a>, AllocError> {
     let listen = option(
         alloc,
@@ -152,18 +175,6 @@ fn serve<'a>(alloc: Global) -> Result<Command<'a>, AllocError> {
         "admin-port",
         "N",
         "The port of 127.0.0.1 at which the administration is asked",
-    );
-    let idle = option(
-        alloc,
-        "idle",
-        "N",
-        "After so many seconds an idle client is ended",
-    );
-    let wait = option(
-        alloc,
-        "wait",
-        "N",
-        "For so many seconds a login waits for a maildrop that is in use",
     );
     let turns = option(alloc, "turns", "N", "Ends after so many turns");
     let spool = option(
@@ -179,16 +190,16 @@ fn serve<'a>(alloc: Global) -> Result<Command<'a>, AllocError> {
         port.default_value("1110").value_parser(value_parser!(u16)),
         admin.default_value("1111").value_parser(value_parser!(u16)),
         host(alloc),
-        idle.default_value("600")
-            .value_parser(value_parser!(u32).range(600..=86400)),
-        wait.default_value("0")
-            .value_parser(value_parser!(u32).range(0..=60)),
         removals(alloc),
         turns.value_parser(value_parser!(u64)),
-        log(alloc),
+        flag(
+            alloc,
+            "log",
+            "Writes a line for each event to standard error"
+        ),
     ]?;
     let about = "Serves clients over the network, and takes messages from a folder";
-    subcommand(alloc, "serve", about, arguments)
+    subcommand(alloc, "serve", about, arguments)?.args(patience(alloc)?)
 }
 
 /// Adds a subcommand that was made.

@@ -147,6 +147,9 @@ fn serve_turns<V: Vault, W: Wire + Drop>(
     let mut links = begin(rt.alloc(), office, &wire, &spool);
     let wait = options.get_one::<u32>("wait").unwrap_or(0);
     links.set_wait(u64::from(wait));
+    let login = options.get_one::<u32>("login-seconds").unwrap_or(0);
+    links.set_login_seconds(u64::from(login));
+    links.set_slow_guesses(options.get_flag("slow-guesses"));
     let Ok(start) = Instant::now(rt) else {
         return Err(Fault::NoClock);
     };
