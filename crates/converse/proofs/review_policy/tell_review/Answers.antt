@@ -1,7 +1,8 @@
-use Rattle.std.proofs.Common.{List, ℕ, None, Option, Some}
+use Rattle.std.proofs.Common.{◌∙◌, List, ℕ, None, Option, Some, inr, subst}
 use Rattle.std.specs.Prelude.{IfSome}
 use Rattle.policy.specs.Policy.{Policy}
 use Rattle.converse.specs.PolicyFile.{IsPolicyText, IsNoPolicyText}
+use Rattle.converse.specs.Reviewed.{PrintsPart}
 use Rattle.converse.proofs.review_policy.tell_review.Goals as goal
 
 -- where a text is a policy's, what is said of a text that is none holds
@@ -11,3 +12,12 @@ not_both (Some octets) policy A h = λ none. absurd (none policy h)
 
 pub returns-clause-faulty : goal.returns-clause-faulty
 returns-clause-faulty g c = not_both (g.R.Read.remaining c.args.file.now) _ _ c.in_ok-policy.ensures.ok
+
+pub returns-clause-part : goal.returns-clause-part
+returns-clause-part g c =
+    inr (
+      c.in_ok-policy.policy,
+      c.in_ok-policy.ensures.ok,
+      subst (λ (text : List ℕ). PrintsPart (g.W.Write.contents c.args.out.now) (g.W.Write.contents c.print.new.out) text)
+          (c.deref.ensures.value ∙ c.in_ok-text.ensures) c.print.ensures.part,
+    )
