@@ -39,7 +39,7 @@ enum Errand<'a> {
 
 /// Why a store isn't opened.
 #[derive(Clone, Copy)]
-enum Closed {
+pub enum Closed {
     /// It can't be opened, or is refused.
     Refused(VaultFault),
     /// It is of this older version.
@@ -53,13 +53,35 @@ pub fn run_check<E: Write>(
     err: &mut E,
 ) -> Result<u8, Fault> {
     let path = options.get_str("store").unwrap_or("");
-    match fs::metadata(rt, path) {
+    match look_at(rt, path, is_verbose(options), err) {
         Ok(file) => {
-            let octets = file.len().saturating_add(log_octets(rt, path));
+            let octets = file.saturating_add(log_octets(rt, path));
             run_errand(rt, &Errand::Check(octets), path, options, err)
         }
-        Err(error) => Ok(tell_unread(err, is_verbose(options), path, &error)),
+        Err(status) => Ok(status),
     }
+}
+
+/// How many octets a store's file has. Where there is none, or it is empty, that is told, and an
+/// `Err` is the exit status: an opening would make one, or write a first page into it.
+pub fn look_at<E: Write>(
+    rt: &HostRuntime,
+    path: &str,
+    is_verbose: bool,
+    err: &mut E,
+) -> Result<u64, u8> {
+    let file = match fs::metadata(rt, path) {
+        Ok(file) => file.len(),
+        Err(error) => return Err(tell_unread(err, is_verbose, path, &error)),
+    };
+    if file > 0 {
+        return Ok(file);
+    }
+    let status = tell_fault(err, Fault::from(VaultFault::NotOurs));
+    if is_verbose {
+        let _ = writeln!(err, "why: {path}: it is empty");
+    }
+    Err(status)
 }
 
 /// How many octets the log beside a store's file has; 0 where there is none.
@@ -88,8 +110,8 @@ pub fn run_export<E: Write>(
         return Ok(1);
     };
     let path = options.get_str("store").unwrap_or("");
-    if let Err(error) = fs::metadata(rt, path) {
-        return Ok(tell_unread(err, is_verbose(options), path, &error));
+    if let Err(status) = look_at(rt, path, is_verbose(options), err) {
+        return Ok(status);
     }
     let folder = options.get_str("DIR").unwrap_or("");
     run_errand(rt, &Errand::Export(maildrop, folder), path, options, err)
@@ -114,7 +136,7 @@ fn run_errand<E: Write>(
 }
 
 /// Why a file isn't opened, as the vault's fault.
-fn open_fault(error: &Error) -> VaultFault {
+pub fn open_fault(error: &Error) -> VaultFault {
     match error {
         Error::SqliteFailure(ErrorCode::OutOfMemory) => VaultFault::NoMemory,
         Error::SqliteFailure(ErrorCode::NotADatabase) => VaultFault::NotOurs,
@@ -123,7 +145,7 @@ fn open_fault(error: &Error) -> VaultFault {
 }
 
 /// Tells why a store isn't opened. Gives the exit status.
-fn tell_closed<E: Write>(
+pub fn tell_closed<E: Write>(
     rt: &HostRuntime,
     err: &mut E,
     is_verbose: bool,
@@ -177,7 +199,7 @@ fn run_over_connection<A: Alter + Drop, E: Write>(
 }
 
 /// Reads who the clerks of a store are, by name, and adopts it, which changes nothing in it.
-fn adopt<A: Alter + Drop>(
+pub fn adopt<A: Alter + Drop>(
     alloc: Global,
     conn: Connection<A>,
 ) -> Result<(SqlVault<A>, Vec<Name>), Closed> {
@@ -270,7 +292,7 @@ fn export_over<V: Vault, E: Write>(
     };
     let status = export(alloc, vault, maildrop, &mut folder, &mut out, err);
     if is_verbose(options) && status != 0 {
-        if vault.heads(maildrop).is_err() {
+        if let Err(VaultFault::NoMaildrop) = vault.heads(maildrop) {
             let _ = writeln!(err, "why: {store}: it has no maildrop {maildrop}");
         }
         tell_refusal(err, path, folder.refusal);
@@ -301,8 +323,8 @@ impl Folder for NamedFolder<'_> {
     }
 }
 
-/// Writes a file into the folder at a path under a name of its own, and gives it its name once it
-/// is whole and on the disk. A file that has the name stays.
+/// Writes a file into the folder at a path under a name of its own, and gives it its name once its
+/// octets are on the disk. A file that has the name stays.
 fn put_file(rt: &HostRuntime, path: &str, name: &str, octets: &[u8]) -> io::Result<()> {
     let alloc: Global = rt.alloc();
     let unfinished = format!(in alloc; "{path}/{UNFINISHED}")?;
