@@ -35,8 +35,8 @@ use std::process::ExitCode;
 use std::rt::{Env, Files};
 use std::time::Clock;
 use std::{env, fs, io};
-use store_file::{make_file, tell_readers};
-use vault::{PlainVault, Vault};
+use store_file::{is_log_alone, make_file, tell_readers};
+use vault::{PlainVault, Vault, VaultFault};
 
 /// The exit status where the command line can't be read.
 const UNREADABLE: u8 = 2;
@@ -210,7 +210,8 @@ fn run_job<S: Read, E: Write>(
     }
 }
 
-/// Runs a job over the store in the file at a path, which is made where there is none.
+/// Runs a job over the store in the file at a path, which is made where there is none, and no log
+/// of another.
 fn run_in_file<S: Read, E: Write>(
     rt: &HostRuntime,
     job: Job,
@@ -219,6 +220,16 @@ fn run_in_file<S: Read, E: Write>(
     options: &ArgMatches<'_>,
     err: &mut E,
 ) -> Result<u8, Fault> {
+    if is_log_alone(rt, path) {
+        let status = tell_fault(err, Fault::from(VaultFault::Store));
+        if is_verbose(options) {
+            let _ = writeln!(
+                err,
+                "why: {path}-wal: a store's log, whose file isn't there"
+            );
+        }
+        return Ok(status);
+    }
     make_file(rt, path);
     let job = job.over(FileId::at(rt, path));
     let fault = match SqlVault::open(rt, path, Wary) {

@@ -1,6 +1,7 @@
 //! `popbox export` and `popbox check`: over a store that no server has, which stays as it is.
 
 use crate::command_line::is_verbose;
+use crate::store_file::log_octets;
 use causes::{Watched, tell_closed_store, tell_refusal, tell_unread};
 use clap::ArgMatches;
 use converse::check_store::{StoreFile, check_store};
@@ -13,7 +14,7 @@ use sqlite::{Alter, Connection, Error, ErrorCode, Wary};
 use sqlvault::SqlVault;
 use std::alloc::Global;
 use std::fs::{File, OpenOptions};
-use std::io::{BufWriter, ErrorKind, Write};
+use std::io::{BufWriter, ErrorKind, Read, Write};
 use std::os::unix::fs::OpenOptionsExt;
 use std::{fs, io};
 use vault::{Vault, VaultFault, in_order};
@@ -21,6 +22,9 @@ use vault::{Vault, VaultFault, in_order};
 /// The version of the tables that this popbox makes. A store of an older one would be changed by an
 /// opening.
 const VERSION: i64 = 3;
+
+/// How a file begins that is a database of SQLite.
+const DATABASE: &[u8; 16] = b"SQLite format 3\0";
 
 /// The name under which a file is written until it is whole.
 const UNFINISHED: &str = ".popbox-export";
@@ -62,36 +66,37 @@ pub fn run_check<E: Write>(
     }
 }
 
-/// How many octets a store's file has. Where there is none, or it is empty, that is told, and an
-/// `Err` is the exit status: an opening would make one, or write a first page into it.
+/// How many octets a store's file has. Where there is none, or it is no database, that is told, and
+/// an `Err` is the exit status: an opening would make a file, or write a first page or a log.
 pub fn look_at<E: Write>(
     rt: &HostRuntime,
     path: &str,
     is_verbose: bool,
     err: &mut E,
 ) -> Result<u64, u8> {
-    let file = match fs::metadata(rt, path) {
-        Ok(file) => file.len(),
-        Err(error) => return Err(tell_unread(err, is_verbose, path, &error)),
-    };
-    if file > 0 {
-        return Ok(file);
+    match database_octets(rt, path) {
+        Ok(Some(octets)) => Ok(octets),
+        Ok(None) => {
+            let status = tell_fault(err, Fault::from(VaultFault::NotOurs));
+            if is_verbose {
+                let _ = writeln!(err, "why: {path}: it doesn't begin as an SQLite database");
+            }
+            Err(status)
+        }
+        Err(error) => Err(tell_unread(err, is_verbose, path, &error)),
     }
-    let status = tell_fault(err, Fault::from(VaultFault::NotOurs));
-    if is_verbose {
-        let _ = writeln!(err, "why: {path}: it is empty");
-    }
-    Err(status)
 }
 
-/// How many octets the log beside a store's file has; 0 where there is none.
-fn log_octets(rt: &HostRuntime, path: &str) -> u64 {
-    let Ok(log) = format!(in rt.alloc(); "{path}-wal") else {
-        return 0;
-    };
-    match fs::metadata(rt, log.as_str()) {
-        Ok(log) => log.len(),
-        Err(_) => 0,
+/// How many octets a file has that begins as a database of SQLite; `None` of any other file.
+fn database_octets(rt: &HostRuntime, path: &str) -> io::Result<Option<u64>> {
+    let octets = fs::metadata(rt, path)?.len();
+    let mut file = OpenOptions::new().read(true).open(rt, path)?;
+    let mut head = [0; 16];
+    match file.read_exact(&mut head) {
+        Ok(()) if head.as_slice() == DATABASE.as_slice() => Ok(Some(octets)),
+        Ok(()) => Ok(None),
+        Err(error) if error.kind() == ErrorKind::UnexpectedEof => Ok(None),
+        Err(error) => Err(error),
     }
 }
 
@@ -126,13 +131,11 @@ fn run_errand<E: Write>(
     options: &ArgMatches<'_>,
     err: &mut E,
 ) -> Result<u8, Fault> {
-    match Connection::open_from(rt, path, false, Wary) {
-        Ok(conn) => run_over_connection(rt, conn, errand, path, options, err),
-        Err((error, _)) => {
-            let closed = Closed::Refused(open_fault(&error));
-            Ok(tell_closed(rt, err, is_verbose(options), path, &closed))
-        }
-    }
+    let closed = match Connection::open_from(rt, path, false, Wary) {
+        Ok(conn) => return run_over_connection(rt, conn, errand, path, options, err),
+        Err((error, _)) => Closed::Refused(open_fault(&error)),
+    };
+    Ok(tell_closed(rt, err, is_verbose(options), path, &closed))
 }
 
 /// Why a file isn't opened, as the vault's fault.

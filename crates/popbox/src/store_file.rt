@@ -11,6 +11,30 @@ const OWNER_ALONE: u32 = 0o600;
 /// Reading for the group or for all.
 const OTHERS_READ: u32 = 0o044;
 
+/// How many octets a log has at most that has no page of a store: a page has 512 at least.
+const WITHOUT_PAGES: u64 = 512;
+
+/// How many octets the log beside a store's file has; 0 where there is none.
+pub fn log_octets(rt: &HostRuntime, path: &str) -> u64 {
+    let Ok(log) = format!(in rt.alloc(); "{path}-wal") else {
+        return 0;
+    };
+    match fs::metadata(rt, log.as_str()) {
+        Ok(log) => log.len(),
+        Err(_) => 0,
+    }
+}
+
+/// Whether a log with pages lies beside no file, or an empty one: that of a store whose file was
+/// moved or removed. An opening would make a file, and begin the log anew.
+pub fn is_log_alone(rt: &HostRuntime, path: &str) -> bool {
+    let file = match fs::metadata(rt, path) {
+        Ok(file) => file.len(),
+        Err(_) => 0,
+    };
+    file == 0 && log_octets(rt, path) > WITHOUT_PAGES
+}
+
 /// Makes the file of a store, empty, where there is none. Only its owner may read it, and its log,
 /// which is made with its mode. Where it can't be made, the opening of the store tells why.
 pub fn make_file(rt: &HostRuntime, path: &str) {

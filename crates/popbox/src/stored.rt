@@ -26,13 +26,11 @@ pub fn read_store<E: Write>(
     err: &mut E,
 ) -> Result<Stored, u8> {
     let _ = look_at(rt, path, is_verbose, err)?;
-    match Connection::open_from(rt, path, false, Wary) {
-        Ok(conn) => read_connection(rt, conn, path, is_verbose, err),
-        Err((error, _)) => {
-            let closed = Closed::Refused(open_fault(&error));
-            Err(tell_closed(rt, err, is_verbose, path, &closed))
-        }
-    }
+    let closed = match Connection::open_from(rt, path, false, Wary) {
+        Ok(conn) => return read_connection(rt, conn, path, is_verbose, err),
+        Err((error, _)) => Closed::Refused(open_fault(&error)),
+    };
+    Err(tell_closed(rt, err, is_verbose, path, &closed))
 }
 
 /// Reads the store of a connection.
