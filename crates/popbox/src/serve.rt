@@ -103,15 +103,14 @@ fn serve<V: Vault, E: Write>(
     writeln!(out, "admin on 127.0.0.1:{admin_port}").map_err(|_| Fault::CannotWrite)?;
     let pop = SocketAddr::from((at.ip(), port));
     note_start(&journal, rt, pop, admin_port, watch.path(), totals);
-    let folder = Folder::new(rt, options.get_str("spool").unwrap_or(""));
     if is_verbose(options) && !journal.is_on() {
-        folder.tell_left(err);
+        Folder::new(rt, options.get_str("spool").unwrap_or("")).tell_left(err);
     }
     let served = if options.get_flag("proxy-protocol") {
         let wire = ProxiedWire::new(rt.alloc(), wire, rt);
-        serve_turns(rt, office, wire, folder, options, journal, watch)
+        serve_turns(rt, office, wire, options, journal, watch)
     } else {
-        serve_turns(rt, office, wire, folder, options, journal, watch)
+        serve_turns(rt, office, wire, options, journal, watch)
     };
     let status = match (served, watch.loss()) {
         (Ok(_), Some(loss)) => Ok(tell_loss(err, is_verbose(options), &journal, watch, loss)),
@@ -143,13 +142,14 @@ fn serve_turns<V: Vault, W: Wire + Peers + Drop>(
     rt: &HostRuntime,
     office: &mut Office<V>,
     wire: W,
-    folder: Folder<'_>,
     options: &ArgMatches<'_>,
     journal: Journal<'_>,
     watch: &StoreWatch<'_>,
 ) -> Result<u8, Fault> {
+    let path = options.get_str("spool").unwrap_or("");
     let mut wire = Guarded::new(LoggedWire::new(wire, journal), watch);
-    let files = FolderSpool::new(rt, rt.alloc(), options.get_str("spool").unwrap_or(""));
+    let files = FolderSpool::new(rt, rt.alloc(), path);
+    let folder = Folder::new(rt, path);
     let mut spool = Guarded::new(LoggedSpool::new(files, journal, folder), watch);
     let mut links = begin(rt.alloc(), office, &wire, &spool);
     let wait = options.get_one::<u32>("wait").unwrap_or(0);
