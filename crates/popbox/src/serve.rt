@@ -48,7 +48,7 @@ pub fn serve_over<V: Vault, E: Write>(
     match Office::open(rt.alloc(), vault, host, boot, limits) {
         Err((fault, vault)) => (Err(Fault::from(fault)), vault.into_vault().into_vault()),
         Ok(mut office) => {
-            let served = serve(rt, &mut office, at, options, journal, &watch, &totals, err);
+            let served = serve(rt, &mut office, at, options, &shared, &watch, &totals, err);
             (served, office.into_vault().into_vault().into_vault())
         }
     }
@@ -82,11 +82,12 @@ fn serve<V: Vault, E: Write>(
     office: &mut Office<V>,
     at: SocketAddr,
     options: &ArgMatches<'_>,
-    journal: Journal<'_>,
+    shared: &Shared,
     watch: &StoreWatch<'_>,
     totals: &Option<Vec<Total>>,
     err: &mut E,
 ) -> Result<u8, Fault> {
+    let journal = Journal::new(rt, options.get_flag("log"), shared);
     let admin = options.get_one::<u16>("admin-port").unwrap_or(1111);
     let (wire, port, admin_port) = match listen(rt, at, admin) {
         Ok(listening) => listening,
@@ -108,9 +109,9 @@ fn serve<V: Vault, E: Write>(
     }
     let served = if options.get_flag("proxy-protocol") {
         let wire = ProxiedWire::new(rt.alloc(), wire, rt);
-        serve_turns(rt, office, wire, options, journal, watch)
+        serve_turns(rt, office, wire, options, shared, watch)
     } else {
-        serve_turns(rt, office, wire, options, journal, watch)
+        serve_turns(rt, office, wire, options, shared, watch)
     };
     let status = match (served, watch.loss()) {
         (Ok(_), Some(loss)) => Ok(tell_loss(err, is_verbose(options), &journal, watch, loss)),
@@ -143,9 +144,10 @@ fn serve_turns<V: Vault, W: Wire + Peers + Drop>(
     office: &mut Office<V>,
     wire: W,
     options: &ArgMatches<'_>,
-    journal: Journal<'_>,
+    shared: &Shared,
     watch: &StoreWatch<'_>,
 ) -> Result<u8, Fault> {
+    let journal = Journal::new(rt, options.get_flag("log"), shared);
     let path = options.get_str("spool").unwrap_or("");
     let mut wire = Guarded::new(LoggedWire::new(wire, journal), watch);
     let files = FolderSpool::new(rt, rt.alloc(), path);
