@@ -48,7 +48,18 @@ pub fn serve_over<V: Vault, E: Write>(
     match Office::open(rt.alloc(), vault, host, boot, limits) {
         Err((fault, vault)) => (Err(Fault::from(fault)), vault.into_vault().into_vault()),
         Ok(mut office) => {
-            let served = serve(rt, &mut office, at, options, &shared, &watch, &totals, err);
+            let spool = options.get_str("spool").unwrap_or("");
+            let served = serve(
+                rt,
+                &mut office,
+                at,
+                spool,
+                options,
+                &shared,
+                &watch,
+                &totals,
+                err,
+            );
             (served, office.into_vault().into_vault().into_vault())
         }
     }
@@ -77,13 +88,14 @@ fn listen(
 }
 
 /// Listens, says so, and serves the clients and administrators that come.
-fn serve<V: Vault, E: Write>(
-    rt: &HostRuntime,
+fn serve<'a, V: Vault, E: Write>(
+    rt: &'a HostRuntime,
     office: &mut Office<V>,
     at: SocketAddr,
+    spool: &'a str,
     options: &ArgMatches<'_>,
-    shared: &Shared,
-    watch: &StoreWatch<'_>,
+    shared: &'a Shared,
+    watch: &'a StoreWatch<'a>,
     totals: &Option<Vec<Total>>,
     err: &mut E,
 ) -> Result<u8, Fault> {
@@ -105,13 +117,13 @@ fn serve<V: Vault, E: Write>(
     let pop = SocketAddr::from((at.ip(), port));
     note_start(&journal, rt, pop, admin_port, watch.path(), totals);
     if is_verbose(options) && !journal.is_on() {
-        Folder::new(rt, options.get_str("spool").unwrap_or("")).tell_left(err);
+        Folder::new(rt, spool).tell_left(err);
     }
     let served = if options.get_flag("proxy-protocol") {
         let wire = ProxiedWire::new(rt.alloc(), wire, rt);
-        serve_turns(rt, office, wire, options, shared, watch)
+        serve_turns(rt, office, wire, spool, options, shared, watch)
     } else {
-        serve_turns(rt, office, wire, options, shared, watch)
+        serve_turns(rt, office, wire, spool, options, shared, watch)
     };
     let status = match (served, watch.loss()) {
         (Ok(_), Some(loss)) => Ok(tell_loss(err, is_verbose(options), &journal, watch, loss)),
@@ -139,19 +151,19 @@ fn tell_loss<E: Write>(
 }
 
 /// Serves a wire, and the spool that is named, until so many turns are over, or the store is lost.
-fn serve_turns<V: Vault, W: Wire + Peers + Drop>(
-    rt: &HostRuntime,
+fn serve_turns<'a, V: Vault, W: Wire + Peers + Drop>(
+    rt: &'a HostRuntime,
     office: &mut Office<V>,
     wire: W,
+    spool: &'a str,
     options: &ArgMatches<'_>,
-    shared: &Shared,
-    watch: &StoreWatch<'_>,
+    shared: &'a Shared,
+    watch: &'a StoreWatch<'a>,
 ) -> Result<u8, Fault> {
     let journal = Journal::new(rt, options.get_flag("log"), shared);
-    let path = options.get_str("spool").unwrap_or("");
     let mut wire = Guarded::new(LoggedWire::new(wire, journal), watch);
-    let files = FolderSpool::new(rt, rt.alloc(), path);
-    let folder = Folder::new(rt, path);
+    let files = FolderSpool::new(rt, rt.alloc(), spool);
+    let folder = Folder::new(rt, spool);
     let mut spool = Guarded::new(LoggedSpool::new(files, journal, folder), watch);
     let mut links = begin(rt.alloc(), office, &wire, &spool);
     let wait = options.get_one::<u32>("wait").unwrap_or(0);
