@@ -39,21 +39,26 @@ pub fn serve_over<V: Vault, E: Write>(
     let Some(limits) = Limits::new(idle) else {
         return (Ok(2), vault);
     };
+    let Ok(path) = String::from_str(rt.alloc(), options.get_str("store").unwrap_or("")) else {
+        return (Err(Fault::OutOfMemory), vault);
+    };
+    let Ok(spool) = String::from_str(rt.alloc(), options.get_str("spool").unwrap_or("")) else {
+        return (Err(Fault::OutOfMemory), vault);
+    };
     let shared = Shared::new(rt.alloc());
     let journal = Journal::new(rt, options.get_flag("log"), &shared);
     let mut vault = LoggedVault::new(Recent::new(rt.alloc(), vault), journal);
     let totals = totals_of(&mut vault, &journal);
-    let watch = StoreWatch::new(rt, options.get_str("store").unwrap_or(""), before);
+    let watch = StoreWatch::new(rt, path.as_str(), before);
     let limits = limits.with_removals(removals_of(options));
     match Office::open(rt.alloc(), vault, host, boot, limits) {
         Err((fault, vault)) => (Err(Fault::from(fault)), vault.into_vault().into_vault()),
         Ok(mut office) => {
-            let spool = options.get_str("spool").unwrap_or("");
             let served = serve(
                 rt,
                 &mut office,
                 at,
-                spool,
+                spool.as_str(),
                 options,
                 &shared,
                 &watch,
