@@ -28,7 +28,9 @@ enum Asked {
     Rset,
     /// QUIT.
     Quit,
-    /// A command whose `+OK` reply has more lines behind the first.
+    /// CAPA, whose `+OK` reply has more lines, and which alone leaves the name in force.
+    Capa,
+    /// Another command whose `+OK` reply has more lines behind the first.
     Lines,
     /// Anything else.
     Other,
@@ -43,7 +45,8 @@ fn asked_by(command: &Command<'_>) -> Asked {
         Command::Dele(_) => Asked::Dele,
         Command::Rset => Asked::Rset,
         Command::Quit => Asked::Quit,
-        Command::Capa | Command::Retr(_) | Command::Top(_, _) => Asked::Lines,
+        Command::Capa => Asked::Capa,
+        Command::Retr(_) | Command::Top(_, _) => Asked::Lines,
         Command::List(None) | Command::Uidl(None) => Asked::Lines,
         _ => Asked::Other,
     }
@@ -104,7 +107,7 @@ struct Talk {
     asked: VecDeque<Asked>,
     /// Whether lines of a reply are still to come, up to that of one dot.
     is_listing: bool,
-    /// The name that USER gave.
+    /// The name in force: that of an accepted USER, until the next line but CAPA.
     user: Option<LoginName>,
     /// Who has logged in.
     session: Option<LoginName>,
@@ -154,10 +157,16 @@ impl Talk {
 
     /// Notes what the first line of the reply to a command tells.
     fn take_reply(&mut self, journal: &Journal<'_>, asked: Asked, reply: &[u8]) {
+        let in_force = self.user;
+        self.user = None;
         match asked {
             Asked::Greeting => self.greet(journal, reply),
             Asked::User(name) if is_done(reply) => self.user = Some(name),
-            Asked::Pass => self.check_password(journal, reply),
+            Asked::Capa if is_done(reply) => {
+                self.user = in_force;
+                self.is_listing = true;
+            }
+            Asked::Pass => self.check_password(journal, in_force, reply),
             Asked::Apop(name) => self.log_in(journal, name, "apop", reply),
             Asked::NoName if self.session.is_none() => {
                 journal.note(self.nameless(journal.alloc(), reply));
@@ -192,9 +201,9 @@ impl Talk {
         journal.note(format!(in journal.alloc(); "event=connect {}", self.who));
     }
 
-    /// Notes a login by PASS, where USER gave a name before.
-    fn check_password(&mut self, journal: &Journal<'_>, reply: &[u8]) {
-        if let Some(name) = self.user {
+    /// Notes a login by PASS, where a name was in force: without one nothing is judged.
+    fn check_password(&mut self, journal: &Journal<'_>, name: Option<LoginName>, reply: &[u8]) {
+        if let Some(name) = name {
             self.log_in(journal, name, "pass", reply);
         }
     }
