@@ -21,22 +21,22 @@ HasNumber n f = (fault_number f ≡ Some n) ⊎ (fault_number f ≡ None)
 told : {A : Type 0} (P : PolicyFault → Type 0) (e f : PolicyFault) → P e → ◌≡◌ {A = Result A PolicyFault} (Err e) (Err f) → P f
 told P e f p h = let q : e ≡ f = cc in subst P q p
 
-valued : {A B : Type 0} (P : PolicyFault → Type 0) (o : Option A) (e : PolicyFault) (g : A → Result B PolicyFault) → P e → ((x : A) (f : PolicyFault) → g x ≡ Err f → P f)
+pub valued : {A B : Type 0} (P : PolicyFault → Type 0) (o : Option A) (e : PolicyFault) (g : A → Result B PolicyFault) → P e → ((x : A) (f : PolicyFault) → g x ≡ Err f → P f)
     → (f : PolicyFault) → (value_or o e >>= g) ≡ Err f → P f
 valued P None e g p h f q = told P e f p q
 valued P (Some x) e g p h f q = h x f q
 
-demanded : {B : Type 0} (P : PolicyFault → Type 0) (b : Bool) (e : PolicyFault) (g : Unit {0} → Result B PolicyFault) → P e → ((f : PolicyFault) → g tt ≡ Err f → P f)
+pub demanded : {B : Type 0} (P : PolicyFault → Type 0) (b : Bool) (e : PolicyFault) (g : Unit {0} → Result B PolicyFault) → P e → ((f : PolicyFault) → g tt ≡ Err f → P f)
     → (f : PolicyFault) → (demand b e >>= g) ≡ Err f → P f
 demanded P false e g p h f q = told P e f p q
 demanded P true e g p h f q = h f q
 
-bound : {A B : Type 0} (P : PolicyFault → Type 0) (r : Result A PolicyFault) (g : A → Result B PolicyFault) → ((f : PolicyFault) → r ≡ Err f → P f) → ((x : A) (f : PolicyFault) → g x ≡ Err f → P f)
+pub bound : {A B : Type 0} (P : PolicyFault → Type 0) (r : Result A PolicyFault) (g : A → Result B PolicyFault) → ((f : PolicyFault) → r ≡ Err f → P f) → ((x : A) (f : PolicyFault) → g x ≡ Err f → P f)
     → (f : PolicyFault) → (r >>= g) ≡ Err f → P f
 bound P (Err e) g p h f q = told P e f (p e refl) q
 bound P (Ok x) g p h f q = h x f q
 
-never : {A : Type 0} (P : PolicyFault → Type 0) (x : A) (f : PolicyFault) → ◌≡◌ {A = Result A PolicyFault} (Ok x) (Err f) → P f
+pub never : {A : Type 0} (P : PolicyFault → Type 0) (x : A) (f : PolicyFault) → ◌≡◌ {A = Result A PolicyFault} (Ok x) (Err f) → P f
 never P x f q = cc
 
 module _ (groups : List Group) (n : ℕ) where

@@ -3,6 +3,7 @@ pub mod Views
 mod Documents
 pub mod Written
 pub mod FirstFaults
+pub mod FirstGroups
 mod Places
 mod Walking
 mod FourKeys

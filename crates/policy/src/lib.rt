@@ -25,6 +25,6 @@ pub use decide::Decision;
 pub use fault::PolicyFault;
 pub use group::Group;
 pub use lane::Lane;
-pub use laws::numbers_the_first_fault;
+pub use laws::{numbers_the_first_fault, numbers_the_first_group};
 pub use policy::{MAX_GROUPS, MAX_MEMBERS, MAX_RULES, Policy};
 pub use rule::{Action, Actions, Clerks, Effect, Pattern, Rule};

@@ -1,8 +1,9 @@
 //! A mail store in memory.
-ghost use Rattle.std.specs.Prelude.{◌≡◌};
+ghost use Rattle.std.specs.Prelude.{◌≡◌, true, is_ok};
 ghost use Rattle.std.proofs.Common.{◌∙◌, sym};
-ghost use Rattle.vault.specs.Stops.{says_same};
+ghost use Rattle.vault.specs.Stops.{says_same, StaysUp, LeavesBefore, LeavesEither};
 ghost use Rattle.vault.specs.Plain.{HoldsKept, no_contents};
+ghost use Rattle.vault.specs.Calls.{CountsFaults, IsPaged, AreRemoved};
 ghost use Rattle.vault.specs.Changes.{Contents};
 
 use crate::answer::{Deposited, Head, Total};
@@ -106,11 +107,27 @@ impl Vault for PlainVault {
         heads_of(self.alloc, &self.maildrops, &self.messages, maildrop)
     }
 
-    fn page(&mut self, key: MessageKey, from: u64, buffer: &mut [u8]) -> Result<usize, VaultFault> {
+    /// It is never refused: it takes no memory.
+    fn page(&mut self, key: MessageKey, from: u64, buffer: &mut [u8]) -> Result<usize, VaultFault>
+        ensures done { (c : Contents) → HoldsKept self.old c → Unit {0} → IsPaged (HoldsKept self.new) c key from buffer.new result }
+        ensures counted { CountsFaults 0 0 result }
+        ensures clean { Unit {0} → Unit {0} }
+        ensures up { (c : Contents) → Unit {0} → HoldsKept self.old c → StaysUp (Unit {0}) (Unit {0}) result }
+        ensures stop { (c : Contents) → Unit {0} → Unit {0} → HoldsKept self.old c → LeavesBefore (λ left. left ≡ self.new) c }
+        ensures succeeds { is_ok result ≡ true }
+    {
         Ok(read_page(&self.messages, key, from, buffer))
     }
 
-    fn remove(&mut self, maildrop: &Name, keys: &[MessageKey]) -> Result<(), VaultFault> {
+    /// It is never refused: it takes no memory.
+    fn remove(&mut self, maildrop: &Name, keys: &[MessageKey]) -> Result<(), VaultFault>
+        ensures done { (c : Contents) → HoldsKept self.old c → Unit {0} → AreRemoved (HoldsKept self.new) c maildrop.now keys.now result }
+        ensures counted { CountsFaults 0 0 result }
+        ensures clean { Unit {0} → Unit {0} }
+        ensures up { (c : Contents) → Unit {0} → HoldsKept self.old c → StaysUp (Unit {0}) (Unit {0}) result }
+        ensures stop { (c : Contents) → Unit {0} → Unit {0} → HoldsKept self.old c → LeavesEither (λ left. left ≡ self.new) c (λ Held. AreRemoved Held c maildrop.now keys.now) }
+        ensures succeeds { is_ok result ≡ true }
+    {
         remove_named(&mut self.messages, maildrop, keys);
         Ok(())
     }
