@@ -72,6 +72,7 @@ pub(crate) fn put_credential(
 pub(crate) fn drop_credential(clerks: &mut Vec<Clerk>, name: &Name) -> Result<(), VaultFault>
     ensures answer { IsAnswer (drop_clerk_result name.now clerks.old.items) result }
     ensures in_memory { result ≢ Err VaultFault.Store }
+    ensures has_memory { result ≢ Err VaultFault.NoMemory }
     ensures items { clerks.new.items ≡ (if is_ok result then without_clerk name.now clerks.old.items else clerks.old.items) }
 {
     if credential_of(clerks, name).is_none() {

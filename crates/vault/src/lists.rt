@@ -52,6 +52,7 @@ pub(crate) fn drop_name(
 ) -> Result<(), VaultFault>
     ensures answer { IsAnswer (drop_result (drop_answer (is_one_of name.now names.old.items) (length (kept_in name.now messages.now)))) result }
     ensures in_memory { result ≢ Err VaultFault.Store }
+    ensures has_memory { result ≢ Err VaultFault.NoMemory }
     ensures items { names.new.items ≡ (if is_ok result then without_maildrop name.now names.old.items else names.old.items) }
 {
     if !has_name(names, name) {

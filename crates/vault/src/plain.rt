@@ -1,9 +1,9 @@
 //! A mail store in memory.
-ghost use Rattle.std.specs.Prelude.{◌≡◌, true, is_ok};
+ghost use Rattle.std.specs.Prelude.{◌≡◌, ◌≢◌, true, is_ok};
 ghost use Rattle.std.proofs.Common.{◌∙◌, sym};
 ghost use Rattle.vault.specs.Stops.{says_same, StaysUp, LeavesBefore, LeavesEither};
 ghost use Rattle.vault.specs.Plain.{HoldsKept, no_contents};
-ghost use Rattle.vault.specs.Calls.{CountsFaults, IsPaged, AreRemoved};
+ghost use Rattle.vault.specs.Calls.{CountsFaults, IsPaged, AreRemoved, IsCredential, IsClerkDropped, IsMaildropDropped};
 ghost use Rattle.vault.specs.Changes.{Contents};
 
 use crate::answer::{Deposited, Head, Total};
@@ -136,7 +136,15 @@ impl Vault for PlainVault {
         totals_of(self.alloc, &self.maildrops, &self.messages)
     }
 
-    fn credential(&mut self, clerk: &Name) -> Result<Option<Credential>, VaultFault> {
+    /// It is never refused: it takes no memory.
+    fn credential(&mut self, clerk: &Name) -> Result<Option<Credential>, VaultFault>
+        ensures done { (c : Contents) → HoldsKept self.old c → Unit {0} → IsCredential (HoldsKept self.new) c clerk.now result }
+        ensures counted { CountsFaults 0 0 result }
+        ensures clean { Unit {0} → Unit {0} }
+        ensures up { (c : Contents) → Unit {0} → HoldsKept self.old c → StaysUp (Unit {0}) (Unit {0}) result }
+        ensures stop { (c : Contents) → Unit {0} → Unit {0} → HoldsKept self.old c → LeavesBefore (λ left. left ≡ self.new) c }
+        ensures succeeds { is_ok result ≡ true }
+    {
         Ok(credential_of(&self.clerks, clerk))
     }
 
@@ -145,7 +153,15 @@ impl Vault for PlainVault {
         put_credential(&mut self.clerks, clerk, credential)
     }
 
-    fn drop_clerk(&mut self, clerk: &Name) -> Result<(), VaultFault> {
+    /// It takes no memory.
+    fn drop_clerk(&mut self, clerk: &Name) -> Result<(), VaultFault>
+        ensures done { (c : Contents) → HoldsKept self.old c → Unit {0} → IsClerkDropped (HoldsKept self.new) c clerk.now result }
+        ensures counted { CountsFaults 0 0 result }
+        ensures clean { Unit {0} → Unit {0} }
+        ensures up { (c : Contents) → Unit {0} → HoldsKept self.old c → StaysUp (Unit {0}) (Unit {0}) result }
+        ensures stop { (c : Contents) → Unit {0} → Unit {0} → HoldsKept self.old c → LeavesEither (λ left. left ≡ self.new) c (λ Held. IsClerkDropped Held c clerk.now) }
+        ensures has_memory { result ≢ Err VaultFault.NoMemory }
+    {
         drop_credential(&mut self.clerks, clerk)
     }
 
@@ -153,7 +169,15 @@ impl Vault for PlainVault {
         put_name(&mut self.maildrops, maildrop)
     }
 
-    fn drop_maildrop(&mut self, maildrop: &Name) -> Result<(), VaultFault> {
+    /// It takes no memory.
+    fn drop_maildrop(&mut self, maildrop: &Name) -> Result<(), VaultFault>
+        ensures done { (c : Contents) → HoldsKept self.old c → Unit {0} → IsMaildropDropped (HoldsKept self.new) c maildrop.now result }
+        ensures counted { CountsFaults 0 0 result }
+        ensures clean { Unit {0} → Unit {0} }
+        ensures up { (c : Contents) → Unit {0} → HoldsKept self.old c → StaysUp (Unit {0}) (Unit {0}) result }
+        ensures stop { (c : Contents) → Unit {0} → Unit {0} → HoldsKept self.old c → LeavesEither (λ left. left ≡ self.new) c (λ Held. IsMaildropDropped Held c maildrop.now) }
+        ensures has_memory { result ≢ Err VaultFault.NoMemory }
+    {
         drop_name(&mut self.maildrops, &self.messages, maildrop)
     }
 
