@@ -10,7 +10,7 @@ use converse::review_policy::{
 };
 use creds::Name;
 use policy::Policy;
-use review::{Choice, Format, renamed};
+use review::{Choice, Format, exchanged, renamed};
 use std::alloc::Global;
 use std::io::{BufWriter, Read, Write};
 use std::{fs, io, str};
@@ -148,7 +148,7 @@ fn review_both<E: Write>(
     }
     tell_why(alloc, err, options, status, new, out.refusal());
     if is_verbose(options) && status != 1 {
-        tell_renamed(alloc, err, old, new);
+        tell_rules(alloc, err, old, new);
     }
     Ok(status)
 }
@@ -168,12 +168,16 @@ fn tell_why<E: Write>(
     }
 }
 
-/// Tells which rules of the new policy say what a rule of another name said in the old one.
-fn tell_renamed<E: Write>(alloc: Global, err: &mut E, old: &[u8], new: &[u8]) {
+/// Tells which rules of the new policy say what a rule of another name said in the old one, which
+/// rules are gone, and which are new.
+fn tell_rules<E: Write>(alloc: Global, err: &mut E, old: &[u8], new: &[u8]) {
     let (Some(old), Some(new)) = (policy_of(alloc, old), policy_of(alloc, new)) else {
         return;
     };
     if let Ok(lines) = renamed(alloc, &old, &new) {
+        let _ = err.write_all(lines.as_slice());
+    }
+    if let Ok(lines) = exchanged(alloc, &old, &new) {
         let _ = err.write_all(lines.as_slice());
     }
 }

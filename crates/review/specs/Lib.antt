@@ -1,3 +1,4 @@
+pub mod Places
 pub mod Covers
 pub mod Questions
 pub mod Differences

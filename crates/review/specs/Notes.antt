@@ -1,5 +1,5 @@
 -- What a policy speaks of that a store doesn't have: clerks, maildrops, and members of groups.
-use Rattle.std.specs.Prelude.{ℕ, zero, suc, Bool, ◌&&◌, not, List, [], ◌++◌, length, codes, Option, Some, None, slice_get}
+use Rattle.std.specs.Prelude.{ℕ, Bool, ◌&&◌, not, List, [], ◌++◌, codes}
 use Rattle.std.specs.List.{flat_map, list_any}
 use Rattle.std.specs.Str.{bytes_eq}
 use Rattle.policy.specs.declared.rule.Clerks.{Clerks}
@@ -11,6 +11,7 @@ use Rattle.policy.specs.Policy.{Group, Policy}
 use Rattle.review.specs.Covers.{rule_words}
 use Rattle.review.specs.Differences.{text_if}
 use Rattle.review.specs.Names.{Kept, is_one_of}
+use Rattle.review.specs.Places.{text_by_rule}
 
 -- one of them is one of the clerks
 abbrev pub has_one_of : (clerks members : List (List ℕ)) → Bool
@@ -48,15 +49,9 @@ maildrop_note p kept n Any = []
 maildrop_note p kept n (Is name) =
     text_if (not (is_one_of name kept.maildrops)) (rule_note p.rules n (codes "maildrop") name)
 
--- of the rule at a place
-abbrev pub notes_at : Policy → Kept → (n : ℕ) → Option Rule → List ℕ
-notes_at p kept n None = []
-notes_at p kept n (Some r) = clerk_note p kept n r.clerk ++ maildrop_note p kept n r.maildrop
-
--- of the first n rules
-abbrev pub notes_of_rules : Policy → Kept → (n : ℕ) → List ℕ
-notes_of_rules p kept zero = []
-notes_of_rules p kept (suc n) = notes_of_rules p kept n ++ notes_at p kept n (slice_get p.rules n)
+-- of a rule and its place
+abbrev pub notes_of_rule : Policy → Kept → (n : ℕ) → Rule → List ℕ
+notes_of_rule p kept n r = clerk_note p kept n r.clerk ++ maildrop_note p kept n r.maildrop
 
 -- of a group's members
 abbrev pub member_note : (clerks : List (List ℕ)) → (group member : List ℕ) → List ℕ
@@ -68,4 +63,4 @@ notes_of_group clerks g = flat_map (member_note clerks g.name) g.members
 
 -- of all rules, in order, and of all groups
 abbrev pub missing_lines : Policy → Kept → List ℕ
-missing_lines p kept = notes_of_rules p kept (length p.rules) ++ flat_map (notes_of_group kept.clerks) p.groups
+missing_lines p kept = text_by_rule (notes_of_rule p kept) p.rules ++ flat_map (notes_of_group kept.clerks) p.groups

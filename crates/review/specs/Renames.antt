@@ -1,5 +1,5 @@
--- Rules of a new policy that say what a rule of the old one said under another name.
-use Rattle.std.specs.Prelude.{ℕ, zero, suc, Bool, true, false, ◌&&◌, not, List, [], ◌++◌, length, codes, Option, Some, None, slice_get, if◌then◌else◌}
+-- Rules of a new policy that say what a rule of the old one said under another name; rules that are gone, and new ones.
+use Rattle.std.specs.Prelude.{ℕ, Bool, true, false, ◌&&◌, not, List, [], ◌++◌, codes, Option, Some, None, if◌then◌else◌}
 use Rattle.std.specs.List.{list_any, position}
 use Rattle.std.specs.Str.{bytes_eq}
 use Rattle.policy.specs.declared.rule.Effect.{Effect}
@@ -7,6 +7,8 @@ use Rattle.policy.specs.declared.rule.Effect.TheVariants.{Allow, Deny}
 use Rattle.policy.specs.declared.rule.Rule.{Rule}
 use Rattle.policy.specs.Policy.{Group, Policy}
 use Rattle.review.specs.Covers.{covers, rule_words}
+use Rattle.review.specs.Differences.{text_if}
+use Rattle.review.specs.Places.{text_by_rule}
 
 -- a rule has the name
 abbrev pub has_rule : List Rule → (name : List ℕ) → Bool
@@ -31,11 +33,6 @@ said_before old new is = position (λ was. says_same new.groups was is && not (h
 abbrev pub renamed_from : (old new : Policy) → Rule → Option ℕ
 renamed_from old new is = if has_rule old.rules is.name then None else said_before old new is
 
--- of the rule at a place
-abbrev pub was_at : (old new : Policy) → Option Rule → Option ℕ
-was_at old new None = None
-was_at old new (Some is) = renamed_from old new is
-
 -- ---- the text
 
 -- the words of both
@@ -47,12 +44,31 @@ abbrev pub was_line : (olds news : List Rule) → (is : ℕ) → Option ℕ → 
 was_line olds news is None = []
 was_line olds news is (Some was) = codes "note: " ++ was_words olds news was is
 
--- the lines of the first n rules
-abbrev pub renamed_lines : (old new : Policy) → (n : ℕ) → List ℕ
-renamed_lines old new zero = []
-renamed_lines old new (suc n) =
-    renamed_lines old new n ++ was_line old.rules new.rules n (was_at old new (slice_get new.rules n))
+-- of a rule and its place
+abbrev pub renamed_line : (old new : Policy) → (n : ℕ) → Rule → List ℕ
+renamed_line old new n is = was_line old.rules new.rules n (renamed_from old new is)
 
--- those of all
+-- a line for each rule that got another name
 abbrev pub renamed_text : (old new : Policy) → List ℕ
-renamed_text old new = renamed_lines old new (length new.rules)
+renamed_text old new = text_by_rule (renamed_line old new) new.rules
+
+-- ---- rules that are gone, and new ones
+
+-- none of these rules has the rule's name, and none says the same under a name that its own rules don't have
+abbrev pub is_unmatched : List Group → (these own : List Rule) → Rule → Bool
+is_unmatched groups these own r =
+    not (has_rule these r.name) && not (list_any (λ s. says_same groups s r && not (has_rule own s.name)) these)
+
+-- that the rule at a place is so
+unfoldable pub is_line : (own : List Rule) → (n : ℕ) → (how : List ℕ) → List ℕ
+is_line own n how = codes "note: " ++ rule_words own n ++ codes " is " ++ how ++ codes "\n"
+
+-- of a rule and its place
+abbrev pub unmatched_line : List Group → (these own : List Rule) → (how : List ℕ) → (n : ℕ) → Rule → List ℕ
+unmatched_line groups these own how n r = text_if (is_unmatched groups these own r) (is_line own n how)
+
+-- the old rules that are gone, and the new ones
+abbrev pub exchanged_text : (old new : Policy) → List ℕ
+exchanged_text old new =
+    text_by_rule (unmatched_line new.groups new.rules old.rules (codes "gone")) old.rules
+    ++ text_by_rule (unmatched_line new.groups old.rules new.rules (codes "new")) new.rules

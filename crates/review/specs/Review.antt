@@ -1,6 +1,6 @@
 -- What a review prints.
-use Rattle.std.specs.Prelude.{◌≢◌, ℕ, Bool, true, false, ◌&&◌, List, [], ◌∷◌, ◌++◌, codes, Option, Some, None, is_some}
-use Rattle.std.specs.List.{AllPairs}
+use Rattle.std.specs.Prelude.{◌≢◌, ℕ, Bool, true, false, ◌&&◌, not, List, [], ◌∷◌, ◌++◌, codes, Option, Some, None, is_some}
+use Rattle.std.specs.List.{AllPairs, list_any}
 use Rattle.policy.specs.Policy.{Policy}
 use Rattle.review.specs.declared.choice.Choice.{Choice}
 use Rattle.review.specs.declared.label.Label.{Label}
@@ -8,9 +8,9 @@ use Rattle.review.specs.declared.label.Label.TheVariants.{Named}
 use Rattle.review.specs.declared.rows.Format.{Format}
 use Rattle.review.specs.declared.rows.Format.TheVariants.{Text, Csv}
 use Rattle.review.specs.Covers.{covered_text}
-use Rattle.review.specs.Differences.{differences, differences_text, questions}
+use Rattle.review.specs.Differences.{differences, differences_text, questions, text_if}
 use Rattle.review.specs.declared.question.Question.{Question}
-use Rattle.review.specs.Names.{Kept, classes_in, clerks_in, labels, maildrops_in, nobody}
+use Rattle.review.specs.Names.{Kept, classes_in, clerks_in, is_of, labels, maildrops_in, nobody}
 use Rattle.review.specs.Notes.{missing_lines}
 use Rattle.review.specs.Questions.{columns}
 use Rattle.review.specs.Table.{answers_text, csv_head, tables_text}
@@ -67,11 +67,35 @@ abbrev pub rules_text : Format → Policy → List ℕ
 rules_text Text p = covered_text p
 rules_text Csv p = []
 
+-- that nothing has the name that was chosen
+unfoldable pub unknown_note : (what name : List ℕ) → List ℕ
+unknown_note what name = codes "note: " ++ what ++ codes " " ++ name ++ codes " is named nowhere: decided as (others)\n"
+
+-- of a name, where none of the labels is its
+abbrev pub name_note : (what name : List ℕ) → (all : List Label) → List ℕ
+name_note what name all = text_if (not (list_any (is_of name) all)) (unknown_note what name)
+
+-- of the one that was chosen
+abbrev pub chosen_note : (what : List ℕ) → Option (List ℕ) → (all : List Label) → List ℕ
+chosen_note what None all = []
+chosen_note what (Some name) all = name_note what name all
+
+-- of the clerk and of the maildrop
+abbrev pub unknown_names : Choice → (old new : Policy) → Kept → List ℕ
+unknown_names choice old new kept =
+    chosen_note (codes "clerk") choice.clerk (labels (clerks_in old ++ clerks_in new ++ kept.clerks))
+    ++ chosen_note (codes "maildrop") choice.maildrop (labels (maildrops_in old ++ maildrops_in new ++ kept.maildrops))
+
+-- those that were chosen and are named nowhere, which CSV doesn't tell
+abbrev pub unknown_text : Format → Choice → (old new : Policy) → Kept → List ℕ
+unknown_text Text choice old new kept = unknown_names choice old new kept
+unknown_text Csv choice old new kept = []
+
 -- the review of one policy
 abbrev pub review_text : Choice → Policy → List ℕ
 review_text choice p =
     who_text choice choice.format p (clerks_of choice p p nobody) (maildrops_of choice p p nobody) (classes_of p p)
-    ++ rules_text choice.format p
+    ++ rules_text choice.format p ++ unknown_text choice.format choice p p nobody
 
 -- the questions that a review of two policies asks
 abbrev pub asked_of : Choice → (old new : Policy) → Kept → List Question
@@ -87,6 +111,7 @@ abbrev pub against_text : Choice → (old new : Policy) → Kept → List ℕ
 against_text choice old new kept =
     who_text choice choice.format new (clerks_of choice old new kept) (maildrops_of choice old new kept) (classes_of old new)
     ++ change_text choice.format (changes_of choice old new kept) ++ rules_text choice.format new
+    ++ unknown_text choice.format choice old new kept
 
 -- what the policy speaks of and the store doesn't have, which CSV doesn't tell
 abbrev pub missing_text : Format → Policy → Kept → List ℕ

@@ -1,17 +1,21 @@
--- The differences of one clerk and one maildrop, of one clerk, and of all: what the text is put together from.
-use Rattle.std.specs.Prelude.{ℕ, Bool, List, ◌++◌, codes, find}
-use Rattle.std.specs.List.{filter, flat_map}
+-- What the texts are put together from: a clerk's groups; the lines of one clerk and one maildrop, of one clerk, and of all.
+use Rattle.std.specs.Prelude.{ℕ, Bool, true, false, List, [], ◌∷◌, ◌++◌, codes, find, map}
+use Rattle.std.specs.List.{filter, flat_map, list_any}
+use Rattle.std.specs.Str.{bytes_eq}
 use Rattle.policy.specs.declared.decide.Decision.{Decision}
+use Rattle.policy.specs.declared.rule.Clerks.{Clerks}
+use Rattle.policy.specs.declared.rule.Clerks.TheVariants as clerks
 use Rattle.policy.specs.declared.rule.Rule.{Rule}
-use Rattle.policy.specs.Policy.{Group, Policy, decision_of}
+use Rattle.policy.specs.Policy.{Group, Policy, decision_of, has_member}
 use Rattle.review.specs.declared.label.Label.{Label}
+use Rattle.review.specs.declared.label.Label.TheVariants.{Named, Others}
 use Rattle.review.specs.declared.question.Column.{Column}
 use Rattle.review.specs.declared.question.Column.TheVariants as column
 use Rattle.review.specs.Questions.{fits_label, has_clerk, is_about}
 use Rattle.review.specs.declared.question.Question.{Question}
 use Rattle.review.specs.declared.rows.Format.{Format}
 use Rattle.review.specs.Differences.{becomes, change_line, text_if}
-use Rattle.review.specs.Table.{Row, answer_line, class_cell, mark}
+use Rattle.review.specs.Table.{Row, answer_line, class_cell, lines_text, mark, table_head}
 
 -- the first of the rules that is about the column decides
 abbrev pub decide_among : List Rule → Column → Decision
@@ -24,6 +28,52 @@ of_clerk groups rules clerk = filter (λ r. has_clerk groups r.clerk clerk) rule
 -- the rules that are about the maildrop
 abbrev pub of_maildrop : List Rule → (maildrop : Label) → List Rule
 of_maildrop rules maildrop = filter (λ r. fits_label r.maildrop maildrop) rules
+
+-- ---- a clerk and the clerk's groups
+
+-- a clerk, and the names of the groups that have the clerk
+pub record Member : Type 0 where
+  pub label : Label
+  pub groups : List (List ℕ)
+
+-- the name, where the test holds
+abbrev pub name_if : Bool → (name : List ℕ) → List (List ℕ)
+name_if true name = name ∷ []
+name_if false name = []
+
+-- the names of the groups that have the clerk of that name
+abbrev pub names_of_groups : List Group → (clerk : List ℕ) → List (List ℕ)
+names_of_groups groups clerk = flat_map (λ g. name_if (has_member g clerk) g.name) groups
+
+-- all others are in no group
+abbrev pub groups_of : List Group → (clerk : Label) → List (List ℕ)
+groups_of groups (Named name) = names_of_groups groups name
+groups_of groups Others = []
+
+-- the clerk with the clerk's groups
+abbrev pub member_of : List Group → (clerk : Label) → Member
+member_of groups clerk = record { label = clerk; groups = groups_of groups clerk }
+
+-- the label is that name's
+abbrev pub is_label_of : (name : List ℕ) → Label → Bool
+is_label_of name (Named other) = bytes_eq name other
+is_label_of name Others = false
+
+-- the name is one of these
+abbrev pub is_among : (name : List ℕ) → List (List ℕ) → Bool
+is_among name names = list_any (λ x. bytes_eq name x) names
+
+-- the rule's clerks have this one among them
+abbrev pub fits_member : Clerks → Member → Bool
+fits_member clerks.Any m = true
+fits_member (clerks.Is name) m = is_label_of name m.label
+fits_member (clerks.MembersOf name) m = is_among name m.groups
+
+-- the rules that are about this clerk
+abbrev pub of_member : List Rule → Member → List Rule
+of_member rules m = filter (λ r. fits_member r.clerk m) rules
+
+-- ---- the differences
 
 -- the line of a question, where its answer becomes so
 abbrev pub told : (allowed : Bool) → Question → (was is : Decision) → List ℕ
@@ -70,5 +120,10 @@ abbrev pub marks_among : List Rule → (classes : List Label) → List ℕ
 marks_among rules classes = mark ((decide_among rules column.Open).allowed) ++ codes "     " ++ cells rules classes
 
 -- a clerk's row, by the rules that are about the maildrop
-abbrev pub row_among : List Group → List Rule → (classes : List Label) → (clerk : Label) → Row
-row_among groups rules classes clerk = record { clerk = clerk; marks = marks_among (of_clerk groups rules clerk) classes }
+abbrev pub row_among : List Rule → (classes : List Label) → Member → Row
+row_among rules classes m = record { clerk = m.label; marks = marks_among (of_member rules m) classes }
+
+-- the table of a maildrop, by the clerks and their groups
+unfoldable pub table_among : List Rule → (classes : List Label) → List Member → (maildrop : Label) → List ℕ
+table_among rules classes members maildrop =
+    table_head classes maildrop ++ lines_text [] (map (row_among (of_maildrop rules maildrop) classes) members) ++ codes "\n"

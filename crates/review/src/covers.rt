@@ -35,7 +35,7 @@ fn is_member(groups: &[Group], name: &Name, clerk: &Name) -> bool
         .any(|group| *name == *group.name() && group.has(clerk))
 }
 
-pub(crate) fn clerk_fits(groups: &[Group], clerks: &Clerks, clerk: &Name) -> bool
+fn clerk_fits(groups: &[Group], clerks: &Clerks, clerk: &Name) -> bool
     ensures { result ≡ fits_clerk groups.now clerks.now clerk.now }
 {
     match clerks {

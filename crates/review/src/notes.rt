@@ -2,7 +2,8 @@
 ghost use Rattle.std.specs.Prelude.{◌≡◌, ◌<◌, ◌++◌, IfOk, OnOk, length, slice_get};
 ghost use Rattle.std.specs.List.{flat_map};
 ghost use Rattle.review.specs.Names.{is_one_of};
-ghost use Rattle.review.specs.Notes.{clerk_note, group_note, has_kept, has_one_of, maildrop_note, member_note, missing_words, notes_at, notes_of_group, notes_of_rules, missing_lines, rule_note};
+ghost use Rattle.review.specs.Notes.{clerk_note, group_note, has_kept, has_one_of, maildrop_note, member_note, missing_words, notes_of_group, notes_of_rule, missing_lines, rule_note};
+ghost use Rattle.review.specs.Places.{text_at, text_by_rule};
 
 use crate::covers::put_rule;
 use crate::label::put;
@@ -116,7 +117,8 @@ fn put_notes_at(
 ) -> Result<(), AllocError>
     requires { place < length policy.now.rules }
     ensures { OnOk result (out.new.items
-        ≡ out.old.items ++ notes_at policy.now kept.now place (slice_get policy.now.rules place)) }
+        ≡ out.old.items ++ text_at (notes_of_rule policy.now kept.now) place
+        (slice_get policy.now.rules place)) }
 {
     let Some(rule) = policy.rules().get(place) else {
         return Ok(());
@@ -127,7 +129,7 @@ fn put_notes_at(
 
 fn put_notes_of_rules(out: &mut Vec<u8>, policy: &Policy, kept: &Kept) -> Result<(), AllocError>
     ensures { OnOk result (out.new.items
-        ≡ out.old.items ++ notes_of_rules policy.now kept.now (length policy.now.rules)) }
+        ≡ out.old.items ++ text_by_rule (notes_of_rule policy.now kept.now) policy.now.rules) }
 {
     for place in 0..policy.len() {
         put_notes_at(out, policy, kept, place)?;

@@ -3,13 +3,14 @@ ghost use Rattle.std.specs.Prelude.{◌≡◌, ◌∷◌, [], IfOk, Some};
 ghost use Rattle.std.specs.List.{filter};
 ghost use Rattle.policy.specs.Policy.{decision_of, default_rule};
 ghost use Rattle.review.specs.Differences.{column_text};
-ghost use Rattle.review.specs.Questions.{columns, fits_label, has_clerk, is_about};
-ghost use Rattle.review.specs.Steps.{decide_among, of_clerk, of_maildrop};
+ghost use Rattle.review.specs.Questions.{columns, fits_label, is_about};
+ghost use Rattle.review.specs.Steps.{decide_among, of_clerk, of_maildrop, of_member};
 
-use crate::covers::{clerk_fits, pattern_fits};
+use crate::covers::pattern_fits;
 use crate::label::Label;
+use crate::member::{Member, fits_member, member_of};
 use creds::Name;
-use policy::{Clerks, Decision, Effect, Group, Pattern, Rule};
+use policy::{Decision, Effect, Group, Pattern, Rule};
 use std::alloc::{AllocError, Global};
 use std::fmt;
 
@@ -67,15 +68,6 @@ fn label_fits(pattern: &Pattern, label: &Label) -> bool
     }
 }
 
-fn has_clerk(groups: &[Group], clerks: &Clerks, label: &Label) -> bool
-    ensures { result ≡ has_clerk groups.now clerks.now label.now }
-{
-    match label {
-        Label::Named(name) => clerk_fits(groups, clerks, name),
-        Label::Others => matches!(clerks, Clerks::Any),
-    }
-}
-
 fn is_about(asked: &Column, rule: &Rule) -> bool
     ensures { result ≡ is_about asked.now rule.now }
 {
@@ -87,6 +79,23 @@ fn is_about(asked: &Column, rule: &Rule) -> bool
 }
 
 /// The rules that are about the clerk, in order.
+pub(crate) fn of_member(
+    alloc: Global,
+    rules: &[Rule],
+    member: &Member,
+) -> Result<Vec<Rule>, AllocError>
+    ensures { IfOk result (λ some. some.items ≡ of_member rules.now member.now) }
+{
+    let mut some = Vec::new(alloc);
+    for rule in rules {
+        if fits_member(&rule.clerk, member) {
+            some.extend_from_slice(&[*rule])?;
+        }
+    }
+    Ok(some)
+}
+
+/// The rules that are about the clerk by these groups, in order.
 pub(crate) fn of_clerk(
     alloc: Global,
     groups: &[Group],
@@ -95,13 +104,8 @@ pub(crate) fn of_clerk(
 ) -> Result<Vec<Rule>, AllocError>
     ensures { IfOk result (λ some. some.items ≡ of_clerk groups.now rules.now clerk.now) }
 {
-    let mut some = Vec::new(alloc);
-    for rule in rules {
-        if has_clerk(groups, &rule.clerk, clerk) {
-            some.extend_from_slice(&[*rule])?;
-        }
-    }
-    Ok(some)
+    let member = member_of(alloc, groups, clerk)?;
+    of_member(alloc, rules, &member)
 }
 
 /// The rules that are about the maildrop, in order.

@@ -1,7 +1,9 @@
-//! Which rules of a new policy say what a rule of the old one said under another name.
+//! Which rules of a new policy say what a rule of the old one said under another name, which rules
+//! are gone, and which are new.
 ghost use Rattle.std.specs.Prelude.{◌≡◌, ◌<◌, ◌++◌, ◌&&◌, not, Some, IfOk, IfSome, OnOk, length, slice_get};
-ghost use Rattle.std.specs.List.{position};
-ghost use Rattle.review.specs.Renames.{has_rule, renamed_from, renamed_lines, renamed_text, said_before, same_effect, says_same, was_at, was_line, was_words};
+ghost use Rattle.std.specs.List.{list_any, position};
+ghost use Rattle.review.specs.Renames.{exchanged_text, has_rule, is_line, is_unmatched, renamed_from, renamed_line, renamed_text, said_before, same_effect, says_same, unmatched_line, was_line, was_words};
+ghost use Rattle.review.specs.Places.{text_at, text_by_rule};
 
 use crate::covers::{put_rule, rule_covers};
 use crate::label::put;
@@ -92,8 +94,8 @@ fn put_renamed(
     place: usize,
 ) -> Result<(), AllocError>
     requires { place < length new.now.rules }
-    ensures { OnOk result (out.new.items ≡ out.old.items ++ was_line old.now.rules new.now.rules
-        place (was_at old.now new.now (slice_get new.now.rules place))) }
+    ensures { OnOk result (out.new.items ≡ out.old.items
+        ++ text_at (renamed_line old.now new.now) place (slice_get new.now.rules place)) }
 {
     let Some(is) = new.rules().get(place) else {
         return Ok(());
@@ -115,5 +117,86 @@ pub fn renamed(alloc: Global, old: &Policy, new: &Policy) -> Result<Vec<u8>, All
     for place in 0..new.len() {
         put_renamed(&mut text, old, new, place)?;
     }
+    Ok(text)
+}
+
+// ---- rules that are gone, and new ones
+
+/// Whether one of these rules says the same as this one, under a name that its own rules don't
+/// have.
+fn is_said(groups: &[Group], these: &[Rule], own: &[Rule], rule: &Rule) -> bool
+    ensures { result ≡ list_any (λ s. says_same groups.now s rule.now
+        && not (has_rule own.now s.name)) these.now }
+{
+    these.iter().any(|other| says_same(groups, other, rule) && !has_rule(own, &other.name))
+}
+
+fn is_unmatched(groups: &[Group], these: &[Rule], own: &[Rule], rule: &Rule) -> bool
+    ensures { result ≡ is_unmatched groups.now these.now own.now rule.now }
+{
+    !has_rule(these, &rule.name) && !is_said(groups, these, own, rule)
+}
+
+#[tactic(auto, unfolding(crate::specs::Renames::is_line))]
+fn put_is_line(out: &mut Vec<u8>, own: &[Rule], place: usize, how: &[u8]) -> Result<(), AllocError>
+    requires { place < length own.now }
+    ensures { OnOk result (out.new.items ≡ out.old.items ++ is_line own.now place how.now) }
+{
+    put(out, b"note: ")?;
+    put_rule(out, own, place)?;
+    put(out, b" is ")?;
+    put(out, how)?;
+    put(out, b"\n")
+}
+
+/// Appends the line of the rule at a place, where these rules have none for it.
+fn put_unmatched(
+    out: &mut Vec<u8>,
+    groups: &[Group],
+    these: &[Rule],
+    own: &[Rule],
+    how: &[u8],
+    place: usize,
+) -> Result<(), AllocError>
+    requires { place < length own.now }
+    ensures { OnOk result (out.new.items ≡ out.old.items
+        ++ text_at (unmatched_line groups.now these.now own.now how.now) place
+        (slice_get own.now place)) }
+{
+    let Some(rule) = own.get(place) else {
+        return Ok(());
+    };
+    if is_unmatched(groups, these, own, rule) {
+        put_is_line(out, own, place, how)?;
+    }
+    Ok(())
+}
+
+fn put_all_unmatched(
+    out: &mut Vec<u8>,
+    groups: &[Group],
+    these: &[Rule],
+    own: &[Rule],
+    how: &[u8],
+) -> Result<(), AllocError>
+    ensures { OnOk result (out.new.items ≡ out.old.items
+        ++ text_by_rule (unmatched_line groups.now these.now own.now how.now) own.now) }
+{
+    for place in 0..own.len() {
+        put_unmatched(out, groups, these, own, how, place)?;
+    }
+    Ok(())
+}
+
+/// The text of the rules that come and go: a line for each rule of the old policy that is gone, and
+/// then one for each of the new policy that is new. No rule of the other policy has its name, nor
+/// says the same under a name that is new or gone: those are what `renamed` tells. A line has the
+/// rule's name and its number, counted from 1. An `Err` is want of memory.
+pub fn exchanged(alloc: Global, old: &Policy, new: &Policy) -> Result<Vec<u8>, AllocError>
+    ensures { IfOk result (λ text. text.items ≡ exchanged_text old.now new.now) }
+{
+    let mut text = Vec::new(alloc);
+    put_all_unmatched(&mut text, new.groups(), new.rules(), old.rules(), b"gone")?;
+    put_all_unmatched(&mut text, new.groups(), old.rules(), new.rules(), b"new")?;
     Ok(text)
 }

@@ -12,8 +12,9 @@ use crate::covers::covered;
 use crate::label::Label;
 use crate::names::{Kept, names_of};
 use crate::notes::missing;
-use crate::rows::{Format, answers};
+use crate::rows::{Format, answers, put_answers};
 use crate::table::tables;
+use crate::unknown::put_unknown;
 use creds::Name;
 use policy::Policy;
 use std::alloc::{AllocError, Global};
@@ -79,10 +80,9 @@ fn with_head(alloc: Global, policy: &Policy, names: &Names) -> Result<Vec<u8>, A
         ≡ csv_head ++ answers_text Csv policy.now (questions names.now.clerks.items
         names.now.maildrops.items (columns names.now.classes.items))) }
 {
-    let lines = answers(alloc, policy, names, Format::Csv)?;
     let mut text = Vec::new(alloc);
     text.extend_from_slice(b"clerk,maildrop,class,action,decision,rule\n")?;
-    text.extend_from_slice(&lines)?;
+    put_answers(&mut text, Format::Csv, policy, names)?;
     Ok(text)
 }
 
@@ -126,13 +126,16 @@ fn put_change(out: &mut Vec<u8>, format: Format, lines: &[u8]) -> Result<(), All
 
 /// The review of a policy: who may do what, and then the rules that never decide, which CSV
 /// doesn't tell. Who may do what is told by tables; where one clerk and one maildrop are chosen, or
-/// as CSV, by a line for each question. An `Err` is want of memory.
+/// as CSV, by a line for each question. Where one that is chosen is named nowhere, a note says so,
+/// but in CSV. An `Err` is want of memory.
 pub fn review_policy(alloc: Global, policy: &Policy, choice: &Choice) -> Result<Vec<u8>, AllocError>
     ensures { IfOk result (λ text. text.items ≡ review_text choice.now policy.now) }
 {
-    let names = names_for(alloc, policy, policy, &Kept::nobody(alloc), choice)?;
+    let nobody = Kept::nobody(alloc);
+    let names = names_for(alloc, policy, policy, &nobody, choice)?;
     let mut text = who(alloc, policy, &names, choice)?;
     put_rules(&mut text, choice.format, policy)?;
+    put_unknown(&mut text, policy, policy, &nobody, choice)?;
     Ok(text)
 }
 
@@ -155,9 +158,10 @@ fn put_notes(
 }
 
 /// The review of a policy against the old one: who may do what by the new one, then what the new
-/// one changes, or `no decision differs`, and then the new one's rules that never decide; as CSV
-/// the first of these alone. It speaks of the names of both, and of those that are kept. With it
-/// comes whether a decision differs. An `Err` is want of memory.
+/// one changes, or `no decision differs`, then the new one's rules that never decide, and a note
+/// where one that is chosen is named nowhere; as CSV the first of these alone. It speaks of the
+/// names of both, and of those that are kept. With it comes whether a decision differs. An `Err` is
+/// want of memory.
 pub fn review_against(
     alloc: Global,
     old: &Policy,
@@ -175,6 +179,7 @@ pub fn review_against(
     let mut text = who(alloc, new, &names, choice)?;
     put_change(&mut text, choice.format, &lines)?;
     put_rules(&mut text, choice.format, new)?;
+    put_unknown(&mut text, old, new, kept, choice)?;
     Ok((text, !lines.is_empty()))
 }
 

@@ -184,6 +184,21 @@ fn put_clerks(
     Ok(())
 }
 
+/// Appends a line for each question.
+pub(crate) fn put_answers(
+    out: &mut Vec<u8>,
+    format: Format,
+    policy: &Policy,
+    names: &Names,
+) -> Result<(), AllocError>
+    ensures { OnOk result (out.new.items
+        ≡ out.old.items ++ answers_text format policy.now (questions names.now.clerks.items
+        names.now.maildrops.items (columns names.now.classes.items))) }
+{
+    let asked = columns(*out.allocator(), &names.classes)?;
+    put_clerks(out, format, policy, &names.clerks, &names.maildrops, &asked)
+}
+
 /// Who may do what by the policy: a line for each clerk, maildrop, class and action, in the order
 /// of the names, with the rule that decides. As CSV its fields are the clerk, the maildrop, the
 /// class, which to open is none, the action, `allow` or `deny`, and the rule; no field needs quotes.
@@ -198,15 +213,7 @@ pub fn answers(
         ≡ answers_text format policy.now (questions names.now.clerks.items
         names.now.maildrops.items (columns names.now.classes.items))) }
 {
-    let asked = columns(alloc, &names.classes)?;
     let mut text = Vec::new(alloc);
-    put_clerks(
-        &mut text,
-        format,
-        policy,
-        &names.clerks,
-        &names.maildrops,
-        &asked,
-    )?;
+    put_answers(&mut text, format, policy, names)?;
     Ok(text)
 }

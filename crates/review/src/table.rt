@@ -1,13 +1,14 @@
 //! Who may do what: a table for each maildrop.
 ghost use Rattle.std.specs.Prelude.{◌≡◌, ◌++◌, [], IfOk, OnOk, map};
 ghost use Rattle.std.specs.List.{flat_map, list_any};
-ghost use Rattle.review.specs.Steps.{cells, marks_among, of_maildrop, row_among};
-ghost use Rattle.review.specs.Table.{also, class_cell, class_name, class_width, class_words, line_text, lines_text, mark, padded, same_marks, spaces, table_head, table_text, tables_text};
+ghost use Rattle.review.specs.Steps.{cells, marks_among, row_among, table_among};
+ghost use Rattle.review.specs.Table.{also, class_cell, class_name, class_width, class_words, line_text, lines_text, mark, padded, same_marks, spaces, table_head, tables_text};
 
 use crate::changes::Names;
 use crate::label::{Label, label_bytes, put};
-use crate::question::{Column, decide_among, of_clerk, of_maildrop};
-use policy::{Group, Policy, Rule};
+use crate::member::{Member, members_of};
+use crate::question::{Column, decide_among, of_maildrop, of_member};
+use policy::{Policy, Rule};
 use std::alloc::{AllocError, Global};
 use std::marker::Model;
 
@@ -89,34 +90,32 @@ fn marks_among(alloc: Global, rules: &[Rule], classes: &[Label]) -> Result<Vec<u
 /// A clerk's row, by the rules that are about the maildrop.
 fn row_among(
     alloc: Global,
-    groups: &[Group],
     rules: &[Rule],
     classes: &[Label],
-    clerk: &Label,
+    member: &Member,
 ) -> Result<Row, AllocError>
-    ensures { IfOk result (λ row. row ≡ row_among groups.now rules.now classes.now clerk.now) }
+    ensures { IfOk result (λ row. row ≡ row_among rules.now classes.now member.now) }
 {
-    let about = of_clerk(alloc, groups, rules, clerk)?;
+    let about = of_member(alloc, rules, member)?;
     let marks = marks_among(alloc, &about, classes)?;
     Ok(Row {
-        clerk: *clerk,
+        clerk: member.label,
         marks,
     })
 }
 
 fn rows_among(
     alloc: Global,
-    groups: &[Group],
     rules: &[Rule],
     classes: &[Label],
-    clerks: &[Label],
+    members: &[Member],
 ) -> Result<Vec<Row>, AllocError>
     ensures { IfOk result (λ rows. rows.items
-        ≡ map (row_among groups.now rules.now classes.now) clerks.now) }
+        ≡ map (row_among rules.now classes.now) members.now) }
 {
     let mut rows = Vec::new(alloc);
-    for clerk in clerks {
-        rows.push(row_among(alloc, groups, rules, classes, clerk)?)?;
+    for member in members {
+        rows.push(row_among(alloc, rules, classes, member)?)?;
     }
     Ok(rows)
 }
@@ -218,28 +217,39 @@ fn put_head(out: &mut Vec<u8>, classes: &[Label], maildrop: &Label) -> Result<()
     out.extend_from_slice(b"clerks\n")
 }
 
+#[tactic(auto, unfolding(crate::specs::Steps::table_among))]
 fn put_table(
     out: &mut Vec<u8>,
-    policy: &Policy,
-    names: &Names,
+    rules: &[Rule],
+    classes: &[Label],
+    members: &[Member],
     maildrop: &Label,
 ) -> Result<(), AllocError>
     ensures { OnOk result (out.new.items
-        ≡ out.old.items ++ table_text policy.now names.now.clerks.items names.now.classes.items
-        maildrop.now) }
+        ≡ out.old.items ++ table_among rules.now classes.now members.now maildrop.now) }
 {
     let alloc = *out.allocator();
-    let about = of_maildrop(alloc, policy.rules(), maildrop)?;
-    let rows = rows_among(
-        alloc,
-        policy.groups(),
-        &about,
-        &names.classes,
-        &names.clerks,
-    )?;
-    put_head(out, &names.classes, maildrop)?;
+    let about = of_maildrop(alloc, rules, maildrop)?;
+    let rows = rows_among(alloc, &about, classes, members)?;
+    put_head(out, classes, maildrop)?;
     put_lines(out, &rows)?;
     put(out, b"\n")
+}
+
+fn put_tables(
+    out: &mut Vec<u8>,
+    rules: &[Rule],
+    classes: &[Label],
+    members: &[Member],
+    maildrops: &[Label],
+) -> Result<(), AllocError>
+    ensures { OnOk result (out.new.items
+        ≡ out.old.items ++ flat_map (table_among rules.now classes.now members.now) maildrops.now) }
+{
+    for maildrop in maildrops {
+        put_table(out, rules, classes, members, maildrop)?;
+    }
+    Ok(())
 }
 
 /// Who may do what by the policy: a table for each maildrop, its classes across, with the marks
@@ -250,9 +260,14 @@ pub fn tables(alloc: Global, policy: &Policy, names: &Names) -> Result<Vec<u8>, 
         ≡ tables_text policy.now names.now.clerks.items names.now.maildrops.items
         names.now.classes.items) }
 {
+    let members = members_of(alloc, policy.groups(), &names.clerks)?;
     let mut text = Vec::new(alloc);
-    for maildrop in names.maildrops.as_slice() {
-        put_table(&mut text, policy, names, maildrop)?;
-    }
+    put_tables(
+        &mut text,
+        policy.rules(),
+        &names.classes,
+        &members,
+        &names.maildrops,
+    )?;
     Ok(text)
 }
