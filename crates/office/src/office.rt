@@ -104,6 +104,7 @@ impl<V: Vault> Office<V> {
         ensures left { IfOk result (λ office. (c : Contents) → V.holds vault c → V.is_clean (vault_of office) → V.holds (vault_of office) c) }
         ensures up { IfOk result (λ office. (c : Contents) → V.holds vault c → V.is_clean (vault_of office) → V.is_up vault → V.is_up (vault_of office)) }
         ensures stop { MatchResult result (λ office. (c : Contents) → V.holds vault c → V.is_clean (vault_of office) → V.is_up vault → LeavesHeld (V.may_leave (vault_of office)) c) (λ e. (c : Contents) → V.holds vault c → V.is_clean e.1 → V.is_up vault → LeavesHeld (V.may_leave e.1) c) }
+        ensures clean { MatchResult result (λ office. V.is_clean (vault_of office) → V.is_clean vault) (λ e. V.is_clean e.1 → V.is_clean vault) }
         ensures counted { MatchResult result (λ office. V.faults vault ≤ V.faults (vault_of office)) (λ e. V.faults vault ≤ V.faults e.1) }
         ensures cause { IfErr result (λ e. e.0 ≡ OpenFault.Store → (c : Contents) → V.holds vault c → V.is_clean e.1 → has_grown (V.faults vault) (V.faults e.1) ≡ true) }
     {

@@ -33,6 +33,9 @@ returns-in_default-clause-kept g c = search rules
 pub returns-in_default-clause-left : goal.returns-in_default-clause-left
 returns-in_default-clause-left g c = search rules
 
+pub returns-in_default-clause-clean : goal.returns-in_default-clause-clean
+returns-in_default-clause-clean g c = search rules
+
 pub returns-in_default-clause-counted : goal.returns-in_default-clause-counted
 returns-in_default-clause-counted g c = search rules
 
@@ -51,6 +54,9 @@ returns-in-Err-NoMemory-clause-kept g c = search rules
 pub returns-in-Err-NoMemory-clause-left : goal.returns-in-Err-NoMemory-clause-left
 returns-in-Err-NoMemory-clause-left g c = search rules
 
+pub returns-in-Err-NoMemory-clause-clean : goal.returns-in-Err-NoMemory-clause-clean
+returns-in-Err-NoMemory-clause-clean g c = search rules
+
 pub returns-in-Err-NoMemory-clause-counted : goal.returns-in-Err-NoMemory-clause-counted
 returns-in-Err-NoMemory-clause-counted g c = search rules
 
@@ -65,6 +71,7 @@ returns-in-Err g c = record {
   left = search rules;
   up = search rules;
   stop = λ d held clean up. looked_left (c.in-Err.ensures.stop d clean up held);
+  clean = search rules;
   counted = search rules;
   cause = search rules;
 }
@@ -77,6 +84,9 @@ returns-clause-kept g c = search rules
 
 pub returns-clause-left : goal.returns-clause-left
 returns-clause-left g c = search rules
+
+pub returns-clause-clean : goal.returns-clause-clean
+returns-clause-clean g c = search rules
 
 pub returns-clause-counted : goal.returns-clause-counted
 returns-clause-counted g c = search rules
