@@ -2,12 +2,9 @@
 use Rattle.std.proofs.Common.{◌≡◌, ℕ, ◌<◌, ◌≤◌, Bool, true, false, not, ◌&&◌, ◌||◌, cond, List, [], ◌∷◌, ◌++◌, length, take, refl, sym, ◌∙◌, ap, arith, subst, nat_lt, nat_le, ltb-true, lt-ltb, le-ltb, le-leb, leb-true, ◌⊎◌, inl, inr, ⊎_elim, MatchResult, Ok, Err, append-nil, append_assoc, min, Option, Some, None, Result, IsErrAnd, eqb-true, eq-eqb, ◌==◌}
 use Rattle.std.specs.Io.KnownBytes.{Appends, Consumes, Keeps}
 use Rattle.vault.specs.Records.{Records}
-use Rattle.vault.specs.Changes.{Contents}
-use Rattle.office.specs.Stands.{StandsFor, vault_of}
-use Rattle.office.specs.declared.office.Office.{Office}
 use Rattle.vault.specs.Calls.{has_grown, greatest_count}
 use Rattle.office.specs.History.{Act, Tag}
-use Rattle.office.specs.Events.{Event, Mark, Tagged, Log, Trace}
+use Rattle.office.specs.Events.{Event, Mark, Log, Trace}
 use Rattle.office.specs.Events as event
 use Rattle.office.specs.Trace.{acts, rest, is_open, IsLent}
 use Rattle.office.specs.Replying.{is_empty}
@@ -15,7 +12,7 @@ use Rattle.office.specs.Expected.{IsOutcome, most_in_a_piece, is_full}
 use Rattle.office.specs.Outcomes.{Outcome, Opened, mark_of, HasCause}
 use Rattle.office.specs.Outcomes as outcome
 use Rattle.converse.specs.Talk.{TalksInPart}
-use Rattle.converse.specs.Talked.{trace_of, is_own, Extends, StandsSo, ComesOut, MetLack}
+use Rattle.converse.specs.Talked.{trace_of, is_own, Extends, ComesOut, MetLack}
 use Rattle.converse.specs.Conversing.{GoesOn, Waits, Midway, IsPaid, IsOver, IsCut, Refuses, memory_by}
 use Rattle.converse.specs.declared.conversation.TalkFault.{TalkFault}
 use Rattle.converse.specs.declared.conversation.TalkFault.TheVariants as fault
@@ -195,113 +192,6 @@ one_taken c older L n m w = one_more c older L (event.Took c n, m) (eq-eqb c c r
 
 pub one_gone : (c : ℕ) (older L : Log) (m : Mark) → Extends c older L → Extends c older ((event.Gone c, m) ∷ L)
 one_gone c older L m w = one_more c older L (event.Gone c, m) (eq-eqb c c refl) w
-
--- ---- how far a loop has come
-
-module _ {V : Type 0} (Holds : V → Contents → Type 0) (faults : V → ℕ) (IsClean : V → Type 0) where
-  -- so much more was written
-  pub record WroteSoFar (old new : Office V) (c : ℕ) (held holds : Option (List ℕ)) (turns : ℕ) : Type 0 where
-    pub more : List ℕ
-    pub appends : Appends held holds more
-    pub enough : turns ≤ length more
-    pub stands : (before : ℕ) (T : Trace) (octets written : List ℕ) → before ≤ faults (vault_of old) → IsClean (vault_of new)
-        → StandsSo Holds faults before old T c (Midway before (faults (vault_of old)) T.base c (acts T) octets written) → StandsSo Holds faults before new T c (Midway before (faults (vault_of new)) T.base c (acts T) octets (written ++ more))
-    pub counted : faults (vault_of old) ≤ faults (vault_of new)
-    pub clean : IsClean (vault_of new) → IsClean (vault_of old)
-
-  -- so much was read and written
-  pub record TalkedSoFar (old new : Office V) (c : ℕ) (was_left left held holds : Option (List ℕ)) (turns : ℕ) : Type 0 where
-    pub octets : List ℕ
-    pub written : List ℕ
-    pub consumes : Consumes was_left left octets
-    pub appends : Appends held holds written
-    pub enough : turns ≤ length octets
-    pub stands : (before : ℕ) (T : Trace) → before ≤ faults (vault_of old) → IsClean (vault_of new)
-        → StandsSo Holds faults before old T c (GoesOn T.base c (acts T) [] []) → StandsSo Holds faults before new T c (GoesOn T.base c (acts T) octets written)
-    pub counted : faults (vault_of old) ≤ faults (vault_of new)
-    pub clean : IsClean (vault_of new) → IsClean (vault_of old)
-
-  -- nothing yet
-  pub wrote_none : (o : Office V) (c : ℕ) (held : Option (List ℕ)) → WroteSoFar o o c held held 0
-  wrote_none o c held = record {
-    more = [];
-    appends = appends_none held held (keeps_same held);
-    enough = omega (arith);
-    stands = λ before T octets written first clean w.
-        subst (λ (xs : List ℕ). StandsSo Holds faults before o T c (Midway before (faults (vault_of o)) T.base c (acts T) octets xs)) (sym (append-nil written)) w;
-    counted = omega (arith);
-    clean = λ k. k;
-  }
-
-  pub talked_none : (o : Office V) (c : ℕ) (left held : Option (List ℕ)) → TalkedSoFar o o c left left held held 0
-  talked_none o c left held = record {
-    octets = [];
-    written = [];
-    consumes = consumes_none left left (keeps_same left);
-    appends = appends_none held held (keeps_same held);
-    enough = omega (arith);
-    stands = λ before T first clean w. w;
-    counted = omega (arith);
-    clean = λ k. k;
-  }
-
-  pub so_by : {before : ℕ} (o : Office V) (T : Trace) (c : ℕ) (P Q : Log → Type 0) → ((L : Log) → P L → Q L) → StandsSo Holds faults before o T c P → StandsSo Holds faults before o T c Q
-  so_by o T c P Q f w = record { log = w.log; stands = w.stands; own = w.own; caused = w.caused; so = f w.log w.so }
-
-  -- what comes of writing more, where so much was written
-  pub wrote_then : (old mid new : Office V) (c : ℕ) (held holds : Option (List ℕ)) (turns : ℕ) (s : WroteSoFar old mid c held holds turns) (more : List ℕ)
-      (P : (before : ℕ) → Trace → (octets written : List ℕ) → Log → Type 0) → (IsClean (vault_of new) → IsClean (vault_of mid))
-      → ((before : ℕ) (T : Trace) (octets written : List ℕ) → before ≤ faults (vault_of mid) → IsClean (vault_of new)
-      → StandsSo Holds faults before mid T c (Midway before (faults (vault_of mid)) T.base c (acts T) octets written) → StandsSo Holds faults before new T c (P before T octets (written ++ more)))
-      → (before : ℕ) (T : Trace) (octets written : List ℕ) → before ≤ faults (vault_of old) → IsClean (vault_of new)
-      → StandsSo Holds faults before old T c (Midway before (faults (vault_of old)) T.base c (acts T) octets written) → StandsSo Holds faults before new T c (P before T octets (written ++ (s.more ++ more)))
-  wrote_then old mid new c held holds turns s more P back next before T octets written first clean w =
-      let up = s.counted in
-      subst (λ (o : List ℕ). StandsSo Holds faults before new T c (P before T octets o)) (append_assoc written s.more more)
-      (next before T octets (written ++ s.more) (omega (arith, first, up)) clean (s.stands before T octets written first (back clean) w))
-
-  pub so_with : {before : ℕ} (o : Office V) (T : Trace) (c : ℕ) (P Q : Log → Type 0) → ((L : Log) → StandsFor Holds o (trace_of T.base L) → P L → Q L) → StandsSo Holds faults before o T c P → StandsSo Holds faults before o T c Q
-  so_with o T c P Q f w = record { log = w.log; stands = w.stands; own = w.own; caused = w.caused; so = f w.log w.stands w.so }
-
-  -- what comes of writing, where so much was read and written
-  pub talked_then : (old mid new : Office V) (c : ℕ) (was_left left held holds : Option (List ℕ)) (turns : ℕ) (s : TalkedSoFar old mid c was_left left held holds turns) (more : List ℕ)
-      (P : (before : ℕ) → Trace → (octets written : List ℕ) → Log → Type 0) → (IsClean (vault_of new) → IsClean (vault_of mid))
-      → ((before : ℕ) (T : Trace) (octets written : List ℕ) → before ≤ faults (vault_of mid) → IsClean (vault_of new)
-      → StandsSo Holds faults before mid T c (Midway before (faults (vault_of mid)) T.base c (acts T) octets written) → StandsSo Holds faults before new T c (P before T octets (written ++ more)))
-      → (before : ℕ) (T : Trace) → before ≤ faults (vault_of old) → IsClean (vault_of new)
-      → StandsSo Holds faults before old T c (GoesOn T.base c (acts T) [] []) → StandsSo Holds faults before new T c (P before T s.octets (s.written ++ more))
-  talked_then old mid new c was_left left held holds turns s more P back next before T first clean w =
-      let up = s.counted in
-      next before T s.octets s.written (omega (arith, first, up)) clean
-      (so_by mid T c (GoesOn T.base c (acts T) s.octets s.written) (Midway before (faults (vault_of mid)) T.base c (acts T) s.octets s.written) (λ L h. inl h) (s.stands before T first (back clean) w))
-
-  abbrev IsTold : Office V → ℕ → Bool → Type 0
-  IsTold o c ended = (T : Trace) → StandsFor Holds o T → ended ≡ not (is_open T c)
-
-  abbrev Pays : Office V → Office V → ℕ → List ℕ → Type 0
-  Pays mid new c more = (before : ℕ) (T : Trace) (octets written : List ℕ) → before ≤ faults (vault_of mid) → IsClean (vault_of new)
-      → StandsSo Holds faults before mid T c (Midway before (faults (vault_of mid)) T.base c (acts T) octets written)
-      → StandsSo Holds faults before new T c (λ L. IsPaid before (faults (vault_of new)) T.base c (acts T) octets (written ++ more) L)
-
-  -- nothing is owed, and it is open: it waits
-  pub talked_waits : (old mid new : Office V) (c : ℕ) (was_left left held holds : Option (List ℕ)) (turns : ℕ) (s : TalkedSoFar old mid c was_left left held holds turns) (more : List ℕ)
-      → (IsClean (vault_of new) → IsClean (vault_of mid)) → Pays mid new c more → (ended : Bool) → IsTold new c ended → ended ≡ false
-      → (before : ℕ) (T : Trace) → before ≤ faults (vault_of old) → IsClean (vault_of new)
-      → StandsSo Holds faults before old T c (GoesOn T.base c (acts T) [] []) → StandsSo Holds faults before new T c (Waits T.base c (acts T) s.octets (s.written ++ more))
-  talked_waits old mid new c was_left left held holds turns s more back next ended told off before T first clean w =
-      so_with new T c (IsPaid before (faults (vault_of new)) T.base c (acts T) s.octets (s.written ++ more)) (Waits T.base c (acts T) s.octets (s.written ++ more))
-      (λ L st p. waits_now before (faults (vault_of new)) T.base c (acts T) s.octets (s.written ++ more) L p (open_by ended (is_open (trace_of T.base L) c) (told (trace_of T.base L) st) off))
-      (talked_then old mid new c was_left left held holds turns s more (λ b T octets written L. IsPaid b (faults (vault_of new)) T.base c (acts T) octets written L) back next before T first clean w)
-
-  -- nothing is owed, and it isn't open: it is over
-  pub talked_over : (old mid new : Office V) (c : ℕ) (was_left left held holds : Option (List ℕ)) (turns : ℕ) (s : TalkedSoFar old mid c was_left left held holds turns) (more : List ℕ)
-      → (IsClean (vault_of new) → IsClean (vault_of mid)) → Pays mid new c more → (ended : Bool) → IsTold new c ended → ended ≡ true
-      → (before : ℕ) (T : Trace) → before ≤ faults (vault_of old) → IsClean (vault_of new)
-      → StandsSo Holds faults before old T c (GoesOn T.base c (acts T) [] []) → StandsSo Holds faults before new T c (IsOver before (faults (vault_of new)) T.base c (acts T) s.octets (s.written ++ more))
-  talked_over old mid new c was_left left held holds turns s more back next ended told off before T first clean w =
-      so_with new T c (IsPaid before (faults (vault_of new)) T.base c (acts T) s.octets (s.written ++ more)) (IsOver before (faults (vault_of new)) T.base c (acts T) s.octets (s.written ++ more))
-      (λ L st p. record { midway = p.midway; shut = shut_by ended (is_open (trace_of T.base L) c) (told (trace_of T.base L) st) off })
-      (talked_then old mid new c was_left left held holds turns s more (λ b T octets written L. IsPaid b (faults (vault_of new)) T.base c (acts T) octets written L) back next before T first clean w)
 
 -- what a turn of writing says where it wrote nothing, and where it wrote something
 pub none_written : {A : Type 0} (b : Bool) (P Q : A → Type 0) (L : A) → b ≡ false → cond b (P L) (Q L) → Q L

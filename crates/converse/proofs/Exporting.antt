@@ -4,7 +4,6 @@ use Rattle.std.proofs.lemmas.List.{take_more, take-map, map-append, length-map}
 use Rattle.std.proofs.lemmas.Bool.{and_parts, or_parts, eq-eqb}
 use Rattle.std.specs.Prelude.{OnErr, unwrap_or, filter, is_ok, if◌then◌else◌}
 use Rattle.std.specs.List.{All, list_any, find}
-use Rattle.std.specs.Io.KnownBytes.{Appends}
 use Rattle.std.specs.Option.{option_map}
 use Rattle.std.specs.Str.{bytes_eq}
 use Rattle.policy.specs.Policy.{are_distinct}
@@ -197,5 +196,7 @@ files_taken d c hs a b sound same p = subst (λ (fs : List File). Takes a b fs) 
 pub first_taken : (d : List ℕ) (c : Contents) (hs : List Head) (a b : Option (List File)) → AreSound c → hs ≡ heads d c → TakesFirst a b (map (file_under c) hs) → TakesFirst a b (files_of d c)
 first_taken d c hs a b sound same p = subst (λ (fs : List File). TakesFirst a b fs) (files_put d c hs sound same) p
 
-pub count_told : (d : List ℕ) (c : Contents) (hs : List Head) (n : ℕ) (a b : Option (List ℕ)) → n ≡ length hs → hs ≡ heads d c → Appends a b (export_line n) → Appends a b (export_line (length (files_of d c)))
-count_told d c hs n a b is same p = subst (λ (m : ℕ). Appends a b (export_line m)) (count_put d c hs n is same) p
+-- the line that tells how many there were
+pub line_is : (d : List ℕ) (c : Contents) (hs : List Head) (n : ℕ) (text line : List ℕ) → text ≡ line → line ≡ export_line n → n ≡ length hs → hs ≡ heads d c
+    → text ≡ export_line (length (files_of d c))
+line_is d c hs n text line lent told is same = lent ∙ told ∙ ap export_line (count_put d c hs n is same)

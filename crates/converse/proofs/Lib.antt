@@ -8,9 +8,12 @@ pub mod Events
 pub mod Takings
 pub mod Ends
 pub mod Clauses
+pub mod Streaming
+pub mod SoFar
 mod Telling
 pub mod Escaping
 pub mod Reading
+mod Numbering
 pub mod Running
 pub mod Playing
 pub mod Stopping

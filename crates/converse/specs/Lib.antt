@@ -2,7 +2,9 @@ pub mod Talk
 pub mod Talked
 pub mod Conversing
 pub mod FaultNames
+pub mod Streams
 pub mod Causes
+pub mod Printed
 pub mod PolicyFile
 pub mod Told
 pub mod Escapes

@@ -6,6 +6,7 @@ use Rattle.policy.specs.Policy.{Policy}
 use Rattle.policy.specs.PolicyText.{rules_of}
 use Rattle.policy.specs.declared.fault.PolicyFault.{PolicyFault}
 use Rattle.policy.specs.declared.fault.PolicyFault.TheVariants.{NotToml}
+use Rattle.converse.specs.Printed.{PrintsPart}
 use Rattle.converse.specs.Told.{count_line}
 
 -- the octets are the text of this policy
@@ -24,3 +25,8 @@ IsNoPolicyText octets = (policy : Policy) → ¬ IsPolicyText octets policy
 abbrev pub TellsCount : (file before after : Option (List ℕ)) → Type 0
 TellsCount file before after =
     (policy : Policy) × IfSome file (λ octets. IsPolicyText octets policy) × Appends before after (count_line (length policy.rules))
+
+-- or a part of that line
+abbrev pub TellsCountPart : (file before after : Option (List ℕ)) → Type 0
+TellsCountPart file before after =
+    (policy : Policy) × IfSome file (λ octets. IsPolicyText octets policy) × PrintsPart before after (count_line (length policy.rules))

@@ -1,16 +1,12 @@
 -- What is printed of a review of a policy's file, whole or in part.
-use Rattle.std.specs.Prelude.{◌≡◌, ℕ, Bool, true, false, List, ◌++◌, Option, IfSome}
+use Rattle.std.specs.Prelude.{◌≡◌, ℕ, Bool, true, false, List, Option, IfSome}
 use Rattle.std.specs.Io.KnownBytes.{Appends}
+use Rattle.converse.specs.Printed.{PrintsPart}
 use Rattle.policy.specs.Policy.{Policy}
 use Rattle.converse.specs.PolicyFile.{IsPolicyText}
 use Rattle.review.specs.declared.choice.Choice.{Choice}
 use Rattle.review.specs.Names.{Kept, nobody}
 use Rattle.review.specs.Review.{against_text, changes_of, has_lines, review_text, stored_text}
-
--- a beginning of the text is printed, or all of it
-abbrev pub PrintsPart : (before after : Option (List ℕ)) → (text : List ℕ) → Type 0
-PrintsPart before after text =
-    (told : List ℕ) × (rest : List ℕ) × (text ≡ told ++ rest) × Appends before after told
 
 -- what a file holds, where that is known, is a policy's text
 abbrev pub Holds : (file : Option (List ℕ)) → Policy → Type 0

@@ -10,7 +10,7 @@ use Rattle.office.specs.Stands.{Keeps}
 use Rattle.office.specs.Trace.{acts}
 use Rattle.converse.specs.Played.{failures}
 use Rattle.converse.specs.Talk.{Talks, TalksInPart}
-use Rattle.converse.specs.Talked.{trace_of, Extends, Leaves, ComesOut}
+use Rattle.converse.specs.Talked.{trace_of, Extends, Leaves, ComesOut, HasFailed}
 use Rattle.converse.specs.declared.conversation.TalkFault.{TalkFault}
 
 -- a store that is clean at the end holds what it held
@@ -37,17 +37,19 @@ pub record HasTalked {V : Type 0} (Holds : V → Contents → Type 0) (new : V) 
       Talks T.base (next_number T.log) octets written AtEnd (acts T) history ⊎ (TalksInPart T.base (next_number T.log) octets written (acts T) history × (grown ≡ true)))
 
 -- A fault broke a conversation off over an office that stood for T: the store keeps what a trace says that goes on from T by it alone, and
--- of which that holds which holds at this fault; an event failed only where the store counted a refusal.
-pub record HasBroken {V : Type 0} (Holds : V → Contents → Type 0) (new : V) (grown : Bool) (T : Trace) (octets written : List ℕ) (AtEnd : Type 0) : Type 0 where
+-- of which that holds which holds at this fault; an event failed only where the store counted a refusal, and a fault of the source or of the
+-- sink came only where one of its calls failed: `reads` and `writes` say so.
+pub record HasBroken {V : Type 0} (Holds : V → Contents → Type 0) (new : V) (grown reads writes : Bool) (T : Trace) (octets written : List ℕ) (AtEnd : Type 0) : Type 0 where
   pub fault : TalkFault
   pub log : Log
   pub keeps : Keeps (Holds new) (trace_of T.base log)
   pub own : Extends (next_number T.log) T.log log
   pub caused : failures T.log < failures log → grown ≡ true
+  pub failed : HasFailed reads writes fault
   pub came_out : ComesOut AtEnd true T (next_number T.log) octets written (Err fault) log
 
 -- No office was opened over a store that kept what T says, nothing was read or written, and it keeps that; or one was opened, and the
 -- conversation in it was broken off.
-abbrev pub HasStopped : {V : Type 0} (Holds : V → Contents → Type 0) (new : V) (grown : Bool) (T opened : Trace) (octets written : List ℕ) (AtEnd : Type 0) → Type 0
-HasStopped Holds new grown T opened octets written AtEnd =
-    (Keeps (Holds new) T × (octets ≡ []) × (written ≡ [])) ⊎ HasBroken Holds new grown opened octets written AtEnd
+abbrev pub HasStopped : {V : Type 0} (Holds : V → Contents → Type 0) (new : V) (grown reads writes : Bool) (T opened : Trace) (octets written : List ℕ) (AtEnd : Type 0) → Type 0
+HasStopped Holds new grown reads writes T opened octets written AtEnd =
+    (Keeps (Holds new) T × (octets ≡ []) × (written ≡ [])) ⊎ HasBroken Holds new grown reads writes opened octets written AtEnd

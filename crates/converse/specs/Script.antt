@@ -1,5 +1,5 @@
 -- What a line of a script asks for, and which line has no form.
-use Rattle.std.specs.Prelude.{ℕ, ◌+◌, ◌==◌, Bool, true, List, [], ◌∷◌, ◌++◌, codes, drop, Option, Some, None, option_map, ok_or, Result, Ok, Err, if◌then◌else◌}
+use Rattle.std.specs.Prelude.{◌≡◌, ℕ, ◌+◌, ◌==◌, ◌||◌, Bool, true, not, is_some, List, [], ◌∷◌, ◌++◌, codes, drop, Option, Some, None, option_map, ok_or, Result, Ok, Err, if◌then◌else◌}
 use Rattle.std.specs.List.{before_first, position, slice_split}
 use Rattle.std.specs.Str.{bytes_eq, is_utf8}
 use Rattle.creds.specs.Digests.{pass_digest}
@@ -216,3 +216,19 @@ lines_ask n (line ∷ lines) = asks_then (line_asks n line) (lines_ask (n + 1) l
 -- what the lines of a script ask for, or the number of the first of no form, from 1
 abbrev pub script_of : List ℕ → Result (List ScriptLine) ℕ
 script_of text = lines_ask 1 (slice_split (λ b. b == 10) text)
+
+-- ---- the line that a fault is told by
+
+-- a line is skipped, or it has a form
+abbrev pub has_form : List ℕ → Bool
+has_form line = is_skipped line || is_some (line_of line)
+
+-- the number that a script's fault is told by
+abbrev pub number_told : Result (List ScriptLine) ℕ → Option ℕ
+number_told (Ok asked) = None
+number_told (Err n) = Some n
+
+-- a script is refused by the number, from 1, of its first line of no form; skipped lines count too
+abbrev pub AreToldByTheirLine : Type 0
+AreToldByTheirLine = (text : List ℕ)
+    → number_told (script_of text) ≡ option_map (λ at. at + 1) (position (λ line. not (has_form line)) (slice_split (λ b. b == 10) text))

@@ -1,5 +1,5 @@
 -- What a call of `talk` leaves, by its answer: for which trace the office then stands.
-use Rattle.std.specs.Prelude.{◌≡◌, ℕ, Bool, true, false, ◌≤◌, ◌⊎◌, ◌^◌, ◌-◌, ◌==◌, List, ◌∷◌, ◌++◌, length, Result, Ok, Err}
+use Rattle.std.specs.Prelude.{◌≡◌, ℕ, ⊤, Bool, true, false, ◌≤◌, ◌⊎◌, ◌^◌, ◌-◌, ◌==◌, List, ◌∷◌, ◌++◌, length, Result, Ok, Err}
 use Rattle.std.specs.List.{list_all}
 use Rattle.vault.specs.Records.{Records}
 use Rattle.vault.specs.Changes.{Contents}
@@ -41,6 +41,14 @@ pub record StandsSo {V : Type 0} (Holds : V → Contents → Type 0) (faults : V
   pub own : Extends c T.log log
   pub caused : Caused before (faults (vault_of o)) T (trace_of T.base log)
   pub so : P log
+
+-- a fault of the source, or of the sink, comes only where a call of it failed
+abbrev pub HasFailed : (reads writes : Bool) → TalkFault → Type 0
+HasFailed reads writes fault.Read = reads ≡ true
+HasFailed reads writes fault.Write = writes ≡ true
+HasFailed reads writes fault.TooManyConnections = ⊤
+HasFailed reads writes fault.NoMemory = ⊤
+HasFailed reads writes fault.Endless = ⊤
 
 -- so many octets were read, or so many written
 abbrev pub IsEndless : (octets written : List ℕ) → Type 0

@@ -1,24 +1,25 @@
 //! `popbox check-policy`: reads a policy's file, and prints how many rules it has or its first
 //! fault.
 
-ghost use Rattle.std.specs.Prelude.{◌≡◌, ◌≤◌, IfOk, IsErr, IsOk, IfSome, OnOk, OnErr, length};
-ghost use Rattle.std.specs.Io.KnownBytes.{Appends, IsAtEnd};
+ghost use Rattle.std.specs.Prelude.{◌≡◌, ◌≤◌, ◌⊎◌, IfOk, IsErr, IsOk, IfSome, OnOk, OnErr, length, string_bytes};
+ghost use Rattle.std.specs.Io.KnownBytes.{IsAtEnd};
 ghost use Rattle.policy.specs.declared.fault.PolicyFault.{PolicyFault};
-ghost use Rattle.converse.specs.PolicyFile.{IsPolicyText, IsFaultOf, IsNoPolicyText, TellsCount};
-ghost use Rattle.converse.specs.Told.{count_line};
+ghost use Rattle.converse.specs.PolicyFile.{IsPolicyText, IsFaultOf, IsNoPolicyText, TellsCount, TellsCountPart};
+ghost use Rattle.converse.specs.Told.{count_line as line_of};
 
 use crate::fault::{Fault, read_fault, tell_fault};
+use crate::printing::print;
 use policy::{Policy, PolicyFault};
-use std::alloc::Global;
+use std::alloc::{AllocError, Global};
 use std::io::{Read, Write};
-use std::{io, str};
+use std::str;
 
 /// Reads a policy's file to its end, and prints `ok, N rules` to `out`, which is flushed.
 ///
 /// Gives the exit status, 0 or 1. A fault has status 1 and its text on `err`: of a text that is no
 /// policy its first fault, `NotToml` also where it isn't UTF-8. Faults are found in the order: the
-/// file can't be read, its policy has a fault, `out` refuses octets. Before the last of them
-/// nothing is on `out`.
+/// file can't be read, its policy has a fault, memory runs out, `out` refuses octets. Before the
+/// last of them nothing is on `out`; then a beginning of the line may be.
 pub fn check_policy<R: Read, W: Write, E: Write>(
     alloc: Global,
     file: &mut R,
@@ -30,6 +31,8 @@ pub fn check_policy<R: Read, W: Write, E: Write>(
     ensures unread { (IsAtEnd (R.remaining file.new) → ⊥) → (result ≡ 1) × (out.new ≡ out.old) }
     ensures good { result ≡ 0 → TellsCount (R.remaining file.old) (W.contents out.old) (W.contents out.new) }
     ensures faulty { IfSome (R.remaining file.old) (λ octets. IsNoPolicyText octets → out.new ≡ out.old) }
+    ensures part { (out.new ≡ out.old)
+        ⊎ TellsCountPart (R.remaining file.old) (W.contents out.old) (W.contents out.new) }
 {
     match tell_count(alloc, file, out) {
         Ok(()) => 0,
@@ -42,12 +45,13 @@ fn tell_count<R: Read, W: Write>(alloc: Global, file: &mut R, out: &mut W) -> Re
     ensures unread { (IsAtEnd (R.remaining file.new) → ⊥) → IsErr result × (out.new ≡ out.old) }
     ensures ok { OnOk result (TellsCount (R.remaining file.old) (W.contents out.old) (W.contents out.new)) }
     ensures faulty { IfSome (R.remaining file.old) (λ octets. IsNoPolicyText octets → out.new ≡ out.old) }
+    ensures part { (out.new ≡ out.old)
+        ⊎ TellsCountPart (R.remaining file.old) (W.contents out.old) (W.contents out.new) }
 {
     let count = read_file(alloc, file)?.len();
-    match print_count(out, count) {
-        Ok(()) => Ok(()),
-        Err(_) => Err(Fault::CannotWrite),
-    }
+    let line = count_line(alloc, count)?;
+    print(out, line.as_bytes())?;
+    Ok(())
 }
 
 /// The policy of a file.
@@ -78,10 +82,9 @@ pub(crate) fn read_octets(alloc: Global, octets: &[u8]) -> Result<Policy, Fault>
     }
 }
 
-/// Prints a count of rules.
-fn print_count<W: Write>(out: &mut W, count: usize) -> io::Result<()>
-    ensures { OnOk result (Appends (W.contents out.old) (W.contents out.new) (count_line count)) }
+/// The line that tells how many rules there are.
+fn count_line(alloc: Global, count: usize) -> Result<String, AllocError>
+    ensures { IfOk result (λ line. string_bytes line ≡ line_of count) }
 {
-    writeln!(out, "ok, {count} rules")?;
-    out.flush()
+    format!(in alloc; "ok, {count} rules\n")
 }

@@ -1,15 +1,18 @@
 //! `popbox check`: tells what lies in a store.
 
-ghost use Rattle.std.specs.Prelude.{◌≡◌, ◌≤◌, ◌++◌, true, length, sum_by, is_some, IfOk, OnOk};
+ghost use Rattle.std.specs.Prelude.{◌≡◌, ◌≤◌, ◌++◌, ◌⊎◌, true, length, sum_by, is_some, IfOk, OnOk};
 ghost use Rattle.std.specs.List.{All, flat_map};
 ghost use Rattle.std.specs.Io.KnownBytes.{Appends};
 ghost use Rattle.vault.specs.declared.answer.Total.{Total as Sum};
 ghost use Rattle.vault.specs.Records.{credential_in};
 ghost use Rattle.vault.specs.Changes.{Contents};
+ghost use Rattle.converse.specs.Printed.{PrintsPart};
 ghost use Rattle.converse.specs.Checked.{kind_text, counted, file_lines, maildrop_line, clerk_line, counts_front, counts_rest, counts_line, last_line, store_text};
 
 use crate::fault::{Fault, tell_fault};
+use crate::printing::print;
 use creds::{Credential, Name};
+use std::alloc::Global;
 use std::io;
 use std::io::Write;
 use vault::{Total, Vault, VaultFault};
@@ -29,9 +32,10 @@ pub struct StoreFile {
 /// last line `ok, ..` with how many there are. Nothing in the store is changed.
 ///
 /// Gives the exit status, 0 or 1. A fault has status 1 and its text on `err`: the store refuses or
-/// has no such clerk, memory runs out, `out` refuses octets. What was printed before it stays, and
-/// the last line isn't among that.
+/// has no such clerk, memory runs out, `out` refuses octets. Before the last of them nothing is on
+/// `out`; then a beginning of the lines may be.
 pub fn check_store<V: Vault, W: Write, E: Write>(
+    alloc: Global,
     vault: &mut V,
     clerks: &[Name],
     file: &StoreFile,
@@ -41,11 +45,14 @@ pub fn check_store<V: Vault, W: Write, E: Write>(
     ensures status { result ≤ 1 }
     ensures silent { result ≡ 0 → err.new ≡ err.old }
     ensures told { result ≡ 0 → (c : Contents) → V.holds vault.old c → V.is_clean vault.new → Appends (W.contents out.old) (W.contents out.new) (store_text file.now c clerks.now) }
+    ensures part { (out.new ≡ out.old)
+        ⊎ ((c : Contents) → V.holds vault.old c → V.is_clean vault.new
+        → PrintsPart (W.contents out.old) (W.contents out.new) (store_text file.now c clerks.now)) }
     ensures known { result ≡ 0 → (c : Contents) → V.holds vault.old c → V.is_clean vault.new → All (λ name. is_some (credential_in name c.clerks) ≡ true) clerks.now }
     ensures held { (c : Contents) → V.holds vault.old c → V.is_clean vault.new → V.holds vault.new c }
     ensures clean { V.is_clean vault.new → V.is_clean vault.old }
 {
-    match tell_store(vault, clerks, file, out) {
+    match tell_store(alloc, vault, clerks, file, out) {
         Ok(()) => 0,
         Err(fault) => tell_fault(err, fault),
     }
@@ -53,25 +60,48 @@ pub fn check_store<V: Vault, W: Write, E: Write>(
 
 /// Prints what lies in a store.
 fn tell_store<V: Vault, W: Write>(
+    alloc: Global,
     vault: &mut V,
     clerks: &[Name],
     file: &StoreFile,
     out: &mut W,
 ) -> Result<(), Fault>
     ensures told { OnOk result ((c : Contents) → V.holds vault.old c → V.is_clean vault.new → Appends (W.contents out.old) (W.contents out.new) (store_text file.now c clerks.now)) }
+    ensures part { (out.new ≡ out.old)
+        ⊎ ((c : Contents) → V.holds vault.old c → V.is_clean vault.new
+        → PrintsPart (W.contents out.old) (W.contents out.new) (store_text file.now c clerks.now)) }
+    ensures known { OnOk result ((c : Contents) → V.holds vault.old c → V.is_clean vault.new → All (λ name. is_some (credential_in name c.clerks) ≡ true) clerks.now) }
+    ensures held { (c : Contents) → V.holds vault.old c → V.is_clean vault.new → V.holds vault.new c }
+    ensures clean { V.is_clean vault.new → V.is_clean vault.old }
+{
+    let mut text = Vec::new(alloc);
+    put_store(vault, clerks, file, &mut text)?;
+    print(out, text.as_slice())?;
+    Ok(())
+}
+
+/// Puts what lies in a store behind a text.
+fn put_store<V: Vault>(
+    vault: &mut V,
+    clerks: &[Name],
+    file: &StoreFile,
+    text: &mut Vec<u8>,
+) -> Result<(), Fault>
+    ensures told { OnOk result ((c : Contents) → V.holds vault.old c → V.is_clean vault.new
+        → text.new.items ≡ text.old.items ++ store_text file.now c clerks.now) }
     ensures known { OnOk result ((c : Contents) → V.holds vault.old c → V.is_clean vault.new → All (λ name. is_some (credential_in name c.clerks) ≡ true) clerks.now) }
     ensures held { (c : Contents) → V.holds vault.old c → V.is_clean vault.new → V.holds vault.new c }
     ensures clean { V.is_clean vault.new → V.is_clean vault.old }
 {
     let totals = vault.maildrops()?;
     let rules = vault.policy()?.len();
-    let Ok(()) = print_front(out, file, totals.as_slice()) else {
-        return Err(Fault::CannotWrite);
+    let Ok(()) = print_front(text, file, totals.as_slice()) else {
+        return Err(Fault::OutOfMemory);
     };
-    tell_clerks(vault, clerks, out)?;
-    match print_last(out, totals.as_slice(), clerks.len(), rules) {
+    tell_clerks(vault, clerks, text)?;
+    match print_last(text, totals.as_slice(), clerks.len(), rules) {
         Ok(()) => Ok(()),
-        Err(_) => Err(Fault::CannotWrite),
+        Err(_) => Err(Fault::OutOfMemory),
     }
 }
 
@@ -106,21 +136,21 @@ fn print_total<W: Write>(out: &mut W, total: &Total) -> io::Result<()>
 }
 
 /// Prints a line for each of these clerks.
-fn tell_clerks<V: Vault, W: Write>(vault: &mut V, clerks: &[Name], out: &mut W) -> Result<(), Fault>
-    ensures told { OnOk result ((c : Contents) → V.holds vault.old c → V.is_clean vault.new → Appends (W.contents out.old) (W.contents out.new) (flat_map (clerk_line c.clerks) clerks.now)) }
+fn tell_clerks<V: Vault>(vault: &mut V, clerks: &[Name], text: &mut Vec<u8>) -> Result<(), Fault>
+    ensures told { OnOk result ((c : Contents) → V.holds vault.old c → V.is_clean vault.new → text.new.items ≡ text.old.items ++ flat_map (clerk_line c.clerks) clerks.now) }
     ensures known { OnOk result ((c : Contents) → V.holds vault.old c → V.is_clean vault.new → All (λ name. is_some (credential_in name c.clerks) ≡ true) clerks.now) }
     ensures held { (c : Contents) → V.holds vault.old c → V.is_clean vault.new → V.holds vault.new c }
     ensures clean { V.is_clean vault.new → V.is_clean vault.old }
 {
     for name in clerks {
-        tell_clerk(vault, name, out)?;
+        tell_clerk(vault, name, text)?;
     }
     Ok(())
 }
 
 /// Prints the line of a clerk, who is asked of the store.
-fn tell_clerk<V: Vault, W: Write>(vault: &mut V, name: &Name, out: &mut W) -> Result<(), Fault>
-    ensures told { OnOk result ((c : Contents) → V.holds vault.old c → V.is_clean vault.new → Appends (W.contents out.old) (W.contents out.new) (clerk_line c.clerks name.now)) }
+fn tell_clerk<V: Vault>(vault: &mut V, name: &Name, text: &mut Vec<u8>) -> Result<(), Fault>
+    ensures told { OnOk result ((c : Contents) → V.holds vault.old c → V.is_clean vault.new → text.new.items ≡ text.old.items ++ clerk_line c.clerks name.now) }
     ensures known { OnOk result ((c : Contents) → V.holds vault.old c → V.is_clean vault.new → is_some (credential_in name.now c.clerks) ≡ true) }
     ensures held { (c : Contents) → V.holds vault.old c → V.is_clean vault.new → V.holds vault.new c }
     ensures clean { V.is_clean vault.new → V.is_clean vault.old }
@@ -129,9 +159,9 @@ fn tell_clerk<V: Vault, W: Write>(vault: &mut V, name: &Name, out: &mut W) -> Re
         return Err(Fault::Store(VaultFault::NoClerk));
     };
     let kind = kind_of(&credential);
-    match writeln!(out, "clerk {name} {kind}") {
+    match writeln!(text, "clerk {name} {kind}") {
         Ok(()) => Ok(()),
-        Err(_) => Err(Fault::CannotWrite),
+        Err(_) => Err(Fault::OutOfMemory),
     }
 }
 
@@ -145,7 +175,7 @@ fn kind_of(credential: &Credential) -> &'static str
     }
 }
 
-/// Prints the last line, and flushes what was printed.
+/// Prints the last line.
 fn print_last<W: Write>(
     out: &mut W,
     totals: &[Total],
@@ -158,7 +188,6 @@ fn print_last<W: Write>(
     let messages = count_messages(totals);
     let octets = count_octets(totals);
     print_counts(out, maildrops, messages, octets, clerks, rules)?;
-    out.flush()?;
     Ok(())
 }
 

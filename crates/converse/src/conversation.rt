@@ -1,6 +1,6 @@
 //! One conversation of a client over an office.
-ghost use Rattle.std.specs.Prelude.{◌≡◌, ◌<◌, ◌≤◌, ◌++◌, ◌⊎◌, ℕ, List, [], true, false, length, Ok, MatchResult, cond};
-ghost use Rattle.std.specs.Io.KnownBytes.{Appends, Consumes, IsAtEnd};
+ghost use Rattle.std.specs.Prelude.{◌≡◌, ◌<◌, ◌≤◌, ◌++◌, ◌⊎◌, ℕ, List, [], true, false, length, Ok, MatchResult, IfErr, cond};
+ghost use Rattle.std.specs.Io.KnownBytes.{IsAtEnd};
 ghost use Rattle.vault.specs.Calls.{has_grown};
 ghost use Rattle.office.specs.Events.{Trace};
 ghost use Rattle.office.specs.Log.{next_number};
@@ -8,11 +8,12 @@ ghost use Rattle.office.specs.Trace.{acts};
 ghost use Rattle.office.specs.Expected.{most_in_a_piece};
 ghost use Rattle.office.specs.Shown.{outcome_seen};
 ghost use Rattle.office.specs.Stands.{StandsFor, vault_of};
-ghost use Rattle.converse.specs.Talked.{StandsSo, ComesOut};
+ghost use Rattle.converse.specs.Streams.{Reads, Writes, reads_failed, writes_failed};
+ghost use Rattle.converse.specs.Talked.{StandsSo, ComesOut, HasFailed};
 ghost use Rattle.converse.specs.Conversing.{GoesOn, Waits, Midway, IsPaid, IsOver, IsCut, Refuses, opened_by, memory_by};
 
+use crate::streams::{Sink, Source};
 use office::{Event, Office, Outcome};
-use std::io::{Read, Write};
 use vault::Vault;
 
 /// How many octets are read at once: the most that an office takes in one piece.
@@ -21,9 +22,9 @@ const MOST_AT_ONCE: usize = 4096;
 /// Why a conversation was broken off.
 #[derive(Clone, Copy, Debug, PartialEq, Eq)]
 pub enum TalkFault {
-    /// The reader failed.
+    /// A call of the source failed.
     Read,
-    /// The writer failed, or took no octet.
+    /// A call of the sink failed, or took no octet.
     Write,
     /// The office opens no further connection.
     TooManyConnections,
@@ -34,7 +35,8 @@ pub enum TalkFault {
 
 /// The number of the connection that `Connect` opened, or why it opened none.
 fn opened(outcome: Outcome) -> Result<u64, TalkFault>
-    ensures { result ≡ opened_by (outcome_seen outcome) }
+    ensures is { result ≡ opened_by (outcome_seen outcome) }
+    ensures failed { IfErr result (HasFailed false false) }
 {
     match outcome {
         Outcome::Opened(c) => Ok(c),
@@ -45,7 +47,8 @@ fn opened(outcome: Outcome) -> Result<u64, TalkFault>
 
 /// Answers [`TalkFault::NoMemory`] where the office had no memory for an event.
 fn had_memory(outcome: Outcome) -> Result<(), TalkFault>
-    ensures { result ≡ memory_by (outcome_seen outcome) }
+    ensures is { result ≡ memory_by (outcome_seen outcome) }
+    ensures failed { IfErr result (HasFailed false false) }
 {
     match outcome {
         Outcome::NoMemory => Err(TalkFault::NoMemory),
@@ -56,6 +59,7 @@ fn had_memory(outcome: Outcome) -> Result<(), TalkFault>
 /// Opens a connection, and answers its number.
 fn connect<V: Vault>(office: &mut Office<V>) -> Result<u64, TalkFault>
     ensures began { (T : Trace) → StandsFor V.holds office.old T → V.is_clean (vault_of office.new) → StandsSo V.holds V.faults (V.faults (vault_of office.old)) office.new T (next_number T.log) (λ L. MatchResult result (λ c. (c ≡ next_number T.log) × GoesOn T.base (next_number T.log) (acts T) [] [] L) (λ e. Refuses T e L)) }
+    ensures failed { IfErr result (HasFailed false false) }
     ensures counted { V.faults (vault_of office.old) ≤ V.faults (vault_of office.new) }
     ensures clean { V.is_clean (vault_of office.new) → V.is_clean (vault_of office.old) }
 {
@@ -66,6 +70,7 @@ fn connect<V: Vault>(office: &mut Office<V>) -> Result<u64, TalkFault>
 fn hear<V: Vault>(office: &mut Office<V>, c: u64, piece: &[u8]) -> Result<(), TalkFault>
     requires { length piece.now ≤ most_in_a_piece }
     ensures heard { (before : ℕ) (T : Trace) (octets written : List ℕ) → before ≤ V.faults (vault_of office.old) → V.is_clean (vault_of office.new) → StandsSo V.holds V.faults before office.old T c (Waits T.base c (acts T) octets written) → StandsSo V.holds V.faults before office.new T c (λ L. MatchResult result (λ _. GoesOn T.base c (acts T) (octets ++ piece.now) written L) (λ e. IsCut e T.base c (acts T) (octets ++ piece.now) written L)) }
+    ensures failed { IfErr result (HasFailed false false) }
     ensures counted { V.faults (vault_of office.old) ≤ V.faults (vault_of office.new) }
     ensures clean { V.is_clean (vault_of office.new) → V.is_clean (vault_of office.old) }
 {
@@ -74,13 +79,15 @@ fn hear<V: Vault>(office: &mut Office<V>, c: u64, piece: &[u8]) -> Result<(), Ta
 
 /// Reads once, and gives what was read to an office that waits for input. `false` where the reader
 /// is at its end.
-fn listen<V: Vault, R: Read>(
+fn listen<V: Vault, R: Source>(
     office: &mut Office<V>,
     c: u64,
     reader: &mut R,
 ) -> Result<bool, TalkFault>
-    ensures read { (piece : List ℕ) × Consumes (R.remaining reader.old) (R.remaining reader.new) piece × (result ≡ Ok true → 0 < length piece) × (result ≡ Ok false → IsAtEnd (R.remaining reader.new))
+    ensures read { (piece : List ℕ) × Reads (R.seen reader.old) (R.seen reader.new) piece × (result ≡ Ok true → 0 < length piece) × (result ≡ Ok false → IsAtEnd (R.seen reader.new).left)
         × ((before : ℕ) (T : Trace) (octets written : List ℕ) → before ≤ V.faults (vault_of office.old) → V.is_clean (vault_of office.new) → StandsSo V.holds V.faults before office.old T c (Waits T.base c (acts T) octets written) → StandsSo V.holds V.faults before office.new T c (λ L. MatchResult result (λ more. cond more (GoesOn T.base c (acts T) (octets ++ piece) written L) (Waits T.base c (acts T) (octets ++ piece) written L)) (λ e. IsCut e T.base c (acts T) (octets ++ piece) written L))) }
+    ensures failed { IfErr result
+        (HasFailed (reads_failed (R.seen reader.old) (R.seen reader.new)) false) }
     ensures counted { V.faults (vault_of office.old) ≤ V.faults (vault_of office.new) }
     ensures clean { V.is_clean (vault_of office.new) → V.is_clean (vault_of office.old) }
 {
@@ -96,15 +103,17 @@ fn listen<V: Vault, R: Read>(
 }
 
 /// Writes some of what the connection is owed. `false` where nothing is owed.
-fn write_some<V: Vault, W: Write>(
+fn write_some<V: Vault, W: Sink>(
     office: &mut Office<V>,
     c: u64,
     writer: &mut W,
 ) -> Result<bool, TalkFault>
-    ensures wrote { (more : List ℕ) × Appends (W.contents writer.old) (W.contents writer.new) more × (result ≡ Ok true → 0 < length more)
+    ensures wrote { (more : List ℕ) × Writes (W.seen writer.old) (W.seen writer.new) more × (result ≡ Ok true → 0 < length more)
         × ((before : ℕ) (T : Trace) (octets written : List ℕ) → before ≤ V.faults (vault_of office.old) → V.is_clean (vault_of office.new)
         → StandsSo V.holds V.faults before office.old T c (Midway before (V.faults (vault_of office.old)) T.base c (acts T) octets written)
         → StandsSo V.holds V.faults before office.new T c (λ L. MatchResult result (λ some. cond some (Midway before (V.faults (vault_of office.new)) T.base c (acts T) octets (written ++ more) L) (IsPaid before (V.faults (vault_of office.new)) T.base c (acts T) octets (written ++ more) L)) (λ e. IsCut e T.base c (acts T) octets (written ++ more) L))) }
+    ensures failed { IfErr result
+        (HasFailed false (writes_failed (W.seen writer.old) (W.seen writer.new))) }
     ensures counted { V.faults (vault_of office.old) ≤ V.faults (vault_of office.new) }
     ensures clean { V.is_clean (vault_of office.new) → V.is_clean (vault_of office.old) }
 {
@@ -123,15 +132,17 @@ fn write_some<V: Vault, W: Write>(
 }
 
 /// Writes all that the connection is owed, and flushes the writer.
-fn write_owed<V: Vault, W: Write>(
+fn write_owed<V: Vault, W: Sink>(
     office: &mut Office<V>,
     c: u64,
     writer: &mut W,
 ) -> Result<(), TalkFault>
-    ensures wrote { (more : List ℕ) × Appends (W.contents writer.old) (W.contents writer.new) more
+    ensures wrote { (more : List ℕ) × Writes (W.seen writer.old) (W.seen writer.new) more
         × ((before : ℕ) (T : Trace) (octets written : List ℕ) → before ≤ V.faults (vault_of office.old) → V.is_clean (vault_of office.new)
         → StandsSo V.holds V.faults before office.old T c (Midway before (V.faults (vault_of office.old)) T.base c (acts T) octets written)
         → StandsSo V.holds V.faults before office.new T c (λ L. MatchResult result (λ _. IsPaid before (V.faults (vault_of office.new)) T.base c (acts T) octets (written ++ more) L) (λ e. IsCut e T.base c (acts T) octets (written ++ more) L))) }
+    ensures failed { IfErr result
+        (HasFailed false (writes_failed (W.seen writer.old) (W.seen writer.new))) }
     ensures counted { V.faults (vault_of office.old) ≤ V.faults (vault_of office.new) }
     ensures clean { V.is_clean (vault_of office.new) → V.is_clean (vault_of office.old) }
 {
@@ -147,16 +158,18 @@ fn write_owed<V: Vault, W: Write>(
 }
 
 /// Writes and reads in turn, until the connection is ended or the reader is at its end.
-fn converse<V: Vault, R: Read, W: Write>(
+fn converse<V: Vault, R: Source, W: Sink>(
     office: &mut Office<V>,
     c: u64,
     reader: &mut R,
     writer: &mut W,
 ) -> Result<(), TalkFault>
-    ensures talked { (octets written : List ℕ) × Consumes (R.remaining reader.old) (R.remaining reader.new) octets × Appends (W.contents writer.old) (W.contents writer.new) written
+    ensures talked { (octets written : List ℕ) × Reads (R.seen reader.old) (R.seen reader.new) octets × Writes (W.seen writer.old) (W.seen writer.new) written
         × ((before : ℕ) (T : Trace) → before ≤ V.faults (vault_of office.old) → V.is_clean (vault_of office.new)
         → StandsSo V.holds V.faults before office.old T c (GoesOn T.base c (acts T) [] [])
-        → StandsSo V.holds V.faults before office.new T c (λ L. MatchResult result (λ _. (Waits T.base c (acts T) octets written L × IsAtEnd (R.remaining reader.new)) ⊎ IsOver before (V.faults (vault_of office.new)) T.base c (acts T) octets written L) (λ e. IsCut e T.base c (acts T) octets written L))) }
+        → StandsSo V.holds V.faults before office.new T c (λ L. MatchResult result (λ _. (Waits T.base c (acts T) octets written L × IsAtEnd (R.seen reader.new).left) ⊎ IsOver before (V.faults (vault_of office.new)) T.base c (acts T) octets written L) (λ e. IsCut e T.base c (acts T) octets written L))) }
+    ensures failed { IfErr result (HasFailed (reads_failed (R.seen reader.old) (R.seen reader.new))
+        (writes_failed (W.seen writer.old) (W.seen writer.new))) }
     ensures counted { V.faults (vault_of office.old) ≤ V.faults (vault_of office.new) }
     ensures clean { V.is_clean (vault_of office.new) → V.is_clean (vault_of office.old) }
 {
@@ -172,17 +185,19 @@ fn converse<V: Vault, R: Read, W: Write>(
     Err(TalkFault::Endless)
 }
 
-/// One conversation over an office, from a reader and to a writer: a connection is opened, and all
-/// that it is owed is written before each read, until its last line closed it or the reader told
+/// One conversation over an office, from a source and to a sink: a connection is opened, and all
+/// that it is owed is written before each read, until its last line closed it or the source told
 /// its end. Its connection is then ended, after a fault too.
-pub fn talk<V: Vault, R: Read, W: Write>(
+pub fn talk<V: Vault, R: Source, W: Sink>(
     office: &mut Office<V>,
     reader: &mut R,
     writer: &mut W,
 ) -> Result<(), TalkFault>
-    ensures talked { (octets written : List ℕ) × Consumes (R.remaining reader.old) (R.remaining reader.new) octets × Appends (W.contents writer.old) (W.contents writer.new) written
+    ensures talked { (octets written : List ℕ) × Reads (R.seen reader.old) (R.seen reader.new) octets × Writes (W.seen writer.old) (W.seen writer.new) written
         × ((T : Trace) → StandsFor V.holds office.old T → V.is_clean (vault_of office.new)
-        → StandsSo V.holds V.faults (V.faults (vault_of office.old)) office.new T (next_number T.log) (ComesOut (IsAtEnd (R.remaining reader.new)) (has_grown (V.faults (vault_of office.old)) (V.faults (vault_of office.new))) T (next_number T.log) octets written result)) }
+        → StandsSo V.holds V.faults (V.faults (vault_of office.old)) office.new T (next_number T.log) (ComesOut (IsAtEnd (R.seen reader.new).left) (has_grown (V.faults (vault_of office.old)) (V.faults (vault_of office.new))) T (next_number T.log) octets written result)) }
+    ensures failed { IfErr result (HasFailed (reads_failed (R.seen reader.old) (R.seen reader.new))
+        (writes_failed (W.seen writer.old) (W.seen writer.new))) }
     ensures counted { V.faults (vault_of office.old) ≤ V.faults (vault_of office.new) }
     ensures clean { V.is_clean (vault_of office.new) → V.is_clean (vault_of office.old) }
 {

@@ -1,16 +1,18 @@
 //! `popbox export`: puts the messages of a maildrop as files into a folder.
 
-ghost use Rattle.std.specs.Prelude.{◌≡◌, ◌≤◌, ◌<◌, ◌∷◌, [], false, ℕ, length, map, IsErr, IsOk, IfOk, OnOk, OnErr};
+ghost use Rattle.std.specs.Prelude.{◌≡◌, ◌≤◌, ◌<◌, ◌∷◌, ◌⊎◌, [], false, ℕ, length, map, string_bytes, IsErr, IsOk, IfOk, OnOk, OnErr};
 ghost use Rattle.std.specs.List.{All};
 ghost use Rattle.std.specs.Io.KnownBytes.{Appends};
 ghost use Rattle.vault.specs.Records.{is_one_of};
 ghost use Rattle.vault.specs.Calls.{text_under};
 ghost use Rattle.vault.specs.Changes.{Contents};
+ghost use Rattle.converse.specs.Printed.{PrintsPart};
 ghost use Rattle.converse.specs.Exported.{files_of, Takes, TakesFirst, export_line, IsFront, IsMeasured, file_under};
 
 use crate::fault::{Fault, put_fault, tell_fault};
+use crate::printing::print;
 use creds::{Name, Uid};
-use std::alloc::Global;
+use std::alloc::{AllocError, Global};
 use std::io;
 use std::io::Write;
 use vault::{Head, MessageKey, Vault, VaultFault};
@@ -41,7 +43,8 @@ pub trait Folder {
 ///
 /// Gives the exit status, 0 or 1. A fault has status 1 and its text on `err`: there is no such
 /// maildrop, the store refuses, memory runs out, the folder refuses a file, `out` refuses octets.
-/// The files that were put before a fault stay; none is put in part.
+/// The files that were put before a fault stay; none is put in part. Only before the last of these
+/// faults all messages are put, and a beginning of the line may be on `out`.
 pub fn export<V: Vault, F: Folder, W: Write, E: Write>(
     alloc: Global,
     vault: &mut V,
@@ -55,6 +58,11 @@ pub fn export<V: Vault, F: Folder, W: Write, E: Write>(
     ensures whole { result ≡ 0 → (c : Contents) → V.holds vault.old c → V.is_clean vault.new → Takes (F.files folder.old) (F.files folder.new) (files_of maildrop.now c) }
     ensures told { result ≡ 0 → (c : Contents) → V.holds vault.old c → V.is_clean vault.new → Appends (W.contents out.old) (W.contents out.new) (export_line (length (files_of maildrop.now c))) }
     ensures part { (c : Contents) → V.holds vault.old c → V.is_clean vault.new → TakesFirst (F.files folder.old) (F.files folder.new) (files_of maildrop.now c) }
+    ensures last { (out.new ≡ out.old)
+        ⊎ ((c : Contents) → V.holds vault.old c → V.is_clean vault.new
+        → Takes (F.files folder.old) (F.files folder.new) (files_of maildrop.now c)
+        × PrintsPart (W.contents out.old) (W.contents out.new)
+        (export_line (length (files_of maildrop.now c)))) }
     ensures missing { (c : Contents) → V.holds vault.old c → V.is_clean vault.new → is_one_of maildrop.now c.maildrops ≡ false → result ≡ 1 }
     ensures held { (c : Contents) → V.holds vault.old c → V.is_clean vault.new → V.holds vault.new c }
     ensures clean { V.is_clean vault.new → V.is_clean vault.old }
@@ -76,16 +84,20 @@ fn put_maildrop<V: Vault, F: Folder, W: Write>(
     ensures whole { OnOk result ((c : Contents) → V.holds vault.old c → V.is_clean vault.new → Takes (F.files folder.old) (F.files folder.new) (files_of maildrop.now c)) }
     ensures told { OnOk result ((c : Contents) → V.holds vault.old c → V.is_clean vault.new → Appends (W.contents out.old) (W.contents out.new) (export_line (length (files_of maildrop.now c)))) }
     ensures part { (c : Contents) → V.holds vault.old c → V.is_clean vault.new → TakesFirst (F.files folder.old) (F.files folder.new) (files_of maildrop.now c) }
+    ensures last { (out.new ≡ out.old)
+        ⊎ ((c : Contents) → V.holds vault.old c → V.is_clean vault.new
+        → Takes (F.files folder.old) (F.files folder.new) (files_of maildrop.now c)
+        × PrintsPart (W.contents out.old) (W.contents out.new)
+        (export_line (length (files_of maildrop.now c)))) }
     ensures missing { (c : Contents) → V.holds vault.old c → V.is_clean vault.new → is_one_of maildrop.now c.maildrops ≡ false → IsErr result }
     ensures held { (c : Contents) → V.holds vault.old c → V.is_clean vault.new → V.holds vault.new c }
     ensures clean { V.is_clean vault.new → V.is_clean vault.old }
 {
     let heads = vault.heads(maildrop)?;
+    let line = count_line(alloc, heads.len())?;
     put_messages(alloc, vault, heads.as_slice(), folder)?;
-    match print_count(out, heads.len()) {
-        Ok(()) => Ok(()),
-        Err(_) => Err(Fault::CannotWrite),
-    }
+    print(out, line.as_bytes())?;
+    Ok(())
 }
 
 /// Puts the messages of these heads into a folder, in their order.
@@ -166,10 +178,9 @@ fn read_more<V: Vault>(vault: &mut V, key: MessageKey, text: &mut Vec<u8>) -> Re
     Ok(())
 }
 
-/// Prints how many messages were put.
-fn print_count<W: Write>(out: &mut W, count: usize) -> io::Result<()>
-    ensures { OnOk result (Appends (W.contents out.old) (W.contents out.new) (export_line count)) }
+/// The line that tells how many messages were put.
+fn count_line(alloc: Global, count: usize) -> Result<String, AllocError>
+    ensures { IfOk result (λ line. string_bytes line ≡ export_line count) }
 {
-    writeln!(out, "ok, {count} messages")?;
-    out.flush()
+    format!(in alloc; "ok, {count} messages\n")
 }

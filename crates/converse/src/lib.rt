@@ -4,6 +4,7 @@
 #![tactic(auto)]
 
 ghost use Rattle.converse.specs.Escapes.{IsReadBack};
+ghost use Rattle.converse.specs.Script.{AreToldByTheirLine};
 ghost use Rattle.converse.specs.Talk.{RemovesByQuitAlone};
 
 pub mod check_policy;
@@ -12,13 +13,20 @@ mod conversation;
 pub mod export;
 mod fault;
 mod fields;
+mod noted;
+mod printing;
+mod record;
 pub mod replay;
 pub mod review_policy;
 pub mod script;
+mod streams;
 pub mod talking;
 
 pub use conversation::{TalkFault, talk};
 pub use fault::{Fault, fault_text, put_fault, read_fault, tell_fault};
+pub use noted::Noted;
+pub use record::Record;
+pub use streams::{Sink, Source};
 
 /// A conversation removes what its QUIT removes, and nothing else.
 pub fn removes_by_quit_alone()
@@ -28,4 +36,9 @@ pub fn removes_by_quit_alone()
 /// Octets that are written as a script's TEXT are read as these octets.
 pub fn text_is_read_back()
     ensures { IsReadBack }
+{}
+
+/// A script's fault is told by the number of its first line of no form.
+pub fn faults_are_told_by_their_line()
+    ensures { AreToldByTheirLine }
 {}

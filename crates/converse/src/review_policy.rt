@@ -1,16 +1,16 @@
 //! `popbox review-policy`: prints what a policy means as a whole, and what it would change.
 
-ghost use Rattle.std.specs.Prelude.{◌≡◌, ◌≤◌, ◌⊎◌, IfOk, IfSome, OnOk, length};
-ghost use Rattle.std.specs.Io.KnownBytes.{Appends, WriteAppends};
+ghost use Rattle.std.specs.Prelude.{◌≡◌, ◌⊎◌, IfOk, IfSome, OnOk};
 ghost use Rattle.converse.specs.PolicyFile.{IsNoPolicyText};
-ghost use Rattle.converse.specs.Reviewed.{PrintsPart, TellsChange, TellsChangePart, TellsReview, TellsReviewPart, TellsStored, TellsStoredChange, TellsStoredChangePart, TellsStoredPart, status_of};
+ghost use Rattle.converse.specs.Reviewed.{TellsChange, TellsChangePart, TellsReview, TellsReviewPart, TellsStored, TellsStoredChange, TellsStoredChangePart, TellsStoredPart, status_of};
 
 use crate::check_policy::read_file;
 use crate::fault::{Fault, tell_fault};
+use crate::printing::print;
 use policy::Policy;
 use review::{Choice, Kept, review_against, review_policy, review_stored};
 use std::alloc::Global;
-use std::io::{ErrorKind, Read, Write};
+use std::io::{Read, Write};
 
 /// Reads a policy's file to its end, and prints the policy's review to `out`, which is flushed.
 ///
@@ -171,36 +171,4 @@ pub fn review_change_in_store<O: Read, R: Read, W: Write, E: Write>(
         Ok(before) => review_in_store(alloc, &before, kept, file, choice, out, err),
         Err(fault) => tell_fault(err, fault),
     }
-}
-
-/// Writes some of the text, which isn't empty, and gives how many octets: none where a signal broke
-/// in. An `Err` is a writer that refuses, or takes none.
-fn put_some<W: Write>(out: &mut W, text: &[u8]) -> Result<usize, Fault>
-    ensures bound { IfOk result (λ count. count ≤ length text.now) }
-    ensures bytes { WriteAppends (W.contents out.old) (W.contents out.new) result text.now }
-{
-    match out.write(text) {
-        Ok(0) => Err(Fault::CannotWrite),
-        Ok(count) => Ok(count),
-        Err(error) if error.kind() == ErrorKind::Interrupted => Ok(0),
-        Err(_) => Err(Fault::CannotWrite),
-    }
-}
-
-/// Prints a text, and flushes. After an `Err` a beginning of it may be printed.
-fn print<W: Write>(out: &mut W, text: &[u8]) -> Result<(), Fault>
-    ensures ok { OnOk result (Appends (W.contents out.old) (W.contents out.new) text.now) }
-    ensures part { PrintsPart (W.contents out.old) (W.contents out.new) text.now }
-{
-    let mut done: usize = 0;
-    for _ in 0..u64::MAX {
-        if done == text.len() {
-            return match out.flush() {
-                Ok(()) => Ok(()),
-                Err(_) => Err(Fault::CannotWrite),
-            };
-        }
-        done += put_some(out, &text[done..])?;
-    }
-    Err(Fault::CannotWrite)
 }

@@ -2,7 +2,7 @@
 //! the next read, and which fault it answers.
 
 use crate::offices::opened;
-use converse::{TalkFault, talk};
+use converse::{Noted, TalkFault, talk};
 use creds::Name;
 use office::{AdminCommand, Answer, Event, Office, Outcome};
 use std::alloc::Global;
@@ -44,14 +44,14 @@ impl Read for Lines<'_> {
 
 /// A writer that takes `most` octets a call and counts them. It fails after so many calls.
 #[derive(Drop)]
-struct Counted<'a> {
+struct Noted<'a> {
     text: Vec<u8>,
     most: usize,
     calls: usize,
     written: &'a Cell<usize>,
 }
 
-impl Write for Counted<'_> {
+impl Write for Noted<'_> {
     fn write(&mut self, octets: &[u8]) -> io::Result<usize> {
         if self.calls == 0 {
             return Err(ErrorKind::BrokenPipe.into());
@@ -68,12 +68,21 @@ impl Write for Counted<'_> {
     }
 }
 
+/// Has a conversation, from a reader and to a writer.
+fn talked<R: Read, W: Write>(
+    office: &mut Office<PlainVault>,
+    reader: &mut R,
+    writer: &mut W,
+) -> Result<(), TalkFault> {
+    talk(office, &mut Noted::new(reader), &mut Noted::new(writer))
+}
+
 /// Whether a client that sends these lines, and then nothing more, is sent this text, and its
 /// connection is then over.
 fn says(alloc: Global, office: &mut Office<PlainVault>, lines: &[u8], want: &str) -> bool {
     let mut text = Vec::new(alloc);
     let mut reader = lines;
-    talk(office, &mut reader, &mut text).is_ok()
+    talked(office, &mut reader, &mut text).is_ok()
         && text.as_slice() == want.as_bytes()
         && office.ended(1)
 }
@@ -160,13 +169,13 @@ fn is_prompt(alloc: Global, office: &mut Office<PlainVault>, most: usize) -> boo
         calls: 100,
         written: &written,
     };
-    let mut writer = Counted {
+    let mut writer = Noted {
         text: Vec::new(alloc),
         most,
         calls: 1000,
         written: &written,
     };
-    talk(office, &mut reader, &mut writer).is_ok() && writer.text.as_slice() == MARKED.as_bytes()
+    talked(office, &mut reader, &mut writer).is_ok() && writer.text.as_slice() == MARKED.as_bytes()
 }
 
 #[test]
@@ -224,13 +233,13 @@ fn is_told(
         calls: reads,
         written: &written,
     };
-    let mut writer = Counted {
+    let mut writer = Noted {
         text: Vec::new(alloc),
         most,
         calls: writes,
         written: &written,
     };
-    talk(office, &mut reader, &mut writer).err() == fault
+    talked(office, &mut reader, &mut writer).err() == fault
         && FINISHED.as_bytes().starts_with(writer.text.as_slice())
         && (fault.is_some() || writer.text.len() == FINISHED.len())
         && office.ended(1)
@@ -254,7 +263,7 @@ fn each_call_refused(rt: HostRuntime) -> Result<(), Fail> {
 fn is_refused(alloc: Global, office: &mut Office<PlainVault>) -> bool {
     let mut text = Vec::new(alloc);
     let mut reader = b"QUIT\r\n".as_slice();
-    talk(office, &mut reader, &mut text) == Err(TalkFault::TooManyConnections)
+    talked(office, &mut reader, &mut text) == Err(TalkFault::TooManyConnections)
         && text.is_empty()
         && reader.len() == 6
 }

@@ -19,7 +19,7 @@ use converse::check_policy::check_policy;
 use converse::replay::replay;
 use converse::script::{ScriptFault, read_script};
 use converse::talking::talk;
-use converse::{Fault, tell_fault};
+use converse::{Noted, Fault, tell_fault};
 use journal::FileId;
 use looking::run_review;
 use resting::{run_check, run_export};
@@ -298,9 +298,11 @@ fn run_over<V: Vault, S: Read, E: Write>(
             talk_verbosely(rt, input, vault, host, boot, removals, err)
         }
         Job::Talk(boot) => {
-            let mut out = io::writer(rt);
+            let (mut input, mut out) = (Noted::new(input), Noted::new(io::writer(rt)));
             let alloc = rt.alloc();
-            let (status, vault) = talk(alloc, vault, host, boot, removals, input, &mut out, err);
+            let (status, vault) = talk(
+                alloc, vault, host, boot, removals, &mut input, &mut out, err,
+            );
             (Ok(status), vault)
         }
         Job::Serve(boot, at, before) => {
@@ -398,15 +400,16 @@ fn talk_verbosely<V: Vault, S: Read, E: Write>(
     err: &mut E,
 ) -> (Result<u8, Fault>, V) {
     let mut out = io::writer(rt);
-    let (mut input, mut out) = (Watched::new(input), Watched::new(&mut out));
+    let mut input = Noted::new(Watched::new(input));
+    let mut out = Noted::new(Watched::new(&mut out));
     let alloc = rt.alloc();
     let (status, vault) = talk(
         alloc, vault, host, boot, removals, &mut input, &mut out, err,
     );
     if status != 0 {
         tell_host(err, host);
-        tell_refusal(err, STANDARD_INPUT, input.refusal());
-        tell_refusal(err, "standard output", out.refusal());
+        tell_refusal(err, STANDARD_INPUT, input.inner.refusal());
+        tell_refusal(err, "standard output", out.inner.refusal());
     }
     (Ok(status), vault)
 }

@@ -268,7 +268,7 @@ fn check_over<V: Vault, E: Write>(
         version: VERSION as u64,
         octets,
     };
-    let status = check_store(vault, clerks, &file, &mut out, err);
+    let status = check_store(alloc, vault, clerks, &file, &mut out, err);
     if is_verbose(options) {
         tell_refusal(err, "standard output", out.refusal());
     }

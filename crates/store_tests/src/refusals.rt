@@ -1,8 +1,8 @@
 //! A store that isn't adopted because a transaction is under way, and conversations that are broken
 //! off.
 
-use converse::fault_text;
 use converse::talking::talk;
+use converse::{Noted, fault_text};
 use session::Removals;
 use sqlite::{Connection, MemStore};
 use sqlvault::SqlVault;
@@ -38,7 +38,17 @@ fn a_store_in_a_transaction_is_refused(rt: HostRuntime) -> Result<(), Fail> {
 fn is_broken_off<W: Write>(alloc: Global, writer: &mut W, err: &mut Vec<u8>) -> bool {
     let vault = PlainVault::new(alloc);
     let removals = Removals::JudgedAtDele;
-    let (status, _) = talk(alloc, vault, "h", 1, removals, &mut Refusing, writer, err);
+    let (mut reader, mut writer) = (Noted::new(Refusing), Noted::new(writer));
+    let (status, _) = talk(
+        alloc,
+        vault,
+        "h",
+        1,
+        removals,
+        &mut reader,
+        &mut writer,
+        err,
+    );
     status == 1
 }
 

@@ -18,6 +18,6 @@ returns-clause-began g c = λ T st clean.
       stands = c.step.ensures.stands T st clean;
       own = record { opening = mark_of (outcome_seen c.step.result); own = []; each = refl; is = refl };
       caused = caused_one (g.V.Vault.faults (vault_of c.args.office.now)) (g.V.Vault.faults (vault_of c.step.new.self)) T event.Connect (outcome_seen c.step.result) (c.step.ensures.cause T st clean);
-      so = subst (λ r. MatchResult r (λ n. (n ≡ next_number T.log) × GoesOn T.base (next_number T.log) (acts T) [] [] log) (λ e. Refuses T e log)) (sym c.opened.ensures)
+      so = subst (λ r. MatchResult r (λ n. (n ≡ next_number T.log) × GoesOn T.base (next_number T.log) (acts T) [] [] log) (λ e. Refuses T e log)) (sym c.opened.ensures.is)
           (connects T (lent_by c.args.office.now) (outcome_seen c.step.result) (c.step.ensures.outcome T st clean));
     })

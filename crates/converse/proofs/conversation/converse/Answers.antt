@@ -2,10 +2,13 @@ use Rattle.std.proofs.Common.{rules, ◌≡◌, ◌++◌, ◌<◌, length, lengt
 use Rattle.std.specs.Io.KnownBytes.{IsAtEnd}
 use Rattle.office.specs.Trace.{acts}
 use Rattle.office.specs.Stands.{vault_of}
+use Rattle.converse.specs.Streams.{reads_failed, writes_failed}
 use Rattle.converse.specs.Talked.{IsEndless}
 use Rattle.converse.specs.Conversing.{GoesOn, Waits, IsOver, IsCut, Breaks}
 use Rattle.converse.proofs.Ends.{goes_broken}
-use Rattle.converse.proofs.Clauses.{talked_none, appends_then, consumes_then, refused_as, so_by, talked_then, talked_waits, talked_over, none_written, some_written}
+use Rattle.converse.proofs.Clauses.{refused_as, none_written, some_written}
+use Rattle.converse.proofs.Streaming.{reads_then, writes_then, reads_failed_then, writes_failed_then, failed_more, handed_on}
+use Rattle.converse.proofs.SoFar.{talked_none, so_by, talked_then, talked_waits, talked_over}
 use Rattle.converse.proofs.conversation.converse.Goals as goal
 
 pub returns-in_err-write_owed-clause-talked : goal.returns-in_err-write_owed-clause-talked
@@ -16,15 +19,15 @@ returns-in_err-write_owed-clause-talked g c =
     let d = c.in_err-write_owed.ensures.wrote in (
       s.octets,
       s.written ++ d.0,
-      s.consumes,
-      appends_then _ _ _ s.written d.0 s.appends d.1,
+      s.reads,
+      writes_then _ _ _ s.written d.0 s.writes d.1,
       talked_then g.V.Vault.holds g.V.Vault.faults g.V.Vault.is_clean c.args.office.now c.loop.office c.write_owed.new.office c.args.c _ _ _ _ c.loop.counter s d.0
-          (λ before T octets written L. MatchResult c.from_residual.result (λ _. (Waits T.base c.args.c (acts T) octets written L × IsAtEnd (g.R.Read.remaining c.loop.reader)) ⊎ IsOver before (g.V.Vault.faults (vault_of c.write_owed.new.office)) T.base c.args.c (acts T) octets written L) (λ x. IsCut x T.base c.args.c (acts T) octets written L))
+          (λ before T octets written L. MatchResult c.from_residual.result (λ _. (Waits T.base c.args.c (acts T) octets written L × IsAtEnd (g.R.Source.seen c.loop.reader).left) ⊎ IsOver before (g.V.Vault.faults (vault_of c.write_owed.new.office)) T.base c.args.c (acts T) octets written L) (λ x. IsCut x T.base c.args.c (acts T) octets written L))
           c.in_err-write_owed.ensures.clean
           (λ before T octets written first clean w. so_by g.V.Vault.holds g.V.Vault.faults g.V.Vault.is_clean c.write_owed.new.office T c.args.c
           (λ L. IsCut f T.base c.args.c (acts T) octets (written ++ d.0) L)
-          (λ L. MatchResult c.from_residual.result (λ _. (Waits T.base c.args.c (acts T) octets (written ++ d.0) L × IsAtEnd (g.R.Read.remaining c.loop.reader)) ⊎ IsOver before (g.V.Vault.faults (vault_of c.write_owed.new.office)) T.base c.args.c (acts T) octets (written ++ d.0) L) (λ x. IsCut x T.base c.args.c (acts T) octets (written ++ d.0) L))
-          (λ L h. subst (λ r. MatchResult r (λ _. (Waits T.base c.args.c (acts T) octets (written ++ d.0) L × IsAtEnd (g.R.Read.remaining c.loop.reader)) ⊎ IsOver before (g.V.Vault.faults (vault_of c.write_owed.new.office)) T.base c.args.c (acts T) octets (written ++ d.0) L) (λ x. IsCut x T.base c.args.c (acts T) octets (written ++ d.0) L)) (sym e) h)
+          (λ L. MatchResult c.from_residual.result (λ _. (Waits T.base c.args.c (acts T) octets (written ++ d.0) L × IsAtEnd (g.R.Source.seen c.loop.reader).left) ⊎ IsOver before (g.V.Vault.faults (vault_of c.write_owed.new.office)) T.base c.args.c (acts T) octets (written ++ d.0) L) (λ x. IsCut x T.base c.args.c (acts T) octets (written ++ d.0) L))
+          (λ L h. subst (λ r. MatchResult r (λ _. (Waits T.base c.args.c (acts T) octets (written ++ d.0) L × IsAtEnd (g.R.Source.seen c.loop.reader).left) ⊎ IsOver before (g.V.Vault.faults (vault_of c.write_owed.new.office)) T.base c.args.c (acts T) octets (written ++ d.0) L) (λ x. IsCut x T.base c.args.c (acts T) octets (written ++ d.0) L)) (sym e) h)
           (d.2 before T octets written first clean w)),
     )
 
@@ -35,11 +38,11 @@ returns-then-ended-clause-talked g c =
     let now = g.V.Vault.faults (vault_of c.write_owed.new.office) in (
       s.octets,
       s.written ++ d.0,
-      s.consumes,
-      appends_then _ _ _ s.written d.0 s.appends d.1,
+      s.reads,
+      writes_then _ _ _ s.written d.0 s.writes d.1,
       λ before T first clean w. so_by g.V.Vault.holds g.V.Vault.faults g.V.Vault.is_clean c.write_owed.new.office T c.args.c
           (IsOver before now T.base c.args.c (acts T) s.octets (s.written ++ d.0))
-          (λ L. (Waits T.base c.args.c (acts T) s.octets (s.written ++ d.0) L × IsAtEnd (g.R.Read.remaining c.loop.reader)) ⊎ IsOver before now T.base c.args.c (acts T) s.octets (s.written ++ d.0) L)
+          (λ L. (Waits T.base c.args.c (acts T) s.octets (s.written ++ d.0) L × IsAtEnd (g.R.Source.seen c.loop.reader).left) ⊎ IsOver before now T.base c.args.c (acts T) s.octets (s.written ++ d.0) L)
           (λ L h. inr h)
           (talked_over g.V.Vault.holds g.V.Vault.faults g.V.Vault.is_clean c.args.office.now c.loop.office c.write_owed.new.office c.args.c _ _ _ _ c.loop.counter s d.0
           c.in_ok-write_owed.ensures.clean d.2 c.ended.result c.ended.ensures c.if-ended.true before T first clean w),
@@ -57,12 +60,12 @@ returns-in_err-listen-clause-talked g c =
     let now = g.V.Vault.faults (vault_of c.listen.new.office) in (
       s.octets ++ q.0,
       s.written ++ d.0,
-      consumes_then _ _ _ s.octets q.0 s.consumes q.1,
-      appends_then _ _ _ s.written d.0 s.appends d.1,
+      reads_then _ _ _ s.octets q.0 s.reads q.1,
+      writes_then _ _ _ s.written d.0 s.writes d.1,
       λ before T first clean w. so_by g.V.Vault.holds g.V.Vault.faults g.V.Vault.is_clean c.listen.new.office T c.args.c
           (λ L. IsCut f T.base c.args.c (acts T) (s.octets ++ q.0) (s.written ++ d.0) L)
-          (λ L. MatchResult c.from_residual-in_err-listen.result (λ _. (Waits T.base c.args.c (acts T) (s.octets ++ q.0) (s.written ++ d.0) L × IsAtEnd (g.R.Read.remaining c.listen.new.reader)) ⊎ IsOver before now T.base c.args.c (acts T) (s.octets ++ q.0) (s.written ++ d.0) L) (λ x. IsCut x T.base c.args.c (acts T) (s.octets ++ q.0) (s.written ++ d.0) L))
-          (λ L h. subst (λ r. MatchResult r (λ _. (Waits T.base c.args.c (acts T) (s.octets ++ q.0) (s.written ++ d.0) L × IsAtEnd (g.R.Read.remaining c.listen.new.reader)) ⊎ IsOver before now T.base c.args.c (acts T) (s.octets ++ q.0) (s.written ++ d.0) L) (λ x. IsCut x T.base c.args.c (acts T) (s.octets ++ q.0) (s.written ++ d.0) L)) (sym e) h)
+          (λ L. MatchResult c.from_residual-in_err-listen.result (λ _. (Waits T.base c.args.c (acts T) (s.octets ++ q.0) (s.written ++ d.0) L × IsAtEnd (g.R.Source.seen c.listen.new.reader).left) ⊎ IsOver before now T.base c.args.c (acts T) (s.octets ++ q.0) (s.written ++ d.0) L) (λ x. IsCut x T.base c.args.c (acts T) (s.octets ++ q.0) (s.written ++ d.0) L))
+          (λ L h. subst (λ r. MatchResult r (λ _. (Waits T.base c.args.c (acts T) (s.octets ++ q.0) (s.written ++ d.0) L × IsAtEnd (g.R.Source.seen c.listen.new.reader).left) ⊎ IsOver before now T.base c.args.c (acts T) (s.octets ++ q.0) (s.written ++ d.0) L) (λ x. IsCut x T.base c.args.c (acts T) (s.octets ++ q.0) (s.written ++ d.0) L)) (sym e) h)
           (q.4 before T s.octets (s.written ++ d.0) (omega (arith, first, up, up2)) clean
           (talked_waits g.V.Vault.holds g.V.Vault.faults g.V.Vault.is_clean c.args.office.now c.loop.office c.write_owed.new.office c.args.c _ _ _ _ c.loop.counter s d.0
           c.in_ok-write_owed.ensures.clean d.2 c.ended.result c.ended.ensures c.if-ended.false before T first (c.in_err-listen.ensures.clean clean) w)),
@@ -80,11 +83,11 @@ returns-then-not-branch-clause-talked g c =
     let now = g.V.Vault.faults (vault_of c.listen.new.office) in (
       s.octets ++ q.0,
       s.written ++ d.0,
-      consumes_then _ _ _ s.octets q.0 s.consumes q.1,
-      appends_then _ _ _ s.written d.0 s.appends d.1,
+      reads_then _ _ _ s.octets q.0 s.reads q.1,
+      writes_then _ _ _ s.written d.0 s.writes d.1,
       λ before T first clean w. so_by g.V.Vault.holds g.V.Vault.faults g.V.Vault.is_clean c.listen.new.office T c.args.c
           (λ L. cond b (GoesOn T.base c.args.c (acts T) (s.octets ++ q.0) (s.written ++ d.0) L) (Waits T.base c.args.c (acts T) (s.octets ++ q.0) (s.written ++ d.0) L))
-          (λ L. (Waits T.base c.args.c (acts T) (s.octets ++ q.0) (s.written ++ d.0) L × IsAtEnd (g.R.Read.remaining c.listen.new.reader)) ⊎ IsOver before now T.base c.args.c (acts T) (s.octets ++ q.0) (s.written ++ d.0) L)
+          (λ L. (Waits T.base c.args.c (acts T) (s.octets ++ q.0) (s.written ++ d.0) L × IsAtEnd (g.R.Source.seen c.listen.new.reader).left) ⊎ IsOver before now T.base c.args.c (acts T) (s.octets ++ q.0) (s.written ++ d.0) L)
           (λ L h. inl (none_written b (λ L. GoesOn T.base c.args.c (acts T) (s.octets ++ q.0) (s.written ++ d.0) L) (λ L. Waits T.base c.args.c (acts T) (s.octets ++ q.0) (s.written ++ d.0) L) L off h, q.3 (ap (λ x. Ok x) off)))
           (q.4 before T s.octets (s.written ++ d.0) (omega (arith, first, up, up2)) clean
           (talked_waits g.V.Vault.holds g.V.Vault.faults g.V.Vault.is_clean c.args.office.now c.loop.office c.write_owed.new.office c.args.c _ _ _ _ c.loop.counter s d.0
@@ -106,8 +109,8 @@ loop-preserved g c =
     record {
       octets = s.octets ++ q.0;
       written = s.written ++ d.0;
-      consumes = consumes_then _ _ _ s.octets q.0 s.consumes q.1;
-      appends = appends_then _ _ _ s.written d.0 s.appends d.1;
+      reads = reads_then _ _ _ s.octets q.0 s.reads q.1;
+      writes = writes_then _ _ _ s.written d.0 s.writes d.1;
       enough = omega (arith, some, long, length-append s.octets q.0);
       stands = λ before T first clean w. so_by g.V.Vault.holds g.V.Vault.faults g.V.Vault.is_clean c.listen.new.office T c.args.c
           (λ L. cond b (GoesOn T.base c.args.c (acts T) (s.octets ++ q.0) (s.written ++ d.0) L) (Waits T.base c.args.c (acts T) (s.octets ++ q.0) (s.written ++ d.0) L))
@@ -127,8 +130,8 @@ returns-clause-talked g c =
     let over = c.loop-test.false in (
       s.octets,
       s.written,
-      s.consumes,
-      s.appends,
+      s.reads,
+      s.writes,
       λ before T first clean w. so_by g.V.Vault.holds g.V.Vault.faults g.V.Vault.is_clean c.loop.office T c.args.c
           (GoesOn T.base c.args.c (acts T) s.octets s.written)
           (λ L. Breaks T.base c.args.c (acts T) s.octets s.written false L × IsEndless s.octets s.written)
@@ -137,7 +140,7 @@ returns-clause-talked g c =
     )
 
 pub loop-init : goal.loop-init
-loop-init g c = talked_none g.V.Vault.holds g.V.Vault.faults g.V.Vault.is_clean c.args.office.now c.args.c (g.R.Read.remaining c.args.reader.now) (g.W.Write.contents c.args.writer.now)
+loop-init g c = talked_none g.V.Vault.holds g.V.Vault.faults g.V.Vault.is_clean c.args.office.now c.args.c (g.R.Source.seen c.args.reader.now) (g.W.Sink.seen c.args.writer.now)
 
 pub returns-in_err-write_owed-clause-counted : goal.returns-in_err-write_owed-clause-counted
 returns-in_err-write_owed-clause-counted g c = search rules
@@ -168,3 +171,25 @@ returns-clause-counted g c = search rules
 
 pub returns-clause-clean : goal.returns-clause-clean
 returns-clause-clean g c = search rules
+
+pub returns-in_err-write_owed-clause-failed : goal.returns-in_err-write_owed-clause-failed
+returns-in_err-write_owed-clause-failed g c =
+    let f = c.in_err-write_owed.field-0.0 in
+    let s = c.loop.invariant in
+    let first = g.W.Sink.seen c.args.writer.now in
+    let before = g.W.Sink.seen c.loop.writer in
+    let now = g.W.Sink.seen c.write_owed.new.writer in
+    let reads = reads_failed (g.R.Source.seen c.args.reader.now) (g.R.Source.seen c.loop.reader) in
+    handed_on reads (writes_failed first now) c.from_residual.result f c.from_residual.ensures.1
+    (failed_more false (writes_failed before now) reads (writes_failed first now) f (λ q. absurd (cc)) (λ q. writes_failed_then first before now s.written s.writes q) c.in_err-write_owed.ensures.failed)
+
+pub returns-in_err-listen-clause-failed : goal.returns-in_err-listen-clause-failed
+returns-in_err-listen-clause-failed g c =
+    let f = c.in_err-listen.field-0.0 in
+    let s = c.loop.invariant in
+    let first = g.R.Source.seen c.args.reader.now in
+    let before = g.R.Source.seen c.loop.reader in
+    let now = g.R.Source.seen c.listen.new.reader in
+    let writes = writes_failed (g.W.Sink.seen c.args.writer.now) (g.W.Sink.seen c.write_owed.new.writer) in
+    handed_on (reads_failed first now) writes c.from_residual-in_err-listen.result f c.from_residual-in_err-listen.ensures.1
+    (failed_more (reads_failed before now) false (reads_failed first now) writes f (λ q. reads_failed_then first before now s.octets s.reads q) (λ q. absurd (cc)) c.in_err-listen.ensures.failed)

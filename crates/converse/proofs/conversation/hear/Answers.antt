@@ -20,6 +20,6 @@ returns-clause-heard g c = λ before T octets written first clean w.
       own = one_heard c.args.c T.log w.log piece (mark_of (outcome_seen c.step.result)) w.own;
       caused = caused_next before (g.V.Vault.faults (vault_of c.args.office.now)) (g.V.Vault.faults (vault_of c.step.new.self)) T w.log (event.Bytes c.args.c piece) (outcome_seen c.step.result) first c.step.ensures.counted w.caused
           (c.step.ensures.cause (trace_of T.base w.log) w.stands clean);
-      so = subst (λ r. MatchResult r (λ _. GoesOn T.base c.args.c (acts T) (octets ++ piece) written log) (λ e. IsCut e T.base c.args.c (acts T) (octets ++ piece) written log)) (sym c.had_memory.ensures)
+      so = subst (λ r. MatchResult r (λ _. GoesOn T.base c.args.c (acts T) (octets ++ piece) written log) (λ e. IsCut e T.base c.args.c (acts T) (octets ++ piece) written log)) (sym c.had_memory.ensures.is)
           (hears T.base c.args.c (acts T) octets written piece w.log w.so c.requires (lent_by c.args.office.now) (outcome_seen c.step.result) (c.step.ensures.outcome (trace_of T.base w.log) w.stands clean));
     })

@@ -1,13 +1,14 @@
 use Rattle.std.proofs.Common.{rules, ◌≡◌, [], ◌++◌, ℕ, List, take, cond, MatchResult, Err, sym, subst, append-nil, true, false}
 use Rattle.office.specs.Trace.{acts}
 use Rattle.converse.specs.Conversing.{GoesOn, Waits, IsCut}
-use Rattle.converse.proofs.Clauses.{consumes_none, refused_as, not_ok}
+use Rattle.converse.proofs.Clauses.{refused_as, not_ok}
+use Rattle.converse.proofs.Streaming.{failed_none, handed_on}
 use Rattle.converse.proofs.conversation.listen.Goals as goal
 
 pub returns-in_default-clause-read : goal.returns-in_default-clause-read
 returns-in_default-clause-read g c = (
   [],
-  consumes_none _ _ c.in_default.ensures.bytes,
+  c.in_default.ensures.given.0,
   (λ e. absurd (cc)),
   (λ e. absurd (cc)),
   λ before T octets written first clean w.
@@ -18,9 +19,9 @@ pub returns-in_err-hear-clause-read : goal.returns-in_err-hear-clause-read
 returns-in_err-hear-clause-read g c =
     let f = c.in_err-hear.field-0.0 in
     let e : c.from_residual.result ≡ Err f = refused_as c.from_residual.result f c.from_residual.ensures.1 in
-    let piece = take c.in-Ok.count c.read.new.buf in (
+    let piece = take c.in-Ok.count c.read.new.room in (
       piece,
-      c.in-Ok.ensures.bytes.0,
+      c.in-Ok.ensures.given.0,
       (λ q. absurd (not_ok c.from_residual.result f true e q)),
       (λ q. absurd (not_ok c.from_residual.result f false e q)),
       λ before T octets written first clean w.
@@ -63,3 +64,11 @@ returns-clause-clean g c = search rules
 
 pub returns-clause-read : goal.returns-clause-read
 returns-clause-read g c = search rules
+
+pub returns-in_default-clause-failed : goal.returns-in_default-clause-failed
+returns-in_default-clause-failed g c = c.in_default.ensures.given.1
+
+pub returns-in_err-hear-clause-failed : goal.returns-in_err-hear-clause-failed
+returns-in_err-hear-clause-failed g c =
+    let f = c.in_err-hear.field-0.0 in
+    handed_on _ _ c.from_residual.result f c.from_residual.ensures.1 (failed_none _ _ f c.in_err-hear.ensures.failed)

@@ -10,19 +10,21 @@ use Rattle.office.specs.Stands.{vault_of, lent_by}
 use Rattle.converse.specs.Talked.{trace_of, Extends, StandsSo, ComesOut}
 use Rattle.converse.specs.Conversing.{GoesOn, Refuses}
 use Rattle.converse.proofs.Playing.{caused_next}
-use Rattle.converse.proofs.Clauses.{appends_none, consumes_none, keeps_same, refused_as, so_by, one_gone, refused_out, comes_out}
+use Rattle.converse.proofs.Clauses.{refused_as, one_gone, refused_out, comes_out}
+use Rattle.converse.proofs.Streaming.{reads_none, writes_none, failed_none, handed_on}
+use Rattle.converse.proofs.SoFar.{so_by}
 use Rattle.converse.proofs.conversation.talk.Goals as goal
 
 pub returns-in_err-c-clause-talked : goal.returns-in_err-c-clause-talked
 returns-in_err-c-clause-talked g c =
     let f = c.in_err-c.field-0.0 in
     let e : c.from_residual.result ≡ Err f = refused_as c.from_residual.result f c.from_residual.ensures.1 in
-    let AtEnd = IsAtEnd (g.R.Read.remaining c.args.reader.now) in
+    let AtEnd = IsAtEnd (g.R.Source.seen c.args.reader.now).left in
     let grown = has_grown (g.V.Vault.faults (vault_of c.args.office.now)) (g.V.Vault.faults (vault_of c.connect.new.office)) in (
       [],
       [],
-      consumes_none _ _ (keeps_same _),
-      appends_none _ _ (keeps_same _),
+      reads_none _,
+      writes_none _,
       λ T st clean. so_by g.V.Vault.holds g.V.Vault.faults g.V.Vault.is_clean c.connect.new.office T (next_number T.log)
           (λ L. Refuses T f L)
           (λ L. ComesOut AtEnd grown T (next_number T.log) [] [] c.from_residual.result L)
@@ -35,7 +37,7 @@ returns-clause-talked g c =
     let n = c.in_ok-c.c in
     let d = c.converse-talked.ensures.talked in
     let r = c.converse-talked.result in
-    let AtEnd = IsAtEnd (g.R.Read.remaining c.converse-talked.new.reader) in
+    let AtEnd = IsAtEnd (g.R.Source.seen c.converse-talked.new.reader).left in
     let first = g.V.Vault.faults (vault_of c.args.office.now) in
     let during = g.V.Vault.faults (vault_of c.converse-talked.new.office) in
     let now = g.V.Vault.faults (vault_of c.step.new.self) in (
@@ -75,3 +77,11 @@ returns-clause-counted g c = search rules
 
 pub returns-clause-clean : goal.returns-clause-clean
 returns-clause-clean g c = search rules
+
+pub returns-in_err-c-clause-failed : goal.returns-in_err-c-clause-failed
+returns-in_err-c-clause-failed g c =
+    let f = c.in_err-c.field-0.0 in
+    handed_on _ _ c.from_residual.result f c.from_residual.ensures.1 (failed_none _ _ f c.in_err-c.ensures.failed)
+
+pub returns-clause-failed : goal.returns-clause-failed
+returns-clause-failed g c = c.converse-talked.ensures.failed

@@ -1,10 +1,13 @@
 use Rattle.std.proofs.Common.{rules, false, ◌≡◌, ◌++◌, ◌<◌, length, length-append, cond, MatchResult, Err, Ok, sym, ap, subst, arith, true, inr}
 use Rattle.office.specs.Trace.{acts}
 use Rattle.office.specs.Stands.{vault_of}
+use Rattle.converse.specs.Streams.{writes_failed}
 use Rattle.converse.specs.Talked.{IsEndless}
 use Rattle.converse.specs.Conversing.{Midway, IsPaid, IsCut, Breaks}
 use Rattle.converse.proofs.Ends.{midway_broken}
-use Rattle.converse.proofs.Clauses.{wrote_none, appends_then, appends_kept, refused_as, so_by, wrote_then, none_written, some_written}
+use Rattle.converse.proofs.Clauses.{refused_as, none_written, some_written}
+use Rattle.converse.proofs.Streaming.{writes_then, writes_kept, writes_failed_then, failed_more, handed_on}
+use Rattle.converse.proofs.SoFar.{wrote_none, so_by, wrote_then}
 use Rattle.converse.proofs.conversation.write_owed.Goals as goal
 
 pub returns-in_err-write_some-clause-wrote : goal.returns-in_err-write_some-clause-wrote
@@ -15,7 +18,7 @@ returns-in_err-write_some-clause-wrote g c =
     let d = c.in_err-write_some.ensures.wrote in
     let now = g.V.Vault.faults (vault_of c.write_some.new.office) in (
       s.more ++ d.0,
-      appends_then _ _ _ s.more d.0 s.appends d.1,
+      writes_then _ _ _ s.more d.0 s.writes d.1,
       wrote_then g.V.Vault.holds g.V.Vault.faults g.V.Vault.is_clean c.args.office.now c.loop.office c.write_some.new.office c.args.c _ _ c.loop.counter s d.0
           (λ before T octets written L. MatchResult c.from_residual.result (λ _. IsPaid before now T.base c.args.c (acts T) octets written L) (λ x. IsCut x T.base c.args.c (acts T) octets written L))
           c.in_err-write_some.ensures.clean
@@ -33,7 +36,7 @@ returns-in_default-clause-wrote g c =
     let d = c.in_ok-write_some.ensures.wrote in
     let now = g.V.Vault.faults (vault_of c.write_some.new.office) in (
       s.more ++ d.0,
-      appends_kept _ _ _ (s.more ++ d.0) (appends_then _ _ _ s.more d.0 s.appends d.1) c.in_default.ensures.bytes,
+      writes_kept _ _ _ (s.more ++ d.0) (writes_then _ _ _ s.more d.0 s.writes d.1) c.in_default.ensures.flushed.0,
       wrote_then g.V.Vault.holds g.V.Vault.faults g.V.Vault.is_clean c.args.office.now c.loop.office c.write_some.new.office c.args.c _ _ c.loop.counter s d.0
           (λ before T octets written L. Breaks T.base c.args.c (acts T) octets written false L)
           c.in_ok-write_some.ensures.clean
@@ -52,7 +55,7 @@ returns-then-not-branch-clause-wrote g c =
     let d = c.in_ok-write_some.ensures.wrote in
     let now = g.V.Vault.faults (vault_of c.write_some.new.office) in (
       s.more ++ d.0,
-      appends_kept _ _ _ (s.more ++ d.0) (appends_then _ _ _ s.more d.0 s.appends d.1) c.in-Ok.ensures.bytes,
+      writes_kept _ _ _ (s.more ++ d.0) (writes_then _ _ _ s.more d.0 s.writes d.1) c.in-Ok.ensures.flushed,
       wrote_then g.V.Vault.holds g.V.Vault.faults g.V.Vault.is_clean c.args.office.now c.loop.office c.write_some.new.office c.args.c _ _ c.loop.counter s d.0
           (λ before T octets written L. IsPaid before now T.base c.args.c (acts T) octets written L)
           c.in_ok-write_some.ensures.clean
@@ -76,7 +79,7 @@ loop-preserved g c =
     let long = s.enough in
     record {
       more = s.more ++ d.0;
-      appends = appends_then _ _ _ s.more d.0 s.appends d.1;
+      writes = writes_then _ _ _ s.more d.0 s.writes d.1;
       enough = omega (arith, some, long, length-append s.more d.0);
       stands = wrote_then g.V.Vault.holds g.V.Vault.faults g.V.Vault.is_clean c.args.office.now c.loop.office c.write_some.new.office c.args.c _ _ c.loop.counter s d.0
           (λ before T octets written L. Midway before now T.base c.args.c (acts T) octets written L)
@@ -97,7 +100,7 @@ returns-clause-wrote g c =
     let long = s.enough in
     let over = c.loop-test.false in (
       s.more,
-      s.appends,
+      s.writes,
       λ before T octets written first clean w. so_by g.V.Vault.holds g.V.Vault.faults g.V.Vault.is_clean c.loop.office T c.args.c
           (λ L. Midway before now T.base c.args.c (acts T) octets (written ++ s.more) L)
           (λ L. Breaks T.base c.args.c (acts T) octets (written ++ s.more) false L × IsEndless octets (written ++ s.more))
@@ -106,7 +109,7 @@ returns-clause-wrote g c =
     )
 
 pub loop-init : goal.loop-init
-loop-init g c = wrote_none g.V.Vault.holds g.V.Vault.faults g.V.Vault.is_clean c.args.office.now c.args.c (g.W.Write.contents c.args.writer.now)
+loop-init g c = wrote_none g.V.Vault.holds g.V.Vault.faults g.V.Vault.is_clean c.args.office.now c.args.c (g.W.Sink.seen c.args.writer.now)
 
 pub returns-in_err-write_some-clause-counted : goal.returns-in_err-write_some-clause-counted
 returns-in_err-write_some-clause-counted g c = search rules
@@ -131,3 +134,23 @@ returns-clause-counted g c = search rules
 
 pub returns-clause-clean : goal.returns-clause-clean
 returns-clause-clean g c = search rules
+
+pub returns-in_err-write_some-clause-failed : goal.returns-in_err-write_some-clause-failed
+returns-in_err-write_some-clause-failed g c =
+    let f = c.in_err-write_some.field-0.0 in
+    let s = c.loop.invariant in
+    let first = g.W.Sink.seen c.args.writer.now in
+    let before = g.W.Sink.seen c.loop.writer in
+    let now = g.W.Sink.seen c.write_some.new.writer in
+    handed_on false (writes_failed first now) c.from_residual.result f c.from_residual.ensures.1
+    (failed_more false (writes_failed before now) false (writes_failed first now) f (λ q. q) (λ q. writes_failed_then first before now s.more s.writes q) c.in_err-write_some.ensures.failed)
+
+pub returns-in_default-clause-failed : goal.returns-in_default-clause-failed
+returns-in_default-clause-failed g c =
+    let s = c.loop.invariant in
+    let d = c.in_ok-write_some.ensures.wrote in
+    let first = g.W.Sink.seen c.args.writer.now in
+    let before = g.W.Sink.seen c.loop.writer in
+    let during = g.W.Sink.seen c.write_some.new.writer in
+    let now = g.W.Sink.seen c.flush.new.self in
+    writes_failed_then first during now (s.more ++ d.0) (writes_then first before during s.more d.0 s.writes d.1) c.in_default.ensures.flushed.1

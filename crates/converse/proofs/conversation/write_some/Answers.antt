@@ -9,13 +9,14 @@ use Rattle.converse.specs.Talked.{trace_of}
 use Rattle.converse.specs.Conversing.{Midway, IsPaid, IsCut, Breaks}
 use Rattle.converse.proofs.Ends.{midway_broken}
 use Rattle.converse.proofs.Playing.{caused_next}
-use Rattle.converse.proofs.Clauses.{appends_none, keeps_same, one_taken, paid, taking, takes, found_empty, refused_as, not_ok}
+use Rattle.converse.proofs.Clauses.{one_taken, paid, taking, takes, found_empty, refused_as, not_ok}
+use Rattle.converse.proofs.Streaming.{writes_none, failed_none, handed_on, some_lent}
 use Rattle.converse.proofs.conversation.write_some.Goals as goal
 
 pub returns-then-is_empty-clause-wrote : goal.returns-then-is_empty-clause-wrote
 returns-then-is_empty-clause-wrote g c = (
   [],
-  appends_none _ _ (keeps_same _),
+  writes_none _,
   (λ e. absurd (cc)),
   λ before T octets written first clean w.
       record {
@@ -32,7 +33,7 @@ returns-then-is_empty-clause-wrote g c = (
 pub returns-in_default-clause-wrote : goal.returns-in_default-clause-wrote
 returns-in_default-clause-wrote g c = (
   [],
-  appends_none _ _ c.in_default.ensures.bytes,
+  c.in_default.ensures.taken.0,
   (λ e. absurd (cc)),
   λ before T octets written first clean w.
       record {
@@ -56,7 +57,7 @@ returns-in_err-had_memory-clause-wrote g c =
     let was = g.V.Vault.faults (vault_of c.args.office.now) in
     let now = g.V.Vault.faults (vault_of c.step.new.self) in (
       take n lent,
-      c.in-Ok.ensures.bytes,
+      c.in-Ok.ensures.taken.0,
       (λ q. absurd (not_ok c.from_residual.result f true e q)),
       λ before T octets written first clean w.
           (let log = (event.Took c.args.c n, mark_of o) ∷ w.log in
@@ -64,7 +65,7 @@ returns-in_err-had_memory-clause-wrote g c =
           let k = taking T.base c.args.c (acts T) octets written w.log n lent before was w.so some fits (c.owed-lent.ensures.lent was_so w.stands) in
           let m = takes T.base c.args.c (acts T) octets written w.log n lent k (lent_by c.args.office.now) c.owed-lent.ensures.count before was now first o (c.step.ensures.outcome was_so w.stands clean) (c.step.ensures.cause was_so w.stands clean) in
           let m2 : IsCut f T.base c.args.c (acts T) octets (written ++ take n lent) log =
-          subst (λ r. MatchResult r (λ _. Midway before now T.base c.args.c (acts T) octets (written ++ take n lent) log) (λ x. IsCut x T.base c.args.c (acts T) octets (written ++ take n lent) log)) {y = Err f} (sym c.in_err-had_memory.ensures) m in
+          subst (λ r. MatchResult r (λ _. Midway before now T.base c.args.c (acts T) octets (written ++ take n lent) log) (λ x. IsCut x T.base c.args.c (acts T) octets (written ++ take n lent) log)) {y = Err f} (sym c.in_err-had_memory.ensures.is) m in
           record {
             log = log;
             stands = c.step.ensures.stands was_so w.stands clean;
@@ -84,7 +85,7 @@ returns-clause-wrote g c =
     let was = g.V.Vault.faults (vault_of c.args.office.now) in
     let now = g.V.Vault.faults (vault_of c.step.new.self) in (
       take n lent,
-      c.in-Ok.ensures.bytes,
+      c.in-Ok.ensures.taken.0,
       (λ q. omega (arith, some, length-take-le n lent fits)),
       λ before T octets written first clean w.
           (let log = (event.Took c.args.c n, mark_of o) ∷ w.log in
@@ -96,7 +97,7 @@ returns-clause-wrote g c =
             stands = c.step.ensures.stands was_so w.stands clean;
             own = one_taken c.args.c T.log w.log n (mark_of o) w.own;
             caused = caused_next before was now T w.log (event.Took c.args.c n) o first c.step.ensures.counted w.caused (c.step.ensures.cause was_so w.stands clean);
-            so = subst (λ r. MatchResult r (λ _. Midway before now T.base c.args.c (acts T) octets (written ++ take n lent) log) (λ x. IsCut x T.base c.args.c (acts T) octets (written ++ take n lent) log)) (sym c.in_ok-had_memory.ensures) m;
+            so = subst (λ r. MatchResult r (λ _. Midway before now T.base c.args.c (acts T) octets (written ++ take n lent) log) (λ x. IsCut x T.base c.args.c (acts T) octets (written ++ take n lent) log)) (sym c.in_ok-had_memory.ensures.is) m;
           }),
     )
 
@@ -125,7 +126,7 @@ returns-then-count-eq0-clause-wrote g c =
     let zero : n ≡ 0 = omega (arith, c.if-count-eq0.true) in
     let none : take n lent ≡ [] = ap (λ (m : ℕ). take m lent) zero in (
       take n lent,
-      c.in-Ok.ensures.bytes,
+      c.in-Ok.ensures.taken.0,
       (λ e. absurd (cc)),
       λ before T octets written first clean w.
           (let same : written ≡ written ++ take n lent = sym (ap (λ (xs : List ℕ). written ++ xs) none ∙ append-nil written) in
@@ -149,3 +150,15 @@ returns-clause-counted g c = search rules
 
 pub returns-clause-clean : goal.returns-clause-clean
 returns-clause-clean g c = search rules
+
+pub returns-in_default-clause-failed : goal.returns-in_default-clause-failed
+returns-in_default-clause-failed g c = c.in_default.ensures.taken.1
+
+pub returns-then-count-eq0-clause-failed : goal.returns-then-count-eq0-clause-failed
+returns-then-count-eq0-clause-failed g c =
+    c.in-Ok.ensures.taken.1 (omega (arith, c.if-count-eq0.true)) (some_lent c.is_empty.result c.owed-lent.result.now c.if-is_empty.false c.is_empty.ensures)
+
+pub returns-in_err-had_memory-clause-failed : goal.returns-in_err-had_memory-clause-failed
+returns-in_err-had_memory-clause-failed g c =
+    let f = c.in_err-had_memory.field-0.0 in
+    handed_on _ _ c.from_residual.result f c.from_residual.ensures.1 (failed_none _ _ f c.in_err-had_memory.ensures.failed)

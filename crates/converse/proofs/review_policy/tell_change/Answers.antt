@@ -2,7 +2,8 @@ use Rattle.std.proofs.Common.{◌≡◌, ◌∙◌, List, ℕ, ap, inr, subst}
 use Rattle.std.specs.Io.KnownBytes.{Appends}
 use Rattle.review.specs.Names.{Kept, nobody}
 use Rattle.review.specs.Review.{against_text, changes_of, has_lines}
-use Rattle.converse.specs.Reviewed.{PrintsPart, status_of}
+use Rattle.converse.specs.Printed.{PrintsPart}
+use Rattle.converse.specs.Reviewed.{status_of}
 use Rattle.converse.proofs.review_policy.tell_change.Goals as goal
 
 pub returns-in_err-print-clause-part : goal.returns-in_err-print-clause-part

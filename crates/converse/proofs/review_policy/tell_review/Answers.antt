@@ -2,7 +2,7 @@ use Rattle.std.proofs.Common.{◌∙◌, List, ℕ, None, Option, Some, inr, sub
 use Rattle.std.specs.Prelude.{IfSome}
 use Rattle.policy.specs.Policy.{Policy}
 use Rattle.converse.specs.PolicyFile.{IsPolicyText, IsNoPolicyText}
-use Rattle.converse.specs.Reviewed.{PrintsPart}
+use Rattle.converse.specs.Printed.{PrintsPart}
 use Rattle.converse.proofs.review_policy.tell_review.Goals as goal
 
 -- where a text is a policy's, what is said of a text that is none holds

@@ -1,5 +1,5 @@
 use Rattle.std.proofs.Common.{◌∙◌, List, ℕ, inr, subst}
-use Rattle.converse.specs.Reviewed.{PrintsPart}
+use Rattle.converse.specs.Printed.{PrintsPart}
 use Rattle.converse.proofs.review_policy.tell_stored.Goals as goal
 
 pub returns-in_err-print-clause-part : goal.returns-in_err-print-clause-part

@@ -2,8 +2,10 @@ use Rattle.std.proofs.Common.{[], inl, inr, refl, arith, rules, subst, sym}
 use Rattle.std.specs.Io.KnownBytes.{IsAtEnd}
 use Rattle.vault.specs.Calls.{has_grown}
 use Rattle.office.specs.Stands.{vault_of}
+use Rattle.converse.specs.Streams.{reads_failed, writes_failed}
 use Rattle.converse.specs.Runs.{HasTalked, HasStopped, opened_on}
 use Rattle.converse.proofs.Clauses.{grown_since}
+use Rattle.converse.proofs.Streaming.{reads_none, writes_none}
 use Rattle.converse.proofs.Running.{talked_since, broken_since, keeps_still}
 use Rattle.converse.proofs.talking.talk.Goals as goal
 
@@ -20,18 +22,20 @@ returns-clause-talked g c =
           let first = g.V.Vault.faults c.args.vault in
           let before = g.V.Vault.faults (vault_of c.in-Ok.office) in
           let now = g.V.Vault.faults (vault_of c.talk_over-status.new.office) in
-          let at_end = IsAtEnd (g.R.Read.remaining c.talk_over-status.new.reader) in
+          let at_end = IsAtEnd (g.R.Source.seen c.talk_over-status.new.reader).left in
           subst (λ v. HasTalked g.V.Vault.holds v (has_grown first (g.V.Vault.faults v)) opened d.0 d.1 at_end) (sym c.into_vault.ensures)
           (talked_since g.V.Vault.holds (vault_of c.talk_over-status.new.office) opened d.0 d.1 at_end (has_grown before now) (has_grown first now)
           (grown_since first before now c.in-Ok.ensures.counted) (d.4 well opened (c.in-Ok.ensures.opened T keeps (c.talk_over-status.ensures.clean clean2)) clean2))),
       λ ill T keeps clean.
-          (let clean2 = subst g.V.Vault.is_clean c.into_vault.ensures clean in
+          (let reads = reads_failed (g.R.Source.seen c.args.reader.now) (g.R.Source.seen c.talk_over-status.new.reader) in
+          let writes = writes_failed (g.W.Sink.seen c.args.writer.now) (g.W.Sink.seen c.talk_over-status.new.writer) in
+          let clean2 = subst g.V.Vault.is_clean c.into_vault.ensures clean in
           let opened = opened_on T c.args.host.now c.args.boot c.args.removals in
           let first = g.V.Vault.faults c.args.vault in
           let before = g.V.Vault.faults (vault_of c.in-Ok.office) in
           let now = g.V.Vault.faults (vault_of c.talk_over-status.new.office) in
-          let at_end = IsAtEnd (g.R.Read.remaining c.talk_over-status.new.reader) in
-          subst (λ v. HasStopped g.V.Vault.holds v (has_grown first (g.V.Vault.faults v)) T opened d.0 d.1 at_end) (sym c.into_vault.ensures)
+          let at_end = IsAtEnd (g.R.Source.seen c.talk_over-status.new.reader).left in
+          subst (λ v. HasStopped g.V.Vault.holds v (has_grown first (g.V.Vault.faults v)) reads writes T opened d.0 d.1 at_end) (sym c.into_vault.ensures)
           (inr (broken_since g.V.Vault.holds (vault_of c.talk_over-status.new.office) opened d.0 d.1 at_end (has_grown before now) (has_grown first now)
           (grown_since first before now c.in-Ok.ensures.counted) (d.5 ill opened (c.in-Ok.ensures.opened T keeps (c.talk_over-status.ensures.clean clean2)) clean2)))),
     )
@@ -40,8 +44,8 @@ pub returns-in-Err-clause-talked : goal.returns-in-Err-clause-talked
 returns-in-Err-clause-talked g c = (
   [],
   [],
-  search rules,
-  search rules,
+  reads_none _,
+  writes_none _,
   λ well T keeps clean. absurd (omega (arith, well, c.tell_fault.ensures)),
   λ ill T keeps clean. inl (keeps_still (g.V.Vault.holds c.args.vault) (g.V.Vault.holds c.in-Err.vault) T keeps (c.in-Err.ensures.kept keeps.contents keeps.held clean), refl, refl),
 )

@@ -12,7 +12,7 @@ returns-in-Ok-clause-talked g c =
       d.1,
       d.2,
       d.3,
-      λ _ T stands clean. has_talked g.V.Vault.holds g.V.Vault.faults first c.talk.new.office T d.0 d.1 (IsAtEnd (g.R.Read.remaining c.talk.new.reader)) c.in-Ok.field-0 (d.4 T stands clean),
+      λ _ T stands clean. has_talked g.V.Vault.holds g.V.Vault.faults first c.talk.new.office T d.0 d.1 (IsAtEnd (g.R.Source.seen c.talk.new.reader).left) c.in-Ok.field-0 (d.4 T stands clean),
       λ (one : 0 ≡ 1). cc,
     )
 
@@ -25,7 +25,7 @@ returns-in-Err-clause-talked g c =
       d.2,
       d.3,
       λ well T stands clean. absurd (omega (arith, well, c.tell_fault.ensures)),
-      λ _ T stands clean. has_broken g.V.Vault.holds g.V.Vault.faults first c.talk.new.office T d.0 d.1 (IsAtEnd (g.R.Read.remaining c.talk.new.reader)) c.in-Err.fault (d.4 T stands clean),
+      λ _ T stands clean. has_broken g.V.Vault.holds g.V.Vault.faults first c.talk.new.office T d.0 d.1 (IsAtEnd (g.R.Source.seen c.talk.new.reader).left) c.in-Err.fault c.in-Err.ensures.failed (d.4 T stands clean),
     )
 
 pub returns-in-Ok-clause-status : goal.returns-in-Ok-clause-status

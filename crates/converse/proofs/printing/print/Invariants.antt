@@ -1,6 +1,6 @@
 use Rattle.std.proofs.Common.{◌≤◌, length, take}
 use Rattle.std.specs.Io.KnownBytes.{Appends}
-use Rattle.converse.proofs.review_policy.print.Given as goal
+use Rattle.converse.proofs.printing.print.Given as goal
 
 abbrev pub invariant-loop : goal.invariant-loop
 invariant-loop g l =

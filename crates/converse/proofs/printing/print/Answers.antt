@@ -1,7 +1,7 @@
 use Rattle.std.proofs.Common.{◌≡◌, ◌-◌, ◌≤◌, List, ℕ, arith, drop, length, length-drop, subst, sym, take, take-add, take-append-drop, take_all}
 use Rattle.std.specs.Io.KnownBytes.{Appends}
 use Rattle.converse.proofs.Clauses.{appends_kept, appends_then}
-use Rattle.converse.proofs.review_policy.print.Goals as goal
+use Rattle.converse.proofs.printing.print.Goals as goal
 
 pub returns-in_err-done-clause-part : goal.returns-in_err-done-clause-part
 returns-in_err-done-clause-part g c = (

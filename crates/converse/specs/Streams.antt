@@ -1,0 +1,49 @@
+-- What a source gave and a sink took: their octets, and how many calls failed. The counts stop at 2^64 - 1.
+use Rattle.std.specs.Prelude.{◌≡◌, ℕ, ◌<◌, ◌≤◌, Bool, true, List, [], ◌++◌, length, take, Option, Result, MatchResult}
+use Rattle.std.specs.Io.KnownBytes.{Appends, Consumes, IsAtEnd}
+use Rattle.vault.specs.Calls.{has_grown}
+
+-- of a source: what it gave, what it will give, where that is known, and how many of its calls failed
+pub record Reading : Type 0 where
+  pub given : List ℕ
+  pub left : Option (List ℕ)
+  pub faults : ℕ
+
+-- of a sink: what it took, what it holds, where that is known, and how many of its calls failed
+pub record Writing : Type 0 where
+  pub taken : List ℕ
+  pub holds : Option (List ℕ)
+  pub faults : ℕ
+
+-- a source gave just these octets
+pub record Reads (before now : Reading) (octets : List ℕ) : Type 0 where
+  pub gave : now.given ≡ before.given ++ octets
+  pub told : Consumes before.left now.left octets
+  pub kept : before.faults ≤ now.faults
+
+-- a sink took just these octets
+pub record Writes (before now : Writing) (octets : List ℕ) : Type 0 where
+  pub took : now.taken ≡ before.taken ++ octets
+  pub told : Appends before.holds now.holds octets
+  pub kept : before.faults ≤ now.faults
+
+-- a call of it failed
+abbrev pub reads_failed : (before now : Reading) → Bool
+reads_failed before now = has_grown before.faults now.faults
+
+abbrev pub writes_failed : (before now : Writing) → Bool
+writes_failed before now = has_grown before.faults now.faults
+
+-- A read gave as many of the room's first octets as it answered, none only at the end or where there was no room; or it failed, and gave none.
+abbrev pub HasRead : {E : Type 0} → (before now : Reading) → Result ℕ E → (room : List ℕ) → Type 0
+HasRead before now answer room =
+    MatchResult answer (λ n. Reads before now (take n room) × (n ≡ 0 → 0 < length room → IsAtEnd now.left)) (λ _. Reads before now [] × (reads_failed before now ≡ true))
+
+-- A write took as many of the first octets as it answered; to take none of some is a failure. Or it failed, and took none.
+abbrev pub HasWritten : {E : Type 0} → (before now : Writing) → Result ℕ E → List ℕ → Type 0
+HasWritten before now answer octets =
+    MatchResult answer (λ n. Writes before now (take n octets) × (n ≡ 0 → 0 < length octets → writes_failed before now ≡ true)) (λ _. Writes before now [] × (writes_failed before now ≡ true))
+
+-- a flush took nothing; it failed, or not
+abbrev pub HasFlushed : {E : Type 0} → (before now : Writing) → Result Unit E → Type 0
+HasFlushed before now answer = MatchResult answer (λ _. Writes before now []) (λ _. Writes before now [] × (writes_failed before now ≡ true))

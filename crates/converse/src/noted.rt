@@ -1,0 +1,83 @@
+//! Any reader as a source, any writer as a sink.
+
+ghost use Rattle.std.specs.Prelude.{◌≡◌, []};
+
+use crate::record::Record;
+use crate::streams::{Sink, Source};
+use std::io;
+use std::io::{Read, Write};
+
+/// A reader as a source, or a writer as a sink: what the one inside answered is what it gave or
+/// took, and the calls that failed are counted. So contracts see the octets of real files and pipes
+/// too, as the system's calls answered them.
+#[derive(Drop)]
+pub struct Noted<T> {
+    /// The reader or writer.
+    pub inner: T,
+    /// The octets that it gave or took.
+    pub octets: Record,
+    /// How many of its calls failed. The count stops at 2^64 - 1.
+    pub faults: u64,
+}
+
+impl<T> Noted<T> {
+    /// Around a reader or writer of which nothing is noted yet.
+    pub fn new(inner: T) -> Noted<T>
+        ensures inner { result.inner ≡ inner }
+        ensures octets { result.octets.noted ≡ [] }
+        ensures faults { result.faults ≡ 0 }
+    {
+        Noted {
+            inner,
+            octets: Record::new(),
+            faults: 0,
+        }
+    }
+}
+
+impl<R: Read> Source for Noted<R> {
+    ghost seen = { λ n. record { given = n.octets.noted; left = R.remaining n.inner; faults = n.faults } };
+
+    fn read(&mut self, room: &mut [u8]) -> io::Result<usize> {
+        match self.inner.read(room) {
+            Ok(count) => {
+                self.octets.note(&room[..count]);
+                Ok(count)
+            }
+            Err(error) => {
+                self.faults = self.faults.saturating_add(1);
+                Err(error)
+            }
+        }
+    }
+}
+
+impl<W: Write> Sink for Noted<W> {
+    ghost seen = { λ n. record { taken = n.octets.noted; holds = W.contents n.inner; faults = n.faults } };
+
+    fn write(&mut self, octets: &[u8]) -> io::Result<usize> {
+        match self.inner.write(octets) {
+            Ok(taken) => {
+                if taken == 0 {
+                    self.faults = self.faults.saturating_add(1);
+                }
+                self.octets.note(&octets[..taken]);
+                Ok(taken)
+            }
+            Err(error) => {
+                self.faults = self.faults.saturating_add(1);
+                Err(error)
+            }
+        }
+    }
+
+    fn flush(&mut self) -> io::Result<()> {
+        match self.inner.flush() {
+            Ok(()) => Ok(()),
+            Err(error) => {
+                self.faults = self.faults.saturating_add(1);
+                Err(error)
+            }
+        }
+    }
+}
