@@ -1,0 +1,3 @@
+pub mod RestLemmas
+pub mod WholeLemmas
+pub mod JobLemmas

@@ -1,0 +1,4 @@
+pub mod Resting
+pub mod Stopped
+pub mod Jobs
+pub mod Sittings

@@ -1,0 +1,22 @@
+//! A job over a store in two files: the store is opened, the job is done over it, and it is closed.
+#![tactic(auto)]
+
+mod job;
+mod looking;
+mod opening;
+mod resting;
+mod running;
+mod sitting;
+#[cfg(test)]
+mod tests;
+mod twice;
+mod whole_laws;
+
+pub use job::Job;
+pub use looking::Looking;
+pub use opening::open;
+pub use resting::{close, open_files, reopen};
+pub use running::{do_and_close, open_do_close};
+pub use sitting::sit_once;
+pub use twice::{TwiceFault, open_twice};
+pub use whole_laws::{adopt_whole, carry_again};

@@ -1,0 +1,29 @@
+//! The store in the file at a path is opened.
+ghost use Rattle.std.specs.Prelude.{◌≡◌, IfOk, IfErr};
+ghost use Rattle.sqlite_wal.specs.Files.{image_at};
+ghost use Rattle.sqlite.specs.Files.{file_state};
+ghost use Rattle.sqlite.specs.State.{HasCleanDisk};
+ghost use Rattle.vault.specs.Changes.{Contents};
+ghost use Rattle.vault.specs.Plain.{no_contents};
+ghost use Rattle.sqlvault.specs.Adopts.{IsAdoptFault};
+ghost use Rattle.sqlvault.specs.Stands.{Holds};
+ghost use Rattle.jobs.specs.Resting.{Rests, IsUnmade};
+
+use sqlite::{FileFrom, FileStore, Start};
+use sqlvault::SqlVault;
+use vault::VaultFault;
+
+/// Opens the store in the file at a path, as [`SqlVault::open`] does. It holds what rests in the
+/// file and its log; where the file is empty, or none, a new store is made, which holds nothing.
+pub fn open<S: Start>(
+    rt: &HostRuntime,
+    path: &str,
+    start: S,
+) -> Result<SqlVault<FileStore<FileFrom<S>>>, VaultFault>
+    ensures held { IfOk result (λ vault. (c : Contents) → HasCleanDisk (file_state vault.conn) → Rests (image_at S.Start) c → Holds (file_state vault.conn) c) }
+    ensures new { IfOk result (λ vault. HasCleanDisk (file_state vault.conn) → IsUnmade (image_at S.Start) → Holds (file_state vault.conn) no_contents) }
+    ensures kinds { IfErr result IsAdoptFault }
+    ensures uncounted { IfOk result (λ vault. vault.faults ≡ 0) }
+{
+    SqlVault::open(rt, path, start)
+}
