@@ -1,9 +1,8 @@
 -- A connection that found, after a stop, the database of a store as it was, and what adopting it comes to.
 use Rattle.std.proofs.Common.{◌≡◌, ◌⊎◌, inl, inr, IsTrue, sym, ap, subst, ◌∙◌, false, Result, Ok, Err}
 use Rattle.std.specs.Prelude.{IfOk, IfErr}
-use Rattle.sqlite_trees.specs.Tree.{Trees}
 use Rattle.sqlite_trees.specs.declared.store.Store.{Ghosts}
-use Rattle.sqlite.specs.Effect.{Database, IsDatabase}
+use Rattle.sqlite.specs.Effect.{Database}
 use Rattle.sqlite.specs.Held.{Held, state}
 use Rattle.sqlite.specs.State.{State, HasCleanDisk, Opens, IsLive}
 use Rattle.vault.specs.declared.fault.VaultFault.{VaultFault}
@@ -11,10 +10,10 @@ use Rattle.vault.specs.declared.fault.VaultFault.TheVariants as fault
 use Rattle.vault.specs.Changes.{Contents}
 use Rattle.mailsql.specs.Rows.{rows_in, IsKept, IsOld}
 use Rattle.sqlvault.specs.Keeps.{Keeps}
-use Rattle.sqlvault.specs.Adopts.{Adopts, IsKnown, IsAdopted, Stores}
+use Rattle.sqlvault.specs.Adopts.{Adopts, IsKnown, Stores}
 use Rattle.jobs.specs.Stopped.{FindsWhole, StopsCarrying}
 use Rattle.sqlvault.specs.Again.{FindsLeft}
-use Rattle.sqlvault.specs.Carries.{HasOlder, CarriesOver, IsCarried, KeepsOlder, IsStoreOf, brought_in}
+use Rattle.sqlvault.specs.Carries.{HasOlder, CarriesOver, KeepsOlder, IsStoreOf, brought_in}
 use Rattle.sqlvault.specs.Opened.{Opened, conn_of, judged_in}
 use Rattle.sqlvault.specs.Stands.{Holds}
 use Rattle.sqlvault.specs.Stops.{LeavesLast}

@@ -1,5 +1,5 @@
 -- What a job leaves in the files of a store.
-use Rattle.std.specs.Prelude.{ℕ, Result, Ok, Err, ⊤}
+use Rattle.std.specs.Prelude.{ℕ}
 use Rattle.sqlite_wal.specs.Recovery.{Image}
 use Rattle.office.specs.Events.{Trace}
 use Rattle.office.specs.Stands.{Keeps}

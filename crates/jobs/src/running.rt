@@ -1,12 +1,12 @@
 //! A store is opened, a job is done over it, and it is closed.
-ghost use Rattle.std.specs.Prelude.{◌≡◌, IfOk, IfErr};
+ghost use Rattle.std.specs.Prelude.{IfOk, IfErr};
 ghost use Rattle.sqlite_wal.specs.Files.{image_at};
 ghost use Rattle.sqlite_wal.specs.Reads.{AreClean};
 ghost use Rattle.sqlite.specs.Files.{file_state, image_of};
 ghost use Rattle.sqlite.specs.State.{HasCleanDisk};
 ghost use Rattle.office.specs.Events.{Trace};
 ghost use Rattle.office.specs.Stands.{Keeps};
-ghost use Rattle.sqlvault.specs.Adopts.{IsAdoptFault, OpensIn};
+ghost use Rattle.sqlvault.specs.Adopts.{IsAdoptFault};
 ghost use Rattle.jobs.specs.Resting.{Rests, IsUnmade};
 ghost use Rattle.sqlvault.specs.Stands.{Holds};
 ghost use Rattle.jobs.specs.Jobs.{Leaves};
