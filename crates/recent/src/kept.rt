@@ -1,7 +1,8 @@
-//! The heads that are kept of one maildrop.
+//! The heads that are kept of one maildrop, and when what is kept is forgotten.
 ghost use Rattle.std.specs.Prelude.{◌≡◌, None, is_ok, if◌then◌else◌, IfSome};
-ghost use Rattle.recent.specs.Recalling.{kept_heads};
+ghost use Rattle.recent.specs.Recalling.{kept_heads, marked};
 
+use crate::totals::{Totals, mark_kept};
 use creds::Name;
 use std::alloc::Global;
 use std::marker::Model;
@@ -67,28 +68,55 @@ impl Kept {
     }
 }
 
-/// Hands on the answer of a call that may change records, and forgets what is kept.
+/// Hands on the answer of a call that may change any record, and forgets what is kept.
 pub(crate) fn after_change<T>(
     kept: &mut Option<Kept>,
+    totals: &mut Option<Totals>,
     answer: Result<T, VaultFault>,
 ) -> Result<T, VaultFault>
     ensures answer { result ≡ answer }
     ensures kept { kept.new ≡ None }
+    ensures totals { totals.new ≡ None }
 {
     *kept = None;
+    *totals = None;
     answer
+}
+
+/// Hands on the answer of a call that changes messages of this maildrop alone. Forgets the heads,
+/// and marks the maildrop's total as stale; where the answer is a fault, forgets what is kept.
+pub(crate) fn after_mail<T>(
+    kept: &mut Option<Kept>,
+    totals: &mut Option<Totals>,
+    maildrop: &Name,
+    answer: Result<T, VaultFault>,
+) -> Result<T, VaultFault>
+    ensures answer { result ≡ answer }
+    ensures kept { kept.new ≡ None }
+    ensures totals { totals.new ≡ (if is_ok answer then marked maildrop.now totals.old else None) }
+{
+    match answer {
+        Ok(value) => {
+            *kept = None;
+            mark_kept(totals, maildrop);
+            Ok(value)
+        }
+        Err(fault) => after_look(kept, totals, Err(fault)),
+    }
 }
 
 /// Hands on the answer of a call that only looks, and forgets what is kept where it is a fault.
 pub(crate) fn after_look<T>(
     kept: &mut Option<Kept>,
+    totals: &mut Option<Totals>,
     answer: Result<T, VaultFault>,
 ) -> Result<T, VaultFault>
     ensures answer { result ≡ answer }
     ensures kept { kept.new ≡ (if is_ok answer then kept.old else None) }
+    ensures totals { totals.new ≡ (if is_ok answer then totals.old else None) }
 {
     match answer {
         Ok(value) => Ok(value),
-        Err(fault) => after_change(kept, Err(fault)),
+        Err(fault) => after_change(kept, totals, Err(fault)),
     }
 }

@@ -1,9 +1,11 @@
-//! A vault that answers a maildrop's heads again without asking, while nothing was changed.
+//! A vault that answers a maildrop's heads, and the totals of all maildrops, again without asking,
+//! while nothing was changed.
 #![tactic(auto)]
 
 mod kept;
 mod recent;
 #[cfg(test)]
 mod tests;
+mod totals;
 
 pub use recent::Recent;

@@ -1,8 +1,9 @@
-//! A vault that keeps the heads of one maildrop.
+//! A vault that keeps the heads of one maildrop, and the totals of all.
 ghost use Rattle.std.specs.Prelude.{◌≡◌, IfSome, Some};
 ghost use Rattle.recent.specs.Recalling.{kept_heads, nothing_kept, HoldsFitting};
 
-use crate::kept::{Kept, after_change, after_look};
+use crate::kept::{Kept, after_change, after_look, after_mail};
+use crate::totals::{Totals, count_kept, recalled_totals};
 use creds::{Credential, DepositId, Name};
 use mailtext::MailText;
 use policy::Policy;
@@ -11,9 +12,12 @@ use std::marker::Model;
 use vault::{Deposited, Head, MessageKey, Total, Vault, VaultFault};
 
 /// A vault around another one, which keeps the heads of the maildrop that was asked for last, and
-/// answers the same question again from them. Every call that may change records forgets them, and
-/// so does every fault. At most 10,000 heads of one maildrop are kept. Where there is no memory for
-/// them, nothing is kept, and the vault inside answers.
+/// the totals of all maildrops, and answers the same question again from them. Every fault forgets
+/// them, and so does every call that may change records, but for deposits and removals: those keep
+/// the totals, of which the maildrop's own is counted again, by its heads, when they are asked for.
+///
+/// At most 10,000 heads of one maildrop are kept, and 1,000 totals. Where there is no memory for
+/// them, they aren't kept, and the vault inside answers.
 ///
 /// Contracts see the vault inside and what is kept. It holds what the vault inside holds and what
 /// is kept fits.
@@ -21,6 +25,7 @@ use vault::{Deposited, Head, MessageKey, Total, Vault, VaultFault};
 pub struct Recent<V: Vault> {
     vault: V,
     kept: Option<Kept>,
+    totals: Option<Totals>,
     alloc: Global,
 }
 
@@ -29,7 +34,7 @@ impl<V: Vault> Model for Recent<V> {
 
     ghost Value = { Recalling V };
 
-    ghost view = { λ r. record { vault = r.vault; kept = r.kept } };
+    ghost view = { λ r. record { vault = r.vault; kept = r.kept; totals = r.totals } };
 }
 
 /// The heads that are kept, where they are of this maildrop and there is memory for a copy.
@@ -50,6 +55,7 @@ impl<V: Vault> Recent<V> {
         Recent {
             vault,
             kept: None,
+            totals: None,
             alloc,
         }
     }
@@ -61,15 +67,17 @@ impl<V: Vault> Recent<V> {
         let Recent {
             vault,
             kept: _,
+            totals: _,
             alloc: _,
         } = self;
         vault
     }
 }
 
-/// Each call as in the vault inside, but that heads that are kept are answered without it.
+/// Each call as in the vault inside, but that heads and totals that are kept are answered without
+/// it.
 impl<V: Vault> Vault for Recent<V> {
-    ghost holds = { λ r. HoldsFitting (V.holds r.vault) r.kept };
+    ghost holds = { λ r. HoldsFitting (V.holds r.vault) r.kept r.totals };
 
     ghost faults = { λ r. V.faults r.vault };
 
@@ -91,7 +99,7 @@ impl<V: Vault> Vault for Recent<V> {
         text: &MailText,
     ) -> Result<Deposited, VaultFault> {
         let deposited = self.vault.deposit(maildrop, class, id, text);
-        after_change(&mut self.kept, deposited)
+        after_mail(&mut self.kept, &mut self.totals, maildrop, deposited)
     }
 
     fn heads(&mut self, maildrop: &Name) -> Result<Vec<Head>, VaultFault> {
@@ -104,47 +112,69 @@ impl<V: Vault> Vault for Recent<V> {
                 self.kept = Kept::of(self.alloc, maildrop, heads.as_slice());
                 Ok(heads)
             }
-            Err(fault) => Err(fault),
+            Err(fault) => after_change(&mut self.kept, &mut self.totals, Err(fault)),
         }
     }
 
     fn page(&mut self, key: MessageKey, from: u64, buffer: &mut [u8]) -> Result<usize, VaultFault> {
-        after_look(&mut self.kept, self.vault.page(key, from, buffer))
+        let read = self.vault.page(key, from, buffer);
+        after_look(&mut self.kept, &mut self.totals, read)
     }
 
     fn remove(&mut self, maildrop: &Name, keys: &[MessageKey]) -> Result<(), VaultFault> {
-        after_change(&mut self.kept, self.vault.remove(maildrop, keys))
+        let removed = self.vault.remove(maildrop, keys);
+        after_mail(&mut self.kept, &mut self.totals, maildrop, removed)
     }
 
     fn maildrops(&mut self) -> Result<Vec<Total>, VaultFault> {
-        after_look(&mut self.kept, self.vault.maildrops())
+        match count_kept(&mut self.vault, &mut self.totals) {
+            Ok(()) => {}
+            Err(fault) => return after_change(&mut self.kept, &mut self.totals, Err(fault)),
+        }
+        if let Some(totals) = recalled_totals(self.alloc, &self.totals) {
+            return Ok(totals);
+        }
+        self.totals = None;
+        match self.vault.maildrops() {
+            Ok(totals) => {
+                self.totals = Totals::of(self.alloc, totals.as_slice());
+                Ok(totals)
+            }
+            Err(fault) => after_change(&mut self.kept, &mut self.totals, Err(fault)),
+        }
     }
 
     fn credential(&mut self, clerk: &Name) -> Result<Option<Credential>, VaultFault> {
-        after_look(&mut self.kept, self.vault.credential(clerk))
+        let found = self.vault.credential(clerk);
+        after_look(&mut self.kept, &mut self.totals, found)
     }
 
     fn put_clerk(&mut self, clerk: &Name, credential: &Credential) -> Result<bool, VaultFault> {
-        after_change(&mut self.kept, self.vault.put_clerk(clerk, credential))
+        let put = self.vault.put_clerk(clerk, credential);
+        after_change(&mut self.kept, &mut self.totals, put)
     }
 
     fn drop_clerk(&mut self, clerk: &Name) -> Result<(), VaultFault> {
-        after_change(&mut self.kept, self.vault.drop_clerk(clerk))
+        let dropped = self.vault.drop_clerk(clerk);
+        after_change(&mut self.kept, &mut self.totals, dropped)
     }
 
     fn add_maildrop(&mut self, maildrop: &Name) -> Result<bool, VaultFault> {
-        after_change(&mut self.kept, self.vault.add_maildrop(maildrop))
+        let added = self.vault.add_maildrop(maildrop);
+        after_change(&mut self.kept, &mut self.totals, added)
     }
 
     fn drop_maildrop(&mut self, maildrop: &Name) -> Result<(), VaultFault> {
-        after_change(&mut self.kept, self.vault.drop_maildrop(maildrop))
+        let gone = self.vault.drop_maildrop(maildrop);
+        after_change(&mut self.kept, &mut self.totals, gone)
     }
 
     fn policy(&mut self) -> Result<Policy, VaultFault> {
-        after_look(&mut self.kept, self.vault.policy())
+        after_look(&mut self.kept, &mut self.totals, self.vault.policy())
     }
 
     fn set_policy(&mut self, policy: &Policy) -> Result<(), VaultFault> {
-        after_change(&mut self.kept, self.vault.set_policy(policy))
+        let set = self.vault.set_policy(policy);
+        after_change(&mut self.kept, &mut self.totals, set)
     }
 }

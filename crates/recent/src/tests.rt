@@ -6,33 +6,60 @@ use std::alloc::Global;
 use std::test::Fail;
 use vault::{PlainVault, Refusing, Vault, VaultFault};
 
-/// A call of a vault. `Deposit` has an id, and goes into the maildrop `orders`.
+/// A call of a vault. `Deposit` has a maildrop and an id; `Remove` removes the first message.
 #[derive(Clone, Copy)]
 enum Call {
     Add(&'static str),
-    Deposit(&'static str),
+    Drop(&'static str),
+    Deposit(&'static str, &'static str),
+    Remove(&'static str),
     Heads(&'static str),
+    Totals,
     Policy,
 }
 
-/// Calls of a new store, each with whether it reaches the vault inside, and its answer. The answer
-/// of `Heads` is how many there are.
-static STORY: [(Call, bool, &str); 15] = [
-    (Call::Heads("orders"), true, "no such maildrop"),
-    (Call::Add("orders"), true, "done"),
-    (Call::Heads("orders"), true, "0"),
-    (Call::Heads("orders"), false, "0"),
-    (Call::Deposit("d1"), true, "done"),
-    (Call::Heads("orders"), true, "1"),
-    (Call::Heads("orders"), false, "1"),
-    (Call::Policy, true, "done"),
-    (Call::Heads("orders"), false, "1"),
-    (Call::Deposit("d2"), true, "done"),
-    (Call::Heads("orders"), true, "2"),
-    (Call::Heads("billing"), true, "no such maildrop"),
-    (Call::Heads("orders"), true, "2"),
-    (Call::Add("billing"), true, "done"),
-    (Call::Heads("billing"), true, "0"),
+/// Calls of a new store, each with how many calls reach the vault inside, and its answer. The
+/// answer of `Heads` is how many there are.
+static HEADS: [(Call, u64, &str); 15] = [
+    (Call::Heads("orders"), 1, "no such maildrop"),
+    (Call::Add("orders"), 1, "done"),
+    (Call::Heads("orders"), 1, "0"),
+    (Call::Heads("orders"), 0, "0"),
+    (Call::Deposit("orders", "d1"), 1, "done"),
+    (Call::Heads("orders"), 1, "1"),
+    (Call::Heads("orders"), 0, "1"),
+    (Call::Policy, 1, "done"),
+    (Call::Heads("orders"), 0, "1"),
+    (Call::Deposit("orders", "d2"), 1, "done"),
+    (Call::Heads("orders"), 1, "2"),
+    (Call::Heads("billing"), 1, "no such maildrop"),
+    (Call::Heads("orders"), 1, "2"),
+    (Call::Add("billing"), 1, "done"),
+    (Call::Heads("billing"), 1, "0"),
+];
+
+/// The same. The answer of `Totals` is how many messages there are in all maildrops. Two maildrops
+/// that changed are two calls, and then the totals of the others aren't asked for.
+static TOTALS: [(Call, u64, &str); 19] = [
+    (Call::Totals, 1, "0"),
+    (Call::Add("orders"), 1, "done"),
+    (Call::Add("billing"), 1, "done"),
+    (Call::Totals, 1, "0"),
+    (Call::Totals, 0, "0"),
+    (Call::Deposit("orders", "d1"), 1, "done"),
+    (Call::Deposit("billing", "d1"), 1, "done"),
+    (Call::Totals, 2, "2"),
+    (Call::Totals, 0, "2"),
+    (Call::Heads("orders"), 1, "1"),
+    (Call::Policy, 1, "done"),
+    (Call::Totals, 0, "2"),
+    (Call::Remove("orders"), 1, "done"),
+    (Call::Remove("billing"), 2, "done"),
+    (Call::Totals, 2, "0"),
+    (Call::Deposit("orders", "d2"), 1, "done"),
+    (Call::Totals, 1, "1"),
+    (Call::Drop("billing"), 1, "done"),
+    (Call::Totals, 1, "1"),
 ];
 
 fn name(text: &str) -> Result<Name, Fail> {
@@ -56,19 +83,53 @@ fn word_of_done<T: Drop>(answer: Result<T, VaultFault>) -> &'static str {
     }
 }
 
-/// Deposits a text into the maildrop `orders`.
-fn deposit<V: Vault>(alloc: Global, vault: &mut V, id: &str) -> Result<&'static str, Fail> {
+/// In a word how many there are.
+fn word_of_count(count: usize) -> &'static str {
+    ["0", "1", "2"].get(count).copied().unwrap_or("more")
+}
+
+/// Deposits a text into the maildrop.
+fn deposit<V: Vault>(
+    alloc: Global,
+    vault: &mut V,
+    maildrop: &str,
+    id: &str,
+) -> Result<&'static str, Fail> {
     let id = DepositId::read(id.as_bytes()).ok_or("an id")?;
     let text = canon(alloc, b"Subject: a\n\nhi\n")?;
-    let answer = vault.deposit(&name("orders")?, &name("note")?, &id, &text);
+    let answer = vault.deposit(&name(maildrop)?, &name("note")?, &id, &text);
     Ok(word_of_done(answer))
 }
 
 /// How many heads a maildrop has.
 fn count<V: Vault>(vault: &mut V, maildrop: &str) -> Result<&'static str, Fail> {
     match vault.heads(&name(maildrop)?) {
-        Ok(heads) => Ok(["0", "1", "2"].get(heads.len()).copied().unwrap_or("more")),
+        Ok(heads) => Ok(word_of_count(heads.len())),
         Err(fault) => Ok(word_of(fault)),
+    }
+}
+
+/// Asks for a maildrop's heads, and removes the first message.
+fn remove<V: Vault>(vault: &mut V, maildrop: &str) -> Result<&'static str, Fail> {
+    match vault.heads(&name(maildrop)?) {
+        Ok(heads) => {
+            let head = heads.first().ok_or("a message")?;
+            Ok(word_of_done(vault.remove(&name(maildrop)?, &[head.key])))
+        }
+        Err(fault) => Ok(word_of(fault)),
+    }
+}
+
+/// How many messages there are in all maildrops.
+fn count_all<V: Vault>(vault: &mut V) -> &'static str {
+    match vault.maildrops() {
+        Ok(totals) => {
+            let count = totals
+                .iter()
+                .fold(0, |sum: u64, total| sum.saturating_add(total.messages));
+            word_of_count(count as usize)
+        }
+        Err(fault) => word_of(fault),
     }
 }
 
@@ -76,8 +137,11 @@ fn count<V: Vault>(vault: &mut V, maildrop: &str) -> Result<&'static str, Fail> 
 fn said<V: Vault>(alloc: Global, vault: &mut V, call: Call) -> Result<&'static str, Fail> {
     match call {
         Call::Add(maildrop) => Ok(word_of_done(vault.add_maildrop(&name(maildrop)?))),
-        Call::Deposit(id) => deposit(alloc, vault, id),
+        Call::Drop(maildrop) => Ok(word_of_done(vault.drop_maildrop(&name(maildrop)?))),
+        Call::Deposit(maildrop, id) => deposit(alloc, vault, maildrop, id),
+        Call::Remove(maildrop) => remove(vault, maildrop),
         Call::Heads(maildrop) => count(vault, maildrop),
+        Call::Totals => Ok(count_all(vault)),
         Call::Policy => Ok(word_of_done(vault.policy())),
     }
 }
@@ -85,14 +149,15 @@ fn said<V: Vault>(alloc: Global, vault: &mut V, call: Call) -> Result<&'static s
 /// Makes the calls over a store that refuses the one of this number among those that reach it, and
 /// makes that one again. Fails unless each is answered as it should be. Answers how many were
 /// refused.
-fn refusals(alloc: Global, n: u64) -> Result<u64, Fail> {
+fn refusals(alloc: Global, story: &[(Call, u64, &'static str)], n: u64) -> Result<u64, Fail> {
     let mut vault = Recent::new(alloc, Refusing::new(PlainVault::new(alloc), n));
     let mut to_come = n;
-    for (call, reaches, answer) in &STORY {
-        if *reaches && to_come == 1 && said(alloc, &mut vault, *call)? != "store failed" {
+    for (call, reaches, answer) in story {
+        let is_refused = 0 < to_come && to_come <= *reaches;
+        if is_refused && said(alloc, &mut vault, *call)? != "store failed" {
             return Err(Fail::from("a call that isn't refused"));
         }
-        to_come = to_come.saturating_sub(u64::from(*reaches));
+        to_come = to_come.saturating_sub(*reaches);
         if said(alloc, &mut vault, *call)? != *answer {
             return Err(Fail::from(*answer));
         }
@@ -103,7 +168,15 @@ fn refusals(alloc: Global, n: u64) -> Result<u64, Fail> {
 #[test]
 fn kept_heads_ask_nothing(rt: HostRuntime) -> Result<(), Fail> {
     for n in 0..13 {
-        assert!(rt; refusals(rt.alloc(), n)? == n.min(1), "{n}");
+        assert!(rt; refusals(rt.alloc(), &HEADS, n)? == n.min(1), "{n}");
+    }
+    Ok(())
+}
+
+#[test]
+fn kept_totals_ask_for_what_changed(rt: HostRuntime) -> Result<(), Fail> {
+    for n in 0..20 {
+        assert!(rt; refusals(rt.alloc(), &TOTALS, n)? == n.min(1), "{n}");
     }
     Ok(())
 }

@@ -1,0 +1,6 @@
+-- The vault was only looked at, and rows that fit still do.
+use Rattle.recent.proofs.Looks.{CountsSoFar}
+use Rattle.recent.proofs.totals.count_all.Given as goal
+
+abbrev pub invariant-loop-row : goal.invariant-loop-row
+invariant-loop-row g l = CountsSoFar g.V.Vault.holds g.V.Vault.faults g.V.Vault.is_clean g.V.Vault.is_up l.initial.vault l.vault l.initial.rows l.rows
