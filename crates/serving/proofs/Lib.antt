@@ -10,3 +10,4 @@ pub mod NameTexts
 pub mod Parts
 pub mod Looking
 pub mod Origins
+pub mod Noting
