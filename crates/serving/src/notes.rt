@@ -44,6 +44,5 @@ impl Notes {
     #[inline(always)]
     pub(crate) fn note(&mut self, _asked: &Asked, _octets: &[u8])
         ensures { self.new.calls ≡ self.old.calls ++ call_of _asked.now _octets.now ∷ [] }
-    {
-    }
+    {}
 }
