@@ -1,7 +1,7 @@
 -- What calls tell, one call further.
 use Rattle.std.proofs.Common.{◌≡◌, refl, sym, ◌∙◌, ap, ℕ, ◌+◌, Bool, true, false, List, [], ◌∷◌, ◌++◌, Option, Some, None, subst}
 use Rattle.std.specs.Prelude.{IfSome, MatchOption, option_map, if◌then◌else◌}
-use Rattle.serving.specs.Wires.{Told, ToldOfPorts, IsAccepted, IsFresh, at_port, has_accepted, has_read, has_written, has_closed}
+use Rattle.serving.specs.Wires.{Told, ToldOfPorts, IsAccepted, IsFresh, at_port, has_read, has_written, has_closed}
 use Rattle.serving.specs.Calls.{Call, Accepted, Read, Wrote, Closed}
 use Rattle.serving.specs.Counting.{AreCounted, count_at, counted_with, one_more_at}
 use Rattle.serving.specs.Noted.{nothing, told_since, told_behind, told_of}

@@ -1,5 +1,5 @@
 -- What the calls of a wire tell of its traffic.
-use Rattle.std.specs.Prelude.{◌≡◌, ℕ, false, List, [], ◌∷◌, Option, Some, None}
+use Rattle.std.specs.Prelude.{ℕ, false, List, [], ◌∷◌, Some}
 use Rattle.serving.specs.Wires.{Told, ToldOfPorts, at_port, counted, has_accepted, has_read, has_written, has_closed}
 use Rattle.serving.specs.Calls.{Call, Waited, Accepted, Looked, Read, Wrote, Closed}
 use Rattle.serving.specs.declared.notes.Asked.{Asked}

@@ -1,5 +1,5 @@
 -- What the calls of a spool tell of its files.
-use Rattle.std.specs.Prelude.{◌≡◌, ℕ, true, false, List, [], ◌∷◌, ◌++◌, Some, None}
+use Rattle.std.specs.Prelude.{◌≡◌, ℕ, true, List, [], ◌∷◌, ◌++◌, Some, None}
 use Rattle.std.proofs.Common.{sym, ◌∙◌}
 use Rattle.serving.specs.Spools.{FileAct, WasRead, WasRemoved, WasRenamed, FileCall, Next, Read, Removed, Renamed}
 use Rattle.serving.specs.declared.file_notes.FileAsked.{FileAsked}
