@@ -112,6 +112,9 @@ pub(crate) struct Clients {
     pub(crate) presses: bool,
     /// For how many seconds a login waits for its maildrop's lock.
     pub(crate) wait: u64,
+    /// Where logins wait: a session ended while this turn served the links. No further login is
+    /// read in it, so that in the next turn those who wait are tried by number.
+    pub(crate) is_freed: bool,
     /// Who hasn't logged in, and how long each may take.
     pub(crate) newcomers: Newcomers,
     /// Whose logins were refused.
@@ -128,6 +131,7 @@ impl Clients {
             last: None,
             presses: false,
             wait: 0,
+            is_freed: false,
             newcomers: Newcomers::new(alloc),
             guesses: Guesses::new(alloc),
         }

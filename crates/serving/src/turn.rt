@@ -1,18 +1,20 @@
 //! One turn of serving.
-ghost use Rattle.std.specs.Prelude.{◌≡◌, ◌<◌, ◌+◌, ◌≤◌, ℕ, true, false, List, [], Option, Some, length, take, if◌then◌else◌};
+ghost use Rattle.std.specs.Prelude.{◌≡◌, ◌<◌, ◌+◌, ◌≤◌, ◌||◌, ℕ, true, false, List, [], Option, Some, length, take, if◌then◌else◌};
 ghost use Rattle.office.specs.Events.{Trace};
-ghost use Rattle.office.specs.Trace.{is_open};
+ghost use Rattle.office.specs.Trace.{is_open, history};
+ghost use Rattle.office.specs.Sessions.{live};
 ghost use Rattle.office.specs.Taken.{AreAdmitted};
 ghost use Rattle.office.specs.Stands.{StandsFor, vault_of};
 ghost use Rattle.office.specs.Shown.{outcome_seen};
 ghost use Rattle.serving.specs.Wires.{ToldOfPorts, AreFresh, opened_by};
 ghost use Rattle.serving.specs.Served.{StillServes, StillServesOne, Serves};
+ghost use Rattle.serving.specs.Paces.{has_freed, KeepsAside};
 ghost use Rattle.serving.specs.declared.links.Seat as declared;
 ghost use Rattle.arrayvec.specs.ArrayVec.{array_vec_len};
 
 use crate::files::serve_spool;
 use crate::links::{Clients, Links, MOST_LINKS, Seat};
-use crate::pace::{MOST_AT_ONCE, next_part, origin_at, pace_of};
+use crate::pace::{MOST_AT_ONCE, next_part, origin_at, pace_behind, pace_of};
 use crate::requests::{accept_requests, serve_requests};
 use crate::spool::Spool;
 use crate::wire::{Io, Port, Wire};
@@ -120,7 +122,8 @@ fn note_guess<V: Vault>(
     before: u8,
     now: u64,
 )
-    ensures { links.new.seats ≡ links.old.seats }
+    ensures seats { links.new.seats ≡ links.old.seats }
+    ensures aside { KeepsAside links.old links.new }
 {
     let Some(origin) = origin else {
         return;
@@ -147,12 +150,14 @@ fn read_piece<V: Vault, W: Wire>(
     ensures serves { StillServesOne V.holds V.is_clean W.tells seat office.old wire.old office.new wire.new }
     ensures clean { V.is_clean (vault_of office.new) → V.is_clean (vault_of office.old) }
     ensures seats { links.new.seats ≡ links.old.seats }
+    ensures aside { KeepsAside links.old links.new }
 {
     if !office.ready(seat.connection) {
         return false;
     }
     let origin = origin_at(office, wire, seat, &links.guesses);
     let pace = pace_of(&links.guesses, origin, now);
+    let pace = pace_behind(pace, links.is_freed, office.is_logged_in(seat.connection));
     let part = next_part(office, wire, seat, links.wait, pace);
     if part == 0 {
         return false;
@@ -178,6 +183,7 @@ fn serve_link<V: Vault, W: Wire>(
     ensures serves { StillServesOne V.holds V.is_clean W.tells seat office.old wire.old office.new wire.new }
     ensures clean { V.is_clean (vault_of office.new) → V.is_clean (vault_of office.old) }
     ensures seats { links.new.seats ≡ links.old.seats }
+    ensures aside { KeepsAside links.old links.new }
 {
     let share = share_of(links);
     if write_owed(office, wire, seat, share) {
@@ -201,6 +207,49 @@ fn share_of(links: &Clients) -> usize
     }
 }
 
+/// Notes whether a connection's session ended, for which logins may wait: in this turn no further
+/// login is read, and the next one doesn't wait.
+fn note_freed<V: Vault>(
+    office: &Office<V>,
+    links: &mut Clients,
+    connection: u64,
+    was_logged_in: bool,
+)
+    ensures seats { links.new.seats ≡ links.old.seats }
+    ensures freed { (T : Trace) → StandsFor V.holds office.now T → links.new.is_freed ≡ (links.old.is_freed || has_freed links.old.wait was_logged_in (live (history T) connection)) }
+{
+    if links.wait == 0 {
+        return;
+    }
+    if !was_logged_in {
+        return;
+    }
+    if office.is_logged_in(connection) {
+        return;
+    }
+    links.is_freed = true;
+    links.presses = true;
+}
+
+/// Serves a client's link, and notes whether its session ended.
+fn serve_client<V: Vault, W: Wire>(
+    office: &mut Office<V>,
+    wire: &mut W,
+    links: &mut Clients,
+    seat: Seat,
+    now: u64,
+)
+    ensures serves { StillServesOne V.holds V.is_clean W.tells seat office.old wire.old office.new wire.new }
+    ensures clean { V.is_clean (vault_of office.new) → V.is_clean (vault_of office.old) }
+    ensures seats { links.new.seats ≡ links.old.seats }
+    ensures freed { (T U : Trace) → StandsFor V.holds office.old T → StandsFor V.holds office.new U → links.new.is_freed ≡ (links.old.is_freed || has_freed links.old.wait (live (history T) seat.connection) (live (history U) seat.connection)) }
+{
+    let was_logged_in = office.is_logged_in(seat.connection);
+    let more = serve_link(office, wire, links, seat, now);
+    links.presses |= more;
+    note_freed(office, links, seat.connection, was_logged_in);
+}
+
 /// Serves the link of one seat.
 fn serve_seat<V: Vault, W: Wire>(
     office: &mut Office<V>,
@@ -215,8 +264,7 @@ fn serve_seat<V: Vault, W: Wire>(
     ensures seats { links.new.seats ≡ links.old.seats }
 {
     let seat = links.seats[place];
-    let more = serve_link(office, wire, links, seat, now);
-    links.presses |= more;
+    serve_client(office, wire, links, seat, now);
 }
 
 /// Serves each link, by ascending number of the connections.
@@ -229,6 +277,7 @@ fn serve_links<V: Vault, W: Wire>(
     ensures serves { StillServes V.holds V.is_clean W.tells office.old wire.old links.old.seats.items [] office.new wire.new links.new.seats.items [] }
     ensures clean { V.is_clean (vault_of office.new) → V.is_clean (vault_of office.old) }
 {
+    links.is_freed = false;
     let mut place = 0;
     while place < links.seats.len() {
         serve_seat(office, wire, links, place, now);

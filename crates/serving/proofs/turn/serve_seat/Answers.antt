@@ -6,5 +6,5 @@ use Rattle.serving.proofs.turn.serve_seat.Goals as goal
 pub returns-clause-serves : goal.returns-clause-serves
 returns-clause-serves g c = λ T beside s clean.
     (let seats = c.args.links.now.seats.items in
-    let served = c.serve_link-more.ensures.serves seats [] (contained seats c.deref.result.now c.args.place _ c.deref.ensures.0 c.requires) (λ k d within. absurd (omega (arith, within))) T beside s clean in
-    subst (λ kept. IsServing g.V.Vault.holds g.W.Wire.tells T beside c.serve_link-more.new.office c.serve_link-more.new.wire kept.items []) (sym c.serve_link-more.ensures.seats) served)
+    let served = c.serve_client.ensures.serves seats [] (contained seats c.deref.result.now c.args.place _ c.deref.ensures.0 c.requires) (λ k d within. absurd (omega (arith, within))) T beside s clean in
+    subst (λ kept. IsServing g.V.Vault.holds g.W.Wire.tells T beside c.serve_client.new.office c.serve_client.new.wire kept.items []) (sym c.serve_client.ensures.seats) served)
