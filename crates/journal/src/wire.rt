@@ -169,6 +169,8 @@ impl<'a, W: Wire> LoggedWire<'a, W> {
 impl<W: Wire + Peers> Wire for LoggedWire<'_, W> {
     ghost tells = { λ r. W.tells r.wire };
 
+    ghost asked = { λ r. W.asked r.wire };
+
     ghost tells_once = { λ r. W.tells_once r.wire };
 
     fn wait(&mut self, millis: u32) {

@@ -1,6 +1,7 @@
 pub mod FileNames
 pub mod NextNames
 pub mod Wires
+pub mod Calls
 pub mod Requests
 pub mod Spools
 pub mod Served

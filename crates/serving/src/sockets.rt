@@ -345,6 +345,8 @@ impl Place {
 impl Wire for SocketWire {
     ghost tells = { λ _ _. ⊥ };
 
+    ghost asked = { λ _ _. ⊥ };
+
     ghost tells_once = { λ wire t u a b. absurd a };
 
     fn wait(&mut self, millis: u32) {

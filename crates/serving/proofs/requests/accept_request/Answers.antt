@@ -6,7 +6,7 @@ use Rattle.serving.proofs.requests.accept_request.Goals as goal
 
 pub returns-then-keep : goal.returns-then-keep
 returns-then-keep g c = λ x B start L pop s.
-    (let accepted = c.in-Some.ensures (record { pop = pop; admin = s.told }) s.tells in
+    (let accepted = c.in-Some.ensures.told (record { pop = pop; admin = s.told }) s.tells in
     let is_so : c.keep.result ≡ true = search rules in
     let more = c.keep.ensures.kept is_so in
     let xs = c.args.requests.now.exchanges.items in
@@ -20,14 +20,14 @@ returns-then-keep g c = λ x B start L pop s.
 
 pub returns : goal.returns
 returns g c = λ x B start L pop s.
-    (let accepted = c.in-Some.ensures (record { pop = pop; admin = s.told }) s.tells in
+    (let accepted = c.in-Some.ensures.told (record { pop = pop; admin = s.told }) s.tells in
     let is_so : c.keep.result ≡ false = search rules in
     let xs = c.args.requests.now.exchanges.items in
     let n = c.in-Some.link.number in
     let told2 = has_closed (has_accepted s.told) n in
     record {
       told = told2;
-      tells = c.close.ensures (record { pop = pop; admin = has_accepted s.told }) accepted.1;
+      tells = c.close.ensures.told (record { pop = pop; admin = has_accepted s.told }) accepted.1;
       exchanged = exchanged_same (has_accepted s.told) told2 x B start L (exchanged_accepted s.told x xs B start L s.exchanged) refl (λ k. refl) (λ k. refl) s.exchanged.straight;
       held = subst (AreHeld told2 x) (sym (c.keep.ensures.refused is_so)) (held_refused s.told x xs n accepted.0 s.held);
     })

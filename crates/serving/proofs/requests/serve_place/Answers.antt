@@ -38,7 +38,7 @@ returns-clause-asked g c = λ B start L pop s clean.
     asked_still g.V.Vault.holds g.W.Wire.tells B start L pop c.serve_exchange.new.office c.serve_exchange.new.wire c.close.new.self (λ told x. AreHeld told x ys) (λ told x. AreHeld told x c.remove.new.self.items) all
     (record {
       told = told2;
-      tells = c.close.ensures (record { pop = pop; admin = told }) all.is.tells;
+      tells = c.close.ensures.told (record { pop = pop; admin = told }) all.is.tells;
       exchanged = exchanged_same told told2 all.x B start all.log all.is.exchanged refl (λ k. refl) (λ k. refl) all.is.exchanged.straight;
       held = subst (AreHeld told2 all.x) (sym c.remove.ensures.items)
           (held_without told all.x ys place e2 n within all.is.held (ap (λ y. y.link.number) (sym (get_or-set_same xs place e2 e2 c.requires))));

@@ -22,7 +22,7 @@ returns-in-Some-number-clause-serves g c = λ T beside s clean.
     let link = c.in-Some.link in
     let connection = c.in-Some-number.connection in
     let seats = c.args.links.now.seats.items in
-    let accepted = c.in-Some.ensures (record { pop = s.told; admin = beside.admin }) s.tells in
+    let accepted = c.in-Some.ensures.told (record { pop = s.told; admin = beside.admin }) s.tells in
     let e : opened_by o ≡ Some connection = sym c.opened-number.ensures ∙ c.in-Some-number.is in
     let k = subst (Comes s.log o) {y = Some connection} e (comes now (lent_by c.args.office.now) o (c.step.ensures.outcome now s.stands clean)) in
     let after = owned_at s.told.accepted (next_number s.log) s.owner in
@@ -46,7 +46,7 @@ pub returns-in-None-clause-serves : goal.returns-in-None-clause-serves
 returns-in-None-clause-serves g c = λ T beside s clean.
     (let now = trace_of T.base s.log in
     let o = outcome_seen c.step.result in
-    let accepted = c.in-Some.ensures (record { pop = s.told; admin = beside.admin }) s.tells in
+    let accepted = c.in-Some.ensures.told (record { pop = s.told; admin = beside.admin }) s.tells in
     let e : opened_by o ≡ None = sym c.opened-number.ensures ∙ c.in-None.is in
     let k : IsRefusal (mark_of o) = subst (Comes s.log o) {y = None} e (comes now (lent_by c.args.office.now) o (c.step.ensures.outcome now s.stands clean)) in
     record {
@@ -55,7 +55,7 @@ returns-in-None-clause-serves g c = λ T beside s clean.
       owner = s.owner;
       stands = c.step.ensures.stands now s.stands clean;
       admitted = (c.step.ensures.admitted now s.stands clean, s.admitted);
-      tells = c.close.ensures (record { pop = has_accepted s.told; admin = beside.admin }) accepted.1;
+      tells = c.close.ensures.told (record { pop = has_accepted s.told; admin = beside.admin }) accepted.1;
       served = subst (λ n. AreServed (has_closed (has_accepted s.told) n) s.owner T.base ((event.Connect, mark_of o) ∷ s.log)) (sym accepted.0)
           (served_unseated s.told s.owner T.base s.log (mark_of o) k s.served);
       seated = seated_same s.owner T.base s.log c.args.links.now.seats.items [] ((event.Connect, mark_of o) ∷ s.log) (refused_same s.told s.owner T.base s.log (mark_of o) k) s.seated;

@@ -42,7 +42,7 @@ returns-clause-serves g c = λ T beside s clean.
       owner = k.owner;
       stands = k.stands;
       admitted = k.admitted;
-      tells = c.close.ensures (record { pop = k.told; admin = beside.admin }) k.tells;
+      tells = c.close.ensures.told (record { pop = k.told; admin = beside.admin }) k.tells;
       served = served_closed k.told k.owner T.base k.log _ (closed_own k.owner T.base k.log _ _ own shut) k.served;
       seated = seated_without k.owner (trace_of T.base k.log) seats ys place _ _ c.deref.ensures.0 c.remove.ensures.items c.requires shut k.seated;
       adds = k.adds;

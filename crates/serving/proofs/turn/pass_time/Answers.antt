@@ -18,7 +18,7 @@ returns-clause-serves g c = λ seats these T beside s clean.
       owner = s.owner;
       stands = c.step.ensures.stands now s.stands clean;
       admitted = (c.step.ensures.admitted now s.stands clean, s.admitted);
-      tells = c.wait.ensures (record { pop = s.told; admin = beside.admin }) s.tells;
+      tells = c.wait.ensures.told (record { pop = s.told; admin = beside.admin }) s.tells;
       served = served_tick s.told s.owner T.base s.log c.args.now m s.served;
       seated = seated_fewer s.owner T.base s.log seats these ((event.Tick c.args.now, m) ∷ s.log) (fewer_tick T.base s.log c.args.now m) s.seated;
       adds = adds_one s.owner T.base T.log s.log beside s.told.accepted (event.Tick c.args.now) m tt (λ l Before h. h) (λ l. refl) s.adds;
