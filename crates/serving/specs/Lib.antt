@@ -5,6 +5,11 @@ pub mod Calls
 pub mod Requests
 pub mod Spools
 pub mod Served
+pub mod Settings
+pub mod Works
+pub mod HttpTurns
+pub mod SpoolTurns
+pub mod Turns
 pub mod Deposits
 pub mod Scripts
 pub mod ScriptSpools

@@ -6,6 +6,7 @@ use Rattle.office.specs.Logins.{brings_login}
 use Rattle.serving.specs.Guesses.{holds_back, refusal_of}
 use Rattle.serving.specs.declared.guesses.Guesses.{Guesses}
 use Rattle.serving.specs.declared.links.Clients.{Clients}
+use Rattle.serving.specs.Settings.{settings_of}
 use Rattle.serving.specs.declared.pace.Pace.{Pace}
 use Rattle.serving.specs.declared.pace.Pace.TheVariants.{Free, ByLine, Shut}
 
@@ -55,10 +56,14 @@ part_by true is_free room piece = 0
 part_by false true room piece = room
 part_by false false room piece = first_line piece
 
--- While a link is served, these stay: the seconds that a login waits, whether a session ended in
--- this turn, who hasn't logged in, and which spool file was tried last.
-pub record KeepsAside (links links_then : Clients) : Type 0 where
-  pub wait : links_then.wait ≡ links.wait
-  pub freed : links_then.is_freed ≡ links.is_freed
+-- While a link is served, these stay: the settings, who hasn't logged in, and which spool file was
+-- tried last.
+pub record LeavesSettings (links links_then : Clients) : Type 0 where
+  pub set : settings_of links_then ≡ settings_of links
   pub newcomers : links_then.newcomers ≡ links.newcomers
   pub last : links_then.last ≡ links.last
+
+-- and while it is read from, whether a session ended in this turn
+pub record KeepsAside (links links_then : Clients) : Type 0 where
+  pub leaves : LeavesSettings links links_then
+  pub freed : links_then.is_freed ≡ links.is_freed
