@@ -119,10 +119,10 @@ module _ (cp ca cq cl cr cx : List Call) where
   seen_fifth : (p : Call → Bool) → list_any p cr ≡ true → list_any p (((((cp ++ ca) ++ cq) ++ cl) ++ cr) ++ cx) ≡ true
   seen_fifth p h = any_left p ((((cp ++ ca) ++ cq) ++ cl) ++ cr) cx (any_right p (((cp ++ ca) ++ cq) ++ cl) cr h)
 
-accepted_so : {V : Type 0} (Holds : V → Contents → Type 0) (IsClean : V → Type 0) (o o1 : Office V) (seats seats1 : List Seat) (goes : Bool) (g : Log) (c all : List Call)
+accepted_so : {V : Type 0} (Holds : V → Contents → Type 0) (IsClean : V → Type 0) (Faults : V → ℕ) (o o1 : Office V) (seats seats1 : List Seat) (goes : Bool) (g : Log) (c all : List Call)
     → (list_any tells_none c ≡ true → list_any tells_none all ≡ true) → (a : AreAccepted Holds IsClean o o1 seats seats1 64 goes g c) → HasAccepted (length seats1) all ⊎ (most_links ≤ length a.came)
-accepted_so Holds IsClean o o1 seats seats1 true g c all more a = inr (a.enough refl)
-accepted_so Holds IsClean o o1 seats seats1 false g c all more a =
+accepted_so Holds IsClean Faults o o1 seats seats1 true g c all more a = inr (a.enough refl)
+accepted_so Holds IsClean Faults o o1 seats seats1 false g c all more a =
     ⊎_elim
     (λ (none : none_waited c ≡ true). inl (inl (more none)))
     (λ (full : length seats1 ≡ 128). inl (inr full))
@@ -130,17 +130,17 @@ accepted_so Holds IsClean o o1 seats seats1 false g c all more a =
 
 -- ---- the turn
 
-module _ {V W S : Type 0} (Holds : V → Contents → Type 0) (IsClean : V → Type 0) (Asked : W → List Call → Type 0) (AskedFiles : S → List FileCall → Type 0) where
+module _ {V W S : Type 0} (Holds : V → Contents → Type 0) (IsClean : V → Type 0) (Faults : V → ℕ) (Asked : W → List Call → Type 0) (AskedFiles : S → List FileCall → Type 0) where
   pub turn_done : (T : Trace) (now : ℕ) (links links_then : Links) (o o1 o2 o3 o4 o5 o6 : Office V) (w w1 w2 w3 w4 w5 w6 : W) (f f1 : S) (seats2 : List Seat) (goes : Bool)
-      → Part Holds IsClean Asked o w o1 w1 (IsPassed (millis_of links) now)
-      → Part Holds IsClean Asked o1 w1 o2 w2 (AreAccepted Holds IsClean o1 o2 links.clients.seats.items seats2 64 goes)
+      → Part Holds IsClean Faults Asked o w o1 w1 (IsPassed (millis_of links) now)
+      → Part Holds IsClean Faults Asked o1 w1 o2 w2 (AreAccepted Holds IsClean o1 o2 links.clients.seats.items seats2 64 goes)
       → Asking Asked w2 w3 (IsQuiet [])
-      → Part Holds IsClean Asked o2 w3 o3 w4 (HadTurns Holds IsClean o2 o3 (way_of links (length seats2)) seats2 seats2)
-      → Part Holds IsClean Asked o3 w4 o4 w5 (IsQuietFor [])
-      → Giving Holds IsClean o4 o5 (AreLateGone now links.clients.newcomers.seconds links.clients.newcomers.newcomers.items)
+      → Part Holds IsClean Faults Asked o2 w3 o3 w4 (HadTurns Holds IsClean o2 o3 (way_of links (length seats2)) seats2 seats2)
+      → Part Holds IsClean Faults Asked o3 w4 o4 w5 (IsQuietFor [])
+      → Giving Holds IsClean Faults o4 o5 (AreLateGone now links.clients.newcomers.seconds links.clients.newcomers.newcomers.items)
       → ((U : Trace) → StandsFor Holds o5 U → Asking Asked w5 w6 (AreClosed U seats2 links_then.clients.seats.items))
-      → SpoolPart Holds IsClean AskedFiles o5 f o6 f1 (IsSpoolTurn (last_tried links) (last_tried links_then))
-      → StandsFor Holds o T → IsClean (vault_of o6) → Works Holds Asked AskedFiles T now links w f o6 links_then w6 f1
+      → SpoolPart Holds IsClean Faults AskedFiles o5 f o6 f1 (IsSpoolTurn (last_tried links) (last_tried links_then))
+      → StandsFor Holds o T → IsClean (vault_of o6) → Works Holds Faults Asked AskedFiles T now links o w f o6 links_then w6 f1
   turn_done T now links links_then o o1 o2 o3 o4 o5 o6 w w1 w2 w3 w4 w5 w6 f f1 seats2 goes pass acc asked served reqs late close spool s k6 =
       let B = T.base in
       let L = T.log in
@@ -159,11 +159,11 @@ module _ {V W S : Type 0} (Holds : V → Contents → Type 0) (IsClean : V → T
       let G2 : Log = gl ++ G1 in
       let G3 : Log = gr ++ G2 in
       let G4 : Log = gx ++ G3 in
-      let u1 = given_then Holds IsClean o o1 o2 gp ga pass.was_given acc.was_given in
-      let u2 = given_then Holds IsClean o o2 o3 G1 gl u1 served.was_given in
-      let u3 = given_then Holds IsClean o o3 o4 G2 gr u2 reqs.was_given in
-      let ux = given_then Holds IsClean o4 o5 o6 gz gs late.was_given spool.was_given in
-      let u4 = given_then Holds IsClean o o4 o6 G3 gx u3 ux in
+      let u1 = given_then Holds IsClean Faults o o1 o2 gp ga pass.was_given acc.was_given in
+      let u2 = given_then Holds IsClean Faults o o2 o3 G1 gl u1 served.was_given in
+      let u3 = given_then Holds IsClean Faults o o3 o4 G2 gr u2 reqs.was_given in
+      let ux = given_then Holds IsClean Faults o4 o5 o6 gz gs late.was_given spool.was_given in
+      let u4 = given_then Holds IsClean Faults o o4 o6 G3 gx u3 ux in
       let k5 = spool.was_given.clean k6 in
       let k4 = late.was_given.clean k5 in
       let k3 = reqs.was_given.clean k4 in
@@ -228,6 +228,7 @@ module _ {V W S : Type 0} (Holds : V → Contents → Type 0) (IsClean : V → T
         came = came;
         seats = seats2;
         stands = u4.stands B L s k6;
+        failed = u4.failed B L s k6;
         asked =
             asked_then Asked w w5 w6 ((((cp ++ ca) ++ cq) ++ cl) ++ cr) cx
             (asked_then Asked w w4 w5 (((cp ++ ca) ++ cq) ++ cl) cr
@@ -256,7 +257,7 @@ module _ {V W S : Type 0} (Holds : V → Contents → Type 0) (IsClean : V → T
           );
           told = only_last moment_of gx G3 (none_joined moment_of gs gz quiet.quiet.no_moments hush.no_moments)
               ∙ (only_last moment_of gr G2 rq.no_moments ∙ (only_last moment_of gl G1 lq.no_moments ∙ (only_last moment_of ga gp come.no_moments ∙ moments_p)));
-          accepted = accepted_so Holds IsClean o1 o2 links.clients.seats.items seats2 goes ga ca C5 (seen_second cp ca cq cl cr cx tells_none) acc.facts;
+          accepted = accepted_so Holds IsClean Faults o1 o2 links.clients.seats.items seats2 goes ga ca C5 (seen_second cp ca cq cl cr cx tells_none) acc.facts;
           arrived = only_first _ ((((cp ++ ca) ++ cq) ++ cl) ++ cr) cx arrivals_x
               ∙ (seen_first cp ca cq cl cr cx arrival_of asked.facts.no_arrivals lq.no_arrivals rq.no_arrivals ∙ (only_last arrival_of cp ca arrivals_p ∙ come.arrived));
           opened =

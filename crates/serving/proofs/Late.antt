@@ -139,18 +139,18 @@ late_gone_one now seconds xs ys less (event.Deposit d class id text, m) h = absu
 late_gone_one now seconds xs ys less (event.Admin command, m) h = absurd h
 late_gone_one now seconds xs ys less (event.Restart boot, m) h = absurd h
 
-pub gone_then : {V : Type 0} (Holds : V → Contents → Type 0) (IsClean : V → Type 0) (now seconds : ℕ) (xs ys : List Newcomer) (o o1 o2 : Office V) → AreNoMoreLate now seconds xs ys
-    → Giving Holds IsClean o o1 (AreLateGone now seconds xs) → Giving Holds IsClean o1 o2 (AreLateGone now seconds ys) → Giving Holds IsClean o o2 (AreLateGone now seconds xs)
-gone_then Holds IsClean now seconds xs ys o o1 o2 less a b = record {
+pub gone_then : {V : Type 0} (Holds : V → Contents → Type 0) (IsClean : V → Type 0) (Faults : V → ℕ) (now seconds : ℕ) (xs ys : List Newcomer) (o o1 o2 : Office V) → AreNoMoreLate now seconds xs ys
+    → Giving Holds IsClean Faults o o1 (AreLateGone now seconds xs) → Giving Holds IsClean Faults o1 o2 (AreLateGone now seconds ys) → Giving Holds IsClean Faults o o2 (AreLateGone now seconds xs)
+gone_then Holds IsClean Faults now seconds xs ys o o1 o2 less a b = record {
   given = b.given ++ a.given;
-  was_given = given_then Holds IsClean o o1 o2 a.given b.given a.was_given b.was_given;
+  was_given = given_then Holds IsClean Faults o o1 o2 a.given b.given a.was_given b.was_given;
   facts = All-append (IsLateGone now seconds xs) b.given a.given (All-weaker (IsLateGone now seconds ys) (IsLateGone now seconds xs) (late_gone_one now seconds xs ys less) b.given b.facts) a.facts;
 }
 
-pub gone_so : {V : Type 0} (Holds : V → Contents → Type 0) (IsClean : V → Type 0) (now seconds seconds0 : ℕ) (xs ys : List Newcomer) (o o1 : Office V) → seconds ≡ seconds0 → AreNoMoreLate now seconds0 xs ys
-    → Giving Holds IsClean o o1 (AreLateGone now seconds ys) → Giving Holds IsClean o o1 (AreLateGone now seconds0 xs)
-gone_so Holds IsClean now seconds seconds0 xs ys o o1 is less a =
-    let b = subst (λ n. Giving Holds IsClean o o1 (AreLateGone now n ys)) is a in
+pub gone_so : {V : Type 0} (Holds : V → Contents → Type 0) (IsClean : V → Type 0) (Faults : V → ℕ) (now seconds seconds0 : ℕ) (xs ys : List Newcomer) (o o1 : Office V) → seconds ≡ seconds0 → AreNoMoreLate now seconds0 xs ys
+    → Giving Holds IsClean Faults o o1 (AreLateGone now seconds ys) → Giving Holds IsClean Faults o o1 (AreLateGone now seconds0 xs)
+gone_so Holds IsClean Faults now seconds seconds0 xs ys o o1 is less a =
+    let b = subst (λ n. Giving Holds IsClean Faults o o1 (AreLateGone now n ys)) is a in
     record {
       given = b.given;
       was_given = b.was_given;

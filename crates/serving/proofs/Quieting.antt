@@ -50,11 +50,11 @@ module _ {W : Type 0} (Asked : W → List Call → Type 0) where
 
 -- ---- one event
 
-module _ {V : Type 0} (Holds : V → Contents → Type 0) (IsClean : V → Type 0) where
-  pub gives_nothing : (o : Office V) → Giving Holds IsClean o o (λ given. IsQuietFor [] given [])
-  gives_nothing o = record { given = []; was_given = given_none Holds IsClean o; facts = record { quiet = quiet_none; caused = All-nil (HasCause [] []) } }
+module _ {V : Type 0} (Holds : V → Contents → Type 0) (IsClean : V → Type 0) (Faults : V → ℕ) where
+  pub gives_nothing : (o : Office V) → Giving Holds IsClean Faults o o (λ given. IsQuietFor [] given [])
+  gives_nothing o = record { given = []; was_given = given_none Holds IsClean Faults o; facts = record { quiet = quiet_none; caused = All-nil (HasCause [] []) } }
 
-  pub gives_command : (o o1 : Office V) (command : AdminCommand) (m : Mark) → WasGiven Holds IsClean o o1 ((event.Admin command, m) ∷ []) → Giving Holds IsClean o o1 (λ given. IsQuietFor [] given [])
+  pub gives_command : (o o1 : Office V) (command : AdminCommand) (m : Mark) → WasGiven Holds IsClean Faults o o1 ((event.Admin command, m) ∷ []) → Giving Holds IsClean Faults o o1 (λ given. IsQuietFor [] given [])
   gives_command o o1 command m is = record {
     given = (event.Admin command, m) ∷ [];
     was_given = is;
@@ -66,28 +66,28 @@ module _ {V : Type 0} (Holds : V → Contents → Type 0) (IsClean : V → Type 
 
 -- ---- parts
 
-module _ {V W : Type 0} (Holds : V → Contents → Type 0) (IsClean : V → Type 0) (Asked : W → List Call → Type 0) where
-  pub nothing_done : (o : Office V) (w : W) → Part Holds IsClean Asked o w o w (IsQuietFor [])
+module _ {V W : Type 0} (Holds : V → Contents → Type 0) (IsClean : V → Type 0) (Faults : V → ℕ) (Asked : W → List Call → Type 0) where
+  pub nothing_done : (o : Office V) (w : W) → Part Holds IsClean Faults Asked o w o w (IsQuietFor [])
   nothing_done o w = record {
     given = [];
     calls = [];
-    was_given = given_none Holds IsClean o;
+    was_given = given_none Holds IsClean Faults o;
     was_asked = asked_none Asked w;
     facts = record { quiet = quiet_none; caused = All-nil (HasCause [] []) };
   }
 
-  pub only_asked : (o : Office V) (w w1 : W) → Asking Asked w w1 (IsQuiet []) → Part Holds IsClean Asked o w o w1 (IsQuietFor [])
+  pub only_asked : (o : Office V) (w w1 : W) → Asking Asked w w1 (IsQuiet []) → Part Holds IsClean Faults Asked o w o w1 (IsQuietFor [])
   only_asked o w w1 a = record {
     given = [];
     calls = a.calls;
-    was_given = given_none Holds IsClean o;
+    was_given = given_none Holds IsClean Faults o;
     was_asked = a.was_asked;
     facts = record { quiet = a.facts; caused = All-nil (HasCause [] a.calls) };
   }
 
-  pub only_given : (o o1 : Office V) (w : W) → Giving Holds IsClean o o1 (λ given. IsQuietFor [] given []) → Part Holds IsClean Asked o w o1 w (IsQuietFor [])
+  pub only_given : (o o1 : Office V) (w : W) → Giving Holds IsClean Faults o o1 (λ given. IsQuietFor [] given []) → Part Holds IsClean Faults Asked o w o1 w (IsQuietFor [])
   only_given o o1 w a = record { given = a.given; calls = []; was_given = a.was_given; was_asked = asked_none Asked w; facts = a.facts }
 
-  pub both_done : (o o1 o2 : Office V) (w w1 w2 : W) → Part Holds IsClean Asked o w o1 w1 (IsQuietFor []) → Part Holds IsClean Asked o1 w1 o2 w2 (IsQuietFor []) → Part Holds IsClean Asked o w o2 w2 (IsQuietFor [])
+  pub both_done : (o o1 o2 : Office V) (w w1 w2 : W) → Part Holds IsClean Faults Asked o w o1 w1 (IsQuietFor []) → Part Holds IsClean Faults Asked o1 w1 o2 w2 (IsQuietFor []) → Part Holds IsClean Faults Asked o w o2 w2 (IsQuietFor [])
   both_done o o1 o2 w w1 w2 a b =
-      part_then Holds IsClean Asked o o1 o2 w w1 w2 (IsQuietFor []) (IsQuietFor []) (IsQuietFor []) (λ g1 g2 c1 c2 wa wb p q. of_then [] g1 g2 c1 c2 p q) a b
+      part_then Holds IsClean Faults Asked o o1 o2 w w1 w2 (IsQuietFor []) (IsQuietFor []) (IsQuietFor []) (λ g1 g2 c1 c2 wa wb p q. of_then [] g1 g2 c1 c2 p q) a b

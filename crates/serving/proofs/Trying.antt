@@ -27,17 +27,17 @@ trying_so T lent n text read o d is_done same fate h =
     (subst (λ x. IsTrying n T ((e, Tagged h.tag) ∷ []) (Read n (Some x) ∷ disposing n is_done d)) same
     (subst (λ x. IsTrying n T ((e, Tagged h.tag) ∷ []) (Read n (Some text) ∷ disposing n is_done x)) (sym disposal_is) (WasTried text h.tag is_done)))
 
-module _ {V S : Type 0} (Holds : V → Contents → Type 0) (IsClean : V → Type 0) (Asked : S → List FileCall → Type 0) where
+module _ {V S : Type 0} (Holds : V → Contents → Type 0) (IsClean : V → Type 0) (Faults : V → ℕ) (Asked : S → List FileCall → Type 0) where
   two_calls : (s s1 s2 : S) (call : FileCall) (calls : List FileCall) → ((before : List FileCall) → Asked s before → Asked s1 (before ++ call ∷ []))
       → ((before : List FileCall) → Asked s1 before → Asked s2 (before ++ calls)) → (before : List FileCall) → Asked s before → Asked s2 (before ++ call ∷ calls)
   two_calls s s1 s2 call calls a b before k = subst (Asked s2) (append_assoc before (call ∷ []) calls) (b (before ++ call ∷ []) (a before k))
 
   pub tries_none : (o : Office V) (s s1 : S) (last : Option FileName) → ((before : List FileCall) → Asked s before → Asked s1 (before ++ Next last None ∷ []))
-      → SpoolPart Holds IsClean Asked o s o s1 (IsSpoolTurn last last)
-  tries_none o s s1 last is = record { given = []; calls = Next last None ∷ []; was_given = given_none Holds IsClean o; was_asked = is; deposits = tt; facts = λ T st k. NoFileThere T }
+      → SpoolPart Holds IsClean Faults Asked o s o s1 (IsSpoolTurn last last)
+  tries_none o s s1 last is = record { given = []; calls = Next last None ∷ []; was_given = given_none Holds IsClean Faults o; was_asked = is; deposits = tt; facts = λ T st k. NoFileThere T }
 
   pub tries_one : (o o1 : Office V) (s s1 s2 : S) (last : Option FileName) (name : FileName) → ((before : List FileCall) → Asked s before → Asked s1 (before ++ Next last (Some name) ∷ []))
-      → SpoolPart Holds IsClean Asked o s1 o1 s2 (IsTrying name) → SpoolPart Holds IsClean Asked o s o1 s2 (IsSpoolTurn last (Some name))
+      → SpoolPart Holds IsClean Faults Asked o s1 o1 s2 (IsTrying name) → SpoolPart Holds IsClean Faults Asked o s o1 s2 (IsSpoolTurn last (Some name))
   tries_one o o1 s s1 s2 last name is a = record {
     given = a.given;
     calls = Next last (Some name) ∷ a.calls;
@@ -47,16 +47,16 @@ module _ {V S : Type 0} (Holds : V → Contents → Type 0) (IsClean : V → Typ
     facts = λ T st k. TriesOne name T a.given a.calls (a.facts T st k);
   }
 
-  pub tries_unread : (o : Office V) (s s1 : S) (name : FileName) → ((before : List FileCall) → Asked s before → Asked s1 (before ++ Read name None ∷ [])) → SpoolPart Holds IsClean Asked o s o s1 (IsTrying name)
-  tries_unread o s s1 name is = record { given = []; calls = Read name None ∷ []; was_given = given_none Holds IsClean o; was_asked = is; deposits = tt; facts = λ T st k. CouldNotRead }
+  pub tries_unread : (o : Office V) (s s1 : S) (name : FileName) → ((before : List FileCall) → Asked s before → Asked s1 (before ++ Read name None ∷ [])) → SpoolPart Holds IsClean Faults Asked o s o s1 (IsTrying name)
+  tries_unread o s s1 name is = record { given = []; calls = Read name None ∷ []; was_given = given_none Holds IsClean Faults o; was_asked = is; deposits = tt; facts = λ T st k. CouldNotRead }
 
   -- a file was read and deposited, and these further calls were made
   pub tries_read : (o o1 : Office V) (s s1 s2 : S) (lent : ℕ → ℕ) (name : FileName) (text read : List ℕ) (out : Outcome) (d : Disposal) (is_done : Bool) → text ≡ read → d ≡ disposal_of out
-      → WasGiven Holds IsClean o o1 ((deposit_of name text, mark_of out) ∷ [])
+      → WasGiven Holds IsClean Faults o o1 ((deposit_of name text, mark_of out) ∷ [])
       → ((T : Trace) → StandsFor Holds o T → IsClean (vault_of o1) → IsOutcome T lent (deposit_of name text) out)
       → ((before : List FileCall) → Asked s before → Asked s1 (before ++ Read name (Some read) ∷ []))
       → ((before : List FileCall) → Asked s1 before → Asked s2 (before ++ disposing name is_done d))
-      → SpoolPart Holds IsClean Asked o s o1 s2 (IsTrying name)
+      → SpoolPart Holds IsClean Faults Asked o s o1 s2 (IsTrying name)
   tries_read o o1 s s1 s2 lent name text read out d is_done same fate given outcome a b = record {
     given = (deposit_of name text, mark_of out) ∷ [];
     calls = Read name (Some read) ∷ disposing name is_done d;

@@ -65,7 +65,7 @@ kept_more T c piece wait may may2 more h =
     (λ (b : (may ≡ true) × (brings_login T c piece ≡ true)). inr (more b.0, b.1))
     h
 
-module _ {V : Type 0} (Holds : V → Contents → Type 0) (IsClean : V → Type 0) where
+module _ {V : Type 0} (Holds : V → Contents → Type 0) (IsClean : V → Type 0) (Faults : V → ℕ) where
   pub wrote_some : (o o1 : Office V) (seat : Seat) (n : ℕ) (octets : List ℕ) (m : Mark) → 0 < n
       → IsWritten Holds IsClean o o1 seat (if n == 0 then 0 else 1) n (not (n == 0)) ((event.Took seat.connection n, m) ∷ []) (Wrote Pop seat.link (Count n) octets ∷ [])
   wrote_some o o1 seat n octets m some =
@@ -175,10 +175,10 @@ module _ {V : Type 0} (Holds : V → Contents → Type 0) (IsClean : V → Type 
   pub written_none : (o : Office V) (seat : Seat) → IsWritten Holds IsClean o o seat 0 0 true [] []
   written_none o seat = record { of_seat = of_none (seat ∷ []); taken = omega arith; octets_are = omega arith; ends = λ e. cc }
 
-  owes_then : (o o1 o2 : Office V) (c : ℕ) (g1 g2 : Log) → WasGiven Holds IsClean o o1 g1 → WasGiven Holds IsClean o1 o2 g2 → OwesNothing Holds IsClean o1 o2 c g2 → OwesNothing Holds IsClean o o2 c (g2 ++ g1)
+  owes_then : (o o1 o2 : Office V) (c : ℕ) (g1 g2 : Log) → WasGiven Holds IsClean Faults o o1 g1 → WasGiven Holds IsClean Faults o1 o2 g2 → OwesNothing Holds IsClean o1 o2 c g2 → OwesNothing Holds IsClean o o2 c (g2 ++ g1)
   owes_then o o1 o2 c g1 g2 a b owes = λ B L s k. subst (λ l. rest (trace_of B l) c ≡ []) (sym (append_assoc g2 g1 L)) (owes B (g1 ++ L) (a.stands B L s (b.clean k)) k)
 
-  pub written_then : (o o1 o2 : Office V) (seat : Seat) (n1 n2 k1 k2 : ℕ) (goes : Bool) (g1 g2 : Log) (c1 c2 : List Call) → WasGiven Holds IsClean o o1 g1 → WasGiven Holds IsClean o1 o2 g2
+  pub written_then : (o o1 o2 : Office V) (seat : Seat) (n1 n2 k1 k2 : ℕ) (goes : Bool) (g1 g2 : Log) (c1 c2 : List Call) → WasGiven Holds IsClean Faults o o1 g1 → WasGiven Holds IsClean Faults o1 o2 g2
       → IsWritten Holds IsClean o o1 seat n1 k1 true g1 c1 → IsWritten Holds IsClean o1 o2 seat n2 k2 goes g2 c2 → IsWritten Holds IsClean o o2 seat (n1 + n2) (k1 + k2) goes (g2 ++ g1) (c1 ++ c2)
   written_then o o1 o2 seat n1 n2 k1 k2 goes g1 g2 c1 c2 wa wb a b = record {
     of_seat = of_then (seat ∷ []) g1 g2 c1 c2 a.of_seat b.of_seat;
@@ -226,7 +226,7 @@ module _ {V : Type 0} (Holds : V → Contents → Type 0) (IsClean : V → Type 
         All-cons (HadTurn way B L g (trace_of B (g ++ L)) c) seat [] (λ here. inl (turn_written o o1 way seat g c a)) (All-nil (HadTurn way B L g (trace_of B (g ++ L)) c));
   }
 
-  served_unless : (o o1 o2 : Office V) (way : Way) (seat : Seat) (goes : Bool) (g1 : Log) (c1 c2 : List Call) → WasGiven Holds IsClean o o1 g1 → (IsClean (vault_of o2) → IsClean (vault_of o1))
+  served_unless : (o o1 o2 : Office V) (way : Way) (seat : Seat) (goes : Bool) (g1 : Log) (c1 c2 : List Call) → WasGiven Holds IsClean Faults o o1 g1 → (IsClean (vault_of o2) → IsClean (vault_of o1))
       → IsWrittenOut Holds IsClean o o1 seat way.share goes g1 c1 → IsNotReady Holds o1 seat.connection
       → (B : Records) (L : Log) → StandsFor Holds o (trace_of B L) → IsClean (vault_of o2) → is_open (trace_of B (g1 ++ L)) seat.connection ≡ true → had_its_turn way.share seat.link (c1 ++ c2) ≡ true
   served_unless o o1 o2 way seat true g1 c1 c2 wa clean a no B L s k here = turn_left way.share seat.link c1 c2 (turn_written o o1 way seat g1 c1 a)
@@ -238,7 +238,7 @@ module _ {V : Type 0} (Holds : V → Contents → Type 0) (IsClean : V → Type 
       absurd (shut_by (is_open T seat.connection) (untaken T.log (history T) seat.connection) (owes B L s (clean k)) (no B (g1 ++ L) (wa.stands B L s (clean k))) here)))
       (a.ends refl)
 
-  pub served_one : (o o1 o2 : Office V) (way : Way) (seat : Seat) (goes : Bool) (g1 g2 : Log) (c1 c2 : List Call) → WasGiven Holds IsClean o o1 g1 → WasGiven Holds IsClean o1 o2 g2
+  pub served_one : (o o1 o2 : Office V) (way : Way) (seat : Seat) (goes : Bool) (g1 g2 : Log) (c1 c2 : List Call) → WasGiven Holds IsClean Faults o o1 g1 → WasGiven Holds IsClean Faults o1 o2 g2
       → IsWrittenOut Holds IsClean o o1 seat way.share goes g1 c1 → IsHeard Holds o1 seat way.wait way.may g2 c2 → HadTurns Holds IsClean o o2 way (seat ∷ []) (seat ∷ []) (g2 ++ g1) (c1 ++ c2)
   served_one o o1 o2 way seat goes g1 g2 c1 c2 wa wb a b = record {
     of_seats = of_then (seat ∷ []) g1 g2 c1 c2 a.of_seat b.of_seat;
@@ -267,7 +267,7 @@ module _ {V : Type 0} (Holds : V → Contents → Type 0) (IsClean : V → Type 
   }
 
   -- more is done for the same link
-  pub served_then : (o o1 o2 : Office V) (way : Way) (seat : Seat) (g1 g2 : Log) (c1 c2 : List Call) → WasGiven Holds IsClean o o1 g1 → WasGiven Holds IsClean o1 o2 g2
+  pub served_then : (o o1 o2 : Office V) (way : Way) (seat : Seat) (g1 g2 : Log) (c1 c2 : List Call) → WasGiven Holds IsClean Faults o o1 g1 → WasGiven Holds IsClean Faults o1 o2 g2
       → HadTurns Holds IsClean o o1 way (seat ∷ []) (seat ∷ []) g1 c1 → IsQuietFor (seat ∷ []) g2 c2 → HadTurns Holds IsClean o o2 way (seat ∷ []) (seat ∷ []) (g2 ++ g1) (c1 ++ c2)
   served_then o o1 o2 way seat g1 g2 c1 c2 wa wb a b = record {
     of_seats = of_then (seat ∷ []) g1 g2 c1 c2 a.of_seats b;
@@ -319,7 +319,7 @@ module _ {V : Type 0} (Holds : V → Contents → Type 0) (IsClean : V → Type 
   pub served_none : (o : Office V) (way : Way) (seats : List Seat) → HadTurns Holds IsClean o o way seats [] [] []
   served_none o way seats = record { of_seats = of_none seats; turns = λ B L s k. All-nil (HadTurn way B L [] (trace_of B L) []) }
 
-  pub served_more : (o o1 o2 : Office V) (way : Way) (seats now : List Seat) (i : ℕ) (d : Seat) (g1 g2 : Log) (c1 c2 : List Call) → now ≡ seats → i < length now → WasGiven Holds IsClean o o1 g1 → WasGiven Holds IsClean o1 o2 g2
+  pub served_more : (o o1 o2 : Office V) (way : Way) (seats now : List Seat) (i : ℕ) (d : Seat) (g1 g2 : Log) (c1 c2 : List Call) → now ≡ seats → i < length now → WasGiven Holds IsClean Faults o o1 g1 → WasGiven Holds IsClean Faults o1 o2 g2
       → HadTurns Holds IsClean o o1 way seats (take i seats) g1 c1 → HadTurns Holds IsClean o1 o2 way now (get_or now i d ∷ []) g2 c2 → HadTurns Holds IsClean o o2 way seats (take (i + 1) seats) (g2 ++ g1) (c1 ++ c2)
   served_more o o1 o2 way seats now i d g1 g2 c1 c2 is within wa wb a at_now =
       let h : i < length seats = subst (λ xs. i < length xs) is within in
@@ -344,17 +344,17 @@ module _ {V : Type 0} (Holds : V → Contents → Type 0) (IsClean : V → Type 
 
 -- ---- what was looked at first
 
-module _ {V W : Type 0} (Holds : V → Contents → Type 0) (IsClean : V → Type 0) (Asked : W → List Call → Type 0) where
+module _ {V W : Type 0} (Holds : V → Contents → Type 0) (IsClean : V → Type 0) (Faults : V → ℕ) (Asked : W → List Call → Type 0) where
   pub heard_asked : (o : Office V) (w w1 : W) (seat : Seat) (wait : ℕ) (may : Bool) (calls : List Call) → WasAsked Asked w w1 calls → IsHeard Holds o seat wait may [] calls
-      → Part Holds IsClean Asked o w o w1 (IsHeard Holds o seat wait may)
-  heard_asked o w w1 seat wait may calls asked a = record { given = []; calls = calls; was_given = given_none Holds IsClean o; was_asked = asked; facts = a }
+      → Part Holds IsClean Faults Asked o w o w1 (IsHeard Holds o seat wait may)
+  heard_asked o w w1 seat wait may calls asked a = record { given = []; calls = calls; was_given = given_none Holds IsClean Faults o; was_asked = asked; facts = a }
 
   pub heard_after : (o o1 : Office V) (w w1 w2 : W) (seat : Seat) (wait : ℕ) (may : Bool) (looks : List Call) → IsQuiet [] looks → WasAsked Asked w w1 looks
-      → Part Holds IsClean Asked o w1 o1 w2 (IsHeard Holds o seat wait may) → Part Holds IsClean Asked o w o1 w2 (IsHeard Holds o seat wait may)
+      → Part Holds IsClean Faults Asked o w1 o1 w2 (IsHeard Holds o seat wait may) → Part Holds IsClean Faults Asked o w o1 w2 (IsHeard Holds o seat wait may)
   heard_after o o1 w w1 w2 seat wait may looks quiet asked a = record {
     given = a.given;
     calls = looks ++ a.calls;
     was_given = a.was_given;
     was_asked = asked_then Asked w w1 w2 looks a.calls asked a.was_asked;
-    facts = heard_behind Holds IsClean wait may o seat a.given looks a.calls quiet a.facts;
+    facts = heard_behind Holds IsClean Faults wait may o seat a.given looks a.calls quiet a.facts;
   }

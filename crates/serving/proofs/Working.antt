@@ -1,12 +1,13 @@
 -- That parts of a turn, one after the other, do what they do all together.
-use Rattle.std.proofs.Common.{◌≡◌, ℕ, zero, suc, ◌+◌, ◌<◌, ◌≤◌, Bool, true, false, not, ◌&&◌, ◌||◌, ◌==◌, List, [], ◌∷◌, ◌++◌, length, take, drop, map, min, get_or, refl, sym, ◌∙◌, ap, arith, Some, None, Option, ⊎_elim, ◌⊎◌, inl, inr, subst, true≢false, append_assoc, length-append, le-leb, leb-true, nat_le, eqb-true}
+use Rattle.std.proofs.Common.{◌≡◌, ℕ, zero, suc, ◌+◌, ◌<◌, ◌≤◌, Bool, true, false, not, ◌&&◌, ◌||◌, ◌==◌, List, [], ◌∷◌, ◌++◌, length, take, drop, map, min, get_or, refl, sym, ◌∙◌, ap, arith, Some, None, Option, ⊎_elim, ◌⊎◌, inl, inr, subst, true≢false, append_assoc, length-append, le-leb, leb-true, nat_le, nat_lt, eqb-true}
 use Rattle.std.specs.Bool.{⊤, if◌then◌else◌}
 use Rattle.std.specs.List.{All, Contains, list_any, filter, filter_map, remove}
-use Rattle.std.proofs.lemmas.Bool.{or_cases}
+use Rattle.std.proofs.lemmas.Bool.{or_cases, ltb-true, lt-ltb}
 use Rattle.std.proofs.lemmas.List.{append-nil, map-append}
 use Rattle.std.proofs.lemmas.List.Elements.{All-nil, All-cons, All-head, All-tail, All-append, All-weaker, All-take, All-more, filter_map-append, filter-append, filter_more, Contains-append_left, Contains-append_right}
 use Rattle.std.proofs.lemmas.List.Folds.{list_any-append}
 use Rattle.vault.specs.Records.{Records}
+use Rattle.vault.specs.Calls.{greatest_count, has_grown}
 use Rattle.vault.specs.Changes.{Contents}
 use Rattle.office.specs.History.{Tag, Done, Failed, NoMemory}
 use Rattle.office.specs.Replying.{is_empty}
@@ -14,7 +15,7 @@ use Rattle.office.specs.Events.{Event, Mark, Tagged, Ignored, Log, Trace}
 use Rattle.office.specs.Events as event
 use Rattle.office.specs.Trace.{history, is_open, is_ready, rest, rest_if, untaken}
 use Rattle.office.specs.Expected.{or_ignored, reason_if, shown_at, most_in_a_piece}
-use Rattle.office.specs.Outcomes.{Outcome, Reason, NoSuchConnection, NotReady, PieceTooLong, mark_of}
+use Rattle.office.specs.Outcomes.{Outcome, Reason, NoSuchConnection, NotReady, PieceTooLong, mark_of, HasCause as HasItsCause}
 use Rattle.office.specs.Outcomes as outcome
 use Rattle.office.specs.Taken.{trace_of, IsAdmitted}
 use Rattle.office.specs.Stands.{StandsFor, vault_of}
@@ -24,7 +25,7 @@ use Rattle.serving.specs.Calls.{Call, Looked}
 use Rattle.serving.specs.declared.wire.Port.TheVariants.{Pop}
 use Rattle.serving.specs.declared.links.Seat.{Seat}
 use Rattle.serving.specs.declared.newcomers.Newcomer.{Newcomer}
-use Rattle.serving.specs.Works.{waits, arrivals, closings, is_read_of, is_later_of, is_taking_of, is_cut_of, is_cut, most_writes, octets_taken, had_its_turn, moments, moment_of, openings, is_opening, refusals, is_refusal, AreNewlyAdmitted, IsLateGone, AreLateGone, HasCause, AreCaused, WasGiven, WasAsked, Part, Asking, Giving, IsQuiet, IsQuietFor, IsKeptBack, StaysUnread, Way, HadTurn}
+use Rattle.serving.specs.Works.{waits, arrivals, closings, is_read_of, is_later_of, is_taking_of, is_cut_of, is_cut, most_writes, octets_taken, had_its_turn, moments, moment_of, openings, is_opening, refusals, is_refusal, AreNewlyAdmitted, is_failed, IsLateGone, AreLateGone, HasCause, AreCaused, WasGiven, WasAsked, Part, Asking, Giving, IsQuiet, IsQuietFor, IsKeptBack, StaysUnread, Way, HadTurn}
 use Rattle.serving.proofs.Staying.{Fewer, fewer_framed, frame_read, frame_took, frame_gone, fewer_tick, deposit_same, fewer_command}
 
 -- ---- one after the other
@@ -33,26 +34,68 @@ newly_then : (B : Records) (L g1 g2 : Log) → AreNewlyAdmitted B L g1 → AreNe
 newly_then B L g1 [] a b = a
 newly_then B L g1 ((e, m) ∷ g2) a b = (subst (λ l. IsAdmitted (trace_of B l) e m) (sym (append_assoc g2 g1 L)) b.0, newly_then B L g1 g2 a b.1)
 
-module _ {V : Type 0} (Holds : V → Contents → Type 0) (IsClean : V → Type 0) where
-  pub given_none : (o : Office V) → WasGiven Holds IsClean o o []
-  given_none o = record { clean = λ k. k; stands = λ B L s k. s; admitted = λ B L s k. tt }
+or_true : (b : Bool) → (b || true) ≡ true
+or_true true = refl
+or_true false = refl
 
-  pub given_then : (o o1 o2 : Office V) (g1 g2 : Log) → WasGiven Holds IsClean o o1 g1 → WasGiven Holds IsClean o1 o2 g2 → WasGiven Holds IsClean o o2 (g2 ++ g1)
+below : (a b c : ℕ) → a ≤ b → b ≤ c → a ≤ c
+below a b c h k = omega (arith, h, k)
+
+-- a count that grew within has grown
+grown_more : (a b c d : ℕ) → a ≤ b → c ≤ d → has_grown b c ≡ true → has_grown a d ≡ true
+grown_more a b c d low high h =
+    ⊎_elim
+    (λ (less : nat_lt b c ≡ true).
+    (let n : b < c = ltb-true b c less in
+    let k : nat_lt a d ≡ true = lt-ltb a d (omega (arith, n, low, high)) in
+    ap (λ x. x || nat_le greatest_count d) k))
+    (λ (full : nat_le greatest_count c ≡ true).
+    (let n : greatest_count ≤ c = leb-true greatest_count c full in
+    let k : nat_le greatest_count d ≡ true = le-leb greatest_count d (below greatest_count c d n high) in
+    ap (λ x. nat_lt a d || x) k ∙ or_true (nat_lt a d)))
+    (or_cases (nat_lt b c) (nat_le greatest_count c) h)
+
+-- one event that failed
+failed_one : (e : Event) (m : Mark) (o : Outcome) (a b : ℕ) → m ≡ mark_of o → HasItsCause a b o → list_any is_failed ((e, m) ∷ []) ≡ true → has_grown a b ≡ true
+failed_one e m (outcome.Opened n) a b is h f = let k : list_any is_failed ((e, Tagged Done) ∷ []) ≡ true = subst (λ x. list_any is_failed ((e, x) ∷ []) ≡ true) is f in cc
+failed_one e m outcome.Done a b is h f = let k : list_any is_failed ((e, Tagged Done) ∷ []) ≡ true = subst (λ x. list_any is_failed ((e, x) ∷ []) ≡ true) is f in cc
+failed_one e m outcome.Failed a b is h f = h
+failed_one e m outcome.NoMemory a b is h f = let k : list_any is_failed ((e, Tagged NoMemory) ∷ []) ≡ true = subst (λ x. list_any is_failed ((e, x) ∷ []) ≡ true) is f in cc
+failed_one e m (outcome.Ignored r) a b is h f = let k : list_any is_failed ((e, Ignored) ∷ []) ≡ true = subst (λ x. list_any is_failed ((e, x) ∷ []) ≡ true) is f in cc
+failed_one e m (outcome.Answered x) a b is h f = let k : list_any is_failed ((e, Tagged Done) ∷ []) ≡ true = subst (λ y. list_any is_failed ((e, y) ∷ []) ≡ true) is f in cc
+
+module _ {V : Type 0} (Holds : V → Contents → Type 0) (IsClean : V → Type 0) (Faults : V → ℕ) where
+  pub given_none : (o : Office V) → WasGiven Holds IsClean Faults o o []
+  given_none o = record { clean = λ k. k; stands = λ B L s k. s; admitted = λ B L s k. tt; counted = omega arith; failed = λ B L s k e. cc }
+
+  pub given_then : (o o1 o2 : Office V) (g1 g2 : Log) → WasGiven Holds IsClean Faults o o1 g1 → WasGiven Holds IsClean Faults o1 o2 g2 → WasGiven Holds IsClean Faults o o2 (g2 ++ g1)
   given_then o o1 o2 g1 g2 a b = record {
     clean = λ k. a.clean (b.clean k);
     stands = λ B L s k. subst (λ l. StandsFor Holds o2 (trace_of B l)) (sym (append_assoc g2 g1 L)) (b.stands B (g1 ++ L) (a.stands B L s (b.clean k)) k);
     admitted = λ B L s k. newly_then B L g1 g2 (a.admitted B L s (b.clean k)) (b.admitted B (g1 ++ L) (a.stands B L s (b.clean k)) k);
+    counted = (let p = a.counted in let q = b.counted in omega (arith, p, q));
+    failed = λ B L s k e.
+        ⊎_elim
+        (λ (later : list_any is_failed g2 ≡ true).
+        grown_more (Faults (vault_of o)) (Faults (vault_of o1)) (Faults (vault_of o2)) (Faults (vault_of o2)) a.counted (omega arith) (b.failed B (g1 ++ L) (a.stands B L s (b.clean k)) k later))
+        (λ (first : list_any is_failed g1 ≡ true).
+        grown_more (Faults (vault_of o)) (Faults (vault_of o)) (Faults (vault_of o1)) (Faults (vault_of o2)) (omega arith) b.counted (a.failed B L s (b.clean k) first))
+        (or_cases (list_any is_failed g2) (list_any is_failed g1) (sym (list_any-append is_failed g2 g1) ∙ e));
   }
 
   -- one event
-  pub given_one : (o o1 : Office V) (e : Event) (m : Mark) → (IsClean (vault_of o1) → IsClean (vault_of o))
-      → ((T : Trace) → StandsFor Holds o T → IsClean (vault_of o1) → StandsFor Holds o1 (trace_of T.base ((e, m) ∷ T.log)))
-      → ((T : Trace) → StandsFor Holds o T → IsClean (vault_of o1) → IsAdmitted T e m)
-      → WasGiven Holds IsClean o o1 ((e, m) ∷ [])
-  given_one o o1 e m clean stands admitted = record {
+  pub given_one : (o o1 : Office V) (e : Event) (out : Outcome) → (IsClean (vault_of o1) → IsClean (vault_of o))
+      → ((T : Trace) → StandsFor Holds o T → IsClean (vault_of o1) → StandsFor Holds o1 (trace_of T.base ((e, mark_of out) ∷ T.log)))
+      → ((T : Trace) → StandsFor Holds o T → IsClean (vault_of o1) → IsAdmitted T e (mark_of out))
+      → Faults (vault_of o) ≤ Faults (vault_of o1)
+      → ((T : Trace) → StandsFor Holds o T → IsClean (vault_of o1) → HasItsCause (Faults (vault_of o)) (Faults (vault_of o1)) out)
+      → WasGiven Holds IsClean Faults o o1 ((e, mark_of out) ∷ [])
+  given_one o o1 e out clean stands admitted counted cause = record {
     clean = clean;
     stands = λ B L s k. stands (trace_of B L) s k;
     admitted = λ B L s k. (admitted (trace_of B L) s k, tt);
+    counted = counted;
+    failed = λ B L s k f. failed_one e (mark_of out) out (Faults (vault_of o)) (Faults (vault_of o1)) refl (cause (trace_of B L) s k) f;
   }
 
 module _ {W : Type 0} (Asked : W → List Call → Type 0) where
@@ -73,32 +116,32 @@ module _ {W : Type 0} (Asked : W → List Call → Type 0) where
     facts = join a.calls b.calls a.facts b.facts;
   }
 
-module _ {V W : Type 0} (Holds : V → Contents → Type 0) (IsClean : V → Type 0) (Asked : W → List Call → Type 0) where
+module _ {V W : Type 0} (Holds : V → Contents → Type 0) (IsClean : V → Type 0) (Faults : V → ℕ) (Asked : W → List Call → Type 0) where
   pub part_then : (o o1 o2 : Office V) (w w1 w2 : W) (F G H : Log → List Call → Type 0)
-      → ((g1 g2 : Log) (c1 c2 : List Call) → WasGiven Holds IsClean o o1 g1 → WasGiven Holds IsClean o1 o2 g2 → F g1 c1 → G g2 c2 → H (g2 ++ g1) (c1 ++ c2))
-      → Part Holds IsClean Asked o w o1 w1 F → Part Holds IsClean Asked o1 w1 o2 w2 G → Part Holds IsClean Asked o w o2 w2 H
+      → ((g1 g2 : Log) (c1 c2 : List Call) → WasGiven Holds IsClean Faults o o1 g1 → WasGiven Holds IsClean Faults o1 o2 g2 → F g1 c1 → G g2 c2 → H (g2 ++ g1) (c1 ++ c2))
+      → Part Holds IsClean Faults Asked o w o1 w1 F → Part Holds IsClean Faults Asked o1 w1 o2 w2 G → Part Holds IsClean Faults Asked o w o2 w2 H
   part_then o o1 o2 w w1 w2 F G H join a b = record {
     given = b.given ++ a.given;
     calls = a.calls ++ b.calls;
-    was_given = given_then Holds IsClean o o1 o2 a.given b.given a.was_given b.was_given;
+    was_given = given_then Holds IsClean Faults o o1 o2 a.given b.given a.was_given b.was_given;
     was_asked = asked_then Asked w w1 w2 a.calls b.calls a.was_asked b.was_asked;
     facts = join a.given b.given a.calls b.calls a.was_given b.was_given a.facts b.facts;
   }
 
   -- the same part, of which something else holds
-  pub part_so : (o o1 : Office V) (w w1 : W) (F G : Log → List Call → Type 0) → ((g : Log) (c : List Call) → WasGiven Holds IsClean o o1 g → F g c → G g c)
-      → Part Holds IsClean Asked o w o1 w1 F → Part Holds IsClean Asked o w o1 w1 G
+  pub part_so : (o o1 : Office V) (w w1 : W) (F G : Log → List Call → Type 0) → ((g : Log) (c : List Call) → WasGiven Holds IsClean Faults o o1 g → F g c → G g c)
+      → Part Holds IsClean Faults Asked o w o1 w1 F → Part Holds IsClean Faults Asked o w o1 w1 G
   part_so o o1 w w1 F G so a = record { given = a.given; calls = a.calls; was_given = a.was_given; was_asked = a.was_asked; facts = so a.given a.calls a.was_given a.facts }
 
   -- nothing was done
-  pub part_none : (o : Office V) (w : W) (F : Log → List Call → Type 0) → F [] [] → Part Holds IsClean Asked o w o w F
-  part_none o w F f = record { given = []; calls = []; was_given = given_none Holds IsClean o; was_asked = asked_none Asked w; facts = f }
+  pub part_none : (o : Office V) (w : W) (F : Log → List Call → Type 0) → F [] [] → Part Holds IsClean Faults Asked o w o w F
+  part_none o w F f = record { given = []; calls = []; was_given = given_none Holds IsClean Faults o; was_asked = asked_none Asked w; facts = f }
 
   -- a part that asks the wire alone, or gives events to the office alone
-  pub part_asking : (o : Office V) (w w1 : W) (F : List Call → Type 0) → Asking Asked w w1 F → Part Holds IsClean Asked o w o w1 (λ given calls. (given ≡ []) × F calls)
-  part_asking o w w1 F a = record { given = []; calls = a.calls; was_given = given_none Holds IsClean o; was_asked = a.was_asked; facts = (refl, a.facts) }
+  pub part_asking : (o : Office V) (w w1 : W) (F : List Call → Type 0) → Asking Asked w w1 F → Part Holds IsClean Faults Asked o w o w1 (λ given calls. (given ≡ []) × F calls)
+  part_asking o w w1 F a = record { given = []; calls = a.calls; was_given = given_none Holds IsClean Faults o; was_asked = a.was_asked; facts = (refl, a.facts) }
 
-  pub part_giving : (o o1 : Office V) (w : W) (F : Log → Type 0) → Giving Holds IsClean o o1 F → Part Holds IsClean Asked o w o1 w (λ given calls. (calls ≡ []) × F given)
+  pub part_giving : (o o1 : Office V) (w : W) (F : Log → Type 0) → Giving Holds IsClean Faults o o1 F → Part Holds IsClean Faults Asked o w o1 w (λ given calls. (calls ≡ []) × F given)
   part_giving o o1 w F a = record { given = a.given; calls = []; was_given = a.was_given; was_asked = asked_none Asked w; facts = (refl, a.facts) }
 
 -- ---- what is seen of calls and events, one after the other
@@ -114,10 +157,6 @@ none_counted p xs ys a b = let e = count_joined p xs ys in omega (arith, e, a, b
 
 pub any_left : {A : Type 0} (p : A → Bool) (xs ys : List A) → list_any p xs ≡ true → list_any p (xs ++ ys) ≡ true
 any_left p xs ys h = list_any-append p xs ys ∙ ap (λ b. b || list_any p ys) h
-
-or_true : (b : Bool) → (b || true) ≡ true
-or_true true = refl
-or_true false = refl
 
 pub any_right : {A : Type 0} (p : A → Bool) (xs ys : List A) → list_any p ys ≡ true → list_any p (xs ++ ys) ≡ true
 any_right p xs ys h = list_any-append p xs ys ∙ (ap (λ b. list_any p xs || b) h ∙ or_true (list_any p xs))

@@ -37,11 +37,11 @@ pub data IsSpoolTurn (last : Option FileName) : (last_then : Option FileName) �
   TriesOne : (name : FileName) (T : Trace) (given : Log) (calls : List FileCall) → IsTrying name T given calls → IsSpoolTurn last (Some name) T given (Next last (Some name) ∷ calls)
 
 -- a part of a turn that gives deposits to the office and asks the spool
-pub record SpoolPart {V S : Type 0} (Holds : V → Contents → Type 0) (IsClean : V → Type 0) (Asked : S → List FileCall → Type 0)
+pub record SpoolPart {V S : Type 0} (Holds : V → Contents → Type 0) (IsClean : V → Type 0) (Faults : V → ℕ) (Asked : S → List FileCall → Type 0)
     (office : Office V) (spool : S) (office_then : Office V) (spool_then : S) (Facts : Trace → Log → List FileCall → Type 0) : Type 0 where
   pub given : Log
   pub calls : List FileCall
-  pub was_given : WasGiven Holds IsClean office office_then given
+  pub was_given : WasGiven Holds IsClean Faults office office_then given
   pub was_asked : (before : List FileCall) → Asked spool before → Asked spool_then (before ++ calls)
   pub deposits : AreDeposits given
   pub facts : (T : Trace) → StandsFor Holds office T → IsClean (vault_of office_then) → Facts T given calls

@@ -1,11 +1,12 @@
 -- What a turn does all together.
-use Rattle.std.specs.Prelude.{◌≡◌, ◌⊎◌, ◌≤◌, ℕ, ◌||◌, List, [], ◌∷◌, ◌++◌, length, map, filter, filter_map, if◌then◌else◌}
-use Rattle.std.specs.List.{All}
+use Rattle.std.specs.Prelude.{◌≡◌, ◌⊎◌, ◌≤◌, ℕ, true, ◌||◌, List, [], ◌∷◌, ◌++◌, length, map, filter, filter_map, if◌then◌else◌}
+use Rattle.std.specs.List.{All, list_any}
+use Rattle.vault.specs.Calls.{has_grown}
 use Rattle.vault.specs.Changes.{Contents}
 use Rattle.office.specs.Events.{Event, Mark, Log, Trace}
 use Rattle.office.specs.Events as event
 use Rattle.office.specs.Taken.{trace_of}
-use Rattle.office.specs.Stands.{StandsFor}
+use Rattle.office.specs.Stands.{StandsFor, vault_of}
 use Rattle.office.specs.declared.office.Office.{Office}
 use Rattle.serving.specs.Calls.{Call, Waited}
 use Rattle.serving.specs.Spools.{FileCall}
@@ -13,7 +14,7 @@ use Rattle.serving.specs.Settings.{last_tried}
 use Rattle.serving.specs.declared.wire.Link.{Link}
 use Rattle.serving.specs.declared.links.Seat.{Seat}
 use Rattle.serving.specs.declared.links.Links.{Links}
-use Rattle.serving.specs.Works.{waits, arrivals, closings, moments, openings, refusals, AreNewlyAdmitted, HasCause, IsLateGone, WasAsked, Came, seat_of, unseated_of, link_of, HasAccepted, most_links, Way, way_by, HadTurn, is_open_seat, is_shut_seat, link_of_seat}
+use Rattle.serving.specs.Works.{waits, arrivals, closings, moments, openings, refusals, AreNewlyAdmitted, HasCause, IsLateGone, is_failed, WasAsked, Came, seat_of, unseated_of, link_of, HasAccepted, most_links, Way, way_by, HadTurn, is_open_seat, is_shut_seat, link_of_seat}
 use Rattle.serving.specs.SpoolTurns.{IsSpoolTurn}
 
 -- how long a turn waits: not at all where more can be done at once
@@ -64,14 +65,16 @@ pub record IsFileTurn (T : Trace) (links links_then : Links) (given : Log) (file
   pub tries : IsSpoolTurn (last_tried links) (last_tried links_then) (trace_of T.base (earlier ++ T.log)) deposits file_calls
 
 -- So it is of an office, a wire and a spool, since each trace.
-pub record Works {V W S : Type 0} (Holds : V → Contents → Type 0) (Asked : W → List Call → Type 0) (AskedFiles : S → List FileCall → Type 0) (T : Trace) (now : ℕ)
-    (links : Links) (wire : W) (spool : S) (office_then : Office V) (links_then : Links) (wire_then : W) (spool_then : S) : Type 0 where
+pub record Works {V W S : Type 0} (Holds : V → Contents → Type 0) (Faults : V → ℕ) (Asked : W → List Call → Type 0) (AskedFiles : S → List FileCall → Type 0) (T : Trace) (now : ℕ)
+    (links : Links) (office : Office V) (wire : W) (spool : S) (office_then : Office V) (links_then : Links) (wire_then : W) (spool_then : S) : Type 0 where
   pub given : Log
   pub calls : List Call
   pub file_calls : List FileCall
   pub came : List Came
   pub seats : List Seat
   pub stands : StandsFor Holds office_then (trace_of T.base (given ++ T.log))
+  -- an event failed only where the store's count of faults grew
+  pub failed : list_any is_failed given ≡ true → has_grown (Faults (vault_of office)) (Faults (vault_of office_then)) ≡ true
   pub asked : WasAsked Asked wire wire_then calls
   pub asked_files : (before : List FileCall) → AskedFiles spool before → AskedFiles spool_then (before ++ file_calls)
   pub is : IsTurn T (trace_of T.base (given ++ T.log)) now links links_then came seats given calls

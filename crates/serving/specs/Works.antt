@@ -2,8 +2,9 @@
 use Rattle.std.specs.Prelude.{◌≡◌, ◌⊎◌, ◌≤◌, ◌<◌, ⊤, ℕ, Bool, true, false, not, ◌+◌, ◌&&◌, ◌||◌, ◌==◌, nat_le, List, [], ◌∷◌, ◌++◌, length, map, filter, filter_map, Option, Some, None, if◌then◌else◌}
 use Rattle.std.specs.List.{All, Contains, list_any, remove}
 use Rattle.vault.specs.Records.{Records}
+use Rattle.vault.specs.Calls.{has_grown}
 use Rattle.vault.specs.Changes.{Contents}
-use Rattle.office.specs.History.{Done}
+use Rattle.office.specs.History.{Done, Failed}
 use Rattle.office.specs.Events.{Event, Mark, Ignored, Tagged, Log, Trace}
 use Rattle.office.specs.Events as event
 use Rattle.office.specs.Trace.{is_open, is_ready, rest}
@@ -134,6 +135,11 @@ is_refusal _ = false
 abbrev pub refusals : Log → ℕ
 refusals given = length (filter is_refusal given)
 
+-- an event failed
+abbrev pub is_failed : Event × Mark → Bool
+is_failed (e, Tagged Failed) = true
+is_failed _ = false
+
 -- a client took so many seconds or more, and hasn't logged in: of those who are noted with the moment at which they came
 abbrev pub is_late : (now seconds : ℕ) → List Newcomer → (c : ℕ) → Bool
 is_late now seconds newcomers c = not (seconds == 0) && is_late_by now seconds (newcomer c newcomers)
@@ -186,20 +192,24 @@ pub record StaysUnread (B : Records) (older given : Log) (calls : List Call) (wa
 
 -- ---- what an office was given and a wire was asked, and nothing else
 
-pub record WasGiven {V : Type 0} (Holds : V → Contents → Type 0) (IsClean : V → Type 0) (office office_then : Office V) (given : Log) : Type 0 where
+pub record WasGiven {V : Type 0} (Holds : V → Contents → Type 0) (IsClean : V → Type 0) (Faults : V → ℕ) (office office_then : Office V) (given : Log) : Type 0 where
   pub clean : IsClean (vault_of office_then) → IsClean (vault_of office)
   pub stands : (B : Records) (L : Log) → StandsFor Holds office (trace_of B L) → IsClean (vault_of office_then) → StandsFor Holds office_then (trace_of B (given ++ L))
   pub admitted : (B : Records) (L : Log) → StandsFor Holds office (trace_of B L) → IsClean (vault_of office_then) → AreNewlyAdmitted B L given
+  -- the count of faults never falls, and an event failed only where it grew
+  pub counted : Faults (vault_of office) ≤ Faults (vault_of office_then)
+  pub failed : (B : Records) (L : Log) → StandsFor Holds office (trace_of B L) → IsClean (vault_of office_then) → list_any is_failed given ≡ true
+      → has_grown (Faults (vault_of office)) (Faults (vault_of office_then)) ≡ true
 
 pub record WasAsked {W : Type 0} (Asked : W → List Call → Type 0) (wire wire_then : W) (calls : List Call) : Type 0 where
   pub is : (before : List Call) → Asked wire before → Asked wire_then (before ++ calls)
 
 -- a part of a turn, of whose events and calls this holds
-pub record Part {V W : Type 0} (Holds : V → Contents → Type 0) (IsClean : V → Type 0) (Asked : W → List Call → Type 0)
+pub record Part {V W : Type 0} (Holds : V → Contents → Type 0) (IsClean : V → Type 0) (Faults : V → ℕ) (Asked : W → List Call → Type 0)
     (office : Office V) (wire : W) (office_then : Office V) (wire_then : W) (Facts : Log → List Call → Type 0) : Type 0 where
   pub given : Log
   pub calls : List Call
-  pub was_given : WasGiven Holds IsClean office office_then given
+  pub was_given : WasGiven Holds IsClean Faults office office_then given
   pub was_asked : WasAsked Asked wire wire_then calls
   pub facts : Facts given calls
 
@@ -210,9 +220,9 @@ pub record Asking {W : Type 0} (Asked : W → List Call → Type 0) (wire wire_t
   pub facts : Facts calls
 
 -- a part that gives events to the office alone
-pub record Giving {V : Type 0} (Holds : V → Contents → Type 0) (IsClean : V → Type 0) (office office_then : Office V) (Facts : Log → Type 0) : Type 0 where
+pub record Giving {V : Type 0} (Holds : V → Contents → Type 0) (IsClean : V → Type 0) (Faults : V → ℕ) (office office_then : Office V) (Facts : Log → Type 0) : Type 0 where
   pub given : Log
-  pub was_given : WasGiven Holds IsClean office office_then given
+  pub was_given : WasGiven Holds IsClean Faults office office_then given
   pub facts : Facts given
 
 -- no wait, no link that comes, none that is closed, no tick and no opening

@@ -152,7 +152,7 @@ fn response_to(alloc: Global, outcome: &Outcome) -> Response
 
 /// Gives a command to the office, and makes the response.
 fn command<V: Vault>(alloc: Global, office: &mut Office<V>, command: &AdminCommand) -> Response
-    ensures works { Giving V.holds V.is_clean office.old office.new (λ given. IsQuietFor [] given []) }
+    ensures works { Giving V.holds V.is_clean V.faults office.old office.new (λ given. IsQuietFor [] given []) }
     ensures asked { (B : Records) (L : Log) (read : List ℕ) → StandsFor V.holds office.old (trace_of B L) → IsRequest read (Ok (command_seen command.now)) → V.is_clean (vault_of office.new) → HasAsked V.holds B L read office.new (Some (octets_of result)) }
     ensures clean { V.is_clean (vault_of office.new) → V.is_clean (vault_of office.old) }
 {
@@ -163,7 +163,7 @@ fn command<V: Vault>(alloc: Global, office: &mut Office<V>, command: &AdminComma
 /// The response to what was read of a request; `None` while the request isn't whole. A command is
 /// given to the office.
 fn ask<V: Vault>(alloc: Global, office: &mut Office<V>, read: &[u8]) -> Option<Response>
-    ensures works { Giving V.holds V.is_clean office.old office.new (λ given. IsQuietFor [] given []) }
+    ensures works { Giving V.holds V.is_clean V.faults office.old office.new (λ given. IsQuietFor [] given []) }
     ensures asked { (B : Records) (L : Log) → StandsFor V.holds office.old (trace_of B L) → V.is_clean (vault_of office.new) → HasAsked V.holds B L read.now office.new (option_map octets_of result) }
     ensures clean { V.is_clean (vault_of office.new) → V.is_clean (vault_of office.old) }
 {
@@ -183,7 +183,7 @@ fn take_piece<V: Vault>(
     exchange: &mut Exchange,
     piece: &[u8],
 )
-    ensures works { Giving V.holds V.is_clean office.old office.new (λ given. IsQuietFor [] given []) }
+    ensures works { Giving V.holds V.is_clean V.faults office.old office.new (λ given. IsQuietFor [] given []) }
     ensures asked { (B : Records) (L : Log) → StandsFor V.holds office.old (trace_of B L) → V.is_clean (vault_of office.new) → HasAsked V.holds B L (exchange.old.read.items ++ piece.now) office.new (option_map octets_of exchange.new.response) }
     ensures clean { V.is_clean (vault_of office.new) → V.is_clean (vault_of office.old) }
     ensures read { IfNone exchange.new.response (exchange.new.read.items ≡ exchange.old.read.items ++ piece.now) }
@@ -207,7 +207,7 @@ fn hear<V: Vault, W: Wire>(
     wire: &mut W,
     exchange: &mut Exchange,
 )
-    ensures works { Part V.holds V.is_clean W.asked office.old wire.old office.new wire.new (IsQuietFor []) }
+    ensures works { Part V.holds V.is_clean V.faults W.asked office.old wire.old office.new wire.new (IsQuietFor []) }
     ensures asked { StillAsked V.holds V.is_clean W.tells office.old wire.old exchange.old office.new wire.new exchange.new }
     ensures clean { V.is_clean (vault_of office.new) → V.is_clean (vault_of office.old) }
     ensures link { exchange.new.link ≡ exchange.old.link }
@@ -288,7 +288,7 @@ fn serve_exchange<V: Vault, W: Wire>(
     exchange: &mut Exchange,
     now: u64,
 ) -> bool
-    ensures works { Part V.holds V.is_clean W.asked office.old wire.old office.new wire.new (IsQuietFor []) }
+    ensures works { Part V.holds V.is_clean V.faults W.asked office.old wire.old office.new wire.new (IsQuietFor []) }
     ensures asked { StillAsked V.holds V.is_clean W.tells office.old wire.old exchange.old office.new wire.new exchange.new }
     ensures clean { V.is_clean (vault_of office.new) → V.is_clean (vault_of office.old) }
     ensures link { exchange.new.link ≡ exchange.old.link }
@@ -312,7 +312,7 @@ fn serve_place<V: Vault, W: Wire>(
     now: u64,
 ) -> bool
     requires { place < length requests.old.exchanges.items }
-    ensures works { Part V.holds V.is_clean W.asked office.old wire.old office.new wire.new (IsQuietFor []) }
+    ensures works { Part V.holds V.is_clean V.faults W.asked office.old wire.old office.new wire.new (IsQuietFor []) }
     ensures asked { AllStillAsked V.holds V.is_clean W.tells office.old wire.old requests.old.exchanges.items office.new wire.new requests.new.exchanges.items }
     ensures clean { V.is_clean (vault_of office.new) → V.is_clean (vault_of office.old) }
     ensures left { length requests.new.exchanges.items + (if result then 0 else 1) ≡ length requests.old.exchanges.items }
@@ -337,7 +337,7 @@ pub(crate) fn serve_requests<V: Vault, W: Wire>(
     requests: &mut Requests,
     now: u64,
 )
-    ensures works { Part V.holds V.is_clean W.asked office.old wire.old office.new wire.new (IsQuietFor []) }
+    ensures works { Part V.holds V.is_clean V.faults W.asked office.old wire.old office.new wire.new (IsQuietFor []) }
     ensures asked { AllStillAsked V.holds V.is_clean W.tells office.old wire.old requests.old.exchanges.items office.new wire.new requests.new.exchanges.items }
     ensures clean { V.is_clean (vault_of office.new) → V.is_clean (vault_of office.old) }
     ensures stay { TheseGoOn now requests.new.exchanges.items }

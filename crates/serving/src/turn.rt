@@ -47,7 +47,7 @@ const MOST_MILLIS: u32 = 1000;
 fn write_once<V: Vault, W: Wire>(office: &mut Office<V>, wire: &mut W, seat: Seat) -> usize
     ensures serves { StillServesOne V.holds V.is_clean W.tells seat office.old wire.old office.new wire.new }
     ensures clean { V.is_clean (vault_of office.new) → V.is_clean (vault_of office.old) }
-    ensures works { Part V.holds V.is_clean W.asked office.old wire.old office.new wire.new (IsWritten V.holds V.is_clean office.old office.new seat (if result == 0 then 0 else 1) result (not (result == 0))) }
+    ensures works { Part V.holds V.is_clean V.faults W.asked office.old wire.old office.new wire.new (IsWritten V.holds V.is_clean office.old office.new seat (if result == 0 then 0 else 1) result (not (result == 0))) }
 {
     let lent = office.owed(seat.connection);
     if lent.is_empty() {
@@ -76,7 +76,7 @@ fn write_owed<V: Vault, W: Wire>(
 ) -> bool
     ensures serves { StillServesOne V.holds V.is_clean W.tells seat office.old wire.old office.new wire.new }
     ensures clean { V.is_clean (vault_of office.new) → V.is_clean (vault_of office.old) }
-    ensures works { Part V.holds V.is_clean W.asked office.old wire.old office.new wire.new (IsWrittenOut V.holds V.is_clean office.old office.new seat share result) }
+    ensures works { Part V.holds V.is_clean V.faults W.asked office.old wire.old office.new wire.new (IsWrittenOut V.holds V.is_clean office.old office.new seat share result) }
 {
     let mut written: usize = 0;
     for _times in 0..MOST_WRITES {
@@ -103,7 +103,7 @@ fn read_once<V: Vault, W: Wire>(
     requires { length buffer.old ≤ 4096 }
     ensures serves { StillServesOne V.holds V.is_clean W.tells seat office.old wire.old office.new wire.new }
     ensures clean { V.is_clean (vault_of office.new) → V.is_clean (vault_of office.old) }
-    ensures works { (wait : ℕ) (may : Bool) → Part V.holds V.is_clean W.asked office.old wire.old office.new wire.new (IsHeard V.holds office.old seat wait may) }
+    ensures works { (wait : ℕ) (may : Bool) → Part V.holds V.is_clean V.faults W.asked office.old wire.old office.new wire.new (IsHeard V.holds office.old seat wait may) }
 {
     let connection = seat.connection;
     if !office.ready(connection) {
@@ -163,7 +163,7 @@ fn read_piece<V: Vault, W: Wire>(
     ensures clean { V.is_clean (vault_of office.new) → V.is_clean (vault_of office.old) }
     ensures seats { links.new.seats ≡ links.old.seats }
     ensures aside { KeepsAside links.old links.new }
-    ensures works { Part V.holds V.is_clean W.asked office.old wire.old office.new wire.new (IsHeard V.holds office.old seat links.old.wait (may_keep links.old)) }
+    ensures works { Part V.holds V.is_clean V.faults W.asked office.old wire.old office.new wire.new (IsHeard V.holds office.old seat links.old.wait (may_keep links.old)) }
 {
     if !office.ready(seat.connection) {
         return false;
@@ -197,7 +197,7 @@ fn serve_link<V: Vault, W: Wire>(
     ensures clean { V.is_clean (vault_of office.new) → V.is_clean (vault_of office.old) }
     ensures seats { links.new.seats ≡ links.old.seats }
     ensures aside { KeepsAside links.old links.new }
-    ensures works { Part V.holds V.is_clean W.asked office.old wire.old office.new wire.new (HadTurns V.holds V.is_clean office.old office.new (way_at links.old) (seat ∷ []) (seat ∷ [])) }
+    ensures works { Part V.holds V.is_clean V.faults W.asked office.old wire.old office.new wire.new (HadTurns V.holds V.is_clean office.old office.new (way_at links.old) (seat ∷ []) (seat ∷ [])) }
 {
     let share = share_of(links);
     if write_owed(office, wire, seat, share) {
@@ -262,7 +262,7 @@ fn serve_client<V: Vault, W: Wire>(
     ensures freed { (T U : Trace) → StandsFor V.holds office.old T → StandsFor V.holds office.new U → links.new.is_freed ≡ (links.old.is_freed || has_freed links.old.wait (live (history T) seat.connection) (live (history U) seat.connection)) }
     ensures waits { links.new.is_freed ≡ true → (links.old.is_freed ≡ true) ⊎ ((links.old.wait == 0) ≡ false) }
     ensures aside { LeavesSettings links.old links.new }
-    ensures works { Part V.holds V.is_clean W.asked office.old wire.old office.new wire.new (HadTurns V.holds V.is_clean office.old office.new (way_at links.old) (seat ∷ []) (seat ∷ [])) }
+    ensures works { Part V.holds V.is_clean V.faults W.asked office.old wire.old office.new wire.new (HadTurns V.holds V.is_clean office.old office.new (way_at links.old) (seat ∷ []) (seat ∷ [])) }
 {
     let was_logged_in = office.is_logged_in(seat.connection);
     let more = serve_link(office, wire, links, seat, now);
@@ -284,7 +284,7 @@ fn serve_seat<V: Vault, W: Wire>(
     ensures seats { links.new.seats ≡ links.old.seats }
     ensures waits { links.new.is_freed ≡ true → (links.old.is_freed ≡ true) ⊎ ((links.old.wait == 0) ≡ false) }
     ensures aside { LeavesSettings links.old links.new }
-    ensures works { Part V.holds V.is_clean W.asked office.old wire.old office.new wire.new (λ given calls. (d : declared.Seat) → HadTurns V.holds V.is_clean office.old office.new (way_at links.old) links.old.seats.items (slice_index_or links.old.seats.items place d ∷ []) given calls) }
+    ensures works { Part V.holds V.is_clean V.faults W.asked office.old wire.old office.new wire.new (λ given calls. (d : declared.Seat) → HadTurns V.holds V.is_clean office.old office.new (way_at links.old) links.old.seats.items (slice_index_or links.old.seats.items place d ∷ []) given calls) }
 {
     let seat = links.seats[place];
     serve_client(office, wire, links, seat, now);
@@ -301,7 +301,7 @@ fn serve_links<V: Vault, W: Wire>(
     ensures clean { V.is_clean (vault_of office.new) → V.is_clean (vault_of office.old) }
     ensures seats { links.new.seats ≡ links.old.seats }
     ensures aside { LeavesSettings links.old links.new }
-    ensures works { Part V.holds V.is_clean W.asked office.old wire.old office.new wire.new (HadTurns V.holds V.is_clean office.old office.new (way_by links.old (length links.old.seats.items)) links.old.seats.items links.old.seats.items) }
+    ensures works { Part V.holds V.is_clean V.faults W.asked office.old wire.old office.new wire.new (HadTurns V.holds V.is_clean office.old office.new (way_by links.old (length links.old.seats.items)) links.old.seats.items links.old.seats.items) }
 {
     links.is_freed = false;
     let mut place = 0;
@@ -315,7 +315,7 @@ fn serve_links<V: Vault, W: Wire>(
 fn end_seat<V: Vault, W: Wire>(office: &mut Office<V>, _wire: &W, seat: Seat)
     ensures serves { StillServesOne V.holds V.is_clean W.tells seat office.old _wire.now office.new _wire.now }
     ensures clean { V.is_clean (vault_of office.new) → V.is_clean (vault_of office.old) }
-    ensures works { (now seconds : ℕ) (newcomers : List Newcomer) → is_late now seconds newcomers seat.connection ≡ true → Giving V.holds V.is_clean office.old office.new (AreLateGone now seconds newcomers) }
+    ensures works { (now seconds : ℕ) (newcomers : List Newcomer) → is_late now seconds newcomers seat.connection ≡ true → Giving V.holds V.is_clean V.faults office.old office.new (AreLateGone now seconds newcomers) }
 {
     if office.ended(seat.connection) {
         return;
@@ -338,7 +338,7 @@ fn end_late<V: Vault, W: Wire>(
     ensures set { settings_of links.new ≡ settings_of links.old }
     ensures last { links.new.last ≡ links.old.last }
     ensures late { AreNoMoreLate now links.old.newcomers.seconds links.old.newcomers.newcomers.items links.new.newcomers.newcomers.items }
-    ensures works { (links.old.newcomers.seconds == 0) ≡ false → Giving V.holds V.is_clean office.old office.new (AreLateGone now links.old.newcomers.seconds links.old.newcomers.newcomers.items) }
+    ensures works { (links.old.newcomers.seconds == 0) ≡ false → Giving V.holds V.is_clean V.faults office.old office.new (AreLateGone now links.old.newcomers.seconds links.old.newcomers.newcomers.items) }
 {
     let seat = links.seats[place];
     if office.is_logged_in(seat.connection) {
@@ -359,7 +359,7 @@ fn end_late_ones<V: Vault, W: Wire>(office: &mut Office<V>, wire: &W, links: &mu
     ensures seats { links.new.seats ≡ links.old.seats }
     ensures set { settings_of links.new ≡ settings_of links.old }
     ensures last { links.new.last ≡ links.old.last }
-    ensures works { Giving V.holds V.is_clean office.old office.new (AreLateGone now links.old.newcomers.seconds links.old.newcomers.newcomers.items) }
+    ensures works { Giving V.holds V.is_clean V.faults office.old office.new (AreLateGone now links.old.newcomers.seconds links.old.newcomers.newcomers.items) }
 {
     if links.newcomers.seconds == 0 {
         return;
@@ -419,7 +419,7 @@ fn close_links<V: Vault, W: Wire>(office: &Office<V>, wire: &mut W, links: &mut 
 fn pass_time<V: Vault, W: Wire>(office: &mut Office<V>, wire: &mut W, millis: u32, now: u64)
     ensures serves { (seats these : List declared.Seat) → StillServes V.holds V.is_clean W.tells office.old wire.old seats these office.new wire.new seats [] }
     ensures clean { V.is_clean (vault_of office.new) → V.is_clean (vault_of office.old) }
-    ensures works { Part V.holds V.is_clean W.asked office.old wire.old office.new wire.new (IsPassed millis now) }
+    ensures works { Part V.holds V.is_clean V.faults W.asked office.old wire.old office.new wire.new (IsPassed millis now) }
 {
     wire.wait(millis);
     let _ = office.step(Event::Tick(now));
@@ -448,7 +448,7 @@ fn accept_link<V: Vault, W: Wire>(
     ensures set { settings_of links.new ≡ settings_of links.old }
     ensures last { links.new.last ≡ links.old.last }
     ensures late { AreNoMoreLate now links.old.newcomers.seconds links.old.newcomers.newcomers.items links.new.newcomers.newcomers.items }
-    ensures works { Part V.holds V.is_clean W.asked office.old wire.old office.new wire.new (AreAccepted V.holds V.is_clean office.old office.new links.old.seats.items links.new.seats.items 1 result) }
+    ensures works { Part V.holds V.is_clean V.faults W.asked office.old wire.old office.new wire.new (AreAccepted V.holds V.is_clean office.old office.new links.old.seats.items links.new.seats.items 1 result) }
 {
     if links.seats.is_full() {
         return false;
@@ -479,7 +479,7 @@ fn accept_links<V: Vault, W: Wire>(
     ensures set { settings_of links.new ≡ settings_of links.old }
     ensures last { links.new.last ≡ links.old.last }
     ensures late { AreNoMoreLate now links.old.newcomers.seconds links.old.newcomers.newcomers.items links.new.newcomers.newcomers.items }
-    ensures works { (goes : Bool) × Part V.holds V.is_clean W.asked office.old wire.old office.new wire.new (AreAccepted V.holds V.is_clean office.old office.new links.old.seats.items links.new.seats.items 64 goes) }
+    ensures works { (goes : Bool) × Part V.holds V.is_clean V.faults W.asked office.old wire.old office.new wire.new (AreAccepted V.holds V.is_clean office.old office.new links.old.seats.items links.new.seats.items 64 goes) }
 {
     for _times in 0..MOST_LINKS {
         if !accept_link(office, wire, links, now) {
@@ -508,7 +508,7 @@ pub fn serve_turn<V: Vault, W: Wire, S: Spool>(
 )
     ensures serves { (T : Trace) → Serves V.holds W.tells S.tells T office.old wire.old spool.old links.old.clients.seats.items links.old.requests.exchanges.items → V.is_clean (vault_of office.new) → Serves V.holds W.tells S.tells T office.new wire.new spool.new links.new.clients.seats.items links.new.requests.exchanges.items }
     ensures clean { V.is_clean (vault_of office.new) → V.is_clean (vault_of office.old) }
-    ensures works { (T : Trace) → StandsFor V.holds office.old T → V.is_clean (vault_of office.new) → Works V.holds W.asked S.asked T now links.old wire.old spool.old office.new links.new wire.new spool.new }
+    ensures works { (T : Trace) → StandsFor V.holds office.old T → V.is_clean (vault_of office.new) → Works V.holds V.faults W.asked S.asked T now links.old office.old wire.old spool.old office.new links.new wire.new spool.new }
     ensures ongoing { AllGoOn now links.new }
     ensures few { AreFew links.old → AreFew links.new }
     ensures settings { settings links.new ≡ settings links.old }

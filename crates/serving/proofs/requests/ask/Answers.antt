@@ -24,13 +24,13 @@ returns-in-NoMemory-clause-asked g c = λ B L stands clean.
     asked_none g.V.Vault.holds B L c.args.read.now c.args.office.now (Some (refusal_response OutOfMemory)) stands (NoCommand (refusal_response OutOfMemory) ForMemory)
 
 pub returns-in-More-clause-works : goal.returns-in-More-clause-works
-returns-in-More-clause-works g c = gives_nothing g.V.Vault.holds g.V.Vault.is_clean c.args.office.now
+returns-in-More-clause-works g c = gives_nothing g.V.Vault.holds g.V.Vault.is_clean g.V.Vault.faults c.args.office.now
 
 pub returns-in-Bad-clause-works : goal.returns-in-Bad-clause-works
-returns-in-Bad-clause-works g c = gives_nothing g.V.Vault.holds g.V.Vault.is_clean c.args.office.now
+returns-in-Bad-clause-works g c = gives_nothing g.V.Vault.holds g.V.Vault.is_clean g.V.Vault.faults c.args.office.now
 
 pub returns-in-BadPolicy-clause-works : goal.returns-in-BadPolicy-clause-works
-returns-in-BadPolicy-clause-works g c = gives_nothing g.V.Vault.holds g.V.Vault.is_clean c.args.office.now
+returns-in-BadPolicy-clause-works g c = gives_nothing g.V.Vault.holds g.V.Vault.is_clean g.V.Vault.faults c.args.office.now
 
 pub returns-in-NoMemory-clause-works : goal.returns-in-NoMemory-clause-works
-returns-in-NoMemory-clause-works g c = gives_nothing g.V.Vault.holds g.V.Vault.is_clean c.args.office.now
+returns-in-NoMemory-clause-works g c = gives_nothing g.V.Vault.holds g.V.Vault.is_clean g.V.Vault.faults c.args.office.now

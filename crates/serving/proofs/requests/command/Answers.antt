@@ -21,4 +21,4 @@ returns-clause-works g c =
     let o1 = c.step-outcome.new.self in
     let m = mark_of (outcome_seen c.step-outcome.result) in
     let seen = command_seen c.args.command.now in
-    gives_command g.V.Vault.holds g.V.Vault.is_clean o o1 seen m (given_one g.V.Vault.holds g.V.Vault.is_clean o o1 (event.Admin seen) m c.step-outcome.ensures.clean c.step-outcome.ensures.stands c.step-outcome.ensures.admitted)
+    gives_command g.V.Vault.holds g.V.Vault.is_clean g.V.Vault.faults o o1 seen m (given_one g.V.Vault.holds g.V.Vault.is_clean g.V.Vault.faults o o1 (event.Admin seen) (outcome_seen c.step-outcome.result) c.step-outcome.ensures.clean c.step-outcome.ensures.stands c.step-outcome.ensures.admitted c.step-outcome.ensures.counted c.step-outcome.ensures.cause)

@@ -50,13 +50,13 @@ returns-in-Count-clause-works g c =
     let w = c.args.wire.now in
     let w1 = c.read.new.self in
     let o1 = c.take_piece.new.office in
-    both_done g.V.Vault.holds g.V.Vault.is_clean g.W.Wire.asked o o o1 w w1 w1 (only_asked g.V.Vault.holds g.V.Vault.is_clean g.W.Wire.asked o w w1 (asks_read g.W.Wire.asked w w1 c.args.exchange.now.link (Count c.in-Count.count) _ c.in-Count.ensures.called)) (only_given g.V.Vault.holds g.V.Vault.is_clean g.W.Wire.asked o o1 w1 c.take_piece.ensures.works)
+    both_done g.V.Vault.holds g.V.Vault.is_clean g.V.Vault.faults g.W.Wire.asked o o o1 w w1 w1 (only_asked g.V.Vault.holds g.V.Vault.is_clean g.V.Vault.faults g.W.Wire.asked o w w1 (asks_read g.W.Wire.asked w w1 c.args.exchange.now.link (Count c.in-Count.count) _ c.in-Count.ensures.called)) (only_given g.V.Vault.holds g.V.Vault.is_clean g.V.Vault.faults g.W.Wire.asked o o1 w1 c.take_piece.ensures.works)
 
 pub returns-in-Later-clause-works : goal.returns-in-Later-clause-works
-returns-in-Later-clause-works g c = only_asked g.V.Vault.holds g.V.Vault.is_clean g.W.Wire.asked c.args.office.now c.args.wire.now c.read.new.self (asks_read g.W.Wire.asked c.args.wire.now c.read.new.self c.args.exchange.now.link Later _ c.in-Later.ensures.called)
+returns-in-Later-clause-works g c = only_asked g.V.Vault.holds g.V.Vault.is_clean g.V.Vault.faults g.W.Wire.asked c.args.office.now c.args.wire.now c.read.new.self (asks_read g.W.Wire.asked c.args.wire.now c.read.new.self c.args.exchange.now.link Later _ c.in-Later.ensures.called)
 
 pub returns-in-End-clause-works : goal.returns-in-End-clause-works
-returns-in-End-clause-works g c = only_asked g.V.Vault.holds g.V.Vault.is_clean g.W.Wire.asked c.args.office.now c.args.wire.now c.read.new.self (asks_read g.W.Wire.asked c.args.wire.now c.read.new.self c.args.exchange.now.link c.read.result _ c.read.ensures.called)
+returns-in-End-clause-works g c = only_asked g.V.Vault.holds g.V.Vault.is_clean g.V.Vault.faults g.W.Wire.asked c.args.office.now c.args.wire.now c.read.new.self (asks_read g.W.Wire.asked c.args.wire.now c.read.new.self c.args.exchange.now.link c.read.result _ c.read.ensures.called)
 
 pub returns-then-exchange-clause-works : goal.returns-then-exchange-clause-works
-returns-then-exchange-clause-works g c = nothing_done g.V.Vault.holds g.V.Vault.is_clean g.W.Wire.asked c.args.office.now c.args.wire.now
+returns-then-exchange-clause-works g c = nothing_done g.V.Vault.holds g.V.Vault.is_clean g.V.Vault.faults g.W.Wire.asked c.args.office.now c.args.wire.now

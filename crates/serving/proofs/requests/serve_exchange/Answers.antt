@@ -20,12 +20,12 @@ returns-clause-asked g c = λ B start L pop others s clean.
     (c.tell.ensures.answers k.x B start k.log pop others k.is))
 
 pub returns-then-is_late-clause-works : goal.returns-then-is_late-clause-works
-returns-then-is_late-clause-works g c = nothing_done g.V.Vault.holds g.V.Vault.is_clean g.W.Wire.asked c.args.office.now c.args.wire.now
+returns-then-is_late-clause-works g c = nothing_done g.V.Vault.holds g.V.Vault.is_clean g.V.Vault.faults g.W.Wire.asked c.args.office.now c.args.wire.now
 
 pub returns-clause-works : goal.returns-clause-works
 returns-clause-works g c =
-    both_done g.V.Vault.holds g.V.Vault.is_clean g.W.Wire.asked c.args.office.now c.hear.new.office c.hear.new.office c.args.wire.now c.hear.new.wire c.tell.new.wire c.hear.ensures.works
-    (only_asked g.V.Vault.holds g.V.Vault.is_clean g.W.Wire.asked c.hear.new.office c.hear.new.wire c.tell.new.wire c.tell.ensures.works)
+    both_done g.V.Vault.holds g.V.Vault.is_clean g.V.Vault.faults g.W.Wire.asked c.args.office.now c.hear.new.office c.hear.new.office c.args.wire.now c.hear.new.wire c.tell.new.wire c.hear.ensures.works
+    (only_asked g.V.Vault.holds g.V.Vault.is_clean g.V.Vault.faults g.W.Wire.asked c.hear.new.office c.hear.new.wire c.tell.new.wire c.tell.ensures.works)
 
 pub returns-then-is_late-clause-timely : goal.returns-then-is_late-clause-timely
 returns-then-is_late-clause-timely g c = λ q. cc

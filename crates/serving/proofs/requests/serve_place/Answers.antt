@@ -52,8 +52,8 @@ returns-then-not-exchange-clause-works g c = c.serve_exchange.ensures.works
 
 pub returns-clause-works : goal.returns-clause-works
 returns-clause-works g c =
-    both_done g.V.Vault.holds g.V.Vault.is_clean g.W.Wire.asked c.args.office.now c.serve_exchange.new.office c.serve_exchange.new.office c.args.wire.now c.serve_exchange.new.wire c.close.new.self c.serve_exchange.ensures.works
-    (only_asked g.V.Vault.holds g.V.Vault.is_clean g.W.Wire.asked c.serve_exchange.new.office c.serve_exchange.new.wire c.close.new.self (asks_closed g.W.Wire.asked c.serve_exchange.new.wire c.close.new.self _ c.close.ensures.called))
+    both_done g.V.Vault.holds g.V.Vault.is_clean g.V.Vault.faults g.W.Wire.asked c.args.office.now c.serve_exchange.new.office c.serve_exchange.new.office c.args.wire.now c.serve_exchange.new.wire c.close.new.self c.serve_exchange.ensures.works
+    (only_asked g.V.Vault.holds g.V.Vault.is_clean g.V.Vault.faults g.W.Wire.asked c.serve_exchange.new.office c.serve_exchange.new.wire c.close.new.self (asks_closed g.W.Wire.asked c.serve_exchange.new.wire c.close.new.self _ c.close.ensures.called))
 
 pub returns-then-not-exchange-clause-before : goal.returns-then-not-exchange-clause-before
 returns-then-not-exchange-clause-before g c = front_stays c.args.requests.now.exchanges.items c.args.place c.serve_exchange.new.exchange

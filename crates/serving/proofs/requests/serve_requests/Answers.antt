@@ -9,7 +9,7 @@ loop-place-init g c = record {
   clean = λ k. k;
   stay = none_yet c.args.now c.args.requests.now.exchanges.items;
   no_more = omega arith;
-  works = nothing_done g.V.Vault.holds g.V.Vault.is_clean g.W.Wire.asked c.args.office.now c.args.wire.now;
+  works = nothing_done g.V.Vault.holds g.V.Vault.is_clean g.V.Vault.faults g.W.Wire.asked c.args.office.now c.args.wire.now;
 }
 
 pub loop-place-preserved-then-serve_place : goal.loop-place-preserved-then-serve_place
@@ -21,7 +21,7 @@ loop-place-preserved-then-serve_place g c =
       clean = λ clean. k.invariant.clean (x.ensures.clean clean);
       stay = one_more c.args.now k.requests.exchanges.items x.new.requests.exchanges.items k.place x.ensures.before (x.ensures.stays c.if-serve_place.true) k.invariant.stay;
       no_more = (let a = x.ensures.left in let b = k.invariant.no_more in omega (arith, a, b));
-      works = both_done g.V.Vault.holds g.V.Vault.is_clean g.W.Wire.asked c.args.office.now k.office x.new.office c.args.wire.now k.wire x.new.wire k.invariant.works x.ensures.works;
+      works = both_done g.V.Vault.holds g.V.Vault.is_clean g.V.Vault.faults g.W.Wire.asked c.args.office.now k.office x.new.office c.args.wire.now k.wire x.new.wire k.invariant.works x.ensures.works;
     }
 
 pub loop-place-preserved : goal.loop-place-preserved
@@ -33,7 +33,7 @@ loop-place-preserved g c =
       clean = λ clean. k.invariant.clean (x.ensures.clean clean);
       stay = as_many c.args.now k.requests.exchanges.items x.new.requests.exchanges.items k.place x.ensures.before k.invariant.stay;
       no_more = (let a = x.ensures.left in let b = k.invariant.no_more in omega (arith, a, b));
-      works = both_done g.V.Vault.holds g.V.Vault.is_clean g.W.Wire.asked c.args.office.now k.office x.new.office c.args.wire.now k.wire x.new.wire k.invariant.works x.ensures.works;
+      works = both_done g.V.Vault.holds g.V.Vault.is_clean g.V.Vault.faults g.W.Wire.asked c.args.office.now k.office x.new.office c.args.wire.now k.wire x.new.wire k.invariant.works x.ensures.works;
     }
 
 pub returns-clause-stay : goal.returns-clause-stay

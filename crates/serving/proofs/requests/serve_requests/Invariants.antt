@@ -12,7 +12,7 @@ invariant-loop-place g l = record {
   clean : g.V.Vault.is_clean (vault_of l.office) → g.V.Vault.is_clean (vault_of l.fn.office);
   stay : All (GoesOn l.fn.now) (take l.place l.requests.exchanges.items);
   no_more : length l.requests.exchanges.items ≤ length l.fn.requests.exchanges.items;
-  works : Part g.V.Vault.holds g.V.Vault.is_clean g.W.Wire.asked l.fn.office l.fn.wire l.office l.wire (IsQuietFor []);
+  works : Part g.V.Vault.holds g.V.Vault.is_clean g.V.Vault.faults g.W.Wire.asked l.fn.office l.fn.wire l.office l.wire (IsQuietFor []);
 }
 
 abbrev pub decreases-loop-place : goal.decreases-loop-place

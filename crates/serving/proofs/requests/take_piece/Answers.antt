@@ -16,4 +16,4 @@ returns-clause-asked g c = λ B L stands clean.
     subst (λ read. HasAsked g.V.Vault.holds B L read c.ask.new.office (option_map octets_of c.ask.result)) same (c.ask.ensures.asked B L stands clean))
 
 pub returns-then-is_err-clause-works : goal.returns-then-is_err-clause-works
-returns-then-is_err-clause-works g c = gives_nothing g.V.Vault.holds g.V.Vault.is_clean c.args.office.now
+returns-then-is_err-clause-works g c = gives_nothing g.V.Vault.holds g.V.Vault.is_clean g.V.Vault.faults c.args.office.now

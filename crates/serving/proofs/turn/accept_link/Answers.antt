@@ -72,7 +72,7 @@ returns-then-is_full-clause-works g c =
     let seats = c.args.links.now.seats.items in
     let is : c.is_full.result ≡ true = search rules in
     let full : length seats ≡ 128 = eqb-true (length seats) 128 (sym c.is_full.ensures.value ∙ is) in
-    part_none g.V.Vault.holds g.V.Vault.is_clean g.W.Wire.asked c.args.office.now c.args.wire.now _ (accepted_full g.V.Vault.holds g.V.Vault.is_clean c.args.office.now seats full)
+    part_none g.V.Vault.holds g.V.Vault.is_clean g.V.Vault.faults g.W.Wire.asked c.args.office.now c.args.wire.now _ (accepted_full g.V.Vault.holds g.V.Vault.is_clean g.V.Vault.faults c.args.office.now seats full)
 
 pub returns-in_default-clause-works : goal.returns-in_default-clause-works
 returns-in_default-clause-works g c =
@@ -80,9 +80,9 @@ returns-in_default-clause-works g c =
     record {
       given = [];
       calls = Accepted Pop None ∷ [];
-      was_given = given_none g.V.Vault.holds g.V.Vault.is_clean o;
+      was_given = given_none g.V.Vault.holds g.V.Vault.is_clean g.V.Vault.faults o;
       was_asked = asked_one g.W.Wire.asked c.args.wire.now c.accept.new.self (Accepted Pop None) c.in_default.ensures.called;
-      facts = accepted_none g.V.Vault.holds g.V.Vault.is_clean o c.args.links.now.seats.items;
+      facts = accepted_none g.V.Vault.holds g.V.Vault.is_clean g.V.Vault.faults o c.args.links.now.seats.items;
     }
 
 pub returns-in-Some-number-clause-works : goal.returns-in-Some-number-clause-works
@@ -96,9 +96,9 @@ returns-in-Some-number-clause-works g c =
     record {
       given = (event.Connect, mark_of o) ∷ [];
       calls = Accepted Pop (Some link) ∷ [];
-      was_given = given_one Holds IsClean c.args.office.now c.step.new.self event.Connect (mark_of o) c.step.ensures.clean c.step.ensures.stands c.step.ensures.admitted;
+      was_given = given_one Holds IsClean g.V.Vault.faults c.args.office.now c.step.new.self event.Connect (outcome_seen c.step.result) c.step.ensures.clean c.step.ensures.stands c.step.ensures.admitted c.step.ensures.counted c.step.ensures.cause;
       was_asked = asked_one g.W.Wire.asked c.args.wire.now c.accept.new.self (Accepted Pop (Some link)) c.in-Some.ensures.called;
-      facts = accepted_seated Holds IsClean c.args.office.now c.step.new.self c.args.links.now.seats.items _ link connection (mark_of o) (done_mark o connection e) c.push.ensures.items;
+      facts = accepted_seated Holds IsClean g.V.Vault.faults c.args.office.now c.step.new.self c.args.links.now.seats.items _ link connection (mark_of o) (done_mark o connection e) c.push.ensures.items;
     }
 
 pub returns-in-None-clause-works : goal.returns-in-None-clause-works
@@ -112,11 +112,11 @@ returns-in-None-clause-works g c =
     record {
       given = (event.Connect, mark_of o) ∷ [];
       calls = Accepted Pop (Some link) ∷ Closed Pop link ∷ [];
-      was_given = given_one Holds IsClean office c.step.new.self event.Connect (mark_of o) c.step.ensures.clean c.step.ensures.stands c.step.ensures.admitted;
+      was_given = given_one Holds IsClean g.V.Vault.faults office c.step.new.self event.Connect (outcome_seen c.step.result) c.step.ensures.clean c.step.ensures.stands c.step.ensures.admitted c.step.ensures.counted c.step.ensures.cause;
       was_asked = asked_then g.W.Wire.asked c.args.wire.now c.accept.new.self c.close.new.self (Accepted Pop (Some link) ∷ []) (Closed Pop link ∷ [])
           (asked_one g.W.Wire.asked c.args.wire.now c.accept.new.self (Accepted Pop (Some link)) c.in-Some.ensures.called)
           (asked_one g.W.Wire.asked c.accept.new.self c.close.new.self (Closed Pop link) c.close.ensures.called);
-      facts = accepted_unseated Holds IsClean office c.step.new.self c.args.links.now.seats.items link (mark_of o)
+      facts = accepted_unseated Holds IsClean g.V.Vault.faults office c.step.new.self c.args.links.now.seats.items link (mark_of o)
           (λ T s k.
           (let r : IsRefusal (mark_of o) = subst (Comes T.log o) {y = None} e (comes T (lent_by office) o (c.step.ensures.outcome T s k)) in
           refusal_so (mark_of o) r));

@@ -12,6 +12,6 @@ invariant-loop-times g l = record {
   set : settings_of l.links ≡ settings_of l.fn.links;
   last : l.links.last ≡ l.fn.links.last;
   late : AreNoMoreLate l.fn.now l.fn.links.newcomers.seconds l.fn.links.newcomers.newcomers.items l.links.newcomers.newcomers.items;
-  works : Part g.V.Vault.holds g.V.Vault.is_clean g.W.Wire.asked l.fn.office l.fn.wire l.office l.wire
+  works : Part g.V.Vault.holds g.V.Vault.is_clean g.V.Vault.faults g.W.Wire.asked l.fn.office l.fn.wire l.office l.wire
       (AreAccepted g.V.Vault.holds g.V.Vault.is_clean l.fn.office l.office l.fn.links.seats.items l.links.seats.items l._times true);
 }

@@ -18,14 +18,14 @@ returns-then-is_logged_in-clause-late g c = late_forgotten c.args.now c.args.lin
 
 pub returns-then-is_logged_in-clause-works : goal.returns-then-is_logged_in-clause-works
 returns-then-is_logged_in-clause-works g c = λ on.
-    record { given = []; was_given = given_none g.V.Vault.holds g.V.Vault.is_clean c.args.office.now; facts = All-nil (IsLateGone c.args.now c.args.links.now.newcomers.seconds c.args.links.now.newcomers.newcomers.items) }
+    record { given = []; was_given = given_none g.V.Vault.holds g.V.Vault.is_clean g.V.Vault.faults c.args.office.now; facts = All-nil (IsLateGone c.args.now c.args.links.now.newcomers.seconds c.args.links.now.newcomers.newcomers.items) }
 
 pub returns-then-not-is_late-clause-late : goal.returns-then-not-is_late-clause-late
 returns-then-not-is_late-clause-late g c = late_same c.args.now c.args.links.now.newcomers.seconds c.args.links.now.newcomers.newcomers.items
 
 pub returns-then-not-is_late-clause-works : goal.returns-then-not-is_late-clause-works
 returns-then-not-is_late-clause-works g c = λ on.
-    record { given = []; was_given = given_none g.V.Vault.holds g.V.Vault.is_clean c.args.office.now; facts = All-nil (IsLateGone c.args.now c.args.links.now.newcomers.seconds c.args.links.now.newcomers.newcomers.items) }
+    record { given = []; was_given = given_none g.V.Vault.holds g.V.Vault.is_clean g.V.Vault.faults c.args.office.now; facts = All-nil (IsLateGone c.args.now c.args.links.now.newcomers.seconds c.args.links.now.newcomers.newcomers.items) }
 
 pub returns-clause-late : goal.returns-clause-late
 returns-clause-late g c = late_same c.args.now c.args.links.now.newcomers.seconds c.args.links.now.newcomers.newcomers.items

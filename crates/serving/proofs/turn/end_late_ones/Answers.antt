@@ -8,7 +8,7 @@ use Rattle.serving.proofs.turn.end_late_ones.Goals as goal
 
 pub returns-then-links-clause-works : goal.returns-then-links-clause-works
 returns-then-links-clause-works g c =
-    record { given = []; was_given = given_none g.V.Vault.holds g.V.Vault.is_clean c.args.office.now; facts = All-nil (IsLateGone c.args.now c.args.links.now.newcomers.seconds c.args.links.now.newcomers.newcomers.items) }
+    record { given = []; was_given = given_none g.V.Vault.holds g.V.Vault.is_clean g.V.Vault.faults c.args.office.now; facts = All-nil (IsLateGone c.args.now c.args.links.now.newcomers.seconds c.args.links.now.newcomers.newcomers.items) }
 
 pub loop-place-init : goal.loop-place-init
 loop-place-init g c = record {
@@ -18,7 +18,7 @@ loop-place-init g c = record {
   set = refl;
   last = refl;
   late = late_same c.args.now c.args.links.now.newcomers.seconds c.args.links.now.newcomers.newcomers.items;
-  works = record { given = []; was_given = given_none g.V.Vault.holds g.V.Vault.is_clean c.args.office.now; facts = All-nil (IsLateGone c.args.now c.args.links.now.newcomers.seconds c.args.links.now.newcomers.newcomers.items) };
+  works = record { given = []; was_given = given_none g.V.Vault.holds g.V.Vault.is_clean g.V.Vault.faults c.args.office.now; facts = All-nil (IsLateGone c.args.now c.args.links.now.newcomers.seconds c.args.links.now.newcomers.newcomers.items) };
 }
 
 pub loop-place-preserved : goal.loop-place-preserved
@@ -32,8 +32,8 @@ loop-place-preserved g c =
     let on : (k.links.newcomers.seconds == 0) ≡ false = ap (λ m. m == 0) seconds ∙ some in
     let late : AreNoMoreLate now n.seconds k.links.newcomers.newcomers.items x.new.links.newcomers.newcomers.items =
     subst (λ m. AreNoMoreLate now m k.links.newcomers.newcomers.items x.new.links.newcomers.newcomers.items) seconds x.ensures.late in
-    let one : Giving g.V.Vault.holds g.V.Vault.is_clean k.office x.new.office (AreLateGone now n.seconds k.links.newcomers.newcomers.items) =
-    subst (λ m. Giving g.V.Vault.holds g.V.Vault.is_clean k.office x.new.office (AreLateGone now m k.links.newcomers.newcomers.items)) seconds (x.ensures.works on) in
+    let one : Giving g.V.Vault.holds g.V.Vault.is_clean g.V.Vault.faults k.office x.new.office (AreLateGone now n.seconds k.links.newcomers.newcomers.items) =
+    subst (λ m. Giving g.V.Vault.holds g.V.Vault.is_clean g.V.Vault.faults k.office x.new.office (AreLateGone now m k.links.newcomers.newcomers.items)) seconds (x.ensures.works on) in
     record {
       serves = λ T beside s clean. x.ensures.serves T beside (k.invariant.serves T beside s (x.ensures.clean clean)) clean;
       clean = λ clean. k.invariant.clean (x.ensures.clean clean);
@@ -41,5 +41,5 @@ loop-place-preserved g c =
       set = x.ensures.set ∙ k.invariant.set;
       last = x.ensures.last ∙ k.invariant.last;
       late = late_then now n.seconds n.newcomers.items k.links.newcomers.newcomers.items x.new.links.newcomers.newcomers.items k.invariant.late late;
-      works = gone_then g.V.Vault.holds g.V.Vault.is_clean now n.seconds n.newcomers.items k.links.newcomers.newcomers.items c.args.office.now k.office x.new.office k.invariant.late k.invariant.works one;
+      works = gone_then g.V.Vault.holds g.V.Vault.is_clean g.V.Vault.faults now n.seconds n.newcomers.items k.links.newcomers.newcomers.items c.args.office.now k.office x.new.office k.invariant.late k.invariant.works one;
     }

@@ -14,7 +14,7 @@ invariant-loop-place g l = record {
   set : settings_of l.links ≡ settings_of l.fn.links;
   last : l.links.last ≡ l.fn.links.last;
   late : AreNoMoreLate l.fn.now l.fn.links.newcomers.seconds l.fn.links.newcomers.newcomers.items l.links.newcomers.newcomers.items;
-  works : Giving g.V.Vault.holds g.V.Vault.is_clean l.fn.office l.office (AreLateGone l.fn.now l.fn.links.newcomers.seconds l.fn.links.newcomers.newcomers.items);
+  works : Giving g.V.Vault.holds g.V.Vault.is_clean g.V.Vault.faults l.fn.office l.office (AreLateGone l.fn.now l.fn.links.newcomers.seconds l.fn.links.newcomers.newcomers.items);
 }
 
 abbrev pub decreases-loop-place : goal.decreases-loop-place

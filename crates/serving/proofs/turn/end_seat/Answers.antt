@@ -47,10 +47,10 @@ returns-clause-works g c = λ now seconds newcomers late.
     let e = event.Gone c.args.seat.connection in
     record {
       given = (e, m) ∷ [];
-      was_given = given_one g.V.Vault.holds g.V.Vault.is_clean c.args.office.now c.step.new.self e m c.step.ensures.clean c.step.ensures.stands c.step.ensures.admitted;
+      was_given = given_one g.V.Vault.holds g.V.Vault.is_clean g.V.Vault.faults c.args.office.now c.step.new.self e (outcome_seen c.step.result) c.step.ensures.clean c.step.ensures.stands c.step.ensures.admitted c.step.ensures.counted c.step.ensures.cause;
       facts = All-cons (IsLateGone now seconds newcomers) (e, m) [] late (All-nil (IsLateGone now seconds newcomers));
     })
 
 pub returns-then-ended-clause-works : goal.returns-then-ended-clause-works
 returns-then-ended-clause-works g c = λ now seconds newcomers late.
-    record { given = []; was_given = given_none g.V.Vault.holds g.V.Vault.is_clean c.args.office.now; facts = All-nil (IsLateGone now seconds newcomers) }
+    record { given = []; was_given = given_none g.V.Vault.holds g.V.Vault.is_clean g.V.Vault.faults c.args.office.now; facts = All-nil (IsLateGone now seconds newcomers) }

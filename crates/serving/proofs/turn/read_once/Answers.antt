@@ -102,8 +102,8 @@ returns-then-not-ready-clause-works g c = λ wait may.
     (let o = c.args.office.now in
     let seat = c.args.seat in
     let no : c.ready.result ≡ false = search rules in
-    part_none g.V.Vault.holds g.V.Vault.is_clean g.W.Wire.asked o c.args.wire.now _
-    (heard_none g.V.Vault.holds g.V.Vault.is_clean wait may o seat (λ B L s. sym (c.ready.ensures (trace_of B L) s) ∙ no)))
+    part_none g.V.Vault.holds g.V.Vault.is_clean g.V.Vault.faults g.W.Wire.asked o c.args.wire.now _
+    (heard_none g.V.Vault.holds g.V.Vault.is_clean g.V.Vault.faults wait may o seat (λ B L s. sym (c.ready.ensures (trace_of B L) s) ∙ no)))
 
 pub returns-in-Count-clause-works : goal.returns-in-Count-clause-works
 returns-in-Count-clause-works g c = λ wait may.
@@ -116,9 +116,9 @@ returns-in-Count-clause-works g c = λ wait may.
     record {
       given = (event.Bytes seat.connection piece, m) ∷ [];
       calls = Read Pop seat.link (Count n) piece ∷ [];
-      was_given = given_one Holds g.V.Vault.is_clean o c.step.new.self (event.Bytes seat.connection piece) m c.step.ensures.clean c.step.ensures.stands c.step.ensures.admitted;
+      was_given = given_one Holds g.V.Vault.is_clean g.V.Vault.faults o c.step.new.self (event.Bytes seat.connection piece) (outcome_seen c.step.result) c.step.ensures.clean c.step.ensures.stands c.step.ensures.admitted c.step.ensures.counted c.step.ensures.cause;
       was_asked = asked_one g.W.Wire.asked c.args.wire.now c.read.new.self (Read Pop seat.link (Count n) piece) c.in-Count.ensures.called;
-      facts = heard_some Holds g.V.Vault.is_clean wait may o seat (Count n) piece piece m;
+      facts = heard_some Holds g.V.Vault.is_clean g.V.Vault.faults wait may o seat (Count n) piece piece m;
     })
 
 pub returns-in-Later-clause-works : goal.returns-in-Later-clause-works
@@ -128,9 +128,9 @@ returns-in-Later-clause-works g c = λ wait may.
     record {
       given = [];
       calls = Read Pop seat.link Later [] ∷ [];
-      was_given = given_none g.V.Vault.holds g.V.Vault.is_clean o;
+      was_given = given_none g.V.Vault.holds g.V.Vault.is_clean g.V.Vault.faults o;
       was_asked = asked_one g.W.Wire.asked c.args.wire.now c.read.new.self (Read Pop seat.link Later []) c.in-Later.ensures.called;
-      facts = heard_later g.V.Vault.holds g.V.Vault.is_clean wait may o seat Later [];
+      facts = heard_later g.V.Vault.holds g.V.Vault.is_clean g.V.Vault.faults wait may o seat Later [];
     })
 
 pub returns-in-End-clause-works : goal.returns-in-End-clause-works
@@ -146,7 +146,7 @@ returns-in-End-clause-works g c = λ wait may.
     record {
       given = (event.Gone connection, m) ∷ [];
       calls = Read Pop seat.link io octets ∷ [];
-      was_given = given_one Holds g.V.Vault.is_clean office c.step-in-End.new.self (event.Gone connection) m c.step-in-End.ensures.clean c.step-in-End.ensures.stands c.step-in-End.ensures.admitted;
+      was_given = given_one Holds g.V.Vault.is_clean g.V.Vault.faults office c.step-in-End.new.self (event.Gone connection) (outcome_seen c.step-in-End.result) c.step-in-End.ensures.clean c.step-in-End.ensures.stands c.step-in-End.ensures.admitted c.step-in-End.ensures.counted c.step-in-End.ensures.cause;
       was_asked = asked_one g.W.Wire.asked c.args.wire.now c.read.new.self (Read Pop seat.link io octets) c.read.ensures.called;
-      facts = heard_cut Holds g.V.Vault.is_clean wait may office seat io octets m fault;
+      facts = heard_cut Holds g.V.Vault.is_clean g.V.Vault.faults wait may office seat io octets m fault;
     })

@@ -24,8 +24,8 @@ pub returns-then-not-ready-clause-works : goal.returns-then-not-ready-clause-wor
 returns-then-not-ready-clause-works g c =
     let links = c.args.links.now in
     let no : c.ready.result ≡ false = search rules in
-    part_none g.V.Vault.holds g.V.Vault.is_clean g.W.Wire.asked c.args.office.now c.args.wire.now _
-    (heard_none g.V.Vault.holds g.V.Vault.is_clean links.wait (may_keep links) c.args.office.now c.args.seat (λ B L s. sym (c.ready.ensures (trace_of B L) s) ∙ no))
+    part_none g.V.Vault.holds g.V.Vault.is_clean g.V.Vault.faults g.W.Wire.asked c.args.office.now c.args.wire.now _
+    (heard_none g.V.Vault.holds g.V.Vault.is_clean g.V.Vault.faults links.wait (may_keep links) c.args.office.now c.args.seat (λ B L s. sym (c.ready.ensures (trace_of B L) s) ∙ no))
 
 pub returns-then-part-eq0-clause-works : goal.returns-then-part-eq0-clause-works
 returns-then-part-eq0-clause-works g c =
@@ -40,8 +40,8 @@ returns-then-part-eq0-clause-works g c =
     let a = part.ensures.works in
     let none : part.result ≡ 0 = search rules in
     let shut : is_shut pace ≡ true → may ≡ true = shut_so links.is_freed c.is_logged_in.result links.guesses.are_slow c.args.now links.guesses c.origin_at-origin.result pace (search rules) c.origin_at-origin.ensures.fast in
-    heard_asked Holds IsClean g.W.Wire.asked o c.args.wire.now part.new.wire seat links.wait may a.calls a.was_asked
-    (heard_unread Holds IsClean links.wait may o seat a.calls (looked_quiet Holds o seat links.wait pace part.result a.calls a.facts)
+    heard_asked Holds IsClean g.V.Vault.faults g.W.Wire.asked o c.args.wire.now part.new.wire seat links.wait may a.calls a.was_asked
+    (heard_unread Holds IsClean g.V.Vault.faults links.wait may o seat a.calls (looked_quiet Holds o seat links.wait pace part.result a.calls a.facts)
     (unread_so Holds o seat links.wait pace may part.result a.calls shut none a.facts))
 
 pub returns-then-not-read_once-clause-works : goal.returns-then-not-read_once-clause-works
@@ -51,7 +51,7 @@ returns-then-not-read_once-clause-works g c =
     let part = c.next_part-part in
     let a = part.ensures.works in
     let quiet = looked_quiet g.V.Vault.holds c.args.office.now seat links.wait c.pace_behind-pace-2.result part.result a.calls a.facts in
-    heard_after g.V.Vault.holds g.V.Vault.is_clean g.W.Wire.asked c.args.office.now c.read_once.new.office c.args.wire.now part.new.wire c.read_once.new.wire seat links.wait (may_keep links) a.calls quiet a.was_asked (c.read_once.ensures.works links.wait (may_keep links))
+    heard_after g.V.Vault.holds g.V.Vault.is_clean g.V.Vault.faults g.W.Wire.asked c.args.office.now c.read_once.new.office c.args.wire.now part.new.wire c.read_once.new.wire seat links.wait (may_keep links) a.calls quiet a.was_asked (c.read_once.ensures.works links.wait (may_keep links))
 
 pub returns-clause-works : goal.returns-clause-works
 returns-clause-works g c =
@@ -60,4 +60,4 @@ returns-clause-works g c =
     let part = c.next_part-part in
     let a = part.ensures.works in
     let quiet = looked_quiet g.V.Vault.holds c.args.office.now seat links.wait c.pace_behind-pace-2.result part.result a.calls a.facts in
-    heard_after g.V.Vault.holds g.V.Vault.is_clean g.W.Wire.asked c.args.office.now c.read_once.new.office c.args.wire.now part.new.wire c.read_once.new.wire seat links.wait (may_keep links) a.calls quiet a.was_asked (c.read_once.ensures.works links.wait (may_keep links))
+    heard_after g.V.Vault.holds g.V.Vault.is_clean g.V.Vault.faults g.W.Wire.asked c.args.office.now c.read_once.new.office c.args.wire.now part.new.wire c.read_once.new.wire seat links.wait (may_keep links) a.calls quiet a.was_asked (c.read_once.ensures.works links.wait (may_keep links))

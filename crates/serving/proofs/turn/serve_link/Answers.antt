@@ -12,9 +12,9 @@ returns-then-write_owed-clause-works g c =
     let x = c.write_owed in
     let way = way_at c.args.links.now in
     let goes : x.result ≡ true = search rules in
-    let out = subst (λ b. Part Holds IsClean g.W.Wire.asked o c.args.wire.now x.new.office x.new.wire (IsWrittenOut Holds IsClean o x.new.office c.args.seat way.share b)) goes
-    (subst (λ n. Part Holds IsClean g.W.Wire.asked o c.args.wire.now x.new.office x.new.wire (IsWrittenOut Holds IsClean o x.new.office c.args.seat n x.result)) c.share_of-share.ensures.value x.ensures.works) in
-    part_so Holds IsClean g.W.Wire.asked o x.new.office c.args.wire.now x.new.wire _ _ (λ gv cl wa a. served_written Holds IsClean o x.new.office way c.args.seat gv cl a) out
+    let out = subst (λ b. Part Holds IsClean g.V.Vault.faults g.W.Wire.asked o c.args.wire.now x.new.office x.new.wire (IsWrittenOut Holds IsClean o x.new.office c.args.seat way.share b)) goes
+    (subst (λ n. Part Holds IsClean g.V.Vault.faults g.W.Wire.asked o c.args.wire.now x.new.office x.new.wire (IsWrittenOut Holds IsClean o x.new.office c.args.seat n x.result)) c.share_of-share.ensures.value x.ensures.works) in
+    part_so Holds IsClean g.V.Vault.faults g.W.Wire.asked o x.new.office c.args.wire.now x.new.wire _ _ (λ gv cl wa a. served_written Holds IsClean g.V.Vault.faults o x.new.office way c.args.seat gv cl a) out
 
 pub returns-then-not-read_piece-clause-works : goal.returns-then-not-read_piece-clause-works
 returns-then-not-read_piece-clause-works g c =
@@ -24,9 +24,9 @@ returns-then-not-read_piece-clause-works g c =
     let x = c.write_owed in
     let y = c.read_piece in
     let way = way_at c.args.links.now in
-    let out = subst (λ n. Part Holds IsClean g.W.Wire.asked o c.args.wire.now x.new.office x.new.wire (IsWrittenOut Holds IsClean o x.new.office c.args.seat n x.result)) c.share_of-share.ensures.value x.ensures.works in
-    part_then Holds IsClean g.W.Wire.asked o x.new.office y.new.office c.args.wire.now x.new.wire y.new.wire _ _ _
-    (λ g1 g2 c1 c2 wa wb a b. served_one Holds IsClean o x.new.office y.new.office way c.args.seat x.result g1 g2 c1 c2 wa wb a b) out y.ensures.works
+    let out = subst (λ n. Part Holds IsClean g.V.Vault.faults g.W.Wire.asked o c.args.wire.now x.new.office x.new.wire (IsWrittenOut Holds IsClean o x.new.office c.args.seat n x.result)) c.share_of-share.ensures.value x.ensures.works in
+    part_then Holds IsClean g.V.Vault.faults g.W.Wire.asked o x.new.office y.new.office c.args.wire.now x.new.wire y.new.wire _ _ _
+    (λ g1 g2 c1 c2 wa wb a b. served_one Holds IsClean g.V.Vault.faults o x.new.office y.new.office way c.args.seat x.result g1 g2 c1 c2 wa wb a b) out y.ensures.works
 
 pub returns-clause-works : goal.returns-clause-works
 returns-clause-works g c =
@@ -37,9 +37,9 @@ returns-clause-works g c =
     let y = c.read_piece in
     let z = c.write_owed-2 in
     let way = way_at c.args.links.now in
-    let out = subst (λ n. Part Holds IsClean g.W.Wire.asked o c.args.wire.now x.new.office x.new.wire (IsWrittenOut Holds IsClean o x.new.office c.args.seat n x.result)) c.share_of-share.ensures.value x.ensures.works in
-    let first : Part Holds IsClean g.W.Wire.asked o c.args.wire.now y.new.office y.new.wire (HadTurns Holds IsClean o y.new.office way (c.args.seat ∷ []) (c.args.seat ∷ [])) =
-    part_then Holds IsClean g.W.Wire.asked o x.new.office y.new.office c.args.wire.now x.new.wire y.new.wire _ _ _
-    (λ g1 g2 c1 c2 wa wb a b. served_one Holds IsClean o x.new.office y.new.office way c.args.seat x.result g1 g2 c1 c2 wa wb a b) out y.ensures.works in
-    part_then Holds IsClean g.W.Wire.asked o y.new.office z.new.office c.args.wire.now y.new.wire z.new.wire _ _ _
-    (λ g1 g2 c1 c2 wa wb a b. served_then Holds IsClean o y.new.office z.new.office way c.args.seat g1 g2 c1 c2 wa wb a b.of_seat) first z.ensures.works
+    let out = subst (λ n. Part Holds IsClean g.V.Vault.faults g.W.Wire.asked o c.args.wire.now x.new.office x.new.wire (IsWrittenOut Holds IsClean o x.new.office c.args.seat n x.result)) c.share_of-share.ensures.value x.ensures.works in
+    let first : Part Holds IsClean g.V.Vault.faults g.W.Wire.asked o c.args.wire.now y.new.office y.new.wire (HadTurns Holds IsClean o y.new.office way (c.args.seat ∷ []) (c.args.seat ∷ [])) =
+    part_then Holds IsClean g.V.Vault.faults g.W.Wire.asked o x.new.office y.new.office c.args.wire.now x.new.wire y.new.wire _ _ _
+    (λ g1 g2 c1 c2 wa wb a b. served_one Holds IsClean g.V.Vault.faults o x.new.office y.new.office way c.args.seat x.result g1 g2 c1 c2 wa wb a b) out y.ensures.works in
+    part_then Holds IsClean g.V.Vault.faults g.W.Wire.asked o y.new.office z.new.office c.args.wire.now y.new.wire z.new.wire _ _ _
+    (λ g1 g2 c1 c2 wa wb a b. served_then Holds IsClean g.V.Vault.faults o y.new.office z.new.office way c.args.seat g1 g2 c1 c2 wa wb a b.of_seat) first z.ensures.works

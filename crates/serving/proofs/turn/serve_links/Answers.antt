@@ -20,8 +20,8 @@ loop-place-init g c = record {
   seats = refl;
   aside = record { set = refl; newcomers = refl; last = refl };
   freed = λ e. cc;
-  works = part_none g.V.Vault.holds g.V.Vault.is_clean g.W.Wire.asked c.args.office.now c.args.wire.now _
-      (served_none g.V.Vault.holds g.V.Vault.is_clean c.args.office.now (way_by c.args.links.now (length c.args.links.now.seats.items)) c.args.links.now.seats.items);
+  works = part_none g.V.Vault.holds g.V.Vault.is_clean g.V.Vault.faults g.W.Wire.asked c.args.office.now c.args.wire.now _
+      (served_none g.V.Vault.holds g.V.Vault.is_clean g.V.Vault.faults c.args.office.now (way_by c.args.links.now (length c.args.links.now.seats.items)) c.args.links.now.seats.items);
 }
 
 leaves_then : (a b c : Clients) → LeavesSettings a b → LeavesSettings b c → LeavesSettings a c
@@ -70,11 +70,11 @@ loop-place-preserved g c =
           (λ (before : k.links.is_freed ≡ true). k.invariant.freed before)
           (λ (some : (k.links.wait == 0) ≡ false). some)
           (x.ensures.waits e);
-      works = part_then Holds IsClean g.W.Wire.asked c.args.office.now k.office x.new.office c.args.wire.now k.wire x.new.wire _ _ _
+      works = part_then Holds IsClean g.V.Vault.faults g.W.Wire.asked c.args.office.now k.office x.new.office c.args.wire.now k.wire x.new.wire _ _ _
           (λ g1 g2 c1 c2 wa wb a b.
-          served_more Holds IsClean c.args.office.now k.office x.new.office (way_by old (length old.seats.items)) old.seats.items k.links.seats.items k.place no_seat g1 g2 c1 c2
+          served_more Holds IsClean g.V.Vault.faults c.args.office.now k.office x.new.office (way_by old (length old.seats.items)) old.seats.items k.links.seats.items k.place no_seat g1 g2 c1 c2
           (ap (λ v. v.items) k.invariant.seats) within wa wb a
-          (served_so Holds IsClean k.office x.new.office (way_at k.links) (way_by old (length old.seats.items)) _ _ g2 c2 share (sym wait) (may_so k.links old slow wait k.invariant.freed) (b no_seat)))
+          (served_so Holds IsClean g.V.Vault.faults k.office x.new.office (way_at k.links) (way_by old (length old.seats.items)) _ _ g2 c2 share (sym wait) (may_so k.links old slow wait k.invariant.freed) (b no_seat)))
           k.invariant.works x.ensures.works;
     }
 
@@ -85,5 +85,5 @@ returns-clause-works g c =
     let k = c.loop-place in
     let old = c.args.links.now in
     let done : length k.links.seats.items ≤ k.place = search rules in
-    part_so Holds IsClean g.W.Wire.asked c.args.office.now k.office c.args.wire.now k.wire _ _
-    (λ gv cl wa a. served_whole Holds IsClean c.args.office.now k.office (way_by old (length old.seats.items)) old.seats.items k.links.seats.items k.place gv cl (ap (λ v. v.items) k.invariant.seats) done a) k.invariant.works
+    part_so Holds IsClean g.V.Vault.faults g.W.Wire.asked c.args.office.now k.office c.args.wire.now k.wire _ _
+    (λ gv cl wa a. served_whole Holds IsClean g.V.Vault.faults c.args.office.now k.office (way_by old (length old.seats.items)) old.seats.items k.links.seats.items k.place gv cl (ap (λ v. v.items) k.invariant.seats) done a) k.invariant.works

@@ -13,7 +13,7 @@ invariant-loop-place g l = record {
   seats : l.links.seats ≡ l.fn.links.seats;
   aside : LeavesSettings l.fn.links l.links;
   freed : l.links.is_freed ≡ true → (l.links.wait == 0) ≡ false;
-  works : Part g.V.Vault.holds g.V.Vault.is_clean g.W.Wire.asked l.fn.office l.fn.wire l.office l.wire
+  works : Part g.V.Vault.holds g.V.Vault.is_clean g.V.Vault.faults g.W.Wire.asked l.fn.office l.fn.wire l.office l.wire
       (λ given calls. HadTurns g.V.Vault.holds g.V.Vault.is_clean l.fn.office l.office (way_by l.fn.links (length l.fn.links.seats.items)) l.fn.links.seats.items (take l.place l.fn.links.seats.items) given calls);
 }
 

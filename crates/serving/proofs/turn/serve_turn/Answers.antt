@@ -76,16 +76,16 @@ returns-clause-works g c = λ T s clean.
     let w5 = c.serve_requests.new.wire in
     let w6 = c.close_links.new.wire in
     let a = c.accept_links.ensures.works in
-    let passed = subst (λ n. Part Holds IsClean Asked c.args.office.now c.args.wire.now o1 w1 (IsPassed n now)) c.millis_for-millis.ensures c.pass_time.ensures.works in
-    let turned = subst (λ way. Part Holds IsClean Asked o2 w3 o3 w4 (HadTurns Holds IsClean o2 o3 way seats2 seats2)) (way_same came old (length seats2) c.accept_links.ensures.set) c.serve_links.ensures.works in
+    let passed = subst (λ n. Part Holds IsClean g.V.Vault.faults Asked c.args.office.now c.args.wire.now o1 w1 (IsPassed n now)) c.millis_for-millis.ensures c.pass_time.ensures.works in
+    let turned = subst (λ way. Part Holds IsClean g.V.Vault.faults Asked o2 w3 o3 w4 (HadTurns Holds IsClean o2 o3 way seats2 seats2)) (way_same came old (length seats2) c.accept_links.ensures.set) c.serve_links.ensures.works in
     let same = c.serve_links.ensures.aside.newcomers in
     let seconds = ap (λ n. n.seconds) same ∙ ap (λ (s : Settings). s.login_seconds) c.accept_links.ensures.set in
     let less = subst (λ n. AreNoMoreLate now old.newcomers.seconds old.newcomers.newcomers.items n.newcomers.items) (sym same) c.accept_links.ensures.late in
-    let late = gone_so Holds IsClean now served.newcomers.seconds old.newcomers.seconds old.newcomers.newcomers.items served.newcomers.newcomers.items o4 o5 seconds less c.end_late_ones.ensures.works in
+    let late = gone_so Holds IsClean g.V.Vault.faults now served.newcomers.seconds old.newcomers.seconds old.newcomers.newcomers.items served.newcomers.newcomers.items o4 o5 seconds less c.end_late_ones.ensures.works in
     let last = c.close_links.ensures.last ∙ (c.end_late_ones.ensures.last ∙ (c.serve_links.ensures.aside.last ∙ c.accept_links.ensures.last)) in
-    let tried = subst (λ l. SpoolPart Holds IsClean g.S.Spool.asked o5 c.args.spool.now c.serve_spool.new.office c.serve_spool.new.spool (IsSpoolTurn l c.serve_spool.new.links.last)) last c.serve_spool.ensures.works in
+    let tried = subst (λ l. SpoolPart Holds IsClean g.V.Vault.faults g.S.Spool.asked o5 c.args.spool.now c.serve_spool.new.office c.serve_spool.new.spool (IsSpoolTurn l c.serve_spool.new.links.last)) last c.serve_spool.ensures.works in
     let seats_same = c.end_late_ones.ensures.seats ∙ c.serve_links.ensures.seats in
-    turn_done Holds IsClean Asked g.S.Spool.asked T now links (record { clients = c.serve_spool.new.links; requests = c.serve_requests.new.requests })
+    turn_done Holds IsClean g.V.Vault.faults Asked g.S.Spool.asked T now links (record { clients = c.serve_spool.new.links; requests = c.serve_requests.new.requests })
     c.args.office.now o1 o2 o3 o4 o5 c.serve_spool.new.office
     c.args.wire.now w1 c.accept_links.new.wire w3 w4 w5 w6 c.args.spool.now c.serve_spool.new.spool
     seats2 a.0 passed a.1 c.accept_requests.ensures.works turned c.serve_requests.ensures.works late

@@ -103,8 +103,8 @@ returns-then-is_empty-clause-works g c =
     let o = c.args.office.now in
     let seat = c.args.seat in
     let e : c.is_empty.result ≡ true = search rules in
-    part_none Holds g.V.Vault.is_clean g.W.Wire.asked o c.args.wire.now _
-    (wrote_none Holds g.V.Vault.is_clean o seat
+    part_none Holds g.V.Vault.is_clean g.V.Vault.faults g.W.Wire.asked o c.args.wire.now _
+    (wrote_none Holds g.V.Vault.is_clean g.V.Vault.faults o seat
     (λ B L s k. nothing_left (rest (trace_of B L) seat.connection) (length c.owed-lent.result.now) c.is_empty.result (c.owed-lent.ensures.exact (trace_of B L) s) c.is_empty.ensures e))
 
 pub returns-in-Count-clause-works : goal.returns-in-Count-clause-works
@@ -118,9 +118,9 @@ returns-in-Count-clause-works g c =
     record {
       given = (event.Took seat.connection n, m) ∷ [];
       calls = Wrote Pop seat.link (Count n) (take n lent) ∷ [];
-      was_given = given_one Holds g.V.Vault.is_clean o c.step.new.self (event.Took seat.connection n) m c.step.ensures.clean c.step.ensures.stands c.step.ensures.admitted;
+      was_given = given_one Holds g.V.Vault.is_clean g.V.Vault.faults o c.step.new.self (event.Took seat.connection n) (outcome_seen c.step.result) c.step.ensures.clean c.step.ensures.stands c.step.ensures.admitted c.step.ensures.counted c.step.ensures.cause;
       was_asked = asked_one g.W.Wire.asked c.args.wire.now c.write.new.self (Wrote Pop seat.link (Count n) (take n lent)) c.in-Count.ensures.called;
-      facts = wrote_some Holds g.V.Vault.is_clean o c.step.new.self seat n (take n lent) m c.in-Count.ensures.within.0;
+      facts = wrote_some Holds g.V.Vault.is_clean g.V.Vault.faults o c.step.new.self seat n (take n lent) m c.in-Count.ensures.within.0;
     }
 
 pub returns-in-Later-clause-works : goal.returns-in-Later-clause-works
@@ -130,9 +130,9 @@ returns-in-Later-clause-works g c =
     record {
       given = [];
       calls = Wrote Pop seat.link Later [] ∷ [];
-      was_given = given_none g.V.Vault.holds g.V.Vault.is_clean o;
+      was_given = given_none g.V.Vault.holds g.V.Vault.is_clean g.V.Vault.faults o;
       was_asked = asked_one g.W.Wire.asked c.args.wire.now c.write.new.self (Wrote Pop seat.link Later []) c.in-Later.ensures.called;
-      facts = wrote_later g.V.Vault.holds g.V.Vault.is_clean o seat [];
+      facts = wrote_later g.V.Vault.holds g.V.Vault.is_clean g.V.Vault.faults o seat [];
     }
 
 pub returns-in-End-clause-works : goal.returns-in-End-clause-works
@@ -151,9 +151,9 @@ returns-in-End-clause-works g c =
     record {
       given = (event.Gone connection, mark_of o) ∷ [];
       calls = Wrote Pop seat.link io octets ∷ [];
-      was_given = given_one Holds g.V.Vault.is_clean office c.step-in-End.new.self (event.Gone connection) (mark_of o) c.step-in-End.ensures.clean c.step-in-End.ensures.stands c.step-in-End.ensures.admitted;
+      was_given = given_one Holds g.V.Vault.is_clean g.V.Vault.faults office c.step-in-End.new.self (event.Gone connection) (outcome_seen c.step-in-End.result) c.step-in-End.ensures.clean c.step-in-End.ensures.stands c.step-in-End.ensures.admitted c.step-in-End.ensures.counted c.step-in-End.ensures.cause;
       was_asked = asked_one g.W.Wire.asked c.args.wire.now c.write.new.self (Wrote Pop seat.link io octets) c.write.ensures.called;
-      facts = wrote_cut Holds g.V.Vault.is_clean office c.step-in-End.new.self seat io octets (mark_of o) fault
+      facts = wrote_cut Holds g.V.Vault.is_clean g.V.Vault.faults office c.step-in-End.new.self seat io octets (mark_of o) fault
           (λ B L s k.
           (let now = trace_of B L in
           let here = lent_open now connection (length lent) lent (c.owed-lent.ensures.lent now s) some (omega arith) in

@@ -8,6 +8,6 @@ abbrev pub invariant-loop-times : goal.invariant-loop-times
 invariant-loop-times g l = record {
   serves : StillServesOne g.V.Vault.holds g.V.Vault.is_clean g.W.Wire.tells l.fn.seat l.fn.office l.fn.wire l.office l.wire;
   clean : g.V.Vault.is_clean (vault_of l.office) → g.V.Vault.is_clean (vault_of l.fn.office);
-  works : Part g.V.Vault.holds g.V.Vault.is_clean g.W.Wire.asked l.fn.office l.fn.wire l.office l.wire
+  works : Part g.V.Vault.holds g.V.Vault.is_clean g.V.Vault.faults g.W.Wire.asked l.fn.office l.fn.wire l.office l.wire
       (IsWritten g.V.Vault.holds g.V.Vault.is_clean l.fn.office l.office l.fn.seat l._times l.written true);
 }
