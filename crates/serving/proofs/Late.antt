@@ -1,5 +1,5 @@
 -- Clients that are late, of those that haven't logged in.
-use Rattle.std.proofs.Common.{◌≡◌, ℕ, zero, suc, ◌-◌, ◌==◌, nat_le, Bool, true, false, not, ◌&&◌, List, [], ◌∷◌, ◌++◌, refl, sym, ◌∙◌, ap, arith, Some, None, Option, ⊎_elim, ◌⊎◌, inl, inr, subst, true≢false, eqb-true, eq-eqb}
+use Rattle.std.proofs.Common.{◌≡◌, ◌≤◌, ℕ, zero, suc, ◌-◌, ◌==◌, nat_le, Bool, true, false, not, ◌&&◌, List, [], ◌∷◌, ◌++◌, refl, sym, ◌∙◌, ap, arith, Some, None, Option, ⊎_elim, ◌⊎◌, inl, inr, subst, true≢false, eqb-true, eq-eqb, leb-true}
 use Rattle.std.specs.Bool.{if◌then◌else◌}
 use Rattle.std.proofs.lemmas.Bool.{cases_Bool}
 use Rattle.serving.specs.declared.newcomers.Newcomer.{Newcomer}
@@ -75,19 +75,29 @@ apart a b e is = let k : (a == b) ≡ true = eq-eqb a b is in true≢false (sym 
 
 -- ---- who is late
 
-late_if : (now seconds : ℕ) → Option Newcomer → Bool
+abbrev late_if : (now seconds : ℕ) → Option Newcomer → Bool
 late_if now seconds n = not (seconds == 0) && is_late_by now seconds n
 
 never : (b : Bool) → (b && false) ≡ true → ⊥
 never true e = cc
 never false e = cc
 
+and_first : (a b : Bool) → (a && b) ≡ true → a ≡ true
+and_first true b e = refl
+and_first false b e = cc
+
+and_second : (a b : Bool) → (a && b) ≡ true → b ≡ true
+and_second true b e = e
+and_second false b e = cc
+
 not_yet : (now seconds : ℕ) (n : Newcomer) → n.since ≡ now → late_if now seconds (Some n) ≡ true → ⊥
-not_yet now zero n is e = cc
-not_yet now (suc k) n is e =
-    let zero_since : now - n.since ≡ 0 = let s : n.since ≡ now = is in omega (arith, s) in
-    let f : nat_le (suc k) 0 ≡ true = sym (ap (nat_le (suc k)) zero_since) ∙ e in
-    cc
+not_yet now seconds n is e =
+    let some : not (seconds == 0) ≡ true = and_first (not (seconds == 0)) (nat_le seconds (now - n.since)) e in
+    let late : nat_le seconds (now - n.since) ≡ true = and_second (not (seconds == 0)) (nat_le seconds (now - n.since)) e in
+    let long : seconds ≤ now - n.since = leb-true seconds (now - n.since) late in
+    let none : seconds ≡ 0 = omega (arith, long, is) in
+    let k : (seconds == 0) ≡ true = eq-eqb seconds 0 none in
+    true≢false (sym some ∙ ap not k)
 
 pub late_same : (now seconds : ℕ) (xs : List Newcomer) → AreNoMoreLate now seconds xs xs
 late_same now seconds xs = λ c h. h

@@ -4,7 +4,7 @@ use Rattle.std.specs.List.{All, remove}
 use Rattle.std.proofs.lemmas.List.{take-set, length-set, get_or-set_same}
 use Rattle.std.proofs.lemmas.List.Elements.{All-nil, All-more}
 use Rattle.serving.specs.declared.requests.Exchange.{Exchange}
-use Rattle.serving.specs.HttpTurns.{is_late_at, GoesOn, GoesOnAt, AllGoOn}
+use Rattle.serving.specs.HttpTurns.{is_late_at, GoesOn, GoesOnAt, TheseGoOn}
 
 -- its link was accepted when it was
 pub still_timely : (now : ℕ) (e e2 : Exchange) → e2.since ≡ e.since → is_late_at now e ≡ false → is_late_at now e2 ≡ false
@@ -42,5 +42,5 @@ one_more now xs (y ∷ ys) i same at a = All-more (GoesOn now) (y ∷ ys) i y at
 pub as_many : (now : ℕ) (xs ys : List Exchange) (i : ℕ) → take i ys ≡ take i xs → All (GoesOn now) (take i xs) → All (GoesOn now) (take i ys)
 as_many now xs ys i same a = subst (All (GoesOn now)) (sym same) a
 
-pub all_go_on : (now : ℕ) (xs : List Exchange) (i : ℕ) → length xs ≤ i → All (GoesOn now) (take i xs) → AllGoOn now xs
+pub all_go_on : (now : ℕ) (xs : List Exchange) (i : ℕ) → length xs ≤ i → All (GoesOn now) (take i xs) → TheseGoOn now xs
 all_go_on now xs i h a = subst (All (GoesOn now)) (take_all xs i h) a

@@ -2,6 +2,7 @@
 use Rattle.std.proofs.Common.{◌≡◌, ℕ, zero, suc, ◌+◌, ◌<◌, ◌≤◌, Bool, true, false, not, ◌&&◌, ◌||◌, ◌==◌, List, [], ◌∷◌, ◌++◌, length, take, drop, map, get_or, refl, sym, ◌∙◌, ap, arith, Some, None, Option, ⊎_elim, ◌⊎◌, inl, inr, subst, true≢false, append_assoc, length-append, eq-eqb, eqb-true}
 use Rattle.std.specs.Bool.{⊤, if◌then◌else◌}
 use Rattle.std.specs.List.{All, Contains, list_any, filter, filter_map, remove}
+use Rattle.std.proofs.lemmas.Bool.{cases_Bool}
 use Rattle.std.proofs.lemmas.List.{append-nil, map-append}
 use Rattle.std.proofs.lemmas.List.Elements.{All-nil, All-cons, All-head, All-append, All-weaker, All-more, filter_map-append, filter-append, Contains-append_left, Contains-append_right}
 use Rattle.vault.specs.Records.{Records}
@@ -54,8 +55,7 @@ only_one x s (suc k, w, is) = absurd (omega (arith, w))
 
 -- a number that isn't 0
 pub not_zero : (n : ℕ) → 0 < n → (n == 0) ≡ false
-not_zero zero h = absurd (omega (arith, h))
-not_zero (suc n) h = refl
+not_zero n h = ⊎_elim (λ (e : (n == 0) ≡ true). (let z : n ≡ 0 = eqb-true n 0 e in absurd (omega (arith, h, z)))) (λ (e : (n == 0) ≡ false). e) (cases_Bool (n == 0))
 
 -- where more logins may be kept back
 pub kept_more : (T : Trace) (c : ℕ) (piece : List ℕ) (wait : ℕ) (may may2 : Bool) → (may ≡ true → may2 ≡ true) → IsKeptBack T c piece wait may → IsKeptBack T c piece wait may2
@@ -140,7 +140,7 @@ module _ {V : Type 0} (Holds : V → Contents → Type 0) (IsClean : V → Type 
     }
 
     pub heard_none : (o : Office V) (seat : Seat) → IsNotReady Holds o seat.connection → IsHeard Holds o seat wait may [] []
-    heard_none o seat no = record { of_seat = of_none (seat ∷ []); heard = inr (refl, inl no) }
+    heard_none o seat idle = record { of_seat = of_none (seat ∷ []); heard = inr (refl, inl idle) }
 
     -- what was looked at stays unread
     pub heard_unread : (o : Office V) (seat : Seat) (calls : List Call) → IsQuiet [] calls → IsUnread Holds o seat wait may calls → IsHeard Holds o seat wait may [] calls
@@ -158,7 +158,7 @@ module _ {V : Type 0} (Holds : V → Contents → Type 0) (IsClean : V → Type 
           inr (
             n.0,
             ⊎_elim
-                (λ (no : IsNotReady Holds o seat.connection). inl no)
+                (λ (idle : IsNotReady Holds o seat.connection). inl idle)
                 (λ (u : IsUnread Holds o seat wait may calls). inr (record {
                   piece = u.piece;
                   io = u.io;
@@ -229,13 +229,13 @@ module _ {V : Type 0} (Holds : V → Contents → Type 0) (IsClean : V → Type 
   served_unless : (o o1 o2 : Office V) (way : Way) (seat : Seat) (goes : Bool) (g1 : Log) (c1 c2 : List Call) → WasGiven Holds IsClean Faults o o1 g1 → (IsClean (vault_of o2) → IsClean (vault_of o1))
       → IsWrittenOut Holds IsClean o o1 seat way.share goes g1 c1 → IsNotReady Holds o1 seat.connection
       → (B : Records) (L : Log) → StandsFor Holds o (trace_of B L) → IsClean (vault_of o2) → is_open (trace_of B (g1 ++ L)) seat.connection ≡ true → had_its_turn way.share seat.link (c1 ++ c2) ≡ true
-  served_unless o o1 o2 way seat true g1 c1 c2 wa clean a no B L s k here = turn_left way.share seat.link c1 c2 (turn_written o o1 way seat g1 c1 a)
-  served_unless o o1 o2 way seat false g1 c1 c2 wa clean a no B L s k here =
+  served_unless o o1 o2 way seat true g1 c1 c2 wa clean a idle B L s k here = turn_left way.share seat.link c1 c2 (turn_written o o1 way seat g1 c1 a)
+  served_unless o o1 o2 way seat false g1 c1 c2 wa clean a idle B L s k here =
       ⊎_elim
       (λ (later : list_any (is_later_of seat.link) c1 ≡ true). turn_left way.share seat.link c1 c2 (turn_later way.share seat.link c1 later))
       (λ (owes : OwesNothing Holds IsClean o o1 seat.connection g1).
       (let T = trace_of B (g1 ++ L) in
-      absurd (shut_by (is_open T seat.connection) (untaken T.log (history T) seat.connection) (owes B L s (clean k)) (no B (g1 ++ L) (wa.stands B L s (clean k))) here)))
+      absurd (shut_by (is_open T seat.connection) (untaken T.log (history T) seat.connection) (owes B L s (clean k)) (idle B (g1 ++ L) (wa.stands B L s (clean k))) here)))
       (a.ends refl)
 
   pub served_one : (o o1 o2 : Office V) (way : Way) (seat : Seat) (goes : Bool) (g1 g2 : Log) (c1 c2 : List Call) → WasGiven Holds IsClean Faults o o1 g1 → WasGiven Holds IsClean Faults o1 o2 g2
@@ -249,8 +249,8 @@ module _ {V : Type 0} (Holds : V → Contents → Type 0) (IsClean : V → Type 
         (λ (r : list_any (is_read_of seat.link) c2 ≡ true). inl (turn_right way.share seat.link c1 c2 (turn_read way.share seat.link c2 r)))
         (λ (n : (g2 ≡ []) × (IsNotReady Holds o1 seat.connection ⊎ IsUnread Holds o1 seat way.wait way.may c2)).
         ⊎_elim
-        (λ (no : IsNotReady Holds o1 seat.connection).
-        inl (served_unless o o1 o2 way seat goes g1 c1 c2 wa wb.clean a no B L s k (subst (λ g. is_open (trace_of B ((g ++ g1) ++ L)) seat.connection ≡ true) n.0 here)))
+        (λ (idle : IsNotReady Holds o1 seat.connection).
+        inl (served_unless o o1 o2 way seat goes g1 c1 c2 wa wb.clean a idle B L s k (subst (λ g. is_open (trace_of B ((g ++ g1) ++ L)) seat.connection ≡ true) n.0 here)))
         (λ (u : IsUnread Holds o1 seat way.wait way.may c2).
         inr (record {
           piece = u.piece;

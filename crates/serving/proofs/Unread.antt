@@ -1,5 +1,5 @@
 -- What was looked at on a link, and stays unread.
-use Rattle.std.proofs.Common.{◌≡◌, ℕ, zero, suc, ◌<◌, Bool, true, false, not, ◌&&◌, ◌||◌, List, [], ◌∷◌, length, position, refl, sym, ◌∙◌, ap, arith, Some, None, Option, ⊎_elim, ◌⊎◌, inl, inr, true≢false}
+use Rattle.std.proofs.Common.{◌≡◌, ℕ, zero, suc, ◌<◌, Bool, true, false, not, ◌&&◌, ◌||◌, ◌==◌, List, [], ◌∷◌, length, position, refl, sym, ◌∙◌, ap, arith, Some, None, Option, ⊎_elim, ◌⊎◌, inl, inr, true≢false}
 use Rattle.std.specs.Bool.{if◌then◌else◌}
 use Rattle.std.specs.List.{Contains}
 use Rattle.std.proofs.lemmas.Bool.{or_cases}

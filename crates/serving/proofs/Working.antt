@@ -211,7 +211,7 @@ of_none seats = record { quiet = quiet_none; caused = All-nil (HasCause seats []
 -- ---- turns
 
 pub taken_joined : (link : Link) (c1 c2 : List Call) → octets_taken link (c1 ++ c2) ≡ octets_taken link c1 + octets_taken link c2
-taken_joined link [] c2 = refl
+taken_joined link [] c2 = let e : 0 + octets_taken link c2 ≡ octets_taken link c2 = omega arith in sym e
 taken_joined link (x ∷ c1) c2 = let e = taken_joined link c1 c2 in omega (arith, e)
 
 pub turn_read : (share : ℕ) (link : Link) (calls : List Call) → list_any (is_read_of link) calls ≡ true → had_its_turn share link calls ≡ true

@@ -41,8 +41,8 @@ returns-in_default-clause-works g c =
       facts = NothingCame io no;
     }
 
-pub returns-then-wait-clause-works : goal.returns-then-wait-clause-works
-returns-then-wait-clause-works g c = record {
+pub returns-then-is_free-clause-works : goal.returns-then-is_free-clause-works
+returns-then-is_free-clause-works g c = record {
   calls = [];
   was_asked = asked_none g.W.Wire.asked c.args.wire.now;
   facts = Unlooked (search rules) (search rules);

@@ -19,5 +19,5 @@ loop-preserved g c =
 pub returns-then-count-eq0-clause-works : goal.returns-then-count-eq0-clause-works
 returns-then-count-eq0-clause-works g c = asks_both g.W.Wire.asked c.args.wire.now c.loop.wire c.tell_once-count.new.wire c.loop.invariant.works c.tell_once-count.ensures.works
 
-pub returns-then-written-clause-works : goal.returns-then-written-clause-works
-returns-then-written-clause-works g c = asks_both g.W.Wire.asked c.args.wire.now c.loop.wire c.tell_once-count.new.wire c.loop.invariant.works c.tell_once-count.ensures.works
+pub returns-then-written-ge-SHARE-clause-works : goal.returns-then-written-ge-SHARE-clause-works
+returns-then-written-ge-SHARE-clause-works g c = asks_both g.W.Wire.asked c.args.wire.now c.loop.wire c.tell_once-count.new.wire c.loop.invariant.works c.tell_once-count.ensures.works

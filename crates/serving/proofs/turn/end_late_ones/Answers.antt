@@ -1,4 +1,4 @@
-use Rattle.std.proofs.Common.{rules, ◌≡◌, ◌==◌, ℕ, true, false, not, refl, sym, ap, ◌∙◌, subst}
+use Rattle.std.proofs.Common.{rules, ◌≡◌, ◌==◌, [], ℕ, true, false, not, refl, sym, ap, ◌∙◌, subst}
 use Rattle.std.proofs.lemmas.List.Elements.{All-nil}
 use Rattle.serving.specs.Settings.{Settings}
 use Rattle.serving.specs.Works.{IsLateGone, AreNoMoreLate, Giving, AreLateGone}
@@ -6,8 +6,8 @@ use Rattle.serving.proofs.Working.{given_none}
 use Rattle.serving.proofs.Late.{late_same, late_then, gone_then}
 use Rattle.serving.proofs.turn.end_late_ones.Goals as goal
 
-pub returns-then-links-clause-works : goal.returns-then-links-clause-works
-returns-then-links-clause-works g c =
+pub returns-then-links-eq0-clause-works : goal.returns-then-links-eq0-clause-works
+returns-then-links-eq0-clause-works g c =
     record { given = []; was_given = given_none g.V.Vault.holds g.V.Vault.is_clean g.V.Vault.faults c.args.office.now; facts = All-nil (IsLateGone c.args.now c.args.links.now.newcomers.seconds c.args.links.now.newcomers.newcomers.items) }
 
 pub loop-place-init : goal.loop-place-init

@@ -35,7 +35,7 @@ returns-then-part-eq0-clause-works g c =
     let links = c.args.links.now in
     let seat = c.args.seat in
     let may = may_keep links in
-    let pace = c.pace_behind-pace-2.result in
+    let pace = c.pace_behind-pace.result in
     let part = c.next_part-part in
     let a = part.ensures.works in
     let none : part.result ≡ 0 = search rules in
@@ -50,7 +50,7 @@ returns-then-not-read_once-clause-works g c =
     let seat = c.args.seat in
     let part = c.next_part-part in
     let a = part.ensures.works in
-    let quiet = looked_quiet g.V.Vault.holds c.args.office.now seat links.wait c.pace_behind-pace-2.result part.result a.calls a.facts in
+    let quiet = looked_quiet g.V.Vault.holds c.args.office.now seat links.wait c.pace_behind-pace.result part.result a.calls a.facts in
     heard_after g.V.Vault.holds g.V.Vault.is_clean g.V.Vault.faults g.W.Wire.asked c.args.office.now c.read_once.new.office c.args.wire.now part.new.wire c.read_once.new.wire seat links.wait (may_keep links) a.calls quiet a.was_asked (c.read_once.ensures.works links.wait (may_keep links))
 
 pub returns-clause-works : goal.returns-clause-works
@@ -59,5 +59,5 @@ returns-clause-works g c =
     let seat = c.args.seat in
     let part = c.next_part-part in
     let a = part.ensures.works in
-    let quiet = looked_quiet g.V.Vault.holds c.args.office.now seat links.wait c.pace_behind-pace-2.result part.result a.calls a.facts in
+    let quiet = looked_quiet g.V.Vault.holds c.args.office.now seat links.wait c.pace_behind-pace.result part.result a.calls a.facts in
     heard_after g.V.Vault.holds g.V.Vault.is_clean g.V.Vault.faults g.W.Wire.asked c.args.office.now c.read_once.new.office c.args.wire.now part.new.wire c.read_once.new.wire seat links.wait (may_keep links) a.calls quiet a.was_asked (c.read_once.ensures.works links.wait (may_keep links))

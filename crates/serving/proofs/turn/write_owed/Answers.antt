@@ -56,8 +56,8 @@ returns-then-count-eq0-clause-works g c =
     (λ g1 g2 c1 c2 wa wb a b. written_ended Holds IsClean g.V.Vault.faults o x.new.office c.args.seat (k._times + (if n == 0 then 0 else 1)) (k.written + n) c.args.share _ _
     (written_then Holds IsClean g.V.Vault.faults o k.office x.new.office c.args.seat k._times (if n == 0 then 0 else 1) k.written n false g1 g2 c1 c2 wa wb a b)) k.invariant.works once_more
 
-pub returns-then-written-clause-works : goal.returns-then-written-clause-works
-returns-then-written-clause-works g c =
+pub returns-then-written-share-clause-works : goal.returns-then-written-share-clause-works
+returns-then-written-share-clause-works g c =
     let Holds = g.V.Vault.holds in
     let IsClean = g.V.Vault.is_clean in
     let o = c.args.office.now in
