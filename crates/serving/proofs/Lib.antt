@@ -19,3 +19,4 @@ pub mod Trying
 pub mod Ongoing
 pub mod Unread
 pub mod Late
+pub mod Noting

@@ -2,8 +2,12 @@ pub mod FileNames
 pub mod NextNames
 pub mod Wires
 pub mod Calls
+pub mod Counting
+pub mod Noted
+pub mod NotedWires
 pub mod Requests
 pub mod Spools
+pub mod NotedFiles
 pub mod Served
 pub mod Settings
 pub mod Works
