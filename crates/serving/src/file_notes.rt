@@ -22,8 +22,8 @@ pub(crate) enum FileAsked {
     Rename(FileName, bool),
 }
 
-/// The calls of a spool, the newest last. They are in the proofs alone: a value takes no memory, and
-/// to note a call does nothing when the program runs.
+/// The calls of a spool, the newest last. They are in the proofs alone: a value takes no memory,
+/// and to note a call does nothing when the program runs.
 #[derive(Drop)]
 pub struct FileNotes {
     marker: PhantomData<u8>,

@@ -36,8 +36,8 @@ pub enum Io {
 /// Links as they come.
 ///
 /// `tells w t`: `t` is a true record of w's traffic. The links of each port are numbered in it from
-/// 0 on, in the order in which they were accepted. `asked w calls`: `calls` is a true record of what
-/// w was asked and answered. Of a wire over sockets neither is known.
+/// 0 on, in the order in which they were accepted. `asked w calls`: `calls` is a true record of
+/// what w was asked and answered. Of a wire over sockets neither is known.
 pub trait Wire {
     ghost use Rattle.serving.specs.Wires.{IsWithin, IsAccepted, SayAlikeOfPorts};
 
