@@ -9,6 +9,11 @@ pub mod Requests
 pub mod Spools
 pub mod NotedFiles
 pub mod Served
+pub mod Settings
+pub mod Works
+pub mod HttpTurns
+pub mod SpoolTurns
+pub mod Turns
 pub mod Deposits
 pub mod Scripts
 pub mod ScriptSpools
