@@ -39,6 +39,8 @@ fn without_octets(io: Io) -> Io
 impl<W: Wire> Wire for Guarded<'_, W> {
     ghost tells = { λ r. W.tells r.inner };
 
+    ghost asked = { λ _ _. ⊥ };
+
     ghost tells_once = { λ r. W.tells_once r.inner };
 
     fn wait(&mut self, millis: u32) {
@@ -86,6 +88,8 @@ impl<W: Wire> Wire for Guarded<'_, W> {
 /// Each call as in the spool inside, while the store is there.
 impl<S: Spool> Spool for Guarded<'_, S> {
     ghost tells = { λ r. S.tells r.inner };
+
+    ghost asked = { λ _ _. ⊥ };
 
     ghost tells_once = { λ r. S.tells_once r.inner };
 

@@ -61,6 +61,8 @@ fn note_file(
 impl<S: Spool> Spool for LoggedSpool<'_, S> {
     ghost tells = { λ r. S.tells r.spool };
 
+    ghost asked = { λ r. S.asked r.spool };
+
     ghost tells_once = { λ r. S.tells_once r.spool };
 
     fn next_name(&mut self, last: &Option<FileName>) -> Option<FileName> {

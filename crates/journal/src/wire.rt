@@ -4,7 +4,7 @@ use super::client::Client;
 use super::journal::Journal;
 use super::request::Asking;
 use proxy::ProxiedWire;
-use serving::{Io, Link, Port, SocketWire, Wire};
+use serving::{Io, Link, NotedWire, Port, SocketWire, Wire};
 use std::alloc::{AllocError, Global};
 use std::net::{IpAddr, SocketAddr};
 use std::time::Clock;
@@ -12,19 +12,25 @@ use std::time::Clock;
 /// A wire that knows from where its links came.
 pub trait Peers {
     /// The address of the other end of a link, where it is known.
-    fn peer(&self, link: Link) -> Option<SocketAddr>;
+    fn peer(&self, port: Port, link: Link) -> Option<SocketAddr>;
 }
 
 impl Peers for SocketWire {
-    fn peer(&self, link: Link) -> Option<SocketAddr> {
-        SocketWire::peer(self, link)
+    fn peer(&self, port: Port, link: Link) -> Option<SocketAddr> {
+        SocketWire::peer(self, port, link)
+    }
+}
+
+impl<W: Wire + Peers> Peers for NotedWire<W> {
+    fn peer(&self, port: Port, link: Link) -> Option<SocketAddr> {
+        self.wire.peer(port, link)
     }
 }
 
 /// Behind a proxy the other end is the proxy; a link's `address` is the client's.
 impl<W: Wire + Peers, C: Clock> Peers for ProxiedWire<W, C> {
-    fn peer(&self, link: Link) -> Option<SocketAddr> {
-        self.wire.peer(link)
+    fn peer(&self, port: Port, link: Link) -> Option<SocketAddr> {
+        self.wire.peer(port, link)
     }
 }
 
@@ -169,6 +175,8 @@ impl<'a, W: Wire> LoggedWire<'a, W> {
 impl<W: Wire + Peers> Wire for LoggedWire<'_, W> {
     ghost tells = { λ r. W.tells r.wire };
 
+    ghost asked = { λ r. W.asked r.wire };
+
     ghost tells_once = { λ r. W.tells_once r.wire };
 
     fn wait(&mut self, millis: u32) {
@@ -178,7 +186,7 @@ impl<W: Wire + Peers> Wire for LoggedWire<'_, W> {
     fn accept(&mut self, port: Port) -> Option<Link> {
         let link = self.wire.accept(port)?;
         if self.followed.journal.is_on() {
-            let _ = self.followed.follow(port, link, self.wire.peer(link));
+            let _ = self.followed.follow(port, link, self.wire.peer(port, link));
         }
         Some(link)
     }

@@ -9,7 +9,7 @@ use journal::{
 use office::{Limits, Office};
 use proxy::ProxiedWire;
 use recent::Recent;
-use serving::{FolderSpool, SocketWire, Wire, begin, serve_turn};
+use serving::{FolderSpool, NotedWire, SocketWire, Wire, begin_noted, serve_turn};
 use std::io;
 use std::io::Write;
 use std::net::{Ipv4Addr, SocketAddr};
@@ -84,12 +84,12 @@ fn listen(
     rt: &HostRuntime,
     at: SocketAddr,
     admin: u16,
-) -> Result<(SocketWire, u16, u16), (SocketAddr, io::Error)> {
+) -> Result<(NotedWire<SocketWire>, u16, u16), (SocketAddr, io::Error)> {
     let (mut wire, port) = SocketWire::bind(rt, rt.alloc(), at).map_err(|error| (at, error))?;
     let admin_at = SocketAddr::from((Ipv4Addr::LOCALHOST, admin));
     let bound = wire.bind_admin(rt, admin_at);
     let admin_port = bound.map_err(|error| (admin_at, error))?;
-    Ok((wire, port, admin_port))
+    Ok((NotedWire::new(wire), port, admin_port))
 }
 
 /// Listens, says so, and serves the clients and administrators that come.
@@ -166,16 +166,16 @@ fn serve_turns<'a, V: Vault, W: Wire + Peers + Drop>(
     watch: &'a StoreWatch<'a>,
 ) -> Result<u8, Fault> {
     let journal = Journal::new(rt, options.get_flag("log"), shared);
-    let mut wire = Guarded::new(LoggedWire::new(wire, journal), watch);
+    let wire = Guarded::new(LoggedWire::new(wire, journal), watch);
     let files = FolderSpool::new(rt, rt.alloc(), spool);
     let folder = Folder::new(rt, spool);
-    let mut spool = Guarded::new(LoggedSpool::new(files, journal, folder), watch);
-    let mut links = begin(rt.alloc(), office, &wire, &spool);
+    let spool = Guarded::new(LoggedSpool::new(files, journal, folder), watch);
+    let mut server = begin_noted(rt.alloc(), office, wire, spool);
     let wait = options.get_one::<u32>("wait").unwrap_or(0);
-    links.set_wait(u64::from(wait));
+    server.links.set_wait(u64::from(wait));
     let login = options.get_one::<u32>("login-seconds").unwrap_or(0);
-    links.set_login_seconds(u64::from(login));
-    links.set_slow_guesses(options.get_flag("slow-guesses"));
+    server.links.set_login_seconds(u64::from(login));
+    server.links.set_slow_guesses(options.get_flag("slow-guesses"));
     let Ok(start) = Instant::now(rt) else {
         return Err(Fault::NoClock);
     };
@@ -186,7 +186,13 @@ fn serve_turns<'a, V: Vault, W: Wire + Peers + Drop>(
         let Ok(elapsed) = start.elapsed(rt) else {
             return Err(Fault::NoClock);
         };
-        serve_turn(&mut links, &mut wire, office, &mut spool, elapsed.as_secs());
+        serve_turn(
+            &mut server.links,
+            &mut server.wire,
+            office,
+            &mut server.spool,
+            elapsed.as_secs(),
+        );
     }
     Ok(0)
 }

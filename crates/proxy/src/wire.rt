@@ -239,6 +239,8 @@ impl<W: Wire, C: Clock> ProxiedWire<W, C> {
 impl<W: Wire, C: Clock> Wire for ProxiedWire<W, C> {
     ghost tells = { λ r u. TellsProxy W.tells r.wire (get nat_cmp r.begun) (get nat_cmp r.known) u };
 
+    ghost asked = { λ _ _. ⊥ };
+
     ghost tells_once = { λ r u v a b. proxy_once W.tells W.tells_once r.wire (get nat_cmp r.begun) (get nat_cmp r.known) u v a b };
 
     fn wait(&mut self, millis: u32) {

@@ -30,7 +30,7 @@ use Rattle.serving.proofs.Staying.{deposit_same, fewer_command}
 
 module _ (B : Records) (L : Log) (G : List Entry) (d class id text : List ℕ) where
   -- a deposit is never ignored
-  deposit_mark : (t : Tag) → mark_of (shown_at B L G (event.Deposit d class id text) t) ≡ Tagged t
+  pub deposit_mark : (t : Tag) → mark_of (shown_at B L G (event.Deposit d class id text) t) ≡ Tagged t
   deposit_mark Done = refl
   deposit_mark Failed = refl
   deposit_mark NoMemory = refl

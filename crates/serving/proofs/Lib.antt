@@ -10,3 +10,13 @@ pub mod NameTexts
 pub mod Parts
 pub mod Looking
 pub mod Origins
+pub mod Working
+pub mod Turns
+pub mod Arriving
+pub mod Finishing
+pub mod Quieting
+pub mod Trying
+pub mod Ongoing
+pub mod Unread
+pub mod Late
+pub mod Noting

@@ -15,7 +15,7 @@ use Rattle.serving.proofs.Staying.{Fewer, Frame}
 
 -- ---- places
 
-any_default : (xs : List Seat) (i : ℕ) (c d : Seat) → i < length xs → get_or xs i c ≡ get_or xs i d
+pub any_default : (xs : List Seat) (i : ℕ) (c d : Seat) → i < length xs → get_or xs i c ≡ get_or xs i d
 any_default [] i c d h = absurd (omega (arith, h))
 any_default (x ∷ xs) zero c d h = refl
 any_default (x ∷ xs) (suc i) c d h = any_default xs i c d (omega (arith, h))
@@ -51,7 +51,7 @@ front_remains [] (suc i) = refl
 front_remains (x ∷ xs) zero = refl
 front_remains (x ∷ xs) (suc i) = ap (λ ys. x ∷ ys) (front_remains xs i)
 
-whole_front : (xs : List Seat) (n : ℕ) → length xs ≤ n → take n xs ≡ xs
+pub whole_front : (xs : List Seat) (n : ℕ) → length xs ≤ n → take n xs ≡ xs
 whole_front [] zero h = refl
 whole_front [] (suc n) h = refl
 whole_front (x ∷ xs) zero h = absurd (omega (arith, h))

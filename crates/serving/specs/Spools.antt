@@ -1,5 +1,5 @@
--- What a spool tells of its files, and what becomes of a file by the answer to its deposit.
-use Rattle.std.specs.Prelude.{◌≡◌, ◌⊎◌, ℕ, List, [], ◌∷◌, ◌++◌}
+-- What a spool tells of its files, what it was asked, and what becomes of a file by the answer to its deposit.
+use Rattle.std.specs.Prelude.{◌≡◌, ◌⊎◌, ℕ, Bool, List, [], ◌∷◌, ◌++◌, Option}
 use Rattle.office.specs.Outcomes.{Outcome, Answered}
 use Rattle.office.specs.Answers as answer
 use Rattle.serving.specs.declared.file_name.FileName.{FileName}
@@ -12,6 +12,17 @@ pub data FileAct : Type 0 where
   WasRead : FileName → (text : List ℕ) → FileAct
   WasRemoved : FileName → FileAct
   WasRenamed : FileName → FileAct
+
+-- what a spool was asked, and what it answered
+pub data FileCall : Type 0 where
+  -- for the next name behind this one
+  Next : (last next : Option FileName) → FileCall
+  -- to read a file, and its text where it was read
+  Read : FileName → (text : Option (List ℕ)) → FileCall
+  -- to remove a file, and whether it was removed
+  Removed : FileName → (is_done : Bool) → FileCall
+  -- to rename a file, and whether it was renamed
+  Renamed : FileName → (is_done : Bool) → FileCall
 
 -- what becomes of a file whose deposit is answered so
 abbrev pub disposal_of : Outcome → Disposal

@@ -5,6 +5,8 @@ ghost use Rattle.office.specs.Shown.{outcome_seen};
 ghost use Rattle.office.specs.Stands.{StandsFor, vault_of};
 ghost use Rattle.serving.specs.Spools.{FileAct, disposal_of};
 ghost use Rattle.serving.specs.Deposits.{IsTried};
+ghost use Rattle.serving.specs.Settings.{settings_of};
+ghost use Rattle.serving.specs.SpoolTurns.{SpoolPart, IsTrying, IsSpoolTurn};
 
 use crate::file_name::FileName;
 use crate::links::Clients;
@@ -39,6 +41,7 @@ fn disposal_by(outcome: Outcome) -> Disposal
 /// Deposits a file, and removes, renames or leaves it by the office's answer; one that can't be
 /// read is left. Returns whether it was removed or renamed.
 fn try_file<V: Vault, S: Spool>(office: &mut Office<V>, spool: &mut S, name: &FileName) -> bool
+    ensures works { SpoolPart V.holds V.is_clean V.faults S.asked office.old spool.old office.new spool.new (IsTrying name.now) }
     ensures tried { (T : Trace) (acts : List FileAct) → StandsFor V.holds office.old T → S.tells spool.old acts → V.is_clean (vault_of office.new) → IsTried V.holds S.tells T acts office.new spool.new }
     ensures clean { V.is_clean (vault_of office.new) → V.is_clean (vault_of office.old) }
 {
@@ -60,9 +63,11 @@ pub(crate) fn serve_spool<V: Vault, S: Spool>(
     spool: &mut S,
     links: &mut Clients,
 )
+    ensures works { SpoolPart V.holds V.is_clean V.faults S.asked office.old spool.old office.new spool.new (IsSpoolTurn links.old.last links.new.last) }
     ensures tried { (T : Trace) (acts : List FileAct) → StandsFor V.holds office.old T → S.tells spool.old acts → V.is_clean (vault_of office.new) → IsTried V.holds S.tells T acts office.new spool.new }
     ensures clean { V.is_clean (vault_of office.new) → V.is_clean (vault_of office.old) }
     ensures seats { links.new.seats ≡ links.old.seats }
+    ensures set { settings_of links.new ≡ settings_of links.old }
 {
     let Some(name) = spool.next_name(&links.last) else {
         return;

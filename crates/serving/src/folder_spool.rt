@@ -119,6 +119,8 @@ impl<'a, R: Files + Clock + AllocGlobal + Clone + Drop> FolderSpool<'a, R> {
 impl<R: Files + Clock + AllocGlobal + Clone + Drop> Spool for FolderSpool<'_, R> {
     ghost tells = { λ _ _. ⊥ };
 
+    ghost asked = { λ _ _. ⊥ };
+
     ghost tells_once = { λ spool a b h k. absurd h };
 
     fn next_name(&mut self, last: &Option<FileName>) -> Option<FileName> {

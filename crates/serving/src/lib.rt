@@ -1,24 +1,30 @@
 //! Serving the links of a wire over an office, and the files of a spool.
 //!
 //! A [`Wire`] brings links, a [`Spool`] files, and [`serve_turn`] does one turn of the loop over
-//! both. [`SocketWire`] and [`FolderSpool`] are those of a running server; [`ScriptWire`] and
-//! [`ScriptSpool`] are in memory, for tests.
+//! both. [`SocketWire`] and [`FolderSpool`] are those of a running server, inside a [`NotedWire`]
+//! and a [`NotedSpool`]; [`ScriptWire`] and [`ScriptSpool`] are in memory, for tests.
 #![tactic(auto)]
 
 mod ahead;
+mod counts;
 mod file_name;
+mod file_notes;
 mod files;
 mod folder_spool;
 mod guesses;
 mod links;
 mod newcomers;
 mod next_name;
+mod noted_spool;
+mod noted_wire;
+mod notes;
 mod octets;
 mod pace;
 mod requests;
 mod script_links;
 mod script_spool;
 mod script_wire;
+mod server;
 mod sockets;
 mod spool;
 #[cfg(test)]
@@ -26,13 +32,19 @@ mod tests;
 mod turn;
 mod wire;
 
+pub use counts::Counts;
 pub use file_name::{FileName, names_read_back};
+pub use file_notes::FileNotes;
 pub use folder_spool::FolderSpool;
 pub use links::{Links, MOST_LINKS, Seat};
+pub use noted_spool::NotedSpool;
+pub use noted_wire::NotedWire;
+pub use notes::Notes;
 pub use requests::MOST_REQUESTS;
 pub use script_links::{ScriptLink, Stop};
 pub use script_spool::{ScriptAct, ScriptFile, ScriptSpool};
 pub use script_wire::ScriptWire;
+pub use server::{Server, begin_noted};
 pub use sockets::SocketWire;
 pub use spool::{MOST_OCTETS, Spool};
 pub use turn::{begin, serve_turn};

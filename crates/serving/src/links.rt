@@ -1,5 +1,6 @@
 //! The open links, each with its connection.
-ghost use Rattle.std.specs.Prelude.{◌≡◌, [], min};
+ghost use Rattle.std.specs.Prelude.{◌≡◌, ◌||◌, [], min};
+ghost use Rattle.serving.specs.Settings.{settings, settings_of, none_set, with_wait, with_login_seconds, with_slow_guesses};
 
 use crate::file_name::FileName;
 use crate::guesses::Guesses;
@@ -40,6 +41,7 @@ pub struct Links {
 impl Links {
     /// No link is open, and no spool file was tried.
     pub fn new(alloc: Global) -> Links
+        ensures settings { settings result ≡ none_set }
         ensures seats { result.clients.seats.items ≡ [] }
         ensures requests { result.requests.exchanges.items ≡ [] }
     {
@@ -52,6 +54,7 @@ impl Links {
     /// Lets a login wait while another session holds its maildrop, until so many seconds, at most
     /// 60, after its connection's last line or taking. Links begin with 0: no login waits.
     pub fn set_wait(&mut self, seconds: u64)
+        ensures settings { settings self.new ≡ with_wait (min seconds 60) (settings self.old) }
         ensures wait { self.new.clients.wait ≡ min seconds 60 }
         ensures seats { self.new.clients.seats ≡ self.old.clients.seats }
         ensures requests { self.new.requests ≡ self.old.requests }
@@ -63,6 +66,7 @@ impl Links {
     /// its link was accepted so long ago and it hasn't logged in, its connection is ended and the
     /// link closed, at the end of a turn. Links begin with 0: the office's idle time alone counts.
     pub fn set_login_seconds(&mut self, seconds: u64)
+        ensures settings { settings self.new ≡ with_login_seconds (min seconds 600) (settings self.old) }
         ensures seconds { self.new.clients.newcomers.seconds ≡ min seconds 600 }
         ensures newcomers { self.new.clients.newcomers.newcomers ≡ self.old.clients.newcomers.newcomers }
         ensures seats { self.new.clients.seats ≡ self.old.clients.seats }
@@ -77,6 +81,7 @@ impl Links {
     /// address counts by its first 64 bits. Of 1,024 addresses refusals are known, the newest ones.
     /// Until a client has logged in its lines are read one at a time. Links begin with fast ones.
     pub fn set_slow_guesses(&mut self, slow: bool)
+        ensures settings { settings self.new ≡ with_slow_guesses slow (settings self.old) }
         ensures slow { self.new.clients.guesses.are_slow ≡ slow }
         ensures refusals { self.new.clients.guesses.refusals ≡ self.old.clients.guesses.refusals }
         ensures seats { self.new.clients.seats ≡ self.old.clients.seats }
@@ -85,13 +90,36 @@ impl Links {
         self.clients.guesses.are_slow = slow;
     }
 
+    /// For how many seconds a login waits while another session holds its maildrop.
+    pub fn wait(&self) -> u64
+        ensures { result ≡ (settings self.now).wait }
+    {
+        self.clients.wait
+    }
+
+    /// How many seconds each client has for its login; 0 where it has all that the office gives.
+    pub fn login_seconds(&self) -> u64
+        ensures { result ≡ (settings self.now).login_seconds }
+    {
+        self.clients.newcomers.seconds
+    }
+
+    /// Whether guesses are slow.
+    pub fn slow_guesses(&self) -> bool
+        ensures { result ≡ (settings self.now).slow_guesses }
+    {
+        self.clients.guesses.are_slow
+    }
+
     /// How many links of clients are open.
     pub fn count(&self) -> usize {
         self.clients.seats.len()
     }
 
     /// Whether more can be done at once.
-    pub(crate) fn presses(&self) -> bool {
+    pub(crate) fn presses(&self) -> bool
+        ensures { result ≡ (self.now.clients.presses || self.now.requests.presses) }
+    {
         self.clients.presses || self.requests.presses
     }
 
@@ -112,6 +140,9 @@ pub(crate) struct Clients {
     pub(crate) presses: bool,
     /// For how many seconds a login waits for its maildrop's lock.
     pub(crate) wait: u64,
+    /// Where logins wait: a session ended while this turn served the links. No further login is
+    /// read in it, so that in the next turn those who wait are tried by number.
+    pub(crate) is_freed: bool,
     /// Who hasn't logged in, and how long each may take.
     pub(crate) newcomers: Newcomers,
     /// Whose logins were refused.
@@ -121,13 +152,15 @@ pub(crate) struct Clients {
 impl Clients {
     /// No link is open, and no spool file was tried.
     fn new(alloc: Global) -> Clients
-        ensures { result.seats.items ≡ [] }
+        ensures settings { settings_of result ≡ none_set }
+        ensures seats { result.seats.items ≡ [] }
     {
         Clients {
             seats: ArrayVec::new(),
             last: None,
             presses: false,
             wait: 0,
+            is_freed: false,
             newcomers: Newcomers::new(alloc),
             guesses: Guesses::new(alloc),
         }

@@ -4,7 +4,8 @@ ghost use Rattle.std.specs.Prelude.{◌≡◌, ◌≤◌, ◌<◌, ◌==◌, ℕ
 ghost use Rattle.office.specs.Events.{Trace};
 ghost use Rattle.office.specs.Stands.{StandsFor};
 ghost use Rattle.serving.specs.Wires.{ToldOfPorts};
-ghost use Rattle.serving.specs.Paces.{pace_by, is_free as is_free_by, is_shut as is_shut_by, is_held, first_line as first_line_of, part_by};
+ghost use Rattle.serving.specs.Works.{Asking, HasLooked};
+ghost use Rattle.serving.specs.Paces.{pace_by, pace_behind as pace_behind_by, is_free as is_free_by, is_shut as is_shut_by, is_held, first_line as first_line_of, part_by};
 
 use crate::guesses::{Guesses, origin_of};
 use crate::links::Seat;
@@ -61,6 +62,16 @@ pub(crate) fn pace_of(guesses: &Guesses, origin: Option<u64>, now: u64) -> Pace
             Pace::ByLine
         }
     }
+}
+
+/// The pace behind a session that ended in this turn: logins stay unread.
+pub(crate) fn pace_behind(pace: Pace, is_freed: bool, is_logged_in: bool) -> Pace
+    ensures { result ≡ pace_behind_by is_freed is_logged_in pace }
+{
+    if is_freed && !is_logged_in {
+        return Pace::Shut;
+    }
+    pace
 }
 
 impl Pace {
@@ -150,6 +161,7 @@ pub(crate) fn next_part<V: Vault, W: Wire>(
     pace: Pace,
 ) -> usize
     ensures told { (t : ToldOfPorts) → W.tells wire.old t → W.tells wire.new t }
+    ensures works { Asking W.asked wire.old wire.new (HasLooked V.holds office.now seat wait pace result) }
     ensures most { result ≤ 4096 }
     ensures held { result ≡ 0 → (piece : List ℕ) × ((T : Trace) → StandsFor V.holds office.now T → is_held T seat.connection piece wait pace ≡ true) }
     ensures all { wait ≡ 0 → is_free_by pace ≡ true → result ≡ 4096 }

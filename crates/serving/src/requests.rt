@@ -1,5 +1,5 @@
 //! The links of the administration: one request over HTTP each, and its response.
-ghost use Rattle.std.specs.Prelude.{◌≡◌, ◌+◌, ◌<◌, ◌++◌, ℕ, List, [], Some, Ok, length, option_map, IfNone, IfOk, ◌⊎◌, true, false, if◌then◌else◌};
+ghost use Rattle.std.specs.Prelude.{◌≡◌, ◌+◌, ◌<◌, ◌≤◌, ◌++◌, ℕ, List, [], Some, Ok, length, take, option_map, IfNone, IfOk, ◌⊎◌, true, false, if◌then◌else◌};
 ghost use Rattle.vault.specs.Records.{Records};
 ghost use Rattle.office.specs.Events.{Log};
 ghost use Rattle.office.specs.Taken.{trace_of};
@@ -8,6 +8,8 @@ ghost use Rattle.office.specs.Stands.{StandsFor, vault_of};
 ghost use Rattle.adminhttp.specs.Request.{IsRequest};
 ghost use Rattle.adminhttp.specs.Responses.{refusal_response};
 ghost use Rattle.adminhttp.specs.declared.refusal.Refusal.TheVariants.{OutOfMemory};
+ghost use Rattle.serving.specs.HttpTurns.{is_late_at, most_exchanges, GoesOnAt, TheseGoOn};
+ghost use Rattle.serving.specs.Works.{Part, Giving, Asking, IsQuiet, IsQuietFor};
 ghost use Rattle.serving.specs.Requests.{octets_of, IsToldBy, HasAsked, HasOneMore, StillAnswers, StillAsked, AllStillAnswer, AllStillAsked};
 
 use crate::octets::part_of;
@@ -72,7 +74,9 @@ pub(crate) struct Exchange {
 
 impl Exchange {
     /// Whether its link was accepted 60 seconds ago or more.
-    fn is_late(&self, now: u64) -> bool {
+    fn is_late(&self, now: u64) -> bool
+        ensures { result ≡ is_late_at now self.now }
+    {
         now.saturating_sub(self.since) >= MOST_SECONDS
     }
 }
@@ -108,6 +112,7 @@ impl Requests {
     fn keep(&mut self, link: Link, now: u64) -> bool
         ensures kept { result ≡ true → HasOneMore link self.old.exchanges.items self.new.exchanges.items }
         ensures refused { result ≡ false → self.new.exchanges.items ≡ self.old.exchanges.items }
+        ensures few { length self.old.exchanges.items ≤ most_exchanges → length self.new.exchanges.items ≤ most_exchanges }
     {
         if self.exchanges.len() >= MOST_REQUESTS {
             return false;
@@ -147,6 +152,7 @@ fn response_to(alloc: Global, outcome: &Outcome) -> Response
 
 /// Gives a command to the office, and makes the response.
 fn command<V: Vault>(alloc: Global, office: &mut Office<V>, command: &AdminCommand) -> Response
+    ensures works { Giving V.holds V.is_clean V.faults office.old office.new (λ given. IsQuietFor [] given []) }
     ensures asked { (B : Records) (L : Log) (read : List ℕ) → StandsFor V.holds office.old (trace_of B L) → IsRequest read (Ok (command_seen command.now)) → V.is_clean (vault_of office.new) → HasAsked V.holds B L read office.new (Some (octets_of result)) }
     ensures clean { V.is_clean (vault_of office.new) → V.is_clean (vault_of office.old) }
 {
@@ -157,6 +163,7 @@ fn command<V: Vault>(alloc: Global, office: &mut Office<V>, command: &AdminComma
 /// The response to what was read of a request; `None` while the request isn't whole. A command is
 /// given to the office.
 fn ask<V: Vault>(alloc: Global, office: &mut Office<V>, read: &[u8]) -> Option<Response>
+    ensures works { Giving V.holds V.is_clean V.faults office.old office.new (λ given. IsQuietFor [] given []) }
     ensures asked { (B : Records) (L : Log) → StandsFor V.holds office.old (trace_of B L) → V.is_clean (vault_of office.new) → HasAsked V.holds B L read.now office.new (option_map octets_of result) }
     ensures clean { V.is_clean (vault_of office.new) → V.is_clean (vault_of office.old) }
 {
@@ -176,10 +183,12 @@ fn take_piece<V: Vault>(
     exchange: &mut Exchange,
     piece: &[u8],
 )
+    ensures works { Giving V.holds V.is_clean V.faults office.old office.new (λ given. IsQuietFor [] given []) }
     ensures asked { (B : Records) (L : Log) → StandsFor V.holds office.old (trace_of B L) → V.is_clean (vault_of office.new) → HasAsked V.holds B L (exchange.old.read.items ++ piece.now) office.new (option_map octets_of exchange.new.response) }
     ensures clean { V.is_clean (vault_of office.new) → V.is_clean (vault_of office.old) }
     ensures read { IfNone exchange.new.response (exchange.new.read.items ≡ exchange.old.read.items ++ piece.now) }
     ensures link { exchange.new.link ≡ exchange.old.link }
+    ensures since { exchange.new.since ≡ exchange.old.since }
     ensures written { exchange.new.written ≡ exchange.old.written }
     ensures over { exchange.new.is_over ≡ exchange.old.is_over }
 {
@@ -198,9 +207,11 @@ fn hear<V: Vault, W: Wire>(
     wire: &mut W,
     exchange: &mut Exchange,
 )
+    ensures works { Part V.holds V.is_clean V.faults W.asked office.old wire.old office.new wire.new (IsQuietFor []) }
     ensures asked { StillAsked V.holds V.is_clean W.tells office.old wire.old exchange.old office.new wire.new exchange.new }
     ensures clean { V.is_clean (vault_of office.new) → V.is_clean (vault_of office.old) }
     ensures link { exchange.new.link ≡ exchange.old.link }
+    ensures since { exchange.new.since ≡ exchange.old.since }
 {
     if exchange.is_over || exchange.response.is_some() {
         return;
@@ -216,6 +227,8 @@ fn hear<V: Vault, W: Wire>(
 /// Writes once of a response. How many octets were taken. The exchange is over where nothing is
 /// left, or the link is broken.
 fn tell_once<W: Wire>(wire: &mut W, exchange: &mut Exchange) -> usize
+    ensures works { Asking W.asked wire.old wire.new (IsQuiet []) }
+    ensures since { exchange.new.since ≡ exchange.old.since }
     ensures answers { StillAnswers W.tells wire.old exchange.old wire.new exchange.new }
     ensures link { exchange.new.link ≡ exchange.old.link }
 {
@@ -247,6 +260,8 @@ fn tell_once<W: Wire>(wire: &mut W, exchange: &mut Exchange) -> usize
 /// Writes a response as long as the link takes it, up to its share. Whether more can be written at
 /// once.
 fn tell<W: Wire>(wire: &mut W, exchange: &mut Exchange) -> bool
+    ensures works { Asking W.asked wire.old wire.new (IsQuiet []) }
+    ensures since { exchange.new.since ≡ exchange.old.since }
     ensures answers { StillAnswers W.tells wire.old exchange.old wire.new exchange.new }
     ensures link { exchange.new.link ≡ exchange.old.link }
 {
@@ -273,9 +288,12 @@ fn serve_exchange<V: Vault, W: Wire>(
     exchange: &mut Exchange,
     now: u64,
 ) -> bool
+    ensures works { Part V.holds V.is_clean V.faults W.asked office.old wire.old office.new wire.new (IsQuietFor []) }
     ensures asked { StillAsked V.holds V.is_clean W.tells office.old wire.old exchange.old office.new wire.new exchange.new }
     ensures clean { V.is_clean (vault_of office.new) → V.is_clean (vault_of office.old) }
     ensures link { exchange.new.link ≡ exchange.old.link }
+    ensures since { exchange.new.since ≡ exchange.old.since }
+    ensures timely { exchange.new.is_over ≡ false → is_late_at now exchange.new ≡ false }
 {
     if exchange.is_late(now) {
         exchange.is_over = true;
@@ -294,9 +312,12 @@ fn serve_place<V: Vault, W: Wire>(
     now: u64,
 ) -> bool
     requires { place < length requests.old.exchanges.items }
+    ensures works { Part V.holds V.is_clean V.faults W.asked office.old wire.old office.new wire.new (IsQuietFor []) }
     ensures asked { AllStillAsked V.holds V.is_clean W.tells office.old wire.old requests.old.exchanges.items office.new wire.new requests.new.exchanges.items }
     ensures clean { V.is_clean (vault_of office.new) → V.is_clean (vault_of office.old) }
     ensures left { length requests.new.exchanges.items + (if result then 0 else 1) ≡ length requests.old.exchanges.items }
+    ensures before { take place requests.new.exchanges.items ≡ take place requests.old.exchanges.items }
+    ensures stays { result ≡ true → GoesOnAt now requests.new.exchanges.items place }
 {
     let exchange = &mut requests.exchanges[place];
     requests.presses |= serve_exchange(requests.alloc, office, wire, exchange, now);
@@ -316,8 +337,11 @@ pub(crate) fn serve_requests<V: Vault, W: Wire>(
     requests: &mut Requests,
     now: u64,
 )
+    ensures works { Part V.holds V.is_clean V.faults W.asked office.old wire.old office.new wire.new (IsQuietFor []) }
     ensures asked { AllStillAsked V.holds V.is_clean W.tells office.old wire.old requests.old.exchanges.items office.new wire.new requests.new.exchanges.items }
     ensures clean { V.is_clean (vault_of office.new) → V.is_clean (vault_of office.old) }
+    ensures stay { TheseGoOn now requests.new.exchanges.items }
+    ensures no_more { length requests.new.exchanges.items ≤ length requests.old.exchanges.items }
 {
     requests.presses = false;
     let mut place = 0;
@@ -331,7 +355,9 @@ pub(crate) fn serve_requests<V: Vault, W: Wire>(
 /// Accepts a link of the administration; or closes it, where eight are open or memory is short.
 /// Whether one came.
 fn accept_request<W: Wire>(wire: &mut W, requests: &mut Requests, now: u64) -> bool
-    ensures { AllStillAnswer W.tells wire.old requests.old.exchanges.items wire.new requests.new.exchanges.items }
+    ensures few { length requests.old.exchanges.items ≤ most_exchanges → length requests.new.exchanges.items ≤ most_exchanges }
+    ensures works { Asking W.asked wire.old wire.new (IsQuiet []) }
+    ensures answers { AllStillAnswer W.tells wire.old requests.old.exchanges.items wire.new requests.new.exchanges.items }
 {
     let Some(link) = wire.accept(Port::Admin) else {
         return false;
@@ -345,7 +371,9 @@ fn accept_request<W: Wire>(wire: &mut W, requests: &mut Requests, now: u64) -> b
 
 /// Accepts the links of the administration that came, at most so many.
 pub(crate) fn accept_requests<W: Wire>(wire: &mut W, requests: &mut Requests, most: usize, now: u64)
-    ensures { AllStillAnswer W.tells wire.old requests.old.exchanges.items wire.new requests.new.exchanges.items }
+    ensures few { length requests.old.exchanges.items ≤ most_exchanges → length requests.new.exchanges.items ≤ most_exchanges }
+    ensures works { Asking W.asked wire.old wire.new (IsQuiet []) }
+    ensures answers { AllStillAnswer W.tells wire.old requests.old.exchanges.items wire.new requests.new.exchanges.items }
 {
     for _ in 0..most {
         if !accept_request(wire, requests, now) {

@@ -100,6 +100,8 @@ fn front(alloc: Global, text: &[u8]) -> Option<Vec<u8>> {
 impl Spool for ScriptSpool {
     ghost tells = { λ spool a. a ≡ map act_seen spool.acts.items };
 
+    ghost asked = { λ _ _. ⊥ };
+
     ghost tells_once = { λ spool a b h k. tells_once spool.acts.items a b h k };
 
     fn next_name(&mut self, last: &Option<FileName>) -> Option<FileName> {

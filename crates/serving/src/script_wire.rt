@@ -155,6 +155,8 @@ impl ScriptWire {
 impl Wire for ScriptWire {
     ghost tells = { λ wire t. TellsOf wire.clients.accepted.items wire.clients.strayed t.pop × TellsOf wire.requests.accepted.items wire.requests.strayed t.admin };
 
+    ghost asked = { λ _ _. ⊥ };
+
     ghost tells_once = { λ wire t u a b. (tells_once wire.clients.accepted.items wire.clients.strayed t.pop u.pop a.0 b.0, tells_once wire.requests.accepted.items wire.requests.strayed t.admin u.admin a.1 b.1) };
 
     fn wait(&mut self, millis: u32) {

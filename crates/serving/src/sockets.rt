@@ -1,8 +1,10 @@
 //! A wire over sockets.
-ghost use Rattle.std.specs.Prelude.{◌≡◌, ◌≤◌, ◌⊎◌, ◌++◌, ℕ, List, [], length, take};
+ghost use Rattle.std.specs.Prelude.{◌≡◌, ◌≤◌, ◌⊎◌, ◌++◌, ℕ, List, [], length, take, IfSome};
 ghost use Rattle.serving.specs.Wires.{IsWithin, counted as shown_of};
+ghost use Rattle.serving.specs.Counting.{count_at, counted_with};
 
 use crate::ahead::Ahead;
+use crate::counts::Counts;
 use crate::wire::{Io, Link, Port, Wire};
 use mio::net::{TcpListener, TcpStream};
 use mio::{Events, Interest, Poll, Token};
@@ -74,8 +76,10 @@ impl Door {
 /// A place for a link.
 #[derive(Drop)]
 struct Place {
-    /// The number of the link that has it, or had it last.
+    /// The port and the number of the link that has it, or had it last.
+    port: Port,
     number: u64,
+    /// That of the link; `None` where the place is free, or its link is broken or closed.
     stream: Option<TcpStream>,
     /// What came and was looked at, but not read yet.
     ahead: Ahead,
@@ -96,8 +100,8 @@ pub struct SocketWire {
     /// That for the administration, where there is one.
     admin_door: Option<Door>,
     places: Vec<Place>,
-    /// How many links were accepted.
-    accepted: u64,
+    /// How many links were accepted at each port: the number of its next one.
+    counts: Counts,
 }
 
 /// A read or write of so many octets: 0 is the end of the link.
@@ -126,9 +130,10 @@ fn failed(kind: ErrorKind) -> Io
 /// Places without a link.
 fn free_places(alloc: Global) -> io::Result<Vec<Place>> {
     let mut places = Vec::new(alloc);
-    for number in 0..PLACES {
+    for _ in 0..PLACES {
         places.push(Place {
-            number,
+            port: Port::Pop,
+            number: 0,
             stream: None,
             ahead: Ahead::new(alloc),
             unread: false,
@@ -152,7 +157,7 @@ impl SocketWire {
             door,
             admin_door: None,
             places: free_places(alloc)?,
-            accepted: 0,
+            counts: Counts::new(),
         };
         Ok((wire, port))
     }
@@ -197,9 +202,12 @@ impl SocketWire {
         }
     }
 
-    /// Gives a stream a free place and a number; `None` where no place is free, or the system won't
-    /// watch it.
-    fn seat(&mut self, mut stream: TcpStream) -> Option<Link> {
+    /// Gives a stream a free place, and its port's next number; `None` where no place is free, or
+    /// the system won't watch it.
+    fn seat(&mut self, port: Port, mut stream: TcpStream) -> Option<Link>
+        ensures next { IfSome result (λ link. link.number ≡ count_at port self.old.counts) }
+        ensures counts { self.new.counts ≡ counted_with port result self.old.counts }
+    {
         let at = self.places.iter().position(|place| place.stream.is_none())?;
         let both = Interest::READABLE | Interest::WRITABLE;
         let _ = stream.set_nodelay(true);
@@ -207,41 +215,43 @@ impl SocketWire {
             .registry()
             .register(&mut stream, Token(at), both)
             .ok()?;
-        let number = self.accepted.checked_mul(PLACES)?.checked_add(at as u64)?;
-        self.accepted += 1;
         let place = self.places.get_mut(at)?;
+        let link = Link {
+            number: self.counts.at(port),
+        };
+        if !self.counts.count(port, link) {
+            return None;
+        }
         *place = Place {
-            number,
+            port,
+            number: link.number,
             stream: Some(stream),
             ahead: Ahead::new(self.alloc),
             unread: true,
             is_blocked: false,
         };
-        Some(Link { number })
+        Some(link)
     }
 
     /// The address of a link's other end; `None` where the link is closed, or the system doesn't
     /// tell.
-    pub fn peer(&self, link: Link) -> Option<SocketAddr> {
-        let place = self.places.get((link.number % PLACES) as usize)?;
-        if place.number != link.number {
-            return None;
-        }
+    pub fn peer(&self, port: Port, link: Link) -> Option<SocketAddr> {
+        let place = self.places.iter().find(|place| place.has(port, link))?;
         place.stream.as_ref()?.peer_addr().ok()
     }
 
     /// The place of a link that is open.
-    fn place(&mut self, link: Link) -> Option<&mut Place> {
-        let place = self.places.get_mut((link.number % PLACES) as usize)?;
-        if place.number == link.number {
-            Some(place)
-        } else {
-            None
-        }
+    fn place(&mut self, port: Port, link: Link) -> Option<&mut Place> {
+        self.places.iter_mut().find(|place| place.has(port, link))
     }
 }
 
 impl Place {
+    /// Whether this is the place of a link that is open.
+    fn has(&self, port: Port, link: Link) -> bool {
+        self.number == link.number && self.port == port && self.stream.is_some()
+    }
+
     /// Whether a read may give octets at once. Octets that were looked at and left unread don't
     /// count: a login among them waits for another link.
     fn is_pressing(&self) -> bool {
@@ -345,6 +355,8 @@ impl Place {
 impl Wire for SocketWire {
     ghost tells = { λ _ _. ⊥ };
 
+    ghost asked = { λ _ _. ⊥ };
+
     ghost tells_once = { λ wire t u a b. absurd a };
 
     fn wait(&mut self, millis: u32) {
@@ -364,36 +376,36 @@ impl Wire for SocketWire {
             Port::Pop => self.door.accept()?,
             Port::Admin => self.admin_door.as_mut()?.accept()?,
         };
-        self.seat(stream)
+        self.seat(port, stream)
     }
 
-    fn look(&mut self, _port: Port, link: Link, buffer: &mut [u8]) -> Io {
-        match self.place(link) {
+    fn look(&mut self, port: Port, link: Link, buffer: &mut [u8]) -> Io {
+        match self.place(port, link) {
             Some(place) => place.look(buffer),
             None => Io::Later,
         }
     }
 
-    fn read(&mut self, _port: Port, link: Link, buffer: &mut [u8]) -> Io {
-        match self.place(link) {
+    fn read(&mut self, port: Port, link: Link, buffer: &mut [u8]) -> Io {
+        match self.place(port, link) {
             Some(place) => place.read(buffer),
             None => Io::Broken,
         }
     }
 
-    fn write(&mut self, _port: Port, link: Link, octets: &[u8]) -> Io {
-        match self.place(link) {
+    fn write(&mut self, port: Port, link: Link, octets: &[u8]) -> Io {
+        match self.place(port, link) {
             Some(place) => place.write(octets),
             None => Io::Broken,
         }
     }
 
-    fn address(&self, _port: Port, link: Link) -> Option<IpAddr> {
-        Some(self.peer(link)?.ip())
+    fn address(&self, port: Port, link: Link) -> Option<IpAddr> {
+        Some(self.peer(port, link)?.ip())
     }
 
-    fn close(&mut self, _port: Port, link: Link) {
-        if let Some(place) = self.place(link) {
+    fn close(&mut self, port: Port, link: Link) {
+        if let Some(place) = self.place(port, link) {
             place.stream = None;
             place.ahead.clear();
             place.unread = false;

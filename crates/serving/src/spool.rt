@@ -1,6 +1,6 @@
 //! What a server needs of the folder into which the mail system puts messages.
-ghost use Rattle.std.specs.Prelude.{◌≡◌, List, ◌∷◌, [], ◌++◌, MatchOption, if◌then◌else◌};
-ghost use Rattle.serving.specs.Spools.{FileAct, WasRead, WasRemoved, WasRenamed};
+ghost use Rattle.std.specs.Prelude.{◌≡◌, List, ◌∷◌, [], ◌++◌, MatchOption, option_map, if◌then◌else◌};
+ghost use Rattle.serving.specs.Spools.{FileAct, WasRead, WasRemoved, WasRenamed, FileCall, Next, Read, Removed, Renamed};
 
 use crate::file_name::FileName;
 
@@ -11,29 +11,36 @@ pub const MOST_OCTETS: usize = 26_214_401;
 /// A folder of messages, each a file under a name of the form `maildrop.class.id.eml`. Files of
 /// other names are left alone.
 ///
-/// `tells s acts`: `acts` is a true record of what happened to s's files. Of a spool over a folder
-/// no record is known.
+/// `tells s acts`: `acts` is a true record of what happened to s's files. `asked s calls`: `calls`
+/// is a true record of what s was asked and answered. Of a spool over a folder neither is known.
 pub trait Spool {
     /// `tells s acts`: `acts` is what happened to s's files, the newest act last.
     ghost tells: { Self → List FileAct → Type 0 };
 
+    /// `asked s calls`: s was asked these calls and answered them so, the newest last.
+    ghost asked: { Self → List FileCall → Type 0 };
+
     /// The least name behind this one, in the order of octets; the least one where none is behind
     /// it, or no name is given. `None` where there is no file, or the folder can't be listed.
     fn next_name(&mut self, last: &Option<FileName>) -> Option<FileName>
-        ensures { (a : List FileAct) → tells self.old a → tells self.new a };
+        ensures told { (a : List FileAct) → tells self.old a → tells self.new a }
+        ensures called { (a : List FileCall) → asked self.old a → asked self.new (a ++ Next last.now result ∷ []) };
 
     /// The first [`MOST_OCTETS`] octets of a file; `None` where it can't be read, or isn't
     /// a file of the folder's own.
     fn read(&mut self, name: &FileName) -> Option<Vec<u8>>
-        ensures { (a : List FileAct) → tells self.old a → MatchOption result (tells self.new a) (λ text. tells self.new (a ++ WasRead name.now text.items ∷ [])) };
+        ensures told { (a : List FileAct) → tells self.old a → MatchOption result (tells self.new a) (λ text. tells self.new (a ++ WasRead name.now text.items ∷ [])) }
+        ensures called { (a : List FileCall) → asked self.old a → asked self.new (a ++ Read name.now (option_map (λ text. text.items) result) ∷ []) };
 
     /// Removes a file. Whether it was removed.
     fn remove(&mut self, name: &FileName) -> bool
-        ensures { (a : List FileAct) → tells self.old a → tells self.new (if result then a ++ WasRemoved name.now ∷ [] else a) };
+        ensures told { (a : List FileAct) → tells self.old a → tells self.new (if result then a ++ WasRemoved name.now ∷ [] else a) }
+        ensures called { (a : List FileCall) → asked self.old a → asked self.new (a ++ Removed name.now result ∷ []) };
 
     /// Renames a file, by `.bad` behind its name. Whether it was renamed.
     fn rename(&mut self, name: &FileName) -> bool
-        ensures { (a : List FileAct) → tells self.old a → tells self.new (if result then a ++ WasRenamed name.now ∷ [] else a) };
+        ensures told { (a : List FileAct) → tells self.old a → tells self.new (if result then a ++ WasRenamed name.now ∷ [] else a) }
+        ensures called { (a : List FileCall) → asked self.old a → asked self.new (a ++ Renamed name.now result ∷ []) };
 
     /// Any two records of one spool are the same.
     ghost tells_once: { (spool : Self) (a b : List FileAct) → tells spool a → tells spool b → a ≡ b };

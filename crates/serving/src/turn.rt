@@ -1,18 +1,28 @@
 //! One turn of serving.
-ghost use Rattle.std.specs.Prelude.{◌≡◌, ◌<◌, ◌+◌, ◌≤◌, ℕ, true, false, List, [], Option, Some, length, take, if◌then◌else◌};
+ghost use Rattle.std.specs.Prelude.{◌≡◌, ◌⊎◌, ◌<◌, ◌+◌, ◌≤◌, ◌==◌, ◌||◌, not, ℕ, Bool, true, false, nat_lt, slice_index_or, List, ◌∷◌, [], Option, Some, length, take, if◌then◌else◌};
 ghost use Rattle.office.specs.Events.{Trace};
-ghost use Rattle.office.specs.Trace.{is_open};
+ghost use Rattle.office.specs.Trace.{is_open, history};
+ghost use Rattle.office.specs.Sessions.{live};
 ghost use Rattle.office.specs.Taken.{AreAdmitted};
 ghost use Rattle.office.specs.Stands.{StandsFor, vault_of};
 ghost use Rattle.office.specs.Shown.{outcome_seen};
 ghost use Rattle.serving.specs.Wires.{ToldOfPorts, AreFresh, opened_by};
 ghost use Rattle.serving.specs.Served.{StillServes, StillServesOne, Serves};
+ghost use Rattle.office.specs.Logins.{refusals};
+ghost use Rattle.serving.specs.Guesses.{AreNotedSo};
+ghost use Rattle.serving.specs.Newcomers.{others};
+ghost use Rattle.serving.specs.Paces.{has_freed, KeepsAside, LeavesSettings};
+ghost use Rattle.serving.specs.Settings.{settings, settings_of, none_set};
+ghost use Rattle.serving.specs.Works.{Part, Asking, Giving, IsPassed, AreAccepted, IsWritten, IsWrittenOut, IsHeard, HadTurns, AreClosed, IsClosed, share_by, may_keep, way_at, way_by, is_late, AreNoMoreLate, AreLateGone};
+ghost use Rattle.serving.specs.Turns.{Works, millis_of};
+ghost use Rattle.serving.specs.HttpTurns.{AllGoOn, AreFew};
+ghost use Rattle.serving.specs.declared.newcomers.Newcomer.{Newcomer};
 ghost use Rattle.serving.specs.declared.links.Seat as declared;
 ghost use Rattle.arrayvec.specs.ArrayVec.{array_vec_len};
 
 use crate::files::serve_spool;
 use crate::links::{Clients, Links, MOST_LINKS, Seat};
-use crate::pace::{MOST_AT_ONCE, next_part, origin_at, pace_of};
+use crate::pace::{MOST_AT_ONCE, next_part, origin_at, pace_behind, pace_of};
 use crate::requests::{accept_requests, serve_requests};
 use crate::spool::Spool;
 use crate::wire::{Io, Port, Wire};
@@ -37,6 +47,7 @@ const MOST_MILLIS: u32 = 1000;
 fn write_once<V: Vault, W: Wire>(office: &mut Office<V>, wire: &mut W, seat: Seat) -> usize
     ensures serves { StillServesOne V.holds V.is_clean W.tells seat office.old wire.old office.new wire.new }
     ensures clean { V.is_clean (vault_of office.new) → V.is_clean (vault_of office.old) }
+    ensures works { Part V.holds V.is_clean V.faults W.asked office.old wire.old office.new wire.new (IsWritten V.holds V.is_clean office.old office.new seat (if result == 0 then 0 else 1) result (not (result == 0))) }
 {
     let lent = office.owed(seat.connection);
     if lent.is_empty() {
@@ -65,9 +76,10 @@ fn write_owed<V: Vault, W: Wire>(
 ) -> bool
     ensures serves { StillServesOne V.holds V.is_clean W.tells seat office.old wire.old office.new wire.new }
     ensures clean { V.is_clean (vault_of office.new) → V.is_clean (vault_of office.old) }
+    ensures works { Part V.holds V.is_clean V.faults W.asked office.old wire.old office.new wire.new (IsWrittenOut V.holds V.is_clean office.old office.new seat share result) }
 {
     let mut written: usize = 0;
-    for _ in 0..MOST_WRITES {
+    for _times in 0..MOST_WRITES {
         let count = write_once(office, wire, seat);
         if count == 0 {
             return false;
@@ -91,6 +103,7 @@ fn read_once<V: Vault, W: Wire>(
     requires { length buffer.old ≤ 4096 }
     ensures serves { StillServesOne V.holds V.is_clean W.tells seat office.old wire.old office.new wire.new }
     ensures clean { V.is_clean (vault_of office.new) → V.is_clean (vault_of office.old) }
+    ensures works { (wait : ℕ) (may : Bool) → Part V.holds V.is_clean V.faults W.asked office.old wire.old office.new wire.new (IsHeard V.holds office.old seat wait may) }
 {
     let connection = seat.connection;
     if !office.ready(connection) {
@@ -120,7 +133,9 @@ fn note_guess<V: Vault>(
     before: u8,
     now: u64,
 )
-    ensures { links.new.seats ≡ links.old.seats }
+    ensures seats { links.new.seats ≡ links.old.seats }
+    ensures aside { KeepsAside links.old links.new }
+    ensures noted { (T : Trace) → StandsFor V.holds office.now T → AreNotedSo now origin (nat_lt before (refusals T connection)) (live (history T) connection) links.old.guesses.refusals.items links.new.guesses.refusals.items }
 {
     let Some(origin) = origin else {
         return;
@@ -147,12 +162,15 @@ fn read_piece<V: Vault, W: Wire>(
     ensures serves { StillServesOne V.holds V.is_clean W.tells seat office.old wire.old office.new wire.new }
     ensures clean { V.is_clean (vault_of office.new) → V.is_clean (vault_of office.old) }
     ensures seats { links.new.seats ≡ links.old.seats }
+    ensures aside { KeepsAside links.old links.new }
+    ensures works { Part V.holds V.is_clean V.faults W.asked office.old wire.old office.new wire.new (IsHeard V.holds office.old seat links.old.wait (may_keep links.old)) }
 {
     if !office.ready(seat.connection) {
         return false;
     }
     let origin = origin_at(office, wire, seat, &links.guesses);
     let pace = pace_of(&links.guesses, origin, now);
+    let pace = pace_behind(pace, links.is_freed, office.is_logged_in(seat.connection));
     let part = next_part(office, wire, seat, links.wait, pace);
     if part == 0 {
         return false;
@@ -178,6 +196,8 @@ fn serve_link<V: Vault, W: Wire>(
     ensures serves { StillServesOne V.holds V.is_clean W.tells seat office.old wire.old office.new wire.new }
     ensures clean { V.is_clean (vault_of office.new) → V.is_clean (vault_of office.old) }
     ensures seats { links.new.seats ≡ links.old.seats }
+    ensures aside { KeepsAside links.old links.new }
+    ensures works { Part V.holds V.is_clean V.faults W.asked office.old wire.old office.new wire.new (HadTurns V.holds V.is_clean office.old office.new (way_at links.old) (seat ∷ []) (seat ∷ [])) }
 {
     let share = share_of(links);
     if write_owed(office, wire, seat, share) {
@@ -193,12 +213,61 @@ fn serve_link<V: Vault, W: Wire>(
 fn share_of(links: &Clients) -> usize
     ensures alone { array_vec_len links.now.seats ≤ 1 → result ≡ SHARE_ALONE }
     ensures beside { 1 < array_vec_len links.now.seats → result ≡ SHARE_BESIDE }
+    ensures value { result ≡ share_by (array_vec_len links.now.seats) }
 {
     if links.seats.len() > 1 {
         SHARE_BESIDE
     } else {
         SHARE_ALONE
     }
+}
+
+/// Notes whether a connection's session ended, for which logins may wait: in this turn no further
+/// login is read, and the next one doesn't wait.
+fn note_freed<V: Vault>(
+    office: &Office<V>,
+    links: &mut Clients,
+    connection: u64,
+    was_logged_in: bool,
+)
+    ensures seats { links.new.seats ≡ links.old.seats }
+    ensures freed { (T : Trace) → StandsFor V.holds office.now T → links.new.is_freed ≡ (links.old.is_freed || has_freed links.old.wait was_logged_in (live (history T) connection)) }
+    ensures waits { links.new.is_freed ≡ true → (links.old.is_freed ≡ true) ⊎ ((links.old.wait == 0) ≡ false) }
+    ensures aside { LeavesSettings links.old links.new }
+{
+    if links.wait == 0 {
+        return;
+    }
+    if !was_logged_in {
+        return;
+    }
+    if office.is_logged_in(connection) {
+        return;
+    }
+    links.is_freed = true;
+    links.presses = true;
+}
+
+/// Serves a client's link, and notes whether its session ended.
+fn serve_client<V: Vault, W: Wire>(
+    office: &mut Office<V>,
+    wire: &mut W,
+    links: &mut Clients,
+    seat: Seat,
+    now: u64,
+)
+    ensures serves { StillServesOne V.holds V.is_clean W.tells seat office.old wire.old office.new wire.new }
+    ensures clean { V.is_clean (vault_of office.new) → V.is_clean (vault_of office.old) }
+    ensures seats { links.new.seats ≡ links.old.seats }
+    ensures freed { (T U : Trace) → StandsFor V.holds office.old T → StandsFor V.holds office.new U → links.new.is_freed ≡ (links.old.is_freed || has_freed links.old.wait (live (history T) seat.connection) (live (history U) seat.connection)) }
+    ensures waits { links.new.is_freed ≡ true → (links.old.is_freed ≡ true) ⊎ ((links.old.wait == 0) ≡ false) }
+    ensures aside { LeavesSettings links.old links.new }
+    ensures works { Part V.holds V.is_clean V.faults W.asked office.old wire.old office.new wire.new (HadTurns V.holds V.is_clean office.old office.new (way_at links.old) (seat ∷ []) (seat ∷ [])) }
+{
+    let was_logged_in = office.is_logged_in(seat.connection);
+    let more = serve_link(office, wire, links, seat, now);
+    links.presses |= more;
+    note_freed(office, links, seat.connection, was_logged_in);
 }
 
 /// Serves the link of one seat.
@@ -213,10 +282,12 @@ fn serve_seat<V: Vault, W: Wire>(
     ensures serves { StillServes V.holds V.is_clean W.tells office.old wire.old links.old.seats.items [] office.new wire.new links.new.seats.items [] }
     ensures clean { V.is_clean (vault_of office.new) → V.is_clean (vault_of office.old) }
     ensures seats { links.new.seats ≡ links.old.seats }
+    ensures waits { links.new.is_freed ≡ true → (links.old.is_freed ≡ true) ⊎ ((links.old.wait == 0) ≡ false) }
+    ensures aside { LeavesSettings links.old links.new }
+    ensures works { Part V.holds V.is_clean V.faults W.asked office.old wire.old office.new wire.new (λ given calls. (d : declared.Seat) → HadTurns V.holds V.is_clean office.old office.new (way_at links.old) links.old.seats.items (slice_index_or links.old.seats.items place d ∷ []) given calls) }
 {
     let seat = links.seats[place];
-    let more = serve_link(office, wire, links, seat, now);
-    links.presses |= more;
+    serve_client(office, wire, links, seat, now);
 }
 
 /// Serves each link, by ascending number of the connections.
@@ -228,7 +299,11 @@ fn serve_links<V: Vault, W: Wire>(
 )
     ensures serves { StillServes V.holds V.is_clean W.tells office.old wire.old links.old.seats.items [] office.new wire.new links.new.seats.items [] }
     ensures clean { V.is_clean (vault_of office.new) → V.is_clean (vault_of office.old) }
+    ensures seats { links.new.seats ≡ links.old.seats }
+    ensures aside { LeavesSettings links.old links.new }
+    ensures works { Part V.holds V.is_clean V.faults W.asked office.old wire.old office.new wire.new (HadTurns V.holds V.is_clean office.old office.new (way_by links.old (length links.old.seats.items)) links.old.seats.items links.old.seats.items) }
 {
+    links.is_freed = false;
     let mut place = 0;
     while place < links.seats.len() {
         serve_seat(office, wire, links, place, now);
@@ -240,6 +315,7 @@ fn serve_links<V: Vault, W: Wire>(
 fn end_seat<V: Vault, W: Wire>(office: &mut Office<V>, _wire: &W, seat: Seat)
     ensures serves { StillServesOne V.holds V.is_clean W.tells seat office.old _wire.now office.new _wire.now }
     ensures clean { V.is_clean (vault_of office.new) → V.is_clean (vault_of office.old) }
+    ensures works { (now seconds : ℕ) (newcomers : List Newcomer) → is_late now seconds newcomers seat.connection ≡ true → Giving V.holds V.is_clean V.faults office.old office.new (AreLateGone now seconds newcomers) }
 {
     if office.ended(seat.connection) {
         return;
@@ -259,6 +335,10 @@ fn end_late<V: Vault, W: Wire>(
     ensures serves { StillServes V.holds V.is_clean W.tells office.old wire.now links.old.seats.items [] office.new wire.now links.new.seats.items [] }
     ensures clean { V.is_clean (vault_of office.new) → V.is_clean (vault_of office.old) }
     ensures seats { links.new.seats ≡ links.old.seats }
+    ensures set { settings_of links.new ≡ settings_of links.old }
+    ensures last { links.new.last ≡ links.old.last }
+    ensures late { AreNoMoreLate now links.old.newcomers.seconds links.old.newcomers.newcomers.items links.new.newcomers.newcomers.items }
+    ensures works { (links.old.newcomers.seconds == 0) ≡ false → Giving V.holds V.is_clean V.faults office.old office.new (AreLateGone now links.old.newcomers.seconds links.old.newcomers.newcomers.items) }
 {
     let seat = links.seats[place];
     if office.is_logged_in(seat.connection) {
@@ -276,6 +356,10 @@ fn end_late_ones<V: Vault, W: Wire>(office: &mut Office<V>, wire: &W, links: &mu
     ensures serves { StillServes V.holds V.is_clean W.tells office.old wire.now links.old.seats.items [] office.new wire.now links.new.seats.items [] }
     ensures clean { V.is_clean (vault_of office.new) → V.is_clean (vault_of office.old) }
     ensures off { links.old.newcomers.seconds ≡ 0 → office.new ≡ office.old }
+    ensures seats { links.new.seats ≡ links.old.seats }
+    ensures set { settings_of links.new ≡ settings_of links.old }
+    ensures last { links.new.last ≡ links.old.last }
+    ensures works { Giving V.holds V.is_clean V.faults office.old office.new (AreLateGone now links.old.newcomers.seconds links.old.newcomers.newcomers.items) }
 {
     if links.newcomers.seconds == 0 {
         return;
@@ -298,6 +382,10 @@ fn close_seat<V: Vault, W: Wire>(
     requires { place < array_vec_len links.old.seats }
     ensures serves { StillServes V.holds V.is_clean W.tells office.now wire.old links.old.seats.items (take place links.old.seats.items) office.now wire.new links.new.seats.items (take (if result then place + 1 else place) links.new.seats.items) }
     ensures left { array_vec_len links.new.seats + (if result then 0 else 1) ≡ array_vec_len links.old.seats }
+    ensures set { settings_of links.new ≡ settings_of links.old }
+    ensures last { links.new.last ≡ links.old.last }
+    ensures newcomers { (d : declared.Seat) → links.new.newcomers.newcomers.items ≡ (if result then links.old.newcomers.newcomers.items else others (slice_index_or links.old.seats.items place d).connection links.old.newcomers.newcomers.items) }
+    ensures works { (T : Trace) (d : declared.Seat) → StandsFor V.holds office.now T → Asking W.asked wire.old wire.new (IsClosed T links.old.seats.items links.new.seats.items place (slice_index_or links.old.seats.items place d) result) }
 {
     let seat = links.seats[place];
     if !office.ended(seat.connection) {
@@ -305,7 +393,8 @@ fn close_seat<V: Vault, W: Wire>(
     }
     wire.close(Port::Pop, seat.link);
     links.seats.remove(place);
-    links.newcomers.forget(seat.connection);
+    let gone = seat.connection;
+    links.newcomers.forget(gone);
     // A login may have waited for what this connection held.
     links.presses |= links.wait > 0;
     false
@@ -313,7 +402,10 @@ fn close_seat<V: Vault, W: Wire>(
 
 /// Closes each link whose connection ended.
 fn close_links<V: Vault, W: Wire>(office: &Office<V>, wire: &mut W, links: &mut Clients)
-    ensures { StillServes V.holds V.is_clean W.tells office.now wire.old links.old.seats.items [] office.now wire.new links.new.seats.items links.new.seats.items }
+    ensures serves { StillServes V.holds V.is_clean W.tells office.now wire.old links.old.seats.items [] office.now wire.new links.new.seats.items links.new.seats.items }
+    ensures set { settings_of links.new ≡ settings_of links.old }
+    ensures last { links.new.last ≡ links.old.last }
+    ensures works { (T : Trace) → StandsFor V.holds office.now T → Asking W.asked wire.old wire.new (AreClosed T links.old.seats.items links.new.seats.items) }
 {
     let mut place = 0;
     while place < links.seats.len() {
@@ -327,6 +419,7 @@ fn close_links<V: Vault, W: Wire>(office: &Office<V>, wire: &mut W, links: &mut 
 fn pass_time<V: Vault, W: Wire>(office: &mut Office<V>, wire: &mut W, millis: u32, now: u64)
     ensures serves { (seats these : List declared.Seat) → StillServes V.holds V.is_clean W.tells office.old wire.old seats these office.new wire.new seats [] }
     ensures clean { V.is_clean (vault_of office.new) → V.is_clean (vault_of office.old) }
+    ensures works { Part V.holds V.is_clean V.faults W.asked office.old wire.old office.new wire.new (IsPassed millis now) }
 {
     wire.wait(millis);
     let _ = office.step(Event::Tick(now));
@@ -352,6 +445,10 @@ fn accept_link<V: Vault, W: Wire>(
 ) -> bool
     ensures serves { StillServes V.holds V.is_clean W.tells office.old wire.old links.old.seats.items [] office.new wire.new links.new.seats.items [] }
     ensures clean { V.is_clean (vault_of office.new) → V.is_clean (vault_of office.old) }
+    ensures set { settings_of links.new ≡ settings_of links.old }
+    ensures last { links.new.last ≡ links.old.last }
+    ensures late { AreNoMoreLate now links.old.newcomers.seconds links.old.newcomers.newcomers.items links.new.newcomers.newcomers.items }
+    ensures works { Part V.holds V.is_clean V.faults W.asked office.old wire.old office.new wire.new (AreAccepted V.holds V.is_clean office.old office.new links.old.seats.items links.new.seats.items 1 result) }
 {
     if links.seats.is_full() {
         return false;
@@ -379,12 +476,23 @@ fn accept_links<V: Vault, W: Wire>(
 )
     ensures serves { StillServes V.holds V.is_clean W.tells office.old wire.old links.old.seats.items [] office.new wire.new links.new.seats.items [] }
     ensures clean { V.is_clean (vault_of office.new) → V.is_clean (vault_of office.old) }
+    ensures set { settings_of links.new ≡ settings_of links.old }
+    ensures last { links.new.last ≡ links.old.last }
+    ensures late { AreNoMoreLate now links.old.newcomers.seconds links.old.newcomers.newcomers.items links.new.newcomers.newcomers.items }
+    ensures works { (goes : Bool) × Part V.holds V.is_clean V.faults W.asked office.old wire.old office.new wire.new (AreAccepted V.holds V.is_clean office.old office.new links.old.seats.items links.new.seats.items 64 goes) }
 {
-    for _ in 0..MOST_LINKS {
+    for _times in 0..MOST_LINKS {
         if !accept_link(office, wire, links, now) {
             return;
         }
     }
+}
+
+/// How many milliseconds a turn waits at most: none where more can be done at once.
+fn millis_for(links: &Links) -> u32
+    ensures { result ≡ millis_of links.now }
+{
+    if links.presses() { 0 } else { MOST_MILLIS }
 }
 
 /// One turn: waits for at most a second, and not at all where more can be done at once; tells the
@@ -400,8 +508,12 @@ pub fn serve_turn<V: Vault, W: Wire, S: Spool>(
 )
     ensures serves { (T : Trace) → Serves V.holds W.tells S.tells T office.old wire.old spool.old links.old.clients.seats.items links.old.requests.exchanges.items → V.is_clean (vault_of office.new) → Serves V.holds W.tells S.tells T office.new wire.new spool.new links.new.clients.seats.items links.new.requests.exchanges.items }
     ensures clean { V.is_clean (vault_of office.new) → V.is_clean (vault_of office.old) }
+    ensures works { (T : Trace) → StandsFor V.holds office.old T → V.is_clean (vault_of office.new) → Works V.holds V.faults W.asked S.asked T now links.old office.old wire.old spool.old office.new links.new wire.new spool.new }
+    ensures ongoing { AllGoOn now links.new }
+    ensures few { AreFew links.old → AreFew links.new }
+    ensures settings { settings links.new ≡ settings links.old }
 {
-    let millis = if links.presses() { 0 } else { MOST_MILLIS };
+    let millis = millis_for(links);
     links.clients.presses = false;
     pass_time(office, wire, millis, now);
     accept_links(office, wire, &mut links.clients, now);
@@ -421,7 +533,9 @@ pub fn begin<V: Vault, W: Wire, S: Spool>(
     _wire: &W,
     _spool: &S,
 ) -> Links
-    ensures { (T : Trace) (t : ToldOfPorts) → StandsFor V.holds _office.now T → AreAdmitted T → ((c : ℕ) → is_open T c ≡ false) → W.tells _wire.now t → AreFresh t → S.tells _spool.now [] → Serves V.holds W.tells S.tells T _office.now _wire.now _spool.now result.clients.seats.items result.requests.exchanges.items }
+    ensures serves { (T : Trace) (t : ToldOfPorts) → StandsFor V.holds _office.now T → AreAdmitted T → ((c : ℕ) → is_open T c ≡ false) → W.tells _wire.now t → AreFresh t → S.tells _spool.now [] → Serves V.holds W.tells S.tells T _office.now _wire.now _spool.now result.clients.seats.items result.requests.exchanges.items }
+    ensures few { AreFew result }
+    ensures settings { settings result ≡ none_set }
 {
     taken_is_sent();
     Links::new(alloc)

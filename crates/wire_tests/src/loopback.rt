@@ -1,6 +1,6 @@
 //! A wire over sockets.
 use crate::turns::new_office;
-use serving::{ScriptSpool, SocketWire, begin, serve_turn};
+use serving::{NotedWire, ScriptSpool, SocketWire, begin, serve_turn};
 use std::io::{Read, Write};
 use std::net::{Ipv4Addr, Shutdown, SocketAddr, TcpStream};
 use std::test::Fail;
@@ -12,7 +12,8 @@ static ROW: &[u8] =
 fn greeting_row_over_loopback(rt: HostRuntime) -> Result<(), Fail> {
     let alloc = rt.alloc();
     let any = SocketAddr::from((Ipv4Addr::LOCALHOST, 0));
-    let (mut wire, port) = SocketWire::bind(&rt, alloc, any)?;
+    let (wire, port) = SocketWire::bind(&rt, alloc, any)?;
+    let mut wire = NotedWire::new(wire);
     let mut office = new_office(alloc)?;
     let mut spool = ScriptSpool::new(alloc);
     let mut links = begin(alloc, &office, &wire, &spool);

@@ -144,6 +144,8 @@ impl RandomWire {
 impl Wire for RandomWire {
     ghost tells = { λ _ _. ⊥ };
 
+    ghost asked = { λ _ _. ⊥ };
+
     ghost tells_once = { λ wire t u a b. absurd a };
 
     fn wait(&mut self, _millis: u32) {

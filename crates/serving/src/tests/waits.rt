@@ -14,6 +14,11 @@ const ANN_TOLD: &str = "+OK POP3 server ready <1.7@h.test>\r\n+OK send PASS\r\n\
 /// What bob is told before his PASS.
 const BOB_TOLD: &str = "+OK POP3 server ready <2.7@h.test>\r\n+OK send PASS\r\n";
 
+/// What the first and the third to come are told before their PASS.
+const FIRST_TOLD: &str = "+OK POP3 server ready <1.7@h.test>\r\n+OK send PASS\r\n";
+
+const THIRD_TOLD: &str = "+OK POP3 server ready <3.7@h.test>\r\n+OK send PASS\r\n";
+
 /// How he is let in, and how not.
 const LET_IN: &str = "+OK maildrop has 1 messages (21 octets)\r\n";
 
@@ -59,10 +64,43 @@ static ENDS_TOO_LATE: [Act; 5] = [
 /// Bob is told so at once.
 static AT_ONCE: [Act; 3] = [Act::Turns(2, 3), Act::Told(1, IN_USE, 1), Act::Open(1)];
 
-/// Plays what comes before, and then these acts.
-fn plays(alloc: Global, then: &[Act], wait: u64) -> Result<(), Fail> {
+/// Ann comes between two who wait for her maildrop: the second one's password comes first.
+static BETWEEN: [Act; 16] = [
+    Act::Comes(0),
+    Act::Turns(1, 0),
+    Act::Comes(1),
+    Act::Turns(1, 0),
+    Act::Comes(2),
+    Act::Turns(1, 0),
+    Act::Sends(1, ANN, 1),
+    Act::Turns(4, 0),
+    Act::Sends(0, "USER bob/orders\r\n", 1),
+    Act::Sends(2, "USER bob/orders\r\n", 1),
+    Act::Turns(2, 3),
+    Act::Sends(2, "PASS hunter\r\n", 1),
+    Act::Turns(1, 3),
+    Act::Sends(0, "PASS hunter\r\n", 1),
+    Act::Turns(2, 3),
+    Act::Told(0, FIRST_TOLD, 1),
+];
+
+/// As she ends her session the one of the lower number is let in, and then the other one.
+static BY_NUMBER: [Act; 9] = [
+    Act::Told(2, THIRD_TOLD, 1),
+    Act::Sends(1, "QUIT\r\n", 1),
+    Act::Turns(2, 5),
+    Act::Told(0, LET_IN, 1),
+    Act::Told(2, "", 0),
+    Act::Sends(0, "QUIT\r\n", 1),
+    Act::Turns(2, 6),
+    Act::Told(2, LET_IN, 1),
+    Act::Open(2),
+];
+
+/// Plays acts, and then further ones.
+fn plays(alloc: Global, first: &[Act], then: &[Act], wait: u64) -> Result<(), Fail> {
     let mut acts = Vec::new(alloc);
-    acts.extend_from_slice(&BOTH)?;
+    acts.extend_from_slice(first)?;
     acts.extend_from_slice(then)?;
     let settings = Settings {
         wait,
@@ -80,15 +118,20 @@ fn plays(alloc: Global, then: &[Act], wait: u64) -> Result<(), Fail> {
 
 #[test]
 fn let_in_as_the_lock_is_free(rt: HostRuntime) -> Result<(), Fail> {
-    plays(rt.alloc(), &ENDS_IN_TIME, 10)
+    plays(rt.alloc(), &BOTH, &ENDS_IN_TIME, 10)
 }
 
 #[test]
 fn told_in_use_in_the_end(rt: HostRuntime) -> Result<(), Fail> {
-    plays(rt.alloc(), &ENDS_TOO_LATE, 10)
+    plays(rt.alloc(), &BOTH, &ENDS_TOO_LATE, 10)
 }
 
 #[test]
 fn without_a_wait_told_at_once(rt: HostRuntime) -> Result<(), Fail> {
-    plays(rt.alloc(), &AT_ONCE, 0)
+    plays(rt.alloc(), &BOTH, &AT_ONCE, 0)
+}
+
+#[test]
+fn let_in_by_number(rt: HostRuntime) -> Result<(), Fail> {
+    plays(rt.alloc(), &BETWEEN, &BY_NUMBER, 10)
 }

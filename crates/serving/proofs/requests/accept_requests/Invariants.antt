@@ -1,5 +1,11 @@
+use Rattle.std.proofs.Common.{◌≤◌, length, []}
 use Rattle.serving.specs.Requests.{AllStillAnswer}
+use Rattle.serving.specs.Works.{Asking, IsQuiet}
 use Rattle.serving.proofs.requests.accept_requests.Given as goal
 
 abbrev pub invariant-loop : goal.invariant-loop
-invariant-loop g l = AllStillAnswer g.W.Wire.tells l.fn.wire l.fn.requests.exchanges.items l.wire l.requests.exchanges.items
+invariant-loop g l = record {
+  answers : AllStillAnswer g.W.Wire.tells l.fn.wire l.fn.requests.exchanges.items l.wire l.requests.exchanges.items;
+  few : length l.fn.requests.exchanges.items ≤ 8 → length l.requests.exchanges.items ≤ 8;
+  works : Asking g.W.Wire.asked l.fn.wire l.wire (IsQuiet []);
+}

@@ -3,6 +3,7 @@ use Rattle.adminhttp.specs.Responses.{refusal_response}
 use Rattle.adminhttp.specs.declared.refusal.Refusal.TheVariants.{OutOfMemory}
 use Rattle.serving.specs.Requests.{octets_of, ToRefusal, ForMemory, NotYet, NoCommand}
 use Rattle.serving.proofs.Requesting.{asked_none, to_fault}
+use Rattle.serving.proofs.Quieting.{gives_nothing}
 use Rattle.serving.proofs.requests.ask.Goals as goal
 
 pub returns-in-More-clause-asked : goal.returns-in-More-clause-asked
@@ -21,3 +22,15 @@ returns-in-BadPolicy-clause-asked g c = λ B L stands clean.
 pub returns-in-NoMemory-clause-asked : goal.returns-in-NoMemory-clause-asked
 returns-in-NoMemory-clause-asked g c = λ B L stands clean.
     asked_none g.V.Vault.holds B L c.args.read.now c.args.office.now (Some (refusal_response OutOfMemory)) stands (NoCommand (refusal_response OutOfMemory) ForMemory)
+
+pub returns-in-More-clause-works : goal.returns-in-More-clause-works
+returns-in-More-clause-works g c = gives_nothing g.V.Vault.holds g.V.Vault.is_clean g.V.Vault.faults c.args.office.now
+
+pub returns-in-Bad-clause-works : goal.returns-in-Bad-clause-works
+returns-in-Bad-clause-works g c = gives_nothing g.V.Vault.holds g.V.Vault.is_clean g.V.Vault.faults c.args.office.now
+
+pub returns-in-BadPolicy-clause-works : goal.returns-in-BadPolicy-clause-works
+returns-in-BadPolicy-clause-works g c = gives_nothing g.V.Vault.holds g.V.Vault.is_clean g.V.Vault.faults c.args.office.now
+
+pub returns-in-NoMemory-clause-works : goal.returns-in-NoMemory-clause-works
+returns-in-NoMemory-clause-works g c = gives_nothing g.V.Vault.holds g.V.Vault.is_clean g.V.Vault.faults c.args.office.now

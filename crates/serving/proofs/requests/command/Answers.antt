@@ -3,6 +3,10 @@ use Rattle.office.specs.Stands.{lent_by}
 use Rattle.office.specs.Taken.{trace_of}
 use Rattle.serving.specs.Requests.{octets_of}
 use Rattle.serving.proofs.Requesting.{asked_one}
+use Rattle.serving.proofs.Quieting.{gives_command}
+use Rattle.office.specs.Events as event
+use Rattle.office.specs.Outcomes.{mark_of}
+use Rattle.serving.proofs.Working.{given_one}
 use Rattle.serving.proofs.requests.command.Goals as goal
 
 pub returns-clause-asked : goal.returns-clause-asked
@@ -10,3 +14,11 @@ returns-clause-asked g c = λ B L read stands asks clean.
     (let now = trace_of B L in
     asked_one g.V.Vault.holds B L read c.step-outcome.new.self (lent_by c.args.office.now) (command_seen c.args.command.now) (outcome_seen c.step-outcome.result) (octets_of c.response_to.result)
     (c.step-outcome.ensures.outcome now stands clean) (c.step-outcome.ensures.stands now stands clean) (c.step-outcome.ensures.admitted now stands clean) asks c.response_to.ensures)
+
+pub returns-clause-works : goal.returns-clause-works
+returns-clause-works g c =
+    let o = c.args.office.now in
+    let o1 = c.step-outcome.new.self in
+    let m = mark_of (outcome_seen c.step-outcome.result) in
+    let seen = command_seen c.args.command.now in
+    gives_command g.V.Vault.holds g.V.Vault.is_clean g.V.Vault.faults o o1 seen m (given_one g.V.Vault.holds g.V.Vault.is_clean g.V.Vault.faults o o1 (event.Admin seen) (outcome_seen c.step-outcome.result) c.step-outcome.ensures.clean c.step-outcome.ensures.stands c.step-outcome.ensures.admitted c.step-outcome.ensures.counted c.step-outcome.ensures.cause)

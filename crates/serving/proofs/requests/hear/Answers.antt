@@ -1,8 +1,9 @@
 use Rattle.std.proofs.Common.{rules, ◌≡◌, false, None, [], take, refl, subst}
-use Rattle.serving.specs.declared.wire.Io.TheVariants.{Later}
+use Rattle.serving.specs.declared.wire.Io.TheVariants.{Count, Later}
 use Rattle.serving.specs.Wires.{counted, is_fault, has_read}
 use Rattle.serving.specs.Requests.{AreKeptBeside}
 use Rattle.serving.proofs.Requesting.{heard, waited, asked_still, none_more, over_apart, straight_on}
+use Rattle.serving.proofs.Quieting.{nothing_done, only_asked, only_given, both_done, asks_read}
 use Rattle.serving.proofs.requests.hear.Goals as goal
 
 pub returns-in-Count-clause-asked : goal.returns-in-Count-clause-asked
@@ -42,3 +43,20 @@ returns-in-End-clause-asked g c = λ B start L pop others s clean.
     (waited g.W.Wire.tells B start pop others e _ s.x s.log c.args.wire.now c.read.new.self s.is (has_read told n io [])
     tells refl (λ k. none_more n k told.read) (λ k. refl) (λ k ne. over_apart n k (is_fault io) told.over ne)
     (straight_on told n s.is.exchanged.straight held.accepted (held.live goes)) refl refl refl refl (λ q. cc)))
+
+pub returns-in-Count-clause-works : goal.returns-in-Count-clause-works
+returns-in-Count-clause-works g c =
+    let o = c.args.office.now in
+    let w = c.args.wire.now in
+    let w1 = c.read.new.self in
+    let o1 = c.take_piece.new.office in
+    both_done g.V.Vault.holds g.V.Vault.is_clean g.V.Vault.faults g.W.Wire.asked o o o1 w w1 w1 (only_asked g.V.Vault.holds g.V.Vault.is_clean g.V.Vault.faults g.W.Wire.asked o w w1 (asks_read g.W.Wire.asked w w1 c.args.exchange.now.link (Count c.in-Count.count) _ c.in-Count.ensures.called)) (only_given g.V.Vault.holds g.V.Vault.is_clean g.V.Vault.faults g.W.Wire.asked o o1 w1 c.take_piece.ensures.works)
+
+pub returns-in-Later-clause-works : goal.returns-in-Later-clause-works
+returns-in-Later-clause-works g c = only_asked g.V.Vault.holds g.V.Vault.is_clean g.V.Vault.faults g.W.Wire.asked c.args.office.now c.args.wire.now c.read.new.self (asks_read g.W.Wire.asked c.args.wire.now c.read.new.self c.args.exchange.now.link Later _ c.in-Later.ensures.called)
+
+pub returns-in-End-clause-works : goal.returns-in-End-clause-works
+returns-in-End-clause-works g c = only_asked g.V.Vault.holds g.V.Vault.is_clean g.V.Vault.faults g.W.Wire.asked c.args.office.now c.args.wire.now c.read.new.self (asks_read g.W.Wire.asked c.args.wire.now c.read.new.self c.args.exchange.now.link c.read.result _ c.read.ensures.called)
+
+pub returns-then-exchange-clause-works : goal.returns-then-exchange-clause-works
+returns-then-exchange-clause-works g c = nothing_done g.V.Vault.holds g.V.Vault.is_clean g.V.Vault.faults g.W.Wire.asked c.args.office.now c.args.wire.now

@@ -1,6 +1,9 @@
 use Rattle.std.proofs.Common.{refl}
 use Rattle.serving.specs.Requests.{AreKeptBeside}
 use Rattle.serving.proofs.Requesting.{asked_still, waited}
+use Rattle.serving.proofs.Quieting.{nothing_done, only_asked, both_done}
+use Rattle.std.proofs.Common.{rules, ◌≡◌, false, ◌∙◌, sym}
+use Rattle.serving.proofs.Ongoing.{still_timely}
 use Rattle.serving.proofs.requests.serve_exchange.Goals as goal
 
 pub returns-then-is_late-clause-asked : goal.returns-then-is_late-clause-asked
@@ -15,3 +18,19 @@ returns-clause-asked g c = λ B start L pop others s clean.
     (let k = c.hear.ensures.asked B start L pop others s clean in
     asked_still g.V.Vault.holds g.W.Wire.tells B start L pop c.hear.new.office c.hear.new.wire c.tell.new.wire (AreKeptBeside others c.hear.new.exchange) (AreKeptBeside others c.tell.new.exchange) k
     (c.tell.ensures.answers k.x B start k.log pop others k.is))
+
+pub returns-then-is_late-clause-works : goal.returns-then-is_late-clause-works
+returns-then-is_late-clause-works g c = nothing_done g.V.Vault.holds g.V.Vault.is_clean g.V.Vault.faults g.W.Wire.asked c.args.office.now c.args.wire.now
+
+pub returns-clause-works : goal.returns-clause-works
+returns-clause-works g c =
+    both_done g.V.Vault.holds g.V.Vault.is_clean g.V.Vault.faults g.W.Wire.asked c.args.office.now c.hear.new.office c.hear.new.office c.args.wire.now c.hear.new.wire c.tell.new.wire c.hear.ensures.works
+    (only_asked g.V.Vault.holds g.V.Vault.is_clean g.V.Vault.faults g.W.Wire.asked c.hear.new.office c.hear.new.wire c.tell.new.wire c.tell.ensures.works)
+
+pub returns-then-is_late-clause-timely : goal.returns-then-is_late-clause-timely
+returns-then-is_late-clause-timely g c = λ q. cc
+
+pub returns-clause-timely : goal.returns-clause-timely
+returns-clause-timely g c =
+    let no : c.is_late.result ≡ false = search rules in
+    λ q. still_timely c.args.now c.args.exchange.now c.tell.new.exchange (c.tell.ensures.since ∙ c.hear.ensures.since) (sym c.is_late.ensures ∙ no)

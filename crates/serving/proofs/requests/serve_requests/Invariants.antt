@@ -1,12 +1,19 @@
-use Rattle.std.proofs.Common.{◌-◌, length}
+use Rattle.std.proofs.Common.{◌≤◌, ◌-◌, length, take, []}
 use Rattle.office.specs.Stands.{vault_of}
 use Rattle.serving.specs.Requests.{AllStillAsked}
+use Rattle.std.specs.List.{All}
+use Rattle.serving.specs.HttpTurns.{GoesOn}
+use Rattle.serving.specs.Works.{Part, IsQuietFor}
 use Rattle.serving.proofs.requests.serve_requests.Given as goal
 
 abbrev pub invariant-loop-place : goal.invariant-loop-place
-invariant-loop-place g l =
-    AllStillAsked g.V.Vault.holds g.V.Vault.is_clean g.W.Wire.tells l.fn.office l.fn.wire l.fn.requests.exchanges.items l.office l.wire l.requests.exchanges.items
-    × (g.V.Vault.is_clean (vault_of l.office) → g.V.Vault.is_clean (vault_of l.fn.office))
+invariant-loop-place g l = record {
+  asked : AllStillAsked g.V.Vault.holds g.V.Vault.is_clean g.W.Wire.tells l.fn.office l.fn.wire l.fn.requests.exchanges.items l.office l.wire l.requests.exchanges.items;
+  clean : g.V.Vault.is_clean (vault_of l.office) → g.V.Vault.is_clean (vault_of l.fn.office);
+  stay : All (GoesOn l.fn.now) (take l.place l.requests.exchanges.items);
+  no_more : length l.requests.exchanges.items ≤ length l.fn.requests.exchanges.items;
+  works : Part g.V.Vault.holds g.V.Vault.is_clean g.V.Vault.faults g.W.Wire.asked l.fn.office l.fn.wire l.office l.wire (IsQuietFor []);
+}
 
 abbrev pub decreases-loop-place : goal.decreases-loop-place
 decreases-loop-place g l = length l.requests.exchanges.items - l.place

@@ -3,6 +3,7 @@ use Rattle.adminhttp.specs.Responses.{refusal_response}
 use Rattle.adminhttp.specs.declared.refusal.Refusal.TheVariants.{OutOfMemory}
 use Rattle.serving.specs.Requests.{octets_of, HasAsked, ForMemory, NoCommand}
 use Rattle.serving.proofs.Requesting.{asked_none}
+use Rattle.serving.proofs.Quieting.{gives_nothing}
 use Rattle.serving.proofs.requests.take_piece.Goals as goal
 
 pub returns-then-is_err-clause-asked : goal.returns-then-is_err-clause-asked
@@ -13,3 +14,6 @@ pub returns-clause-asked : goal.returns-clause-asked
 returns-clause-asked g c = λ B L stands clean.
     (let same : c.as_slice.result.now ≡ c.args.exchange.now.read.items ++ c.args.piece.now = search rules in
     subst (λ read. HasAsked g.V.Vault.holds B L read c.ask.new.office (option_map octets_of c.ask.result)) same (c.ask.ensures.asked B L stands clean))
+
+pub returns-then-is_err-clause-works : goal.returns-then-is_err-clause-works
+returns-then-is_err-clause-works g c = gives_nothing g.V.Vault.holds g.V.Vault.is_clean g.V.Vault.faults c.args.office.now

@@ -1,6 +1,12 @@
-use Rattle.std.proofs.Common.{◌≡◌}
+use Rattle.std.proofs.Common.{◌≡◌, []}
 use Rattle.serving.specs.Requests.{StillAnswers}
+use Rattle.serving.specs.Works.{Asking, IsQuiet}
 use Rattle.serving.proofs.requests.tell.Given as goal
 
 abbrev pub invariant-loop : goal.invariant-loop
-invariant-loop g l = StillAnswers g.W.Wire.tells l.fn.wire l.fn.exchange l.wire l.exchange × (l.exchange.link ≡ l.fn.exchange.link)
+invariant-loop g l = record {
+  answers : StillAnswers g.W.Wire.tells l.fn.wire l.fn.exchange l.wire l.exchange;
+  link : l.exchange.link ≡ l.fn.exchange.link;
+  since : l.exchange.since ≡ l.fn.exchange.since;
+  works : Asking g.W.Wire.asked l.fn.wire l.wire (IsQuiet []);
+}

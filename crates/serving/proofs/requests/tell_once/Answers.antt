@@ -1,9 +1,10 @@
 use Rattle.std.proofs.Common.{rules, ◌≡◌, ◌≤◌, false, [], take, drop, length, refl, ap, subst, ◌∙◌}
-use Rattle.serving.specs.declared.wire.Io.TheVariants.{Later}
+use Rattle.serving.specs.declared.wire.Io.TheVariants.{Count, Later}
 use Rattle.serving.specs.Wires.{counted, is_fault, has_written}
 use Rattle.serving.specs.Requests.{octets_of}
 use Rattle.serving.proofs.Parts.{front_of_front}
 use Rattle.serving.proofs.Requesting.{wrote, waited, none_more, over_apart, straight_on}
+use Rattle.serving.proofs.Quieting.{asks_nothing, asks_wrote}
 use Rattle.serving.proofs.requests.tell_once.Goals as goal
 
 pub returns-in-Count-clause-answers : goal.returns-in-Count-clause-answers
@@ -47,3 +48,12 @@ returns-in-End-clause-answers g c = λ x B start L pop others s.
     waited g.W.Wire.tells B start pop others e _ x L c.args.wire.now c.write.new.self s (has_written told n io [])
     tells refl (λ k. refl) (λ k. none_more n k told.written) (λ k ne. over_apart n k (is_fault io) told.over ne)
     (straight_on told n s.exchanged.straight held.accepted (held.live goes)) refl refl refl refl (λ q. cc))
+
+pub returns-in-Count-clause-works : goal.returns-in-Count-clause-works
+returns-in-Count-clause-works g c = asks_wrote g.W.Wire.asked c.args.wire.now c.write.new.self c.args.exchange.now.link (Count c.in-Count.count) _ c.in-Count.ensures.called
+
+pub returns-in-Later-clause-works : goal.returns-in-Later-clause-works
+returns-in-Later-clause-works g c = asks_wrote g.W.Wire.asked c.args.wire.now c.write.new.self c.args.exchange.now.link Later _ c.in-Later.ensures.called
+
+pub returns-in-End-clause-works : goal.returns-in-End-clause-works
+returns-in-End-clause-works g c = asks_wrote g.W.Wire.asked c.args.wire.now c.write.new.self c.args.exchange.now.link c.write.result _ c.write.ensures.called

@@ -5,10 +5,11 @@ use Rattle.serving.specs.Served.{HasOwn, HasOpen, AreSeated}
 use Rattle.serving.proofs.Seating.{none_seated}
 use Rattle.serving.specs.Requests.{AreHeld, IsHeld}
 use Rattle.serving.proofs.Requesting.{none_newer}
+use Rattle.std.proofs.Common.{◌≤◌, length}
 use Rattle.serving.proofs.turn.begin.Goals as goal
 
-pub returns : goal.returns
-returns g c = λ T t stands admitted none tells fresh files.
+pub returns-clause-serves : goal.returns-clause-serves
+returns-clause-serves g c = λ T t stands admitted none tells fresh files.
     record {
       beside = record { acts = []; admin = t.admin; x = record { response = λ k. None; place = λ k. None } };
       tells = files;
@@ -44,3 +45,6 @@ returns g c = λ T t stands admitted none tells fresh files.
       requests = subst (λ held. AreHeld t.admin (record { response = λ k. None; place = λ k. None }) held) (sym c.new.ensures.requests)
           (record { each = All-nil (IsHeld t.admin (record { response = λ k. None; place = λ k. None })); ascend = λ i j d low within. absurd (omega (arith, within)) });
     }
+
+pub returns-clause-few : goal.returns-clause-few
+returns-clause-few g c = subst (λ held. length held ≤ 8) (sym c.new.ensures.requests) (omega arith)

@@ -1,11 +1,20 @@
-use Rattle.std.proofs.Common.{◌-◌, [], take}
+use Rattle.std.proofs.Common.{◌≡◌, ◌-◌, [], take}
 use Rattle.arrayvec.specs.ArrayVec.{array_vec_len}
+use Rattle.office.specs.Events.{Trace}
+use Rattle.office.specs.Stands.{StandsFor}
 use Rattle.serving.specs.Served.{StillServes}
+use Rattle.serving.specs.Settings.{settings_of}
+use Rattle.serving.specs.Works.{Asking}
+use Rattle.serving.proofs.Arriving.{ClosesSoFar}
 use Rattle.serving.proofs.turn.close_links.Given as goal
 
 abbrev pub invariant-loop-place : goal.invariant-loop-place
-invariant-loop-place g l =
-    StillServes g.V.Vault.holds g.V.Vault.is_clean g.W.Wire.tells l.fn.office l.fn.wire l.fn.links.seats.items [] l.fn.office l.wire l.links.seats.items (take l.place l.links.seats.items)
+invariant-loop-place g l = record {
+  serves : StillServes g.V.Vault.holds g.V.Vault.is_clean g.W.Wire.tells l.fn.office l.fn.wire l.fn.links.seats.items [] l.fn.office l.wire l.links.seats.items (take l.place l.links.seats.items);
+  set : settings_of l.links ≡ settings_of l.fn.links;
+  last : l.links.last ≡ l.fn.links.last;
+  works : (T : Trace) → StandsFor g.V.Vault.holds l.fn.office T → Asking g.W.Wire.asked l.fn.wire l.wire (ClosesSoFar T l.fn.links.seats.items l.links.seats.items l.place);
+}
 
 abbrev pub decreases-loop-place : goal.decreases-loop-place
 decreases-loop-place g l = array_vec_len l.links.seats - l.place

@@ -1,10 +1,21 @@
-use Rattle.std.proofs.Common.{rules, ◌≡◌, true, false, sym, ◌∙◌, Some, ap}
+use Rattle.std.proofs.Common.{rules, ◌≡◌, ◌<◌, ℕ, List, [], ◌∷◌, length, get_or, true, false, refl, sym, ◌∙◌, Some, ap, subst}
 use Rattle.office.specs.Trace.{is_open}
 use Rattle.office.specs.Taken.{trace_of}
 use Rattle.serving.specs.Wires.{has_closed}
 use Rattle.serving.proofs.Keeping.{served_closed, closed_own}
 use Rattle.serving.proofs.Seating.{contained, seat_owns, seated_on, seated_without, open_so, shut_so}
+use Rattle.serving.specs.Works.{is_open_seat}
+use Rattle.serving.specs.declared.wire.Port.TheVariants.{Pop}
+use Rattle.serving.specs.Calls.{Closed}
+use Rattle.serving.specs.declared.links.Seat.{Seat}
+use Rattle.serving.proofs.Working.{asked_none, asked_one}
+use Rattle.serving.proofs.Seating.{any_default}
+use Rattle.serving.specs.Newcomers.{others}
 use Rattle.serving.proofs.turn.close_seat.Goals as goal
+
+-- what is read at a place
+at_place : (xs ys : List Seat) (i : ℕ) (e d : Seat) → ys ≡ xs → i < length xs → get_or ys i e ≡ get_or xs i d
+at_place xs ys i e d is h = ap (λ zs. get_or zs i e) is ∙ any_default xs i e d h
 
 pub returns-then-not-ended-clause-serves : goal.returns-then-not-ended-clause-serves
 returns-then-not-ended-clause-serves g c = λ T beside s clean.
@@ -42,8 +53,47 @@ returns-clause-serves g c = λ T beside s clean.
       owner = k.owner;
       stands = k.stands;
       admitted = k.admitted;
-      tells = c.close.ensures (record { pop = k.told; admin = beside.admin }) k.tells;
+      tells = c.close.ensures.told (record { pop = k.told; admin = beside.admin }) k.tells;
       served = served_closed k.told k.owner T.base k.log _ (closed_own k.owner T.base k.log _ _ own shut) k.served;
       seated = seated_without k.owner (trace_of T.base k.log) seats ys place _ _ c.deref.ensures.0 c.remove.ensures.items c.requires shut k.seated;
       adds = k.adds;
     })
+
+pub returns-then-not-ended-clause-works : goal.returns-then-not-ended-clause-works
+returns-then-not-ended-clause-works g c = λ T d s.
+    (let seats = c.args.links.now.seats.items in
+    let ys = c.deref.result.now in
+    let goes : c.ended.result ≡ false = search rules in
+    let here = open_so (is_open T _) c.ended.result (c.ended.ensures T s) goes in
+    record {
+      calls = [];
+      was_asked = asked_none g.W.Wire.asked c.args.wire.now;
+      facts = record {
+        stays_if = sym (subst (λ q. is_open_seat T q ≡ true) (at_place seats ys c.args.place _ d c.deref.ensures.0 c.requires) here);
+        left = refl;
+        calls_are = refl;
+      };
+    })
+
+pub returns-clause-works : goal.returns-clause-works
+returns-clause-works g c = λ T d s.
+    (let seats = c.args.links.now.seats.items in
+    let ys = c.deref.result.now in
+    let over : c.ended.result ≡ true = search rules in
+    let shut = shut_so (is_open T _) c.ended.result (c.ended.ensures T s) over in
+    let at = at_place seats ys c.args.place _ d c.deref.ensures.0 c.requires in
+    record {
+      calls = Closed Pop _ ∷ [];
+      was_asked = asked_one g.W.Wire.asked c.args.wire.now c.close.new.self _ c.close.ensures.called;
+      facts = record {
+        stays_if = sym (subst (λ q. is_open_seat T q ≡ false) at shut);
+        left = c.remove.ensures.items;
+        calls_are = ap (λ q. Closed Pop q.link ∷ []) at;
+      };
+    })
+
+pub returns-clause-newcomers : goal.returns-clause-newcomers
+returns-clause-newcomers g c = λ d.
+    (let seats = c.args.links.now.seats.items in
+    let at = at_place seats c.deref.result.now c.args.place _ d c.deref.ensures.0 c.requires in
+    c.forget.ensures.newcomers ∙ ap (λ q. others q.connection c.args.links.now.newcomers.newcomers.items) at)

@@ -1,13 +1,21 @@
-use Rattle.std.proofs.Common.{◌-◌, []}
+use Rattle.std.proofs.Common.{◌≡◌, ◌-◌, []}
 use Rattle.arrayvec.specs.ArrayVec.{array_vec_len}
 use Rattle.office.specs.Stands.{vault_of}
 use Rattle.serving.specs.Served.{StillServes}
+use Rattle.serving.specs.Settings.{settings_of}
+use Rattle.serving.specs.Works.{Giving, AreLateGone, AreNoMoreLate}
 use Rattle.serving.proofs.turn.end_late_ones.Given as goal
 
 abbrev pub invariant-loop-place : goal.invariant-loop-place
-invariant-loop-place g l =
-    (StillServes g.V.Vault.holds g.V.Vault.is_clean g.W.Wire.tells l.fn.office l.fn.wire l.fn.links.seats.items [] l.office l.fn.wire l.links.seats.items [])
-    × (g.V.Vault.is_clean (vault_of l.office) → g.V.Vault.is_clean (vault_of l.fn.office))
+invariant-loop-place g l = record {
+  serves : StillServes g.V.Vault.holds g.V.Vault.is_clean g.W.Wire.tells l.fn.office l.fn.wire l.fn.links.seats.items [] l.office l.fn.wire l.links.seats.items [];
+  clean : g.V.Vault.is_clean (vault_of l.office) → g.V.Vault.is_clean (vault_of l.fn.office);
+  seats : l.links.seats ≡ l.fn.links.seats;
+  set : settings_of l.links ≡ settings_of l.fn.links;
+  last : l.links.last ≡ l.fn.links.last;
+  late : AreNoMoreLate l.fn.now l.fn.links.newcomers.seconds l.fn.links.newcomers.newcomers.items l.links.newcomers.newcomers.items;
+  works : Giving g.V.Vault.holds g.V.Vault.is_clean g.V.Vault.faults l.fn.office l.office (AreLateGone l.fn.now l.fn.links.newcomers.seconds l.fn.links.newcomers.newcomers.items);
+}
 
 abbrev pub decreases-loop-place : goal.decreases-loop-place
 decreases-loop-place g l = array_vec_len l.links.seats - l.place

@@ -11,6 +11,10 @@ use Rattle.serving.proofs.Marks.{gone_mark}
 use Rattle.serving.proofs.Staying.{fewer_framed, frame_gone}
 use Rattle.serving.proofs.Seating.{seat_owns, seated_one, open_so}
 use Rattle.serving.proofs.Keeping.{served_gone, adds_one}
+use Rattle.std.proofs.Common.{[]}
+use Rattle.std.proofs.lemmas.List.Elements.{All-nil, All-cons}
+use Rattle.serving.specs.Works.{IsLateGone}
+use Rattle.serving.proofs.Working.{given_none, given_one}
 use Rattle.serving.proofs.turn.end_seat.Goals as goal
 
 pub returns-clause-serves : goal.returns-clause-serves
@@ -36,3 +40,17 @@ returns-clause-serves g c = λ seats these has before T beside s clean.
           (seated_one s.owner T.base s.log seats these ((event.Gone connection, Tagged k.0) ∷ s.log) c.args.seat before (fewer_framed T.base s.log connection ((event.Gone connection, Tagged k.0) ∷ s.log) here (frame_gone T.base s.log connection k.0)) (frame_gone T.base s.log connection k.0) s.seated);
       adds = adds_one s.owner T.base T.log s.log beside s.told.accepted (event.Gone connection) (mark_of o) (number, at_k) (λ l Before h. h) (λ l. refl) s.adds;
     })
+
+pub returns-clause-works : goal.returns-clause-works
+returns-clause-works g c = λ now seconds newcomers late.
+    (let m = mark_of (outcome_seen c.step.result) in
+    let e = event.Gone c.args.seat.connection in
+    record {
+      given = (e, m) ∷ [];
+      was_given = given_one g.V.Vault.holds g.V.Vault.is_clean g.V.Vault.faults c.args.office.now c.step.new.self e (outcome_seen c.step.result) c.step.ensures.clean c.step.ensures.stands c.step.ensures.admitted c.step.ensures.counted c.step.ensures.cause;
+      facts = All-cons (IsLateGone now seconds newcomers) (e, m) [] late (All-nil (IsLateGone now seconds newcomers));
+    })
+
+pub returns-then-ended-clause-works : goal.returns-then-ended-clause-works
+returns-then-ended-clause-works g c = λ now seconds newcomers late.
+    record { given = []; was_given = given_none g.V.Vault.holds g.V.Vault.is_clean g.V.Vault.faults c.args.office.now; facts = All-nil (IsLateGone now seconds newcomers) }

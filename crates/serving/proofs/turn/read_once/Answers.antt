@@ -1,4 +1,4 @@
-use Rattle.std.proofs.Common.{rules, arith, ◌≡◌, ◌∷◌, [], true, take, sym, ◌∙◌, refl, subst}
+use Rattle.std.proofs.Common.{rules, arith, ◌≡◌, ◌∷◌, [], true, false, take, sym, ◌∙◌, refl, subst}
 use Rattle.office.specs.Events.{Tagged}
 use Rattle.office.specs.Events as event
 use Rattle.office.specs.Shown.{outcome_seen}
@@ -7,12 +7,17 @@ use Rattle.office.specs.Expected.{most_in_a_piece}
 use Rattle.office.specs.Stands.{lent_by}
 use Rattle.office.specs.Taken.{trace_of}
 use Rattle.serving.specs.declared.wire.Io.TheVariants.{Count, Later}
-use Rattle.serving.specs.Wires.{ToldOfPorts, is_fault, has_read}
+use Rattle.serving.specs.Wires.{ToldOfPorts, is_fault, has_read, counted}
 use Rattle.serving.specs.Served.{AreServed, AreSeated}
 use Rattle.serving.proofs.Marks.{bytes_mark, gone_mark, ready_open, short_piece}
 use Rattle.serving.proofs.Staying.{fewer_framed, frame_read, frame_gone}
 use Rattle.serving.proofs.Seating.{seat_owns, seated_one}
 use Rattle.serving.proofs.Keeping.{served_read, served_read_none, served_read_fault, fault_none, adds_one}
+use Rattle.office.specs.Trace.{is_ready}
+use Rattle.serving.specs.declared.wire.Port.TheVariants.{Pop}
+use Rattle.serving.specs.Calls.{Read}
+use Rattle.serving.proofs.Working.{given_one, given_none, asked_one, part_none}
+use Rattle.serving.proofs.Turns.{heard_some, heard_later, heard_cut, heard_none}
 use Rattle.serving.proofs.turn.read_once.Goals as goal
 
 pub returns-in-Count-clause-serves : goal.returns-in-Count-clause-serves
@@ -90,4 +95,58 @@ returns-in-End-clause-serves g c = λ seats these has before T beside s clean.
       seated = subst (λ m. AreSeated s.owner (trace_of T.base ((event.Gone connection, m) ∷ s.log)) seats these) (sym k.1)
           (seated_one s.owner T.base s.log seats these ((event.Gone connection, Tagged k.0) ∷ s.log) c.args.seat before (fewer_framed T.base s.log connection ((event.Gone connection, Tagged k.0) ∷ s.log) here (frame_gone T.base s.log connection k.0)) (frame_gone T.base s.log connection k.0) s.seated);
       adds = adds_one s.owner T.base T.log s.log beside s.told.accepted (event.Gone connection) (mark_of o) (number, at_k) (λ l Before h. h) (λ l. refl) s.adds;
+    })
+
+pub returns-then-not-ready-clause-works : goal.returns-then-not-ready-clause-works
+returns-then-not-ready-clause-works g c = λ wait may.
+    (let o = c.args.office.now in
+    let seat = c.args.seat in
+    let no : c.ready.result ≡ false = search rules in
+    part_none g.V.Vault.holds g.V.Vault.is_clean g.V.Vault.faults g.W.Wire.asked o c.args.wire.now _
+    (heard_none g.V.Vault.holds g.V.Vault.is_clean g.V.Vault.faults wait may o seat (λ B L s. sym (c.ready.ensures (trace_of B L) s) ∙ no)))
+
+pub returns-in-Count-clause-works : goal.returns-in-Count-clause-works
+returns-in-Count-clause-works g c = λ wait may.
+    (let Holds = g.V.Vault.holds in
+    let o = c.args.office.now in
+    let seat = c.args.seat in
+    let n = c.in-Count.count in
+    let piece = take n c.read.new.buffer in
+    let m = mark_of (outcome_seen c.step.result) in
+    record {
+      given = (event.Bytes seat.connection piece, m) ∷ [];
+      calls = Read Pop seat.link (Count n) piece ∷ [];
+      was_given = given_one Holds g.V.Vault.is_clean g.V.Vault.faults o c.step.new.self (event.Bytes seat.connection piece) (outcome_seen c.step.result) c.step.ensures.clean c.step.ensures.stands c.step.ensures.admitted c.step.ensures.counted c.step.ensures.cause;
+      was_asked = asked_one g.W.Wire.asked c.args.wire.now c.read.new.self (Read Pop seat.link (Count n) piece) c.in-Count.ensures.called;
+      facts = heard_some Holds g.V.Vault.is_clean g.V.Vault.faults wait may o seat (Count n) piece piece m;
+    })
+
+pub returns-in-Later-clause-works : goal.returns-in-Later-clause-works
+returns-in-Later-clause-works g c = λ wait may.
+    (let o = c.args.office.now in
+    let seat = c.args.seat in
+    record {
+      given = [];
+      calls = Read Pop seat.link Later [] ∷ [];
+      was_given = given_none g.V.Vault.holds g.V.Vault.is_clean g.V.Vault.faults o;
+      was_asked = asked_one g.W.Wire.asked c.args.wire.now c.read.new.self (Read Pop seat.link Later []) c.in-Later.ensures.called;
+      facts = heard_later g.V.Vault.holds g.V.Vault.is_clean g.V.Vault.faults wait may o seat Later [];
+    })
+
+pub returns-in-End-clause-works : goal.returns-in-End-clause-works
+returns-in-End-clause-works g c = λ wait may.
+    (let Holds = g.V.Vault.holds in
+    let office = c.args.office.now in
+    let seat = c.args.seat in
+    let connection = seat.connection in
+    let m = mark_of (outcome_seen c.step-in-End.result) in
+    let io = c.read.result in
+    let octets = counted io c.read.new.buffer in
+    let fault : is_fault io ≡ true = search rules in
+    record {
+      given = (event.Gone connection, m) ∷ [];
+      calls = Read Pop seat.link io octets ∷ [];
+      was_given = given_one Holds g.V.Vault.is_clean g.V.Vault.faults office c.step-in-End.new.self (event.Gone connection) (outcome_seen c.step-in-End.result) c.step-in-End.ensures.clean c.step-in-End.ensures.stands c.step-in-End.ensures.admitted c.step-in-End.ensures.counted c.step-in-End.ensures.cause;
+      was_asked = asked_one g.W.Wire.asked c.args.wire.now c.read.new.self (Read Pop seat.link io octets) c.read.ensures.called;
+      facts = heard_cut Holds g.V.Vault.is_clean g.V.Vault.faults wait may office seat io octets m fault;
     })

@@ -6,12 +6,18 @@ use Rattle.office.specs.Outcomes.{mark_of}
 use Rattle.office.specs.Stands.{lent_by}
 use Rattle.office.specs.Taken.{trace_of}
 use Rattle.serving.specs.declared.wire.Io.TheVariants.{Count, Later}
-use Rattle.serving.specs.Wires.{is_fault, has_written}
+use Rattle.serving.specs.Wires.{is_fault, has_written, counted}
 use Rattle.serving.specs.Served.{AreServed, AreSeated}
 use Rattle.serving.proofs.Marks.{took_mark, gone_mark, lent_rest, lent_open, lent_some}
 use Rattle.serving.proofs.Staying.{fewer_framed, frame_took, frame_gone}
 use Rattle.serving.proofs.Seating.{seat_owns, seated_one}
 use Rattle.serving.proofs.Keeping.{served_written, served_written_none, served_written_fault, fault_none, adds_one}
+use Rattle.office.specs.Trace.{rest, is_open}
+use Rattle.serving.specs.declared.wire.Port.TheVariants.{Pop}
+use Rattle.serving.specs.Calls.{Wrote}
+use Rattle.serving.proofs.Staying.{gone_so}
+use Rattle.serving.proofs.Working.{given_one, given_none, asked_one, part_none, nothing_left}
+use Rattle.serving.proofs.Turns.{wrote_some, wrote_later, wrote_cut, wrote_none, shut_rest}
 use Rattle.serving.proofs.turn.write_once.Goals as goal
 
 pub returns-in-Count-clause-serves : goal.returns-in-Count-clause-serves
@@ -90,3 +96,68 @@ returns-in-End-clause-serves g c = λ seats these has before T beside s clean.
           (seated_one s.owner T.base s.log seats these ((event.Gone connection, Tagged k.0) ∷ s.log) c.args.seat before (fewer_framed T.base s.log connection ((event.Gone connection, Tagged k.0) ∷ s.log) here (frame_gone T.base s.log connection k.0)) (frame_gone T.base s.log connection k.0) s.seated);
       adds = adds_one s.owner T.base T.log s.log beside s.told.accepted (event.Gone connection) (mark_of o) (number, at_k) (λ l Before h. h) (λ l. refl) s.adds;
     })
+
+pub returns-then-is_empty-clause-works : goal.returns-then-is_empty-clause-works
+returns-then-is_empty-clause-works g c =
+    let Holds = g.V.Vault.holds in
+    let o = c.args.office.now in
+    let seat = c.args.seat in
+    let e : c.is_empty.result ≡ true = search rules in
+    part_none Holds g.V.Vault.is_clean g.V.Vault.faults g.W.Wire.asked o c.args.wire.now _
+    (wrote_none Holds g.V.Vault.is_clean g.V.Vault.faults o seat
+    (λ B L s k. nothing_left (rest (trace_of B L) seat.connection) (length c.owed-lent.result.now) c.is_empty.result (c.owed-lent.ensures.exact (trace_of B L) s) c.is_empty.ensures e))
+
+pub returns-in-Count-clause-works : goal.returns-in-Count-clause-works
+returns-in-Count-clause-works g c =
+    let Holds = g.V.Vault.holds in
+    let o = c.args.office.now in
+    let seat = c.args.seat in
+    let n = c.in-Count.count in
+    let lent = c.owed-lent.result.now in
+    let m = mark_of (outcome_seen c.step.result) in
+    record {
+      given = (event.Took seat.connection n, m) ∷ [];
+      calls = Wrote Pop seat.link (Count n) (take n lent) ∷ [];
+      was_given = given_one Holds g.V.Vault.is_clean g.V.Vault.faults o c.step.new.self (event.Took seat.connection n) (outcome_seen c.step.result) c.step.ensures.clean c.step.ensures.stands c.step.ensures.admitted c.step.ensures.counted c.step.ensures.cause;
+      was_asked = asked_one g.W.Wire.asked c.args.wire.now c.write.new.self (Wrote Pop seat.link (Count n) (take n lent)) c.in-Count.ensures.called;
+      facts = wrote_some Holds g.V.Vault.is_clean g.V.Vault.faults o c.step.new.self seat n (take n lent) m c.in-Count.ensures.within.0;
+    }
+
+pub returns-in-Later-clause-works : goal.returns-in-Later-clause-works
+returns-in-Later-clause-works g c =
+    let o = c.args.office.now in
+    let seat = c.args.seat in
+    record {
+      given = [];
+      calls = Wrote Pop seat.link Later [] ∷ [];
+      was_given = given_none g.V.Vault.holds g.V.Vault.is_clean g.V.Vault.faults o;
+      was_asked = asked_one g.W.Wire.asked c.args.wire.now c.write.new.self (Wrote Pop seat.link Later []) c.in-Later.ensures.called;
+      facts = wrote_later g.V.Vault.holds g.V.Vault.is_clean g.V.Vault.faults o seat [];
+    }
+
+pub returns-in-End-clause-works : goal.returns-in-End-clause-works
+returns-in-End-clause-works g c =
+    let Holds = g.V.Vault.holds in
+    let office = c.args.office.now in
+    let seat = c.args.seat in
+    let connection = seat.connection in
+    let o = outcome_seen c.step-in-End.result in
+    let io = c.write.result in
+    let lent = c.owed-lent.result.now in
+    let fault : is_fault io ≡ true = search rules in
+    let no : c.is_empty.result ≡ false = search rules in
+    let some = lent_some c.is_empty.result (length lent) c.is_empty.ensures no in
+    let octets = counted io lent in
+    record {
+      given = (event.Gone connection, mark_of o) ∷ [];
+      calls = Wrote Pop seat.link io octets ∷ [];
+      was_given = given_one Holds g.V.Vault.is_clean g.V.Vault.faults office c.step-in-End.new.self (event.Gone connection) (outcome_seen c.step-in-End.result) c.step-in-End.ensures.clean c.step-in-End.ensures.stands c.step-in-End.ensures.admitted c.step-in-End.ensures.counted c.step-in-End.ensures.cause;
+      was_asked = asked_one g.W.Wire.asked c.args.wire.now c.write.new.self (Wrote Pop seat.link io octets) c.write.ensures.called;
+      facts = wrote_cut Holds g.V.Vault.is_clean g.V.Vault.faults office c.step-in-End.new.self seat io octets (mark_of o) fault
+          (λ B L s k.
+          (let now = trace_of B L in
+          let here = lent_open now connection (length lent) lent (c.owed-lent.ensures.lent now s) some (omega arith) in
+          let t = gone_mark now (lent_by office) connection o here (c.step-in-End.ensures.outcome now s k) in
+          shut_rest (trace_of B ((event.Gone connection, mark_of o) ∷ L)) connection
+          (subst (λ m. is_open (trace_of B ((event.Gone connection, m) ∷ L)) connection ≡ false) (sym t.1) (gone_so B L connection t.0))));
+    }

@@ -1,0 +1,299 @@
+-- What the parts of a turn do together.
+use Rattle.std.proofs.Common.{◌≡◌, ℕ, zero, suc, ◌+◌, ◌<◌, ◌≤◌, Bool, true, false, not, List, [], ◌∷◌, ◌++◌, length, map, refl, sym, ◌∙◌, ap, arith, Some, None, Option, ⊎_elim, ◌⊎◌, inl, inr, subst, append_assoc}
+use Rattle.std.specs.Bool.{⊤}
+use Rattle.std.specs.List.{All, Contains, list_any, filter, filter_map}
+use Rattle.std.proofs.lemmas.List.{append-nil}
+use Rattle.std.proofs.lemmas.List.Elements.{All-nil, All-cons, All-head, All-tail, All-append, All-weaker, filter_map-append, filter_agree}
+use Rattle.vault.specs.Records.{Records}
+use Rattle.vault.specs.Changes.{Contents}
+use Rattle.office.specs.Events.{Event, Mark, Tagged, Ignored, Log, Trace}
+use Rattle.office.specs.Events as event
+use Rattle.office.specs.Trace.{is_open}
+use Rattle.office.specs.Taken.{trace_of}
+use Rattle.office.specs.Stands.{StandsFor, vault_of}
+use Rattle.office.specs.declared.office.Office.{Office}
+use Rattle.serving.specs.declared.wire.Link.{Link}
+use Rattle.serving.specs.Calls.{Call, Waited}
+use Rattle.serving.specs.declared.links.Seat.{Seat}
+use Rattle.serving.specs.declared.links.Links.{Links}
+use Rattle.serving.specs.declared.newcomers.Newcomer.{Newcomer}
+use Rattle.serving.specs.Works.{waits, wait_of, arrivals, arrival_of, closings, closing_of, none_waited, tells_none, is_cut_of, is_cut, moments, moment_of, openings, is_opening, refusals, is_refusal, HasCause, AreCaused, WasGiven, WasAsked, Part, Asking, Giving, IsQuiet, IsQuietFor, IsPassed, Came, seat_of, unseated_of, link_of, HasAccepted, AreAccepted, most_links, HadTurn, HadTurns, AreDeposits, is_open_seat, is_shut_seat, closing, AreClosed, link_of_seat, IsLateGone, AreLateGone}
+use Rattle.serving.specs.Spools.{FileCall}
+use Rattle.serving.specs.Settings.{last_tried}
+use Rattle.serving.specs.SpoolTurns.{IsSpoolTurn, SpoolPart}
+use Rattle.serving.specs.Turns.{way_of, millis_of, HasCauseInTurn, IsTurn, Works}
+use Rattle.serving.proofs.Staying.{Fewer, deposit_same}
+use Rattle.serving.proofs.Working.{given_then, asked_then, count_joined, any_left, any_right, quiet_none, caused_more, fewer_quiet, fewer_gone, none_joined, turned_left, turned_right}
+
+-- ---- deposits
+
+pub deposits_quiet : (given : Log) → AreDeposits given → IsQuietFor [] given []
+deposits_quiet [] a = record { quiet = quiet_none; caused = All-nil (HasCause [] []) }
+deposits_quiet ((event.Deposit d class id text, m) ∷ given) a =
+    let k = deposits_quiet given a in
+    record {
+      quiet = record { no_moments = k.quiet.no_moments; no_openings = k.quiet.no_openings; no_refusals = k.quiet.no_refusals; no_waits = refl; no_arrivals = refl; no_closings = refl };
+      caused = All-cons (HasCause [] []) (event.Deposit d class id text, m) given tt k.caused;
+    }
+deposits_quiet ((event.Start host boot idle, m) ∷ given) a = absurd a
+deposits_quiet ((event.Connect, m) ∷ given) a = absurd a
+deposits_quiet ((event.Bytes c piece, m) ∷ given) a = absurd a
+deposits_quiet ((event.Took c n, m) ∷ given) a = absurd a
+deposits_quiet ((event.Gone c, m) ∷ given) a = absurd a
+deposits_quiet ((event.Tick now, m) ∷ given) a = absurd a
+deposits_quiet ((event.Admin command, m) ∷ given) a = absurd a
+deposits_quiet ((event.Restart boot, m) ∷ given) a = absurd a
+
+same_one : (B : Records) (L : Log) (d class id text : List ℕ) (m : Mark) (c : ℕ) → is_open (trace_of B ((event.Deposit d class id text, m) ∷ L)) c ≡ is_open (trace_of B L) c
+same_one B L d class id text Ignored c = refl
+same_one B L d class id text (Tagged t) c = deposit_same B L d class id text t c
+
+pub same_open : (B : Records) (L given : Log) → AreDeposits given → (c : ℕ) → is_open (trace_of B (given ++ L)) c ≡ is_open (trace_of B L) c
+same_open B L [] a c = refl
+same_open B L ((event.Deposit d class id text, m) ∷ given) a c = same_one B (given ++ L) d class id text m c ∙ same_open B L given a c
+same_open B L ((event.Start host boot idle, m) ∷ given) a c = absurd a
+same_open B L ((event.Connect, m) ∷ given) a c = absurd a
+same_open B L ((event.Bytes n piece, m) ∷ given) a c = absurd a
+same_open B L ((event.Took n k, m) ∷ given) a c = absurd a
+same_open B L ((event.Gone n, m) ∷ given) a c = absurd a
+same_open B L ((event.Tick now, m) ∷ given) a c = absurd a
+same_open B L ((event.Admin command, m) ∷ given) a c = absurd a
+same_open B L ((event.Restart boot, m) ∷ given) a c = absurd a
+
+-- ---- clients that are late
+
+pub late_quiet : (now seconds : ℕ) (newcomers : List Newcomer) (given : Log) → AreLateGone now seconds newcomers given → IsQuiet given []
+late_quiet now seconds newcomers [] a = quiet_none
+late_quiet now seconds newcomers ((event.Gone c, m) ∷ given) a =
+    let k = late_quiet now seconds newcomers given (All-tail (IsLateGone now seconds newcomers) (event.Gone c, m) given a) in
+    record { no_moments = k.no_moments; no_openings = k.no_openings; no_refusals = k.no_refusals; no_waits = refl; no_arrivals = refl; no_closings = refl }
+late_quiet now seconds newcomers ((event.Start host boot idle, m) ∷ given) a = absurd (All-head (IsLateGone now seconds newcomers) (event.Start host boot idle, m) given a)
+late_quiet now seconds newcomers ((event.Connect, m) ∷ given) a = absurd (All-head (IsLateGone now seconds newcomers) (event.Connect, m) given a)
+late_quiet now seconds newcomers ((event.Bytes c piece, m) ∷ given) a = absurd (All-head (IsLateGone now seconds newcomers) (event.Bytes c piece, m) given a)
+late_quiet now seconds newcomers ((event.Took c n, m) ∷ given) a = absurd (All-head (IsLateGone now seconds newcomers) (event.Took c n, m) given a)
+late_quiet now seconds newcomers ((event.Tick moment, m) ∷ given) a = absurd (All-head (IsLateGone now seconds newcomers) (event.Tick moment, m) given a)
+late_quiet now seconds newcomers ((event.Deposit d class id text, m) ∷ given) a = absurd (All-head (IsLateGone now seconds newcomers) (event.Deposit d class id text, m) given a)
+late_quiet now seconds newcomers ((event.Admin command, m) ∷ given) a = absurd (All-head (IsLateGone now seconds newcomers) (event.Admin command, m) given a)
+late_quiet now seconds newcomers ((event.Restart boot, m) ∷ given) a = absurd (All-head (IsLateGone now seconds newcomers) (event.Restart boot, m) given a)
+
+-- ---- lists
+
+only_first : {A C : Type 0} (h : A → Option C) (xs ys : List A) → filter_map h ys ≡ [] → filter_map h (xs ++ ys) ≡ filter_map h xs
+only_first h xs ys e = filter_map-append h xs ys ∙ (ap (λ zs. filter_map h xs ++ zs) e ∙ append-nil (filter_map h xs))
+
+only_last : {A C : Type 0} (h : A → Option C) (xs ys : List A) → filter_map h xs ≡ [] → filter_map h (xs ++ ys) ≡ filter_map h ys
+only_last h xs ys e = filter_map-append h xs ys ∙ ap (λ zs. zs ++ filter_map h ys) e
+
+closings_of : (seats : List Seat) → closings (map closing seats) ≡ map link_of_seat seats
+closings_of [] = refl
+closings_of (s ∷ seats) = ap (λ xs. s.link ∷ xs) (closings_of seats)
+
+waits_of : (seats : List Seat) → waits (map closing seats) ≡ []
+waits_of [] = refl
+waits_of (s ∷ seats) = waits_of seats
+
+arrivals_of : (seats : List Seat) → arrivals (map closing seats) ≡ []
+arrivals_of [] = refl
+arrivals_of (s ∷ seats) = arrivals_of seats
+
+none_contained : (s : Seat) → Contains [] s → ⊥
+none_contained s (k, w, is) = omega (arith, w)
+
+-- ---- six parts of calls
+
+module _ (cp ca cq cl cr cx : List Call) where
+  -- all calls of a turn
+  pub all_calls : List Call
+  all_calls = ((((cp ++ ca) ++ cq) ++ cl) ++ cr) ++ cx
+
+  seen_first : {C : Type 0} (h : Call → Option C) → filter_map h cq ≡ [] → filter_map h cl ≡ [] → filter_map h cr ≡ [] → filter_map h ((((cp ++ ca) ++ cq) ++ cl) ++ cr) ≡ filter_map h (cp ++ ca)
+  seen_first h q l r = only_first h (((cp ++ ca) ++ cq) ++ cl) cr r ∙ (only_first h ((cp ++ ca) ++ cq) cl l ∙ only_first h (cp ++ ca) cq q)
+
+  seen_second : (p : Call → Bool) → list_any p ca ≡ true → list_any p (((((cp ++ ca) ++ cq) ++ cl) ++ cr) ++ cx) ≡ true
+  seen_second p h =
+      any_left p ((((cp ++ ca) ++ cq) ++ cl) ++ cr) cx (any_left p (((cp ++ ca) ++ cq) ++ cl) cr (any_left p ((cp ++ ca) ++ cq) cl (any_left p (cp ++ ca) cq (any_right p cp ca h))))
+
+  seen_fourth : (p : Call → Bool) → list_any p cl ≡ true → list_any p (((((cp ++ ca) ++ cq) ++ cl) ++ cr) ++ cx) ≡ true
+  seen_fourth p h = any_left p ((((cp ++ ca) ++ cq) ++ cl) ++ cr) cx (any_left p (((cp ++ ca) ++ cq) ++ cl) cr (any_right p ((cp ++ ca) ++ cq) cl h))
+
+  seen_fifth : (p : Call → Bool) → list_any p cr ≡ true → list_any p (((((cp ++ ca) ++ cq) ++ cl) ++ cr) ++ cx) ≡ true
+  seen_fifth p h = any_left p ((((cp ++ ca) ++ cq) ++ cl) ++ cr) cx (any_right p (((cp ++ ca) ++ cq) ++ cl) cr h)
+
+accepted_so : {V : Type 0} (Holds : V → Contents → Type 0) (IsClean : V → Type 0) (Faults : V → ℕ) (o o1 : Office V) (seats seats1 : List Seat) (goes : Bool) (g : Log) (c all : List Call)
+    → (list_any tells_none c ≡ true → list_any tells_none all ≡ true) → (a : AreAccepted Holds IsClean o o1 seats seats1 64 goes g c) → HasAccepted (length seats1) all ⊎ (most_links ≤ length a.came)
+accepted_so Holds IsClean Faults o o1 seats seats1 true g c all more a = inr (a.enough refl)
+accepted_so Holds IsClean Faults o o1 seats seats1 false g c all more a =
+    ⊎_elim
+    (λ (none : none_waited c ≡ true). inl (inl (more none)))
+    (λ (full : length seats1 ≡ 128). inl (inr full))
+    (a.all refl)
+
+-- ---- the turn
+
+module _ {V W S : Type 0} (Holds : V → Contents → Type 0) (IsClean : V → Type 0) (Faults : V → ℕ) (Asked : W → List Call → Type 0) (AskedFiles : S → List FileCall → Type 0) where
+  pub turn_done : (T : Trace) (now : ℕ) (links links_then : Links) (o o1 o2 o3 o4 o5 o6 : Office V) (w w1 w2 w3 w4 w5 w6 : W) (f f1 : S) (seats2 : List Seat) (goes : Bool)
+      → Part Holds IsClean Faults Asked o w o1 w1 (IsPassed (millis_of links) now)
+      → Part Holds IsClean Faults Asked o1 w1 o2 w2 (AreAccepted Holds IsClean o1 o2 links.clients.seats.items seats2 64 goes)
+      → Asking Asked w2 w3 (IsQuiet [])
+      → Part Holds IsClean Faults Asked o2 w3 o3 w4 (HadTurns Holds IsClean o2 o3 (way_of links (length seats2)) seats2 seats2)
+      → Part Holds IsClean Faults Asked o3 w4 o4 w5 (IsQuietFor [])
+      → Giving Holds IsClean Faults o4 o5 (AreLateGone now links.clients.newcomers.seconds links.clients.newcomers.newcomers.items)
+      → ((U : Trace) → StandsFor Holds o5 U → Asking Asked w5 w6 (AreClosed U seats2 links_then.clients.seats.items))
+      → SpoolPart Holds IsClean Faults AskedFiles o5 f o6 f1 (IsSpoolTurn (last_tried links) (last_tried links_then))
+      → StandsFor Holds o T → IsClean (vault_of o6) → Works Holds Faults Asked AskedFiles T now links o w f o6 links_then w6 f1
+  turn_done T now links links_then o o1 o2 o3 o4 o5 o6 w w1 w2 w3 w4 w5 w6 f f1 seats2 goes pass acc asked served reqs late close spool s k6 =
+      let B = T.base in
+      let L = T.log in
+      let seconds = links.clients.newcomers.seconds in
+      let newcomers = links.clients.newcomers.newcomers.items in
+      let millis = millis_of links in
+      let way = way_of links (length seats2) in
+      let gp = pass.given in
+      let ga = acc.given in
+      let gl = served.given in
+      let gr = reqs.given in
+      let gz = late.given in
+      let gs = spool.given in
+      let gx : Log = gs ++ gz in
+      let G1 : Log = ga ++ gp in
+      let G2 : Log = gl ++ G1 in
+      let G3 : Log = gr ++ G2 in
+      let G4 : Log = gx ++ G3 in
+      let u1 = given_then Holds IsClean Faults o o1 o2 gp ga pass.was_given acc.was_given in
+      let u2 = given_then Holds IsClean Faults o o2 o3 G1 gl u1 served.was_given in
+      let u3 = given_then Holds IsClean Faults o o3 o4 G2 gr u2 reqs.was_given in
+      let ux = given_then Holds IsClean Faults o4 o5 o6 gz gs late.was_given spool.was_given in
+      let u4 = given_then Holds IsClean Faults o o4 o6 G3 gx u3 ux in
+      let k5 = spool.was_given.clean k6 in
+      let k4 = late.was_given.clean k5 in
+      let k3 = reqs.was_given.clean k4 in
+      let k2 = served.was_given.clean k3 in
+      let k1 = acc.was_given.clean k2 in
+      let s1 = pass.was_given.stands B L s k1 in
+      let s2 = u1.stands B L s k2 in
+      let s3 = u2.stands B L s k3 in
+      let s4 = u3.stands B L s k4 in
+      let s5 = late.was_given.stands B (G3 ++ L) s4 k5 in
+      let T4 : Trace = trace_of B (gz ++ (G3 ++ L)) in
+      let after : Trace = trace_of B (G4 ++ L) in
+      let x = close T4 s5 in
+      let cp = pass.calls in
+      let ca = acc.calls in
+      let cq = asked.calls in
+      let cl = served.calls in
+      let cr = reqs.calls in
+      let cx = x.calls in
+      let C5 : List Call = ((((cp ++ ca) ++ cq) ++ cl) ++ cr) ++ cx in
+      let come = acc.facts.come in
+      let came = acc.facts.came in
+      let quiet = deposits_quiet gs spool.deposits in
+      let hush = late_quiet now seconds newcomers gz late.facts in
+      let log_is : G4 ++ L ≡ gs ++ (gz ++ (G3 ++ L)) = append_assoc gx G3 L ∙ append_assoc gs gz (G3 ++ L) in
+      let same : (c : ℕ) → is_open after c ≡ is_open T4 c = λ c. ap (λ l. is_open (trace_of B l) c) log_is ∙ same_open B (gz ++ (G3 ++ L)) gs spool.deposits c in
+      let fewer_late : Fewer B (G3 ++ L) (gz ++ (G3 ++ L)) = fewer_gone B (G3 ++ L) gz now seconds newcomers (late.was_given.admitted B (G3 ++ L) s4 k5) late.facts in
+      let fewer : Fewer B (G2 ++ L) (gr ++ (G2 ++ L)) = fewer_quiet B (G2 ++ L) gr [] cr (reqs.was_given.admitted B (G2 ++ L) s3 k4) reqs.facts.caused reqs.facts.quiet.no_openings in
+      let to_links : (c : ℕ) → is_open after c ≡ true → is_open (trace_of B (gl ++ (G1 ++ L))) c ≡ true = λ c here.
+      (let h4 : is_open T4 c ≡ true = sym (same c) ∙ here in
+      let h3 : is_open (trace_of B (G3 ++ L)) c ≡ true = fewer_late c h4 in
+      let h2 : is_open (trace_of B (G2 ++ L)) c ≡ true = fewer c (subst (λ l. is_open (trace_of B l) c ≡ true) (append_assoc gr G2 L) h3) in
+      subst (λ l. is_open (trace_of B l) c ≡ true) (append_assoc gl G1 L) h2) in
+      let cut : (l : Link) → is_cut l cl ≡ true → is_cut l C5 ≡ true = λ l h. seen_fourth cp ca cq cl cr cx (is_cut_of l) h in
+      let none : (q : Seat) → Contains [] q → Contains seats2 q = λ q h. absurd (none_contained q h) in
+      let caused_s : AreCaused seats2 C5 gs = caused_more [] seats2 [] C5 gs none (λ l h. cc) quiet.caused in
+      let caused_r : AreCaused seats2 C5 gr = caused_more [] seats2 cr C5 gr none (λ l h. seen_fifth cp ca cq cl cr cx (is_cut_of l) h) reqs.facts.caused in
+      let caused_l : AreCaused seats2 C5 gl = caused_more seats2 seats2 cl C5 gl (λ q h. h) cut served.facts.of_seats.caused in
+      let caused_a : AreCaused seats2 C5 ga = caused_more [] seats2 ca C5 ga none (λ l h. seen_second cp ca cq cl cr cx (is_cut_of l) h) come.caused in
+      let caused_p : AreCaused seats2 C5 gp = subst (AreCaused seats2 C5) (sym pass.facts.given_is) (All-cons (HasCause seats2 C5) (event.Tick now, pass.facts.mark) [] tt (All-nil (HasCause seats2 C5))) in
+      let P = HasCause seats2 C5 in
+      let Q = HasCauseInTurn now links seats2 C5 in
+      let by_cause : (g : Log) → All P g → All Q g = λ g h. All-weaker P Q (λ y p. inl p) g h in
+      let caused_z : All Q gz = All-weaker (IsLateGone now seconds newcomers) Q (λ y p. inr p) gz late.facts in
+      let lq = served.facts.of_seats.quiet in
+      let rq = reqs.facts.quiet in
+      let waits_x : waits cx ≡ [] = ap waits x.facts.calls_are ∙ waits_of (filter (is_shut_seat T4) seats2) in
+      let arrivals_x : arrivals cx ≡ [] = ap arrivals x.facts.calls_are ∙ arrivals_of (filter (is_shut_seat T4) seats2) in
+      let closings_x : closings cx ≡ map link_of_seat (filter (is_shut_seat T4) seats2) = ap closings x.facts.calls_are ∙ closings_of (filter (is_shut_seat T4) seats2) in
+      let waits_p : waits cp ≡ millis ∷ [] = ap waits pass.facts.calls_are in
+      let arrivals_p : arrivals cp ≡ [] = ap arrivals pass.facts.calls_are in
+      let closings_p : closings cp ≡ [] = ap closings pass.facts.calls_are in
+      let moments_p : moments gp ≡ now ∷ [] = ap moments pass.facts.given_is in
+      let openings_p : openings gp ≡ 0 = ap openings pass.facts.given_is in
+      let refusals_p : refusals gp ≡ 0 = ap refusals pass.facts.given_is in
+      let shut_same : filter (is_shut_seat T4) seats2 ≡ filter (is_shut_seat after) seats2 = filter_agree (is_shut_seat T4) (is_shut_seat after) (λ q. ap not (sym (same q.connection))) seats2 in
+      let open_same : filter (is_open_seat T4) seats2 ≡ filter (is_open_seat after) seats2 = filter_agree (is_open_seat T4) (is_open_seat after) (λ q. sym (same q.connection)) seats2 in
+      record {
+        given = G4;
+        calls = C5;
+        file_calls = spool.calls;
+        came = came;
+        seats = seats2;
+        stands = u4.stands B L s k6;
+        failed = u4.failed B L s k6;
+        asked =
+            asked_then Asked w w5 w6 ((((cp ++ ca) ++ cq) ++ cl) ++ cr) cx
+            (asked_then Asked w w4 w5 (((cp ++ ca) ++ cq) ++ cl) cr
+            (asked_then Asked w w3 w4 ((cp ++ ca) ++ cq) cl
+            (asked_then Asked w w2 w3 (cp ++ ca) cq (asked_then Asked w w1 w2 cp ca pass.was_asked acc.was_asked) asked.was_asked) served.was_asked) reqs.was_asked) x.was_asked;
+        asked_files = spool.was_asked;
+        files = record {
+          deposits = gs;
+          earlier = gz ++ G3;
+          is = append_assoc gs gz G3;
+          tries = spool.facts (trace_of B ((gz ++ G3) ++ L)) (subst (λ l. StandsFor Holds o5 (trace_of B l)) (sym (append_assoc gz G3 L)) s5) k6;
+        };
+        is = record {
+          seats_are = come.seated;
+          admitted = u4.admitted B L s k6;
+          waited = only_first _ ((((cp ++ ca) ++ cq) ++ cl) ++ cr) cx waits_x
+              ∙ (seen_first cp ca cq cl cr cx wait_of asked.facts.no_waits lq.no_waits rq.no_waits ∙ (only_first wait_of cp ca come.no_waits ∙ waits_p));
+          waited_first = (((((ca ++ cq) ++ cl) ++ cr) ++ cx), ap (λ p. ((((p ++ ca) ++ cq) ++ cl) ++ cr) ++ cx) pass.facts.calls_are);
+          told_first = (
+            gx ++ (gr ++ (gl ++ ga)),
+            pass.facts.mark,
+            ap (λ p. gx ++ (gr ++ (gl ++ (ga ++ p)))) pass.facts.given_is
+                ∙ (ap (λ g. gx ++ (gr ++ g)) (sym (append_assoc gl ga ((event.Tick now, pass.facts.mark) ∷ [])))
+                ∙ (ap (λ g. gx ++ g) (sym (append_assoc gr (gl ++ ga) ((event.Tick now, pass.facts.mark) ∷ [])))
+                ∙ sym (append_assoc gx (gr ++ (gl ++ ga)) ((event.Tick now, pass.facts.mark) ∷ [])))),
+          );
+          told = only_last moment_of gx G3 (none_joined moment_of gs gz quiet.quiet.no_moments hush.no_moments)
+              ∙ (only_last moment_of gr G2 rq.no_moments ∙ (only_last moment_of gl G1 lq.no_moments ∙ (only_last moment_of ga gp come.no_moments ∙ moments_p)));
+          accepted = accepted_so Holds IsClean Faults o1 o2 links.clients.seats.items seats2 goes ga ca C5 (seen_second cp ca cq cl cr cx tells_none) acc.facts;
+          arrived = only_first _ ((((cp ++ ca) ++ cq) ++ cl) ++ cr) cx arrivals_x
+              ∙ (seen_first cp ca cq cl cr cx arrival_of asked.facts.no_arrivals lq.no_arrivals rq.no_arrivals ∙ (only_last arrival_of cp ca arrivals_p ∙ come.arrived));
+          opened =
+              (let e5 = count_joined is_opening gs gz in
+              let e4 = count_joined is_opening gx G3 in
+              let e3 = count_joined is_opening gr G2 in
+              let e2 = count_joined is_opening gl G1 in
+              let e1 = count_joined is_opening ga gp in
+              let a = come.opened in
+              let b = quiet.quiet.no_openings in
+              let z = hush.no_openings in
+              let d = rq.no_openings in
+              let f = lq.no_openings in
+              omega (arith, e5, e4, e3, e2, e1, a, b, z, d, f, openings_p));
+          refused =
+              (let e5 = count_joined is_refusal gs gz in
+              let e4 = count_joined is_refusal gx G3 in
+              let e3 = count_joined is_refusal gr G2 in
+              let e2 = count_joined is_refusal gl G1 in
+              let e1 = count_joined is_refusal ga gp in
+              let a = come.refused (trace_of B (gp ++ L)) s1 k2 in
+              let b = quiet.quiet.no_refusals in
+              let z = hush.no_refusals in
+              let d = rq.no_refusals in
+              let f = lq.no_refusals in
+              omega (arith, e5, e4, e3, e2, e1, a, b, z, d, f, refusals_p));
+          turns = All-weaker (HadTurn way B (G1 ++ L) gl (trace_of B (gl ++ (G1 ++ L))) cl) (HadTurn way B L G4 after C5)
+              (λ q h here.
+              turned_left way B L G3 gx ((((cp ++ ca) ++ cq) ++ cl) ++ cr) cx q
+              (turned_left way B L G2 gr (((cp ++ ca) ++ cq) ++ cl) cr q (turned_right way B L G1 gl ((cp ++ ca) ++ cq) cl q (h (to_links q.connection here)))))
+              seats2 (served.facts.turns B (G1 ++ L) s2 k3);
+          caused = All-append Q gx G3 (All-append Q gs gz (by_cause gs caused_s) caused_z)
+              (All-append Q gr G2 (by_cause gr caused_r) (All-append Q gl G1 (by_cause gl caused_l) (All-append Q ga gp (by_cause ga caused_a) (by_cause gp caused_p))));
+          closed = filter_map-append closing_of ((((cp ++ ca) ++ cq) ++ cl) ++ cr) cx
+              ∙ (ap (λ zs. zs ++ closings cx) (seen_first cp ca cq cl cr cx closing_of asked.facts.no_closings lq.no_closings rq.no_closings ∙ (only_last closing_of cp ca closings_p ∙ come.closed))
+              ∙ ap (λ zs. filter_map unseated_of came ++ zs) (closings_x ∙ ap (map link_of_seat) shut_same));
+          left = x.facts.left ∙ open_same;
+        };
+      }

@@ -1,0 +1,360 @@
+-- What each part of a turn does, and what they do together.
+use Rattle.std.proofs.Common.{◌≡◌, ℕ, zero, suc, ◌+◌, ◌<◌, ◌≤◌, Bool, true, false, not, ◌&&◌, ◌||◌, ◌==◌, List, [], ◌∷◌, ◌++◌, length, take, drop, map, get_or, refl, sym, ◌∙◌, ap, arith, Some, None, Option, ⊎_elim, ◌⊎◌, inl, inr, subst, true≢false, append_assoc, length-append, eq-eqb, eqb-true}
+use Rattle.std.specs.Bool.{⊤, if◌then◌else◌}
+use Rattle.std.specs.List.{All, Contains, list_any, filter, filter_map, remove}
+use Rattle.std.proofs.lemmas.Bool.{cases_Bool}
+use Rattle.std.proofs.lemmas.List.{append-nil, map-append}
+use Rattle.std.proofs.lemmas.List.Elements.{All-nil, All-cons, All-head, All-append, All-weaker, All-more, filter_map-append, filter-append, Contains-append_left, Contains-append_right}
+use Rattle.vault.specs.Records.{Records}
+use Rattle.vault.specs.Changes.{Contents}
+use Rattle.office.specs.History.{Tag, Done}
+use Rattle.office.specs.Events.{Event, Mark, Tagged, Ignored, Log, Trace}
+use Rattle.office.specs.Events as event
+use Rattle.office.specs.Trace.{history, is_open, is_ready, rest, rest_if, untaken}
+use Rattle.office.specs.Outcomes.{Outcome, mark_of}
+use Rattle.office.specs.Outcomes as outcome
+use Rattle.office.specs.Taken.{trace_of, IsAdmitted}
+use Rattle.office.specs.Stands.{StandsFor, vault_of}
+use Rattle.office.specs.declared.office.Office.{Office}
+use Rattle.serving.specs.declared.wire.Link.{Link}
+use Rattle.serving.specs.declared.wire.Port.TheVariants.{Pop, Admin}
+use Rattle.serving.specs.declared.wire.Io.{Io}
+use Rattle.serving.specs.declared.wire.Io.TheVariants.{Count, Later}
+use Rattle.serving.specs.Calls.{Call, Waited, Looked, Accepted, Read, Wrote, Closed}
+use Rattle.serving.specs.declared.links.Seat.{Seat}
+use Rattle.serving.specs.Wires.{is_fault, opened_by}
+use Rattle.serving.specs.Works.{waits, arrivals, arrival_of, closings, closing_of, none_waited, tells_none, is_read_of, is_later_of, is_taking_of, is_cut_of, is_cut, most_writes, octets_taken, had_its_turn, moments, openings, is_opening, refusals, is_refusal, AreNewlyAdmitted, HasCause, AreCaused, WasGiven, WasAsked, Part, Asking, Giving, IsQuiet, IsQuietFor, Came, seat_of, unseated_of, link_of, HaveCome, HasAccepted, AreAccepted, OwesNothing, IsWritten, IsWrittenOut, IsNotReady, IsUnread, IsHeard, IsKeptBack, StaysUnread, Way, HadTurn, HadTurns}
+use Rattle.office.specs.Waiting as waiting
+use Rattle.office.specs.Logins.{brings_login}
+use Rattle.serving.proofs.Staying.{Fewer}
+use Rattle.serving.proofs.Seating.{any_default, contained, whole_front}
+use Rattle.serving.proofs.Working.{given_none, asked_then, given_then, count_joined, any_left, any_right, quiet_then, quiet_none, caused_more, caused_then, of_then, of_more, of_none, turn_read, turn_later, turn_full, turn_shared, turn_left, turn_right, taken_joined, turned_right, fewer_quiet, turns_later, shut_by}
+
+-- ---- one call
+
+same_number : (n : ℕ) → (n == n) ≡ true
+same_number n = eq-eqb n n refl
+
+cut_so : (n : ℕ) (io : Io) → is_fault io ≡ true → ((n == n) && is_fault io) ≡ true
+cut_so n io fault = rw (same_number n, fault) refl
+
+or_none : (b : Bool) → b ≡ true → (b || false) ≡ true
+or_none true e = refl
+or_none false e = cc
+
+first_seat : (seat : Seat) → Contains (seat ∷ []) seat
+first_seat seat = (0, omega arith, refl)
+
+-- a connection that isn't open is owed nothing
+pub shut_rest : (T : Trace) (c : ℕ) → is_open T c ≡ false → rest T c ≡ []
+shut_rest T c e = ap (λ b. rest_if b (untaken T.log (history T) c)) e
+
+only_one : (x s : Seat) → Contains (x ∷ []) s → x ≡ s
+only_one x s (zero, w, is) = is
+only_one x s (suc k, w, is) = absurd (omega (arith, w))
+
+-- a number that isn't 0
+pub not_zero : (n : ℕ) → 0 < n → (n == 0) ≡ false
+not_zero n h = ⊎_elim (λ (e : (n == 0) ≡ true). (let z : n ≡ 0 = eqb-true n 0 e in absurd (omega (arith, h, z)))) (λ (e : (n == 0) ≡ false). e) (cases_Bool (n == 0))
+
+-- where more logins may be kept back
+pub kept_more : (T : Trace) (c : ℕ) (piece : List ℕ) (wait : ℕ) (may may2 : Bool) → (may ≡ true → may2 ≡ true) → IsKeptBack T c piece wait may → IsKeptBack T c piece wait may2
+kept_more T c piece wait may may2 more h =
+    ⊎_elim
+    (λ (w : waiting.waits T c piece wait ≡ true). inl w)
+    (λ (b : (may ≡ true) × (brings_login T c piece ≡ true)). inr (more b.0, b.1))
+    h
+
+module _ {V : Type 0} (Holds : V → Contents → Type 0) (IsClean : V → Type 0) (Faults : V → ℕ) where
+  pub wrote_some : (o o1 : Office V) (seat : Seat) (n : ℕ) (octets : List ℕ) (m : Mark) → 0 < n
+      → IsWritten Holds IsClean o o1 seat (if n == 0 then 0 else 1) n (not (n == 0)) ((event.Took seat.connection n, m) ∷ []) (Wrote Pop seat.link (Count n) octets ∷ [])
+  wrote_some o o1 seat n octets m some =
+      let z = not_zero n some in
+      let q = same_number seat.link.number in
+      record {
+        of_seat = record {
+          quiet = record { no_moments = refl; no_openings = refl; no_refusals = refl; no_waits = refl; no_arrivals = refl; no_closings = refl };
+          caused = All-cons (HasCause (seat ∷ []) (Wrote Pop seat.link (Count n) octets ∷ [])) (event.Took seat.connection n, m) [] tt (All-nil (HasCause (seat ∷ []) (Wrote Pop seat.link (Count n) octets ∷ [])));
+        };
+        taken = rw (z, q) (omega arith);
+        octets_are = rw q (omega arith);
+        ends = λ e. (let k : not (n == 0) ≡ true = ap not z in absurd (true≢false (sym k ∙ e)));
+      }
+
+  pub wrote_later : (o : Office V) (seat : Seat) (octets : List ℕ) → IsWritten Holds IsClean o o seat 0 0 false [] (Wrote Pop seat.link Later octets ∷ [])
+  wrote_later o seat octets = record {
+    of_seat = record {
+      quiet = record { no_moments = refl; no_openings = refl; no_refusals = refl; no_waits = refl; no_arrivals = refl; no_closings = refl };
+      caused = All-nil (HasCause (seat ∷ []) (Wrote Pop seat.link Later octets ∷ []));
+    };
+    taken = omega arith;
+    octets_are = omega arith;
+    ends = λ e. inl (or_none (seat.link.number == seat.link.number) (same_number seat.link.number));
+  }
+
+  pub wrote_cut : (o o1 : Office V) (seat : Seat) (io : Io) (octets : List ℕ) (m : Mark) → is_fault io ≡ true → OwesNothing Holds IsClean o o1 seat.connection ((event.Gone seat.connection, m) ∷ [])
+      → IsWritten Holds IsClean o o1 seat 0 0 false ((event.Gone seat.connection, m) ∷ []) (Wrote Pop seat.link io octets ∷ [])
+  wrote_cut o o1 seat io octets m fault owes = record {
+    of_seat = record {
+      quiet = record { no_moments = refl; no_openings = refl; no_refusals = refl; no_waits = refl; no_arrivals = refl; no_closings = refl };
+      caused = All-cons (HasCause (seat ∷ []) (Wrote Pop seat.link io octets ∷ [])) (event.Gone seat.connection, m) []
+          (seat, first_seat seat, refl, or_none ((seat.link.number == seat.link.number) && is_fault io) (cut_so seat.link.number io fault))
+          (All-nil (HasCause (seat ∷ []) (Wrote Pop seat.link io octets ∷ [])));
+    };
+    taken = omega arith;
+    octets_are = omega arith;
+    ends = λ e. inr owes;
+  }
+
+  pub wrote_none : (o : Office V) (seat : Seat) → OwesNothing Holds IsClean o o seat.connection [] → IsWritten Holds IsClean o o seat 0 0 false [] []
+  wrote_none o seat owes = record { of_seat = of_none (seat ∷ []); taken = omega arith; octets_are = omega arith; ends = λ e. inr owes }
+
+  module _ (wait : ℕ) (may : Bool) where
+    pub heard_some : (o : Office V) (seat : Seat) (io : Io) (octets piece : List ℕ) (m : Mark) → IsHeard Holds o seat wait may ((event.Bytes seat.connection piece, m) ∷ []) (Read Pop seat.link io octets ∷ [])
+    heard_some o seat io octets piece m = record {
+      of_seat = record {
+        quiet = record { no_moments = refl; no_openings = refl; no_refusals = refl; no_waits = refl; no_arrivals = refl; no_closings = refl };
+        caused = All-cons (HasCause (seat ∷ []) (Read Pop seat.link io octets ∷ [])) (event.Bytes seat.connection piece, m) [] tt (All-nil (HasCause (seat ∷ []) (Read Pop seat.link io octets ∷ [])));
+      };
+      heard = inl (or_none (seat.link.number == seat.link.number) (same_number seat.link.number));
+    }
+
+    pub heard_later : (o : Office V) (seat : Seat) (io : Io) (octets : List ℕ) → IsHeard Holds o seat wait may [] (Read Pop seat.link io octets ∷ [])
+    heard_later o seat io octets = record {
+      of_seat = record {
+        quiet = record { no_moments = refl; no_openings = refl; no_refusals = refl; no_waits = refl; no_arrivals = refl; no_closings = refl };
+        caused = All-nil (HasCause (seat ∷ []) (Read Pop seat.link io octets ∷ []));
+      };
+      heard = inl (or_none (seat.link.number == seat.link.number) (same_number seat.link.number));
+    }
+
+    pub heard_cut : (o : Office V) (seat : Seat) (io : Io) (octets : List ℕ) (m : Mark) → is_fault io ≡ true → IsHeard Holds o seat wait may ((event.Gone seat.connection, m) ∷ []) (Read Pop seat.link io octets ∷ [])
+    heard_cut o seat io octets m fault = record {
+      of_seat = record {
+        quiet = record { no_moments = refl; no_openings = refl; no_refusals = refl; no_waits = refl; no_arrivals = refl; no_closings = refl };
+        caused = All-cons (HasCause (seat ∷ []) (Read Pop seat.link io octets ∷ [])) (event.Gone seat.connection, m) []
+            (seat, first_seat seat, refl, or_none ((seat.link.number == seat.link.number) && is_fault io) (cut_so seat.link.number io fault))
+            (All-nil (HasCause (seat ∷ []) (Read Pop seat.link io octets ∷ [])));
+      };
+      heard = inl (or_none (seat.link.number == seat.link.number) (same_number seat.link.number));
+    }
+
+    pub heard_none : (o : Office V) (seat : Seat) → IsNotReady Holds o seat.connection → IsHeard Holds o seat wait may [] []
+    heard_none o seat idle = record { of_seat = of_none (seat ∷ []); heard = inr (refl, inl idle) }
+
+    -- what was looked at stays unread
+    pub heard_unread : (o : Office V) (seat : Seat) (calls : List Call) → IsQuiet [] calls → IsUnread Holds o seat wait may calls → IsHeard Holds o seat wait may [] calls
+    heard_unread o seat calls quiet u = record { of_seat = record { quiet = quiet; caused = All-nil (HasCause (seat ∷ []) calls) }; heard = inr (refl, inr u) }
+
+    -- it was looked at first
+    pub heard_behind : (o : Office V) (seat : Seat) (given : Log) (looks calls : List Call) → IsQuiet [] looks → IsHeard Holds o seat wait may given calls → IsHeard Holds o seat wait may given (looks ++ calls)
+    heard_behind o seat given looks calls quiet a = record {
+      of_seat = subst (λ g. IsQuietFor (seat ∷ []) g (looks ++ calls)) (append-nil given)
+          (of_then (seat ∷ []) [] given looks calls (record { quiet = quiet; caused = All-nil (HasCause (seat ∷ []) looks) }) a.of_seat);
+      heard =
+          ⊎_elim
+          (λ (r : list_any (is_read_of seat.link) calls ≡ true). inl (any_right (is_read_of seat.link) looks calls r))
+          (λ (n : (given ≡ []) × (IsNotReady Holds o seat.connection ⊎ IsUnread Holds o seat wait may calls)).
+          inr (
+            n.0,
+            ⊎_elim
+                (λ (idle : IsNotReady Holds o seat.connection). inl idle)
+                (λ (u : IsUnread Holds o seat wait may calls). inr (record {
+                  piece = u.piece;
+                  io = u.io;
+                  shown = Contains-append_right looks calls (Looked Pop seat.link u.io u.piece) u.shown;
+                  kept = u.kept;
+                }))
+                n.1,
+          ))
+          a.heard;
+    }
+
+  -- ---- a link
+
+  pub written_none : (o : Office V) (seat : Seat) → IsWritten Holds IsClean o o seat 0 0 true [] []
+  written_none o seat = record { of_seat = of_none (seat ∷ []); taken = omega arith; octets_are = omega arith; ends = λ e. cc }
+
+  owes_then : (o o1 o2 : Office V) (c : ℕ) (g1 g2 : Log) → WasGiven Holds IsClean Faults o o1 g1 → WasGiven Holds IsClean Faults o1 o2 g2 → OwesNothing Holds IsClean o1 o2 c g2 → OwesNothing Holds IsClean o o2 c (g2 ++ g1)
+  owes_then o o1 o2 c g1 g2 a b owes = λ B L s k. subst (λ l. rest (trace_of B l) c ≡ []) (sym (append_assoc g2 g1 L)) (owes B (g1 ++ L) (a.stands B L s (b.clean k)) k)
+
+  pub written_then : (o o1 o2 : Office V) (seat : Seat) (n1 n2 k1 k2 : ℕ) (goes : Bool) (g1 g2 : Log) (c1 c2 : List Call) → WasGiven Holds IsClean Faults o o1 g1 → WasGiven Holds IsClean Faults o1 o2 g2
+      → IsWritten Holds IsClean o o1 seat n1 k1 true g1 c1 → IsWritten Holds IsClean o1 o2 seat n2 k2 goes g2 c2 → IsWritten Holds IsClean o o2 seat (n1 + n2) (k1 + k2) goes (g2 ++ g1) (c1 ++ c2)
+  written_then o o1 o2 seat n1 n2 k1 k2 goes g1 g2 c1 c2 wa wb a b = record {
+    of_seat = of_then (seat ∷ []) g1 g2 c1 c2 a.of_seat b.of_seat;
+    taken = (let k = count_joined (is_taking_of seat.link) c1 c2 in let p = a.taken in let q = b.taken in omega (arith, k, p, q));
+    octets_are = (let k = taken_joined seat.link c1 c2 in let p = a.octets_are in let q = b.octets_are in omega (arith, k, p, q));
+    ends = λ e.
+        ⊎_elim
+        (λ (later : list_any (is_later_of seat.link) c2 ≡ true). inl (any_right (is_later_of seat.link) c1 c2 later))
+        (λ (owes : OwesNothing Holds IsClean o1 o2 seat.connection g2). inr (owes_then o o1 o2 seat.connection g1 g2 wa wb owes))
+        (b.ends e);
+  }
+
+  -- fewer writes, and fewer octets
+  pub written_less : (o o1 : Office V) (seat : Seat) (n n2 k k2 : ℕ) (goes : Bool) (g : Log) (c : List Call) → n2 ≤ n → k2 ≤ k → IsWritten Holds IsClean o o1 seat n k goes g c → IsWritten Holds IsClean o o1 seat n2 k2 goes g c
+  written_less o o1 seat n n2 k k2 goes g c h h2 a = record {
+    of_seat = a.of_seat;
+    taken = (let p = a.taken in omega (arith, p, h));
+    octets_are = (let p = a.octets_are in omega (arith, p, h2));
+    ends = a.ends;
+  }
+
+  -- it ended early
+  pub written_ended : (o o1 : Office V) (seat : Seat) (n k share : ℕ) (g : Log) (c : List Call) → IsWritten Holds IsClean o o1 seat n k false g c → IsWrittenOut Holds IsClean o o1 seat share false g c
+  written_ended o o1 seat n k share g c a = record { of_seat = a.of_seat; goes_on = λ e. cc; ends = a.ends }
+
+  -- the share is written
+  pub written_share : (o o1 : Office V) (seat : Seat) (n k share : ℕ) (goes : Bool) (g : Log) (c : List Call) → share ≤ k → IsWritten Holds IsClean o o1 seat n k goes g c → IsWrittenOut Holds IsClean o o1 seat share true g c
+  written_share o o1 seat n k share goes g c h a = record { of_seat = a.of_seat; goes_on = λ e. inr (let p = a.octets_are in omega (arith, p, h)); ends = λ e. cc }
+
+  pub written_all : (o o1 : Office V) (seat : Seat) (n k share : ℕ) (goes : Bool) (g : Log) (c : List Call) → most_writes ≤ n → IsWritten Holds IsClean o o1 seat n k goes g c → IsWrittenOut Holds IsClean o o1 seat share true g c
+  written_all o o1 seat n k share goes g c h a = record { of_seat = a.of_seat; goes_on = λ e. inl (let p = a.taken in omega (arith, p, h)); ends = λ e. cc }
+
+  -- a link that was written its share had its turn
+  turn_written : (o o1 : Office V) (way : Way) (seat : Seat) (g : Log) (c : List Call) → IsWrittenOut Holds IsClean o o1 seat way.share true g c → had_its_turn way.share seat.link c ≡ true
+  turn_written o o1 way seat g c a =
+      ⊎_elim
+      (λ (full : most_writes ≤ length (filter (is_taking_of seat.link) c)). turn_full way.share seat.link c full)
+      (λ (taken : way.share ≤ octets_taken seat.link c). turn_shared way.share seat.link c taken)
+      (a.goes_on refl)
+
+  pub served_written : (o o1 : Office V) (way : Way) (seat : Seat) (g : Log) (c : List Call) → IsWrittenOut Holds IsClean o o1 seat way.share true g c → HadTurns Holds IsClean o o1 way (seat ∷ []) (seat ∷ []) g c
+  served_written o o1 way seat g c a = record {
+    of_seats = a.of_seat;
+    turns = λ B L s k.
+        All-cons (HadTurn way B L g (trace_of B (g ++ L)) c) seat [] (λ here. inl (turn_written o o1 way seat g c a)) (All-nil (HadTurn way B L g (trace_of B (g ++ L)) c));
+  }
+
+  served_unless : (o o1 o2 : Office V) (way : Way) (seat : Seat) (goes : Bool) (g1 : Log) (c1 c2 : List Call) → WasGiven Holds IsClean Faults o o1 g1 → (IsClean (vault_of o2) → IsClean (vault_of o1))
+      → IsWrittenOut Holds IsClean o o1 seat way.share goes g1 c1 → IsNotReady Holds o1 seat.connection
+      → (B : Records) (L : Log) → StandsFor Holds o (trace_of B L) → IsClean (vault_of o2) → is_open (trace_of B (g1 ++ L)) seat.connection ≡ true → had_its_turn way.share seat.link (c1 ++ c2) ≡ true
+  served_unless o o1 o2 way seat true g1 c1 c2 wa clean a idle B L s k here = turn_left way.share seat.link c1 c2 (turn_written o o1 way seat g1 c1 a)
+  served_unless o o1 o2 way seat false g1 c1 c2 wa clean a idle B L s k here =
+      ⊎_elim
+      (λ (later : list_any (is_later_of seat.link) c1 ≡ true). turn_left way.share seat.link c1 c2 (turn_later way.share seat.link c1 later))
+      (λ (owes : OwesNothing Holds IsClean o o1 seat.connection g1).
+      (let T = trace_of B (g1 ++ L) in
+      absurd (shut_by (is_open T seat.connection) (untaken T.log (history T) seat.connection) (owes B L s (clean k)) (idle B (g1 ++ L) (wa.stands B L s (clean k))) here)))
+      (a.ends refl)
+
+  pub served_one : (o o1 o2 : Office V) (way : Way) (seat : Seat) (goes : Bool) (g1 g2 : Log) (c1 c2 : List Call) → WasGiven Holds IsClean Faults o o1 g1 → WasGiven Holds IsClean Faults o1 o2 g2
+      → IsWrittenOut Holds IsClean o o1 seat way.share goes g1 c1 → IsHeard Holds o1 seat way.wait way.may g2 c2 → HadTurns Holds IsClean o o2 way (seat ∷ []) (seat ∷ []) (g2 ++ g1) (c1 ++ c2)
+  served_one o o1 o2 way seat goes g1 g2 c1 c2 wa wb a b = record {
+    of_seats = of_then (seat ∷ []) g1 g2 c1 c2 a.of_seat b.of_seat;
+    turns = λ B L s k.
+        All-cons (HadTurn way B L (g2 ++ g1) (trace_of B ((g2 ++ g1) ++ L)) (c1 ++ c2)) seat []
+        (λ here.
+        ⊎_elim
+        (λ (r : list_any (is_read_of seat.link) c2 ≡ true). inl (turn_right way.share seat.link c1 c2 (turn_read way.share seat.link c2 r)))
+        (λ (n : (g2 ≡ []) × (IsNotReady Holds o1 seat.connection ⊎ IsUnread Holds o1 seat way.wait way.may c2)).
+        ⊎_elim
+        (λ (idle : IsNotReady Holds o1 seat.connection).
+        inl (served_unless o o1 o2 way seat goes g1 c1 c2 wa wb.clean a idle B L s k (subst (λ g. is_open (trace_of B ((g ++ g1) ++ L)) seat.connection ≡ true) n.0 here)))
+        (λ (u : IsUnread Holds o1 seat way.wait way.may c2).
+        inr (record {
+          piece = u.piece;
+          io = u.io;
+          shown = Contains-append_right c1 c2 (Looked Pop seat.link u.io u.piece) u.shown;
+          later = g2;
+          front = g1;
+          is = refl;
+          kept = u.kept B (g1 ++ L) (wa.stands B L s (wb.clean k));
+        }))
+        n.1)
+        b.heard)
+        (All-nil (HadTurn way B L (g2 ++ g1) (trace_of B ((g2 ++ g1) ++ L)) (c1 ++ c2)));
+  }
+
+  -- more is done for the same link
+  pub served_then : (o o1 o2 : Office V) (way : Way) (seat : Seat) (g1 g2 : Log) (c1 c2 : List Call) → WasGiven Holds IsClean Faults o o1 g1 → WasGiven Holds IsClean Faults o1 o2 g2
+      → HadTurns Holds IsClean o o1 way (seat ∷ []) (seat ∷ []) g1 c1 → IsQuietFor (seat ∷ []) g2 c2 → HadTurns Holds IsClean o o2 way (seat ∷ []) (seat ∷ []) (g2 ++ g1) (c1 ++ c2)
+  served_then o o1 o2 way seat g1 g2 c1 c2 wa wb a b = record {
+    of_seats = of_then (seat ∷ []) g1 g2 c1 c2 a.of_seats b;
+    turns = λ B L s k.
+        (let s1 = wa.stands B L s (wb.clean k) in
+        let fewer = fewer_quiet B (g1 ++ L) g2 (seat ∷ []) c2 (wb.admitted B (g1 ++ L) s1 k) b.caused b.quiet.no_openings in
+        turns_later way B L g1 g2 c1 c2 (seat ∷ []) fewer (a.turns B L s (wb.clean k)));
+  }
+
+  -- ---- all links
+
+  -- served in another way: the same share, the same wait, and more logins may be kept back
+  pub served_so : (o o1 : Office V) (way way2 : Way) (seats these : List Seat) (g : Log) (c : List Call) → way2.share ≡ way.share → way2.wait ≡ way.wait → (way.may ≡ true → way2.may ≡ true)
+      → HadTurns Holds IsClean o o1 way seats these g c → HadTurns Holds IsClean o o1 way2 seats these g c
+  served_so o o1 way way2 seats these g c share wait may a = record {
+    of_seats = a.of_seats;
+    turns = λ B L s k.
+        All-weaker (HadTurn way B L g (trace_of B (g ++ L)) c) (HadTurn way2 B L g (trace_of B (g ++ L)) c)
+        (λ q h here.
+        ⊎_elim
+        (λ (t : had_its_turn way.share q.link c ≡ true). inl (subst (λ n. had_its_turn n q.link c ≡ true) (sym share) t))
+        (λ (u : StaysUnread B L g c way.wait way.may q).
+        inr (record {
+          piece = u.piece;
+          io = u.io;
+          shown = u.shown;
+          later = u.later;
+          front = u.front;
+          is = u.is;
+          kept = subst (λ n. IsKeptBack (trace_of B (u.front ++ L)) q.connection u.piece n way2.may) (sym wait) (kept_more (trace_of B (u.front ++ L)) q.connection u.piece way.wait way.may way2.may may u.kept);
+        }))
+        (h here))
+        these (a.turns B L s k);
+  }
+
+  pub served_among : (o o1 : Office V) (way : Way) (seats : List Seat) (seat : Seat) (g : Log) (c : List Call) → Contains seats seat → HadTurns Holds IsClean o o1 way (seat ∷ []) (seat ∷ []) g c → HadTurns Holds IsClean o o1 way seats (seat ∷ []) g c
+  served_among o o1 way seats seat g c has a = record {
+    of_seats = of_more (seat ∷ []) seats g c (λ s h. subst (Contains seats) (only_one seat s h) has) a.of_seats;
+    turns = a.turns;
+  }
+
+  -- by its place
+  pub served_at : (o o1 : Office V) (way : Way) (xs ys : List Seat) (i : ℕ) (e : Seat) (g : Log) (c : List Call) → ys ≡ xs → i < length xs → HadTurns Holds IsClean o o1 way (get_or ys i e ∷ []) (get_or ys i e ∷ []) g c
+      → (d : Seat) → HadTurns Holds IsClean o o1 way xs (get_or xs i d ∷ []) g c
+  served_at o o1 way xs ys i e g c is h a d =
+      let same : get_or ys i e ≡ get_or xs i d = ap (λ zs. get_or zs i e) is ∙ any_default xs i e d h in
+      subst (λ s. HadTurns Holds IsClean o o1 way xs (s ∷ []) g c) same (served_among o o1 way xs (get_or ys i e) g c (contained xs ys i e is h) a)
+
+  pub served_none : (o : Office V) (way : Way) (seats : List Seat) → HadTurns Holds IsClean o o way seats [] [] []
+  served_none o way seats = record { of_seats = of_none seats; turns = λ B L s k. All-nil (HadTurn way B L [] (trace_of B L) []) }
+
+  pub served_more : (o o1 o2 : Office V) (way : Way) (seats now : List Seat) (i : ℕ) (d : Seat) (g1 g2 : Log) (c1 c2 : List Call) → now ≡ seats → i < length now → WasGiven Holds IsClean Faults o o1 g1 → WasGiven Holds IsClean Faults o1 o2 g2
+      → HadTurns Holds IsClean o o1 way seats (take i seats) g1 c1 → HadTurns Holds IsClean o1 o2 way now (get_or now i d ∷ []) g2 c2 → HadTurns Holds IsClean o o2 way seats (take (i + 1) seats) (g2 ++ g1) (c1 ++ c2)
+  served_more o o1 o2 way seats now i d g1 g2 c1 c2 is within wa wb a at_now =
+      let h : i < length seats = subst (λ xs. i < length xs) is within in
+      let b = subst (λ xs. HadTurns Holds IsClean o1 o2 way xs (get_or xs i d ∷ []) g2 c2) is at_now in
+      record {
+        of_seats = of_then seats g1 g2 c1 c2 a.of_seats b.of_seats;
+        turns = λ B L s k.
+            (let s1 = wa.stands B L s (wb.clean k) in
+            let fewer = fewer_quiet B (g1 ++ L) g2 seats c2 (wb.admitted B (g1 ++ L) s1 k) b.of_seats.caused b.of_seats.quiet.no_openings in
+            let T2 = trace_of B ((g2 ++ g1) ++ L) in
+            let q = get_or seats i d in
+            let last : HadTurn way B (g1 ++ L) g2 (trace_of B (g2 ++ (g1 ++ L))) c2 q = All-head (HadTurn way B (g1 ++ L) g2 (trace_of B (g2 ++ (g1 ++ L))) c2) q [] (b.turns B (g1 ++ L) s1 k) in
+            All-more (HadTurn way B L (g2 ++ g1) T2 (c1 ++ c2)) seats i d h
+            (turns_later way B L g1 g2 c1 c2 (take i seats) fewer (a.turns B L s (wb.clean k)))
+            (λ here. turned_right way B L g1 g2 c1 c2 q (last (subst (λ l. is_open (trace_of B l) q.connection ≡ true) (append_assoc g2 g1 L) here))));
+      }
+
+  pub served_whole : (o o1 : Office V) (way : Way) (seats now : List Seat) (n : ℕ) (g : Log) (c : List Call) → now ≡ seats → length now ≤ n → HadTurns Holds IsClean o o1 way seats (take n seats) g c → HadTurns Holds IsClean o o1 way seats seats g c
+  served_whole o o1 way seats now n g c is h a =
+      let k : length seats ≤ n = subst (λ xs. length xs ≤ n) is h in
+      subst (λ xs. HadTurns Holds IsClean o o1 way seats xs g c) (whole_front seats n k) a
+
+-- ---- what was looked at first
+
+module _ {V W : Type 0} (Holds : V → Contents → Type 0) (IsClean : V → Type 0) (Faults : V → ℕ) (Asked : W → List Call → Type 0) where
+  pub heard_asked : (o : Office V) (w w1 : W) (seat : Seat) (wait : ℕ) (may : Bool) (calls : List Call) → WasAsked Asked w w1 calls → IsHeard Holds o seat wait may [] calls
+      → Part Holds IsClean Faults Asked o w o w1 (IsHeard Holds o seat wait may)
+  heard_asked o w w1 seat wait may calls asked a = record { given = []; calls = calls; was_given = given_none Holds IsClean Faults o; was_asked = asked; facts = a }
+
+  pub heard_after : (o o1 : Office V) (w w1 w2 : W) (seat : Seat) (wait : ℕ) (may : Bool) (looks : List Call) → IsQuiet [] looks → WasAsked Asked w w1 looks
+      → Part Holds IsClean Faults Asked o w1 o1 w2 (IsHeard Holds o seat wait may) → Part Holds IsClean Faults Asked o w o1 w2 (IsHeard Holds o seat wait may)
+  heard_after o o1 w w1 w2 seat wait may looks quiet asked a = record {
+    given = a.given;
+    calls = looks ++ a.calls;
+    was_given = a.was_given;
+    was_asked = asked_then Asked w w1 w2 looks a.calls asked a.was_asked;
+    facts = heard_behind Holds IsClean Faults wait may o seat a.given looks a.calls quiet a.facts;
+  }

@@ -1,0 +1,404 @@
+-- That parts of a turn, one after the other, do what they do all together.
+use Rattle.std.proofs.Common.{◌≡◌, ℕ, zero, suc, ◌+◌, ◌<◌, ◌≤◌, Bool, true, false, not, ◌&&◌, ◌||◌, ◌==◌, List, [], ◌∷◌, ◌++◌, length, take, drop, map, min, get_or, refl, sym, ◌∙◌, ap, arith, Some, None, Option, ⊎_elim, ◌⊎◌, inl, inr, subst, true≢false, append_assoc, length-append, le-leb, leb-true, nat_le, nat_lt, eqb-true}
+use Rattle.std.specs.Bool.{⊤, if◌then◌else◌}
+use Rattle.std.specs.List.{All, Contains, list_any, filter, filter_map, remove}
+use Rattle.std.proofs.lemmas.Bool.{or_cases, ltb-true, lt-ltb}
+use Rattle.std.proofs.lemmas.List.{append-nil, map-append}
+use Rattle.std.proofs.lemmas.List.Elements.{All-nil, All-cons, All-head, All-tail, All-append, All-weaker, All-take, All-more, filter_map-append, filter-append, filter_more, Contains-append_left, Contains-append_right}
+use Rattle.std.proofs.lemmas.List.Folds.{list_any-append}
+use Rattle.vault.specs.Records.{Records}
+use Rattle.vault.specs.Calls.{greatest_count, has_grown}
+use Rattle.vault.specs.Changes.{Contents}
+use Rattle.office.specs.History.{Tag, Done, Failed, NoMemory}
+use Rattle.office.specs.Replying.{is_empty}
+use Rattle.office.specs.Events.{Event, Mark, Tagged, Ignored, Log, Trace}
+use Rattle.office.specs.Events as event
+use Rattle.office.specs.Trace.{history, is_open, is_ready, rest, rest_if, untaken}
+use Rattle.office.specs.Expected.{or_ignored, reason_if, shown_at, most_in_a_piece}
+use Rattle.office.specs.Outcomes.{Outcome, Reason, NoSuchConnection, NotReady, PieceTooLong, mark_of, HasCause as HasItsCause}
+use Rattle.office.specs.Outcomes as outcome
+use Rattle.office.specs.Taken.{trace_of, IsAdmitted}
+use Rattle.office.specs.Stands.{StandsFor, vault_of}
+use Rattle.office.specs.declared.office.Office.{Office}
+use Rattle.serving.specs.declared.wire.Link.{Link}
+use Rattle.serving.specs.Calls.{Call, Looked}
+use Rattle.serving.specs.declared.wire.Port.TheVariants.{Pop}
+use Rattle.serving.specs.declared.links.Seat.{Seat}
+use Rattle.serving.specs.declared.newcomers.Newcomer.{Newcomer}
+use Rattle.serving.specs.Works.{waits, arrivals, closings, is_read_of, is_later_of, is_taking_of, is_cut_of, is_cut, most_writes, octets_taken, had_its_turn, moments, moment_of, openings, is_opening, refusals, is_refusal, AreNewlyAdmitted, is_failed, IsLateGone, AreLateGone, HasCause, AreCaused, WasGiven, WasAsked, Part, Asking, Giving, IsQuiet, IsQuietFor, IsKeptBack, StaysUnread, Way, HadTurn}
+use Rattle.serving.proofs.Staying.{Fewer, fewer_framed, frame_read, frame_took, frame_gone, fewer_tick, deposit_same, fewer_command}
+
+-- ---- one after the other
+
+newly_then : (B : Records) (L g1 g2 : Log) → AreNewlyAdmitted B L g1 → AreNewlyAdmitted B (g1 ++ L) g2 → AreNewlyAdmitted B L (g2 ++ g1)
+newly_then B L g1 [] a b = a
+newly_then B L g1 ((e, m) ∷ g2) a b = (subst (λ l. IsAdmitted (trace_of B l) e m) (sym (append_assoc g2 g1 L)) b.0, newly_then B L g1 g2 a b.1)
+
+or_true : (b : Bool) → (b || true) ≡ true
+or_true true = refl
+or_true false = refl
+
+below : (a b c : ℕ) → a ≤ b → b ≤ c → a ≤ c
+below a b c h k = omega (arith, h, k)
+
+-- a count that grew within has grown
+grown_more : (a b c d : ℕ) → a ≤ b → c ≤ d → has_grown b c ≡ true → has_grown a d ≡ true
+grown_more a b c d low high h =
+    ⊎_elim
+    (λ (less : nat_lt b c ≡ true).
+    (let n : b < c = ltb-true b c less in
+    let k : nat_lt a d ≡ true = lt-ltb a d (omega (arith, n, low, high)) in
+    ap (λ x. x || nat_le greatest_count d) k))
+    (λ (full : nat_le greatest_count c ≡ true).
+    (let n : greatest_count ≤ c = leb-true greatest_count c full in
+    let k : nat_le greatest_count d ≡ true = le-leb greatest_count d (below greatest_count c d n high) in
+    ap (λ x. nat_lt a d || x) k ∙ or_true (nat_lt a d)))
+    (or_cases (nat_lt b c) (nat_le greatest_count c) h)
+
+-- one event that failed
+failed_one : (e : Event) (m : Mark) (o : Outcome) (a b : ℕ) → m ≡ mark_of o → HasItsCause a b o → list_any is_failed ((e, m) ∷ []) ≡ true → has_grown a b ≡ true
+failed_one e m (outcome.Opened n) a b is h f = let k : list_any is_failed ((e, Tagged Done) ∷ []) ≡ true = subst (λ x. list_any is_failed ((e, x) ∷ []) ≡ true) is f in cc
+failed_one e m outcome.Done a b is h f = let k : list_any is_failed ((e, Tagged Done) ∷ []) ≡ true = subst (λ x. list_any is_failed ((e, x) ∷ []) ≡ true) is f in cc
+failed_one e m outcome.Failed a b is h f = h
+failed_one e m outcome.NoMemory a b is h f = let k : list_any is_failed ((e, Tagged NoMemory) ∷ []) ≡ true = subst (λ x. list_any is_failed ((e, x) ∷ []) ≡ true) is f in cc
+failed_one e m (outcome.Ignored r) a b is h f = let k : list_any is_failed ((e, Ignored) ∷ []) ≡ true = subst (λ x. list_any is_failed ((e, x) ∷ []) ≡ true) is f in cc
+failed_one e m (outcome.Answered x) a b is h f = let k : list_any is_failed ((e, Tagged Done) ∷ []) ≡ true = subst (λ y. list_any is_failed ((e, y) ∷ []) ≡ true) is f in cc
+
+module _ {V : Type 0} (Holds : V → Contents → Type 0) (IsClean : V → Type 0) (Faults : V → ℕ) where
+  pub given_none : (o : Office V) → WasGiven Holds IsClean Faults o o []
+  given_none o = record { clean = λ k. k; stands = λ B L s k. s; admitted = λ B L s k. tt; counted = omega arith; failed = λ B L s k e. cc }
+
+  pub given_then : (o o1 o2 : Office V) (g1 g2 : Log) → WasGiven Holds IsClean Faults o o1 g1 → WasGiven Holds IsClean Faults o1 o2 g2 → WasGiven Holds IsClean Faults o o2 (g2 ++ g1)
+  given_then o o1 o2 g1 g2 a b = record {
+    clean = λ k. a.clean (b.clean k);
+    stands = λ B L s k. subst (λ l. StandsFor Holds o2 (trace_of B l)) (sym (append_assoc g2 g1 L)) (b.stands B (g1 ++ L) (a.stands B L s (b.clean k)) k);
+    admitted = λ B L s k. newly_then B L g1 g2 (a.admitted B L s (b.clean k)) (b.admitted B (g1 ++ L) (a.stands B L s (b.clean k)) k);
+    counted = (let p = a.counted in let q = b.counted in omega (arith, p, q));
+    failed = λ B L s k e.
+        ⊎_elim
+        (λ (later : list_any is_failed g2 ≡ true).
+        grown_more (Faults (vault_of o)) (Faults (vault_of o1)) (Faults (vault_of o2)) (Faults (vault_of o2)) a.counted (omega arith) (b.failed B (g1 ++ L) (a.stands B L s (b.clean k)) k later))
+        (λ (first : list_any is_failed g1 ≡ true).
+        grown_more (Faults (vault_of o)) (Faults (vault_of o)) (Faults (vault_of o1)) (Faults (vault_of o2)) (omega arith) b.counted (a.failed B L s (b.clean k) first))
+        (or_cases (list_any is_failed g2) (list_any is_failed g1) (sym (list_any-append is_failed g2 g1) ∙ e));
+  }
+
+  -- one event
+  pub given_one : (o o1 : Office V) (e : Event) (out : Outcome) → (IsClean (vault_of o1) → IsClean (vault_of o))
+      → ((T : Trace) → StandsFor Holds o T → IsClean (vault_of o1) → StandsFor Holds o1 (trace_of T.base ((e, mark_of out) ∷ T.log)))
+      → ((T : Trace) → StandsFor Holds o T → IsClean (vault_of o1) → IsAdmitted T e (mark_of out))
+      → Faults (vault_of o) ≤ Faults (vault_of o1)
+      → ((T : Trace) → StandsFor Holds o T → IsClean (vault_of o1) → HasItsCause (Faults (vault_of o)) (Faults (vault_of o1)) out)
+      → WasGiven Holds IsClean Faults o o1 ((e, mark_of out) ∷ [])
+  given_one o o1 e out clean stands admitted counted cause = record {
+    clean = clean;
+    stands = λ B L s k. stands (trace_of B L) s k;
+    admitted = λ B L s k. (admitted (trace_of B L) s k, tt);
+    counted = counted;
+    failed = λ B L s k f. failed_one e (mark_of out) out (Faults (vault_of o)) (Faults (vault_of o1)) refl (cause (trace_of B L) s k) f;
+  }
+
+module _ {W : Type 0} (Asked : W → List Call → Type 0) where
+  pub asked_none : (w : W) → WasAsked Asked w w []
+  asked_none w = record { is = λ before k. subst (Asked w) (sym (append-nil before)) k }
+
+  pub asked_one : (w w1 : W) (call : Call) → ((before : List Call) → Asked w before → Asked w1 (before ++ call ∷ [])) → WasAsked Asked w w1 (call ∷ [])
+  asked_one w w1 call is = record { is = is }
+
+  pub asked_then : (w w1 w2 : W) (c1 c2 : List Call) → WasAsked Asked w w1 c1 → WasAsked Asked w1 w2 c2 → WasAsked Asked w w2 (c1 ++ c2)
+  asked_then w w1 w2 c1 c2 a b = record { is = λ before k. subst (Asked w2) (append_assoc before c1 c2) (b.is (before ++ c1) (a.is before k)) }
+
+  pub asking_then : (w w1 w2 : W) (F G H : List Call → Type 0) → ((c1 c2 : List Call) → F c1 → G c2 → H (c1 ++ c2))
+      → Asking Asked w w1 F → Asking Asked w1 w2 G → Asking Asked w w2 H
+  asking_then w w1 w2 F G H join a b = record {
+    calls = a.calls ++ b.calls;
+    was_asked = asked_then w w1 w2 a.calls b.calls a.was_asked b.was_asked;
+    facts = join a.calls b.calls a.facts b.facts;
+  }
+
+module _ {V W : Type 0} (Holds : V → Contents → Type 0) (IsClean : V → Type 0) (Faults : V → ℕ) (Asked : W → List Call → Type 0) where
+  pub part_then : (o o1 o2 : Office V) (w w1 w2 : W) (F G H : Log → List Call → Type 0)
+      → ((g1 g2 : Log) (c1 c2 : List Call) → WasGiven Holds IsClean Faults o o1 g1 → WasGiven Holds IsClean Faults o1 o2 g2 → F g1 c1 → G g2 c2 → H (g2 ++ g1) (c1 ++ c2))
+      → Part Holds IsClean Faults Asked o w o1 w1 F → Part Holds IsClean Faults Asked o1 w1 o2 w2 G → Part Holds IsClean Faults Asked o w o2 w2 H
+  part_then o o1 o2 w w1 w2 F G H join a b = record {
+    given = b.given ++ a.given;
+    calls = a.calls ++ b.calls;
+    was_given = given_then Holds IsClean Faults o o1 o2 a.given b.given a.was_given b.was_given;
+    was_asked = asked_then Asked w w1 w2 a.calls b.calls a.was_asked b.was_asked;
+    facts = join a.given b.given a.calls b.calls a.was_given b.was_given a.facts b.facts;
+  }
+
+  -- the same part, of which something else holds
+  pub part_so : (o o1 : Office V) (w w1 : W) (F G : Log → List Call → Type 0) → ((g : Log) (c : List Call) → WasGiven Holds IsClean Faults o o1 g → F g c → G g c)
+      → Part Holds IsClean Faults Asked o w o1 w1 F → Part Holds IsClean Faults Asked o w o1 w1 G
+  part_so o o1 w w1 F G so a = record { given = a.given; calls = a.calls; was_given = a.was_given; was_asked = a.was_asked; facts = so a.given a.calls a.was_given a.facts }
+
+  -- nothing was done
+  pub part_none : (o : Office V) (w : W) (F : Log → List Call → Type 0) → F [] [] → Part Holds IsClean Faults Asked o w o w F
+  part_none o w F f = record { given = []; calls = []; was_given = given_none Holds IsClean Faults o; was_asked = asked_none Asked w; facts = f }
+
+  -- a part that asks the wire alone, or gives events to the office alone
+  pub part_asking : (o : Office V) (w w1 : W) (F : List Call → Type 0) → Asking Asked w w1 F → Part Holds IsClean Faults Asked o w o w1 (λ given calls. (given ≡ []) × F calls)
+  part_asking o w w1 F a = record { given = []; calls = a.calls; was_given = given_none Holds IsClean Faults o; was_asked = a.was_asked; facts = (refl, a.facts) }
+
+  pub part_giving : (o o1 : Office V) (w : W) (F : Log → Type 0) → Giving Holds IsClean Faults o o1 F → Part Holds IsClean Faults Asked o w o1 w (λ given calls. (calls ≡ []) × F given)
+  part_giving o o1 w F a = record { given = a.given; calls = []; was_given = a.was_given; was_asked = asked_none Asked w; facts = (refl, a.facts) }
+
+-- ---- what is seen of calls and events, one after the other
+
+pub none_joined : {A C : Type 0} (h : A → Option C) (xs ys : List A) → filter_map h xs ≡ [] → filter_map h ys ≡ [] → filter_map h (xs ++ ys) ≡ []
+none_joined h xs ys a b = filter_map-append h xs ys ∙ (ap (λ zs. zs ++ filter_map h ys) a ∙ b)
+
+pub count_joined : {A : Type 0} (p : A → Bool) (xs ys : List A) → length (filter p (xs ++ ys)) ≡ length (filter p xs) + length (filter p ys)
+count_joined p xs ys = ap length (filter-append p xs ys) ∙ length-append (filter p xs) (filter p ys)
+
+none_counted : {A : Type 0} (p : A → Bool) (xs ys : List A) → length (filter p xs) ≡ 0 → length (filter p ys) ≡ 0 → length (filter p (xs ++ ys)) ≡ 0
+none_counted p xs ys a b = let e = count_joined p xs ys in omega (arith, e, a, b)
+
+pub any_left : {A : Type 0} (p : A → Bool) (xs ys : List A) → list_any p xs ≡ true → list_any p (xs ++ ys) ≡ true
+any_left p xs ys h = list_any-append p xs ys ∙ ap (λ b. b || list_any p ys) h
+
+pub any_right : {A : Type 0} (p : A → Bool) (xs ys : List A) → list_any p ys ≡ true → list_any p (xs ++ ys) ≡ true
+any_right p xs ys h = list_any-append p xs ys ∙ (ap (λ b. list_any p xs || b) h ∙ or_true (list_any p xs))
+
+pub quiet_then : (g1 g2 : Log) (c1 c2 : List Call) → IsQuiet g1 c1 → IsQuiet g2 c2 → IsQuiet (g2 ++ g1) (c1 ++ c2)
+quiet_then g1 g2 c1 c2 a b = record {
+  no_moments = none_joined _ g2 g1 b.no_moments a.no_moments;
+  no_openings = none_counted _ g2 g1 b.no_openings a.no_openings;
+  no_refusals = none_counted _ g2 g1 b.no_refusals a.no_refusals;
+  no_waits = none_joined _ c1 c2 a.no_waits b.no_waits;
+  no_arrivals = none_joined _ c1 c2 a.no_arrivals b.no_arrivals;
+  no_closings = none_joined _ c1 c2 a.no_closings b.no_closings;
+}
+
+pub quiet_none : IsQuiet [] []
+quiet_none = record { no_moments = refl; no_openings = refl; no_refusals = refl; no_waits = refl; no_arrivals = refl; no_closings = refl }
+
+-- ---- causes
+
+-- more calls and more seats are causes too
+pub cause_more : (seats more : List Seat) (calls calls_then : List Call) → ((s : Seat) → Contains seats s → Contains more s) → ((l : Link) → is_cut l calls ≡ true → is_cut l calls_then ≡ true)
+    → (x : Event × Mark) → HasCause seats calls x → HasCause more calls_then x
+cause_more seats more calls calls_then has cut (event.Start host boot idle, m) h = h
+cause_more seats more calls calls_then has cut (event.Connect, m) h = tt
+cause_more seats more calls calls_then has cut (event.Bytes c piece, m) h = tt
+cause_more seats more calls calls_then has cut (event.Took c n, m) h = tt
+cause_more seats more calls calls_then has cut (event.Gone c, m) (s, at, is, k) = (s, has s at, is, cut s.link k)
+cause_more seats more calls calls_then has cut (event.Tick now, m) h = tt
+cause_more seats more calls calls_then has cut (event.Deposit d class id text, m) h = tt
+cause_more seats more calls calls_then has cut (event.Admin command, m) h = tt
+cause_more seats more calls calls_then has cut (event.Restart boot, m) h = h
+
+pub caused_more : (seats more : List Seat) (calls calls_then : List Call) (given : Log) → ((s : Seat) → Contains seats s → Contains more s) → ((l : Link) → is_cut l calls ≡ true → is_cut l calls_then ≡ true)
+    → AreCaused seats calls given → AreCaused more calls_then given
+caused_more seats more calls calls_then given has cut a = All-weaker (HasCause seats calls) (HasCause more calls_then) (cause_more seats more calls calls_then has cut) given a
+
+pub caused_then : (seats : List Seat) (g1 g2 : Log) (c1 c2 : List Call) → AreCaused seats c1 g1 → AreCaused seats c2 g2 → AreCaused seats (c1 ++ c2) (g2 ++ g1)
+caused_then seats g1 g2 c1 c2 a b =
+    All-append (HasCause seats (c1 ++ c2)) g2 g1
+    (caused_more seats seats c2 (c1 ++ c2) g2 (λ s h. h) (λ l h. any_right (is_cut_of l) c1 c2 h) b)
+    (caused_more seats seats c1 (c1 ++ c2) g1 (λ s h. h) (λ l h. any_left (is_cut_of l) c1 c2 h) a)
+
+pub of_then : (seats : List Seat) (g1 g2 : Log) (c1 c2 : List Call) → IsQuietFor seats g1 c1 → IsQuietFor seats g2 c2 → IsQuietFor seats (g2 ++ g1) (c1 ++ c2)
+of_then seats g1 g2 c1 c2 a b = record { quiet = quiet_then g1 g2 c1 c2 a.quiet b.quiet; caused = caused_then seats g1 g2 c1 c2 a.caused b.caused }
+
+pub of_more : (seats more : List Seat) (given : Log) (calls : List Call) → ((s : Seat) → Contains seats s → Contains more s) → IsQuietFor seats given calls → IsQuietFor more given calls
+of_more seats more given calls has a = record { quiet = a.quiet; caused = caused_more seats more calls calls given has (λ l h. h) a.caused }
+
+pub of_none : (seats : List Seat) → IsQuietFor seats [] []
+of_none seats = record { quiet = quiet_none; caused = All-nil (HasCause seats []) }
+
+-- ---- turns
+
+pub taken_joined : (link : Link) (c1 c2 : List Call) → octets_taken link (c1 ++ c2) ≡ octets_taken link c1 + octets_taken link c2
+taken_joined link [] c2 = let e : 0 + octets_taken link c2 ≡ octets_taken link c2 = omega arith in sym e
+taken_joined link (x ∷ c1) c2 = let e = taken_joined link c1 c2 in omega (arith, e)
+
+pub turn_read : (share : ℕ) (link : Link) (calls : List Call) → list_any (is_read_of link) calls ≡ true → had_its_turn share link calls ≡ true
+turn_read share link calls h = rw h refl
+
+pub turn_later : (share : ℕ) (link : Link) (calls : List Call) → list_any (is_later_of link) calls ≡ true → had_its_turn share link calls ≡ true
+turn_later share link calls h =
+    let r = list_any (is_read_of link) calls in
+    let n = nat_le most_writes (length (filter (is_taking_of link) calls)) in
+    let s = nat_le share (octets_taken link calls) in
+    ap (λ b. ((r || b) || n) || s) h ∙ ap (λ b. (b || n) || s) (or_true r)
+
+pub turn_full : (share : ℕ) (link : Link) (calls : List Call) → most_writes ≤ length (filter (is_taking_of link) calls) → had_its_turn share link calls ≡ true
+turn_full share link calls h =
+    let k = le-leb most_writes (length (filter (is_taking_of link) calls)) h in
+    let x = list_any (is_read_of link) calls || list_any (is_later_of link) calls in
+    let s = nat_le share (octets_taken link calls) in
+    ap (λ b. (x || b) || s) k ∙ ap (λ b. b || s) (or_true x)
+
+pub turn_shared : (share : ℕ) (link : Link) (calls : List Call) → share ≤ octets_taken link calls → had_its_turn share link calls ≡ true
+turn_shared share link calls h =
+    let k = le-leb share (octets_taken link calls) h in
+    let x = (list_any (is_read_of link) calls || list_any (is_later_of link) calls) || nat_le most_writes (length (filter (is_taking_of link) calls)) in
+    ap (λ b. x || b) k ∙ or_true x
+
+turn_joined : (share : ℕ) (link : Link) (c c' : List Call) → (list_any (is_read_of link) c ≡ true → list_any (is_read_of link) c' ≡ true) → (list_any (is_later_of link) c ≡ true → list_any (is_later_of link) c' ≡ true)
+    → length (filter (is_taking_of link) c) ≤ length (filter (is_taking_of link) c') → octets_taken link c ≤ octets_taken link c' → had_its_turn share link c ≡ true → had_its_turn share link c' ≡ true
+turn_joined share link c c' read later full taken h =
+    let r = list_any (is_read_of link) c in
+    let l = list_any (is_later_of link) c in
+    let n = nat_le most_writes (length (filter (is_taking_of link) c)) in
+    let s = nat_le share (octets_taken link c) in
+    ⊎_elim
+    (λ (k : ((r || l) || n) ≡ true).
+    ⊎_elim
+    (λ (k2 : (r || l) ≡ true).
+    ⊎_elim
+    (λ (a : r ≡ true). turn_read share link c' (read a))
+    (λ (b : l ≡ true). turn_later share link c' (later b))
+    (or_cases r l k2))
+    (λ (k2 : n ≡ true).
+    (let m : most_writes ≤ length (filter (is_taking_of link) c) = leb-true most_writes (length (filter (is_taking_of link) c)) k2 in
+    turn_full share link c' (omega (arith, m, full))))
+    (or_cases (r || l) n k))
+    (λ (k : s ≡ true).
+    (let m : share ≤ octets_taken link c = leb-true share (octets_taken link c) k in
+    turn_shared share link c' (omega (arith, m, taken))))
+    (or_cases ((r || l) || n) s h)
+
+pub turn_left : (share : ℕ) (link : Link) (c1 c2 : List Call) → had_its_turn share link c1 ≡ true → had_its_turn share link (c1 ++ c2) ≡ true
+turn_left share link c1 c2 h =
+    let e = count_joined (is_taking_of link) c1 c2 in
+    let t = taken_joined link c1 c2 in
+    turn_joined share link c1 (c1 ++ c2) (any_left (is_read_of link) c1 c2) (any_left (is_later_of link) c1 c2) (omega (arith, e)) (omega (arith, t)) h
+
+pub turn_right : (share : ℕ) (link : Link) (c1 c2 : List Call) → had_its_turn share link c2 ≡ true → had_its_turn share link (c1 ++ c2) ≡ true
+turn_right share link c1 c2 h =
+    let e = count_joined (is_taking_of link) c1 c2 in
+    let t = taken_joined link c1 c2 in
+    turn_joined share link c2 (c1 ++ c2) (any_right (is_read_of link) c1 c2) (any_right (is_later_of link) c1 c2) (omega (arith, e)) (omega (arith, t)) h
+
+-- ---- links that stay unread
+
+module _ (B : Records) (L : Log) (wait : ℕ) (may : Bool) (s : Seat) where
+  pub unread_left : (g1 g2 : Log) (c1 c2 : List Call) → StaysUnread B L g1 c1 wait may s → StaysUnread B L (g2 ++ g1) (c1 ++ c2) wait may s
+  unread_left g1 g2 c1 c2 u = record {
+    piece = u.piece;
+    io = u.io;
+    shown = Contains-append_left c1 c2 (Looked Pop s.link u.io u.piece) u.shown;
+    later = g2 ++ u.later;
+    front = u.front;
+    is = ap (λ g. g2 ++ g) u.is ∙ sym (append_assoc g2 u.later u.front);
+    kept = u.kept;
+  }
+
+  pub unread_right : (g1 g2 : Log) (c1 c2 : List Call) → StaysUnread B (g1 ++ L) g2 c2 wait may s → StaysUnread B L (g2 ++ g1) (c1 ++ c2) wait may s
+  unread_right g1 g2 c1 c2 u = record {
+    piece = u.piece;
+    io = u.io;
+    shown = Contains-append_right c1 c2 (Looked Pop s.link u.io u.piece) u.shown;
+    later = u.later;
+    front = u.front ++ g1;
+    is = ap (λ g. g ++ g1) u.is ∙ append_assoc u.later u.front g1;
+    kept = subst (λ l. IsKeptBack (trace_of B l) s.connection u.piece wait may) (sym (append_assoc u.front g1 L)) u.kept;
+  }
+
+-- in a turn that goes on
+pub turned_left : (way : Way) (B : Records) (L g1 g2 : Log) (c1 c2 : List Call) (s : Seat)
+    → (had_its_turn way.share s.link c1 ≡ true) ⊎ StaysUnread B L g1 c1 way.wait way.may s → (had_its_turn way.share s.link (c1 ++ c2) ≡ true) ⊎ StaysUnread B L (g2 ++ g1) (c1 ++ c2) way.wait way.may s
+turned_left way B L g1 g2 c1 c2 s h =
+    ⊎_elim
+    (λ (t : had_its_turn way.share s.link c1 ≡ true). inl (turn_left way.share s.link c1 c2 t))
+    (λ (u : StaysUnread B L g1 c1 way.wait way.may s). inr (unread_left B L way.wait way.may s g1 g2 c1 c2 u))
+    h
+
+pub turned_right : (way : Way) (B : Records) (L g1 g2 : Log) (c1 c2 : List Call) (s : Seat)
+    → (had_its_turn way.share s.link c2 ≡ true) ⊎ StaysUnread B (g1 ++ L) g2 c2 way.wait way.may s → (had_its_turn way.share s.link (c1 ++ c2) ≡ true) ⊎ StaysUnread B L (g2 ++ g1) (c1 ++ c2) way.wait way.may s
+turned_right way B L g1 g2 c1 c2 s h =
+    ⊎_elim
+    (λ (t : had_its_turn way.share s.link c2 ≡ true). inl (turn_right way.share s.link c1 c2 t))
+    (λ (u : StaysUnread B (g1 ++ L) g2 c2 way.wait way.may s). inr (unread_right B L way.wait way.may s g1 g2 c1 c2 u))
+    h
+
+-- ---- what is open
+
+not_ignored : (r : Reason) (s o : Outcome) (t : Tag) → o ≡ or_ignored (Some r) s → Tagged t ≡ mark_of o → ⊥
+not_ignored r s o t is e = let k : Tagged t ≡ Ignored = e ∙ ap mark_of is in cc
+
+-- what isn't ignored for want of a connection has an open one
+open_else : (b : Bool) (more : Option Reason) (s o : Outcome) (t : Tag) → o ≡ or_ignored (if not b then Some NoSuchConnection else more) s → Tagged t ≡ mark_of o → b ≡ true
+open_else true more s o t is e = refl
+open_else false more s o t is e = absurd (not_ignored NoSuchConnection s o t is e)
+
+open_gone : (b : Bool) (s o : Outcome) (t : Tag) → o ≡ or_ignored (reason_if (not b) NoSuchConnection) s → Tagged t ≡ mark_of o → b ≡ true
+open_gone true s o t is e = refl
+open_gone false s o t is e = absurd (not_ignored NoSuchConnection s o t is e)
+
+module _ (B : Records) (L : Log) where
+  pub fewer_gone_one : (c : ℕ) (m : Mark) → IsAdmitted (trace_of B L) (event.Gone c) m → Fewer B L ((event.Gone c, m) ∷ L)
+  fewer_gone_one c Ignored a = λ d o. o
+  fewer_gone_one c (Tagged t) a =
+      fewer_framed B L c ((event.Gone c, Tagged t) ∷ L) (open_gone (is_open (trace_of B L) c) _ a.outcome t a.is.is a.mark) (frame_gone B L c t)
+
+  -- an event that isn't an opening opens nothing
+  fewer_one : (e : Event) (m : Mark) (seats : List Seat) (calls : List Call) → IsAdmitted (trace_of B L) e m → HasCause seats calls (e, m) → is_opening (e, m) ≡ false → Fewer B L ((e, m) ∷ L)
+  fewer_one (event.Start host boot idle) m seats calls a h n = absurd h
+  fewer_one event.Connect m seats calls a h n = cc
+  fewer_one (event.Bytes c piece) Ignored seats calls a h n = λ d o. o
+  fewer_one (event.Bytes c piece) (Tagged t) seats calls a h n =
+      fewer_framed B L c ((event.Bytes c piece, Tagged t) ∷ L) (open_else (is_open (trace_of B L) c) _ _ a.outcome t a.is.is a.mark) (frame_read B L c piece t)
+  fewer_one (event.Took c k) Ignored seats calls a h n = λ d o. o
+  fewer_one (event.Took c k) (Tagged t) seats calls a h n =
+      fewer_framed B L c ((event.Took c k, Tagged t) ∷ L) (open_else (is_open (trace_of B L) c) _ _ a.outcome t a.is.is a.mark) (frame_took B L c k t)
+  fewer_one (event.Gone c) m seats calls a h n = fewer_gone_one c m a
+  fewer_one (event.Tick now) m seats calls a h n = fewer_tick B L now m
+  fewer_one (event.Deposit d class id text) Ignored seats calls a h n = λ c o. o
+  fewer_one (event.Deposit d class id text) (Tagged t) seats calls a h n = λ c o. sym (deposit_same B L d class id text t c) ∙ o
+  fewer_one (event.Admin command) m seats calls a h n = fewer_command B L command m
+  fewer_one (event.Restart boot) m seats calls a h n = absurd h
+
+  no_first : (x : Event × Mark) (given : Log) → openings (x ∷ given) ≡ 0 → (is_opening x ≡ false) × (openings given ≡ 0)
+  no_first (event.Start host boot idle, m) given e = (refl, e)
+  no_first (event.Connect, m) given e = cc
+  no_first (event.Bytes c piece, m) given e = (refl, e)
+  no_first (event.Took c n, m) given e = (refl, e)
+  no_first (event.Gone c, m) given e = (refl, e)
+  no_first (event.Tick now, m) given e = (refl, e)
+  no_first (event.Deposit d class id text, m) given e = (refl, e)
+  no_first (event.Admin command, m) given e = (refl, e)
+  no_first (event.Restart boot, m) given e = (refl, e)
+
+-- connections went, and nothing else was done
+pub fewer_gone : (B : Records) (L given : Log) (now seconds : ℕ) (newcomers : List Newcomer) → AreNewlyAdmitted B L given → AreLateGone now seconds newcomers given → Fewer B L (given ++ L)
+fewer_gone B L [] now seconds newcomers a h = λ d o. o
+fewer_gone B L ((event.Gone c, m) ∷ given) now seconds newcomers a h = λ d o.
+    fewer_gone B L given now seconds newcomers a.1 (All-tail (IsLateGone now seconds newcomers) (event.Gone c, m) given h) d
+    (fewer_gone_one B (given ++ L) c m a.0 d o)
+fewer_gone B L ((event.Start host boot idle, m) ∷ given) now seconds newcomers a h = absurd (All-head (IsLateGone now seconds newcomers) (event.Start host boot idle, m) given h)
+fewer_gone B L ((event.Connect, m) ∷ given) now seconds newcomers a h = absurd (All-head (IsLateGone now seconds newcomers) (event.Connect, m) given h)
+fewer_gone B L ((event.Bytes c piece, m) ∷ given) now seconds newcomers a h = absurd (All-head (IsLateGone now seconds newcomers) (event.Bytes c piece, m) given h)
+fewer_gone B L ((event.Took c n, m) ∷ given) now seconds newcomers a h = absurd (All-head (IsLateGone now seconds newcomers) (event.Took c n, m) given h)
+fewer_gone B L ((event.Tick moment, m) ∷ given) now seconds newcomers a h = absurd (All-head (IsLateGone now seconds newcomers) (event.Tick moment, m) given h)
+fewer_gone B L ((event.Deposit d class id text, m) ∷ given) now seconds newcomers a h = absurd (All-head (IsLateGone now seconds newcomers) (event.Deposit d class id text, m) given h)
+fewer_gone B L ((event.Admin command, m) ∷ given) now seconds newcomers a h = absurd (All-head (IsLateGone now seconds newcomers) (event.Admin command, m) given h)
+fewer_gone B L ((event.Restart boot, m) ∷ given) now seconds newcomers a h = absurd (All-head (IsLateGone now seconds newcomers) (event.Restart boot, m) given h)
+
+pub fewer_quiet : (B : Records) (L given : Log) (seats : List Seat) (calls : List Call) → AreNewlyAdmitted B L given → AreCaused seats calls given → openings given ≡ 0 → Fewer B L (given ++ L)
+fewer_quiet B L [] seats calls a h n = λ d o. o
+fewer_quiet B L ((e, m) ∷ given) seats calls a h n = λ d o.
+    (let k = no_first B L (e, m) given n in
+    fewer_quiet B L given seats calls a.1 (All-tail (HasCause seats calls) (e, m) given h) k.1 d
+    (fewer_one B (given ++ L) e m seats calls a.0 (All-head (HasCause seats calls) (e, m) given h) k.0 d o))
+
+-- the links of these seats had their turns before, and other parts follow
+pub turns_later : (way : Way) (B : Records) (L given more : Log) (c1 c2 : List Call) (seats : List Seat) → Fewer B (given ++ L) (more ++ (given ++ L))
+    → All (HadTurn way B L given (trace_of B (given ++ L)) c1) seats → All (HadTurn way B L (more ++ given) (trace_of B ((more ++ given) ++ L)) (c1 ++ c2)) seats
+turns_later way B L given more c1 c2 seats fewer a =
+    subst (λ l. All (HadTurn way B L (more ++ given) (trace_of B l) (c1 ++ c2)) seats) (sym (append_assoc more given L))
+    (All-weaker (HadTurn way B L given (trace_of B (given ++ L)) c1) (HadTurn way B L (more ++ given) (trace_of B (more ++ (given ++ L))) (c1 ++ c2))
+    (λ s h o. turned_left way B L given more c1 c2 s (h (fewer s.connection o))) seats a)
+
+-- nothing is owed to a connection that doesn't wait for octets: it isn't open
+pub shut_by : (b : Bool) (u : List ℕ) → rest_if b u ≡ [] → (b && is_empty (rest_if b u)) ≡ false → b ≡ true → ⊥
+shut_by true u e n o = let k : is_empty (rest_if true u) ≡ true = ap is_empty e in true≢false (sym k ∙ n)
+shut_by false u e n o = cc
+
+-- nothing is owed where nothing is lent
+pub nothing_left : (owed : List ℕ) (n : ℕ) (empty : Bool) → n ≡ min (length owed) 16384 → empty ≡ (n == 0) → empty ≡ true → owed ≡ []
+nothing_left [] n empty exact is e = refl
+nothing_left (x ∷ owed) n empty exact is e = let z : n ≡ 0 = eqb-true n 0 (sym is ∙ e) in absurd (omega (arith, exact, z))

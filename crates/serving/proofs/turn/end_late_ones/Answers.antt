@@ -1,0 +1,45 @@
+use Rattle.std.proofs.Common.{rules, ◌≡◌, ◌==◌, [], ℕ, true, false, not, refl, sym, ap, ◌∙◌, subst}
+use Rattle.std.proofs.lemmas.List.Elements.{All-nil}
+use Rattle.serving.specs.Settings.{Settings}
+use Rattle.serving.specs.Works.{IsLateGone, AreNoMoreLate, Giving, AreLateGone}
+use Rattle.serving.proofs.Working.{given_none}
+use Rattle.serving.proofs.Late.{late_same, late_then, gone_then}
+use Rattle.serving.proofs.turn.end_late_ones.Goals as goal
+
+pub returns-then-links-eq0-clause-works : goal.returns-then-links-eq0-clause-works
+returns-then-links-eq0-clause-works g c =
+    record { given = []; was_given = given_none g.V.Vault.holds g.V.Vault.is_clean g.V.Vault.faults c.args.office.now; facts = All-nil (IsLateGone c.args.now c.args.links.now.newcomers.seconds c.args.links.now.newcomers.newcomers.items) }
+
+pub loop-place-init : goal.loop-place-init
+loop-place-init g c = record {
+  serves = λ T beside s clean. s;
+  clean = λ k. k;
+  seats = refl;
+  set = refl;
+  last = refl;
+  late = late_same c.args.now c.args.links.now.newcomers.seconds c.args.links.now.newcomers.newcomers.items;
+  works = record { given = []; was_given = given_none g.V.Vault.holds g.V.Vault.is_clean g.V.Vault.faults c.args.office.now; facts = All-nil (IsLateGone c.args.now c.args.links.now.newcomers.seconds c.args.links.now.newcomers.newcomers.items) };
+}
+
+pub loop-place-preserved : goal.loop-place-preserved
+loop-place-preserved g c =
+    let k = c.loop-place in
+    let x = c.end_late in
+    let n = c.args.links.now.newcomers in
+    let now = c.args.now in
+    let some : (n.seconds == 0) ≡ false = search rules in
+    let seconds : k.links.newcomers.seconds ≡ n.seconds = ap (λ (s : Settings). s.login_seconds) k.invariant.set in
+    let on : (k.links.newcomers.seconds == 0) ≡ false = ap (λ m. m == 0) seconds ∙ some in
+    let late : AreNoMoreLate now n.seconds k.links.newcomers.newcomers.items x.new.links.newcomers.newcomers.items =
+    subst (λ m. AreNoMoreLate now m k.links.newcomers.newcomers.items x.new.links.newcomers.newcomers.items) seconds x.ensures.late in
+    let one : Giving g.V.Vault.holds g.V.Vault.is_clean g.V.Vault.faults k.office x.new.office (AreLateGone now n.seconds k.links.newcomers.newcomers.items) =
+    subst (λ m. Giving g.V.Vault.holds g.V.Vault.is_clean g.V.Vault.faults k.office x.new.office (AreLateGone now m k.links.newcomers.newcomers.items)) seconds (x.ensures.works on) in
+    record {
+      serves = λ T beside s clean. x.ensures.serves T beside (k.invariant.serves T beside s (x.ensures.clean clean)) clean;
+      clean = λ clean. k.invariant.clean (x.ensures.clean clean);
+      seats = x.ensures.seats ∙ k.invariant.seats;
+      set = x.ensures.set ∙ k.invariant.set;
+      last = x.ensures.last ∙ k.invariant.last;
+      late = late_then now n.seconds n.newcomers.items k.links.newcomers.newcomers.items x.new.links.newcomers.newcomers.items k.invariant.late late;
+      works = gone_then g.V.Vault.holds g.V.Vault.is_clean g.V.Vault.faults now n.seconds n.newcomers.items k.links.newcomers.newcomers.items c.args.office.now k.office x.new.office k.invariant.late k.invariant.works one;
+    }

@@ -1,0 +1,36 @@
+-- What the calls of a wire tell of its traffic.
+use Rattle.std.specs.Prelude.{ℕ, false, List, [], ◌∷◌, Some}
+use Rattle.serving.specs.Wires.{Told, ToldOfPorts, at_port, counted, has_accepted, has_read, has_written, has_closed}
+use Rattle.serving.specs.Calls.{Call, Waited, Accepted, Looked, Read, Wrote, Closed}
+use Rattle.serving.specs.declared.notes.Asked.{Asked}
+use Rattle.serving.specs.declared.notes.Asked.TheVariants as asked
+
+-- of a port, where nothing was asked
+abbrev pub nothing : Told
+nothing = record { accepted = 0; read = λ k. []; written = λ k. []; over = λ k. false; strayed = false }
+
+-- behind a call
+abbrev pub told_behind : Call → ToldOfPorts → ToldOfPorts
+told_behind (Accepted port (Some link)) t = at_port port has_accepted t
+told_behind (Read port link io octets) t = at_port port (λ of. has_read of link.number io octets) t
+told_behind (Wrote port link io octets) t = at_port port (λ of. has_written of link.number io octets) t
+told_behind (Closed port link) t = at_port port (λ of. has_closed of link.number) t
+told_behind _ t = t
+
+-- behind calls, the newest last
+abbrev pub told_since : ToldOfPorts → List Call → ToldOfPorts
+told_since t [] = t
+told_since t (c ∷ calls) = told_since (told_behind c t) calls
+
+-- of all calls that were made
+abbrev pub told_of : List Call → ToldOfPorts
+told_of calls = told_since (record { pop = nothing; admin = nothing }) calls
+
+-- a call, as it is noted with the octets of its buffer
+abbrev pub call_of : Asked → List ℕ → Call
+call_of (asked.Wait millis) octets = Waited millis
+call_of (asked.Accept port link) octets = Accepted port link
+call_of (asked.Look port link io) octets = Looked port link io (counted io octets)
+call_of (asked.Read port link io) octets = Read port link io (counted io octets)
+call_of (asked.Write port link io) octets = Wrote port link io (counted io octets)
+call_of (asked.Close port link) octets = Closed port link

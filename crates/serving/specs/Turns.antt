@@ -1,0 +1,81 @@
+-- What a turn does all together.
+use Rattle.std.specs.Prelude.{◌≡◌, ◌⊎◌, ◌≤◌, ℕ, true, ◌||◌, List, [], ◌∷◌, ◌++◌, length, map, filter, filter_map, if◌then◌else◌}
+use Rattle.std.specs.List.{All, list_any}
+use Rattle.vault.specs.Calls.{has_grown}
+use Rattle.vault.specs.Changes.{Contents}
+use Rattle.office.specs.Events.{Event, Mark, Log, Trace}
+use Rattle.office.specs.Events as event
+use Rattle.office.specs.Taken.{trace_of}
+use Rattle.office.specs.Stands.{StandsFor, vault_of}
+use Rattle.office.specs.declared.office.Office.{Office}
+use Rattle.serving.specs.Calls.{Call, Waited}
+use Rattle.serving.specs.Spools.{FileCall}
+use Rattle.serving.specs.Settings.{last_tried}
+use Rattle.serving.specs.declared.wire.Link.{Link}
+use Rattle.serving.specs.declared.links.Seat.{Seat}
+use Rattle.serving.specs.declared.links.Links.{Links}
+use Rattle.serving.specs.Works.{waits, arrivals, closings, moments, openings, refusals, AreNewlyAdmitted, HasCause, IsLateGone, is_failed, WasAsked, Came, seat_of, unseated_of, link_of, HasAccepted, most_links, Way, way_by, HadTurn, is_open_seat, is_shut_seat, link_of_seat}
+use Rattle.serving.specs.SpoolTurns.{IsSpoolTurn}
+
+-- how long a turn waits: not at all where more can be done at once
+abbrev pub millis_of : Links → ℕ
+millis_of links = if links.clients.presses || links.requests.presses then 0 else 1000
+
+-- how it serves so many links
+abbrev pub way_of : Links → (count : ℕ) → Way
+way_of links count = way_by links.clients count
+
+-- an event has a cause: no connection goes but by its link's end, or because its client is late
+abbrev pub HasCauseInTurn : (now : ℕ) → Links → (seats : List Seat) → List Call → Event × Mark → Type 0
+HasCauseInTurn now links seats calls x =
+    HasCause seats calls x ⊎ IsLateGone now links.clients.newcomers.seconds links.clients.newcomers.newcomers.items x
+
+-- What a turn did since a trace, by the events that it gave to the office and the calls that it made of the wire; these seats had links then.
+pub record IsTurn (T after : Trace) (now : ℕ) (links links_then : Links) (came : List Came) (seats : List Seat) (given : Log) (calls : List Call) : Type 0 where
+  -- the seats at the start, and those of the links that came
+  pub seats_are : seats ≡ links.clients.seats.items ++ filter_map seat_of came
+  -- each event has a mark that it may have
+  pub admitted : AreNewlyAdmitted T.base T.log given
+  -- it waited once, before all else
+  pub waited : waits calls ≡ millis_of links ∷ []
+  pub waited_first : (later : List Call) × (calls ≡ Waited (millis_of links) ∷ later)
+  -- the office was told this moment and no other, before all else
+  pub told : moments given ≡ now ∷ []
+  pub told_first : (later : Log) × (m : Mark) × (given ≡ later ++ (event.Tick now, m) ∷ [])
+  -- links were accepted until none waited, 64 came, or all places were taken
+  pub accepted : HasAccepted (length seats) calls ⊎ (most_links ≤ length came)
+  pub arrived : arrivals calls ≡ map link_of came
+  -- for each an opening was asked for, and so many were refused as links got no seat
+  pub opened : openings given ≡ length came
+  pub refused : refusals given ≡ length (filter_map unseated_of came)
+  -- each link whose connection is open had its turn, or stays unread for a cause
+  pub turns : All (HadTurn (way_of links (length seats)) T.base T.log given after calls) seats
+  -- no connection went but by its link's end, or because its client is late
+  pub caused : All (HasCauseInTurn now links seats calls) given
+  -- exactly those links were closed that got no seat, and those whose connections aren't open
+  pub closed : closings calls ≡ filter_map unseated_of came ++ map link_of_seat (filter (is_shut_seat after) seats)
+  -- the others stay
+  pub left : links_then.clients.seats.items ≡ filter (is_open_seat after) seats
+
+-- A turn tries one spool file behind its other events.
+pub record IsFileTurn (T : Trace) (links links_then : Links) (given : Log) (file_calls : List FileCall) : Type 0 where
+  pub deposits : Log
+  pub earlier : Log
+  pub is : given ≡ deposits ++ earlier
+  pub tries : IsSpoolTurn (last_tried links) (last_tried links_then) (trace_of T.base (earlier ++ T.log)) deposits file_calls
+
+-- So it is of an office, a wire and a spool, since each trace.
+pub record Works {V W S : Type 0} (Holds : V → Contents → Type 0) (Faults : V → ℕ) (Asked : W → List Call → Type 0) (AskedFiles : S → List FileCall → Type 0) (T : Trace) (now : ℕ)
+    (links : Links) (office : Office V) (wire : W) (spool : S) (office_then : Office V) (links_then : Links) (wire_then : W) (spool_then : S) : Type 0 where
+  pub given : Log
+  pub calls : List Call
+  pub file_calls : List FileCall
+  pub came : List Came
+  pub seats : List Seat
+  pub stands : StandsFor Holds office_then (trace_of T.base (given ++ T.log))
+  -- an event failed only where the store's count of faults grew
+  pub failed : list_any is_failed given ≡ true → has_grown (Faults (vault_of office)) (Faults (vault_of office_then)) ≡ true
+  pub asked : WasAsked Asked wire wire_then calls
+  pub asked_files : (before : List FileCall) → AskedFiles spool before → AskedFiles spool_then (before ++ file_calls)
+  pub is : IsTurn T (trace_of T.base (given ++ T.log)) now links links_then came seats given calls
+  pub files : IsFileTurn T links links_then given file_calls
