@@ -128,6 +128,12 @@ class Server:
         with open(f"/proc/{self.run.pid}/status", encoding="ascii") as file:
             return int(re.search(r"VmRSS:\s*(\d+)", file.read())[1])
 
+    def processor(self):
+        """How many seconds of a processor the server used."""
+        with open(f"/proc/{self.run.pid}/stat", encoding="ascii") as file:
+            used = file.read().rpartition(")")[2].split()[11:13]
+        return sum(map(int, used)) / os.sysconf("SC_CLK_TCK")
+
     def end(self):
         self.run.kill()
         self.run.communicate()
