@@ -128,11 +128,11 @@ class Server:
         with open(f"/proc/{self.run.pid}/status", encoding="ascii") as file:
             return int(re.search(r"VmRSS:\s*(\d+)", file.read())[1])
 
-    def processor(self):
-        """How many seconds of a processor the server used."""
-        with open(f"/proc/{self.run.pid}/stat", encoding="ascii") as file:
-            used = file.read().rpartition(")")[2].split()[11:13]
-        return sum(map(int, used)) / os.sysconf("SC_CLK_TCK")
+    def asleep(self):
+        """For how many seconds it neither ran nor waited for a processor, since some moment."""
+        with open(f"/proc/{self.run.pid}/schedstat", encoding="ascii") as file:
+            ran, waited = map(int, file.read().split()[:2])
+        return time.monotonic() - (ran + waited) / 1e9
 
     def end(self):
         self.run.kill()
