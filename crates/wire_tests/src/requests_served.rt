@@ -2,7 +2,7 @@
 //! reads and writes.
 use crate::benches::{Bench, bench_over, request, turns};
 use crate::turns::octets;
-use serving::{MOST_REQUESTS, Stop};
+use serving::Stop;
 use std::alloc::Global;
 use std::test::Fail;
 use vault::PlainVault;
@@ -143,7 +143,7 @@ fn ninth_link(rt: HostRuntime) -> Result<(), Fail> {
         request(&mut bench, BEGUN)?;
     }
     turns(&mut bench, 2, 0);
-    assert_eq!(rt; bench.links.requests(), MOST_REQUESTS);
+    assert_eq!(rt; bench.links.requests(), 8);
     assert!(rt; bench.wire.is_request_closed(8) && bench.wire.response(8).is_empty());
     bench.wire.send_request(3, b"\r\n")?;
     turns(&mut bench, 1, 0);
