@@ -19,7 +19,7 @@ use converse::check_policy::check_policy;
 use converse::replay::replay;
 use converse::script::{ScriptFault, read_script};
 use converse::talking::talk;
-use converse::{Noted, Fault, tell_fault};
+use converse::{Fault, Noted, tell_fault};
 use journal::FileId;
 use looking::run_review;
 use resting::{run_check, run_export};
