@@ -175,7 +175,9 @@ fn serve_turns<'a, V: Vault, W: Wire + Peers + Drop>(
     server.links.set_wait(u64::from(wait));
     let login = options.get_one::<u32>("login-seconds").unwrap_or(0);
     server.links.set_login_seconds(u64::from(login));
-    server.links.set_slow_guesses(options.get_flag("slow-guesses"));
+    server
+        .links
+        .set_slow_guesses(options.get_flag("slow-guesses"));
     let Ok(start) = Instant::now(rt) else {
         return Err(Fault::NoClock);
     };
