@@ -9,7 +9,7 @@ use journal::{
 use office::{Limits, Office};
 use proxy::ProxiedWire;
 use recent::Recent;
-use serving::{FolderSpool, NotedWire, SocketWire, Wire, begin_noted, serve_turn};
+use serving::{FolderSpool, NotedWire, Server, SocketWire, Wire, begin_noted, serve_turn};
 use std::io;
 use std::io::Write;
 use std::net::{Ipv4Addr, SocketAddr};
@@ -170,14 +170,15 @@ fn serve_turns<'a, V: Vault, W: Wire + Peers + Drop>(
     let files = FolderSpool::new(rt, rt.alloc(), spool);
     let folder = Folder::new(rt, spool);
     let spool = Guarded::new(LoggedSpool::new(files, journal, folder), watch);
-    let mut server = begin_noted(rt.alloc(), office, wire, spool);
+    let Server { links, wire, spool } = begin_noted(rt.alloc(), office, wire, spool);
+    let mut links = links;
+    let mut wire = wire;
+    let mut spool = spool;
     let wait = options.get_one::<u32>("wait").unwrap_or(0);
-    server.links.set_wait(u64::from(wait));
+    links.set_wait(u64::from(wait));
     let login = options.get_one::<u32>("login-seconds").unwrap_or(0);
-    server.links.set_login_seconds(u64::from(login));
-    server
-        .links
-        .set_slow_guesses(options.get_flag("slow-guesses"));
+    links.set_login_seconds(u64::from(login));
+    links.set_slow_guesses(options.get_flag("slow-guesses"));
     let Ok(start) = Instant::now(rt) else {
         return Err(Fault::NoClock);
     };
@@ -188,13 +189,7 @@ fn serve_turns<'a, V: Vault, W: Wire + Peers + Drop>(
         let Ok(elapsed) = start.elapsed(rt) else {
             return Err(Fault::NoClock);
         };
-        serve_turn(
-            &mut server.links,
-            &mut server.wire,
-            office,
-            &mut server.spool,
-            elapsed.as_secs(),
-        );
+        serve_turn(&mut links, &mut wire, office, &mut spool, elapsed.as_secs());
     }
     Ok(0)
 }
