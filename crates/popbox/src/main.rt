@@ -20,14 +20,13 @@ use converse::replay::replay;
 use converse::script::{ScriptFault, read_script};
 use converse::talking::talk;
 use converse::{Fault, Noted, tell_fault};
+use jobs::{Job, open_do_close};
 use journal::FileId;
 use looking::run_review;
 use resting::{run_check, run_export};
 use serve::{note_store, serve_over};
 use session::Removals;
-use sqlite::{Alter, Connection, FileStore, Wary};
-use sqlite_disk::Disk;
-use sqlvault::SqlVault;
+use sqlite::Wary;
 use std::alloc::Global;
 use std::io::{BufWriter, Read, Write};
 use std::net::{Ipv4Addr, SocketAddr};
@@ -115,7 +114,7 @@ fn run_subcommand<E: Write>(
 
 /// What is run over a store. The number is the boot number that greetings have.
 #[derive(Clone, Copy)]
-enum Job {
+enum Task {
     /// `popbox replay`: a script.
     Replay(u64),
     /// `popbox talk`: one conversation.
@@ -125,12 +124,12 @@ enum Job {
     Serve(u64, SocketAddr, Option<FileId>),
 }
 
-impl Job {
-    /// The job, over the file that stands at the store's path before it is opened.
-    fn over(self, file: Option<FileId>) -> Job {
+impl Task {
+    /// The task, over the file that stands at the store's path before it is opened.
+    fn over(self, file: Option<FileId>) -> Task {
         match self {
-            Job::Serve(boot, at, _) => Job::Serve(boot, at, file),
-            job => job,
+            Task::Serve(boot, at, _) => Task::Serve(boot, at, file),
+            task => task,
         }
     }
 }
@@ -142,11 +141,11 @@ fn run_replay<E: Write>(
     options: &ArgMatches<'_>,
     err: &mut E,
 ) -> Result<u8, Fault> {
-    let job = Job::Replay(options.get_one::<u64>("boot").unwrap_or(1));
+    let task = Task::Replay(options.get_one::<u64>("boot").unwrap_or(1));
     match options.get_str("SCRIPT") {
-        None | Some("-") => run_job(rt, job, &mut rt.reader(), options, err),
+        None | Some("-") => run_task(rt, task, &mut rt.reader(), options, err),
         Some(path) => match fs::open(rt, path) {
-            Ok(mut file) => run_job(rt, job, &mut file, options, err),
+            Ok(mut file) => run_task(rt, task, &mut file, options, err),
             Err(error) => Ok(tell_unread(err, is_verbose(options), path, &error)),
         },
     }
@@ -162,7 +161,7 @@ fn run_talk<E: Write>(
         Some(boot) => boot,
         None => milliseconds(rt)?,
     };
-    run_job(rt, Job::Talk(boot), &mut rt.reader(), options, err)
+    run_task(rt, Task::Talk(boot), &mut rt.reader(), options, err)
 }
 
 /// Runs `popbox serve`: clients over the network, over the store that is named.
@@ -183,9 +182,9 @@ fn run_serve<E: Write>(
         return Ok(1);
     };
     let port = options.get_one::<u16>("pop-port").unwrap_or(1110);
-    let job = Job::Serve(milliseconds(rt)?, SocketAddr::from((address, port)), None);
+    let task = Task::Serve(milliseconds(rt)?, SocketAddr::from((address, port)), None);
     note_store(rt, options);
-    run_job(rt, job, &mut rt.reader(), options, err)
+    run_task(rt, task, &mut rt.reader(), options, err)
 }
 
 /// The milliseconds since 1970. Its fault is `NoClock`, where the system doesn't tell the time.
@@ -196,25 +195,26 @@ fn milliseconds(clock: &impl Clock) -> Result<u64, Fault> {
     u64::try_from(now.as_millis()).map_err(|_| Fault::NoClock)
 }
 
-/// Runs a job over the store that is named, or over an empty one in memory.
-fn run_job<S: Read, E: Write>(
+/// Runs a task over the store that is named, or over an empty one in memory.
+fn run_task<S: Read, E: Write>(
     rt: &HostRuntime,
-    job: Job,
+    task: Task,
     input: &mut S,
     options: &ArgMatches<'_>,
     err: &mut E,
 ) -> Result<u8, Fault> {
     match options.get_str("store") {
-        Some(path) => run_in_file(rt, job, input, path, options, err),
-        None => run_over(rt, job, input, PlainVault::new(rt.alloc()), options, err).0,
+        Some(path) => run_in_file(rt, task, input, path, options, err),
+        None => run_over(rt, task, input, PlainVault::new(rt.alloc()), options, err).0,
     }
 }
 
-/// Runs a job over the store in the file at a path, which is made where there is none, and no log
-/// of another.
+/// Runs a task over the store in the file at a path, which is made where there is none, and no log
+/// of another. The store is closed at the end. What was done is in the file or in its log by then,
+/// so a failure to close loses nothing and isn't told.
 fn run_in_file<S: Read, E: Write>(
     rt: &HostRuntime,
-    job: Job,
+    task: Task,
     input: &mut S,
     path: &str,
     options: &ArgMatches<'_>,
@@ -231,14 +231,17 @@ fn run_in_file<S: Read, E: Write>(
         return Ok(status);
     }
     make_file(rt, path);
-    let job = job.over(FileId::at(rt, path));
-    let fault = match SqlVault::open(rt, path, Wary) {
-        Ok(vault) => {
-            if is_verbose(options) {
-                tell_readers(rt, err, path);
-            }
-            return run_and_close(rt, job, input, vault, options, err);
-        }
+    let task = task.over(FileId::at(rt, path));
+    let over = OverStore {
+        rt,
+        task,
+        path,
+        input: &mut *input,
+        options,
+        err: &mut *err,
+    };
+    let fault = match open_do_close(rt, path, Wary, over) {
+        Ok((ran, _closed)) => return ran,
         Err(fault) => fault,
     };
     let status = tell_fault(err, Fault::from(fault));
@@ -248,38 +251,46 @@ fn run_in_file<S: Read, E: Write>(
     Ok(status)
 }
 
-/// Runs a job over a store in a file, and closes the file. What was done is in the file or in its
-/// log by then, so a failure to close loses nothing and isn't told.
-fn run_and_close<D: Disk + Drop, S: Read, E: Write>(
-    rt: &HostRuntime,
-    job: Job,
-    input: &mut S,
-    vault: SqlVault<FileStore<D>>,
-    options: &ArgMatches<'_>,
-    err: &mut E,
-) -> Result<u8, Fault> {
-    let (ran, conn) = run_over_tables(rt, job, input, vault, options, err);
-    let _ = conn.close();
-    ran
+/// A task, as a job over the store in the file at a path, once that is open.
+#[derive(Drop)]
+struct OverStore<'a, 'm, S, E> {
+    rt: &'a HostRuntime,
+    task: Task,
+    path: &'a str,
+    input: &'a mut S,
+    options: &'a ArgMatches<'m>,
+    err: &'a mut E,
 }
 
-/// Runs a job over a store in tables, and gives the connection to them back.
-fn run_over_tables<A: Alter + Drop, S: Read, E: Write>(
-    rt: &HostRuntime,
-    job: Job,
-    input: &mut S,
-    vault: SqlVault<A>,
-    options: &ArgMatches<'_>,
-    err: &mut E,
-) -> (Result<u8, Fault>, Connection<A>) {
-    let (ran, vault) = run_over(rt, job, input, vault, options, err);
-    (ran, vault.into_connection())
+impl<S: Read, E: Write> Job for OverStore<'_, '_, S, E> {
+    ghost use Rattle.std.specs.Prelude.{⊤};
+
+    type Answer = Result<u8, Fault>;
+
+    ghost tells = { λ _. ⊥ };
+
+    ghost does = { λ _ _ _ _ _ _. ⊤ };
+
+    fn run<V: Vault>(self, vault: V) -> (Result<u8, Fault>, V) {
+        let OverStore {
+            rt,
+            task,
+            path,
+            input,
+            options,
+            err,
+        } = self;
+        if is_verbose(options) {
+            tell_readers(rt, err, path);
+        }
+        run_over(rt, task, input, vault, options, err)
+    }
 }
 
-/// Runs a job over a vault, and gives the vault back.
+/// Runs a task over a vault, and gives the vault back.
 fn run_over<V: Vault, S: Read, E: Write>(
     rt: &HostRuntime,
-    job: Job,
+    task: Task,
     input: &mut S,
     vault: V,
     options: &ArgMatches<'_>,
@@ -288,16 +299,16 @@ fn run_over<V: Vault, S: Read, E: Write>(
     let host = options.get_str("host").unwrap_or("localhost");
     let removals = removals_of(options);
     let is_verbose = is_verbose(options);
-    match job {
-        Job::Replay(boot) if is_verbose => {
+    match task {
+        Task::Replay(boot) if is_verbose => {
             let name = script_name(options);
             replay_verbosely(rt, input, name, vault, host, boot, removals, err)
         }
-        Job::Replay(boot) => replay_over(rt, input, vault, host, boot, removals, err),
-        Job::Talk(boot) if is_verbose => {
+        Task::Replay(boot) => replay_over(rt, input, vault, host, boot, removals, err),
+        Task::Talk(boot) if is_verbose => {
             talk_verbosely(rt, input, vault, host, boot, removals, err)
         }
-        Job::Talk(boot) => {
+        Task::Talk(boot) => {
             let (mut input, mut out) = (Noted::new(input), Noted::new(io::writer(rt)));
             let alloc = rt.alloc();
             let (status, vault) = talk(
@@ -305,7 +316,7 @@ fn run_over<V: Vault, S: Read, E: Write>(
             );
             (Ok(status), vault)
         }
-        Job::Serve(boot, at, before) => {
+        Task::Serve(boot, at, before) => {
             serve_over(rt, vault, host, boot, at, before, options, err)
         }
     }
