@@ -174,9 +174,9 @@ module _ {V W S : Type 0} (Holds : V → Contents → Type 0) (IsClean : V → T
       let s3 = u2.stands B L s k3 in
       let s4 = u3.stands B L s k4 in
       let s5 = late.was_given.stands B (G3 ++ L) s4 k5 in
-      let T4 : Trace = trace_of B (gz ++ (G3 ++ L)) in
+      let trace4 : Trace = trace_of B (gz ++ (G3 ++ L)) in
       let after : Trace = trace_of B (G4 ++ L) in
-      let x = close T4 s5 in
+      let x = close trace4 s5 in
       let cp = pass.calls in
       let ca = acc.calls in
       let cq = asked.calls in
@@ -189,11 +189,11 @@ module _ {V W S : Type 0} (Holds : V → Contents → Type 0) (IsClean : V → T
       let quiet = deposits_quiet gs spool.deposits in
       let hush = late_quiet now seconds newcomers gz late.facts in
       let log_is : G4 ++ L ≡ gs ++ (gz ++ (G3 ++ L)) = append_assoc gx G3 L ∙ append_assoc gs gz (G3 ++ L) in
-      let same : (c : ℕ) → is_open after c ≡ is_open T4 c = λ c. ap (λ l. is_open (trace_of B l) c) log_is ∙ same_open B (gz ++ (G3 ++ L)) gs spool.deposits c in
+      let same : (c : ℕ) → is_open after c ≡ is_open trace4 c = λ c. ap (λ l. is_open (trace_of B l) c) log_is ∙ same_open B (gz ++ (G3 ++ L)) gs spool.deposits c in
       let fewer_late : Fewer B (G3 ++ L) (gz ++ (G3 ++ L)) = fewer_gone B (G3 ++ L) gz now seconds newcomers (late.was_given.admitted B (G3 ++ L) s4 k5) late.facts in
       let fewer : Fewer B (G2 ++ L) (gr ++ (G2 ++ L)) = fewer_quiet B (G2 ++ L) gr [] cr (reqs.was_given.admitted B (G2 ++ L) s3 k4) reqs.facts.caused reqs.facts.quiet.no_openings in
       let to_links : (c : ℕ) → is_open after c ≡ true → is_open (trace_of B (gl ++ (G1 ++ L))) c ≡ true = λ c here.
-      (let h4 : is_open T4 c ≡ true = sym (same c) ∙ here in
+      (let h4 : is_open trace4 c ≡ true = sym (same c) ∙ here in
       let h3 : is_open (trace_of B (G3 ++ L)) c ≡ true = fewer_late c h4 in
       let h2 : is_open (trace_of B (G2 ++ L)) c ≡ true = fewer c (subst (λ l. is_open (trace_of B l) c ≡ true) (append_assoc gr G2 L) h3) in
       subst (λ l. is_open (trace_of B l) c ≡ true) (append_assoc gl G1 L) h2) in
@@ -210,17 +210,17 @@ module _ {V W S : Type 0} (Holds : V → Contents → Type 0) (IsClean : V → T
       let caused_z : All Q gz = All-weaker (IsLateGone now seconds newcomers) Q (λ y p. inr p) gz late.facts in
       let lq = served.facts.of_seats.quiet in
       let rq = reqs.facts.quiet in
-      let waits_x : waits cx ≡ [] = ap waits x.facts.calls_are ∙ waits_of (filter (is_shut_seat T4) seats2) in
-      let arrivals_x : arrivals cx ≡ [] = ap arrivals x.facts.calls_are ∙ arrivals_of (filter (is_shut_seat T4) seats2) in
-      let closings_x : closings cx ≡ map link_of_seat (filter (is_shut_seat T4) seats2) = ap closings x.facts.calls_are ∙ closings_of (filter (is_shut_seat T4) seats2) in
+      let waits_x : waits cx ≡ [] = ap waits x.facts.calls_are ∙ waits_of (filter (is_shut_seat trace4) seats2) in
+      let arrivals_x : arrivals cx ≡ [] = ap arrivals x.facts.calls_are ∙ arrivals_of (filter (is_shut_seat trace4) seats2) in
+      let closings_x : closings cx ≡ map link_of_seat (filter (is_shut_seat trace4) seats2) = ap closings x.facts.calls_are ∙ closings_of (filter (is_shut_seat trace4) seats2) in
       let waits_p : waits cp ≡ millis ∷ [] = ap waits pass.facts.calls_are in
       let arrivals_p : arrivals cp ≡ [] = ap arrivals pass.facts.calls_are in
       let closings_p : closings cp ≡ [] = ap closings pass.facts.calls_are in
       let moments_p : moments gp ≡ now ∷ [] = ap moments pass.facts.given_is in
       let openings_p : openings gp ≡ 0 = ap openings pass.facts.given_is in
       let refusals_p : refusals gp ≡ 0 = ap refusals pass.facts.given_is in
-      let shut_same : filter (is_shut_seat T4) seats2 ≡ filter (is_shut_seat after) seats2 = filter_agree (is_shut_seat T4) (is_shut_seat after) (λ q. ap not (sym (same q.connection))) seats2 in
-      let open_same : filter (is_open_seat T4) seats2 ≡ filter (is_open_seat after) seats2 = filter_agree (is_open_seat T4) (is_open_seat after) (λ q. sym (same q.connection)) seats2 in
+      let shut_same : filter (is_shut_seat trace4) seats2 ≡ filter (is_shut_seat after) seats2 = filter_agree (is_shut_seat trace4) (is_shut_seat after) (λ q. ap not (sym (same q.connection))) seats2 in
+      let open_same : filter (is_open_seat trace4) seats2 ≡ filter (is_open_seat after) seats2 = filter_agree (is_open_seat trace4) (is_open_seat after) (λ q. sym (same q.connection)) seats2 in
       record {
         given = G4;
         calls = C5;

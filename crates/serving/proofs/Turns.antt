@@ -329,10 +329,10 @@ module _ {V : Type 0} (Holds : V → Contents → Type 0) (IsClean : V → Type 
         turns = λ B L s k.
             (let s1 = wa.stands B L s (wb.clean k) in
             let fewer = fewer_quiet B (g1 ++ L) g2 seats c2 (wb.admitted B (g1 ++ L) s1 k) b.of_seats.caused b.of_seats.quiet.no_openings in
-            let T2 = trace_of B ((g2 ++ g1) ++ L) in
+            let trace2 = trace_of B ((g2 ++ g1) ++ L) in
             let q = get_or seats i d in
             let last : HadTurn way B (g1 ++ L) g2 (trace_of B (g2 ++ (g1 ++ L))) c2 q = All-head (HadTurn way B (g1 ++ L) g2 (trace_of B (g2 ++ (g1 ++ L))) c2) q [] (b.turns B (g1 ++ L) s1 k) in
-            All-more (HadTurn way B L (g2 ++ g1) T2 (c1 ++ c2)) seats i d h
+            All-more (HadTurn way B L (g2 ++ g1) trace2 (c1 ++ c2)) seats i d h
             (turns_later way B L g1 g2 c1 c2 (take i seats) fewer (a.turns B L s (wb.clean k)))
             (λ here. turned_right way B L g1 g2 c1 c2 q (last (subst (λ l. is_open (trace_of B l) q.connection ≡ true) (append_assoc g2 g1 L) here))));
       }
