@@ -44,14 +44,14 @@ impl Read for Lines<'_> {
 
 /// A writer that takes `most` octets a call and counts them. It fails after so many calls.
 #[derive(Drop)]
-struct Noted<'a> {
+struct Written<'a> {
     text: Vec<u8>,
     most: usize,
     calls: usize,
     written: &'a Cell<usize>,
 }
 
-impl Write for Noted<'_> {
+impl Write for Written<'_> {
     fn write(&mut self, octets: &[u8]) -> io::Result<usize> {
         if self.calls == 0 {
             return Err(ErrorKind::BrokenPipe.into());
@@ -169,7 +169,7 @@ fn is_prompt(alloc: Global, office: &mut Office<PlainVault>, most: usize) -> boo
         calls: 100,
         written: &written,
     };
-    let mut writer = Noted {
+    let mut writer = Written {
         text: Vec::new(alloc),
         most,
         calls: 1000,
@@ -233,7 +233,7 @@ fn is_told(
         calls: reads,
         written: &written,
     };
-    let mut writer = Noted {
+    let mut writer = Written {
         text: Vec::new(alloc),
         most,
         calls: writes,
