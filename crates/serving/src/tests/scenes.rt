@@ -314,12 +314,16 @@ pub fn cut_by<S: Spool>(
     spool: &mut S,
     scene: &Scene<'_>,
     stop: Stop,
+    every: u64,
 ) -> Result<u64, Fail> {
     let (lost, calls) = play(alloc, spool, scene, u64::MAX, stop)?;
     if lost > 0 {
         return Err(Fail::new("a guest is lost"));
     }
     for call in 0..calls {
+        if call.checked_rem(every) != Some(0) {
+            continue;
+        }
         let (lost, _) = play(alloc, spool, scene, call, stop)?;
         if lost != 1 {
             return Err(Fail::new("not one guest alone is lost"));
@@ -330,7 +334,7 @@ pub fn cut_by<S: Spool>(
 
 /// Does so with each fault. How many calls the scene has.
 pub fn cut_off<S: Spool>(alloc: Global, spool: &mut S, scene: &Scene<'_>) -> Result<u64, Fail> {
-    let calls = cut_by(alloc, spool, scene, Stop::End)?;
-    cut_by(alloc, spool, scene, Stop::Broken)?;
+    let calls = cut_by(alloc, spool, scene, Stop::End, 1)?;
+    cut_by(alloc, spool, scene, Stop::Broken, 1)?;
     Ok(calls)
 }

@@ -66,7 +66,7 @@ fn line_without_its_end(rt: HostRuntime) -> Result<(), Fail> {
     Ok(())
 }
 
-/// A piece of line ends: one reply at a time is written, 64 in a turn.
+/// A whole piece of line ends: one reply at a time is written, 64 in a turn.
 static LINE_ENDS: [Act; 9] = [
     Act::Comes(0),
     Act::Turns(1, 0),
@@ -79,26 +79,47 @@ static LINE_ENDS: [Act; 9] = [
     Act::Open(0),
 ];
 
-/// Cuts it off by a fault in place of each call in turn. How many calls it has.
-fn cut_line_ends(alloc: Global, stop: Stop) -> Result<u64, Fail> {
+/// A short one.
+static SOME_LINE_ENDS: [Act; 9] = [
+    Act::Comes(0),
+    Act::Turns(1, 0),
+    Act::Told(0, GREETING, 1),
+    Act::Sends(0, "\n", 256),
+    Act::Turns(1, 0),
+    Act::Told(0, "-ERR unknown command\r\n", 64),
+    Act::Turns(3, 0),
+    Act::Told(0, "-ERR unknown command\r\n", 192),
+    Act::Open(0),
+];
+
+/// Cuts a piece off by a fault in place of one call of so many. How many calls it has.
+fn cut_line_ends(alloc: Global, first: &[Act], stop: Stop, every: u64) -> Result<u64, Fail> {
     let scene = Scene {
         piece: 4096,
-        first: &LINE_ENDS,
+        first,
         then: &THEN_BOB,
     };
-    cut_by(alloc, &mut ScriptSpool::new(alloc), &scene, stop)
+    cut_by(alloc, &mut ScriptSpool::new(alloc), &scene, stop, every)
 }
 
+/// Each 61st call, so that each place of a turn comes: all 4,111 take minutes without a proof.
 #[test]
 fn piece_of_line_ends(rt: HostRuntime) -> Result<(), Fail> {
-    assert_eq!(rt; cut_line_ends(rt.alloc(), Stop::End)?, 4111);
+    let alloc = rt.alloc();
+    assert_eq!(rt; cut_line_ends(alloc, &LINE_ENDS, Stop::End, 61)?, 4111);
+    assert_eq!(rt; cut_line_ends(alloc, &SOME_LINE_ENDS, Stop::End, 1)?, 271);
     Ok(())
 }
 
-/// The other fault, apart: each takes some seconds.
+/// The other fault.
 #[test]
 fn piece_of_line_ends_broken(rt: HostRuntime) -> Result<(), Fail> {
-    assert_eq!(rt; cut_line_ends(rt.alloc(), Stop::Broken)?, 4111);
+    let alloc = rt.alloc();
+    assert_eq!(rt; cut_line_ends(alloc, &LINE_ENDS, Stop::Broken, 61)?, 4111);
+    assert_eq!(rt;
+        cut_line_ends(alloc, &SOME_LINE_ENDS, Stop::Broken, 1)?,
+        271
+    );
     Ok(())
 }
 
