@@ -64,7 +64,7 @@ lines_of-some [] h = absurd (omega arith)
 lines_of-some (b ∷ bs) h =
     ⊎_elim (λ (e : eqb b 10 ≡ true). rw e (omega arith))
     (λ (e : eqb b 10 ≡ false). ⊎_elim (λ (r : (eqb b 13 && begins_with_newline bs) ≡ true).
-        rw (e, r) (lines_of-some bs (begins_with_newline-some bs (and_parts (eqb b 13) (begins_with_newline bs) r).1)))
+    rw (e, r) (lines_of-some bs (begins_with_newline-some bs (and_parts (eqb b 13) (begins_with_newline bs) r).1)))
     (λ (r : (eqb b 13 && begins_with_newline bs) ≡ false). rw (e, r) (onto_first_line-some b (lines_of bs))) (cases_Bool (eqb b 13 && begins_with_newline bs)))
     (cases_Bool (eqb b 10))
 
@@ -72,6 +72,11 @@ pub without_return-push : (l : List ℕ) → without_return (l ++ 13 ∷ []) ≡
 without_return-push [] = refl
 without_return-push (b ∷ []) = refl
 without_return-push (b ∷ c ∷ bs) = ap (λ l. b ∷ l) (without_return-push (c ∷ bs))
+
+pub without_return-other : (l : List ℕ) (b : ℕ) → eqb b 13 ≡ false → without_return (l ++ b ∷ []) ≡ l ++ b ∷ []
+without_return-other [] b e = rw e refl
+without_return-other (x ∷ []) b e = rw e refl
+without_return-other (x ∷ y ∷ ys) b e = ap (λ l. x ∷ l) (without_return-other (y ∷ ys) b e)
 
 pub Unbroken-push : (l : List ℕ) (b : ℕ) → Unbroken l → eqb b 10 ≡ false → Unbroken (l ++ b ∷ [])
 Unbroken-push [] b h e = (e, tt)

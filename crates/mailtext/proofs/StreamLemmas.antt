@@ -63,9 +63,9 @@ no_dot_at start octets n (suc j) first none lt le =
     let newline = eqb (get_or octets j 0) 10 in
     let dot = eqb (get_or octets (suc j) 0) 46 in
     ⊎_elim (λ (e : (newline && dot) ≡ true).
-        let parts = and_parts newline dot e in
-        let behind : get_or octets (j + 1) 0 ≡ 46 = rw (add-one j) (eqb-true (get_or octets (suc j) 0) 46 parts.1) in
-        absurd (none j (omega arith) (omega arith) (record { fits = omega arith; reads = reads_both octets j (eqb-true (get_or octets j 0) 10 parts.0) behind })))
+    let parts = and_parts newline dot e in
+    let behind : get_or octets (j + 1) 0 ≡ 46 = rw (add-one j) (eqb-true (get_or octets (suc j) 0) 46 parts.1) in
+    absurd (none j (omega arith) (omega arith) (record { fits = omega arith; reads = reads_both octets j (eqb-true (get_or octets j 0) 10 parts.0) behind })))
     (λ (e : (newline && dot) ≡ false). e) (cases_Bool (newline && dot))
 
 -- the octets before a place are sent as they are
@@ -77,6 +77,18 @@ sent_before start octets n (suc i) first none within le more =
     let before = sent_before start octets n i first none (omega arith) (omega arith) in
     let quiet = no_dot_at start octets n i first none (omega arith) (omega arith) in
     rw (add-one i) at (sent_octet start (front_at start octets i) octets i (omega arith) quiet before more)
+
+-- through a LF that a dot follows
+pub sent_found : (start : Bool) (octets : List ℕ) (n : ℕ) → (start && eqb (get_or octets 0 0) 46) ≡ false → Nowhere (OccursAt octets newline_dot) 0 n → OccursAt octets newline_dot n
+    → (more : List ℕ) → stuffed_from start (octets ++ more) ≡ take (n + 1) octets ++ stuffed_from true (drop (n + 1) octets ++ more)
+sent_found start octets n first none here more =
+    let same : n + 0 ≡ n = omega arith in
+    let read : get_or octets (n + 0) 0 ≡ 10 = here.reads 0 (omega arith) in
+    let newline : get_or octets n 0 ≡ 10 = rw same at read in
+    let fits : n + 2 ≤ length octets = here.fits in
+    let sent : stuffed_from start (octets ++ more) ≡ take (suc n) octets ++ stuffed_from (eqb (get_or octets n 0) 10) (drop (suc n) octets ++ more) =
+    sent_before start octets n (suc n) first none (omega arith) (omega arith) more in
+    rw (add-one n) (rw newline at sent)
 
 -- what is copied of the part of a piece for which there is room
 pub sent_run : (now next : Bool) (piece : List ℕ) (n room : ℕ) → n ≤ length (take room piece)

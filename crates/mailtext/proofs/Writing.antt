@@ -1,6 +1,6 @@
 -- The lines of a text written out line by line.
 use Rattle.std.proofs.Common.{◌≡◌, ◌≢◌, ℕ, zero, suc, ◌+◌, ◌<◌, List, [], ◌∷◌, ◌++◌, true, false}
-use Rattle.std.proofs.Common.{map, length, get_or, take, drop, refl, sym, ◌∙◌, ap, arith, append_assoc, append-nil}
+use Rattle.std.proofs.Common.{map, length, get_or, take, drop, refl, sym, ◌∙◌, ap, arith, append_assoc, subst}
 use Rattle.std.proofs.Common.{eqb, eqb-true, ⊎_elim, inl, inr}
 use Rattle.std.proofs.lemmas.List.{drop_more, length-append, length-take-le, take-append-drop, take_all, append_cancel_left}
 use Rattle.std.proofs.lemmas.Bool.{cases_Bool}
@@ -36,7 +36,7 @@ lines_of-cut text n lt none e =
     ap lines_of (cut_at text n lt e) ∙ lines_of-piece (take n text) (drop (n + 1) text) (Unbroken-before text n none)
 
 Unbroken-whole : (text : List ℕ) → Nowhere (Passes (is_byte 10) text) 0 (length text) → Unbroken text
-Unbroken-whole text none = rw (take_all (length text) text (omega arith)) at Unbroken-before text (length text) none
+Unbroken-whole text none = subst Unbroken (take_all (length text) text (omega arith)) (Unbroken-before text (length text) none)
 
 -- without LF there is no other
 pub lines_of-whole : (text : List ℕ) → 0 < length text → Nowhere (Passes (is_byte 10) text) 0 (length text) → lines_of text ≡ text ∷ []
@@ -50,10 +50,12 @@ written-line Kept text l rest e = ap ended e
 written-line Doubled text l rest e = ap stuffed_lines e
 written-line Dropped text l rest e = ap (λ ls. ended (map without_dot ls)) e
 
-pub written-nil : (dots : Dots) → written dots [] ≡ []
-written-nil Kept = refl
-written-nil Doubled = refl
-written-nil Dropped = refl
+-- a text without an octet has none
+pub written-empty : (dots : Dots) (text : List ℕ) → length text ≡ 0 → written dots text ≡ []
+written-empty Kept [] h = refl
+written-empty Doubled [] h = refl
+written-empty Dropped [] h = refl
+written-empty dots (b ∷ bs) h = absurd (omega (arith, h))
 
 ended-nonempty : (ls : List (List ℕ)) → 0 < length ls → 0 < length (ended ls)
 ended-nonempty [] h = absurd (omega arith)
@@ -64,6 +66,10 @@ pub kept_form-nonempty : (text : List ℕ) → 0 < length text → 0 < length (k
 kept_form-nonempty text h = ended-nonempty (lines_of text) (lines_of-some text h)
 
 -- ---- texts that are their own kept form
+
+pub kept_form-empty : (text : List ℕ) → length text ≡ 0 → kept_form text ≡ text
+kept_form-empty [] h = refl
+kept_form-empty (b ∷ bs) h = absurd (omega (arith, h))
 
 -- a piece has a CR at its end or hasn't
 return_cases : (p : List ℕ) → (p ≡ without_return p) ⊎ (p ≡ without_return p ++ 13 ∷ [])
@@ -95,20 +101,20 @@ module _ (text : List ℕ) (n : ℕ) (lt : n < length text) (none : Nowhere (Pas
   kept_by_rest other =
       ⊎_elim (λ (e : take n text ≡ line). absurd (other (ap length (sym e) ∙ size)))
       (λ (e : take n text ≡ line ++ 13 ∷ []).
-          let whole = ended_by_both e in (
-            (λ h. kept_form-cut ∙ (ap (λ ys. (line ++ line_end) ++ ys) h ∙ sym whole)),
-            (λ h. append_cancel_left (line ++ line_end) (kept_form rest) rest (sym kept_form-cut ∙ (h ∙ whole))),
-          ))
+      let whole = ended_by_both e in (
+        (λ h. kept_form-cut ∙ (ap (λ ys. (line ++ line_end) ++ ys) h ∙ sym whole)),
+        (λ h. append_cancel_left (line ++ line_end) (kept_form rest) rest (sym kept_form-cut ∙ (h ∙ whole))),
+      ))
       (return_cases (take n text))
 
   -- one that LF alone ends is another in the kept form
   pub kept_never : length line ≡ n → ¬ (kept_form text ≡ text)
   kept_never same kept =
       ⊎_elim (λ (e : take n text ≡ line).
-          let whole : text ≡ line ++ 10 ∷ rest = cut_at text n lt newline ∙ ap (λ l. l ++ 10 ∷ rest) e in
-          let both : line ++ (line_end ++ kept_form rest) ≡ line ++ 10 ∷ rest = sym (append_assoc line line_end (kept_form rest)) ∙ (sym kept_form-cut ∙ (kept ∙ whole)) in
-          let first : 13 ≡ 10 = ap (λ ys. get_or ys 0 0) (append_cancel_left line (line_end ++ kept_form rest) (10 ∷ rest) both) in
-          absurd (omega (arith, first)))
+      let whole : text ≡ line ++ 10 ∷ rest = cut_at text n lt newline ∙ ap (λ l. l ++ 10 ∷ rest) e in
+      let both : line ++ (line_end ++ kept_form rest) ≡ line ++ 10 ∷ rest = sym (append_assoc line line_end (kept_form rest)) ∙ (sym kept_form-cut ∙ (kept ∙ whole)) in
+      let first : 13 ≡ 10 = ap (λ ys. get_or ys 0 0) (append_cancel_left line (line_end ++ kept_form rest) (10 ∷ rest) both) in
+      absurd (omega (arith, first)))
       (λ (e : take n text ≡ line ++ 13 ∷ []). absurd (omega (arith, same, size, ap length e, length-append line (13 ∷ []))))
       (return_cases (take n text))
 
@@ -116,5 +122,5 @@ module _ (text : List ℕ) (n : ℕ) (lt : n < length text) (none : Nowhere (Pas
 pub kept_without_newline : (text : List ℕ) → Nowhere (Passes (is_byte 10) text) 0 (length text) → kept_form text ≡ text → length text ≡ 0
 kept_without_newline [] none kept = refl
 kept_without_newline (b ∷ bs) none kept =
-    let e : (b ∷ bs ++ line_end) ++ [] ≡ b ∷ bs = sym (ap ended (lines_of-whole (b ∷ bs) (omega arith) none)) ∙ kept in
-    absurd (omega (arith, ap length e, length-append (b ∷ bs ++ line_end) [], length-append (b ∷ bs) line_end))
+    let e : ((b ∷ bs) ++ line_end) ++ [] ≡ b ∷ bs = sym (ap ended (lines_of-whole (b ∷ bs) (omega arith) none)) ∙ kept in
+    absurd (omega (arith, ap length e, length-append ((b ∷ bs) ++ line_end) [], length-append (b ∷ bs) line_end))

@@ -113,10 +113,11 @@ pub fn are_ended_lines(octets: &[u8]) -> bool
 {
     let mut rest = octets;
     'rest: while let Some(end) = memchr(LF, rest) {
-        if without_return(&rest[..end]).len() == end {
+        let (piece, behind) = rest.split_at(end);
+        if without_return(piece).len() == end {
             return false;
         }
-        rest = &rest[end + 1..];
+        rest = &behind[1..];
     }
     rest.is_empty()
 }

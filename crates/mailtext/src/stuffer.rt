@@ -1,7 +1,7 @@
 //! The lines of a reply sent from pieces of a text, a dot put before each that begins with one
 //! (RFC 1939, section 3).
 
-ghost use Rattle.std.specs.Prelude.{◌≡◌, ◌<◌, ◌≤◌, ◌+◌, ◌*◌, ◌++◌, ℕ, List, length, take, drop, slice_index, true};
+ghost use Rattle.std.specs.Prelude.{◌≡◌, ◌==◌, ◌&&◌, ◌<◌, ◌≤◌, ◌+◌, ◌*◌, ◌++◌, ℕ, List, length, take, drop, slice_index, true};
 ghost use Rattle.mailtext.specs.Text.{kept_form, lines_of, stuffed_lines};
 ghost use Rattle.mailtext.specs.Streams.{stuffed_from, front_at, owed_dots};
 
@@ -25,6 +25,17 @@ impl Model for Stuffer {
     ghost view = { λ stuffer. stuffer.at_front };
 }
 
+/// Whether a dot is put before these octets. `at_front` says whether the first is at the front of a
+/// line.
+fn wants_dot(octets: &[u8], at_front: bool) -> bool
+    ensures { result ≡ (at_front && slice_index octets.now 0 == 46) }
+{
+    match octets.first() {
+        Some(first) => at_front && *first == b'.',
+        None => false,
+    }
+}
+
 /// Whether what follows these octets is at the front of a line. `at_front` says it of the first.
 fn is_front_behind(octets: &[u8], at_front: bool) -> bool
     ensures { result ≡ front_at at_front octets.now (length octets.now) }
@@ -45,7 +56,7 @@ fn run_of(octets: &[u8], at_front: bool) -> (usize, bool)
     ensures front { result.0 < length octets.now → result.1 ≡ true }
     ensures dot { result.0 < length octets.now → slice_index octets.now result.0 ≡ 46 }
 {
-    if at_front && octets.first() == Some(&b'.') {
+    if wants_dot(octets, at_front) {
         return (0, at_front);
     }
     match memmem::find(octets, b"\n.") {
