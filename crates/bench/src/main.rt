@@ -10,7 +10,8 @@
 //! - `removal MESSAGES [STORE]`, `logins MESSAGES [STORE]`: sessions in an office. `grouped
 //!   MESSAGES [STORE]`: logins where 999 rules about groups stand before ann's. STORE is `plain`
 //!   (vectors in memory, the default), `tables` (in memory too) or `file PATH` (not there yet).
-//! - `opening MESSAGES file PATH`: fills a new file, and opens it again.
+//! - `opening MESSAGES file PATH`: fills a new file, and opens it again. `floor 0 file PATH` opens
+//!   one by the toolchain's SQLite alone: the least that an opening takes.
 #![tactic(auto)]
 
 mod acts;
@@ -48,6 +49,7 @@ fn run(rt: &HostRuntime, what: &str, count: u32, over: &str, path: &str) -> Resu
         "groups" => Ok(rules::measure_groups(rt, count as usize)?),
         "copies" => Ok(rules::hold(rt, count)?),
         "opening" => stores::measure_opening(rt, path, count),
+        "floor" => stores::measure_floor(rt, path),
         "removal" => stores::measure(rt, Job::Removal, count, over, path),
         "logins" => stores::measure(rt, Job::Logins, count, over, path),
         "grouped" => stores::measure(rt, Job::Grouped, count, over, path),

@@ -123,3 +123,19 @@ pub fn measure_opening(rt: &HostRuntime, path: &str, count: u32) -> Result<(), F
     run_in_file(rt, path, Job::Filling, count)?;
     run_in_file(rt, path, Job::Standing, count)
 }
+
+/// Opens a database file as the toolchain's SQLite does, with nothing of ours over it, prints how
+/// long that took, and closes the file.
+pub fn measure_floor(rt: &HostRuntime, path: &str) -> Result<(), Fault> {
+    let start = Instant::now(rt)?;
+    match Connection::open_from(rt, path, false, Wary) {
+        Ok(conn) => {
+            let told = tell_opening(rt, start);
+            let closed = conn.close();
+            told?;
+            closed?;
+            Ok(())
+        }
+        Err((error, _)) => Err(Fault::from(error)),
+    }
+}

@@ -1,6 +1,6 @@
 -- What lines are: they have no LF, and the lines of lines that are ended are themselves.
-use Rattle.std.proofs.Common.{◌≡◌, ℕ, List, [], ◌∷◌, ◌++◌, Bool, true, false, ◌&&◌, refl, ◌∙◌, ap, append_assoc, eqb, ⊎_elim}
-use Rattle.std.proofs.lemmas.Bool.{cases_Bool, and_right}
+use Rattle.std.proofs.Common.{◌≡◌, ◌<◌, ℕ, List, [], ◌∷◌, ◌++◌, Bool, true, false, ◌&&◌, refl, ◌∙◌, ap, append_assoc, length, arith, eqb, ⊎_elim}
+use Rattle.std.proofs.lemmas.Bool.{cases_Bool, and_right, and_parts, false≢true}
 use Rattle.mailtext.specs.Text.{line_end, lines_of, onto_first_line, begins_with_newline, ended, kept_form, without_return}
 
 -- octets without LF
@@ -43,10 +43,40 @@ lines_of-piece (b ∷ []) rest h =
 lines_of-piece (b ∷ c ∷ bs) rest h =
     lines_of-other b ((c ∷ bs) ++ 10 ∷ rest) h.0 h.1.0 ∙ ap (onto_first_line b) (lines_of-piece (c ∷ bs) rest h.1)
 
+-- octets without LF are a line
+pub lines_of-unended : (l : List ℕ) → Unbroken l → 0 < length l → lines_of l ≡ l ∷ []
+lines_of-unended [] h some = absurd (omega arith)
+lines_of-unended (b ∷ []) h some = rw (h.0, and_right (eqb b 13) false refl) refl
+lines_of-unended (b ∷ c ∷ bs) h some =
+    lines_of-other b (c ∷ bs) h.0 h.1.0 ∙ ap (onto_first_line b) (lines_of-unended (c ∷ bs) h.1 (omega arith))
+
+-- a text with an octet has a line
+onto_first_line-some : (b : ℕ) (ls : List (List ℕ)) → 0 < length (onto_first_line b ls)
+onto_first_line-some b [] = omega arith
+onto_first_line-some b (l ∷ ls) = omega arith
+
+begins_with_newline-some : (bs : List ℕ) → begins_with_newline bs ≡ true → 0 < length bs
+begins_with_newline-some [] h = absurd (false≢true h)
+begins_with_newline-some (b ∷ bs) h = omega arith
+
+pub lines_of-some : (text : List ℕ) → 0 < length text → 0 < length (lines_of text)
+lines_of-some [] h = absurd (omega arith)
+lines_of-some (b ∷ bs) h =
+    ⊎_elim (λ (e : eqb b 10 ≡ true). rw e (omega arith))
+    (λ (e : eqb b 10 ≡ false). ⊎_elim (λ (r : (eqb b 13 && begins_with_newline bs) ≡ true).
+    rw (e, r) (lines_of-some bs (begins_with_newline-some bs (and_parts (eqb b 13) (begins_with_newline bs) r).1)))
+    (λ (r : (eqb b 13 && begins_with_newline bs) ≡ false). rw (e, r) (onto_first_line-some b (lines_of bs))) (cases_Bool (eqb b 13 && begins_with_newline bs)))
+    (cases_Bool (eqb b 10))
+
 pub without_return-push : (l : List ℕ) → without_return (l ++ 13 ∷ []) ≡ l
 without_return-push [] = refl
 without_return-push (b ∷ []) = refl
 without_return-push (b ∷ c ∷ bs) = ap (λ l. b ∷ l) (without_return-push (c ∷ bs))
+
+pub without_return-other : (l : List ℕ) (b : ℕ) → eqb b 13 ≡ false → without_return (l ++ b ∷ []) ≡ l ++ b ∷ []
+without_return-other [] b e = rw e refl
+without_return-other (x ∷ []) b e = rw e refl
+without_return-other (x ∷ y ∷ ys) b e = ap (λ l. x ∷ l) (without_return-other (y ∷ ys) b e)
 
 pub Unbroken-push : (l : List ℕ) (b : ℕ) → Unbroken l → eqb b 10 ≡ false → Unbroken (l ++ b ∷ [])
 Unbroken-push [] b h e = (e, tt)

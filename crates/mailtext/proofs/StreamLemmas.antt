@@ -1,10 +1,11 @@
 -- Texts that come in pieces: what is sent of them, and what belongs to TOP's part.
-use Rattle.std.proofs.Common.{◌≡◌, ℕ, zero, suc, ◌+◌, ◌-◌, ◌<◌, ◌≤◌, List, [], ◌∷◌, ◌++◌, Bool, true, false, ◌&&◌, length, take, drop, get_or, set, refl, sym, ◌∙◌, ap, ap₂, arith, append_assoc, append-nil, eqb, ne_eqb, ⊎_elim}
-use Rattle.std.proofs.lemmas.Bool.{cases_Bool}
+use Rattle.std.proofs.Common.{◌≡◌, ℕ, zero, suc, ◌+◌, ◌-◌, ◌<◌, ◌≤◌, List, [], ◌∷◌, ◌++◌, Bool, true, false, ◌&&◌, length, take, drop, get_or, set, refl, sym, ◌∙◌, ap, ap₂, arith, append_assoc, append-nil, add-one, eqb, eqb-true, ne_eqb, ⊎_elim}
+use Rattle.std.proofs.lemmas.Bool.{cases_Bool, and_parts}
 use Rattle.std.proofs.lemmas.List.{drop_more, drop_all, drop-drop, take-append-drop, take_at, take_more, take_rest, take-take, drop_at, drop-append-le, length-append, length-drop, length-take, length-take-le}
+use Rattle.memchr.specs.Find.{Nowhere, OccursAt}
 use borrow.Rule.Slice.PartMut.{put_mid}
 use Rattle.mailtext.specs.Text.{line_end, lines_of, ended, kept_form, stuffed, stuffed_lines, top_part}
-use Rattle.mailtext.specs.Streams.{stuffed_from, Come, nothing_come, is_over, top_from}
+use Rattle.mailtext.specs.Streams.{stuffed_from, front_at, Come, nothing_come, is_over, top_from}
 use Rattle.mailtext.specs.declared.top_cut.Place.{Place}
 use Rattle.mailtext.specs.declared.top_cut.Place.TheVariants.{Front, Return, Inside, Body}
 use Rattle.mailtext.proofs.LineLemmas.{Unbroken, AreLines, AreLines-lines_of}
@@ -44,6 +45,50 @@ sent_octet start now octets i lt e before more =
     let rest = drop (i + 1) octets ++ more in
     let here : stuffed_from now (drop i octets ++ more) ≡ b ∷ stuffed_from (eqb b 10) rest = rw (drop_more octets i 0 lt, e) refl in
     before more ∙ (ap (λ ys. take i octets ++ ys) here ∙ rw (take_more octets i 0 lt) (sym (append_assoc (take i octets) (b ∷ []) (stuffed_from (eqb b 10) rest))))
+
+-- where a search looks for a dot at the front of a line
+abbrev newline_dot : List ℕ
+newline_dot = 10 ∷ 46 ∷ []
+
+reads_both : (octets : List ℕ) (k : ℕ) → get_or octets k 0 ≡ 10 → get_or octets (k + 1) 0 ≡ 46 → (j : ℕ) → j < 2 → get_or octets (k + j) 0 ≡ get_or newline_dot j 0
+reads_both octets k a b zero lt = let e : k + 0 ≡ k = omega arith in rw e a
+reads_both octets k a b (suc zero) lt = b
+reads_both octets k a b (suc (suc j)) lt = absurd (omega arith)
+
+-- no dot is put before an octet that isn't behind a place of the search
+no_dot_at : (start : Bool) (octets : List ℕ) (n i : ℕ) → (start && eqb (get_or octets 0 0) 46) ≡ false → Nowhere (OccursAt octets newline_dot) 0 n
+    → i < length octets → i ≤ n → (front_at start octets i && eqb (get_or octets i 0) 46) ≡ false
+no_dot_at start octets n zero first none lt le = first
+no_dot_at start octets n (suc j) first none lt le =
+    let newline = eqb (get_or octets j 0) 10 in
+    let dot = eqb (get_or octets (suc j) 0) 46 in
+    ⊎_elim (λ (e : (newline && dot) ≡ true).
+    let parts = and_parts newline dot e in
+    let behind : get_or octets (j + 1) 0 ≡ 46 = rw (add-one j) (eqb-true (get_or octets (suc j) 0) 46 parts.1) in
+    absurd (none j (omega arith) (omega arith) (record { fits = omega arith; reads = reads_both octets j (eqb-true (get_or octets j 0) 10 parts.0) behind })))
+    (λ (e : (newline && dot) ≡ false). e) (cases_Bool (newline && dot))
+
+-- the octets before a place are sent as they are
+pub sent_before : (start : Bool) (octets : List ℕ) (n i : ℕ) → (start && eqb (get_or octets 0 0) 46) ≡ false → Nowhere (OccursAt octets newline_dot) 0 n
+    → i ≤ length octets → i ≤ n + 1
+    → (more : List ℕ) → stuffed_from start (octets ++ more) ≡ take i octets ++ stuffed_from (front_at start octets i) (drop i octets ++ more)
+sent_before start octets n zero first none within le more = refl
+sent_before start octets n (suc i) first none within le more =
+    let before = sent_before start octets n i first none (omega arith) (omega arith) in
+    let quiet = no_dot_at start octets n i first none (omega arith) (omega arith) in
+    rw (add-one i) at (sent_octet start (front_at start octets i) octets i (omega arith) quiet before more)
+
+-- through a LF that a dot follows
+pub sent_found : (start : Bool) (octets : List ℕ) (n : ℕ) → (start && eqb (get_or octets 0 0) 46) ≡ false → Nowhere (OccursAt octets newline_dot) 0 n → OccursAt octets newline_dot n
+    → (more : List ℕ) → stuffed_from start (octets ++ more) ≡ take (n + 1) octets ++ stuffed_from true (drop (n + 1) octets ++ more)
+sent_found start octets n first none here more =
+    let same : n + 0 ≡ n = omega arith in
+    let read : get_or octets (n + 0) 0 ≡ 10 = here.reads 0 (omega arith) in
+    let newline : get_or octets n 0 ≡ 10 = rw same at read in
+    let fits : n + 2 ≤ length octets = here.fits in
+    let sent : stuffed_from start (octets ++ more) ≡ take (suc n) octets ++ stuffed_from (eqb (get_or octets n 0) 10) (drop (suc n) octets ++ more) =
+    sent_before start octets n (suc n) first none (omega arith) (omega arith) more in
+    rw (add-one n) (rw newline at sent)
 
 -- what is copied of the part of a piece for which there is room
 pub sent_run : (now next : Bool) (piece : List ℕ) (n room : ℕ) → n ≤ length (take room piece)

@@ -1,191 +1,126 @@
--- The lines of a text written out octet by octet.
-use Rattle.std.proofs.Common.{◌≡◌, ℕ, ◌+◌, ◌<◌, List, [], ◌∷◌, ◌++◌, Bool, true, false, ◌&&◌, not}
-use Rattle.std.proofs.Common.{map, length, get_or, drop, refl, sym, ◌∙◌, ap, arith, append_assoc}
-use Rattle.std.proofs.Common.{eqb, ⊎_elim, eqb-true, Some, None, unwrap_or}
-use Rattle.std.proofs.lemmas.List.{drop_more, length-append}
-use Rattle.std.proofs.lemmas.Bool.{cases_Bool, and_parts, true≢false, false≢true}
-use Rattle.std.proofs.lemmas.Bool.Decides.{nat_tests}
-use Rattle.mailtext.specs.Text.{line_end, lines_of, onto_first_line, begins_with_newline, ended, kept_form, stuffed, stuffed_lines, without_dot}
-use Rattle.mailtext.specs.Written.{written, in_place, end_of, are_ended}
+-- The lines of a text written out line by line.
+use Rattle.std.proofs.Common.{◌≡◌, ◌≢◌, ℕ, zero, suc, ◌+◌, ◌<◌, List, [], ◌∷◌, ◌++◌, true, false}
+use Rattle.std.proofs.Common.{map, length, get_or, take, drop, refl, sym, ◌∙◌, ap, arith, append_assoc, subst}
+use Rattle.std.proofs.Common.{eqb, eqb-true, ⊎_elim, inl, inr}
+use Rattle.std.proofs.lemmas.List.{drop_more, length-append, length-take-le, take-append-drop, take_all, append_cancel_left}
+use Rattle.std.proofs.lemmas.Bool.{cases_Bool}
+use Rattle.std.specs.Prelude.{◌⊎◌, ◌↔◌}
+use Rattle.memchr.specs.Find.{Nowhere, Passes, is_byte}
+use Rattle.mailtext.specs.Text.{line_end, lines_of, onto_first_line, begins_with_newline, ended, kept_form, stuffed_lines, without_dot, without_return}
+use Rattle.mailtext.specs.Written.{written, dotted}
 use Rattle.mailtext.specs.declared.lines.Dots.{Dots}
 use Rattle.mailtext.specs.declared.lines.Dots.TheVariants.{Kept, Doubled, Dropped}
+use Rattle.mailtext.proofs.LineLemmas.{Unbroken, lines_of-piece, lines_of-unended, lines_of-some}
 
--- what is written for an octet that follows another
-abbrev pub put : Dots → ℕ → ℕ → List ℕ
-put dots previous b = unwrap_or (in_place dots previous b) (b ∷ [])
+-- ---- the first line of a text
 
--- what is written for the octets that follow one
-abbrev pub written_from : Dots → ℕ → List ℕ → List ℕ
-written_from dots previous [] = end_of previous
-written_from dots previous (b ∷ bs) = put dots previous b ++ written_from dots b bs
+Unbroken-take : (n : ℕ) (text : List ℕ) → ((k : ℕ) → k < n → eqb (get_or text k 0) 10 ≡ false) → Unbroken (take n text)
+Unbroken-take zero text h = tt
+Unbroken-take (suc n) [] h = tt
+Unbroken-take (suc n) (b ∷ bs) h = (h 0 (omega arith), Unbroken-take n bs (λ k lt. h (suc k) (omega arith)))
 
--- what is written for a line
-abbrev line_by : Dots → List ℕ → List ℕ
-line_by Kept l = l
-line_by Doubled l = stuffed l
-line_by Dropped l = without_dot l
+-- a text in which LF stands nowhere before a place
+Unbroken-before : (text : List ℕ) (n : ℕ) → Nowhere (Passes (is_byte 10) text) 0 n → Unbroken (take n text)
+Unbroken-before text n none = Unbroken-take n text (λ k lt.
+    ⊎_elim (λ (e : eqb (get_or text k 0) 10 ≡ true). absurd (none k (omega arith) lt e))
+    (λ (e : eqb (get_or text k 0) 10 ≡ false). e) (cases_Bool (eqb (get_or text k 0) 10)))
 
--- what is written for lines
-abbrev ended_by : Dots → List (List ℕ) → List ℕ
-ended_by dots [] = []
-ended_by dots (l ∷ ls) = line_by dots l ++ (line_end ++ ended_by dots ls)
+cut_at : (text : List ℕ) (n : ℕ) → n < length text → Passes (is_byte 10) text n → text ≡ take n text ++ 10 ∷ drop (n + 1) text
+cut_at text n lt e =
+    sym (take-append-drop n text) ∙ ap (λ ys. take n text ++ ys) (rw (drop_more text n 0 lt, eqb-true (get_or text n 0) 10 e) refl)
 
--- the same, where the first line has begun before
-abbrev rest_by : Dots → List (List ℕ) → List ℕ
-rest_by dots [] = line_end
-rest_by dots (l ∷ ls) = l ++ (line_end ++ ended_by dots ls)
+-- the first LF ends the first line
+pub lines_of-cut : (text : List ℕ) (n : ℕ) → n < length text → Nowhere (Passes (is_byte 10) text) 0 n → Passes (is_byte 10) text n
+    → lines_of text ≡ without_return (take n text) ∷ lines_of (drop (n + 1) text)
+lines_of-cut text n lt none e =
+    ap lines_of (cut_at text n lt e) ∙ lines_of-piece (take n text) (drop (n + 1) text) (Unbroken-before text n none)
 
-ended_by-kept : (ls : List (List ℕ)) → ended ls ≡ ended_by Kept ls
-ended_by-kept [] = refl
-ended_by-kept (l ∷ ls) = rw (ended_by-kept ls, append_assoc)
+Unbroken-whole : (text : List ℕ) → Nowhere (Passes (is_byte 10) text) 0 (length text) → Unbroken text
+Unbroken-whole text none = subst Unbroken (take_all (length text) text (omega arith)) (Unbroken-before text (length text) none)
 
-ended_by-doubled : (ls : List (List ℕ)) → stuffed_lines ls ≡ ended_by Doubled ls
-ended_by-doubled [] = refl
-ended_by-doubled (l ∷ ls) = rw (ended_by-doubled ls, append_assoc)
+-- without LF there is no other
+pub lines_of-whole : (text : List ℕ) → 0 < length text → Nowhere (Passes (is_byte 10) text) 0 (length text) → lines_of text ≡ text ∷ []
+lines_of-whole text some none = lines_of-unended text (Unbroken-whole text none) some
 
-ended_by-dropped : (ls : List (List ℕ)) → ended (map without_dot ls) ≡ ended_by Dropped ls
-ended_by-dropped [] = refl
-ended_by-dropped (l ∷ ls) = rw (ended_by-dropped ls, append_assoc)
+-- ---- what is written
 
-line_by-nil : (dots : Dots) → line_by dots [] ≡ []
-line_by-nil Kept = refl
-line_by-nil Doubled = refl
-line_by-nil Dropped = refl
+-- a line is written before those of the rest
+pub written-line : (dots : Dots) (text l rest : List ℕ) → lines_of text ≡ l ∷ lines_of rest → written dots text ≡ (dotted dots l ++ line_end) ++ written dots rest
+written-line Kept text l rest e = ap ended e
+written-line Doubled text l rest e = ap stuffed_lines e
+written-line Dropped text l rest e = ap (λ ls. ended (map without_dot ls)) e
 
--- an octet that is no dot at the front of a line stays there
-line_by-front : (dots : Dots) (b : ℕ) (l : List ℕ) → eqb b 10 ≡ false → line_by dots (b ∷ l) ≡ put dots 10 b ++ l
-line_by-front Kept b l e = grind (arith, nat_tests)
-line_by-front Doubled b l e = grind (arith, nat_tests)
-line_by-front Dropped b l e = grind (arith, nat_tests)
+-- a text without an octet has none
+pub written-empty : (dots : Dots) (text : List ℕ) → length text ≡ 0 → written dots text ≡ []
+written-empty Kept [] h = refl
+written-empty Doubled [] h = refl
+written-empty Dropped [] h = refl
+written-empty dots (b ∷ bs) h = absurd (omega (arith, h))
 
--- the octet LF behind CR stands for the end of a line without its CR
-after_return : (dots : Dots) (bs : List ℕ) → begins_with_newline bs ≡ true → 13 ∷ written_from dots 13 bs ≡ written_from dots 10 bs
-after_return dots [] e = absurd (false≢true e)
-after_return dots (b ∷ bs) e = rw (eqb-true b 10 e) refl
-
-first_line_empty : (dots : Dots) (bs : List ℕ) → begins_with_newline bs ≡ true → rest_by dots (lines_of bs) ≡ ended_by dots (lines_of bs)
-first_line_empty dots [] e = absurd (false≢true e)
-first_line_empty dots (b ∷ bs) e = rw (e, line_by-nil dots) refl
-
-rest_by-onto : (dots : Dots) (b : ℕ) (ls : List (List ℕ)) → rest_by dots (onto_first_line b ls) ≡ b ∷ rest_by dots ls
-rest_by-onto dots b [] = refl
-rest_by-onto dots b (l ∷ ls) = refl
-
-ended_by-onto : (dots : Dots) (b : ℕ) (ls : List (List ℕ)) → eqb b 10 ≡ false → ended_by dots (onto_first_line b ls) ≡ put dots 10 b ++ rest_by dots ls
-ended_by-onto dots b [] e = rw (line_by-front dots b [] e, append_assoc) refl
-ended_by-onto dots b (l ∷ ls) e = rw (line_by-front dots b l e, append_assoc) refl
-
--- what is written behind an octet within a line, or for the lines of a text from their front on
-record Agrees (dots : Dots) (bs : List ℕ) : Type 0 where
-  front : written_from dots 10 bs ≡ ended_by dots (lines_of bs)
-  inner : (p : ℕ) → eqb p 10 ≡ false → (eqb p 13 && begins_with_newline bs) ≡ false → written_from dots p bs ≡ rest_by dots (lines_of bs)
-
-put-newline : (dots : Dots) (p b : ℕ) → eqb b 10 ≡ true → eqb p 13 ≡ false → put dots p b ≡ line_end
-put-newline dots p b e h = rw (e, h) refl
-
-put-inner : (dots : Dots) (p b : ℕ) → eqb b 10 ≡ false → eqb p 10 ≡ false → put dots p b ≡ b ∷ []
-put-inner dots p b e h = grind (arith, nat_tests)
-
-put-return : (dots : Dots) (p b : ℕ) → eqb b 13 ≡ true → put dots p b ≡ b ∷ []
-put-return dots p b e = rw (eqb-true b 13 e) refl
-
-first_false : (x y : Bool) → y ≡ true → (x && y) ≡ false → x ≡ false
-first_false false y e h = refl
-first_false true y e h = absurd (true≢false (sym e ∙ h))
-
-agrees_at_newline : (dots : Dots) (b : ℕ) (bs : List ℕ) → eqb b 10 ≡ true → Agrees dots bs → Agrees dots (b ∷ bs)
-agrees_at_newline dots b bs e h = record {
-  front = rw (put-newline dots 10 b e refl, e, line_by-nil dots, ← h.front, eqb-true b 10 e) refl;
-  inner = λ p n r. rw (put-newline dots p b e (first_false (eqb p 13) (eqb b 10) e r), e, ← h.front, eqb-true b 10 e) refl;
-}
-
-agrees_behind_return : (dots : Dots) (bs : List ℕ) → begins_with_newline bs ≡ true → Agrees dots bs → Agrees dots (13 ∷ bs)
-agrees_behind_return dots bs n h = record {
-  front = rw n (after_return dots bs n ∙ h.front);
-  inner = λ p _ _. rw (n, first_line_empty dots bs n) (after_return dots bs n ∙ h.front);
-}
-
-agrees_at_return : (dots : Dots) (b : ℕ) (bs : List ℕ) → eqb b 13 ≡ true → begins_with_newline bs ≡ true → Agrees dots bs → Agrees dots (b ∷ bs)
-agrees_at_return dots b bs e n h = rw (eqb-true b 13 e) (agrees_behind_return dots bs n h)
-
-agrees_at_other : (dots : Dots) (b : ℕ) (bs : List ℕ) → eqb b 10 ≡ false → (eqb b 13 && begins_with_newline bs) ≡ false → Agrees dots bs → Agrees dots (b ∷ bs)
-agrees_at_other dots b bs e n h = record {
-  front = rw (e, n, ended_by-onto dots b (lines_of bs) e, e, h.inner b e n) refl;
-  inner = λ p q _. rw (put-inner dots p b e q, e, n, rest_by-onto dots b (lines_of bs), h.inner b e n) refl;
-}
-
-agrees : (dots : Dots) (bs : List ℕ) → Agrees dots bs
-agrees dots [] = record { front = refl; inner = λ p n _. rw n refl }
-agrees dots (b ∷ bs) =
-    let h = agrees dots bs in
-    ⊎_elim (λ e. agrees_at_newline dots b bs e h)
-    (λ e. ⊎_elim (λ r. let parts = and_parts (eqb b 13) (begins_with_newline bs) r in agrees_at_return dots b bs parts.0 parts.1 h)
-    (λ r. agrees_at_other dots b bs e r h) (cases_Bool (eqb b 13 && begins_with_newline bs)))
-    (cases_Bool (eqb b 10))
-
--- the lines of a text are written out octet by octet, as though behind a LF
-pub written-octets : (dots : Dots) (text : List ℕ) → written dots text ≡ written_from dots 10 text
-written-octets Kept text = ended_by-kept (lines_of text) ∙ sym ((agrees Kept text).front)
-written-octets Doubled text = ended_by-doubled (lines_of text) ∙ sym ((agrees Doubled text).front)
-written-octets Dropped text = ended_by-dropped (lines_of text) ∙ sym ((agrees Dropped text).front)
-
-put-nonempty : (p b : ℕ) → 0 < length (put Kept p b)
-put-nonempty p b = grind (arith, nat_tests)
-
--- ---- one octet more
-
-pub written_from-some : (dots : Dots) (p : ℕ) (text : List ℕ) (i : ℕ) (other : List ℕ) → i < length text → in_place dots p (get_or text i 0) ≡ Some other
-    → written_from dots p (drop i text) ≡ other ++ written_from dots (get_or text i 0) (drop (i + 1) text)
-written_from-some dots p text i other h e = rw (drop_more text i 0 h, e) refl
-
-pub written_from-none : (dots : Dots) (p : ℕ) (text : List ℕ) (i : ℕ) → i < length text → in_place dots p (get_or text i 0) ≡ None
-    → written_from dots p (drop i text) ≡ get_or text i 0 ∷ written_from dots (get_or text i 0) (drop (i + 1) text)
-written_from-none dots p text i h e = rw (drop_more text i 0 h, e) refl
-
-pub joined_some : (out mid rest other next done : List ℕ) → rest ≡ other ++ next → out ++ (mid ++ rest) ≡ done → (out ++ (mid ++ other)) ++ next ≡ done
-joined_some out mid rest other next done e h = simp append_assoc (rw e at h)
-
-pub joined_none : (out mid rest next done : List ℕ) (x : ℕ) → rest ≡ x ∷ next → out ++ (mid ++ rest) ≡ done → out ++ ((mid ++ x ∷ []) ++ next) ≡ done
-joined_none out mid rest next done x e h = simp append_assoc (rw e at h)
-
-pub joined_lengths : (out mid rest start whole : List ℕ) → out ++ (mid ++ rest) ≡ start ++ whole → length out + (length mid + length rest) ≡ length start + length whole
-joined_lengths out mid rest start whole e = simp length-append at (ap length e)
+ended-nonempty : (ls : List (List ℕ)) → 0 < length ls → 0 < length (ended ls)
+ended-nonempty [] h = absurd (omega arith)
+ended-nonempty (l ∷ ls) h = omega (arith, length-append (l ++ line_end) (ended ls), length-append l line_end)
 
 -- a text with an octet has one in its kept form
 pub kept_form-nonempty : (text : List ℕ) → 0 < length text → 0 < length (kept_form text)
-kept_form-nonempty [] h = absurd (omega arith)
-kept_form-nonempty (b ∷ bs) h =
-    omega (arith, ap length (written-octets Kept (b ∷ bs)), length-append (put Kept 10 b) (written_from Kept b bs), put-nonempty 10 b)
+kept_form-nonempty text h = ended-nonempty (lines_of text) (lines_of-some text h)
 
--- ---- lines that are ended
+-- ---- texts that are their own kept form
 
-not_ended : (p : ℕ) → eqb p 10 ≡ false → end_of p ≡ [] → ⊥
-not_ended p e h = absurd (omega (arith, ap length (rw e at h)))
+pub kept_form-empty : (text : List ℕ) → length text ≡ 0 → kept_form text ≡ text
+kept_form-empty [] h = refl
+kept_form-empty (b ∷ bs) h = absurd (omega (arith, h))
 
-put-ended : (p b : ℕ) → (eqb b 10 && not (eqb p 13)) ≡ false → put Kept p b ≡ b ∷ []
-put-ended p b e = rw e
-    (⊎_elim (λ (d : (eqb b 46 && eqb p 10) ≡ true). rw d refl)
-    (λ (d : (eqb b 46 && eqb p 10) ≡ false). rw d refl) (cases_Bool (eqb b 46 && eqb p 10)))
+-- a piece has a CR at its end or hasn't
+return_cases : (p : List ℕ) → (p ≡ without_return p) ⊎ (p ≡ without_return p ++ 13 ∷ [])
+return_cases [] = inl refl
+return_cases (b ∷ []) =
+    ⊎_elim (λ (e : eqb b 13 ≡ true). inr (rw (eqb-true b 13 e) refl)) (λ (e : eqb b 13 ≡ false). inl (rw e refl)) (cases_Bool (eqb b 13))
+return_cases (b ∷ c ∷ bs) =
+    ⊎_elim (λ (e : c ∷ bs ≡ without_return (c ∷ bs)). inl (ap (λ l. b ∷ l) e))
+    (λ (e : c ∷ bs ≡ without_return (c ∷ bs) ++ 13 ∷ []). inr (ap (λ l. b ∷ l) e)) (return_cases (c ∷ bs))
 
--- they are their own kept form
-pub written_from-ended : (p : ℕ) (bs : List ℕ) → are_ended p bs ≡ true → written_from Kept p bs ≡ bs
-written_from-ended p [] h = rw h refl
-written_from-ended p (b ∷ bs) h =
-    ⊎_elim (λ (e : (eqb b 10 && not (eqb p 13)) ≡ true). absurd (false≢true (rw e at h)))
-    (λ (e : (eqb b 10 && not (eqb p 13)) ≡ false). rw (put-ended p b e)
-    (ap (λ ys. b ∷ ys) (written_from-ended b bs (rw e at h))))
-    (cases_Bool (eqb b 10 && not (eqb p 13)))
+module _ (text : List ℕ) (n : ℕ) (lt : n < length text) (none : Nowhere (Passes (is_byte 10) text) 0 n) (newline : Passes (is_byte 10) text n) where
+  abbrev line : List ℕ
+  line = without_return (take n text)
 
--- a text that is its own kept form consists of them
-pub ended-written_from : (p : ℕ) (bs : List ℕ) → written_from Kept p bs ≡ bs → are_ended p bs ≡ true
-ended-written_from p [] h = ⊎_elim (λ (e : eqb p 10 ≡ true). e)
-    (λ (e : eqb p 10 ≡ false). absurd (not_ended p e h)) (cases_Bool (eqb p 10))
-ended-written_from p (b ∷ bs) h =
-    ⊎_elim (λ (e : (eqb b 10 && not (eqb p 13)) ≡ true).
-    let newline = (and_parts (eqb b 10) (not (eqb p 13)) e).0 in
-    absurd (true≢false (sym newline ∙ ap
-    (λ x. eqb x 10) (sym (ap (λ ys. get_or ys 0 0) (rw e at h))))))
-    (λ (e : (eqb b 10 && not (eqb p 13)) ≡ false).
-    let same = rw (put-ended p b e) at h in
-    rw e (ended-written_from b bs (ap (drop 1) same)))
-    (cases_Bool (eqb b 10 && not (eqb p 13)))
+  abbrev rest : List ℕ
+  rest = drop (n + 1) text
+
+  kept_form-cut : kept_form text ≡ (line ++ line_end) ++ kept_form rest
+  kept_form-cut = ap ended (lines_of-cut text n lt none newline)
+
+  size : length (take n text) ≡ n
+  size = length-take-le n text (omega arith)
+
+  -- a line that CRLF ends leaves the question to the rest
+  ended_by_both : take n text ≡ line ++ 13 ∷ [] → text ≡ (line ++ line_end) ++ rest
+  ended_by_both e = cut_at text n lt newline ∙ (ap (λ l. l ++ 10 ∷ rest) e ∙ simp append_assoc)
+
+  pub kept_by_rest : length line ≢ n → (kept_form rest ≡ rest) ↔ (kept_form text ≡ text)
+  kept_by_rest other =
+      ⊎_elim (λ (e : take n text ≡ line). absurd (other (ap length (sym e) ∙ size)))
+      (λ (e : take n text ≡ line ++ 13 ∷ []).
+      let whole = ended_by_both e in (
+        (λ h. kept_form-cut ∙ (ap (λ ys. (line ++ line_end) ++ ys) h ∙ sym whole)),
+        (λ h. append_cancel_left (line ++ line_end) (kept_form rest) rest (sym kept_form-cut ∙ (h ∙ whole))),
+      ))
+      (return_cases (take n text))
+
+  -- one that LF alone ends is another in the kept form
+  pub kept_never : length line ≡ n → ¬ (kept_form text ≡ text)
+  kept_never same kept =
+      ⊎_elim (λ (e : take n text ≡ line).
+      let whole : text ≡ line ++ 10 ∷ rest = cut_at text n lt newline ∙ ap (λ l. l ++ 10 ∷ rest) e in
+      let both : line ++ (line_end ++ kept_form rest) ≡ line ++ 10 ∷ rest = sym (append_assoc line line_end (kept_form rest)) ∙ (sym kept_form-cut ∙ (kept ∙ whole)) in
+      let first : 13 ≡ 10 = ap (λ ys. get_or ys 0 0) (append_cancel_left line (line_end ++ kept_form rest) (10 ∷ rest) both) in
+      absurd (omega (arith, first)))
+      (λ (e : take n text ≡ line ++ 13 ∷ []). absurd (omega (arith, same, size, ap length e, length-append line (13 ∷ []))))
+      (return_cases (take n text))
+
+-- octets without LF that end a text
+pub kept_without_newline : (text : List ℕ) → Nowhere (Passes (is_byte 10) text) 0 (length text) → kept_form text ≡ text → length text ≡ 0
+kept_without_newline [] none kept = refl
+kept_without_newline (b ∷ bs) none kept =
+    let e : ((b ∷ bs) ++ line_end) ++ [] ≡ b ∷ bs = sym (ap ended (lines_of-whole (b ∷ bs) (omega arith) none)) ∙ kept in
+    absurd (omega (arith, ap length e, length-append ((b ∷ bs) ++ line_end) [], length-append (b ∷ bs) line_end))

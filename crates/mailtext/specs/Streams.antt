@@ -1,6 +1,6 @@
 -- Texts that come in pieces: what is still to be sent of the octets that follow, and which of them
 -- belong to what TOP sends, by what came before (RFC 1939, sections 3 and 7; RFC 822, section 3.1).
-use Rattle.std.specs.Prelude.{ℕ, Bool, true, false, ◌&&◌, ◌-◌, List, [], ◌∷◌, ◌++◌, ◌==◌, if◌then◌else◌}
+use Rattle.std.specs.Prelude.{ℕ, zero, suc, slice_index, Bool, true, false, ◌&&◌, ◌-◌, List, [], ◌∷◌, ◌++◌, ◌==◌, if◌then◌else◌}
 use Rattle.mailtext.specs.declared.top_cut.Place.{Place}
 use Rattle.mailtext.specs.declared.top_cut.Place.TheVariants.{Front, Return, Inside, Body}
 
@@ -14,6 +14,11 @@ added_dot at_front b = if at_front && b == 46 then 46 ∷ [] else []
 abbrev pub stuffed_from : Bool → List ℕ → List ℕ
 stuffed_from at_front [] = []
 stuffed_from at_front (b ∷ bs) = added_dot at_front b ++ b ∷ stuffed_from (b == 10) bs
+
+-- whether the octet at a place is at the front of a line, the first one or not
+abbrev pub front_at : Bool → List ℕ → ℕ → Bool
+front_at at_front octets zero = at_front
+front_at at_front octets (suc i) = slice_index octets i == 10
 
 -- one dot may be put before its line's first octet is taken
 abbrev pub owed_dots : Bool → ℕ

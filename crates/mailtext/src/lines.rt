@@ -1,14 +1,21 @@
 //! The lines of a text written out, each with CRLF: how many octets they take, and the octets.
 
-ghost use Rattle.std.specs.Prelude.{◌≡◌, ◌+◌, ◌^◌, ◌<◌, ◌≤◌, ◌++◌, length, vec_len, vec_capacity};
-ghost use Rattle.std.specs.Option.{SomeIff, option_map};
-ghost use Rattle.mailtext.specs.Written.{written, in_place, end_of, are_ended};
+ghost use Rattle.std.specs.Prelude.{◌≡◌, ◌↔◌, ◌+◌, ◌^◌, ◌<◌, ◌≤◌, ◌++◌, ◌∷◌};
+ghost use Rattle.std.specs.Prelude.{true, length, vec_len, vec_capacity};
+ghost use Rattle.std.specs.Option.{SomeIff};
+ghost use Rattle.mailtext.specs.Text.{lines_of, line_end, kept_form, without_return};
+ghost use Rattle.mailtext.specs.Written.{written, dotted};
+
+use memchr::memchr;
 
 /// CR, the octet that stands before the LF of a line's end.
 pub const CR: u8 = b'\r';
 
 /// LF, the octet that ends a line.
 pub const LF: u8 = b'\n';
+
+/// What ends each line that is written.
+const LINE_END: &[u8] = b"\r\n";
 
 /// What becomes of a dot at the front of a line (RFC 1939, section 3).
 #[derive(Clone, Copy)]
@@ -21,42 +28,43 @@ pub enum Dots {
     Dropped,
 }
 
-/// What is written in place of `octet`, which follows `previous`; `None` where it stays.
+/// A piece without one CR at its end.
 #[inline]
-fn in_place_of(octet: u8, previous: u8, dots: Dots) -> Option<&'static [u8]>
-    ensures { option_map (λ written. written.now) result ≡ in_place dots previous octet }
+fn without_return(piece: &[u8]) -> &[u8]
+    ensures { result.now ≡ without_return piece.now }
 {
-    if octet == LF && previous != CR {
-        return Some(b"\r\n");
+    match piece.split_last() {
+        Some((last, line)) if *last == CR => line,
+        _ => piece,
     }
-    if octet == b'.' && previous == LF {
-        return match dots {
-            Dots::Kept => None,
-            Dots::Doubled => Some(b".."),
-            Dots::Dropped => Some(b""),
-        };
-    }
-    None
 }
 
-/// What is written at the end of a text whose last octet is `previous`: an unfinished line is
-/// ended.
+/// The first line of a text, without its end, and the text behind it.
 #[inline]
-fn end_behind(previous: u8) -> &'static [u8]
-    ensures { result.now ≡ end_of previous }
+fn cut_line(text: &[u8]) -> (&[u8], &[u8])
+    requires { 0 < length text.now }
+    ensures lines { lines_of text.now ≡ result.0.now ∷ lines_of result.1.now }
+    ensures shorter { length result.1.now < length text.now }
 {
-    if previous == LF { b"" } else { b"\r\n" }
+    match memchr(LF, text) {
+        Some(end) => (without_return(&text[..end]), &text[end + 1..]),
+        None => (text, b""),
+    }
 }
 
-/// Appends both, for which there is room.
+/// A line as it is written, in two parts: what is put at its front, and what is written of it.
 #[inline]
-fn append_both(out: &mut Vec<u8>, first: &[u8], second: &[u8])
-    requires { vec_len out.old + (length first.now + length second.now) ≤ vec_capacity out.old }
-    ensures items { out.new.items ≡ out.old.items ++ (first.now ++ second.now) }
-    ensures capacity { vec_capacity out.old ≤ vec_capacity out.new }
+fn dotted(line: &[u8], dots: Dots) -> (&'static [u8], &[u8])
+    ensures { result.0.now ++ result.1.now ≡ dotted dots line.now }
 {
-    out.extend_from_slice(first).unwrap();
-    out.extend_from_slice(second).unwrap();
+    if line.first() != Some(&b'.') {
+        return (b"", line);
+    }
+    match dots {
+        Dots::Kept => (b"", line),
+        Dots::Doubled => (b".", line),
+        Dots::Dropped => (b"", &line[1..]),
+    }
 }
 
 /// How many octets the lines of `text` take; `None` where a `usize` can't say it.
@@ -64,16 +72,27 @@ pub fn written_len(text: &[u8], dots: Dots) -> Option<usize>
     ensures { SomeIff result (length (written dots text.now) < 2 ^ 64) (length (written dots text.now)) }
 {
     let mut len = 0usize;
-    let mut previous = LF;
-    for octet in text {
-        let more = match in_place_of(*octet, previous, dots) {
-            Some(other) => other.len(),
-            None => 1,
-        };
-        len = len.checked_add(more)?;
-        previous = *octet;
+    let mut rest = text;
+    while !rest.is_empty() {
+        let (line, behind) = cut_line(rest);
+        let (front, octets) = dotted(line, dots);
+        len = len.checked_add(front.len() + octets.len() + 2)?;
+        rest = behind;
     }
-    len.checked_add(end_behind(previous).len())
+    Some(len)
+}
+
+/// Appends a line and its end, for which there is room.
+#[inline]
+fn write_line(out: &mut Vec<u8>, line: &[u8], dots: Dots)
+    requires { vec_len out.old + (length (dotted dots line.now) + 2) ≤ vec_capacity out.old }
+    ensures items { out.new.items ≡ out.old.items ++ (dotted dots line.now ++ line_end) }
+    ensures capacity { vec_capacity out.old ≤ vec_capacity out.new }
+{
+    let (front, octets) = dotted(line, dots);
+    out.extend_from_slice(front).unwrap();
+    out.extend_from_slice(octets).unwrap();
+    out.extend_from_slice(LINE_END).unwrap();
 }
 
 /// Appends the lines of `text`, for which there is room.
@@ -81,28 +100,25 @@ pub fn write_lines(out: &mut Vec<u8>, text: &[u8], dots: Dots)
     requires { vec_len out.old + length (written dots text.now) ≤ vec_capacity out.old }
     ensures { out.new.items ≡ out.old.items ++ written dots text.now }
 {
-    let mut start = 0;
-    let mut previous = LF;
-    for (i, octet) in text.iter().enumerate() {
-        if let Some(other) = in_place_of(*octet, previous, dots) {
-            append_both(out, &text[start..i], other);
-            start = i + 1;
-        }
-        previous = *octet;
+    let mut rest = text;
+    while !rest.is_empty() {
+        let (line, behind) = cut_line(rest);
+        write_line(out, line, dots);
+        rest = behind;
     }
-    append_both(out, &text[start..], end_behind(previous));
 }
 
 /// Whether these are lines, each followed by CRLF.
 pub fn are_ended_lines(octets: &[u8]) -> bool
-    ensures { result ≡ are_ended 10 octets.now }
+    ensures { (result ≡ true) ↔ (kept_form octets.now ≡ octets.now) }
 {
-    let mut previous = LF;
-    for octet in octets {
-        if *octet == LF && previous != CR {
+    let mut rest = octets;
+    'rest: while let Some(end) = memchr(LF, rest) {
+        let (piece, behind) = rest.split_at(end);
+        if without_return(piece).len() == end {
             return false;
         }
-        previous = *octet;
+        rest = &behind[1..];
     }
-    previous == LF
+    rest.is_empty()
 }

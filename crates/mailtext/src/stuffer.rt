@@ -1,11 +1,12 @@
 //! The lines of a reply sent from pieces of a text, a dot put before each that begins with one
 //! (RFC 1939, section 3).
 
-ghost use Rattle.std.specs.Prelude.{◌≡◌, ◌<◌, ◌≤◌, ◌+◌, ◌*◌, ◌++◌, ℕ, List, length, take, drop, slice_index, true};
+ghost use Rattle.std.specs.Prelude.{◌≡◌, ◌==◌, ◌&&◌, ◌<◌, ◌≤◌, ◌+◌, ◌*◌, ◌++◌, ℕ, List, length, take, drop, slice_index, true};
 ghost use Rattle.mailtext.specs.Text.{kept_form, lines_of, stuffed_lines};
-ghost use Rattle.mailtext.specs.Streams.{stuffed_from, owed_dots};
+ghost use Rattle.mailtext.specs.Streams.{stuffed_from, front_at, owed_dots};
 
 use crate::lines::LF;
+use memchr::memmem;
 use std::marker::Model;
 
 /// Sends the lines of a message from pieces of its kept form, in order, into buffers of any size.
@@ -24,6 +25,27 @@ impl Model for Stuffer {
     ghost view = { λ stuffer. stuffer.at_front };
 }
 
+/// Whether a dot is put before these octets. `at_front` says whether the first is at the front of a
+/// line.
+fn wants_dot(octets: &[u8], at_front: bool) -> bool
+    ensures { result ≡ (at_front && slice_index octets.now 0 == 46) }
+{
+    match octets.first() {
+        Some(first) => at_front && *first == b'.',
+        None => false,
+    }
+}
+
+/// Whether what follows these octets is at the front of a line. `at_front` says it of the first.
+fn is_front_behind(octets: &[u8], at_front: bool) -> bool
+    ensures { result ≡ front_at at_front octets.now (length octets.now) }
+{
+    match octets.last() {
+        Some(last) => *last == LF,
+        None => at_front,
+    }
+}
+
 /// How many octets there are before the first dot at the front of a line, or all; and whether what
 /// follows them is at the front of a line. `at_front` says it of the first octet.
 fn run_of(octets: &[u8], at_front: bool) -> (usize, bool)
@@ -34,14 +56,13 @@ fn run_of(octets: &[u8], at_front: bool) -> (usize, bool)
     ensures front { result.0 < length octets.now → result.1 ≡ true }
     ensures dot { result.0 < length octets.now → slice_index octets.now result.0 ≡ 46 }
 {
-    let mut front = at_front;
-    for (i, octet) in octets.iter().enumerate() {
-        if front && *octet == b'.' {
-            return (i, front);
-        }
-        front = *octet == LF;
+    if wants_dot(octets, at_front) {
+        return (0, at_front);
     }
-    (octets.len(), front)
+    match memmem::find(octets, b"\n.") {
+        Some(newline) => (newline + 1, true),
+        None => (octets.len(), is_front_behind(octets, at_front)),
+    }
 }
 
 impl Stuffer {

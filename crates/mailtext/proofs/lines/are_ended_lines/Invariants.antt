@@ -1,7 +1,10 @@
-use Rattle.std.proofs.Common.{◌≡◌, drop}
-use Rattle.mailtext.specs.Written.{are_ended}
+use Rattle.std.proofs.Common.{◌≡◌, length}
+use Rattle.std.specs.Prelude.{◌↔◌}
+use Rattle.mailtext.specs.Text.{kept_form}
 use Rattle.mailtext.proofs.lines.are_ended_lines.Given as goal
 
-abbrev pub invariant-loop-octet : goal.invariant-loop-octet
-invariant-loop-octet l =
-    are_ended l.previous (drop l.octet-index l.octets) ≡ are_ended 10 l.octets
+abbrev pub invariant-rest : goal.invariant-rest
+invariant-rest l = (kept_form l.rest ≡ l.rest) ↔ (kept_form l.octets ≡ l.octets)
+
+abbrev pub decreases-rest : goal.decreases-rest
+decreases-rest l = length l.rest

@@ -1,8 +1,12 @@
-use Rattle.std.proofs.Common.{◌≡◌, ◌+◌, length, drop}
+use Rattle.std.proofs.Common.{◌≡◌, ◌<◌, ◌+◌, length}
 use Rattle.mailtext.specs.Written.{written}
-use Rattle.mailtext.proofs.Writing.{written_from}
 use Rattle.mailtext.proofs.lines.written_len.Given as goal
 
-abbrev pub invariant-loop-octet : goal.invariant-loop-octet
-invariant-loop-octet l =
-    l.len + length (written_from l.dots l.previous (drop l.octet-index l.text)) ≡ length (written l.dots l.text)
+abbrev pub invariant-loop-rest : goal.invariant-loop-rest
+invariant-loop-rest l = record {
+  fits : l.len < 18446744073709551616;
+  octets : l.len + length (written l.dots l.rest) ≡ length (written l.dots l.text);
+}
+
+abbrev pub decreases-loop-rest : goal.decreases-loop-rest
+decreases-loop-rest l = length l.rest
