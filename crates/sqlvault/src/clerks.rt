@@ -1,14 +1,18 @@
 //! The clerks.
 ghost use Rattle.std.specs.Prelude.{◌≡◌, length, true, is_some, Some, IfOk, OnOk, OnErr, IsTrue};
+ghost use Rattle.std.specs.Prelude.{map};
+ghost use Rattle.std.specs.List.{list_all};
 ghost use Rattle.sqlite.specs.Held.{state};
 ghost use Rattle.sqlite.specs.State.{HasCleanDisk, IsUnchanged};
-ghost use Rattle.creds.specs.Names.{is_name};
+ghost use Rattle.creds.specs.Names.{is_name, by_name};
 ghost use Rattle.vault.specs.declared.record.Clerk as vault;
 ghost use Rattle.vault.specs.Records.{is_sound_credential, credential_in};
 ghost use Rattle.vault.specs.Changes.{Contents, put_clerk_answer};
 ghost use Rattle.vault.specs.Calls.{IsAnswer, put_result, IsCredential, IsClerkPut, IsClerkDropped};
+ghost use Rattle.vault.specs.Calls.{seen_as};
 ghost use Rattle.mailsql.specs.Rows as tables;
 ghost use Rattle.mailsql.specs.Changes as changes;
+ghost use Rattle.sqlvault.specs.Clerks.{row_name, AreClerks};
 ghost use Rattle.sqlvault.specs.Keeps.{Keeps, kind_of, secret_of, clerk_row};
 ghost use Rattle.sqlvault.specs.Refusals.{answer_of};
 ghost use Rattle.sqlvault.specs.RowForms.{is_credential_row};
@@ -17,13 +21,14 @@ ghost use Rattle.sqlvault.specs.Stands.{Holds, WasClean, Ends};
 ghost use Rattle.sqlvault.specs.Stops.{LeavesOr, StopsBefore, StopsEither, IsOpenAfter, StaysOpen};
 
 use crate::refusal::{Refusal, unreadable};
+use crate::totals::push_name;
 use crate::transaction::{end, undo};
 use creds::{Credential, Name, Secret};
 use mailsql::rows::Clerk;
 use mailsql::{clerks, mode};
 use sqlite::{Alter, Connection, Error};
 use std::alloc::Global;
-use vault::VaultFault;
+use vault::{VaultFault, in_order};
 
 /// The greatest number of clerks.
 pub(crate) const MAX_CLERKS: u64 = 1000;
@@ -106,6 +111,48 @@ pub(crate) fn find_credential<S: Alter>(
             None => Err(Refusal::Met(unreadable())),
         },
         Ok(None) => Ok(None),
+        Err(error) => Err(Refusal::Met(error)),
+    }
+}
+
+/// The names in the rows, in the order of the rows.
+fn row_names(alloc: Global, rows: &[Clerk]) -> Result<Vec<Name>, Error>
+    ensures { list_all is_name (map row_name rows.now) ≡ true
+        → IfOk result (λ names. names.items ≡ map row_name rows.now) }
+{
+    let mut names = Vec::new(alloc);
+    for row in rows {
+        push_name(&mut names, &row.name)?;
+    }
+    Ok(names)
+}
+
+/// The names in the rows, in the order of their octets.
+fn sorted_names(alloc: Global, rows: &[Clerk]) -> Result<Vec<Name>, Error>
+    ensures { list_all is_name (map row_name rows.now) ≡ true
+        → IfOk result (λ names. names.items ≡ by_name (map row_name rows.now)) }
+{
+    let names = row_names(alloc, rows)?;
+    Ok(in_order(alloc, &names)?)
+}
+
+/// The names of the clerks, in the order of their octets. Nothing is changed.
+///
+/// An `Err` is the error that the query met.
+pub(crate) fn clerk_names<S: Alter>(
+    alloc: Global,
+    conn: &mut Connection<S>,
+) -> Result<Vec<Name>, Refusal>
+    ensures done { (c : Contents) → HasCleanDisk (state S.Store conn.new)
+        → Holds (state S.Store conn.old) c → AreClerks (Holds (state S.Store conn.new)) c
+        (seen_as (answer_of result) (λ v. v.items)) }
+    ensures looks { Looks S.Store conn.old conn.new (IsMet result) }
+{
+    match clerks::all_clerks(alloc, conn) {
+        Ok(rows) => match sorted_names(alloc, rows.as_slice()) {
+            Ok(names) => Ok(names),
+            Err(error) => Err(Refusal::Met(error)),
+        },
         Err(error) => Err(Refusal::Met(error)),
     }
 }
