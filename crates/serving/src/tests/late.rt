@@ -2,7 +2,7 @@
 
 use super::scenes::{Act, Settings, play_set};
 use crate::script_spool::ScriptSpool;
-use std::alloc::Global;
+use std::alloc::{AllocError, Global};
 use std::test::Fail;
 
 const GREETED: &str = "+OK POP3 server ready <1.7@h.test>\r\n";
@@ -14,8 +14,8 @@ const LET_IN: &str = "+OK POP3 server ready <2.7@h.test>\r\n+OK send PASS\r\n\
     +OK maildrop has 1 messages (21 octets)\r\n";
 
 /// Two come at moment 5: one is silent, ann logs in. With ten seconds for a login the silent one is
-/// closed at moment 15, and ann stays.
-static SILENT: [Act; 15] = [
+/// closed at moment 15, and ann stays, also behind her QUIT.
+static SILENT: [Act; 19] = [
     Act::Comes(0),
     Act::Turns(1, 5),
     Act::Comes(1),
@@ -31,6 +31,11 @@ static SILENT: [Act; 15] = [
     Act::Turns(2, 400),
     Act::Open(1),
     Act::Told(1, "", 0),
+    // Her link takes nothing for now: she is still owed the reply to her QUIT.
+    Act::Stalls(1),
+    Act::Sends(1, "QUIT\r\n", 1),
+    Act::Turns(2, 401),
+    Act::Open(1),
 ];
 
 /// Who sends lines but no login, or takes nothing, has no more time; who logs in within the turn of
@@ -76,6 +81,26 @@ fn plays(alloc: Global, acts: &[Act], login_seconds: u64) -> Result<(), Fail> {
 #[test]
 fn silent_ones_are_closed(rt: HostRuntime) -> Result<(), Fail> {
     plays(rt.alloc(), &SILENT, 10)
+}
+
+/// Twenty that come at a moment.
+fn twenty_come(alloc: Global, now: u64) -> Result<Vec<Act>, AllocError> {
+    let mut acts = Vec::new(alloc);
+    for place in 0..20usize {
+        acts.push(Act::Comes(place))?;
+        acts.push(Act::Turns(1, now))?;
+    }
+    Ok(acts)
+}
+
+#[test]
+fn twenty_silent_ones_are_closed(rt: HostRuntime) -> Result<(), Fail> {
+    let mut acts = twenty_come(rt.alloc(), 5)?;
+    acts.push(Act::Turns(2, 15))?;
+    for place in 0..20usize {
+        acts.push(Act::Closed(place))?;
+    }
+    plays(rt.alloc(), acts.as_slice(), 10)
 }
 
 #[test]

@@ -11,7 +11,7 @@ use crate::wire::Port;
 use creds::DepositId;
 use office::{Event, Office};
 use std::alloc::{AllocError, Global};
-use std::net::{IpAddr, Ipv4Addr};
+use std::net::IpAddr;
 use std::test::Fail;
 use vault::PlainVault;
 
@@ -273,26 +273,16 @@ fn play<S: Spool>(
     play_on(&mut stage, spool, scene)
 }
 
-/// What the links are set to, and from where the clients come: each from 192.0.2.N, where N is the
-/// number in its place.
+/// What the links are set to, and from where the clients come, in the order in which they do.
 #[derive(Clone, Copy)]
 pub struct Settings<'a> {
     pub wait: u64,
     pub login_seconds: u64,
     pub slow_guesses: bool,
-    pub from: &'a [u8],
+    pub from: &'a [IpAddr],
 }
 
-/// The addresses 192.0.2.N.
-fn addresses(alloc: Global, from: &[u8]) -> Result<Vec<IpAddr>, AllocError> {
-    let mut addresses = Vec::new(alloc);
-    for number in from {
-        addresses.push(IpAddr::V4(Ipv4Addr::new(192, 0, 2, *number)))?;
-    }
-    Ok(addresses)
-}
-
-/// Plays acts without a fault, over links that are set so.
+/// Plays acts without a fault, over links that are set so. No guest may be lost.
 pub fn play_set<S: Spool>(
     alloc: Global,
     spool: &mut S,
@@ -303,8 +293,14 @@ pub fn play_set<S: Spool>(
     stage.links.set_wait(settings.wait);
     stage.links.set_login_seconds(settings.login_seconds);
     stage.links.set_slow_guesses(settings.slow_guesses);
-    stage.wire.set_addresses(addresses(alloc, settings.from)?);
-    play_acts(&mut stage, spool, acts)
+    let mut addresses = Vec::new(alloc);
+    addresses.extend_from_slice(settings.from)?;
+    stage.wire.set_addresses(addresses);
+    play_acts(&mut stage, spool, acts)?;
+    if lost(stage.guests.as_slice()) > 0 {
+        return Err(Fail::new("a guest is lost"));
+    }
+    Ok(())
 }
 
 /// Plays a scene as it stands, and with a fault in place of each of its calls in turn, by which one

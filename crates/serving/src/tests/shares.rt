@@ -89,5 +89,9 @@ fn of_a_response(rt: HostRuntime) -> Result<(), Fail> {
     serve_turn(&mut links, &mut wire, &mut office, &mut spool, 0);
     assert!(rt; wire.response(0).len() > 18_500);
     assert!(rt; wire.is_request_closed(0));
+    // Nothing is left to do: the turn behind one that does nothing waits.
+    serve_turn(&mut links, &mut wire, &mut office, &mut spool, 0);
+    serve_turn(&mut links, &mut wire, &mut office, &mut spool, 0);
+    assert_eq!(rt; wire.waited(), 1000);
     Ok(())
 }

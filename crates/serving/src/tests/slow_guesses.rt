@@ -91,7 +91,7 @@ fn plays(
     first: &[Act],
     then: &[Act],
     slow_guesses: bool,
-    from: &[u8],
+    from: &[IpAddr],
 ) -> Result<(), Fail> {
     let mut acts = Vec::new(alloc);
     acts.extend_from_slice(first)?;
@@ -110,19 +110,48 @@ fn plays(
     )
 }
 
+/// The address 192.0.2.N.
+fn four(n: u8) -> IpAddr {
+    IpAddr::V4(Ipv4Addr::new(192, 0, 2, n))
+}
+
+/// An address of the network that 2001:N:0:7::/64 is.
+fn six(n: u16) -> IpAddr {
+    IpAddr::V6(Ipv6Addr::new(0x2001, n, 0, 7, 0, 0, 0, 1))
+}
+
 #[test]
 fn each_waits_longer(rt: HostRuntime) -> Result<(), Fail> {
-    plays(rt.alloc(), &THREE, &FOUR, true, &[1, 1, 1])
+    let from = [four(1), four(1), four(1)];
+    plays(rt.alloc(), &THREE, &FOUR, true, &from)
 }
 
 #[test]
 fn others_do_not_wait(rt: HostRuntime) -> Result<(), Fail> {
-    plays(rt.alloc(), &THREE, &ANOTHER, true, &[1, 2])
+    plays(rt.alloc(), &THREE, &ANOTHER, true, &[four(1), four(2)])
+}
+
+#[test]
+fn other_networks_do_not_wait(rt: HostRuntime) -> Result<(), Fail> {
+    plays(
+        rt.alloc(),
+        &THREE,
+        &FOUR,
+        true,
+        &[six(0xdb8), six(0xdb8), six(0xdb8)],
+    )?;
+    plays(
+        rt.alloc(),
+        &THREE,
+        &ANOTHER,
+        true,
+        &[six(0xdb8), six(0xdb9)],
+    )
 }
 
 #[test]
 fn fast_ones_do_not_wait(rt: HostRuntime) -> Result<(), Fail> {
-    plays(rt.alloc(), &FAST, &[], false, &[1])
+    plays(rt.alloc(), &FAST, &[], false, &[four(1)])
 }
 
 /// Guesses of so many origins: how many are known, and whether the first and the last are kept

@@ -97,6 +97,17 @@ static BY_NUMBER: [Act; 9] = [
     Act::Open(2),
 ];
 
+/// What ann is told as the twenty-first client.
+const LATE_TOLD: &str = "+OK POP3 server ready <21.7@h.test>\r\n+OK send PASS\r\n\
+    +OK maildrop has 1 messages (21 octets)\r\n";
+
+/// She logs in behind twenty silent clients.
+static BEHIND_MANY: [Act; 3] = [
+    Act::Sends(20, ANN, 1),
+    Act::Turns(4, 0),
+    Act::Told(20, LATE_TOLD, 1),
+];
+
 /// Plays acts, and then further ones.
 fn plays(alloc: Global, first: &[Act], then: &[Act], wait: u64) -> Result<(), Fail> {
     let mut acts = Vec::new(alloc);
@@ -134,4 +145,14 @@ fn without_a_wait_told_at_once(rt: HostRuntime) -> Result<(), Fail> {
 #[test]
 fn let_in_by_number(rt: HostRuntime) -> Result<(), Fail> {
     plays(rt.alloc(), &BETWEEN, &BY_NUMBER, 10)
+}
+
+#[test]
+fn let_in_behind_many(rt: HostRuntime) -> Result<(), Fail> {
+    let mut acts = Vec::new(rt.alloc());
+    for place in 0..21usize {
+        acts.push(Act::Comes(place))?;
+        acts.push(Act::Turns(1, 0))?;
+    }
+    plays(rt.alloc(), acts.as_slice(), &BEHIND_MANY, 10)
 }
