@@ -1,5 +1,7 @@
 //! One turn of serving.
-ghost use Rattle.std.specs.Prelude.{◌≡◌, ◌⊎◌, ◌<◌, ◌+◌, ◌≤◌, ◌==◌, ◌||◌, not, ℕ, Bool, true, false, nat_lt, slice_index_or, List, ◌∷◌, [], Option, Some, length, take, if◌then◌else◌};
+ghost use Rattle.std.specs.Prelude.{◌≡◌, ◌⊎◌, ◌<◌, ◌+◌, ◌≤◌, ◌==◌, ◌||◌, not, ℕ, Bool, true, false};
+ghost use Rattle.std.specs.Prelude.{nat_lt, slice_index_or, List, ◌∷◌, [], Option, Some, length};
+ghost use Rattle.std.specs.Prelude.{take, if◌then◌else◌};
 ghost use Rattle.office.specs.Events.{Trace};
 ghost use Rattle.office.specs.Trace.{is_open, history};
 ghost use Rattle.office.specs.Sessions.{live};
@@ -13,7 +15,10 @@ ghost use Rattle.serving.specs.Guesses.{AreNotedSo};
 ghost use Rattle.serving.specs.Newcomers.{others};
 ghost use Rattle.serving.specs.Paces.{has_freed, KeepsAside, LeavesSettings};
 ghost use Rattle.serving.specs.Settings.{settings, settings_of, none_set};
-ghost use Rattle.serving.specs.Works.{Part, Asking, Giving, IsPassed, AreAccepted, IsWritten, IsWrittenOut, IsHeard, HadTurns, AreClosed, IsClosed, share_by, may_keep, way_at, way_by, is_late, AreNoMoreLate, AreLateGone};
+ghost use Rattle.serving.specs.Works.{Part, Asking, Giving, IsPassed, AreAccepted, IsWritten};
+ghost use Rattle.serving.specs.Works.{IsWrittenOut, IsHeard, HadTurns, AreClosed, IsClosed};
+ghost use Rattle.serving.specs.Works.{share_by, may_keep, way_at, way_by, is_late, AreNoMoreLate};
+ghost use Rattle.serving.specs.Works.{AreLateGone};
 ghost use Rattle.serving.specs.Turns.{Works, millis_of};
 ghost use Rattle.serving.specs.HttpTurns.{AllGoOn, AreFew};
 ghost use Rattle.serving.specs.declared.newcomers.Newcomer.{Newcomer};
