@@ -39,9 +39,6 @@ returns-in-BadPolicy-clause-works g c =
     gives_none g.V.Vault.holds g.V.Vault.is_clean g.V.Vault.faults c.args.office.now (ComeTo c.args.read.now (Some response))
     (λ B L. record { place = None; is = NoCommand response (to_fault B L c.args.read.now response c.in-BadPolicy.fault c.in-BadPolicy.ensures (c.made.ensures _ c.policy_response.ensures)) })
 
-pub returns-in-Command-clause-works : goal.returns-in-Command-clause-works
-returns-in-Command-clause-works g c = c.command.ensures.works c.args.read.now c.in-Command.ensures
-
 pub returns-in-NoMemory-clause-works : goal.returns-in-NoMemory-clause-works
 returns-in-NoMemory-clause-works g c =
     let response = refusal_response OutOfMemory in
