@@ -16,6 +16,7 @@ pub mod Arriving
 pub mod Finishing
 pub mod Quieting
 pub mod HttpWorking
+pub mod Bounds
 pub mod Trying
 pub mod Ongoing
 pub mod Unread

@@ -4,7 +4,7 @@
 use Rattle.std.specs.Prelude.{◌≡◌, ◌⊎◌, ◌≤◌, ◌<◌, ⊤, ℕ, Bool, true, false, ◌+◌, ◌||◌, suc, nat_le}
 use Rattle.std.specs.Prelude.{if◌then◌else◌, List, [], ◌∷◌, ◌++◌, length, take, drop, Option, Some}
 use Rattle.std.specs.Prelude.{None, option_map, is_some, IfNone}
-use Rattle.std.specs.List.{list_any}
+use Rattle.std.specs.List.{All, list_any}
 use Rattle.vault.specs.Records.{Records}
 use Rattle.vault.specs.Changes.{Contents}
 use Rattle.office.specs.Events.{Log, Trace}
@@ -188,6 +188,20 @@ pub record HttpWorks (T : Trace) (now : ℕ) (links links_then : Links) (given :
   pub accepted : HasAcceptedBeside now 64 goes links.requests.exchanges.items held arrivals
   pub served : HadHttpTurns now T.base
       (earlier ++ T.log) held links_then.requests.exchanges.items commands services
+
+-- ---- requests that aren't whole
+
+-- Such a request has fewer octets: 8,192 of its head, and 1,048,576 of its body.
+abbrev pub most_asked : ℕ
+most_asked = 1056768
+
+-- so many were read, where there is no response yet
+abbrev pub IsShort : Exchange → Type 0
+IsShort e = IfNone e.response (length e.read.items < most_asked)
+
+-- of each link that is held
+abbrev pub AreShort : Links → Type 0
+AreShort links = All IsShort links.requests.exchanges.items
 
 -- ---- the parts
 

@@ -10,6 +10,7 @@ use Rattle.serving.specs.Works.{Part, Asking, IsPassed, AreClosed, AreNoMoreLate
 use Rattle.serving.specs.SpoolTurns.{SpoolPart, IsSpoolTurn}
 use Rattle.serving.proofs.Late.{gone_so}
 use Rattle.serving.proofs.Finishing.{turn_done}
+use Rattle.serving.proofs.Bounds.{all_short}
 use Rattle.serving.proofs.turn.serve_turn.Goals as goal
 
 pub returns-clause-serves : goal.returns-clause-serves
@@ -102,3 +103,8 @@ returns-clause-settings g c = c.serve_spool.ensures.set ∙ (c.close_links.ensur
 
 pub returns-clause-few : goal.returns-clause-few
 returns-clause-few g c = λ few. (let a = c.accept_requests.ensures.few few in let b = c.serve_requests.ensures.no_more in omega (arith, a, b))
+
+pub returns-clause-short : goal.returns-clause-short
+returns-clause-short g c = λ T s clean short.
+    (let w = returns-clause-works g c T s clean in
+    all_short T c.args.now c.args.links.now (record { clients = c.serve_spool.new.links; requests = c.serve_requests.new.requests }) w.given w.calls w.http short)
