@@ -75,12 +75,17 @@ fn reason_by_name(name: &[u8]) -> Reason {
     }
 }
 
-/// Whether a name is that of a file that a server set aside.
+/// Whether a name is that of a file that a server set aside: `.bad` is behind one of the form, and
+/// behind that of a second file of the name, `.2`.
 fn is_set_aside(name: &str) -> bool {
-    match name.as_bytes() {
-        [front @ .., b'.', b'b', b'a', b'd'] => FileName::read(front).is_some(),
-        _ => false,
-    }
+    let Some((front, behind)) = name.rsplit_once(".bad") else {
+        return false;
+    };
+    let is_counted = match behind.strip_prefix('.') {
+        Some(number) => number.parse::<u8>().is_ok(),
+        None => behind.is_empty(),
+    };
+    is_counted && FileName::read(front.as_bytes()).is_some()
 }
 
 /// The folder of a spool, as the log looks at it.

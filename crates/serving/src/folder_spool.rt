@@ -8,7 +8,7 @@ use crate::spool::{MOST_OCTETS, Spool};
 use std::alloc::{AllocError, Global};
 use std::fs;
 use std::fs::{Metadata, OpenFile};
-use std::io::Read;
+use std::io::{ErrorKind, Read};
 use std::os::unix::fs::MetadataExt;
 use std::rt::Files;
 use std::time::{Clock, Duration, SystemTime};
@@ -19,6 +19,9 @@ use std::time::{Clock, Duration, SystemTime};
 /// A file is read only where it is a regular one, and its name in the folder is its only name. So
 /// no link is followed, and nothing that lies elsewhere is read, also where it takes a file's place
 /// meanwhile: what was opened is compared with what stands at the name then.
+///
+/// A file is renamed by `.bad` behind its name, and where that file is there by `.bad.2` and so on,
+/// so that none takes another's place. Behind `.bad.100` it isn't renamed.
 #[derive(Drop)]
 pub struct FolderSpool<'a, R: Files> {
     rt: &'a R,
@@ -32,6 +35,9 @@ pub struct FolderSpool<'a, R: Files> {
 /// A file system tells the moment of a folder's last change to two seconds or better, so a change
 /// may not show within so many seconds of the one before it.
 const COARSEST: u64 = 2;
+
+/// How many files of one name may stand aside.
+const MOST_ASIDE: u64 = 100;
 
 /// Whether the opened file is a regular one, is what stands at the name, and has no other name.
 fn is_own(opened: &Metadata, named: &Metadata) -> bool
@@ -106,6 +112,36 @@ impl<'a, R: Files + Clock + AllocGlobal + Clone + Drop> FolderSpool<'a, R> {
         }
     }
 
+    /// Whether nothing stands at a path, not even a link that leads nowhere.
+    fn is_free(&self, path: &str) -> bool {
+        match fs::symlink_metadata(self.rt, path) {
+            Ok(_) => false,
+            Err(error) => error.kind() == ErrorKind::NotFound,
+        }
+    }
+
+    /// The path at which the file of this number stands aside, among those of one name: `.bad` is
+    /// behind the name of the first, `.bad.2` behind that of the second.
+    fn path_aside(&self, name: &FileName, number: u64) -> Result<String, AllocError> {
+        let first = self.path(name, ".bad")?;
+        if number == 1 {
+            return Ok(first);
+        }
+        format!(in self.alloc; "{first}.{number}")
+    }
+
+    /// The first path aside at which nothing stands. `None` where so many files of the name stand
+    /// aside as may, or memory is short.
+    fn free_path(&self, name: &FileName) -> Option<String> {
+        for number in 1..=MOST_ASIDE {
+            let path = self.path_aside(name, number).ok()?;
+            if self.is_free(path.as_str()) {
+                return Some(path);
+            }
+        }
+        None
+    }
+
     /// Reads a file of the folder's own; `None` where it is none, can't be read, or memory is
     /// short.
     fn read_file(&self, path: &str) -> Option<Vec<u8>> {
@@ -156,9 +192,9 @@ impl<R: Files + Clock + AllocGlobal + Clone + Drop> Spool for FolderSpool<'_, R>
         let Ok(from) = self.path(name, "") else {
             return false;
         };
-        match self.path(name, ".bad") {
-            Ok(to) => fs::rename(self.rt, from.as_str(), to.as_str()).is_ok(),
-            Err(_) => false,
+        match self.free_path(name) {
+            Some(to) => fs::rename(self.rt, from.as_str(), to.as_str()).is_ok(),
+            None => false,
         }
     }
 }

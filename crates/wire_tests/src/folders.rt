@@ -32,6 +32,33 @@ fn files_of_a_folder(rt: HostRuntime) -> Result<(), Fail> {
     Ok(())
 }
 
+/// Whether a file has this text.
+fn has(rt: &HostRuntime, path: &str, text: &str) -> Result<bool, Fail> {
+    Ok(fs::read(rt, path)?.as_slice() == text.as_bytes())
+}
+
+/// Refused files of one name stand aside one by one, a hundred at most: none takes another's place,
+/// and one more stays where it is.
+#[test]
+fn refused_files_of_one_name(rt: HostRuntime) -> Result<(), Fail> {
+    let _ = fs::remove_dir_all(&rt, "refused-of-a-test");
+    fs::create_dir(&rt, "refused-of-a-test")?;
+    let path = "refused-of-a-test/a.note.x.eml";
+    let name = FileName::read(b"a.note.x.eml").ok_or("name")?;
+    let mut spool = FolderSpool::new(&rt, rt.alloc(), "refused-of-a-test");
+    for number in 1..=101u32 {
+        fs::write(&rt, path, format!(in rt.alloc(); "text {number}")?)?;
+        assert!(rt; spool.rename(&name) == (number < 101), "{number}");
+    }
+    assert!(rt; has(&rt, path, "text 101")?);
+    assert!(rt; has(&rt, "refused-of-a-test/a.note.x.eml.bad", "text 1")?);
+    assert!(rt; has(&rt, "refused-of-a-test/a.note.x.eml.bad.2", "text 2")?);
+    assert!(rt; has(&rt, "refused-of-a-test/a.note.x.eml.bad.100", "text 100")?);
+    assert!(rt; spool.remove(&name) && spool.next_name(&None).is_none());
+    fs::remove_dir_all(&rt, "refused-of-a-test")?;
+    Ok(())
+}
+
 /// A symbolic link to a file that lies elsewhere isn't read, nor is a second name of such a file.
 /// Once the file has no other name, it is read.
 #[test]

@@ -2,6 +2,8 @@
 //! reads and writes.
 use crate::benches::{Bench, bench_over, request, turns};
 use crate::turns::octets;
+use office::{AdminCommand, Event};
+use policy::Policy;
 use serving::Stop;
 use std::alloc::Global;
 use std::test::Fail;
@@ -155,26 +157,88 @@ fn ninth_link(rt: HostRuntime) -> Result<(), Fail> {
     Ok(())
 }
 
-/// A link is closed 60 seconds after it was accepted, even where its request isn't whole or its
-/// response isn't taken.
+/// Serves a turn, so many seconds behind a moment.
+fn turn_behind(bench: &mut Bench<PlainVault>, first: u64, seconds: u64) {
+    turns(bench, 1, first.saturating_add(seconds));
+}
+
+/// Whether a link is closed 60 seconds after it was accepted, even where its request isn't whole or
+/// its response isn't taken. The first one comes at this moment.
+fn is_closed_by_time(alloc: Global, first: u64) -> Result<bool, Fail> {
+    let mut bench = new_bench(alloc, 16)?;
+    turns(&mut bench, 1, first);
+    request(&mut bench, BEGUN)?;
+    turn_behind(&mut bench, first, 2);
+    turn_behind(&mut bench, first, 61);
+    let first_stays = !bench.wire.is_request_closed(0);
+    request(&mut bench, SESSIONS)?;
+    turn_behind(&mut bench, first, 61);
+    bench.wire.stall_response(1);
+    turn_behind(&mut bench, first, 62);
+    let first_ends = bench.wire.is_request_closed(0) && bench.wire.response(0).is_empty();
+    turn_behind(&mut bench, first, 120);
+    let second_stays = !bench.wire.is_request_closed(1);
+    turn_behind(&mut bench, first, 121);
+    let second_ends = bench.wire.is_request_closed(1) && bench.links.requests() == 0;
+    Ok(first_stays && first_ends && second_stays && second_ends)
+}
+
+/// So it is at the start, behind a day, and behind more seconds than 32 bits count.
 #[test]
 fn sixty_seconds(rt: HostRuntime) -> Result<(), Fail> {
+    for first in [5u64, 100_000, 5_000_000_000] {
+        assert!(rt; is_closed_by_time(rt.alloc(), first)?, "{first}");
+    }
+    Ok(())
+}
+
+/// A policy of 1,000 rules, which has more than 100,000 octets.
+fn large_policy(alloc: Global) -> Result<String, Fail> {
+    let mut text = String::new(alloc);
+    for number in 1..=1000u32 {
+        if number > 1 {
+            text.push_str("\n")?;
+        }
+        let rule = format!(in alloc;
+            "[[rule]]\nname = \"rule-{number}\"\neffect = \"allow\"\nclerk = \"*\"\n\
+             maildrop = \"maildrop-{number}\"\nclass = \"*\"\nactions = [\"open\"]\n"
+        )?;
+        text.push_str(rule.as_str())?;
+    }
+    Ok(text)
+}
+
+#[test]
+fn a_large_policy_is_set(rt: HostRuntime) -> Result<(), Fail> {
     let alloc = rt.alloc();
-    let mut bench = new_bench(alloc, 16)?;
-    turns(&mut bench, 1, 5);
-    request(&mut bench, BEGUN)?;
-    turns(&mut bench, 1, 7);
-    turns(&mut bench, 1, 66);
-    assert!(rt; !bench.wire.is_request_closed(0));
-    request(&mut bench, SESSIONS)?;
-    turns(&mut bench, 1, 66);
-    bench.wire.stall_response(1);
-    turns(&mut bench, 1, 67);
-    assert!(rt; bench.wire.is_request_closed(0) && bench.wire.response(0).is_empty());
-    turns(&mut bench, 1, 125);
-    assert!(rt; !bench.wire.is_request_closed(1));
-    turns(&mut bench, 1, 126);
-    assert!(rt; bench.wire.is_request_closed(1) && bench.links.requests() == 0);
+    let policy = large_policy(alloc)?;
+    assert!(rt; policy.len() > 100_000);
+    let mut bench = new_bench(alloc, 65_536)?;
+    let front = format!(in alloc;
+        "PUT /policy HTTP/1.1\r\nContent-Length: {}\r\n\r\n",
+        policy.len()
+    )?;
+    request(&mut bench, front.as_bytes())?;
+    turns(&mut bench, 1, 0);
+    bench.wire.send_request(0, policy.as_bytes())?;
+    turns(&mut bench, 60, 0);
+    assert!(rt; bench.wire.response(0).ends_with(b"\r\n\r\n1000 rules\n"));
+    Ok(())
+}
+
+#[test]
+fn a_large_policy_is_read(rt: HostRuntime) -> Result<(), Fail> {
+    let alloc = rt.alloc();
+    let text = large_policy(alloc)?;
+    let mut bench = new_bench(alloc, 65_536)?;
+    let policy = Policy::read(alloc, text.as_str())?;
+    let _ = bench
+        .office
+        .step(Event::Admin(&AdminCommand::SetPolicy(policy)));
+    request(&mut bench, b"GET /policy HTTP/1.1\r\n\r\n")?;
+    turns(&mut bench, 20, 0);
+    assert!(rt; bench.wire.response(0).ends_with(text.as_bytes()));
+    assert!(rt; bench.wire.is_request_closed(0));
     Ok(())
 }
 
