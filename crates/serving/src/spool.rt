@@ -37,7 +37,8 @@ pub trait Spool {
         ensures told { (a : List FileAct) → tells self.old a → tells self.new (if result then a ++ WasRemoved name.now ∷ [] else a) }
         ensures called { (a : List FileCall) → asked self.old a → asked self.new (a ++ Removed name.now result ∷ []) };
 
-    /// Renames a file, by `.bad` behind its name. Whether it was renamed.
+    /// Renames a file, by `.bad` behind its name, or by `.bad.2` and so on where such a file is
+    /// there. Whether it was renamed.
     fn rename(&mut self, name: &FileName) -> bool
         ensures told { (a : List FileAct) → tells self.old a → tells self.new (if result then a ++ WasRenamed name.now ∷ [] else a) }
         ensures called { (a : List FileCall) → asked self.old a → asked self.new (a ++ Renamed name.now result ∷ []) };
