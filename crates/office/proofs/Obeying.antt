@@ -1,10 +1,9 @@
 -- What becomes of a line of a session by the reply that was put, and by what the store did.
-use Rattle.std.proofs.Common.{◌≡◌, ℕ, Bool, List, Some, Result, Ok, Err, refl, sym, subst}
+use Rattle.std.proofs.Common.{◌≡◌, ℕ, Bool, true, false, List, Some, Result, Ok, Err, refl, sym, subst, true≢false}
 use Rattle.std.specs.Prelude.{IfOk}
 use Rattle.popline.specs.Commands.{Command, ListAll, UidlAll}
-use Rattle.popline.specs.Cutting.{Cut}
+use Rattle.popline.specs.Cutting.{Cut, TooLong}
 use Rattle.popline.specs.Cutting as cutting
-use Rattle.popline.specs.Commands.{command_of}
 use Rattle.popline.specs.declared.command.LineFault.{LineFault}
 use Rattle.popline.specs.Replies.{Reply, ScanListing, UidListing}
 use Rattle.policy.specs.Policy.{Policy}
@@ -13,10 +12,14 @@ use Rattle.vault.specs.declared.record.Keyed.{Keyed}
 use Rattle.session.specs.Session.{Session}
 use Rattle.session.specs.Session as head
 use Rattle.session.specs.View.{unmarked, sizes_of, uids_of}
+use Rattle.office.specs.Connections.{reading}
+use Rattle.office.specs.LongLine.{is_too_long}
+use Rattle.office.specs.Kept.{Desk, said_outside, line_outside}
 use Rattle.office.specs.Output.{Output, OwesReply}
 use Rattle.office.specs.Sitting.{LiesIn, GoesOn, Obeyed, session_left, answered_inside, reply_inside, held_after_line, sitting_of, Sitting}
 use Rattle.office.specs.declared.talk.Acted.{Acted}
 use Rattle.office.specs.declared.talk.Acted.TheVariants as acted
+use Rattle.office.specs.declared.talk.Talk.{Talk}
 use Rattle.office.proofs.Listed.{list_said, uidl_said}
 
 -- ---- calls that end a function
@@ -59,6 +62,16 @@ module _ (After : Contents → Type 0) (grown : Bool) (c : Contents) (p : Policy
 
 -- ---- a line and what it reads as
 
-pub answered_alike : (w : Acted) (p : Policy) (v : Sitting) (l : List ℕ) → answered_inside w p v (command_of l) ≡ reply_inside w p v (cutting.Line l)
-answered_alike acted.Done p v l = refl
-answered_alike acted.Failed p v l = refl
+pub is_the_long : (x : Cut) → is_too_long x ≡ true → x ≡ TooLong
+is_the_long TooLong e = refl
+is_the_long (cutting.Line l) e = absurd (true≢false (sym e))
+
+pub answered_alike : (w : Acted) (p : Policy) (v : Sitting) (x : Cut) → is_too_long x ≡ false → answered_inside w p v (reading x) ≡ reply_inside w p v x
+answered_alike acted.Done p v (cutting.Line l) e = refl
+answered_alike acted.Done p v TooLong e = absurd (true≢false e)
+answered_alike acted.Failed p v x e = refl
+
+-- before a login
+pub said_alike : (d : Desk) (t : Talk) (x : Cut) → is_too_long x ≡ false → said_outside d t (reading x) ≡ line_outside d t x
+said_alike d t (cutting.Line l) e = refl
+said_alike d t TooLong e = absurd (true≢false e)

@@ -45,3 +45,4 @@ pub mod InSession
 pub mod Telling
 pub mod Stopping
 pub mod Logins
+pub mod LongLine

@@ -15,6 +15,7 @@ ghost use Rattle.office.specs.Stopping.{StaysUpWhenDone, LeavesOneOf};
 ghost use Rattle.office.specs.Output.{nothing_owed, OwesReply};
 ghost use Rattle.office.specs.Sitting.{Sitting, sitting_of, session_left, LiesIn, GoesOn, Obeyed, said_inside, reply_inside, asks_inside, held_after_line, user_inside};
 
+use crate::command_line::CommandLine;
 use crate::listing::{drop_listing, list, list_uids};
 use crate::message::{retrieve, top};
 use crate::output::Output;
@@ -23,7 +24,7 @@ use crate::referring::{delete, reset, scan_line, uid_line};
 use crate::talk::{Acted, Talk, say};
 use creds::LoginName;
 use policy::Policy;
-use popline::{Command, Cut, Keyword, LineFault, Reply};
+use popline::{Command, Keyword, LineFault, Reply};
 use session::Session;
 use std::alloc::{AllocError, Global};
 use vault::Vault;
@@ -92,22 +93,22 @@ fn obey<V: Vault>(
     alloc: Global,
     vault: &mut V,
     policy: &Policy,
-    line: &[u8],
+    line: &CommandLine<'_>,
     output: &mut Output,
     session: &mut Session,
 ) -> Result<Acted, AllocError>
     requires { output.old ≡ nothing_owed }
-    ensures done { IfOk result (λ acted. (c : Contents) (kept : List Keyed) → V.holds vault.old c → V.is_clean vault.new → LiesIn c session.old kept → Obeyed (V.holds vault.new) (has_grown (V.faults vault.old) (V.faults vault.new)) c policy.now session.old session.new kept output.new (command_of line.now) acted) }
+    ensures done { IfOk result (λ acted. (c : Contents) (kept : List Keyed) → V.holds vault.old c → V.is_clean vault.new → LiesIn c session.old kept → Obeyed (V.holds vault.new) (has_grown (V.faults vault.old) (V.faults vault.new)) c policy.now session.old session.new kept output.new (reading line.now) acted) }
     ensures err { OnErr result ((c : Contents) → V.holds vault.old c → V.is_clean vault.new → V.holds vault.new c) }
     ensures counted { V.faults vault.old ≤ V.faults vault.new }
     ensures clean { V.is_clean vault.new → V.is_clean vault.old }
     ensures up { (c : Contents) → V.holds vault.old c → V.is_clean vault.new → StaysUpWhenDone (V.is_up vault.old) (V.is_up vault.new) result }
-    ensures stop { (c : Contents) → V.holds vault.old c → V.is_clean vault.new → V.is_up vault.old → LeavesOneOf (V.may_leave vault.new) c (held_after_line Acted.Done policy.now session.old (command_of line.now) c) }
-    ensures unasked { (c : Contents) (kept : List Keyed) → LiesIn c session.old kept → asks_inside policy.now (sitting_of session.old kept) (command_of line.now) ≡ false → vault.new ≡ vault.old }
+    ensures stop { (c : Contents) → V.holds vault.old c → V.is_clean vault.new → V.is_up vault.old → LeavesOneOf (V.may_leave vault.new) c (held_after_line Acted.Done policy.now session.old (reading line.now) c) }
+    ensures unasked { (c : Contents) (kept : List Keyed) → LiesIn c session.old kept → asks_inside policy.now (sitting_of session.old kept) (reading line.now) ≡ false → vault.new ≡ vault.old }
 {
-    match Command::read(line) {
-        Ok(command) => follow(alloc, vault, policy, &command, output, session),
-        Err(fault) => say(alloc, output, &misread(fault)),
+    match line.reading() {
+        Ok(command) => follow(alloc, vault, policy, command, output, session),
+        Err(fault) => say(alloc, output, &misread(*fault)),
     }
 }
 
@@ -117,65 +118,48 @@ pub(crate) fn answer<V: Vault>(
     alloc: Global,
     vault: &mut V,
     policy: &Policy,
-    cut: Cut<'_>,
+    line: &CommandLine<'_>,
     output: &mut Output,
     session: &mut Session,
 ) -> Result<Acted, AllocError>
     requires { output.old ≡ nothing_owed }
-    ensures owed { IfOk result (λ acted. (c : Contents) (kept : List Keyed) → V.holds vault.old c → V.is_clean vault.new → LiesIn c session.old kept → OwesReply c (session_left (reading (cut_seen cut.entry)) session.new) output.new (reply_inside acted policy.now (sitting_of session.old kept) (cut_seen cut.entry))) }
-    ensures session { IfOk result (λ acted. (c : Contents) (kept : List Keyed) → V.holds vault.old c → V.is_clean vault.new → LiesIn c session.old kept → GoesOn (reply_inside acted policy.now (sitting_of session.old kept) (cut_seen cut.entry)) session.old session.new) }
-    ensures held { IfOk result (λ acted. (c : Contents) (kept : List Keyed) → V.holds vault.old c → V.is_clean vault.new → LiesIn c session.old kept → V.holds vault.new (held_after_line acted policy.now session.old (reading (cut_seen cut.entry)) c)) }
+    ensures owed { IfOk result (λ acted. (c : Contents) (kept : List Keyed) → V.holds vault.old c → V.is_clean vault.new → LiesIn c session.old kept → OwesReply c (session_left (reading line.now) session.new) output.new (reply_inside acted policy.now (sitting_of session.old kept) line.now)) }
+    ensures session { IfOk result (λ acted. (c : Contents) (kept : List Keyed) → V.holds vault.old c → V.is_clean vault.new → LiesIn c session.old kept → GoesOn (reply_inside acted policy.now (sitting_of session.old kept) line.now) session.old session.new) }
+    ensures held { IfOk result (λ acted. (c : Contents) (kept : List Keyed) → V.holds vault.old c → V.is_clean vault.new → LiesIn c session.old kept → V.holds vault.new (held_after_line acted policy.now session.old (reading line.now) c)) }
     ensures err { OnErr result ((c : Contents) → V.holds vault.old c → V.is_clean vault.new → V.holds vault.new c) }
-    ensures may { IfOk result (λ acted. acted ≡ Acted.Failed → (c : Contents) (kept : List Keyed) → V.holds vault.old c → V.is_clean vault.new → LiesIn c session.old kept → asks_inside policy.now (sitting_of session.old kept) (reading (cut_seen cut.entry)) ≡ true) }
+    ensures may { IfOk result (λ acted. acted ≡ Acted.Failed → (c : Contents) (kept : List Keyed) → V.holds vault.old c → V.is_clean vault.new → LiesIn c session.old kept → asks_inside policy.now (sitting_of session.old kept) (reading line.now) ≡ true) }
     ensures cause { IfOk result (λ acted. acted ≡ Acted.Failed → (c : Contents) (kept : List Keyed) → V.holds vault.old c → V.is_clean vault.new → LiesIn c session.old kept → has_grown (V.faults vault.old) (V.faults vault.new) ≡ true) }
     ensures counted { V.faults vault.old ≤ V.faults vault.new }
     ensures clean { V.is_clean vault.new → V.is_clean vault.old }
     ensures up { (c : Contents) → V.holds vault.old c → V.is_clean vault.new → StaysUpWhenDone (V.is_up vault.old) (V.is_up vault.new) result }
-    ensures stop { (c : Contents) → V.holds vault.old c → V.is_clean vault.new → V.is_up vault.old → LeavesOneOf (V.may_leave vault.new) c (held_after_line Acted.Done policy.now session.old (reading (cut_seen cut.entry)) c) }
-    ensures unasked { (c : Contents) (kept : List Keyed) → LiesIn c session.old kept → asks_inside policy.now (sitting_of session.old kept) (reading (cut_seen cut.entry)) ≡ false → vault.new ≡ vault.old }
+    ensures stop { (c : Contents) → V.holds vault.old c → V.is_clean vault.new → V.is_up vault.old → LeavesOneOf (V.may_leave vault.new) c (held_after_line Acted.Done policy.now session.old (reading line.now) c) }
+    ensures unasked { (c : Contents) (kept : List Keyed) → LiesIn c session.old kept → asks_inside policy.now (sitting_of session.old kept) (reading line.now) ≡ false → vault.new ≡ vault.old }
 {
-    match cut {
-        Cut::TooLong => say(alloc, output, &Reply::LineTooLong),
-        Cut::Line(line) => obey(alloc, vault, policy, line, output, session),
+    if line.is_too_long() {
+        return say(alloc, output, &Reply::LineTooLong);
     }
-}
-
-/// What a line reads as; one that is too long spells nothing.
-pub(crate) fn read(cut: Cut<'_>) -> Result<Command<'_>, LineFault>
-    ensures { reading_seen result ≡ reading (cut_seen cut.entry) }
-{
-    match cut {
-        Cut::TooLong => Err(LineFault::Unknown),
-        Cut::Line(line) => Command::read(line),
-    }
+    obey(alloc, vault, policy, line, output, session)
 }
 
 /// The login name in force after a line.
-fn next_user(cut: Cut<'_>, acted: Acted, user: Option<LoginName>) -> Option<LoginName>
-    ensures { result ≡ user_inside acted (reading (cut_seen cut.entry)) user }
+fn next_user(line: &CommandLine<'_>, acted: Acted, user: Option<LoginName>) -> Option<LoginName>
+    ensures { result ≡ user_inside acted (reading line.now) user }
 {
-    match (acted, read(cut)) {
+    match (acted, line.reading()) {
         (Acted::Done, Ok(Command::Capa)) => user,
         _ => None,
     }
 }
 
-/// Whether a line ends the session.
-pub(crate) fn is_quitting(cut: Cut<'_>) -> bool
-    ensures { result ≡ is_quit (reading (cut_seen cut.entry)) }
-{
-    matches!(read(cut), Ok(Command::Quit))
-}
-
 /// What is remembered after a line of a session. Only an answered CAPA leaves a login name in
 /// force, no line counts as a refused credential, and a QUIT closes the connection.
-pub(crate) fn next_talk(cut: Cut<'_>, acted: Acted, talk: Talk) -> Talk
-    ensures { (p : Policy) (v : Sitting) → result ≡ talk_after (cut_seen cut.entry) (reply_inside acted p v (cut_seen cut.entry)) talk }
+pub(crate) fn next_talk(line: &CommandLine<'_>, acted: Acted, talk: Talk) -> Talk
+    ensures { (p : Policy) (v : Sitting) → result ≡ talk_after line.now (reply_inside acted p v line.now) talk }
 {
     Talk {
-        user: next_user(cut, acted, talk.user),
+        user: next_user(line, acted, talk.user),
         failures: talk.failures,
-        closing: is_quitting(cut) || talk.closing,
+        closing: line.is_quit() || talk.closing,
         removals: talk.removals,
     }
 }

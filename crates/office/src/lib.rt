@@ -9,6 +9,7 @@ mod administration;
 mod answer;
 mod bodies;
 mod command;
+mod command_line;
 mod deposits;
 mod event;
 mod history_laws;

@@ -15,7 +15,8 @@ ghost use Rattle.office.specs.Sitting.{Sitting};
 ghost use Rattle.office.specs.Kept.{said_outside, line_outside, asks_outside, asks, talk_after};
 ghost use Rattle.office.specs.Answered.{desk_over, reply_of, name_cmp, IsSeated, SessionAfter, Becomes, LocksFollow, held_after};
 
-use crate::inside::{self, is_quitting, read};
+use crate::command_line::CommandLine;
+use crate::inside;
 use crate::locks::{Locks, lock, release};
 use crate::login::judge;
 use crate::output::Output;
@@ -85,47 +86,51 @@ fn reply_to<V: Vault>(
     vault: &mut V,
     desk: Desk<'_>,
     locks: &Locks,
-    cut: Cut<'_>,
+    line: &CommandLine<'_>,
     talk: Talk,
 ) -> Result<(Reply<'static>, Option<Session>), VaultFault>
-    ensures said { (c : Contents) → V.holds vault.old c → V.is_clean vault.new → IsDone (V.holds vault.new) c c (Ok (line_outside (desk_over c desk.entry locks.now) talk (cut_seen cut.entry))) (seen_as result (λ r. reply_seen r.0)) }
-    ensures session { IfOk result (λ r. (c : Contents) → V.holds vault.old c → V.is_clean vault.new → Becomes c desk.entry.policy.now talk (cut_seen cut.entry) (reply_seen r.0) None r.1) }
-    ensures asked { OnErr result (asks_outside talk (reading (cut_seen cut.entry)) ≡ true) }
+    ensures said { (c : Contents) → V.holds vault.old c → V.is_clean vault.new → IsDone (V.holds vault.new) c c (Ok (line_outside (desk_over c desk.entry locks.now) talk line.now)) (seen_as result (λ r. reply_seen r.0)) }
+    ensures session { IfOk result (λ r. (c : Contents) → V.holds vault.old c → V.is_clean vault.new → Becomes c desk.entry.policy.now talk line.now (reply_seen r.0) None r.1) }
+    ensures asked { OnErr result (asks_outside talk (reading line.now) ≡ true) }
     ensures counted { CountsFaults (V.faults vault.old) (V.faults vault.new) result }
     ensures clean { V.is_clean vault.new → V.is_clean vault.old }
     ensures up { (c : Contents) → V.holds vault.old c → V.is_clean vault.new → V.is_up vault.old → OnOk result (V.is_up vault.new) }
     ensures stop { (c : Contents) → V.holds vault.old c → V.is_clean vault.new → V.is_up vault.old → LeavesHeld (V.may_leave vault.new) c }
-    ensures unasked { asks_outside talk (reading (cut_seen cut.entry)) ≡ false → vault.new ≡ vault.old }
+    ensures unasked { asks_outside talk (reading line.now) ≡ false → vault.new ≡ vault.old }
 {
-    let Cut::Line(line) = cut else {
+    if line.is_too_long() {
         return Ok((Reply::LineTooLong, None));
-    };
-    match Command::read(line) {
+    }
+    match line.reading() {
         Err(LineFault::Unknown) => Ok((Reply::UnknownCommand, None)),
-        Err(LineFault::Syntax(keyword)) if is_allowed(keyword, false, talk.user.is_some()) => {
+        Err(LineFault::Syntax(keyword)) if is_allowed(*keyword, false, talk.user.is_some()) => {
             Ok((Reply::BadArguments, None))
         }
         Err(LineFault::Syntax(_)) => Ok((Reply::WrongState, None)),
-        Ok(command) => obey(alloc, vault, desk, locks, &command, talk),
+        Ok(command) => obey(alloc, vault, desk, locks, command, talk),
     }
 }
 
 /// The login name that a line with this reply leaves in force.
-fn next_user(cut: Cut<'_>, reply: &Reply<'_>, user: Option<LoginName>) -> Option<LoginName>
-    ensures { result ≡ user_after_line (reading (cut_seen cut.entry)) (Says (reply_seen reply.now)) user }
+fn next_user(
+    line: &CommandLine<'_>,
+    reply: &Reply<'_>,
+    user: Option<LoginName>,
+) -> Option<LoginName>
+    ensures { result ≡ user_after_line (reading line.now) (Says (reply_seen reply.now)) user }
 {
-    match read(cut) {
-        Ok(Command::User(name)) if matches!(*reply, Reply::SendPass) => Some(name),
+    match line.reading() {
+        Ok(Command::User(name)) if matches!(*reply, Reply::SendPass) => Some(*name),
         Ok(Command::Capa) if matches!(*reply, Reply::Capabilities) => user,
         _ => None,
     }
 }
 
 /// Whether a line with this reply closes its connection.
-fn is_closing(cut: Cut<'_>, reply: &Reply<'_>) -> bool
-    ensures { result ≡ closes (reading (cut_seen cut.entry)) (Says (reply_seen reply.now)) }
+fn is_closing(line: &CommandLine<'_>, reply: &Reply<'_>) -> bool
+    ensures { result ≡ closes (reading line.now) (Says (reply_seen reply.now)) }
 {
-    matches!(*reply, Reply::LoginFailedClosing) || is_quitting(cut)
+    matches!(*reply, Reply::LoginFailedClosing) || line.is_quit()
 }
 
 /// Whether a credential was refused.
@@ -136,17 +141,17 @@ fn is_refusal(reply: &Reply<'_>) -> bool
 }
 
 /// What is remembered after a line that got this reply.
-fn next_talk(cut: Cut<'_>, reply: &Reply<'_>, talk: Talk) -> Talk
-    ensures { result ≡ talk_after (cut_seen cut.entry) (reply_seen reply.now) talk }
+fn next_talk(line: &CommandLine<'_>, reply: &Reply<'_>, talk: Talk) -> Talk
+    ensures { result ≡ talk_after line.now (reply_seen reply.now) talk }
 {
     Talk {
-        user: next_user(cut, reply, talk.user),
+        user: next_user(line, reply, talk.user),
         failures: if is_refusal(reply) {
             talk.failures.saturating_add(1)
         } else {
             talk.failures
         },
-        closing: is_closing(cut, reply) || talk.closing,
+        closing: is_closing(line, reply) || talk.closing,
         removals: talk.removals,
     }
 }
@@ -158,33 +163,33 @@ fn answer_outside<V: Vault>(
     vault: &mut V,
     desk: Desk<'_>,
     locks: &mut Locks,
-    cut: Cut<'_>,
+    line: &CommandLine<'_>,
     output: &mut Output,
     talk: &mut Talk,
 ) -> Result<(Acted, Option<Session>), AllocError>
     requires { output.old ≡ nothing_owed }
-    ensures owed { IfOk result (λ r. (c : Contents) → V.holds vault.old c → V.is_clean vault.new → output.new ≡ record output.old { ready = output.old.ready ++ bytes_of (reply_of r.0 (desk_over c desk.entry locks.old) talk.old None (cut_seen cut.entry)) }) }
-    ensures talk { IfOk result (λ r. (c : Contents) → V.holds vault.old c → V.is_clean vault.new → talk.new ≡ talk_after (cut_seen cut.entry) (reply_of r.0 (desk_over c desk.entry locks.old) talk.old None (cut_seen cut.entry)) talk.old) }
-    ensures session { IfOk result (λ r. (c : Contents) → V.holds vault.old c → V.is_clean vault.new → Becomes c desk.entry.policy.now talk.old (cut_seen cut.entry) (reply_of r.0 (desk_over c desk.entry locks.old) talk.old None (cut_seen cut.entry)) None r.1) }
+    ensures owed { IfOk result (λ r. (c : Contents) → V.holds vault.old c → V.is_clean vault.new → output.new ≡ record output.old { ready = output.old.ready ++ bytes_of (reply_of r.0 (desk_over c desk.entry locks.old) talk.old None line.now) }) }
+    ensures talk { IfOk result (λ r. (c : Contents) → V.holds vault.old c → V.is_clean vault.new → talk.new ≡ talk_after line.now (reply_of r.0 (desk_over c desk.entry locks.old) talk.old None line.now) talk.old) }
+    ensures session { IfOk result (λ r. (c : Contents) → V.holds vault.old c → V.is_clean vault.new → Becomes c desk.entry.policy.now talk.old line.now (reply_of r.0 (desk_over c desk.entry locks.old) talk.old None line.now) None r.1) }
     ensures locks { IfOk result (λ r. LocksFollow desk.entry.number None r.1 locks.old locks.new) }
     ensures locks_err { OnErr result ((d : List ℕ) → get name_cmp locks.new d ≡ get name_cmp locks.old d) }
     ensures held { (c : Contents) → V.holds vault.old c → V.is_clean vault.new → V.holds vault.new c }
-    ensures may { IfOk result (λ r. r.0 ≡ Acted.Failed → asks_outside talk.old (reading (cut_seen cut.entry)) ≡ true) }
+    ensures may { IfOk result (λ r. r.0 ≡ Acted.Failed → asks_outside talk.old (reading line.now) ≡ true) }
     ensures cause { IfOk result (λ r. r.0 ≡ Acted.Failed → (c : Contents) → V.holds vault.old c → V.is_clean vault.new → has_grown (V.faults vault.old) (V.faults vault.new) ≡ true) }
     ensures counted { V.faults vault.old ≤ V.faults vault.new }
     ensures clean { V.is_clean vault.new → V.is_clean vault.old }
     ensures up { (c : Contents) → V.holds vault.old c → V.is_clean vault.new → V.is_up vault.old → IfOk result (λ r. r.0 ≡ Acted.Done → V.is_up vault.new) }
     ensures stop { (c : Contents) → V.holds vault.old c → V.is_clean vault.new → V.is_up vault.old → LeavesHeld (V.may_leave vault.new) c }
-    ensures unasked { asks_outside talk.old (reading (cut_seen cut.entry)) ≡ false → vault.new ≡ vault.old }
+    ensures unasked { asks_outside talk.old (reading line.now) ≡ false → vault.new ≡ vault.old }
 {
-    let (reply, begun, acted) = match reply_to(alloc, vault, desk, locks, cut, *talk) {
+    let (reply, begun, acted) = match reply_to(alloc, vault, desk, locks, line, *talk) {
         Ok((reply, begun)) => (reply, begun, Acted::Done),
         Err(VaultFault::NoMemory) => return Err(AllocError),
         Err(_) => (Reply::StoreFailed, None, Acted::Failed),
     };
     output.say(alloc, &reply)?;
     lock(locks, desk.number, &begun)?;
-    *talk = next_talk(cut, &reply, *talk);
+    *talk = next_talk(line, &reply, *talk);
     Ok((acted, begun))
 }
 
@@ -195,32 +200,32 @@ fn answer_inside<V: Vault>(
     vault: &mut V,
     desk: Desk<'_>,
     locks: &mut Locks,
-    cut: Cut<'_>,
+    line: &CommandLine<'_>,
     output: &mut Output,
     talk: &mut Talk,
     session: Session,
 ) -> Result<(Acted, Option<Session>), AllocError>
     requires { output.old ≡ nothing_owed }
-    ensures owed { IfOk result (λ r. (c : Contents) (v : Sitting) → V.holds vault.old c → V.is_clean vault.new → IsSeated c (Some session) (Some v) → OwesReply c r.1 output.new (reply_of r.0 (desk_over c desk.entry locks.old) talk.old (Some v) (cut_seen cut.entry))) }
-    ensures talk { IfOk result (λ r. (c : Contents) (v : Sitting) → V.holds vault.old c → V.is_clean vault.new → IsSeated c (Some session) (Some v) → talk.new ≡ talk_after (cut_seen cut.entry) (reply_of r.0 (desk_over c desk.entry locks.old) talk.old (Some v) (cut_seen cut.entry)) talk.old) }
-    ensures session { IfOk result (λ r. (c : Contents) (v : Sitting) → V.holds vault.old c → V.is_clean vault.new → IsSeated c (Some session) (Some v) → Becomes c desk.entry.policy.now talk.old (cut_seen cut.entry) (reply_of r.0 (desk_over c desk.entry locks.old) talk.old (Some v) (cut_seen cut.entry)) (Some session) r.1) }
+    ensures owed { IfOk result (λ r. (c : Contents) (v : Sitting) → V.holds vault.old c → V.is_clean vault.new → IsSeated c (Some session) (Some v) → OwesReply c r.1 output.new (reply_of r.0 (desk_over c desk.entry locks.old) talk.old (Some v) line.now)) }
+    ensures talk { IfOk result (λ r. (c : Contents) (v : Sitting) → V.holds vault.old c → V.is_clean vault.new → IsSeated c (Some session) (Some v) → talk.new ≡ talk_after line.now (reply_of r.0 (desk_over c desk.entry locks.old) talk.old (Some v) line.now) talk.old) }
+    ensures session { IfOk result (λ r. (c : Contents) (v : Sitting) → V.holds vault.old c → V.is_clean vault.new → IsSeated c (Some session) (Some v) → Becomes c desk.entry.policy.now talk.old line.now (reply_of r.0 (desk_over c desk.entry locks.old) talk.old (Some v) line.now) (Some session) r.1) }
     ensures locks { IfOk result (λ r. LocksFollow desk.entry.number (Some session) r.1 locks.old locks.new) }
     ensures locks_err { OnErr result ((d : List ℕ) → get name_cmp locks.new d ≡ get name_cmp locks.old d) }
-    ensures held { IfOk result (λ r. (c : Contents) (v : Sitting) → V.holds vault.old c → V.is_clean vault.new → IsSeated c (Some session) (Some v) → V.holds vault.new (held_after r.0 desk.entry.policy.now (Some session) (reading (cut_seen cut.entry)) c)) }
+    ensures held { IfOk result (λ r. (c : Contents) (v : Sitting) → V.holds vault.old c → V.is_clean vault.new → IsSeated c (Some session) (Some v) → V.holds vault.new (held_after r.0 desk.entry.policy.now (Some session) (reading line.now) c)) }
     ensures err { OnErr result ((c : Contents) → V.holds vault.old c → V.is_clean vault.new → V.holds vault.new c) }
-    ensures may { IfOk result (λ r. r.0 ≡ Acted.Failed → (c : Contents) (v : Sitting) → V.holds vault.old c → V.is_clean vault.new → IsSeated c (Some session) (Some v) → asks desk.entry.policy.now talk.old (Some v) (reading (cut_seen cut.entry)) ≡ true) }
+    ensures may { IfOk result (λ r. r.0 ≡ Acted.Failed → (c : Contents) (v : Sitting) → V.holds vault.old c → V.is_clean vault.new → IsSeated c (Some session) (Some v) → asks desk.entry.policy.now talk.old (Some v) (reading line.now) ≡ true) }
     ensures cause { IfOk result (λ r. r.0 ≡ Acted.Failed → (c : Contents) (v : Sitting) → V.holds vault.old c → V.is_clean vault.new → IsSeated c (Some session) (Some v) → has_grown (V.faults vault.old) (V.faults vault.new) ≡ true) }
     ensures counted { V.faults vault.old ≤ V.faults vault.new }
     ensures clean { V.is_clean vault.new → V.is_clean vault.old }
     ensures up { (c : Contents) → V.holds vault.old c → V.is_clean vault.new → V.is_up vault.old → IfOk result (λ r. r.0 ≡ Acted.Done → V.is_up vault.new) }
-    ensures stop { (c : Contents) → V.holds vault.old c → V.is_clean vault.new → V.is_up vault.old → LeavesOneOf (V.may_leave vault.new) c (held_after Acted.Done desk.entry.policy.now (Some session) (reading (cut_seen cut.entry)) c) }
-    ensures unasked { (c : Contents) (v : Sitting) → IsSeated c (Some session) (Some v) → asks desk.entry.policy.now talk.old (Some v) (reading (cut_seen cut.entry)) ≡ false → vault.new ≡ vault.old }
+    ensures stop { (c : Contents) → V.holds vault.old c → V.is_clean vault.new → V.is_up vault.old → LeavesOneOf (V.may_leave vault.new) c (held_after Acted.Done desk.entry.policy.now (Some session) (reading line.now) c) }
+    ensures unasked { (c : Contents) (v : Sitting) → IsSeated c (Some session) (Some v) → asks desk.entry.policy.now talk.old (Some v) (reading line.now) ≡ false → vault.new ≡ vault.old }
 {
     let mut session = session;
     let maildrop = session.maildrop();
-    let acted = inside::answer(alloc, vault, desk.policy, cut, output, &mut session)?;
-    *talk = inside::next_talk(cut, acted, *talk);
-    if is_quitting(cut) {
+    let acted = inside::answer(alloc, vault, desk.policy, line, output, &mut session)?;
+    *talk = inside::next_talk(line, acted, *talk);
+    if line.is_quit() {
         release(locks, Some(maildrop));
         return Ok((acted, None));
     }
@@ -255,15 +260,16 @@ pub fn answer<V: Vault>(
     ensures stop { (c : Contents) → V.holds vault.old c → V.is_clean vault.new → V.is_up vault.old → LeavesOneOf (V.may_leave vault.new) c (held_after Acted.Done desk.entry.policy.now session.old (reading (cut_seen cut.entry)) c) }
     ensures unasked { (c : Contents) (v : Option Sitting) → IsSeated c session.old v → asks desk.entry.policy.now talk.old v (reading (cut_seen cut.entry)) ≡ false → vault.new ≡ vault.old }
 {
+    let line = CommandLine::read(cut);
     match session.take() {
         None => {
-            let (acted, begun) = answer_outside(alloc, vault, desk, locks, cut, output, talk)?;
+            let (acted, begun) = answer_outside(alloc, vault, desk, locks, &line, output, talk)?;
             *session = begun;
             Ok(acted)
         }
         Some(inside) => {
             let (acted, after) = answer_inside(
-                alloc, vault, desk, locks, cut, output, talk, inside,
+                alloc, vault, desk, locks, &line, output, talk, inside,
             )?;
             *session = after;
             Ok(acted)

@@ -18,6 +18,7 @@ ghost use Rattle.office.specs.Expected.{most_in_a_piece};
 ghost use Rattle.office.specs.Answered.{judged_at, reply_of, name_cmp, is_locked_by, IsSeated, BecomesIf, LocksFollow, held_if};
 ghost use Rattle.office.specs.Waiting.{is_held_for, coming_login, line_with};
 
+use crate::command_line::CommandLine;
 use crate::lines;
 use crate::locks::Locks;
 use crate::output::{Output, Source};
@@ -234,7 +235,7 @@ impl Link {
         let Some(cut) = cutter.line() else {
             return None;
         };
-        login_asked(cut, self.talk.user)
+        login_asked(&CommandLine::read(cut), self.talk.user)
     }
 
     /// Whether the line that is whole with this piece is a login to a maildrop that is locked. The

@@ -1,6 +1,5 @@
 //! Logins that wait for a lock: whether a piece of octets brings a login to a maildrop in use.
 ghost use Rattle.std.specs.Prelude.{◌≡◌};
-ghost use Rattle.popline.specs.Seen.{cut_seen};
 ghost use Rattle.office.specs.Connections.{reading};
 ghost use Rattle.office.specs.Events.{Trace};
 ghost use Rattle.office.specs.Answered.{is_locked_by};
@@ -8,20 +7,20 @@ ghost use Rattle.office.specs.Stands.{StandsFor};
 ghost use Rattle.office.specs.Waiting.{login_asked as login_asked_by, is_held_for, kept_waits, waits as waits_at};
 
 use crate::Office;
-use crate::inside::read;
+use crate::command_line::CommandLine;
 use crate::link::Link;
 use crate::locks::Locks;
 use creds::LoginName;
-use popline::{Command, Cut};
+use popline::Command;
 use vault::Vault;
 
 /// Whom a line would log in: for a PASS that is the name in force, for an APOP its own.
-pub(crate) fn login_asked(cut: Cut<'_>, user: Option<LoginName>) -> Option<LoginName>
-    ensures { result ≡ login_asked_by (reading (cut_seen cut.entry)) user }
+pub(crate) fn login_asked(line: &CommandLine<'_>, user: Option<LoginName>) -> Option<LoginName>
+    ensures { result ≡ login_asked_by (reading line.now) user }
 {
-    match read(cut) {
+    match line.reading() {
         Ok(Command::Pass(_)) => user,
-        Ok(Command::Apop(name, _)) => Some(name),
+        Ok(Command::Apop(name, _)) => Some(*name),
         _ => None,
     }
 }

@@ -1,30 +1,40 @@
-use Rattle.std.proofs.Common.{subst}
-use Rattle.popline.specs.Commands.{command_of}
+use Rattle.std.proofs.Common.{◌≡◌, false, sym, ◌∙◌, subst}
+use Rattle.popline.specs.Cutting.{Cut}
 use Rattle.popline.specs.Replies.{Reply}
+use Rattle.office.specs.Connections.{reading}
+use Rattle.office.specs.LongLine.{is_too_long}
 use Rattle.office.specs.Output.{OwesReply}
 use Rattle.office.specs.Sitting.{GoesOn, session_left, sitting_of}
-use Rattle.office.proofs.Obeying.{if_ok_so, if_ok_both, answered_alike}
+use Rattle.office.proofs.Obeying.{if_ok_so, if_ok_both, answered_alike, is_the_long}
 use Rattle.office.proofs.inside.answer.Goals as goal
 
-pub returns-in-Line-clause-owed : goal.returns-in-Line-clause-owed
-returns-in-Line-clause-owed g c = rw c.in-Line.is (if_ok_so _ c.obey.result c.obey.ensures.done (λ w h d kept held clean lies.
-    subst (λ (r : Reply). OwesReply d (session_left (command_of c.in-Line.line.now) c.obey.new.session) c.obey.new.output r) (answered_alike w c.args.policy.now (sitting_of c.args.session.now kept) c.in-Line.line.now) (h d kept held clean lies).owed))
+pub returns-clause-owed : goal.returns-clause-owed
+returns-clause-owed g c =
+    let x : Cut = c.args.line.now in
+    let fits : is_too_long x ≡ false = sym c.is_too_long.ensures ∙ c.if-is_too_long.false in
+    if_ok_so _ c.obey.result c.obey.ensures.done (λ w h d kept held clean lies.
+    subst (λ (r : Reply). OwesReply d (session_left (reading x) c.obey.new.session) c.obey.new.output r) (answered_alike w c.args.policy.now (sitting_of c.args.session.now kept) x fits) (h d kept held clean lies).owed)
 
-pub returns-in-Line-clause-session : goal.returns-in-Line-clause-session
-returns-in-Line-clause-session g c = rw c.in-Line.is (if_ok_so _ c.obey.result c.obey.ensures.done (λ w h d kept held clean lies.
-    subst (λ (r : Reply). GoesOn r c.args.session.now c.obey.new.session) (answered_alike w c.args.policy.now (sitting_of c.args.session.now kept) c.in-Line.line.now) (h d kept held clean lies).session))
+pub returns-clause-session : goal.returns-clause-session
+returns-clause-session g c =
+    let x : Cut = c.args.line.now in
+    let fits : is_too_long x ≡ false = sym c.is_too_long.ensures ∙ c.if-is_too_long.false in
+    if_ok_so _ c.obey.result c.obey.ensures.done (λ w h d kept held clean lies.
+    subst (λ (r : Reply). GoesOn r c.args.session.now c.obey.new.session) (answered_alike w c.args.policy.now (sitting_of c.args.session.now kept) x fits) (h d kept held clean lies).session)
 
-pub returns-in-Line-clause-held : goal.returns-in-Line-clause-held
-returns-in-Line-clause-held g c = rw c.in-Line.is (if_ok_so _ c.obey.result c.obey.ensures.done (λ w h d kept held clean lies. (h d kept held clean lies).held))
+pub returns-clause-held : goal.returns-clause-held
+returns-clause-held g c = if_ok_so _ c.obey.result c.obey.ensures.done (λ w h d kept held clean lies. (h d kept held clean lies).held)
 
-pub returns-in-Line-clause-may : goal.returns-in-Line-clause-may
-returns-in-Line-clause-may g c = rw c.in-Line.is (if_ok_so _ c.obey.result c.obey.ensures.done (λ w h failed d kept held clean lies. (h d kept held clean lies).may failed))
+pub returns-clause-may : goal.returns-clause-may
+returns-clause-may g c = if_ok_so _ c.obey.result c.obey.ensures.done (λ w h failed d kept held clean lies. (h d kept held clean lies).may failed)
 
-pub returns-in-Line-clause-cause : goal.returns-in-Line-clause-cause
-returns-in-Line-clause-cause g c = if_ok_so _ c.obey.result c.obey.ensures.done (λ w h failed d kept held clean lies. (h d kept held clean lies).cause failed)
+pub returns-clause-cause : goal.returns-clause-cause
+returns-clause-cause g c = if_ok_so _ c.obey.result c.obey.ensures.done (λ w h failed d kept held clean lies. (h d kept held clean lies).cause failed)
 
-pub returns-in-Line-clause-unasked : goal.returns-in-Line-clause-unasked
-returns-in-Line-clause-unasked g c = rw c.in-Line.is (λ d kept lies none. c.obey.ensures.unasked d kept lies none)
+pub returns-clause-unasked : goal.returns-clause-unasked
+returns-clause-unasked g c d kept lies none = c.obey.ensures.unasked d kept lies none
 
-pub returns-in-TooLong-clause-owed : goal.returns-in-TooLong-clause-owed
-returns-in-TooLong-clause-owed g c = rw c.in-TooLong.is (if_ok_both _ c.say.result c.say.ensures.acted c.say.ensures.owed (λ w e said d kept held clean lies. rw e (said d _)))
+pub returns-then-is_too_long-clause-owed : goal.returns-then-is_too_long-clause-owed
+returns-then-is_too_long-clause-owed g c = if_ok_both _ c.say.result c.say.ensures.acted c.say.ensures.owed (λ w e said d kept held clean lies.
+    let long = is_the_long c.args.line.now (sym c.is_too_long.ensures ∙ c.if-is_too_long.true) in
+    rw (e, long) (said d _))

@@ -14,19 +14,20 @@ returns-in_ok-acted-in-Some-clause-owed g c d v held clean sits =
     let e : c.args.session.now ≡ Some c.in-Some.inside = sym c.in-Some.ensures.value in
     let P : Option Sitting → Type 0 =
     λ v. OwesReply d c.in_ok-acted-in-Some.after c.answer_inside.new.output (reply_of c.in_ok-acted-in-Some.acted (desk_over d c.args.desk c.args.locks.now) c.args.talk.now v (cut_seen c.args.cut)) in
-    seated_case d c.in-Some.inside v P (λ w seat. c.in_ok-acted-in-Some.ensures.owed d w held clean seat) (subst (λ o. IsSeated d o v) e sits)
+    seated_case d c.in-Some.inside v P (λ w seat. rw c.read-line.ensures at c.in_ok-acted-in-Some.ensures.owed d w held clean seat) (subst (λ o. IsSeated d o v) e sits)
 
 pub returns-in_ok-acted-in-None-clause-owed : goal.returns-in_ok-acted-in-None-clause-owed
 returns-in_ok-acted-in-None-clause-owed g c d v held clean sits =
     let P : Option Sitting → Type 0 =
     λ v. OwesReply d c.in_ok-acted-in-None.begun c.answer_outside.new.output (reply_of c.in_ok-acted-in-None.acted (desk_over d c.args.desk c.args.locks.now) c.args.talk.now v (cut_seen c.args.cut)) in
-    unseated_case d v P (owes_put d c.in_ok-acted-in-None.begun c.args.output.now c.answer_outside.new.output _ c.requires (c.in_ok-acted-in-None.ensures.owed d held clean)) (subst (λ o. IsSeated d o v) (sym c.in-None.ensures.value) sits)
+    unseated_case d v P (owes_put d c.in_ok-acted-in-None.begun c.args.output.now c.answer_outside.new.output _ c.requires (rw c.read-line.ensures at c.in_ok-acted-in-None.ensures.owed d held clean)) (subst (λ o. IsSeated d o v) (sym c.in-None.ensures.value) sits)
 
 pub returns-in_ok-acted-in-Some-clause-held : goal.returns-in_ok-acted-in-Some-clause-held
 returns-in_ok-acted-in-Some-clause-held g c d v held clean sits =
     let e : c.args.session.now ≡ Some c.in-Some.inside = sym c.in-Some.ensures.value in
     let w = seated d c.in-Some.inside v (subst (λ o. IsSeated d o v) e sits) in
-    rw e (c.in_ok-acted-in-Some.ensures.held d w.0 held clean w.1)
+    let left = c.in_ok-acted-in-Some.ensures.held d w.0 held clean w.1 in
+    rw e (rw c.read-line.ensures at left)
 
 pub returns-in_ok-acted-in-Some-clause-cause : goal.returns-in_ok-acted-in-Some-clause-cause
 returns-in_ok-acted-in-Some-clause-cause g c failed d v held clean sits =
@@ -104,24 +105,26 @@ pub returns-in_ok-acted-in-None-clause-unasked : goal.returns-in_ok-acted-in-Non
 returns-in_ok-acted-in-None-clause-unasked g c d v sits none =
     let e : c.args.session.now ≡ None = sym c.in-None.ensures.value in
     let r = reading (cut_seen c.args.cut) in
-    c.answer_outside.ensures.unasked (asks_none_outside d c.args.desk.policy.now c.args.talk.now v r (subst (λ o. IsSeated d o v) e sits) none)
+    let same = c.read-line.ensures in
+    c.answer_outside.ensures.unasked (rw same (asks_none_outside d c.args.desk.policy.now c.args.talk.now v r (subst (λ o. IsSeated d o v) e sits) none))
 
 pub returns-in_ok-acted-in-Some-clause-unasked : goal.returns-in_ok-acted-in-Some-clause-unasked
 returns-in_ok-acted-in-Some-clause-unasked g c d v sits none =
     let e : c.args.session.now ≡ Some c.in-Some.inside = sym c.in-Some.ensures.value in
     let r = reading (cut_seen c.args.cut) in
     let w = asks_none_inside d c.args.desk.policy.now c.in-Some.inside c.args.talk.now v r (subst (λ o. IsSeated d o v) e sits) none in
-    c.answer_inside.ensures.unasked d w.sitting w.seated w.none
+    c.answer_inside.ensures.unasked d w.sitting w.seated (rw c.read-line.ensures w.none)
 
 pub returns-in_err-acted-in-None-clause-unasked : goal.returns-in_err-acted-in-None-clause-unasked
 returns-in_err-acted-in-None-clause-unasked g c d v sits none =
     let e : c.args.session.now ≡ None = sym c.in-None.ensures.value in
     let r = reading (cut_seen c.args.cut) in
-    c.answer_outside.ensures.unasked (asks_none_outside d c.args.desk.policy.now c.args.talk.now v r (subst (λ o. IsSeated d o v) e sits) none)
+    let same = c.read-line.ensures in
+    c.answer_outside.ensures.unasked (rw same (asks_none_outside d c.args.desk.policy.now c.args.talk.now v r (subst (λ o. IsSeated d o v) e sits) none))
 
 pub returns-in_err-acted-in-Some-clause-unasked : goal.returns-in_err-acted-in-Some-clause-unasked
 returns-in_err-acted-in-Some-clause-unasked g c d v sits none =
     let e : c.args.session.now ≡ Some c.in-Some.inside = sym c.in-Some.ensures.value in
     let r = reading (cut_seen c.args.cut) in
     let w = asks_none_inside d c.args.desk.policy.now c.in-Some.inside c.args.talk.now v r (subst (λ o. IsSeated d o v) e sits) none in
-    c.answer_inside.ensures.unasked d w.sitting w.seated w.none
+    c.answer_inside.ensures.unasked d w.sitting w.seated (rw c.read-line.ensures w.none)

@@ -20,7 +20,8 @@ returns c =
     let there = has_line k c.feed.new.self p x fed_is c.in-Some.ensures in
     let same = is_line k c.feed.new.self p x fed_is c.in-Some.ensures in
     let user = ap (λ (k : Kept). login_asked (reading x) k.talk.user) v in
-    c.login_asked.ensures ∙ (user ∙ comes_line k p out x there same)
+    let asked = ap (λ y. login_asked (reading y) c.self.inside.talk.user) c.read.ensures in
+    c.login_asked.ensures ∙ (asked ∙ (user ∙ comes_line k p out x there same))
 
 pub returns-in_default : goal.returns-in_default
 returns-in_default c =
