@@ -3,6 +3,7 @@ mod CommandRows
 mod JudgedRows
 mod OfficeRows
 mod RefusedRows
+mod AccountRows
 mod Parts
 mod SampleSound
 pub mod Laws
@@ -49,6 +50,7 @@ pub mod GoingOn
 mod Acting
 mod Locking
 mod Judging
+mod Accounts
 mod LineDone
 mod PieceDone
 mod TakingDone
