@@ -4,28 +4,33 @@ use Rattle.creds.specs.declared.login_name.LoginName.{LoginName}
 use Rattle.policy.specs.Policy.{Policy}
 use Rattle.popline.specs.Cutting.{Cut, TooLong}
 use Rattle.popline.specs.Cutting as cutting
-use Rattle.popline.specs.Commands.{Command, Pass, Apop, command_of}
+use Rattle.popline.specs.Commands.{Command, Pass, Apop, Quit, command_of}
 use Rattle.popline.specs.declared.command.LineFault.{LineFault}
 use Rattle.popline.specs.Replies.{Reply}
 use Rattle.vault.specs.Records.{Records}
 use Rattle.vault.specs.Changes.{Contents}
+use Rattle.vault.specs.declared.record.Keyed.{Keyed}
 use Rattle.session.specs.Session.{Session}
 use Rattle.office.specs.History.{Act, Line, Idle, Tag, Done, Failed, NoMemory, Said, Says, Entry}
-use Rattle.office.specs.Connections.{reading, user}
+use Rattle.office.specs.Connections.{is_quit, reading, user}
+use Rattle.office.specs.Sessions.{in_session}
 use Rattle.office.specs.Replying.{said_to_line, reply_to_cut}
 use Rattle.office.specs.Events.{Event, Mark, Ignored, Tagged, Trace}
 use Rattle.office.specs.Events as event
 use Rattle.office.specs.Answers.{AdminCommand}
 use Rattle.office.specs.Trace.{history, idle_acts, idle_numbers, acts_of_piece, acts_of_took, line_act}
 use Rattle.office.specs.Kept.{Desk, asks}
-use Rattle.office.specs.Sitting.{Sitting, said_inside, refused_reading, asks_inside, reply_inside}
-use Rattle.office.specs.Answered.{reply_of, tag_of}
-use Rattle.office.specs.Accounts.{verdict, login_judged, line_account, acts_account, account_of}
+use Rattle.office.specs.Sitting.{Sitting, LiesIn, sitting_of, said_inside, refused_reading, asks_inside, reply_inside}
+use Rattle.office.specs.Answered.{reply_of, tag_of, IsSeated}
+use Rattle.office.specs.Accounts.{verdict, login_judged, line_account, quit_or, quit_account, removal_by, line_told, acts_account, account_of, removal_told, removal_seen, seated_account}
 use Rattle.office.specs.declared.account.Verdict.{Verdict}
+use Rattle.office.specs.declared.account.Account.{Account}
 use Rattle.office.specs.declared.account.Account.TheVariants as account
+use Rattle.office.specs.declared.account.Removal.{Removal}
 use Rattle.office.specs.declared.talk.Talk.{Talk}
 use Rattle.office.specs.declared.talk.Acted.{Acted}
 use Rattle.office.specs.declared.talk.Acted.TheVariants as acted
+use Rattle.office.proofs.Quitting.{counted_alike, denying_alike}
 use Rattle.office.proofs.Judging.{Judges}
 
 -- ---- a session's lines
@@ -65,19 +70,59 @@ module _ (p : Policy) (v : Sitting) (u : Option LoginName) where
   told_inside acted.Done (cutting.Line l) may = told_read (command_of l)
   told_inside acted.Failed x may = not_login (verdict (Says (refused_reading (reading x)))) (reading x) u (asks_no_login (reading x) (may refl))
 
+-- a QUIT judges no login
+quits_no_login : (r : Result Command LineFault) (said : Said) (u : Option LoginName) → is_quit r ≡ true → line_account r said u ≡ account.Nothing
+quits_no_login (Ok (Pass password)) said u e = absurd (true≢false (sym e))
+quits_no_login (Ok (Apop name digest)) said u e = absurd (true≢false (sym e))
+quits_no_login (Ok Quit) said u e = not_login (verdict said) (Ok Quit) u refl
+quits_no_login _ said u e = absurd (true≢false (sym e))
+
+-- what is kept of a session removes what the store's messages say
+removal_alike : (c : Contents) (p : Policy) (s : Session) (kept : List Keyed) → LiesIn c s kept → (w : Acted) → removal_told w p s ≡ removal_seen w p (sitting_of s kept)
+removal_alike c p s kept lies w =
+    let counted = counted_alike c p s kept lies in
+    let denied = denying_alike c p s kept lies in
+    rw (counted, denied) refl
+
+-- a line before a login is told by its reply
+pub outside_told : (w : Acted) (p : Policy) (r : Result Command LineFault) (said : Said) (u : Option LoginName) → line_account r said u ≡ seated_account w p None r said u
+outside_told w p r said u = at (is_quit r) refl
+  where
+    at : (b : Bool) → is_quit r ≡ b → line_account r said u ≡ quit_or b account.Nothing (line_account r said u)
+    at true e = quits_no_login r said u e
+    at false e = refl
+
+-- a line of a session is told only where it quits
+pub seated_told : (c : Contents) (p : Policy) (s : Session) (v : Sitting) (w : Acted) (u : Option LoginName) (x : Cut) (told : Account) → IsSeated c (Some s) (Some v)
+    → (w ≡ acted.Failed → asks_inside p v (reading x) ≡ true) → told ≡ quit_or (is_quit (reading x)) (account.Quit (removal_told w p s)) account.Nothing
+    → told ≡ seated_account w p (Some v) (reading x) (Says (reply_inside w p v x)) u
+seated_told c p s v w u x told seat may is =
+    let quits = is_quit (reading x) in
+    is ∙ (ap (λ (r : Removal). quit_or quits (account.Quit r) account.Nothing) (removal_alike c p s seat.0 seat.1 w ∙ ap (removal_seen w p) (sym seat.2))
+    ∙ ap (λ (o : Account). quit_or quits (account.Quit (removal_seen w p v)) o) (sym (told_inside p v u w x may)))
+
 -- ---- a line that acts
 
 said_with : (B : Records) (G : List Entry) (c : ℕ) (x : Cut) (w : Acted) → said_to_line B G c x (tag_of w) ≡ Says (reply_to_cut B G c x (tag_of w))
 said_with B G c x acted.Done = refl
 said_with B G c x acted.Failed = refl
 
-pub line_told : (B : Records) (G : List Entry) (c : ℕ) (k : Contents) (d : Desk) (t : Talk) (old : Option Session) (j : Judges B G c k d t old) → t.user ≡ user G c → (x : Cut) (w : Acted)
+told_with : (B : Records) (G : List Entry) (c : ℕ) (x : Cut) (w : Acted) → line_told B G c x (tag_of w)
+    ≡ quit_or (is_quit (reading x)) (quit_account (in_session G c) (removal_by B G c (tag_of w))) (line_account (reading x) (said_to_line B G c x (tag_of w)) (user G c))
+told_with B G c x acted.Done = refl
+told_with B G c x acted.Failed = refl
+
+pub line_so : (B : Records) (G : List Entry) (c : ℕ) (k : Contents) (d : Desk) (t : Talk) (old : Option Session) (j : Judges B G c k d t old) → t.user ≡ user G c → (x : Cut) (w : Acted)
     → (w ≡ acted.Failed → asks d.policy t j.sitting (reading x) ≡ true)
-    → line_account (reading x) (Says (reply_of w d t j.sitting x)) t.user ≡ acts_account B G (line_act c (tag_of w) (Some x))
-line_told B G c k d t old j named x w may =
-    ap (λ (r : Reply). line_account (reading x) (Says r) t.user) (sym (j.reply x w may))
+    → seated_account w d.policy j.sitting (reading x) (Says (reply_of w d t j.sitting x)) t.user ≡ acts_account B G (line_act c (tag_of w) (Some x))
+line_so B G c k d t old j named x w may =
+    let quits = is_quit (reading x) in
+    ap (λ (q : Account). quit_or quits q (line_account (reading x) (Says (reply_of w d t j.sitting x)) t.user)) (sym (j.quits w))
+    ∙ (ap (λ (o : Account). quit_or quits (quit_account (in_session G c) (removal_by B G c (tag_of w))) o)
+    (ap (λ (r : Reply). line_account (reading x) (Says r) t.user) (sym (j.reply x w may))
     ∙ (ap (λ (s : Said). line_account (reading x) s t.user) (sym (said_with B G c x w))
-    ∙ ap (λ (o : Option LoginName). line_account (reading x) (said_to_line B G c x (tag_of w)) o) named)
+    ∙ ap (λ (o : Option LoginName). line_account (reading x) (said_to_line B G c x (tag_of w)) o) named))
+    ∙ sym (told_with B G c x w))
 
 -- ---- events in which no line acts
 

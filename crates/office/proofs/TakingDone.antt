@@ -24,8 +24,8 @@ use Rattle.office.specs.declared.talk.Acted.TheVariants as acted
 use Rattle.office.proofs.Judging.{Judges}
 use Rattle.office.proofs.Hearing.{took, Awaits, acts_next, none_next}
 use Rattle.office.proofs.Events.{Moves, next_kept, seen-took_line, records-took_line, seen-took_none, records-took_none, seen-took_other}
-use Rattle.office.specs.Accounts.{account_if, line_account, acts_account}
-use Rattle.office.proofs.Accounts.{line_told}
+use Rattle.office.specs.Accounts.{account_if, seated_account, acts_account}
+use Rattle.office.proofs.Accounts.{line_so}
 use Rattle.office.proofs.LineDone.{judges, here, agrees, carried, locked}
 
 module _ {Before : Contents → Type 0} (T : Trace) (n octets : ℕ) (keeps : Keeps Before T) (sound : AreSound keeps.contents) (policy : Policy) (rules : policy ≡ in_force T.base (history T))
@@ -97,13 +97,13 @@ module _ {Before : Contents → Type 0} (T : Trace) (n octets : ℕ) (keeps : Ke
             record { tag = Failed; may = rw (all, open_yet, next, fails) refl; is = e ∙ rw goes refl }
 
     -- the line after a taking was told to have judged what the history says
-    pub taking_told : k.talk.user ≡ user (history T) n → account_if (has_newline p) (line_account (reading (line_after k p)) (Says (replied w)) k.talk.user)
+    pub taking_told : k.talk.user ≡ user (history T) n → account_if (has_newline p) (seated_account w policy judged.sitting (reading (line_after k p)) (Says (replied w)) k.talk.user)
         ≡ acts_account T.base (history T) (acts_of_took (is_left T.log (history T) n octets) (serving (history T) n) (closing (history T) n) n (tag_of w) (next_line T.log (history T) n []))
     taking_told named = at (has_newline p) refl
       where
-        at : (b : Bool) → has_newline p ≡ b → account_if b (line_account (reading (line_after k p)) (Says (replied w)) k.talk.user)
+        at : (b : Bool) → has_newline p ≡ b → account_if b (seated_account w policy judged.sitting (reading (line_after k p)) (Says (replied w)) k.talk.user)
             ≡ acts_account T.base (history T) (acts_of_took (is_left T.log (history T) n octets) (serving (history T) n) (closing (history T) n) n (tag_of w) (next_line T.log (history T) n []))
         at false h = let nothing = none h in rw (all, open_yet, nothing) refl
         at true h =
             let next = next_kept T n ∙ acts_next keeps.contents (took (seen T n) octets now) k k' p (replied w) ready is law h in
-            rw (all, open_yet, next) (line_told T.base (history T) n keeps.contents (judged_at keeps.contents policy k.stamp locks) k.talk k.session judged named (line_after k p) w (λ g. (may g).1))
+            rw (all, open_yet, next) (line_so T.base (history T) n keeps.contents (judged_at keeps.contents policy k.stamp locks) k.talk k.session judged named (line_after k p) w (λ g. (may g).1))

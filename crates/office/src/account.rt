@@ -32,13 +32,28 @@ pub enum Verdict {
     StoreFailed,
 }
 
+/// What a session's QUIT removed.
+#[derive(Clone, Copy)]
+pub struct Removal {
+    /// Whose session it was, in which maildrop.
+    pub name: LoginName,
+    /// How many of the marked messages the policy let the clerk remove.
+    pub messages: usize,
+    /// The rule that kept the lowest numbered of the other marked messages, where one did.
+    pub denied: Option<Name>,
+    /// Whether they were removed: all of them; or none, where the store failed.
+    pub is_done: bool,
+}
+
 /// What an office judged in an event. It takes no memory, and holds no password and no digest.
 #[derive(Clone, Copy)]
 pub enum Account {
-    /// No login was judged.
+    /// No login was judged, and no session quit.
     Nothing,
     /// A login was judged: under which name, by which command, and how.
     Login(LoginName, Way, Verdict),
+    /// A session quit.
+    Quit(Removal),
 }
 
 /// How a login was judged that got this reply; `None` for a reply that judges no login.

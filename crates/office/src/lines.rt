@@ -12,7 +12,7 @@ ghost use Rattle.office.specs.Replying.{is_allowed as is_allowed_of};
 ghost use Rattle.office.specs.Stopping.{LeavesHeld, StaysUpWhenDone, LeavesOneOf};
 ghost use Rattle.office.specs.Output.{nothing_owed, OwesReply};
 ghost use Rattle.office.specs.Sitting.{Sitting};
-ghost use Rattle.office.specs.Accounts.{line_account};
+ghost use Rattle.office.specs.Accounts.{line_account, seated_account, removal_told, quit_or};
 ghost use Rattle.office.specs.Kept.{said_outside, line_outside, asks_outside, asks, talk_after};
 ghost use Rattle.office.specs.Answered.{desk_over, reply_of, name_cmp, IsSeated, SessionAfter, Becomes, LocksFollow, held_after};
 
@@ -201,7 +201,7 @@ fn answer_outside<V: Vault>(
 }
 
 /// Answers a line of a session, and returns the session. A QUIT ends it, and lets its maildrop's
-/// lock go.
+/// lock go, and is told to `account`.
 fn answer_inside<V: Vault>(
     alloc: Global,
     vault: &mut V,
@@ -211,6 +211,7 @@ fn answer_inside<V: Vault>(
     output: &mut Output,
     talk: &mut Talk,
     session: Session,
+    account: &mut Account,
 ) -> Result<(Acted, Option<Session>), AllocError>
     requires { output.old ≡ nothing_owed }
     ensures owed { IfOk result (λ r. (c : Contents) (v : Sitting) → V.holds vault.old c → V.is_clean vault.new → IsSeated c (Some session) (Some v) → OwesReply c r.1 output.new (reply_of r.0 (desk_over c desk.entry locks.old) talk.old (Some v) line.now)) }
@@ -226,11 +227,21 @@ fn answer_inside<V: Vault>(
     ensures clean { V.is_clean vault.new → V.is_clean vault.old }
     ensures up { (c : Contents) → V.holds vault.old c → V.is_clean vault.new → V.is_up vault.old → IfOk result (λ r. r.0 ≡ Acted.Done → V.is_up vault.new) }
     ensures stop { (c : Contents) → V.holds vault.old c → V.is_clean vault.new → V.is_up vault.old → LeavesOneOf (V.may_leave vault.new) c (held_after Acted.Done desk.entry.policy.now (Some session) (reading line.now) c) }
+    ensures account { IfOk result (λ r. account.new ≡ quit_or (is_quit (reading line.now)) (Account.Quit (removal_told r.0 desk.entry.policy.now session)) account.old) }
+    ensures account_err { OnErr result (account.new ≡ account.old) }
     ensures unasked { (c : Contents) (v : Sitting) → IsSeated c (Some session) (Some v) → asks desk.entry.policy.now talk.old (Some v) (reading line.now) ≡ false → vault.new ≡ vault.old }
 {
     let mut session = session;
     let maildrop = session.maildrop();
-    let acted = inside::answer(alloc, vault, desk.policy, line, output, &mut session)?;
+    let acted = inside::answer(
+        alloc,
+        vault,
+        desk.policy,
+        line,
+        output,
+        &mut session,
+        account,
+    )?;
     *talk = inside::next_talk(line, acted, *talk);
     if line.is_quit() {
         release(locks, Some(maildrop));
@@ -267,7 +278,7 @@ pub fn answer<V: Vault>(
     ensures clean { V.is_clean vault.new → V.is_clean vault.old }
     ensures up { (c : Contents) → V.holds vault.old c → V.is_clean vault.new → StaysUpWhenDone (V.is_up vault.old) (V.is_up vault.new) result }
     ensures stop { (c : Contents) → V.holds vault.old c → V.is_clean vault.new → V.is_up vault.old → LeavesOneOf (V.may_leave vault.new) c (held_after Acted.Done desk.entry.policy.now session.old (reading (cut_seen cut.entry)) c) }
-    ensures account { account.old ≡ Account.Nothing → IfOk result (λ acted. (c : Contents) (v : Option Sitting) → V.holds vault.old c → V.is_clean vault.new → IsSeated c session.old v → account.new ≡ line_account (reading (cut_seen cut.entry)) (Says (reply_of acted (desk_over c desk.entry locks.old) talk.old v (cut_seen cut.entry))) talk.old.user) }
+    ensures account { account.old ≡ Account.Nothing → IfOk result (λ acted. (c : Contents) (v : Option Sitting) → V.holds vault.old c → V.is_clean vault.new → IsSeated c session.old v → account.new ≡ seated_account acted desk.entry.policy.now v (reading (cut_seen cut.entry)) (Says (reply_of acted (desk_over c desk.entry locks.old) talk.old v (cut_seen cut.entry))) talk.old.user) }
     ensures account_err { OnErr result (account.new ≡ account.old) }
     ensures unasked { (c : Contents) (v : Option Sitting) → IsSeated c session.old v → asks desk.entry.policy.now talk.old v (reading (cut_seen cut.entry)) ≡ false → vault.new ≡ vault.old }
 {
@@ -282,7 +293,7 @@ pub fn answer<V: Vault>(
         }
         Some(inside) => {
             let (acted, after) = answer_inside(
-                alloc, vault, desk, locks, &line, output, talk, inside,
+                alloc, vault, desk, locks, &line, output, talk, inside, account,
             )?;
             *session = after;
             Ok(acted)

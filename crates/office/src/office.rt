@@ -312,9 +312,9 @@ impl<V: Vault> Office<V> {
     }
 
     /// Does one event, as [`Office::step`] does, and tells what it judged: `account` becomes the
-    /// account of this event, whatever it told before. Where a login was judged, that has its name,
-    /// its command and how it was judged, also where the store failed; a line that judges no login,
-    /// an event that is ignored and one without memory have none.
+    /// account of this event, whatever it told before: of a login that was judged, also where the
+    /// store failed, and of a session's QUIT. An event in which neither was, one that is ignored and
+    /// one without memory have none.
     pub fn step_with_account(&mut self, event: Event<'_>, account: &mut Account) -> Outcome
         ensures stands { (T : Trace) → StandsFor V.holds self.old T → V.is_clean (vault_of self.new) → StandsFor V.holds self.new (followed_by T (event_seen event.entry) result) }
         ensures outcome { (T : Trace) → StandsFor V.holds self.old T → V.is_clean (vault_of self.new) → IsOutcome T (lent_by self.old) (event_seen event.entry) (outcome_seen result) }
