@@ -11,7 +11,7 @@ use std::marker::Model;
 #[derive(Drop)]
 pub struct CommandLine<'a> {
     cut: Cut<'a>,
-    reading: Result<Command<'a>, LineFault>,
+    command: Result<Command<'a>, LineFault>,
 }
 
 impl<'a> Model for CommandLine<'a> {
@@ -24,7 +24,7 @@ impl<'a> Model for CommandLine<'a> {
 
     ghost view = { λ l. cut_seen l.cut };
 
-    ghost invariant = { λ l. reading_seen l.reading ≡ reading (cut_seen l.cut) };
+    ghost invariant = { λ l. reading_seen l.command ≡ reading (cut_seen l.cut) };
 }
 
 impl<'a> CommandLine<'a> {
@@ -37,11 +37,11 @@ impl<'a> CommandLine<'a> {
         match cut {
             Cut::TooLong => CommandLine {
                 cut: Cut::TooLong,
-                reading: Err(LineFault::Unknown),
+                command: Err(LineFault::Unknown),
             },
             Cut::Line(line) => CommandLine {
                 cut: Cut::Line(line),
-                reading: Command::read(line),
+                command: Command::read(line),
             },
         }
     }
@@ -57,13 +57,13 @@ impl<'a> CommandLine<'a> {
     pub fn reading(&self) -> &Result<Command<'a>, LineFault>
         ensures { reading_seen result.now ≡ reading self.now }
     {
-        &self.reading
+        &self.command
     }
 
     /// Whether the line is a QUIT without arguments.
     pub fn is_quit(&self) -> bool
         ensures { result ≡ is_quit (reading self.now) }
     {
-        matches!(self.reading, Ok(Command::Quit))
+        matches!(self.command, Ok(Command::Quit))
     }
 }

@@ -25,18 +25,18 @@ use vault::{Vault, VaultFault};
 const REFUSAL_OCTETS: usize = 40;
 
 /// The farewell; or the name of the rule that kept a marked message from removal.
-fn farewell(denied: Option<Name>) -> Reply<'static>
-    ensures { reply_seen result ≡ quit_says denied }
+fn farewell(denied: &Option<Name>) -> Reply<'static>
+    ensures { reply_seen result ≡ quit_says denied.now }
 {
     match denied {
         None => Reply::Bye,
-        Some(rule) => Reply::RemovalDenied(rule),
+        Some(rule) => Reply::RemovalDenied(*rule),
     }
 }
 
 /// The account of a session's QUIT.
-fn quitting(session: &Session, messages: usize, denied: Option<Name>, is_done: bool) -> Account
-    ensures { result ≡ Account.Quit (record { name = session.now.name; messages = messages; denied = denied; is_done = is_done }) }
+fn quitting(session: &Session, messages: usize, denied: &Option<Name>, is_done: bool) -> Account
+    ensures { result ≡ Account.Quit (record { name = session.now.name; messages = messages; denied = denied.now; is_done = is_done }) }
 {
     let name = LoginName {
         clerk: session.clerk(),
@@ -45,7 +45,7 @@ fn quitting(session: &Session, messages: usize, denied: Option<Name>, is_done: b
     Account::Quit(Removal {
         name,
         messages,
-        denied,
+        denied: *denied,
         is_done,
     })
 }
@@ -75,21 +75,21 @@ pub(crate) fn quit<V: Vault>(
 {
     let (keys, denied) = session.to_remove(policy)?;
     output.reserve(REFUSAL_OCTETS)?;
-    output.say(alloc, &farewell(denied))?;
+    output.say(alloc, &farewell(&denied))?;
     if keys.is_empty() {
-        *account = quitting(session, keys.len(), denied, true);
+        *account = quitting(session, keys.len(), &denied, true);
         return Ok(Acted::Done);
     }
     match vault.remove(&session.maildrop(), &keys) {
         Ok(()) => {
-            *account = quitting(session, keys.len(), denied, true);
+            *account = quitting(session, keys.len(), &denied, true);
             Ok(Acted::Done)
         }
         Err(VaultFault::NoMemory) => Err(AllocError),
         Err(_) => {
             output.clear();
             output.say(alloc, &Reply::RemovalFailed)?;
-            *account = quitting(session, keys.len(), denied, false);
+            *account = quitting(session, keys.len(), &denied, false);
             Ok(Acted::Failed)
         }
     }
