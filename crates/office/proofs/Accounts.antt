@@ -35,7 +35,7 @@ use Rattle.office.proofs.Judging.{Judges}
 
 -- ---- a session's lines
 
-is_login : Result Command LineFault → Bool
+abbrev is_login : Result Command LineFault → Bool
 is_login (Ok (Pass password)) = true
 is_login (Ok (Apop name digest)) = true
 is_login _ = false
@@ -139,6 +139,11 @@ module _ (B : Records) (G : List Entry) where
   taking_lacking true serving closing c next = refl
   taking_lacking false serving true c next = refl
   taking_lacking false serving false c next = none_lacking c next
+
+  -- the line behind a taking of all
+  pub all_taken : (left serving closing : Bool) (c : ℕ) (t : Tag) (next x : Option Cut) → left ≡ false → closing ≡ false → next ≡ x
+      → acts_account B G (acts_of_took left serving closing c t next) ≡ acts_account B G (line_act c t x)
+  all_taken left serving closing c t next x all on is = rw (all, on, is) refl
 
   -- a page that can't be read ends the connection
   pub part_refused : (serving closing : Bool) (c : ℕ) (next : Option Cut) → acts_account B G (acts_of_took true serving closing c Failed next) ≡ account.Nothing

@@ -43,6 +43,7 @@ mod PolicyCommands
 pub mod Lying
 pub mod Removing
 mod Entering
+mod Failing
 pub mod SessionLines
 pub mod Locked
 pub mod LineRecords

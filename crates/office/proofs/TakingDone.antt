@@ -1,5 +1,5 @@
 -- A taking of all that is lent, on a trace: what the next line leaves, and what the event is answered.
-use Rattle.std.proofs.Common.{◌≡◌, ℕ, Bool, true, false, List, [], ◌++◌, Option, Some, None, refl, ◌∙◌, ap, nat_cmp, eqb}
+use Rattle.std.proofs.Common.{◌≡◌, ℕ, Bool, true, false, List, [], ◌++◌, Option, Some, None, refl, sym, ◌∙◌, ap, nat_cmp, eqb}
 use Rattle.std.specs.BTreeMap.{BTreeMap, get}
 use Rattle.popline.specs.Cutting.{coming, shown, has_newline}
 use Rattle.popline.specs.Replies.{Reply}
@@ -25,7 +25,7 @@ use Rattle.office.proofs.Judging.{Judges}
 use Rattle.office.proofs.Hearing.{took, Awaits, acts_next, none_next}
 use Rattle.office.proofs.Events.{Moves, next_kept, seen-took_line, records-took_line, seen-took_none, records-took_none, seen-took_other}
 use Rattle.office.specs.Accounts.{account_if, seated_account, acts_account}
-use Rattle.office.proofs.Accounts.{line_so}
+use Rattle.office.proofs.Accounts.{line_so, all_taken}
 use Rattle.office.proofs.LineDone.{judges, here, agrees, carried, locked}
 
 module _ {Before : Contents → Type 0} (T : Trace) (n octets : ℕ) (keeps : Keeps Before T) (sound : AreSound keeps.contents) (policy : Policy) (rules : policy ≡ in_force T.base (history T))
@@ -103,7 +103,8 @@ module _ {Before : Contents → Type 0} (T : Trace) (n octets : ℕ) (keeps : Ke
       where
         at : (b : Bool) → has_newline p ≡ b → account_if b (seated_account w policy judged.sitting (reading (line_after k p)) (Says (replied w)) k.talk.user)
             ≡ acts_account T.base (history T) (acts_of_took (is_left T.log (history T) n octets) (serving (history T) n) (closing (history T) n) n (tag_of w) (next_line T.log (history T) n []))
-        at false h = let nothing = none h in rw (all, open_yet, nothing) refl
+        at false h = sym (all_taken T.base (history T) (is_left T.log (history T) n octets) (serving (history T) n) (closing (history T) n) n (tag_of w) (next_line T.log (history T) n []) None all open_yet (none h))
         at true h =
             let next = next_kept T n ∙ acts_next keeps.contents (took (seen T n) octets now) k k' p (replied w) ready is law h in
-            rw (all, open_yet, next) (line_so T.base (history T) n keeps.contents (judged_at keeps.contents policy k.stamp locks) k.talk k.session judged named (line_after k p) w (λ g. (may g).1))
+            line_so T.base (history T) n keeps.contents (judged_at keeps.contents policy k.stamp locks) k.talk k.session judged named (line_after k p) w (λ g. (may g).1)
+            ∙ sym (all_taken T.base (history T) (is_left T.log (history T) n octets) (serving (history T) n) (closing (history T) n) n (tag_of w) (next_line T.log (history T) n []) (Some (line_after k p)) all open_yet next)

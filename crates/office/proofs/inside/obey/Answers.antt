@@ -1,22 +1,26 @@
-use Rattle.std.proofs.Common.{Err, ap, ◌∙◌}
-use Rattle.popline.specs.Seen.{command_seen, reply_seen}
+use Rattle.std.proofs.Common.{ap, ◌∙◌}
+use Rattle.popline.specs.Seen.{reply_seen}
 use Rattle.office.specs.Connections.{reading}
 use Rattle.office.specs.Sitting.{sitting_of, asks_inside}
-use Rattle.std.specs.Prelude.{Ok}
 use Rattle.office.proofs.Obeying.{if_ok_so, if_ok_both, reads_alike, said_so}
 use Rattle.office.proofs.inside.obey.Goals as goal
 
 pub returns-in-Ok-clause-done : goal.returns-in-Ok-clause-done
-returns-in-Ok-clause-done g c = if_ok_so _ c.follow.result c.follow.ensures.done (λ w h d kept held clean lies.
-    reads_alike _ _ d c.args.policy.now c.args.session.now c.follow.new.session kept _ (Ok (command_seen c.in-Ok.command)) (reading c.args.line.now) w c.in-Ok.ensures (h d kept held clean lies))
+returns-in-Ok-clause-done g c =
+    let read = rw c.in-Ok.is at c.reading.ensures in
+    if_ok_so _ c.follow.result c.follow.ensures.done (λ w h d kept held clean lies.
+    reads_alike _ _ d c.args.policy.now c.args.session.now c.follow.new.session kept _ _ (reading c.args.line.now) w read (h d kept held clean lies))
 
 pub returns-in-Err-clause-done : goal.returns-in-Err-clause-done
-returns-in-Err-clause-done g c = if_ok_both _ c.say.result c.say.ensures.acted c.say.ensures.owed (λ w e said d kept held clean lies.
+returns-in-Err-clause-done g c =
+    let read = rw c.in-Err.is at c.reading.ensures in
+    if_ok_both _ c.say.result c.say.ensures.acted c.say.ensures.owed (λ w e said d kept held clean lies.
     let p = c.args.policy.now in
     let s = c.args.session.now in
-    reads_alike _ _ d p s s kept _ (Err c.in-Err.fault) (reading c.args.line.now) w c.in-Err.ensures
-    (said_so _ _ d p s s kept _ (Err c.in-Err.fault) w (reply_seen c.misread.result) e (said d _) (c.misread.ensures.said p (sitting_of s kept)) (c.misread.ensures.session s) held))
+    reads_alike _ _ d p s s kept _ _ (reading c.args.line.now) w read
+    (said_so _ _ d p s s kept _ _ w (reply_seen c.misread.result) e (said d _) (c.misread.ensures.said p (sitting_of s kept)) (c.misread.ensures.session s) held))
 
 pub returns-in-Ok-clause-unasked : goal.returns-in-Ok-clause-unasked
 returns-in-Ok-clause-unasked g c d kept lies none =
-    c.follow.ensures.unasked d kept lies (ap (asks_inside c.args.policy.now (sitting_of c.args.session.now kept)) c.in-Ok.ensures ∙ none)
+    let read = rw c.in-Ok.is at c.reading.ensures in
+    c.follow.ensures.unasked d kept lies (ap (asks_inside c.args.policy.now (sitting_of c.args.session.now kept)) read ∙ none)

@@ -141,7 +141,7 @@ returns-in_ok-acted-in-None-clause-account g c fresh d v held clean sits =
     let P : Option Sitting → Type 0 =
     λ v. c.answer_outside.new.account ≡ seated_account w p v (reading x) (Says (reply_of w (desk_over d c.args.desk c.args.locks.now) c.args.talk.now v x)) u in
     let told = rw c.read-line.ensures at c.in_ok-acted-in-None.ensures.account d held clean in
-    unseated_case d v P (told ∙ outside_told w p (reading x) _ u) (subst (λ o. IsSeated d o v) (sym c.in-None.ensures.value) sits)
+    unseated_case d v P (told ∙ outside_told w p (reading x) (Says (reply_of w (desk_over d c.args.desk c.args.locks.now) c.args.talk.now None x)) u) (subst (λ o. IsSeated d o v) (sym c.in-None.ensures.value) sits)
 
 pub returns-in_ok-acted-in-Some-clause-account : goal.returns-in_ok-acted-in-Some-clause-account
 returns-in_ok-acted-in-Some-clause-account g c fresh d v held clean sits =

@@ -1,8 +1,8 @@
 use Rattle.office.proofs.Stopping.{held_left}
 use Rattle.office.proofs.lines.reply_to.Goals as goal
 
-pub returns-in_default-clause-stop : goal.returns-in_default-clause-stop
-returns-in_default-clause-stop g c d held clean up = held_left (g.met.V.Vault.settled _ d clean up held)
+pub returns-then-is_too_long-clause-stop : goal.returns-then-is_too_long-clause-stop
+returns-then-is_too_long-clause-stop g c d held clean up = held_left (g.met.V.Vault.settled _ d clean up held)
 
 pub returns-in-Err-Unknown-clause-stop : goal.returns-in-Err-Unknown-clause-stop
 returns-in-Err-Unknown-clause-stop g c d held clean up = held_left (g.met.V.Vault.settled _ d clean up held)
