@@ -15,6 +15,7 @@ use Rattle.office.specs.History.{Act, Line, Tag, Entry, Said, Says, is_done, in_
 use Rattle.office.specs.Connections.{reading, is_quit, closes}
 use Rattle.office.specs.Sessions.{live, marks, view, logs_in, in_session, records, removed, removed_after, removed_by, quits_if}
 use Rattle.office.specs.Replying.{reply_to_cut, line_may_fail}
+use Rattle.office.specs.Accounts.{quit_account, removal_by, quit_seen}
 use Rattle.office.specs.Kept.{Desk, asks}
 use Rattle.office.specs.Sitting.{Sitting, LiesIn, sitting_of}
 use Rattle.office.specs.Answered.{reply_of, tag_of, IsSeated, held_after}
@@ -24,7 +25,7 @@ use Rattle.office.specs.declared.talk.Acted.{Acted}
 use Rattle.office.specs.declared.talk.Acted.TheVariants as acted
 use Rattle.office.proofs.Hearing.{lined}
 use Rattle.office.proofs.Outside.{AgreesOutside, reply_outside, fails_outside}
-use Rattle.office.proofs.SessionLines.{AgreesInside, reply_said_inside, fails_inside, no_login_inside, closes_inside}
+use Rattle.office.proofs.SessionLines.{AgreesInside, removal_inside, reply_said_inside, fails_inside, no_login_inside, closes_inside}
 use Rattle.office.proofs.LineRecords.{agree_line}
 
 -- A line is answered, may be refused, and leaves the records, as the history says.
@@ -32,6 +33,7 @@ pub record Judges (B : Records) (G : List Entry) (c : ℕ) (k : Contents) (d : D
   pub sitting : Option Sitting
   pub seated : IsSeated k old sitting
   pub reply : (x : Cut) (w : Acted) → (w ≡ acted.Failed → asks d.policy t sitting (reading x) ≡ true) → reply_to_cut B G c x (tag_of w) ≡ reply_of w d t sitting x
+  pub quits : (w : Acted) → quit_account (in_session G c) (removal_by B G c (tag_of w)) ≡ quit_seen w d.policy sitting
   pub fails : (x : Cut) → asks d.policy t sitting (reading x) ≡ true → line_may_fail B G c x ≡ true
   pub agrees : AreSound k → Agree (records_of k) (records B G) → (w : Acted) (x : Cut) (said : Said)
       → Agree (records_of (held_after w d.policy old (reading x) k)) (records B (record { act = Line c x; tag = tag_of w; said = said } ∷ G))
@@ -70,6 +72,7 @@ judges_outside B G c k d t a = record {
   sitting = None;
   seated = tt;
   reply = reply_outside B G c d t a;
+  quits = λ w. let l = a.outside in rw l refl;
   fails = fails_outside B G c d t a;
   agrees = λ sound g w x said. rw (records_outside B G c x (tag_of w) said a.outside) g;
   stays = λ o e x w u. absurd (nobody o e);
@@ -89,6 +92,7 @@ judges_inside B G c k d t o kept lies a =
       sitting = Some v;
       seated = (kept, lies, refl);
       reply = reply_said_inside B G c d.policy v a;
+      quits = removal_inside B G c d.policy v a;
       fails = fails_inside B G c d.policy v a;
       agrees = λ sound g w x said. agree_line B G c d.policy o kept a k sound lies g w x said;
       stays = λ o' e x w u. no_login_inside w d.policy v x u;

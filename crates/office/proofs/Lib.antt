@@ -3,6 +3,7 @@ mod CommandRows
 mod JudgedRows
 mod OfficeRows
 mod RefusedRows
+mod AccountRows
 mod Parts
 mod SampleSound
 pub mod Laws
@@ -42,6 +43,7 @@ mod PolicyCommands
 pub mod Lying
 pub mod Removing
 mod Entering
+mod Failing
 pub mod SessionLines
 pub mod Locked
 pub mod LineRecords
@@ -49,6 +51,7 @@ pub mod GoingOn
 mod Acting
 mod Locking
 mod Judging
+mod Accounts
 mod LineDone
 mod PieceDone
 mod TakingDone

@@ -1,16 +1,16 @@
 -- A piece of octets on a trace: what it leaves, and what its event is answered.
-use Rattle.std.proofs.Common.{◌≡◌, ℕ, ◌≤◌, true, false, List, [], ◌++◌, length, Option, Some, refl, sym, ◌∙◌, ap, nat_cmp, eqb}
+use Rattle.std.proofs.Common.{◌≡◌, ℕ, ◌≤◌, Bool, true, false, List, [], ◌++◌, length, Option, Some, refl, sym, ◌∙◌, ap, nat_cmp, eqb}
 use Rattle.std.specs.BTreeMap.{BTreeMap, get}
 use Rattle.popline.specs.Cutting.{coming, shown, has_newline}
 use Rattle.popline.specs.Replies.{Reply}
 use Rattle.policy.specs.Policy.{Policy}
 use Rattle.vault.specs.Changes.{Contents, AreSound, records_of}
-use Rattle.office.specs.History.{Done, Failed, in_force}
+use Rattle.office.specs.History.{Done, Failed, Says, in_force}
 use Rattle.office.specs.Connections.{reading}
 use Rattle.office.specs.Sessions.{holder, records}
 use Rattle.office.specs.Events.{Trace, Bytes, Tagged, given}
 use Rattle.office.specs.Log.{moment}
-use Rattle.office.specs.Trace.{history}
+use Rattle.office.specs.Trace.{history, acts_of_piece, next_line}
 use Rattle.office.specs.Expected.{most_in_a_piece, IsOutcome}
 use Rattle.office.specs.Outcomes.{Outcome}
 use Rattle.office.specs.Output.{nothing_owed, OwesIf}
@@ -25,6 +25,8 @@ use Rattle.office.proofs.Judging.{Judges}
 use Rattle.office.proofs.Hearing.{streamed, Awaits, acts_next}
 use Rattle.office.proofs.Events.{Moves, awaits_bytes, bytes_goes, seen-bytes_line, records-bytes_line, seen-bytes_part, records-bytes_part, seen-bytes_other}
 use Rattle.office.proofs.Owing.{none_owed}
+use Rattle.office.specs.Accounts.{account_if, seated_account, acts_account}
+use Rattle.office.proofs.Accounts.{line_so}
 use Rattle.office.proofs.LineDone.{judges, here, agrees, carried, locked}
 
 module _ {Before : Contents → Type 0} (T : Trace) (n : ℕ) (p : List ℕ) (keeps : Keeps Before T) (sound : AreSound keeps.contents) (policy : Policy) (rules : policy ≡ in_force T.base (history T))
@@ -99,3 +101,15 @@ module _ {Before : Contents → Type 0} (T : Trace) (n : ℕ) (p : List ℕ) (ke
             let next = acts_next keeps.contents (streamed (seen T n) p now) set k' p (replied acted.Failed) ready is law h in
             let fails = judged.fails (line_after k p) there.1 in
             record { tag = Failed; may = rw (h, next, fails) refl; is = e ∙ rw goes refl }
+
+    -- what a piece's line was told to have been judged is what the history says
+    pub piece_told : account_if (has_newline p) (seated_account w policy judged.sitting (reading (line_after k p)) (Says (replied w)) k.talk.user)
+        ≡ acts_account T.base (history T) (acts_of_piece (has_newline p) n (tag_of w) (next_line T.log (history T) n p))
+    piece_told = at (has_newline p) refl
+      where
+        at : (b : Bool) → has_newline p ≡ b → account_if b (seated_account w policy judged.sitting (reading (line_after k p)) (Says (replied w)) k.talk.user)
+            ≡ acts_account T.base (history T) (acts_of_piece b n (tag_of w) (next_line T.log (history T) n p))
+        at false h = refl
+        at true h =
+            let next = acts_next keeps.contents (streamed (seen T n) p now) set k' p (replied w) ready is law h in
+            rw next (line_so T.base (history T) n keeps.contents (judged_at keeps.contents policy k.stamp locks) k.talk k.session judged m.user (line_after k p) w (λ g. (may g).1))

@@ -1,5 +1,5 @@
 -- What a QUIT asks of the store, and what it leaves.
-use Rattle.std.proofs.Common.{◌≡◌, ℕ, ◌==◌, length, arith, Bool, true, false, not, ◌&&◌, List, [], ◌∷◌, Option, Some, None, Ok, refl, sym, ◌∙◌, ap, subst}
+use Rattle.std.proofs.Common.{◌≡◌, ℕ, suc, ◌==◌, length, arith, Bool, true, false, not, ◌&&◌, List, [], ◌∷◌, Option, Some, None, Ok, refl, sym, ◌∙◌, ap, subst}
 use Rattle.std.proofs.lemmas.Bool.Decides.{nat_tests}
 use Rattle.std.specs.Prelude.{map}
 use Rattle.std.specs.Str.{bytes_eq}
@@ -56,6 +56,10 @@ store_refused fault.NoClerk r n = cc
 
 -- ---- the marked messages
 
+same_length : {A B : Type 0} (f : A → B) (xs : List A) → length (map f xs) ≡ length xs
+same_length f [] = refl
+same_length f (x ∷ xs) = ap suc (same_length f xs)
+
 quit_keeps : (o : Option (List ℕ)) (marks : List ℕ) → marks_after_line (Says (quit_says o)) marks ≡ marks
 quit_keeps None marks = refl
 quit_keeps (Some rule) marks = refl
@@ -85,9 +89,16 @@ module _ (c : Contents) (p : Policy) (s : Session) (kept : List Keyed) (lies : L
   none_asked e = keys_chosen
       ∙ no_key chosen (sym (ap (λ (ms : List Message). not (is_empty ms)) (to_remove-map message_of records.class_of p s.name s.marks kept)) ∙ e)
 
-  denying_alike : denying head.class_of p s.name s.marks s.view ≡ denying records.class_of p s.name s.marks (map message_of kept)
+  pub denying_alike : denying head.class_of p s.name s.marks s.view ≡ denying records.class_of p s.name s.marks (map message_of kept)
   denying_alike = ap (λ (view : List Head). denying head.class_of p s.name s.marks view) lies.heads
       ∙ (denying-map head_of head.class_of p s.name s.marks kept ∙ sym (denying-map message_of records.class_of p s.name s.marks kept))
+
+  -- what a QUIT's account counts
+  pub counted_alike : length (keys_to_remove p s) ≡ length (to_remove records.class_of p s.name s.marks (map message_of kept))
+  counted_alike =
+      ap length keys_chosen
+      ∙ (same_length head.key_of (map head_of chosen) ∙ (same_length head_of chosen
+      ∙ sym (ap length (to_remove-map message_of records.class_of p s.name s.marks kept) ∙ same_length message_of chosen)))
 
   module _ (After : Contents → Type 0) (grown : Bool) (after : Output) where
     pub quit_done : (denied : Option (List ℕ)) → denied ≡ denying head.class_of p s.name s.marks s.view → OwesReply c None after (quit_says denied)

@@ -19,10 +19,12 @@ use Rattle.vault.specs.declared.record.Message as store
 use Rattle.session.specs.View.{is_marked, marked, unmarked, numbered, at_number, referred, retrieval, may_remove, removal, to_remove, denying, sizes_of, uids_of, total_of}
 use Rattle.session.specs.declared.removals.Removals.{Removals}
 use Rattle.session.specs.declared.removals.Removals.TheVariants.{JudgedAtDele, JudgedAtQuit}
-use Rattle.office.specs.History.{Entry, Done, Failed, Says, in_force}
+use Rattle.office.specs.History.{Entry, Done, Failed, Says, in_force, is_done}
 use Rattle.office.specs.Connections.{reading, user, closes, is_quit, judging}
 use Rattle.policy.specs.declared.decide.Decision.{Decision}
-use Rattle.office.specs.Sessions.{live, login, logs_in, marks, view}
+use Rattle.office.specs.Sessions.{live, login, logs_in, in_session, marks, view}
+use Rattle.office.specs.Accounts.{quit_account, removal_by, removal_seen, was_done}
+use Rattle.office.specs.declared.account.Account.TheVariants as account
 use Rattle.office.specs.Replying.{session_says, quit_says, is_allowed, when_permitted, name_or_nobody, is_readable, may_serve, served_if, is_empty, pick, deleted_if, reply_to_reading, reply_to_cut, line_may_fail, reading_may_fail}
 use Rattle.office.specs.Answered.{tag_of}
 use Rattle.office.specs.Sitting.{Sitting, said_inside, refused_reading, asks_inside, reply_inside}
@@ -88,6 +90,10 @@ allowed_inside keyword.Apop u = refl
 allowed_inside keyword.Pass u = refl
 allowed_inside _ u = refl
 
+done_so : (w : Acted) → is_done (tag_of w) ≡ was_done w
+done_so acted.Done = refl
+done_so acted.Failed = refl
+
 module _ (B : Records) (G : List Entry) (c : ℕ) (p : Policy) (v : Sitting) (a : AgreesInside B G c p v) where
   pub name_inside : name_or_nobody (login G c) ≡ v.name
   name_inside = ap name_or_nobody a.login
@@ -98,6 +104,18 @@ module _ (B : Records) (G : List Entry) (c : ℕ) (p : Policy) (v : Sitting) (a 
       let w = sym a.view in
       let q = sym a.policy in
       rw (n, w, q) (to_remove_alike v.marks (marks G c) a.marks class_of p v.name v.view)
+
+  -- what a QUIT's account tells
+  pub removal_inside : (w : Acted) → quit_account (in_session G c) (removal_by B G c (tag_of w)) ≡ account.Quit (removal_seen w p v)
+  removal_inside w =
+      let l = a.live in
+      let named = a.login in
+      let q = sym a.policy in
+      let rows = sym a.view in
+      let chosen = to_remove_alike v.marks (marks G c) a.marks class_of p v.name v.view in
+      let denied = denying_alike v.marks (marks G c) a.marks class_of p v.name v.view in
+      let done = done_so w in
+      rw (l, named, q, rows, done, chosen, denied) refl
 
   says_inside : (command : Command) → session_says (in_force B G) (judging G) (name_or_nobody (login G c)) (marks G c) (view B G c) command ≡ session_says p v.removals v.name v.marks v.view command
   says_inside command =

@@ -1,16 +1,16 @@
 -- A taking of all that is lent, on a trace: what the next line leaves, and what the event is answered.
-use Rattle.std.proofs.Common.{◌≡◌, ℕ, true, false, List, [], ◌++◌, Option, Some, None, refl, ◌∙◌, ap, nat_cmp, eqb}
+use Rattle.std.proofs.Common.{◌≡◌, ℕ, Bool, true, false, List, [], ◌++◌, Option, Some, None, refl, sym, ◌∙◌, ap, nat_cmp, eqb}
 use Rattle.std.specs.BTreeMap.{BTreeMap, get}
 use Rattle.popline.specs.Cutting.{coming, shown, has_newline}
 use Rattle.popline.specs.Replies.{Reply}
 use Rattle.policy.specs.Policy.{Policy}
 use Rattle.vault.specs.Changes.{Contents, AreSound, records_of}
-use Rattle.office.specs.History.{Done, Failed, in_force}
-use Rattle.office.specs.Connections.{reading, closing}
+use Rattle.office.specs.History.{Done, Failed, Says, in_force}
+use Rattle.office.specs.Connections.{reading, closing, serving, user}
 use Rattle.office.specs.Sessions.{holder, records}
 use Rattle.office.specs.Events.{Trace, Took, Tagged, given}
 use Rattle.office.specs.Log.{moment}
-use Rattle.office.specs.Trace.{history, is_left, next_line}
+use Rattle.office.specs.Trace.{history, is_left, next_line, acts_of_took}
 use Rattle.office.specs.Expected.{ignored, IsOutcome}
 use Rattle.office.specs.Outcomes.{Outcome}
 use Rattle.office.specs.Output.{OwesIf}
@@ -24,6 +24,8 @@ use Rattle.office.specs.declared.talk.Acted.TheVariants as acted
 use Rattle.office.proofs.Judging.{Judges}
 use Rattle.office.proofs.Hearing.{took, Awaits, acts_next, none_next}
 use Rattle.office.proofs.Events.{Moves, next_kept, seen-took_line, records-took_line, seen-took_none, records-took_none, seen-took_other}
+use Rattle.office.specs.Accounts.{account_if, seated_account, acts_account}
+use Rattle.office.proofs.Accounts.{line_so, all_taken}
 use Rattle.office.proofs.LineDone.{judges, here, agrees, carried, locked}
 
 module _ {Before : Contents → Type 0} (T : Trace) (n octets : ℕ) (keeps : Keeps Before T) (sound : AreSound keeps.contents) (policy : Policy) (rules : policy ≡ in_force T.base (history T))
@@ -93,3 +95,16 @@ module _ {Before : Contents → Type 0} (T : Trace) (n octets : ℕ) (keeps : Ke
             let next = next_kept T n ∙ acts_next keeps.contents (took (seen T n) octets now) k k' p (replied acted.Failed) ready is law there.0 in
             let fails = judged.fails (line_after k p) there.1 in
             record { tag = Failed; may = rw (all, open_yet, next, fails) refl; is = e ∙ rw goes refl }
+
+    -- the line after a taking was told to have judged what the history says
+    pub taking_told : k.talk.user ≡ user (history T) n → account_if (has_newline p) (seated_account w policy judged.sitting (reading (line_after k p)) (Says (replied w)) k.talk.user)
+        ≡ acts_account T.base (history T) (acts_of_took (is_left T.log (history T) n octets) (serving (history T) n) (closing (history T) n) n (tag_of w) (next_line T.log (history T) n []))
+    taking_told named = at (has_newline p) refl
+      where
+        at : (b : Bool) → has_newline p ≡ b → account_if b (seated_account w policy judged.sitting (reading (line_after k p)) (Says (replied w)) k.talk.user)
+            ≡ acts_account T.base (history T) (acts_of_took (is_left T.log (history T) n octets) (serving (history T) n) (closing (history T) n) n (tag_of w) (next_line T.log (history T) n []))
+        at false h = sym (all_taken T.base (history T) (is_left T.log (history T) n octets) (serving (history T) n) (closing (history T) n) n (tag_of w) (next_line T.log (history T) n []) None all open_yet (none h))
+        at true h =
+            let next = next_kept T n ∙ acts_next keeps.contents (took (seen T n) octets now) k k' p (replied w) ready is law h in
+            line_so T.base (history T) n keeps.contents (judged_at keeps.contents policy k.stamp locks) k.talk k.session judged named (line_after k p) w (λ g. (may g).1)
+            ∙ sym (all_taken T.base (history T) (is_left T.log (history T) n octets) (serving (history T) n) (closing (history T) n) n (tag_of w) (next_line T.log (history T) n []) (Some (line_after k p)) all open_yet next)

@@ -46,3 +46,4 @@ pub mod Telling
 pub mod Stopping
 pub mod Logins
 pub mod LongLine
+pub mod Accounts

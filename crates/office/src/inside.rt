@@ -10,11 +10,13 @@ ghost use Rattle.vault.specs.declared.record.Keyed.{Keyed};
 ghost use Rattle.session.specs.Session.{Session as State};
 ghost use Rattle.office.specs.Connections.{reading, is_quit};
 ghost use Rattle.office.specs.Kept.{talk_after};
+ghost use Rattle.office.specs.Accounts.{removal_told, quit_or};
 ghost use Rattle.office.specs.Telling.{is_told};
 ghost use Rattle.office.specs.Stopping.{StaysUpWhenDone, LeavesOneOf};
 ghost use Rattle.office.specs.Output.{nothing_owed, OwesReply};
 ghost use Rattle.office.specs.Sitting.{Sitting, sitting_of, session_left, LiesIn, GoesOn, Obeyed, said_inside, reply_inside, asks_inside, held_after_line, user_inside};
 
+use crate::account::Account;
 use crate::command_line::CommandLine;
 use crate::listing::{drop_listing, list, list_uids};
 use crate::message::{retrieve, top};
@@ -60,7 +62,7 @@ fn told(session: &mut Session, policy: &Policy, command: &Command<'_>) -> Reply<
     }
 }
 
-/// Does what a command says, and puts the reply.
+/// Does what a command says, and puts the reply. A QUIT is told to `account`.
 fn follow<V: Vault>(
     alloc: Global,
     vault: &mut V,
@@ -68,6 +70,7 @@ fn follow<V: Vault>(
     command: &Command<'_>,
     output: &mut Output,
     session: &mut Session,
+    account: &mut Account,
 ) -> Result<Acted, AllocError>
     requires { output.old ≡ nothing_owed }
     ensures done { IfOk result (λ acted. (c : Contents) (kept : List Keyed) → V.holds vault.old c → V.is_clean vault.new → LiesIn c session.old kept → Obeyed (V.holds vault.new) (has_grown (V.faults vault.old) (V.faults vault.new)) c policy.now session.old session.new kept output.new (Ok (command_seen command.now)) acted) }
@@ -76,10 +79,12 @@ fn follow<V: Vault>(
     ensures clean { V.is_clean vault.new → V.is_clean vault.old }
     ensures up { (c : Contents) → V.holds vault.old c → V.is_clean vault.new → StaysUpWhenDone (V.is_up vault.old) (V.is_up vault.new) result }
     ensures stop { (c : Contents) → V.holds vault.old c → V.is_clean vault.new → V.is_up vault.old → LeavesOneOf (V.may_leave vault.new) c (held_after_line Acted.Done policy.now session.old (Ok (command_seen command.now)) c) }
+    ensures account { IfOk result (λ acted. account.new ≡ quit_or (is_quit (Ok (command_seen command.now))) (Account.Quit (removal_told acted policy.now session.old)) account.old) }
+    ensures account_err { OnErr result (account.new ≡ account.old) }
     ensures unasked { (c : Contents) (kept : List Keyed) → LiesIn c session.old kept → asks_inside policy.now (sitting_of session.old kept) (Ok (command_seen command.now)) ≡ false → vault.new ≡ vault.old }
 {
     match command {
-        Command::Quit => quit(alloc, vault, policy, output, session),
+        Command::Quit => quit(alloc, vault, policy, output, session, account),
         Command::List(None) => list(alloc, session, output),
         Command::Uidl(None) => list_uids(alloc, session, output),
         Command::Retr(n) => retrieve(alloc, vault, output, session, policy, *n),
@@ -88,7 +93,7 @@ fn follow<V: Vault>(
     }
 }
 
-/// Does what a line says, and puts the reply.
+/// Does what a line says, and puts the reply. A QUIT is told to `account`.
 fn obey<V: Vault>(
     alloc: Global,
     vault: &mut V,
@@ -96,6 +101,7 @@ fn obey<V: Vault>(
     line: &CommandLine<'_>,
     output: &mut Output,
     session: &mut Session,
+    account: &mut Account,
 ) -> Result<Acted, AllocError>
     requires { output.old ≡ nothing_owed }
     ensures done { IfOk result (λ acted. (c : Contents) (kept : List Keyed) → V.holds vault.old c → V.is_clean vault.new → LiesIn c session.old kept → Obeyed (V.holds vault.new) (has_grown (V.faults vault.old) (V.faults vault.new)) c policy.now session.old session.new kept output.new (reading line.now) acted) }
@@ -104,16 +110,18 @@ fn obey<V: Vault>(
     ensures clean { V.is_clean vault.new → V.is_clean vault.old }
     ensures up { (c : Contents) → V.holds vault.old c → V.is_clean vault.new → StaysUpWhenDone (V.is_up vault.old) (V.is_up vault.new) result }
     ensures stop { (c : Contents) → V.holds vault.old c → V.is_clean vault.new → V.is_up vault.old → LeavesOneOf (V.may_leave vault.new) c (held_after_line Acted.Done policy.now session.old (reading line.now) c) }
+    ensures account { IfOk result (λ acted. account.new ≡ quit_or (is_quit (reading line.now)) (Account.Quit (removal_told acted policy.now session.old)) account.old) }
+    ensures account_err { OnErr result (account.new ≡ account.old) }
     ensures unasked { (c : Contents) (kept : List Keyed) → LiesIn c session.old kept → asks_inside policy.now (sitting_of session.old kept) (reading line.now) ≡ false → vault.new ≡ vault.old }
 {
     match line.reading() {
-        Ok(command) => follow(alloc, vault, policy, command, output, session),
+        Ok(command) => follow(alloc, vault, policy, command, output, session, account),
         Err(fault) => say(alloc, output, &misread(*fault)),
     }
 }
 
 /// Answers a line of a session: puts its reply, and sets or takes away marks. A QUIT removes the
-/// marked messages; the caller then ends the session.
+/// marked messages, and is told to `account`; the caller then ends the session.
 pub(crate) fn answer<V: Vault>(
     alloc: Global,
     vault: &mut V,
@@ -121,6 +129,7 @@ pub(crate) fn answer<V: Vault>(
     line: &CommandLine<'_>,
     output: &mut Output,
     session: &mut Session,
+    account: &mut Account,
 ) -> Result<Acted, AllocError>
     requires { output.old ≡ nothing_owed }
     ensures owed { IfOk result (λ acted. (c : Contents) (kept : List Keyed) → V.holds vault.old c → V.is_clean vault.new → LiesIn c session.old kept → OwesReply c (session_left (reading line.now) session.new) output.new (reply_inside acted policy.now (sitting_of session.old kept) line.now)) }
@@ -133,12 +142,14 @@ pub(crate) fn answer<V: Vault>(
     ensures clean { V.is_clean vault.new → V.is_clean vault.old }
     ensures up { (c : Contents) → V.holds vault.old c → V.is_clean vault.new → StaysUpWhenDone (V.is_up vault.old) (V.is_up vault.new) result }
     ensures stop { (c : Contents) → V.holds vault.old c → V.is_clean vault.new → V.is_up vault.old → LeavesOneOf (V.may_leave vault.new) c (held_after_line Acted.Done policy.now session.old (reading line.now) c) }
+    ensures account { IfOk result (λ acted. account.new ≡ quit_or (is_quit (reading line.now)) (Account.Quit (removal_told acted policy.now session.old)) account.old) }
+    ensures account_err { OnErr result (account.new ≡ account.old) }
     ensures unasked { (c : Contents) (kept : List Keyed) → LiesIn c session.old kept → asks_inside policy.now (sitting_of session.old kept) (reading line.now) ≡ false → vault.new ≡ vault.old }
 {
     if line.is_too_long() {
         return say(alloc, output, &Reply::LineTooLong);
     }
-    obey(alloc, vault, policy, line, output, session)
+    obey(alloc, vault, policy, line, output, session, account)
 }
 
 /// The login name in force after a line.

@@ -5,6 +5,7 @@
 //! octets that came, tells it how many were taken, and what time it is.
 #![tactic(auto)]
 
+mod account;
 mod administration;
 mod answer;
 mod bodies;
@@ -36,6 +37,7 @@ mod time;
 mod transcript;
 mod waiting;
 
+pub use account::{Account, Removal, Verdict, Way};
 pub use answer::{Answer, MessageRow, Messages, SessionRow, Sessions, Totals};
 pub use bodies::answer_body;
 pub use command::AdminCommand;

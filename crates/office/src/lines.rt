@@ -12,9 +12,11 @@ ghost use Rattle.office.specs.Replying.{is_allowed as is_allowed_of};
 ghost use Rattle.office.specs.Stopping.{LeavesHeld, StaysUpWhenDone, LeavesOneOf};
 ghost use Rattle.office.specs.Output.{nothing_owed, OwesReply};
 ghost use Rattle.office.specs.Sitting.{Sitting};
+ghost use Rattle.office.specs.Accounts.{line_account, seated_account, removal_told, quit_or};
 ghost use Rattle.office.specs.Kept.{said_outside, line_outside, asks_outside, asks, talk_after};
 ghost use Rattle.office.specs.Answered.{desk_over, reply_of, name_cmp, IsSeated, SessionAfter, Becomes, LocksFollow, held_after};
 
+use crate::account::Account;
 use crate::command_line::CommandLine;
 use crate::inside;
 use crate::locks::{Locks, lock, release};
@@ -157,7 +159,8 @@ fn next_talk(line: &CommandLine<'_>, reply: &Reply<'_>, talk: Talk) -> Talk
 }
 
 /// Answers a line before a login: puts its reply, and remembers what it leaves. Where a session
-/// begins, returns it and locks its maildrop. Where the store fails, the reply says so.
+/// begins, returns it and locks its maildrop. Where the store fails, the reply says so. `account`
+/// becomes what was judged.
 fn answer_outside<V: Vault>(
     alloc: Global,
     vault: &mut V,
@@ -166,6 +169,7 @@ fn answer_outside<V: Vault>(
     line: &CommandLine<'_>,
     output: &mut Output,
     talk: &mut Talk,
+    account: &mut Account,
 ) -> Result<(Acted, Option<Session>), AllocError>
     requires { output.old ≡ nothing_owed }
     ensures owed { IfOk result (λ r. (c : Contents) → V.holds vault.old c → V.is_clean vault.new → output.new ≡ record output.old { ready = output.old.ready ++ bytes_of (reply_of r.0 (desk_over c desk.entry locks.old) talk.old None line.now) }) }
@@ -180,6 +184,8 @@ fn answer_outside<V: Vault>(
     ensures clean { V.is_clean vault.new → V.is_clean vault.old }
     ensures up { (c : Contents) → V.holds vault.old c → V.is_clean vault.new → V.is_up vault.old → IfOk result (λ r. r.0 ≡ Acted.Done → V.is_up vault.new) }
     ensures stop { (c : Contents) → V.holds vault.old c → V.is_clean vault.new → V.is_up vault.old → LeavesHeld (V.may_leave vault.new) c }
+    ensures account { IfOk result (λ r. (c : Contents) → V.holds vault.old c → V.is_clean vault.new → account.new ≡ line_account (reading line.now) (Says (reply_of r.0 (desk_over c desk.entry locks.old) talk.old None line.now)) talk.old.user) }
+    ensures account_err { OnErr result (account.new ≡ account.old) }
     ensures unasked { asks_outside talk.old (reading line.now) ≡ false → vault.new ≡ vault.old }
 {
     let (reply, begun, acted) = match reply_to(alloc, vault, desk, locks, line, *talk) {
@@ -189,12 +195,13 @@ fn answer_outside<V: Vault>(
     };
     output.say(alloc, &reply)?;
     lock(locks, desk.number, &begun)?;
+    *account = Account::of_line(line, &reply, talk.user);
     *talk = next_talk(line, &reply, *talk);
     Ok((acted, begun))
 }
 
 /// Answers a line of a session, and returns the session. A QUIT ends it, and lets its maildrop's
-/// lock go.
+/// lock go, and is told to `account`.
 fn answer_inside<V: Vault>(
     alloc: Global,
     vault: &mut V,
@@ -204,6 +211,7 @@ fn answer_inside<V: Vault>(
     output: &mut Output,
     talk: &mut Talk,
     session: Session,
+    account: &mut Account,
 ) -> Result<(Acted, Option<Session>), AllocError>
     requires { output.old ≡ nothing_owed }
     ensures owed { IfOk result (λ r. (c : Contents) (v : Sitting) → V.holds vault.old c → V.is_clean vault.new → IsSeated c (Some session) (Some v) → OwesReply c r.1 output.new (reply_of r.0 (desk_over c desk.entry locks.old) talk.old (Some v) line.now)) }
@@ -219,11 +227,21 @@ fn answer_inside<V: Vault>(
     ensures clean { V.is_clean vault.new → V.is_clean vault.old }
     ensures up { (c : Contents) → V.holds vault.old c → V.is_clean vault.new → V.is_up vault.old → IfOk result (λ r. r.0 ≡ Acted.Done → V.is_up vault.new) }
     ensures stop { (c : Contents) → V.holds vault.old c → V.is_clean vault.new → V.is_up vault.old → LeavesOneOf (V.may_leave vault.new) c (held_after Acted.Done desk.entry.policy.now (Some session) (reading line.now) c) }
+    ensures account { IfOk result (λ r. account.new ≡ quit_or (is_quit (reading line.now)) (Account.Quit (removal_told r.0 desk.entry.policy.now session)) account.old) }
+    ensures account_err { OnErr result (account.new ≡ account.old) }
     ensures unasked { (c : Contents) (v : Sitting) → IsSeated c (Some session) (Some v) → asks desk.entry.policy.now talk.old (Some v) (reading line.now) ≡ false → vault.new ≡ vault.old }
 {
     let mut session = session;
     let maildrop = session.maildrop();
-    let acted = inside::answer(alloc, vault, desk.policy, line, output, &mut session)?;
+    let acted = inside::answer(
+        alloc,
+        vault,
+        desk.policy,
+        line,
+        output,
+        &mut session,
+        account,
+    )?;
     *talk = inside::next_talk(line, acted, *talk);
     if line.is_quit() {
         release(locks, Some(maildrop));
@@ -233,7 +251,8 @@ fn answer_inside<V: Vault>(
 }
 
 /// Answers a line: puts its reply, and keeps what the line leaves: what is remembered, the session
-/// and its maildrop's lock. Where the store fails, the reply says so. An error is want of memory.
+/// and its maildrop's lock. Where the store fails, the reply says so. `account`, which tells nothing
+/// yet, becomes what was judged. An error is want of memory.
 pub fn answer<V: Vault>(
     alloc: Global,
     vault: &mut V,
@@ -243,6 +262,7 @@ pub fn answer<V: Vault>(
     output: &mut Output,
     talk: &mut Talk,
     session: &mut Option<Session>,
+    account: &mut Account,
 ) -> Result<Acted, AllocError>
     requires { output.old ≡ nothing_owed }
     ensures owed { IfOk result (λ acted. (c : Contents) (v : Option Sitting) → V.holds vault.old c → V.is_clean vault.new → IsSeated c session.old v → OwesReply c session.new output.new (reply_of acted (desk_over c desk.entry locks.old) talk.old v (cut_seen cut.entry))) }
@@ -258,18 +278,22 @@ pub fn answer<V: Vault>(
     ensures clean { V.is_clean vault.new → V.is_clean vault.old }
     ensures up { (c : Contents) → V.holds vault.old c → V.is_clean vault.new → StaysUpWhenDone (V.is_up vault.old) (V.is_up vault.new) result }
     ensures stop { (c : Contents) → V.holds vault.old c → V.is_clean vault.new → V.is_up vault.old → LeavesOneOf (V.may_leave vault.new) c (held_after Acted.Done desk.entry.policy.now session.old (reading (cut_seen cut.entry)) c) }
+    ensures account { account.old ≡ Account.Nothing → IfOk result (λ acted. (c : Contents) (v : Option Sitting) → V.holds vault.old c → V.is_clean vault.new → IsSeated c session.old v → account.new ≡ seated_account acted desk.entry.policy.now v (reading (cut_seen cut.entry)) (Says (reply_of acted (desk_over c desk.entry locks.old) talk.old v (cut_seen cut.entry))) talk.old.user) }
+    ensures account_err { OnErr result (account.new ≡ account.old) }
     ensures unasked { (c : Contents) (v : Option Sitting) → IsSeated c session.old v → asks desk.entry.policy.now talk.old v (reading (cut_seen cut.entry)) ≡ false → vault.new ≡ vault.old }
 {
     let line = CommandLine::read(cut);
     match session.take() {
         None => {
-            let (acted, begun) = answer_outside(alloc, vault, desk, locks, &line, output, talk)?;
+            let (acted, begun) = answer_outside(
+                alloc, vault, desk, locks, &line, output, talk, account,
+            )?;
             *session = begun;
             Ok(acted)
         }
         Some(inside) => {
             let (acted, after) = answer_inside(
-                alloc, vault, desk, locks, &line, output, talk, inside,
+                alloc, vault, desk, locks, &line, output, talk, inside, account,
             )?;
             *session = after;
             Ok(acted)

@@ -9,6 +9,8 @@ ghost use Rattle.office.specs.Stopping.{LeavesHeld, StaysUpWhenDone, LeavesOneOf
 ghost use Rattle.office.specs.Replying.{is_empty};
 ghost use Rattle.office.specs.Output.{nothing_owed, most_output, lent_of, is_feeding, reads_text, Owes, OwesIf};
 ghost use Rattle.office.specs.Sitting.{Sitting};
+ghost use Rattle.office.specs.History.{Says};
+ghost use Rattle.office.specs.Accounts.{account_if, seated_account};
 ghost use Rattle.office.specs.Kept.{answered, clocked, line_after, asks, nothing_said, maildrop_of};
 ghost use Rattle.office.specs.Idle.{is_idle};
 ghost use Rattle.office.specs.InSession.{name_of};
@@ -18,6 +20,7 @@ ghost use Rattle.office.specs.Expected.{most_in_a_piece};
 ghost use Rattle.office.specs.Answered.{judged_at, reply_of, name_cmp, is_locked_by, IsSeated, BecomesIf, LocksFollow, held_if};
 ghost use Rattle.office.specs.Waiting.{is_held_for, coming_login, line_with};
 
+use crate::account::Account;
 use crate::command_line::CommandLine;
 use crate::lines;
 use crate::locks::Locks;
@@ -247,7 +250,8 @@ impl Link {
     }
 
     /// Takes the next piece at this moment, and answers the first line that is now whole; the lines
-    /// behind it wait for [`Link::resume`].
+    /// behind it wait for [`Link::resume`]. `account`, which tells nothing yet, becomes what was
+    /// judged.
     pub fn hear<V: Vault>(
         &mut self,
         alloc: Global,
@@ -257,6 +261,7 @@ impl Link {
         number: u64,
         piece: &[u8],
         now: u64,
+        account: &mut Account,
     ) -> Result<Acted, AllocError>
         requires { (self.old.output ≡ nothing_owed) × (length piece.now ≤ most_in_a_piece) }
         ensures ok { IfOk result (λ acted. (c : Contents) (v : Option Sitting) → V.holds vault.old c → V.is_clean vault.new → IsSeated c self.old.session v → self.new ≡ answered (clocked now piece.now self.old) piece.now (reply_of acted (judged_at c policy.now self.old.stamp locks.old) self.old.talk v (line_after self.old piece.now)) self.new.session self.new.output) }
@@ -275,6 +280,8 @@ impl Link {
         ensures clean { V.is_clean vault.new → V.is_clean vault.old }
         ensures up { (c : Contents) → V.holds vault.old c → V.is_clean vault.new → StaysUpWhenDone (V.is_up vault.old) (V.is_up vault.new) result }
         ensures stop { (c : Contents) → V.holds vault.old c → V.is_clean vault.new → V.is_up vault.old → LeavesOneOf (V.may_leave vault.new) c (held_if (has_newline piece.now) Acted.Done policy.now self.old.session (reading (line_after self.old piece.now)) c) }
+        ensures account { account.old ≡ Account.Nothing → IfOk result (λ acted. (c : Contents) (v : Option Sitting) → V.holds vault.old c → V.is_clean vault.new → IsSeated c self.old.session v → account.new ≡ account_if (has_newline piece.now) (seated_account acted policy.now v (reading (line_after self.old piece.now)) (Says (reply_of acted (judged_at c policy.now self.old.stamp locks.old) self.old.talk v (line_after self.old piece.now))) self.old.talk.user)) }
+        ensures account_err { OnErr result (account.new ≡ account.old) }
         ensures unasked { (c : Contents) (v : Option Sitting) → IsSeated c self.old.session v → (has_newline piece.now ≡ true → asks policy.now self.old.talk v (reading (line_after self.old piece.now)) ≡ false) → vault.new ≡ vault.old }
     {
         self.output.clear();
@@ -300,11 +307,13 @@ impl Link {
             &mut self.output,
             &mut self.talk,
             &mut self.session,
+            account,
         )?;
         Ok(acted)
     }
 
-    /// Answers the next whole line of the octets that were kept, if there is one.
+    /// Answers the next whole line of the octets that were kept, if there is one. `account`, which
+    /// tells nothing yet, becomes what was judged.
     pub fn resume<V: Vault>(
         &mut self,
         alloc: Global,
@@ -312,6 +321,7 @@ impl Link {
         policy: &Policy,
         locks: &mut Locks,
         number: u64,
+        account: &mut Account,
     ) -> Result<Acted, AllocError>
         requires { self.old.output ≡ nothing_owed }
         ensures ok { IfOk result (λ acted. (c : Contents) (v : Option Sitting) → V.holds vault.old c → V.is_clean vault.new → IsSeated c self.old.session v → self.new ≡ answered self.old self.old.pending (reply_of acted (judged_at c policy.now self.old.stamp locks.old) self.old.talk v (line_after self.old self.old.pending)) self.new.session self.new.output) }
@@ -329,6 +339,8 @@ impl Link {
         ensures clean { V.is_clean vault.new → V.is_clean vault.old }
         ensures up { (c : Contents) → V.holds vault.old c → V.is_clean vault.new → StaysUpWhenDone (V.is_up vault.old) (V.is_up vault.new) result }
         ensures stop { (c : Contents) → V.holds vault.old c → V.is_clean vault.new → V.is_up vault.old → LeavesOneOf (V.may_leave vault.new) c (held_if (has_newline self.old.pending) Acted.Done policy.now self.old.session (reading (line_after self.old self.old.pending)) c) }
+        ensures account { account.old ≡ Account.Nothing → IfOk result (λ acted. (c : Contents) (v : Option Sitting) → V.holds vault.old c → V.is_clean vault.new → IsSeated c self.old.session v → account.new ≡ account_if (has_newline self.old.pending) (seated_account acted policy.now v (reading (line_after self.old self.old.pending)) (Says (reply_of acted (judged_at c policy.now self.old.stamp locks.old) self.old.talk v (line_after self.old self.old.pending))) self.old.talk.user)) }
+        ensures account_err { OnErr result (account.new ≡ account.old) }
         ensures unasked { (c : Contents) (v : Option Sitting) → IsSeated c self.old.session v → (has_newline self.old.pending ≡ true → asks policy.now self.old.talk v (reading (line_after self.old self.old.pending)) ≡ false) → vault.new ≡ vault.old }
     {
         self.output.clear();
@@ -350,6 +362,7 @@ impl Link {
             &mut self.output,
             &mut self.talk,
             &mut self.session,
+            account,
         )?;
         Ok(acted)
     }

@@ -20,12 +20,13 @@ ghost use Rattle.office.specs.Locks.{Released};
 ghost use Rattle.office.specs.Buffered.{output_kept};
 ghost use Rattle.office.specs.Output.{most_output};
 ghost use Rattle.office.specs.Answered.{shown_of};
+ghost use Rattle.office.specs.Accounts.{IsAccount};
 ghost use Rattle.office.specs.Runs.{Step as Shown, followed, Follows, Enters, EntersSo, Ran, HaveCauses, HaveMemory, AreAnswered, StopLeavesRun, done_before};
 
 use crate::link::Link;
 use crate::locks::{Locks, release};
 use crate::talk::Acted;
-use crate::{Event, Limits, Outcome, Reason, RunFault, Step, Transcript};
+use crate::{Account, Event, Limits, Outcome, Reason, RunFault, Step, Transcript};
 use creds::{HostName, Name};
 use policy::Policy;
 use std::alloc::{AllocError, Global};
@@ -172,7 +173,7 @@ impl<V: Vault> Office<V> {
         Outcome::Opened(c)
     }
 
-    fn bytes(&mut self, c: u64, piece: &[u8]) -> Outcome
+    fn bytes(&mut self, c: u64, piece: &[u8], account: &mut Account) -> Outcome
         ensures stands { (T : Trace) → StandsFor V.holds self.old T → V.is_clean (vault_of self.new) → StandsFor V.holds self.new (followed_by T (event.Bytes c piece.now) result) }
         ensures outcome { (T : Trace) → StandsFor V.holds self.old T → V.is_clean (vault_of self.new) → IsOutcome T (lent_by self.old) (event.Bytes c piece.now) (outcome_seen result) }
         ensures cause { (T : Trace) → StandsFor V.holds self.old T → V.is_clean (vault_of self.new) → HasCause (V.faults (vault_of self.old)) (V.faults (vault_of self.new)) (outcome_seen result) }
@@ -181,6 +182,7 @@ impl<V: Vault> Office<V> {
         ensures up { (T : Trace) → StandsFor V.holds self.old T → V.is_clean (vault_of self.new) → StaysUpUnless (V.is_up (vault_of self.old)) (V.is_up (vault_of self.new)) (outcome_seen result) }
         ensures stop { (T : Trace) → StandsFor V.holds self.old T → V.is_clean (vault_of self.new) → V.is_up (vault_of self.old) → StopLeaves (V.may_leave (vault_of self.new)) T (event.Bytes c piece.now) (outcome_seen result) }
         ensures unasked { (T : Trace) → StandsFor V.holds self.old T → V.is_clean (vault_of self.old) → may_show T (event.Bytes c piece.now) Failed ≡ false → vault_of self.new ≡ vault_of self.old }
+        ensures account { account.old ≡ Account.Nothing → (T : Trace) → StandsFor V.holds self.old T → V.is_clean (vault_of self.new) → IsAccount T (event.Bytes c piece.now) (outcome_seen result) account.new }
     {
         let Some(link) = self.links.get_mut(&c) else {
             return Outcome::Ignored(Reason::NoSuchConnection);
@@ -200,6 +202,7 @@ impl<V: Vault> Office<V> {
             c,
             piece,
             self.moment,
+            account,
         ) {
             Ok(acted) => shown(acted),
             Err(_) => {
@@ -209,7 +212,7 @@ impl<V: Vault> Office<V> {
         }
     }
 
-    fn took(&mut self, c: u64, octets: usize) -> Outcome
+    fn took(&mut self, c: u64, octets: usize, account: &mut Account) -> Outcome
         ensures stands { (T : Trace) → StandsFor V.holds self.old T → V.is_clean (vault_of self.new) → StandsFor V.holds self.new (followed_by T (event.Took c octets) result) }
         ensures outcome { (T : Trace) → StandsFor V.holds self.old T → V.is_clean (vault_of self.new) → IsOutcome T (lent_by self.old) (event.Took c octets) (outcome_seen result) }
         ensures cause { (T : Trace) → StandsFor V.holds self.old T → V.is_clean (vault_of self.new) → HasCause (V.faults (vault_of self.old)) (V.faults (vault_of self.new)) (outcome_seen result) }
@@ -218,6 +221,7 @@ impl<V: Vault> Office<V> {
         ensures up { (T : Trace) → StandsFor V.holds self.old T → V.is_clean (vault_of self.new) → StaysUpUnless (V.is_up (vault_of self.old)) (V.is_up (vault_of self.new)) (outcome_seen result) }
         ensures stop { (T : Trace) → StandsFor V.holds self.old T → V.is_clean (vault_of self.new) → V.is_up (vault_of self.old) → StopLeaves (V.may_leave (vault_of self.new)) T (event.Took c octets) (outcome_seen result) }
         ensures unasked { (T : Trace) → StandsFor V.holds self.old T → V.is_clean (vault_of self.old) → may_show T (event.Took c octets) Failed ≡ false → vault_of self.new ≡ vault_of self.old }
+        ensures account { account.old ≡ Account.Nothing → (T : Trace) → StandsFor V.holds self.old T → V.is_clean (vault_of self.new) → IsAccount T (event.Took c octets) (outcome_seen result) account.new }
     {
         let Some(link) = self.links.get_mut(&c) else {
             return Outcome::Ignored(Reason::NoSuchConnection);
@@ -250,6 +254,7 @@ impl<V: Vault> Office<V> {
             &self.policy,
             &mut self.locks,
             c,
+            account,
         ) {
             Ok(acted) => shown(acted),
             Err(_) => {
@@ -302,10 +307,36 @@ impl<V: Vault> Office<V> {
         // all that is owed is lent, and others (`may_lack_memory_at`).
         ensures memory { (T : Trace) → StandsFor V.holds self.old T → V.is_clean (vault_of self.new) → may_show T (event_seen event.entry) NoMemory ≡ false → HasMemory (outcome_seen result) }
     {
+        let mut account = Account::Nothing;
+        self.step_with_account(event, &mut account)
+    }
+
+    /// Does one event, as [`Office::step`] does, and tells what it judged: `account` becomes the
+    /// account of this event, whatever it told before: of a login that was judged, also where the
+    /// store failed, and of a session's QUIT. An event in which neither was, one that is ignored and
+    /// one without memory have none.
+    pub fn step_with_account(&mut self, event: Event<'_>, account: &mut Account) -> Outcome
+        ensures stands { (T : Trace) → StandsFor V.holds self.old T → V.is_clean (vault_of self.new) → StandsFor V.holds self.new (followed_by T (event_seen event.entry) result) }
+        ensures outcome { (T : Trace) → StandsFor V.holds self.old T → V.is_clean (vault_of self.new) → IsOutcome T (lent_by self.old) (event_seen event.entry) (outcome_seen result) }
+        ensures cause { (T : Trace) → StandsFor V.holds self.old T → V.is_clean (vault_of self.new) → HasCause (V.faults (vault_of self.old)) (V.faults (vault_of self.new)) (outcome_seen result) }
+        ensures counted { V.faults (vault_of self.old) ≤ V.faults (vault_of self.new) }
+        ensures clean { V.is_clean (vault_of self.new) → V.is_clean (vault_of self.old) }
+        ensures up { (T : Trace) → StandsFor V.holds self.old T → V.is_clean (vault_of self.new) → StaysUpUnless (V.is_up (vault_of self.old)) (V.is_up (vault_of self.new)) (outcome_seen result) }
+        ensures stop { (T : Trace) → StandsFor V.holds self.old T → V.is_clean (vault_of self.new) → V.is_up (vault_of self.old) → StopLeaves (V.may_leave (vault_of self.new)) T (event_seen event.entry) (outcome_seen result) }
+        ensures admitted { (T : Trace) → StandsFor V.holds self.old T → V.is_clean (vault_of self.new) → IsAdmitted T (event_seen event.entry) (mark_of (outcome_seen result)) }
+        ensures sent { (T : Trace) → StandsFor V.holds self.old T → V.is_clean (vault_of self.new) → AreAdmitted T → (c : ℕ) → IsSentExactly (followed_by T (event_seen event.entry) result) c }
+        ensures unasked { asks_no_store (event_seen event.entry) ≡ true → vault_of self.new ≡ vault_of self.old }
+        ensures unasked_line { (T : Trace) → StandsFor V.holds self.old T → V.is_clean (vault_of self.old) → may_show T (event_seen event.entry) Failed ≡ false → vault_of self.new ≡ vault_of self.old }
+        ensures succeeds { Succeeds (event_seen event.entry) (outcome_seen result) }
+        ensures memory { (T : Trace) → StandsFor V.holds self.old T → V.is_clean (vault_of self.new) → may_show T (event_seen event.entry) NoMemory ≡ false → HasMemory (outcome_seen result) }
+        // What is told is what the history says of the line that acted, if one did.
+        ensures account { (T : Trace) → StandsFor V.holds self.old T → V.is_clean (vault_of self.new) → IsAccount T (event_seen event.entry) (outcome_seen result) account.new }
+    {
+        *account = Account::Nothing;
         match event {
             Event::Connect => self.connect(),
-            Event::Bytes(c, piece) => self.bytes(c, piece),
-            Event::Took(c, octets) => self.took(c, octets),
+            Event::Bytes(c, piece) => self.bytes(c, piece, account),
+            Event::Took(c, octets) => self.took(c, octets, account),
             Event::Gone(c) => self.gone(c),
             Event::Tick(now) => self.tick(now),
             Event::Deposit(maildrop, class, id, text) => self.deposit(maildrop, class, id, text),

@@ -8,11 +8,13 @@ ghost use Rattle.vault.specs.declared.record.Keyed.{Keyed};
 ghost use Rattle.office.specs.Replying.{quit_says};
 ghost use Rattle.office.specs.Output.{nothing_owed};
 ghost use Rattle.office.specs.Sitting.{LiesIn, Obeyed, keys_to_remove, without_marked};
+ghost use Rattle.office.specs.Accounts.{removal_told};
 ghost use Rattle.office.specs.Stopping.{StaysUpWhenDone, LeavesOneOf};
 
+use crate::account::{Account, Removal};
 use crate::output::Output;
 use crate::talk::Acted;
-use creds::Name;
+use creds::{LoginName, Name};
 use policy::Policy;
 use popline::Reply;
 use session::Session;
@@ -23,23 +25,41 @@ use vault::{Vault, VaultFault};
 const REFUSAL_OCTETS: usize = 40;
 
 /// The farewell; or the name of the rule that kept a marked message from removal.
-fn farewell(denied: Option<Name>) -> Reply<'static>
-    ensures { reply_seen result ≡ quit_says denied }
+fn farewell(denied: &Option<Name>) -> Reply<'static>
+    ensures { reply_seen result ≡ quit_says denied.now }
 {
     match denied {
         None => Reply::Bye,
-        Some(rule) => Reply::RemovalDenied(rule),
+        Some(rule) => Reply::RemovalDenied(*rule),
     }
 }
 
+/// The account of a session's QUIT.
+fn quitting(session: &Session, messages: usize, denied: &Option<Name>, is_done: bool) -> Account
+    ensures { result ≡ Account.Quit (record { name = session.now.name; messages = messages; denied = denied.now; is_done = is_done }) }
+{
+    let name = LoginName {
+        clerk: session.clerk(),
+        maildrop: session.maildrop(),
+    };
+    Account::Quit(Removal {
+        name,
+        messages,
+        denied: *denied,
+        is_done,
+    })
+}
+
 /// Removes the marked messages that the policy lets the clerk remove, all or none, and says
-/// farewell. The removal comes last: whatever else may fail is done before it.
+/// farewell. The removal comes last: whatever else may fail is done before it. `account` becomes
+/// what was removed.
 pub(crate) fn quit<V: Vault>(
     alloc: Global,
     vault: &mut V,
     policy: &Policy,
     output: &mut Output,
     session: &Session,
+    account: &mut Account,
 ) -> Result<Acted, AllocError>
     requires { output.old ≡ nothing_owed }
     ensures done { IfOk result (λ acted. (c : Contents) (kept : List Keyed) → V.holds vault.old c → V.is_clean vault.new → LiesIn c session.now kept → Obeyed (V.holds vault.new) (has_grown (V.faults vault.old) (V.faults vault.new)) c policy.now session.now session.now kept output.new (Ok Quit) acted) }
@@ -48,21 +68,28 @@ pub(crate) fn quit<V: Vault>(
     ensures clean { V.is_clean vault.new → V.is_clean vault.old }
     ensures up { (c : Contents) → V.holds vault.old c → V.is_clean vault.new → StaysUpWhenDone (V.is_up vault.old) (V.is_up vault.new) result }
     ensures stop { (c : Contents) → V.holds vault.old c → V.is_clean vault.new → V.is_up vault.old → LeavesOneOf (V.may_leave vault.new) c (without_marked policy.now session.now c) }
+    ensures account { IfOk result (λ acted. account.new ≡ Account.Quit (removal_told acted policy.now session.now)) }
+    ensures account_err { OnErr result (account.new ≡ account.old) }
     // Where nothing is to be removed, no store is asked.
     ensures unasked { keys_to_remove policy.now session.now ≡ [] → vault.new ≡ vault.old }
 {
     let (keys, denied) = session.to_remove(policy)?;
     output.reserve(REFUSAL_OCTETS)?;
-    output.say(alloc, &farewell(denied))?;
+    output.say(alloc, &farewell(&denied))?;
     if keys.is_empty() {
+        *account = quitting(session, keys.len(), &denied, true);
         return Ok(Acted::Done);
     }
     match vault.remove(&session.maildrop(), &keys) {
-        Ok(()) => Ok(Acted::Done),
+        Ok(()) => {
+            *account = quitting(session, keys.len(), &denied, true);
+            Ok(Acted::Done)
+        }
         Err(VaultFault::NoMemory) => Err(AllocError),
         Err(_) => {
             output.clear();
             output.say(alloc, &Reply::RemovalFailed)?;
+            *account = quitting(session, keys.len(), &denied, false);
             Ok(Acted::Failed)
         }
     }

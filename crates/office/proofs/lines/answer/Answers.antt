@@ -1,10 +1,13 @@
-use Rattle.std.proofs.Common.{◌≡◌, Option, Some, None, sym, subst, rules}
+use Rattle.std.proofs.Common.{◌≡◌, ◌∙◌, Option, Some, None, sym, subst, rules}
 use Rattle.office.specs.Connections.{reading}
 use Rattle.office.proofs.Unasked.{asks_none_outside, asks_none_inside}
 use Rattle.popline.specs.Seen.{cut_seen}
+use Rattle.office.specs.History.{Says}
+use Rattle.office.specs.Accounts.{seated_account}
 use Rattle.office.specs.Output.{OwesReply}
 use Rattle.office.specs.Sitting.{Sitting}
 use Rattle.office.specs.Answered.{IsSeated, reply_of, desk_over}
+use Rattle.office.proofs.Accounts.{outside_told, seated_told}
 use Rattle.office.proofs.Entering.{seated, seated_case, unseated_case}
 use Rattle.office.proofs.Owing.{owes_put}
 use Rattle.office.proofs.lines.answer.Goals as goal
@@ -128,3 +131,28 @@ returns-in_err-acted-in-Some-clause-unasked g c d v sits none =
     let r = reading (cut_seen c.args.cut) in
     let w = asks_none_inside d c.args.desk.policy.now c.in-Some.inside c.args.talk.now v r (subst (λ o. IsSeated d o v) e sits) none in
     c.answer_inside.ensures.unasked d w.sitting w.seated (rw c.read-line.ensures w.none)
+
+pub returns-in_ok-acted-in-None-clause-account : goal.returns-in_ok-acted-in-None-clause-account
+returns-in_ok-acted-in-None-clause-account g c fresh d v held clean sits =
+    let x = cut_seen c.args.cut in
+    let w = c.in_ok-acted-in-None.acted in
+    let p = c.args.desk.policy.now in
+    let u = c.args.talk.now.user in
+    let P : Option Sitting → Type 0 =
+    λ v. c.answer_outside.new.account ≡ seated_account w p v (reading x) (Says (reply_of w (desk_over d c.args.desk c.args.locks.now) c.args.talk.now v x)) u in
+    let told = rw c.read-line.ensures at c.in_ok-acted-in-None.ensures.account d held clean in
+    unseated_case d v P (told ∙ outside_told w p (reading x) (Says (reply_of w (desk_over d c.args.desk c.args.locks.now) c.args.talk.now None x)) u) (subst (λ o. IsSeated d o v) (sym c.in-None.ensures.value) sits)
+
+pub returns-in_ok-acted-in-Some-clause-account : goal.returns-in_ok-acted-in-Some-clause-account
+returns-in_ok-acted-in-Some-clause-account g c fresh d v held clean sits =
+    let e : c.args.session.now ≡ Some c.in-Some.inside = sym c.in-Some.ensures.value in
+    let x = cut_seen c.args.cut in
+    let did = c.in_ok-acted-in-Some.ensures in
+    let w = c.in_ok-acted-in-Some.acted in
+    let p = c.args.desk.policy.now in
+    let u = c.args.talk.now.user in
+    let told = rw (c.read-line.ensures, fresh) at did.account in
+    let P : Option Sitting → Type 0 =
+    λ v. c.answer_inside.new.account ≡ seated_account w p v (reading x) (Says (reply_of w (desk_over d c.args.desk c.args.locks.now) c.args.talk.now v x)) u in
+    seated_case d c.in-Some.inside v P (λ q seat. seated_told d p c.in-Some.inside q w u x c.answer_inside.new.account seat (λ failed. rw c.read-line.ensures at did.may failed d q held clean seat) told)
+    (subst (λ o. IsSeated d o v) e sits)

@@ -2,7 +2,9 @@ use Rattle.std.proofs.Common.{◌≡◌, true, refl, ◌-◌, ◌++◌, [], drop
 use Rattle.popline.specs.Cutting.{fed, through_newline}
 use Rattle.office.specs.Output.{OwesIf, OwesReply}
 use Rattle.popline.specs.Seen.{cut_seen}
+use Rattle.office.specs.History.{Says}
 use Rattle.office.specs.Connections.{reading}
+use Rattle.office.specs.Accounts.{account_if, seated_account}
 use Rattle.office.specs.Kept.{Kept, Desk, talk_after, asks, line_after}
 use Rattle.office.specs.Answered.{judged_at, reply_of, IsSeated, Becomes, BecomesIf}
 use Rattle.office.specs.declared.talk.Acted.TheVariants as acted
@@ -237,3 +239,34 @@ returns-in_err-acted-clause-unasked g c d s sits none =
 
 pub returns-in_err-acted-clause-owes : goal.returns-in_err-acted-clause-owes
 returns-in_err-acted-clause-owes g c = search rules
+
+pub returns-clause-account : goal.returns-clause-account
+returns-clause-account g c fresh d s held clean sits =
+    let f = c.feed-n.ensures in
+    let v = c.self.view_is in
+    let p = c.args.piece.now in
+    let k : Kept = c.args.self.now in
+    let x = cut_seen c.in-Some.cut in
+    let w = c.in_ok-acted.acted in
+    let fed_is = f.held ∙ ap (λ (k : Kept). fed k.held p) v in
+    let desk : Desk = judged_at d c.args.policy.now k.stamp c.args.locks.now in
+    let stamped : c.as_bytes.result.now ≡ k.stamp = c.as_bytes.ensures.value ∙ ap (λ (k : Kept). k.stamp) v in
+    let talking : c.self.inside.talk ≡ k.talk = ap (λ (k : Kept). k.talk) v in
+    let over : judged_at d c.args.policy.now c.as_bytes.result.now c.args.locks.now ≡ desk = ap (λ s. judged_at d c.args.policy.now s c.args.locks.now) stamped in
+    let seat : IsSeated d c.self.inside.session s = subst (λ o. IsSeated d o s) (sym (ap (λ (k : Kept). k.session) v)) sits in
+    let told = c.in_ok-acted.ensures.account fresh d s held clean seat in
+    let so : c.answer.new.account ≡ seated_account w c.args.policy.now s (reading x) (Says (reply_of w desk k.talk s x)) k.talk.user = rw (over, talking) at told in
+    let there = has_line k c.feed-n.new.self p x fed_is c.in-Some.ensures in
+    let same = is_line k c.feed-n.new.self p x fed_is c.in-Some.ensures in
+    subst (λ b. c.answer.new.account ≡ account_if b (seated_account w c.args.policy.now s (reading (line_after k p)) (Says (reply_of w desk k.talk s (line_after k p))) k.talk.user)) (sym there)
+    (subst (λ y. c.answer.new.account ≡ seated_account w c.args.policy.now s (reading y) (Says (reply_of w desk k.talk s y)) k.talk.user) same so)
+
+pub returns-in_default-clause-account : goal.returns-in_default-clause-account
+returns-in_default-clause-account g c fresh d s held clean sits =
+    let f = c.feed-n.ensures in
+    let v = c.self.view_is in
+    let p = c.args.piece.now in
+    let k : Kept = c.args.self.now in
+    let n = c.feed-n.result in
+    let fed_is = f.held ∙ ap (λ (k : Kept). fed k.held p) v in
+    subst (λ b. c.args.account.now ≡ account_if b (seated_account acted.Done c.args.policy.now s (reading (line_after k p)) (Says (reply_of acted.Done (judged_at d c.args.policy.now k.stamp c.args.locks.now) k.talk s (line_after k p))) k.talk.user)) (sym (no_line k c.feed-n.new.self p fed_is c.in_default.ensures)) fresh

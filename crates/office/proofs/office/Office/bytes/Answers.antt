@@ -5,7 +5,10 @@ use Rattle.vault.specs.Changes.{AreSound}
 use Rattle.office.specs.Events.{Bytes, Tagged, given}
 use Rattle.office.specs.History.{Done, NoMemory}
 use Rattle.office.specs.Replying.{is_empty}
-use Rattle.office.specs.Trace.{acts, is_open}
+use Rattle.popline.specs.Cutting.{has_newline}
+use Rattle.office.specs.Trace.{acts, is_open, history, next_line}
+use Rattle.office.specs.Accounts.{account_of}
+use Rattle.office.proofs.Accounts.{piece_lacking}
 use Rattle.office.specs.Locks.{Released}
 use Rattle.office.specs.Expected.{most_in_a_piece}
 use Rattle.office.specs.Output.{nothing_owed}
@@ -18,7 +21,7 @@ use Rattle.office.proofs.Locking.{holds_by}
 use Rattle.office.proofs.Coming.{released, nothing_stands, ignored_event, put_back}
 use Rattle.office.specs.declared.talk.Acted.TheVariants as acted
 use Rattle.office.proofs.Owing.{none_owed, some_owed}
-use Rattle.office.proofs.PieceDone.{judged, piece_moves, piece_answered}
+use Rattle.office.proofs.PieceDone.{judged, piece_moves, piece_answered, piece_told}
 use Rattle.office.specs.Outcomes as outcome
 use Rattle.office.proofs.Stopping.{stop_leaves, settled_leaves, unasked_stops}
 use Rattle.office.proofs.StoppingLines.{line_left, line_answered}
@@ -248,3 +251,28 @@ returns-in-Err-clause-unasked g c T st clean none =
     let j = judged T n p st.keeps sound o.policy st.policy o.locks st.locks o.moment st.moment k m nothing fits in
     let ready = awaits_bytes ct (seen T n) k p o.moment m nothing fits in
     c.hear.ensures.unasked ct j.sitting j.seated (piece_asks_none T n ct k (judged_at ct o.policy k.stamp o.locks) k.talk k.session j p o.moment ready none)
+
+pub returns-in-Ok-clause-account : goal.returns-in-Ok-clause-account
+returns-in-Ok-clause-account g c fresh T st clean =
+    let o = c.args.self.now in
+    let n = c.args.c in
+    let p = c.args.piece.now in
+    let k : Kept = c.in-Some.link.now in
+    let k' : Kept = c.hear.new.self in
+    let w = c.in-Ok.acted in
+    let ct = st.keeps.contents in
+    let found : get nat_cmp o.links n ≡ Some k = sym c.in-Some.ensures.value in
+    let m : Matches ct (seen T n) k = subst (IsKeptFor ct (seen T n)) found (st.links n) in
+    let nothing : k.output ≡ nothing_owed = c.owes_nothing.ensures.nothing c.if-not-owes_nothing.false in
+    let fits : length p ≤ most_in_a_piece = search rules in
+    let sound : AreSound ct = g.met.V.Vault.sound o.vault ct st.keeps.held (c.hear.ensures.clean clean) in
+    let j = judged T n p st.keeps sound o.policy st.policy o.locks st.locks o.moment st.moment k m nothing fits in
+    let does = c.in-Ok.ensures in
+    let told = does.account fresh ct j.sitting st.keeps.held clean j.seated in
+    let is = piece_told T n p st.keeps sound o.policy st.policy o.locks st.locks o.moment st.moment k m nothing fits w k' o.locks
+    (λ f. does.may f ct j.sitting st.keeps.held clean j.seated) (does.ok ct j.sitting st.keeps.held clean j.seated) does.lines in
+    told ∙ (is ∙ sym (ap (account_of T (Bytes n p)) (marked w _ c.shown.ensures)))
+
+pub returns-in-Err-clause-account : goal.returns-in-Err-clause-account
+returns-in-Err-clause-account g c fresh T st clean =
+    c.in-Err.ensures.account_err ∙ (fresh ∙ sym (piece_lacking T.base (history T) c.args.c (has_newline c.args.piece.now) (next_line T.log (history T) c.args.c c.args.piece.now)))

@@ -1,10 +1,12 @@
-use Rattle.std.proofs.Common.{◌≡◌, ◌≤◌, false, true, Option, Some, sym, ◌∙◌, ap, nat_cmp, subst, rules, refl}
+use Rattle.std.proofs.Common.{◌≡◌, ◌≤◌, [], false, true, Option, Some, sym, ◌∙◌, ap, nat_cmp, subst, rules, refl}
 use Rattle.std.specs.BTreeMap.{get}
 use Rattle.vault.specs.Changes.{AreSound}
 use Rattle.office.specs.Events.{Took, Tagged, given}
 use Rattle.office.specs.History.{Done, Failed, NoMemory}
-use Rattle.office.specs.Connections.{serving}
-use Rattle.office.specs.Trace.{acts, history, is_left}
+use Rattle.office.specs.Connections.{closing, serving, user}
+use Rattle.office.specs.Trace.{acts, history, is_left, next_line}
+use Rattle.office.specs.Accounts.{account_of}
+use Rattle.office.proofs.Accounts.{taking_lacking, part_refused, part_taken, closed_taken}
 use Rattle.office.specs.Replying.{is_empty}
 use Rattle.office.specs.Output.{nothing_owed}
 use Rattle.office.specs.Kept.{Kept, line_after, maildrop_of}
@@ -20,7 +22,7 @@ use Rattle.office.proofs.Ending.{ended_by, took_ends}
 use Rattle.office.proofs.Taking.{lent_ready, took_more, took_less, took_all, some_taken, all_taken, grown_behind, lacking_ends, refused_ends, paged_stops}
 use Rattle.office.proofs.Owing.{text_feeds}
 use Rattle.office.proofs.Memory.{more_than_lent}
-use Rattle.office.proofs.TakingDone.{judged, taking_moves, taking_answered}
+use Rattle.office.proofs.TakingDone.{judged, taking_moves, taking_answered, taking_told}
 use Rattle.office.specs.Outcomes as outcome
 use Rattle.office.proofs.Stopping.{stop_leaves, settled_leaves, unasked_stops}
 use Rattle.office.proofs.StoppingLines.{line_left, line_answered}
@@ -615,3 +617,96 @@ returns-in-Err-resume-clause-unasked g c T st clean none =
     let over = all_over s n all in
     let j = judged T x n st.keeps sound o.policy st.policy o.locks st.locks o.moment st.moment k1 ready over open_yet in
     c.resume.ensures.unasked ct j.sitting j.seated (taking_asks_none T x ct k1 (judged_at ct o.policy k1.stamp o.locks) k1.talk k1.session j n o.moment ready over open_yet none) ∙ same
+
+pub returns-in-Ok-resume-clause-account : goal.returns-in-Ok-resume-clause-account
+returns-in-Ok-resume-clause-account g c fresh T st clean =
+    let before = c.resume.ensures.clean clean in
+    let o = c.args.self.now in
+    let x = c.args.c in
+    let n = c.args.octets in
+    let k : Kept = c.in-Some.link.now in
+    let s = seen T x in
+    let ct = st.keeps.contents in
+    let k1 : Kept = c.take.new.self in
+    let found : get nat_cmp o.links x ≡ Some k = sym c.in-Some.ensures.value in
+    let m : Matches ct s k = subst (IsKeptFor ct s) found (st.links x) in
+    let lends = c.lends.ensures.some c.if-not-lends.false in
+    let fits = lent_ready k.output n lends.1 in
+    let does = c.in-Ok.ensures in
+    let yes : c.in-Ok.taken ≡ true = c.if-not-taken.false in
+    let owes = does.owes yes ct (untaken_of s) st.keeps.held before m.owed in
+    let none : k1.output ≡ nothing_owed = c.owes_nothing.ensures.nothing c.if-not-owes_nothing.false in
+    let all = took_all ct s k n o.moment m fits k1.output owes none in
+    let open_yet : s.closing ≡ false = sym m.closing ∙ (sym (ap (λ (k : Kept). k.talk.closing) c.take.ensures.kept) ∙ (sym c.is_closing.ensures ∙ c.if-is_closing.false)) in
+    let ready : Awaits ct (took s n o.moment) k1 k1.pending = all_taken ct s k n o.moment m fits k1.output owes k1 c.take.ensures.kept none open_yet in
+    let held = c.take.ensures.held ct st.keeps.held before in
+    let sound : AreSound ct = g.met.V.Vault.sound o.vault ct st.keeps.held (c.take.ensures.clean before) in
+    let over = all_over s n all in
+    let w = c.in-Ok-resume.acted in
+    let j = judged T x n st.keeps sound o.policy st.policy o.locks st.locks o.moment st.moment k1 ready over open_yet in
+    let line = c.in-Ok-resume.ensures in
+    let told = line.account fresh ct j.sitting held clean j.seated in
+    let named : k1.talk.user ≡ user (history T) x = ap (λ (k : Kept). k.talk.user) c.take.ensures.kept ∙ m.user in
+    let is = taking_told T x n st.keeps sound o.policy st.policy o.locks st.locks o.moment st.moment k1 ready over open_yet w c.resume.new.self o.locks (λ (f : w ≡ acted.Failed). line.may f ct j.sitting held clean j.seated)
+    (line.ok ct j.sitting held clean j.seated) line.lines named in
+    told ∙ (is ∙ sym (ap (account_of T (Took x n)) (marked w _ c.shown.ensures)))
+
+pub returns-in-Err-resume-clause-account : goal.returns-in-Err-resume-clause-account
+returns-in-Err-resume-clause-account g c fresh T st clean =
+    c.in-Err-resume.ensures.account_err ∙ (fresh ∙ sym (taking_lacking T.base (history T) (is_left T.log (history T) c.args.c c.args.octets) (serving (history T) c.args.c) (closing (history T) c.args.c) c.args.c (next_line T.log (history T) c.args.c [])))
+
+pub returns-in-Err-clause-account : goal.returns-in-Err-clause-account
+returns-in-Err-clause-account g c fresh T st clean =
+    fresh ∙ sym (taking_lacking T.base (history T) (is_left T.log (history T) c.args.c c.args.octets) (serving (history T) c.args.c) (closing (history T) c.args.c) c.args.c (next_line T.log (history T) c.args.c []))
+
+pub returns-then-not-taken-clause-account : goal.returns-then-not-taken-clause-account
+returns-then-not-taken-clause-account g c fresh T st clean =
+    let o = c.args.self.now in
+    let x = c.args.c in
+    let n = c.args.octets in
+    let k : Kept = c.in-Some.link.now in
+    let s = seen T x in
+    let ct = st.keeps.contents in
+    let k1 : Kept = c.take.new.self in
+    let found : get nat_cmp o.links x ≡ Some k = sym c.in-Some.ensures.value in
+    let m : Matches ct s k = subst (IsKeptFor ct s) found (st.links x) in
+    let lends = c.lends.ensures.some c.if-not-lends.false in
+    let fits = lent_ready k.output n lends.1 in
+    let reads = c.in-Ok.ensures.refused c.if-not-taken.true in
+    let left : is_left T.log (history T) x n ≡ true = left_over s n (took_more ct s k n o.moment m fits (text_feeds k.output.source reads)) in
+    rw left (fresh ∙ sym (part_refused T.base (history T) (serving (history T) x) (closing (history T) x) x (next_line T.log (history T) x [])))
+
+pub returns-then-not-owes_nothing-clause-account : goal.returns-then-not-owes_nothing-clause-account
+returns-then-not-owes_nothing-clause-account g c fresh T st clean =
+    let o = c.args.self.now in
+    let x = c.args.c in
+    let n = c.args.octets in
+    let k : Kept = c.in-Some.link.now in
+    let s = seen T x in
+    let ct = st.keeps.contents in
+    let k1 : Kept = c.take.new.self in
+    let found : get nat_cmp o.links x ≡ Some k = sym c.in-Some.ensures.value in
+    let m : Matches ct s k = subst (IsKeptFor ct s) found (st.links x) in
+    let lends = c.lends.ensures.some c.if-not-lends.false in
+    let fits = lent_ready k.output n lends.1 in
+    let does = c.in-Ok.ensures in
+    let yes : c.in-Ok.taken ≡ true = c.if-not-taken.false in
+    let owes = does.owes yes ct (untaken_of s) st.keeps.held clean m.owed in
+    let some : is_empty k1.output.ready ≡ false = sym c.owes_nothing.ensures.value ∙ c.if-not-owes_nothing.true in
+    let less = took_less ct s k n o.moment m fits k1.output owes some in
+    let left : is_left T.log (history T) x n ≡ true = left_over s n less in
+    rw left (fresh ∙ sym (part_taken T.base (history T) (serving (history T) x) (closing (history T) x) x (next_line T.log (history T) x [])))
+
+pub returns-then-is_closing-clause-account : goal.returns-then-is_closing-clause-account
+returns-then-is_closing-clause-account g c fresh T st clean =
+    let o = c.args.self.now in
+    let x = c.args.c in
+    let n = c.args.octets in
+    let k : Kept = c.in-Some.link.now in
+    let s = seen T x in
+    let ct = st.keeps.contents in
+    let k1 : Kept = c.take.new.self in
+    let found : get nat_cmp o.links x ≡ Some k = sym c.in-Some.ensures.value in
+    let m : Matches ct s k = subst (IsKeptFor ct s) found (st.links x) in
+    let closed : closing (history T) x ≡ true = sym m.closing ∙ (sym (ap (λ (k : Kept). k.talk.closing) c.take.ensures.kept) ∙ (sym c.is_closing.ensures ∙ c.if-is_closing.true)) in
+    rw closed (fresh ∙ sym (closed_taken T.base (history T) (is_left T.log (history T) x n) (serving (history T) x) x (next_line T.log (history T) x [])))

@@ -1,9 +1,10 @@
-use Rattle.std.proofs.Common.{rules, true≢false}
+use Rattle.std.proofs.Common.{rules, refl, sym, true≢false}
 use Rattle.office.specs.Shown.{outcome_seen, event_seen}
 use Rattle.office.proofs.Lending.{admitted, sent_so}
 use Rattle.office.proofs.Stopping.{event_read}
 use Rattle.office.proofs.Memory.{has_memory}
-use Rattle.office.proofs.office.Office.step.Goals as goal
+use Rattle.office.proofs.Accounts.{opening_told, going_told, tick_told, deposit_told, command_told, restart_told}
+use Rattle.office.proofs.office.Office.step_with_account.Goals as goal
 
 pub returns-in-Connect-clause-stands : goal.returns-in-Connect-clause-stands
 returns-in-Connect-clause-stands g c T st clean = rw c.in-Connect.is (c.connect.ensures.stands T st clean)
@@ -136,3 +137,27 @@ returns-in-Admin-clause-memory g c T st clean = rw c.in-Admin.is (has_memory T _
 
 pub returns-in-Restart-clause-memory : goal.returns-in-Restart-clause-memory
 returns-in-Restart-clause-memory g c T st clean = rw c.in-Restart.is (has_memory T _ _ (outcome_seen c.restart.result) (c.restart.ensures.outcome T st clean))
+
+pub returns-in-Connect-clause-account : goal.returns-in-Connect-clause-account
+returns-in-Connect-clause-account g c T st clean = rw c.in-Connect.is (sym (opening_told T _))
+
+pub returns-in-Gone-clause-account : goal.returns-in-Gone-clause-account
+returns-in-Gone-clause-account g c T st clean = rw c.in-Gone.is (sym (going_told T _ _))
+
+pub returns-in-Tick-clause-account : goal.returns-in-Tick-clause-account
+returns-in-Tick-clause-account g c T st clean = rw c.in-Tick.is (sym (tick_told T _ _))
+
+pub returns-in-Deposit-clause-account : goal.returns-in-Deposit-clause-account
+returns-in-Deposit-clause-account g c T st clean = rw c.in-Deposit.is (sym (deposit_told T _ _ _ _ _))
+
+pub returns-in-Admin-clause-account : goal.returns-in-Admin-clause-account
+returns-in-Admin-clause-account g c T st clean = rw c.in-Admin.is (sym (command_told T _ _))
+
+pub returns-in-Restart-clause-account : goal.returns-in-Restart-clause-account
+returns-in-Restart-clause-account g c T st clean = rw c.in-Restart.is (sym (restart_told T _ _))
+
+pub returns-in-Bytes-clause-account : goal.returns-in-Bytes-clause-account
+returns-in-Bytes-clause-account g c T st clean = rw c.in-Bytes.is (c.bytes.ensures.account refl T st clean)
+
+pub returns-in-Took-clause-account : goal.returns-in-Took-clause-account
+returns-in-Took-clause-account g c T st clean = rw c.in-Took.is (c.took.ensures.account refl T st clean)

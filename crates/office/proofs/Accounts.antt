@@ -1,0 +1,195 @@
+-- What a line's account is by what is kept of its connection, and what an event's is by its acts.
+use Rattle.std.proofs.Common.{◌≡◌, ℕ, Bool, true, false, List, [], ◌∷◌, ◌++◌, Option, Some, None, Result, Ok, Err, refl, sym, ◌∙◌, ap, true≢false}
+use Rattle.creds.specs.declared.login_name.LoginName.{LoginName}
+use Rattle.policy.specs.Policy.{Policy}
+use Rattle.popline.specs.Cutting.{Cut, TooLong}
+use Rattle.popline.specs.Cutting as cutting
+use Rattle.popline.specs.Commands.{Command, Pass, Apop, Quit, command_of}
+use Rattle.popline.specs.declared.command.LineFault.{LineFault}
+use Rattle.popline.specs.Replies.{Reply}
+use Rattle.vault.specs.Records.{Records}
+use Rattle.vault.specs.Changes.{Contents}
+use Rattle.vault.specs.declared.record.Keyed.{Keyed}
+use Rattle.session.specs.Session.{Session}
+use Rattle.office.specs.History.{Act, Line, Idle, Tag, Done, Failed, NoMemory, Said, Says, Entry}
+use Rattle.office.specs.Connections.{is_quit, reading, user}
+use Rattle.office.specs.Sessions.{in_session}
+use Rattle.office.specs.Replying.{said_to_line, reply_to_cut}
+use Rattle.office.specs.Events.{Event, Mark, Ignored, Tagged, Trace}
+use Rattle.office.specs.Events as event
+use Rattle.office.specs.Answers.{AdminCommand}
+use Rattle.office.specs.Trace.{history, idle_acts, idle_numbers, acts_of_piece, acts_of_took, line_act}
+use Rattle.office.specs.Kept.{Desk, asks}
+use Rattle.office.specs.Sitting.{Sitting, LiesIn, sitting_of, said_inside, refused_reading, asks_inside, reply_inside}
+use Rattle.office.specs.Answered.{reply_of, tag_of, IsSeated}
+use Rattle.office.specs.Accounts.{verdict, login_judged, line_account, quit_or, quit_account, removal_by, line_told, acts_account, account_of, removal_told, removal_seen, seated_account}
+use Rattle.office.specs.declared.account.Verdict.{Verdict}
+use Rattle.office.specs.declared.account.Account.{Account}
+use Rattle.office.specs.declared.account.Account.TheVariants as account
+use Rattle.office.specs.declared.account.Removal.{Removal}
+use Rattle.office.specs.declared.talk.Talk.{Talk}
+use Rattle.office.specs.declared.talk.Acted.{Acted}
+use Rattle.office.specs.declared.talk.Acted.TheVariants as acted
+use Rattle.office.proofs.Quitting.{counted_alike, denying_alike}
+use Rattle.office.proofs.Judging.{Judges}
+
+-- ---- a session's lines
+
+abbrev is_login : Result Command LineFault → Bool
+is_login (Ok (Pass password)) = true
+is_login (Ok (Apop name digest)) = true
+is_login _ = false
+
+not_login : (o : Option Verdict) (r : Result Command LineFault) (u : Option LoginName) → is_login r ≡ false → login_judged o r u ≡ account.Nothing
+not_login None r u e = refl
+not_login (Some judged) (Ok (Pass password)) u e = absurd (true≢false e)
+not_login (Some judged) (Ok (Apop name digest)) u e = absurd (true≢false e)
+not_login (Some judged) _ u e = refl
+
+module _ (p : Policy) (v : Sitting) (u : Option LoginName) where
+  login_refused : (r : Result Command LineFault) → is_login r ≡ true → line_account r (Says (said_inside p v r)) u ≡ account.Nothing
+  login_refused (Ok (Pass password)) e = refl
+  login_refused (Ok (Apop name digest)) e = refl
+  login_refused _ e = absurd (true≢false (sym e))
+
+  told_read : (r : Result Command LineFault) → line_account r (Says (said_inside p v r)) u ≡ account.Nothing
+  told_read r = at (is_login r) refl
+    where
+      at : (b : Bool) → is_login r ≡ b → line_account r (Says (said_inside p v r)) u ≡ account.Nothing
+      at true e = login_refused r e
+      at false e = not_login (verdict (Says (said_inside p v r))) r u e
+
+  asks_no_login : (r : Result Command LineFault) → asks_inside p v r ≡ true → is_login r ≡ false
+  asks_no_login (Ok (Pass password)) e = cc
+  asks_no_login (Ok (Apop name digest)) e = cc
+  asks_no_login _ e = refl
+
+  -- no line of a session judges a login
+  pub told_inside : (w : Acted) (x : Cut) → (w ≡ acted.Failed → asks_inside p v (reading x) ≡ true) → line_account (reading x) (Says (reply_inside w p v x)) u ≡ account.Nothing
+  told_inside acted.Done TooLong may = refl
+  told_inside acted.Done (cutting.Line l) may = told_read (command_of l)
+  told_inside acted.Failed x may = not_login (verdict (Says (refused_reading (reading x)))) (reading x) u (asks_no_login (reading x) (may refl))
+
+-- a QUIT judges no login
+quits_no_login : (r : Result Command LineFault) (said : Said) (u : Option LoginName) → is_quit r ≡ true → line_account r said u ≡ account.Nothing
+quits_no_login (Ok (Pass password)) said u e = absurd (true≢false (sym e))
+quits_no_login (Ok (Apop name digest)) said u e = absurd (true≢false (sym e))
+quits_no_login (Ok Quit) said u e = not_login (verdict said) (Ok Quit) u refl
+quits_no_login _ said u e = absurd (true≢false (sym e))
+
+-- what is kept of a session removes what the store's messages say
+removal_alike : (c : Contents) (p : Policy) (s : Session) (kept : List Keyed) → LiesIn c s kept → (w : Acted) → removal_told w p s ≡ removal_seen w p (sitting_of s kept)
+removal_alike c p s kept lies w =
+    let counted = counted_alike c p s kept lies in
+    let denied = denying_alike c p s kept lies in
+    rw (counted, denied) refl
+
+-- a line before a login is told by its reply
+pub outside_told : (w : Acted) (p : Policy) (r : Result Command LineFault) (said : Said) (u : Option LoginName) → line_account r said u ≡ seated_account w p None r said u
+outside_told w p r said u = at (is_quit r) refl
+  where
+    at : (b : Bool) → is_quit r ≡ b → line_account r said u ≡ quit_or b account.Nothing (line_account r said u)
+    at true e = quits_no_login r said u e
+    at false e = refl
+
+-- a line of a session is told only where it quits
+pub seated_told : (c : Contents) (p : Policy) (s : Session) (v : Sitting) (w : Acted) (u : Option LoginName) (x : Cut) (told : Account) → IsSeated c (Some s) (Some v)
+    → (w ≡ acted.Failed → asks_inside p v (reading x) ≡ true) → told ≡ quit_or (is_quit (reading x)) (account.Quit (removal_told w p s)) account.Nothing
+    → told ≡ seated_account w p (Some v) (reading x) (Says (reply_inside w p v x)) u
+seated_told c p s v w u x told seat may is =
+    let quits = is_quit (reading x) in
+    is ∙ (ap (λ (r : Removal). quit_or quits (account.Quit r) account.Nothing) (removal_alike c p s seat.0 seat.1 w ∙ ap (removal_seen w p) (sym seat.2))
+    ∙ ap (λ (o : Account). quit_or quits (account.Quit (removal_seen w p v)) o) (sym (told_inside p v u w x may)))
+
+-- ---- a line that acts
+
+said_with : (B : Records) (G : List Entry) (c : ℕ) (x : Cut) (w : Acted) → said_to_line B G c x (tag_of w) ≡ Says (reply_to_cut B G c x (tag_of w))
+said_with B G c x acted.Done = refl
+said_with B G c x acted.Failed = refl
+
+told_with : (B : Records) (G : List Entry) (c : ℕ) (x : Cut) (w : Acted) → line_told B G c x (tag_of w)
+    ≡ quit_or (is_quit (reading x)) (quit_account (in_session G c) (removal_by B G c (tag_of w))) (line_account (reading x) (said_to_line B G c x (tag_of w)) (user G c))
+told_with B G c x acted.Done = refl
+told_with B G c x acted.Failed = refl
+
+pub line_so : (B : Records) (G : List Entry) (c : ℕ) (k : Contents) (d : Desk) (t : Talk) (old : Option Session) (j : Judges B G c k d t old) → t.user ≡ user G c → (x : Cut) (w : Acted)
+    → (w ≡ acted.Failed → asks d.policy t j.sitting (reading x) ≡ true)
+    → seated_account w d.policy j.sitting (reading x) (Says (reply_of w d t j.sitting x)) t.user ≡ acts_account B G (line_act c (tag_of w) (Some x))
+line_so B G c k d t old j named x w may =
+    let quits = is_quit (reading x) in
+    ap (λ (q : Account). quit_or quits q (line_account (reading x) (Says (reply_of w d t j.sitting x)) t.user)) (sym (j.quits w))
+    ∙ (ap (λ (o : Account). quit_or quits (quit_account (in_session G c) (removal_by B G c (tag_of w))) o)
+    (ap (λ (r : Reply). line_account (reading x) (Says r) t.user) (sym (j.reply x w may))
+    ∙ (ap (λ (s : Said). line_account (reading x) s t.user) (sym (said_with B G c x w))
+    ∙ ap (λ (o : Option LoginName). line_account (reading x) (said_to_line B G c x (tag_of w)) o) named))
+    ∙ sym (told_with B G c x w))
+
+-- ---- events in which no line acts
+
+module _ (B : Records) (G : List Entry) where
+  none_lacking : (c : ℕ) (next : Option Cut) → acts_account B G (line_act c NoMemory next) ≡ account.Nothing
+  none_lacking c None = refl
+  none_lacking c (Some x) = refl
+
+  pub piece_lacking : (c : ℕ) (b : Bool) (next : Option Cut) → acts_account B G (acts_of_piece b c NoMemory next) ≡ account.Nothing
+  piece_lacking c true next = none_lacking c next
+  piece_lacking c false next = refl
+
+  pub taking_lacking : (left serving closing : Bool) (c : ℕ) (next : Option Cut) → acts_account B G (acts_of_took left serving closing c NoMemory next) ≡ account.Nothing
+  taking_lacking true serving closing c next = refl
+  taking_lacking false serving true c next = refl
+  taking_lacking false serving false c next = none_lacking c next
+
+  -- the line behind a taking of all
+  pub all_taken : (left serving closing : Bool) (c : ℕ) (t : Tag) (next x : Option Cut) → left ≡ false → closing ≡ false → next ≡ x
+      → acts_account B G (acts_of_took left serving closing c t next) ≡ acts_account B G (line_act c t x)
+  all_taken left serving closing c t next x all on is = rw (all, on, is) refl
+
+  -- a page that can't be read ends the connection
+  pub part_refused : (serving closing : Bool) (c : ℕ) (next : Option Cut) → acts_account B G (acts_of_took true serving closing c Failed next) ≡ account.Nothing
+  part_refused true closing c next = refl
+  part_refused false closing c next = refl
+
+  pub part_taken : (serving closing : Bool) (c : ℕ) (next : Option Cut) → acts_account B G (acts_of_took true serving closing c Done next) ≡ account.Nothing
+  part_taken serving closing c next = refl
+
+  pub closed_taken : (left serving : Bool) (c : ℕ) (next : Option Cut) → acts_account B G (acts_of_took left serving true c Done next) ≡ account.Nothing
+  closed_taken true serving c next = refl
+  closed_taken false serving c next = refl
+
+  behind_idle : (H : List (Act × Tag)) (c : ℕ) → acts_account B G (H ++ (Idle c, Done) ∷ []) ≡ account.Nothing
+  behind_idle [] c = refl
+  behind_idle ((Line n x, t) ∷ []) c = refl
+  behind_idle ((Line n x, t) ∷ (y ∷ H)) c = refl
+  behind_idle ((a, t) ∷ H) c = refl
+
+  none_idle : (numbers : List ℕ) → acts_account B G (idle_acts numbers) ≡ account.Nothing
+  none_idle [] = refl
+  none_idle (c ∷ numbers) = behind_idle (idle_acts numbers) c
+
+module _ (T : Trace) where
+  pub opening_told : (m : Mark) → account_of T event.Connect m ≡ account.Nothing
+  opening_told Ignored = refl
+  opening_told (Tagged Done) = refl
+  opening_told (Tagged Failed) = refl
+  opening_told (Tagged NoMemory) = refl
+
+  pub going_told : (c : ℕ) (m : Mark) → account_of T (event.Gone c) m ≡ account.Nothing
+  going_told c Ignored = refl
+  going_told c (Tagged t) = refl
+
+  pub tick_told : (now : ℕ) (m : Mark) → account_of T (event.Tick now) m ≡ account.Nothing
+  tick_told now Ignored = refl
+  tick_told now (Tagged t) = none_idle T.base (history T) (idle_numbers T.log (history T) _)
+
+  pub deposit_told : (d class id text : List ℕ) (m : Mark) → account_of T (event.Deposit d class id text) m ≡ account.Nothing
+  deposit_told d class id text Ignored = refl
+  deposit_told d class id text (Tagged t) = refl
+
+  pub command_told : (command : AdminCommand) (m : Mark) → account_of T (event.Admin command) m ≡ account.Nothing
+  command_told command Ignored = refl
+  command_told command (Tagged t) = refl
+
+  pub restart_told : (boot : ℕ) (m : Mark) → account_of T (event.Restart boot) m ≡ account.Nothing
+  restart_told boot Ignored = refl
+  restart_told boot (Tagged t) = refl

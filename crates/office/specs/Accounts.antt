@@ -1,0 +1,126 @@
+-- What an office judged in an event: the account of the line that acted in it, by the history
+-- before it.
+use Rattle.std.specs.Prelude.{◌≡◌, ℕ, Bool, true, false, List, [], ◌∷◌, length, Option, Some, None, Result, Ok}
+use Rattle.creds.specs.declared.login_name.LoginName.{LoginName}
+use Rattle.popline.specs.Commands.{Command, Pass, Apop}
+use Rattle.popline.specs.declared.command.LineFault.{LineFault}
+use Rattle.popline.specs.Replies.{MaildropHas, LoginFailed, LoginFailedClosing, DeniedBy, NoSuchMaildrop, InUse, StoreFailed}
+use Rattle.policy.specs.Policy.{Policy}
+use Rattle.popline.specs.Cutting.{Cut}
+use Rattle.vault.specs.Records.{Records, class_of}
+use Rattle.session.specs.Session.{Session}
+use Rattle.session.specs.Session as head
+use Rattle.session.specs.View.{to_remove, denying}
+use Rattle.office.specs.History.{Act, Line, Tag, NoMemory, Said, Says, Entry, in_force, is_done}
+use Rattle.office.specs.Connections.{is_quit, reading, user}
+use Rattle.office.specs.Sessions.{in_session, marks, view}
+use Rattle.office.specs.Replying.{said_to_line}
+use Rattle.office.specs.Events.{Event, Mark, Trace}
+use Rattle.office.specs.Outcomes.{Outcome, mark_of}
+use Rattle.office.specs.Trace.{history, acts_at}
+use Rattle.office.specs.Sitting.{Sitting, keys_to_remove}
+use Rattle.office.specs.declared.talk.Acted.{Acted}
+use Rattle.office.specs.declared.talk.Acted.TheVariants as acted
+use Rattle.office.specs.declared.account.Account.{Account}
+use Rattle.office.specs.declared.account.Removal.{Removal}
+use Rattle.office.specs.declared.account.Account.TheVariants as account
+use Rattle.office.specs.declared.account.Way.TheVariants as way
+use Rattle.office.specs.declared.account.Verdict.{Verdict}
+use Rattle.office.specs.declared.account.Verdict.TheVariants as as_judged
+
+-- how a login was judged, by what was said to it; what else may be said judges no login
+abbrev pub verdict : Said → Option Verdict
+verdict (Says (MaildropHas messages octets)) = Some as_judged.Accepted
+verdict (Says LoginFailed) = Some as_judged.WrongCredential
+verdict (Says LoginFailedClosing) = Some as_judged.WrongCredential
+verdict (Says (DeniedBy rule)) = Some (as_judged.Denied rule)
+verdict (Says NoSuchMaildrop) = Some as_judged.NoSuchMaildrop
+verdict (Says InUse) = Some as_judged.InUse
+verdict (Says StoreFailed) = Some as_judged.StoreFailed
+verdict _ = None
+
+-- only a PASS with a name in force and an APOP are logins
+abbrev pub login_judged : Option Verdict → Result Command LineFault → (user : Option LoginName) → Account
+login_judged (Some judged) (Ok (Pass password)) (Some user) = account.Login user way.Pass judged
+login_judged (Some judged) (Ok (Apop name digest)) user = account.Login name way.Apop judged
+login_judged _ r user = account.Nothing
+
+-- the account of a line that reads so, by what was said to it and the name in force before it
+abbrev pub line_account : Result Command LineFault → Said → (user : Option LoginName) → Account
+line_account r said user = login_judged (verdict said) r user
+
+-- a QUIT's account, or that of another line
+abbrev pub quit_or : (quits : Bool) → (quit other : Account) → Account
+quit_or true quit other = quit
+quit_or false quit other = other
+
+-- what the QUIT of a session removed: what the policy lets its clerk remove of what is marked
+abbrev pub removal_by : Records → List Entry → ℕ → Tag → LoginName → Removal
+removal_by B G c t name = record {
+  name = name;
+  messages = length (to_remove class_of (in_force B G) name (marks G c) (view B G c));
+  denied = denying class_of (in_force B G) name (marks G c) (view B G c);
+  is_done = is_done t;
+}
+
+-- the account of a QUIT; before a login it is of nothing
+abbrev pub quit_account : Option LoginName → (LoginName → Removal) → Account
+quit_account None removal = account.Nothing
+quit_account (Some name) removal = account.Quit (removal name)
+
+-- the account of a line after a front; of nothing at want of memory
+abbrev pub line_told : Records → List Entry → ℕ → Cut → Tag → Account
+line_told B G c x NoMemory = account.Nothing
+line_told B G c x t = quit_or (is_quit (reading x)) (quit_account (in_session G c) (removal_by B G c t)) (line_account (reading x) (said_to_line B G c x t) (user G c))
+
+-- the account of an event's acts, of which one at most is a line
+abbrev pub acts_account : Records → List Entry → List (Act × Tag) → Account
+acts_account B G ((Line c x, t) ∷ []) = line_told B G c x t
+acts_account B G _ = account.Nothing
+
+-- the account of a trace's next event, which got this mark
+abbrev pub account_of : Trace → Event → Mark → Account
+account_of T e m = acts_account T.base (history T) (acts_at T.log (history T) e m)
+
+-- this is the account of an event with this outcome
+abbrev pub IsAccount : Trace → Event → Outcome → Account → Type 0
+IsAccount T e o told = told ≡ account_of T e (mark_of o)
+
+-- the account of octets that make a line whole, or none
+abbrev pub account_if : (has_line : Bool) → Account → Account
+account_if true told = told
+account_if false told = account.Nothing
+
+-- ---- by what is kept
+
+-- whether a line that was answered so was done
+abbrev pub was_done : Acted → Bool
+was_done acted.Done = true
+was_done acted.Failed = false
+
+-- what a QUIT removes of a session's messages
+abbrev pub removal_told : Acted → Policy → Session → Removal
+removal_told w p s = record {
+  name = s.name;
+  messages = length (keys_to_remove p s);
+  denied = denying head.class_of p s.name s.marks s.view;
+  is_done = was_done w;
+}
+
+-- the same, with the messages as the store holds them
+abbrev pub removal_seen : Acted → Policy → Sitting → Removal
+removal_seen w p v = record {
+  name = v.name;
+  messages = length (to_remove class_of p v.name v.marks v.view);
+  denied = denying class_of p v.name v.marks v.view;
+  is_done = was_done w;
+}
+
+-- the account of a QUIT by the session, if there is one
+abbrev pub quit_seen : Acted → Policy → Option Sitting → Account
+quit_seen w p None = account.Nothing
+quit_seen w p (Some v) = account.Quit (removal_seen w p v)
+
+-- the account of a line by the session, if there is one
+abbrev pub seated_account : Acted → Policy → Option Sitting → Result Command LineFault → Said → (user : Option LoginName) → Account
+seated_account w p v r said user = quit_or (is_quit r) (quit_seen w p v) (line_account r said user)
