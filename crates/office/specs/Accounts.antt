@@ -1,10 +1,12 @@
 -- What an office judged in an event: the account of the line that acted in it, by the history
 -- before it.
-use Rattle.std.specs.Prelude.{◌≡◌, ℕ, Bool, true, false, List, [], ◌∷◌, length, Option, Some, None, Result, Ok}
+use Rattle.std.specs.Prelude.{◌≡◌, ℕ, Bool, true, false, List, []}
+use Rattle.std.specs.Prelude.{◌∷◌, length, Option, Some, None, Result, Ok}
 use Rattle.creds.specs.declared.login_name.LoginName.{LoginName}
 use Rattle.popline.specs.Commands.{Command, Pass, Apop}
 use Rattle.popline.specs.declared.command.LineFault.{LineFault}
-use Rattle.popline.specs.Replies.{MaildropHas, LoginFailed, LoginFailedClosing, DeniedBy, NoSuchMaildrop, InUse, StoreFailed}
+use Rattle.popline.specs.Replies.{MaildropHas, LoginFailed, LoginFailedClosing}
+use Rattle.popline.specs.Replies.{DeniedBy, NoSuchMaildrop, InUse, StoreFailed}
 use Rattle.policy.specs.Policy.{Policy}
 use Rattle.popline.specs.Cutting.{Cut}
 use Rattle.vault.specs.Records.{Records, class_of}
@@ -40,7 +42,8 @@ verdict (Says StoreFailed) = Some as_judged.StoreFailed
 verdict _ = None
 
 -- only a PASS with a name in force and an APOP are logins
-abbrev pub login_judged : Option Verdict → Result Command LineFault → (user : Option LoginName) → Account
+abbrev pub login_judged : Option Verdict → Result Command LineFault → (user : Option LoginName)
+    → Account
 login_judged (Some judged) (Ok (Pass password)) (Some user) = account.Login user way.Pass judged
 login_judged (Some judged) (Ok (Apop name digest)) user = account.Login name way.Apop judged
 login_judged _ r user = account.Nothing
@@ -71,7 +74,8 @@ quit_account (Some name) removal = account.Quit (removal name)
 -- the account of a line after a front; of nothing at want of memory
 abbrev pub line_told : Records → List Entry → ℕ → Cut → Tag → Account
 line_told B G c x NoMemory = account.Nothing
-line_told B G c x t = quit_or (is_quit (reading x)) (quit_account (in_session G c) (removal_by B G c t)) (line_account (reading x) (said_to_line B G c x t) (user G c))
+line_told B G c x t = quit_or (is_quit (reading x)) (quit_account (in_session G c)
+    (removal_by B G c t)) (line_account (reading x) (said_to_line B G c x t) (user G c))
 
 -- the account of an event's acts, of which one at most is a line
 abbrev pub acts_account : Records → List Entry → List (Act × Tag) → Account
@@ -122,5 +126,6 @@ quit_seen w p None = account.Nothing
 quit_seen w p (Some v) = account.Quit (removal_seen w p v)
 
 -- the account of a line by the session, if there is one
-abbrev pub seated_account : Acted → Policy → Option Sitting → Result Command LineFault → Said → (user : Option LoginName) → Account
+abbrev pub seated_account : Acted → Policy → Option Sitting → Result Command LineFault → Said
+    → (user : Option LoginName) → Account
 seated_account w p v r said user = quit_or (is_quit r) (quit_seen w p v) (line_account r said user)

@@ -79,7 +79,9 @@ fn follow<V: Vault>(
     ensures clean { V.is_clean vault.new → V.is_clean vault.old }
     ensures up { (c : Contents) → V.holds vault.old c → V.is_clean vault.new → StaysUpWhenDone (V.is_up vault.old) (V.is_up vault.new) result }
     ensures stop { (c : Contents) → V.holds vault.old c → V.is_clean vault.new → V.is_up vault.old → LeavesOneOf (V.may_leave vault.new) c (held_after_line Acted.Done policy.now session.old (Ok (command_seen command.now)) c) }
-    ensures account { IfOk result (λ acted. account.new ≡ quit_or (is_quit (Ok (command_seen command.now))) (Account.Quit (removal_told acted policy.now session.old)) account.old) }
+    ensures account { IfOk result (λ acted. account.new ≡ quit_or (is_quit (Ok
+        (command_seen command.now))) (Account.Quit
+        (removal_told acted policy.now session.old)) account.old) }
     ensures account_err { OnErr result (account.new ≡ account.old) }
     ensures unasked { (c : Contents) (kept : List Keyed) → LiesIn c session.old kept → asks_inside policy.now (sitting_of session.old kept) (Ok (command_seen command.now)) ≡ false → vault.new ≡ vault.old }
 {
@@ -110,7 +112,8 @@ fn obey<V: Vault>(
     ensures clean { V.is_clean vault.new → V.is_clean vault.old }
     ensures up { (c : Contents) → V.holds vault.old c → V.is_clean vault.new → StaysUpWhenDone (V.is_up vault.old) (V.is_up vault.new) result }
     ensures stop { (c : Contents) → V.holds vault.old c → V.is_clean vault.new → V.is_up vault.old → LeavesOneOf (V.may_leave vault.new) c (held_after_line Acted.Done policy.now session.old (reading line.now) c) }
-    ensures account { IfOk result (λ acted. account.new ≡ quit_or (is_quit (reading line.now)) (Account.Quit (removal_told acted policy.now session.old)) account.old) }
+    ensures account { IfOk result (λ acted. account.new ≡ quit_or (is_quit (reading line.now))
+        (Account.Quit (removal_told acted policy.now session.old)) account.old) }
     ensures account_err { OnErr result (account.new ≡ account.old) }
     ensures unasked { (c : Contents) (kept : List Keyed) → LiesIn c session.old kept → asks_inside policy.now (sitting_of session.old kept) (reading line.now) ≡ false → vault.new ≡ vault.old }
 {
@@ -142,7 +145,8 @@ pub(crate) fn answer<V: Vault>(
     ensures clean { V.is_clean vault.new → V.is_clean vault.old }
     ensures up { (c : Contents) → V.holds vault.old c → V.is_clean vault.new → StaysUpWhenDone (V.is_up vault.old) (V.is_up vault.new) result }
     ensures stop { (c : Contents) → V.holds vault.old c → V.is_clean vault.new → V.is_up vault.old → LeavesOneOf (V.may_leave vault.new) c (held_after_line Acted.Done policy.now session.old (reading line.now) c) }
-    ensures account { IfOk result (λ acted. account.new ≡ quit_or (is_quit (reading line.now)) (Account.Quit (removal_told acted policy.now session.old)) account.old) }
+    ensures account { IfOk result (λ acted. account.new ≡ quit_or (is_quit (reading line.now))
+        (Account.Quit (removal_told acted policy.now session.old)) account.old) }
     ensures account_err { OnErr result (account.new ≡ account.old) }
     ensures unasked { (c : Contents) (kept : List Keyed) → LiesIn c session.old kept → asks_inside policy.now (sitting_of session.old kept) (reading line.now) ≡ false → vault.new ≡ vault.old }
 {

@@ -184,7 +184,9 @@ fn answer_outside<V: Vault>(
     ensures clean { V.is_clean vault.new → V.is_clean vault.old }
     ensures up { (c : Contents) → V.holds vault.old c → V.is_clean vault.new → V.is_up vault.old → IfOk result (λ r. r.0 ≡ Acted.Done → V.is_up vault.new) }
     ensures stop { (c : Contents) → V.holds vault.old c → V.is_clean vault.new → V.is_up vault.old → LeavesHeld (V.may_leave vault.new) c }
-    ensures account { IfOk result (λ r. (c : Contents) → V.holds vault.old c → V.is_clean vault.new → account.new ≡ line_account (reading line.now) (Says (reply_of r.0 (desk_over c desk.entry locks.old) talk.old None line.now)) talk.old.user) }
+    ensures account { IfOk result (λ r. (c : Contents) → V.holds vault.old c → V.is_clean vault.new
+        → account.new ≡ line_account (reading line.now) (Says (reply_of r.0
+        (desk_over c desk.entry locks.old) talk.old None line.now)) talk.old.user) }
     ensures account_err { OnErr result (account.new ≡ account.old) }
     ensures unasked { asks_outside talk.old (reading line.now) ≡ false → vault.new ≡ vault.old }
 {
@@ -227,7 +229,8 @@ fn answer_inside<V: Vault>(
     ensures clean { V.is_clean vault.new → V.is_clean vault.old }
     ensures up { (c : Contents) → V.holds vault.old c → V.is_clean vault.new → V.is_up vault.old → IfOk result (λ r. r.0 ≡ Acted.Done → V.is_up vault.new) }
     ensures stop { (c : Contents) → V.holds vault.old c → V.is_clean vault.new → V.is_up vault.old → LeavesOneOf (V.may_leave vault.new) c (held_after Acted.Done desk.entry.policy.now (Some session) (reading line.now) c) }
-    ensures account { IfOk result (λ r. account.new ≡ quit_or (is_quit (reading line.now)) (Account.Quit (removal_told r.0 desk.entry.policy.now session)) account.old) }
+    ensures account { IfOk result (λ r. account.new ≡ quit_or (is_quit (reading line.now))
+        (Account.Quit (removal_told r.0 desk.entry.policy.now session)) account.old) }
     ensures account_err { OnErr result (account.new ≡ account.old) }
     ensures unasked { (c : Contents) (v : Sitting) → IsSeated c (Some session) (Some v) → asks desk.entry.policy.now talk.old (Some v) (reading line.now) ≡ false → vault.new ≡ vault.old }
 {
@@ -278,7 +281,12 @@ pub fn answer<V: Vault>(
     ensures clean { V.is_clean vault.new → V.is_clean vault.old }
     ensures up { (c : Contents) → V.holds vault.old c → V.is_clean vault.new → StaysUpWhenDone (V.is_up vault.old) (V.is_up vault.new) result }
     ensures stop { (c : Contents) → V.holds vault.old c → V.is_clean vault.new → V.is_up vault.old → LeavesOneOf (V.may_leave vault.new) c (held_after Acted.Done desk.entry.policy.now session.old (reading (cut_seen cut.entry)) c) }
-    ensures account { account.old ≡ Account.Nothing → IfOk result (λ acted. (c : Contents) (v : Option Sitting) → V.holds vault.old c → V.is_clean vault.new → IsSeated c session.old v → account.new ≡ seated_account acted desk.entry.policy.now v (reading (cut_seen cut.entry)) (Says (reply_of acted (desk_over c desk.entry locks.old) talk.old v (cut_seen cut.entry))) talk.old.user) }
+    ensures account { account.old ≡ Account.Nothing
+        → IfOk result (λ acted. (c : Contents) (v : Option Sitting) → V.holds vault.old c
+        → V.is_clean vault.new → IsSeated c session.old v
+        → account.new ≡ seated_account acted desk.entry.policy.now v (reading (cut_seen cut.entry))
+        (Says (reply_of acted (desk_over c desk.entry locks.old) talk.old v
+        (cut_seen cut.entry))) talk.old.user) }
     ensures account_err { OnErr result (account.new ≡ account.old) }
     ensures unasked { (c : Contents) (v : Option Sitting) → IsSeated c session.old v → asks desk.entry.policy.now talk.old v (reading (cut_seen cut.entry)) ≡ false → vault.new ≡ vault.old }
 {

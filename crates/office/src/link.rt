@@ -280,7 +280,13 @@ impl Link {
         ensures clean { V.is_clean vault.new → V.is_clean vault.old }
         ensures up { (c : Contents) → V.holds vault.old c → V.is_clean vault.new → StaysUpWhenDone (V.is_up vault.old) (V.is_up vault.new) result }
         ensures stop { (c : Contents) → V.holds vault.old c → V.is_clean vault.new → V.is_up vault.old → LeavesOneOf (V.may_leave vault.new) c (held_if (has_newline piece.now) Acted.Done policy.now self.old.session (reading (line_after self.old piece.now)) c) }
-        ensures account { account.old ≡ Account.Nothing → IfOk result (λ acted. (c : Contents) (v : Option Sitting) → V.holds vault.old c → V.is_clean vault.new → IsSeated c self.old.session v → account.new ≡ account_if (has_newline piece.now) (seated_account acted policy.now v (reading (line_after self.old piece.now)) (Says (reply_of acted (judged_at c policy.now self.old.stamp locks.old) self.old.talk v (line_after self.old piece.now))) self.old.talk.user)) }
+        ensures account { account.old ≡ Account.Nothing
+            → IfOk result (λ acted. (c : Contents) (v : Option Sitting) → V.holds vault.old c
+            → V.is_clean vault.new → IsSeated c self.old.session v
+            → account.new ≡ account_if (has_newline piece.now) (seated_account acted policy.now v
+            (reading (line_after self.old piece.now)) (Says (reply_of acted
+            (judged_at c policy.now self.old.stamp locks.old) self.old.talk v
+            (line_after self.old piece.now))) self.old.talk.user)) }
         ensures account_err { OnErr result (account.new ≡ account.old) }
         ensures unasked { (c : Contents) (v : Option Sitting) → IsSeated c self.old.session v → (has_newline piece.now ≡ true → asks policy.now self.old.talk v (reading (line_after self.old piece.now)) ≡ false) → vault.new ≡ vault.old }
     {
@@ -339,7 +345,13 @@ impl Link {
         ensures clean { V.is_clean vault.new → V.is_clean vault.old }
         ensures up { (c : Contents) → V.holds vault.old c → V.is_clean vault.new → StaysUpWhenDone (V.is_up vault.old) (V.is_up vault.new) result }
         ensures stop { (c : Contents) → V.holds vault.old c → V.is_clean vault.new → V.is_up vault.old → LeavesOneOf (V.may_leave vault.new) c (held_if (has_newline self.old.pending) Acted.Done policy.now self.old.session (reading (line_after self.old self.old.pending)) c) }
-        ensures account { account.old ≡ Account.Nothing → IfOk result (λ acted. (c : Contents) (v : Option Sitting) → V.holds vault.old c → V.is_clean vault.new → IsSeated c self.old.session v → account.new ≡ account_if (has_newline self.old.pending) (seated_account acted policy.now v (reading (line_after self.old self.old.pending)) (Says (reply_of acted (judged_at c policy.now self.old.stamp locks.old) self.old.talk v (line_after self.old self.old.pending))) self.old.talk.user)) }
+        ensures account { account.old ≡ Account.Nothing
+            → IfOk result (λ acted. (c : Contents) (v : Option Sitting) → V.holds vault.old c
+            → V.is_clean vault.new → IsSeated c self.old.session v
+            → account.new ≡ account_if (has_newline self.old.pending)
+            (seated_account acted policy.now v (reading (line_after self.old self.old.pending))
+            (Says (reply_of acted (judged_at c policy.now self.old.stamp locks.old) self.old.talk v
+            (line_after self.old self.old.pending))) self.old.talk.user)) }
         ensures account_err { OnErr result (account.new ≡ account.old) }
         ensures unasked { (c : Contents) (v : Option Sitting) → IsSeated c self.old.session v → (has_newline self.old.pending ≡ true → asks policy.now self.old.talk v (reading (line_after self.old self.old.pending)) ≡ false) → vault.new ≡ vault.old }
     {

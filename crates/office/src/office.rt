@@ -182,7 +182,9 @@ impl<V: Vault> Office<V> {
         ensures up { (T : Trace) → StandsFor V.holds self.old T → V.is_clean (vault_of self.new) → StaysUpUnless (V.is_up (vault_of self.old)) (V.is_up (vault_of self.new)) (outcome_seen result) }
         ensures stop { (T : Trace) → StandsFor V.holds self.old T → V.is_clean (vault_of self.new) → V.is_up (vault_of self.old) → StopLeaves (V.may_leave (vault_of self.new)) T (event.Bytes c piece.now) (outcome_seen result) }
         ensures unasked { (T : Trace) → StandsFor V.holds self.old T → V.is_clean (vault_of self.old) → may_show T (event.Bytes c piece.now) Failed ≡ false → vault_of self.new ≡ vault_of self.old }
-        ensures account { account.old ≡ Account.Nothing → (T : Trace) → StandsFor V.holds self.old T → V.is_clean (vault_of self.new) → IsAccount T (event.Bytes c piece.now) (outcome_seen result) account.new }
+        ensures account { account.old ≡ Account.Nothing → (T : Trace) → StandsFor V.holds self.old T
+            → V.is_clean (vault_of self.new) → IsAccount T (event.Bytes c piece.now)
+            (outcome_seen result) account.new }
     {
         let Some(link) = self.links.get_mut(&c) else {
             return Outcome::Ignored(Reason::NoSuchConnection);
@@ -221,7 +223,9 @@ impl<V: Vault> Office<V> {
         ensures up { (T : Trace) → StandsFor V.holds self.old T → V.is_clean (vault_of self.new) → StaysUpUnless (V.is_up (vault_of self.old)) (V.is_up (vault_of self.new)) (outcome_seen result) }
         ensures stop { (T : Trace) → StandsFor V.holds self.old T → V.is_clean (vault_of self.new) → V.is_up (vault_of self.old) → StopLeaves (V.may_leave (vault_of self.new)) T (event.Took c octets) (outcome_seen result) }
         ensures unasked { (T : Trace) → StandsFor V.holds self.old T → V.is_clean (vault_of self.old) → may_show T (event.Took c octets) Failed ≡ false → vault_of self.new ≡ vault_of self.old }
-        ensures account { account.old ≡ Account.Nothing → (T : Trace) → StandsFor V.holds self.old T → V.is_clean (vault_of self.new) → IsAccount T (event.Took c octets) (outcome_seen result) account.new }
+        ensures account { account.old ≡ Account.Nothing → (T : Trace) → StandsFor V.holds self.old T
+            → V.is_clean (vault_of self.new) → IsAccount T (event.Took c octets)
+            (outcome_seen result) account.new }
     {
         let Some(link) = self.links.get_mut(&c) else {
             return Outcome::Ignored(Reason::NoSuchConnection);
@@ -316,21 +320,41 @@ impl<V: Vault> Office<V> {
     /// store failed, and of a session's QUIT. An event in which neither was, one that is ignored and
     /// one without memory have none.
     pub fn step_with_account(&mut self, event: Event<'_>, account: &mut Account) -> Outcome
-        ensures stands { (T : Trace) → StandsFor V.holds self.old T → V.is_clean (vault_of self.new) → StandsFor V.holds self.new (followed_by T (event_seen event.entry) result) }
-        ensures outcome { (T : Trace) → StandsFor V.holds self.old T → V.is_clean (vault_of self.new) → IsOutcome T (lent_by self.old) (event_seen event.entry) (outcome_seen result) }
-        ensures cause { (T : Trace) → StandsFor V.holds self.old T → V.is_clean (vault_of self.new) → HasCause (V.faults (vault_of self.old)) (V.faults (vault_of self.new)) (outcome_seen result) }
+        ensures stands { (T : Trace) → StandsFor V.holds self.old T → V.is_clean (vault_of self.new)
+            → StandsFor V.holds self.new (followed_by T (event_seen event.entry) result) }
+        ensures outcome { (T : Trace) → StandsFor V.holds self.old T
+            → V.is_clean (vault_of self.new) → IsOutcome T (lent_by self.old)
+            (event_seen event.entry) (outcome_seen result) }
+        ensures cause { (T : Trace) → StandsFor V.holds self.old T → V.is_clean (vault_of self.new)
+            → HasCause (V.faults (vault_of self.old)) (V.faults (vault_of self.new))
+            (outcome_seen result) }
         ensures counted { V.faults (vault_of self.old) ≤ V.faults (vault_of self.new) }
         ensures clean { V.is_clean (vault_of self.new) → V.is_clean (vault_of self.old) }
-        ensures up { (T : Trace) → StandsFor V.holds self.old T → V.is_clean (vault_of self.new) → StaysUpUnless (V.is_up (vault_of self.old)) (V.is_up (vault_of self.new)) (outcome_seen result) }
-        ensures stop { (T : Trace) → StandsFor V.holds self.old T → V.is_clean (vault_of self.new) → V.is_up (vault_of self.old) → StopLeaves (V.may_leave (vault_of self.new)) T (event_seen event.entry) (outcome_seen result) }
-        ensures admitted { (T : Trace) → StandsFor V.holds self.old T → V.is_clean (vault_of self.new) → IsAdmitted T (event_seen event.entry) (mark_of (outcome_seen result)) }
-        ensures sent { (T : Trace) → StandsFor V.holds self.old T → V.is_clean (vault_of self.new) → AreAdmitted T → (c : ℕ) → IsSentExactly (followed_by T (event_seen event.entry) result) c }
-        ensures unasked { asks_no_store (event_seen event.entry) ≡ true → vault_of self.new ≡ vault_of self.old }
-        ensures unasked_line { (T : Trace) → StandsFor V.holds self.old T → V.is_clean (vault_of self.old) → may_show T (event_seen event.entry) Failed ≡ false → vault_of self.new ≡ vault_of self.old }
+        ensures up { (T : Trace) → StandsFor V.holds self.old T → V.is_clean (vault_of self.new)
+            → StaysUpUnless (V.is_up (vault_of self.old)) (V.is_up (vault_of self.new))
+            (outcome_seen result) }
+        ensures stop { (T : Trace) → StandsFor V.holds self.old T → V.is_clean (vault_of self.new)
+            → V.is_up (vault_of self.old) → StopLeaves (V.may_leave (vault_of self.new)) T
+            (event_seen event.entry) (outcome_seen result) }
+        ensures admitted { (T : Trace) → StandsFor V.holds self.old T
+            → V.is_clean (vault_of self.new) → IsAdmitted T (event_seen event.entry) (mark_of
+            (outcome_seen result)) }
+        ensures sent { (T : Trace) → StandsFor V.holds self.old T → V.is_clean (vault_of self.new)
+            → AreAdmitted T → (c : ℕ) → IsSentExactly (followed_by T
+            (event_seen event.entry) result) c }
+        ensures unasked { asks_no_store (event_seen event.entry) ≡ true
+            → vault_of self.new ≡ vault_of self.old }
+        ensures unasked_line { (T : Trace) → StandsFor V.holds self.old T
+            → V.is_clean (vault_of self.old) → may_show T (event_seen event.entry) Failed ≡ false
+            → vault_of self.new ≡ vault_of self.old }
         ensures succeeds { Succeeds (event_seen event.entry) (outcome_seen result) }
-        ensures memory { (T : Trace) → StandsFor V.holds self.old T → V.is_clean (vault_of self.new) → may_show T (event_seen event.entry) NoMemory ≡ false → HasMemory (outcome_seen result) }
+        ensures memory { (T : Trace) → StandsFor V.holds self.old T → V.is_clean (vault_of self.new)
+            → may_show T (event_seen event.entry) NoMemory ≡ false
+            → HasMemory (outcome_seen result) }
         // What is told is what the history says of the line that acted, if one did.
-        ensures account { (T : Trace) → StandsFor V.holds self.old T → V.is_clean (vault_of self.new) → IsAccount T (event_seen event.entry) (outcome_seen result) account.new }
+        ensures account { (T : Trace) → StandsFor V.holds self.old T
+            → V.is_clean (vault_of self.new) → IsAccount T (event_seen event.entry)
+            (outcome_seen result) account.new }
     {
         *account = Account::Nothing;
         match event {

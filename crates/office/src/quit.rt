@@ -36,7 +36,14 @@ fn farewell(denied: &Option<Name>) -> Reply<'static>
 
 /// The account of a session's QUIT.
 fn quitting(session: &Session, messages: usize, denied: &Option<Name>, is_done: bool) -> Account
-    ensures { result ≡ Account.Quit (record { name = session.now.name; messages = messages; denied = denied.now; is_done = is_done }) }
+    ensures { result ≡ Account.Quit
+        (record {
+          name = session.now.name;
+          messages = messages;
+          denied = denied.now;
+          is_done =
+              is_done;
+        }) }
 {
     let name = LoginName {
         clerk: session.clerk(),
@@ -68,7 +75,8 @@ pub(crate) fn quit<V: Vault>(
     ensures clean { V.is_clean vault.new → V.is_clean vault.old }
     ensures up { (c : Contents) → V.holds vault.old c → V.is_clean vault.new → StaysUpWhenDone (V.is_up vault.old) (V.is_up vault.new) result }
     ensures stop { (c : Contents) → V.holds vault.old c → V.is_clean vault.new → V.is_up vault.old → LeavesOneOf (V.may_leave vault.new) c (without_marked policy.now session.now c) }
-    ensures account { IfOk result (λ acted. account.new ≡ Account.Quit (removal_told acted policy.now session.now)) }
+    ensures account { IfOk result (λ acted. account.new ≡ Account.Quit
+        (removal_told acted policy.now session.now)) }
     ensures account_err { OnErr result (account.new ≡ account.old) }
     // Where nothing is to be removed, no store is asked.
     ensures unasked { keys_to_remove policy.now session.now ≡ [] → vault.new ≡ vault.old }
