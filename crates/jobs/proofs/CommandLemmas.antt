@@ -115,29 +115,21 @@ totals_agree A B same =
     map_alike (λ d. total_in d (in_maildrop d A.messages)) (λ d. total_in d (in_maildrop d B.messages)) (by_name A.maildrops) (λ d. ap (total_in d) (same.messages d))
     ∙ ap (map (λ d. total_in d (in_maildrop d B.messages))) same.maildrops
 
-found_or : List Total → Result (List Total) VaultFault → List Total
+abbrev found_or : List Total → Result (List Total) VaultFault → List Total
 found_or these (Ok found) = found
-found_or these (Err fault) = these
+found_or these (Err refused) = these
 
-ok_is : (these found : List Total) → Ok these ≡ Ok found → these ≡ found
-unfolding found_or
-ok_is these found e = ap (found_or these) e
-
-fault_or : {B : Type 0} → VaultFault → Result B VaultFault → VaultFault
+abbrev fault_or : {B : Type 0} → VaultFault → Result B VaultFault → VaultFault
 fault_or f (Ok x) = f
 fault_or f (Err e) = e
 
-err_is : {B : Type 0} (f e : VaultFault) → Err {A = B} f ≡ Err e → f ≡ e
-unfolding fault_or
-err_is f e h = ap (fault_or f) h
-
-refused_so : {A B : Type 0} (r : Result A VaultFault) (view : A → B) (e : VaultFault) → seen_as r view ≡ Err e → r ≡ Err e
+pub refused_so : {A B : Type 0} (r : Result A VaultFault) (view : A → B) (e : VaultFault) → seen_as r view ≡ Err e → r ≡ Err e
 refused_so (Ok x) view e h = absurd (cc)
-refused_so (Err f) view e h = ap Err (err_is f e h)
+refused_so (Err f) view e h = ap Err (ap (fault_or f) h)
 
 pub looked_so : (these : List Total) (first last : ℕ) (answered : Result (List Total) VaultFault) → IsAnswer (Ok these) answered → (answered ≡ Err fault.Store → has_grown first last ≡ true)
     → IsLook these first last answered
-looked_so these first last (Ok found) answer cause = sym (ok_is these found answer)
+looked_so these first last (Ok found) answer cause = sym (ap (found_or these) answer)
 looked_so these first last (Err fault.Store) answer cause = cause refl
 looked_so these first last (Err fault.NoMemory) answer cause = tt
 looked_so these first last (Err fault.NoMaildrop) answer cause = cc
