@@ -1,6 +1,3 @@
-use Rattle.std.proofs.Common.{ap, subst}
-use Rattle.std.specs.Prelude.{List, ℕ}
-use Rattle.converse.specs.Printed.{PrintsPart}
 use Rattle.converse.proofs.Clauses.{prints_none}
 use Rattle.converse.proofs.fault.tell_fault.Goals as goal
 

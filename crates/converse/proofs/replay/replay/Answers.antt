@@ -143,7 +143,7 @@ pub returns-in-Err-clause-why_not : goal.returns-in-Err-clause-why_not
 returns-in-Err-clause-why_not g c = unread_told (g.R.Read.remaining c.args.script.now) c.args.host.now _ _ c.in-Err.fault c.in-Err.ensures.fault c.tell_fault.ensures.line
 
 pub returns-in-Err-open_office-clause-why_not : goal.returns-in-Err-open_office-clause-why_not
-returns-in-Err-open_office-clause-why_not g c = host_told (g.R.Read.remaining c.args.script.now) c.args.host.now _ _ (map line_seen c.in-Ok.lines.items) c.in-Err-open_office.fault c.in-Err-open_office.ensures.bad_host c.in-Ok.ensures.lines c.tell_fault.ensures.line
+returns-in-Err-open_office-clause-why_not g c = host_told (g.R.Read.remaining c.args.script.now) c.args.host.now _ _ (map line_seen c.in-Ok.lines.items) c.in-Err-open_office.fault c.in-Err-open_office.ensures.bad_host c.in-Ok.ensures.lines c.tell_fault-in-Err-open_office.ensures.line
 
 pub returns-clause-why_not : goal.returns-clause-why_not
 returns-clause-why_not g c = none_told (g.R.Read.remaining c.args.script.now) c.args.host.now _ _ (map line_seen c.in-Ok.lines.items) (c.in-Ok-open_office.ensures.host refl) c.in-Ok.ensures.lines
