@@ -1,7 +1,7 @@
 -- Queries one behind the other, tests one behind the other, and what a store that is made and a store that is judged come to.
 use Rattle.std.proofs.Common.{◌≡◌, ◌⊎◌, inl, inr, Bool, true, false, IsTrue, List, [], ◌∷◌, length, Result, Ok, Err, refl, sym, ap, subst, ◌∙◌, true≢false}
 use Rattle.mailsql.specs.Tables.{no_schema}
-use Rattle.std.specs.Prelude.{IfOk, OnOk, OnErr}
+use Rattle.std.specs.Prelude.{IfOk}
 use Rattle.sqlite.specs.declared.error.Error.{Error}
 use Rattle.sqlite.specs.Effect.{Database}
 use Rattle.sqlite.specs.State.{State, Shows, IsUnchanged}
@@ -56,23 +56,11 @@ undone_on s0 s1 s2 a (inr back) = inr (record {
   counts = record { changes = back.counts.changes ∙ a.1.changes; last_rowid = back.counts.last_rowid ∙ a.1.last_rowid };
 })
 
--- a result that is passed on, behind a query that changed nothing
-pub same_after : {A : Type 0} (s0 s1 s2 : State) (r : Result A Error) → IsUnchanged s0 s1 → OnOk r (IsUnchanged s1 s2) → OnOk r (IsUnchanged s0 s2)
-same_after s0 s1 s2 (Ok x) a b = unchanged_on s0 s1 s2 a b
-same_after s0 s1 s2 (Err e) a b = tt
-
-pub err_after : {A : Type 0} (s0 s1 s2 : State) (r : Result A Error) → IsUnchanged s0 s1 → OnErr r (IsUndone s1 s2) → OnErr r (IsUndone s0 s2)
-err_after s0 s1 s2 (Ok x) a b = tt
-err_after s0 s1 s2 (Err e) a b = undone_on s0 s1 s2 a b
-
 -- ---- tests
 
 pub chained : {X Y : Type 0} (P : X → Type 0) (Q : X → Y → Type 0) (b : Bool) → Finds P true → ((x : X) → P x → Finds (Q x) b) → Finds (λ (xy : X × Y). P xy.0 × Q xy.0 xy.1) b
 chained P Q true found more = let m = more found.0 found.1 in ((found.0, m.0), (found.1, m.1))
 chained P Q false found more = λ xy both. more xy.0 both.0 xy.1 both.1
-
-pub unchained : {X Y : Type 0} (P : X → Type 0) (Q : X → Y → Type 0) → Finds P false → Finds (λ (xy : X × Y). P xy.0 × Q xy.0 xy.1) false
-unchained P Q none = λ xy both. none xy.0 both.0
 
 -- a test behind one that was passed
 pub chained_ok : {X Y : Type 0} (P : X → Type 0) (Q : X → Y → Type 0) (b : Bool) (r : Result Bool Error) → Finds P b → b ≡ true → ((x : X) → P x → IfOk r (Finds (Q x)))

@@ -53,11 +53,11 @@ use Rattle.sqlvault.proofs.RuleLemmas.{parts, sound_rules, at_no_name}
 by_name_permuted : (xs ys : List (List ℕ)) → IsPermutation xs ys → by_name xs ≡ by_name ys
 by_name_permuted = along_permutation (λ xs ys. by_name xs ≡ by_name ys) (λ xs. refl) (λ x xs ys h. ap (put_by_name x) h) (λ x y xs. puts_commute x y (by_name xs)) (λ xs ys zs h k. h ∙ k)
 
-names_are : (cs : List vault.Clerk) → map (λ (c : vault.Clerk). c.name) cs ≡ map (λ (r : Clerk). r.name) (map clerk_row cs)
+pub names_are : (cs : List vault.Clerk) → map (λ (c : vault.Clerk). c.name) cs ≡ map (λ (r : Clerk). r.name) (map clerk_row cs)
 names_are [] = refl
 names_are (x ∷ xs) = ap (λ l. x.name ∷ l) (names_are xs)
 
-names_told : (rows : Rows) (c : Contents) → Keeps rows c → by_name (map (λ (x : vault.Clerk). x.name) c.clerks) ≡ by_name (map (λ (r : Clerk). r.name) rows.clerks)
+pub names_told : (rows : Rows) (c : Contents) → Keeps rows c → by_name (map (λ (x : vault.Clerk). x.name) c.clerks) ≡ by_name (map (λ (r : Clerk). r.name) rows.clerks)
 names_told rows c k =
     ap by_name (names_are c.clerks)
     ∙ by_name_permuted (map (λ (r : Clerk). r.name) (map clerk_row c.clerks)) (map (λ (r : Clerk). r.name) rows.clerks) (IsPermutation-map (λ (r : Clerk). r.name) (map clerk_row c.clerks) rows.clerks k.clerks)

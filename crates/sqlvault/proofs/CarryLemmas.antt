@@ -219,10 +219,6 @@ order_uncarried carried s is other = (of_version carried (rows_in s.now.trees) i
 
 -- ---- the mark of an older version
 
-pub no_older : (value : ℤ) → value ≢ pos 1 → value ≢ pos 2 → (carried : Bool) → value ≢ old_version carried
-no_older value first second true = first
-no_older value first second false = second
-
 pub one_older : (carried : Bool) (marks : List Mark) (mark : Mark) → find (is_mark (codes "popbox")) marks ≡ Some mark → mark.value ≡ old_version carried → length marks ≡ 1 → marks ≡ old_mark carried ∷ []
 one_older carried [] mark found value one = cc
 one_older carried (x ∷ y ∷ more) mark found value one = absurd (omega (arith, one))

@@ -15,7 +15,7 @@ use Rattle.vault.specs.declared.fault.VaultFault.TheVariants as fault
 use Rattle.vault.specs.declared.record.Clerk as vault
 use Rattle.vault.specs.Records.{is_sound_clerk, is_sound_credential, credential_in, most_clerks}
 use Rattle.vault.specs.Changes.{Contents, AreSound, with_credential, with_clerk, without_clerk, with_clerks, with_messages, put_clerk_answer}
-use Rattle.vault.specs.Calls.{IsAnswer, put_result, IsCredential, IsClerkDropped}
+use Rattle.vault.specs.Calls.{IsAnswer, put_result, IsCredential, drop_clerk_result}
 use Rattle.vault.proofs.DoneLemmas.{IsKept}
 use Rattle.vault.proofs.ListLemmas.{bytes_same, bytes_are, not_true, distinct-map, filter-map, map-append, length-map, found_none}
 use Rattle.vault.proofs.ClerkLemmas.{kept_with_clerk, kept_without_clerk}
@@ -261,20 +261,30 @@ pub answered : (Held : Contents → Type 0) (c : Contents) (name : List ℕ) (o 
 answered Held c name o e h = record { answer = ap (λ (x : Option Credential). Ok x) e; held = h }
 
 -- what the judging queries answer
-pub full : (Held : Contents → Type 0) (c : Contents) (name : List ℕ) → is_some (credential_in name c.clerks) ≡ false → most_clerks ≤ length c.clerks → Held c
-    → Held c × IsAnswer (put_result (put_clerk_answer name c.clerks)) (Err fault.Full)
-full Held c name e most h = let f = no_room most_clerks (length c.clerks) most in (h, rw (e, f) refl)
+pub full : (c : Contents) (name : List ℕ) → is_some (credential_in name c.clerks) ≡ false
+    → most_clerks ≤ length c.clerks
+    → IsAnswer (put_result (put_clerk_answer name c.clerks)) (Err fault.Full)
+full c name e most = let f = no_room most_clerks (length c.clerks) most in rw (e, f) refl
   where
     no_room : (most count : ℕ) → most ≤ count → nat_le most count ≡ true
     no_room most count h = grind (arith, nat_tests)
 
-pub new : (Held : Contents → Type 0) (c : Contents) (name : List ℕ) → is_some (credential_in name c.clerks) ≡ false → length c.clerks < most_clerks → Held c
-    → Held c × IsAnswer (put_result (put_clerk_answer name c.clerks)) (Ok true)
-new Held c name e fits h = let f = room most_clerks (length c.clerks) fits in (h, rw (e, f) refl)
+pub new : (c : Contents) (name : List ℕ) → is_some (credential_in name c.clerks) ≡ false
+    → length c.clerks < most_clerks
+    → IsAnswer (put_result (put_clerk_answer name c.clerks)) (Ok true)
+new c name e fits = let f = room most_clerks (length c.clerks) fits in rw (e, f) refl
   where
     room : (most count : ℕ) → count < most → nat_le most count ≡ false
     room most count h = grind (arith, nat_tests)
 
-pub dropped : (Held : Contents → Type 0) (c : Contents) (name : List ℕ) → is_some (credential_in name c.clerks) ≡ true → Held (with_clerks (without_clerk name c.clerks) c)
-    → IsClerkDropped Held c name (Ok tt)
-dropped Held c name e h = record { answer = rw e refl; held = h }
+-- a clerk who is there can be dropped, by the name's text
+pub may_drop : (c : Contents) (text name : List ℕ) → text ≡ name
+    → is_some (credential_in name c.clerks) ≡ true
+    → (drop_clerk_result name c.clerks ≡ Ok tt)
+    × ((from to : Rows) → DropsClerk text from to → Keeps from c
+    → Keeps to (with_clerks (without_clerk name c.clerks) c))
+may_drop c text name same there = (
+  ap (λ b. let r : Result (Unit {0}) VaultFault = cond b (Ok tt) (Err fault.NoClerk) in r) there,
+  subst (λ n. (from to : Rows) → DropsClerk text from to → Keeps from c
+      → Keeps to (with_clerks (without_clerk n c.clerks) c)) same (keeps_dropped c text),
+)

@@ -1,6 +1,6 @@
 -- The words of specs/Frame: of a statement, of two parts, and of a call whole.
-use Rattle.std.specs.Prelude.{◌≡◌, ◌⊎◌, true, false, IsTrue, ⊤, OnOk, OnErr}
-use Rattle.std.proofs.Common.{inl, inr, Result, Ok, Err, subst, sym}
+use Rattle.std.specs.Prelude.{◌≡◌, ◌⊎◌, true, false, IsTrue, ⊤, OnOk, OnErr, IsErrAnd}
+use Rattle.std.proofs.Common.{inl, inr, Result, Ok, Err, refl, subst, sym}
 use Rattle.sqlite_trees.specs.Tree.{Trees}
 use Rattle.sqlite_trees.specs.declared.store.Store.{Ghosts}
 use Rattle.sqlite.specs.Held.{Held, state}
@@ -8,21 +8,22 @@ use Rattle.sqlite.specs.declared.error.Error.{Error}
 use Rattle.sqlite.specs.State.{State, HasCleanDisk, IsUnchanged, Shows, Survives}
 use Rattle.vault.specs.declared.fault.VaultFault.{VaultFault}
 use Rattle.vault.specs.Changes.{Contents}
+use Rattle.vault.specs.Calls.{IsDone}
 use Rattle.vault.specs.Stops.{IsOwn}
 use Rattle.mailsql.specs.Rows.{Rows, IsOurs, IsReady, HasTables, MayLeave, Changes, IsUndone}
-use Rattle.mailsql.specs.Rows.{IsHalted}
+use Rattle.mailsql.specs.Rows.{IsHalted, rows_in}
 use Rattle.sqlvault.specs.declared.refusal.Refusal.{Refusal}
 use Rattle.sqlvault.specs.declared.refusal.Refusal.TheVariants.{Answered, Met}
-use Rattle.sqlvault.specs.Refusals.{answer_of}
+use Rattle.sqlvault.specs.Refusals.{answer_of, fault_of}
 use Rattle.sqlvault.specs.Keeps.{Keeps}
 use Rattle.sqlvault.specs.Stands.{Holds, Leaves, Within, Halted, Ends}
-use Rattle.sqlvault.specs.Stops.{LeavesLast}
+use Rattle.sqlvault.specs.Stops.{LeavesLast, LeavesHeld, LeavesOr}
 use Rattle.sqlvault.specs.Frame.{IsOk, IsMet, MadeOr, Rests, Looks, Turns, Acts, Writes}
-use Rattle.sqlvault.proofs.HoldsLemmas.{holds_unchanged, holds_undone}
+use Rattle.sqlvault.proofs.HoldsLemmas.{holds_unchanged, holds_undone, holds_changed, refused}
 use Rattle.sqlvault.proofs.StayLemmas.{clean_before}
 use Rattle.sqlvault.proofs.StopLemmas.{not_own, or_said}
 use Rattle.sqlvault.proofs.WithinLemmas.{begun, leaves_on, makes, makes_after, step_ok, step_err}
-use Rattle.sqlvault.proofs.WithinLemmas.{part_err, ready}
+use Rattle.sqlvault.proofs.WithinLemmas.{part_err, ready, makes_none}
 
 -- the connection was clean before a statement
 pub was_clean : {S : Type 0} (store : Ghosts S) (old new : Held S) {P : Trees → Type 0}
@@ -64,6 +65,11 @@ failed store old new undone s = record {
   };
 }
 
+-- an error is not done
+pub not_ok : {A E : Type 0} (r : Result A E) (P : E → Type 0) → IsErrAnd r P → IsOk r → ⊥
+not_ok (Ok x) P failed own = absurd failed
+not_ok (Err e) P failed own = own
+
 -- two parts, of which the first has its answer
 pub looks_then : {S : Type 0} {Own : Type 0} {store : Ghosts S} {old mid new : Held S}
     → Looks store old mid ⊤ → Looks store mid new Own → Looks store old new Own
@@ -77,6 +83,14 @@ looks_then a b = record {
         up = λ up own. second.up (first.up up tt) own;
         stop = λ up left. second.stop (first.up up tt) (first.stop up left);
       };
+}
+
+-- no query yet: a loop begins so
+pub looks_self : {S : Type 0} {Own : Type 0} (store : Ghosts S) (conn : Held S)
+    → Looks store conn conn Own
+looks_self store conn = record {
+  clean = λ clean. clean;
+  rests = λ clean c h. record { held = h; up = λ up _. up; stop = λ _ left. left };
 }
 
 -- an answer that is own for less
@@ -149,6 +163,135 @@ rests_turns {store = store} {new = new} {Made = Made} Said Told c first second s
           (second.stop (first.up up tt) (first.stop up left));
     }
 
+-- a change, whose outcome is as well said so
+pub turns_said : {S : Type 0} {Own : Type 0} {store : Ghosts S} {old new : Held S}
+    {Done Made : (Contents → Type 0) → Type 0} (Said Told : (Contents → Type 0) → Type 0)
+    (c : Contents) → Turns store old new Own Done Made c
+    → ((Held : Contents → Type 0) → Done Held → Said Held)
+    → ((Held : Contents → Type 0) → Made Held → Told Held)
+    → Turns store old new Own Said Told c
+turns_said {store = store} {new = new} {Made = Made} Said Told c it say tell = record {
+  done = say (Holds (state store new)) it.done;
+  up = it.up;
+  stop = λ up left. or_said Made Told (state store new) c tell (it.stop up left);
+}
+
+-- a call that looked, and then changed records once or not at all
+pub looks_turns : {S A : Type 0} {Own : Type 0} {store : Ghosts S} {old mid new : Held S}
+    (Done : Contents → (Contents → Type 0) → Result A VaultFault → Type 0)
+    (answered : Result A VaultFault)
+    → Looks store old mid ⊤ → (HasCleanDisk (state store new) → HasCleanDisk (state store mid))
+    → (IsOwn answered → Own)
+    → (HasCleanDisk (state store new) → (c : Contents) → Holds (state store old) c
+    → Holds (state store mid) c
+    → Turns store mid new Own (λ Held. Done c Held answered)
+    (λ Held. (x : A) × Done c Held (Ok x)) c)
+    → Acts store old new Done answered
+looks_turns Done answered look was own turn = record {
+  clean = λ clean. look.clean (was clean);
+  turns = λ clean c h.
+      let first = look.rests (was clean) c h in
+      let second = turn clean c h first.held in
+      record {
+        done = second.done;
+        up = λ up is. second.up (first.up up tt) (own is);
+        stop = λ up left. second.stop (first.up up tt) (first.stop up left);
+      };
+}
+
+-- a call that met an error, and changed nothing
+pub met_whole : {S A : Type 0} {store : Ghosts S} {old new : Held S} (after : Contents → Contents)
+    (expected : Contents → Result A VaultFault) (e : Error) → Looks store old new ⊥
+    → Acts store old new (λ c Held answered. IsDone Held c (after c) (expected c) answered)
+    (Err (fault_of e))
+met_whole {S} {A} {store = store} {new = new} after expected e look =
+    looks_whole (λ c Held answered. IsDone Held c (after c) (expected c) answered)
+    (Err (fault_of e)) look (not_own A e)
+    (λ clean c h held. refused (Holds (state store new)) c (after c) (expected c) e held)
+
+-- ---- a statement outside a transaction, behind queries
+
+-- what is known before it: the connection is open, the call is answered so, and the change keeps
+-- the rows those of the contents after it
+abbrev pub MayChange : {S A : Type 0} (store : Ghosts S) (mid : Held S)
+    (Change : Rows → Rows → Type 0) (c after : Contents) (expected : Result A VaultFault) (x : A)
+    → Type 0
+MayChange store mid Change c after expected x =
+    IsTrue (state store mid).is_open × (expected ≡ Ok x)
+    × ((from to : Rows) → Change from to → Keeps from c → Keeps to after)
+
+-- where it was made or not, a stop leaves the one or the other
+changed_stops : {S A : Type 0} (store : Ghosts S) (mid new : Held S)
+    (Change : Rows → Rows → Type 0) (c after : Contents) (expected : Result A VaultFault) (x : A)
+    → Survives (state store mid) (state store new) (MayLeave Change (state store mid))
+    → MayChange store mid Change c after expected x
+    → HasCleanDisk (state store new) → Holds (state store mid) c
+    → IsTrue (state store mid).is_open → LeavesHeld (state store mid) c
+    → LeavesOr (state store new) c (λ Held. (y : A) × IsDone Held c after expected (Ok y))
+changed_stops store mid new Change c after expected x s may clean h up left db is =
+    elim (s.crash clean db is) [
+      | inl was ↦ inl (left db was)
+      | inr made ↦ inr (
+        x,
+        record {
+          answer = may.1;
+          held = may.2 (rows_in (state store mid).now.trees) (rows_in db)
+              (made (up, h.tables up)).1 (h.rows up);
+        },
+      )
+    ]
+
+-- it was done
+pub done_once : {S A : Type 0} {store : Ghosts S} {old mid new : Held S}
+    (Change : Rows → Rows → Type 0) (after : Contents → Contents)
+    (expected : Contents → Result A VaultFault) (x : A)
+    → Looks store old mid ⊤
+    → (HasCleanDisk (state store new) → IsReady (state store mid)
+    → Changes Change (state store mid) (state store new))
+    → Survives (state store mid) (state store new) (MayLeave Change (state store mid))
+    → (HasCleanDisk (state store mid) → (c : Contents) → Holds (state store old) c
+    → MayChange store mid Change c (after c) (expected c) x)
+    → Acts store old new (λ c Held answered. IsDone Held c (after c) (expected c) answered) (Ok x)
+done_once {S} {A} {store = store} {old = old} {mid = mid} {new = new} Change after expected x look
+    ok s may =
+    looks_turns {Own = ⊤} (λ c Held answered. IsDone Held c (after c) (expected c) answered) (Ok x)
+    look (was_clean store mid new s) (λ _. tt)
+    (λ clean c h held.
+    let it = may (was_clean store mid new s clean) c h in
+    let change = ok clean (it.0, held.tables it.0) in
+    record {
+      done = record {
+        answer = it.1;
+        held = holds_changed Change (state store mid) (state store new) c (after c) change it.2 held;
+      };
+      up = λ _ _. change.shown.is_open;
+      stop = changed_stops store mid new Change c (after c) (expected c) x s it clean held;
+    })
+
+-- it met an error
+pub met_once : {S A : Type 0} {store : Ghosts S} {old mid new : Held S}
+    (Change : Rows → Rows → Type 0) (after : Contents → Contents)
+    (expected : Contents → Result A VaultFault) (x : A) (e : Error)
+    → Looks store old mid ⊤
+    → (HasCleanDisk (state store new) → IsUndone (state store mid) (state store new))
+    → Survives (state store mid) (state store new) (MayLeave Change (state store mid))
+    → (HasCleanDisk (state store mid) → (c : Contents) → Holds (state store old) c
+    → MayChange store mid Change c (after c) (expected c) x)
+    → Acts store old new (λ c Held answered. IsDone Held c (after c) (expected c) answered)
+    (Err (fault_of e))
+met_once {S} {A} {store = store} {old = old} {mid = mid} {new = new} Change after expected x e look
+    err s may =
+    looks_turns {Own = ⊥} (λ c Held answered. IsDone Held c (after c) (expected c) answered)
+    (Err (fault_of e)) look (was_clean store mid new s) (not_own A e)
+    (λ clean c h held.
+    let it = may (was_clean store mid new s clean) c h in
+    record {
+      done = refused (Holds (state store new)) c (after c) (expected c) e
+          (holds_undone (state store mid) (state store new) c (err clean) held);
+      up = λ _ none. absurd none;
+      stop = changed_stops store mid new Change c (after c) (expected c) x s it clean held;
+    })
+
 -- ---- a part of a transaction
 
 -- one statement that was done
@@ -202,6 +345,45 @@ written store old new Change r ok err s = record {
   made = λ clean. makes Change Change (state store old) (state store new) r clean (ok clean)
       (err clean) s (λ from to same. same);
 }
+
+-- one statement, whose change is as well said so
+pub written_as : {S : Type 0} (store : Ghosts S) (old new : Held S)
+    (Change Said : Rows → Rows → Type 0) (r : Result (Unit {0}) Error)
+    → (HasCleanDisk (state store new) → IsReady (state store old)
+    → OnOk r (Changes Change (state store old) (state store new)))
+    → (HasCleanDisk (state store new) → OnErr r (IsUndone (state store old) (state store new)))
+    → Survives (state store old) (state store new) (MayLeave Change (state store old))
+    → ((from to : Rows) → Change from to → Said from to)
+    → Writes store old new (λ _. Said) r
+written_as store old new Change Said r ok err s say = record {
+  clean = was_clean store old new s;
+  made = λ clean. makes Change Said (state store old) (state store new) r clean (ok clean)
+      (err clean) s say;
+}
+
+-- no statement yet: a loop begins so
+pub writes_none : {S : Type 0} (store : Ghosts S) (conn : Held S) (Change : Rows → Rows → Type 0)
+    → ((rows : Rows) → Change rows rows)
+    → (let r : Result (Unit {0}) Error = Ok tt in Writes store conn conn (λ _. Change) r)
+writes_none store conn Change none = record {
+  clean = λ clean. clean;
+  made = λ clean base rows w. (rows, none rows, w);
+}
+
+-- an error that came before the first statement
+pub writes_nothing : {S A : Type 0} (store : Ghosts S) (conn : Held S)
+    (Change : A → Rows → Rows → Type 0) (r : Result A Error) (P : Error → Type 0) → IsErrAnd r P
+    → Writes store conn conn Change r
+writes_nothing store conn Change r P failed = record {
+  clean = λ clean. clean;
+  made = λ clean. makes_none Change (state store conn) r P failed;
+}
+
+-- an error is one in place of any change
+pub writes_failed : {S A B : Type 0} {store : Ghosts S} {old new : Held S}
+    {Change : A → Rows → Rows → Type 0} {Said : B → Rows → Rows → Type 0} {e : Error}
+    → Writes store old new Change (Err e) → Writes store old new Said (Err e)
+writes_failed it = record { clean = it.clean; made = λ clean. it.made clean }
 
 -- two parts, of which the first is done
 pub writes_then : {S A : Type 0} {store : Ghosts S} {old mid new : Held S}
@@ -282,6 +464,20 @@ undone_whole {store = store} {old = old} {first = first} {last = last} {new = ne
           (λ rows. Keeps rows c) (state store last) (state store new) clean s halted.1;
     }
 
+-- so the whole changed nothing
+pub looks_undone : {S A : Type 0} {store : Ghosts S} {old first last new : Held S}
+    {Change : A → Rows → Rows → Type 0} {e : Error} → Begins store old first
+    → Writes store first last Change (Err e)
+    → ((base : Contents) → HasCleanDisk (state store new) → Halted (state store last) base
+    → Holds (state store new) base) → Survives (state store last) (state store new) (λ _. ⊥)
+    → Looks store old new ⊥
+looks_undone {store = store} {old = old} {first = first} {last = last} {new = new} begins part back
+    s = record {
+      clean = λ clean. was_clean store old first begins.survives
+          (part.clean (was_clean store last new s clean));
+      rests = λ clean c h. undone_whole c begins part back s clean h;
+    }
+
 made_or : (Made : (Contents → Type 0) → Type 0) (s : State) (c after : Contents)
     (r : Result (Unit {0}) Error) → ((Held : Contents → Type 0) → Held after → Made Held)
     → Ends c after s r → MadeOr r Made c (Holds s)
@@ -322,4 +518,50 @@ ended_whole {store = store} {old = old} {first = first} {last = last} {new = new
       up = λ _ own. is_up (IsTrue (state store new).is_open) r own (up clean);
       stop = λ _ _. or_said
           (λ Held. Held k.0) Made (state store new) c k.2 (stop c k.0 made.0 clean made.2 k.1);
+    }
+
+-- the answer of a call by what its last part is answered
+abbrev pub met_as : Result (Unit {0}) Error → Result (Unit {0}) VaultFault
+met_as (Ok x) = Ok x
+met_as (Err e) = Err (fault_of e)
+
+own_ok : (r : Result (Unit {0}) Error) → IsOwn (met_as r) → IsOk r
+own_ok (Ok x) own = tt
+own_ok (Err e) own = absurd (not_own (Unit {0}) e own)
+
+met_done : (Held : Contents → Type 0) (c after : Contents) (r : Result (Unit {0}) Error)
+    → MadeOr r (λ H. H after) c Held → IsDone Held c after (Ok tt) (met_as r)
+met_done Held c after (Ok x) held = record { answer = refl; held = held }
+met_done Held c after (Err e) held = refused Held c after (Ok tt) e held
+
+-- a call that is one transaction, of which one part made the change
+pub commits_whole : {S A : Type 0} {store : Ghosts S} {old first last new : Held S}
+    {Change : A → Rows → Rows → Type 0} {x : A} (after : Contents → Contents)
+    (r : Result (Unit {0}) Error)
+    → Begins store old first → Writes store first last Change (Ok x)
+    → ((c : Contents) (from to : Rows) → Keeps from c → Change x from to → Keeps to (after c))
+    → (HasCleanDisk (state store new) → HasCleanDisk (state store last))
+    → ((base after : Contents) (rows : Rows) → HasCleanDisk (state store new)
+    → Within (state store last) base rows → Keeps rows after
+    → Ends base after (state store new) r)
+    → ((base after : Contents) (rows : Rows) → HasCleanDisk (state store new)
+    → Within (state store last) base rows → Keeps rows after → Leaves (state store new)
+    (λ left. Keeps left base ⊎ Keeps left after))
+    → (HasCleanDisk (state store new) → OnOk r (IsTrue (state store new).is_open))
+    → Acts store old new (λ c Held answered. IsDone Held c (after c) (Ok tt) answered) (met_as r)
+commits_whole {store = store} {old = old} {first = first} {new = new} after r begins part keeps was
+    ended stop up = record {
+      clean = λ clean. was_clean store old first begins.survives (part.clean (was clean));
+      turns = λ clean c h.
+          let it = ended_whole {new = new} (λ Held. Held (after c)) r c begins part
+          (λ from to kept change. (after c, keeps c from to kept change, λ Held held. held))
+          was ended stop up clean h in
+          record {
+            done = met_done (Holds (state store new)) c (after c) r it.done;
+            up = λ up own. it.up up (own_ok r own);
+            stop = λ up left. or_said (λ Held. Held (after c))
+                (λ Held. (y : Unit {0}) × IsDone Held c (after c) (Ok tt) (Ok y))
+                (state store new) c (λ Held held. (tt, record { answer = refl; held = held }))
+                (it.stop up left);
+          };
     }

@@ -1,11 +1,10 @@
 -- Groups as rows.
 use Rattle.std.proofs.Common.{◌≡◌, ℕ, zero, suc, ◌+◌, ◌<◌, ◌≤◌, ℤ, pos, negsuc, Bool, true, false, cond, List, [], ◌∷◌, ◌++◌, length, map, take, get_or, refl, sym, ap, ◌∙◌, arith, inl, inr, append_assoc, append-nil, SFits, w64, to_z, of_z, to_z-of_z}
-use Rattle.std.specs.Prelude.{filter, ◌&&◌, ◌+ℤ◌, fold}
+use Rattle.std.specs.Prelude.{filter, ◌+ℤ◌, fold}
 use Rattle.std.specs.List.{list_all}
-use Rattle.std.proofs.lemmas.Bool.{and_parts}
 use Rattle.std.proofs.lemmas.List.{map-append, take_more}
 use Rattle.creds.specs.Names.{is_name}
-use Rattle.policy.specs.Policy.{Group, is_sound_group, are_members}
+use Rattle.policy.specs.Policy.{Group, is_sound_group}
 use Rattle.vault.proofs.ListLemmas.{In, all_in, filter_in, map_in}
 use Rattle.mailsql.specs.declared.rows.Group as row
 use Rattle.mailsql.specs.declared.rows.Member.{Member}
@@ -188,15 +187,6 @@ pub name_at : (group : ℤ) (rows : List Member) (i : ℕ) (row : Member) → i 
 name_at group rows i row lt is e all =
     all_in is_name (member_names group rows) row.clerk all (map_in (λ (m : Member). m.clerk) (filter (is_member_of group) rows) row (filter_in (is_member_of group) rows row (at_in rows i row row lt is) e))
 
--- the names of a sound group are names
-pub group_names : (g : Group) → is_sound_group g ≡ true → (is_name g.name ≡ true) × (list_all is_name g.members ≡ true)
-group_names g sound = and_parts (is_name g.name) (list_all is_name g.members) (and_parts (is_name g.name && list_all is_name g.members) (are_members g.members) sound).0
-
 pub group_at : (members : List Member) (rows : List row.Group) (i : ℕ) (r : row.Group) → i < length rows → r ≡ get_or rows i r → list_all is_sound_group (map (group_in members) rows) ≡ true
     → is_sound_group (group_in members r) ≡ true
 group_at members rows i r lt is all = all_in is_sound_group (map (group_in members) rows) (group_in members r) all (map_in (group_in members) rows r (at_in rows i r r lt is))
-
-pub groups_next : (members : List Member) (rows : List row.Group) (items grown : List Group) (i : ℕ) (r : row.Group) (g : Group) → i < length rows → r ≡ get_or rows i r → g ≡ group_in members r
-    → grown ≡ items ++ g ∷ [] → items ≡ map (group_in members) (take i rows) → grown ≡ map (group_in members) (take (i + 1) rows)
-groups_next members rows items grown i r g lt is same grows held =
-    grows ∙ ap (λ x. items ++ x ∷ []) same ∙ ap (λ l. l ++ group_in members r ∷ []) held ∙ sym (map-append (group_in members) (take i rows) (r ∷ [])) ∙ ap (map (group_in members)) (sym (take_next rows i r lt is))

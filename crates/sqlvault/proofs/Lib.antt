@@ -19,8 +19,8 @@ pub mod RowFormLemmas
 pub mod NumberLemmas
 pub mod HasNumberLemmas
 pub mod AskedLemmas
-pub mod AfterLemmas
 pub mod AgreeLemmas
+pub mod AskLemmas
 pub mod StopLemmas
 pub mod StayLemmas
 pub mod PieceLemmas

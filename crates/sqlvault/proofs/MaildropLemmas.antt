@@ -8,14 +8,18 @@ use Rattle.creds.specs.Names.{is_name}
 use Rattle.vault.specs.declared.fault.VaultFault.TheVariants as fault
 use Rattle.vault.specs.declared.record.Message.{Message}
 use Rattle.vault.specs.Records.{Records, is_sound_message, is_one_of, most_maildrops}
-use Rattle.vault.specs.Changes.{Contents, AreSound, records_of, without_maildrop, with_maildrops, kept_in}
-use Rattle.vault.specs.Calls.{IsMaildropAdded, IsMaildropDropped, present_in}
+use Rattle.vault.specs.Changes.{Contents, AreSound, records_of, with_maildrop, without_maildrop, with_maildrops, kept_in}
+use Rattle.vault.specs.Changes.{put_maildrop_answer, drop_answer}
+use Rattle.vault.specs.Calls.{IsMaildropAdded, IsMaildropDropped, put_result, drop_result, present_in}
 use Rattle.vault.proofs.ListLemmas.{all_last, all_weaker, all_filter, distinct_last, distinct_filter, filter_fits, filter_in, found, any_of, any_in, any_front, none_kept, not_false, bytes_are, In, filter-map, length-map}
 use Rattle.vault.proofs.TotalLemmas.{present_is}
-use Rattle.mailsql.specs.Rows.{Rows, has_name, is_in}
+use Rattle.sqlite.specs.State.{State, IsUnchanged}
+use Rattle.mailsql.specs.Rows.{Rows, rows_in, has_name, is_in}
 use Rattle.mailsql.specs.declared.rows.Message as row
 use Rattle.mailsql.specs.Changes.{AddsMaildrop, DropsMaildrop}
 use Rattle.sqlvault.specs.Keeps.{Keeps, message_row}
+use Rattle.sqlvault.specs.Stands.{Holds}
+use Rattle.sqlvault.proofs.HoldsLemmas.{seen}
 
 -- ---- sound contents with other maildrops
 
@@ -143,10 +147,6 @@ pub full : (Held : Contents → Type 0) (c : Contents) (name : List ℕ) → is_
     → IsMaildropAdded Held c name (Err fault.Full)
 full Held c name e most h = let f = no_room most_maildrops (length c.maildrops) most in record { answer = rw (e, f) refl; held = h }
 
-pub added : (Held : Contents → Type 0) (c : Contents) (name : List ℕ) → is_one_of name c.maildrops ≡ false → length c.maildrops < most_maildrops
-    → Held (with_maildrops (c.maildrops ++ name ∷ []) c) → IsMaildropAdded Held c name (Ok true)
-added Held c name e fits h = let f = room most_maildrops (length c.maildrops) fits in record { answer = rw (e, f) refl; held = rw e h }
-
 pub not_empty : (Held : Contents → Type 0) (c : Contents) (name : List ℕ) → is_one_of name c.maildrops ≡ true → 0 < present_in name c → Held c
     → IsMaildropDropped Held c name (Err fault.NotEmpty)
 not_empty Held c name e some h = let f = some_left (present_in name c) some in record { answer = rw (e, f) refl; held = h }
@@ -154,6 +154,52 @@ not_empty Held c name e some h = let f = some_left (present_in name c) some in r
     some_left : (n : ℕ) → 0 < n → (n == 0) ≡ false
     some_left n h = grind (arith, nat_tests)
 
-pub dropped : (Held : Contents → Type 0) (c : Contents) (name : List ℕ) → is_one_of name c.maildrops ≡ true → present_in name c ≡ 0
-    → Held (with_maildrops (without_maildrop name c.maildrops) c) → IsMaildropDropped Held c name (Ok tt)
-dropped Held c name e none h = record { answer = rw (e, none) refl; held = h }
+-- ---- what queries told, by the name's text
+
+pub told_there : (old new : State) (c : Contents) (text name : List ℕ) (b is : Bool)
+    → text ≡ name → Holds old c → IsUnchanged old new
+    → b ≡ has_name text (rows_in old.now.trees).maildrops → b ≡ is
+    → is_one_of name c.maildrops ≡ is
+told_there old new c text name b is same h unchanged ok test =
+    subst (λ n. is_one_of n c.maildrops ≡ is) same
+    (sym (there_is (rows_in old.now.trees) c text (seen old new c unchanged h)) ∙ sym ok ∙ test)
+
+pub told_count : (old new : State) (c : Contents) (n most : ℕ) → Holds old c
+    → IsUnchanged old new → n ≡ min (length (rows_in old.now.trees).maildrops) most
+    → n ≡ min (length c.maildrops) most
+told_count old new c n most h unchanged ok =
+    count_is (rows_in old.now.trees) c n most (seen old new c unchanged h) ok
+
+pub told_present : (old new : State) (c : Contents) (text name : List ℕ) (n most : ℕ)
+    → text ≡ name → Holds old c → IsUnchanged old new
+    → n ≡ min (length (filter (is_in text) (rows_in old.now.trees).messages)) most
+    → n ≡ min (present_in name c) most
+told_present old new c text name n most same h unchanged ok =
+    subst (λ d. n ≡ min (present_in d c) most) same
+    (present_rows (rows_in old.now.trees) c text n most (seen old new c unchanged h) ok)
+
+-- a new name with room for it can be added
+pub may_add : (c : Contents) (text name : List ℕ) → text ≡ name → is_name name ≡ true
+    → is_one_of name c.maildrops ≡ false → length c.maildrops < most_maildrops
+    → (put_result (put_maildrop_answer name c.maildrops) ≡ Ok true)
+    × ((from to : Rows) → AddsMaildrop text from to → Keeps from c
+    → Keeps to (with_maildrops (with_maildrop name c.maildrops) c))
+may_add c text name same form new fits = (
+  let f = room most_maildrops (length c.maildrops) fits in rw (new, f) refl,
+  subst (λ t. (from to : Rows) → AddsMaildrop t from to → Keeps from c
+      → Keeps to (with_maildrops (with_maildrop name c.maildrops) c)) (sym same)
+      (λ from to change k. rw new (keeps_added c name form new fits from to change k)),
+)
+
+-- an empty maildrop can be dropped
+pub may_drop : (c : Contents) (text name : List ℕ) → text ≡ name
+    → is_one_of name c.maildrops ≡ true → present_in name c ≡ 0
+    → (drop_result (drop_answer (is_one_of name c.maildrops) (present_in name c)) ≡ Ok tt)
+    × ((from to : Rows) → DropsMaildrop text from to → Keeps from c
+    → Keeps to (with_maildrops (without_maildrop name c.maildrops) c))
+may_drop c text name same there empty = (
+  rw (there, empty) refl,
+  subst (λ t. (from to : Rows) → DropsMaildrop t from to → Keeps from c
+      → Keeps to (with_maildrops (without_maildrop name c.maildrops) c)) (sym same)
+      (keeps_dropped c name empty),
+)

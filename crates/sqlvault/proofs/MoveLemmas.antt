@@ -81,11 +81,6 @@ pub then_part : (First Then Both : Rows → Rows → Type 0) (a b c : State) (r 
 then_part First Then Both a b c (Ok x) both p q = part_then First Then Both a b c both p q
 then_part First Then Both a b c (Err e) both p q = halts_behind First a b c p q
 
--- said otherwise
-pub part_so : (First Then : Rows → Rows → Type 0) (a b : State) (r : Result (Unit {0}) Error) → (First (rows_in a.now.trees) (rows_in b.now.trees) → Then (rows_in a.now.trees) (rows_in b.now.trees)) → Part First a b r → Part Then a b r
-part_so First Then a b (Ok x) so p = record { on = p.on; tables = p.tables; change = so p.change; stop = p.stop }
-part_so First Then a b (Err e) so p = p
-
 -- ---- messages of version 1
 
 -- a message's row, and then its sheets

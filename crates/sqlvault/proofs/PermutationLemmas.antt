@@ -1,5 +1,5 @@
 -- Lists in another order: what is chosen of them, what is found in them, and what some element or each of them passes.
-use Rattle.std.proofs.Common.{◌≡◌, ◌≤◌, Bool, true, false, not, ◌&&◌, ◌||◌, List, [], ◌∷◌, length, cond, refl, sym, ap, ◌∙◌, arith, true≢false, ⊎_elim}
+use Rattle.std.proofs.Common.{◌≡◌, ◌≤◌, Bool, true, false, not, ◌&&◌, List, [], ◌∷◌, length, cond, refl, sym, ap, ◌∙◌, arith, true≢false, ⊎_elim}
 use Rattle.std.specs.Prelude.{filter, map, find, slice_get, Option, Some}
 use Rattle.std.specs.Option.{option_map}
 use Rattle.std.specs.List.{list_any, list_all}
@@ -27,16 +27,6 @@ short_permuted (x ∷ y ∷ xs) ys h short = absurd (omega (arith, short))
 pub find_permuted : {X : Type 0} (p : X → Bool) (xs ys : List X) → IsPermutation xs ys → length (filter p xs) ≤ 1 → find p xs ≡ find p ys
 find_permuted p xs ys h short =
     sym (slice_get-filter p xs) ∙ ap (λ zs. slice_get zs 0) (short_permuted (filter p xs) (filter p ys) (filter_permuted p xs ys h) short) ∙ slice_get-filter p ys
-
--- some element passes in the one order as in the other
-pub any_permuted : {X : Type 0} (p : X → Bool) (xs ys : List X) → IsPermutation xs ys → list_any p xs ≡ list_any p ys
-any_permuted p = along_permutation (λ xs ys. list_any p xs ≡ list_any p ys) (λ xs. refl) (λ x xs ys h. ap (λ b. p x || b) h)
-    (λ x y xs. turned (p x) (p y) (list_any p xs)) (λ xs ys zs h k. h ∙ k)
-  where
-    turned : (a b c : Bool) → (a || (b || c)) ≡ (b || (a || c))
-    turned true true c = refl
-    turned true false c = refl
-    turned false b c = refl
 
 -- so it is with each element
 pub all_permuted : {X : Type 0} (p : X → Bool) (xs ys : List X) → IsPermutation xs ys → list_all p xs ≡ list_all p ys

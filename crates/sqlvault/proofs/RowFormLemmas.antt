@@ -73,9 +73,6 @@ int_same x y e = at (int_cmp x y) (int_ranks x y) e
     at Equal m e = m
     at Greater m e = absurd (true≢false (sym e))
 
-eq_of : (m n : ℕ) → (m == n) ≡ true → m ≡ n
-eq_of m n h = grind (arith, nat_tests)
-
 -- the credential of a row
 credential_is : (row : Clerk) → is_credential_row row ≡ true → (given : Credential) × (row.kind ≡ kind_of given) × (row.secret ≡ secret_of given) × (is_sound_credential given ≡ true)
 credential_is row e =

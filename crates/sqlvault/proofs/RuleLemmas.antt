@@ -175,10 +175,6 @@ row_at rows rs i row lt is same =
 
 -- ---- the policy that is held
 
--- the policy of held contents is sound, and its rules are the rows'
-pub held_rules : (rows : Rows) (c : Contents) → Keeps rows c → map (at_place (pos 0)) rows.rules ≡ map (rule_row (pos 0)) c.policy.rules
-held_rules rows c keeps = keeps.rules
-
 -- sound records under another sound policy
 sound_set : (p : Policy) (c : Contents) → is_sound_policy p ≡ true → AreSound c → AreSound (with_policy p c)
 sound_set p c ok s =

@@ -1,13 +1,11 @@
 -- Where a connection stands after several queries.
-use Rattle.std.proofs.Common.{◌≡◌, ◌⊎◌, inl, inr, refl, sym, ap, subst, ◌∙◌, ◌≤◌, arith, Result, Ok, Err}
-use Rattle.std.specs.Prelude.{IsErrAnd}
-use Rattle.sqlite.specs.declared.error.Error.{Error}
+use Rattle.std.proofs.Common.{◌≡◌, ◌⊎◌, inl, inr, refl, sym, ap, subst, ◌∙◌, ◌≤◌, arith}
 use Rattle.sqlite_trees.specs.View.{doubt}
 use Rattle.sqlite.specs.Effect.{Database}
 use Rattle.sqlite.specs.State.{State, HasCleanDisk, IsUnchanged, IsRolledBack, Survives}
 use Rattle.mailsql.specs.Rows.{rows_in, IsOurs, IsKept, IsReady, HasTables, IsUndone}
 use Rattle.sqlvault.specs.Stands.{LeavesNoMore}
-use Rattle.sqlvault.specs.Stored.{Stays, Goes}
+use Rattle.sqlvault.specs.Stored.{Stays}
 
 -- after one that changed nothing
 pub stays_unchanged : (old new : State) → IsUnchanged old new → Stays old new
@@ -58,11 +56,6 @@ or_back_after old mid new a (inr back) = inr (record {
   counts = record { changes = back.counts.changes ∙ a.counts.changes; last_rowid = back.counts.last_rowid ∙ a.counts.last_rowid };
 })
 
--- an error that is passed on
-pub goes_passed : {A : Type 0} (old new : State) (r : Result A Error) (e : Error) → IsErrAnd r (λ y. y ≡ e) → Stays old new ⊎ IsRolledBack old new → Goes old new r
-goes_passed old new (Ok x) e passed went = absurd passed
-goes_passed old new (Err y) e passed went = went
-
 pub tables_stay : (old new : State) → Stays old new → HasTables old → HasTables new
 tables_stay old new a h = λ o. subst IsKept (sym a.now_is) (h (a.was_open o))
 
@@ -109,8 +102,3 @@ undone_stays old mid new a (inr back) = inr (record {
   unmarked = back.unmarked;
   counts = record { changes = back.counts.changes ∙ a.1.changes; last_rowid = back.counts.last_rowid ∙ a.1.last_rowid };
 })
-
--- a result that is passed on, behind tests
-pub goes_either : {A : Type 0} (old new : State) (r : Result A Error) → Stays old new → Goes old new r
-goes_either old new (Ok x) y = y
-goes_either old new (Err e) y = inl y

@@ -36,10 +36,6 @@ changed Change After old new c law clean s up keeps h db may = elim (s.crash cle
   | inr made ↦ inr (keeps (rows_in old.now.trees) (rows_in db) (made (up, h.tables up)).1 (h.rows up))
 ]
 
--- what is left as before is one of the two
-pub before_or : (After : (Contents → Type 0) → Type 0) (s : State) (c : Contents) → LeavesHeld s c → LeavesOr s c After
-before_or After s c left db may = inl (left db may)
-
 -- and what comes of a call may be said in other words
 pub or_said : (After Said : (Contents → Type 0) → Type 0) (s : State) (c : Contents) → ((Held : Contents → Type 0) → After Held → Said Held) → LeavesOr s c After → LeavesOr s c Said
 or_said After Said s c say left db may = elim (left db may) [ inl was ↦ inl was | inr made ↦ inr (say (Keeps (rows_in db)) made) ]
@@ -84,15 +80,6 @@ pub looked_as : {S : Type 0} (g : Ghosts S) (old was new now : Conn S) (c left :
 looked_as {S} g old was new now c left e f stop clean up h may =
     left_as (state g now) c left
     (stop c (subst (λ (x : Conn S). HasCleanDisk (state g x)) f clean) (subst (λ (x : Conn S). IsTrue (state g x).is_open) (sym e) up) (subst (λ (x : Conn S). Holds (state g x) c) (sym e) h))
-    (subst (λ (x : Conn S). MayHold (state g x) left) f may)
-
-pub done_as : {A S : Type 0} (g : Ghosts S) (expected : Result A VaultFault) (old was new now : Conn S) (c after left : Contents) → was ≡ old → new ≡ now
-    → (HasCleanDisk (state g now) → IsTrue (state g was).is_open → Holds (state g was) c → LeavesOr (state g now) c (λ Held. (x : A) × IsDone Held c after expected (Ok x)))
-    → HasCleanDisk (state g new) → IsTrue (state g old).is_open → Holds (state g old) c → MayHold (state g new) left
-    → SaySame left c ⊎ ((x : A) × IsDone (SaySame left) c after expected (Ok x))
-done_as {A} {S} g expected old was new now c after left e f stop clean up h may =
-    left_done expected (state g now) c after left
-    (stop (subst (λ (x : Conn S). HasCleanDisk (state g x)) f clean) (subst (λ (x : Conn S). IsTrue (state g x).is_open) (sym e) up) (subst (λ (x : Conn S). Holds (state g x) c) (sym e) h))
     (subst (λ (x : Conn S). MayHold (state g x) left) f may)
 
 pub done_told : {A S : Type 0} (g : Ghosts S) (expected : Result A VaultFault) (old was new now : Conn S) (c after : Contents) (r said : Result A VaultFault) → was ≡ old → new ≡ now → r ≡ said

@@ -1,20 +1,22 @@
 -- What a part of a call does to the connection, whatever it answers, in one word: it only looks
 -- (`Looks`), it changes records once, as a whole call (`Acts`) or as a part of one (`Turns`), or it
 -- is a part of a transaction (`Writes`). Two parts compose: `looks_then`, `rests_turns` and
--- `writes_then` of proofs/FrameLemmas.
-use Rattle.std.specs.Prelude.{IsTrue, ⊤, Result, Ok, Err}
+-- `writes_then` of proofs/FrameLemmas. Of rows that may be no contents there are
+-- `Asks` and `Reads`.
+use Rattle.std.specs.Prelude.{IsTrue, ⊤, Result, Ok, Err, OnOk, OnErr}
 use Rattle.sqlite_trees.specs.declared.store.Store.{Ghosts}
 use Rattle.sqlite.specs.Held.{Held, state}
 use Rattle.sqlite.specs.declared.error.Error.{Error}
-use Rattle.sqlite.specs.State.{HasCleanDisk}
+use Rattle.sqlite.specs.State.{HasCleanDisk, IsUnchanged}
 use Rattle.vault.specs.declared.fault.VaultFault.{VaultFault}
 use Rattle.vault.specs.Changes.{Contents}
 use Rattle.vault.specs.Stops.{IsOwn}
 use Rattle.sqlvault.specs.declared.refusal.Refusal.{Refusal}
 use Rattle.sqlvault.specs.declared.refusal.Refusal.TheVariants.{Answered, Met}
-use Rattle.mailsql.specs.Rows.{Rows}
-use Rattle.sqlvault.specs.Stands.{Holds, WasClean, Makes}
+use Rattle.mailsql.specs.Rows.{Rows, HasTables, IsReady, IsUndone}
+use Rattle.sqlvault.specs.Stands.{Holds, WasClean, Makes, LeavesNoMore}
 use Rattle.sqlvault.specs.Stops.{LeavesHeld, LeavesOr}
+use Rattle.sqlvault.specs.Stored.{Goes}
 
 -- it is done: no error came
 abbrev pub IsOk : {A E : Type 0} → Result A E → Type 0
@@ -74,3 +76,31 @@ module _ {S : Type 0} (store : Ghosts S) (old new : Held S) where
     pub clean : WasClean (state store old) (state store new)
     pub made : HasCleanDisk (state store new)
         → Makes Change (state store old) (state store new) result
+
+  -- Queries of rows that may be no contents. A connection that is clean at their end was clean
+  -- before. Where our tables are there, it is as it was; after an error its transaction may be gone.
+  -- A stop leaves no more than before.
+  pub record Asks {A E : Type 0} (result : Result A E) : Type 0 where
+    pub clean : WasClean (state store old) (state store new)
+    pub same : HasCleanDisk (state store new) → HasTables (state store old)
+        → OnOk result (IsUnchanged (state store old) (state store new))
+    pub err : HasCleanDisk (state store new) → HasTables (state store old)
+        → OnErr result (IsUndone (state store old) (state store new))
+    pub stop : HasCleanDisk (state store new) → IsReady (state store old)
+        → LeavesNoMore (state store old) (state store new)
+
+  -- A part of such queries, which may be none. A connection that is clean at its end was clean
+  -- before; where our tables are there it sees what it saw, or after an error its transaction may be
+  -- gone. A stop leaves no more than before.
+  pub record Reads {A : Type 0} (result : Result A Error) : Type 0 where
+    pub clean : WasClean (state store old) (state store new)
+    pub goes : HasCleanDisk (state store new) → HasTables (state store old)
+        → Goes (state store old) (state store new) result
+    pub stop : HasCleanDisk (state store new) → IsReady (state store old)
+        → LeavesNoMore (state store old) (state store new)
+
+-- a change whose end is known: the contents are `after` where it is done, and else what they were
+abbrev pub Becomes : {S A E : Type 0} → Ghosts S → (old new : Held S) → Result A E
+    → (after c : Contents) → Type 0
+Becomes store old new result after c =
+    Turns store old new (IsOk result) (MadeOr result (λ Held. Held after) c) (λ Held. Held after) c

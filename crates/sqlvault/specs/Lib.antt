@@ -1,5 +1,6 @@
 pub mod Frame
 pub mod Keeps
+pub mod Clerks
 pub mod Parts
 pub mod Adopts
 pub mod Stands

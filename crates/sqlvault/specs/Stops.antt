@@ -1,8 +1,7 @@
 -- What a stop may leave of a store over tables, after a call and after a part of one.
-use Rattle.std.specs.Prelude.{◌≡◌, ◌⊎◌, IsTrue, Result, Ok, OnOk}
+use Rattle.std.specs.Prelude.{◌≡◌, ◌⊎◌, IsTrue, Result}
 use Rattle.std.proofs.Common.{sym, ap, subst, ◌∙◌}
 use Rattle.sqlite_trees.specs.Tree.{Trees}
-use Rattle.sqlite.specs.declared.error.Error.{Error}
 use Rattle.sqlite.specs.Effect.{Database}
 use Rattle.sqlite.specs.State.{State, HasCleanDisk}
 use Rattle.vault.specs.declared.fault.VaultFault.{VaultFault}
@@ -28,14 +27,6 @@ LeavesOr s c After = Leaves s (λ rows. Keeps rows c ⊎ After (Keeps rows))
 -- a part that only looks: a stop leaves what was held
 abbrev pub StopsBefore : State → State → Type 0
 StopsBefore old new = (c : Contents) → HasCleanDisk new → IsTrue old.is_open → Holds old c → LeavesHeld new c
-
--- a call that changes records: a stop leaves what was held, or what the call makes of it
-abbrev pub StopsEither : {A : Type 0} → State → State → (Contents → (Contents → Type 0) → Result A VaultFault → Type 0) → Type 0
-StopsEither {A} old new Done = (c : Contents) → HasCleanDisk new → IsTrue old.is_open → Holds old c → LeavesOr new c (λ Held. (x : A) × Done c Held (Ok x))
-
--- the connection stays open where the part is done
-abbrev pub IsOpenAfter : {A : Type 0} → State → State → Result A Error → Type 0
-IsOpenAfter old new result = (c : Contents) → HasCleanDisk new → IsTrue old.is_open → Holds old c → OnOk result (IsTrue new.is_open)
 
 -- the connection stays open after an answer of the call's own
 abbrev pub StaysOpen : {A : Type 0} → State → State → Result A VaultFault → Type 0

@@ -1,10 +1,11 @@
 //! Adopting a connection: its tables are made, carried over or checked.
 ghost use Rattle.std.specs.Prelude.{◌≡◌, true, false, IsTrue, IfOk, IfErr, OnOk, OnErr, Err, [], ◌∷◌};
 ghost use Rattle.sqlite.specs.Held.{state};
-ghost use Rattle.sqlite.specs.State.{HasCleanDisk, IsUnchanged};
+ghost use Rattle.sqlite.specs.State.{HasCleanDisk};
 ghost use Rattle.vault.specs.Plain.{no_contents};
 ghost use Rattle.mailsql.specs.Uses.{marked};
-ghost use Rattle.mailsql.specs.Rows.{HasTables, IsReady, IsUndone, IsHalted, IsBegun, GoesOn, rows_in, IsKept};
+ghost use Rattle.mailsql.specs.Rows.{HasTables, IsReady, IsHalted, IsBegun, GoesOn, rows_in, IsKept};
+ghost use Rattle.sqlvault.specs.Frame.{Asks};
 ghost use Rattle.sqlvault.specs.Keeps.{Keeps, our_mark, version};
 ghost use Rattle.sqlvault.specs.Parts.{Finds};
 ghost use Rattle.sqlvault.specs.Adopts.{Adopts, IsBlank, IsKnown, StaysAs, LeavesEmptyToo, IsAdoptFault, IsMarked, IsOfUnknownVersion, IsVersionRefused};
@@ -70,11 +71,8 @@ fn make<S: Alter>(conn: &mut Connection<S>) -> Result<(), Error>
 /// another version, `NotOurs` where it is missing or not alone. Nothing is changed.
 fn judge_marks<S: Alter>(alloc: Global, conn: &mut Connection<S>) -> Result<(), Refusal>
     ensures judged { HasCleanDisk (state S.Store conn.new) → HasTables (state S.Store conn.old) → IsMarked (rows_in (state S.Store conn.old).now.trees) (answer_of result) }
-    ensures same { HasCleanDisk (state S.Store conn.new) → HasTables (state S.Store conn.old) → OnOk result (IsUnchanged (state S.Store conn.old) (state S.Store conn.new)) }
-    ensures err { HasCleanDisk (state S.Store conn.new) → HasTables (state S.Store conn.old) → OnErr result (IsUndone (state S.Store conn.old) (state S.Store conn.new)) }
-    ensures stop { HasCleanDisk (state S.Store conn.new) → IsReady (state S.Store conn.old) → LeavesNoMore (state S.Store conn.old) (state S.Store conn.new) }
+    ensures asks { Asks S.Store conn.old conn.new result }
     ensures kinds { IfErr result (λ refusal. IsAdoptFault (told refusal)) }
-    ensures clean { WasClean (state S.Store conn.old) (state S.Store conn.new) }
     ensures unknown { HasCleanDisk (state S.Store conn.new) → IsOfUnknownVersion (state S.Store conn.old) → (IsTrue (state S.Store conn.old).is_open → (state S.Store conn.old).now ≡ (state S.Store conn.old).committed) → IsVersionRefused (state S.Store conn.old) (state S.Store conn.new) (answer_of result) }
 {
     match meta::find_mark(alloc, conn, b"popbox") {
@@ -105,10 +103,7 @@ pub(crate) fn are_rows_sound<S: Alter>(
 ) -> Result<bool, Error>
     ensures judged { HasCleanDisk (state S.Store conn.new) → HasTables (state S.Store conn.old) → (rows_in (state S.Store conn.old).now.trees).marks ≡ our_mark ∷ []
         → IfOk result (Finds (Keeps (rows_in (state S.Store conn.old).now.trees))) }
-    ensures same { HasCleanDisk (state S.Store conn.new) → HasTables (state S.Store conn.old) → OnOk result (IsUnchanged (state S.Store conn.old) (state S.Store conn.new)) }
-    ensures err { HasCleanDisk (state S.Store conn.new) → HasTables (state S.Store conn.old) → OnErr result (IsUndone (state S.Store conn.old) (state S.Store conn.new)) }
-    ensures stop { HasCleanDisk (state S.Store conn.new) → IsReady (state S.Store conn.old) → LeavesNoMore (state S.Store conn.old) (state S.Store conn.new) }
-    ensures clean { WasClean (state S.Store conn.old) (state S.Store conn.new) }
+    ensures asks { Asks S.Store conn.old conn.new result }
 {
     keys_hold(conn);
     match are_clerks_sound(alloc, conn) {

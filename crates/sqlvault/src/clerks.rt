@@ -1,29 +1,31 @@
 //! The clerks.
-ghost use Rattle.std.specs.Prelude.{◌≡◌, length, true, is_some, Some, IfOk, OnOk, OnErr, IsTrue};
+ghost use Rattle.std.specs.Prelude.{◌≡◌, length, map, true, is_some, Some, IfOk, OnOk, IsTrue};
+ghost use Rattle.std.specs.List.{list_all};
 ghost use Rattle.sqlite.specs.Held.{state};
-ghost use Rattle.sqlite.specs.State.{HasCleanDisk, IsUnchanged};
-ghost use Rattle.creds.specs.Names.{is_name};
+ghost use Rattle.sqlite.specs.State.{HasCleanDisk};
+ghost use Rattle.creds.specs.Names.{is_name, by_name};
 ghost use Rattle.vault.specs.declared.record.Clerk as vault;
 ghost use Rattle.vault.specs.Records.{is_sound_credential, credential_in};
 ghost use Rattle.vault.specs.Changes.{Contents, put_clerk_answer};
-ghost use Rattle.vault.specs.Calls.{IsAnswer, put_result, IsCredential, IsClerkPut, IsClerkDropped};
+ghost use Rattle.vault.specs.Calls.{IsAnswer, seen_as, put_result, IsCredential, IsClerkPut, IsClerkDropped};
 ghost use Rattle.mailsql.specs.Rows as tables;
 ghost use Rattle.mailsql.specs.Changes as changes;
+ghost use Rattle.sqlvault.specs.Clerks.{row_name, row_of, AreClerks};
 ghost use Rattle.sqlvault.specs.Keeps.{Keeps, kind_of, secret_of, clerk_row};
 ghost use Rattle.sqlvault.specs.Refusals.{answer_of};
 ghost use Rattle.sqlvault.specs.RowForms.{is_credential_row};
-ghost use Rattle.sqlvault.specs.Frame.{IsMet, Looks};
-ghost use Rattle.sqlvault.specs.Stands.{Holds, WasClean, Ends};
-ghost use Rattle.sqlvault.specs.Stops.{LeavesOr, StopsBefore, StopsEither, IsOpenAfter, StaysOpen};
+ghost use Rattle.sqlvault.specs.Frame.{IsOk, IsMet, Looks, Acts, Becomes};
+ghost use Rattle.sqlvault.specs.Stands.{Holds, WasClean};
 
 use crate::refusal::{Refusal, unreadable};
+use crate::totals::push_name;
 use crate::transaction::{end, undo};
 use creds::{Credential, Name, Secret};
 use mailsql::rows::Clerk;
 use mailsql::{clerks, mode};
 use sqlite::{Alter, Connection, Error};
 use std::alloc::Global;
-use vault::VaultFault;
+use vault::{VaultFault, in_order};
 
 /// The greatest number of clerks.
 pub(crate) const MAX_CLERKS: u64 = 1000;
@@ -110,13 +112,54 @@ pub(crate) fn find_credential<S: Alter>(
     }
 }
 
+/// The names in the rows, in the order of the rows.
+fn row_names(alloc: Global, rows: &[Clerk]) -> Result<Vec<Name>, Error>
+    ensures { list_all is_name (map row_name rows.now) ≡ true
+        → IfOk result (λ names. names.items ≡ map row_name rows.now) }
+{
+    let mut names = Vec::new(alloc);
+    for row in rows {
+        push_name(&mut names, &row.name)?;
+    }
+    Ok(names)
+}
+
+/// The names in the rows, in the order of their octets.
+fn sorted_names(alloc: Global, rows: &[Clerk]) -> Result<Vec<Name>, Error>
+    ensures { list_all is_name (map row_name rows.now) ≡ true
+        → IfOk result (λ names. names.items ≡ by_name (map row_name rows.now)) }
+{
+    let names = row_names(alloc, rows)?;
+    Ok(in_order(alloc, &names)?)
+}
+
+/// The names of the clerks, in the order of their octets. Nothing is changed.
+///
+/// An `Err` is the error that the query met.
+pub(crate) fn clerk_names<S: Alter>(
+    alloc: Global,
+    conn: &mut Connection<S>,
+) -> Result<Vec<Name>, Refusal>
+    ensures done { (c : Contents) → HasCleanDisk (state S.Store conn.new)
+        → Holds (state S.Store conn.old) c → AreClerks (Holds (state S.Store conn.new)) c
+        (seen_as (answer_of result) (λ v. v.items)) }
+    ensures looks { Looks S.Store conn.old conn.new (IsMet result) }
+{
+    match clerks::all_clerks(alloc, conn) {
+        Ok(rows) => match sorted_names(alloc, rows.as_slice()) {
+            Ok(names) => Ok(names),
+            Err(error) => Err(Refusal::Met(error)),
+        },
+        Err(error) => Err(Refusal::Met(error)),
+    }
+}
+
 /// Whether there is a clerk of that name.
 fn has_clerk<S: Alter>(alloc: Global, conn: &mut Connection<S>, clerk: &Name) -> Result<bool, Error>
     ensures there { (c : Contents) → HasCleanDisk (state S.Store conn.new) → Holds (state S.Store conn.old) c → IfOk result (λ there. there ≡ is_some (credential_in clerk.now c.clerks)) }
-    ensures same { HasCleanDisk (state S.Store conn.new) → tables.HasTables (state S.Store conn.old) → OnOk result (IsUnchanged (state S.Store conn.old) (state S.Store conn.new)) }
-    ensures err { HasCleanDisk (state S.Store conn.new) → tables.HasTables (state S.Store conn.old) → OnErr result (tables.IsUndone (state S.Store conn.old) (state S.Store conn.new)) }
-    ensures clean { WasClean (state S.Store conn.old) (state S.Store conn.new) }
-    ensures stop { StopsBefore (state S.Store conn.old) (state S.Store conn.new) }
+    ensures open { (c : Contents) → HasCleanDisk (state S.Store conn.new)
+        → Holds (state S.Store conn.old) c → OnOk result (IsTrue (state S.Store conn.new).is_open) }
+    ensures looks { Looks S.Store conn.old conn.new (IsOk result) }
 {
     match clerks::find_clerk(alloc, conn, clerk.as_bytes()) {
         Ok(found) => Ok(found.is_some()),
@@ -131,13 +174,11 @@ fn write_clerk<S: Alter>(
     clerk: &Name,
     credential: &Credential,
 ) -> Result<(), Error>
-    ensures written { (c after : Contents) → HasCleanDisk (state S.Store conn.new) → Holds (state S.Store conn.old) c
-        → ((from to : tables.Rows) → changes.PutsClerk (clerk_row (record { name = clerk.now; credential = credential.now })) from to → Keeps from c → Keeps to after)
-        → Ends c after (state S.Store conn.new) result }
-    ensures up { IsOpenAfter (state S.Store conn.old) (state S.Store conn.new) result }
-    ensures stop { (c after : Contents) → HasCleanDisk (state S.Store conn.new) → IsTrue (state S.Store conn.old).is_open → Holds (state S.Store conn.old) c
-        → ((from to : tables.Rows) → changes.PutsClerk (clerk_row (record { name = clerk.now; credential = credential.now })) from to → Keeps from c → Keeps to after)
-        → LeavesOr (state S.Store conn.new) c (λ Held. Held after) }
+    ensures written { (c after : Contents) → HasCleanDisk (state S.Store conn.new)
+        → Holds (state S.Store conn.old) c
+        → ((from to : tables.Rows) → changes.PutsClerk (row_of clerk.now credential.now) from to
+        → Keeps from c → Keeps to after)
+        → Becomes S.Store conn.old conn.new result after c }
     ensures name { is_name clerk.now ≡ true }
     ensures form { is_sound_credential credential.now ≡ true }
     ensures clean { WasClean (state S.Store conn.old) (state S.Store conn.new) }
@@ -162,10 +203,10 @@ fn judge_clerk<S: Alter>(
     conn: &mut Connection<S>,
     clerk: &Name,
 ) -> Result<bool, Refusal>
-    ensures judged { (c : Contents) → HasCleanDisk (state S.Store conn.new) → Holds (state S.Store conn.old) c → Holds (state S.Store conn.new) c × IsAnswer (put_result (put_clerk_answer clerk.now c.clerks)) (answer_of result) }
-    ensures clean { WasClean (state S.Store conn.old) (state S.Store conn.new) }
-    ensures up { StaysOpen (state S.Store conn.old) (state S.Store conn.new) (answer_of result) }
-    ensures stop { StopsBefore (state S.Store conn.old) (state S.Store conn.new) }
+    ensures judged { (c : Contents) → HasCleanDisk (state S.Store conn.new)
+        → Holds (state S.Store conn.old) c
+        → IsAnswer (put_result (put_clerk_answer clerk.now c.clerks)) (answer_of result) }
+    ensures looks { Looks S.Store conn.old conn.new (IsMet result) }
 {
     match has_clerk(alloc, conn, clerk) {
         Ok(true) => return Ok(false),
@@ -194,10 +235,9 @@ pub(crate) fn put_clerk<S: Alter>(
     clerk: &Name,
     credential: &Credential,
 ) -> Result<bool, Refusal>
-    ensures done { (c : Contents) → HasCleanDisk (state S.Store conn.new) → Holds (state S.Store conn.old) c → IsClerkPut (Holds (state S.Store conn.new)) c clerk.now credential.now (answer_of result) }
-    ensures clean { WasClean (state S.Store conn.old) (state S.Store conn.new) }
-    ensures up { StaysOpen (state S.Store conn.old) (state S.Store conn.new) (answer_of result) }
-    ensures stop { StopsEither (state S.Store conn.old) (state S.Store conn.new) (λ c Held. IsClerkPut Held c clerk.now credential.now) }
+    ensures { Acts S.Store conn.old conn.new
+        (λ c Held answered. IsClerkPut Held c clerk.now credential.now answered)
+        (answer_of result) }
 {
     match judge_clerk(alloc, conn, clerk) {
         Ok(is_new) => match write_clerk(conn, clerk, credential) {
@@ -217,10 +257,8 @@ pub(crate) fn drop_clerk<S: Alter>(
     conn: &mut Connection<S>,
     clerk: &Name,
 ) -> Result<(), Refusal>
-    ensures done { (c : Contents) → HasCleanDisk (state S.Store conn.new) → Holds (state S.Store conn.old) c → IsClerkDropped (Holds (state S.Store conn.new)) c clerk.now (answer_of result) }
-    ensures clean { WasClean (state S.Store conn.old) (state S.Store conn.new) }
-    ensures up { StaysOpen (state S.Store conn.old) (state S.Store conn.new) (answer_of result) }
-    ensures stop { StopsEither (state S.Store conn.old) (state S.Store conn.new) (λ c Held. IsClerkDropped Held c clerk.now) }
+    ensures { Acts S.Store conn.old conn.new
+        (λ c Held answered. IsClerkDropped Held c clerk.now answered) (answer_of result) }
 {
     match has_clerk(alloc, conn, clerk) {
         Ok(true) => {}

@@ -1,14 +1,14 @@
 //! The groups of the policy.
-ghost use Rattle.std.specs.Prelude.{◌≡◌, ◌≤◌, true, Some, length, map, IfOk, IfSome, IsSomeAnd, OnOk, OnErr};
+ghost use Rattle.std.specs.Prelude.{◌≡◌, ◌≤◌, true, Some, length, map, IfOk, IfSome, IsSomeAnd};
 ghost use Rattle.std.specs.List.{list_all};
 ghost use Rattle.creds.specs.Names.{is_name};
 ghost use Rattle.sqlite.specs.Held.{state};
-ghost use Rattle.sqlite.specs.State.{HasCleanDisk, IsUnchanged};
+ghost use Rattle.sqlite.specs.State.{HasCleanDisk};
 ghost use Rattle.policy.specs.Policy.{is_sound_group, most_members};
-ghost use Rattle.mailsql.specs.Rows.{HasTables, IsReady, IsUndone, rows_in};
+ghost use Rattle.mailsql.specs.Rows.{HasTables, rows_in};
 ghost use Rattle.sqlvault.specs.Keeps.{member_names, group_in, groups_in};
 ghost use Rattle.sqlvault.specs.Rules.{AddsMembers, AddsGroup, AddsGroups, SetsGroups};
-ghost use Rattle.sqlvault.specs.Stands.{WasClean, Makes, LeavesNoMore};
+ghost use Rattle.sqlvault.specs.Frame.{Asks, Writes};
 
 use creds::Name;
 use mailsql::{groups, rows};
@@ -83,10 +83,7 @@ pub(crate) fn read_groups<S: Alter>(
     ensures rows { HasCleanDisk (state S.Store conn.new) → HasTables (state S.Store conn.old) → IfOk result (λ read. IfSome read (λ groups. groups.items ≡ groups_in (rows_in (state S.Store conn.old).now.trees))) }
     ensures all { HasCleanDisk (state S.Store conn.new) → HasTables (state S.Store conn.old) → list_all is_sound_group (groups_in (rows_in (state S.Store conn.old).now.trees)) ≡ true
         → IfOk result (λ read. IsSomeAnd read (λ groups. groups.items ≡ groups_in (rows_in (state S.Store conn.old).now.trees))) }
-    ensures same { HasCleanDisk (state S.Store conn.new) → HasTables (state S.Store conn.old) → OnOk result (IsUnchanged (state S.Store conn.old) (state S.Store conn.new)) }
-    ensures err { HasCleanDisk (state S.Store conn.new) → HasTables (state S.Store conn.old) → OnErr result (IsUndone (state S.Store conn.old) (state S.Store conn.new)) }
-    ensures stop { HasCleanDisk (state S.Store conn.new) → IsReady (state S.Store conn.old) → LeavesNoMore (state S.Store conn.old) (state S.Store conn.new) }
-    ensures clean { WasClean (state S.Store conn.old) (state S.Store conn.new) }
+    ensures asks { Asks S.Store conn.old conn.new result }
 {
     match groups::all_groups(alloc, conn) {
         Ok(rows) => match groups::all_members(alloc, conn) {
@@ -105,8 +102,7 @@ fn add_members<S: Alter>(
     members: &[Name],
 ) -> Result<(), Error>
     requires { length members.now ≤ most_members }
-    ensures made { HasCleanDisk (state S.Store conn.new) → Makes (λ _. AddsMembers group members.now) (state S.Store conn.old) (state S.Store conn.new) result }
-    ensures clean { WasClean (state S.Store conn.old) (state S.Store conn.new) }
+    ensures { Writes S.Store conn.old conn.new (λ _. AddsMembers group members.now) result }
 {
     let mut place: i64 = 0;
     for member in members {
@@ -123,8 +119,7 @@ fn add_members<S: Alter>(
 /// place.
 fn add_group<S: Alter>(conn: &mut Connection<S>, place: i64, group: &Group) -> Result<(), Error>
     requires { length group.now.members ≤ most_members }
-    ensures made { HasCleanDisk (state S.Store conn.new) → Makes (λ _. AddsGroup place group.now) (state S.Store conn.old) (state S.Store conn.new) result }
-    ensures clean { WasClean (state S.Store conn.old) (state S.Store conn.new) }
+    ensures { Writes S.Store conn.old conn.new (λ _. AddsGroup place group.now) result }
 {
     match groups::add_group(conn, group.name().as_bytes()) {
         Ok(()) => add_members(conn, place, group.members()),
@@ -134,8 +129,7 @@ fn add_group<S: Alter>(conn: &mut Connection<S>, place: i64, group: &Group) -> R
 
 /// Adds the policy's groups to a store without groups, inside a transaction.
 fn add_groups<S: Alter>(conn: &mut Connection<S>, policy: &Policy) -> Result<(), Error>
-    ensures made { HasCleanDisk (state S.Store conn.new) → Makes (λ _. AddsGroups policy.now.groups) (state S.Store conn.old) (state S.Store conn.new) result }
-    ensures clean { WasClean (state S.Store conn.old) (state S.Store conn.new) }
+    ensures { Writes S.Store conn.old conn.new (λ _. AddsGroups policy.now.groups) result }
 {
     let mut place: i64 = 0;
     for group in policy.groups() {
@@ -153,8 +147,7 @@ pub(crate) fn replace_groups<S: Alter>(
     conn: &mut Connection<S>,
     policy: &Policy,
 ) -> Result<(), Error>
-    ensures made { HasCleanDisk (state S.Store conn.new) → Makes (λ _. SetsGroups policy.now.groups) (state S.Store conn.old) (state S.Store conn.new) result }
-    ensures clean { WasClean (state S.Store conn.old) (state S.Store conn.new) }
+    ensures { Writes S.Store conn.old conn.new (λ _. SetsGroups policy.now.groups) result }
 {
     match groups::clear_groups(conn) {
         Ok(()) => add_groups(conn, policy),

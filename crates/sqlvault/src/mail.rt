@@ -10,8 +10,8 @@ ghost use Rattle.vault.specs.Changes.{Contents, head_of, without_keys, with_mess
 ghost use Rattle.vault.specs.Calls.{seen_as, AreHeads, AreRemoved};
 ghost use Rattle.sqlvault.specs.Keeps.{Keeps, message_row};
 ghost use Rattle.sqlvault.specs.Refusals.{answer_of};
-ghost use Rattle.sqlvault.specs.Stands.{Holds, WasClean, Makes};
-ghost use Rattle.sqlvault.specs.Stops.{StopsBefore, StopsEither, StaysOpen};
+ghost use Rattle.sqlvault.specs.Frame.{IsMet, Looks, Acts, Writes};
+ghost use Rattle.sqlvault.specs.Stands.{Holds};
 
 use crate::refusal::{Refusal, unreadable};
 use crate::transaction::{end, undo};
@@ -62,10 +62,10 @@ pub(crate) fn heads<S: Alter>(
     conn: &mut Connection<S>,
     maildrop: &Name,
 ) -> Result<Vec<Head>, Refusal>
-    ensures done { (c : Contents) → HasCleanDisk (state S.Store conn.new) → Holds (state S.Store conn.old) c → AreHeads (Holds (state S.Store conn.new)) c maildrop.now (seen_as (answer_of result) (λ v. v.items)) }
-    ensures clean { WasClean (state S.Store conn.old) (state S.Store conn.new) }
-    ensures up { StaysOpen (state S.Store conn.old) (state S.Store conn.new) (answer_of result) }
-    ensures stop { StopsBefore (state S.Store conn.old) (state S.Store conn.new) }
+    ensures done { (c : Contents) → HasCleanDisk (state S.Store conn.new)
+        → Holds (state S.Store conn.old) c → AreHeads (Holds (state S.Store conn.new)) c
+        maildrop.now (seen_as (answer_of result) (λ v. v.items)) }
+    ensures looks { Looks S.Store conn.old conn.new (IsMet result) }
 {
     match maildrops::has_maildrop(conn, maildrop.as_bytes()) {
         Ok(true) => {}
@@ -84,8 +84,9 @@ fn remove_all<S: Alter>(
     maildrop: &Name,
     keys: &[MessageKey],
 ) -> Result<(), Error>
-    ensures made { HasCleanDisk (state S.Store conn.new) → Makes (λ _ before after. (c : Contents) → Keeps before c → Keeps after (with_messages (without_keys maildrop.now keys.now c.messages) c)) (state S.Store conn.old) (state S.Store conn.new) result }
-    ensures clean { WasClean (state S.Store conn.old) (state S.Store conn.new) }
+    ensures { Writes S.Store conn.old conn.new
+        (λ _ before after. (c : Contents) → Keeps before c
+        → Keeps after (with_messages (without_keys maildrop.now keys.now c.messages) c)) result }
 {
     for key in keys {
         match mail::remove_message(conn, key.number().cast_signed(), maildrop.as_bytes()) {
@@ -105,10 +106,8 @@ pub(crate) fn remove<S: Alter>(
     maildrop: &Name,
     keys: &[MessageKey],
 ) -> Result<(), Refusal>
-    ensures done { (c : Contents) → HasCleanDisk (state S.Store conn.new) → Holds (state S.Store conn.old) c → AreRemoved (Holds (state S.Store conn.new)) c maildrop.now keys.now (answer_of result) }
-    ensures clean { WasClean (state S.Store conn.old) (state S.Store conn.new) }
-    ensures up { StaysOpen (state S.Store conn.old) (state S.Store conn.new) (answer_of result) }
-    ensures stop { StopsEither (state S.Store conn.old) (state S.Store conn.new) (λ c Held. AreRemoved Held c maildrop.now keys.now) }
+    ensures { Acts S.Store conn.old conn.new
+        (λ c Held answered. AreRemoved Held c maildrop.now keys.now answered) (answer_of result) }
 {
     match mode::begin(conn) {
         Ok(()) => {}

@@ -1,11 +1,7 @@
 //! Adding and dropping maildrops.
-ghost use Rattle.sqlite.specs.Held.{state};
-ghost use Rattle.sqlite.specs.State.{HasCleanDisk};
-ghost use Rattle.vault.specs.Changes.{Contents};
 ghost use Rattle.vault.specs.Calls.{IsMaildropAdded, IsMaildropDropped};
+ghost use Rattle.sqlvault.specs.Frame.{Acts};
 ghost use Rattle.sqlvault.specs.Refusals.{answer_of};
-ghost use Rattle.sqlvault.specs.Stands.{Holds, WasClean};
-ghost use Rattle.sqlvault.specs.Stops.{StopsEither, StaysOpen};
 
 use crate::refusal::Refusal;
 use creds::Name;
@@ -21,10 +17,8 @@ pub(crate) const MAX_MAILDROPS: u64 = 1000;
 /// Answers [`VaultFault::Full`] for a new name beyond 1,000. After any refusal the maildrops are as
 /// they were.
 pub(crate) fn add_maildrop<S: Alter>(conn: &mut Connection<S>, name: &Name) -> Result<bool, Refusal>
-    ensures done { (c : Contents) → HasCleanDisk (state S.Store conn.new) → Holds (state S.Store conn.old) c → IsMaildropAdded (Holds (state S.Store conn.new)) c name.now (answer_of result) }
-    ensures clean { WasClean (state S.Store conn.old) (state S.Store conn.new) }
-    ensures up { StaysOpen (state S.Store conn.old) (state S.Store conn.new) (answer_of result) }
-    ensures stop { StopsEither (state S.Store conn.old) (state S.Store conn.new) (λ c Held. IsMaildropAdded Held c name.now) }
+    ensures { Acts S.Store conn.old conn.new
+        (λ c Held answered. IsMaildropAdded Held c name.now answered) (answer_of result) }
 {
     let text = name.as_bytes();
     match maildrops::has_maildrop(conn, text) {
@@ -51,10 +45,8 @@ pub(crate) fn add_maildrop<S: Alter>(conn: &mut Connection<S>, name: &Name) -> R
 /// Answers [`VaultFault::NoMaildrop`] where the maildrop is missing, else [`VaultFault::NotEmpty`]
 /// where it has a message. After any refusal the maildrops are as they were.
 pub(crate) fn drop_maildrop<S: Alter>(conn: &mut Connection<S>, name: &Name) -> Result<(), Refusal>
-    ensures done { (c : Contents) → HasCleanDisk (state S.Store conn.new) → Holds (state S.Store conn.old) c → IsMaildropDropped (Holds (state S.Store conn.new)) c name.now (answer_of result) }
-    ensures clean { WasClean (state S.Store conn.old) (state S.Store conn.new) }
-    ensures up { StaysOpen (state S.Store conn.old) (state S.Store conn.new) (answer_of result) }
-    ensures stop { StopsEither (state S.Store conn.old) (state S.Store conn.new) (λ c Held. IsMaildropDropped Held c name.now) }
+    ensures { Acts S.Store conn.old conn.new
+        (λ c Held answered. IsMaildropDropped Held c name.now answered) (answer_of result) }
 {
     let text = name.as_bytes();
     match maildrops::has_maildrop(conn, text) {

@@ -4,7 +4,6 @@ ghost use Rattle.std.specs.List.{list_all};
 ghost use Rattle.std.specs.Str.{bytes_eq};
 ghost use Rattle.sqlite.specs.Held.{state};
 ghost use Rattle.sqlite.specs.State.{HasCleanDisk};
-ghost use Rattle.mailsql.specs.Rows.{IsReady};
 ghost use Rattle.policy.specs.declared.rule.Actions as actions;
 ghost use Rattle.policy.specs.declared.rule.Pattern as pattern;
 ghost use Rattle.policy.specs.declared.rule.Rule as rule;
@@ -15,8 +14,8 @@ ghost use Rattle.vault.specs.Calls.{IsPolicy, IsPolicySet};
 ghost use Rattle.sqlvault.specs.Keeps.{clerks_text, pattern_text, effect_number, actions_number, rule_row, at_place};
 ghost use Rattle.sqlvault.specs.Rules.{AddsRules, SetsRules, SetsPolicy};
 ghost use Rattle.sqlvault.specs.Refusals.{answer_of};
-ghost use Rattle.sqlvault.specs.Stands.{Holds, WasClean, Makes, LeavesNoMore};
-ghost use Rattle.sqlvault.specs.Stops.{StopsBefore, StopsEither, StaysOpen};
+ghost use Rattle.sqlvault.specs.Frame.{IsMet, Looks, Acts, Writes};
+ghost use Rattle.sqlvault.specs.Stands.{Holds};
 
 use crate::groups::{read_groups, replace_groups};
 use crate::refusal::{Refusal, unreadable};
@@ -183,10 +182,10 @@ fn policy_with<S: Alter>(
     conn: &mut Connection<S>,
     groups: Vec<Group>,
 ) -> Result<Policy, Refusal>
-    ensures done { (c : Contents) → HasCleanDisk (state S.Store conn.new) → Holds (state S.Store conn.old) c → groups.items ≡ c.policy.groups → IsPolicy (Holds (state S.Store conn.new)) c (answer_of result) }
-    ensures clean { WasClean (state S.Store conn.old) (state S.Store conn.new) }
-    ensures up { StaysOpen (state S.Store conn.old) (state S.Store conn.new) (answer_of result) }
-    ensures stop { HasCleanDisk (state S.Store conn.new) → IsReady (state S.Store conn.old) → LeavesNoMore (state S.Store conn.old) (state S.Store conn.new) }
+    ensures done { (c : Contents) → HasCleanDisk (state S.Store conn.new)
+        → Holds (state S.Store conn.old) c → groups.items ≡ c.policy.groups
+        → IsPolicy (Holds (state S.Store conn.new)) c (answer_of result) }
+    ensures looks { Looks S.Store conn.old conn.new (IsMet result) }
 {
     match rules::all_rules(alloc, conn) {
         Ok(rows) => match read_policy(alloc, groups, rows.as_slice()) {
@@ -199,10 +198,10 @@ fn policy_with<S: Alter>(
 
 /// The policy.
 pub(crate) fn policy<S: Alter>(alloc: Global, conn: &mut Connection<S>) -> Result<Policy, Refusal>
-    ensures done { (c : Contents) → HasCleanDisk (state S.Store conn.new) → Holds (state S.Store conn.old) c → IsPolicy (Holds (state S.Store conn.new)) c (answer_of result) }
-    ensures clean { WasClean (state S.Store conn.old) (state S.Store conn.new) }
-    ensures up { StaysOpen (state S.Store conn.old) (state S.Store conn.new) (answer_of result) }
-    ensures stop { StopsBefore (state S.Store conn.old) (state S.Store conn.new) }
+    ensures done { (c : Contents) → HasCleanDisk (state S.Store conn.new)
+        → Holds (state S.Store conn.old) c
+        → IsPolicy (Holds (state S.Store conn.new)) c (answer_of result) }
+    ensures looks { Looks S.Store conn.old conn.new (IsMet result) }
 {
     match read_groups(alloc, conn) {
         Ok(Some(groups)) => policy_with(alloc, conn, groups),
@@ -213,8 +212,7 @@ pub(crate) fn policy<S: Alter>(alloc: Global, conn: &mut Connection<S>) -> Resul
 
 /// Adds a rule behind the others, inside a transaction.
 fn add_rule<S: Alter>(alloc: Global, conn: &mut Connection<S>, rule: &Rule) -> Result<(), Error>
-    ensures made { HasCleanDisk (state S.Store conn.new) → Makes (λ _. AddsRules (rule.now ∷ [])) (state S.Store conn.old) (state S.Store conn.new) result }
-    ensures clean { WasClean (state S.Store conn.old) (state S.Store conn.new) }
+    ensures { Writes S.Store conn.old conn.new (λ _. AddsRules (rule.now ∷ [])) result }
 {
     let clerk = clerks_text(alloc, &rule.clerk)?;
     rules::add_rule(
@@ -230,8 +228,7 @@ fn add_rule<S: Alter>(alloc: Global, conn: &mut Connection<S>, rule: &Rule) -> R
 
 /// Adds the rules behind the others, inside a transaction.
 fn add_rules<S: Alter>(alloc: Global, conn: &mut Connection<S>, rules: &[Rule]) -> Result<(), Error>
-    ensures made { HasCleanDisk (state S.Store conn.new) → Makes (λ _. AddsRules rules.now) (state S.Store conn.old) (state S.Store conn.new) result }
-    ensures clean { WasClean (state S.Store conn.old) (state S.Store conn.new) }
+    ensures { Writes S.Store conn.old conn.new (λ _. AddsRules rules.now) result }
 {
     for rule in rules {
         match add_rule(alloc, conn, rule) {
@@ -248,8 +245,7 @@ fn replace_rules<S: Alter>(
     conn: &mut Connection<S>,
     rules: &[Rule],
 ) -> Result<(), Error>
-    ensures made { HasCleanDisk (state S.Store conn.new) → Makes (λ _. SetsRules rules.now) (state S.Store conn.old) (state S.Store conn.new) result }
-    ensures clean { WasClean (state S.Store conn.old) (state S.Store conn.new) }
+    ensures { Writes S.Store conn.old conn.new (λ _. SetsRules rules.now) result }
 {
     match rules::clear_rules(conn) {
         Ok(()) => add_rules(alloc, conn, rules),
@@ -263,9 +259,8 @@ fn replace_policy<S: Alter>(
     conn: &mut Connection<S>,
     policy: &Policy,
 ) -> Result<(), Error>
-    ensures made { HasCleanDisk (state S.Store conn.new) → Makes (λ _. SetsPolicy policy.now) (state S.Store conn.old) (state S.Store conn.new) result }
+    ensures written { Writes S.Store conn.old conn.new (λ _. SetsPolicy policy.now) result }
     ensures sound { OnOk result (IsTrue (is_sound_policy policy.now)) }
-    ensures clean { WasClean (state S.Store conn.old) (state S.Store conn.new) }
 {
     match replace_groups(conn, policy) {
         Ok(()) => replace_rules(alloc, conn, policy.rules()),
@@ -279,10 +274,8 @@ pub(crate) fn set_policy<S: Alter>(
     conn: &mut Connection<S>,
     policy: &Policy,
 ) -> Result<(), Refusal>
-    ensures done { (c : Contents) → HasCleanDisk (state S.Store conn.new) → Holds (state S.Store conn.old) c → IsPolicySet (Holds (state S.Store conn.new)) c policy.now (answer_of result) }
-    ensures clean { WasClean (state S.Store conn.old) (state S.Store conn.new) }
-    ensures up { StaysOpen (state S.Store conn.old) (state S.Store conn.new) (answer_of result) }
-    ensures stop { StopsEither (state S.Store conn.old) (state S.Store conn.new) (λ c Held. IsPolicySet Held c policy.now) }
+    ensures { Acts S.Store conn.old conn.new
+        (λ c Held answered. IsPolicySet Held c policy.now answered) (answer_of result) }
 {
     match mode::begin(conn) {
         Ok(()) => {}

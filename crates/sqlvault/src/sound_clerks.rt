@@ -1,14 +1,14 @@
 //! Whether the rows of the clerks and of the maildrops are sound records.
-ghost use Rattle.std.specs.Prelude.{◌≡◌, IfOk, OnOk, OnErr};
+ghost use Rattle.std.specs.Prelude.{◌≡◌, IfOk};
 ghost use Rattle.std.specs.List.{list_all};
 ghost use Rattle.creds.specs.Names.{is_name};
 ghost use Rattle.sqlite.specs.Held.{state};
-ghost use Rattle.sqlite.specs.State.{HasCleanDisk, IsUnchanged};
-ghost use Rattle.mailsql.specs.Rows.{HasTables, IsReady, IsUndone, rows_in};
+ghost use Rattle.sqlite.specs.State.{HasCleanDisk};
+ghost use Rattle.mailsql.specs.Rows.{HasTables, rows_in};
 ghost use Rattle.mailsql.specs.Apart.{AreApart};
+ghost use Rattle.sqlvault.specs.Frame.{Asks};
 ghost use Rattle.sqlvault.specs.Parts.{Finds, ClerksAre, MaildropsAre};
 ghost use Rattle.sqlvault.specs.RowForms.{is_clerk_row, are_clerk_rows, are_maildrop_rows};
-ghost use Rattle.sqlvault.specs.Stands.{WasClean, LeavesNoMore};
 
 use crate::clerks::{MAX_CLERKS, read_credential};
 use crate::maildrops::MAX_MAILDROPS;
@@ -78,10 +78,7 @@ pub(crate) fn are_clerks_sound<S: Alter>(
     conn: &mut Connection<S>,
 ) -> Result<bool, Error>
     ensures judged { HasCleanDisk (state S.Store conn.new) → HasTables (state S.Store conn.old) → AreApart (rows_in (state S.Store conn.old).now.trees) → IfOk result (Finds (ClerksAre (rows_in (state S.Store conn.old).now.trees))) }
-    ensures same { HasCleanDisk (state S.Store conn.new) → HasTables (state S.Store conn.old) → OnOk result (IsUnchanged (state S.Store conn.old) (state S.Store conn.new)) }
-    ensures err { HasCleanDisk (state S.Store conn.new) → HasTables (state S.Store conn.old) → OnErr result (IsUndone (state S.Store conn.old) (state S.Store conn.new)) }
-    ensures stop { HasCleanDisk (state S.Store conn.new) → IsReady (state S.Store conn.old) → LeavesNoMore (state S.Store conn.old) (state S.Store conn.new) }
-    ensures clean { WasClean (state S.Store conn.old) (state S.Store conn.new) }
+    ensures asks { Asks S.Store conn.old conn.new result }
 {
     match clerks::all_clerks(alloc, conn) {
         Ok(rows) => Ok(are_clerks(rows.as_slice())),
@@ -95,10 +92,7 @@ pub(crate) fn are_maildrops_sound<S: Alter>(
     conn: &mut Connection<S>,
 ) -> Result<bool, Error>
     ensures judged { HasCleanDisk (state S.Store conn.new) → HasTables (state S.Store conn.old) → AreApart (rows_in (state S.Store conn.old).now.trees) → IfOk result (Finds (MaildropsAre (rows_in (state S.Store conn.old).now.trees))) }
-    ensures same { HasCleanDisk (state S.Store conn.new) → HasTables (state S.Store conn.old) → OnOk result (IsUnchanged (state S.Store conn.old) (state S.Store conn.new)) }
-    ensures err { HasCleanDisk (state S.Store conn.new) → HasTables (state S.Store conn.old) → OnErr result (IsUndone (state S.Store conn.old) (state S.Store conn.new)) }
-    ensures stop { HasCleanDisk (state S.Store conn.new) → IsReady (state S.Store conn.old) → LeavesNoMore (state S.Store conn.old) (state S.Store conn.new) }
-    ensures clean { WasClean (state S.Store conn.old) (state S.Store conn.new) }
+    ensures asks { Asks S.Store conn.old conn.new result }
 {
     match maildrops::all_maildrops(alloc, conn) {
         Ok(rows) => Ok(are_maildrops(rows.as_slice())),

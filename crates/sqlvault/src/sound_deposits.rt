@@ -1,14 +1,14 @@
 //! Whether the rows of the deposits are sound records, with counts that agree.
-ghost use Rattle.std.specs.Prelude.{◌≡◌, ◌==◌, ◌&&◌, List, map, sum_by, true, false, Some, None, IfOk, IfSome, OnOk, OnErr, MatchOption, if◌then◌else◌};
+ghost use Rattle.std.specs.Prelude.{◌≡◌, ◌==◌, ◌&&◌, List, map, sum_by, true, false, Some, None, IfOk, IfSome, MatchOption, if◌then◌else◌};
 ghost use Rattle.std.specs.List.{list_all};
 ghost use Rattle.sqlite.specs.Held.{state};
-ghost use Rattle.sqlite.specs.State.{HasCleanDisk, IsUnchanged};
+ghost use Rattle.sqlite.specs.State.{HasCleanDisk};
 ghost use Rattle.creds.specs.Names.{is_name};
-ghost use Rattle.mailsql.specs.Rows.{HasTables, IsReady, IsUndone, rows_in};
+ghost use Rattle.mailsql.specs.Rows.{HasTables, rows_in};
 ghost use Rattle.mailsql.specs.Apart.{AreApart};
+ghost use Rattle.sqlvault.specs.Frame.{Asks};
 ghost use Rattle.sqlvault.specs.Numbers as spec;
 ghost use Rattle.sqlvault.specs.Parts.{Finds, DepositsAre};
-ghost use Rattle.sqlvault.specs.Stands.{WasClean, LeavesNoMore};
 
 use creds::{DepositId, Name};
 use mailsql::rows::{Count, Deposit};
@@ -150,10 +150,7 @@ pub(crate) fn are_deposits_sound<S: Alter>(
     conn: &mut Connection<S>,
 ) -> Result<bool, Error>
     ensures judged { HasCleanDisk (state S.Store conn.new) → HasTables (state S.Store conn.old) → AreApart (rows_in (state S.Store conn.old).now.trees) → IfOk result (Finds (DepositsAre (rows_in (state S.Store conn.old).now.trees))) }
-    ensures same { HasCleanDisk (state S.Store conn.new) → HasTables (state S.Store conn.old) → OnOk result (IsUnchanged (state S.Store conn.old) (state S.Store conn.new)) }
-    ensures err { HasCleanDisk (state S.Store conn.new) → HasTables (state S.Store conn.old) → OnErr result (IsUndone (state S.Store conn.old) (state S.Store conn.new)) }
-    ensures stop { HasCleanDisk (state S.Store conn.new) → IsReady (state S.Store conn.old) → LeavesNoMore (state S.Store conn.old) (state S.Store conn.new) }
-    ensures clean { WasClean (state S.Store conn.old) (state S.Store conn.new) }
+    ensures asks { Asks S.Store conn.old conn.new result }
 {
     let rows = match deposits::all_deposits(alloc, conn) {
         Ok(rows) => rows,

@@ -1,13 +1,13 @@
 //! Whether the rows of the messages and of their sheets are sound records.
-ghost use Rattle.std.specs.Prelude.{◌≡◌, ◌^◌, ◌-◌, IfOk, OnOk, OnErr, List, min, sum_by, All};
+ghost use Rattle.std.specs.Prelude.{◌≡◌, ◌^◌, ◌-◌, IfOk, List, min, sum_by, All};
 ghost use Rattle.sqlite.specs.Held.{state};
-ghost use Rattle.sqlite.specs.State.{HasCleanDisk, IsUnchanged};
+ghost use Rattle.sqlite.specs.State.{HasCleanDisk};
 ghost use Rattle.vault.specs.declared.record.Receipt as vault;
-ghost use Rattle.mailsql.specs.Rows.{HasTables, IsReady, IsUndone, rows_in};
+ghost use Rattle.mailsql.specs.Rows.{HasTables, rows_in};
 ghost use Rattle.mailsql.specs.Apart.{AreApart};
+ghost use Rattle.sqlvault.specs.Frame.{Asks, Reads};
 ghost use Rattle.sqlvault.specs.Parts.{Finds, MaildropsAre, DepositsAre, MessagesAre};
-ghost use Rattle.sqlvault.specs.Stands.{WasClean, LeavesNoMore};
-ghost use Rattle.sqlvault.specs.Stored.{Goes, Tells, Counts, Brings, IsPiece, HasText, is_kept_text, IsNumber, IsStored, HasMessage, sheets_in, IsSoundIn, sheets_under};
+ghost use Rattle.sqlvault.specs.Stored.{Tells, Counts, Brings, IsPiece, HasText, is_kept_text, IsNumber, IsStored, HasMessage, sheets_in, IsSoundIn, sheets_under};
 
 use mailsql::rows::{Message, Sheet};
 use mailsql::sheets::{self, SHEET_OCTETS};
@@ -29,9 +29,7 @@ fn find_piece<S: Alter>(
     size: usize,
 ) -> Result<Option<Sheet>, Error>
     ensures judged { HasCleanDisk (state S.Store conn.new) → HasTables (state S.Store conn.old) → IfOk result (Brings (λ s. s.octets) (IsPiece (rows_in (state S.Store conn.old).now.trees) mail place size)) }
-    ensures goes { HasCleanDisk (state S.Store conn.new) → HasTables (state S.Store conn.old) → Goes (state S.Store conn.old) (state S.Store conn.new) result }
-    ensures stop { HasCleanDisk (state S.Store conn.new) → IsReady (state S.Store conn.old) → LeavesNoMore (state S.Store conn.old) (state S.Store conn.new) }
-    ensures clean { WasClean (state S.Store conn.old) (state S.Store conn.new) }
+    ensures reads { Reads S.Store conn.old conn.new result }
 {
     match sheets::find_sheet(alloc, conn, mail, i64::from(place)) {
         Ok(Some(sheet)) => {
@@ -54,9 +52,7 @@ fn find_text<S: Alter>(
     octets: u32,
 ) -> Result<Option<Vec<u8>>, Error>
     ensures judged { HasCleanDisk (state S.Store conn.new) → HasTables (state S.Store conn.old) → IfOk result (Brings (λ text. text.items) (HasText (rows_in (state S.Store conn.old).now.trees) mail octets)) }
-    ensures goes { HasCleanDisk (state S.Store conn.new) → HasTables (state S.Store conn.old) → Goes (state S.Store conn.old) (state S.Store conn.new) result }
-    ensures stop { HasCleanDisk (state S.Store conn.new) → IsReady (state S.Store conn.old) → LeavesNoMore (state S.Store conn.old) (state S.Store conn.new) }
-    ensures clean { WasClean (state S.Store conn.old) (state S.Store conn.new) }
+    ensures reads { Reads S.Store conn.old conn.new result }
 {
     let long = octets as usize;
     let mut text = Vec::with_capacity(alloc, long)?;
@@ -85,9 +81,7 @@ fn is_numbered<S: Alter>(
     row: &Message,
 ) -> Result<bool, Error>
     ensures judged { (deposits : List vault.Receipt) → HasCleanDisk (state S.Store conn.new) → HasTables (state S.Store conn.old) → DepositsAre (rows_in (state S.Store conn.old).now.trees) deposits → IfOk result (Finds (IsNumber deposits row.now)) }
-    ensures goes { HasCleanDisk (state S.Store conn.new) → HasTables (state S.Store conn.old) → Goes (state S.Store conn.old) (state S.Store conn.new) result }
-    ensures stop { HasCleanDisk (state S.Store conn.new) → IsReady (state S.Store conn.old) → LeavesNoMore (state S.Store conn.old) (state S.Store conn.new) }
-    ensures clean { WasClean (state S.Store conn.old) (state S.Store conn.new) }
+    ensures reads { Reads S.Store conn.old conn.new result }
 {
     match counts::find_count(alloc, conn, row.maildrop.as_slice(), row.class.as_slice()) {
         Ok(Some(count)) => {
@@ -111,9 +105,7 @@ fn is_message_sound<S: Alter>(
     row: &Message,
 ) -> Result<bool, Error>
     ensures judged { (deposits : List vault.Receipt) → HasCleanDisk (state S.Store conn.new) → HasTables (state S.Store conn.old) → DepositsAre (rows_in (state S.Store conn.old).now.trees) deposits → IfOk result (Finds (IsStored (rows_in (state S.Store conn.old).now.trees) deposits row.now)) }
-    ensures goes { HasCleanDisk (state S.Store conn.new) → HasTables (state S.Store conn.old) → Goes (state S.Store conn.old) (state S.Store conn.new) result }
-    ensures stop { HasCleanDisk (state S.Store conn.new) → IsReady (state S.Store conn.old) → LeavesNoMore (state S.Store conn.old) (state S.Store conn.new) }
-    ensures clean { WasClean (state S.Store conn.old) (state S.Store conn.new) }
+    ensures reads { Reads S.Store conn.old conn.new result }
 {
     match is_numbered(alloc, conn, row) {
         Ok(true) => {}
@@ -140,9 +132,7 @@ fn are_all_sound<S: Alter>(
     rows: &[Message],
 ) -> Result<bool, Error>
     ensures judged { (deposits : List vault.Receipt) → HasCleanDisk (state S.Store conn.new) → HasTables (state S.Store conn.old) → DepositsAre (rows_in (state S.Store conn.old).now.trees) deposits → IfOk result (Tells (All (HasMessage (rows_in (state S.Store conn.old).now.trees) deposits) rows.now)) }
-    ensures goes { HasCleanDisk (state S.Store conn.new) → HasTables (state S.Store conn.old) → Goes (state S.Store conn.old) (state S.Store conn.new) result }
-    ensures stop { HasCleanDisk (state S.Store conn.new) → IsReady (state S.Store conn.old) → LeavesNoMore (state S.Store conn.old) (state S.Store conn.new) }
-    ensures clean { WasClean (state S.Store conn.old) (state S.Store conn.new) }
+    ensures reads { Reads S.Store conn.old conn.new result }
 {
     for row in rows {
         match is_message_sound(alloc, conn, row) {
@@ -174,9 +164,7 @@ fn judge_maildrop<S: Alter>(
     name: &[u8],
 ) -> Result<Option<u64>, Error>
     ensures judged { (deposits : List vault.Receipt) → HasCleanDisk (state S.Store conn.new) → HasTables (state S.Store conn.old) → DepositsAre (rows_in (state S.Store conn.old).now.trees) deposits → IfOk result (Counts (IsSoundIn (rows_in (state S.Store conn.old).now.trees) deposits name.now) (sheets_under (rows_in (state S.Store conn.old).now.trees) name.now)) }
-    ensures goes { HasCleanDisk (state S.Store conn.new) → HasTables (state S.Store conn.old) → Goes (state S.Store conn.old) (state S.Store conn.new) result }
-    ensures stop { HasCleanDisk (state S.Store conn.new) → IsReady (state S.Store conn.old) → LeavesNoMore (state S.Store conn.old) (state S.Store conn.new) }
-    ensures clean { WasClean (state S.Store conn.old) (state S.Store conn.new) }
+    ensures reads { Reads S.Store conn.old conn.new result }
 {
     let rows = match mail::heads(alloc, conn, name) {
         Ok(rows) => rows,
@@ -200,9 +188,7 @@ fn judge_maildrops<S: Alter>(
     names: &[Bytes],
 ) -> Result<Option<u64>, Error>
     ensures judged { (deposits : List vault.Receipt) → HasCleanDisk (state S.Store conn.new) → HasTables (state S.Store conn.old) → DepositsAre (rows_in (state S.Store conn.old).now.trees) deposits → IfOk result (Counts (All (IsSoundIn (rows_in (state S.Store conn.old).now.trees) deposits) names.now) (sum_by (sheets_under (rows_in (state S.Store conn.old).now.trees)) names.now)) }
-    ensures goes { HasCleanDisk (state S.Store conn.new) → HasTables (state S.Store conn.old) → Goes (state S.Store conn.old) (state S.Store conn.new) result }
-    ensures stop { HasCleanDisk (state S.Store conn.new) → IsReady (state S.Store conn.old) → LeavesNoMore (state S.Store conn.old) (state S.Store conn.new) }
-    ensures clean { WasClean (state S.Store conn.old) (state S.Store conn.new) }
+    ensures reads { Reads S.Store conn.old conn.new result }
 {
     let mut sheets: u64 = 0;
     for name in names {
@@ -225,10 +211,7 @@ pub(crate) fn are_messages_sound<S: Alter>(
     ensures judged { (deposits : List vault.Receipt) → HasCleanDisk (state S.Store conn.new) → HasTables (state S.Store conn.old) → AreApart (rows_in (state S.Store conn.old).now.trees)
         → MaildropsAre (rows_in (state S.Store conn.old).now.trees) (rows_in (state S.Store conn.old).now.trees).maildrops → DepositsAre (rows_in (state S.Store conn.old).now.trees) deposits
         → IfOk result (Finds (MessagesAre (rows_in (state S.Store conn.old).now.trees) deposits)) }
-    ensures same { HasCleanDisk (state S.Store conn.new) → HasTables (state S.Store conn.old) → OnOk result (IsUnchanged (state S.Store conn.old) (state S.Store conn.new)) }
-    ensures err { HasCleanDisk (state S.Store conn.new) → HasTables (state S.Store conn.old) → OnErr result (IsUndone (state S.Store conn.old) (state S.Store conn.new)) }
-    ensures stop { HasCleanDisk (state S.Store conn.new) → IsReady (state S.Store conn.old) → LeavesNoMore (state S.Store conn.old) (state S.Store conn.new) }
-    ensures clean { WasClean (state S.Store conn.old) (state S.Store conn.new) }
+    ensures asks { Asks S.Store conn.old conn.new result }
 {
     let names = match maildrops::all_maildrops(alloc, conn) {
         Ok(names) => names,

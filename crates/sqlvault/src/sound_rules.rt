@@ -1,12 +1,12 @@
 //! Whether the rows of the groups and the rules are a policy.
-ghost use Rattle.std.specs.Prelude.{◌≡◌, true, pos, map, IfOk, OnOk, OnErr};
+ghost use Rattle.std.specs.Prelude.{◌≡◌, true, pos, map, IfOk};
 ghost use Rattle.policy.specs.Policy.{is_sound_policy};
 ghost use Rattle.sqlite.specs.Held.{state};
-ghost use Rattle.sqlite.specs.State.{HasCleanDisk, IsUnchanged};
-ghost use Rattle.mailsql.specs.Rows.{HasTables, IsReady, IsUndone, rows_in};
+ghost use Rattle.sqlite.specs.State.{HasCleanDisk};
+ghost use Rattle.mailsql.specs.Rows.{HasTables, rows_in};
+ghost use Rattle.sqlvault.specs.Frame.{Asks};
 ghost use Rattle.sqlvault.specs.Keeps.{groups_in, rule_row, at_place};
 ghost use Rattle.sqlvault.specs.Parts.{Finds, PolicyIs};
-ghost use Rattle.sqlvault.specs.Stands.{WasClean, LeavesNoMore};
 
 use crate::groups::read_groups;
 use crate::rules::rules_of;
@@ -32,10 +32,7 @@ fn are_rules_with<S: Alter>(
     groups: Vec<Group>,
 ) -> Result<bool, Error>
     ensures judged { HasCleanDisk (state S.Store conn.new) → HasTables (state S.Store conn.old) → groups.items ≡ groups_in (rows_in (state S.Store conn.old).now.trees) → IfOk result (Finds (PolicyIs (rows_in (state S.Store conn.old).now.trees))) }
-    ensures same { HasCleanDisk (state S.Store conn.new) → HasTables (state S.Store conn.old) → OnOk result (IsUnchanged (state S.Store conn.old) (state S.Store conn.new)) }
-    ensures err { HasCleanDisk (state S.Store conn.new) → HasTables (state S.Store conn.old) → OnErr result (IsUndone (state S.Store conn.old) (state S.Store conn.new)) }
-    ensures stop { HasCleanDisk (state S.Store conn.new) → IsReady (state S.Store conn.old) → LeavesNoMore (state S.Store conn.old) (state S.Store conn.new) }
-    ensures clean { WasClean (state S.Store conn.old) (state S.Store conn.new) }
+    ensures asks { Asks S.Store conn.old conn.new result }
 {
     match rules::all_rules(alloc, conn) {
         Ok(rows) => Ok(are_rules(alloc, groups, rows.as_slice())?),
@@ -49,10 +46,7 @@ pub(crate) fn are_rules_sound<S: Alter>(
     conn: &mut Connection<S>,
 ) -> Result<bool, Error>
     ensures judged { HasCleanDisk (state S.Store conn.new) → HasTables (state S.Store conn.old) → IfOk result (Finds (PolicyIs (rows_in (state S.Store conn.old).now.trees))) }
-    ensures same { HasCleanDisk (state S.Store conn.new) → HasTables (state S.Store conn.old) → OnOk result (IsUnchanged (state S.Store conn.old) (state S.Store conn.new)) }
-    ensures err { HasCleanDisk (state S.Store conn.new) → HasTables (state S.Store conn.old) → OnErr result (IsUndone (state S.Store conn.old) (state S.Store conn.new)) }
-    ensures stop { HasCleanDisk (state S.Store conn.new) → IsReady (state S.Store conn.old) → LeavesNoMore (state S.Store conn.old) (state S.Store conn.new) }
-    ensures clean { WasClean (state S.Store conn.old) (state S.Store conn.new) }
+    ensures asks { Asks S.Store conn.old conn.new result }
 {
     match read_groups(alloc, conn) {
         Ok(Some(groups)) => are_rules_with(alloc, conn, groups),

@@ -132,7 +132,12 @@ impl<S: Alter> SqlVault<S> {
     ghost use Rattle.sqlvault.specs.Adopts.{Adopts, StaysAs, IsVersionRefused};
     ghost use Rattle.sqlvault.specs.Carries.{CarriesOver};
     ghost use Rattle.sqlvault.specs.Opened.{conn_of, judged_in};
-    ghost use Rattle.sqlvault.specs.Stands.{WasClean};
+    ghost use Rattle.vault.specs.Calls.{seen_as};
+    ghost use Rattle.vault.specs.Changes.{Contents};
+    ghost use Rattle.vault.specs.Stops.{IsOwn};
+    ghost use Rattle.sqlvault.specs.Clerks.{AreClerks};
+    ghost use Rattle.sqlvault.specs.Frame.{Looks};
+    ghost use Rattle.sqlvault.specs.Stands.{Holds, WasClean};
 
     /// Makes a connection a mail store.
     ///
@@ -187,6 +192,21 @@ impl<S: Alter> SqlVault<S> {
             faults: _,
         } = self;
         conn
+    }
+
+    /// The names of the clerks, in the order of their octets; 1,000 at most. Nothing is changed.
+    ///
+    /// Answers [`VaultFault::NoMemory`] where memory was refused, and [`VaultFault::Store`], which
+    /// is counted, where SQLite refused the query for another cause.
+    pub fn clerk_names(&mut self) -> Result<Vec<Name>, VaultFault>
+        ensures done { (c : Contents) → Holds (state S.Store self.old.conn) c
+            → HasCleanDisk (state S.Store self.new.conn)
+            → AreClerks (Holds (state S.Store self.new.conn)) c (seen_as result (λ v. v.items)) }
+        ensures counted { CountsFaults self.old.faults self.new.faults result }
+        ensures looks { Looks S.Store self.old.conn self.new.conn (IsOwn result) }
+    {
+        let answer = clerks::clerk_names(self.alloc, &mut self.conn);
+        self.told(answer)
     }
 
     /// The answer with its refusal as the vault's fault, which is counted where it is `Store`.

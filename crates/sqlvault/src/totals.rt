@@ -5,13 +5,13 @@ ghost use Rattle.sqlite.specs.Held.{state};
 ghost use Rattle.sqlite.specs.State.{HasCleanDisk};
 ghost use Rattle.creds.specs.Names.{is_name, by_name};
 ghost use Rattle.vault.specs.declared.record.Keyed.{Keyed};
-ghost use Rattle.vault.specs.Changes.{Contents, AreSound};
+ghost use Rattle.vault.specs.Changes.{Contents};
 ghost use Rattle.vault.specs.Calls.{AreTotals, seen_as};
 ghost use Rattle.vault.specs.Plain.{capped_total};
 ghost use Rattle.sqlvault.specs.Keeps.{message_row};
 ghost use Rattle.sqlvault.specs.Refusals.{answer_of};
-ghost use Rattle.sqlvault.specs.Stands.{Holds, WasClean};
-ghost use Rattle.sqlvault.specs.Stops.{StopsBefore, IsOpenAfter, StaysOpen};
+ghost use Rattle.sqlvault.specs.Frame.{IsOk, IsMet, Looks};
+ghost use Rattle.sqlvault.specs.Stands.{Holds};
 
 use crate::refusal::{Refusal, unreadable};
 use creds::Name;
@@ -23,7 +23,7 @@ use std::alloc::Global;
 use vault::{Total, in_order};
 
 /// Adds the name of a row behind the others.
-fn push_name(names: &mut Vec<Name>, row: &Bytes) -> Result<(), Error>
+pub(crate) fn push_name(names: &mut Vec<Name>, row: &Bytes) -> Result<(), Error>
     ensures { is_name row.now ≡ true → OnOk result (names.new.items ≡ names.old.items ++ row.now ∷ []) }
 {
     let Some(name) = Name::read(row.as_slice()) else {
@@ -45,12 +45,10 @@ fn read_names(alloc: Global, rows: &[Bytes]) -> Result<Vec<Name>, Error>
 
 /// The names of the maildrops, in order.
 fn names<S: Alter>(alloc: Global, conn: &mut Connection<S>) -> Result<Vec<Name>, Error>
-    ensures names { (c : Contents) → HasCleanDisk (state S.Store conn.new) → Holds (state S.Store conn.old) c → IfOk result (λ names. names.items ≡ by_name c.maildrops) }
-    ensures sound { (c : Contents) → HasCleanDisk (state S.Store conn.new) → Holds (state S.Store conn.old) c → OnOk result (AreSound c) }
-    ensures held { (c : Contents) → HasCleanDisk (state S.Store conn.new) → Holds (state S.Store conn.old) c → Holds (state S.Store conn.new) c }
-    ensures clean { WasClean (state S.Store conn.old) (state S.Store conn.new) }
-    ensures up { IsOpenAfter (state S.Store conn.old) (state S.Store conn.new) result }
-    ensures stop { StopsBefore (state S.Store conn.old) (state S.Store conn.new) }
+    ensures names { (c : Contents) → HasCleanDisk (state S.Store conn.new)
+        → Holds (state S.Store conn.old) c
+        → IfOk result (λ names. names.items ≡ by_name c.maildrops) }
+    ensures looks { Looks S.Store conn.old conn.new (IsOk result) }
 {
     match maildrops::all_maildrops(alloc, conn) {
         Ok(rows) => {
@@ -74,11 +72,10 @@ fn octets_of(rows: &[Message]) -> u64
 
 /// The number of the maildrop's messages, and the sum of their octets, 2^64 - 1 at most.
 fn total_of<S: Alter>(alloc: Global, conn: &mut Connection<S>, name: &Name) -> Result<Total, Error>
-    ensures total { (c : Contents) → HasCleanDisk (state S.Store conn.new) → Holds (state S.Store conn.old) c → IfOk result (λ total. total ≡ capped_total c.messages name.now) }
-    ensures held { (c : Contents) → HasCleanDisk (state S.Store conn.new) → Holds (state S.Store conn.old) c → Holds (state S.Store conn.new) c }
-    ensures clean { WasClean (state S.Store conn.old) (state S.Store conn.new) }
-    ensures up { IsOpenAfter (state S.Store conn.old) (state S.Store conn.new) result }
-    ensures stop { StopsBefore (state S.Store conn.old) (state S.Store conn.new) }
+    ensures total { (c : Contents) → HasCleanDisk (state S.Store conn.new)
+        → Holds (state S.Store conn.old) c
+        → IfOk result (λ total. total ≡ capped_total c.messages name.now) }
+    ensures looks { Looks S.Store conn.old conn.new (IsOk result) }
 {
     match mail::heads(alloc, conn, name.as_bytes()) {
         Ok(rows) => Ok(Total {
@@ -96,11 +93,10 @@ fn totals_of<S: Alter>(
     conn: &mut Connection<S>,
     names: &[Name],
 ) -> Result<Vec<Total>, Error>
-    ensures totals { (c : Contents) → HasCleanDisk (state S.Store conn.new) → Holds (state S.Store conn.old) c → IfOk result (λ totals. totals.items ≡ map (capped_total c.messages) names.now) }
-    ensures held { (c : Contents) → HasCleanDisk (state S.Store conn.new) → Holds (state S.Store conn.old) c → Holds (state S.Store conn.new) c }
-    ensures clean { WasClean (state S.Store conn.old) (state S.Store conn.new) }
-    ensures up { IsOpenAfter (state S.Store conn.old) (state S.Store conn.new) result }
-    ensures stop { StopsBefore (state S.Store conn.old) (state S.Store conn.new) }
+    ensures totals { (c : Contents) → HasCleanDisk (state S.Store conn.new)
+        → Holds (state S.Store conn.old) c
+        → IfOk result (λ totals. totals.items ≡ map (capped_total c.messages) names.now) }
+    ensures looks { Looks S.Store conn.old conn.new (IsOk result) }
 {
     let mut totals = Vec::new(alloc);
     for name in names {
@@ -115,10 +111,10 @@ pub(crate) fn maildrops<S: Alter>(
     alloc: Global,
     conn: &mut Connection<S>,
 ) -> Result<Vec<Total>, Refusal>
-    ensures done { (c : Contents) → HasCleanDisk (state S.Store conn.new) → Holds (state S.Store conn.old) c → AreTotals (Holds (state S.Store conn.new)) c (seen_as (answer_of result) (λ v. v.items)) }
-    ensures clean { WasClean (state S.Store conn.old) (state S.Store conn.new) }
-    ensures up { StaysOpen (state S.Store conn.old) (state S.Store conn.new) (answer_of result) }
-    ensures stop { StopsBefore (state S.Store conn.old) (state S.Store conn.new) }
+    ensures done { (c : Contents) → HasCleanDisk (state S.Store conn.new)
+        → Holds (state S.Store conn.old) c → AreTotals (Holds (state S.Store conn.new)) c
+        (seen_as (answer_of result) (λ v. v.items)) }
+    ensures looks { Looks S.Store conn.old conn.new (IsMet result) }
 {
     match names(alloc, conn) {
         Ok(names) => match totals_of(alloc, conn, &names) {

@@ -16,14 +16,14 @@ returns-in-Err-clause-stays g c clean1 out settled kept =
     let s0 = state g.S.Store c.args.conn.now in
     let s1 = state g.S.Store c.judge_marks.new.conn in
     let h : HasTables s0 = λ _. kept in
-    stays_undone s0 s1 out settled (c.in-Err.ensures.err clean1 h)
+    stays_undone s0 s1 out settled (c.in-Err.ensures.asks.err clean1 h)
 
 pub returns-then-not-has_columns-clause-stays : goal.returns-then-not-has_columns-clause-stays
 returns-then-not-has_columns-clause-stays g c clean1 out settled kept =
     let s0 = state g.S.Store c.args.conn.now in
     let s1 = state g.S.Store c.judge_marks.new.conn in
     let h : HasTables s0 = λ _. kept in
-    let u1 = c.in-Ok.ensures.same clean1 h in
+    let u1 = c.in-Ok.ensures.asks.same clean1 h in
     stays_undone s0 s1 out settled (inl u1)
 
 pub returns-in-Ok-false-clause-stays : goal.returns-in-Ok-false-clause-stays
@@ -32,10 +32,10 @@ returns-in-Ok-false-clause-stays g c clean2 out settled kept =
     let s1 = state g.S.Store c.judge_marks.new.conn in
     let s2 = state g.S.Store c.are_rows_sound.new.conn in
     let h : HasTables s0 = λ _. kept in
-    let clean1 = c.are_rows_sound.ensures.clean clean2 in
-    let u1 = c.in-Ok.ensures.same clean1 h in
+    let clean1 = c.are_rows_sound.ensures.asks.clean clean2 in
+    let u1 = c.in-Ok.ensures.asks.same clean1 h in
     let t1 = tables_on s0 s1 u1 h in
-    let u2 = unchanged_on s0 s1 s2 u1 (c.in-Ok-false.ensures.same clean2 t1) in
+    let u2 = unchanged_on s0 s1 s2 u1 (c.in-Ok-false.ensures.asks.same clean2 t1) in
     stays_undone s0 s2 out settled (inl u2)
 
 pub returns-in-Err-are_rows_sound-clause-stays : goal.returns-in-Err-are_rows_sound-clause-stays
@@ -44,61 +44,61 @@ returns-in-Err-are_rows_sound-clause-stays g c clean2 out settled kept =
     let s1 = state g.S.Store c.judge_marks.new.conn in
     let s2 = state g.S.Store c.are_rows_sound.new.conn in
     let h : HasTables s0 = λ _. kept in
-    let clean1 = c.are_rows_sound.ensures.clean clean2 in
-    let u1 = c.in-Ok.ensures.same clean1 h in
+    let clean1 = c.are_rows_sound.ensures.asks.clean clean2 in
+    let u1 = c.in-Ok.ensures.asks.same clean1 h in
     let t1 = tables_on s0 s1 u1 h in
-    stays_undone s0 s2 out settled (undone_on s0 s1 s2 u1 (c.in-Err-are_rows_sound.ensures.err clean2 t1))
+    stays_undone s0 s2 out settled (undone_on s0 s1 s2 u1 (c.in-Err-are_rows_sound.ensures.asks.err clean2 t1))
 
 pub returns-in-Err-clause-clean : goal.returns-in-Err-clause-clean
 returns-in-Err-clause-clean g c clean1 =
-    c.judge_marks.ensures.clean clean1
+    c.judge_marks.ensures.asks.clean clean1
 
 pub returns-in-Err-clause-stop : goal.returns-in-Err-clause-stop
 returns-in-Err-clause-stop g c clean1 ready =
-    c.judge_marks.ensures.stop clean1 ready
+    c.judge_marks.ensures.asks.stop clean1 ready
 
 pub returns-then-not-has_columns-clause-clean : goal.returns-then-not-has_columns-clause-clean
 returns-then-not-has_columns-clause-clean g c clean1 =
-    c.judge_marks.ensures.clean clean1
+    c.judge_marks.ensures.asks.clean clean1
 
 pub returns-then-not-has_columns-clause-stop : goal.returns-then-not-has_columns-clause-stop
 returns-then-not-has_columns-clause-stop g c clean1 ready =
-    c.judge_marks.ensures.stop clean1 ready
+    c.judge_marks.ensures.asks.stop clean1 ready
 
 pub returns-in-Ok-true-clause-clean : goal.returns-in-Ok-true-clause-clean
 returns-in-Ok-true-clause-clean g c clean2 =
-    let clean1 = c.are_rows_sound.ensures.clean clean2 in
-    c.judge_marks.ensures.clean clean1
+    let clean1 = c.are_rows_sound.ensures.asks.clean clean2 in
+    c.judge_marks.ensures.asks.clean clean1
 
 pub returns-in-Ok-false-clause-clean : goal.returns-in-Ok-false-clause-clean
 returns-in-Ok-false-clause-clean g c clean2 =
-    let clean1 = c.are_rows_sound.ensures.clean clean2 in
-    c.judge_marks.ensures.clean clean1
+    let clean1 = c.are_rows_sound.ensures.asks.clean clean2 in
+    c.judge_marks.ensures.asks.clean clean1
 
 pub returns-in-Ok-false-clause-stop : goal.returns-in-Ok-false-clause-stop
 returns-in-Ok-false-clause-stop g c clean2 ready =
     let s0 = state g.S.Store c.args.conn.now in
     let s1 = state g.S.Store c.judge_marks.new.conn in
     let s2 = state g.S.Store c.are_rows_sound.new.conn in
-    let clean1 = c.are_rows_sound.ensures.clean clean2 in
+    let clean1 = c.are_rows_sound.ensures.asks.clean clean2 in
     let h = tables_of s0 ready in
-    let y1 = stays_unchanged s0 s1 (c.in-Ok.ensures.same clean1 h) in
-    leaves_on s0 s1 s2 y1 ready (c.judge_marks.ensures.stop clean1 ready) (c.are_rows_sound.ensures.stop clean2)
+    let y1 = stays_unchanged s0 s1 (c.in-Ok.ensures.asks.same clean1 h) in
+    leaves_on s0 s1 s2 y1 ready (c.judge_marks.ensures.asks.stop clean1 ready) (c.are_rows_sound.ensures.asks.stop clean2)
 
 pub returns-in-Err-are_rows_sound-clause-clean : goal.returns-in-Err-are_rows_sound-clause-clean
 returns-in-Err-are_rows_sound-clause-clean g c clean2 =
-    let clean1 = c.are_rows_sound.ensures.clean clean2 in
-    c.judge_marks.ensures.clean clean1
+    let clean1 = c.are_rows_sound.ensures.asks.clean clean2 in
+    c.judge_marks.ensures.asks.clean clean1
 
 pub returns-in-Err-are_rows_sound-clause-stop : goal.returns-in-Err-are_rows_sound-clause-stop
 returns-in-Err-are_rows_sound-clause-stop g c clean2 ready =
     let s0 = state g.S.Store c.args.conn.now in
     let s1 = state g.S.Store c.judge_marks.new.conn in
     let s2 = state g.S.Store c.are_rows_sound.new.conn in
-    let clean1 = c.are_rows_sound.ensures.clean clean2 in
+    let clean1 = c.are_rows_sound.ensures.asks.clean clean2 in
     let h = tables_of s0 ready in
-    let y1 = stays_unchanged s0 s1 (c.in-Ok.ensures.same clean1 h) in
-    leaves_on s0 s1 s2 y1 ready (c.judge_marks.ensures.stop clean1 ready) (c.are_rows_sound.ensures.stop clean2)
+    let y1 = stays_unchanged s0 s1 (c.in-Ok.ensures.asks.same clean1 h) in
+    leaves_on s0 s1 s2 y1 ready (c.judge_marks.ensures.asks.stop clean1 ready) (c.are_rows_sound.ensures.asks.stop clean2)
 
 pub returns-in-Err-are_rows_sound-clause-kinds : goal.returns-in-Err-are_rows_sound-clause-kinds
 returns-in-Err-are_rows_sound-clause-kinds g c =
@@ -117,10 +117,10 @@ pub returns-then-not-has_columns-clause-unknown : goal.returns-then-not-has_colu
 returns-then-not-has_columns-clause-unknown g c clean1 it settled = absurd (c.in-Ok.ensures.unknown clean1 it settled)
 
 pub returns-in-Ok-true-clause-unknown : goal.returns-in-Ok-true-clause-unknown
-returns-in-Ok-true-clause-unknown g c clean2 it settled = absurd (c.in-Ok.ensures.unknown (c.are_rows_sound.ensures.clean clean2) it settled)
+returns-in-Ok-true-clause-unknown g c clean2 it settled = absurd (c.in-Ok.ensures.unknown (c.are_rows_sound.ensures.asks.clean clean2) it settled)
 
 pub returns-in-Ok-false-clause-unknown : goal.returns-in-Ok-false-clause-unknown
-returns-in-Ok-false-clause-unknown g c clean2 it settled = absurd (c.in-Ok.ensures.unknown (c.are_rows_sound.ensures.clean clean2) it settled)
+returns-in-Ok-false-clause-unknown g c clean2 it settled = absurd (c.in-Ok.ensures.unknown (c.are_rows_sound.ensures.asks.clean clean2) it settled)
 
 pub returns-in-Err-are_rows_sound-clause-unknown : goal.returns-in-Err-are_rows_sound-clause-unknown
-returns-in-Err-are_rows_sound-clause-unknown g c clean2 it settled = absurd (c.in-Ok.ensures.unknown (c.are_rows_sound.ensures.clean clean2) it settled)
+returns-in-Err-are_rows_sound-clause-unknown g c clean2 it settled = absurd (c.in-Ok.ensures.unknown (c.are_rows_sound.ensures.asks.clean clean2) it settled)

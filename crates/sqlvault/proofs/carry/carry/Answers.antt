@@ -92,7 +92,7 @@ returns-in-Ok-false-clause-clean g c clean4 =
     let s3 = state g.S.Store c.are_rows_sound.new.conn in
     let s4 = state g.S.Store c.unsound.new.conn in
     let clean3 : HasCleanDisk s3 = clean_before s3 s4 c.unsound.ensures.survives.clean clean4 in
-    let clean2 : HasCleanDisk s2 = c.are_rows_sound.ensures.clean clean3 in
+    let clean2 : HasCleanDisk s2 = c.are_rows_sound.ensures.asks.clean clean3 in
     let clean1 : HasCleanDisk s1 = c.bring.ensures.clean clean2 in
     clean_before s0 s1 c.begin.ensures.survives.clean clean1
 
@@ -104,7 +104,7 @@ returns-in-Ok-false-clause-stays g c clean4 older =
     let s3 = state g.S.Store c.are_rows_sound.new.conn in
     let s4 = state g.S.Store c.unsound.new.conn in
     let clean3 : HasCleanDisk s3 = clean_before s3 s4 c.unsound.ensures.survives.clean clean4 in
-    let clean2 : HasCleanDisk s2 = c.are_rows_sound.ensures.clean clean3 in
+    let clean2 : HasCleanDisk s2 = c.are_rows_sound.ensures.asks.clean clean3 in
     let clean1 : HasCleanDisk s1 = c.bring.ensures.clean clean2 in
     let shows = (c.in-Ok.ensures.ok clean1).1 in
     let begun = begun_on c.args.carried s0 s1 older shows in
@@ -115,8 +115,8 @@ returns-in-Ok-false-clause-stays g c clean4 older =
     let tables : HasTables s2 = λ _. done.0.0 in
     let is2 = brought_on c.args.carried s0 s1 older shows s2 done.0.1 in
     let ours = our_marks s0.now.trees (rows_in s2.now.trees) is2 in
-    let stop3 = more_then s0 s2 s3 stop2 (c.are_rows_sound.ensures.stop clean3 (done.1.is_open, done.0.0)) in
-    stays_gone s0 s1 s4 older.autocommit older.settled shows (c.unsound.ensures.gone c.begin.new.conn clean4 (looked_on s1 s2 s3 done.1 (c.in-Ok-false.ensures.same clean3 tables)))
+    let stop3 = more_then s0 s2 s3 stop2 (c.are_rows_sound.ensures.asks.stop clean3 (done.1.is_open, done.0.0)) in
+    stays_gone s0 s1 s4 older.autocommit older.settled shows (c.unsound.ensures.gone c.begin.new.conn clean4 (looked_on s1 s2 s3 done.1 (c.in-Ok-false.ensures.asks.same clean3 tables)))
 
 pub returns-in-Ok-false-clause-stop : goal.returns-in-Ok-false-clause-stop
 returns-in-Ok-false-clause-stop g c clean4 older =
@@ -126,7 +126,7 @@ returns-in-Ok-false-clause-stop g c clean4 older =
     let s3 = state g.S.Store c.are_rows_sound.new.conn in
     let s4 = state g.S.Store c.unsound.new.conn in
     let clean3 : HasCleanDisk s3 = clean_before s3 s4 c.unsound.ensures.survives.clean clean4 in
-    let clean2 : HasCleanDisk s2 = c.are_rows_sound.ensures.clean clean3 in
+    let clean2 : HasCleanDisk s2 = c.are_rows_sound.ensures.asks.clean clean3 in
     let clean1 : HasCleanDisk s1 = c.bring.ensures.clean clean2 in
     let shows = (c.in-Ok.ensures.ok clean1).1 in
     let begun = begun_on c.args.carried s0 s1 older shows in
@@ -137,7 +137,7 @@ returns-in-Ok-false-clause-stop g c clean4 older =
     let tables : HasTables s2 = λ _. done.0.0 in
     let is2 = brought_on c.args.carried s0 s1 older shows s2 done.0.1 in
     let ours = our_marks s0.now.trees (rows_in s2.now.trees) is2 in
-    let stop3 = more_then s0 s2 s3 stop2 (c.are_rows_sound.ensures.stop clean3 (done.1.is_open, done.0.0)) in
+    let stop3 = more_then s0 s2 s3 stop2 (c.are_rows_sound.ensures.asks.stop clean3 (done.1.is_open, done.0.0)) in
     either s0 s4 (more_then s0 s3 s4 stop3 (nothing_more s3 s4 clean4 c.unsound.ensures.survives))
 
 pub returns-in-Ok-false-clause-refused : goal.returns-in-Ok-false-clause-refused
@@ -148,7 +148,7 @@ returns-in-Ok-false-clause-refused g c clean4 older =
     let s3 = state g.S.Store c.are_rows_sound.new.conn in
     let s4 = state g.S.Store c.unsound.new.conn in
     let clean3 : HasCleanDisk s3 = clean_before s3 s4 c.unsound.ensures.survives.clean clean4 in
-    let clean2 : HasCleanDisk s2 = c.are_rows_sound.ensures.clean clean3 in
+    let clean2 : HasCleanDisk s2 = c.are_rows_sound.ensures.asks.clean clean3 in
     let clean1 : HasCleanDisk s1 = c.bring.ensures.clean clean2 in
     let shows = (c.in-Ok.ensures.ok clean1).1 in
     let begun = begun_on c.args.carried s0 s1 older shows in
@@ -159,7 +159,7 @@ returns-in-Ok-false-clause-refused g c clean4 older =
     let tables : HasTables s2 = λ _. done.0.0 in
     let is2 = brought_on c.args.carried s0 s1 older shows s2 done.0.1 in
     let ours = our_marks s0.now.trees (rows_in s2.now.trees) is2 in
-    let stop3 = more_then s0 s2 s3 stop2 (c.are_rows_sound.ensures.stop clean3 (done.1.is_open, done.0.0)) in
+    let stop3 = more_then s0 s2 s3 stop2 (c.are_rows_sound.ensures.asks.stop clean3 (done.1.is_open, done.0.0)) in
     rows_uncarried c.args.carried s0 (told c.unsound.result) older c.unsound.ensures.kinds (λ k keeps. subst (Finds (Keeps (rows_in s2.now.trees))) c.in-Ok-false.field-0-test (c.in-Ok-false.ensures.judged clean3 tables ours) k (subst (λ r. Keeps r k) (sym is2) keeps))
 
 pub returns-in-Ok-false-clause-kinds : goal.returns-in-Ok-false-clause-kinds
@@ -174,7 +174,7 @@ returns-in-Err-are_rows_sound-clause-clean g c clean4 =
     let s3 = state g.S.Store c.are_rows_sound.new.conn in
     let s4 = state g.S.Store c.undo-in-Err-are_rows_sound.new.conn in
     let clean3 : HasCleanDisk s3 = clean_before s3 s4 c.undo-in-Err-are_rows_sound.ensures.survives.clean clean4 in
-    let clean2 : HasCleanDisk s2 = c.are_rows_sound.ensures.clean clean3 in
+    let clean2 : HasCleanDisk s2 = c.are_rows_sound.ensures.asks.clean clean3 in
     let clean1 : HasCleanDisk s1 = c.bring.ensures.clean clean2 in
     clean_before s0 s1 c.begin.ensures.survives.clean clean1
 
@@ -186,7 +186,7 @@ returns-in-Err-are_rows_sound-clause-stays g c clean4 older =
     let s3 = state g.S.Store c.are_rows_sound.new.conn in
     let s4 = state g.S.Store c.undo-in-Err-are_rows_sound.new.conn in
     let clean3 : HasCleanDisk s3 = clean_before s3 s4 c.undo-in-Err-are_rows_sound.ensures.survives.clean clean4 in
-    let clean2 : HasCleanDisk s2 = c.are_rows_sound.ensures.clean clean3 in
+    let clean2 : HasCleanDisk s2 = c.are_rows_sound.ensures.asks.clean clean3 in
     let clean1 : HasCleanDisk s1 = c.bring.ensures.clean clean2 in
     let shows = (c.in-Ok.ensures.ok clean1).1 in
     let begun = begun_on c.args.carried s0 s1 older shows in
@@ -197,8 +197,8 @@ returns-in-Err-are_rows_sound-clause-stays g c clean4 older =
     let tables : HasTables s2 = λ _. done.0.0 in
     let is2 = brought_on c.args.carried s0 s1 older shows s2 done.0.1 in
     let ours = our_marks s0.now.trees (rows_in s2.now.trees) is2 in
-    let stop3 = more_then s0 s2 s3 stop2 (c.are_rows_sound.ensures.stop clean3 (done.1.is_open, done.0.0)) in
-    stays_gone s0 s1 s4 older.autocommit older.settled shows (c.undo-in-Err-are_rows_sound.ensures.gone c.begin.new.conn clean4 (halted_after s1 s2 s3 done.1 (c.in-Err-are_rows_sound.ensures.err clean3 tables)))
+    let stop3 = more_then s0 s2 s3 stop2 (c.are_rows_sound.ensures.asks.stop clean3 (done.1.is_open, done.0.0)) in
+    stays_gone s0 s1 s4 older.autocommit older.settled shows (c.undo-in-Err-are_rows_sound.ensures.gone c.begin.new.conn clean4 (halted_after s1 s2 s3 done.1 (c.in-Err-are_rows_sound.ensures.asks.err clean3 tables)))
 
 pub returns-in-Err-are_rows_sound-clause-stop : goal.returns-in-Err-are_rows_sound-clause-stop
 returns-in-Err-are_rows_sound-clause-stop g c clean4 older =
@@ -208,7 +208,7 @@ returns-in-Err-are_rows_sound-clause-stop g c clean4 older =
     let s3 = state g.S.Store c.are_rows_sound.new.conn in
     let s4 = state g.S.Store c.undo-in-Err-are_rows_sound.new.conn in
     let clean3 : HasCleanDisk s3 = clean_before s3 s4 c.undo-in-Err-are_rows_sound.ensures.survives.clean clean4 in
-    let clean2 : HasCleanDisk s2 = c.are_rows_sound.ensures.clean clean3 in
+    let clean2 : HasCleanDisk s2 = c.are_rows_sound.ensures.asks.clean clean3 in
     let clean1 : HasCleanDisk s1 = c.bring.ensures.clean clean2 in
     let shows = (c.in-Ok.ensures.ok clean1).1 in
     let begun = begun_on c.args.carried s0 s1 older shows in
@@ -219,7 +219,7 @@ returns-in-Err-are_rows_sound-clause-stop g c clean4 older =
     let tables : HasTables s2 = λ _. done.0.0 in
     let is2 = brought_on c.args.carried s0 s1 older shows s2 done.0.1 in
     let ours = our_marks s0.now.trees (rows_in s2.now.trees) is2 in
-    let stop3 = more_then s0 s2 s3 stop2 (c.are_rows_sound.ensures.stop clean3 (done.1.is_open, done.0.0)) in
+    let stop3 = more_then s0 s2 s3 stop2 (c.are_rows_sound.ensures.asks.stop clean3 (done.1.is_open, done.0.0)) in
     either s0 s4 (more_then s0 s3 s4 stop3 (nothing_more s3 s4 clean4 c.undo-in-Err-are_rows_sound.ensures.survives))
 
 pub returns-in-Err-are_rows_sound-clause-refused : goal.returns-in-Err-are_rows_sound-clause-refused
@@ -238,7 +238,7 @@ returns-in-Ok-commit-clause-clean g c clean4 =
     let s3 = state g.S.Store c.are_rows_sound.new.conn in
     let s4 = state g.S.Store c.commit.new.conn in
     let clean3 : HasCleanDisk s3 = clean_before s3 s4 c.commit.ensures.survives.clean clean4 in
-    let clean2 : HasCleanDisk s2 = c.are_rows_sound.ensures.clean clean3 in
+    let clean2 : HasCleanDisk s2 = c.are_rows_sound.ensures.asks.clean clean3 in
     let clean1 : HasCleanDisk s1 = c.bring.ensures.clean clean2 in
     clean_before s0 s1 c.begin.ensures.survives.clean clean1
 
@@ -250,7 +250,7 @@ returns-in-Ok-commit-clause-carried g c clean4 older =
     let s3 = state g.S.Store c.are_rows_sound.new.conn in
     let s4 = state g.S.Store c.commit.new.conn in
     let clean3 : HasCleanDisk s3 = clean_before s3 s4 c.commit.ensures.survives.clean clean4 in
-    let clean2 : HasCleanDisk s2 = c.are_rows_sound.ensures.clean clean3 in
+    let clean2 : HasCleanDisk s2 = c.are_rows_sound.ensures.asks.clean clean3 in
     let clean1 : HasCleanDisk s1 = c.bring.ensures.clean clean2 in
     let shows = (c.in-Ok.ensures.ok clean1).1 in
     let begun = begun_on c.args.carried s0 s1 older shows in
@@ -261,8 +261,8 @@ returns-in-Ok-commit-clause-carried g c clean4 older =
     let tables : HasTables s2 = λ _. done.0.0 in
     let is2 = brought_on c.args.carried s0 s1 older shows s2 done.0.1 in
     let ours = our_marks s0.now.trees (rows_in s2.now.trees) is2 in
-    let stop3 = more_then s0 s2 s3 stop2 (c.are_rows_sound.ensures.stop clean3 (done.1.is_open, done.0.0)) in
-    let same3 = c.in-Ok-true.ensures.same clean3 tables in
+    let stop3 = more_then s0 s2 s3 stop2 (c.are_rows_sound.ensures.asks.stop clean3 (done.1.is_open, done.0.0)) in
+    let same3 = c.in-Ok-true.ensures.asks.same clean3 tables in
     let on3 = looked_on s1 s2 s3 done.1 same3 in
     let is3 = rows_on s2 s3 same3 ∙ is2 in
     let found = subst (Finds (Keeps (rows_in s2.now.trees))) c.in-Ok-true.field-0-test (c.in-Ok-true.ensures.judged clean3 tables ours) in
@@ -277,7 +277,7 @@ returns-in-Ok-commit-clause-stop g c clean4 older =
     let s3 = state g.S.Store c.are_rows_sound.new.conn in
     let s4 = state g.S.Store c.commit.new.conn in
     let clean3 : HasCleanDisk s3 = clean_before s3 s4 c.commit.ensures.survives.clean clean4 in
-    let clean2 : HasCleanDisk s2 = c.are_rows_sound.ensures.clean clean3 in
+    let clean2 : HasCleanDisk s2 = c.are_rows_sound.ensures.asks.clean clean3 in
     let clean1 : HasCleanDisk s1 = c.bring.ensures.clean clean2 in
     let shows = (c.in-Ok.ensures.ok clean1).1 in
     let begun = begun_on c.args.carried s0 s1 older shows in
@@ -288,8 +288,8 @@ returns-in-Ok-commit-clause-stop g c clean4 older =
     let tables : HasTables s2 = λ _. done.0.0 in
     let is2 = brought_on c.args.carried s0 s1 older shows s2 done.0.1 in
     let ours = our_marks s0.now.trees (rows_in s2.now.trees) is2 in
-    let stop3 = more_then s0 s2 s3 stop2 (c.are_rows_sound.ensures.stop clean3 (done.1.is_open, done.0.0)) in
-    let same3 = c.in-Ok-true.ensures.same clean3 tables in
+    let stop3 = more_then s0 s2 s3 stop2 (c.are_rows_sound.ensures.asks.stop clean3 (done.1.is_open, done.0.0)) in
+    let same3 = c.in-Ok-true.ensures.asks.same clean3 tables in
     let on3 = looked_on s1 s2 s3 done.1 same3 in
     let is3 = rows_on s2 s3 same3 ∙ is2 in
     let kept3 : IsKept s3.now = subst (λ (d : Database). IsKept d) (sym same3.0.now_is) done.0.0 in
@@ -307,7 +307,7 @@ returns-in-Err-commit-clause-clean g c clean5 =
     let s5 = state g.S.Store c.undo-in-Err-commit.new.conn in
     let clean4 : HasCleanDisk s4 = clean_before s4 s5 c.undo-in-Err-commit.ensures.survives.clean clean5 in
     let clean3 : HasCleanDisk s3 = clean_before s3 s4 c.commit.ensures.survives.clean clean4 in
-    let clean2 : HasCleanDisk s2 = c.are_rows_sound.ensures.clean clean3 in
+    let clean2 : HasCleanDisk s2 = c.are_rows_sound.ensures.asks.clean clean3 in
     let clean1 : HasCleanDisk s1 = c.bring.ensures.clean clean2 in
     clean_before s0 s1 c.begin.ensures.survives.clean clean1
 
@@ -321,7 +321,7 @@ returns-in-Err-commit-clause-stays g c clean5 older =
     let s5 = state g.S.Store c.undo-in-Err-commit.new.conn in
     let clean4 : HasCleanDisk s4 = clean_before s4 s5 c.undo-in-Err-commit.ensures.survives.clean clean5 in
     let clean3 : HasCleanDisk s3 = clean_before s3 s4 c.commit.ensures.survives.clean clean4 in
-    let clean2 : HasCleanDisk s2 = c.are_rows_sound.ensures.clean clean3 in
+    let clean2 : HasCleanDisk s2 = c.are_rows_sound.ensures.asks.clean clean3 in
     let clean1 : HasCleanDisk s1 = c.bring.ensures.clean clean2 in
     let shows = (c.in-Ok.ensures.ok clean1).1 in
     let begun = begun_on c.args.carried s0 s1 older shows in
@@ -332,8 +332,8 @@ returns-in-Err-commit-clause-stays g c clean5 older =
     let tables : HasTables s2 = λ _. done.0.0 in
     let is2 = brought_on c.args.carried s0 s1 older shows s2 done.0.1 in
     let ours = our_marks s0.now.trees (rows_in s2.now.trees) is2 in
-    let stop3 = more_then s0 s2 s3 stop2 (c.are_rows_sound.ensures.stop clean3 (done.1.is_open, done.0.0)) in
-    let same3 = c.in-Ok-true.ensures.same clean3 tables in
+    let stop3 = more_then s0 s2 s3 stop2 (c.are_rows_sound.ensures.asks.stop clean3 (done.1.is_open, done.0.0)) in
+    let same3 = c.in-Ok-true.ensures.asks.same clean3 tables in
     let on3 = looked_on s1 s2 s3 done.1 same3 in
     let is3 = rows_on s2 s3 same3 ∙ is2 in
     stays_gone s0 s1 s5 older.autocommit older.settled shows (c.undo-in-Err-commit.ensures.gone c.begin.new.conn clean5 (halted_after s1 s3 s4 on3 (c.in-Err-commit.ensures.err clean4)))
@@ -348,7 +348,7 @@ returns-in-Err-commit-clause-stop g c clean5 older =
     let s5 = state g.S.Store c.undo-in-Err-commit.new.conn in
     let clean4 : HasCleanDisk s4 = clean_before s4 s5 c.undo-in-Err-commit.ensures.survives.clean clean5 in
     let clean3 : HasCleanDisk s3 = clean_before s3 s4 c.commit.ensures.survives.clean clean4 in
-    let clean2 : HasCleanDisk s2 = c.are_rows_sound.ensures.clean clean3 in
+    let clean2 : HasCleanDisk s2 = c.are_rows_sound.ensures.asks.clean clean3 in
     let clean1 : HasCleanDisk s1 = c.bring.ensures.clean clean2 in
     let shows = (c.in-Ok.ensures.ok clean1).1 in
     let begun = begun_on c.args.carried s0 s1 older shows in
@@ -359,8 +359,8 @@ returns-in-Err-commit-clause-stop g c clean5 older =
     let tables : HasTables s2 = λ _. done.0.0 in
     let is2 = brought_on c.args.carried s0 s1 older shows s2 done.0.1 in
     let ours = our_marks s0.now.trees (rows_in s2.now.trees) is2 in
-    let stop3 = more_then s0 s2 s3 stop2 (c.are_rows_sound.ensures.stop clean3 (done.1.is_open, done.0.0)) in
-    let same3 = c.in-Ok-true.ensures.same clean3 tables in
+    let stop3 = more_then s0 s2 s3 stop2 (c.are_rows_sound.ensures.asks.stop clean3 (done.1.is_open, done.0.0)) in
+    let same3 = c.in-Ok-true.ensures.asks.same clean3 tables in
     let on3 = looked_on s1 s2 s3 done.1 same3 in
     let is3 = rows_on s2 s3 same3 ∙ is2 in
     let kept3 : IsKept s3.now = subst (λ (d : Database). IsKept d) (sym same3.0.now_is) done.0.0 in

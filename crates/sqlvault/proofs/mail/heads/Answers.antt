@@ -6,7 +6,7 @@ use Rattle.mailsql.specs.Rows.{rows_in}
 use Rattle.sqlvault.specs.Stands.{Holds}
 use Rattle.sqlvault.proofs.HoldsLemmas.{seen, has_tables, holds_unchanged, holds_undone, refused}
 use Rattle.sqlvault.proofs.HeadLemmas.{have_rows, name_there, no_maildrop, shown_heads, unread_heads}
-use Rattle.sqlvault.proofs.StopLemmas.{looked, not_own}
+use Rattle.sqlvault.proofs.FrameLemmas.{asked, failed, looks_then}
 use Rattle.sqlvault.proofs.StayLemmas.{clean_before}
 use Rattle.sqlvault.proofs.mail.heads.Goals as goal
 
@@ -47,108 +47,6 @@ returns-in-Err-heads-clause-done g c base clean2 h =
     let h1 = holds_unchanged s0 s1 base same1 h in
     refused (Holds s2) base base _ c.in-Err-heads.error (holds_undone s1 s2 base (c.in-Err-heads.ensures.err clean2 (has_tables s1 base h1)) h1)
 
-pub returns-in-Err-heads-clause-stop : goal.returns-in-Err-heads-clause-stop
-returns-in-Err-heads-clause-stop g c base clean2 up h =
-    let s0 = state g.S.Store c.args.conn.now in
-    let s1 = state g.S.Store c.has_maildrop.new.conn in
-    let s2 = state g.S.Store c.heads.new.conn in
-    let clean1 : HasCleanDisk s1 = clean_before s1 s2 c.heads.ensures.survives.clean clean2 in
-    let same1 : IsUnchanged s0 s1 = c.in-Ok-true.ensures.same clean1 (has_tables s0 base h) in
-    looked s1 s2 base (λ d o m. g.met.S.Store.settled c.has_maildrop.new.conn.store d o m) clean2 c.heads.ensures.survives same1.0.is_open (holds_unchanged s0 s1 base same1 h)
-
-pub returns-in-Ok-false-clause-clean : goal.returns-in-Ok-false-clause-clean
-returns-in-Ok-false-clause-clean g c clean1 =
-    let s0 = state g.S.Store c.args.conn.now in
-    let s1 = state g.S.Store c.has_maildrop.new.conn in
-    clean_before s0 s1 c.has_maildrop.ensures.survives.clean clean1
-
-pub returns-in-Ok-false-clause-up : goal.returns-in-Ok-false-clause-up
-returns-in-Ok-false-clause-up g c k clean1 up0 h0 own = (c.in-Ok-false.ensures.same clean1 h0.tables).0.is_open
-
-pub returns-in-Ok-false-clause-stop : goal.returns-in-Ok-false-clause-stop
-returns-in-Ok-false-clause-stop g c k clean1 up0 h0 =
-    let s0 = state g.S.Store c.args.conn.now in
-    let s1 = state g.S.Store c.has_maildrop.new.conn in
-    looked s0 s1 k (λ d o m. g.met.S.Store.settled c.args.conn.now.store d o m) clean1 c.has_maildrop.ensures.survives up0 h0
-
-pub returns-in-Err-clause-clean : goal.returns-in-Err-clause-clean
-returns-in-Err-clause-clean g c clean1 =
-    let s0 = state g.S.Store c.args.conn.now in
-    let s1 = state g.S.Store c.has_maildrop.new.conn in
-    clean_before s0 s1 c.has_maildrop.ensures.survives.clean clean1
-
-pub returns-in-Err-clause-up : goal.returns-in-Err-clause-up
-returns-in-Err-clause-up g c k clean1 up0 h0 own = absurd (not_own (Unit {0}) c.in-Err.error own)
-
-pub returns-in-Err-clause-stop : goal.returns-in-Err-clause-stop
-returns-in-Err-clause-stop g c k clean1 up0 h0 =
-    let s0 = state g.S.Store c.args.conn.now in
-    let s1 = state g.S.Store c.has_maildrop.new.conn in
-    looked s0 s1 k (λ d o m. g.met.S.Store.settled c.args.conn.now.store d o m) clean1 c.has_maildrop.ensures.survives up0 h0
-
-pub returns-in_ok-read_heads-in-Ok-clause-clean : goal.returns-in_ok-read_heads-in-Ok-clause-clean
-returns-in_ok-read_heads-in-Ok-clause-clean g c clean2 =
-    let s0 = state g.S.Store c.args.conn.now in
-    let s1 = state g.S.Store c.has_maildrop.new.conn in
-    let s2 = state g.S.Store c.heads.new.conn in
-    let clean1 : HasCleanDisk s1 = clean_before s1 s2 c.heads.ensures.survives.clean clean2 in
-    clean_before s0 s1 c.has_maildrop.ensures.survives.clean clean1
-
-pub returns-in_ok-read_heads-in-Ok-clause-up : goal.returns-in_ok-read_heads-in-Ok-clause-up
-returns-in_ok-read_heads-in-Ok-clause-up g c k clean2 up0 h0 own =
-    let s0 = state g.S.Store c.args.conn.now in
-    let s1 = state g.S.Store c.has_maildrop.new.conn in
-    let s2 = state g.S.Store c.heads.new.conn in
-    let clean1 : HasCleanDisk s1 = clean_before s1 s2 c.heads.ensures.survives.clean clean2 in
-    let h1 = holds_unchanged s0 s1 k (c.in-Ok-true.ensures.same clean1 h0.tables) h0 in
-    (c.in-Ok.ensures.same clean2 h1.tables).0.is_open
-
-pub returns-in_ok-read_heads-in-Ok-clause-stop : goal.returns-in_ok-read_heads-in-Ok-clause-stop
-returns-in_ok-read_heads-in-Ok-clause-stop g c k clean2 up0 h0 =
-    let s0 = state g.S.Store c.args.conn.now in
-    let s1 = state g.S.Store c.has_maildrop.new.conn in
-    let s2 = state g.S.Store c.heads.new.conn in
-    let clean1 : HasCleanDisk s1 = clean_before s1 s2 c.heads.ensures.survives.clean clean2 in
-    let h1 = holds_unchanged s0 s1 k (c.in-Ok-true.ensures.same clean1 h0.tables) h0 in
-    looked s1 s2 k (λ d o m. g.met.S.Store.settled c.has_maildrop.new.conn.store d o m) clean2 c.heads.ensures.survives (c.in-Ok-true.ensures.same clean1 h0.tables).0.is_open h1
-
-pub returns-in_err-read_heads-in-Ok-clause-clean : goal.returns-in_err-read_heads-in-Ok-clause-clean
-returns-in_err-read_heads-in-Ok-clause-clean g c clean2 =
-    let s0 = state g.S.Store c.args.conn.now in
-    let s1 = state g.S.Store c.has_maildrop.new.conn in
-    let s2 = state g.S.Store c.heads.new.conn in
-    let clean1 : HasCleanDisk s1 = clean_before s1 s2 c.heads.ensures.survives.clean clean2 in
-    clean_before s0 s1 c.has_maildrop.ensures.survives.clean clean1
-
-pub returns-in_err-read_heads-in-Ok-clause-up : goal.returns-in_err-read_heads-in-Ok-clause-up
-returns-in_err-read_heads-in-Ok-clause-up g c k clean2 up0 h0 own =
-    let s0 = state g.S.Store c.args.conn.now in
-    let s1 = state g.S.Store c.has_maildrop.new.conn in
-    let s2 = state g.S.Store c.heads.new.conn in
-    let clean1 : HasCleanDisk s1 = clean_before s1 s2 c.heads.ensures.survives.clean clean2 in
-    let h1 = holds_unchanged s0 s1 k (c.in-Ok-true.ensures.same clean1 h0.tables) h0 in
-    (c.in-Ok.ensures.same clean2 h1.tables).0.is_open
-
-pub returns-in_err-read_heads-in-Ok-clause-stop : goal.returns-in_err-read_heads-in-Ok-clause-stop
-returns-in_err-read_heads-in-Ok-clause-stop g c k clean2 up0 h0 =
-    let s0 = state g.S.Store c.args.conn.now in
-    let s1 = state g.S.Store c.has_maildrop.new.conn in
-    let s2 = state g.S.Store c.heads.new.conn in
-    let clean1 : HasCleanDisk s1 = clean_before s1 s2 c.heads.ensures.survives.clean clean2 in
-    let h1 = holds_unchanged s0 s1 k (c.in-Ok-true.ensures.same clean1 h0.tables) h0 in
-    looked s1 s2 k (λ d o m. g.met.S.Store.settled c.has_maildrop.new.conn.store d o m) clean2 c.heads.ensures.survives (c.in-Ok-true.ensures.same clean1 h0.tables).0.is_open h1
-
-pub returns-in-Err-heads-clause-clean : goal.returns-in-Err-heads-clause-clean
-returns-in-Err-heads-clause-clean g c clean2 =
-    let s0 = state g.S.Store c.args.conn.now in
-    let s1 = state g.S.Store c.has_maildrop.new.conn in
-    let s2 = state g.S.Store c.heads.new.conn in
-    let clean1 : HasCleanDisk s1 = clean_before s1 s2 c.heads.ensures.survives.clean clean2 in
-    clean_before s0 s1 c.has_maildrop.ensures.survives.clean clean1
-
-pub returns-in-Err-heads-clause-up : goal.returns-in-Err-heads-clause-up
-returns-in-Err-heads-clause-up g c k clean2 up0 h0 own = absurd (not_own (Unit {0}) c.in-Err-heads.error own)
-
 pub returns-in-Ok-false-clause-done : goal.returns-in-Ok-false-clause-done
 returns-in-Ok-false-clause-done g c base clean1 h =
     let s0 = state g.S.Store c.args.conn.now in
@@ -163,3 +61,33 @@ returns-in-Err-clause-done g c held clean1 h =
     let s0 = state g.S.Store c.args.conn.now in
     let s1 = state g.S.Store c.has_maildrop.new.conn in
     refused (Holds s1) held _ _ c.in-Err.error (holds_undone s0 s1 held (c.in-Err.ensures.err clean1) h)
+
+pub returns-in-Err-clause-looks : goal.returns-in-Err-clause-looks
+returns-in-Err-clause-looks g c = failed g.S.Store c.args.conn.now c.has_maildrop.new.conn
+    (λ clean _. c.in-Err.ensures.err clean) c.has_maildrop.ensures.survives
+
+pub returns-in-Ok-false-clause-looks : goal.returns-in-Ok-false-clause-looks
+returns-in-Ok-false-clause-looks g c =
+    asked g.S.Store c.args.conn.now c.has_maildrop.new.conn c.in-Ok-false.ensures.same
+    c.has_maildrop.ensures.survives
+
+pub returns-in-Err-heads-clause-looks : goal.returns-in-Err-heads-clause-looks
+returns-in-Err-heads-clause-looks g c =
+    let is_there = asked g.S.Store c.args.conn.now c.has_maildrop.new.conn c.in-Ok-true.ensures.same
+    c.has_maildrop.ensures.survives in
+    looks_then is_there (failed g.S.Store c.has_maildrop.new.conn c.heads.new.conn
+    c.in-Err-heads.ensures.err c.heads.ensures.survives)
+
+pub returns-in_ok-read_heads-in-Ok-clause-looks : goal.returns-in_ok-read_heads-in-Ok-clause-looks
+returns-in_ok-read_heads-in-Ok-clause-looks g c =
+    let is_there = asked g.S.Store c.args.conn.now c.has_maildrop.new.conn c.in-Ok-true.ensures.same
+    c.has_maildrop.ensures.survives in
+    looks_then is_there (asked g.S.Store c.has_maildrop.new.conn c.heads.new.conn
+    c.in-Ok.ensures.same c.heads.ensures.survives)
+
+pub returns-in_err-read_heads-in-Ok-clause-looks : goal.returns-in_err-read_heads-in-Ok-clause-looks
+returns-in_err-read_heads-in-Ok-clause-looks g c =
+    let is_there = asked g.S.Store c.args.conn.now c.has_maildrop.new.conn c.in-Ok-true.ensures.same
+    c.has_maildrop.ensures.survives in
+    looks_then is_there (asked g.S.Store c.has_maildrop.new.conn c.heads.new.conn
+    c.in-Ok.ensures.same c.heads.ensures.survives)

@@ -3,8 +3,7 @@ use Rattle.sqlite.specs.Held.{state}
 use Rattle.mailsql.specs.Rows.{rows_in}
 use Rattle.sqlvault.specs.RowForms.{are_maildrop_rows}
 use Rattle.sqlvault.proofs.RowFormLemmas.{maildrops_judged}
-use Rattle.sqlvault.proofs.WithinLemmas.{ready}
-use Rattle.sqlvault.proofs.StayLemmas.{asked}
+use Rattle.sqlvault.proofs.AskLemmas.{answered, unanswered}
 use Rattle.sqlvault.proofs.sound_clerks.are_maildrops_sound.Goals as goal
 
 pub returns-in-Ok-clause-judged : goal.returns-in-Ok-clause-judged
@@ -12,14 +11,12 @@ returns-in-Ok-clause-judged g c clean tables keys =
     let s0 = state g.S.Store c.args.conn.now in
     maildrops_judged (rows_in s0.now.trees) keys c.are_maildrops.result (c.are_maildrops.ensures ∙ ap are_maildrop_rows (c.as_slice.ensures.value ∙ c.in-Ok.ensures.ok clean tables))
 
-pub returns-in-Ok-clause-stop : goal.returns-in-Ok-clause-stop
-returns-in-Ok-clause-stop g c clean ready =
-    let s0 = state g.S.Store c.args.conn.now in
-    let s1 = state g.S.Store c.all_maildrops.new.conn in
-    asked s0 s1 clean c.all_maildrops.ensures.survives ready
+pub returns-in-Ok-clause-asks : goal.returns-in-Ok-clause-asks
+returns-in-Ok-clause-asks g c =
+    answered g.S.Store c.args.conn.now c.all_maildrops.new.conn c.in-Ok.ensures.same
+    c.all_maildrops.ensures.survives
 
-pub returns-in-Err-clause-stop : goal.returns-in-Err-clause-stop
-returns-in-Err-clause-stop g c clean ready =
-    let s0 = state g.S.Store c.args.conn.now in
-    let s1 = state g.S.Store c.all_maildrops.new.conn in
-    asked s0 s1 clean c.all_maildrops.ensures.survives ready
+pub returns-in-Err-clause-asks : goal.returns-in-Err-clause-asks
+returns-in-Err-clause-asks g c =
+    unanswered g.S.Store c.args.conn.now c.all_maildrops.new.conn c.in-Err.ensures.err
+    c.all_maildrops.ensures.survives

@@ -5,14 +5,15 @@ use Rattle.mailsql.specs.Rows.{rows_in}
 use Rattle.sqlvault.specs.Parts.{DepositsAre}
 use Rattle.sqlvault.specs.Stored.{Tells, HasMessage, sheets_in}
 use Rattle.sqlvault.proofs.EachLemmas.{maildrop_sound, maildrop_unsound}
-use Rattle.sqlvault.proofs.StayLemmas.{stays_unchanged, tables_stay, rows_stay, clean_before, asked, leaves_on, tables_of, stays_more, stays_or_back, or_back_after}
+use Rattle.sqlvault.proofs.StayLemmas.{stays_unchanged, tables_stay, rows_stay}
+use Rattle.sqlvault.proofs.AskLemmas.{read, unread, reads_ok, reads_err, reads_then}
 use Rattle.sqlvault.proofs.sound_messages.judge_maildrop.Goals as goal
 
 pub returns-in-Ok-true-clause-judged : goal.returns-in-Ok-true-clause-judged
 returns-in-Ok-true-clause-judged g c deposits clean h d =
     let s0 = state g.S.Store c.args.conn.now in
     let s1 = state g.S.Store c.heads.new.conn in
-    let clean1 = c.are_all_sound.ensures.clean clean in
+    let clean1 = c.are_all_sound.ensures.reads.clean clean in
     let stays = stays_unchanged s0 s1 (c.in-Ok.ensures.same clean1 h) in
     let stay = rows_stay s0 s1 stays in
     let items = c.in-Ok.ensures.ok clean1 h in
@@ -28,7 +29,7 @@ pub returns-in-Ok-false-clause-judged : goal.returns-in-Ok-false-clause-judged
 returns-in-Ok-false-clause-judged g c deposits clean h d =
     let s0 = state g.S.Store c.args.conn.now in
     let s1 = state g.S.Store c.heads.new.conn in
-    let clean1 = c.are_all_sound.ensures.clean clean in
+    let clean1 = c.are_all_sound.ensures.reads.clean clean in
     let stays = stays_unchanged s0 s1 (c.in-Ok.ensures.same clean1 h) in
     let stay = rows_stay s0 s1 stays in
     let items = c.in-Ok.ensures.ok clean1 h in
@@ -37,122 +38,30 @@ returns-in-Ok-false-clause-judged g c deposits clean h d =
     let none2 = subst (Tells (All (HasMessage (rows_in s0.now.trees) deposits) c.as_slice.result.now)) c.in-Ok-false.field-0-test none in
     maildrop_unsound (rows_in s0.now.trees) deposits c.args.name.now c.as_slice.result.now (c.as_slice.ensures.value ∙ items) none2
 
-pub returns-in-Err-clause-clean : goal.returns-in-Err-clause-clean
-returns-in-Err-clause-clean g c clean1 =
-    let s0 = state g.S.Store c.args.conn.now in
-    let s1 = state g.S.Store c.heads.new.conn in
-    clean_before s0 s1 c.heads.ensures.survives.clean clean1
+pub returns-in-Err-clause-reads : goal.returns-in-Err-clause-reads
+returns-in-Err-clause-reads g c =
+    unread g.S.Store c.args.conn.now c.heads.new.conn c.in-Err.ensures.err
+    c.heads.ensures.survives
 
-pub returns-in-Err-clause-stop : goal.returns-in-Err-clause-stop
-returns-in-Err-clause-stop g c clean1 ready =
-    let s0 = state g.S.Store c.args.conn.now in
-    let s1 = state g.S.Store c.heads.new.conn in
-    asked s0 s1 clean1 c.heads.ensures.survives ready
+pub returns-then-len-gt-MAX_MESSAGES-clause-reads : goal.returns-then-len-gt-MAX_MESSAGES-clause-reads
+returns-then-len-gt-MAX_MESSAGES-clause-reads g c =
+    read g.S.Store c.args.conn.now c.heads.new.conn c.in-Ok.ensures.same
+    c.heads.ensures.survives
 
-pub returns-in-Err-clause-goes : goal.returns-in-Err-clause-goes
-returns-in-Err-clause-goes g c clean1 h =
-    let s0 = state g.S.Store c.args.conn.now in
-    let s1 = state g.S.Store c.heads.new.conn in
-    stays_or_back s0 s1 (c.in-Err.ensures.err clean1 h)
+pub returns-in-Ok-true-clause-reads : goal.returns-in-Ok-true-clause-reads
+returns-in-Ok-true-clause-reads g c =
+    let rows = read {A = Unit {0}} {x = tt} g.S.Store c.args.conn.now c.heads.new.conn
+    c.in-Ok.ensures.same c.heads.ensures.survives in
+    reads_ok (reads_then rows c.in-Ok-true.ensures.reads)
 
-pub returns-then-len-gt-MAX_MESSAGES-clause-clean : goal.returns-then-len-gt-MAX_MESSAGES-clause-clean
-returns-then-len-gt-MAX_MESSAGES-clause-clean g c clean1 =
-    let s0 = state g.S.Store c.args.conn.now in
-    let s1 = state g.S.Store c.heads.new.conn in
-    clean_before s0 s1 c.heads.ensures.survives.clean clean1
+pub returns-in-Ok-false-clause-reads : goal.returns-in-Ok-false-clause-reads
+returns-in-Ok-false-clause-reads g c =
+    let rows = read {A = Unit {0}} {x = tt} g.S.Store c.args.conn.now c.heads.new.conn
+    c.in-Ok.ensures.same c.heads.ensures.survives in
+    reads_ok (reads_then rows c.in-Ok-false.ensures.reads)
 
-pub returns-then-len-gt-MAX_MESSAGES-clause-stop : goal.returns-then-len-gt-MAX_MESSAGES-clause-stop
-returns-then-len-gt-MAX_MESSAGES-clause-stop g c clean1 ready =
-    let s0 = state g.S.Store c.args.conn.now in
-    let s1 = state g.S.Store c.heads.new.conn in
-    asked s0 s1 clean1 c.heads.ensures.survives ready
-
-pub returns-then-len-gt-MAX_MESSAGES-clause-goes : goal.returns-then-len-gt-MAX_MESSAGES-clause-goes
-returns-then-len-gt-MAX_MESSAGES-clause-goes g c clean1 h =
-    let s0 = state g.S.Store c.args.conn.now in
-    let s1 = state g.S.Store c.heads.new.conn in
-    let y1 = stays_unchanged s0 s1 (c.in-Ok.ensures.same clean1 h) in
-    y1
-
-pub returns-in-Ok-true-clause-clean : goal.returns-in-Ok-true-clause-clean
-returns-in-Ok-true-clause-clean g c clean2 =
-    let s0 = state g.S.Store c.args.conn.now in
-    let s1 = state g.S.Store c.heads.new.conn in
-    let clean1 = c.are_all_sound.ensures.clean clean2 in
-    clean_before s0 s1 c.heads.ensures.survives.clean clean1
-
-pub returns-in-Ok-true-clause-stop : goal.returns-in-Ok-true-clause-stop
-returns-in-Ok-true-clause-stop g c clean2 ready =
-    let s0 = state g.S.Store c.args.conn.now in
-    let s1 = state g.S.Store c.heads.new.conn in
-    let s2 = state g.S.Store c.are_all_sound.new.conn in
-    let clean1 = c.are_all_sound.ensures.clean clean2 in
-    let h = tables_of s0 ready in
-    let y1 = stays_unchanged s0 s1 (c.in-Ok.ensures.same clean1 h) in
-    leaves_on s0 s1 s2 y1 ready (asked s0 s1 clean1 c.heads.ensures.survives ready) (c.are_all_sound.ensures.stop clean2)
-
-pub returns-in-Ok-true-clause-goes : goal.returns-in-Ok-true-clause-goes
-returns-in-Ok-true-clause-goes g c clean2 h =
-    let s0 = state g.S.Store c.args.conn.now in
-    let s1 = state g.S.Store c.heads.new.conn in
-    let s2 = state g.S.Store c.are_all_sound.new.conn in
-    let clean1 = c.are_all_sound.ensures.clean clean2 in
-    let y1 = stays_unchanged s0 s1 (c.in-Ok.ensures.same clean1 h) in
-    let t1 = tables_stay s0 s1 y1 h in
-    let y2 = stays_more s0 s1 s2 y1 (c.in-Ok-true.ensures.goes clean2 t1) in
-    y2
-
-pub returns-in-Ok-false-clause-clean : goal.returns-in-Ok-false-clause-clean
-returns-in-Ok-false-clause-clean g c clean2 =
-    let s0 = state g.S.Store c.args.conn.now in
-    let s1 = state g.S.Store c.heads.new.conn in
-    let clean1 = c.are_all_sound.ensures.clean clean2 in
-    clean_before s0 s1 c.heads.ensures.survives.clean clean1
-
-pub returns-in-Ok-false-clause-stop : goal.returns-in-Ok-false-clause-stop
-returns-in-Ok-false-clause-stop g c clean2 ready =
-    let s0 = state g.S.Store c.args.conn.now in
-    let s1 = state g.S.Store c.heads.new.conn in
-    let s2 = state g.S.Store c.are_all_sound.new.conn in
-    let clean1 = c.are_all_sound.ensures.clean clean2 in
-    let h = tables_of s0 ready in
-    let y1 = stays_unchanged s0 s1 (c.in-Ok.ensures.same clean1 h) in
-    leaves_on s0 s1 s2 y1 ready (asked s0 s1 clean1 c.heads.ensures.survives ready) (c.are_all_sound.ensures.stop clean2)
-
-pub returns-in-Ok-false-clause-goes : goal.returns-in-Ok-false-clause-goes
-returns-in-Ok-false-clause-goes g c clean2 h =
-    let s0 = state g.S.Store c.args.conn.now in
-    let s1 = state g.S.Store c.heads.new.conn in
-    let s2 = state g.S.Store c.are_all_sound.new.conn in
-    let clean1 = c.are_all_sound.ensures.clean clean2 in
-    let y1 = stays_unchanged s0 s1 (c.in-Ok.ensures.same clean1 h) in
-    let t1 = tables_stay s0 s1 y1 h in
-    let y2 = stays_more s0 s1 s2 y1 (c.in-Ok-false.ensures.goes clean2 t1) in
-    y2
-
-pub returns-clause-clean : goal.returns-clause-clean
-returns-clause-clean g c clean2 =
-    let s0 = state g.S.Store c.args.conn.now in
-    let s1 = state g.S.Store c.heads.new.conn in
-    let clean1 = c.are_all_sound.ensures.clean clean2 in
-    clean_before s0 s1 c.heads.ensures.survives.clean clean1
-
-pub returns-clause-stop : goal.returns-clause-stop
-returns-clause-stop g c clean2 ready =
-    let s0 = state g.S.Store c.args.conn.now in
-    let s1 = state g.S.Store c.heads.new.conn in
-    let s2 = state g.S.Store c.are_all_sound.new.conn in
-    let clean1 = c.are_all_sound.ensures.clean clean2 in
-    let h = tables_of s0 ready in
-    let y1 = stays_unchanged s0 s1 (c.in-Ok.ensures.same clean1 h) in
-    leaves_on s0 s1 s2 y1 ready (asked s0 s1 clean1 c.heads.ensures.survives ready) (c.are_all_sound.ensures.stop clean2)
-
-pub returns-clause-goes : goal.returns-clause-goes
-returns-clause-goes g c clean2 h =
-    let s0 = state g.S.Store c.args.conn.now in
-    let s1 = state g.S.Store c.heads.new.conn in
-    let s2 = state g.S.Store c.are_all_sound.new.conn in
-    let clean1 = c.are_all_sound.ensures.clean clean2 in
-    let y1 = stays_unchanged s0 s1 (c.in-Ok.ensures.same clean1 h) in
-    let t1 = tables_stay s0 s1 y1 h in
-    or_back_after s0 s1 s2 y1 (c.in-Err-are_all_sound.ensures.goes clean2 t1)
+pub returns-clause-reads : goal.returns-clause-reads
+returns-clause-reads g c =
+    let rows = read {A = Unit {0}} {x = tt} g.S.Store c.args.conn.now c.heads.new.conn
+    c.in-Ok.ensures.same c.heads.ensures.survives in
+    reads_err (reads_then rows c.in-Err-are_all_sound.ensures.reads)

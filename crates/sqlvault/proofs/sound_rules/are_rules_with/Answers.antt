@@ -1,9 +1,9 @@
+use Rattle.sqlite.specs.declared.error.Error.{Error}
 use Rattle.std.proofs.Common.{◌∙◌}
 use Rattle.sqlite.specs.Held.{state}
 use Rattle.mailsql.specs.Rows.{rows_in}
 use Rattle.sqlvault.proofs.RowFormLemmas.{policy_judged}
-use Rattle.sqlvault.proofs.WithinLemmas.{ready}
-use Rattle.sqlvault.proofs.StayLemmas.{asked}
+use Rattle.sqlvault.proofs.AskLemmas.{answered, unanswered, asks_passed}
 use Rattle.sqlvault.proofs.sound_rules.are_rules_with.Goals as goal
 
 pub returns-in_ok-are_rules-in-Ok-clause-judged : goal.returns-in_ok-are_rules-in-Ok-clause-judged
@@ -11,14 +11,18 @@ returns-in_ok-are_rules-in-Ok-clause-judged g c clean tables groups =
     let s0 = state g.S.Store c.args.conn.now in
     policy_judged (rows_in s0.now.trees) c.args.groups.items c.as_slice.result.now c.in_ok-are_rules-in-Ok.field-0 groups (c.as_slice.ensures.value ∙ c.in-Ok.ensures.ok clean tables) c.in_ok-are_rules-in-Ok.ensures
 
-pub returns-in_ok-are_rules-in-Ok-clause-stop : goal.returns-in_ok-are_rules-in-Ok-clause-stop
-returns-in_ok-are_rules-in-Ok-clause-stop g c clean ready =
-    let s0 = state g.S.Store c.args.conn.now in
-    let s1 = state g.S.Store c.all_rules.new.conn in
-    asked s0 s1 clean c.all_rules.ensures.survives ready
+pub returns-in_ok-are_rules-in-Ok-clause-asks : goal.returns-in_ok-are_rules-in-Ok-clause-asks
+returns-in_ok-are_rules-in-Ok-clause-asks g c =
+    answered g.S.Store c.args.conn.now c.all_rules.new.conn c.in-Ok.ensures.same
+    c.all_rules.ensures.survives
 
-pub returns-in-Err-clause-stop : goal.returns-in-Err-clause-stop
-returns-in-Err-clause-stop g c clean ready =
-    let s0 = state g.S.Store c.args.conn.now in
-    let s1 = state g.S.Store c.all_rules.new.conn in
-    asked s0 s1 clean c.all_rules.ensures.survives ready
+pub returns-in_err-are_rules-in-Ok-clause-asks : goal.returns-in_err-are_rules-in-Ok-clause-asks
+returns-in_err-are_rules-in-Ok-clause-asks g c =
+    let it = answered {A = Unit {0}} {E = Error} {x = tt} g.S.Store c.args.conn.now
+    c.all_rules.new.conn c.in-Ok.ensures.same c.all_rules.ensures.survives in
+    asks_passed c.from_residual.result _ c.from_residual.ensures.1 it
+
+pub returns-in-Err-clause-asks : goal.returns-in-Err-clause-asks
+returns-in-Err-clause-asks g c =
+    unanswered g.S.Store c.args.conn.now c.all_rules.new.conn c.in-Err.ensures.err
+    c.all_rules.ensures.survives

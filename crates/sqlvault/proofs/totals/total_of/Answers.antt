@@ -6,10 +6,9 @@ use Rattle.std.specs.Prelude.{filter}
 use Rattle.vault.specs.Changes.{kept_in}
 use Rattle.vault.proofs.ListLemmas.{length-map}
 use Rattle.sqlvault.specs.Keeps.{message_row}
-use Rattle.sqlvault.proofs.HoldsLemmas.{holds_undone, seen, holds_unchanged}
+use Rattle.sqlvault.proofs.HoldsLemmas.{seen}
 use Rattle.sqlvault.proofs.TotalLemmas.{rows_in_maildrop, total_is}
-use Rattle.sqlvault.proofs.StayLemmas.{clean_before}
-use Rattle.sqlvault.proofs.StopLemmas.{looked}
+use Rattle.sqlvault.proofs.FrameLemmas.{asked, failed}
 use Rattle.sqlvault.proofs.totals.total_of.Goals as goal
 
 pub returns-in-Ok-clause-total : goal.returns-in-Ok-clause-total
@@ -23,41 +22,10 @@ returns-in-Ok-clause-total g c held clean h =
     total_is held.messages d c.len.result c.octets_of.result (len ∙ ap (λ (l : List Message). length l) items ∙ length-map message_row (kept_in d held.messages))
     (c.octets_of.ensures (kept_in d held.messages) (c.as_slice.ensures.value ∙ items))
 
-pub returns-in-Err-clause-held : goal.returns-in-Err-clause-held
-returns-in-Err-clause-held g c held clean h = holds_undone (state g.S.Store c.args.conn.now) (state g.S.Store c.heads.new.conn) held (c.in-Err.ensures.err clean h.tables) h
+pub returns-in-Ok-clause-looks : goal.returns-in-Ok-clause-looks
+returns-in-Ok-clause-looks g c =
+    asked g.S.Store c.args.conn.now c.heads.new.conn c.in-Ok.ensures.same c.heads.ensures.survives
 
-pub returns-in-Ok-clause-held : goal.returns-in-Ok-clause-held
-returns-in-Ok-clause-held g c k clean1 h0 =
-    let s0 = state g.S.Store c.args.conn.now in
-    let s1 = state g.S.Store c.heads.new.conn in
-    holds_unchanged s0 s1 k (c.in-Ok.ensures.same clean1 h0.tables) h0
-
-pub returns-in-Ok-clause-clean : goal.returns-in-Ok-clause-clean
-returns-in-Ok-clause-clean g c clean1 =
-    let s0 = state g.S.Store c.args.conn.now in
-    let s1 = state g.S.Store c.heads.new.conn in
-    clean_before s0 s1 c.heads.ensures.survives.clean clean1
-
-pub returns-in-Ok-clause-up : goal.returns-in-Ok-clause-up
-returns-in-Ok-clause-up g c k clean1 up0 h0 = (c.in-Ok.ensures.same clean1 h0.tables).0.is_open
-
-pub returns-in-Ok-clause-stop : goal.returns-in-Ok-clause-stop
-returns-in-Ok-clause-stop g c k clean1 up0 h0 =
-    let s0 = state g.S.Store c.args.conn.now in
-    let s1 = state g.S.Store c.heads.new.conn in
-    looked s0 s1 k (λ d o m. g.met.S.Store.settled c.args.conn.now.store d o m) clean1 c.heads.ensures.survives up0 h0
-
-pub returns-in-Err-clause-clean : goal.returns-in-Err-clause-clean
-returns-in-Err-clause-clean g c clean1 =
-    let s0 = state g.S.Store c.args.conn.now in
-    let s1 = state g.S.Store c.heads.new.conn in
-    clean_before s0 s1 c.heads.ensures.survives.clean clean1
-
-pub returns-in-Err-clause-up : goal.returns-in-Err-clause-up
-returns-in-Err-clause-up g c k clean1 up0 h0 = tt
-
-pub returns-in-Err-clause-stop : goal.returns-in-Err-clause-stop
-returns-in-Err-clause-stop g c k clean1 up0 h0 =
-    let s0 = state g.S.Store c.args.conn.now in
-    let s1 = state g.S.Store c.heads.new.conn in
-    looked s0 s1 k (λ d o m. g.met.S.Store.settled c.args.conn.now.store d o m) clean1 c.heads.ensures.survives up0 h0
+pub returns-in-Err-clause-looks : goal.returns-in-Err-clause-looks
+returns-in-Err-clause-looks g c =
+    failed g.S.Store c.args.conn.now c.heads.new.conn c.in-Err.ensures.err c.heads.ensures.survives
