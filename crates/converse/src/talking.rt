@@ -43,7 +43,8 @@ pub fn talk<V: Vault, R: Source, W: Sink, E: Write>(
         × (result.0 ≡ 0 → (T : Trace) → Keeps (V.holds vault) T → V.is_clean result.1 → HasTalked V.holds result.1 (has_grown (V.faults vault) (V.faults result.1)) (opened_on T host.now boot removals) octets written (IsAtEnd (R.seen reader.new).left))
         × (result.0 ≡ 1 → (T : Trace) → Keeps (V.holds vault) T → V.is_clean result.1 → HasStopped V.holds result.1 (has_grown (V.faults vault) (V.faults result.1)) (reads_failed (R.seen reader.old) (R.seen reader.new)) (writes_failed (W.seen writer.old) (W.seen writer.new)) T (opened_on T host.now boot removals) octets written (IsAtEnd (R.seen reader.new).left)) }
     ensures clean { V.is_clean result.1 → V.is_clean vault }
-    ensures host_told { is_host host.now ≡ false → PrintsPart (E.contents err.old) (E.contents err.new) (fault_line Fault.BadHost) }
+    ensures host_told { is_host host.now ≡ false
+        → PrintsPart (E.contents err.old) (E.contents err.new) (fault_line Fault.BadHost) }
 {
     let mut office = match open_office(alloc, vault, host, boot, removals) {
         Ok(office) => office,
