@@ -20,9 +20,9 @@ use Rattle.serving.specs.declared.wire.Port.TheVariants.{Pop}
 use Rattle.serving.specs.Calls.{Call, Accepted, Closed}
 use Rattle.serving.specs.declared.links.Seat.{Seat}
 use Rattle.serving.specs.Wires.{opened_by}
-use Rattle.serving.specs.Works.{waits, wait_of, arrivals, arrival_of, closings, closing_of, none_waited, tells_none, moments, moment_of, openings, is_opening, refusals, is_refusal, HasCause, AreCaused, WasGiven, Came, seat_of, unseated_of, link_of, HaveCome, HasAccepted, AreAccepted, is_open_seat, is_shut_seat, closing, IsClosed, AreClosed}
+use Rattle.serving.specs.Works.{is_beside, waits, wait_of, arrivals, arrival_of, closings, closing_of, none_waited, tells_none, moments, moment_of, openings, is_opening, refusals, is_refusal, HasCause, AreCaused, WasGiven, Came, seat_of, unseated_of, link_of, HaveCome, HasAccepted, AreAccepted, is_open_seat, is_shut_seat, closing, IsClosed, AreClosed}
 use Rattle.serving.proofs.Accepting.{IsRefusal}
-use Rattle.serving.proofs.Working.{none_joined, count_joined, any_right, caused_then}
+use Rattle.serving.proofs.Working.{none_joined, count_joined, any_right, none_of, caused_then}
 
 -- ---- one link
 
@@ -53,6 +53,7 @@ module _ {V : Type 0} (Holds : V → Contents → Type 0) (IsClean : V → Type 
     refused = λ T s k. refl;
     closed = refl;
     seated = sym (append-nil seats);
+    apart = refl;
     caused = All-nil (HasCause [] []);
   }
 
@@ -70,6 +71,7 @@ module _ {V : Type 0} (Holds : V → Contents → Type 0) (IsClean : V → Type 
       refused = λ T s k. refl;
       closed = refl;
       seated = sym (append-nil seats);
+      apart = refl;
       caused = All-nil (HasCause [] (Accepted Pop None ∷ []));
     };
     enough = λ e. cc;
@@ -88,6 +90,7 @@ module _ {V : Type 0} (Holds : V → Contents → Type 0) (IsClean : V → Type 
       refused = λ T s k. ap (λ x. refusals ((event.Connect, x) ∷ [])) e;
       closed = refl;
       seated = is;
+      apart = refl;
       caused = All-cons (HasCause [] (Accepted Pop (Some link) ∷ [])) (event.Connect, m) [] tt (All-nil (HasCause [] (Accepted Pop (Some link) ∷ [])));
     };
     enough = λ e. omega arith;
@@ -106,6 +109,7 @@ module _ {V : Type 0} (Holds : V → Contents → Type 0) (IsClean : V → Type 
       refused = λ T s k. (let e = r T s k in rw e refl);
       closed = refl;
       seated = sym (append-nil seats);
+      apart = refl;
       caused = All-cons (HasCause [] (Accepted Pop (Some link) ∷ Closed Pop link ∷ [])) (event.Connect, m) [] tt (All-nil (HasCause [] (Accepted Pop (Some link) ∷ Closed Pop link ∷ [])));
     };
     enough = λ e. omega arith;
@@ -130,6 +134,7 @@ module _ {V : Type 0} (Holds : V → Contents → Type 0) (IsClean : V → Type 
     closed = filter_map-append closing_of c1 c2 ∙ (joined _ _ _ _ a.closed b.closed ∙ sym (filter_map-append unseated_of came1 came2));
     seated = b.seated
         ∙ (ap (λ xs. xs ++ filter_map seat_of came2) a.seated ∙ (append_assoc seats (filter_map seat_of came1) (filter_map seat_of came2) ∙ ap (λ xs. seats ++ xs) (sym (filter_map-append seat_of came1 came2))));
+    apart = none_of is_beside c1 c2 a.apart b.apart;
     caused = caused_then [] g1 g2 c1 c2 a.caused b.caused;
   }
 

@@ -17,22 +17,25 @@ use Rattle.serving.specs.Calls.{Call, Waited}
 use Rattle.serving.specs.declared.links.Seat.{Seat}
 use Rattle.serving.specs.declared.links.Links.{Links}
 use Rattle.serving.specs.declared.newcomers.Newcomer.{Newcomer}
-use Rattle.serving.specs.Works.{waits, wait_of, arrivals, arrival_of, closings, closing_of, none_waited, tells_none, is_cut_of, is_cut, moments, moment_of, openings, is_opening, refusals, is_refusal, HasCause, AreCaused, WasGiven, WasAsked, Part, Asking, Giving, IsQuiet, IsQuietFor, IsPassed, Came, seat_of, unseated_of, link_of, HasAccepted, AreAccepted, most_links, HadTurn, HadTurns, AreDeposits, is_open_seat, is_shut_seat, closing, AreClosed, link_of_seat, IsLateGone, AreLateGone}
+use Rattle.serving.specs.Works.{is_beside, waits, wait_of, arrivals, arrival_of, closings, closing_of, none_waited, tells_none, is_cut_of, is_cut, moments, moment_of, openings, is_opening, refusals, is_refusal, HasCause, AreCaused, WasGiven, WasAsked, Part, Asking, Giving, IsQuiet, IsQuietFor, IsPassed, Came, seat_of, unseated_of, link_of, HasAccepted, AreAccepted, most_links, HadTurn, HadTurns, AreDeposits, is_open_seat, is_shut_seat, closing, AreClosed, link_of_seat, IsLateGone, AreLateGone}
 use Rattle.serving.specs.Spools.{FileCall}
+use Rattle.serving.specs.HttpWorks.{AskedApart, DidApart, HasAcceptedBeside, HadHttpTurns}
+use Rattle.serving.specs.declared.requests.Exchange.{Exchange}
 use Rattle.serving.specs.Settings.{last_tried}
 use Rattle.serving.specs.SpoolTurns.{IsSpoolTurn, SpoolPart}
 use Rattle.serving.specs.Turns.{way_of, millis_of, HasCauseInTurn, IsTurn, Works}
 use Rattle.serving.proofs.Staying.{Fewer, deposit_same}
-use Rattle.serving.proofs.Working.{given_then, asked_then, count_joined, any_left, any_right, quiet_none, caused_more, fewer_quiet, fewer_gone, none_joined, turned_left, turned_right}
+use Rattle.serving.proofs.Working.{given_then, asked_then, none_of, count_joined, any_left, any_right, quiet_none, caused_more, fewer_quiet, fewer_gone, none_joined, turned_left, turned_right}
 
 -- ---- deposits
 
 pub deposits_quiet : (given : Log) → AreDeposits given → IsQuietFor [] given []
-deposits_quiet [] a = record { quiet = quiet_none; caused = All-nil (HasCause [] []) }
+deposits_quiet [] a = record { quiet = quiet_none; apart = refl; caused = All-nil (HasCause [] []) }
 deposits_quiet ((event.Deposit d class id text, m) ∷ given) a =
     let k = deposits_quiet given a in
     record {
       quiet = record { no_moments = k.quiet.no_moments; no_openings = k.quiet.no_openings; no_refusals = k.quiet.no_refusals; no_waits = refl; no_arrivals = refl; no_closings = refl };
+      apart = refl;
       caused = All-cons (HasCause [] []) (event.Deposit d class id text, m) given tt k.caused;
     }
 deposits_quiet ((event.Start host boot idle, m) ∷ given) a = absurd a
@@ -96,6 +99,10 @@ arrivals_of : (seats : List Seat) → arrivals (map closing seats) ≡ []
 arrivals_of [] = refl
 arrivals_of (s ∷ seats) = arrivals_of seats
 
+apart_of : (seats : List Seat) → list_any is_beside (map closing seats) ≡ false
+apart_of [] = refl
+apart_of (s ∷ seats) = apart_of seats
+
 none_contained : (s : Seat) → Contains [] s → ⊥
 none_contained s (k, w, is) = omega (arith, w)
 
@@ -131,17 +138,17 @@ accepted_so Holds IsClean Faults o o1 seats seats1 false g c all more a =
 -- ---- the turn
 
 module _ {V W S : Type 0} (Holds : V → Contents → Type 0) (IsClean : V → Type 0) (Faults : V → ℕ) (Asked : W → List Call → Type 0) (AskedFiles : S → List FileCall → Type 0) where
-  pub turn_done : (T : Trace) (now : ℕ) (links links_then : Links) (o o1 o2 o3 o4 o5 o6 : Office V) (w w1 w2 w3 w4 w5 w6 : W) (f f1 : S) (seats2 : List Seat) (goes : Bool)
+  pub turn_done : (T : Trace) (now : ℕ) (links links_then : Links) (o o1 o2 o3 o4 o5 o6 : Office V) (w w1 w2 w3 w4 w5 w6 : W) (f f1 : S) (seats2 : List Seat) (goes : Bool) (held : List Exchange) (more : Bool)
       → Part Holds IsClean Faults Asked o w o1 w1 (IsPassed (millis_of links) now)
       → Part Holds IsClean Faults Asked o1 w1 o2 w2 (AreAccepted Holds IsClean o1 o2 links.clients.seats.items seats2 64 goes)
-      → Asking Asked w2 w3 (IsQuiet [])
+      → Asking Asked w2 w3 (AskedApart (HasAcceptedBeside now 64 more links.requests.exchanges.items held))
       → Part Holds IsClean Faults Asked o2 w3 o3 w4 (HadTurns Holds IsClean o2 o3 (way_of links (length seats2)) seats2 seats2)
-      → Part Holds IsClean Faults Asked o3 w4 o4 w5 (IsQuietFor [])
+      → Part Holds IsClean Faults Asked o3 w4 o4 w5 (DidApart Holds IsClean o3 o4 (λ B L. HadHttpTurns now B L held links_then.requests.exchanges.items))
       → Giving Holds IsClean Faults o4 o5 (AreLateGone now links.clients.newcomers.seconds links.clients.newcomers.newcomers.items)
       → ((U : Trace) → StandsFor Holds o5 U → Asking Asked w5 w6 (AreClosed U seats2 links_then.clients.seats.items))
       → SpoolPart Holds IsClean Faults AskedFiles o5 f o6 f1 (IsSpoolTurn (last_tried links) (last_tried links_then))
       → StandsFor Holds o T → IsClean (vault_of o6) → Works Holds Faults Asked AskedFiles T now links o w f o6 links_then w6 f1
-  turn_done T now links links_then o o1 o2 o3 o4 o5 o6 w w1 w2 w3 w4 w5 w6 f f1 seats2 goes pass acc asked served reqs late close spool s k6 =
+  turn_done T now links links_then o o1 o2 o3 o4 o5 o6 w w1 w2 w3 w4 w5 w6 f f1 seats2 goes held more pass acc asked served reqs late close spool s k6 =
       let B = T.base in
       let L = T.log in
       let seconds = links.clients.newcomers.seconds in
@@ -241,11 +248,29 @@ module _ {V W S : Type 0} (Holds : V → Contents → Type 0) (IsClean : V → T
           is = append_assoc gs gz G3;
           tries = spool.facts (trace_of B ((gz ++ G3) ++ L)) (subst (λ l. StandsFor Holds o5 (trace_of B l)) (sym (append_assoc gz G3 L)) s5) k6;
         };
+        http = record {
+          held = held;
+          before = cp ++ ca;
+          arrivals = cq;
+          between = cl;
+          services = cr;
+          behind = cx;
+          goes = more;
+          calls_are = append_assoc (((cp ++ ca) ++ cq) ++ cl) cr cx ∙ (append_assoc ((cp ++ ca) ++ cq) cl (cr ++ cx) ∙ append_assoc (cp ++ ca) cq (cl ++ (cr ++ cx)));
+          apart = none_of is_beside (cp ++ ca) (cl ++ cx) (none_of is_beside cp ca (ap (list_any is_beside) pass.facts.calls_are) come.apart)
+              (none_of is_beside cl cx served.facts.of_seats.apart (ap (list_any is_beside) x.facts.calls_are ∙ apart_of (filter (is_shut_seat trace4) seats2)));
+          earlier = G2;
+          commands = gr;
+          later = gx;
+          given_are = refl;
+          accepted = asked.facts.1;
+          served = reqs.facts.did B (G2 ++ L) s3 k4;
+        };
         is = record {
           seats_are = come.seated;
           admitted = u4.admitted B L s k6;
           waited = only_first _ ((((cp ++ ca) ++ cq) ++ cl) ++ cr) cx waits_x
-              ∙ (seen_first cp ca cq cl cr cx wait_of asked.facts.no_waits lq.no_waits rq.no_waits ∙ (only_first wait_of cp ca come.no_waits ∙ waits_p));
+              ∙ (seen_first cp ca cq cl cr cx wait_of asked.facts.0.no_waits lq.no_waits rq.no_waits ∙ (only_first wait_of cp ca come.no_waits ∙ waits_p));
           waited_first = (((((ca ++ cq) ++ cl) ++ cr) ++ cx), ap (λ p. ((((p ++ ca) ++ cq) ++ cl) ++ cr) ++ cx) pass.facts.calls_are);
           told_first = (
             gx ++ (gr ++ (gl ++ ga)),
@@ -259,7 +284,7 @@ module _ {V W S : Type 0} (Holds : V → Contents → Type 0) (IsClean : V → T
               ∙ (only_last moment_of gr G2 rq.no_moments ∙ (only_last moment_of gl G1 lq.no_moments ∙ (only_last moment_of ga gp come.no_moments ∙ moments_p)));
           accepted = accepted_so Holds IsClean Faults o1 o2 links.clients.seats.items seats2 goes ga ca C5 (seen_second cp ca cq cl cr cx tells_none) acc.facts;
           arrived = only_first _ ((((cp ++ ca) ++ cq) ++ cl) ++ cr) cx arrivals_x
-              ∙ (seen_first cp ca cq cl cr cx arrival_of asked.facts.no_arrivals lq.no_arrivals rq.no_arrivals ∙ (only_last arrival_of cp ca arrivals_p ∙ come.arrived));
+              ∙ (seen_first cp ca cq cl cr cx arrival_of asked.facts.0.no_arrivals lq.no_arrivals rq.no_arrivals ∙ (only_last arrival_of cp ca arrivals_p ∙ come.arrived));
           opened =
               (let e5 = count_joined is_opening gs gz in
               let e4 = count_joined is_opening gx G3 in
@@ -292,7 +317,7 @@ module _ {V W S : Type 0} (Holds : V → Contents → Type 0) (IsClean : V → T
           caused = All-append Q gx G3 (All-append Q gs gz (by_cause gs caused_s) caused_z)
               (All-append Q gr G2 (by_cause gr caused_r) (All-append Q gl G1 (by_cause gl caused_l) (All-append Q ga gp (by_cause ga caused_a) (by_cause gp caused_p))));
           closed = filter_map-append closing_of ((((cp ++ ca) ++ cq) ++ cl) ++ cr) cx
-              ∙ (ap (λ zs. zs ++ closings cx) (seen_first cp ca cq cl cr cx closing_of asked.facts.no_closings lq.no_closings rq.no_closings ∙ (only_last closing_of cp ca closings_p ∙ come.closed))
+              ∙ (ap (λ zs. zs ++ closings cx) (seen_first cp ca cq cl cr cx closing_of asked.facts.0.no_closings lq.no_closings rq.no_closings ∙ (only_last closing_of cp ca closings_p ∙ come.closed))
               ∙ ap (λ zs. filter_map unseated_of came ++ zs) (closings_x ∙ ap (map link_of_seat) shut_same));
           left = x.facts.left ∙ open_same;
         };

@@ -15,6 +15,8 @@ pub mod Turns
 pub mod Arriving
 pub mod Finishing
 pub mod Quieting
+pub mod HttpWorking
+pub mod Bounds
 pub mod Trying
 pub mod Ongoing
 pub mod Unread

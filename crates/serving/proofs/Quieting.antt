@@ -1,93 +1,143 @@
 -- Parts of a turn that leave the clients' links and openings alone.
 use Rattle.std.proofs.Common.{◌≡◌, ℕ, List, [], ◌∷◌, ◌++◌, refl, Option}
 use Rattle.std.specs.Bool.{⊤}
-use Rattle.std.proofs.lemmas.List.{append-nil}
 use Rattle.std.proofs.lemmas.List.Elements.{All-nil, All-cons}
+use Rattle.vault.specs.Records.{Records}
 use Rattle.vault.specs.Changes.{Contents}
 use Rattle.office.specs.Answers.{AdminCommand}
 use Rattle.office.specs.Events.{Mark, Log}
 use Rattle.office.specs.Events as event
+use Rattle.office.specs.Taken.{trace_of}
+use Rattle.office.specs.Stands.{StandsFor, vault_of}
 use Rattle.office.specs.declared.office.Office.{Office}
 use Rattle.serving.specs.declared.wire.Link.{Link}
 use Rattle.serving.specs.declared.wire.Port.TheVariants.{Admin}
 use Rattle.serving.specs.declared.wire.Io.{Io}
 use Rattle.serving.specs.Calls.{Call, Accepted, Read, Wrote, Closed}
-use Rattle.serving.specs.Works.{HasCause, WasGiven, WasAsked, Part, Asking, Giving, IsQuiet, IsQuietFor}
-use Rattle.serving.proofs.Working.{given_none, given_then, asked_none, asked_one, asked_then, asking_then, part_then, quiet_then, quiet_none, caused_more, of_then}
+use Rattle.serving.specs.Works.{HasCause, WasGiven, Part, Asking, Giving, IsQuiet}
+use Rattle.serving.specs.HttpWorks.{DidApart, AskedApart}
+use Rattle.serving.proofs.Working.{given_none, asked_none, asked_one, asked_then, asking_then, part_then, quiet_then, quiet_none, caused_then}
 
 -- ---- one call
 
-quiet_accepted : (came : Option Link) → IsQuiet [] (Accepted Admin came ∷ [])
+pub quiet_accepted : (came : Option Link) → IsQuiet [] (Accepted Admin came ∷ [])
 quiet_accepted came = record { no_moments = refl; no_openings = refl; no_refusals = refl; no_waits = refl; no_arrivals = refl; no_closings = refl }
 
-quiet_read : (link : Link) (io : Io) (octets : List ℕ) → IsQuiet [] (Read Admin link io octets ∷ [])
+pub quiet_read : (link : Link) (io : Io) (octets : List ℕ) → IsQuiet [] (Read Admin link io octets ∷ [])
 quiet_read link io octets = record { no_moments = refl; no_openings = refl; no_refusals = refl; no_waits = refl; no_arrivals = refl; no_closings = refl }
 
-quiet_wrote : (link : Link) (io : Io) (octets : List ℕ) → IsQuiet [] (Wrote Admin link io octets ∷ [])
+pub quiet_wrote : (link : Link) (io : Io) (octets : List ℕ) → IsQuiet [] (Wrote Admin link io octets ∷ [])
 quiet_wrote link io octets = record { no_moments = refl; no_openings = refl; no_refusals = refl; no_waits = refl; no_arrivals = refl; no_closings = refl }
 
-quiet_closed : (link : Link) → IsQuiet [] (Closed Admin link ∷ [])
+pub quiet_closed : (link : Link) → IsQuiet [] (Closed Admin link ∷ [])
 quiet_closed link = record { no_moments = refl; no_openings = refl; no_refusals = refl; no_waits = refl; no_arrivals = refl; no_closings = refl }
 
 module _ {W : Type 0} (Asked : W → List Call → Type 0) where
-  pub asks_nothing : (w : W) → Asking Asked w w (IsQuiet [])
-  asks_nothing w = record { calls = []; was_asked = asked_none Asked w; facts = quiet_none }
+  pub asks_none : (w : W) (F : List Call → Type 0) → F [] → Asking Asked w w (AskedApart F)
+  asks_none w F f = record { calls = []; was_asked = asked_none Asked w; facts = (quiet_none, f) }
 
-  pub asks_accepted : (w w1 : W) (came : Option Link) → ((before : List Call) → Asked w before → Asked w1 (before ++ Accepted Admin came ∷ [])) → Asking Asked w w1 (IsQuiet [])
-  asks_accepted w w1 came is = record { calls = Accepted Admin came ∷ []; was_asked = asked_one Asked w w1 (Accepted Admin came) is; facts = quiet_accepted came }
+  pub asks_one : (w w1 : W) (call : Call) (F : List Call → Type 0) → IsQuiet [] (call ∷ []) → F (call ∷ []) → ((before : List Call) → Asked w before → Asked w1 (before ++ call ∷ [])) → Asking Asked w w1 (AskedApart F)
+  asks_one w w1 call F quiet f is = record { calls = call ∷ []; was_asked = asked_one Asked w w1 call is; facts = (quiet, f) }
 
-  pub asks_read : (w w1 : W) (link : Link) (io : Io) (octets : List ℕ) → ((before : List Call) → Asked w before → Asked w1 (before ++ Read Admin link io octets ∷ [])) → Asking Asked w w1 (IsQuiet [])
-  asks_read w w1 link io octets is = record { calls = Read Admin link io octets ∷ []; was_asked = asked_one Asked w w1 (Read Admin link io octets) is; facts = quiet_read link io octets }
+  pub asks_two : (w w1 w2 : W) (x y : Call) (F : List Call → Type 0) → IsQuiet [] (x ∷ []) → IsQuiet [] (y ∷ []) → F (x ∷ y ∷ [])
+      → ((before : List Call) → Asked w before → Asked w1 (before ++ x ∷ [])) → ((before : List Call) → Asked w1 before → Asked w2 (before ++ y ∷ [])) → Asking Asked w w2 (AskedApart F)
+  asks_two w w1 w2 x y F q1 q2 f is1 is2 = record {
+    calls = x ∷ y ∷ [];
+    was_asked = asked_then Asked w w1 w2 (x ∷ []) (y ∷ []) (asked_one Asked w w1 x is1) (asked_one Asked w1 w2 y is2);
+    facts = (quiet_then [] [] (x ∷ []) (y ∷ []) q1 q2, f);
+  }
 
-  pub asks_wrote : (w w1 : W) (link : Link) (io : Io) (octets : List ℕ) → ((before : List Call) → Asked w before → Asked w1 (before ++ Wrote Admin link io octets ∷ [])) → Asking Asked w w1 (IsQuiet [])
-  asks_wrote w w1 link io octets is = record { calls = Wrote Admin link io octets ∷ []; was_asked = asked_one Asked w w1 (Wrote Admin link io octets) is; facts = quiet_wrote link io octets }
+  pub asks_then : (w w1 w2 : W) (F G H : List Call → Type 0) → ((c1 c2 : List Call) → F c1 → G c2 → H (c1 ++ c2)) → Asking Asked w w1 (AskedApart F) → Asking Asked w1 w2 (AskedApart G) → Asking Asked w w2 (AskedApart H)
+  asks_then w w1 w2 F G H join a b =
+      asking_then Asked w w1 w2 (AskedApart F) (AskedApart G) (AskedApart H) (λ c1 c2 p q. (quiet_then [] [] c1 c2 p.0 q.0, join c1 c2 p.1 q.1)) a b
 
-  pub asks_closed : (w w1 : W) (link : Link) → ((before : List Call) → Asked w before → Asked w1 (before ++ Closed Admin link ∷ [])) → Asking Asked w w1 (IsQuiet [])
-  asks_closed w w1 link is = record { calls = Closed Admin link ∷ []; was_asked = asked_one Asked w w1 (Closed Admin link) is; facts = quiet_closed link }
+  -- of the same calls something else holds
+  pub asks_so : (w w1 : W) (F G : List Call → Type 0) → ((c : List Call) → F c → G c) → Asking Asked w w1 (AskedApart F) → Asking Asked w w1 (AskedApart G)
+  asks_so w w1 F G so a = record { calls = a.calls; was_asked = a.was_asked; facts = (a.facts.0, so a.calls a.facts.1) }
 
-  pub asks_both : (w w1 w2 : W) → Asking Asked w w1 (IsQuiet []) → Asking Asked w1 w2 (IsQuiet []) → Asking Asked w w2 (IsQuiet [])
-  asks_both w w1 w2 a b = asking_then Asked w w1 w2 (IsQuiet []) (IsQuiet []) (IsQuiet []) (λ c1 c2 p q. quiet_then [] [] c1 c2 p q) a b
+-- with no event, and of whose calls this holds
+abbrev pub NoEvent : (List Call → Type 0) → Records → Log → Log → List Call → Type 0
+NoEvent Facts B L given calls = (given ≡ []) × Facts calls
+
+-- this call, and no other
+abbrev pub IsOne : Call → List Call → Type 0
+IsOne call calls = calls ≡ call ∷ []
 
 -- ---- one event
 
 module _ {V : Type 0} (Holds : V → Contents → Type 0) (IsClean : V → Type 0) (Faults : V → ℕ) where
-  pub gives_nothing : (o : Office V) → Giving Holds IsClean Faults o o (λ given. IsQuietFor [] given [])
-  gives_nothing o = record { given = []; was_given = given_none Holds IsClean Faults o; facts = record { quiet = quiet_none; caused = All-nil (HasCause [] []) } }
+  pub gives_none : (o : Office V) (Did : Records → Log → Log → List Call → Type 0) → ((B : Records) (L : Log) → Did B L [] []) → Giving Holds IsClean Faults o o (λ given. DidApart Holds IsClean o o Did given [])
+  gives_none o Did did = record {
+    given = [];
+    was_given = given_none Holds IsClean Faults o;
+    facts = record { quiet = quiet_none; caused = All-nil (HasCause [] []); did = λ B L s k. did B L };
+  }
 
-  pub gives_command : (o o1 : Office V) (command : AdminCommand) (m : Mark) → WasGiven Holds IsClean Faults o o1 ((event.Admin command, m) ∷ []) → Giving Holds IsClean Faults o o1 (λ given. IsQuietFor [] given [])
-  gives_command o o1 command m is = record {
+  pub gives_command : (o o1 : Office V) (command : AdminCommand) (m : Mark) (Did : Records → Log → Log → List Call → Type 0) → WasGiven Holds IsClean Faults o o1 ((event.Admin command, m) ∷ [])
+      → ((B : Records) (L : Log) → StandsFor Holds o (trace_of B L) → IsClean (vault_of o1) → Did B L ((event.Admin command, m) ∷ []) [])
+      → Giving Holds IsClean Faults o o1 (λ given. DidApart Holds IsClean o o1 Did given [])
+  gives_command o o1 command m Did is did = record {
     given = (event.Admin command, m) ∷ [];
     was_given = is;
     facts = record {
       quiet = record { no_moments = refl; no_openings = refl; no_refusals = refl; no_waits = refl; no_arrivals = refl; no_closings = refl };
       caused = All-cons (HasCause [] []) (event.Admin command, m) [] tt (All-nil (HasCause [] []));
+      did = did;
     };
   }
 
 -- ---- parts
 
 module _ {V W : Type 0} (Holds : V → Contents → Type 0) (IsClean : V → Type 0) (Faults : V → ℕ) (Asked : W → List Call → Type 0) where
-  pub nothing_done : (o : Office V) (w : W) → Part Holds IsClean Faults Asked o w o w (IsQuietFor [])
-  nothing_done o w = record {
+  pub did_none : (o : Office V) (w : W) (Did : Records → Log → Log → List Call → Type 0) → ((B : Records) (L : Log) → Did B L [] []) → Part Holds IsClean Faults Asked o w o w (DidApart Holds IsClean o o Did)
+  did_none o w Did did = record {
     given = [];
     calls = [];
     was_given = given_none Holds IsClean Faults o;
     was_asked = asked_none Asked w;
-    facts = record { quiet = quiet_none; caused = All-nil (HasCause [] []) };
+    facts = record { quiet = quiet_none; caused = All-nil (HasCause [] []); did = λ B L s k. did B L };
   }
 
-  pub only_asked : (o : Office V) (w w1 : W) → Asking Asked w w1 (IsQuiet []) → Part Holds IsClean Faults Asked o w o w1 (IsQuietFor [])
-  only_asked o w w1 a = record {
+  pub did_asked : (o : Office V) (w w1 : W) (F : List Call → Type 0) (Did : Records → Log → Log → List Call → Type 0) → ((B : Records) (L : Log) (c : List Call) → F c → Did B L [] c)
+      → Asking Asked w w1 (AskedApart F) → Part Holds IsClean Faults Asked o w o w1 (DidApart Holds IsClean o o Did)
+  did_asked o w w1 F Did did a = record {
     given = [];
     calls = a.calls;
     was_given = given_none Holds IsClean Faults o;
     was_asked = a.was_asked;
-    facts = record { quiet = a.facts; caused = All-nil (HasCause [] a.calls) };
+    facts = record { quiet = a.facts.0; caused = All-nil (HasCause [] a.calls); did = λ B L s k. did B L a.calls a.facts.1 };
   }
 
-  pub only_given : (o o1 : Office V) (w : W) → Giving Holds IsClean Faults o o1 (λ given. IsQuietFor [] given []) → Part Holds IsClean Faults Asked o w o1 w (IsQuietFor [])
-  only_given o o1 w a = record { given = a.given; calls = []; was_given = a.was_given; was_asked = asked_none Asked w; facts = a.facts }
+  pub did_given : (o o1 : Office V) (w : W) (Did : Records → Log → Log → List Call → Type 0) → Giving Holds IsClean Faults o o1 (λ given. DidApart Holds IsClean o o1 Did given [])
+      → Part Holds IsClean Faults Asked o w o1 w (DidApart Holds IsClean o o1 (λ B L given calls. (calls ≡ []) × Did B L given []))
+  did_given o o1 w Did a = record {
+    given = a.given;
+    calls = [];
+    was_given = a.was_given;
+    was_asked = asked_none Asked w;
+    facts = record { quiet = a.facts.quiet; caused = a.facts.caused; did = λ B L s k. (refl, a.facts.did B L s k) };
+  }
 
-  pub both_done : (o o1 o2 : Office V) (w w1 w2 : W) → Part Holds IsClean Faults Asked o w o1 w1 (IsQuietFor []) → Part Holds IsClean Faults Asked o1 w1 o2 w2 (IsQuietFor []) → Part Holds IsClean Faults Asked o w o2 w2 (IsQuietFor [])
-  both_done o o1 o2 w w1 w2 a b =
-      part_then Holds IsClean Faults Asked o o1 o2 w w1 w2 (IsQuietFor []) (IsQuietFor []) (IsQuietFor []) (λ g1 g2 c1 c2 wa wb p q. of_then [] g1 g2 c1 c2 p q) a b
+  pub did_then : (o o1 o2 : Office V) (w w1 w2 : W) (D E F : Records → Log → Log → List Call → Type 0)
+      → ((B : Records) (L g1 g2 : Log) (c1 c2 : List Call) → D B L g1 c1 → E B (g1 ++ L) g2 c2 → F B L (g2 ++ g1) (c1 ++ c2))
+      → Part Holds IsClean Faults Asked o w o1 w1 (DidApart Holds IsClean o o1 D) → Part Holds IsClean Faults Asked o1 w1 o2 w2 (DidApart Holds IsClean o1 o2 E)
+      → Part Holds IsClean Faults Asked o w o2 w2 (DidApart Holds IsClean o o2 F)
+  did_then o o1 o2 w w1 w2 D E F join a b =
+      part_then Holds IsClean Faults Asked o o1 o2 w w1 w2 (DidApart Holds IsClean o o1 D) (DidApart Holds IsClean o1 o2 E) (DidApart Holds IsClean o o2 F)
+      (λ g1 g2 c1 c2 wa wb p q. record {
+        quiet = quiet_then g1 g2 c1 c2 p.quiet q.quiet;
+        caused = caused_then [] g1 g2 c1 c2 p.caused q.caused;
+        did = λ B L s k. join B L g1 g2 c1 c2 (p.did B L s (wb.clean k)) (q.did B (g1 ++ L) (wa.stands B L s (wb.clean k)) k);
+      })
+      a b
+
+  -- of the same part something else holds
+  pub did_so : (o o1 : Office V) (w w1 : W) (D E : Records → Log → Log → List Call → Type 0) → ((B : Records) (L g : Log) (c : List Call) → D B L g c → E B L g c)
+      → Part Holds IsClean Faults Asked o w o1 w1 (DidApart Holds IsClean o o1 D) → Part Holds IsClean Faults Asked o w o1 w1 (DidApart Holds IsClean o o1 E)
+  did_so o o1 w w1 D E so a = record {
+    given = a.given;
+    calls = a.calls;
+    was_given = a.was_given;
+    was_asked = a.was_asked;
+    facts = record { quiet = a.facts.quiet; caused = a.facts.caused; did = λ B L s k. so B L a.given a.calls (a.facts.did B L s k) };
+  }

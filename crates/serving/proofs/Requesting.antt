@@ -33,6 +33,7 @@ use Rattle.serving.specs.declared.wire.Io.{Io}
 use Rattle.serving.specs.declared.wire.Io.TheVariants.{Count, Later}
 use Rattle.serving.specs.Wires.{Told, ToldOfPorts, more_at, over_at, is_fault, is_live, has_read, has_written, has_closed, has_accepted, begun_at}
 use Rattle.serving.specs.Served.{IsCommand}
+use Rattle.serving.specs.HttpWorks.{ComesTo}
 use Rattle.serving.specs.Requests.{IsAnswer, IsResponse, ToRefusal, ToFault, ForMemory, ToCommand, Exchanges, IsExchange, AreExchanged, octets_of, IsKept, IsHeld, put_at, IsToldBy, IsGiven, NotYet, NoCommand, GivenOne, HasAsked, Asks, AsksNone, AsksMore, IsAnswering, IsAsked, AreOthersHeld, AreKeptBeside, AreHeld, Precedes}
 
 -- ---- one value more
@@ -68,6 +69,17 @@ asked_one Holds B L read office lent command o response h s a q r =
       stands = subst (λ x. StandsFor Holds office (trace_of B ((event.Admin command, x) ∷ L))) m s;
       admitted = λ before. (subst (IsAdmitted (trace_of B L) (event.Admin command)) m a, before);
       given = GivenOne command h.tag response q (answer_of B L command h.tag response (subst (λ x. IsToldBy x response) h.is r));
+    }
+
+-- the octets that ask for it come to this response
+pub comes_to : (B : Records) (L : Log) (read : List ℕ) (lent : ℕ → ℕ) (command : AdminCommand) (o : Outcome) (response : List ℕ)
+    → IsOutcome (trace_of B L) lent (event.Admin command) o → IsRequest read (Ok command) → IsToldBy o response → ComesTo B L read ((event.Admin command, mark_of o) ∷ []) (Some response)
+comes_to B L read lent command o response h q r =
+    let m : mark_of o ≡ Tagged h.tag = ap mark_of h.is ∙ command_mark B L (history (trace_of B L)) command h.tag in
+    record {
+      place = Some (length L);
+      is = subst (λ x. IsGiven B L read ((event.Admin command, x) ∷ L) (Some (length L)) (Some response)) (sym m)
+          (GivenOne command h.tag response q (answer_of B L command h.tag response (subst (λ x. IsToldBy x response) h.is r)));
     }
 
 pub asked_none : {V : Type 0} (Holds : V → Contents → Type 0) (B : Records) (L : Log) (read : List ℕ) (office : Office V) (r : Option (List ℕ))
@@ -124,24 +136,24 @@ none_newer L newer older command m is late = omega (arith, ap length is, late, l
 -- the log that was, or one command's event more
 given_grows : (B : Records) (L M : Log) (whole : List ℕ) (p : Option ℕ) (r : Option (List ℕ)) → IsGiven B L whole M p r
     → (r2 : Option (List ℕ)) (place : Option ℕ) (read written : List ℕ) → IsExchange B L r2 place read written → IsExchange B M r2 place read written
-given_grows B L _ whole _ _ NotYet r2 place read written x = x
+given_grows B L _ whole _ _ (NotYet short) r2 place read written x = x
 given_grows B L _ whole _ _ (NoCommand response is) r2 place read written x = x
 given_grows B L _ whole _ _ (GivenOne command t response q a) r2 place read written x = exchange_grows B L (event.Admin command) (Tagged t) r2 place read written x
 
 given_new : (B : Records) (L M : Log) (whole written : List ℕ) (p : Option ℕ) (r : Option (List ℕ)) → IsGiven B L whole M p r → written ≡ [] → IsExchange B M r p whole written
-given_new B L _ whole written _ _ NotYet w = (refl, w)
+given_new B L _ whole written _ _ (NotYet short) w = (refl, w)
 given_new B L _ whole written _ _ (NoCommand response is) w = (is, rw w refl)
 given_new B L _ whole written _ _ (GivenOne command t response q a) w = (ToCommand command t [] L response q refl a, rw w refl)
 
 given_place : (B : Records) (L M : Log) (whole : List ℕ) (p : Option ℕ) (r : Option (List ℕ)) → IsGiven B L whole M p r → (n : ℕ) → p ≡ Some n → (n ≡ length L) × (length M ≡ suc (length L))
-given_place B L _ whole _ _ NotYet n e = cc
+given_place B L _ whole _ _ (NotYet short) n e = cc
 given_place B L _ whole _ _ (NoCommand response is) n e = cc
 given_place B L _ whole _ _ (GivenOne command t response q a) n e = (sym (some_one e), refl) where
   some_one : {a b : ℕ} → Some a ≡ Some b → a ≡ b
   some_one e = cc
 
 given_length : (B : Records) (L M : Log) (whole : List ℕ) (p : Option ℕ) (r : Option (List ℕ)) → IsGiven B L whole M p r → length L ≤ length M
-given_length B L _ whole _ _ NotYet = omega arith
+given_length B L _ whole _ _ (NotYet short) = omega arith
 given_length B L _ whole _ _ (NoCommand response is) = omega arith
 given_length B L _ whole _ _ (GivenOne command t response q a) = omega arith
 
@@ -152,7 +164,7 @@ heads e = cc
 given_events : (B : Records) (L M : Log) (whole : List ℕ) (p : Option ℕ) (r : Option (List ℕ)) → IsGiven B L whole M p r
     → (newer older : Log) (command : AdminCommand) (m : Mark) → M ≡ newer ++ (event.Admin command, m) ∷ older
     → (p ≡ Some (length older)) ⊎ ((newer2 : Log) × (L ≡ newer2 ++ (event.Admin command, m) ∷ older))
-given_events B L _ whole _ _ NotYet newer older command m e = inr (newer, e)
+given_events B L _ whole _ _ (NotYet short) newer older command m e = inr (newer, e)
 given_events B L _ whole _ _ (NoCommand response is) newer older command m e = inr (newer, e)
 given_events B L _ whole _ _ (GivenOne c t response q a) [] older command m e = inl (ap (λ l. Some (length l)) (heads e))
 given_events B L _ whole _ _ (GivenOne c t response q a) (y ∷ newer) older command m e = inr (newer, heads e)
@@ -328,7 +340,7 @@ kept_given told2 x2 n whole items None w has at_n wrote reads zero_w = (at_n ∙
 kept_given told2 x2 n whole items (Some response) w has at_n wrote reads zero_w = (has, wrote ∙ ap (λ i. take i (octets_of response)) (sym zero_w))
 
 given_asks : (B : Records) (L first M : Log) (whole : List ℕ) (p : Option ℕ) (r : Option (List ℕ)) → IsGiven B L whole M p r → Asks first L → Asks first M
-given_asks B L first _ whole _ _ NotYet a = a
+given_asks B L first _ whole _ _ (NotYet short) a = a
 given_asks B L first _ whole _ _ (NoCommand response is) a = a
 given_asks B L first _ whole _ _ (GivenOne command t response q is) a = AsksMore command (Tagged t) L a
 

@@ -74,6 +74,7 @@ module _ {V : Type 0} (Holds : V → Contents → Type 0) (IsClean : V → Type 
       record {
         of_seat = record {
           quiet = record { no_moments = refl; no_openings = refl; no_refusals = refl; no_waits = refl; no_arrivals = refl; no_closings = refl };
+          apart = refl;
           caused = All-cons (HasCause (seat ∷ []) (Wrote Pop seat.link (Count n) octets ∷ [])) (event.Took seat.connection n, m) [] tt (All-nil (HasCause (seat ∷ []) (Wrote Pop seat.link (Count n) octets ∷ [])));
         };
         taken = rw (z, q) (omega arith);
@@ -85,6 +86,7 @@ module _ {V : Type 0} (Holds : V → Contents → Type 0) (IsClean : V → Type 
   wrote_later o seat octets = record {
     of_seat = record {
       quiet = record { no_moments = refl; no_openings = refl; no_refusals = refl; no_waits = refl; no_arrivals = refl; no_closings = refl };
+      apart = refl;
       caused = All-nil (HasCause (seat ∷ []) (Wrote Pop seat.link Later octets ∷ []));
     };
     taken = omega arith;
@@ -97,6 +99,7 @@ module _ {V : Type 0} (Holds : V → Contents → Type 0) (IsClean : V → Type 
   wrote_cut o o1 seat io octets m fault owes = record {
     of_seat = record {
       quiet = record { no_moments = refl; no_openings = refl; no_refusals = refl; no_waits = refl; no_arrivals = refl; no_closings = refl };
+      apart = refl;
       caused = All-cons (HasCause (seat ∷ []) (Wrote Pop seat.link io octets ∷ [])) (event.Gone seat.connection, m) []
           (seat, first_seat seat, refl, or_none ((seat.link.number == seat.link.number) && is_fault io) (cut_so seat.link.number io fault))
           (All-nil (HasCause (seat ∷ []) (Wrote Pop seat.link io octets ∷ [])));
@@ -114,6 +117,7 @@ module _ {V : Type 0} (Holds : V → Contents → Type 0) (IsClean : V → Type 
     heard_some o seat io octets piece m = record {
       of_seat = record {
         quiet = record { no_moments = refl; no_openings = refl; no_refusals = refl; no_waits = refl; no_arrivals = refl; no_closings = refl };
+        apart = refl;
         caused = All-cons (HasCause (seat ∷ []) (Read Pop seat.link io octets ∷ [])) (event.Bytes seat.connection piece, m) [] tt (All-nil (HasCause (seat ∷ []) (Read Pop seat.link io octets ∷ [])));
       };
       heard = inl (or_none (seat.link.number == seat.link.number) (same_number seat.link.number));
@@ -123,6 +127,7 @@ module _ {V : Type 0} (Holds : V → Contents → Type 0) (IsClean : V → Type 
     heard_later o seat io octets = record {
       of_seat = record {
         quiet = record { no_moments = refl; no_openings = refl; no_refusals = refl; no_waits = refl; no_arrivals = refl; no_closings = refl };
+        apart = refl;
         caused = All-nil (HasCause (seat ∷ []) (Read Pop seat.link io octets ∷ []));
       };
       heard = inl (or_none (seat.link.number == seat.link.number) (same_number seat.link.number));
@@ -132,6 +137,7 @@ module _ {V : Type 0} (Holds : V → Contents → Type 0) (IsClean : V → Type 
     heard_cut o seat io octets m fault = record {
       of_seat = record {
         quiet = record { no_moments = refl; no_openings = refl; no_refusals = refl; no_waits = refl; no_arrivals = refl; no_closings = refl };
+        apart = refl;
         caused = All-cons (HasCause (seat ∷ []) (Read Pop seat.link io octets ∷ [])) (event.Gone seat.connection, m) []
             (seat, first_seat seat, refl, or_none ((seat.link.number == seat.link.number) && is_fault io) (cut_so seat.link.number io fault))
             (All-nil (HasCause (seat ∷ []) (Read Pop seat.link io octets ∷ [])));
@@ -143,14 +149,14 @@ module _ {V : Type 0} (Holds : V → Contents → Type 0) (IsClean : V → Type 
     heard_none o seat idle = record { of_seat = of_none (seat ∷ []); heard = inr (refl, inl idle) }
 
     -- what was looked at stays unread
-    pub heard_unread : (o : Office V) (seat : Seat) (calls : List Call) → IsQuiet [] calls → IsUnread Holds o seat wait may calls → IsHeard Holds o seat wait may [] calls
-    heard_unread o seat calls quiet u = record { of_seat = record { quiet = quiet; caused = All-nil (HasCause (seat ∷ []) calls) }; heard = inr (refl, inr u) }
+    pub heard_unread : (o : Office V) (seat : Seat) (calls : List Call) → IsQuietFor (seat ∷ []) [] calls → IsUnread Holds o seat wait may calls → IsHeard Holds o seat wait may [] calls
+    heard_unread o seat calls quiet u = record { of_seat = quiet; heard = inr (refl, inr u) }
 
     -- it was looked at first
-    pub heard_behind : (o : Office V) (seat : Seat) (given : Log) (looks calls : List Call) → IsQuiet [] looks → IsHeard Holds o seat wait may given calls → IsHeard Holds o seat wait may given (looks ++ calls)
+    pub heard_behind : (o : Office V) (seat : Seat) (given : Log) (looks calls : List Call) → IsQuietFor (seat ∷ []) [] looks → IsHeard Holds o seat wait may given calls → IsHeard Holds o seat wait may given (looks ++ calls)
     heard_behind o seat given looks calls quiet a = record {
       of_seat = subst (λ g. IsQuietFor (seat ∷ []) g (looks ++ calls)) (append-nil given)
-          (of_then (seat ∷ []) [] given looks calls (record { quiet = quiet; caused = All-nil (HasCause (seat ∷ []) looks) }) a.of_seat);
+          (of_then (seat ∷ []) [] given looks calls quiet a.of_seat);
       heard =
           ⊎_elim
           (λ (r : list_any (is_read_of seat.link) calls ≡ true). inl (any_right (is_read_of seat.link) looks calls r))
@@ -349,7 +355,7 @@ module _ {V W : Type 0} (Holds : V → Contents → Type 0) (IsClean : V → Typ
       → Part Holds IsClean Faults Asked o w o w1 (IsHeard Holds o seat wait may)
   heard_asked o w w1 seat wait may calls asked a = record { given = []; calls = calls; was_given = given_none Holds IsClean Faults o; was_asked = asked; facts = a }
 
-  pub heard_after : (o o1 : Office V) (w w1 w2 : W) (seat : Seat) (wait : ℕ) (may : Bool) (looks : List Call) → IsQuiet [] looks → WasAsked Asked w w1 looks
+  pub heard_after : (o o1 : Office V) (w w1 w2 : W) (seat : Seat) (wait : ℕ) (may : Bool) (looks : List Call) → IsQuietFor (seat ∷ []) [] looks → WasAsked Asked w w1 looks
       → Part Holds IsClean Faults Asked o w1 o1 w2 (IsHeard Holds o seat wait may) → Part Holds IsClean Faults Asked o w o1 w2 (IsHeard Holds o seat wait may)
   heard_after o o1 w w1 w2 seat wait may looks quiet asked a = record {
     given = a.given;

@@ -3,6 +3,7 @@ use Rattle.std.proofs.Common.{◌≡◌, ℕ, zero, suc, ◌<◌, Bool, true, fa
 use Rattle.std.specs.Bool.{if◌then◌else◌}
 use Rattle.std.specs.List.{Contains}
 use Rattle.std.proofs.lemmas.Bool.{or_cases}
+use Rattle.std.proofs.lemmas.List.Elements.{All-nil}
 use Rattle.vault.specs.Changes.{Contents}
 use Rattle.office.specs.Events.{Trace}
 use Rattle.office.specs.Waiting as waiting
@@ -18,7 +19,7 @@ use Rattle.serving.specs.declared.pace.Pace.{Pace}
 use Rattle.serving.specs.declared.pace.Pace.TheVariants.{Free}
 use Rattle.serving.specs.declared.guesses.Guesses.{Guesses}
 use Rattle.serving.specs.Paces.{pace_by, pace_behind, is_shut, is_free, is_held, first_line, line_by, part_by}
-use Rattle.serving.specs.Works.{IsQuiet, IsKeptBack, IsUnread, HasLooked, Unlooked, NothingCame, PieceCame}
+use Rattle.serving.specs.Works.{HasCause, IsQuietFor, IsKeptBack, IsUnread, HasLooked, Unlooked, NothingCame, PieceCame}
 
 line_some : (newline : Option ℕ) (all : ℕ) → 0 < all → line_by newline all ≡ 0 → ⊥
 line_some None all h e = omega (arith, h, e)
@@ -55,10 +56,10 @@ shut_so false logged false now guesses origin pace is fast h =
     absurd (true≢false (sym h ∙ ap is_shut e))
 
 module _ {V : Type 0} (Holds : V → Contents → Type 0) (o : Office V) (seat : Seat) (wait : ℕ) (pace : Pace) where
-  pub looked_quiet : (n : ℕ) (calls : List Call) → HasLooked Holds o seat wait pace n calls → IsQuiet [] calls
-  looked_quiet n calls (Unlooked e f) = record { no_moments = refl; no_openings = refl; no_refusals = refl; no_waits = refl; no_arrivals = refl; no_closings = refl }
-  looked_quiet n calls (NothingCame io e) = record { no_moments = refl; no_openings = refl; no_refusals = refl; no_waits = refl; no_arrivals = refl; no_closings = refl }
-  looked_quiet n calls (PieceCame k piece count some is) = record { no_moments = refl; no_openings = refl; no_refusals = refl; no_waits = refl; no_arrivals = refl; no_closings = refl }
+  pub looked_quiet : (n : ℕ) (calls : List Call) → HasLooked Holds o seat wait pace n calls → IsQuietFor (seat ∷ []) [] calls
+  looked_quiet n calls (Unlooked e f) = record { quiet = record { no_moments = refl; no_openings = refl; no_refusals = refl; no_waits = refl; no_arrivals = refl; no_closings = refl }; apart = refl; caused = All-nil (HasCause (seat ∷ []) []) }
+  looked_quiet n calls (NothingCame io e) = record { quiet = record { no_moments = refl; no_openings = refl; no_refusals = refl; no_waits = refl; no_arrivals = refl; no_closings = refl }; apart = refl; caused = All-nil (HasCause (seat ∷ []) (Looked Pop seat.link io [] ∷ [])) }
+  looked_quiet n calls (PieceCame k piece count some is) = record { quiet = record { no_moments = refl; no_openings = refl; no_refusals = refl; no_waits = refl; no_arrivals = refl; no_closings = refl }; apart = refl; caused = All-nil (HasCause (seat ∷ []) (Looked Pop seat.link (Count k) piece ∷ [])) }
 
   pub unread_so : (may : Bool) (n : ℕ) (calls : List Call) → (is_shut pace ≡ true → may ≡ true) → n ≡ 0 → HasLooked Holds o seat wait pace n calls → IsUnread Holds o seat wait may calls
   unread_so may n calls shut z (Unlooked e f) = absurd (omega (arith, z))

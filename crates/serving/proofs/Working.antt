@@ -25,7 +25,7 @@ use Rattle.serving.specs.Calls.{Call, Looked}
 use Rattle.serving.specs.declared.wire.Port.TheVariants.{Pop}
 use Rattle.serving.specs.declared.links.Seat.{Seat}
 use Rattle.serving.specs.declared.newcomers.Newcomer.{Newcomer}
-use Rattle.serving.specs.Works.{waits, arrivals, closings, is_read_of, is_later_of, is_taking_of, is_cut_of, is_cut, most_writes, octets_taken, had_its_turn, moments, moment_of, openings, is_opening, refusals, is_refusal, AreNewlyAdmitted, is_failed, IsLateGone, AreLateGone, HasCause, AreCaused, WasGiven, WasAsked, Part, Asking, Giving, IsQuiet, IsQuietFor, IsKeptBack, StaysUnread, Way, HadTurn}
+use Rattle.serving.specs.Works.{waits, arrivals, closings, is_beside, is_read_of, is_later_of, is_taking_of, is_cut_of, is_cut, most_writes, octets_taken, had_its_turn, moments, moment_of, openings, is_opening, refusals, is_refusal, AreNewlyAdmitted, is_failed, IsLateGone, AreLateGone, HasCause, AreCaused, WasGiven, WasAsked, Part, Asking, Giving, IsQuiet, IsQuietFor, IsKeptBack, StaysUnread, Way, HadTurn}
 use Rattle.serving.proofs.Staying.{Fewer, fewer_framed, frame_read, frame_took, frame_gone, fewer_tick, deposit_same, fewer_command}
 
 -- ---- one after the other
@@ -199,14 +199,17 @@ caused_then seats g1 g2 c1 c2 a b =
     (caused_more seats seats c2 (c1 ++ c2) g2 (λ s h. h) (λ l h. any_right (is_cut_of l) c1 c2 h) b)
     (caused_more seats seats c1 (c1 ++ c2) g1 (λ s h. h) (λ l h. any_left (is_cut_of l) c1 c2 h) a)
 
+pub none_of : {A : Type 0} (p : A → Bool) (xs ys : List A) → list_any p xs ≡ false → list_any p ys ≡ false → list_any p (xs ++ ys) ≡ false
+none_of p xs ys a b = list_any-append p xs ys ∙ (ap (λ u. u || list_any p ys) a ∙ b)
+
 pub of_then : (seats : List Seat) (g1 g2 : Log) (c1 c2 : List Call) → IsQuietFor seats g1 c1 → IsQuietFor seats g2 c2 → IsQuietFor seats (g2 ++ g1) (c1 ++ c2)
-of_then seats g1 g2 c1 c2 a b = record { quiet = quiet_then g1 g2 c1 c2 a.quiet b.quiet; caused = caused_then seats g1 g2 c1 c2 a.caused b.caused }
+of_then seats g1 g2 c1 c2 a b = record { quiet = quiet_then g1 g2 c1 c2 a.quiet b.quiet; apart = none_of is_beside c1 c2 a.apart b.apart; caused = caused_then seats g1 g2 c1 c2 a.caused b.caused }
 
 pub of_more : (seats more : List Seat) (given : Log) (calls : List Call) → ((s : Seat) → Contains seats s → Contains more s) → IsQuietFor seats given calls → IsQuietFor more given calls
-of_more seats more given calls has a = record { quiet = a.quiet; caused = caused_more seats more calls calls given has (λ l h. h) a.caused }
+of_more seats more given calls has a = record { quiet = a.quiet; apart = a.apart; caused = caused_more seats more calls calls given has (λ l h. h) a.caused }
 
 pub of_none : (seats : List Seat) → IsQuietFor seats [] []
-of_none seats = record { quiet = quiet_none; caused = All-nil (HasCause seats []) }
+of_none seats = record { quiet = quiet_none; apart = refl; caused = All-nil (HasCause seats []) }
 
 -- ---- turns
 

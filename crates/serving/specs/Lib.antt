@@ -12,6 +12,7 @@ pub mod Served
 pub mod Settings
 pub mod Works
 pub mod HttpTurns
+pub mod HttpWorks
 pub mod SpoolTurns
 pub mod Turns
 pub mod Deposits

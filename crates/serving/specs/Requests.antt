@@ -20,7 +20,7 @@ use Rattle.adminhttp.specs.Request.{IsRequest}
 use Rattle.adminhttp.specs.Responses.{answer_response, fault_response, refusal_response}
 use Rattle.adminhttp.specs.declared.refusal.Refusal.{Refusal}
 use Rattle.adminhttp.specs.declared.refusal.Refusal.TheVariants.{StoreFailed, OutOfMemory}
-use Rattle.adminhttp.specs.declared.stop.Stop.TheVariants.{Bad, BadPolicy}
+use Rattle.adminhttp.specs.declared.stop.Stop.TheVariants.{More, Bad, BadPolicy}
 use Rattle.serving.specs.Wires.{Told, ToldOfPorts}
 use Rattle.serving.specs.declared.wire.Link.{Link}
 use Rattle.serving.specs.declared.requests.Response.{Response}
@@ -97,11 +97,13 @@ pub record AreHeld (told : Told) (x : Exchanges) (held : List Exchange) : Type 0
   pub each : All (IsHeld told x) held
   pub ascend : AllPairs Precedes held
 
--- a link is held more, from which nothing was read
-pub record HasOneMore (link : Link) (held held_then : List Exchange) : Type 0 where
+-- a link that came at this moment is held more, from which nothing was read
+pub record HasOneMore (now : ℕ) (link : Link) (held held_then : List Exchange) : Type 0 where
   pub last : Exchange
   pub is : held_then ≡ held ++ last ∷ []
   pub link_is : last.link ≡ link
+  pub since : last.since ≡ now
+  pub live : last.is_over ≡ false
   pub read : last.read.items ≡ []
   pub response : last.response ≡ None
   pub written : last.written ≡ 0
@@ -180,7 +182,7 @@ IsToldBy _ response = response ≡ refusal_response StoreFailed
 -- what comes of a request whose octets were read, behind a log: which log, which place the command's event has, and which response
 pub data IsGiven (B : Records) (L : Log) (read : List ℕ) : Log → (place : Option ℕ) → (response : Option (List ℕ)) → Type 0 where
   -- the request isn't whole
-  NotYet : IsGiven B L read L None None
+  NotYet : IsRequest read (Err More) → IsGiven B L read L None None
   -- it asks for no command
   NoCommand : (response : List ℕ) → IsResponse B L read None response → IsGiven B L read L None (Some response)
   -- it asks for one

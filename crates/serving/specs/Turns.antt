@@ -16,6 +16,7 @@ use Rattle.serving.specs.declared.links.Seat.{Seat}
 use Rattle.serving.specs.declared.links.Links.{Links}
 use Rattle.serving.specs.Works.{waits, arrivals, closings, moments, openings, refusals, AreNewlyAdmitted, HasCause, IsLateGone, is_failed, WasAsked, Came, seat_of, unseated_of, link_of, HasAccepted, most_links, Way, way_by, HadTurn, is_open_seat, is_shut_seat, link_of_seat}
 use Rattle.serving.specs.SpoolTurns.{IsSpoolTurn}
+use Rattle.serving.specs.HttpWorks.{HttpWorks}
 
 -- how long a turn waits: not at all where more can be done at once
 abbrev pub millis_of : Links → ℕ
@@ -79,3 +80,4 @@ pub record Works {V W S : Type 0} (Holds : V → Contents → Type 0) (Faults : 
   pub asked_files : (before : List FileCall) → AskedFiles spool before → AskedFiles spool_then (before ++ file_calls)
   pub is : IsTurn T (trace_of T.base (given ++ T.log)) now links links_then came seats given calls
   pub files : IsFileTurn T links links_then given file_calls
+  pub http : HttpWorks T now links links_then given calls

@@ -61,6 +61,15 @@ closing_of _ = None
 abbrev pub closings : List Call → List Link
 closings calls = filter_map closing_of calls
 
+-- it is of the administration's port
+abbrev pub is_beside : Call → Bool
+is_beside (Accepted Admin link) = true
+is_beside (Looked Admin link io octets) = true
+is_beside (Read Admin link io octets) = true
+is_beside (Wrote Admin link io octets) = true
+is_beside (Closed Admin link) = true
+is_beside _ = false
+
 -- a client's link was read from, whatever that gave
 abbrev pub is_read_of : Link → Call → Bool
 is_read_of link (Read Pop l io octets) = l.number == link.number
@@ -234,9 +243,10 @@ pub record IsQuiet (given : Log) (calls : List Call) : Type 0 where
   pub no_arrivals : arrivals calls ≡ []
   pub no_closings : closings calls ≡ []
 
--- a quiet part, whose events have their causes among these seats
+-- a quiet part of the clients' port, whose events have their causes among these seats
 pub record IsQuietFor (seats : List Seat) (given : Log) (calls : List Call) : Type 0 where
   pub quiet : IsQuiet given calls
+  pub apart : list_any is_beside calls ≡ false
   pub caused : AreCaused seats calls given
 
 -- ---- the parts
@@ -281,6 +291,7 @@ pub record HaveCome {V : Type 0} (Holds : V → Contents → Type 0) (IsClean : 
   pub refused : (T : Trace) → StandsFor Holds office T → IsClean (vault_of office_then) → refusals given ≡ length (filter_map unseated_of came)
   pub closed : closings calls ≡ filter_map unseated_of came
   pub seated : seats_then ≡ seats ++ filter_map seat_of came
+  pub apart : list_any is_beside calls ≡ false
   pub caused : AreCaused [] calls given
 
 -- how many links are accepted in one turn at most, and how many may be held

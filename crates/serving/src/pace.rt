@@ -1,11 +1,14 @@
 //! How what comes on a client's link is read: as it comes, or a line at a time, and but for logins
 //! that are kept back.
-ghost use Rattle.std.specs.Prelude.{◌≡◌, ◌≤◌, ◌<◌, ◌==◌, ℕ, List, true, false, None, length, position};
+ghost use Rattle.std.specs.Prelude.{◌≡◌, ◌≤◌, ◌<◌, ◌==◌, ℕ, List, true, false, None, length};
+ghost use Rattle.std.specs.Prelude.{position};
 ghost use Rattle.office.specs.Events.{Trace};
 ghost use Rattle.office.specs.Stands.{StandsFor};
 ghost use Rattle.serving.specs.Wires.{ToldOfPorts};
 ghost use Rattle.serving.specs.Works.{Asking, HasLooked};
-ghost use Rattle.serving.specs.Paces.{pace_by, pace_behind as pace_behind_by, is_free as is_free_by, is_shut as is_shut_by, is_held, first_line as first_line_of, part_by};
+ghost use Rattle.serving.specs.Paces.{pace_by, pace_behind as pace_behind_by};
+ghost use Rattle.serving.specs.Paces.{is_free as is_free_by, is_shut as is_shut_by, is_held};
+ghost use Rattle.serving.specs.Paces.{first_line as first_line_of, part_by};
 
 use crate::guesses::{Guesses, origin_of};
 use crate::links::Seat;

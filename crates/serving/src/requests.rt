@@ -1,5 +1,7 @@
 //! The links of the administration: one request over HTTP each, and its response.
-ghost use Rattle.std.specs.Prelude.{◌≡◌, ◌+◌, ◌<◌, ◌≤◌, ◌++◌, ℕ, List, [], Some, Ok, length, take, option_map, IfNone, IfOk, ◌⊎◌, true, false, if◌then◌else◌};
+ghost use Rattle.std.specs.Prelude.{◌≡◌, ◌+◌, ◌<◌, ◌≤◌, ◌==◌, ◌++◌, ℕ, Bool, List, [], Some, Ok};
+ghost use Rattle.std.specs.Prelude.{length, take, drop, option_map, IfNone, IfOk, ◌⊎◌, true, false};
+ghost use Rattle.std.specs.Prelude.{not, if◌then◌else◌};
 ghost use Rattle.vault.specs.Records.{Records};
 ghost use Rattle.office.specs.Events.{Log};
 ghost use Rattle.office.specs.Taken.{trace_of};
@@ -9,8 +11,11 @@ ghost use Rattle.adminhttp.specs.Request.{IsRequest};
 ghost use Rattle.adminhttp.specs.Responses.{refusal_response};
 ghost use Rattle.adminhttp.specs.declared.refusal.Refusal.TheVariants.{OutOfMemory};
 ghost use Rattle.serving.specs.HttpTurns.{is_late_at, most_exchanges, GoesOnAt, TheseGoOn};
-ghost use Rattle.serving.specs.Works.{Part, Giving, Asking, IsQuiet, IsQuietFor};
-ghost use Rattle.serving.specs.Requests.{octets_of, IsToldBy, HasAsked, HasOneMore, StillAnswers, StillAsked, AllStillAnswer, AllStillAsked};
+ghost use Rattle.serving.specs.HttpWorks.{ComeTo, GivesApart, DoesApart, AsksApart, HadTurnAt};
+ghost use Rattle.serving.specs.HttpWorks.{HasAcceptedBeside, HasHeard, Tells, HasTold, HasHttpTurn};
+ghost use Rattle.serving.specs.HttpWorks.{HadHttpTurns, response_of};
+ghost use Rattle.serving.specs.Requests.{octets_of, IsToldBy, HasAsked, HasOneMore, StillAnswers};
+ghost use Rattle.serving.specs.Requests.{StillAsked, AllStillAnswer, AllStillAsked};
 
 use crate::octets::part_of;
 use crate::wire::{Io, Link, Port, Wire};
@@ -110,7 +115,7 @@ impl Requests {
     /// Keeps a link that was accepted, unless eight are open or memory is short. Whether it is
     /// kept.
     fn keep(&mut self, link: Link, now: u64) -> bool
-        ensures kept { result ≡ true → HasOneMore link self.old.exchanges.items self.new.exchanges.items }
+        ensures kept { result ≡ true → HasOneMore now link self.old.exchanges.items self.new.exchanges.items }
         ensures refused { result ≡ false → self.new.exchanges.items ≡ self.old.exchanges.items }
         ensures few { length self.old.exchanges.items ≤ most_exchanges → length self.new.exchanges.items ≤ most_exchanges }
     {
@@ -152,7 +157,7 @@ fn response_to(alloc: Global, outcome: &Outcome) -> Response
 
 /// Gives a command to the office, and makes the response.
 fn command<V: Vault>(alloc: Global, office: &mut Office<V>, command: &AdminCommand) -> Response
-    ensures works { Giving V.holds V.is_clean V.faults office.old office.new (λ given. IsQuietFor [] given []) }
+    ensures works { (read : List ℕ) → IsRequest read (Ok (command_seen command.now)) → GivesApart V.holds V.is_clean V.faults office.old office.new (ComeTo read (Some (octets_of result))) }
     ensures asked { (B : Records) (L : Log) (read : List ℕ) → StandsFor V.holds office.old (trace_of B L) → IsRequest read (Ok (command_seen command.now)) → V.is_clean (vault_of office.new) → HasAsked V.holds B L read office.new (Some (octets_of result)) }
     ensures clean { V.is_clean (vault_of office.new) → V.is_clean (vault_of office.old) }
 {
@@ -163,7 +168,7 @@ fn command<V: Vault>(alloc: Global, office: &mut Office<V>, command: &AdminComma
 /// The response to what was read of a request; `None` while the request isn't whole. A command is
 /// given to the office.
 fn ask<V: Vault>(alloc: Global, office: &mut Office<V>, read: &[u8]) -> Option<Response>
-    ensures works { Giving V.holds V.is_clean V.faults office.old office.new (λ given. IsQuietFor [] given []) }
+    ensures works { GivesApart V.holds V.is_clean V.faults office.old office.new (ComeTo read.now (option_map octets_of result)) }
     ensures asked { (B : Records) (L : Log) → StandsFor V.holds office.old (trace_of B L) → V.is_clean (vault_of office.new) → HasAsked V.holds B L read.now office.new (option_map octets_of result) }
     ensures clean { V.is_clean (vault_of office.new) → V.is_clean (vault_of office.old) }
 {
@@ -183,7 +188,7 @@ fn take_piece<V: Vault>(
     exchange: &mut Exchange,
     piece: &[u8],
 )
-    ensures works { Giving V.holds V.is_clean V.faults office.old office.new (λ given. IsQuietFor [] given []) }
+    ensures works { GivesApart V.holds V.is_clean V.faults office.old office.new (ComeTo (exchange.old.read.items ++ piece.now) (response_of exchange.new)) }
     ensures asked { (B : Records) (L : Log) → StandsFor V.holds office.old (trace_of B L) → V.is_clean (vault_of office.new) → HasAsked V.holds B L (exchange.old.read.items ++ piece.now) office.new (option_map octets_of exchange.new.response) }
     ensures clean { V.is_clean (vault_of office.new) → V.is_clean (vault_of office.old) }
     ensures read { IfNone exchange.new.response (exchange.new.read.items ≡ exchange.old.read.items ++ piece.now) }
@@ -207,13 +212,16 @@ fn hear<V: Vault, W: Wire>(
     wire: &mut W,
     exchange: &mut Exchange,
 )
-    ensures works { Part V.holds V.is_clean V.faults W.asked office.old wire.old office.new wire.new (IsQuietFor []) }
+    ensures works { DoesApart V.holds V.is_clean V.faults W.asked office.old wire.old office.new wire.new (λ B L. HasHeard B L exchange.old exchange.new) }
     ensures asked { StillAsked V.holds V.is_clean W.tells office.old wire.old exchange.old office.new wire.new exchange.new }
     ensures clean { V.is_clean (vault_of office.new) → V.is_clean (vault_of office.old) }
     ensures link { exchange.new.link ≡ exchange.old.link }
     ensures since { exchange.new.since ≡ exchange.old.since }
 {
-    if exchange.is_over || exchange.response.is_some() {
+    if exchange.is_over {
+        return;
+    }
+    if exchange.response.is_some() {
         return;
     }
     let mut room = [0; MOST_AT_ONCE];
@@ -227,7 +235,7 @@ fn hear<V: Vault, W: Wire>(
 /// Writes once of a response. How many octets were taken. The exchange is over where nothing is
 /// left, or the link is broken.
 fn tell_once<W: Wire>(wire: &mut W, exchange: &mut Exchange) -> usize
-    ensures works { Asking W.asked wire.old wire.new (IsQuiet []) }
+    ensures works { AsksApart W.asked wire.old wire.new (Tells exchange.old exchange.new (if result == 0 then 0 else 1) result (not (result == 0))) }
     ensures since { exchange.new.since ≡ exchange.old.since }
     ensures answers { StillAnswers W.tells wire.old exchange.old wire.new exchange.new }
     ensures link { exchange.new.link ≡ exchange.old.link }
@@ -239,7 +247,8 @@ fn tell_once<W: Wire>(wire: &mut W, exchange: &mut Exchange) -> usize
         return 0;
     };
     let octets = response.octets();
-    if exchange.written >= octets.len() {
+    let whole = octets.len();
+    if exchange.written >= whole {
         exchange.is_over = true;
         return 0;
     }
@@ -247,6 +256,7 @@ fn tell_once<W: Wire>(wire: &mut W, exchange: &mut Exchange) -> usize
     match wire.write(Port::Admin, exchange.link, part) {
         Io::Count(count) => {
             exchange.written += count;
+            exchange.is_over = exchange.written >= whole;
             count
         }
         Io::Later => 0,
@@ -260,13 +270,13 @@ fn tell_once<W: Wire>(wire: &mut W, exchange: &mut Exchange) -> usize
 /// Writes a response as long as the link takes it, up to its share. Whether more can be written at
 /// once.
 fn tell<W: Wire>(wire: &mut W, exchange: &mut Exchange) -> bool
-    ensures works { Asking W.asked wire.old wire.new (IsQuiet []) }
+    ensures works { AsksApart W.asked wire.old wire.new (HasTold exchange.old exchange.new) }
     ensures since { exchange.new.since ≡ exchange.old.since }
     ensures answers { StillAnswers W.tells wire.old exchange.old wire.new exchange.new }
     ensures link { exchange.new.link ≡ exchange.old.link }
 {
     let mut written: usize = 0;
-    for _ in 0..MOST_WRITES {
+    for _times in 0..MOST_WRITES {
         let count = tell_once(wire, exchange);
         if count == 0 {
             return false;
@@ -288,7 +298,7 @@ fn serve_exchange<V: Vault, W: Wire>(
     exchange: &mut Exchange,
     now: u64,
 ) -> bool
-    ensures works { Part V.holds V.is_clean V.faults W.asked office.old wire.old office.new wire.new (IsQuietFor []) }
+    ensures works { DoesApart V.holds V.is_clean V.faults W.asked office.old wire.old office.new wire.new (λ B L. HasHttpTurn now B L exchange.old exchange.new) }
     ensures asked { StillAsked V.holds V.is_clean W.tells office.old wire.old exchange.old office.new wire.new exchange.new }
     ensures clean { V.is_clean (vault_of office.new) → V.is_clean (vault_of office.old) }
     ensures link { exchange.new.link ≡ exchange.old.link }
@@ -312,11 +322,12 @@ fn serve_place<V: Vault, W: Wire>(
     now: u64,
 ) -> bool
     requires { place < length requests.old.exchanges.items }
-    ensures works { Part V.holds V.is_clean V.faults W.asked office.old wire.old office.new wire.new (IsQuietFor []) }
+    ensures works { DoesApart V.holds V.is_clean V.faults W.asked office.old wire.old office.new wire.new (HadTurnAt now place result requests.old.exchanges.items requests.new.exchanges.items) }
     ensures asked { AllStillAsked V.holds V.is_clean W.tells office.old wire.old requests.old.exchanges.items office.new wire.new requests.new.exchanges.items }
     ensures clean { V.is_clean (vault_of office.new) → V.is_clean (vault_of office.old) }
     ensures left { length requests.new.exchanges.items + (if result then 0 else 1) ≡ length requests.old.exchanges.items }
     ensures before { take place requests.new.exchanges.items ≡ take place requests.old.exchanges.items }
+    ensures behind { drop (if result then place + 1 else place) requests.new.exchanges.items ≡ drop (place + 1) requests.old.exchanges.items }
     ensures stays { result ≡ true → GoesOnAt now requests.new.exchanges.items place }
 {
     let exchange = &mut requests.exchanges[place];
@@ -337,7 +348,7 @@ pub(crate) fn serve_requests<V: Vault, W: Wire>(
     requests: &mut Requests,
     now: u64,
 )
-    ensures works { Part V.holds V.is_clean V.faults W.asked office.old wire.old office.new wire.new (IsQuietFor []) }
+    ensures works { DoesApart V.holds V.is_clean V.faults W.asked office.old wire.old office.new wire.new (λ B L. HadHttpTurns now B L requests.old.exchanges.items requests.new.exchanges.items) }
     ensures asked { AllStillAsked V.holds V.is_clean W.tells office.old wire.old requests.old.exchanges.items office.new wire.new requests.new.exchanges.items }
     ensures clean { V.is_clean (vault_of office.new) → V.is_clean (vault_of office.old) }
     ensures stay { TheseGoOn now requests.new.exchanges.items }
@@ -356,7 +367,7 @@ pub(crate) fn serve_requests<V: Vault, W: Wire>(
 /// Whether one came.
 fn accept_request<W: Wire>(wire: &mut W, requests: &mut Requests, now: u64) -> bool
     ensures few { length requests.old.exchanges.items ≤ most_exchanges → length requests.new.exchanges.items ≤ most_exchanges }
-    ensures works { Asking W.asked wire.old wire.new (IsQuiet []) }
+    ensures works { AsksApart W.asked wire.old wire.new (HasAcceptedBeside now 1 result requests.old.exchanges.items requests.new.exchanges.items) }
     ensures answers { AllStillAnswer W.tells wire.old requests.old.exchanges.items wire.new requests.new.exchanges.items }
 {
     let Some(link) = wire.accept(Port::Admin) else {
@@ -372,10 +383,10 @@ fn accept_request<W: Wire>(wire: &mut W, requests: &mut Requests, now: u64) -> b
 /// Accepts the links of the administration that came, at most so many.
 pub(crate) fn accept_requests<W: Wire>(wire: &mut W, requests: &mut Requests, most: usize, now: u64)
     ensures few { length requests.old.exchanges.items ≤ most_exchanges → length requests.new.exchanges.items ≤ most_exchanges }
-    ensures works { Asking W.asked wire.old wire.new (IsQuiet []) }
+    ensures works { (goes : Bool) × AsksApart W.asked wire.old wire.new (HasAcceptedBeside now most goes requests.old.exchanges.items requests.new.exchanges.items) }
     ensures answers { AllStillAnswer W.tells wire.old requests.old.exchanges.items wire.new requests.new.exchanges.items }
 {
-    for _ in 0..most {
+    for _times in 0..most {
         if !accept_request(wire, requests, now) {
             return;
         }

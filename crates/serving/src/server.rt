@@ -5,6 +5,9 @@ ghost use Rattle.office.specs.Trace.{is_open};
 ghost use Rattle.office.specs.Taken.{AreAdmitted};
 ghost use Rattle.office.specs.Stands.{StandsFor};
 ghost use Rattle.serving.specs.Served.{Serves};
+ghost use Rattle.serving.specs.HttpTurns.{AreFew};
+ghost use Rattle.serving.specs.HttpWorks.{AreShort};
+ghost use Rattle.serving.specs.Settings.{settings, none_set};
 
 use crate::links::Links;
 use crate::noted_spool::NotedSpool;
@@ -34,6 +37,9 @@ pub fn begin_noted<V: Vault, W: Wire, S: Spool>(
     spool: S,
 ) -> Server<W, S>
     ensures serves { (T : Trace) → StandsFor V.holds office.now T → AreAdmitted T → ((c : ℕ) → is_open T c ≡ false) → Serves V.holds ⟦<NotedWire<W> as Wire>⟧.tells ⟦<NotedSpool<S> as Spool>⟧.tells T office.now result.wire result.spool result.links.clients.seats.items result.links.requests.exchanges.items }
+    ensures few { AreFew result.links }
+    ensures short { AreShort result.links }
+    ensures settings { settings result.links ≡ none_set }
 {
     let wire = NotedWire::new(wire);
     let spool = NotedSpool::new(spool);

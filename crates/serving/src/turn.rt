@@ -1,5 +1,7 @@
 //! One turn of serving.
-ghost use Rattle.std.specs.Prelude.{◌≡◌, ◌⊎◌, ◌<◌, ◌+◌, ◌≤◌, ◌==◌, ◌||◌, not, ℕ, Bool, true, false, nat_lt, slice_index_or, List, ◌∷◌, [], Option, Some, length, take, if◌then◌else◌};
+ghost use Rattle.std.specs.Prelude.{◌≡◌, ◌⊎◌, ◌<◌, ◌+◌, ◌≤◌, ◌==◌, ◌||◌, not, ℕ, Bool, true, false};
+ghost use Rattle.std.specs.Prelude.{nat_lt, slice_index_or, List, ◌∷◌, [], Option, Some, length};
+ghost use Rattle.std.specs.Prelude.{take, if◌then◌else◌};
 ghost use Rattle.office.specs.Events.{Trace};
 ghost use Rattle.office.specs.Trace.{is_open, history};
 ghost use Rattle.office.specs.Sessions.{live};
@@ -13,9 +15,13 @@ ghost use Rattle.serving.specs.Guesses.{AreNotedSo};
 ghost use Rattle.serving.specs.Newcomers.{others};
 ghost use Rattle.serving.specs.Paces.{has_freed, KeepsAside, LeavesSettings};
 ghost use Rattle.serving.specs.Settings.{settings, settings_of, none_set};
-ghost use Rattle.serving.specs.Works.{Part, Asking, Giving, IsPassed, AreAccepted, IsWritten, IsWrittenOut, IsHeard, HadTurns, AreClosed, IsClosed, share_by, may_keep, way_at, way_by, is_late, AreNoMoreLate, AreLateGone};
+ghost use Rattle.serving.specs.Works.{Part, Asking, Giving, IsPassed, AreAccepted, IsWritten};
+ghost use Rattle.serving.specs.Works.{IsWrittenOut, IsHeard, HadTurns, AreClosed, IsClosed};
+ghost use Rattle.serving.specs.Works.{share_by, may_keep, way_at, way_by, is_late, AreNoMoreLate};
+ghost use Rattle.serving.specs.Works.{AreLateGone};
 ghost use Rattle.serving.specs.Turns.{Works, millis_of};
 ghost use Rattle.serving.specs.HttpTurns.{AllGoOn, AreFew};
+ghost use Rattle.serving.specs.HttpWorks.{AreShort};
 ghost use Rattle.serving.specs.declared.newcomers.Newcomer.{Newcomer};
 ghost use Rattle.serving.specs.declared.links.Seat as declared;
 ghost use Rattle.arrayvec.specs.ArrayVec.{array_vec_len};
@@ -511,6 +517,7 @@ pub fn serve_turn<V: Vault, W: Wire, S: Spool>(
     ensures works { (T : Trace) → StandsFor V.holds office.old T → V.is_clean (vault_of office.new) → Works V.holds V.faults W.asked S.asked T now links.old office.old wire.old spool.old office.new links.new wire.new spool.new }
     ensures ongoing { AllGoOn now links.new }
     ensures few { AreFew links.old → AreFew links.new }
+    ensures short { (T : Trace) → StandsFor V.holds office.old T → V.is_clean (vault_of office.new) → AreShort links.old → AreShort links.new }
     ensures settings { settings links.new ≡ settings links.old }
 {
     let millis = millis_for(links);
@@ -535,6 +542,7 @@ pub fn begin<V: Vault, W: Wire, S: Spool>(
 ) -> Links
     ensures serves { (T : Trace) (t : ToldOfPorts) → StandsFor V.holds _office.now T → AreAdmitted T → ((c : ℕ) → is_open T c ≡ false) → W.tells _wire.now t → AreFresh t → S.tells _spool.now [] → Serves V.holds W.tells S.tells T _office.now _wire.now _spool.now result.clients.seats.items result.requests.exchanges.items }
     ensures few { AreFew result }
+    ensures short { AreShort result }
     ensures settings { settings result ≡ none_set }
 {
     taken_is_sent();

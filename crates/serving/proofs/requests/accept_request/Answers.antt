@@ -2,8 +2,11 @@ use Rattle.std.proofs.Common.{rules, ◌≡◌, true, false, refl, sym, ◌∙�
 use Rattle.serving.specs.Wires.{has_accepted, has_closed}
 use Rattle.serving.specs.Requests.{AreHeld}
 use Rattle.serving.proofs.Requesting.{exchanged_same, exchanged_accepted, held_refused, held_new}
-use Rattle.serving.proofs.Quieting.{asks_accepted, asks_closed, asks_both}
-use Rattle.std.proofs.Common.{None, Some}
+use Rattle.serving.proofs.Quieting.{quiet_accepted, quiet_closed, asks_one, asks_two}
+use Rattle.std.proofs.Common.{None, Some, [], ◌∷◌, arith}
+use Rattle.serving.specs.declared.wire.Port.TheVariants.{Admin}
+use Rattle.serving.specs.Calls.{Accepted, Closed}
+use Rattle.serving.specs.HttpWorks.{NoMore, IsKept, IsTurnedAway, HasAcceptedBeside}
 use Rattle.serving.proofs.requests.accept_request.Goals as goal
 
 pub returns-then-keep-clause-answers : goal.returns-then-keep-clause-answers
@@ -35,12 +38,28 @@ returns-clause-answers g c = λ x B start L pop s.
     })
 
 pub returns-in_default-clause-works : goal.returns-in_default-clause-works
-returns-in_default-clause-works g c = asks_accepted g.W.Wire.asked c.args.wire.now c.accept.new.self None c.in_default.ensures.called
+returns-in_default-clause-works g c =
+    let xs = c.args.requests.now.exchanges.items in
+    asks_one g.W.Wire.asked c.args.wire.now c.accept.new.self (Accepted Admin None) (HasAcceptedBeside c.args.now 1 false xs xs) (quiet_accepted None)
+    (record { came = 0; arrivals = []; come = NoMore xs; calls_are = refl; enough = λ e. cc }) c.in_default.ensures.called
 
 pub returns-then-keep-clause-works : goal.returns-then-keep-clause-works
-returns-then-keep-clause-works g c = asks_accepted g.W.Wire.asked c.args.wire.now c.accept.new.self (Some c.in-Some.link) c.in-Some.ensures.called
+returns-then-keep-clause-works g c =
+    let is_so : c.keep.result ≡ true = search rules in
+    let link = c.in-Some.link in
+    let xs = c.args.requests.now.exchanges.items in
+    let ys = c.keep.new.self.exchanges.items in
+    asks_one g.W.Wire.asked c.args.wire.now c.accept.new.self (Accepted Admin (Some link)) (HasAcceptedBeside c.args.now 1 true xs ys) (quiet_accepted (Some link))
+    (record { came = 1; arrivals = Accepted Admin (Some link) ∷ []; come = IsKept link xs ys ys 0 [] (c.keep.ensures.kept is_so) (NoMore ys); calls_are = refl; enough = λ e. omega arith }) c.in-Some.ensures.called
 
 pub returns-clause-works : goal.returns-clause-works
 returns-clause-works g c =
-    asks_both g.W.Wire.asked c.args.wire.now c.accept.new.self c.close.new.self (asks_accepted g.W.Wire.asked c.args.wire.now c.accept.new.self (Some c.in-Some.link) c.in-Some.ensures.called)
-    (asks_closed g.W.Wire.asked c.accept.new.self c.close.new.self c.in-Some.link c.close.ensures.called)
+    let is_so : c.keep.result ≡ false = search rules in
+    let link = c.in-Some.link in
+    let xs = c.args.requests.now.exchanges.items in
+    let ys = c.keep.new.self.exchanges.items in
+    let calls = Accepted Admin (Some link) ∷ Closed Admin link ∷ [] in
+    asks_two g.W.Wire.asked c.args.wire.now c.accept.new.self c.close.new.self (Accepted Admin (Some link)) (Closed Admin link) (HasAcceptedBeside c.args.now 1 true xs ys) (quiet_accepted (Some link)) (quiet_closed link)
+    (subst (λ l. HasAcceptedBeside c.args.now 1 true xs l calls) (sym (c.keep.ensures.refused is_so))
+    (record { came = 1; arrivals = calls; come = IsTurnedAway link xs xs 0 [] (NoMore xs); calls_are = refl; enough = λ e. omega arith }))
+    c.in-Some.ensures.called c.close.ensures.called

@@ -1,18 +1,54 @@
-use Rattle.serving.proofs.Quieting.{asks_nothing, asks_both}
+use Rattle.std.proofs.Common.{rules, ◌≡◌, ◌≤◌, ◌+◌, true, false, subst, arith}
+use Rattle.serving.specs.Works.{Asking}
+use Rattle.serving.specs.HttpWorks.{AskedApart, HasAcceptedBeside}
+use Rattle.serving.proofs.Quieting.{asks_none, asks_then, asks_so}
+use Rattle.serving.proofs.HttpWorking.{accepted_none, accepted_then, accepted_less}
 use Rattle.serving.proofs.requests.accept_requests.Goals as goal
 
-pub loop-init : goal.loop-init
-loop-init g c = record { answers = λ x B start L pop s. s; few = λ h. h; works = asks_nothing g.W.Wire.asked c.args.wire.now }
+pub loop-times-init : goal.loop-times-init
+loop-times-init g c =
+    let xs = c.args.requests.now.exchanges.items in
+    record { answers = λ x B start L pop s. s; few = λ h. h; works = asks_none g.W.Wire.asked c.args.wire.now (HasAcceptedBeside c.args.now 0 true xs xs) (accepted_none c.args.now xs) }
 
-pub loop-preserved : goal.loop-preserved
-loop-preserved g c =
-    let k = c.loop in
+pub loop-times-preserved : goal.loop-times-preserved
+loop-times-preserved g c =
+    let k = c.loop-times in
     let x = c.accept_request in
+    let xs = c.args.requests.now.exchanges.items in
+    let ys = k.requests.exchanges.items in
+    let zs = x.new.requests.exchanges.items in
+    let goes : x.result ≡ true = search rules in
+    let once = subst (λ b. Asking g.W.Wire.asked k.wire x.new.wire (AskedApart (HasAcceptedBeside c.args.now 1 b ys zs))) goes x.ensures.works in
     record {
       answers = λ y B start L pop s. x.ensures.answers y B start L pop (k.invariant.answers y B start L pop s);
       few = λ h. x.ensures.few (k.invariant.few h);
-      works = asks_both g.W.Wire.asked c.args.wire.now k.wire x.new.wire k.invariant.works x.ensures.works;
+      works = asks_then g.W.Wire.asked c.args.wire.now k.wire x.new.wire (HasAcceptedBeside c.args.now k._times true xs ys) (HasAcceptedBeside c.args.now 1 true ys zs) (HasAcceptedBeside c.args.now (k._times + 1) true xs zs)
+          (λ c1 c2 a b. accepted_then c.args.now xs ys zs k._times 1 true c1 c2 a b) k.invariant.works once;
     }
 
 pub returns-then-not-accept_request-clause-works : goal.returns-then-not-accept_request-clause-works
-returns-then-not-accept_request-clause-works g c = asks_both g.W.Wire.asked c.args.wire.now c.loop.wire c.accept_request.new.wire c.loop.invariant.works c.accept_request.ensures.works
+returns-then-not-accept_request-clause-works g c =
+    let k = c.loop-times in
+    let x = c.accept_request in
+    let now = c.args.now in
+    let most = c.args.most in
+    let xs = c.args.requests.now.exchanges.items in
+    let ys = k.requests.exchanges.items in
+    let zs = x.new.requests.exchanges.items in
+    let ends : x.result ≡ false = search rules in
+    let once = subst (λ b. Asking g.W.Wire.asked k.wire x.new.wire (AskedApart (HasAcceptedBeside now 1 b ys zs))) ends x.ensures.works in (
+      false,
+      asks_then g.W.Wire.asked c.args.wire.now k.wire x.new.wire (HasAcceptedBeside now k._times true xs ys) (HasAcceptedBeside now 1 false ys zs) (HasAcceptedBeside now most false xs zs)
+          (λ c1 c2 a b. accepted_less now xs zs (k._times + 1) most false _ (λ e. cc) (accepted_then now xs ys zs k._times 1 false c1 c2 a b)) k.invariant.works once,
+    )
+
+pub returns-clause-works : goal.returns-clause-works
+returns-clause-works g c =
+    let k = c.loop-times in
+    let xs = c.args.requests.now.exchanges.items in
+    let ys = k.requests.exchanges.items in
+    let h : c.args.most ≤ k._times = search rules in (
+      true,
+      asks_so g.W.Wire.asked c.args.wire.now k.wire (HasAcceptedBeside c.args.now k._times true xs ys) (HasAcceptedBeside c.args.now c.args.most true xs ys)
+          (λ cs a. accepted_less c.args.now xs ys k._times c.args.most true cs (λ e. h) a) k.invariant.works,
+    )

@@ -3,11 +3,12 @@ use Rattle.adminhttp.specs.Responses.{refusal_response}
 use Rattle.adminhttp.specs.declared.refusal.Refusal.TheVariants.{OutOfMemory}
 use Rattle.serving.specs.Requests.{octets_of, ToRefusal, ForMemory, NotYet, NoCommand}
 use Rattle.serving.proofs.Requesting.{asked_none, to_fault}
-use Rattle.serving.proofs.Quieting.{gives_nothing}
+use Rattle.serving.proofs.Quieting.{gives_none}
+use Rattle.serving.specs.HttpWorks.{ComeTo}
 use Rattle.serving.proofs.requests.ask.Goals as goal
 
 pub returns-in-More-clause-asked : goal.returns-in-More-clause-asked
-returns-in-More-clause-asked g c = λ B L stands clean. asked_none g.V.Vault.holds B L c.args.read.now c.args.office.now None stands NotYet
+returns-in-More-clause-asked g c = λ B L stands clean. asked_none g.V.Vault.holds B L c.args.read.now c.args.office.now None stands (NotYet c.in-More.ensures)
 
 pub returns-in-Bad-clause-asked : goal.returns-in-Bad-clause-asked
 returns-in-Bad-clause-asked g c = λ B L stands clean.
@@ -24,13 +25,21 @@ returns-in-NoMemory-clause-asked g c = λ B L stands clean.
     asked_none g.V.Vault.holds B L c.args.read.now c.args.office.now (Some (refusal_response OutOfMemory)) stands (NoCommand (refusal_response OutOfMemory) ForMemory)
 
 pub returns-in-More-clause-works : goal.returns-in-More-clause-works
-returns-in-More-clause-works g c = gives_nothing g.V.Vault.holds g.V.Vault.is_clean g.V.Vault.faults c.args.office.now
+returns-in-More-clause-works g c =
+    gives_none g.V.Vault.holds g.V.Vault.is_clean g.V.Vault.faults c.args.office.now (ComeTo c.args.read.now None) (λ B L. record { place = None; is = NotYet c.in-More.ensures })
 
 pub returns-in-Bad-clause-works : goal.returns-in-Bad-clause-works
-returns-in-Bad-clause-works g c = gives_nothing g.V.Vault.holds g.V.Vault.is_clean g.V.Vault.faults c.args.office.now
+returns-in-Bad-clause-works g c =
+    let response = refusal_response c.in-Bad.refusal in
+    gives_none g.V.Vault.holds g.V.Vault.is_clean g.V.Vault.faults c.args.office.now (ComeTo c.args.read.now (Some response)) (λ B L. record { place = None; is = NoCommand response (ToRefusal c.in-Bad.refusal c.in-Bad.ensures) })
 
 pub returns-in-BadPolicy-clause-works : goal.returns-in-BadPolicy-clause-works
-returns-in-BadPolicy-clause-works g c = gives_nothing g.V.Vault.holds g.V.Vault.is_clean g.V.Vault.faults c.args.office.now
+returns-in-BadPolicy-clause-works g c =
+    let response = octets_of c.made.result in
+    gives_none g.V.Vault.holds g.V.Vault.is_clean g.V.Vault.faults c.args.office.now (ComeTo c.args.read.now (Some response))
+    (λ B L. record { place = None; is = NoCommand response (to_fault B L c.args.read.now response c.in-BadPolicy.fault c.in-BadPolicy.ensures (c.made.ensures _ c.policy_response.ensures)) })
 
 pub returns-in-NoMemory-clause-works : goal.returns-in-NoMemory-clause-works
-returns-in-NoMemory-clause-works g c = gives_nothing g.V.Vault.holds g.V.Vault.is_clean g.V.Vault.faults c.args.office.now
+returns-in-NoMemory-clause-works g c =
+    let response = refusal_response OutOfMemory in
+    gives_none g.V.Vault.holds g.V.Vault.is_clean g.V.Vault.faults c.args.office.now (ComeTo c.args.read.now (Some response)) (λ B L. record { place = None; is = NoCommand response ForMemory })

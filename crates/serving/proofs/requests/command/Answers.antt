@@ -2,7 +2,9 @@ use Rattle.office.specs.Shown.{command_seen, outcome_seen}
 use Rattle.office.specs.Stands.{lent_by}
 use Rattle.office.specs.Taken.{trace_of}
 use Rattle.serving.specs.Requests.{octets_of}
-use Rattle.serving.proofs.Requesting.{asked_one}
+use Rattle.serving.proofs.Requesting.{asked_one, comes_to}
+use Rattle.serving.specs.HttpWorks.{ComeTo}
+use Rattle.std.proofs.Common.{Some}
 use Rattle.serving.proofs.Quieting.{gives_command}
 use Rattle.office.specs.Events as event
 use Rattle.office.specs.Outcomes.{mark_of}
@@ -16,9 +18,12 @@ returns-clause-asked g c = λ B L read stands asks clean.
     (c.step-outcome.ensures.outcome now stands clean) (c.step-outcome.ensures.stands now stands clean) (c.step-outcome.ensures.admitted now stands clean) asks c.response_to.ensures)
 
 pub returns-clause-works : goal.returns-clause-works
-returns-clause-works g c =
-    let o = c.args.office.now in
+returns-clause-works g c = λ read asks.
+    (let o = c.args.office.now in
     let o1 = c.step-outcome.new.self in
-    let m = mark_of (outcome_seen c.step-outcome.result) in
+    let out = outcome_seen c.step-outcome.result in
     let seen = command_seen c.args.command.now in
-    gives_command g.V.Vault.holds g.V.Vault.is_clean g.V.Vault.faults o o1 seen m (given_one g.V.Vault.holds g.V.Vault.is_clean g.V.Vault.faults o o1 (event.Admin seen) (outcome_seen c.step-outcome.result) c.step-outcome.ensures.clean c.step-outcome.ensures.stands c.step-outcome.ensures.admitted c.step-outcome.ensures.counted c.step-outcome.ensures.cause)
+    let response = octets_of c.response_to.result in
+    gives_command g.V.Vault.holds g.V.Vault.is_clean g.V.Vault.faults o o1 seen (mark_of out) (ComeTo read (Some response))
+    (given_one g.V.Vault.holds g.V.Vault.is_clean g.V.Vault.faults o o1 (event.Admin seen) out c.step-outcome.ensures.clean c.step-outcome.ensures.stands c.step-outcome.ensures.admitted c.step-outcome.ensures.counted c.step-outcome.ensures.cause)
+    (λ B L stands clean. comes_to B L read (lent_by o) seen out response (c.step-outcome.ensures.outcome (trace_of B L) stands clean) asks c.response_to.ensures))

@@ -3,7 +3,14 @@ use Rattle.serving.specs.declared.wire.Io.TheVariants.{Count, Later}
 use Rattle.serving.specs.Wires.{counted, is_fault, has_read}
 use Rattle.serving.specs.Requests.{AreKeptBeside}
 use Rattle.serving.proofs.Requesting.{heard, waited, asked_still, none_more, over_apart, straight_on}
-use Rattle.serving.proofs.Quieting.{nothing_done, only_asked, only_given, both_done, asks_read}
+use Rattle.serving.proofs.Quieting.{NoEvent, IsOne, did_none, did_asked, did_given, did_then, quiet_read, asks_one}
+use Rattle.serving.specs.declared.requests.Exchange.{Exchange}
+use Rattle.std.proofs.Common.{true, ◌∷◌, ◌++◌, sym, ◌∙◌}
+use Rattle.std.specs.Prelude.{is_some}
+use Rattle.serving.specs.declared.wire.Port.TheVariants.{Admin}
+use Rattle.serving.specs.Calls.{Read}
+use Rattle.serving.proofs.HttpWorking.{heard_piece}
+use Rattle.serving.specs.HttpWorks.{HasHeard, IsOver, HasResponse, GaveNothing, GaveItsEnd, ComeTo, ComesTo, response_of}
 use Rattle.serving.proofs.requests.hear.Goals as goal
 
 pub returns-in-Count-clause-asked : goal.returns-in-Count-clause-asked
@@ -44,19 +51,59 @@ returns-in-End-clause-asked g c = λ B start L pop others s clean.
     tells refl (λ k. none_more n k told.read) (λ k. refl) (λ k ne. over_apart n k (is_fault io) told.over ne)
     (straight_on told n s.is.exchanged.straight held.accepted (held.live goes)) refl refl refl refl (λ q. cc)))
 
+pub returns-then-exchange-clause-works : goal.returns-then-exchange-clause-works
+returns-then-exchange-clause-works g c =
+    let e = c.args.exchange.now in
+    let over : e.is_over ≡ true = search rules in
+    did_none g.V.Vault.holds g.V.Vault.is_clean g.V.Vault.faults g.W.Wire.asked c.args.office.now c.args.wire.now (λ B L. HasHeard B L e e) (λ B L. IsOver over refl)
+
+pub returns-then-is_some-clause-works : goal.returns-then-is_some-clause-works
+returns-then-is_some-clause-works g c =
+    let e = c.args.exchange.now in
+    let some : is_some e.response ≡ true = search rules in
+    did_none g.V.Vault.holds g.V.Vault.is_clean g.V.Vault.faults g.W.Wire.asked c.args.office.now c.args.wire.now (λ B L. HasHeard B L e e) (λ B L. HasResponse some refl)
+
 pub returns-in-Count-clause-works : goal.returns-in-Count-clause-works
 returns-in-Count-clause-works g c =
     let o = c.args.office.now in
     let w = c.args.wire.now in
     let w1 = c.read.new.self in
     let o1 = c.take_piece.new.office in
-    both_done g.V.Vault.holds g.V.Vault.is_clean g.V.Vault.faults g.W.Wire.asked o o o1 w w1 w1 (only_asked g.V.Vault.holds g.V.Vault.is_clean g.V.Vault.faults g.W.Wire.asked o w w1 (asks_read g.W.Wire.asked w w1 c.args.exchange.now.link (Count c.in-Count.count) _ c.in-Count.ensures.called)) (only_given g.V.Vault.holds g.V.Vault.is_clean g.V.Vault.faults g.W.Wire.asked o o1 w1 c.take_piece.ensures.works)
+    let e = c.args.exchange.now in
+    let e2 = c.take_piece.new.exchange in
+    let n = c.in-Count.count in
+    let piece = take n c.read.new.buffer in
+    let call = Read Admin e.link (Count n) piece in
+    let none : e.response ≡ None = search rules in
+    let goes : e.is_over ≡ false = search rules in
+    did_then g.V.Vault.holds g.V.Vault.is_clean g.V.Vault.faults g.W.Wire.asked o o o1 w w1 w1 (NoEvent (IsOne call)) (λ B L given calls. (calls ≡ []) × ComesTo B L (e.read.items ++ piece) given (response_of e2)) (λ B L. HasHeard B L e e2)
+    (λ B L g1 g2 c1 c2 p q. heard_piece B L e e2 n piece g1 g2 c1 c2 none (c.take_piece.ensures.over ∙ goes) c.take_piece.ensures.read p.0 p.1 q)
+    (did_asked g.V.Vault.holds g.V.Vault.is_clean g.V.Vault.faults g.W.Wire.asked o w w1 (IsOne call) (NoEvent (IsOne call)) (λ B L cs is. (refl, is))
+    (asks_one g.W.Wire.asked w w1 call (IsOne call) (quiet_read e.link (Count n) piece) refl c.in-Count.ensures.called))
+    (did_given g.V.Vault.holds g.V.Vault.is_clean g.V.Vault.faults g.W.Wire.asked o o1 w1 (ComeTo (e.read.items ++ piece) (response_of e2)) c.take_piece.ensures.works)
 
 pub returns-in-Later-clause-works : goal.returns-in-Later-clause-works
-returns-in-Later-clause-works g c = only_asked g.V.Vault.holds g.V.Vault.is_clean g.V.Vault.faults g.W.Wire.asked c.args.office.now c.args.wire.now c.read.new.self (asks_read g.W.Wire.asked c.args.wire.now c.read.new.self c.args.exchange.now.link Later _ c.in-Later.ensures.called)
+returns-in-Later-clause-works g c =
+    let e = c.args.exchange.now in
+    let w = c.args.wire.now in
+    let w1 = c.read.new.self in
+    let call = Read Admin e.link Later [] in
+    let none : e.response ≡ None = search rules in
+    did_asked g.V.Vault.holds g.V.Vault.is_clean g.V.Vault.faults g.W.Wire.asked c.args.office.now w w1 (IsOne call) (λ B L. HasHeard B L e e) (λ B L cs is. subst (HasHeard B L e e []) (sym is) (GaveNothing none refl))
+    (asks_one g.W.Wire.asked w w1 call (IsOne call) (quiet_read e.link Later []) refl c.in-Later.ensures.called)
 
 pub returns-in-End-clause-works : goal.returns-in-End-clause-works
-returns-in-End-clause-works g c = only_asked g.V.Vault.holds g.V.Vault.is_clean g.V.Vault.faults g.W.Wire.asked c.args.office.now c.args.wire.now c.read.new.self (asks_read g.W.Wire.asked c.args.wire.now c.read.new.self c.args.exchange.now.link c.read.result _ c.read.ensures.called)
-
-pub returns-then-exchange-clause-works : goal.returns-then-exchange-clause-works
-returns-then-exchange-clause-works g c = nothing_done g.V.Vault.holds g.V.Vault.is_clean g.V.Vault.faults g.W.Wire.asked c.args.office.now c.args.wire.now
+returns-in-End-clause-works g c =
+    let e = c.args.exchange.now in
+    let w = c.args.wire.now in
+    let w1 = c.read.new.self in
+    let io = c.read.result in
+    let octets = counted io c.read.new.buffer in
+    let call = Read Admin e.link io octets in
+    let none : e.response ≡ None = search rules in
+    let fault : is_fault io ≡ true = search rules in
+    let empty : octets ≡ [] = search rules in
+    let e2 : Exchange = record { link = e.link; since = e.since; read = e.read; response = e.response; written = e.written; is_over = true } in
+    did_asked g.V.Vault.holds g.V.Vault.is_clean g.V.Vault.faults g.W.Wire.asked c.args.office.now w w1 (IsOne call) (λ B L. HasHeard B L e e2)
+    (λ B L cs is. subst (HasHeard B L e e2 []) (sym is) (subst (λ xs. HasHeard B L e e2 [] (Read Admin e.link io xs ∷ [])) (sym empty) (GaveItsEnd io none fault refl)))
+    (asks_one g.W.Wire.asked w w1 call (IsOne call) (quiet_read e.link io octets) refl c.read.ensures.called)

@@ -1,8 +1,10 @@
 use Rattle.std.proofs.Common.{refl}
 use Rattle.serving.specs.Requests.{AreKeptBeside}
 use Rattle.serving.proofs.Requesting.{asked_still, waited}
-use Rattle.serving.proofs.Quieting.{nothing_done, only_asked, both_done}
-use Rattle.std.proofs.Common.{rules, ◌≡◌, false, ◌∙◌, sym}
+use Rattle.serving.proofs.Quieting.{NoEvent, did_none, did_asked, did_then}
+use Rattle.serving.proofs.HttpWorking.{turn_served}
+use Rattle.serving.specs.HttpWorks.{HasHeard, HasTold, HasHttpTurn, IsLate}
+use Rattle.std.proofs.Common.{rules, ◌≡◌, true, false, [], ◌∙◌, sym}
 use Rattle.serving.proofs.Ongoing.{still_timely}
 use Rattle.serving.proofs.requests.serve_exchange.Goals as goal
 
@@ -19,14 +21,6 @@ returns-clause-asked g c = λ B start L pop others s clean.
     asked_still g.V.Vault.holds g.W.Wire.tells B start L pop c.hear.new.office c.hear.new.wire c.tell.new.wire (AreKeptBeside others c.hear.new.exchange) (AreKeptBeside others c.tell.new.exchange) k
     (c.tell.ensures.answers k.x B start k.log pop others k.is))
 
-pub returns-then-is_late-clause-works : goal.returns-then-is_late-clause-works
-returns-then-is_late-clause-works g c = nothing_done g.V.Vault.holds g.V.Vault.is_clean g.V.Vault.faults g.W.Wire.asked c.args.office.now c.args.wire.now
-
-pub returns-clause-works : goal.returns-clause-works
-returns-clause-works g c =
-    both_done g.V.Vault.holds g.V.Vault.is_clean g.V.Vault.faults g.W.Wire.asked c.args.office.now c.hear.new.office c.hear.new.office c.args.wire.now c.hear.new.wire c.tell.new.wire c.hear.ensures.works
-    (only_asked g.V.Vault.holds g.V.Vault.is_clean g.V.Vault.faults g.W.Wire.asked c.hear.new.office c.hear.new.wire c.tell.new.wire c.tell.ensures.works)
-
 pub returns-then-is_late-clause-timely : goal.returns-then-is_late-clause-timely
 returns-then-is_late-clause-timely g c = λ q. cc
 
@@ -34,3 +28,19 @@ pub returns-clause-timely : goal.returns-clause-timely
 returns-clause-timely g c =
     let no : c.is_late.result ≡ false = search rules in
     λ q. still_timely c.args.now c.args.exchange.now c.tell.new.exchange (c.tell.ensures.since ∙ c.hear.ensures.since) (sym c.is_late.ensures ∙ no)
+
+pub returns-then-is_late-clause-works : goal.returns-then-is_late-clause-works
+returns-then-is_late-clause-works g c =
+    let yes : c.is_late.result ≡ true = search rules in
+    did_none g.V.Vault.holds g.V.Vault.is_clean g.V.Vault.faults g.W.Wire.asked c.args.office.now c.args.wire.now (λ B L. HasHttpTurn c.args.now B L c.args.exchange.now _) (λ B L. IsLate (sym c.is_late.ensures ∙ yes) refl)
+
+pub returns-clause-works : goal.returns-clause-works
+returns-clause-works g c =
+    let no : c.is_late.result ≡ false = search rules in
+    let e = c.args.exchange.now in
+    let e1 = c.hear.new.exchange in
+    let e2 = c.tell.new.exchange in
+    did_then g.V.Vault.holds g.V.Vault.is_clean g.V.Vault.faults g.W.Wire.asked c.args.office.now c.hear.new.office c.hear.new.office c.args.wire.now c.hear.new.wire c.tell.new.wire
+    (λ B L. HasHeard B L e e1) (NoEvent (HasTold e1 e2)) (λ B L. HasHttpTurn c.args.now B L e e2)
+    (λ B L g1 g2 c1 c2 p q. turn_served c.args.now B L e e1 e2 g1 g2 c1 c2 (sym c.is_late.ensures ∙ no) p q.0 q.1) c.hear.ensures.works
+    (did_asked g.V.Vault.holds g.V.Vault.is_clean g.V.Vault.faults g.W.Wire.asked c.hear.new.office c.hear.new.wire c.tell.new.wire (HasTold e1 e2) (NoEvent (HasTold e1 e2)) (λ B L cs told. (refl, told)) c.tell.ensures.works)

@@ -1,4 +1,9 @@
-use Rattle.serving.proofs.Quieting.{nothing_done, both_done}
+use Rattle.serving.proofs.Quieting.{did_none, did_then, did_so}
+use Rattle.serving.proofs.HttpWorking.{HadSome, had_none, had_held, had_closed, had_all}
+use Rattle.serving.specs.Works.{Part}
+use Rattle.serving.specs.HttpWorks.{DidApart, HadHttpTurns}
+use Rattle.std.proofs.Common.{◌≡◌, ◌+◌, true, false, [], take, drop, subst}
+use Rattle.std.specs.Bool.{if◌then◌else◌}
 use Rattle.std.proofs.Common.{rules, arith, ◌≤◌, length}
 use Rattle.serving.proofs.Ongoing.{none_yet, one_more, as_many, all_go_on}
 use Rattle.serving.proofs.requests.serve_requests.Goals as goal
@@ -9,31 +14,53 @@ loop-place-init g c = record {
   clean = λ k. k;
   stay = none_yet c.args.now c.args.requests.now.exchanges.items;
   no_more = omega arith;
-  works = nothing_done g.V.Vault.holds g.V.Vault.is_clean g.V.Vault.faults g.W.Wire.asked c.args.office.now c.args.wire.now;
+  works = did_none g.V.Vault.holds g.V.Vault.is_clean g.V.Vault.faults g.W.Wire.asked c.args.office.now c.args.wire.now (HadSome c.args.now 0 c.args.requests.now.exchanges.items c.args.requests.now.exchanges.items) (had_none c.args.now c.args.requests.now.exchanges.items);
 }
 
 pub loop-place-preserved-then-serve_place : goal.loop-place-preserved-then-serve_place
 loop-place-preserved-then-serve_place g c =
     let k = c.loop-place in
     let x = c.serve_place in
+    let now = c.args.now in
+    let xs = c.args.requests.now.exchanges.items in
+    let ys = k.requests.exchanges.items in
+    let zs = x.new.requests.exchanges.items in
+    let so : x.result ≡ true = search rules in
     record {
       asked = λ B start L pop s clean. x.ensures.asked B start L pop (k.invariant.asked B start L pop s (x.ensures.clean clean)) clean;
       clean = λ clean. k.invariant.clean (x.ensures.clean clean);
       stay = one_more c.args.now k.requests.exchanges.items x.new.requests.exchanges.items k.place x.ensures.before (x.ensures.stays c.if-serve_place.true) k.invariant.stay;
       no_more = (let a = x.ensures.left in let b = k.invariant.no_more in omega (arith, a, b));
-      works = both_done g.V.Vault.holds g.V.Vault.is_clean g.V.Vault.faults g.W.Wire.asked c.args.office.now k.office x.new.office c.args.wire.now k.wire x.new.wire k.invariant.works x.ensures.works;
+      works =
+          (let one = subst (λ b. Part g.V.Vault.holds g.V.Vault.is_clean g.V.Vault.faults g.W.Wire.asked k.office k.wire x.new.office x.new.wire
+          (DidApart g.V.Vault.holds g.V.Vault.is_clean k.office x.new.office (λ B L. HadHttpTurns now B L (take 1 (drop k.place ys)) (take (if b then 1 else 0) (drop k.place zs))))) so x.ensures.works in
+          did_then g.V.Vault.holds g.V.Vault.is_clean g.V.Vault.faults g.W.Wire.asked c.args.office.now k.office x.new.office c.args.wire.now k.wire x.new.wire
+          (HadSome now k.place xs ys) (λ B L. HadHttpTurns now B L (take 1 (drop k.place ys)) (take 1 (drop k.place zs))) (HadSome now (k.place + 1) xs zs)
+          (λ B L g1 g2 c1 c2 a turn. had_held now k.place xs ys zs B L g1 g2 c1 c2 a turn x.ensures.before (subst (λ b. drop (if b then k.place + 1 else k.place) zs ≡ drop (k.place + 1) ys) so x.ensures.behind))
+          k.invariant.works one);
     }
 
 pub loop-place-preserved : goal.loop-place-preserved
 loop-place-preserved g c =
     let k = c.loop-place in
     let x = c.serve_place in
+    let now = c.args.now in
+    let xs = c.args.requests.now.exchanges.items in
+    let ys = k.requests.exchanges.items in
+    let zs = x.new.requests.exchanges.items in
+    let so : x.result ≡ false = search rules in
     record {
       asked = λ B start L pop s clean. x.ensures.asked B start L pop (k.invariant.asked B start L pop s (x.ensures.clean clean)) clean;
       clean = λ clean. k.invariant.clean (x.ensures.clean clean);
       stay = as_many c.args.now k.requests.exchanges.items x.new.requests.exchanges.items k.place x.ensures.before k.invariant.stay;
       no_more = (let a = x.ensures.left in let b = k.invariant.no_more in omega (arith, a, b));
-      works = both_done g.V.Vault.holds g.V.Vault.is_clean g.V.Vault.faults g.W.Wire.asked c.args.office.now k.office x.new.office c.args.wire.now k.wire x.new.wire k.invariant.works x.ensures.works;
+      works =
+          (let one = subst (λ b. Part g.V.Vault.holds g.V.Vault.is_clean g.V.Vault.faults g.W.Wire.asked k.office k.wire x.new.office x.new.wire
+          (DidApart g.V.Vault.holds g.V.Vault.is_clean k.office x.new.office (λ B L. HadHttpTurns now B L (take 1 (drop k.place ys)) (take (if b then 1 else 0) (drop k.place zs))))) so x.ensures.works in
+          did_then g.V.Vault.holds g.V.Vault.is_clean g.V.Vault.faults g.W.Wire.asked c.args.office.now k.office x.new.office c.args.wire.now k.wire x.new.wire
+          (HadSome now k.place xs ys) (λ B L. HadHttpTurns now B L (take 1 (drop k.place ys)) []) (HadSome now k.place xs zs)
+          (λ B L g1 g2 c1 c2 a turn. had_closed now k.place xs ys zs B L g1 g2 c1 c2 a turn x.ensures.before (subst (λ b. drop (if b then k.place + 1 else k.place) zs ≡ drop (k.place + 1) ys) so x.ensures.behind))
+          k.invariant.works one);
     }
 
 pub returns-clause-stay : goal.returns-clause-stay
@@ -41,3 +68,13 @@ returns-clause-stay g c =
     let k = c.loop-place in
     let done : length k.requests.exchanges.items ≤ k.place = search rules in
     all_go_on c.args.now k.requests.exchanges.items k.place done k.invariant.stay
+
+pub returns-clause-works : goal.returns-clause-works
+returns-clause-works g c =
+    let k = c.loop-place in
+    let now = c.args.now in
+    let xs = c.args.requests.now.exchanges.items in
+    let ys = k.requests.exchanges.items in
+    let done : length ys ≤ k.place = search rules in
+    did_so g.V.Vault.holds g.V.Vault.is_clean g.V.Vault.faults g.W.Wire.asked c.args.office.now k.office c.args.wire.now k.wire (HadSome now k.place xs ys) (λ B L. HadHttpTurns now B L xs ys)
+    (λ B L given calls a. had_all now k.place xs ys B L given calls done a) k.invariant.works

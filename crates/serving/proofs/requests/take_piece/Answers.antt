@@ -3,7 +3,10 @@ use Rattle.adminhttp.specs.Responses.{refusal_response}
 use Rattle.adminhttp.specs.declared.refusal.Refusal.TheVariants.{OutOfMemory}
 use Rattle.serving.specs.Requests.{octets_of, HasAsked, ForMemory, NoCommand}
 use Rattle.serving.proofs.Requesting.{asked_none}
-use Rattle.serving.proofs.Quieting.{gives_nothing}
+use Rattle.serving.proofs.Quieting.{gives_none}
+use Rattle.serving.specs.Works.{Giving}
+use Rattle.serving.specs.HttpWorks.{ComeTo, DidApart}
+use Rattle.std.proofs.Common.{None, []}
 use Rattle.serving.proofs.requests.take_piece.Goals as goal
 
 pub returns-then-is_err-clause-asked : goal.returns-then-is_err-clause-asked
@@ -16,4 +19,13 @@ returns-clause-asked g c = λ B L stands clean.
     subst (λ read. HasAsked g.V.Vault.holds B L read c.ask.new.office (option_map octets_of c.ask.result)) same (c.ask.ensures.asked B L stands clean))
 
 pub returns-then-is_err-clause-works : goal.returns-then-is_err-clause-works
-returns-then-is_err-clause-works g c = gives_nothing g.V.Vault.holds g.V.Vault.is_clean g.V.Vault.faults c.args.office.now
+returns-then-is_err-clause-works g c =
+    let response = refusal_response OutOfMemory in
+    gives_none g.V.Vault.holds g.V.Vault.is_clean g.V.Vault.faults c.args.office.now (ComeTo (c.args.exchange.now.read.items ++ c.args.piece.now) (Some response)) (λ B L. record { place = None; is = NoCommand response ForMemory })
+
+pub returns-clause-works : goal.returns-clause-works
+returns-clause-works g c =
+    let o = c.args.office.now in
+    let o1 = c.ask.new.office in
+    let same : c.as_slice.result.now ≡ c.args.exchange.now.read.items ++ c.args.piece.now = search rules in
+    subst (λ read. Giving g.V.Vault.holds g.V.Vault.is_clean g.V.Vault.faults o o1 (λ given. DidApart g.V.Vault.holds g.V.Vault.is_clean o o1 (ComeTo read (option_map octets_of c.ask.result)) given [])) same c.ask.ensures.works

@@ -1,23 +1,65 @@
-use Rattle.std.proofs.Common.{refl, ◌∙◌}
-use Rattle.serving.proofs.Quieting.{asks_nothing, asks_both}
+use Rattle.std.proofs.Common.{rules, ◌≡◌, ◌≤◌, ◌==◌, ◌+◌, not, true, false, refl, ◌∙◌, ap, subst, inl, inr, arith}
+use Rattle.std.specs.Bool.{if◌then◌else◌}
+use Rattle.serving.specs.Works.{Asking}
+use Rattle.serving.specs.HttpWorks.{AskedApart, Tells, HasTold}
+use Rattle.serving.proofs.Quieting.{asks_none, asks_then, asks_so}
+use Rattle.serving.proofs.HttpWorking.{ToldSoFar, told_more, told_ended, told_share, told_often, written_once}
 use Rattle.serving.proofs.requests.tell.Goals as goal
 
-pub loop-init : goal.loop-init
-loop-init g c = record { answers = λ x B start L pop others s. s; link = refl; since = refl; works = asks_nothing g.W.Wire.asked c.args.wire.now }
+pub loop-times-init : goal.loop-times-init
+loop-times-init g c =
+    let e = c.args.exchange.now in
+    record { answers = λ x B start L pop others s. s; link = refl; since = refl; works = asks_none g.W.Wire.asked c.args.wire.now (ToldSoFar e e 0 0) (inl (refl, refl, refl, refl)) }
 
-pub loop-preserved : goal.loop-preserved
-loop-preserved g c =
-    let k = c.loop in
+pub loop-times-preserved : goal.loop-times-preserved
+loop-times-preserved g c =
+    let k = c.loop-times in
     let x = c.tell_once-count in
+    let n = x.result in
+    let e = c.args.exchange.now in
+    let e1 = k.exchange in
+    let e2 = x.new.exchange in
+    let some : (n == 0) ≡ false = search rules in
+    let one = written_once n some in
+    let sum = c.saturating_add-written.result in
+    let fits : sum ≤ k.written + n = search rules in
     record {
       answers = λ y B start L pop others s. x.ensures.answers y B start L pop others (k.invariant.answers y B start L pop others s);
       link = x.ensures.link ∙ k.invariant.link;
       since = x.ensures.since ∙ k.invariant.since;
-      works = asks_both g.W.Wire.asked c.args.wire.now k.wire x.new.wire k.invariant.works x.ensures.works;
+      works = asks_then g.W.Wire.asked c.args.wire.now k.wire x.new.wire (ToldSoFar e e1 k._times k.written) (Tells e1 e2 (if n == 0 then 0 else 1) n (not (n == 0))) (ToldSoFar e e2 (k._times + 1) sum)
+          (λ c1 c2 a b. inr (told_more e e1 e2 k._times (if n == 0 then 0 else 1) k.written n (k._times + 1) sum c1 c2 (omega (arith, one)) fits a b.is)) k.invariant.works x.ensures.works;
     }
 
 pub returns-then-count-eq0-clause-works : goal.returns-then-count-eq0-clause-works
-returns-then-count-eq0-clause-works g c = asks_both g.W.Wire.asked c.args.wire.now c.loop.wire c.tell_once-count.new.wire c.loop.invariant.works c.tell_once-count.ensures.works
+returns-then-count-eq0-clause-works g c =
+    let k = c.loop-times in
+    let x = c.tell_once-count in
+    let n = x.result in
+    let e = c.args.exchange.now in
+    let e1 = k.exchange in
+    let e2 = x.new.exchange in
+    let none : (n == 0) ≡ true = search rules in
+    asks_then g.W.Wire.asked c.args.wire.now k.wire x.new.wire (ToldSoFar e e1 k._times k.written) (Tells e1 e2 (if n == 0 then 0 else 1) n (not (n == 0))) (HasTold e e2)
+    (λ c1 c2 a b. told_ended e e1 e2 k._times (if n == 0 then 0 else 1) k.written n c1 c2 a b.is (b.ends (ap not none))) k.invariant.works x.ensures.works
 
 pub returns-then-written-ge-SHARE-clause-works : goal.returns-then-written-ge-SHARE-clause-works
-returns-then-written-ge-SHARE-clause-works g c = asks_both g.W.Wire.asked c.args.wire.now c.loop.wire c.tell_once-count.new.wire c.loop.invariant.works c.tell_once-count.ensures.works
+returns-then-written-ge-SHARE-clause-works g c =
+    let k = c.loop-times in
+    let x = c.tell_once-count in
+    let n = x.result in
+    let e = c.args.exchange.now in
+    let e1 = k.exchange in
+    let e2 = x.new.exchange in
+    let sum = c.saturating_add-written.result in
+    let fits : sum ≤ k.written + n = search rules in
+    let enough : 16384 ≤ sum = search rules in
+    asks_then g.W.Wire.asked c.args.wire.now k.wire x.new.wire (ToldSoFar e e1 k._times k.written) (Tells e1 e2 (if n == 0 then 0 else 1) n (not (n == 0))) (HasTold e e2)
+    (λ c1 c2 a b. told_share e e1 e2 k._times (if n == 0 then 0 else 1) k.written n c1 c2 (omega (arith, fits, enough)) a b.is) k.invariant.works x.ensures.works
+
+pub returns-clause-works : goal.returns-clause-works
+returns-clause-works g c =
+    let k = c.loop-times in
+    let e = c.args.exchange.now in
+    let h : 64 ≤ k._times = search rules in
+    asks_so g.W.Wire.asked c.args.wire.now k.wire (ToldSoFar e k.exchange k._times k.written) (HasTold e k.exchange) (λ cs a. told_often e k.exchange k._times k.written cs h a) k.invariant.works

@@ -6,6 +6,8 @@ use Rattle.serving.proofs.Seating.{none_seated}
 use Rattle.serving.specs.Requests.{AreHeld, IsHeld}
 use Rattle.serving.proofs.Requesting.{none_newer}
 use Rattle.std.proofs.Common.{◌≤◌, length}
+use Rattle.std.specs.List.{All}
+use Rattle.serving.specs.HttpWorks.{IsShort}
 use Rattle.serving.proofs.turn.begin.Goals as goal
 
 pub returns-clause-serves : goal.returns-clause-serves
@@ -48,3 +50,6 @@ returns-clause-serves g c = λ T t stands admitted none tells fresh files.
 
 pub returns-clause-few : goal.returns-clause-few
 returns-clause-few g c = subst (λ held. length held ≤ 8) (sym c.new.ensures.requests) (omega arith)
+
+pub returns-clause-short : goal.returns-clause-short
+returns-clause-short g c = subst (All IsShort) (sym c.new.ensures.requests) (All-nil IsShort)

@@ -10,6 +10,7 @@ use Rattle.serving.specs.Works.{Part, Asking, IsPassed, AreClosed, AreNoMoreLate
 use Rattle.serving.specs.SpoolTurns.{SpoolPart, IsSpoolTurn}
 use Rattle.serving.proofs.Late.{gone_so}
 use Rattle.serving.proofs.Finishing.{turn_done}
+use Rattle.serving.proofs.Bounds.{all_short}
 use Rattle.serving.proofs.turn.serve_turn.Goals as goal
 
 pub returns-clause-serves : goal.returns-clause-serves
@@ -88,7 +89,7 @@ returns-clause-works g c = λ T s clean.
     turn_done Holds IsClean g.V.Vault.faults Asked g.S.Spool.asked T now links (record { clients = c.serve_spool.new.links; requests = c.serve_requests.new.requests })
     c.args.office.now o1 o2 o3 o4 o5 c.serve_spool.new.office
     c.args.wire.now w1 c.accept_links.new.wire w3 w4 w5 w6 c.args.spool.now c.serve_spool.new.spool
-    seats2 a.0 passed a.1 c.accept_requests.ensures.works turned c.serve_requests.ensures.works late
+    seats2 a.0 c.accept_requests.new.requests.exchanges.items c.accept_requests.ensures.works.0 passed a.1 c.accept_requests.ensures.works.1 turned c.serve_requests.ensures.works late
     (λ U su.
     subst (λ v. Asking Asked w5 w6 (AreClosed U v.items c.serve_spool.new.links.seats.items)) seats_same
     (subst (λ v. Asking Asked w5 w6 (AreClosed U ended.seats.items v.items)) (sym c.serve_spool.ensures.seats) (c.close_links.ensures.works U su)))
@@ -102,3 +103,8 @@ returns-clause-settings g c = c.serve_spool.ensures.set ∙ (c.close_links.ensur
 
 pub returns-clause-few : goal.returns-clause-few
 returns-clause-few g c = λ few. (let a = c.accept_requests.ensures.few few in let b = c.serve_requests.ensures.no_more in omega (arith, a, b))
+
+pub returns-clause-short : goal.returns-clause-short
+returns-clause-short g c = λ T s clean short.
+    (let w = returns-clause-works g c T s clean in
+    all_short T c.args.now c.args.links.now (record { clients = c.serve_spool.new.links; requests = c.serve_requests.new.requests }) w.given w.calls w.http short)

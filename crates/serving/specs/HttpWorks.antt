@@ -1,0 +1,261 @@
+-- What a turn does for the links of the administration: each that was open as the turn began, or
+-- that came in it, has its turn, and is closed
+-- exactly for a cause.
+use Rattle.std.specs.Prelude.{◌≡◌, ◌⊎◌, ◌≤◌, ◌<◌, ⊤, ℕ, Bool, true, false, ◌+◌, ◌||◌, suc, nat_le}
+use Rattle.std.specs.Prelude.{if◌then◌else◌, List, [], ◌∷◌, ◌++◌, length, take, drop, Option, Some}
+use Rattle.std.specs.Prelude.{None, option_map, is_some, IfNone}
+use Rattle.std.specs.List.{All, list_any}
+use Rattle.vault.specs.Records.{Records}
+use Rattle.vault.specs.Changes.{Contents}
+use Rattle.office.specs.Events.{Log, Trace}
+use Rattle.office.specs.Taken.{trace_of}
+use Rattle.office.specs.Stands.{StandsFor, vault_of}
+use Rattle.office.specs.declared.office.Office.{Office}
+use Rattle.serving.specs.Wires.{is_fault}
+use Rattle.serving.specs.Calls.{Call, Accepted, Read, Wrote, Closed}
+use Rattle.serving.specs.Requests.{octets_of, HasOneMore, IsGiven}
+use Rattle.serving.specs.Works.{IsQuiet, AreCaused, is_beside, Part, Giving, Asking}
+use Rattle.serving.specs.HttpTurns.{is_late_at, most_exchanges}
+use Rattle.serving.specs.declared.wire.Link.{Link}
+use Rattle.serving.specs.declared.wire.Port.TheVariants.{Pop, Admin}
+use Rattle.serving.specs.declared.wire.Io.{Io}
+use Rattle.serving.specs.declared.wire.Io.TheVariants.{Count, Later}
+use Rattle.serving.specs.declared.requests.Response.{Response}
+use Rattle.serving.specs.declared.requests.Exchange.{Exchange}
+use Rattle.serving.specs.declared.links.Links.{Links}
+
+-- ---- links that come
+
+-- So many links came, one after the other: each is held behind the others, or closed at once.
+pub data HaveComeBeside (now : ℕ) : (held held_then : List Exchange) → (came : ℕ) → List Call
+    → Type 0 where
+  NoMore : (held : List Exchange) → HaveComeBeside now held held 0 []
+  IsKept : (link : Link) (held more held_then : List Exchange) (came : ℕ) (calls : List Call)
+      → HasOneMore now link held more → HaveComeBeside now more held_then came calls
+      → HaveComeBeside now held held_then (suc came) (Accepted Admin (Some link) ∷ calls)
+  IsTurnedAway : (link : Link) (held held_then : List Exchange) (came : ℕ) (calls : List Call)
+      → HaveComeBeside now held held_then came calls
+      → HaveComeBeside now held held_then (suc came)
+      (Accepted Admin (Some link) ∷ Closed Admin link ∷ calls)
+
+-- They came until none waited, or, where it goes on, so many or more had come.
+pub record HasAcceptedBeside (now most : ℕ) (goes : Bool) (held held_then : List Exchange)
+    (calls : List Call) : Type 0 where
+  pub came : ℕ
+  pub arrivals : List Call
+  pub come : HaveComeBeside now held held_then came arrivals
+  pub calls_are : calls ≡ arrivals ++ (if goes then [] else Accepted Admin None ∷ [])
+  pub enough : goes ≡ true → most ≤ came
+
+-- ---- what is read of a request
+
+-- the octets of the response, where there is one
+abbrev pub response_of : Exchange → Option (List ℕ)
+response_of e = option_map octets_of e.response
+
+-- octets that were read come to this response, if to any yet, with the event of their command
+pub record ComesTo (B : Records) (L : Log) (read : List ℕ) (given : Log)
+    (response : Option (List ℕ)) : Type 0 where
+  pub place : Option ℕ
+  pub is : IsGiven B L read (given ++ L) place response
+
+-- A link was read from once, unless its response is there, or it is over: it gave its end, or
+-- nothing for now, or a piece.
+pub data HasHeard (B : Records) (L : Log) (e e_then : Exchange) : Log → List Call → Type 0 where
+  IsOver : e.is_over ≡ true → e_then ≡ e → HasHeard B L e e_then [] []
+  HasResponse : is_some e.response ≡ true → e_then ≡ e → HasHeard B L e e_then [] []
+  GaveNothing : e.response ≡ None → e_then ≡ e
+      → HasHeard B L e e_then [] (Read Admin e.link Later [] ∷ [])
+  GaveItsEnd : (io : Io) → e.response ≡ None → is_fault io ≡ true → e_then.is_over ≡ true
+      → HasHeard B L e e_then [] (Read Admin e.link io [] ∷ [])
+  GaveAPiece : (n : ℕ) (piece : List ℕ) (given : Log) → e.response ≡ None → e_then.is_over ≡ false
+      → ComesTo B L (e.read.items ++ piece) given (response_of e_then)
+      → IfNone e_then.response (e_then.read.items ≡ e.read.items ++ piece)
+      → HasHeard B L e e_then given (Read Admin e.link (Count n) piece ∷ [])
+
+-- ---- what is written of a response
+
+-- writes on a link, from so many octets of its response on: each that took octets took the next
+-- ones
+abbrev pub AreWrites : Link → (response : List ℕ) → (written : ℕ) → List Call → (written_then : ℕ)
+    → Type 0
+AreWrites link response written [] written_then = written_then ≡ written
+AreWrites link response written (Wrote Admin l (Count n) octets ∷ calls) written_then =
+    (l ≡ link) × (octets ≡ take n (drop written response))
+    × AreWrites link response (written + n) calls written_then
+AreWrites link response written (Wrote Admin l io octets ∷ calls) written_then =
+    (l ≡ link) × AreWrites link response written calls written_then
+AreWrites link response written (call ∷ calls) written_then = ⊥
+
+-- none, while there is no response
+abbrev pub AreWritesOf : Link → Option Response → (written : ℕ) → List Call → (written_then : ℕ)
+    → Type 0
+AreWritesOf link None written calls written_then = (calls ≡ []) × (written_then ≡ written)
+AreWritesOf link (Some response) written calls written_then =
+    AreWrites link (octets_of response) written calls written_then
+
+-- a write took nothing for now
+abbrev pub took_nothing : Call → Bool
+took_nothing (Wrote port link Later octets) = true
+took_nothing _ = false
+
+-- a write told the link's end, or that it is broken
+abbrev pub told_its_end : Call → Bool
+told_its_end (Wrote port link io octets) = is_fault io
+told_its_end _ = false
+
+-- all octets of the response are written
+abbrev pub is_whole : Option Response → (written : ℕ) → Bool
+is_whole None written = false
+is_whole (Some response) written = nat_le (length (octets_of response)) written
+
+-- how many octets are written of a response in one turn, and how many writes it has at most
+abbrev pub share_beside : ℕ
+share_beside = 16384
+
+abbrev pub most_writes : ℕ
+most_writes = 64
+
+-- What follows of a response was written, so many octets or more by so many writes or more.
+pub record IsToldOf (e e_then : Exchange) (times octets : ℕ) (calls : List Call) : Type 0 where
+  pub link : e_then.link ≡ e.link
+  pub read : e_then.read ≡ e.read
+  pub response : e_then.response ≡ e.response
+  pub writes : AreWritesOf e.link e.response e.written calls e_then.written
+  -- nothing is written on a link that is over
+  pub idle : e.is_over ≡ true → calls ≡ []
+  -- it is over from now on exactly where its response is whole, or a write told its end
+  pub over : e_then.is_over ≡
+      (e.is_over || (is_whole e_then.response e_then.written || list_any told_its_end calls))
+  pub times_are : times ≤ length calls
+  pub octets_are : e.written + octets ≤ e_then.written
+
+-- nothing more can be written for now: the link is over, or took nothing for now, or there is no
+-- response
+abbrev pub HasToldAll : (e_then : Exchange) → List Call → Type 0
+HasToldAll e_then calls =
+    (e_then.is_over ≡ true) ⊎ ((list_any took_nothing calls ≡ true) ⊎ (e_then.response ≡ None))
+
+-- Its share was written, or as often as it may be, or nothing more can be written for now.
+pub record HasTold (e e_then : Exchange) (calls : List Call) : Type 0 where
+  pub times : ℕ
+  pub octets : ℕ
+  pub is : IsToldOf e e_then times octets calls
+  pub enough : (most_writes ≤ times) ⊎ ((share_beside ≤ octets) ⊎ HasToldAll e_then calls)
+
+-- ---- a link's turn
+
+-- A link that was accepted 60 seconds ago, or longer, is over, and nothing is asked of it. Another
+-- is read from, and written on.
+pub data HasHttpTurn (now : ℕ) (B : Records) (L : Log) (e e_then : Exchange) : Log → List Call
+    → Type 0 where
+  IsLate : is_late_at now e ≡ true → e_then.is_over ≡ true → HasHttpTurn now B L e e_then [] []
+  IsServed : (between : Exchange) (given : Log) (reads writes : List Call)
+      → is_late_at now e ≡ false → HasHeard B L e between given reads
+      → HasTold between e_then writes
+      → HasHttpTurn now B L e e_then given (reads ++ writes)
+
+-- Each link that is held has its turn, one after the other: those that are over by then are closed,
+-- and the others are held on.
+pub data HadHttpTurns (now : ℕ) (B : Records) : (L : Log) → (held held_then : List Exchange) → Log
+    → List Call → Type 0 where
+  NoneHeld : (L : Log) → HadHttpTurns now B L [] [] [] []
+  IsHeldOn : (L g given : Log) (e e_then : Exchange) (held held_then : List Exchange)
+      (c calls : List Call) → HasHttpTurn now B L e e_then g c → e_then.is_over ≡ false
+      → HadHttpTurns now B (g ++ L) held held_then given calls
+      → HadHttpTurns now B L (e ∷ held) (e_then ∷ held_then) (given ++ g) (c ++ calls)
+  IsClosed : (L g given : Log) (e e_then : Exchange) (held held_then : List Exchange)
+      (c calls : List Call) → HasHttpTurn now B L e e_then g c → e_then.is_over ≡ true
+      → HadHttpTurns now B (g ++ L) held held_then given calls
+      → HadHttpTurns now B L (e ∷ held) held_then (given ++ g) (c ++ Closed Admin e.link ∷ calls)
+
+-- So it is of a turn: those that were held, and those that came, among its calls and its events.
+pub record HttpWorks (T : Trace) (now : ℕ) (links links_then : Links) (given : Log)
+    (calls : List Call) : Type 0 where
+  pub held : List Exchange
+  pub before : List Call
+  pub arrivals : List Call
+  pub between : List Call
+  pub services : List Call
+  pub behind : List Call
+  pub goes : Bool
+  pub calls_are : calls ≡ before ++ (arrivals ++ (between ++ (services ++ behind)))
+  pub apart : list_any is_beside (before ++ (between ++ behind)) ≡ false
+  pub earlier : Log
+  pub commands : Log
+  pub later : Log
+  pub given_are : given ≡ later ++ (commands ++ earlier)
+  pub accepted : HasAcceptedBeside now 64 goes links.requests.exchanges.items held arrivals
+  pub served : HadHttpTurns now T.base
+      (earlier ++ T.log) held links_then.requests.exchanges.items commands services
+
+-- ---- requests that aren't whole
+
+-- Such a request has fewer octets: 8,192 of its head, and 1,048,576 of its body.
+abbrev pub most_asked : ℕ
+most_asked = 1056768
+
+-- so many were read, where there is no response yet
+abbrev pub IsShort : Exchange → Type 0
+IsShort e = IfNone e.response (length e.read.items < most_asked)
+
+-- of each link that is held
+abbrev pub AreShort : Links → Type 0
+AreShort links = All IsShort links.requests.exchanges.items
+
+-- ---- the parts
+
+-- This was done behind any log for which the office stands, and the clients' links and openings
+-- were left alone.
+pub record DidApart {V : Type 0} (Holds : V → Contents → Type 0) (IsClean : V → Type 0)
+    (office office_then : Office V) (Did : Records → Log → Log → List Call → Type 0)
+    (given : Log) (calls : List Call) : Type 0 where
+  pub quiet : IsQuiet given calls
+  pub caused : AreCaused [] calls given
+  pub did : (B : Records) (L : Log) → StandsFor Holds office (trace_of B L)
+      → IsClean (vault_of office_then) → Did B L given calls
+
+-- what octets that were read come to, with no call
+abbrev pub ComeTo : (read : List ℕ) (response : Option (List ℕ)) → Records → Log → Log → List Call
+    → Type 0
+ComeTo read response B L given calls = ComesTo B L read given response
+
+-- calls of the administration's links alone, of which this holds
+abbrev pub AskedApart : (List Call → Type 0) → List Call → Type 0
+AskedApart Facts calls = IsQuiet [] calls × Facts calls
+
+-- A part of a turn that does this, and nothing for the clients' links.
+abbrev pub DoesApart : {V W : Type 0} (Holds : V → Contents → Type 0) (IsClean : V → Type 0)
+    (Faults : V → ℕ) (Asked : W → List Call → Type 0) (office : Office V) (wire : W)
+    (office_then : Office V) (wire_then : W) (Did : Records → Log → Log → List Call → Type 0)
+    → Type 0
+DoesApart Holds IsClean Faults Asked office wire office_then wire_then Did =
+    Part Holds IsClean Faults Asked office wire office_then wire_then
+    (DidApart Holds IsClean office office_then Did)
+
+-- One that asks the wire nothing.
+abbrev pub GivesApart : {V : Type 0} (Holds : V → Contents → Type 0) (IsClean : V → Type 0)
+    (Faults : V → ℕ) (office office_then : Office V)
+    (Did : Records → Log → Log → List Call → Type 0) → Type 0
+GivesApart Holds IsClean Faults office office_then Did =
+    Giving Holds IsClean Faults office office_then
+    (λ given. DidApart Holds IsClean office office_then Did given [])
+
+-- One that gives the office nothing.
+abbrev pub AsksApart : {W : Type 0} (Asked : W → List Call → Type 0) (wire wire_then : W)
+    (Facts : List Call → Type 0) → Type 0
+AsksApart Asked wire wire_then Facts = Asking Asked wire wire_then (AskedApart Facts)
+
+-- the link at a place had its turn, and whether it is held on
+abbrev pub HadTurnAt : (now place : ℕ) (stays : Bool) (held held_then : List Exchange)
+    → Records → Log → Log → List Call → Type 0
+HadTurnAt now place stays held held_then B L given calls =
+    HadHttpTurns now B L (take 1 (drop place held))
+    (take (if stays then 1 else 0) (drop place held_then)) given calls
+
+-- What follows of a response was written once or more, and where that doesn't go on nothing more
+-- can be written for now.
+pub record Tells (e e_then : Exchange) (times octets : ℕ) (goes : Bool) (calls : List Call)
+    : Type 0 where
+  pub is : IsToldOf e e_then times octets calls
+  pub ends : goes ≡ false → HasToldAll e_then calls
