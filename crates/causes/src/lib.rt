@@ -8,6 +8,7 @@ mod bad_group;
 mod bad_line;
 mod bad_rule;
 mod closed_store;
+mod keeping;
 mod unsound_row;
 mod watched;
 
@@ -16,6 +17,7 @@ pub use bad_rule::tell_bad_policy;
 pub use closed_store::tell_closed_store;
 use converse::{Fault, read_fault, tell_fault};
 use creds::HostName;
+pub use keeping::Keeping;
 use std::io::{Error, Write};
 pub use watched::Watched;
 

@@ -8,8 +8,8 @@ const FAILED: &[u8] = b"failed\n";
 
 /// A reader or writer that keeps its last error, and counts the lines `failed` that were written.
 #[derive(Drop)]
-pub struct Watched<'a, T> {
-    inner: &'a mut T,
+pub struct Watched<T> {
+    inner: T,
     refusal: Option<Error>,
     failed: u64,
     /// How many octets the present line has, while it is a beginning of `FAILED`; `None` once it is
@@ -17,9 +17,9 @@ pub struct Watched<'a, T> {
     place: Option<usize>,
 }
 
-impl<'a, T> Watched<'a, T> {
+impl<T> Watched<T> {
     /// Watches a reader or writer.
-    pub fn new(inner: &'a mut T) -> Watched<'a, T> {
+    pub fn new(inner: T) -> Watched<T> {
         Watched {
             inner,
             refusal: None,
@@ -61,7 +61,7 @@ impl<'a, T> Watched<'a, T> {
     }
 }
 
-impl<T: Read> Read for Watched<'_, T> {
+impl<T: Read> Read for Watched<T> {
     fn read(&mut self, room: &mut [u8]) -> io::Result<usize> {
         let answer = self.inner.read(room);
         if let Err(error) = answer {
@@ -71,7 +71,7 @@ impl<T: Read> Read for Watched<'_, T> {
     }
 }
 
-impl<T: Write> Write for Watched<'_, T> {
+impl<T: Write> Write for Watched<T> {
     fn write(&mut self, octets: &[u8]) -> io::Result<usize> {
         let answer = self.inner.write(octets);
         match answer {

@@ -11,6 +11,7 @@ use Rattle.office.specs.Replying.{is_empty}
 use Rattle.office.specs.Expected.{IsOutcome, most_in_a_piece, is_full}
 use Rattle.office.specs.Outcomes.{Outcome, Opened, mark_of, HasCause}
 use Rattle.office.specs.Outcomes as outcome
+use Rattle.converse.specs.Printed.{PrintsPart}
 use Rattle.converse.specs.Talk.{TalksInPart}
 use Rattle.converse.specs.Talked.{trace_of, is_own, Extends, ComesOut, MetLack}
 use Rattle.converse.specs.Conversing.{GoesOn, Waits, Midway, IsPaid, IsOver, IsCut, Refuses, memory_by}
@@ -108,6 +109,10 @@ appends_none (Some xs) (Some ys) k = k ∙ sym (append-nil xs)
 pub keeps_same : (u : Option (List ℕ)) → Keeps u u
 keeps_same None = tt
 keeps_same (Some xs) = refl
+
+-- nothing of a text was printed
+pub prints_none : (u : Option (List ℕ)) (text : List ℕ) → PrintsPart u u text
+prints_none u text = ([], text, refl, appends_none u u (keeps_same u))
 
 pub appends_then : (u v w : Option (List ℕ)) (a b : List ℕ) → Appends u v a → Appends v w b → Appends u w (a ++ b)
 appends_then None v w a b x y = tt

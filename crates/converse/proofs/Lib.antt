@@ -19,3 +19,4 @@ pub mod Playing
 pub mod Stopping
 pub mod Exporting
 pub mod Checking
+mod Reasons

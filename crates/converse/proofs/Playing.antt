@@ -276,10 +276,12 @@ comes_kept Holds o before during after Is k h =
 pub has_run : {V : Type 0} (Holds : V → Contents → Type 0) (o : Office V) (v : V) (T : Trace) (first opened now : ℕ) → first ≤ opened → (before after : Option (List ℕ)) (given lines : List ScriptLine) → v ≡ vault_of o → given ≡ lines
     → ComesTo Holds o before after (WithCause opened now T (HasPlayed T given)) → HasRun Holds v first now before after T lines
 has_run Holds o v T first opened now le before after given lines e same h = record {
-  printed = h.printed;
   trace = h.trace;
-  appends = h.appends;
   keeps = subst (λ w. Kept_by (Holds w) h.trace) (sym e) h.stands.keeps;
-  plays = subst (λ (ls : List ScriptLine). HasPlayed T ls h.printed h.trace) same h.is.0;
-  caused = λ lt. grown_since first opened now le (h.is.1 lt);
+  runs = record {
+    printed = h.printed;
+    appends = h.appends;
+    plays = subst (λ (ls : List ScriptLine). HasPlayed T ls h.printed h.trace) same h.is.0;
+    caused = λ lt. grown_since first opened now le (h.is.1 lt);
+  };
 }

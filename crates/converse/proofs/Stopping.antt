@@ -91,8 +91,7 @@ pub has_run_in_part : {V : Type 0} (Holds : V → Contents → Type 0) (o : Offi
 has_run_in_part Holds o v T first opened now le lines e h = record {
   trace = h.trace;
   keeps = subst (λ w. Kept_by (Holds w) h.trace) (sym e) h.stands.keeps;
-  plays = h.is;
-  caused = λ lt. grown_since first opened now le (h.caused lt);
+  runs = record { plays = h.is; caused = λ lt. grown_since first opened now le (h.caused lt) };
 }
 
 -- what is shown whatever a call answered, is so at its faults

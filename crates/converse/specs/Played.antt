@@ -170,20 +170,30 @@ pub record Reaches {V : Type 0} (Holds : V → Contents → Type 0) (o : Office 
   pub is : Is trace
   pub caused : Caused before now T trace
 
--- The first lines were played from T (perhaps all, perhaps none), and at most one more was begun: the store keeps the records of the trace
--- to which they lead, and an event failed only where the store's count of faults grew from `first` to `now`.
+-- The first lines were played from T (perhaps all, perhaps none), and at most one more was begun; an
+-- event failed only where the store's count of faults grew from `first` to `now`.
+pub record RunsInPart (first now : ℕ) (T : Trace) (lines : List ScriptLine) (U : Trace) : Type 0 where
+  pub plays : PlaysInPart (point T []) lines U
+  pub caused : Caused first now T U
+
+-- the store keeps the records of the trace to which they lead
 pub record HasRunInPart {V : Type 0} (Holds : V → Contents → Type 0) (new : V) (first now : ℕ) (T : Trace) (lines : List ScriptLine) : Type 0 where
   pub trace : Trace
   pub keeps : Keeps (Holds new) trace
-  pub plays : PlaysInPart (point T []) lines trace
-  pub caused : Caused first now T trace
+  pub runs : RunsInPart first now T lines trace
 
--- all lines were played from T: what they print was printed, the store keeps the records of the trace to which they lead, and an event
--- failed only where the store's count of faults grew from `first` to `now`
-pub record HasRun {V : Type 0} (Holds : V → Contents → Type 0) (new : V) (first now : ℕ) (before after : Option (List ℕ)) (T : Trace) (lines : List ScriptLine) : Type 0 where
+-- all lines were played from T: what they print was printed, and an event failed only where the
+-- store's count of faults grew from `first` to `now`
+pub record Runs (first now : ℕ) (before after : Option (List ℕ)) (T : Trace)
+    (lines : List ScriptLine) (U : Trace) : Type 0 where
   pub printed : List ℕ
-  pub trace : Trace
   pub appends : Appends before after printed
+  pub plays : HasPlayed T lines printed U
+  pub caused : Caused first now T U
+
+-- the store keeps the records of the trace to which they lead
+pub record HasRun {V : Type 0} (Holds : V → Contents → Type 0) (new : V) (first now : ℕ)
+    (before after : Option (List ℕ)) (T : Trace) (lines : List ScriptLine) : Type 0 where
+  pub trace : Trace
   pub keeps : Keeps (Holds new) trace
-  pub plays : HasPlayed T lines printed trace
-  pub caused : Caused first now T trace
+  pub runs : Runs first now before after T lines trace

@@ -25,28 +25,41 @@ idle_seconds = 600
 abbrev pub opened_on : Trace → (host : List ℕ) (boot : ℕ) (removals : Removals) → Trace
 opened_on T host boot removals = given T (event.Start host boot (record { idle = idle_seconds; removals = removals })) (Tagged Done)
 
--- A conversation came out well over an office that stood for T: the store keeps what a trace says that goes on from T by it alone. All was
--- heard and answered, or a later part of a message couldn't be read, since the store refused a call; and an event failed for that alone:
--- `grown` says that it counted a refusal.
+-- A conversation came out well over an office that stood for T: L is the log of a trace that goes on
+-- from T by it alone. All was heard and answered, or a later part of a message couldn't be read,
+-- since the store refused a call; and an event failed for that alone: `grown` says that it counted a
+-- refusal.
+pub record TalksOn (grown : Bool) (T : Trace) (octets written : List ℕ) (AtEnd : Type 0) (L : Log)
+    : Type 0 where
+  pub own : Extends (next_number T.log) T.log L
+  pub caused : failures T.log < failures L → grown ≡ true
+  pub came_out : Leaves T.base (next_number T.log) L (λ history.
+      Talks T.base (next_number T.log) octets written AtEnd (acts T) history
+      ⊎ (TalksInPart T.base (next_number T.log) octets written (acts T) history × (grown ≡ true)))
+
+-- the store keeps what such a trace says
 pub record HasTalked {V : Type 0} (Holds : V → Contents → Type 0) (new : V) (grown : Bool) (T : Trace) (octets written : List ℕ) (AtEnd : Type 0) : Type 0 where
   pub log : Log
   pub keeps : Keeps (Holds new) (trace_of T.base log)
-  pub own : Extends (next_number T.log) T.log log
-  pub caused : failures T.log < failures log → grown ≡ true
-  pub came_out : Leaves T.base (next_number T.log) log (λ history.
-      Talks T.base (next_number T.log) octets written AtEnd (acts T) history ⊎ (TalksInPart T.base (next_number T.log) octets written (acts T) history × (grown ≡ true)))
+  pub on : TalksOn grown T octets written AtEnd log
 
--- A fault broke a conversation off over an office that stood for T: the store keeps what a trace says that goes on from T by it alone, and
--- of which that holds which holds at this fault; an event failed only where the store counted a refusal, and a fault of the source or of the
--- sink came only where one of its calls failed: `reads` and `writes` say so.
+-- A fault broke a conversation off over an office that stood for T: L is the log of a trace that goes
+-- on from T by it alone, and of which that holds which holds at this fault; an event failed only
+-- where the store counted a refusal, and a fault of the source or of the sink came only where one of
+-- its calls failed: `reads` and `writes` say so.
+pub record BreaksOn (grown reads writes : Bool) (T : Trace) (octets written : List ℕ)
+    (AtEnd : Type 0) (fault : TalkFault) (L : Log) : Type 0 where
+  pub own : Extends (next_number T.log) T.log L
+  pub caused : failures T.log < failures L → grown ≡ true
+  pub failed : HasFailed reads writes fault
+  pub came_out : ComesOut AtEnd true T (next_number T.log) octets written (Err fault) L
+
+-- the store keeps what such a trace says
 pub record HasBroken {V : Type 0} (Holds : V → Contents → Type 0) (new : V) (grown reads writes : Bool) (T : Trace) (octets written : List ℕ) (AtEnd : Type 0) : Type 0 where
   pub fault : TalkFault
   pub log : Log
   pub keeps : Keeps (Holds new) (trace_of T.base log)
-  pub own : Extends (next_number T.log) T.log log
-  pub caused : failures T.log < failures log → grown ≡ true
-  pub failed : HasFailed reads writes fault
-  pub came_out : ComesOut AtEnd true T (next_number T.log) octets written (Err fault) log
+  pub on : BreaksOn grown reads writes T octets written AtEnd fault log
 
 -- No office was opened over a store that kept what T says, nothing was read or written, and it keeps that; or one was opened, and the
 -- conversation in it was broken off.

@@ -1,15 +1,17 @@
 //! Why a run stops, and how that is told on standard error.
 
-ghost use Rattle.std.specs.Prelude.{◌≡◌, ◌↔◌, ◌⊎◌, OnOk, Some};
+ghost use Rattle.std.specs.Prelude.{◌≡◌, ◌↔◌, ◌⊎◌, IfOk, Some};
 ghost use Rattle.std.specs.IoError.{error_kind};
-ghost use Rattle.std.specs.Io.KnownBytes.{Appends};
 ghost use Rattle.converse.specs.Told.{fault_text as text_of, fault_line};
 ghost use Rattle.converse.specs.FaultNames.{store_fault_name, talk_fault_name};
 ghost use Rattle.converse.specs.Causes.{of_script, of_opening};
+ghost use Rattle.converse.specs.Printed.{PrintsPart};
 ghost use Rattle.converse.specs.declared.fault.Fault.TheVariants.{OutOfMemory, Store};
 
 use crate::conversation::TalkFault;
+use crate::printing::print;
 use crate::script::ScriptFault;
+use arrayvec::ArrayVec;
 use office::OpenFault;
 use policy::PolicyFault;
 use std::alloc::{AllocError, AllocFailed};
@@ -160,18 +162,30 @@ pub fn put_fault(error: &io::Error) -> Fault
     }
 }
 
-/// Writes the line that tells a fault.
-fn write_fault<E: Write>(err: &mut E, fault: Fault) -> io::Result<()>
-    ensures { OnOk result (Appends (E.contents err.old) (E.contents err.new) (fault_line fault)) }
+/// How many octets the line of a fault has at most.
+const MOST_OCTETS: usize = 128;
+
+/// The line that tells a fault.
+fn line_of(fault: Fault) -> io::Result<ArrayVec<u8, MOST_OCTETS>>
+    ensures { IfOk result (λ line. line.items ≡ fault_line fault) }
 {
-    writeln!(err, "popbox: {fault}")
+    let mut line = ArrayVec::new();
+    writeln!(line, "popbox: {fault}")?;
+    Ok(line)
 }
 
-/// Tells a fault on standard error, and gives the exit status, which is 1.
-/// Where `err` refuses octets the status alone tells it.
+/// Tells a fault on standard error by its line, and gives the exit status, which is 1.
+/// Where `err` refuses octets a beginning of the line may be written; the status alone tells it
+/// then.
 pub fn tell_fault<E: Write>(err: &mut E, fault: Fault) -> u8
-    ensures { result ≡ 1 }
+    ensures status { result ≡ 1 }
+    ensures line { PrintsPart (E.contents err.old) (E.contents err.new) (fault_line fault) }
 {
-    let _ = write_fault(err, fault);
-    1
+    match line_of(fault) {
+        Ok(line) => {
+            let _ = print(err, line.as_slice());
+            1
+        }
+        Err(_) => 1,
+    }
 }

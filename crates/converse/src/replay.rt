@@ -1,6 +1,6 @@
 //! `popbox replay`: does the events of a script in an office, and prints what each gives.
 
-ghost use Rattle.std.specs.Prelude.{◌≤◌, ◌≡◌, ◌∷◌, ◌++◌, [], false, true, map, option_map, IfErr, IfOk, IfSome, IsErr, IsOk, List, Ok, OnErr, OnOk, Some, codes, if◌then◌else◌, ◌⊎◌};
+ghost use Rattle.std.specs.Prelude.{◌≤◌, ◌≡◌, ◌∷◌, ◌++◌, [], false, true, ℕ, map, option_map, IfErr, IfOk, IfSome, IsErr, IsOk, List, MatchResult, Ok, OnErr, OnOk, Some, codes, if◌then◌else◌, ◌⊎◌};
 ghost use Rattle.std.specs.Io.KnownBytes.{Appends, IsAtEnd, Keeps as Unchanged};
 ghost use Rattle.std.specs.List.{filter};
 ghost use Rattle.creds.specs.Names.{is_host};
@@ -9,6 +9,7 @@ ghost use Rattle.office.specs.Shown.{outcome_seen, reason_seen};
 ghost use Rattle.office.specs.Stands.{Keeps, StandsFor, vault_of};
 ghost use Rattle.office.specs.Trace.{is_open};
 ghost use Rattle.converse.specs.declared.fault.Fault.TheVariants.{CannotWrite, OutOfMemory};
+ghost use Rattle.converse.specs.Causes.{IsWhyNot, Tells};
 ghost use Rattle.converse.specs.Runs.{StillHolds, opened_on};
 ghost use Rattle.converse.specs.Script.{ScriptLine, Does, Drains, line_seen, script_of};
 ghost use Rattle.converse.specs.Played.{Acts, Begun, TakesAll, PlaysLine, HasPlayed, PlaysInPart, ComesTo, WithCause, Reaches, HasRun, HasRunInPart, point, known_with, still_known, told_text, taken_text};
@@ -54,6 +55,15 @@ pub fn replay<R: Read, V: Vault, W: Write, E: Write>(
     ensures bad_host { is_host host.now ≡ false → (result.0 ≡ 1) × (out.new ≡ out.old) × StillHolds V.holds V.is_clean vault result.1 }
     ensures told { result.0 ≡ 0 → IfSome (R.remaining script.old) (λ text. (lines : List ScriptLine) → script_of text ≡ Ok lines → (T : Trace) → Keeps (V.holds vault) T → V.is_clean result.1 → HasRun V.holds result.1 (V.faults vault) (V.faults result.1) (W.contents out.old) (W.contents out.new) (opened_on T host.now boot removals) lines) }
     ensures kept { (T : Trace) → Keeps (V.holds vault) T → V.is_clean result.1 → Keeps (V.holds result.1) T ⊎ ((lines : List ScriptLine) × IfSome (R.remaining script.old) (λ text. script_of text ≡ Ok lines) × HasRunInPart V.holds result.1 (V.faults vault) (V.faults result.1) (opened_on T host.now boot removals) lines) }
+    ensures ran { result.0 ≡ 0 → (lines : List ScriptLine)
+        × IfSome (R.remaining script.old) (λ text. script_of text ≡ Ok lines)
+        × ((T : Trace) → Keeps (V.holds vault) T → V.is_clean result.1
+        → HasRun V.holds result.1 (V.faults vault) (V.faults result.1) (W.contents out.old)
+        (W.contents out.new) (opened_on T host.now boot removals) lines) }
+    ensures clean { V.is_clean result.1 → V.is_clean vault }
+    ensures why_not { IfSome (R.remaining script.old) (λ text.
+        IsErr (script_of text) ⊎ (is_host host.now ≡ false)
+        → Tells (E.contents err.old) (E.contents err.new) (IsWhyNot text host.now)) }
 {
     let lines = match read_all(alloc, script) {
         Ok(lines) => lines,
@@ -98,6 +108,8 @@ fn play_over<V: Vault, W: Write, E: Write>(
 fn read_all<R: Read>(alloc: Global, script: &mut R) -> Result<Vec<Line>, Fault>
     ensures end { IsOk result → IsAtEnd (R.remaining script.new) }
     ensures lines { IfOk result (λ lines. IfSome (R.remaining script.old) (λ text. script_of text ≡ Ok (map line_seen lines.items))) }
+    ensures fault { IfErr result (λ fault. IfSome (R.remaining script.old) (λ text.
+        (host : List ℕ) → IsWhyNot text host fault)) }
 {
     let mut text = Vec::new(alloc);
     match script.read_to_end(&mut text) {
@@ -108,7 +120,8 @@ fn read_all<R: Read>(alloc: Global, script: &mut R) -> Result<Vec<Line>, Fault>
 
 /// Reads a script's text.
 fn read_lines(alloc: Global, text: &[u8]) -> Result<Vec<Line>, Fault>
-    ensures { IfOk result (λ lines. script_of text.now ≡ Ok (map line_seen lines.items)) }
+    ensures lines { IfOk result (λ lines. script_of text.now ≡ Ok (map line_seen lines.items)) }
+    ensures fault { IfErr result (λ fault. (host : List ℕ) → IsWhyNot text.now host fault) }
 {
     let lines = read_script(alloc, text)?;
     Ok(lines)
@@ -127,6 +140,9 @@ pub(crate) fn open_office<V: Vault>(
     ensures host { IsOk result → is_host host.now ≡ true }
     ensures kept { IfErr result (λ e. StillHolds V.holds V.is_clean vault e.1) }
     ensures counted { IfOk result (λ office. V.faults vault ≤ V.faults (vault_of office)) }
+    ensures clean { MatchResult result (λ office. V.is_clean (vault_of office) → V.is_clean vault)
+        (λ e. V.is_clean e.1 → V.is_clean vault) }
+    ensures bad_host { IfErr result (λ e. is_host host.now ≡ false → e.0 ≡ Fault.BadHost) }
 {
     let Some(limits) = Limits::new(IDLE_SECONDS) else {
         return Err((Fault::BadHost, vault));

@@ -7,7 +7,9 @@ ghost use Rattle.vault.specs.Calls.{has_grown};
 ghost use Rattle.office.specs.Events.{Trace};
 ghost use Rattle.office.specs.Stands.{Keeps, StandsFor, vault_of};
 ghost use Rattle.converse.specs.Streams.{Reads, Writes, reads_failed, writes_failed};
+ghost use Rattle.converse.specs.Printed.{PrintsPart};
 ghost use Rattle.converse.specs.Runs.{HasTalked, HasBroken, HasStopped, StillHolds, opened_on};
+ghost use Rattle.converse.specs.Told.{fault_line};
 
 use crate::conversation;
 use crate::fault::{Fault, tell_fault};
@@ -40,6 +42,9 @@ pub fn talk<V: Vault, R: Source, W: Sink, E: Write>(
     ensures talked { (octets written : List ℕ) × Reads (R.seen reader.old) (R.seen reader.new) octets × Writes (W.seen writer.old) (W.seen writer.new) written
         × (result.0 ≡ 0 → (T : Trace) → Keeps (V.holds vault) T → V.is_clean result.1 → HasTalked V.holds result.1 (has_grown (V.faults vault) (V.faults result.1)) (opened_on T host.now boot removals) octets written (IsAtEnd (R.seen reader.new).left))
         × (result.0 ≡ 1 → (T : Trace) → Keeps (V.holds vault) T → V.is_clean result.1 → HasStopped V.holds result.1 (has_grown (V.faults vault) (V.faults result.1)) (reads_failed (R.seen reader.old) (R.seen reader.new)) (writes_failed (W.seen writer.old) (W.seen writer.new)) T (opened_on T host.now boot removals) octets written (IsAtEnd (R.seen reader.new).left)) }
+    ensures clean { V.is_clean result.1 → V.is_clean vault }
+    ensures host_told { is_host host.now ≡ false
+        → PrintsPart (E.contents err.old) (E.contents err.new) (fault_line Fault.BadHost) }
 {
     let mut office = match open_office(alloc, vault, host, boot, removals) {
         Ok(office) => office,

@@ -1,3 +1,4 @@
 pub mod RestLemmas
 pub mod WholeLemmas
 pub mod JobLemmas
+pub mod CommandLemmas

@@ -2,3 +2,4 @@ pub mod Resting
 pub mod Stopped
 pub mod Jobs
 pub mod Sittings
+pub mod Commands

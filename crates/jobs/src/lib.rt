@@ -4,9 +4,11 @@
 mod job;
 mod looking;
 mod opening;
+mod replaying;
 mod resting;
 mod running;
 mod sitting;
+mod talking;
 #[cfg(test)]
 mod tests;
 mod twice;
@@ -15,8 +17,10 @@ mod whole_laws;
 pub use job::Job;
 pub use looking::Looking;
 pub use opening::open;
+pub use replaying::{Replayed, Replaying};
 pub use resting::{close, open_files, reopen};
 pub use running::{do_and_close, open_do_close};
 pub use sitting::sit_once;
+pub use talking::{Talked, Talking};
 pub use twice::{TwiceFault, open_twice};
 pub use whole_laws::{adopt_whole, carry_again};

@@ -96,8 +96,8 @@ fn review_alone<E: Write>(
     err: &mut E,
 ) -> Result<u8, Fault> {
     let alloc: Global = rt.alloc();
-    let mut out = BufWriter::new(alloc, io::writer(rt)).map_err(|_| Fault::OutOfMemory)?;
-    let mut out = Watched::new(&mut out);
+    let out = BufWriter::new(alloc, io::writer(rt)).map_err(|_| Fault::OutOfMemory)?;
+    let mut out = Watched::new(out);
     let mut rest = new;
     let Some(path) = options.get_str("store") else {
         let status = review_file(alloc, &mut rest, choice, &mut out, err);
@@ -125,8 +125,8 @@ fn review_both<E: Write>(
     err: &mut E,
 ) -> Result<u8, Fault> {
     let alloc: Global = rt.alloc();
-    let mut out = BufWriter::new(alloc, io::writer(rt)).map_err(|_| Fault::OutOfMemory)?;
-    let mut out = Watched::new(&mut out);
+    let out = BufWriter::new(alloc, io::writer(rt)).map_err(|_| Fault::OutOfMemory)?;
+    let mut out = Watched::new(out);
     let (mut first, mut rest) = (old, new);
     let status = match options.get_str("store") {
         None => review_change(alloc, &mut first, &mut rest, choice, &mut out, err),

@@ -9,26 +9,23 @@ mod store_file;
 mod stored;
 
 use causes::{
-    STANDARD_INPUT, Watched, tell_bad_line, tell_bad_policy, tell_closed_store, tell_host,
+    Keeping, STANDARD_INPUT, Watched, tell_bad_line, tell_bad_policy, tell_closed_store, tell_host,
     tell_refusal, tell_stop, tell_unread,
 };
 use clap::ArgMatches;
 use clap::error::ErrorKind;
 use command_line::{is_verbose, make_command, removals_of};
 use converse::check_policy::check_policy;
-use converse::replay::replay;
 use converse::script::{ScriptFault, read_script};
-use converse::talking::talk;
 use converse::{Fault, Noted, tell_fault};
-use jobs::{Job, open_do_close};
+use jobs::{Job, Replaying, Talking, open_do_close};
 use journal::FileId;
 use looking::run_review;
 use resting::{run_check, run_export};
 use serve::{note_store, serve_over};
-use session::Removals;
 use sqlite::Wary;
 use std::alloc::Global;
-use std::io::{BufWriter, Read, Write};
+use std::io::{BufWriter, Read, Stderr, Write};
 use std::net::{Ipv4Addr, SocketAddr};
 use std::process::ExitCode;
 use std::rt::{Env, Files};
@@ -112,28 +109,6 @@ fn run_subcommand<E: Write>(
     }
 }
 
-/// What is run over a store. The number is the boot number that greetings have.
-#[derive(Clone, Copy)]
-enum Task {
-    /// `popbox replay`: a script.
-    Replay(u64),
-    /// `popbox talk`: one conversation.
-    Talk(u64),
-    /// `popbox serve`: clients at an address, over the file that stood at the store's path before
-    /// it was opened.
-    Serve(u64, SocketAddr, Option<FileId>),
-}
-
-impl Task {
-    /// The task, over the file that stands at the store's path before it is opened.
-    fn over(self, file: Option<FileId>) -> Task {
-        match self {
-            Task::Serve(boot, at, _) => Task::Serve(boot, at, file),
-            task => task,
-        }
-    }
-}
-
 /// Runs `popbox replay`: opens the script, the file that is named or standard input, and runs it
 /// over the store that is named, or over an empty one in memory.
 fn run_replay<E: Write>(
@@ -141,13 +116,98 @@ fn run_replay<E: Write>(
     options: &ArgMatches<'_>,
     err: &mut E,
 ) -> Result<u8, Fault> {
-    let task = Task::Replay(options.get_one::<u64>("boot").unwrap_or(1));
     match options.get_str("SCRIPT") {
-        None | Some("-") => run_task(rt, task, &mut rt.reader(), options, err),
+        None | Some("-") => replay_from(rt, rt.reader(), STANDARD_INPUT, options, err),
         Some(path) => match fs::open(rt, path) {
-            Ok(mut file) => run_task(rt, task, &mut file, options, err),
+            Ok(file) => replay_from(rt, file, path, options, err),
             Err(error) => Ok(tell_unread(err, is_verbose(options), path, &error)),
         },
+    }
+}
+
+/// Runs a script, which faults call by this name, and prints to standard output.
+fn replay_from<S: Read + Drop, E: Write>(
+    rt: &HostRuntime,
+    script: S,
+    name: &str,
+    options: &ArgMatches<'_>,
+    err: &mut E,
+) -> Result<u8, Fault> {
+    let out = BufWriter::new(rt.alloc(), io::writer(rt)).map_err(|_| Fault::OutOfMemory)?;
+    if is_verbose(options) {
+        return replay_verbosely(rt, script, out, name, options, err);
+    }
+    match do_job(rt, replaying(rt, script, out, options), options) {
+        Ok(left) => Ok(left.status),
+        Err(unopened) => Ok(tell_unopened(rt, err, options, unopened)),
+    }
+}
+
+/// A script as a job over the store that is named.
+fn replaying<'a, S: Read, W: Write>(
+    rt: &HostRuntime,
+    script: S,
+    out: W,
+    options: &ArgMatches<'a>,
+) -> Replaying<'a, S, W, Stderr> {
+    Replaying {
+        alloc: rt.alloc(),
+        script,
+        host: host_of(options),
+        boot: options.get_one::<u64>("boot").unwrap_or(1),
+        removals: removals_of(options),
+        out,
+        err: rt.stderr(),
+    }
+}
+
+/// Runs a script as `replay_from` does, and tells what a fault is about, and how many events
+/// failed. It keeps the script until the last event is done.
+fn replay_verbosely<S: Read + Drop, W: Write + Drop, E: Write>(
+    rt: &HostRuntime,
+    script: S,
+    out: W,
+    name: &str,
+    options: &ArgMatches<'_>,
+    err: &mut E,
+) -> Result<u8, Fault> {
+    let alloc: Global = rt.alloc();
+    let job = replaying(rt, Keeping::new(alloc, script), Watched::new(out), options);
+    let left = match do_job(rt, job, options) {
+        Ok(left) => left,
+        Err(unopened) => return Ok(tell_unopened(rt, err, options, unopened)),
+    };
+    if left.status != 0 {
+        tell_script(alloc, err, name, &left.script);
+        tell_host(err, host_of(options));
+        tell_refusal(err, "standard output", left.out.refusal());
+    }
+    if left.out.failed() > 0 {
+        let _ = writeln!(
+            err,
+            "note: {name}: {} events failed, which the store refused",
+            left.out.failed()
+        );
+    }
+    Ok(left.status)
+}
+
+/// Tells what the system answered to a script, where it refused; or which of its lines isn't an
+/// event, and why. Of a script whose lines all are it tells nothing.
+fn tell_script<R, E: Write>(alloc: Global, err: &mut E, name: &str, script: &Keeping<R>) {
+    if script.refusal().is_some() {
+        tell_refusal(err, name, script.refusal());
+        return;
+    }
+    let text = script.text();
+    let Err(ScriptFault::BadEvent(number)) = read_script(alloc, text) else {
+        return;
+    };
+    let at = usize::try_from(number)
+        .unwrap_or(usize::MAX)
+        .saturating_sub(1);
+    if let Some(line) = text.split(|octet| *octet == b'\n').nth(at) {
+        let _ = tell_bad_line(alloc, err, name, number, line);
     }
 }
 
@@ -161,7 +221,53 @@ fn run_talk<E: Write>(
         Some(boot) => boot,
         None => milliseconds(rt)?,
     };
-    run_task(rt, Task::Talk(boot), &mut rt.reader(), options, err)
+    if is_verbose(options) {
+        return talk_verbosely(rt, boot, options, err);
+    }
+    let job = talking(rt, rt.reader(), io::writer(rt), boot, options);
+    match do_job(rt, job, options) {
+        Ok(left) => Ok(left.status),
+        Err(unopened) => Ok(tell_unopened(rt, err, options, unopened)),
+    }
+}
+
+/// A conversation as a job over the store that is named.
+fn talking<'a, S: Read, W: Write>(
+    rt: &HostRuntime,
+    input: S,
+    out: W,
+    boot: u64,
+    options: &ArgMatches<'a>,
+) -> Talking<'a, Noted<S>, Noted<W>, Stderr> {
+    Talking {
+        alloc: rt.alloc(),
+        reader: Noted::new(input),
+        writer: Noted::new(out),
+        host: host_of(options),
+        boot,
+        removals: removals_of(options),
+        err: rt.stderr(),
+    }
+}
+
+/// Has one conversation as `run_talk` does, and tells what a fault is about.
+fn talk_verbosely<E: Write>(
+    rt: &HostRuntime,
+    boot: u64,
+    options: &ArgMatches<'_>,
+    err: &mut E,
+) -> Result<u8, Fault> {
+    let (input, out) = (Watched::new(rt.reader()), Watched::new(io::writer(rt)));
+    let left = match do_job(rt, talking(rt, input, out, boot, options), options) {
+        Ok(left) => left,
+        Err(unopened) => return Ok(tell_unopened(rt, err, options, unopened)),
+    };
+    if left.status != 0 {
+        tell_host(err, host_of(options));
+        tell_refusal(err, STANDARD_INPUT, left.reader.inner.refusal());
+        tell_refusal(err, "standard output", left.writer.inner.refusal());
+    }
+    Ok(left.status)
 }
 
 /// Runs `popbox serve`: clients over the network, over the store that is named.
@@ -182,9 +288,23 @@ fn run_serve<E: Write>(
         return Ok(1);
     };
     let port = options.get_one::<u16>("pop-port").unwrap_or(1110);
-    let task = Task::Serve(milliseconds(rt)?, SocketAddr::from((address, port)), None);
+    let boot = milliseconds(rt)?;
     note_store(rt, options);
-    run_task(rt, task, &mut rt.reader(), options, err)
+    let path = options.get_str("store").unwrap_or("");
+    if let Err(unopened) = prepare(rt, path) {
+        return Ok(tell_unopened(rt, err, options, unopened));
+    }
+    let job = Serving {
+        rt,
+        boot,
+        at: SocketAddr::from((address, port)),
+        before: FileId::at(rt, path),
+        options,
+    };
+    match do_job(rt, job, options) {
+        Ok(ran) => ran,
+        Err(unopened) => Ok(tell_unopened(rt, err, options, unopened)),
+    }
 }
 
 /// The milliseconds since 1970. Its fault is `NoClock`, where the system doesn't tell the time.
@@ -195,74 +315,116 @@ fn milliseconds(clock: &impl Clock) -> Result<u64, Fault> {
     u64::try_from(now.as_millis()).map_err(|_| Fault::NoClock)
 }
 
-/// Runs a task over the store that is named, or over an empty one in memory.
-fn run_task<S: Read, E: Write>(
+/// Why a job isn't begun.
+#[derive(Clone, Copy)]
+enum Unopened {
+    /// A store's log is there, and not its file.
+    LogAlone,
+    /// The store can't be opened, or is refused.
+    Refused(VaultFault),
+}
+
+/// Makes the file of the store at a path where there is none, and no log of another.
+fn prepare(rt: &HostRuntime, path: &str) -> Result<(), Unopened> {
+    if is_log_alone(rt, path) {
+        return Err(Unopened::LogAlone);
+    }
+    make_file(rt, path);
+    Ok(())
+}
+
+/// Does a job over the store that is named, or over an empty one in memory. The store is closed at
+/// the end. What was done is in the file or in its log by then, so a failure to close loses nothing
+/// and isn't told.
+fn do_job<J: Job + Drop>(
     rt: &HostRuntime,
-    task: Task,
-    input: &mut S,
+    job: J,
     options: &ArgMatches<'_>,
-    err: &mut E,
-) -> Result<u8, Fault> {
-    match options.get_str("store") {
-        Some(path) => run_in_file(rt, task, input, path, options, err),
-        None => run_over(rt, task, input, PlainVault::new(rt.alloc()), options, err).0,
+) -> Result<J::Answer, Unopened> {
+    let Some(path) = options.get_str("store") else {
+        let (answer, _vault) = job.run(PlainVault::new(rt.alloc()));
+        return Ok(answer);
+    };
+    prepare(rt, path)?;
+    let over = OverStore {
+        rt,
+        path,
+        is_verbose: is_verbose(options),
+        job,
+    };
+    match open_do_close(rt, path, Wary, over) {
+        Ok((answer, _closed)) => Ok(answer),
+        Err(fault) => Err(Unopened::Refused(fault)),
     }
 }
 
-/// Runs a task over the store in the file at a path, which is made where there is none, and no log
-/// of another. The store is closed at the end. What was done is in the file or in its log by then,
-/// so a failure to close loses nothing and isn't told.
-fn run_in_file<S: Read, E: Write>(
+/// Tells why a job isn't begun. Gives the exit status.
+fn tell_unopened<E: Write>(
     rt: &HostRuntime,
-    task: Task,
-    input: &mut S,
-    path: &str,
-    options: &ArgMatches<'_>,
     err: &mut E,
-) -> Result<u8, Fault> {
-    if is_log_alone(rt, path) {
-        let status = tell_fault(err, Fault::from(VaultFault::Store));
-        if is_verbose(options) {
-            let _ = writeln!(
-                err,
-                "why: {path}-wal: a store's log, whose file isn't there"
-            );
-        }
-        return Ok(status);
-    }
-    make_file(rt, path);
-    let task = task.over(FileId::at(rt, path));
-    let over = OverStore {
-        rt,
-        task,
-        path,
-        input: &mut *input,
-        options,
-        err: &mut *err,
-    };
-    let fault = match open_do_close(rt, path, Wary, over) {
-        Ok((ran, _closed)) => return ran,
-        Err(fault) => fault,
+    options: &ArgMatches<'_>,
+    unopened: Unopened,
+) -> u8 {
+    let path = options.get_str("store").unwrap_or("");
+    let fault = match unopened {
+        Unopened::LogAlone => VaultFault::Store,
+        Unopened::Refused(fault) => fault,
     };
     let status = tell_fault(err, Fault::from(fault));
     if is_verbose(options) {
-        let _ = tell_closed_store(rt, err, path, fault);
+        let _ = match unopened {
+            Unopened::LogAlone => writeln!(
+                err,
+                "why: {path}-wal: a store's log, whose file isn't there"
+            ),
+            Unopened::Refused(fault) => tell_closed_store(rt, err, path, fault),
+        };
     }
-    Ok(status)
+    status
 }
 
-/// A task, as a job over the store in the file at a path, once that is open.
+/// A job over the store in the file at a path, before which it is told who else may read the file.
 #[derive(Drop)]
-struct OverStore<'a, 'm, S, E> {
+struct OverStore<'a, J> {
     rt: &'a HostRuntime,
-    task: Task,
     path: &'a str,
-    input: &'a mut S,
-    options: &'a ArgMatches<'m>,
-    err: &'a mut E,
+    is_verbose: bool,
+    job: J,
 }
 
-impl<S: Read, E: Write> Job for OverStore<'_, '_, S, E> {
+impl<J: Job> Job for OverStore<'_, J> {
+    type Answer = J::Answer;
+
+    ghost tells = { λ over. J.tells over.job };
+
+    ghost does = { λ over T U first last answer. J.does over.job T U first last answer };
+
+    fn run<V: Vault>(self, vault: V) -> (J::Answer, V) {
+        let OverStore {
+            rt,
+            path,
+            is_verbose,
+            job,
+        } = self;
+        if is_verbose {
+            tell_readers(rt, &mut rt.stderr(), path);
+        }
+        job.run(vault)
+    }
+}
+
+/// `popbox serve`, as a job: clients at an address. `before` is the file that stood at the store's
+/// path before it was opened.
+#[derive(Drop)]
+struct Serving<'a, 'm> {
+    rt: &'a HostRuntime,
+    boot: u64,
+    at: SocketAddr,
+    before: Option<FileId>,
+    options: &'a ArgMatches<'m>,
+}
+
+impl Job for Serving<'_, '_> {
     ghost use Rattle.std.specs.Prelude.{⊤};
 
     type Answer = Result<u8, Fault>;
@@ -272,157 +434,21 @@ impl<S: Read, E: Write> Job for OverStore<'_, '_, S, E> {
     ghost does = { λ _ _ _ _ _ _. ⊤ };
 
     fn run<V: Vault>(self, vault: V) -> (Result<u8, Fault>, V) {
-        let OverStore {
+        let Serving {
             rt,
-            task,
-            path,
-            input,
+            boot,
+            at,
+            before,
             options,
-            err,
         } = self;
-        if is_verbose(options) {
-            tell_readers(rt, err, path);
-        }
-        run_over(rt, task, input, vault, options, err)
+        let host = host_of(options);
+        serve_over(rt, vault, host, boot, at, before, options, &mut rt.stderr())
     }
 }
 
-/// Runs a task over a vault, and gives the vault back.
-fn run_over<V: Vault, S: Read, E: Write>(
-    rt: &HostRuntime,
-    task: Task,
-    input: &mut S,
-    vault: V,
-    options: &ArgMatches<'_>,
-    err: &mut E,
-) -> (Result<u8, Fault>, V) {
-    let host = options.get_str("host").unwrap_or("localhost");
-    let removals = removals_of(options);
-    let is_verbose = is_verbose(options);
-    match task {
-        Task::Replay(boot) if is_verbose => {
-            let name = script_name(options);
-            replay_verbosely(rt, input, name, vault, host, boot, removals, err)
-        }
-        Task::Replay(boot) => replay_over(rt, input, vault, host, boot, removals, err),
-        Task::Talk(boot) if is_verbose => {
-            talk_verbosely(rt, input, vault, host, boot, removals, err)
-        }
-        Task::Talk(boot) => {
-            let (mut input, mut out) = (Noted::new(input), Noted::new(io::writer(rt)));
-            let alloc = rt.alloc();
-            let (status, vault) = talk(
-                alloc, vault, host, boot, removals, &mut input, &mut out, err,
-            );
-            (Ok(status), vault)
-        }
-        Task::Serve(boot, at, before) => {
-            serve_over(rt, vault, host, boot, at, before, options, err)
-        }
-    }
-}
-
-/// The name of the script that `popbox replay` reads, for its faults.
-fn script_name<'a>(options: &ArgMatches<'a>) -> &'a str {
-    match options.get_str("SCRIPT") {
-        None | Some("-") => STANDARD_INPUT,
-        Some(path) => path,
-    }
-}
-
-/// Runs a script over a vault, and prints to standard output. Gives the vault back.
-fn replay_over<V: Vault, S: Read, E: Write>(
-    rt: &HostRuntime,
-    script: &mut S,
-    vault: V,
-    host: &str,
-    boot: u64,
-    removals: Removals,
-    err: &mut E,
-) -> (Result<u8, Fault>, V) {
-    let alloc: Global = rt.alloc();
-    let Ok(mut out) = BufWriter::new(alloc, io::writer(rt)) else {
-        return (Err(Fault::OutOfMemory), vault);
-    };
-    let (status, vault) = replay(alloc, script, vault, host, boot, removals, &mut out, err);
-    (Ok(status), vault)
-}
-
-/// Runs a script over a vault as `replay_over` does, and tells what a fault is about, and how many
-/// events failed. It reads the whole script first, and keeps it until the last event is done.
-fn replay_verbosely<V: Vault, S: Read, E: Write>(
-    rt: &HostRuntime,
-    script: &mut S,
-    name: &str,
-    vault: V,
-    host: &str,
-    boot: u64,
-    removals: Removals,
-    err: &mut E,
-) -> (Result<u8, Fault>, V) {
-    let alloc: Global = rt.alloc();
-    let mut text = Vec::new(alloc);
-    if let Err(error) = script.read_to_end(&mut text) {
-        return (Ok(tell_unread(err, true, name, &error)), vault);
-    }
-    let Ok(mut out) = BufWriter::new(alloc, io::writer(rt)) else {
-        return (Err(Fault::OutOfMemory), vault);
-    };
-    let mut out = Watched::new(&mut out);
-    let mut rest = text.as_slice();
-    let (status, vault) = replay(alloc, &mut rest, vault, host, boot, removals, &mut out, err);
-    if status != 0 {
-        tell_script(alloc, err, name, text.as_slice());
-        tell_host(err, host);
-        tell_refusal(err, "standard output", out.refusal());
-    }
-    if out.failed() > 0 {
-        let _ = writeln!(
-            err,
-            "note: {name}: {} events failed, which the store refused",
-            out.failed()
-        );
-    }
-    (Ok(status), vault)
-}
-
-/// Tells which line of a text isn't an event, and why. Of a script it tells nothing.
-fn tell_script<E: Write>(alloc: Global, err: &mut E, name: &str, text: &[u8]) {
-    let Err(ScriptFault::BadEvent(number)) = read_script(alloc, text) else {
-        return;
-    };
-    let at = usize::try_from(number)
-        .unwrap_or(usize::MAX)
-        .saturating_sub(1);
-    if let Some(line) = text.split(|octet| *octet == b'\n').nth(at) {
-        let _ = tell_bad_line(alloc, err, name, number, line);
-    }
-}
-
-/// Has one conversation over a vault, from the input to standard output, and tells what a fault is
-/// about. Gives the vault back.
-fn talk_verbosely<V: Vault, S: Read, E: Write>(
-    rt: &HostRuntime,
-    input: &mut S,
-    vault: V,
-    host: &str,
-    boot: u64,
-    removals: Removals,
-    err: &mut E,
-) -> (Result<u8, Fault>, V) {
-    let mut out = io::writer(rt);
-    let mut input = Noted::new(Watched::new(input));
-    let mut out = Noted::new(Watched::new(&mut out));
-    let alloc = rt.alloc();
-    let (status, vault) = talk(
-        alloc, vault, host, boot, removals, &mut input, &mut out, err,
-    );
-    if status != 0 {
-        tell_host(err, host);
-        tell_refusal(err, STANDARD_INPUT, input.inner.refusal());
-        tell_refusal(err, "standard output", out.inner.refusal());
-    }
-    (Ok(status), vault)
+/// The host name that greetings have.
+fn host_of<'a>(options: &ArgMatches<'a>) -> &'a str {
+    options.get_str("host").unwrap_or("localhost")
 }
 
 /// Runs `popbox check-policy`: prints to standard output how many rules the policy of the named
@@ -460,7 +486,7 @@ fn check_input<S: Read, E: Write>(
     if let Err(error) = input.read_to_end(&mut text) {
         return Ok(tell_unread(err, true, name, &error));
     }
-    let mut out = Watched::new(&mut out);
+    let mut out = Watched::new(out);
     let mut rest = text.as_slice();
     let status = check_policy(alloc, &mut rest, &mut out, err);
     if status != 0 {

@@ -262,8 +262,8 @@ fn check_over<V: Vault, E: Write>(
     err: &mut E,
 ) -> Result<u8, Fault> {
     let alloc: Global = rt.alloc();
-    let mut out = BufWriter::new(alloc, io::writer(rt)).map_err(|_| Fault::OutOfMemory)?;
-    let mut out = Watched::new(&mut out);
+    let out = BufWriter::new(alloc, io::writer(rt)).map_err(|_| Fault::OutOfMemory)?;
+    let mut out = Watched::new(out);
     let file = StoreFile {
         version: VERSION as u64,
         octets,
@@ -286,8 +286,8 @@ fn export_over<V: Vault, E: Write>(
     err: &mut E,
 ) -> Result<u8, Fault> {
     let alloc: Global = rt.alloc();
-    let mut out = BufWriter::new(alloc, io::writer(rt)).map_err(|_| Fault::OutOfMemory)?;
-    let mut out = Watched::new(&mut out);
+    let out = BufWriter::new(alloc, io::writer(rt)).map_err(|_| Fault::OutOfMemory)?;
+    let mut out = Watched::new(out);
     let mut folder = NamedFolder {
         rt,
         path,

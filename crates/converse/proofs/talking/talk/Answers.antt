@@ -1,8 +1,12 @@
-use Rattle.std.proofs.Common.{[], inl, inr, refl, arith, rules, subst, sym}
+use Rattle.std.proofs.Common.{[], inl, inr, refl, arith, rules, subst, sym, ◌∙◌}
+use Rattle.std.proofs.lemmas.Bool.{false≢true}
 use Rattle.std.specs.Io.KnownBytes.{IsAtEnd}
 use Rattle.vault.specs.Calls.{has_grown}
 use Rattle.office.specs.Stands.{vault_of}
+use Rattle.converse.specs.Printed.{PrintsPart}
 use Rattle.converse.specs.Streams.{reads_failed, writes_failed}
+use Rattle.converse.specs.Told.{fault_line}
+use Rattle.converse.specs.declared.fault.Fault.{Fault}
 use Rattle.converse.specs.Runs.{HasTalked, HasStopped, opened_on}
 use Rattle.converse.proofs.Clauses.{grown_since}
 use Rattle.converse.proofs.Streaming.{reads_none, writes_none}
@@ -46,7 +50,7 @@ returns-in-Err-clause-talked g c = (
   [],
   reads_none _,
   writes_none _,
-  λ well T keeps clean. absurd (omega (arith, well, c.tell_fault.ensures)),
+  λ well T keeps clean. absurd (omega (arith, well, c.tell_fault.ensures.status)),
   λ ill T keeps clean. inl (keeps_still (g.V.Vault.holds c.args.vault) (g.V.Vault.holds c.in-Err.vault) T keeps (c.in-Err.ensures.kept keeps.contents keeps.held clean), refl, refl),
 )
 
@@ -67,3 +71,17 @@ returns-clause-status g c = search rules
 
 pub returns-clause-bad_host : goal.returns-clause-bad_host
 returns-clause-bad_host g c = search rules
+
+pub returns-clause-clean : goal.returns-clause-clean
+returns-clause-clean g c = λ clean.
+    c.in-Ok.ensures.clean (c.talk_over-status.ensures.clean (subst g.V.Vault.is_clean c.into_vault.ensures clean))
+
+pub returns-in-Err-clause-clean : goal.returns-in-Err-clause-clean
+returns-in-Err-clause-clean g c = search rules
+
+pub returns-in-Err-clause-host_told : goal.returns-in-Err-clause-host_told
+returns-in-Err-clause-host_told g c = λ bad.
+    subst (λ (f : Fault). PrintsPart (g.E.Write.contents c.args.err.now) (g.E.Write.contents c.tell_fault.new.err) (fault_line f)) (c.in-Err.ensures.bad_host bad) c.tell_fault.ensures.line
+
+pub returns-clause-host_told : goal.returns-clause-host_told
+returns-clause-host_told g c = λ bad. absurd (false≢true (sym bad ∙ c.in-Ok.ensures.host refl))

@@ -1,0 +1,60 @@
+-- Why a script isn't begun, and that this is told.
+use Rattle.std.proofs.Common.{◌≡◌, ◌⊎◌, inl, inr, refl, ℕ, List, Option, Some, None, Result, Ok, Err, true, false, sym, ◌∙◌, subst, IfSome, IsErr, IsOk}
+use Rattle.std.proofs.lemmas.Bool.{false≢true}
+use Rattle.creds.specs.Names.{is_host}
+use Rattle.converse.specs.Causes.{of_script, IsWhyNot, Tells}
+use Rattle.converse.specs.Printed.{PrintsPart}
+use Rattle.converse.specs.Script.{ScriptLine, script_of}
+use Rattle.converse.specs.Told.{fault_line}
+use Rattle.converse.specs.declared.fault.Fault.{Fault}
+use Rattle.converse.specs.declared.fault.Fault.TheVariants.{BadHost}
+use Rattle.converse.specs.declared.script.ScriptFault.{ScriptFault}
+use Rattle.converse.specs.declared.script.ScriptFault.TheVariants as script
+use Rattle.converse.proofs.Playing.{of_known}
+
+-- a fault of the reading
+pub why_script : {A : Type 0} (text host : List ℕ) (r : Result A ScriptFault) (e : ScriptFault) → r ≡ Err e → ((n : ℕ) → r ≡ Err (script.BadEvent n) → script_of text ≡ Err n)
+    → IsWhyNot text host (of_script e)
+why_script text host r (script.BadEvent n) is told = told n is
+why_script text host r script.NoMemory is told = tt
+
+-- what is said of the octets that were read is said of those that were left
+pub why_read : (known : Option (List ℕ)) (octets : List ℕ) (Is : List ℕ → Type 0) → IfSome known (λ text. octets ≡ text) → Is octets → IfSome known Is
+why_read None octets Is same h = tt
+why_read (Some text) octets Is same h = subst Is same h
+
+read_well : (r : Result (List ScriptLine) ℕ) (lines : List ScriptLine) → r ≡ Ok lines → IsOk r
+read_well r lines e = subst IsOk (sym e) refl
+
+not_read : (r : Result (List ScriptLine) ℕ) (lines : List ScriptLine) → r ≡ Ok lines → ¬ IsErr r
+not_read r lines e ill = let none = subst IsErr e ill in cc
+
+module _ (known : Option (List ℕ)) (host : List ℕ) (before after : Option (List ℕ)) where
+  abbrev IsTold : Type 0
+  IsTold = IfSome known (λ text. IsErr (script_of text) ⊎ (is_host host ≡ false) → Tells before after (IsWhyNot text host))
+
+  -- the script wasn't read
+  pub unread_told : (fault : Fault) → IfSome known (λ text. (host : List ℕ) → IsWhyNot text host fault) → PrintsPart before after (fault_line fault) → IsTold
+  unread_told fault why told = of_known known (λ text. (host : List ℕ) → IsWhyNot text host fault)
+      (λ text. IsErr (script_of text) ⊎ (is_host host ≡ false) → Tells before after (IsWhyNot text host)) (λ text is premise. (fault, is host, told)) why
+
+  -- it was read
+  pub host_told : (lines : List ScriptLine) (fault : Fault) → (is_host host ≡ false → fault ≡ BadHost) → IfSome known (λ text. script_of text ≡ Ok lines) → PrintsPart before after (fault_line fault)
+      → IsTold
+  host_told lines fault bad read told = of_known known (λ text. script_of text ≡ Ok lines)
+      (λ text. IsErr (script_of text) ⊎ (is_host host ≡ false) → Tells before after (IsWhyNot text host))
+      (λ text is premise. elim premise [
+        | inl ill ↦ absurd (not_read (script_of text) lines is ill)
+        | inr none ↦ (BadHost, (read_well (script_of text) lines is, none), subst (λ (f : Fault). PrintsPart before after (fault_line f)) (bad none) told)
+      ])
+      read
+
+  -- and the host is one
+  pub none_told : (lines : List ScriptLine) → is_host host ≡ true → IfSome known (λ text. script_of text ≡ Ok lines) → IsTold
+  none_told lines good read = of_known known (λ text. script_of text ≡ Ok lines)
+      (λ text. IsErr (script_of text) ⊎ (is_host host ≡ false) → Tells before after (IsWhyNot text host))
+      (λ text is premise. elim premise [
+        | inl ill ↦ absurd (not_read (script_of text) lines is ill)
+        | inr none ↦ absurd (false≢true (sym none ∙ good))
+      ])
+      read
