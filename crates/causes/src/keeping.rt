@@ -33,22 +33,23 @@ impl<R> Keeping<R> {
     }
 
     /// Keeps its error, where that isn't a signal that broke in.
-    fn refuse(&mut self, error: Error) -> io::Result<usize> {
+    fn keep_refusal(&mut self, error: Error) {
         if error.kind() != ErrorKind::Interrupted {
             self.refusal = Some(error);
         }
-        Err(error)
     }
 }
 
 impl<R: Read> Read for Keeping<R> {
     fn read(&mut self, room: &mut [u8]) -> io::Result<usize> {
-        match self.inner.read(room) {
+        let error = match self.inner.read(room) {
             Ok(count) => match self.text.extend_from_slice(&room[..count]) {
-                Ok(()) => Ok(count),
-                Err(_) => self.refuse(Error::from(ErrorKind::OutOfMemory)),
+                Ok(()) => return Ok(count),
+                Err(_) => Error::from(ErrorKind::OutOfMemory),
             },
-            Err(error) => self.refuse(error),
-        }
+            Err(error) => error,
+        };
+        self.keep_refusal(error);
+        Err(error)
     }
 }
