@@ -5,8 +5,8 @@ ghost use Rattle.sqlite.specs.State.{HasCleanDisk};
 ghost use Rattle.vault.specs.Changes.{Contents};
 ghost use Rattle.vault.specs.Calls.{IsPaged};
 ghost use Rattle.sqlvault.specs.Refusals.{answer_of};
-ghost use Rattle.sqlvault.specs.Stands.{Holds, WasClean};
-ghost use Rattle.sqlvault.specs.Stops.{StopsBefore, StaysOpen};
+ghost use Rattle.sqlvault.specs.Stands.{Holds};
+ghost use Rattle.sqlvault.specs.Frame.{IsMet, Looks};
 
 use crate::refusal::Refusal;
 use mailsql::sheets::{self, SHEET_OCTETS};
@@ -41,10 +41,10 @@ pub(crate) fn page<S: Alter>(
     from: u64,
     buffer: &mut [u8],
 ) -> Result<usize, Refusal>
-    ensures done { (c : Contents) → HasCleanDisk (state S.Store conn.new) → Holds (state S.Store conn.old) c → IsPaged (Holds (state S.Store conn.new)) c key from buffer.new (answer_of result) }
-    ensures clean { WasClean (state S.Store conn.old) (state S.Store conn.new) }
-    ensures up { StaysOpen (state S.Store conn.old) (state S.Store conn.new) (answer_of result) }
-    ensures stop { StopsBefore (state S.Store conn.old) (state S.Store conn.new) }
+    ensures done { (c : Contents) → HasCleanDisk (state S.Store conn.new)
+        → Holds (state S.Store conn.old) c
+        → IsPaged (Holds (state S.Store conn.new)) c key from buffer.new (answer_of result) }
+    ensures looks { Looks S.Store conn.old conn.new (IsMet result) }
 {
     let sheet_octets = SHEET_OCTETS as u64;
     let mail = key.number().cast_signed();

@@ -8,8 +8,7 @@ use Rattle.mailsql.specs.Rows.{rows_in}
 use Rattle.sqlvault.specs.Keeps.{row_key}
 use Rattle.sqlvault.proofs.HoldsLemmas.{seen, has_tables, holds_unchanged, met, holds_undone}
 use Rattle.sqlvault.proofs.PageLemmas.{sheet_read, no_sheet, page_at, no_page, low_place}
-use Rattle.sqlvault.proofs.StopLemmas.{looked, not_own}
-use Rattle.sqlvault.proofs.StayLemmas.{clean_before}
+use Rattle.sqlvault.proofs.FrameLemmas.{asked, failed}
 use Rattle.sqlvault.proofs.pages.page.Goals as goal
 
 pub returns-in-Ok-Some-clause-done : goal.returns-in-Ok-Some-clause-done
@@ -50,45 +49,17 @@ returns-in-Err-clause-done g c held clean h = record {
   held = holds_undone (state g.S.Store c.args.conn.now) (state g.S.Store c.find_sheet.new.conn) held (c.in-Err.ensures.err clean h.tables) h;
 }
 
-pub returns-in-Err-clause-stop : goal.returns-in-Err-clause-stop
-returns-in-Err-clause-stop g c held clean up h =
-    looked (state g.S.Store c.args.conn.now) (state g.S.Store c.find_sheet.new.conn) held (λ d o m. g.met.S.Store.settled c.args.conn.now.store d o m) clean c.find_sheet.ensures.survives up h
+pub returns-in-Ok-Some-clause-looks : goal.returns-in-Ok-Some-clause-looks
+returns-in-Ok-Some-clause-looks g c =
+    asked g.S.Store c.args.conn.now c.find_sheet.new.conn c.in-Ok-Some.ensures.same
+    c.find_sheet.ensures.survives
 
-pub returns-in-Ok-Some-clause-clean : goal.returns-in-Ok-Some-clause-clean
-returns-in-Ok-Some-clause-clean g c clean1 =
-    let s0 = state g.S.Store c.args.conn.now in
-    let s1 = state g.S.Store c.find_sheet.new.conn in
-    clean_before s0 s1 c.find_sheet.ensures.survives.clean clean1
+pub returns-in-Ok-None-clause-looks : goal.returns-in-Ok-None-clause-looks
+returns-in-Ok-None-clause-looks g c =
+    asked g.S.Store c.args.conn.now c.find_sheet.new.conn c.in-Ok-None.ensures.same
+    c.find_sheet.ensures.survives
 
-pub returns-in-Ok-Some-clause-up : goal.returns-in-Ok-Some-clause-up
-returns-in-Ok-Some-clause-up g c k clean1 up0 h0 own = (c.in-Ok-Some.ensures.same clean1 h0.tables).0.is_open
-
-pub returns-in-Ok-Some-clause-stop : goal.returns-in-Ok-Some-clause-stop
-returns-in-Ok-Some-clause-stop g c k clean1 up0 h0 =
-    let s0 = state g.S.Store c.args.conn.now in
-    let s1 = state g.S.Store c.find_sheet.new.conn in
-    looked s0 s1 k (λ d o m. g.met.S.Store.settled c.args.conn.now.store d o m) clean1 c.find_sheet.ensures.survives up0 h0
-
-pub returns-in-Ok-None-clause-clean : goal.returns-in-Ok-None-clause-clean
-returns-in-Ok-None-clause-clean g c clean1 =
-    let s0 = state g.S.Store c.args.conn.now in
-    let s1 = state g.S.Store c.find_sheet.new.conn in
-    clean_before s0 s1 c.find_sheet.ensures.survives.clean clean1
-
-pub returns-in-Ok-None-clause-up : goal.returns-in-Ok-None-clause-up
-returns-in-Ok-None-clause-up g c k clean1 up0 h0 own = (c.in-Ok-None.ensures.same clean1 h0.tables).0.is_open
-
-pub returns-in-Ok-None-clause-stop : goal.returns-in-Ok-None-clause-stop
-returns-in-Ok-None-clause-stop g c k clean1 up0 h0 =
-    let s0 = state g.S.Store c.args.conn.now in
-    let s1 = state g.S.Store c.find_sheet.new.conn in
-    looked s0 s1 k (λ d o m. g.met.S.Store.settled c.args.conn.now.store d o m) clean1 c.find_sheet.ensures.survives up0 h0
-
-pub returns-in-Err-clause-clean : goal.returns-in-Err-clause-clean
-returns-in-Err-clause-clean g c clean1 =
-    let s0 = state g.S.Store c.args.conn.now in
-    let s1 = state g.S.Store c.find_sheet.new.conn in
-    clean_before s0 s1 c.find_sheet.ensures.survives.clean clean1
-
-pub returns-in-Err-clause-up : goal.returns-in-Err-clause-up
-returns-in-Err-clause-up g c k clean1 up0 h0 own = absurd (not_own (Unit {0}) c.in-Err.error own)
+pub returns-in-Err-clause-looks : goal.returns-in-Err-clause-looks
+returns-in-Err-clause-looks g c =
+    failed g.S.Store c.args.conn.now c.find_sheet.new.conn c.in-Err.ensures.err
+    c.find_sheet.ensures.survives
