@@ -1,17 +1,36 @@
 use Rattle.std.proofs.Common.{ap}
+use Rattle.sqlite.specs.Held.{state}
 use Rattle.sqlvault.specs.Opened.{Opened}
-use Rattle.sqlvault.proofs.StopLemmas.{looked_as, clean_told, done_by}
+use Rattle.sqlvault.specs.Stops.{leaves_last}
+use Rattle.sqlvault.proofs.FrameLemmas.{looks_told}
+use Rattle.sqlvault.proofs.StopLemmas.{left_as, done_by}
 use Rattle.vault.specs.Calls.{IsPaged}
 use Rattle.sqlvault.proofs.sql_vault.SqlVaultVault.page.Goals as goal
 
-pub returns-clause-stop : goal.returns-clause-stop
-returns-clause-stop g c b clean up h left may =
-    looked_as g.S.Store c.args.self.now.conn c.self.inside.conn c.told.new.self.conn c.page-answer.new.conn b left (ap (λ (o : Opened g.row.S.Denot). o.conn) c.self.view_is) c.told.ensures.conn
-    c.page-answer.ensures.stop clean up h may
-
 pub returns-clause-clean : goal.returns-clause-clean
 returns-clause-clean g c clean =
-    clean_told g.S.Store c.args.self.now.conn c.self.inside.conn c.told.new.self.conn c.page-answer.new.conn (ap (λ (o : Opened g.row.S.Denot). o.conn) c.self.view_is) c.told.ensures.conn c.page-answer.ensures.clean clean
+    (looks_told g.S.Store c.args.self.now.conn c.self.inside.conn c.told.new.self.conn
+    c.page-answer.new.conn c.page-answer.result c.told.result
+    (ap (λ (o : Opened g.row.S.Denot). o.conn) c.self.view_is)
+    c.told.ensures.conn c.told.ensures.answer c.page-answer.ensures.looks).clean clean
+
+pub returns-clause-up : goal.returns-clause-up
+returns-clause-up g c k clean h up own =
+    ((looks_told g.S.Store c.args.self.now.conn c.self.inside.conn c.told.new.self.conn
+    c.page-answer.new.conn c.page-answer.result c.told.result
+    (ap (λ (o : Opened g.row.S.Denot). o.conn) c.self.view_is)
+    c.told.ensures.conn c.told.ensures.answer c.page-answer.ensures.looks).rests clean k
+    h).up up own
+
+pub returns-clause-stop : goal.returns-clause-stop
+returns-clause-stop g c k clean up h left may =
+    left_as (state g.S.Store c.told.new.self.conn) k left
+    (((looks_told g.S.Store c.args.self.now.conn c.self.inside.conn c.told.new.self.conn
+    c.page-answer.new.conn c.page-answer.result c.told.result
+    (ap (λ (o : Opened g.row.S.Denot). o.conn) c.self.view_is)
+    c.told.ensures.conn c.told.ensures.answer c.page-answer.ensures.looks).rests clean k
+    h).stop up (leaves_last (state g.S.Store c.args.self.now.conn) k
+    (λ db o m. g.met.S.Store.settled c.args.self.now.conn.store db o m) up h)) may
 
 pub returns-clause-done : goal.returns-clause-done
 returns-clause-done g c b h clean =
