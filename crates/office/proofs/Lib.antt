@@ -77,3 +77,4 @@ mod Unasked
 mod Memory
 mod MeetingLocks
 mod Sending
+pub mod Frames

@@ -18,7 +18,7 @@ use Rattle.office.specs.Kept.{Desk, Kept, answered, line_after}
 use Rattle.office.specs.Answered.{shown_of, held_after, held_if}
 use Rattle.office.specs.Stands.{Keeps, Seen}
 use Rattle.office.specs.Output.{nothing_owed}
-use Rattle.office.specs.Stopping.{SaysTrace, IsAnswered, taken_as_done, with_it_done, EitherOrWith, LeavesOneOf}
+use Rattle.office.specs.Stopping.{SaysTrace, IsAnswered, taken_as_done, with_it_done, EitherOrWith, LeavesOneOf, WasDone}
 use Rattle.office.specs.declared.talk.Talk.{Talk}
 use Rattle.office.specs.declared.talk.Acted.{Acted}
 use Rattle.office.specs.declared.talk.Acted.TheVariants as acted
@@ -29,8 +29,8 @@ use Rattle.office.proofs.Stopping.{agree_through, says_kept}
 use Rattle.office.proofs.Beginning.{begun_done}
 
 -- a line that was answered otherwise than Failed was done
-pub line_answered : (w : Acted) (o : Outcome) → o ≡ shown_of w → IsAnswered o → w ≡ acted.Done
-line_answered acted.Done o e a = refl
+pub line_answered : (w : Acted) (o : Outcome) → o ≡ shown_of w → IsAnswered o → WasDone w
+line_answered acted.Done o e a = tt
 line_answered acted.Failed o e a = absurd (subst IsAnswered e a)
 
 module _ {Before : Contents → Type 0} (T : Trace) (n : ℕ) (keeps : Keeps Before T) (sound : AreSound keeps.contents) (s : Seen) (k : Kept) (p : List ℕ) (d : Desk) (t : Talk)

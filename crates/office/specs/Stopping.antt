@@ -1,9 +1,12 @@
 -- What a stop of the device in an event (a crash, the power gone) leaves: what the store says when
 -- it is opened again.
-use Rattle.std.specs.Prelude.{◌≡◌, ◌⊎◌, ⊤, Result, IfOk}
+use Rattle.std.specs.Prelude.{◌≡◌, ◌≤◌, ◌⊎◌, ⊤, ℕ, Option, Some, None, Result, IfOk}
 use Rattle.vault.specs.Records.{Agree}
 use Rattle.vault.specs.Changes.{Contents, records_of}
 use Rattle.vault.specs.Stops.{SaySame}
+use Rattle.vault.specs.declared.vault.Vault.{Ghosts}
+use Rattle.office.specs.declared.reading.Page.{Page}
+use Rattle.office.specs.declared.reading.Page.TheVariants as page
 use Rattle.office.specs.declared.talk.Acted.{Acted}
 use Rattle.office.specs.declared.talk.Acted.TheVariants as acted
 use Rattle.office.specs.History.{Done}
@@ -65,3 +68,33 @@ pub record LeavesOneOf (MayLeave : Contents → Type 0) (a b : Contents) : Type 
 -- a device that was up is up after a line that was done
 abbrev pub StaysUpWhenDone : {E : Type 0} → (was_up is_up : Type 0) → Result Acted E → Type 0
 StaysUpWhenDone was_up is_up answered = was_up → IfOk answered (λ w. w ≡ acted.Done → is_up)
+
+-- ---- a part of a line, in one word
+
+-- a page was read
+abbrev pub HasRead : Option ℕ → Type 0
+HasRead None = ⊥
+HasRead (Some n) = ⊤
+
+-- a page was put, the last one or not
+abbrev pub WasPut : Page → Type 0
+WasPut page.More = ⊤
+WasPut page.Last = ⊤
+WasPut page.Refused = ⊥
+
+-- a line was done
+abbrev pub WasDone : Acted → Type 0
+WasDone acted.Done = ⊤
+WasDone acted.Failed = ⊥
+
+-- A part changes records once at most. The count of faults doesn't fall, and the store doesn't
+-- become clean again. Where it is clean, it is up still if the part ended as `Own` says, and a stop
+-- leaves what was held, or what the part makes of it when it is done (`after`).
+pub record ActsOnce {V : Type 0} (vault : Ghosts V) (old new : V) (Own : Type 0)
+    (after : Contents → Contents) : Type 0 where
+  pub counted : vault.faults old ≤ vault.faults new
+  pub clean : vault.is_clean new → vault.is_clean old
+  pub up : (c : Contents) → vault.holds old c → vault.is_clean new → vault.is_up old → Own
+      → vault.is_up new
+  pub stop : (c : Contents) → vault.holds old c → vault.is_clean new → vault.is_up old
+      → LeavesOneOf (vault.may_leave new) c (after c)

@@ -1,6 +1,6 @@
 //! A line of a session: what it is answered, what it changes, and what is remembered of it (RFC
 //! 1939, 5 and 6).
-ghost use Rattle.std.specs.Prelude.{◌≡◌, ◌≤◌, List, true, false, Ok, Err, OnErr, IfOk};
+ghost use Rattle.std.specs.Prelude.{◌≡◌, List, true, false, Ok, Err, OnErr, IfOk, IsOkAnd};
 ghost use Rattle.popline.specs.Commands.{command_of};
 ghost use Rattle.popline.specs.Seen.{command_seen, cut_seen, reading_seen, reply_seen};
 ghost use Rattle.policy.specs.Policy.{Policy};
@@ -12,7 +12,7 @@ ghost use Rattle.office.specs.Connections.{reading, is_quit};
 ghost use Rattle.office.specs.Kept.{talk_after};
 ghost use Rattle.office.specs.Accounts.{removal_told, quit_or};
 ghost use Rattle.office.specs.Telling.{is_told};
-ghost use Rattle.office.specs.Stopping.{StaysUpWhenDone, LeavesOneOf};
+ghost use Rattle.office.specs.Stopping.{WasDone, ActsOnce};
 ghost use Rattle.office.specs.Output.{nothing_owed, OwesReply};
 ghost use Rattle.office.specs.Sitting.{Sitting, sitting_of, session_left, LiesIn, GoesOn, Obeyed, said_inside, reply_inside, asks_inside, held_after_line, user_inside};
 
@@ -75,10 +75,8 @@ fn follow<V: Vault>(
     requires { output.old ≡ nothing_owed }
     ensures done { IfOk result (λ acted. (c : Contents) (kept : List Keyed) → V.holds vault.old c → V.is_clean vault.new → LiesIn c session.old kept → Obeyed (V.holds vault.new) (has_grown (V.faults vault.old) (V.faults vault.new)) c policy.now session.old session.new kept output.new (Ok (command_seen command.now)) acted) }
     ensures err { OnErr result ((c : Contents) → V.holds vault.old c → V.is_clean vault.new → V.holds vault.new c) }
-    ensures counted { V.faults vault.old ≤ V.faults vault.new }
-    ensures clean { V.is_clean vault.new → V.is_clean vault.old }
-    ensures up { (c : Contents) → V.holds vault.old c → V.is_clean vault.new → StaysUpWhenDone (V.is_up vault.old) (V.is_up vault.new) result }
-    ensures stop { (c : Contents) → V.holds vault.old c → V.is_clean vault.new → V.is_up vault.old → LeavesOneOf (V.may_leave vault.new) c (held_after_line Acted.Done policy.now session.old (Ok (command_seen command.now)) c) }
+    ensures acts { ActsOnce V.Vault vault.old vault.new (IsOkAnd result WasDone)
+        (held_after_line Acted.Done policy.now session.old (Ok (command_seen command.now))) }
     ensures account { IfOk result (λ acted. account.new ≡ quit_or (is_quit (Ok
         (command_seen command.now))) (Account.Quit
         (removal_told acted policy.now session.old)) account.old) }
@@ -108,10 +106,8 @@ fn obey<V: Vault>(
     requires { output.old ≡ nothing_owed }
     ensures done { IfOk result (λ acted. (c : Contents) (kept : List Keyed) → V.holds vault.old c → V.is_clean vault.new → LiesIn c session.old kept → Obeyed (V.holds vault.new) (has_grown (V.faults vault.old) (V.faults vault.new)) c policy.now session.old session.new kept output.new (reading line.now) acted) }
     ensures err { OnErr result ((c : Contents) → V.holds vault.old c → V.is_clean vault.new → V.holds vault.new c) }
-    ensures counted { V.faults vault.old ≤ V.faults vault.new }
-    ensures clean { V.is_clean vault.new → V.is_clean vault.old }
-    ensures up { (c : Contents) → V.holds vault.old c → V.is_clean vault.new → StaysUpWhenDone (V.is_up vault.old) (V.is_up vault.new) result }
-    ensures stop { (c : Contents) → V.holds vault.old c → V.is_clean vault.new → V.is_up vault.old → LeavesOneOf (V.may_leave vault.new) c (held_after_line Acted.Done policy.now session.old (reading line.now) c) }
+    ensures acts { ActsOnce V.Vault vault.old vault.new (IsOkAnd result WasDone)
+        (held_after_line Acted.Done policy.now session.old (reading line.now)) }
     ensures account { IfOk result (λ acted. account.new ≡ quit_or (is_quit (reading line.now))
         (Account.Quit (removal_told acted policy.now session.old)) account.old) }
     ensures account_err { OnErr result (account.new ≡ account.old) }
@@ -141,10 +137,8 @@ pub(crate) fn answer<V: Vault>(
     ensures err { OnErr result ((c : Contents) → V.holds vault.old c → V.is_clean vault.new → V.holds vault.new c) }
     ensures may { IfOk result (λ acted. acted ≡ Acted.Failed → (c : Contents) (kept : List Keyed) → V.holds vault.old c → V.is_clean vault.new → LiesIn c session.old kept → asks_inside policy.now (sitting_of session.old kept) (reading line.now) ≡ true) }
     ensures cause { IfOk result (λ acted. acted ≡ Acted.Failed → (c : Contents) (kept : List Keyed) → V.holds vault.old c → V.is_clean vault.new → LiesIn c session.old kept → has_grown (V.faults vault.old) (V.faults vault.new) ≡ true) }
-    ensures counted { V.faults vault.old ≤ V.faults vault.new }
-    ensures clean { V.is_clean vault.new → V.is_clean vault.old }
-    ensures up { (c : Contents) → V.holds vault.old c → V.is_clean vault.new → StaysUpWhenDone (V.is_up vault.old) (V.is_up vault.new) result }
-    ensures stop { (c : Contents) → V.holds vault.old c → V.is_clean vault.new → V.is_up vault.old → LeavesOneOf (V.may_leave vault.new) c (held_after_line Acted.Done policy.now session.old (reading line.now) c) }
+    ensures acts { ActsOnce V.Vault vault.old vault.new (IsOkAnd result WasDone)
+        (held_after_line Acted.Done policy.now session.old (reading line.now)) }
     ensures account { IfOk result (λ acted. account.new ≡ quit_or (is_quit (reading line.now))
         (Account.Quit (removal_told acted policy.now session.old)) account.old) }
     ensures account_err { OnErr result (account.new ≡ account.old) }

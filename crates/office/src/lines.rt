@@ -1,5 +1,5 @@
 //! The reply to a line, and what is remembered after it.
-ghost use Rattle.std.specs.Prelude.{◌≡◌, ◌≤◌, ◌++◌, ℕ, List, Option, None, Some, true, false, Ok, OnOk, OnErr, IfOk};
+ghost use Rattle.std.specs.Prelude.{◌≡◌, ◌≤◌, ◌++◌, ℕ, List, Option, None, Some, true, false, Ok, OnOk, OnErr, IfOk, IsOkAnd};
 ghost use Rattle.std.specs.BTreeMap.{get};
 ghost use Rattle.popline.specs.Replies.{bytes_of};
 ghost use Rattle.popline.specs.Seen.{cut_seen, command_seen, reading_seen, reply_seen};
@@ -9,7 +9,8 @@ ghost use Rattle.office.specs.History.{Says};
 ghost use Rattle.office.specs.Connections.{reading, is_quit, user_after_line, closes, is_failure};
 ghost use Rattle.office.specs.Sessions.{logs_in};
 ghost use Rattle.office.specs.Replying.{is_allowed as is_allowed_of};
-ghost use Rattle.office.specs.Stopping.{LeavesHeld, StaysUpWhenDone, LeavesOneOf};
+ghost use Rattle.vault.specs.Parts.{OnlyLooks};
+ghost use Rattle.office.specs.Stopping.{LeavesHeld, WasDone, ActsOnce};
 ghost use Rattle.office.specs.Output.{nothing_owed, OwesReply};
 ghost use Rattle.office.specs.Sitting.{Sitting};
 ghost use Rattle.office.specs.Accounts.{line_account, seated_account, removal_told, quit_or};
@@ -177,13 +178,9 @@ fn answer_outside<V: Vault>(
     ensures session { IfOk result (λ r. (c : Contents) → V.holds vault.old c → V.is_clean vault.new → Becomes c desk.entry.policy.now talk.old line.now (reply_of r.0 (desk_over c desk.entry locks.old) talk.old None line.now) None r.1) }
     ensures locks { IfOk result (λ r. LocksFollow desk.entry.number None r.1 locks.old locks.new) }
     ensures locks_err { OnErr result ((d : List ℕ) → get name_cmp locks.new d ≡ get name_cmp locks.old d) }
-    ensures held { (c : Contents) → V.holds vault.old c → V.is_clean vault.new → V.holds vault.new c }
     ensures may { IfOk result (λ r. r.0 ≡ Acted.Failed → asks_outside talk.old (reading line.now) ≡ true) }
     ensures cause { IfOk result (λ r. r.0 ≡ Acted.Failed → (c : Contents) → V.holds vault.old c → V.is_clean vault.new → has_grown (V.faults vault.old) (V.faults vault.new) ≡ true) }
-    ensures counted { V.faults vault.old ≤ V.faults vault.new }
-    ensures clean { V.is_clean vault.new → V.is_clean vault.old }
-    ensures up { (c : Contents) → V.holds vault.old c → V.is_clean vault.new → V.is_up vault.old → IfOk result (λ r. r.0 ≡ Acted.Done → V.is_up vault.new) }
-    ensures stop { (c : Contents) → V.holds vault.old c → V.is_clean vault.new → V.is_up vault.old → LeavesHeld (V.may_leave vault.new) c }
+    ensures looks { OnlyLooks V.Vault vault.old vault.new (IsOkAnd result (λ r. WasDone r.0)) }
     ensures account { IfOk result (λ r. (c : Contents) → V.holds vault.old c → V.is_clean vault.new
         → account.new ≡ line_account (reading line.now) (Says (reply_of r.0
         (desk_over c desk.entry locks.old) talk.old None line.now)) talk.old.user) }
@@ -225,10 +222,8 @@ fn answer_inside<V: Vault>(
     ensures err { OnErr result ((c : Contents) → V.holds vault.old c → V.is_clean vault.new → V.holds vault.new c) }
     ensures may { IfOk result (λ r. r.0 ≡ Acted.Failed → (c : Contents) (v : Sitting) → V.holds vault.old c → V.is_clean vault.new → IsSeated c (Some session) (Some v) → asks desk.entry.policy.now talk.old (Some v) (reading line.now) ≡ true) }
     ensures cause { IfOk result (λ r. r.0 ≡ Acted.Failed → (c : Contents) (v : Sitting) → V.holds vault.old c → V.is_clean vault.new → IsSeated c (Some session) (Some v) → has_grown (V.faults vault.old) (V.faults vault.new) ≡ true) }
-    ensures counted { V.faults vault.old ≤ V.faults vault.new }
-    ensures clean { V.is_clean vault.new → V.is_clean vault.old }
-    ensures up { (c : Contents) → V.holds vault.old c → V.is_clean vault.new → V.is_up vault.old → IfOk result (λ r. r.0 ≡ Acted.Done → V.is_up vault.new) }
-    ensures stop { (c : Contents) → V.holds vault.old c → V.is_clean vault.new → V.is_up vault.old → LeavesOneOf (V.may_leave vault.new) c (held_after Acted.Done desk.entry.policy.now (Some session) (reading line.now) c) }
+    ensures acts { ActsOnce V.Vault vault.old vault.new (IsOkAnd result (λ r. WasDone r.0))
+        (held_after Acted.Done desk.entry.policy.now (Some session) (reading line.now)) }
     ensures account { IfOk result (λ r. account.new ≡ quit_or (is_quit (reading line.now))
         (Account.Quit (removal_told r.0 desk.entry.policy.now session)) account.old) }
     ensures account_err { OnErr result (account.new ≡ account.old) }
@@ -277,10 +272,8 @@ pub fn answer<V: Vault>(
     ensures err { OnErr result ((c : Contents) → V.holds vault.old c → V.is_clean vault.new → V.holds vault.new c) }
     ensures may { IfOk result (λ acted. acted ≡ Acted.Failed → (c : Contents) (v : Option Sitting) → V.holds vault.old c → V.is_clean vault.new → IsSeated c session.old v → asks desk.entry.policy.now talk.old v (reading (cut_seen cut.entry)) ≡ true) }
     ensures cause { IfOk result (λ acted. acted ≡ Acted.Failed → (c : Contents) (v : Option Sitting) → V.holds vault.old c → V.is_clean vault.new → IsSeated c session.old v → has_grown (V.faults vault.old) (V.faults vault.new) ≡ true) }
-    ensures counted { V.faults vault.old ≤ V.faults vault.new }
-    ensures clean { V.is_clean vault.new → V.is_clean vault.old }
-    ensures up { (c : Contents) → V.holds vault.old c → V.is_clean vault.new → StaysUpWhenDone (V.is_up vault.old) (V.is_up vault.new) result }
-    ensures stop { (c : Contents) → V.holds vault.old c → V.is_clean vault.new → V.is_up vault.old → LeavesOneOf (V.may_leave vault.new) c (held_after Acted.Done desk.entry.policy.now session.old (reading (cut_seen cut.entry)) c) }
+    ensures acts { ActsOnce V.Vault vault.old vault.new (IsOkAnd result WasDone)
+        (held_after Acted.Done desk.entry.policy.now session.old (reading (cut_seen cut.entry))) }
     ensures account { account.old ≡ Account.Nothing
         → IfOk result (λ acted. (c : Contents) (v : Option Sitting) → V.holds vault.old c
         → V.is_clean vault.new → IsSeated c session.old v

@@ -1,11 +1,12 @@
 //! One connection: the input that isn't cut yet, and the octets that it is owed.
-ghost use Rattle.std.specs.Prelude.{◌≡◌, ◌++◌, ◌+◌, ◌≤◌, ◌<◌, ◌==◌, ◌||◌, nat_lt, ℕ, List, [], Option, None, true, false, is_some, OnOk, OnErr, IfOk, drop, length, string_bytes};
+ghost use Rattle.std.specs.Prelude.{◌≡◌, ◌++◌, ◌+◌, ◌≤◌, ◌<◌, ◌==◌, ◌||◌, nat_lt, ℕ, List, [], Option, None, true, false, is_some, OnOk, OnErr, IfOk, IsOkAnd, IsTrue, drop, length, string_bytes};
 ghost use Rattle.std.specs.BTreeMap.{get};
 ghost use Rattle.popline.specs.Replies.{Greeting, bytes_of, timestamp};
 ghost use Rattle.popline.specs.Cutting.{has_newline, coming, shown, nothing_held};
 ghost use Rattle.vault.specs.Changes.{Contents};
 ghost use Rattle.vault.specs.Calls.{has_grown};
-ghost use Rattle.office.specs.Stopping.{LeavesHeld, StaysUpWhenDone, LeavesOneOf};
+ghost use Rattle.vault.specs.Parts.{OnlyLooks};
+ghost use Rattle.office.specs.Stopping.{WasDone, ActsOnce};
 ghost use Rattle.office.specs.Replying.{is_empty};
 ghost use Rattle.office.specs.Output.{nothing_owed, most_output, lent_of, is_feeding, reads_text, Owes, OwesIf};
 ghost use Rattle.office.specs.Sitting.{Sitting};
@@ -155,11 +156,7 @@ impl Link {
         // Only a message can be refused, and only what is still coming takes memory.
         ensures refused { IfOk result (λ taken. taken ≡ false → reads_text self.old.output.source ≡ true) }
         ensures err { OnErr result (is_feeding self.old.output.source ≡ true) }
-        ensures held { (c : Contents) → V.holds vault.old c → V.is_clean vault.new → V.holds vault.new c }
-        ensures counted { V.faults vault.old ≤ V.faults vault.new }
-        ensures clean { V.is_clean vault.new → V.is_clean vault.old }
-        ensures up { (c : Contents) → V.holds vault.old c → V.is_clean vault.new → V.is_up vault.old → IfOk result (λ taken. taken ≡ true → V.is_up vault.new) }
-        ensures stop { (c : Contents) → V.holds vault.old c → V.is_clean vault.new → V.is_up vault.old → LeavesHeld (V.may_leave vault.new) c }
+        ensures looks { OnlyLooks V.Vault vault.old vault.new (IsOkAnd result IsTrue) }
         ensures unasked { reads_text self.old.output.source ≡ false → vault.new ≡ vault.old }
     {
         self.clock = now;
@@ -276,10 +273,9 @@ impl Link {
         ensures held_err { OnErr result ((c : Contents) → V.holds vault.old c → V.is_clean vault.new → V.holds vault.new c) }
         ensures may { IfOk result (λ acted. acted ≡ Acted.Failed → (c : Contents) (v : Option Sitting) → V.holds vault.old c → V.is_clean vault.new → IsSeated c self.old.session v → (has_newline piece.now ≡ true) × (asks policy.now self.old.talk v (reading (line_after self.old piece.now)) ≡ true)) }
         ensures cause { IfOk result (λ acted. acted ≡ Acted.Failed → (c : Contents) (v : Option Sitting) → V.holds vault.old c → V.is_clean vault.new → IsSeated c self.old.session v → has_grown (V.faults vault.old) (V.faults vault.new) ≡ true) }
-        ensures counted { V.faults vault.old ≤ V.faults vault.new }
-        ensures clean { V.is_clean vault.new → V.is_clean vault.old }
-        ensures up { (c : Contents) → V.holds vault.old c → V.is_clean vault.new → StaysUpWhenDone (V.is_up vault.old) (V.is_up vault.new) result }
-        ensures stop { (c : Contents) → V.holds vault.old c → V.is_clean vault.new → V.is_up vault.old → LeavesOneOf (V.may_leave vault.new) c (held_if (has_newline piece.now) Acted.Done policy.now self.old.session (reading (line_after self.old piece.now)) c) }
+        ensures acts { ActsOnce V.Vault vault.old vault.new (IsOkAnd result WasDone)
+            (held_if (has_newline piece.now) Acted.Done policy.now self.old.session
+            (reading (line_after self.old piece.now))) }
         ensures account { account.old ≡ Account.Nothing
             → IfOk result (λ acted. (c : Contents) (v : Option Sitting) → V.holds vault.old c
             → V.is_clean vault.new → IsSeated c self.old.session v
@@ -341,10 +337,9 @@ impl Link {
         ensures held_err { OnErr result ((c : Contents) → V.holds vault.old c → V.is_clean vault.new → V.holds vault.new c) }
         ensures may { IfOk result (λ acted. acted ≡ Acted.Failed → (c : Contents) (v : Option Sitting) → V.holds vault.old c → V.is_clean vault.new → IsSeated c self.old.session v → (has_newline self.old.pending ≡ true) × (asks policy.now self.old.talk v (reading (line_after self.old self.old.pending)) ≡ true)) }
         ensures cause { IfOk result (λ acted. acted ≡ Acted.Failed → (c : Contents) (v : Option Sitting) → V.holds vault.old c → V.is_clean vault.new → IsSeated c self.old.session v → has_grown (V.faults vault.old) (V.faults vault.new) ≡ true) }
-        ensures counted { V.faults vault.old ≤ V.faults vault.new }
-        ensures clean { V.is_clean vault.new → V.is_clean vault.old }
-        ensures up { (c : Contents) → V.holds vault.old c → V.is_clean vault.new → StaysUpWhenDone (V.is_up vault.old) (V.is_up vault.new) result }
-        ensures stop { (c : Contents) → V.holds vault.old c → V.is_clean vault.new → V.is_up vault.old → LeavesOneOf (V.may_leave vault.new) c (held_if (has_newline self.old.pending) Acted.Done policy.now self.old.session (reading (line_after self.old self.old.pending)) c) }
+        ensures acts { ActsOnce V.Vault vault.old vault.new (IsOkAnd result WasDone)
+            (held_if (has_newline self.old.pending) Acted.Done policy.now self.old.session
+            (reading (line_after self.old self.old.pending))) }
         ensures account { account.old ≡ Account.Nothing
             → IfOk result (λ acted. (c : Contents) (v : Option Sitting) → V.holds vault.old c
             → V.is_clean vault.new → IsSeated c self.old.session v

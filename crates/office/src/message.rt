@@ -1,12 +1,13 @@
 //! A message, whole or its top (RFC 1939, 5: RETR; 7: TOP).
-ghost use Rattle.std.specs.Prelude.{◌≡◌, ◌≤◌, ◌++◌, ℕ, List, Ok, OnErr, IfOk, false};
+ghost use Rattle.std.specs.Prelude.{◌≡◌, ◌++◌, ℕ, List, Ok, IfOk, IsOkAnd, false};
 ghost use Rattle.popline.specs.Commands.{Retr, Top};
 ghost use Rattle.vault.specs.Changes.{Contents};
 ghost use Rattle.vault.specs.Calls.{has_grown};
 ghost use Rattle.vault.specs.declared.record.Keyed.{Keyed};
 ghost use Rattle.session.specs.Session.{Session as State};
 ghost use Rattle.office.specs.Output.{nothing_owed, Reads};
-ghost use Rattle.office.specs.Stopping.{LeavesHeld, StaysUpWhenDone};
+ghost use Rattle.vault.specs.Parts.{OnlyLooks};
+ghost use Rattle.office.specs.Stopping.{WasDone};
 ghost use Rattle.office.specs.Sitting.{LiesIn, Obeyed, IsServed, asks_inside, sitting_of};
 
 use crate::output::{Output, Source};
@@ -29,11 +30,7 @@ fn serve<V: Vault>(
 ) -> Result<Acted, AllocError>
     requires { output.old.source ≡ Source.Nothing }
     ensures served { IfOk result (λ acted. (c : Contents) (s : State) (coming : List ℕ) → V.holds vault.old c → V.is_clean vault.new → Reads c s text coming → IsServed (V.holds vault.new) (has_grown (V.faults vault.old) (V.faults vault.new)) c s (output.old.ready ++ coming) output.new acted) }
-    ensures err { OnErr result ((c : Contents) → V.holds vault.old c → V.is_clean vault.new → V.holds vault.new c) }
-    ensures counted { V.faults vault.old ≤ V.faults vault.new }
-    ensures clean { V.is_clean vault.new → V.is_clean vault.old }
-    ensures up { (c : Contents) → V.holds vault.old c → V.is_clean vault.new → StaysUpWhenDone (V.is_up vault.old) (V.is_up vault.new) result }
-    ensures stop { (c : Contents) → V.holds vault.old c → V.is_clean vault.new → V.is_up vault.old → LeavesHeld (V.may_leave vault.new) c }
+    ensures looks { OnlyLooks V.Vault vault.old vault.new (IsOkAnd result WasDone) }
 {
     if output.send_text(vault, text)? {
         return Ok(Acted::Done);
@@ -55,11 +52,7 @@ pub(crate) fn retrieve<V: Vault>(
 ) -> Result<Acted, AllocError>
     requires { output.old ≡ nothing_owed }
     ensures done { IfOk result (λ acted. (c : Contents) (kept : List Keyed) → V.holds vault.old c → V.is_clean vault.new → LiesIn c session.now kept → Obeyed (V.holds vault.new) (has_grown (V.faults vault.old) (V.faults vault.new)) c policy.now session.now session.now kept output.new (Ok (Retr n)) acted) }
-    ensures err { OnErr result ((c : Contents) → V.holds vault.old c → V.is_clean vault.new → V.holds vault.new c) }
-    ensures counted { V.faults vault.old ≤ V.faults vault.new }
-    ensures clean { V.is_clean vault.new → V.is_clean vault.old }
-    ensures up { (c : Contents) → V.holds vault.old c → V.is_clean vault.new → StaysUpWhenDone (V.is_up vault.old) (V.is_up vault.new) result }
-    ensures stop { (c : Contents) → V.holds vault.old c → V.is_clean vault.new → V.is_up vault.old → LeavesHeld (V.may_leave vault.new) c }
+    ensures looks { OnlyLooks V.Vault vault.old vault.new (IsOkAnd result WasDone) }
     ensures unasked { (c : Contents) (kept : List Keyed) → LiesIn c session.now kept → asks_inside policy.now (sitting_of session.now kept) (Ok (Retr n)) ≡ false → vault.new ≡ vault.old }
 {
     match session.pick_for(n, policy) {
@@ -84,11 +77,7 @@ pub(crate) fn top<V: Vault>(
 ) -> Result<Acted, AllocError>
     requires { output.old ≡ nothing_owed }
     ensures done { IfOk result (λ acted. (c : Contents) (kept : List Keyed) → V.holds vault.old c → V.is_clean vault.new → LiesIn c session.now kept → Obeyed (V.holds vault.new) (has_grown (V.faults vault.old) (V.faults vault.new)) c policy.now session.now session.now kept output.new (Ok (Top number lines)) acted) }
-    ensures err { OnErr result ((c : Contents) → V.holds vault.old c → V.is_clean vault.new → V.holds vault.new c) }
-    ensures counted { V.faults vault.old ≤ V.faults vault.new }
-    ensures clean { V.is_clean vault.new → V.is_clean vault.old }
-    ensures up { (c : Contents) → V.holds vault.old c → V.is_clean vault.new → StaysUpWhenDone (V.is_up vault.old) (V.is_up vault.new) result }
-    ensures stop { (c : Contents) → V.holds vault.old c → V.is_clean vault.new → V.is_up vault.old → LeavesHeld (V.may_leave vault.new) c }
+    ensures looks { OnlyLooks V.Vault vault.old vault.new (IsOkAnd result WasDone) }
     ensures unasked { (c : Contents) (kept : List Keyed) → LiesIn c session.now kept → asks_inside policy.now (sitting_of session.now kept) (Ok (Top number lines)) ≡ false → vault.new ≡ vault.old }
 {
     match session.pick_for(number, policy) {

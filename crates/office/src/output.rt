@@ -1,6 +1,6 @@
 //! What a connection is owed: octets that stand ready, and what feeds them (RFC 1939, 3: replies of
 //! many lines).
-ghost use Rattle.std.specs.Prelude.{◌≡◌, ◌≤◌, ◌<◌, ◌++◌, ◌⊎◌, ℕ, List, [], Option, Some, true, false, IfOk, OnOk, drop, length, codes};
+ghost use Rattle.std.specs.Prelude.{◌≡◌, ◌≤◌, ◌<◌, ◌++◌, ◌⊎◌, ℕ, List, [], Option, Some, true, false, IfOk, IsOkAnd, IsTrue, OnOk, drop, length, codes};
 ghost use Rattle.std.specs.Fmt.{decimal};
 ghost use Rattle.popline.specs.Replies.{bytes_of, one_line, scan_text, uid_row_text, scan_begun, uids_begun};
 ghost use Rattle.popline.specs.Seen.{reply_seen};
@@ -12,7 +12,7 @@ ghost use Rattle.session.specs.View.{unmarked, sizes_of, uids_of};
 ghost use Rattle.office.specs.Replying.{is_empty};
 ghost use Rattle.office.specs.Output.{nothing_owed, is_feeding, reads_text, most_output, last_line, lent_of, IsFilled, Owes, Reads, IsListed, sizes_coming, uids_coming};
 ghost use Rattle.office.specs.Trace.{most_lent};
-ghost use Rattle.office.specs.Stopping.{LeavesHeld};
+ghost use Rattle.vault.specs.Parts.{OnlyLooks};
 
 use crate::reading::{MOST_LENT, Page, Reading};
 use creds::Uid;
@@ -358,11 +358,7 @@ impl Output {
         requires { self.old.source ≡ Source.Nothing }
         ensures owes { IfOk result (λ sent. sent ≡ true → (c : Contents) (s : State) (coming : List ℕ) → V.holds vault.old c → V.is_clean vault.new → Reads c s text coming → Owes c (Some s) self.new (self.old.ready ++ coming)) }
         ensures cause { IfOk result (λ sent. sent ≡ false → (c : Contents) (s : State) (coming : List ℕ) → V.holds vault.old c → V.is_clean vault.new → Reads c s text coming → has_grown (V.faults vault.old) (V.faults vault.new) ≡ true) }
-        ensures held { (c : Contents) → V.holds vault.old c → V.is_clean vault.new → V.holds vault.new c }
-        ensures counted { V.faults vault.old ≤ V.faults vault.new }
-        ensures clean { V.is_clean vault.new → V.is_clean vault.old }
-        ensures up { (c : Contents) → V.holds vault.old c → V.is_clean vault.new → V.is_up vault.old → IfOk result (λ sent. sent ≡ true → V.is_up vault.new) }
-        ensures stop { (c : Contents) → V.holds vault.old c → V.is_clean vault.new → V.is_up vault.old → LeavesHeld (V.may_leave vault.new) c }
+        ensures looks { OnlyLooks V.Vault vault.old vault.new (IsOkAnd result IsTrue) }
     {
         remove_front(&mut self.ready, self.taken);
         self.taken = 0;

@@ -1,12 +1,13 @@
 //! A message that is sent page by page (RFC 1939, 5: RETR; 7: TOP).
-ghost use Rattle.std.specs.Prelude.{◌≡◌, ◌≢◌, ◌≤◌, ◌<◌, ◌++◌, ◌+◌, ℕ, List, [], Some, None, true, false, min, length, take, drop, OnOk, OnErr, IfOk, IfSome, if◌then◌else◌};
+ghost use Rattle.std.specs.Prelude.{◌≡◌, ◌≤◌, ◌<◌, ◌++◌, ◌+◌, ℕ, List, [], Some, None, true, false, min, length, take, drop, OnOk, IfOk, IfSome, IsOkAnd, if◌then◌else◌};
 ghost use Rattle.mailtext.specs.Text.{kept_form, lines_of, stuffed_lines, top_part};
 ghost use Rattle.mailtext.specs.Streams.{stuffed_from, nothing_come};
 ghost use Rattle.vault.specs.Changes.{Contents};
 ghost use Rattle.vault.specs.Calls.{has_grown, text_under};
 ghost use Rattle.office.specs.Output.{most_output, cut_from, text_coming, last_line, IsBegun, IsPut};
 ghost use Rattle.office.specs.Trace.{most_lent};
-ghost use Rattle.office.specs.Stopping.{LeavesHeld};
+ghost use Rattle.vault.specs.Parts.{OnlyLooks};
+ghost use Rattle.office.specs.Stopping.{HasRead, WasPut};
 
 use mailtext::{Stuffer, TopCut};
 use popline::end_lines;
@@ -79,11 +80,7 @@ impl Reading {
         ensures some { IfOk result (λ read. IfSome read (λ n. (0 < n) × (n ≤ length page.new))) }
         ensures text { IfOk result (λ read. IfSome read (λ n. (c : Contents) → V.holds vault.old c → V.is_clean vault.new → take n page.new ≡ take n (drop self.now.place (text_under self.now.key c.messages)))) }
         ensures cause { IfOk result (λ read. read ≡ None → (c : Contents) → V.holds vault.old c → V.is_clean vault.new → self.now.place < length (text_under self.now.key c.messages) → has_grown (V.faults vault.old) (V.faults vault.new) ≡ true) }
-        ensures held { (c : Contents) → V.holds vault.old c → V.is_clean vault.new → V.holds vault.new c }
-        ensures counted { V.faults vault.old ≤ V.faults vault.new }
-        ensures clean { V.is_clean vault.new → V.is_clean vault.old }
-        ensures up { (c : Contents) → V.holds vault.old c → V.is_clean vault.new → V.is_up vault.old → IfOk result (λ read. IfSome read (λ _. V.is_up vault.new)) }
-        ensures stop { (c : Contents) → V.holds vault.old c → V.is_clean vault.new → V.is_up vault.old → LeavesHeld (V.may_leave vault.new) c }
+        ensures looks { OnlyLooks V.Vault vault.old vault.new (IsOkAnd result HasRead) }
     {
         let room = page.len();
         match vault.page(self.key, self.place, page) {
@@ -146,11 +143,7 @@ impl Reading {
         ensures cause { IfOk result (λ page. page ≡ Page.Refused → (c : Contents) → V.holds vault.old c → V.is_clean vault.new → IsBegun self.old (text_under self.old.key c.messages) → has_grown (V.faults vault.old) (V.faults vault.new) ≡ true) }
         ensures key { self.new.key ≡ self.old.key }
         ensures octets { self.new.octets ≡ self.old.octets }
-        ensures held { (c : Contents) → V.holds vault.old c → V.is_clean vault.new → V.holds vault.new c }
-        ensures counted { V.faults vault.old ≤ V.faults vault.new }
-        ensures clean { V.is_clean vault.new → V.is_clean vault.old }
-        ensures up { (c : Contents) → V.holds vault.old c → V.is_clean vault.new → V.is_up vault.old → IfOk result (λ page. page ≢ Page.Refused → V.is_up vault.new) }
-        ensures stop { (c : Contents) → V.holds vault.old c → V.is_clean vault.new → V.is_up vault.old → LeavesHeld (V.may_leave vault.new) c }
+        ensures looks { OnlyLooks V.Vault vault.old vault.new (IsOkAnd result WasPut) }
         ensures most { length ready.new.items ≤ length ready.old.items + STUFFED_OCTETS + 3 }
     {
         let mut page = [0u8; PAGE_OCTETS];
@@ -174,11 +167,7 @@ impl Reading {
         ensures cause { IfOk result (λ page. page ≡ Page.Refused → (c : Contents) → V.holds vault.old c → V.is_clean vault.new → IsBegun self.old (text_under self.old.key c.messages) → has_grown (V.faults vault.old) (V.faults vault.new) ≡ true) }
         ensures key { self.new.key ≡ self.old.key }
         ensures octets { self.new.octets ≡ self.old.octets }
-        ensures held { (c : Contents) → V.holds vault.old c → V.is_clean vault.new → V.holds vault.new c }
-        ensures counted { V.faults vault.old ≤ V.faults vault.new }
-        ensures clean { V.is_clean vault.new → V.is_clean vault.old }
-        ensures up { (c : Contents) → V.holds vault.old c → V.is_clean vault.new → V.is_up vault.old → IfOk result (λ page. page ≢ Page.Refused → V.is_up vault.new) }
-        ensures stop { (c : Contents) → V.holds vault.old c → V.is_clean vault.new → V.is_up vault.old → LeavesHeld (V.may_leave vault.new) c }
+        ensures looks { OnlyLooks V.Vault vault.old vault.new (IsOkAnd result WasPut) }
         // Whatever the store does.
         ensures most { length ready.new.items ≤ most_output }
     {

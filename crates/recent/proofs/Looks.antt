@@ -1,29 +1,35 @@
 -- Looks at a vault, one after another.
-use Rattle.std.proofs.Common.{◌≡◌, ◌≤◌, ℕ, Bool, true, false, List, [], Result, Ok, Err, refl, ap, sym, ◌∙◌, true≢false, arith}
-use Rattle.std.specs.Prelude.{is_ok, if◌then◌else◌, ◌||◌, nat_lt, nat_le}
+use Rattle.std.proofs.Common.{◌≡◌, ℕ, Bool, true, false, List, [], Result, Ok, Err, ap, sym}
+use Rattle.std.proofs.Common.{true≢false, subst}
+use Rattle.std.specs.Prelude.{⊤, Option, None, is_ok, if◌then◌else◌}
 use Rattle.std.specs.Result.{IsErrAnd}
-use Rattle.std.proofs.lemmas.Bool.Decides.{nat_tests}
 use Rattle.vault.specs.declared.answer.Head.{Head}
 use Rattle.vault.specs.declared.fault.VaultFault.{VaultFault}
 use Rattle.vault.specs.declared.fault.VaultFault.TheVariants as fault
 use Rattle.vault.specs.Records.{is_one_of}
 use Rattle.vault.specs.Changes.{Contents, heads}
-use Rattle.vault.specs.Calls.{IsAnswer, IsRefusal, heads_result, has_grown}
+use Rattle.vault.specs.Calls.{IsRefusal, IsDone, heads_result}
+use Rattle.vault.specs.Call.{Looks}
+use Rattle.vault.specs.Parts.{OnlyLooks}
+use Rattle.vault.specs.declared.vault.Vault.{Ghosts}
 use Rattle.recent.specs.declared.totals.KeptTotal.{KeptTotal}
-use Rattle.recent.specs.Recalling.{RowsFit}
+use Rattle.recent.specs.Recalling.{Recalling, KeptHeads, HoldsFitting, RowsFit}
 
 -- a loop over a vault only looked at it, and rows that fit still do
-pub record CountsSoFar {V : Type 0} (Holds : V → Contents → Type 0) (faults : V → ℕ) (IsClean IsUp : V → Type 0) (before now : V) (rows counted : List KeptTotal) : Type 0 where
-  pub kept : faults before ≤ faults now
-  pub clean : IsClean now → IsClean before
-  pub held : (c : Contents) → Holds before c → IsClean now → Holds now c
-  pub fits : (c : Contents) → Holds before c → IsClean now → RowsFit rows c → RowsFit counted c
-  pub up : (c : Contents) → IsClean now → Holds before c → IsUp before → IsUp now
+pub record CountsSoFar {V : Type 0} (vault : Ghosts V) (before now : V)
+    (rows counted : List KeptTotal) : Type 0 where
+  pub looks : OnlyLooks vault before now ⊤
+  pub fits : (c : Contents) → vault.holds before c → vault.is_clean now → RowsFit rows c
+      → RowsFit counted c
 
 -- what a call that changes nothing leaves, whatever its answer
 pub held_in : {A : Type 0} (Holds : Contents → Type 0) (c : Contents) (r : Result A VaultFault) → Holds (if is_ok r then c else c) → Holds c
 held_in Holds c (Ok x) h = h
 held_in Holds c (Err e) h = h
+
+pub held_done : {A : Type 0} {Holds : Contents → Type 0} {c : Contents}
+    {expected answered : Result A VaultFault} → IsDone Holds c c expected answered → Holds c
+held_done {Holds = Holds} {c = c} {answered = answered} it = held_in Holds c answered it.held
 
 -- a fault that may come in place of one answer may come in place of another
 pub any_refusal : {A B : Type 0} (x : A) (y : B) (e : VaultFault) → IsRefusal (Ok x) e → IsRefusal (Ok y) e
@@ -59,6 +65,36 @@ pub passed_on : (r : Result (Unit {0}) VaultFault) (e : VaultFault) → IsErrAnd
 passed_on (Ok x) e h = absurd h
 passed_on (Err y) e h = cc
 
--- a count that grew from a later number grew from an earlier one
-pub grown_before : (a b n : ℕ) → a ≤ b → has_grown b n ≡ true → has_grown a n ≡ true
-grown_before a b n h g = grind (arith, nat_tests)
+-- what is kept fits, or is forgotten
+pub fits_if : (b : Bool) (Was Holds : Contents → Type 0) (kept : Option KeptHeads)
+    (totals : Option (List KeptTotal)) (c : Contents) → Holds c → HoldsFitting Was kept totals c
+    → HoldsFitting Holds (if b then kept else None) (if b then totals else None) c
+fits_if true Was Holds kept totals c inside held = record {
+  inside = inside;
+  fits = held.fits;
+  sums = held.sums;
+}
+fits_if false Was Holds kept totals c inside held = record { inside = inside; fits = tt; sums = tt }
+
+-- a call that only looks at the vault inside, where what is kept then fits
+pub looks_inside : {V A : Type 0} (vault : Ghosts V) (old was new : Recalling V)
+    (answered : Result A VaultFault) → was ≡ old
+    → Looks vault.holds vault.faults vault.is_clean vault.is_up vault.may_leave was.vault new.vault
+    answered
+    → ((c : Contents) → vault.is_clean new.vault
+    → HoldsFitting (vault.holds old.vault) old.kept old.totals c
+    → HoldsFitting (vault.holds new.vault) new.kept new.totals c)
+    → Looks (λ (r : Recalling V). HoldsFitting (vault.holds r.vault) r.kept r.totals)
+    (λ (r : Recalling V). vault.faults r.vault) (λ (r : Recalling V). vault.is_clean r.vault)
+    (λ (r : Recalling V). vault.is_up r.vault) (λ (r : Recalling V). vault.may_leave r.vault) old new
+    answered
+looks_inside {V} {A} vault old was new answered e it fits =
+    let at = subst (λ (r : Recalling V). Looks vault.holds vault.faults vault.is_clean vault.is_up
+    vault.may_leave r.vault new.vault answered) e it in
+    record {
+      counted = at.counted;
+      clean = at.clean;
+      held = fits;
+      up = λ c clean held. at.up c clean held.inside;
+      stop = λ c clean up held. at.stop c clean up held.inside;
+    }

@@ -7,7 +7,6 @@ use Rattle.vault.specs.declared.fault.VaultFault.{VaultFault}
 use Rattle.vault.specs.Records.{is_one_of}
 use Rattle.vault.specs.Changes.{Contents}
 use Rattle.vault.specs.Calls.{IsAnswer}
-use Rattle.vault.specs.Stops.{StaysUp, LeavesBefore}
 use Rattle.recent.specs.declared.totals.KeptTotal.{KeptTotal}
 use Rattle.recent.specs.Recalling.{total_by, RowsFit, TotalsFit}
 
@@ -42,20 +41,3 @@ abbrev pub CountsKept : {V : Type 0} → (V → Contents → Type 0) → (V → 
     → (old new : V) → (kept now : Option (List KeptTotal)) → Result (Unit {0}) VaultFault → Type 0
 CountsKept Holds IsClean old new kept now answered = (c : Contents) → Holds old c → IsClean new
     → TotalsFit kept c → IsCounted (TotalsFit now c) answered
-
--- what was held is held
-abbrev pub KeepsHeld : {V : Type 0} → (V → Contents → Type 0) → (V → Type 0)
-    → (old new : V) → Type 0
-KeepsHeld Holds IsClean old new = (c : Contents) → Holds old c → IsClean new → Holds new c
-
--- a device that was up is up after an answer of the call's own
-abbrev pub KeepsUp : {V A : Type 0} → (V → Contents → Type 0) → (V → Type 0) → (V → Type 0)
-    → (old new : V) → Result A VaultFault → Type 0
-KeepsUp Holds IsClean IsUp old new answered =
-    (c : Contents) → IsClean new → Holds old c → StaysUp (IsUp old) (IsUp new) answered
-
--- a stop leaves what was held
-abbrev pub LeavesHeld : {V : Type 0} → (V → Contents → Type 0) → (V → Type 0) → (V → Type 0)
-    → (V → Contents → Type 0) → (old new : V) → Type 0
-LeavesHeld Holds IsClean IsUp MayLeave old new =
-    (c : Contents) → IsClean new → IsUp old → Holds old c → LeavesBefore (MayLeave new) c

@@ -4,10 +4,9 @@ ghost use Rattle.std.specs.Prelude.{IfOk, IfSome};
 ghost use Rattle.std.specs.List.{list_any};
 ghost use Rattle.vault.specs.declared.answer.Head.{Head as HeadSeen};
 ghost use Rattle.vault.specs.Records.{most_maildrops};
-ghost use Rattle.vault.specs.Calls.{CountsFaults};
+ghost use Rattle.vault.specs.Call.{Looks};
 ghost use Rattle.recent.specs.Recalling.{fresh, stale_if, changed_in, marked};
 ghost use Rattle.recent.specs.Counting.{summed, CountsOne, CountsRows, CountsKept};
-ghost use Rattle.recent.specs.Counting.{KeepsHeld, KeepsUp, LeavesHeld};
 
 use creds::Name;
 use std::alloc::{AllocError, Global};
@@ -112,11 +111,8 @@ fn total_of(maildrop: &Name, heads: &[Head]) -> Total
 /// Counts a stale row again, by the heads of its maildrop. After a fault it is as it was.
 fn count_again<V: Vault>(vault: &mut V, row: &mut KeptTotal) -> Result<(), VaultFault>
     ensures answer { CountsOne V.holds V.is_clean vault.old vault.new row.old row.new result }
-    ensures held { KeepsHeld V.holds V.is_clean vault.old vault.new }
-    ensures counted { CountsFaults (V.faults vault.old) (V.faults vault.new) result }
-    ensures clean { V.is_clean vault.new → V.is_clean vault.old }
-    ensures up { KeepsUp V.holds V.is_clean V.is_up vault.old vault.new result }
-    ensures stop { LeavesHeld V.holds V.is_clean V.is_up V.may_leave vault.old vault.new }
+    ensures looks { Looks V.holds V.faults V.is_clean V.is_up V.may_leave
+        vault.old vault.new result }
 {
     if !row.is_stale {
         return Ok(());
@@ -133,11 +129,8 @@ fn count_again<V: Vault>(vault: &mut V, row: &mut KeptTotal) -> Result<(), Vault
 /// Counts the stale rows again. After a fault some of them may be counted.
 fn count_all<V: Vault>(vault: &mut V, rows: &mut [KeptTotal]) -> Result<(), VaultFault>
     ensures answer { CountsRows V.holds V.is_clean vault.old vault.new rows.old rows.new result }
-    ensures held { KeepsHeld V.holds V.is_clean vault.old vault.new }
-    ensures counted { CountsFaults (V.faults vault.old) (V.faults vault.new) result }
-    ensures clean { V.is_clean vault.new → V.is_clean vault.old }
-    ensures up { KeepsUp V.holds V.is_clean V.is_up vault.old vault.new result }
-    ensures stop { LeavesHeld V.holds V.is_clean V.is_up V.may_leave vault.old vault.new }
+    ensures looks { Looks V.holds V.faults V.is_clean V.is_up V.may_leave
+        vault.old vault.new result }
 {
     for row in rows.iter_mut() {
         count_again(vault, row)?;
@@ -208,11 +201,8 @@ pub(crate) fn count_kept<V: Vault>(
     kept: &mut Option<Totals>,
 ) -> Result<(), VaultFault>
     ensures answer { CountsKept V.holds V.is_clean vault.old vault.new kept.old kept.new result }
-    ensures held { KeepsHeld V.holds V.is_clean vault.old vault.new }
-    ensures counted { CountsFaults (V.faults vault.old) (V.faults vault.new) result }
-    ensures clean { V.is_clean vault.new → V.is_clean vault.old }
-    ensures up { KeepsUp V.holds V.is_clean V.is_up vault.old vault.new result }
-    ensures stop { LeavesHeld V.holds V.is_clean V.is_up V.may_leave vault.old vault.new }
+    ensures looks { Looks V.holds V.faults V.is_clean V.is_up V.may_leave
+        vault.old vault.new result }
 {
     match kept {
         Some(totals) => count_all(vault, &mut totals.rows),

@@ -34,3 +34,4 @@ pub mod MoveLemmas
 pub mod CarryLemmas
 pub mod AgainLemmas
 pub mod VersionLemmas
+pub mod CallLemmas

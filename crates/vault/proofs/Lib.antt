@@ -8,3 +8,5 @@ pub mod MailLemmas
 pub mod PageLemmas
 pub mod DepositLemmas
 pub mod StopLemmas
+pub mod CallLemmas
+pub mod RefusingLemmas

@@ -6,3 +6,5 @@ pub mod Pages
 pub mod Plain
 pub mod Faults
 pub mod Refusals
+pub mod Call
+pub mod Parts

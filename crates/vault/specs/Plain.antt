@@ -1,5 +1,5 @@
 -- What a vault in memory holds, and how it finds keys for new messages.
-use Rattle.std.specs.Prelude.{◌≡◌, ◌-◌, ◌^◌, ℕ, Bool, true, nat_le, List, [], ◌∷◌, ◌++◌, length, sum_by, min}
+use Rattle.std.specs.Prelude.{◌≡◌, ◌-◌, ◌^◌, ℕ, Bool, true, nat_le, List, [], ◌∷◌, ◌++◌, length, sum_by, min, Result}
 use Rattle.std.specs.List.{list_all}
 use Rattle.policy.specs.Policy.{Policy}
 use Rattle.vault.specs.declared.answer.Total.{Total}
@@ -7,6 +7,8 @@ use Rattle.vault.specs.declared.record.Keyed.{Keyed}
 use Rattle.vault.specs.declared.record.Message.{Message}
 use Rattle.vault.specs.declared.record.Receipt.{Receipt}
 use Rattle.vault.specs.Changes.{Contents, AreSound, kept_in}
+use Rattle.vault.specs.Call.{Looks, Commits}
+use Rattle.vault.specs.declared.fault.VaultFault.{VaultFault}
 
 -- no groups and no rules
 abbrev pub no_policy : Policy
@@ -33,3 +35,16 @@ capped_total ms d = record { maildrop = d; messages = length (kept_in d ms); oct
 -- the messages with one added, whose key is the number of these deposits
 abbrev pub with_message : Message → List Receipt → List Keyed → List Keyed
 with_message m deposits ms = ms ++ record { key = length deposits; message = m } ∷ []
+
+-- a call that only looks at what is kept; the store is always clean, and its device up
+abbrev pub LooksKept : {A : Type 0} → (old new : Contents) → Result A VaultFault → Type 0
+LooksKept old new answered =
+    Looks HoldsKept (λ _. 0) (λ _. Unit {0}) (λ _. Unit {0}) (λ vault left. left ≡ vault) old new
+    answered
+
+-- a call that changes what is kept
+abbrev pub CommitsKept : {A : Type 0} → (old new : Contents)
+    → (Contents → (Contents → Type 0) → Result A VaultFault → Type 0) → Result A VaultFault → Type 0
+CommitsKept old new Done answered =
+    Commits HoldsKept (λ _. 0) (λ _. Unit {0}) (λ _. Unit {0}) (λ vault left. left ≡ vault) old new
+    Done answered

@@ -11,6 +11,10 @@ pub record Refusals (V : Type 0) : Type 0 where
   pub to_come : ℕ
   pub refusals : ℕ
 
+-- of the vault inside
+abbrev pub over : {V : Type 0} {W : Type 1} → (V → W) → Refusals V → W
+over of r = of r.vault
+
 -- before the first call; call number n, counted from 1, is to be refused
 abbrev pub refusing_call : {V : Type 0} → V → ℕ → Refusals V
 refusing_call vault n = record { vault = vault; to_come = n; refusals = 0 }

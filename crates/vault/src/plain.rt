@@ -1,9 +1,10 @@
 //! A mail store in memory.
 ghost use Rattle.std.specs.Prelude.{◌≡◌, ◌≢◌, true, is_ok};
 ghost use Rattle.std.proofs.Common.{◌∙◌, sym};
-ghost use Rattle.vault.specs.Stops.{says_same, StaysUp, LeavesBefore, LeavesEither};
-ghost use Rattle.vault.specs.Plain.{HoldsKept, no_contents};
-ghost use Rattle.vault.specs.Calls.{CountsFaults, IsPaged, AreRemoved, IsCredential, IsClerkDropped, IsMaildropDropped};
+ghost use Rattle.vault.specs.Stops.{says_same};
+ghost use Rattle.vault.specs.Plain.{HoldsKept, LooksKept, CommitsKept, no_contents};
+ghost use Rattle.vault.specs.Calls.{IsPaged, AreRemoved, IsCredential, IsClerkDropped};
+ghost use Rattle.vault.specs.Calls.{IsMaildropDropped};
 ghost use Rattle.vault.specs.Changes.{Contents};
 
 use crate::answer::{Deposited, Head, Total};
@@ -109,11 +110,9 @@ impl Vault for PlainVault {
 
     /// It is never refused: it takes no memory.
     fn page(&mut self, key: MessageKey, from: u64, buffer: &mut [u8]) -> Result<usize, VaultFault>
-        ensures done { (c : Contents) → HoldsKept self.old c → Unit {0} → IsPaged (HoldsKept self.new) c key from buffer.new result }
-        ensures counted { CountsFaults 0 0 result }
-        ensures clean { Unit {0} → Unit {0} }
-        ensures up { (c : Contents) → Unit {0} → HoldsKept self.old c → StaysUp (Unit {0}) (Unit {0}) result }
-        ensures stop { (c : Contents) → Unit {0} → Unit {0} → HoldsKept self.old c → LeavesBefore (λ left. left ≡ self.new) c }
+        ensures done { (c : Contents) → HoldsKept self.old c → Unit {0}
+            → IsPaged (HoldsKept self.new) c key from buffer.new result }
+        ensures looks { LooksKept self.old self.new result }
         ensures succeeds { is_ok result ≡ true }
     {
         Ok(read_page(&self.messages, key, from, buffer))
@@ -121,11 +120,10 @@ impl Vault for PlainVault {
 
     /// It is never refused: it takes no memory.
     fn remove(&mut self, maildrop: &Name, keys: &[MessageKey]) -> Result<(), VaultFault>
-        ensures done { (c : Contents) → HoldsKept self.old c → Unit {0} → AreRemoved (HoldsKept self.new) c maildrop.now keys.now result }
-        ensures counted { CountsFaults 0 0 result }
-        ensures clean { Unit {0} → Unit {0} }
-        ensures up { (c : Contents) → Unit {0} → HoldsKept self.old c → StaysUp (Unit {0}) (Unit {0}) result }
-        ensures stop { (c : Contents) → Unit {0} → Unit {0} → HoldsKept self.old c → LeavesEither (λ left. left ≡ self.new) c (λ Held. AreRemoved Held c maildrop.now keys.now) }
+        ensures done { (c : Contents) → HoldsKept self.old c → Unit {0}
+            → AreRemoved (HoldsKept self.new) c maildrop.now keys.now result }
+        ensures commits { CommitsKept self.old self.new
+            (λ c Held. AreRemoved Held c maildrop.now keys.now) result }
         ensures succeeds { is_ok result ≡ true }
     {
         remove_named(&mut self.messages, maildrop, keys);
@@ -138,11 +136,9 @@ impl Vault for PlainVault {
 
     /// It is never refused: it takes no memory.
     fn credential(&mut self, clerk: &Name) -> Result<Option<Credential>, VaultFault>
-        ensures done { (c : Contents) → HoldsKept self.old c → Unit {0} → IsCredential (HoldsKept self.new) c clerk.now result }
-        ensures counted { CountsFaults 0 0 result }
-        ensures clean { Unit {0} → Unit {0} }
-        ensures up { (c : Contents) → Unit {0} → HoldsKept self.old c → StaysUp (Unit {0}) (Unit {0}) result }
-        ensures stop { (c : Contents) → Unit {0} → Unit {0} → HoldsKept self.old c → LeavesBefore (λ left. left ≡ self.new) c }
+        ensures done { (c : Contents) → HoldsKept self.old c → Unit {0}
+            → IsCredential (HoldsKept self.new) c clerk.now result }
+        ensures looks { LooksKept self.old self.new result }
         ensures succeeds { is_ok result ≡ true }
     {
         Ok(credential_of(&self.clerks, clerk))
@@ -155,11 +151,10 @@ impl Vault for PlainVault {
 
     /// It takes no memory.
     fn drop_clerk(&mut self, clerk: &Name) -> Result<(), VaultFault>
-        ensures done { (c : Contents) → HoldsKept self.old c → Unit {0} → IsClerkDropped (HoldsKept self.new) c clerk.now result }
-        ensures counted { CountsFaults 0 0 result }
-        ensures clean { Unit {0} → Unit {0} }
-        ensures up { (c : Contents) → Unit {0} → HoldsKept self.old c → StaysUp (Unit {0}) (Unit {0}) result }
-        ensures stop { (c : Contents) → Unit {0} → Unit {0} → HoldsKept self.old c → LeavesEither (λ left. left ≡ self.new) c (λ Held. IsClerkDropped Held c clerk.now) }
+        ensures done { (c : Contents) → HoldsKept self.old c → Unit {0}
+            → IsClerkDropped (HoldsKept self.new) c clerk.now result }
+        ensures commits { CommitsKept self.old self.new
+            (λ c Held. IsClerkDropped Held c clerk.now) result }
         ensures has_memory { result ≢ Err VaultFault.NoMemory }
     {
         drop_credential(&mut self.clerks, clerk)
@@ -171,11 +166,10 @@ impl Vault for PlainVault {
 
     /// It takes no memory.
     fn drop_maildrop(&mut self, maildrop: &Name) -> Result<(), VaultFault>
-        ensures done { (c : Contents) → HoldsKept self.old c → Unit {0} → IsMaildropDropped (HoldsKept self.new) c maildrop.now result }
-        ensures counted { CountsFaults 0 0 result }
-        ensures clean { Unit {0} → Unit {0} }
-        ensures up { (c : Contents) → Unit {0} → HoldsKept self.old c → StaysUp (Unit {0}) (Unit {0}) result }
-        ensures stop { (c : Contents) → Unit {0} → Unit {0} → HoldsKept self.old c → LeavesEither (λ left. left ≡ self.new) c (λ Held. IsMaildropDropped Held c maildrop.now) }
+        ensures done { (c : Contents) → HoldsKept self.old c → Unit {0}
+            → IsMaildropDropped (HoldsKept self.new) c maildrop.now result }
+        ensures commits { CommitsKept self.old self.new
+            (λ c Held. IsMaildropDropped Held c maildrop.now) result }
         ensures has_memory { result ≢ Err VaultFault.NoMemory }
     {
         drop_name(&mut self.maildrops, &self.messages, maildrop)

@@ -1,9 +1,11 @@
 //! A vault that refuses one of its calls, to test the layers above a vault.
 ghost use Rattle.std.specs.Prelude.{◌≡◌, ◌-◌, if◌then◌else◌};
 ghost use Rattle.vault.specs.Changes.{Contents};
-ghost use Rattle.vault.specs.Stops.{StaysUp, LeavesBefore, LeavesEither};
-ghost use Rattle.vault.specs.Calls.{seen_as, CountsFaults, IsDeposited, AreHeads, IsPaged, AreRemoved, IsCredential, IsClerkPut, IsClerkDropped, IsMaildropAdded, IsMaildropDropped, AreTotals, IsPolicy, IsPolicySet};
-ghost use Rattle.vault.specs.Refusals.{refusing_call, is_next, one_more, faults_of, IsInTurn};
+ghost use Rattle.vault.specs.Call.{Looks, Commits};
+ghost use Rattle.vault.specs.Calls.{seen_as, IsDeposited, AreHeads, IsPaged, AreRemoved};
+ghost use Rattle.vault.specs.Calls.{IsCredential, IsClerkPut, IsClerkDropped, IsMaildropAdded};
+ghost use Rattle.vault.specs.Calls.{IsMaildropDropped, AreTotals, IsPolicy, IsPolicySet};
+ghost use Rattle.vault.specs.Refusals.{refusing_call, is_next, one_more, faults_of, over, IsInTurn};
 
 use crate::answer::{Deposited, Head, Total};
 use crate::fault::VaultFault;
@@ -28,7 +30,8 @@ impl Countdown {
     fn is_due(&mut self) -> bool
         ensures due { result ≡ is_next self.old.to_come }
         ensures to_come { self.new.to_come ≡ self.old.to_come - 1 }
-        ensures refusals { self.new.refusals ≡ (if is_next self.old.to_come then one_more self.old.refusals else self.old.refusals) }
+        ensures refusals { self.new.refusals
+            ≡ (if is_next self.old.to_come then one_more self.old.refusals else self.old.refusals) }
     {
         let is_due = self.to_come == 1;
         self.to_come = self.to_come.saturating_sub(1);
@@ -53,7 +56,11 @@ impl<V: Vault> Model for Refusing<V> {
 
     ghost Value = { Refusals V };
 
-    ghost view = { λ r. record { vault = r.vault; to_come = r.countdown.to_come; refusals = r.countdown.refusals } };
+    ghost view = { λ r. record {
+      vault = r.vault;
+      to_come = r.countdown.to_come;
+      refusals = r.countdown.refusals;
+    } };
 }
 
 impl<V: Vault> Refusing<V> {
@@ -101,11 +108,11 @@ impl<V: Vault> Vault for Refusing<V> {
         id: &DepositId,
         text: &MailText,
     ) -> Result<Deposited, VaultFault>
-        ensures done { (c : Contents) → V.holds self.old.vault c → V.is_clean self.new.vault → IsDeposited (V.holds self.new.vault) c maildrop.now class.now id.now text.now result }
-        ensures counted { CountsFaults (faults_of V.faults self.old) (faults_of V.faults self.new) result }
-        ensures clean { V.is_clean self.new.vault → V.is_clean self.old.vault }
-        ensures up { (c : Contents) → V.is_clean self.new.vault → V.holds self.old.vault c → StaysUp (V.is_up self.old.vault) (V.is_up self.new.vault) result }
-        ensures stop { (c : Contents) → V.is_clean self.new.vault → V.is_up self.old.vault → V.holds self.old.vault c → LeavesEither (V.may_leave self.new.vault) c (λ Held. IsDeposited Held c maildrop.now class.now id.now text.now) }
+        ensures done { (c : Contents) → V.holds self.old.vault c → V.is_clean self.new.vault
+            → IsDeposited (V.holds self.new.vault) c maildrop.now class.now id.now text.now result }
+        ensures commits { Commits (over V.holds) (faults_of V.faults) (over V.is_clean)
+            (over V.is_up) (over V.may_leave) self.old self.new
+            (λ c Held. IsDeposited Held c maildrop.now class.now id.now text.now) result }
         ensures turn { IsInTurn V.faults self.old self.new result }
     {
         if self.countdown.is_due() {
@@ -115,11 +122,10 @@ impl<V: Vault> Vault for Refusing<V> {
     }
 
     fn heads(&mut self, maildrop: &Name) -> Result<Vec<Head>, VaultFault>
-        ensures done { (c : Contents) → V.holds self.old.vault c → V.is_clean self.new.vault → AreHeads (V.holds self.new.vault) c maildrop.now (seen_as result (λ v. v.items)) }
-        ensures counted { CountsFaults (faults_of V.faults self.old) (faults_of V.faults self.new) result }
-        ensures clean { V.is_clean self.new.vault → V.is_clean self.old.vault }
-        ensures up { (c : Contents) → V.is_clean self.new.vault → V.holds self.old.vault c → StaysUp (V.is_up self.old.vault) (V.is_up self.new.vault) result }
-        ensures stop { (c : Contents) → V.is_clean self.new.vault → V.is_up self.old.vault → V.holds self.old.vault c → LeavesBefore (V.may_leave self.new.vault) c }
+        ensures done { (c : Contents) → V.holds self.old.vault c → V.is_clean self.new.vault
+            → AreHeads (V.holds self.new.vault) c maildrop.now (seen_as result (λ v. v.items)) }
+        ensures looks { Looks (over V.holds) (faults_of V.faults) (over V.is_clean)
+            (over V.is_up) (over V.may_leave) self.old self.new result }
         ensures turn { IsInTurn V.faults self.old self.new result }
     {
         if self.countdown.is_due() {
@@ -129,11 +135,10 @@ impl<V: Vault> Vault for Refusing<V> {
     }
 
     fn page(&mut self, key: MessageKey, from: u64, buffer: &mut [u8]) -> Result<usize, VaultFault>
-        ensures done { (c : Contents) → V.holds self.old.vault c → V.is_clean self.new.vault → IsPaged (V.holds self.new.vault) c key from buffer.new result }
-        ensures counted { CountsFaults (faults_of V.faults self.old) (faults_of V.faults self.new) result }
-        ensures clean { V.is_clean self.new.vault → V.is_clean self.old.vault }
-        ensures up { (c : Contents) → V.is_clean self.new.vault → V.holds self.old.vault c → StaysUp (V.is_up self.old.vault) (V.is_up self.new.vault) result }
-        ensures stop { (c : Contents) → V.is_clean self.new.vault → V.is_up self.old.vault → V.holds self.old.vault c → LeavesBefore (V.may_leave self.new.vault) c }
+        ensures done { (c : Contents) → V.holds self.old.vault c → V.is_clean self.new.vault
+            → IsPaged (V.holds self.new.vault) c key from buffer.new result }
+        ensures looks { Looks (over V.holds) (faults_of V.faults) (over V.is_clean)
+            (over V.is_up) (over V.may_leave) self.old self.new result }
         ensures turn { IsInTurn V.faults self.old self.new result }
     {
         if self.countdown.is_due() {
@@ -143,11 +148,11 @@ impl<V: Vault> Vault for Refusing<V> {
     }
 
     fn remove(&mut self, maildrop: &Name, keys: &[MessageKey]) -> Result<(), VaultFault>
-        ensures done { (c : Contents) → V.holds self.old.vault c → V.is_clean self.new.vault → AreRemoved (V.holds self.new.vault) c maildrop.now keys.now result }
-        ensures counted { CountsFaults (faults_of V.faults self.old) (faults_of V.faults self.new) result }
-        ensures clean { V.is_clean self.new.vault → V.is_clean self.old.vault }
-        ensures up { (c : Contents) → V.is_clean self.new.vault → V.holds self.old.vault c → StaysUp (V.is_up self.old.vault) (V.is_up self.new.vault) result }
-        ensures stop { (c : Contents) → V.is_clean self.new.vault → V.is_up self.old.vault → V.holds self.old.vault c → LeavesEither (V.may_leave self.new.vault) c (λ Held. AreRemoved Held c maildrop.now keys.now) }
+        ensures done { (c : Contents) → V.holds self.old.vault c → V.is_clean self.new.vault
+            → AreRemoved (V.holds self.new.vault) c maildrop.now keys.now result }
+        ensures commits { Commits (over V.holds) (faults_of V.faults) (over V.is_clean)
+            (over V.is_up) (over V.may_leave) self.old self.new
+            (λ c Held. AreRemoved Held c maildrop.now keys.now) result }
         ensures turn { IsInTurn V.faults self.old self.new result }
     {
         if self.countdown.is_due() {
@@ -157,11 +162,10 @@ impl<V: Vault> Vault for Refusing<V> {
     }
 
     fn maildrops(&mut self) -> Result<Vec<Total>, VaultFault>
-        ensures done { (c : Contents) → V.holds self.old.vault c → V.is_clean self.new.vault → AreTotals (V.holds self.new.vault) c (seen_as result (λ v. v.items)) }
-        ensures counted { CountsFaults (faults_of V.faults self.old) (faults_of V.faults self.new) result }
-        ensures clean { V.is_clean self.new.vault → V.is_clean self.old.vault }
-        ensures up { (c : Contents) → V.is_clean self.new.vault → V.holds self.old.vault c → StaysUp (V.is_up self.old.vault) (V.is_up self.new.vault) result }
-        ensures stop { (c : Contents) → V.is_clean self.new.vault → V.is_up self.old.vault → V.holds self.old.vault c → LeavesBefore (V.may_leave self.new.vault) c }
+        ensures done { (c : Contents) → V.holds self.old.vault c → V.is_clean self.new.vault
+            → AreTotals (V.holds self.new.vault) c (seen_as result (λ v. v.items)) }
+        ensures looks { Looks (over V.holds) (faults_of V.faults) (over V.is_clean)
+            (over V.is_up) (over V.may_leave) self.old self.new result }
         ensures turn { IsInTurn V.faults self.old self.new result }
     {
         if self.countdown.is_due() {
@@ -171,11 +175,10 @@ impl<V: Vault> Vault for Refusing<V> {
     }
 
     fn credential(&mut self, clerk: &Name) -> Result<Option<Credential>, VaultFault>
-        ensures done { (c : Contents) → V.holds self.old.vault c → V.is_clean self.new.vault → IsCredential (V.holds self.new.vault) c clerk.now result }
-        ensures counted { CountsFaults (faults_of V.faults self.old) (faults_of V.faults self.new) result }
-        ensures clean { V.is_clean self.new.vault → V.is_clean self.old.vault }
-        ensures up { (c : Contents) → V.is_clean self.new.vault → V.holds self.old.vault c → StaysUp (V.is_up self.old.vault) (V.is_up self.new.vault) result }
-        ensures stop { (c : Contents) → V.is_clean self.new.vault → V.is_up self.old.vault → V.holds self.old.vault c → LeavesBefore (V.may_leave self.new.vault) c }
+        ensures done { (c : Contents) → V.holds self.old.vault c → V.is_clean self.new.vault
+            → IsCredential (V.holds self.new.vault) c clerk.now result }
+        ensures looks { Looks (over V.holds) (faults_of V.faults) (over V.is_clean)
+            (over V.is_up) (over V.may_leave) self.old self.new result }
         ensures turn { IsInTurn V.faults self.old self.new result }
     {
         if self.countdown.is_due() {
@@ -185,11 +188,11 @@ impl<V: Vault> Vault for Refusing<V> {
     }
 
     fn put_clerk(&mut self, clerk: &Name, credential: &Credential) -> Result<bool, VaultFault>
-        ensures done { (c : Contents) → V.holds self.old.vault c → V.is_clean self.new.vault → IsClerkPut (V.holds self.new.vault) c clerk.now credential.now result }
-        ensures counted { CountsFaults (faults_of V.faults self.old) (faults_of V.faults self.new) result }
-        ensures clean { V.is_clean self.new.vault → V.is_clean self.old.vault }
-        ensures up { (c : Contents) → V.is_clean self.new.vault → V.holds self.old.vault c → StaysUp (V.is_up self.old.vault) (V.is_up self.new.vault) result }
-        ensures stop { (c : Contents) → V.is_clean self.new.vault → V.is_up self.old.vault → V.holds self.old.vault c → LeavesEither (V.may_leave self.new.vault) c (λ Held. IsClerkPut Held c clerk.now credential.now) }
+        ensures done { (c : Contents) → V.holds self.old.vault c → V.is_clean self.new.vault
+            → IsClerkPut (V.holds self.new.vault) c clerk.now credential.now result }
+        ensures commits { Commits (over V.holds) (faults_of V.faults) (over V.is_clean)
+            (over V.is_up) (over V.may_leave) self.old self.new
+            (λ c Held. IsClerkPut Held c clerk.now credential.now) result }
         ensures turn { IsInTurn V.faults self.old self.new result }
     {
         if self.countdown.is_due() {
@@ -199,11 +202,11 @@ impl<V: Vault> Vault for Refusing<V> {
     }
 
     fn drop_clerk(&mut self, clerk: &Name) -> Result<(), VaultFault>
-        ensures done { (c : Contents) → V.holds self.old.vault c → V.is_clean self.new.vault → IsClerkDropped (V.holds self.new.vault) c clerk.now result }
-        ensures counted { CountsFaults (faults_of V.faults self.old) (faults_of V.faults self.new) result }
-        ensures clean { V.is_clean self.new.vault → V.is_clean self.old.vault }
-        ensures up { (c : Contents) → V.is_clean self.new.vault → V.holds self.old.vault c → StaysUp (V.is_up self.old.vault) (V.is_up self.new.vault) result }
-        ensures stop { (c : Contents) → V.is_clean self.new.vault → V.is_up self.old.vault → V.holds self.old.vault c → LeavesEither (V.may_leave self.new.vault) c (λ Held. IsClerkDropped Held c clerk.now) }
+        ensures done { (c : Contents) → V.holds self.old.vault c → V.is_clean self.new.vault
+            → IsClerkDropped (V.holds self.new.vault) c clerk.now result }
+        ensures commits { Commits (over V.holds) (faults_of V.faults) (over V.is_clean)
+            (over V.is_up) (over V.may_leave) self.old self.new
+            (λ c Held. IsClerkDropped Held c clerk.now) result }
         ensures turn { IsInTurn V.faults self.old self.new result }
     {
         if self.countdown.is_due() {
@@ -213,11 +216,11 @@ impl<V: Vault> Vault for Refusing<V> {
     }
 
     fn add_maildrop(&mut self, maildrop: &Name) -> Result<bool, VaultFault>
-        ensures done { (c : Contents) → V.holds self.old.vault c → V.is_clean self.new.vault → IsMaildropAdded (V.holds self.new.vault) c maildrop.now result }
-        ensures counted { CountsFaults (faults_of V.faults self.old) (faults_of V.faults self.new) result }
-        ensures clean { V.is_clean self.new.vault → V.is_clean self.old.vault }
-        ensures up { (c : Contents) → V.is_clean self.new.vault → V.holds self.old.vault c → StaysUp (V.is_up self.old.vault) (V.is_up self.new.vault) result }
-        ensures stop { (c : Contents) → V.is_clean self.new.vault → V.is_up self.old.vault → V.holds self.old.vault c → LeavesEither (V.may_leave self.new.vault) c (λ Held. IsMaildropAdded Held c maildrop.now) }
+        ensures done { (c : Contents) → V.holds self.old.vault c → V.is_clean self.new.vault
+            → IsMaildropAdded (V.holds self.new.vault) c maildrop.now result }
+        ensures commits { Commits (over V.holds) (faults_of V.faults) (over V.is_clean)
+            (over V.is_up) (over V.may_leave) self.old self.new
+            (λ c Held. IsMaildropAdded Held c maildrop.now) result }
         ensures turn { IsInTurn V.faults self.old self.new result }
     {
         if self.countdown.is_due() {
@@ -227,11 +230,11 @@ impl<V: Vault> Vault for Refusing<V> {
     }
 
     fn drop_maildrop(&mut self, maildrop: &Name) -> Result<(), VaultFault>
-        ensures done { (c : Contents) → V.holds self.old.vault c → V.is_clean self.new.vault → IsMaildropDropped (V.holds self.new.vault) c maildrop.now result }
-        ensures counted { CountsFaults (faults_of V.faults self.old) (faults_of V.faults self.new) result }
-        ensures clean { V.is_clean self.new.vault → V.is_clean self.old.vault }
-        ensures up { (c : Contents) → V.is_clean self.new.vault → V.holds self.old.vault c → StaysUp (V.is_up self.old.vault) (V.is_up self.new.vault) result }
-        ensures stop { (c : Contents) → V.is_clean self.new.vault → V.is_up self.old.vault → V.holds self.old.vault c → LeavesEither (V.may_leave self.new.vault) c (λ Held. IsMaildropDropped Held c maildrop.now) }
+        ensures done { (c : Contents) → V.holds self.old.vault c → V.is_clean self.new.vault
+            → IsMaildropDropped (V.holds self.new.vault) c maildrop.now result }
+        ensures commits { Commits (over V.holds) (faults_of V.faults) (over V.is_clean)
+            (over V.is_up) (over V.may_leave) self.old self.new
+            (λ c Held. IsMaildropDropped Held c maildrop.now) result }
         ensures turn { IsInTurn V.faults self.old self.new result }
     {
         if self.countdown.is_due() {
@@ -241,11 +244,10 @@ impl<V: Vault> Vault for Refusing<V> {
     }
 
     fn policy(&mut self) -> Result<Policy, VaultFault>
-        ensures done { (c : Contents) → V.holds self.old.vault c → V.is_clean self.new.vault → IsPolicy (V.holds self.new.vault) c result }
-        ensures counted { CountsFaults (faults_of V.faults self.old) (faults_of V.faults self.new) result }
-        ensures clean { V.is_clean self.new.vault → V.is_clean self.old.vault }
-        ensures up { (c : Contents) → V.is_clean self.new.vault → V.holds self.old.vault c → StaysUp (V.is_up self.old.vault) (V.is_up self.new.vault) result }
-        ensures stop { (c : Contents) → V.is_clean self.new.vault → V.is_up self.old.vault → V.holds self.old.vault c → LeavesBefore (V.may_leave self.new.vault) c }
+        ensures done { (c : Contents) → V.holds self.old.vault c → V.is_clean self.new.vault
+            → IsPolicy (V.holds self.new.vault) c result }
+        ensures looks { Looks (over V.holds) (faults_of V.faults) (over V.is_clean)
+            (over V.is_up) (over V.may_leave) self.old self.new result }
         ensures turn { IsInTurn V.faults self.old self.new result }
     {
         if self.countdown.is_due() {
@@ -255,11 +257,11 @@ impl<V: Vault> Vault for Refusing<V> {
     }
 
     fn set_policy(&mut self, policy: &Policy) -> Result<(), VaultFault>
-        ensures done { (c : Contents) → V.holds self.old.vault c → V.is_clean self.new.vault → IsPolicySet (V.holds self.new.vault) c policy.now result }
-        ensures counted { CountsFaults (faults_of V.faults self.old) (faults_of V.faults self.new) result }
-        ensures clean { V.is_clean self.new.vault → V.is_clean self.old.vault }
-        ensures up { (c : Contents) → V.is_clean self.new.vault → V.holds self.old.vault c → StaysUp (V.is_up self.old.vault) (V.is_up self.new.vault) result }
-        ensures stop { (c : Contents) → V.is_clean self.new.vault → V.is_up self.old.vault → V.holds self.old.vault c → LeavesEither (V.may_leave self.new.vault) c (λ Held. IsPolicySet Held c policy.now) }
+        ensures done { (c : Contents) → V.holds self.old.vault c → V.is_clean self.new.vault
+            → IsPolicySet (V.holds self.new.vault) c policy.now result }
+        ensures commits { Commits (over V.holds) (faults_of V.faults) (over V.is_clean)
+            (over V.is_up) (over V.may_leave) self.old self.new
+            (λ c Held. IsPolicySet Held c policy.now) result }
         ensures turn { IsInTurn V.faults self.old self.new result }
     {
         if self.countdown.is_due() {

@@ -1,8 +1,11 @@
 //! The calls that every mail store answers, and what they promise.
 ghost use Rattle.std.specs.Prelude.{◌≡◌, ◌≤◌, ℕ, List};
 ghost use Rattle.vault.specs.Changes.{Contents, AreSound};
-ghost use Rattle.vault.specs.Stops.{SaySame, StaysUp, LeavesBefore, LeavesEither};
-ghost use Rattle.vault.specs.Calls.{seen_as, CountsFaults, IsDeposited, AreHeads, IsPaged, AreRemoved, IsCredential, IsClerkPut, IsClerkDropped, IsMaildropAdded, IsMaildropDropped, AreTotals, IsPolicy, IsPolicySet};
+ghost use Rattle.vault.specs.Stops.{SaySame};
+ghost use Rattle.vault.specs.Call.{Looks, Commits};
+ghost use Rattle.vault.specs.Calls.{seen_as, IsDeposited, AreHeads, IsPaged, AreRemoved};
+ghost use Rattle.vault.specs.Calls.{IsCredential, IsClerkPut, IsClerkDropped, IsMaildropAdded};
+ghost use Rattle.vault.specs.Calls.{IsMaildropDropped, AreTotals, IsPolicy, IsPolicySet};
 
 use crate::answer::{Deposited, Head, Total};
 use crate::fault::VaultFault;
@@ -57,89 +60,76 @@ pub trait Vault {
         id: &DepositId,
         text: &MailText,
     ) -> Result<Deposited, VaultFault>
-        ensures done { (c : Contents) → holds self.old c → is_clean self.new → IsDeposited (holds self.new) c maildrop.now class.now id.now text.now result }
-        ensures counted { CountsFaults (faults self.old) (faults self.new) result }
-        ensures clean { is_clean self.new → is_clean self.old }
-        ensures up { (c : Contents) → is_clean self.new → holds self.old c → StaysUp (is_up self.old) (is_up self.new) result }
-        ensures stop { (c : Contents) → is_clean self.new → is_up self.old → holds self.old c → LeavesEither (may_leave self.new) c (λ Held. IsDeposited Held c maildrop.now class.now id.now text.now) };
+        ensures done { (c : Contents) → holds self.old c → is_clean self.new
+            → IsDeposited (holds self.new) c maildrop.now class.now id.now text.now result }
+        ensures commits { Commits holds faults is_clean is_up may_leave self.old self.new
+            (λ c Held. IsDeposited Held c maildrop.now class.now id.now text.now) result };
 
     /// The heads of a maildrop's messages, in order of arrival.
     ///
     /// Answers [`VaultFault::NoMaildrop`] where the maildrop is missing.
     fn heads(&mut self, maildrop: &Name) -> Result<Vec<Head>, VaultFault>
-        ensures done { (c : Contents) → holds self.old c → is_clean self.new → AreHeads (holds self.new) c maildrop.now (seen_as result (λ v. v.items)) }
-        ensures counted { CountsFaults (faults self.old) (faults self.new) result }
-        ensures clean { is_clean self.new → is_clean self.old }
-        ensures up { (c : Contents) → is_clean self.new → holds self.old c → StaysUp (is_up self.old) (is_up self.new) result }
-        ensures stop { (c : Contents) → is_clean self.new → is_up self.old → holds self.old c → LeavesBefore (may_leave self.new) c };
+        ensures done { (c : Contents) → holds self.old c → is_clean self.new
+            → AreHeads (holds self.new) c maildrop.now (seen_as result (λ v. v.items)) }
+        ensures looks { Looks holds faults is_clean is_up may_leave self.old self.new result };
 
     /// Reads octets of a message, from octet `from` on, into the front of the buffer. Returns how
     /// many: at least one where any is left and the buffer isn't empty, else 0. Under an unknown
     /// key there are none.
     fn page(&mut self, key: MessageKey, from: u64, buffer: &mut [u8]) -> Result<usize, VaultFault>
-        ensures done { (c : Contents) → holds self.old c → is_clean self.new → IsPaged (holds self.new) c key from buffer.new result }
-        ensures counted { CountsFaults (faults self.old) (faults self.new) result }
-        ensures clean { is_clean self.new → is_clean self.old }
-        ensures up { (c : Contents) → is_clean self.new → holds self.old c → StaysUp (is_up self.old) (is_up self.new) result }
-        ensures stop { (c : Contents) → is_clean self.new → is_up self.old → holds self.old c → LeavesBefore (may_leave self.new) c };
+        ensures done { (c : Contents) → holds self.old c → is_clean self.new
+            → IsPaged (holds self.new) c key from buffer.new result }
+        ensures looks { Looks holds faults is_clean is_up may_leave self.old self.new result };
 
     /// Removes the maildrop's messages that have these keys: all of them or, where it is refused,
     /// none. Keys without a message in the maildrop are ignored.
     fn remove(&mut self, maildrop: &Name, keys: &[MessageKey]) -> Result<(), VaultFault>
-        ensures done { (c : Contents) → holds self.old c → is_clean self.new → AreRemoved (holds self.new) c maildrop.now keys.now result }
-        ensures counted { CountsFaults (faults self.old) (faults self.new) result }
-        ensures clean { is_clean self.new → is_clean self.old }
-        ensures up { (c : Contents) → is_clean self.new → holds self.old c → StaysUp (is_up self.old) (is_up self.new) result }
-        ensures stop { (c : Contents) → is_clean self.new → is_up self.old → holds self.old c → LeavesEither (may_leave self.new) c (λ Held. AreRemoved Held c maildrop.now keys.now) };
+        ensures done { (c : Contents) → holds self.old c → is_clean self.new
+            → AreRemoved (holds self.new) c maildrop.now keys.now result }
+        ensures commits { Commits holds faults is_clean is_up may_leave self.old self.new
+            (λ c Held. AreRemoved Held c maildrop.now keys.now) result };
 
     /// Every maildrop with the number of its messages and their octets, sorted by the octets of
     /// the name.
     fn maildrops(&mut self) -> Result<Vec<Total>, VaultFault>
-        ensures done { (c : Contents) → holds self.old c → is_clean self.new → AreTotals (holds self.new) c (seen_as result (λ v. v.items)) }
-        ensures counted { CountsFaults (faults self.old) (faults self.new) result }
-        ensures clean { is_clean self.new → is_clean self.old }
-        ensures up { (c : Contents) → is_clean self.new → holds self.old c → StaysUp (is_up self.old) (is_up self.new) result }
-        ensures stop { (c : Contents) → is_clean self.new → is_up self.old → holds self.old c → LeavesBefore (may_leave self.new) c };
+        ensures done { (c : Contents) → holds self.old c → is_clean self.new
+            → AreTotals (holds self.new) c (seen_as result (λ v. v.items)) }
+        ensures looks { Looks holds faults is_clean is_up may_leave self.old self.new result };
 
     /// The credential of a clerk; `None` where there is no clerk of that name.
     fn credential(&mut self, clerk: &Name) -> Result<Option<Credential>, VaultFault>
-        ensures done { (c : Contents) → holds self.old c → is_clean self.new → IsCredential (holds self.new) c clerk.now result }
-        ensures counted { CountsFaults (faults self.old) (faults self.new) result }
-        ensures clean { is_clean self.new → is_clean self.old }
-        ensures up { (c : Contents) → is_clean self.new → holds self.old c → StaysUp (is_up self.old) (is_up self.new) result }
-        ensures stop { (c : Contents) → is_clean self.new → is_up self.old → holds self.old c → LeavesBefore (may_leave self.new) c };
+        ensures done { (c : Contents) → holds self.old c → is_clean self.new
+            → IsCredential (holds self.new) c clerk.now result }
+        ensures looks { Looks holds faults is_clean is_up may_leave self.old self.new result };
 
     /// Adds a clerk, or replaces the credential of one who is there. Answers whether the clerk was
     /// new.
     ///
     /// Answers [`VaultFault::Full`] for a new name beyond 1,000.
     fn put_clerk(&mut self, clerk: &Name, credential: &Credential) -> Result<bool, VaultFault>
-        ensures done { (c : Contents) → holds self.old c → is_clean self.new → IsClerkPut (holds self.new) c clerk.now credential.now result }
-        ensures counted { CountsFaults (faults self.old) (faults self.new) result }
-        ensures clean { is_clean self.new → is_clean self.old }
-        ensures up { (c : Contents) → is_clean self.new → holds self.old c → StaysUp (is_up self.old) (is_up self.new) result }
-        ensures stop { (c : Contents) → is_clean self.new → is_up self.old → holds self.old c → LeavesEither (may_leave self.new) c (λ Held. IsClerkPut Held c clerk.now credential.now) };
+        ensures done { (c : Contents) → holds self.old c → is_clean self.new
+            → IsClerkPut (holds self.new) c clerk.now credential.now result }
+        ensures commits { Commits holds faults is_clean is_up may_leave self.old self.new
+            (λ c Held. IsClerkPut Held c clerk.now credential.now) result };
 
     /// Drops a clerk.
     ///
     /// Answers [`VaultFault::NoClerk`] where there is none of that name.
     fn drop_clerk(&mut self, clerk: &Name) -> Result<(), VaultFault>
-        ensures done { (c : Contents) → holds self.old c → is_clean self.new → IsClerkDropped (holds self.new) c clerk.now result }
-        ensures counted { CountsFaults (faults self.old) (faults self.new) result }
-        ensures clean { is_clean self.new → is_clean self.old }
-        ensures up { (c : Contents) → is_clean self.new → holds self.old c → StaysUp (is_up self.old) (is_up self.new) result }
-        ensures stop { (c : Contents) → is_clean self.new → is_up self.old → holds self.old c → LeavesEither (may_leave self.new) c (λ Held. IsClerkDropped Held c clerk.now) };
+        ensures done { (c : Contents) → holds self.old c → is_clean self.new
+            → IsClerkDropped (holds self.new) c clerk.now result }
+        ensures commits { Commits holds faults is_clean is_up may_leave self.old self.new
+            (λ c Held. IsClerkDropped Held c clerk.now) result };
 
     /// Adds a maildrop. It takes up the counts and deposit ids that its name has from before.
     /// Answers whether it was new; one that is there stays as it is.
     ///
     /// Answers [`VaultFault::Full`] for a new name beyond 1,000.
     fn add_maildrop(&mut self, maildrop: &Name) -> Result<bool, VaultFault>
-        ensures done { (c : Contents) → holds self.old c → is_clean self.new → IsMaildropAdded (holds self.new) c maildrop.now result }
-        ensures counted { CountsFaults (faults self.old) (faults self.new) result }
-        ensures clean { is_clean self.new → is_clean self.old }
-        ensures up { (c : Contents) → is_clean self.new → holds self.old c → StaysUp (is_up self.old) (is_up self.new) result }
-        ensures stop { (c : Contents) → is_clean self.new → is_up self.old → holds self.old c → LeavesEither (may_leave self.new) c (λ Held. IsMaildropAdded Held c maildrop.now) };
+        ensures done { (c : Contents) → holds self.old c → is_clean self.new
+            → IsMaildropAdded (holds self.new) c maildrop.now result }
+        ensures commits { Commits holds faults is_clean is_up may_leave self.old self.new
+            (λ c Held. IsMaildropAdded Held c maildrop.now) result };
 
     /// Drops an empty maildrop. The deposits of its name stay known, so that its counts and ids go
     /// on when it is added again.
@@ -147,31 +137,28 @@ pub trait Vault {
     /// Answers [`VaultFault::NoMaildrop`] where the maildrop is missing, else
     /// [`VaultFault::NotEmpty`] where it has a message.
     fn drop_maildrop(&mut self, maildrop: &Name) -> Result<(), VaultFault>
-        ensures done { (c : Contents) → holds self.old c → is_clean self.new → IsMaildropDropped (holds self.new) c maildrop.now result }
-        ensures counted { CountsFaults (faults self.old) (faults self.new) result }
-        ensures clean { is_clean self.new → is_clean self.old }
-        ensures up { (c : Contents) → is_clean self.new → holds self.old c → StaysUp (is_up self.old) (is_up self.new) result }
-        ensures stop { (c : Contents) → is_clean self.new → is_up self.old → holds self.old c → LeavesEither (may_leave self.new) c (λ Held. IsMaildropDropped Held c maildrop.now) };
+        ensures done { (c : Contents) → holds self.old c → is_clean self.new
+            → IsMaildropDropped (holds self.new) c maildrop.now result }
+        ensures commits { Commits holds faults is_clean is_up may_leave self.old self.new
+            (λ c Held. IsMaildropDropped Held c maildrop.now) result };
 
     /// A copy of the policy.
     fn policy(&mut self) -> Result<Policy, VaultFault>
-        ensures done { (c : Contents) → holds self.old c → is_clean self.new → IsPolicy (holds self.new) c result }
-        ensures counted { CountsFaults (faults self.old) (faults self.new) result }
-        ensures clean { is_clean self.new → is_clean self.old }
-        ensures up { (c : Contents) → is_clean self.new → holds self.old c → StaysUp (is_up self.old) (is_up self.new) result }
-        ensures stop { (c : Contents) → is_clean self.new → is_up self.old → holds self.old c → LeavesBefore (may_leave self.new) c };
+        ensures done { (c : Contents) → holds self.old c → is_clean self.new
+            → IsPolicy (holds self.new) c result }
+        ensures looks { Looks holds faults is_clean is_up may_leave self.old self.new result };
 
     /// Sets the policy to a copy of this one.
     fn set_policy(&mut self, policy: &Policy) -> Result<(), VaultFault>
-        ensures done { (c : Contents) → holds self.old c → is_clean self.new → IsPolicySet (holds self.new) c policy.now result }
-        ensures counted { CountsFaults (faults self.old) (faults self.new) result }
-        ensures clean { is_clean self.new → is_clean self.old }
-        ensures up { (c : Contents) → is_clean self.new → holds self.old c → StaysUp (is_up self.old) (is_up self.new) result }
-        ensures stop { (c : Contents) → is_clean self.new → is_up self.old → holds self.old c → LeavesEither (may_leave self.new) c (λ Held. IsPolicySet Held c policy.now) };
+        ensures done { (c : Contents) → holds self.old c → is_clean self.new
+            → IsPolicySet (holds self.new) c policy.now result }
+        ensures commits { Commits holds faults is_clean is_up may_leave self.old self.new
+            (λ c Held. IsPolicySet Held c policy.now) result };
 
     /// The contents that a clean store holds are sound.
     ghost sound: { (vault : Self) (c : Contents) → holds vault c → is_clean vault → AreSound c };
 
     /// Between two calls, while the device is up, a stop leaves just what is held.
-    ghost settled: { (vault : Self) (c : Contents) → is_clean vault → is_up vault → holds vault c → (left : Contents) → may_leave vault left → SaySame left c };
+    ghost settled: { (vault : Self) (c : Contents) → is_clean vault → is_up vault → holds vault c
+        → (left : Contents) → may_leave vault left → SaySame left c };
 }

@@ -65,12 +65,6 @@ returns-in_err-acted-in-None-clause-may g c = search rules
 pub returns-in_err-acted-in-None-clause-cause : goal.returns-in_err-acted-in-None-clause-cause
 returns-in_err-acted-in-None-clause-cause g c = search rules
 
-pub returns-in_err-acted-in-None-clause-counted : goal.returns-in_err-acted-in-None-clause-counted
-returns-in_err-acted-in-None-clause-counted g c = search rules
-
-pub returns-in_err-acted-in-None-clause-clean : goal.returns-in_err-acted-in-None-clause-clean
-returns-in_err-acted-in-None-clause-clean g c = search rules
-
 pub returns-in_err-acted-in-Some-clause-owed : goal.returns-in_err-acted-in-Some-clause-owed
 returns-in_err-acted-in-Some-clause-owed g c = search rules
 
@@ -97,12 +91,6 @@ returns-in_err-acted-in-Some-clause-may g c = search rules
 
 pub returns-in_err-acted-in-Some-clause-cause : goal.returns-in_err-acted-in-Some-clause-cause
 returns-in_err-acted-in-Some-clause-cause g c = search rules
-
-pub returns-in_err-acted-in-Some-clause-counted : goal.returns-in_err-acted-in-Some-clause-counted
-returns-in_err-acted-in-Some-clause-counted g c = search rules
-
-pub returns-in_err-acted-in-Some-clause-clean : goal.returns-in_err-acted-in-Some-clause-clean
-returns-in_err-acted-in-Some-clause-clean g c = search rules
 
 pub returns-in_ok-acted-in-None-clause-unasked : goal.returns-in_ok-acted-in-None-clause-unasked
 returns-in_ok-acted-in-None-clause-unasked g c d v sits none =

@@ -37,12 +37,6 @@ returns-in_err-acted-clause-may g c = search rules
 pub returns-in_err-acted-clause-cause : goal.returns-in_err-acted-clause-cause
 returns-in_err-acted-clause-cause g c = search rules
 
-pub returns-in_err-acted-clause-counted : goal.returns-in_err-acted-clause-counted
-returns-in_err-acted-clause-counted g c = search rules
-
-pub returns-in_err-acted-clause-clean : goal.returns-in_err-acted-clause-clean
-returns-in_err-acted-clause-clean g c = search rules
-
 pub returns-then-is_quit-clause-owed : goal.returns-then-is_quit-clause-owed
 returns-then-is_quit-clause-owed g c d v held clean sits =
     let q : is_quit (reading c.args.line.now) ≡ true = sym c.is_quit.ensures ∙ c.if-is_quit.true in
@@ -73,12 +67,6 @@ returns-then-is_quit-clause-may g c = search rules
 
 pub returns-then-is_quit-clause-cause : goal.returns-then-is_quit-clause-cause
 returns-then-is_quit-clause-cause g c = search rules
-
-pub returns-then-is_quit-clause-counted : goal.returns-then-is_quit-clause-counted
-returns-then-is_quit-clause-counted g c = search rules
-
-pub returns-then-is_quit-clause-clean : goal.returns-then-is_quit-clause-clean
-returns-then-is_quit-clause-clean g c = search rules
 
 pub returns-clause-owed : goal.returns-clause-owed
 returns-clause-owed g c d v held clean sits =
@@ -113,12 +101,6 @@ returns-clause-may g c = search rules
 
 pub returns-clause-cause : goal.returns-clause-cause
 returns-clause-cause g c = search rules
-
-pub returns-clause-counted : goal.returns-clause-counted
-returns-clause-counted g c = search rules
-
-pub returns-clause-clean : goal.returns-clause-clean
-returns-clause-clean g c = search rules
 
 pub returns-in_err-acted-clause-unasked : goal.returns-in_err-acted-clause-unasked
 returns-in_err-acted-clause-unasked g c d v sits none =

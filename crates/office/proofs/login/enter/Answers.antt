@@ -8,7 +8,7 @@ use Rattle.office.proofs.Entering.{opens}
 pub returns-clause-said : goal.returns-clause-said
 returns-clause-said g c d held clean =
     let found = c.in-Ok.ensures.done d held clean in
-    let sound = g.met.V.Vault.sound c.args.vault.now d held (c.heads.ensures.clean clean) in
+    let sound = g.met.V.Vault.sound c.args.vault.now d held (c.heads.ensures.looks.clean clean) in
     let free : is_locked_by c.args.locks.now c.args.name.now.maildrop ≡ false = sym c.contains_key.ensures ∙ c.if-contains_key.false in
     let so = opens d c.args.policy.now c.args.name.now c.args.removals c.args.locks.now _ c.in-Ok-start.session _ _ sound found.answer free
     (c.in-Ok-start.ensures.session ∙ ap (λ hs. started c.args.policy.now c.args.removals c.args.name.now.clerk c.args.name.now.maildrop hs) c.deref.ensures.value) c.stat-messages.ensures.messages c.stat-messages.ensures.exact in
@@ -48,16 +48,16 @@ pub returns-clause-clean : goal.returns-clause-clean
 returns-clause-clean g c = search rules
 
 pub returns-in-Err-NoMaildrop-clause-stop : goal.returns-in-Err-NoMaildrop-clause-stop
-returns-in-Err-NoMaildrop-clause-stop g c d held clean up = looked_left (c.heads.ensures.stop d clean up held)
+returns-in-Err-NoMaildrop-clause-stop g c d held clean up = looked_left (c.heads.ensures.looks.stop d clean up held)
 
 pub returns-then-contains_key-clause-stop : goal.returns-then-contains_key-clause-stop
-returns-then-contains_key-clause-stop g c d held clean up = looked_left (c.heads.ensures.stop d clean up held)
+returns-then-contains_key-clause-stop g c d held clean up = looked_left (c.heads.ensures.looks.stop d clean up held)
 
 pub returns-in_default-clause-stop : goal.returns-in_default-clause-stop
-returns-in_default-clause-stop g c d held clean up = looked_left (c.heads.ensures.stop d clean up held)
+returns-in_default-clause-stop g c d held clean up = looked_left (c.heads.ensures.looks.stop d clean up held)
 
 pub returns-clause-stop : goal.returns-clause-stop
-returns-clause-stop g c d held clean up = looked_left (c.heads.ensures.stop d clean up held)
+returns-clause-stop g c d held clean up = looked_left (c.heads.ensures.looks.stop d clean up held)
 
 pub returns-in-Err : goal.returns-in-Err
 returns-in-Err g c = record {
@@ -66,5 +66,5 @@ returns-in-Err g c = record {
   counted = search rules;
   clean = search rules;
   up = search rules;
-  stop = λ d held clean up. looked_left (c.heads.ensures.stop d clean up held);
+  stop = λ d held clean up. looked_left (c.heads.ensures.looks.stop d clean up held);
 }

@@ -6,10 +6,10 @@ pub returns-in-Some-clause-said : goal.returns-in-Some-clause-said
 returns-in-Some-clause-said g c = search rules
 
 pub returns-in_err-credential-clause-stop : goal.returns-in_err-credential-clause-stop
-returns-in_err-credential-clause-stop g c d held clean up = looked_left (c.credential.ensures.stop d clean up held)
+returns-in_err-credential-clause-stop g c d held clean up = looked_left (c.credential.ensures.looks.stop d clean up held)
 
 pub returns-in-None-clause-stop : goal.returns-in-None-clause-stop
-returns-in-None-clause-stop g c d held clean up = looked_left (c.credential.ensures.stop d clean up held)
+returns-in-None-clause-stop g c d held clean up = looked_left (c.credential.ensures.looks.stop d clean up held)
 
 pub returns-in-Some-clause-stop : goal.returns-in-Some-clause-stop
-returns-in-Some-clause-stop g c d held clean up = looked_left (c.credential.ensures.stop d clean up held)
+returns-in-Some-clause-stop g c d held clean up = looked_left (c.credential.ensures.looks.stop d clean up held)

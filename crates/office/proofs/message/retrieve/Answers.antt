@@ -11,7 +11,7 @@ use Rattle.popline.specs.Replies.{Reply}
 use Rattle.office.specs.Sitting.{refused_pick}
 use Rattle.office.proofs.Texts.{found, form, size, begins, retrieved, retrieve_refused, refused_goes_on, asks_for}
 use Rattle.office.proofs.Obeying.{if_ok_so, if_ok_both, said_so}
-use Rattle.office.proofs.Stopping.{held_left}
+use Rattle.vault.proofs.CallLemmas.{looks_none}
 use Rattle.office.proofs.message.retrieve.Goals as goal
 
 pub returns-in_ok-begin_message-in-Ok-clause-done : goal.returns-in_ok-begin_message-in-Ok-clause-done
@@ -19,7 +19,7 @@ returns-in_ok-begin_message-in-Ok-clause-done g c = if_ok_so _ c.serve.result c.
     let p = c.args.policy.now in
     let s = c.args.session.now in
     let f = found d p s kept lies c.args.n c.in-Ok.head c.in-Ok.ensures in
-    let sound = g.met.V.Vault.sound c.args.vault.now d held (c.serve.ensures.clean clean) in
+    let sound = g.met.V.Vault.sound c.args.vault.now d held (c.serve.ensures.looks.clean clean) in
     let r : Reading = c.whole.result in
     let is = c.whole.ensures.is in
     let reads = begins d sound p s kept lies c.args.n c.in-Ok.head f r (ap (λ (x : Reading). x.key) is) (ap (λ (x : Reading). x.octets) is) (ap (λ (x : Reading). x.place) is) in
@@ -29,12 +29,6 @@ returns-in_ok-begin_message-in-Ok-clause-done g c = if_ok_so _ c.serve.result c.
     let whole : c.begin_message.new.self.ready ++ text_coming r t ≡ bytes_of (Message (length t) (stuffed_lines (lines_of t))) =
     ap₂ (λ (xs ys : List ℕ). xs ++ ys) front (c.whole.ensures.coming t (form d sound p s kept lies c.args.n c.in-Ok.head f).kept) ∙ sym (append_assoc first (stuffed_lines (lines_of t)) last_line) ∙ ap (λ n. bytes_of (Message n (stuffed_lines (lines_of t)))) (sym (size d sound p s kept lies c.args.n c.in-Ok.head f)) in
     retrieved d sound p s kept lies c.args.n c.in-Ok.head f _ _ _ w (c.begin_message.new.self.ready ++ text_coming r t) whole (h d s (text_coming r t) held clean reads))
-
-pub returns-in-Err-clause-stop : goal.returns-in-Err-clause-stop
-returns-in-Err-clause-stop g c d held clean up = held_left (g.met.V.Vault.settled _ d clean up held)
-
-pub returns-in_err-begin_message-in-Ok-clause-stop : goal.returns-in_err-begin_message-in-Ok-clause-stop
-returns-in_err-begin_message-in-Ok-clause-stop g c d held clean up = held_left (g.met.V.Vault.settled _ d clean up held)
 
 pub returns-in-Err-clause-done : goal.returns-in-Err-clause-done
 returns-in-Err-clause-done g c = if_ok_both _ c.say.result c.say.ensures.acted c.say.ensures.owed (λ w e said d kept held clean lies.
@@ -48,3 +42,11 @@ returns-in_err-begin_message-in-Ok-clause-unasked g c d kept lies none = absurd 
 
 pub returns-in_ok-begin_message-in-Ok-clause-unasked : goal.returns-in_ok-begin_message-in-Ok-clause-unasked
 returns-in_ok-begin_message-in-Ok-clause-unasked g c d kept lies none = absurd (asks_for d c.args.policy.now c.args.session.now kept lies c.args.n c.in-Ok.head c.in-Ok.ensures none)
+
+pub returns-in-Err-clause-looks : goal.returns-in-Err-clause-looks
+returns-in-Err-clause-looks g c =
+    looks_none g.V.Vault c.args.vault.now (g.met.V.Vault.settled c.args.vault.now)
+
+pub returns-in_err-begin_message-in-Ok-clause-looks : goal.returns-in_err-begin_message-in-Ok-clause-looks
+returns-in_err-begin_message-in-Ok-clause-looks g c =
+    looks_none g.V.Vault c.args.vault.now (g.met.V.Vault.settled c.args.vault.now)

@@ -37,7 +37,7 @@ returns-clause-done g c = λ d kept held clean lies.
     let len : vec_len c.in_ok-keys.keys ≡ length c.in_ok-keys.keys.items = search rules in
     let some = some_left c.in_ok-keys.keys.items (vec_len c.in_ok-keys.keys) len (sym c.is_empty.ensures ∙ c.if-is_empty.false) in
     let said = owes_put d None c.clear.new.self c.say-in-Err.new.self RemovalFailed c.clear.ensures c.in_ok-say-in-Err.ensures in
-    quit_failed d c.args.policy.now c.args.session.now kept lies _ _ _ said (λ e. some (c.in_ok-keys.ensures.keys ∙ e)) did.held (c.in-Err.ensures.counted.cause (ap (λ (e : VaultFault). Err e) store))
+    quit_failed d c.args.policy.now c.args.session.now kept lies _ _ _ said (λ e. some (c.in_ok-keys.ensures.keys ∙ e)) did.held (c.in-Err.ensures.commits.counted.cause (ap (λ (e : VaultFault). Err e) store))
 
 pub returns-in_err-keys-clause-done : goal.returns-in_err-keys-clause-done
 returns-in_err-keys-clause-done g c = search rules
@@ -113,15 +113,15 @@ returns-then-is_empty-clause-stop g c d held clean up = same_left (without_marke
 
 pub returns-in-Ok-clause-stop : goal.returns-in-Ok-clause-stop
 returns-in-Ok-clause-stop g c d held clean up = record {
-  says = λ left may. removal_left left d c.args.policy.now c.args.session.now _ _ c.maildrop.ensures (c.deref.ensures.value ∙ c.in_ok-keys.ensures.keys) (c.in-Ok.ensures.stop d clean up held left may);
+  says = λ left may. removal_left left d c.args.policy.now c.args.session.now _ _ c.maildrop.ensures (c.deref.ensures.value ∙ c.in_ok-keys.ensures.keys) (c.in-Ok.ensures.commits.stop d clean up held left may);
 }
 
 pub returns-in-Err-NoMemory-clause-stop : goal.returns-in-Err-NoMemory-clause-stop
 returns-in-Err-NoMemory-clause-stop g c d held clean up = record {
-  says = λ left may. removal_left left d c.args.policy.now c.args.session.now _ _ c.maildrop.ensures (c.deref.ensures.value ∙ c.in_ok-keys.ensures.keys) (c.in-Err-NoMemory.ensures.stop d clean up held left may);
+  says = λ left may. removal_left left d c.args.policy.now c.args.session.now _ _ c.maildrop.ensures (c.deref.ensures.value ∙ c.in_ok-keys.ensures.keys) (c.in-Err-NoMemory.ensures.commits.stop d clean up held left may);
 }
 
 pub returns-clause-stop : goal.returns-clause-stop
 returns-clause-stop g c d held clean up = record {
-  says = λ left may. removal_left left d c.args.policy.now c.args.session.now _ _ c.maildrop.ensures (c.deref.ensures.value ∙ c.in_ok-keys.ensures.keys) (c.in-Err.ensures.stop d clean up held left may);
+  says = λ left may. removal_left left d c.args.policy.now c.args.session.now _ _ c.maildrop.ensures (c.deref.ensures.value ∙ c.in_ok-keys.ensures.keys) (c.in-Err.ensures.commits.stop d clean up held left may);
 }

@@ -3,4 +3,4 @@ use Rattle.recent.proofs.Looks.{CountsSoFar}
 use Rattle.recent.proofs.totals.count_all.Given as goal
 
 abbrev pub invariant-loop-row : goal.invariant-loop-row
-invariant-loop-row g l = CountsSoFar g.V.Vault.holds g.V.Vault.faults g.V.Vault.is_clean g.V.Vault.is_up l.initial.vault l.vault l.initial.rows l.rows
+invariant-loop-row g l = CountsSoFar g.V.Vault l.initial.vault l.vault l.initial.rows l.rows

@@ -1,5 +1,7 @@
 -- Where nothing is kept, nothing is asked.
+use Rattle.vault.proofs.CallLemmas.{looks_self}
 use Rattle.recent.proofs.totals.count_kept.Goals as goal
 
-pub returns-in-None-clause-stop : goal.returns-in-None-clause-stop
-returns-in-None-clause-stop g c d k u h left may = g.met.V.Vault.settled c.args.vault.now d k u h left may
+pub returns-in-None-clause-looks : goal.returns-in-None-clause-looks
+returns-in-None-clause-looks g c =
+    looks_self g.V.Vault c.args.vault.now tt (g.met.V.Vault.settled c.args.vault.now)

@@ -17,7 +17,7 @@ pub returns-in_err-clerk_is_new-clause-cause : goal.returns-in_err-clerk_is_new-
 returns-in_err-clerk_is_new-clause-cause g c clean h =
     let s = c.args.stock.now in
     let e = c.in_err-clerk_is_new.field-0.0 in
-    let added = c.in_ok-maildrop_is_new.ensures.done no_contents h (c.put_clerk.ensures.clean clean) in
+    let added = c.in_ok-maildrop_is_new.ensures.done no_contents h (c.put_clerk.ensures.commits.clean clean) in
     let done = c.in_err-clerk_is_new.ensures.done (with_maildrops (s.maildrop ∷ []) no_contents) added.held clean in
     if_passed_on c.from_residual-in_err-clerk_is_new.result e IsOfAnyCall c.from_residual-in_err-clerk_is_new.ensures.1 (any _ e done.answer)
 
@@ -26,8 +26,8 @@ returns-in_err-set_policy-clause-cause g c clean h =
     let s = c.args.stock.now in
     let e = c.in_err-set_policy.field-0.0 in
     let one : Contents = with_maildrops (s.maildrop ∷ []) no_contents in
-    let added = c.in_ok-maildrop_is_new.ensures.done no_contents h (c.put_clerk.ensures.clean (c.set_policy.ensures.clean clean)) in
-    let named = c.in_ok-clerk_is_new.ensures.done one added.held (c.set_policy.ensures.clean clean) in
+    let added = c.in_ok-maildrop_is_new.ensures.done no_contents h (c.put_clerk.ensures.commits.clean (c.set_policy.ensures.commits.clean clean)) in
+    let named = c.in_ok-clerk_is_new.ensures.done one added.held (c.set_policy.ensures.commits.clean clean) in
     let done = c.in_err-set_policy.ensures.done (with_clerks (clerk_of s ∷ []) one) named.held clean in
     if_passed_on c.from_residual-in_err-set_policy.result e IsOfAnyCall c.from_residual-in_err-set_policy.ensures.1 (any _ e done.answer)
 
@@ -36,9 +36,9 @@ returns-in_err-deposited-clause-cause g c clean h =
     let s = c.args.stock.now in
     let e = c.in_err-deposited.field-0.0 in
     let one : Contents = with_maildrops (s.maildrop ∷ []) no_contents in
-    let added = c.in_ok-maildrop_is_new.ensures.done no_contents h (c.put_clerk.ensures.clean (c.set_policy.ensures.clean (c.deposit.ensures.clean clean))) in
-    let named = c.in_ok-clerk_is_new.ensures.done one added.held (c.set_policy.ensures.clean (c.deposit.ensures.clean clean)) in
-    let ruled = c.in_ok-set_policy.ensures.done (with_clerks (clerk_of s ∷ []) one) named.held (c.deposit.ensures.clean clean) in
+    let added = c.in_ok-maildrop_is_new.ensures.done no_contents h (c.put_clerk.ensures.commits.clean (c.set_policy.ensures.commits.clean (c.deposit.ensures.commits.clean clean))) in
+    let named = c.in_ok-clerk_is_new.ensures.done one added.held (c.set_policy.ensures.commits.clean (c.deposit.ensures.commits.clean clean)) in
+    let ruled = c.in_ok-set_policy.ensures.done (with_clerks (clerk_of s ∷ []) one) named.held (c.deposit.ensures.commits.clean clean) in
     let done = c.in_err-deposited.ensures.done (before s) ruled.held clean in
     if_passed_on c.from_residual-in_err-deposited.result e IsOfAnyCall c.from_residual-in_err-deposited.ensures.1 (any _ e (subst (λ r. IsRefusal r e) (accepted s) done.answer))
 
@@ -46,9 +46,9 @@ pub returns-clause-answers : goal.returns-clause-answers
 returns-clause-answers g c clean h =
     let s = c.args.stock.now in
     let one : Contents = with_maildrops (s.maildrop ∷ []) no_contents in
-    let added = c.in_ok-maildrop_is_new.ensures.done no_contents h (c.put_clerk.ensures.clean (c.set_policy.ensures.clean (c.deposit.ensures.clean clean))) in
-    let named = c.in_ok-clerk_is_new.ensures.done one added.held (c.set_policy.ensures.clean (c.deposit.ensures.clean clean)) in
-    let ruled = c.in_ok-set_policy.ensures.done (with_clerks (clerk_of s ∷ []) one) named.held (c.deposit.ensures.clean clean) in
+    let added = c.in_ok-maildrop_is_new.ensures.done no_contents h (c.put_clerk.ensures.commits.clean (c.set_policy.ensures.commits.clean (c.deposit.ensures.commits.clean clean))) in
+    let named = c.in_ok-clerk_is_new.ensures.done one added.held (c.set_policy.ensures.commits.clean (c.deposit.ensures.commits.clean clean)) in
+    let ruled = c.in_ok-set_policy.ensures.done (with_clerks (clerk_of s ∷ []) one) named.held (c.deposit.ensures.commits.clean clean) in
     let done = c.in_ok-deposited.ensures.done (before s) ruled.held clean in
     record { maildrop = same_ok _ _ added.answer; clerk = same_ok _ _ named.answer; deposit = same_ok _ _ (sym (accepted s) ∙ done.answer) }
 
@@ -56,23 +56,23 @@ pub returns-clause-held : goal.returns-clause-held
 returns-clause-held g c clean h =
     let s = c.args.stock.now in
     let one : Contents = with_maildrops (s.maildrop ∷ []) no_contents in
-    let added = c.in_ok-maildrop_is_new.ensures.done no_contents h (c.put_clerk.ensures.clean (c.set_policy.ensures.clean (c.deposit.ensures.clean clean))) in
-    let named = c.in_ok-clerk_is_new.ensures.done one added.held (c.set_policy.ensures.clean (c.deposit.ensures.clean clean)) in
-    let ruled = c.in_ok-set_policy.ensures.done (with_clerks (clerk_of s ∷ []) one) named.held (c.deposit.ensures.clean clean) in
+    let added = c.in_ok-maildrop_is_new.ensures.done no_contents h (c.put_clerk.ensures.commits.clean (c.set_policy.ensures.commits.clean (c.deposit.ensures.commits.clean clean))) in
+    let named = c.in_ok-clerk_is_new.ensures.done one added.held (c.set_policy.ensures.commits.clean (c.deposit.ensures.commits.clean clean)) in
+    let ruled = c.in_ok-set_policy.ensures.done (with_clerks (clerk_of s ∷ []) one) named.held (c.deposit.ensures.commits.clean clean) in
     let done = c.in_ok-deposited.ensures.done (before s) ruled.held clean in
     put (g.V.Vault.holds c.deposit.new.self) s c.in_ok-deposited.deposited (same_ok _ _ (sym (accepted s) ∙ done.answer)) done.held
 
 pub returns-in_err-maildrop_is_new-clause-clean : goal.returns-in_err-maildrop_is_new-clause-clean
-returns-in_err-maildrop_is_new-clause-clean g c clean = c.add_maildrop.ensures.clean clean
+returns-in_err-maildrop_is_new-clause-clean g c clean = c.add_maildrop.ensures.commits.clean clean
 
 pub returns-in_err-clerk_is_new-clause-clean : goal.returns-in_err-clerk_is_new-clause-clean
-returns-in_err-clerk_is_new-clause-clean g c clean = c.add_maildrop.ensures.clean (c.put_clerk.ensures.clean clean)
+returns-in_err-clerk_is_new-clause-clean g c clean = c.add_maildrop.ensures.commits.clean (c.put_clerk.ensures.commits.clean clean)
 
 pub returns-in_err-set_policy-clause-clean : goal.returns-in_err-set_policy-clause-clean
-returns-in_err-set_policy-clause-clean g c clean = c.add_maildrop.ensures.clean (c.put_clerk.ensures.clean (c.set_policy.ensures.clean clean))
+returns-in_err-set_policy-clause-clean g c clean = c.add_maildrop.ensures.commits.clean (c.put_clerk.ensures.commits.clean (c.set_policy.ensures.commits.clean clean))
 
 pub returns-in_err-deposited-clause-clean : goal.returns-in_err-deposited-clause-clean
-returns-in_err-deposited-clause-clean g c clean = c.add_maildrop.ensures.clean (c.put_clerk.ensures.clean (c.set_policy.ensures.clean (c.deposit.ensures.clean clean)))
+returns-in_err-deposited-clause-clean g c clean = c.add_maildrop.ensures.commits.clean (c.put_clerk.ensures.commits.clean (c.set_policy.ensures.commits.clean (c.deposit.ensures.commits.clean clean)))
 
 pub returns-clause-clean : goal.returns-clause-clean
-returns-clause-clean g c clean = c.add_maildrop.ensures.clean (c.put_clerk.ensures.clean (c.set_policy.ensures.clean (c.deposit.ensures.clean clean)))
+returns-clause-clean g c clean = c.add_maildrop.ensures.commits.clean (c.put_clerk.ensures.commits.clean (c.set_policy.ensures.commits.clean (c.deposit.ensures.commits.clean clean)))

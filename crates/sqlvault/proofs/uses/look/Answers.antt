@@ -17,7 +17,7 @@ pub returns-in_err-heads-clause-cause : goal.returns-in_err-heads-clause-cause
 returns-in_err-heads-clause-cause g c key clean h =
     let s = c.args.stock.now in
     let all = filled key s in
-    let counted = c.in_ok-totals.ensures.done all h (c.heads.ensures.clean clean) in
+    let counted = c.in_ok-totals.ensures.done all h (c.heads.ensures.looks.clean clean) in
     let e = c.in_err-heads.field-0.0 in
     let done = c.in_err-heads.ensures.done all counted.held clean in
     if_passed_on c.from_residual-in_err-heads.result e IsOfAnyCall c.from_residual-in_err-heads.ensures.1 (any _ e (subst (λ r. IsRefusal r e) (one_head key s) done.answer))
@@ -26,8 +26,8 @@ pub returns-in_err-octets_read-clause-cause : goal.returns-in_err-octets_read-cl
 returns-in_err-octets_read-clause-cause g c key clean h =
     let s = c.args.stock.now in
     let all = filled key s in
-    let counted = c.in_ok-totals.ensures.done all h (c.heads.ensures.clean (c.page.ensures.clean clean)) in
-    let seen = c.in_ok-heads.ensures.done all counted.held (c.page.ensures.clean clean) in
+    let counted = c.in_ok-totals.ensures.done all h (c.heads.ensures.looks.clean (c.page.ensures.looks.clean clean)) in
+    let seen = c.in_ok-heads.ensures.done all counted.held (c.page.ensures.looks.clean clean) in
     let heads = same_ok _ _ (sym (one_head key s) ∙ seen.answer) in
     let e = c.in_err-octets_read.field-0.0 in
     let done = c.in_err-octets_read.ensures.done all seen.held clean in
@@ -37,8 +37,8 @@ pub returns-clause-same : goal.returns-clause-same
 returns-clause-same g c key clean h =
     let s = c.args.stock.now in
     let all = filled key s in
-    let counted = c.in_ok-totals.ensures.done all h (c.heads.ensures.clean (c.page.ensures.clean clean)) in
-    let seen = c.in_ok-heads.ensures.done all counted.held (c.page.ensures.clean clean) in
+    let counted = c.in_ok-totals.ensures.done all h (c.heads.ensures.looks.clean (c.page.ensures.looks.clean clean)) in
+    let seen = c.in_ok-heads.ensures.done all counted.held (c.page.ensures.looks.clean clean) in
     let heads = same_ok _ _ (sym (one_head key s) ∙ seen.answer) in
     let read = c.in_ok-octets_read.ensures.done all seen.held clean in
     read.held
@@ -47,8 +47,8 @@ pub returns-clause-key : goal.returns-clause-key
 returns-clause-key g c key clean h =
     let s = c.args.stock.now in
     let all = filled key s in
-    let counted = c.in_ok-totals.ensures.done all h (c.heads.ensures.clean (c.page.ensures.clean clean)) in
-    let seen = c.in_ok-heads.ensures.done all counted.held (c.page.ensures.clean clean) in
+    let counted = c.in_ok-totals.ensures.done all h (c.heads.ensures.looks.clean (c.page.ensures.looks.clean clean)) in
+    let seen = c.in_ok-heads.ensures.done all counted.held (c.page.ensures.looks.clean clean) in
     let heads = same_ok _ _ (sym (one_head key s) ∙ seen.answer) in
     first_key key s c.deref.result.now c.in_ok-heads.heads.items c.in-Some.head.now c.in-Some.ensures.value c.deref.ensures.value heads
 
@@ -56,8 +56,8 @@ pub returns-clause-shown : goal.returns-clause-shown
 returns-clause-shown g c key clean h =
     let s = c.args.stock.now in
     let all = filled key s in
-    let counted = c.in_ok-totals.ensures.done all h (c.heads.ensures.clean (c.page.ensures.clean clean)) in
-    let seen = c.in_ok-heads.ensures.done all counted.held (c.page.ensures.clean clean) in
+    let counted = c.in_ok-totals.ensures.done all h (c.heads.ensures.looks.clean (c.page.ensures.looks.clean clean)) in
+    let seen = c.in_ok-heads.ensures.done all counted.held (c.page.ensures.looks.clean clean) in
     let heads = same_ok _ _ (sym (one_head key s) ∙ seen.answer) in
     let read = c.in_ok-octets_read.ensures.done all seen.held clean in
     let named = first_key key s c.deref.result.now c.in_ok-heads.heads.items c.in-Some.head.now c.in-Some.ensures.value c.deref.ensures.value heads in
@@ -70,17 +70,17 @@ returns-clause-shown g c key clean h =
     }
 
 pub returns-in_err-totals-clause-clean : goal.returns-in_err-totals-clause-clean
-returns-in_err-totals-clause-clean g c clean = c.maildrops.ensures.clean clean
+returns-in_err-totals-clause-clean g c clean = c.maildrops.ensures.looks.clean clean
 
 pub returns-in_err-heads-clause-clean : goal.returns-in_err-heads-clause-clean
-returns-in_err-heads-clause-clean g c clean = c.maildrops.ensures.clean (c.heads.ensures.clean clean)
+returns-in_err-heads-clause-clean g c clean = c.maildrops.ensures.looks.clean (c.heads.ensures.looks.clean clean)
 
 pub returns-in_err-octets_read-clause-clean : goal.returns-in_err-octets_read-clause-clean
-returns-in_err-octets_read-clause-clean g c clean = c.maildrops.ensures.clean (c.heads.ensures.clean (c.page.ensures.clean clean))
+returns-in_err-octets_read-clause-clean g c clean = c.maildrops.ensures.looks.clean (c.heads.ensures.looks.clean (c.page.ensures.looks.clean clean))
 
 pub returns-clause-clean : goal.returns-clause-clean
-returns-clause-clean g c clean = c.maildrops.ensures.clean (c.heads.ensures.clean (c.page.ensures.clean clean))
+returns-clause-clean g c clean = c.maildrops.ensures.looks.clean (c.heads.ensures.looks.clean (c.page.ensures.looks.clean clean))
 
 pub returns-in-None-clause-clean : goal.returns-in-None-clause-clean
 returns-in-None-clause-clean g c clean =
-    c.maildrops.ensures.clean (c.heads.ensures.clean clean)
+    c.maildrops.ensures.looks.clean (c.heads.ensures.looks.clean clean)

@@ -16,7 +16,7 @@ pub returns-in_err-policy-clause-cause : goal.returns-in_err-policy-clause-cause
 returns-in_err-policy-clause-cause g c key clean h =
     let s = c.args.stock.now in
     let all = filled key s in
-    let found = c.in_ok-credential.ensures.done all h (c.policy.ensures.clean clean) in
+    let found = c.in_ok-credential.ensures.done all h (c.policy.ensures.looks.clean clean) in
     let e = c.in_err-policy.field-0.0 in
     let done = c.in_err-policy.ensures.done all found.held clean in
     if_passed_on c.from_residual-in_err-policy.result e IsOfAnyCall c.from_residual-in_err-policy.ensures.1 (any _ e done.answer)
@@ -25,7 +25,7 @@ pub returns-clause-shown : goal.returns-clause-shown
 returns-clause-shown g c key clean h =
     let s = c.args.stock.now in
     let all = filled key s in
-    let found = c.in_ok-credential.ensures.done all h (c.policy.ensures.clean clean) in
+    let found = c.in_ok-credential.ensures.done all h (c.policy.ensures.looks.clean clean) in
     let set = c.in_ok-policy.ensures.done all found.held clean in
     record { found = same_ok _ _ found.answer ∙ credential_is s; set = same_ok _ _ set.answer }
 
@@ -33,15 +33,15 @@ pub returns-clause-same : goal.returns-clause-same
 returns-clause-same g c key clean h =
     let s = c.args.stock.now in
     let all = filled key s in
-    let found = c.in_ok-credential.ensures.done all h (c.policy.ensures.clean clean) in
+    let found = c.in_ok-credential.ensures.done all h (c.policy.ensures.looks.clean clean) in
     let set = c.in_ok-policy.ensures.done all found.held clean in
     set.held
 
 pub returns-in_err-credential-clause-clean : goal.returns-in_err-credential-clause-clean
-returns-in_err-credential-clause-clean g c clean = c.credential.ensures.clean clean
+returns-in_err-credential-clause-clean g c clean = c.credential.ensures.looks.clean clean
 
 pub returns-in_err-policy-clause-clean : goal.returns-in_err-policy-clause-clean
-returns-in_err-policy-clause-clean g c clean = c.credential.ensures.clean (c.policy.ensures.clean clean)
+returns-in_err-policy-clause-clean g c clean = c.credential.ensures.looks.clean (c.policy.ensures.looks.clean clean)
 
 pub returns-clause-clean : goal.returns-clause-clean
-returns-clause-clean g c clean = c.credential.ensures.clean (c.policy.ensures.clean clean)
+returns-clause-clean g c clean = c.credential.ensures.looks.clean (c.policy.ensures.looks.clean clean)

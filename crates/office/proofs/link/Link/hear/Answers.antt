@@ -165,12 +165,6 @@ returns-in_err-extend_from_slice-clause-may g c = search rules
 pub returns-in_err-extend_from_slice-clause-cause : goal.returns-in_err-extend_from_slice-clause-cause
 returns-in_err-extend_from_slice-clause-cause g c = search rules
 
-pub returns-in_err-extend_from_slice-clause-counted : goal.returns-in_err-extend_from_slice-clause-counted
-returns-in_err-extend_from_slice-clause-counted g c = search rules
-
-pub returns-in_err-extend_from_slice-clause-clean : goal.returns-in_err-extend_from_slice-clause-clean
-returns-in_err-extend_from_slice-clause-clean g c = search rules
-
 pub returns-in_err-acted-clause-ok : goal.returns-in_err-acted-clause-ok
 returns-in_err-acted-clause-ok g c = search rules
 
@@ -200,12 +194,6 @@ returns-in_err-acted-clause-may g c = search rules
 
 pub returns-in_err-acted-clause-cause : goal.returns-in_err-acted-clause-cause
 returns-in_err-acted-clause-cause g c = search rules
-
-pub returns-in_err-acted-clause-counted : goal.returns-in_err-acted-clause-counted
-returns-in_err-acted-clause-counted g c = search rules
-
-pub returns-in_err-acted-clause-clean : goal.returns-in_err-acted-clause-clean
-returns-in_err-acted-clause-clean g c = search rules
 
 pub returns-clause-unasked : goal.returns-clause-unasked
 returns-clause-unasked g c d s sits none =

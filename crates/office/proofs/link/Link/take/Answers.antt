@@ -4,29 +4,8 @@ use Rattle.office.specs.Kept.{Kept}
 use Rattle.office.specs.declared.output.Source.TheVariants.{Nothing, Text}
 use Rattle.office.proofs.Obeying.{if_ok_so}
 use Rattle.office.proofs.Sending.{not_nothing, owes_text}
-use Rattle.office.proofs.Stopping.{held_left}
+use Rattle.vault.proofs.CallLemmas.{looks_none}
 use Rattle.office.proofs.link.Link.take.Goals as goal
-
-pub returns-in_err-send_sizes-in-Sizes-clause-stop : goal.returns-in_err-send_sizes-in-Sizes-clause-stop
-returns-in_err-send_sizes-in-Sizes-clause-stop g c d held clean up = held_left (g.met.V.Vault.settled _ d clean up held)
-
-pub returns-in_err-send_uids-in-Uids-clause-stop : goal.returns-in_err-send_uids-in-Uids-clause-stop
-returns-in_err-send_uids-in-Uids-clause-stop g c d held clean up = held_left (g.met.V.Vault.settled _ d clean up held)
-
-pub returns-in-Nothing-clause-stop : goal.returns-in-Nothing-clause-stop
-returns-in-Nothing-clause-stop g c d held clean up = held_left (g.met.V.Vault.settled _ d clean up held)
-
-pub returns-in_ok-send_sizes-in-Sizes-clause-stop : goal.returns-in_ok-send_sizes-in-Sizes-clause-stop
-returns-in_ok-send_sizes-in-Sizes-clause-stop g c d held clean up = held_left (g.met.V.Vault.settled _ d clean up held)
-
-pub returns-in_default-clause-stop : goal.returns-in_default-clause-stop
-returns-in_default-clause-stop g c d held clean up = held_left (g.met.V.Vault.settled _ d clean up held)
-
-pub returns-in_ok-send_uids-in-Uids-clause-stop : goal.returns-in_ok-send_uids-in-Uids-clause-stop
-returns-in_ok-send_uids-in-Uids-clause-stop g c d held clean up = held_left (g.met.V.Vault.settled _ d clean up held)
-
-pub returns-in_default-session-clause-stop : goal.returns-in_default-session-clause-stop
-returns-in_default-session-clause-stop g c d held clean up = held_left (g.met.V.Vault.settled _ d clean up held)
 
 pub returns-in-Text-clause-owes : goal.returns-in-Text-clause-owes
 returns-in-Text-clause-owes g c = if_ok_so _ c.send_text.result c.send_text.ensures.owes (λ w h yes d owed held clean owes.
@@ -44,3 +23,31 @@ returns-in-Text-clause-unasked g c none =
     let source : k.output.source ≡ Text c.in-Text.text =
     sym (ap (λ (o : Output). o.source) same) ∙ ⊎_elim (λ a. absurd (not_nothing _ a.0)) (λ b. sym b.0) c.in-Text.ensures.source in
     absurd (true≢false (sym (ap reads_text source) ∙ none))
+
+pub returns-in_err-send_sizes-in-Sizes-clause-looks : goal.returns-in_err-send_sizes-in-Sizes-clause-looks
+returns-in_err-send_sizes-in-Sizes-clause-looks g c =
+    looks_none g.V.Vault c.args.vault.now (g.met.V.Vault.settled c.args.vault.now)
+
+pub returns-in_err-send_uids-in-Uids-clause-looks : goal.returns-in_err-send_uids-in-Uids-clause-looks
+returns-in_err-send_uids-in-Uids-clause-looks g c =
+    looks_none g.V.Vault c.args.vault.now (g.met.V.Vault.settled c.args.vault.now)
+
+pub returns-in-Nothing-clause-looks : goal.returns-in-Nothing-clause-looks
+returns-in-Nothing-clause-looks g c =
+    looks_none g.V.Vault c.args.vault.now (g.met.V.Vault.settled c.args.vault.now)
+
+pub returns-in_ok-send_sizes-in-Sizes-clause-looks : goal.returns-in_ok-send_sizes-in-Sizes-clause-looks
+returns-in_ok-send_sizes-in-Sizes-clause-looks g c =
+    looks_none g.V.Vault c.args.vault.now (g.met.V.Vault.settled c.args.vault.now)
+
+pub returns-in_default-clause-looks : goal.returns-in_default-clause-looks
+returns-in_default-clause-looks g c =
+    looks_none g.V.Vault c.args.vault.now (g.met.V.Vault.settled c.args.vault.now)
+
+pub returns-in_ok-send_uids-in-Uids-clause-looks : goal.returns-in_ok-send_uids-in-Uids-clause-looks
+returns-in_ok-send_uids-in-Uids-clause-looks g c =
+    looks_none g.V.Vault c.args.vault.now (g.met.V.Vault.settled c.args.vault.now)
+
+pub returns-in_default-session-clause-looks : goal.returns-in_default-session-clause-looks
+returns-in_default-session-clause-looks g c =
+    looks_none g.V.Vault c.args.vault.now (g.met.V.Vault.settled c.args.vault.now)

@@ -43,7 +43,7 @@ returns-in-Ok-clause-stands g c T st clean =
     let fits : length p ≤ most_in_a_piece = search rules in
     let updates = (c.get_mut.follows.holds k').3 (search rules) in
     let kept : get nat_cmp (c.get_mut.follows.lender k') n ≡ Some k' = updates.1 in
-    let sound : AreSound ct = g.met.V.Vault.sound o.vault ct st.keeps.held (c.hear.ensures.clean clean) in
+    let sound : AreSound ct = g.met.V.Vault.sound o.vault ct st.keeps.held (c.hear.ensures.acts.clean clean) in
     let j = judged T n p st.keeps sound o.policy st.policy o.locks st.locks o.moment st.moment k m nothing fits in
     let does = c.in-Ok.ensures in
     let may = λ (f : w ≡ acted.Failed). does.may f ct j.sitting st.keeps.held clean j.seated in
@@ -67,7 +67,7 @@ returns-in-Ok-clause-outcome g c T st clean =
     let m : Matches ct (seen T n) k = subst (IsKeptFor ct (seen T n)) found (st.links n) in
     let nothing : k.output ≡ nothing_owed = c.owes_nothing.ensures.nothing c.if-not-owes_nothing.false in
     let fits : length p ≤ most_in_a_piece = search rules in
-    let sound : AreSound ct = g.met.V.Vault.sound o.vault ct st.keeps.held (c.hear.ensures.clean clean) in
+    let sound : AreSound ct = g.met.V.Vault.sound o.vault ct st.keeps.held (c.hear.ensures.acts.clean clean) in
     let j = judged T n p st.keeps sound o.policy st.policy o.locks st.locks o.moment st.moment k m nothing fits in
     let does = c.in-Ok.ensures in
     piece_answered T n p st.keeps sound o.policy st.policy o.locks st.locks o.moment st.moment k m nothing fits w k' o.locks
@@ -108,7 +108,7 @@ returns-in-Ok-clause-cause g c T st clean =
     let m : Matches ct (seen T n) k = subst (IsKeptFor ct (seen T n)) found (st.links n) in
     let nothing : k.output ≡ nothing_owed = c.owes_nothing.ensures.nothing c.if-not-owes_nothing.false in
     let fits : length p ≤ most_in_a_piece = search rules in
-    let sound : AreSound ct = g.met.V.Vault.sound o.vault ct st.keeps.held (c.hear.ensures.clean clean) in
+    let sound : AreSound ct = g.met.V.Vault.sound o.vault ct st.keeps.held (c.hear.ensures.acts.clean clean) in
     let j = judged T n p st.keeps sound o.policy st.policy o.locks st.locks o.moment st.moment k m nothing fits in
     line_cause (g.V.Vault.faults o.vault) (g.V.Vault.faults c.hear.new.vault) w _ c.shown.ensures (λ f. c.in-Ok.ensures.cause f ct j.sitting st.keeps.held clean j.seated)
 
@@ -170,7 +170,7 @@ pub returns-then-piece-gt-MOST_IN_A_PIECE-clause-stop : goal.returns-then-piece-
 returns-then-piece-gt-MOST_IN_A_PIECE-clause-stop g c T st clean up = unasked_stops T (Bytes c.args.c c.args.piece.now) (outcome.Ignored outcome.PieceTooLong) st.keeps (returns-then-piece-gt-MOST_IN_A_PIECE-clause-stands g c T st clean).keeps (λ d. g.met.V.Vault.settled _ d clean up)
 
 pub returns-in-Ok-clause-up : goal.returns-in-Ok-clause-up
-returns-in-Ok-clause-up g c T st clean up answered = c.in-Ok.ensures.up st.keeps.contents st.keeps.held clean up (line_answered c.in-Ok.acted _ c.shown.ensures answered)
+returns-in-Ok-clause-up g c T st clean up answered = c.in-Ok.ensures.acts.up st.keeps.contents st.keeps.held clean up (line_answered c.in-Ok.acted _ c.shown.ensures answered)
 
 pub returns-in-Ok-clause-stop : goal.returns-in-Ok-clause-stop
 returns-in-Ok-clause-stop g c T st clean up =
@@ -183,11 +183,11 @@ returns-in-Ok-clause-stop g c T st clean up =
     let m : Matches ct (seen T n) k = subst (IsKeptFor ct (seen T n)) found (st.links n) in
     let nothing : k.output ≡ nothing_owed = c.owes_nothing.ensures.nothing c.if-not-owes_nothing.false in
     let fits : length p ≤ most_in_a_piece = search rules in
-    let sound : AreSound ct = g.met.V.Vault.sound o.vault ct st.keeps.held (c.hear.ensures.clean clean) in
+    let sound : AreSound ct = g.met.V.Vault.sound o.vault ct st.keeps.held (c.hear.ensures.acts.clean clean) in
     let j = judged T n p st.keeps sound o.policy st.policy o.locks st.locks o.moment st.moment k m nothing fits in
     let ready = awaits_bytes ct (seen T n) k p o.moment m nothing fits in
     let left = line_left T n st.keeps sound (streamed (seen T n) p o.moment) (clocked o.moment p k) p (judged_at ct o.policy k.stamp o.locks) k.talk ready j (Bytes n p)
-    (λ h nx. records-bytes_line T n p acted.Done (line_after k p) h nx) (λ h nx. records-bytes_part T n p Done h) (c.hear.ensures.stop ct st.keeps.held clean up) in
+    (λ h nx. records-bytes_line T n p acted.Done (line_after k p) h nx) (λ h nx. records-bytes_part T n p Done h) (c.hear.ensures.acts.stop ct st.keeps.held clean up) in
     stop_leaves T (Bytes n p) _ left (λ answered. settled_leaves _ (returns-in-Ok-clause-stands g c T st clean).keeps (λ d. g.met.V.Vault.settled _ d clean (returns-in-Ok-clause-up g c T st clean up answered)))
 
 pub returns-in-Err-clause-stop : goal.returns-in-Err-clause-stop
@@ -201,11 +201,11 @@ returns-in-Err-clause-stop g c T st clean up =
     let m : Matches ct (seen T n) k = subst (IsKeptFor ct (seen T n)) found (st.links n) in
     let nothing : k.output ≡ nothing_owed = c.owes_nothing.ensures.nothing c.if-not-owes_nothing.false in
     let fits : length p ≤ most_in_a_piece = search rules in
-    let sound : AreSound ct = g.met.V.Vault.sound o.vault ct st.keeps.held (c.hear.ensures.clean clean) in
+    let sound : AreSound ct = g.met.V.Vault.sound o.vault ct st.keeps.held (c.hear.ensures.acts.clean clean) in
     let j = judged T n p st.keeps sound o.policy st.policy o.locks st.locks o.moment st.moment k m nothing fits in
     let ready = awaits_bytes ct (seen T n) k p o.moment m nothing fits in
     let left = line_left T n st.keeps sound (streamed (seen T n) p o.moment) (clocked o.moment p k) p (judged_at ct o.policy k.stamp o.locks) k.talk ready j (Bytes n p)
-    (λ h nx. records-bytes_line T n p acted.Done (line_after k p) h nx) (λ h nx. records-bytes_part T n p Done h) (c.hear.ensures.stop ct st.keeps.held clean up) in
+    (λ h nx. records-bytes_line T n p acted.Done (line_after k p) h nx) (λ h nx. records-bytes_part T n p Done h) (c.hear.ensures.acts.stop ct st.keeps.held clean up) in
     stop_leaves T (Bytes n p) outcome.NoMemory left (λ answered. absurd answered)
 
 pub returns-then-not-owes_nothing-clause-outcome : goal.returns-then-not-owes_nothing-clause-outcome
@@ -265,7 +265,7 @@ returns-in-Ok-clause-account g c fresh T st clean =
     let m : Matches ct (seen T n) k = subst (IsKeptFor ct (seen T n)) found (st.links n) in
     let nothing : k.output ≡ nothing_owed = c.owes_nothing.ensures.nothing c.if-not-owes_nothing.false in
     let fits : length p ≤ most_in_a_piece = search rules in
-    let sound : AreSound ct = g.met.V.Vault.sound o.vault ct st.keeps.held (c.hear.ensures.clean clean) in
+    let sound : AreSound ct = g.met.V.Vault.sound o.vault ct st.keeps.held (c.hear.ensures.acts.clean clean) in
     let j = judged T n p st.keeps sound o.policy st.policy o.locks st.locks o.moment st.moment k m nothing fits in
     let does = c.in-Ok.ensures in
     let told = does.account fresh ct j.sitting st.keeps.held clean j.seated in

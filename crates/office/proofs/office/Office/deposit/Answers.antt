@@ -15,7 +15,7 @@ returns-in-Ok-clause-stands g c T st clean =
     (deposit_kept _ T st.keeps _ c.args.maildrop.now c.args.class.now c.args.id.now c.args.text.now
     c.have_form.ensures.maildrop c.have_form.ensures.class c.have_form.ensures.id _ c.deposit.result c.in-Ok.ensures.ok
     (λ none. no_fault _ _ (c.in-Ok.ensures.empty.1 none)) (λ large. no_fault _ _ (c.in-Ok.ensures.too_large.1 large))
-    (c.deposit.ensures.done st.keeps.contents st.keeps.held clean) c.deposit.ensures.counted.cause)
+    (c.deposit.ensures.done st.keeps.contents st.keeps.held clean) c.deposit.ensures.commits.counted.cause)
     refl refl refl refl refl (λ q. refl) (λ d. refl))
 
 pub returns-in-Ok-clause-outcome : goal.returns-in-Ok-clause-outcome
@@ -24,16 +24,16 @@ returns-in-Ok-clause-outcome g c T st clean =
     (deposit_kept _ T st.keeps _ c.args.maildrop.now c.args.class.now c.args.id.now c.args.text.now
     c.have_form.ensures.maildrop c.have_form.ensures.class c.have_form.ensures.id _ c.deposit.result c.in-Ok.ensures.ok
     (λ none. no_fault _ _ (c.in-Ok.ensures.empty.1 none)) (λ large. no_fault _ _ (c.in-Ok.ensures.too_large.1 large))
-    (c.deposit.ensures.done st.keeps.contents st.keeps.held clean) c.deposit.ensures.counted.cause)
+    (c.deposit.ensures.done st.keeps.contents st.keeps.held clean) c.deposit.ensures.commits.counted.cause)
     (lent_by c.args.self.now))
 
 pub returns-in-Ok-clause-cause : goal.returns-in-Ok-clause-cause
 returns-in-Ok-clause-cause g c T st clean =
-    rw c.deposited.ensures (became-cause T (Deposit c.args.maildrop.now c.args.class.now c.args.id.now c.args.text.now) _ tt c.deposit.ensures.counted
+    rw c.deposited.ensures (became-cause T (Deposit c.args.maildrop.now c.args.class.now c.args.id.now c.args.text.now) _ tt c.deposit.ensures.commits.counted
     (deposit_kept _ T st.keeps _ c.args.maildrop.now c.args.class.now c.args.id.now c.args.text.now
     c.have_form.ensures.maildrop c.have_form.ensures.class c.have_form.ensures.id _ c.deposit.result c.in-Ok.ensures.ok
     (λ none. no_fault _ _ (c.in-Ok.ensures.empty.1 none)) (λ large. no_fault _ _ (c.in-Ok.ensures.too_large.1 large))
-    (c.deposit.ensures.done st.keeps.contents st.keeps.held clean) c.deposit.ensures.counted.cause))
+    (c.deposit.ensures.done st.keeps.contents st.keeps.held clean) c.deposit.ensures.commits.counted.cause))
 
 pub returns-in-Err-clause-stands : goal.returns-in-Err-clause-stands
 returns-in-Err-clause-stands g c T st clean =
@@ -57,7 +57,7 @@ returns-in-Ok-clause-stop g c T st clean up =
     let e = Deposit c.args.maildrop.now c.args.class.now c.args.id.now c.args.text.now in
     let k = st.keeps in
     stop_leaves T e _
-    (either_left T e k (λ Held r. IsDeposited Held k.contents c.args.maildrop.now c.args.class.now c.args.id.now c.in-Ok.kept r) (c.deposit.ensures.stop k.contents clean up k.held)
+    (either_left T e k (λ Held r. IsDeposited Held k.contents c.args.maildrop.now c.args.class.now c.args.id.now c.in-Ok.kept r) (c.deposit.ensures.commits.stop k.contents clean up k.held)
     (λ left x did. became_left left k.contents T e true (by_vault.deposited (Ok x)) tt (new_mark x)
     (deposit_kept (SaySame left) T k true c.args.maildrop.now c.args.class.now c.args.id.now c.args.text.now
     c.have_form.ensures.maildrop c.have_form.ensures.class c.have_form.ensures.id _ (Ok x) c.in-Ok.ensures.ok

@@ -70,7 +70,7 @@ returns-in-Err g c = record {
   kept = search rules;
   left = search rules;
   up = search rules;
-  stop = λ d held clean up. looked_left (c.in-Err.ensures.stop d clean up held);
+  stop = λ d held clean up. looked_left (c.in-Err.ensures.looks.stop d clean up held);
   clean = search rules;
   counted = search rules;
   cause = search rules;
@@ -101,7 +101,7 @@ pub returns-in_default-clause-stop : goal.returns-in_default-clause-stop
 returns-in_default-clause-stop g c d held clean up = held_left (g.met.V.Vault.settled _ d clean up held)
 
 pub returns-in-Err-NoMemory-clause-stop : goal.returns-in-Err-NoMemory-clause-stop
-returns-in-Err-NoMemory-clause-stop g c d held clean up = looked_left (c.in-Err-NoMemory.ensures.stop d clean up held)
+returns-in-Err-NoMemory-clause-stop g c d held clean up = looked_left (c.in-Err-NoMemory.ensures.looks.stop d clean up held)
 
 pub returns-clause-stop : goal.returns-clause-stop
-returns-clause-stop g c d held clean up = looked_left (c.in-Ok-policy.ensures.stop d clean up held)
+returns-clause-stop g c d held clean up = looked_left (c.in-Ok-policy.ensures.looks.stop d clean up held)

@@ -24,7 +24,7 @@ use Rattle.office.proofs.Owing.{text_feeds}
 use Rattle.office.proofs.Memory.{more_than_lent}
 use Rattle.office.proofs.TakingDone.{judged, taking_moves, taking_answered, taking_told}
 use Rattle.office.specs.Outcomes as outcome
-use Rattle.office.proofs.Stopping.{stop_leaves, settled_leaves, unasked_stops}
+use Rattle.office.proofs.Stopping.{stop_leaves, settled_leaves, unasked_stops, looked_left}
 use Rattle.office.proofs.StoppingLines.{line_left, line_answered}
 use Rattle.office.proofs.Unasked.{taking_asks_none, taking_reads_none}
 use Rattle.office.proofs.office.Office.took.Goals as goal
@@ -68,7 +68,7 @@ returns-then-not-owes_nothing-clause-stands g c T st clean =
     moved g.V.Vault.holds o _ T (Took x n) _ Done x refl st refl refl refl refl refl refl (whole-took T x n Done) refl refl (rw found refl)
     (λ q e. seen-took_other T x n q Done e) (λ q ne. change.2 q (is_apart x q ne)) (record {
       contents = ct;
-      held = c.take.ensures.held ct st.keeps.held clean;
+      held = c.take.ensures.looks.held ct st.keeps.held clean;
       agree = rw (records-took_part T x n left) st.keeps.agree;
       here = rw change.1 here;
       carried = λ q e i. i;
@@ -110,7 +110,7 @@ returns-then-not-taken-clause-stands g c T st clean =
     let first = (c.get_mut.follows.holds k1).3 (search rules) in
     let second = c.cut_off-then-not-taken.ensures.links in
     ended_by g.V.Vault.holds o _ T (Took x n) Failed x (took_ends T x n Failed left (refused_ends (serving (history T) x) x (m.serving reads))) st k found
-    (λ d h. c.take.ensures.held d h clean) refl refl refl refl refl second.1 (λ q e. second.2 q e ∙ first.2 q e)
+    (λ d h. c.take.ensures.looks.held d h clean) refl refl refl refl refl second.1 (λ q e. second.2 q e ∙ first.2 q e)
     (subst (λ h. Released h o.locks c.cut_off-then-not-taken.new.locks) c.maildrop-held.ensures c.cut_off-then-not-taken.ensures.locks)
 
 pub returns-then-not-taken-clause-outcome : goal.returns-then-not-taken-clause-outcome
@@ -150,7 +150,7 @@ returns-then-not-taken-clause-cause g c T st clean =
 
 pub returns-then-not-taken-clause-stop : goal.returns-then-not-taken-clause-stop
 returns-then-not-taken-clause-stop g c T st clean up =
-    paged_stops T c.args.c c.args.octets outcome.Failed st.keeps (c.take.ensures.stop st.keeps.contents st.keeps.held clean up) (λ answered. absurd answered)
+    paged_stops T c.args.c c.args.octets outcome.Failed st.keeps (looked_left (c.take.ensures.looks.stop st.keeps.contents st.keeps.held clean up)) (λ answered. absurd answered)
 
 pub returns-in-Err-clause-stands : goal.returns-in-Err-clause-stands
 returns-in-Err-clause-stands g c T st clean =
@@ -169,7 +169,7 @@ returns-in-Err-clause-stands g c T st clean =
     let first = (c.get_mut.follows.holds k1).3 (search rules) in
     let second = c.cut_off.ensures.links in
     ended_by g.V.Vault.holds o _ T (Took x n) NoMemory x (took_ends T x n NoMemory left (lacking_ends (serving (history T) x) x)) st k found
-    (λ d h. c.take.ensures.held d h clean) refl refl refl refl refl second.1 (λ q e. second.2 q e ∙ first.2 q e)
+    (λ d h. c.take.ensures.looks.held d h clean) refl refl refl refl refl second.1 (λ q e. second.2 q e ∙ first.2 q e)
     (subst (λ h. Released h o.locks c.cut_off.new.locks) c.maildrop-held.ensures c.cut_off.ensures.locks)
 
 pub returns-in-Err-clause-outcome : goal.returns-in-Err-clause-outcome
@@ -193,7 +193,7 @@ returns-in-Err-clause-outcome g c T st clean =
 
 pub returns-in-Err-clause-stop : goal.returns-in-Err-clause-stop
 returns-in-Err-clause-stop g c T st clean up =
-    paged_stops T c.args.c c.args.octets outcome.NoMemory st.keeps (c.take.ensures.stop st.keeps.contents st.keeps.held clean up) (λ answered. absurd answered)
+    paged_stops T c.args.c c.args.octets outcome.NoMemory st.keeps (looked_left (c.take.ensures.looks.stop st.keeps.contents st.keeps.held clean up)) (λ answered. absurd answered)
 
 pub returns-then-is_closing-clause-stands : goal.returns-then-is_closing-clause-stands
 returns-then-is_closing-clause-stands g c T st clean =
@@ -219,7 +219,7 @@ returns-then-is_closing-clause-stands g c T st clean =
     moved g.V.Vault.holds o _ T (Took x n) _ Done x refl st refl refl refl refl refl refl (whole-took T x n Done) refl refl (rw found refl) (λ q e. seen-took_other T x n q Done e)
     (λ q ne. second.2 q (is_apart x q ne) ∙ first.2 q (is_apart x q ne)) (record {
       contents = ct;
-      held = c.take.ensures.held ct st.keeps.held clean;
+      held = c.take.ensures.looks.held ct st.keeps.held clean;
       agree = rw (records-took_closing T x n (all_over s n all) closed) st.keeps.agree;
       here = rw (second.1, seen-took_closing T x n o.moment st.moment (all_over s n all) closed) (record { closed = closed_took s n o.moment all closed; outside = m.parted closed });
       carried = λ q e i. i;
@@ -245,7 +245,7 @@ returns-then-is_closing-clause-outcome g c T st clean =
 
 pub returns-in-Ok-resume-clause-stands : goal.returns-in-Ok-resume-clause-stands
 returns-in-Ok-resume-clause-stands g c T st clean =
-    let before = c.resume.ensures.clean clean in
+    let before = c.resume.ensures.acts.clean clean in
     let o = c.args.self.now in
     let x = c.args.c in
     let n = c.args.octets in
@@ -264,8 +264,8 @@ returns-in-Ok-resume-clause-stands g c T st clean =
     let all = took_all ct s k n o.moment m fits k1.output owes none in
     let open_yet : s.closing ≡ false = sym m.closing ∙ (sym (ap (λ (k : Kept). k.talk.closing) c.take.ensures.kept) ∙ (sym c.is_closing.ensures ∙ c.if-is_closing.false)) in
     let ready : Awaits ct (took s n o.moment) k1 k1.pending = all_taken ct s k n o.moment m fits k1.output owes k1 c.take.ensures.kept none open_yet in
-    let held = c.take.ensures.held ct st.keeps.held before in
-    let sound : AreSound ct = g.met.V.Vault.sound o.vault ct st.keeps.held (c.take.ensures.clean before) in
+    let held = c.take.ensures.looks.held ct st.keeps.held before in
+    let sound : AreSound ct = g.met.V.Vault.sound o.vault ct st.keeps.held (c.take.ensures.looks.clean before) in
     let over = all_over s n all in
     let w = c.in-Ok-resume.acted in
     let j = judged T x n st.keeps sound o.policy st.policy o.locks st.locks o.moment st.moment k1 ready over open_yet in
@@ -280,7 +280,7 @@ returns-in-Ok-resume-clause-stands g c T st clean =
 
 pub returns-in-Ok-resume-clause-cause : goal.returns-in-Ok-resume-clause-cause
 returns-in-Ok-resume-clause-cause g c T st clean =
-    let before = c.resume.ensures.clean clean in
+    let before = c.resume.ensures.acts.clean clean in
     let o = c.args.self.now in
     let x = c.args.c in
     let n = c.args.octets in
@@ -299,18 +299,18 @@ returns-in-Ok-resume-clause-cause g c T st clean =
     let all = took_all ct s k n o.moment m fits k1.output owes none in
     let open_yet : s.closing ≡ false = sym m.closing ∙ (sym (ap (λ (k : Kept). k.talk.closing) c.take.ensures.kept) ∙ (sym c.is_closing.ensures ∙ c.if-is_closing.false)) in
     let ready : Awaits ct (took s n o.moment) k1 k1.pending = all_taken ct s k n o.moment m fits k1.output owes k1 c.take.ensures.kept none open_yet in
-    let held = c.take.ensures.held ct st.keeps.held before in
-    let sound : AreSound ct = g.met.V.Vault.sound o.vault ct st.keeps.held (c.take.ensures.clean before) in
+    let held = c.take.ensures.looks.held ct st.keeps.held before in
+    let sound : AreSound ct = g.met.V.Vault.sound o.vault ct st.keeps.held (c.take.ensures.looks.clean before) in
     let over = all_over s n all in
     let w = c.in-Ok-resume.acted in
     let j = judged T x n st.keeps sound o.policy st.policy o.locks st.locks o.moment st.moment k1 ready over open_yet in
     let line = c.in-Ok-resume.ensures in
     line_cause (g.V.Vault.faults o.vault) (g.V.Vault.faults c.resume.new.vault) w _ c.shown.ensures
-    (λ f. grown_behind (g.V.Vault.faults o.vault) (g.V.Vault.faults c.take.new.vault) (g.V.Vault.faults c.resume.new.vault) c.take.ensures.counted (line.cause f ct j.sitting held clean j.seated))
+    (λ f. grown_behind (g.V.Vault.faults o.vault) (g.V.Vault.faults c.take.new.vault) (g.V.Vault.faults c.resume.new.vault) c.take.ensures.looks.counted (line.cause f ct j.sitting held clean j.seated))
 
 pub returns-in-Ok-resume-clause-outcome : goal.returns-in-Ok-resume-clause-outcome
 returns-in-Ok-resume-clause-outcome g c T st clean =
-    let before = c.resume.ensures.clean clean in
+    let before = c.resume.ensures.acts.clean clean in
     let o = c.args.self.now in
     let x = c.args.c in
     let n = c.args.octets in
@@ -329,8 +329,8 @@ returns-in-Ok-resume-clause-outcome g c T st clean =
     let all = took_all ct s k n o.moment m fits k1.output owes none in
     let open_yet : s.closing ≡ false = sym m.closing ∙ (sym (ap (λ (k : Kept). k.talk.closing) c.take.ensures.kept) ∙ (sym c.is_closing.ensures ∙ c.if-is_closing.false)) in
     let ready : Awaits ct (took s n o.moment) k1 k1.pending = all_taken ct s k n o.moment m fits k1.output owes k1 c.take.ensures.kept none open_yet in
-    let held = c.take.ensures.held ct st.keeps.held before in
-    let sound : AreSound ct = g.met.V.Vault.sound o.vault ct st.keeps.held (c.take.ensures.clean before) in
+    let held = c.take.ensures.looks.held ct st.keeps.held before in
+    let sound : AreSound ct = g.met.V.Vault.sound o.vault ct st.keeps.held (c.take.ensures.looks.clean before) in
     let over = all_over s n all in
     let w = c.in-Ok-resume.acted in
     let j = judged T x n st.keeps sound o.policy st.policy o.locks st.locks o.moment st.moment k1 ready over open_yet in
@@ -342,7 +342,7 @@ returns-in-Ok-resume-clause-outcome g c T st clean =
 
 pub returns-in-Err-resume-clause-stands : goal.returns-in-Err-resume-clause-stands
 returns-in-Err-resume-clause-stands g c T st clean =
-    let before = c.resume.ensures.clean clean in
+    let before = c.resume.ensures.acts.clean clean in
     let o = c.args.self.now in
     let x = c.args.c in
     let n = c.args.octets in
@@ -361,8 +361,8 @@ returns-in-Err-resume-clause-stands g c T st clean =
     let all = took_all ct s k n o.moment m fits k1.output owes none in
     let open_yet : s.closing ≡ false = sym m.closing ∙ (sym (ap (λ (k : Kept). k.talk.closing) c.take.ensures.kept) ∙ (sym c.is_closing.ensures ∙ c.if-is_closing.false)) in
     let ready : Awaits ct (took s n o.moment) k1 k1.pending = all_taken ct s k n o.moment m fits k1.output owes k1 c.take.ensures.kept none open_yet in
-    let held = c.take.ensures.held ct st.keeps.held before in
-    let sound : AreSound ct = g.met.V.Vault.sound o.vault ct st.keeps.held (c.take.ensures.clean before) in
+    let held = c.take.ensures.looks.held ct st.keeps.held before in
+    let sound : AreSound ct = g.met.V.Vault.sound o.vault ct st.keeps.held (c.take.ensures.looks.clean before) in
     let over = all_over s n all in
     let next = next_there ct (took s n o.moment) k1 k1.pending ready c.in-Err-resume.ensures.err in
     let first = (c.get_mut.follows.holds c.resume.new.self).3 (search rules) in
@@ -384,7 +384,7 @@ returns-in-Err-resume-clause-stands g c T st clean =
 
 pub returns-in-Err-resume-clause-outcome : goal.returns-in-Err-resume-clause-outcome
 returns-in-Err-resume-clause-outcome g c T st clean =
-    let before = c.resume.ensures.clean clean in
+    let before = c.resume.ensures.acts.clean clean in
     let o = c.args.self.now in
     let x = c.args.c in
     let n = c.args.octets in
@@ -403,8 +403,8 @@ returns-in-Err-resume-clause-outcome g c T st clean =
     let all = took_all ct s k n o.moment m fits k1.output owes none in
     let open_yet : s.closing ≡ false = sym m.closing ∙ (sym (ap (λ (k : Kept). k.talk.closing) c.take.ensures.kept) ∙ (sym c.is_closing.ensures ∙ c.if-is_closing.false)) in
     let ready : Awaits ct (took s n o.moment) k1 k1.pending = all_taken ct s k n o.moment m fits k1.output owes k1 c.take.ensures.kept none open_yet in
-    let held = c.take.ensures.held ct st.keeps.held before in
-    let sound : AreSound ct = g.met.V.Vault.sound o.vault ct st.keeps.held (c.take.ensures.clean before) in
+    let held = c.take.ensures.looks.held ct st.keeps.held before in
+    let sound : AreSound ct = g.met.V.Vault.sound o.vault ct st.keeps.held (c.take.ensures.looks.clean before) in
     let over = all_over s n all in
     let next = next_there ct (took s n o.moment) k1 k1.pending ready c.in-Err-resume.ensures.err in
     let lent : n ≤ lent_by o x = subst (λ (e : Option Kept). n ≤ length_of_lent e) (sym found) lends.1 in
@@ -413,19 +413,19 @@ returns-in-Err-resume-clause-outcome g c T st clean =
     record { tag = NoMemory; may = rw (over, open_yet, line) refl; is = rw goes refl }
 
 pub returns-then-not-owes_nothing-clause-up : goal.returns-then-not-owes_nothing-clause-up
-returns-then-not-owes_nothing-clause-up g c T st clean up answered = c.in-Ok.ensures.up st.keeps.contents st.keeps.held clean up c.if-not-taken.false
+returns-then-not-owes_nothing-clause-up g c T st clean up answered = c.in-Ok.ensures.looks.up st.keeps.contents st.keeps.held clean up c.if-not-taken.false
 
 pub returns-then-not-owes_nothing-clause-stop : goal.returns-then-not-owes_nothing-clause-stop
 returns-then-not-owes_nothing-clause-stop g c T st clean up =
-    paged_stops T c.args.c c.args.octets outcome.Done st.keeps (c.take.ensures.stop st.keeps.contents st.keeps.held clean up)
+    paged_stops T c.args.c c.args.octets outcome.Done st.keeps (looked_left (c.take.ensures.looks.stop st.keeps.contents st.keeps.held clean up))
     (λ answered. settled_leaves _ (returns-then-not-owes_nothing-clause-stands g c T st clean).keeps (λ d. g.met.V.Vault.settled _ d clean (returns-then-not-owes_nothing-clause-up g c T st clean up answered)))
 
 pub returns-then-is_closing-clause-up : goal.returns-then-is_closing-clause-up
-returns-then-is_closing-clause-up g c T st clean up answered = c.in-Ok.ensures.up st.keeps.contents st.keeps.held clean up c.if-not-taken.false
+returns-then-is_closing-clause-up g c T st clean up answered = c.in-Ok.ensures.looks.up st.keeps.contents st.keeps.held clean up c.if-not-taken.false
 
 pub returns-then-is_closing-clause-stop : goal.returns-then-is_closing-clause-stop
 returns-then-is_closing-clause-stop g c T st clean up =
-    paged_stops T c.args.c c.args.octets outcome.Done st.keeps (c.take.ensures.stop st.keeps.contents st.keeps.held clean up)
+    paged_stops T c.args.c c.args.octets outcome.Done st.keeps (looked_left (c.take.ensures.looks.stop st.keeps.contents st.keeps.held clean up))
     (λ answered. settled_leaves _ (returns-then-is_closing-clause-stands g c T st clean).keeps (λ d. g.met.V.Vault.settled _ d clean (returns-then-is_closing-clause-up g c T st clean up answered)))
 
 pub returns-in_default-clause-stop : goal.returns-in_default-clause-stop
@@ -436,13 +436,13 @@ returns-then-not-lends-clause-stop g c T st clean up = unasked_stops T (Took c.a
 
 pub returns-in-Ok-resume-clause-up : goal.returns-in-Ok-resume-clause-up
 returns-in-Ok-resume-clause-up g c T st clean up answered =
-    let up1 = c.in-Ok.ensures.up st.keeps.contents st.keeps.held (c.resume.ensures.clean clean) up c.if-not-taken.false in
-    let held = c.take.ensures.held st.keeps.contents st.keeps.held (c.resume.ensures.clean clean) in
-    c.in-Ok-resume.ensures.up st.keeps.contents held clean up1 (line_answered c.in-Ok-resume.acted _ c.shown.ensures answered)
+    let up1 = c.in-Ok.ensures.looks.up st.keeps.contents st.keeps.held (c.resume.ensures.acts.clean clean) up c.if-not-taken.false in
+    let held = c.take.ensures.looks.held st.keeps.contents st.keeps.held (c.resume.ensures.acts.clean clean) in
+    c.in-Ok-resume.ensures.acts.up st.keeps.contents held clean up1 (line_answered c.in-Ok-resume.acted _ c.shown.ensures answered)
 
 pub returns-in-Ok-resume-clause-stop : goal.returns-in-Ok-resume-clause-stop
 returns-in-Ok-resume-clause-stop g c T st clean up =
-    let before = c.resume.ensures.clean clean in
+    let before = c.resume.ensures.acts.clean clean in
     let o = c.args.self.now in
     let x = c.args.c in
     let n = c.args.octets in
@@ -461,19 +461,19 @@ returns-in-Ok-resume-clause-stop g c T st clean up =
     let all = took_all ct s k n o.moment m fits k1.output owes none in
     let open_yet : s.closing ≡ false = sym m.closing ∙ (sym (ap (λ (k : Kept). k.talk.closing) c.take.ensures.kept) ∙ (sym c.is_closing.ensures ∙ c.if-is_closing.false)) in
     let ready : Awaits ct (took s n o.moment) k1 k1.pending = all_taken ct s k n o.moment m fits k1.output owes k1 c.take.ensures.kept none open_yet in
-    let held = c.take.ensures.held ct st.keeps.held before in
-    let sound : AreSound ct = g.met.V.Vault.sound o.vault ct st.keeps.held (c.take.ensures.clean before) in
+    let held = c.take.ensures.looks.held ct st.keeps.held before in
+    let sound : AreSound ct = g.met.V.Vault.sound o.vault ct st.keeps.held (c.take.ensures.looks.clean before) in
     let over = all_over s n all in
-    let up1 = c.in-Ok.ensures.up st.keeps.contents st.keeps.held (c.resume.ensures.clean clean) up c.if-not-taken.false in
+    let up1 = c.in-Ok.ensures.looks.up st.keeps.contents st.keeps.held (c.resume.ensures.acts.clean clean) up c.if-not-taken.false in
     let j = judged T x n st.keeps sound o.policy st.policy o.locks st.locks o.moment st.moment k1 ready over open_yet in
     let left = line_left T x st.keeps sound (took s n o.moment) k1 k1.pending (judged_at ct o.policy k1.stamp o.locks) k1.talk ready j (Took x n)
     (λ h nx. records-took_line T x n acted.Done (line_after k1 k1.pending) over open_yet (next_kept T x ∙ nx)) (λ h nx. records-took_none T x n over open_yet (next_kept T x ∙ nx))
-    (c.resume.ensures.stop ct held clean up1) in
+    (c.resume.ensures.acts.stop ct held clean up1) in
     stop_leaves T (Took x n) _ left (λ answered. settled_leaves _ (returns-in-Ok-resume-clause-stands g c T st clean).keeps (λ d. g.met.V.Vault.settled _ d clean (returns-in-Ok-resume-clause-up g c T st clean up answered)))
 
 pub returns-in-Err-resume-clause-stop : goal.returns-in-Err-resume-clause-stop
 returns-in-Err-resume-clause-stop g c T st clean up =
-    let before = c.resume.ensures.clean clean in
+    let before = c.resume.ensures.acts.clean clean in
     let o = c.args.self.now in
     let x = c.args.c in
     let n = c.args.octets in
@@ -492,14 +492,14 @@ returns-in-Err-resume-clause-stop g c T st clean up =
     let all = took_all ct s k n o.moment m fits k1.output owes none in
     let open_yet : s.closing ≡ false = sym m.closing ∙ (sym (ap (λ (k : Kept). k.talk.closing) c.take.ensures.kept) ∙ (sym c.is_closing.ensures ∙ c.if-is_closing.false)) in
     let ready : Awaits ct (took s n o.moment) k1 k1.pending = all_taken ct s k n o.moment m fits k1.output owes k1 c.take.ensures.kept none open_yet in
-    let held = c.take.ensures.held ct st.keeps.held before in
-    let sound : AreSound ct = g.met.V.Vault.sound o.vault ct st.keeps.held (c.take.ensures.clean before) in
+    let held = c.take.ensures.looks.held ct st.keeps.held before in
+    let sound : AreSound ct = g.met.V.Vault.sound o.vault ct st.keeps.held (c.take.ensures.looks.clean before) in
     let over = all_over s n all in
-    let up1 = c.in-Ok.ensures.up st.keeps.contents st.keeps.held (c.resume.ensures.clean clean) up c.if-not-taken.false in
+    let up1 = c.in-Ok.ensures.looks.up st.keeps.contents st.keeps.held (c.resume.ensures.acts.clean clean) up c.if-not-taken.false in
     let j = judged T x n st.keeps sound o.policy st.policy o.locks st.locks o.moment st.moment k1 ready over open_yet in
     let left = line_left T x st.keeps sound (took s n o.moment) k1 k1.pending (judged_at ct o.policy k1.stamp o.locks) k1.talk ready j (Took x n)
     (λ h nx. records-took_line T x n acted.Done (line_after k1 k1.pending) over open_yet (next_kept T x ∙ nx)) (λ h nx. records-took_none T x n over open_yet (next_kept T x ∙ nx))
-    (c.resume.ensures.stop ct held clean up1) in
+    (c.resume.ensures.acts.stop ct held clean up1) in
     stop_leaves T (Took x n) outcome.NoMemory left (λ answered. absurd answered)
 
 pub resume-requires : goal.resume-requires
@@ -620,7 +620,7 @@ returns-in-Err-resume-clause-unasked g c T st clean none =
 
 pub returns-in-Ok-resume-clause-account : goal.returns-in-Ok-resume-clause-account
 returns-in-Ok-resume-clause-account g c fresh T st clean =
-    let before = c.resume.ensures.clean clean in
+    let before = c.resume.ensures.acts.clean clean in
     let o = c.args.self.now in
     let x = c.args.c in
     let n = c.args.octets in
@@ -639,8 +639,8 @@ returns-in-Ok-resume-clause-account g c fresh T st clean =
     let all = took_all ct s k n o.moment m fits k1.output owes none in
     let open_yet : s.closing ≡ false = sym m.closing ∙ (sym (ap (λ (k : Kept). k.talk.closing) c.take.ensures.kept) ∙ (sym c.is_closing.ensures ∙ c.if-is_closing.false)) in
     let ready : Awaits ct (took s n o.moment) k1 k1.pending = all_taken ct s k n o.moment m fits k1.output owes k1 c.take.ensures.kept none open_yet in
-    let held = c.take.ensures.held ct st.keeps.held before in
-    let sound : AreSound ct = g.met.V.Vault.sound o.vault ct st.keeps.held (c.take.ensures.clean before) in
+    let held = c.take.ensures.looks.held ct st.keeps.held before in
+    let sound : AreSound ct = g.met.V.Vault.sound o.vault ct st.keeps.held (c.take.ensures.looks.clean before) in
     let over = all_over s n all in
     let w = c.in-Ok-resume.acted in
     let j = judged T x n st.keeps sound o.policy st.policy o.locks st.locks o.moment st.moment k1 ready over open_yet in

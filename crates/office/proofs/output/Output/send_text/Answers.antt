@@ -10,7 +10,7 @@ use Rattle.office.proofs.output.Output.send_text.Goals as goal
 
 pub returns-in-More-clause-owes : goal.returns-in-More-clause-owes
 returns-in-More-clause-owes g c = λ yes d s coming held clean reads.
-    let sound : AreSound d = g.met.V.Vault.sound c.args.vault.now d held (c.fill.ensures.clean clean) in
+    let sound : AreSound d = g.met.V.Vault.sound c.args.vault.now d held (c.fill.ensures.looks.clean clean) in
     let t : Reading = c.args.text in
     let front : c.remove_front.new.octets.items ≡ c.args.self.now.ready = c.remove_front.ensures.is ∙ ap (λ (o : Output). o.ready) c.self.view_is in
     text_goes_on d sound s t coming reads c.fill.new.self c.args.self.now.ready c.remove_front.new.octets.items c.fill.new.ready.items front c.fill.ensures.key c.fill.ensures.octets
@@ -19,7 +19,7 @@ returns-in-More-clause-owes g c = λ yes d s coming held clean reads.
 
 pub returns-in-Last-clause-owes : goal.returns-in-Last-clause-owes
 returns-in-Last-clause-owes g c = λ yes d s coming held clean reads.
-    let sound : AreSound d = g.met.V.Vault.sound c.args.vault.now d held (c.fill.ensures.clean clean) in
+    let sound : AreSound d = g.met.V.Vault.sound c.args.vault.now d held (c.fill.ensures.looks.clean clean) in
     let t : Reading = c.args.text in
     let front : c.remove_front.new.octets.items ≡ c.args.self.now.ready = c.remove_front.ensures.is ∙ ap (λ (o : Output). o.ready) c.self.view_is in
     let none : c.self.inside.source ≡ Nothing = ap (λ (o : Output). o.source) c.self.view_is ∙ c.requires in
@@ -29,5 +29,5 @@ returns-in-Last-clause-owes g c = λ yes d s coming held clean reads.
 
 pub returns-in-Refused-clause-cause : goal.returns-in-Refused-clause-cause
 returns-in-Refused-clause-cause g c = λ no d s coming held clean reads.
-    let sound : AreSound d = g.met.V.Vault.sound c.args.vault.now d held (c.fill.ensures.clean clean) in
+    let sound : AreSound d = g.met.V.Vault.sound c.args.vault.now d held (c.fill.ensures.looks.clean clean) in
     (rw c.in-Refused.is at c.in_ok-fill.ensures.cause) refl d held clean (begun_under d sound s c.args.text coming reads)

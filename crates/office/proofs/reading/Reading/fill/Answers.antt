@@ -1,5 +1,43 @@
-use Rattle.office.proofs.Stopping.{held_left}
+-- Each page is a look more.
+use Rattle.std.proofs.Common.{rules}
+use Rattle.vault.proofs.CallLemmas.{looks_none, looks_less, looks_then}
+use Rattle.office.specs.Stopping.{WasPut}
+use Rattle.office.proofs.Frames.{not_ok}
 use Rattle.office.proofs.reading.Reading.fill.Goals as goal
 
-pub returns-clause-stop : goal.returns-clause-stop
-returns-clause-stop g c d held clean up = held_left (g.met.V.Vault.settled _ d clean (c.loop-self.invariant.up d held clean up) (c.loop-self.invariant.held d held clean))
+pub loop-self-init : goal.loop-self-init
+loop-self-init g c = record {
+  put = search rules;
+  left = search rules;
+  key = search rules;
+  octets = search rules;
+  looks = looks_none g.V.Vault c.args.vault.now (g.met.V.Vault.settled c.args.vault.now);
+  room = search rules;
+}
+
+pub loop-self-preserved : goal.loop-self-preserved
+loop-self-preserved g c = record {
+  put = search rules;
+  left = search rules;
+  key = search rules;
+  octets = search rules;
+  looks = looks_then c.loop-self.invariant.looks
+      ((rw c.in-More.is at c.in_ok-put_page.ensures.looks));
+  room = search rules;
+}
+
+pub returns-in_err-put_page-clause-looks : goal.returns-in_err-put_page-clause-looks
+returns-in_err-put_page-clause-looks g c =
+    looks_less (not_ok c.from_residual.result _ WasPut c.from_residual.ensures.1)
+    (looks_then c.loop-self.invariant.looks c.in_err-put_page.ensures.looks)
+
+pub returns-in-Last-clause-looks : goal.returns-in-Last-clause-looks
+returns-in-Last-clause-looks g c =
+    looks_then c.loop-self.invariant.looks (rw c.in-Last.is at c.in_ok-put_page.ensures.looks)
+
+pub returns-in-Refused-clause-looks : goal.returns-in-Refused-clause-looks
+returns-in-Refused-clause-looks g c =
+    looks_then c.loop-self.invariant.looks (rw c.in-Refused.is at c.in_ok-put_page.ensures.looks)
+
+pub returns-clause-looks : goal.returns-clause-looks
+returns-clause-looks g c = c.loop-self.invariant.looks

@@ -1,6 +1,8 @@
+use Rattle.std.specs.Prelude.{⊤}
 use Rattle.std.proofs.Common.{◌≡◌, ◌≤◌, ◌<◌, ◌++◌, ◌-◌, length}
 use Rattle.vault.specs.Changes.{Contents}
 use Rattle.vault.specs.Calls.{text_under}
+use Rattle.vault.specs.Parts.{OnlyLooks}
 use Rattle.office.specs.Output.{text_coming, most_output, IsBegun}
 use Rattle.office.proofs.reading.Reading.fill.Given as goal
 
@@ -11,10 +13,7 @@ invariant-loop-self g l = record {
   left : l.fn.self.place < l.fn.self.octets → l.self.place < l.self.octets;
   key : l.self.key ≡ l.fn.self.key;
   octets : l.self.octets ≡ l.fn.self.octets;
-  held : (c : Contents) → g.V.Vault.holds l.fn.vault c → g.V.Vault.is_clean l.vault → g.V.Vault.holds l.vault c;
-  counted : g.V.Vault.faults l.fn.vault ≤ g.V.Vault.faults l.vault;
-  clean : g.V.Vault.is_clean l.vault → g.V.Vault.is_clean l.fn.vault;
-  up : (c : Contents) → g.V.Vault.holds l.fn.vault c → g.V.Vault.is_clean l.vault → g.V.Vault.is_up l.fn.vault → g.V.Vault.is_up l.vault;
+  looks : OnlyLooks g.V.Vault l.fn.vault l.vault ⊤;
   room : length l.ready.items ≤ most_output;
 }
 

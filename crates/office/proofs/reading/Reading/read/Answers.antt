@@ -1,25 +1,16 @@
-use Rattle.std.proofs.Common.{arith, rules, sym, ◌∙◌, ap, take}
-use Rattle.vault.specs.Calls.{text_under}
-use Rattle.office.proofs.Stopping.{looked_left}
+use Rattle.vault.proofs.CallLemmas.{looks_once}
 use Rattle.office.proofs.reading.Reading.read.Goals as goal
 
-pub returns-in-Ok-clause-stop : goal.returns-in-Ok-clause-stop
-returns-in-Ok-clause-stop g c d held clean up = looked_left (c.page.ensures.stop d clean up held)
+pub returns-in-Ok-clause-looks : goal.returns-in-Ok-clause-looks
+returns-in-Ok-clause-looks g c = looks_once g.V.Vault c.page.ensures.looks (λ none. absurd none)
 
-pub returns-in-Ok-2-clause-stop : goal.returns-in-Ok-2-clause-stop
-returns-in-Ok-2-clause-stop g c d held clean up = looked_left (c.page.ensures.stop d clean up held)
+pub returns-in-Ok-2-clause-looks : goal.returns-in-Ok-2-clause-looks
+returns-in-Ok-2-clause-looks g c =
+    looks_once g.V.Vault c.in-Ok-2.ensures.looks (λ own. tt)
 
-pub returns-in-Err-NoMemory-clause-stop : goal.returns-in-Err-NoMemory-clause-stop
-returns-in-Err-NoMemory-clause-stop g c d held clean up = looked_left (c.page.ensures.stop d clean up held)
+pub returns-in-Err-NoMemory-clause-looks : goal.returns-in-Err-NoMemory-clause-looks
+returns-in-Err-NoMemory-clause-looks g c =
+    looks_once g.V.Vault c.page.ensures.looks (λ none. absurd none)
 
-pub returns-in-Err : goal.returns-in-Err
-returns-in-Err g c = record {
-  some = search rules;
-  text = search rules;
-  cause = search rules;
-  held = search rules;
-  counted = search rules;
-  clean = search rules;
-  up = search rules;
-  stop = λ d held clean up. looked_left (c.page.ensures.stop d clean up held);
-}
+pub returns-in-Err-clause-looks : goal.returns-in-Err-clause-looks
+returns-in-Err-clause-looks g c = looks_once g.V.Vault c.page.ensures.looks (λ none. absurd none)

@@ -1,10 +1,13 @@
--- What the vault inside promises of a stop, by what it held.
-use Rattle.std.proofs.Common.{sym, subst}
-use Rattle.recent.specs.Recalling.{Recalling, HoldsFitting}
+-- What the vault inside keeps, and what is kept of its answers.
+use Rattle.std.proofs.Common.{rules}
+use Rattle.recent.proofs.Looks.{held_done, looks_inside}
 use Rattle.recent.proofs.recent.RecentVault.policy.Goals as goal
 
-pub returns-clause-stop : goal.returns-clause-stop
-returns-clause-stop g c b clean up held left may =
-    let is_up = subst (λ (r : Recalling g.row.V.Denot). g.V.Vault.is_up r.vault) (sym c.self.view_is) up in
-    let holds = subst (λ (r : Recalling g.row.V.Denot). HoldsFitting (g.V.Vault.holds r.vault) r.kept r.totals b) (sym c.self.view_is) held in
-    c.policy.ensures.stop b clean is_up holds.inside left may
+pub returns-clause-done : goal.returns-clause-done
+returns-clause-done g c = search rules
+
+pub returns-clause-looks : goal.returns-clause-looks
+returns-clause-looks g c =
+    looks_inside g.V.Vault _ _ _ _ c.self.view_is
+    (rw c.after_look.ensures.answer c.policy.ensures.looks)
+    (λ b clean held. held_done (returns-clause-done g c b held clean))

@@ -1,37 +1,17 @@
 use Rattle.std.proofs.Common.{ap}
-use Rattle.sqlite.specs.Held.{state}
 use Rattle.sqlvault.specs.Opened.{Opened}
-use Rattle.sqlvault.specs.Stops.{leaves_last}
-use Rattle.sqlvault.proofs.FrameLemmas.{looks_told}
-use Rattle.sqlvault.proofs.StopLemmas.{left_as, done_told}
+use Rattle.sqlvault.proofs.StopLemmas.{done_told}
+use Rattle.sqlvault.proofs.CallLemmas.{looks_call}
 use Rattle.sqlvault.proofs.sql_vault.SqlVaultVault.credential.Goals as goal
-
-pub returns-clause-clean : goal.returns-clause-clean
-returns-clause-clean g c clean =
-    (looks_told g.S.Store c.args.self.now.conn c.self.inside.conn c.told.new.self.conn
-    c.find_credential-answer.new.conn c.find_credential-answer.result c.told.result
-    (ap (λ (o : Opened g.row.S.Denot). o.conn) c.self.view_is)
-    c.told.ensures.conn c.told.ensures.answer c.find_credential-answer.ensures.looks).clean clean
-
-pub returns-clause-up : goal.returns-clause-up
-returns-clause-up g c k clean h up own =
-    ((looks_told g.S.Store c.args.self.now.conn c.self.inside.conn c.told.new.self.conn
-    c.find_credential-answer.new.conn c.find_credential-answer.result c.told.result
-    (ap (λ (o : Opened g.row.S.Denot). o.conn) c.self.view_is)
-    c.told.ensures.conn c.told.ensures.answer c.find_credential-answer.ensures.looks).rests clean k
-    h).up up own
-
-pub returns-clause-stop : goal.returns-clause-stop
-returns-clause-stop g c k clean up h left may =
-    left_as (state g.S.Store c.told.new.self.conn) k left
-    (((looks_told g.S.Store c.args.self.now.conn c.self.inside.conn c.told.new.self.conn
-    c.find_credential-answer.new.conn c.find_credential-answer.result c.told.result
-    (ap (λ (o : Opened g.row.S.Denot). o.conn) c.self.view_is)
-    c.told.ensures.conn c.told.ensures.answer c.find_credential-answer.ensures.looks).rests clean k
-    h).stop up (leaves_last (state g.S.Store c.args.self.now.conn) k
-    (λ db o m. g.met.S.Store.settled c.args.self.now.conn.store db o m) up h)) may
 
 pub returns-clause-done : goal.returns-clause-done
 returns-clause-done g c b h clean =
     done_told g.S.Store _ c.args.self.now.conn c.self.inside.conn c.told.new.self.conn c.find_credential-answer.new.conn b _ c.told.result _ (ap (λ (o : Opened g.row.S.Denot). o.conn) c.self.view_is) c.told.ensures.conn c.told.ensures.answer
     (c.find_credential-answer.ensures.done b) h clean
+
+pub returns-clause-looks : goal.returns-clause-looks
+returns-clause-looks g c =
+    looks_call g.S.Store c.find_credential-answer.new.conn c.find_credential-answer.result
+    c.told.result c.self.view_is c.told.ensures.conn c.told.ensures.answer c.told.ensures.counted
+    c.find_credential-answer.ensures.looks
+    (λ db o m. g.met.S.Store.settled c.args.self.now.conn.store db o m)

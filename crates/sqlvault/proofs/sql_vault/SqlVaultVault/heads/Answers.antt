@@ -1,38 +1,11 @@
 use Rattle.std.proofs.Common.{ap}
-use Rattle.sqlite.specs.Held.{state}
 use Rattle.std.proofs.Common.{Vec, Global}
 use Rattle.vault.specs.declared.answer.Head.{Head}
 use Rattle.vault.specs.Calls.{AreHeads, seen_as}
 use Rattle.sqlvault.specs.Opened.{Opened}
-use Rattle.sqlvault.specs.Stops.{leaves_last}
-use Rattle.sqlvault.proofs.FrameLemmas.{looks_told}
-use Rattle.sqlvault.proofs.StopLemmas.{left_as, done_by}
+use Rattle.sqlvault.proofs.StopLemmas.{done_by}
+use Rattle.sqlvault.proofs.CallLemmas.{looks_call}
 use Rattle.sqlvault.proofs.sql_vault.SqlVaultVault.heads.Goals as goal
-
-pub returns-clause-clean : goal.returns-clause-clean
-returns-clause-clean g c clean =
-    (looks_told g.S.Store c.args.self.now.conn c.self.inside.conn c.told.new.self.conn
-    c.heads-answer.new.conn c.heads-answer.result c.told.result
-    (ap (λ (o : Opened g.row.S.Denot). o.conn) c.self.view_is)
-    c.told.ensures.conn c.told.ensures.answer c.heads-answer.ensures.looks).clean clean
-
-pub returns-clause-up : goal.returns-clause-up
-returns-clause-up g c k clean h up own =
-    ((looks_told g.S.Store c.args.self.now.conn c.self.inside.conn c.told.new.self.conn
-    c.heads-answer.new.conn c.heads-answer.result c.told.result
-    (ap (λ (o : Opened g.row.S.Denot). o.conn) c.self.view_is)
-    c.told.ensures.conn c.told.ensures.answer c.heads-answer.ensures.looks).rests clean k
-    h).up up own
-
-pub returns-clause-stop : goal.returns-clause-stop
-returns-clause-stop g c k clean up h left may =
-    left_as (state g.S.Store c.told.new.self.conn) k left
-    (((looks_told g.S.Store c.args.self.now.conn c.self.inside.conn c.told.new.self.conn
-    c.heads-answer.new.conn c.heads-answer.result c.told.result
-    (ap (λ (o : Opened g.row.S.Denot). o.conn) c.self.view_is)
-    c.told.ensures.conn c.told.ensures.answer c.heads-answer.ensures.looks).rests clean k
-    h).stop up (leaves_last (state g.S.Store c.args.self.now.conn) k
-    (λ db o m. g.met.S.Store.settled c.args.self.now.conn.store db o m) up h)) may
 
 pub returns-clause-done : goal.returns-clause-done
 returns-clause-done g c k h clean =
@@ -41,3 +14,9 @@ returns-clause-done g c k h clean =
     c.args.self.now.conn c.self.inside.conn c.told.new.self.conn c.heads-answer.new.conn k
     c.told.result _ (ap (λ (o : Opened g.row.S.Denot). o.conn) c.self.view_is)
     c.told.ensures.conn c.told.ensures.answer (c.heads-answer.ensures.done k) h clean
+
+pub returns-clause-looks : goal.returns-clause-looks
+returns-clause-looks g c =
+    looks_call g.S.Store c.heads-answer.new.conn c.heads-answer.result c.told.result c.self.view_is
+    c.told.ensures.conn c.told.ensures.answer c.told.ensures.counted c.heads-answer.ensures.looks
+    (λ db o m. g.met.S.Store.settled c.args.self.now.conn.store db o m)

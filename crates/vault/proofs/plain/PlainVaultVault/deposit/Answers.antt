@@ -1,9 +1,9 @@
 -- A deposit is refused, or accepted, or memory for it is refused.
-use Rattle.std.proofs.Common.{◌∙◌, sym}
+use Rattle.std.proofs.Common.{◌∙◌, sym, rules}
 use Rattle.vault.specs.contracts.plain.PlainVault.{the_view}
 use Rattle.vault.specs.declared.fault.VaultFault.TheVariants as fault
 use Rattle.vault.proofs.DepositLemmas.{deposit_refused, deposit_accepted, deposit_unkept, deposit_left, judged_by, refused_as, ok_new}
-use Rattle.vault.proofs.StopLemmas.{left_deposited}
+use Rattle.vault.proofs.StopLemmas.{commits_deposited}
 use Rattle.vault.proofs.plain.PlainVaultVault.deposit.Goals as goal
 
 pub returns-in_err-uid-clause-done : goal.returns-in_err-uid-clause-done
@@ -34,14 +34,17 @@ returns-in_ok-accept-in-New-clause-done c = λ b held clean.
     (deposit_left c.args.maildrop.now c.args.class.now c.args.id.now c.args.text.now c.ask-asked.result.maildrop c.ask-asked.result.class c.ask-asked.result.id
     c.in-New.uid.k _ _ (the_view c.self.inside) asked.maildrop asked.class asked.id c.in_ok-accept-in-New.ensures.messages c.in_ok-accept-in-New.ensures.deposits)
 
-pub returns-in_err-uid-clause-stop : goal.returns-in_err-uid-clause-stop
-returns-in_err-uid-clause-stop c b clean up held left may =
-    left_deposited _ b left c.args.maildrop.now c.args.class.now c.args.id.now c.args.text.now _ may (returns-in_err-uid-clause-done c b held clean)
+pub returns-in_err-uid-clause-commits : goal.returns-in_err-uid-clause-commits
+returns-in_err-uid-clause-commits c =
+    commits_deposited _ _ c.args.maildrop.now c.args.class.now c.args.id.now c.args.text.now _
+    (search rules) (returns-in_err-uid-clause-done c)
 
-pub returns-in_err-accept-in-New-clause-stop : goal.returns-in_err-accept-in-New-clause-stop
-returns-in_err-accept-in-New-clause-stop c b clean up held left may =
-    left_deposited _ b left c.args.maildrop.now c.args.class.now c.args.id.now c.args.text.now _ may (returns-in_err-accept-in-New-clause-done c b held clean)
+pub returns-in_err-accept-in-New-clause-commits : goal.returns-in_err-accept-in-New-clause-commits
+returns-in_err-accept-in-New-clause-commits c =
+    commits_deposited _ _ c.args.maildrop.now c.args.class.now c.args.id.now c.args.text.now _
+    (search rules) (returns-in_err-accept-in-New-clause-done c)
 
-pub returns-in_ok-accept-in-New-clause-stop : goal.returns-in_ok-accept-in-New-clause-stop
-returns-in_ok-accept-in-New-clause-stop c b clean up held left may =
-    left_deposited _ b left c.args.maildrop.now c.args.class.now c.args.id.now c.args.text.now _ may (returns-in_ok-accept-in-New-clause-done c b held clean)
+pub returns-in_ok-accept-in-New-clause-commits : goal.returns-in_ok-accept-in-New-clause-commits
+returns-in_ok-accept-in-New-clause-commits c =
+    commits_deposited _ _ c.args.maildrop.now c.args.class.now c.args.id.now c.args.text.now _
+    (search rules) (returns-in_ok-accept-in-New-clause-done c)

@@ -4,9 +4,3 @@ use Rattle.vault.proofs.refusing.RefusingVault.deposit.Goals as goal
 
 pub returns-clause-done : goal.returns-clause-done
 returns-clause-done g c = search rules
-
-pub returns-clause-up : goal.returns-clause-up
-returns-clause-up c = search rules
-
-pub returns-clause-stop : goal.returns-clause-stop
-returns-clause-stop c = search rules

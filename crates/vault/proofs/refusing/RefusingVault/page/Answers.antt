@@ -1,14 +1,16 @@
 -- The refused call leaves the vault inside as it was; any other leaves what that one leaves.
-use Rattle.std.proofs.Common.{sym, subst}
-use Rattle.vault.specs.Refusals.{Refusals}
+use Rattle.std.proofs.Common.{rules}
+use Rattle.vault.proofs.CallLemmas.{looks_none, looks_once}
+use Rattle.vault.proofs.RefusingLemmas.{looks_through}
 use Rattle.vault.proofs.refusing.RefusingVault.page.Goals as goal
 
-pub returns-then-is_due-clause-stop : goal.returns-then-is_due-clause-stop
-returns-then-is_due-clause-stop g c b clean up held left may =
-    g.met.V.Vault.settled c.self.inside.vault b clean (subst (λ (r : Refusals g.row.V.Denot). g.V.Vault.is_up r.vault) (sym c.self.view_is) up)
-    (subst (λ (r : Refusals g.row.V.Denot). g.V.Vault.holds r.vault b) (sym c.self.view_is) held) left may
+pub returns-then-is_due-clause-looks : goal.returns-then-is_due-clause-looks
+returns-then-is_due-clause-looks g c =
+    looks_through g.V.Vault _ _ _ _ c.self.view_is
+    (looks_none g.V.Vault c.self.inside.vault (g.met.V.Vault.settled c.self.inside.vault))
+    (search rules)
 
-pub returns-clause-stop : goal.returns-clause-stop
-returns-clause-stop g c b clean up held left may =
-    c.page.ensures.stop b clean (subst (λ (r : Refusals g.row.V.Denot). g.V.Vault.is_up r.vault) (sym c.self.view_is) up)
-    (subst (λ (r : Refusals g.row.V.Denot). g.V.Vault.holds r.vault b) (sym c.self.view_is) held) left may
+pub returns-clause-looks : goal.returns-clause-looks
+returns-clause-looks g c =
+    looks_through g.V.Vault _ _ _ _ c.self.view_is
+    (looks_once g.V.Vault c.page.ensures.looks (λ own. own)) (search rules)
