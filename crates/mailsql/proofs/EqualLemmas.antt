@@ -1,13 +1,16 @@
 -- What the tests of WHERE compare.
 use Rattle.std.proofs.Common.{◌≡◌, inl, inr, ℕ, ℤ, Bool, true, false, not, cond, List, [], ◌∷◌, map, filter, is_eq, refl, sym, ap, ◌∙◌}
 use Rattle.std.specs.Prelude.{bytes_eq}
+use Rattle.std.specs.Ordering.{int_cmp}
 use Rattle.std.proofs.lemmas.Cmp.{tied_itself}
 use Rattle.sqlite_value.specs.declared.value.Value.{Value}
 use Rattle.sqlite_value.specs.declared.value.Value.TheVariants.{Null, Int, Text}
 use Rattle.sqlite_value.specs.declared.keys.Collation.TheVariants.{Binary}
 use Rattle.sqlite_value.specs.Order.{Row, value_cmp, bytes}
 use Rattle.sqlite_value.proofs.OrderLemmas.{value_cmp-Int, value_cmp_total}
-use Rattle.sqlite_sql.specs.Ops.{binary}
+use Rattle.sqlite_sql.specs.Ops.{binary, is_true, test}
+use Rattle.sqlite_sql.specs.declared.ops.BinaryOp.TheVariants.{Compare}
+use Rattle.sqlite_sql.specs.declared.ops.CompareOp.{CompareOp}
 use Rattle.sqlite_schema.specs.Rules.{equal}
 use Rattle.sqlite_rules.specs.Lists.{Has}
 use Rattle.sqlite_rules.specs.Edit.{id_in}
@@ -31,6 +34,13 @@ column_text v name it = ap (λ x. equal Binary x (Text name)) it.1 ∙ text_equa
 
 pub column_int : (v : Value) (n : ℤ) → IsInt v → equal Binary v (Int n) ≡ same_int (id_in v) n
 column_int v n it = ap (λ x. equal Binary x (Int n)) it.1 ∙ int_equal it.0 n ∙ sym (ap (λ x. same_int (id_in x) n) it.1)
+
+int_test : (op : CompareOp) (a b : ℤ) → is_true (binary (Compare op Binary) (Int a) (Int b)) ≡ test op (int_cmp a b)
+unfolding binary
+int_test op a b = truth_back (test op (value_cmp (Int a) (Int b))) ∙ ap (test op) (value_cmp-Int a b)
+
+pub column_test : (op : CompareOp) (v : Value) (n : ℤ) → IsInt v → is_true (binary (Compare op Binary) v (Int n)) ≡ test op (int_cmp (id_in v) n)
+column_test op v n it = ap (λ x. is_true (binary (Compare op Binary) x (Int n))) it.1 ∙ int_test op it.0 n ∙ sym (ap (λ x. test op (int_cmp (id_in x) n)) it.1)
 
 -- what is left of the rows is what is left of the records
 pub kept_map : {X : Type 0} (f : Row → X) (p : Row → Bool) (q : X → Bool) (rows : List Row) → ((r : Row) → Has rows r → p r ≡ q (f r)) → map f (filter (λ r. not (p r)) rows) ≡ filter (λ x. not (q x)) (map f rows)

@@ -26,7 +26,8 @@ use Rattle.mailsql.proofs.FrameLemmas.{framed, kept_framed}
 use Rattle.mailsql.proofs.CastLemmas.{cast_null, cast_int}
 use Rattle.mailsql.proofs.StateLemmas.{changes, commits}
 use Rattle.mailsql.proofs.TypedLemmas as typed
-use Rattle.mailsql.proofs.EqualLemmas.{column_int}
+use Rattle.mailsql.proofs.EqualLemmas.{column_int, column_test}
+use Rattle.sqlite_sql.specs.declared.ops.CompareOp.TheVariants.{Ge, Lt}
 use Rattle.mailsql.proofs.FindLemmas.{and_true}
 use Rattle.mailsql.proofs.ReadLemmas.{Asks, kept, sound, listed, everything_listed}
 
@@ -81,6 +82,19 @@ module _ (old new : State) (mail : ℤ) (place : ℤ) (rows : List Row) (tables 
       let ty = typed.sheets_typed old.now ours.0 (sound _ _ _ _ _ find_sheet_asks (λ c db. refl) old new _ rows tables h live) in
       listed _ _ _ _ _ find_sheet_asks (λ c db. refl) old new _ rows tables h m.sheet_of (λ r. m.sheet_of (Null ∷ r)) (m.is_sheet mail place) ours.1.1.1.1.1.1.1.1.1.0 (λ r. refl)
       (λ r has. let it = ty r has in ap₂ ◌&&◌ (column_int (column r 1) mail it.0) (and_true _ ∙ column_int (column r 2) place it.1))
+
+pub sheets_between_asks : (c : Bool) → Asks (schema_of c) st.sheets_between_text 15 st.sheets_between_terms st.sheet_columns st.sheet_names
+unfolding understood everything
+sheets_between_asks false = record { is = (refl, refl); plain = (refl, refl) }
+sheets_between_asks true = record { is = (refl, refl); plain = (refl, refl) }
+
+module _ (old new : State) (mail from end : ℤ) (rows : List Row) (tables : m.HasTables old) (h : Shown st.sheets_between_text (Int mail ∷ Int from ∷ Int end ∷ []) old new rows) where
+  pub sheets_between_shows : IsLive old → map (λ r. m.sheet_of (Null ∷ r)) rows ≡ filter (m.is_sheet_between mail from end) (rows_in old.now.trees).sheets
+  sheets_between_shows live =
+      let ours = kept _ _ _ _ _ sheets_between_asks (λ c db. refl) old new _ rows tables h in
+      let ty = typed.sheets_typed old.now ours.0 (sound _ _ _ _ _ sheets_between_asks (λ c db. refl) old new _ rows tables h live) in
+      listed _ _ _ _ _ sheets_between_asks (λ c db. refl) old new _ rows tables h m.sheet_of (λ r. m.sheet_of (Null ∷ r)) (m.is_sheet_between mail from end) ours.1.1.1.1.1.1.1.1.1.0 (λ r. refl)
+      (λ r has. let it = ty r has in ap₂ ◌&&◌ (column_int (column r 1) mail it.0) (ap₂ ◌&&◌ (column_test Ge (column r 2) from it.1) (and_true _ ∙ column_test Lt (column r 2) end it.1)))
 
 pub all_sheets_asks : (c : Bool) → Asks (schema_of c) st.all_sheets_text 15 [] st.sheet_columns st.sheet_names
 unfolding understood everything

@@ -5,7 +5,7 @@ use Rattle.sqlite_value.specs.declared.keys.Key.{Key}
 use Rattle.sqlite_value.specs.declared.value.Value.TheVariants.{Null, Int}
 use Rattle.sqlite_value.specs.Keys.{ascending}
 use Rattle.sqlite_sql.specs.declared.ops.BinaryOp.TheVariants.{Compare}
-use Rattle.sqlite_sql.specs.declared.ops.CompareOp.TheVariants.{Eq}
+use Rattle.sqlite_sql.specs.declared.ops.CompareOp.TheVariants.{Eq, Ge, Lt}
 use Rattle.sqlite_sql.specs.declared.aggregate.AggregateOp.TheVariants as aggregate
 use Rattle.sqlite_sql.specs.Term.{Term, lit, col, op2}
 use Rattle.sqlite_sql.specs.Group.{Grouping}
@@ -14,7 +14,7 @@ use Rattle.sqlite_schema.specs.declared.command.Command.{Command}
 use Rattle.sqlite_schema.specs.declared.command.Command.TheVariants.{Select, Insert}
 use Rattle.sqlite_schema.specs.declared.command.Source.TheVariants.{Values}
 use Rattle.mailsql.specs.Tables.{mail_tree, mail_place}
-pub use Rattle.mailsql.specs.Statements.{add_mark_text, drop_mark_text, find_mark_text, all_marks_text, add_clerk_text, drop_clerk_text, find_clerk_text, all_clerks_text, clerk_count_text, add_maildrop_text, drop_maildrop_text, find_maildrop_text, all_maildrops_text, maildrops_text, maildrop_count_text, add_count_text, clear_count_text, find_count_text, all_counts_text, add_deposit_text, find_deposit_text, all_deposits_text, add_message_text, add_keyed_text, remove_message_text, heads_text, all_messages_text, message_count_text, add_sheet_text, find_sheet_text, all_sheets_text, sheet_count_text, add_rule_text, clear_rules_text, all_rules_text, add_group_text, clear_groups_text, all_groups_text, add_member_text, members_text, all_members_text, old_messages_text, find_body_text, clear_bodies_text, all_sequences_text}
+pub use Rattle.mailsql.specs.Statements.{add_mark_text, drop_mark_text, find_mark_text, all_marks_text, add_clerk_text, drop_clerk_text, find_clerk_text, all_clerks_text, clerk_count_text, add_maildrop_text, drop_maildrop_text, find_maildrop_text, all_maildrops_text, maildrops_text, maildrop_count_text, add_count_text, clear_count_text, find_count_text, all_counts_text, add_deposit_text, find_deposit_text, all_deposits_text, add_message_text, add_keyed_text, remove_message_text, heads_text, all_messages_text, message_count_text, add_sheet_text, find_sheet_text, sheets_between_text, all_sheets_text, sheet_count_text, add_rule_text, clear_rules_text, all_rules_text, add_group_text, clear_groups_text, all_groups_text, add_member_text, members_text, all_members_text, old_messages_text, find_body_text, clear_bodies_text, all_sequences_text}
 
 abbrev pub query_of : Join → List Term → List Term → List (Term × Key) → Query
 query_of from filter project order = record {
@@ -191,6 +191,11 @@ add_sheet_command = Insert 8 (Values (lit Null ∷ col 0 0 ∷ col 0 1 ∷ col 0
 
 abbrev pub find_sheet_terms : List Term
 find_sheet_terms = eq (col 1 1) (col 0 0) ∷ eq (col 1 2) (col 0 1) ∷ []
+
+abbrev pub sheets_between_terms : List Term
+sheets_between_terms =
+    eq (col 1 1) (col 0 0) ∷ op2 (Compare Ge Binary) (col 1 2) (col 0 1)
+    ∷ op2 (Compare Lt Binary) (col 1 2) (col 0 2) ∷ []
 
 abbrev pub sheet_count_terms : List Term
 sheet_count_terms = []

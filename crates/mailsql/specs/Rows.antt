@@ -1,6 +1,6 @@
 -- What a statement does to the typed rows of a store, what an error leaves of them, and what a stop may leave.
 use Rattle.std.specs.Prelude.{◌≡◌, ◌⊎◌, ℤ, Bool, true, false, List, [], if◌then◌else◌, IsTrue, bytes_eq, ◌&&◌}
-use Rattle.std.specs.Ordering.{is_eq, int_cmp, nat_cmp, on}
+use Rattle.std.specs.Ordering.{is_eq, is_lt, is_ge, int_cmp, nat_cmp, on}
 use Rattle.std.specs.Cmp.Lexicographic.{slice_cmp}
 use Rattle.std.specs.List.{list_any, AllByRecursion}
 use Rattle.std.specs.List.Sorted.{IsPermutation, IsSorted}
@@ -165,6 +165,11 @@ is_message key maildrop m = same_int m.key key && bytes_eq m.maildrop maildrop
 -- the sheet is the message's, at this place
 abbrev pub is_sheet : ℤ → ℤ → Sheet → Bool
 is_sheet mail place s = same_int s.mail mail && same_int s.place place
+
+-- the sheet is the message's, at a place from `from` on that is below `end`
+abbrev pub is_sheet_between : (mail from end : ℤ) → Sheet → Bool
+is_sheet_between mail from end s =
+    same_int s.mail mail && (is_ge (int_cmp s.place from) && is_lt (int_cmp s.place end))
 
 -- the sheet is of the message that has this key and is in the maildrop
 abbrev pub is_sheet_of : ℤ → Name → List Message → Sheet → Bool

@@ -149,6 +149,11 @@ add_sheet_text = codes "INSERT INTO sheets (mail, place, octets) VALUES (?1, ?2,
 abbrev pub find_sheet_text : List ℕ
 find_sheet_text = codes "SELECT mail, place, octets FROM sheets WHERE mail = ?1 AND place = ?2 ORDER BY rowid"
 
+-- reads the sheets of a message from a place on, up to another
+abbrev pub sheets_between_text : List ℕ
+sheets_between_text =
+    codes "SELECT mail, place, octets FROM sheets WHERE mail = ?1 AND place >= ?2 AND place < ?3 ORDER BY rowid"
+
 -- reads every sheet
 abbrev pub all_sheets_text : List ℕ
 all_sheets_text = codes "SELECT mail, place, octets FROM sheets ORDER BY rowid"

@@ -1,6 +1,6 @@
 //! The pages of the messages, each of 1 to 4,096 octets.
 
-ghost use Rattle.std.specs.Prelude.{◌≡◌, ◌<◌, pos, IsTrue, min, length, IfOk, IfErr, OnOk, OnErr, [], ◌∷◌};
+ghost use Rattle.std.specs.Prelude.{◌≡◌, ◌<◌, pos, IsTrue, min, length, filter, IfOk, IfErr, OnOk, OnErr, [], ◌∷◌};
 ghost use Rattle.std.specs.List.{find};
 ghost use Rattle.sqlite.specs.Held.{state};
 ghost use Rattle.sqlite.specs.State.{HasCleanDisk, IsUnchanged, Survives};
@@ -11,7 +11,7 @@ ghost use Rattle.mailsql.specs.Sheets as cut;
 ghost use Rattle.mailsql.specs.Sheets.{SheetsAreTheText};
 ghost use Rattle.sqlite_value.specs.declared.value.Value.TheVariants.{Int, Blob};
 ghost use Rattle.mailsql.specs.Errors.{FailsToRun, FailsToAddSheets, FailsToRead, FailsToCount};
-ghost use Rattle.mailsql.specs.Statements.{add_sheet_text, find_sheet_text, all_sheets_text, sheet_count_text};
+ghost use Rattle.mailsql.specs.Statements.{add_sheet_text, find_sheet_text, sheets_between_text, all_sheets_text, sheet_count_text};
 
 use crate::rows::Sheet;
 use crate::run::{count, first, list, run};
@@ -109,6 +109,36 @@ pub fn find_sheet<S: Alter>(
         conn,
         "SELECT mail, place, octets FROM sheets WHERE mail = ?1 AND place = ?2 ORDER BY rowid",
         &[ValueRef::Int(mail), ValueRef::Int(place)],
+    )
+}
+
+/// The pages of the message at the places from `from` on that are below `end`, in the order of
+/// adding.
+pub fn sheets_between<S: Alter>(
+    alloc: Global,
+    conn: &mut Connection<S>,
+    mail: i64,
+    from: i64,
+    end: i64,
+) -> Result<Vec<Sheet>, Error>
+    ensures ok { HasCleanDisk (state S.Store conn.new) → HasTables (state S.Store conn.old)
+        → IfOk result (λ found. found.items ≡ filter (rows.is_sheet_between mail from end)
+        (rows_in (state S.Store conn.old).now.trees).sheets) }
+    ensures same { HasCleanDisk (state S.Store conn.new) → HasTables (state S.Store conn.old)
+        → OnOk result (IsUnchanged (state S.Store conn.old) (state S.Store conn.new)) }
+    ensures err { HasCleanDisk (state S.Store conn.new) → HasTables (state S.Store conn.old)
+        → OnErr result (IsUndone (state S.Store conn.old) (state S.Store conn.new)) }
+    ensures cause { HasCleanDisk (state S.Store conn.new) → HasTables (state S.Store conn.old)
+        → IfErr result (FailsToRead sheets_between_text (Int mail ∷ Int from ∷ Int end ∷ [])
+        (state S.Store conn.old) (state S.Store conn.new)) }
+    ensures survives { Survives (state S.Store conn.old) (state S.Store conn.new)
+        (λ _. ¬ IsOurs (state S.Store conn.old).now) }
+{
+    list(
+        alloc,
+        conn,
+        "SELECT mail, place, octets FROM sheets WHERE mail = ?1 AND place >= ?2 AND place < ?3 ORDER BY rowid",
+        &[ValueRef::Int(mail), ValueRef::Int(from), ValueRef::Int(end)],
     )
 }
 

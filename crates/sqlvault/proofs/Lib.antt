@@ -9,6 +9,7 @@ pub mod MaildropLemmas
 pub mod DepositLemmas
 pub mod HeadLemmas
 pub mod PageLemmas
+pub mod CopyLemmas
 pub mod RemoveLemmas
 pub mod GroupLemmas
 pub mod RuleLemmas

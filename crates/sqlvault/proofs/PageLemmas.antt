@@ -1,9 +1,11 @@
 -- Sheets as the octets of a text.
-use Rattle.std.proofs.Common.{◌≡◌, ◌⊎◌, inl, inr, ℕ, zero, suc, ◌+◌, ◌*◌, ◌-◌, ◌/◌, ◌%◌, ◌<◌, ◌≤◌, ◌^◌, min, ℤ, pos, negsuc, Bool, true, false, not, List, [], ◌∷◌, length, take, drop, map, Some, None, refl, sym, ap, subst, ◌∙◌, arith, ⊎_elim, true≢false, length-take, length-drop}
+use Rattle.std.proofs.Common.{◌≡◌, ◌⊎◌, inl, inr, ℕ, zero, suc, ◌+◌, ◌*◌, ◌-◌, ◌/◌, ◌%◌, ◌<◌, ◌≤◌, ◌^◌, min, ℤ, pos, negsuc, Bool, true, false, not, List, [], ◌∷◌, length, take, drop, map, filter, Option, Some, None, is_lt, is_ge, int_cmp, refl, sym, ap, subst, ◌∙◌, arith, ⊎_elim, true≢false, length-take, length-drop}
 use Rattle.std.proofs.lemmas.List.{take-take, drop-drop, drop-take}
-use Rattle.std.specs.Prelude.{◌||◌, ◌==◌, nat_lt, flat_map, unwrap_or, is_some}
+use Rattle.std.specs.Prelude.{◌&&◌, ◌||◌, ◌==◌, nat_lt, flat_map, unwrap_or, is_some}
 use Rattle.std.specs.Option.{option_map}
 use Rattle.std.specs.List.{find, list_any, range_with_len, AllByRecursion}
+use Rattle.std.proofs.lemmas.Bool.Decides.{nat_tests}
+use Rattle.std.proofs.lemmas.Int.{ints}
 use Rattle.std.proofs.lemmas.Bool.{cases_Bool, cases_lt, and_parts}
 use Rattle.std.proofs.lemmas.Grind.{div_ceil_times}
 use Rattle.std.proofs.lemmas.List.Concat.{flat_map-cons}
@@ -15,13 +17,15 @@ use Rattle.policy.specs.Policy.{are_distinct}
 use Rattle.vault.specs.declared.record.Keyed.{Keyed}
 use Rattle.vault.specs.Changes.{Contents, IsPage}
 use Rattle.vault.specs.Calls.{text_under}
-use Rattle.vault.proofs.ListLemmas.{In, all_in}
+use Rattle.vault.proofs.ListLemmas.{In, all_in, find-filter}
 use Rattle.mailsql.specs.declared.rows.Sheet.{Sheet}
 use Rattle.mailsql.specs.Columns.{Rows}
-use Rattle.mailsql.specs.Rows.{is_sheet, same_int}
+use Rattle.mailsql.specs.Rows.{is_sheet, is_sheet_between, same_int}
 use Rattle.mailsql.specs.Sheets.{sheet_count, sheets_of, sheet_at, octets_at, IsCut}
 use Rattle.mailsql.proofs.CutLemmas.{sheets_are_the_text}
 use Rattle.sqlvault.specs.Keeps.{Keeps, row_key, message_sheets}
+use Rattle.sqlvault.specs.Pages.{is_at, octets_from}
+use Rattle.sqlvault.proofs.CopyLemmas.{IsPart, parts_are}
 use Rattle.sqlvault.proofs.RemoveLemmas.{int_same, num_same, num_itself, low, key_told, only_one}
 
 -- ---- the message under a key
@@ -120,6 +124,40 @@ module _ (key place : ℕ) (rows : Rows) (c : Contents) (fits : key < 2 ^ 64) (k
       go (inl there) = absurd (clash there)
       go (inr beyond) = beyond
 
+-- ---- the sheets of consecutive places
+
+narrow : (m x b : Bool) → (b ≡ true → x ≡ true) → ((m && x) && b) ≡ (m && b)
+narrow true x true h = rw (h refl) refl
+narrow true true false h = refl
+narrow true false false h = refl
+narrow false x b h = refl
+
+inside : (first place end : ℕ) → first ≤ place → place < end → (is_ge (int_cmp (pos place) (pos first)) && is_lt (int_cmp (pos place) (pos end))) ≡ true
+inside first place end above below = grind (arith, ints, nat_tests)
+
+-- a sheet between two places that is at one of them is the message's at that place
+at_place : (mail : ℤ) (first place end : ℕ) → first ≤ place → place < end → (s : Sheet) → (is_sheet_between mail (pos first) (pos end) s && is_at (pos place) s) ≡ is_sheet mail (pos place) s
+at_place mail first place end above below s =
+    narrow (same_int s.mail mail) (is_ge (int_cmp s.place (pos first)) && is_lt (int_cmp s.place (pos end))) (same_int s.place (pos place))
+    (λ t. subst (λ z. (is_ge (int_cmp z (pos first)) && is_lt (int_cmp z (pos end))) ≡ true) (sym (int_same s.place (pos place) t)) (inside first place end above below))
+
+found_at : (mail : ℤ) (first place end : ℕ) (sheets : List Sheet) → first ≤ place → place < end
+    → find (is_at (pos place)) (filter (is_sheet_between mail (pos first) (pos end)) sheets) ≡ find (is_sheet mail (pos place)) sheets
+found_at mail first place end sheets above below =
+    find-filter (is_sheet_between mail (pos first) (pos end)) (is_at (pos place)) sheets ∙ (λ i. find (λ s. at_place mail first place end above below s i) sheets)
+
+module _ (key : ℕ) (rows : Rows) (c : Contents) (fits : key < 2 ^ 64) (keeps : Keeps rows c) where
+  part_at : (place : ℕ) (o : Option Sheet) → o ≡ find (is_sheet (row_key key) (pos place)) rows.sheets → IsPart 4096 (text_under key c.messages) place o
+  part_at place (Some s) found = sheet_read key place rows c fits keeps s found
+  part_at place None none =
+      let beyond = no_sheet key place rows c fits keeps none in
+      omega (arith, ends (text_under key c.messages), beyond)
+
+  pub run_read : (first end : ℕ) → first ≤ end → octets_from (end - first) (filter (is_sheet_between (row_key key) (pos first) (pos end)) rows.sheets) first ≡ take ((end - first) * 4096) (drop (first * 4096) (text_under key c.messages))
+  run_read first end le =
+      let found = filter (is_sheet_between (row_key key) (pos first) (pos end)) rows.sheets in
+      parts_are 4096 first end (text_under key c.messages) found (λ place above below. part_at place (find (is_at (pos place)) found) (found_at (row_key key) first place end rows.sheets above below)) (end - first) first (omega arith) (omega (arith, le))
+
 -- ---- the page
 
 -- so many octets of a sheet, from a place in it on, are a page of the text
@@ -141,15 +179,9 @@ page_of text from start rest size n octets buffer at inside octets_are count cop
       },
     )
 
-pub page_at : (text : List ℕ) (from n : ℕ) (octets buffer : List ℕ) → octets ≡ octets_at text (from / 4096) → n ≡ min (length octets - from % 4096) (length buffer)
-    → take n buffer ≡ take n (drop (from % 4096) octets) → (n ≤ length buffer) × IsPage text from (length buffer) (take n buffer)
-page_at text from n octets buffer = page_of text from (from / 4096 * 4096) (from % 4096) 4096 n octets buffer (omega arith) (omega arith)
-
--- behind the last sheet there is nothing
-pub no_page : (text : List ℕ) (from : ℕ) (buffer : List ℕ) → sheet_count text ≤ from / 4096 → (0 ≤ length buffer) × IsPage text from (length buffer) (take 0 buffer)
-no_page text from buffer beyond =
-    let over : length text ≤ from = omega (arith, ends text, beyond) in
-    (omega arith, record { next = refl; fits = omega arith; goes_on = λ more room. absurd (omega (arith, more, over)) })
+pub pages_at : (text : List ℕ) (from n m : ℕ) (run buffer : List ℕ) → 0 < m → run ≡ take (m * 4096) (drop (from / 4096 * 4096) text)
+    → n ≡ min (length run - from % 4096) (length buffer) → take n buffer ≡ take n (drop (from % 4096) run) → (n ≤ length buffer) × IsPage text from (length buffer) (take n buffer)
+pages_at text from n m run buffer some = page_of text from (from / 4096 * 4096) (from % 4096) (m * 4096) n run buffer (omega arith) (omega (arith, some))
 
 pub low_place : (from : ℕ) → from < 2 ^ 64 → from / 4096 < 2 ^ 63
 low_place from low = omega (arith, low)

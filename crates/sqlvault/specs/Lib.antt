@@ -16,3 +16,4 @@ pub mod Uses
 pub mod Moves
 pub mod Carries
 pub mod Again
+pub mod Pages

@@ -1,5 +1,7 @@
 //! The pages of a message.
-ghost use Rattle.std.specs.Prelude.{◌≡◌, ◌<◌, ◌≤◌, length, take, drop, min, ◌-◌};
+ghost use Rattle.std.specs.Prelude.{◌≡◌, ◌<◌, ◌≤◌, ◌^◌, ◌-◌, length, take, drop, min};
+ghost use Rattle.std.specs.Prelude.{option_copied};
+ghost use Rattle.std.specs.List.{find};
 ghost use Rattle.sqlite.specs.Held.{state};
 ghost use Rattle.sqlite.specs.State.{HasCleanDisk};
 ghost use Rattle.vault.specs.Changes.{Contents};
@@ -7,8 +9,10 @@ ghost use Rattle.vault.specs.Calls.{IsPaged};
 ghost use Rattle.sqlvault.specs.Refusals.{answer_of};
 ghost use Rattle.sqlvault.specs.Stands.{Holds};
 ghost use Rattle.sqlvault.specs.Frame.{IsMet, Looks};
+ghost use Rattle.sqlvault.specs.Pages.{is_at, octets_from};
 
 use crate::refusal::Refusal;
+use mailsql::rows::Sheet;
 use mailsql::sheets::{self, SHEET_OCTETS};
 use sqlite::{Alter, Connection};
 use std::alloc::Global;
@@ -29,9 +33,50 @@ fn copy_from(octets: &[u8], from: usize, buffer: &mut [u8]) -> usize
     count
 }
 
-/// Reads octets of a message, from place `from` on, into the front of the buffer. Answers how many:
-/// 1 to 4,096, all of one sheet; or 0 where none is left, the buffer is empty or the key is
-/// unknown. Nothing is changed.
+/// At most so many sheets are read by one statement.
+const MOST_SHEETS: u64 = 16;
+
+/// How many sheets are read for a buffer of this length.
+fn sheets_for(room: usize) -> u64
+    ensures some { 0 < result }
+    ensures few { result ≤ MOST_SHEETS }
+{
+    (room.div_ceil(SHEET_OCTETS) as u64).max(1).min(MOST_SHEETS)
+}
+
+/// The sheet at this place, if it is one of these.
+fn sheet_at(sheets: &[Sheet], place: i64) -> Option<&Sheet>
+    ensures { option_copied result ≡ find (is_at place) sheets.now }
+{
+    sheets.iter().find(|sheet| sheet.place == place)
+}
+
+/// Copies the octets of the sheets at the places from `first` on that are below `end`, without the
+/// first `skip` octets, into the front of the buffer, as many as there are and fit. The first place
+/// that has no sheet ends them. Answers how many.
+fn copy_sheets(sheets: &[Sheet], first: u64, end: u64, skip: usize, buffer: &mut [u8]) -> usize
+    requires { end < 2 ^ 63 }
+    ensures count { result ≡ min (length (octets_from (end - first) sheets.now first) - skip)
+        (length buffer.new) }
+    ensures copied { take result buffer.new
+        ≡ take result (drop skip (octets_from (end - first) sheets.now first)) }
+{
+    let mut left = skip;
+    let mut put = 0;
+    for place in first..end {
+        let Some(sheet) = sheet_at(sheets, place as i64) else {
+            return put;
+        };
+        let octets = sheet.octets.as_slice();
+        put += copy_from(octets, left, &mut buffer[put..]);
+        left = left.saturating_sub(octets.len());
+    }
+    put
+}
+
+/// Reads octets of a message, from place `from` on, into the front of the buffer, by one statement.
+/// Answers how many: those of up to 16 sheets that fit; 0 only where none is left, the buffer is
+/// empty or the key is unknown. Nothing is changed.
 ///
 /// An `Err` is the error that the query met.
 pub(crate) fn page<S: Alter>(
@@ -48,13 +93,16 @@ pub(crate) fn page<S: Alter>(
 {
     let sheet_octets = SHEET_OCTETS as u64;
     let mail = key.number().cast_signed();
-    match sheets::find_sheet(alloc, conn, mail, (from / sheet_octets) as i64) {
-        Ok(Some(sheet)) => Ok(copy_from(
-            sheet.octets.as_slice(),
+    let first = from / sheet_octets;
+    let end = first + sheets_for(buffer.len());
+    match sheets::sheets_between(alloc, conn, mail, first as i64, end as i64) {
+        Ok(found) => Ok(copy_sheets(
+            found.as_slice(),
+            first,
+            end,
             (from % sheet_octets) as usize,
             buffer,
         )),
-        Ok(None) => Ok(0),
         Err(error) => Err(Refusal::Met(error)),
     }
 }
