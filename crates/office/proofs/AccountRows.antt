@@ -1,21 +1,23 @@
--- Worked rows of accounts: which lines are told as logins, and how they were judged.
-use Rattle.std.specs.Prelude.{◌≡◌, ℕ, List, [], ◌∷◌, refl, codes}
+-- Worked rows of accounts: which lines are told as logins, and how they were judged; which lines mark, and what a QUIT removed.
+use Rattle.std.specs.Prelude.{◌≡◌, ℕ, true, List, [], ◌∷◌, ◌++◌, Some, refl, codes}
 use Rattle.std.specs.Fmt.{digits}
 use Rattle.creds.specs.LoginName.{login_name}
 use Rattle.creds.specs.declared.login_name.LoginName.{LoginName}
 use Rattle.hex.specs.Hex.{decode_pairs}
+use Rattle.mailtext.specs.Text.{line_end}
 use Rattle.md5.specs.Md5 as M
 use Rattle.md5.specs.Md5.{md5}
 use Rattle.popline.specs.Cutting as cutting
 use Rattle.session.specs.declared.removals.Removals.TheVariants.{JudgedAtDele}
 use Rattle.office.specs.History.{Act, Open, Line, Restart, Tag, Done, Failed, NoMemory}
 use Rattle.office.specs.Told.{told}
-use Rattle.office.specs.Accounts.{acts_account}
+use Rattle.office.specs.Events.{Bytes, Tagged, Trace}
+use Rattle.office.specs.Accounts.{account_of, acts_account}
 use Rattle.office.specs.declared.account.Account.{Account}
-use Rattle.office.specs.declared.account.Account.TheVariants.{Nothing, Login}
+use Rattle.office.specs.declared.account.Account.TheVariants.{Nothing, Login, NoName, Marked, Unmarked, Quit, QuitBeforeLogin}
 use Rattle.office.specs.declared.account.Way.TheVariants as way
 use Rattle.office.specs.declared.account.Verdict.TheVariants as judged
-use Rattle.office.proofs.Sample.{W}
+use Rattle.office.proofs.Sample.{W, Step, shows, run_judged_at_quit, connect, says, as_bob}
 
 abbrev line : List ℕ → Tag → Act × Tag
 line octets t = (Line 1896 (cutting.Line octets), t)
@@ -66,3 +68,35 @@ login_in_a_session = refl
 name_is_no_login : account_behind opened (codes "USER mrose/orders") Done ≡ Nothing
 unfolding digits login_name decode_pairs md5 M.digest_bytes M.hash_after M.compress M.rounds M.block_words
 name_is_no_login = refl
+
+-- arguments that are no login name, or no digest
+name_of_no_form : account_behind opened (codes "USER mrose") Done ≡ NoName
+unfolding digits login_name decode_pairs md5 M.digest_bytes M.hash_after M.compress M.rounds M.block_words
+name_of_no_form = refl
+
+digest_of_no_form : account_behind opened (codes "APOP mrose/orders c4c9") Done ≡ NoName
+unfolding digits login_name decode_pairs md5 M.digest_bytes M.hash_after M.compress M.rounds M.block_words
+digest_of_no_form = refl
+
+password_of_no_form : account_behind (line (codes "USER mrose/orders") Done ∷ opened) (codes "PASS") Done ≡ Nothing
+unfolding digits login_name decode_pairs md5 M.digest_bytes M.hash_after M.compress M.rounds M.block_words
+password_of_no_form = refl
+
+quit_before_a_login : account_behind opened (codes "QUIT") Done ≡ QuitBeforeLogin
+unfolding digits login_name decode_pairs md5 M.digest_bytes M.hash_after M.compress M.rounds M.block_words
+quit_before_a_login = refl
+
+-- bob marks message 3, which he may not remove, and message 2
+abbrev bob_marks : List Step
+bob_marks = connect 1 ++ says 1 (as_bob ++ codes "DELE 3" ∷ codes "DELE 2" ∷ [])
+
+-- the account of the next line
+abbrev next : Trace → List ℕ → Account
+next T octets = account_of T (Bytes 1 (octets ++ line_end)) (Tagged Done)
+
+-- his QUIT, a first and a second mark, a reset, and a name that is out of place
+lines_of_a_session : shows (run_judged_at_quit bob_marks) (λ T. next T (codes "QUIT") ∷ next T (codes "DELE 1") ∷ next T (codes "DELE 2") ∷ next T (codes "RSET") ∷ next T (codes "USER bob") ∷ [])
+    ≡ Quit (record { name = record { clerk = codes "bob"; maildrop = codes "orders" }; marked = 2; messages = 1; denied = Some (codes "default"); is_done = true })
+    ∷ Marked ∷ Nothing ∷ Unmarked ∷ Nothing ∷ []
+unfolding digits login_name decode_pairs md5 M.digest_bytes M.hash_after M.compress M.rounds M.block_words
+lines_of_a_session = refl

@@ -4,8 +4,10 @@ use Rattle.creds.specs.declared.login_name.LoginName.{LoginName}
 use Rattle.policy.specs.Policy.{Policy}
 use Rattle.popline.specs.Cutting.{Cut, TooLong}
 use Rattle.popline.specs.Cutting as cutting
-use Rattle.popline.specs.Commands.{Command, Pass, Apop, Quit, command_of}
+use Rattle.popline.specs.Commands.{Command, Pass, Quit, command_of}
+use Rattle.popline.specs.declared.command.Keyword.TheVariants as keyword
 use Rattle.popline.specs.declared.command.LineFault.{LineFault}
+use Rattle.popline.specs.declared.command.LineFault.TheVariants.{Unknown, Syntax}
 use Rattle.popline.specs.Replies.{Reply}
 use Rattle.vault.specs.Records.{Records}
 use Rattle.vault.specs.Changes.{Contents}
@@ -20,86 +22,93 @@ use Rattle.office.specs.Events as event
 use Rattle.office.specs.Answers.{AdminCommand}
 use Rattle.office.specs.Trace.{history, idle_acts, idle_numbers, acts_of_piece, acts_of_took, line_act}
 use Rattle.office.specs.Kept.{Desk, asks}
-use Rattle.office.specs.Sitting.{Sitting, LiesIn, sitting_of, said_inside, refused_reading, asks_inside, reply_inside}
+use Rattle.office.specs.Sitting.{Sitting, LiesIn, sitting_of, said_inside, answered_inside, refused_reading, asks_inside, reply_inside}
+use Rattle.office.specs.Telling.{is_told}
 use Rattle.office.specs.Answered.{reply_of, tag_of, IsSeated}
-use Rattle.office.specs.Accounts.{verdict, login_judged, line_account, quit_or, quit_account, removal_by, line_told, acts_account, account_of, removal_told, removal_seen, seated_account}
-use Rattle.office.specs.declared.account.Verdict.{Verdict}
+use Rattle.office.specs.Accounts.{command_account, fault_told, line_account, inside_account, quit_or, quit_account, removal_by, line_told, acts_account, account_of, removal_told, removal_seen, seated_account}
 use Rattle.office.specs.declared.account.Account.{Account}
 use Rattle.office.specs.declared.account.Account.TheVariants as account
 use Rattle.office.specs.declared.account.Removal.{Removal}
 use Rattle.office.specs.declared.talk.Talk.{Talk}
 use Rattle.office.specs.declared.talk.Acted.{Acted}
 use Rattle.office.specs.declared.talk.Acted.TheVariants as acted
-use Rattle.office.proofs.Quitting.{counted_alike, denying_alike}
+use Rattle.office.proofs.Quitting.{counted_alike, denying_alike, marks_counted}
 use Rattle.office.proofs.Judging.{Judges}
 
 -- ---- a session's lines
 
-abbrev is_login : Result Command LineFault → Bool
-is_login (Ok (Pass password)) = true
-is_login (Ok (Apop name digest)) = true
-is_login _ = false
+abbrev is_pass : Result Command LineFault → Bool
+is_pass (Ok (Pass password)) = true
+is_pass _ = false
 
-not_login : (o : Option Verdict) (r : Result Command LineFault) (u : Option LoginName) → is_login r ≡ false → login_judged o r u ≡ account.Nothing
-not_login None r u e = refl
-not_login (Some judged) (Ok (Pass password)) u e = absurd (true≢false e)
-not_login (Some judged) (Ok (Apop name digest)) u e = absurd (true≢false e)
-not_login (Some judged) _ u e = refl
+-- only a PASS is told under the name in force
+nobody_named : (r : Result Command LineFault) (said : Said) (u : Option LoginName) → is_pass r ≡ false → line_account r said None ≡ line_account r said u
+nobody_named (Ok (Pass password)) said u e = absurd (true≢false e)
+nobody_named _ said u e = refl
 
 module _ (p : Policy) (v : Sitting) (u : Option LoginName) where
-  login_refused : (r : Result Command LineFault) → is_login r ≡ true → line_account r (Says (said_inside p v r)) u ≡ account.Nothing
-  login_refused (Ok (Pass password)) e = refl
-  login_refused (Ok (Apop name digest)) e = refl
-  login_refused _ e = absurd (true≢false (sym e))
+  told_read : (r : Result Command LineFault) → line_account r (Says (said_inside p v r)) None ≡ line_account r (Says (said_inside p v r)) u
+  told_read (Ok (Pass password)) = refl
+  told_read _ = refl
 
-  told_read : (r : Result Command LineFault) → line_account r (Says (said_inside p v r)) u ≡ account.Nothing
-  told_read r = at (is_login r) refl
-    where
-      at : (b : Bool) → is_login r ≡ b → line_account r (Says (said_inside p v r)) u ≡ account.Nothing
-      at true e = login_refused r e
-      at false e = not_login (verdict (Says (said_inside p v r))) r u e
+  asks_no_pass : (r : Result Command LineFault) → asks_inside p v r ≡ true → is_pass r ≡ false
+  asks_no_pass (Ok (Pass password)) e = cc
+  asks_no_pass _ e = refl
 
-  asks_no_login : (r : Result Command LineFault) → asks_inside p v r ≡ true → is_login r ≡ false
-  asks_no_login (Ok (Pass password)) e = cc
-  asks_no_login (Ok (Apop name digest)) e = cc
-  asks_no_login _ e = refl
-
-  -- no line of a session judges a login
-  pub told_inside : (w : Acted) (x : Cut) → (w ≡ acted.Failed → asks_inside p v (reading x) ≡ true) → line_account (reading x) (Says (reply_inside w p v x)) u ≡ account.Nothing
+  -- a line of a session is told the same under every name
+  pub told_inside : (w : Acted) (x : Cut) → (w ≡ acted.Failed → asks_inside p v (reading x) ≡ true)
+      → line_account (reading x) (Says (reply_inside w p v x)) None ≡ line_account (reading x) (Says (reply_inside w p v x)) u
   told_inside acted.Done TooLong may = refl
   told_inside acted.Done (cutting.Line l) may = told_read (command_of l)
-  told_inside acted.Failed x may = not_login (verdict (Says (refused_reading (reading x)))) (reading x) u (asks_no_login (reading x) (may refl))
+  told_inside acted.Failed x may = nobody_named (reading x) (Says (refused_reading (reading x))) u (asks_no_pass (reading x) (may refl))
 
--- a QUIT judges no login
-quits_no_login : (r : Result Command LineFault) (said : Said) (u : Option LoginName) → is_quit r ≡ true → line_account r said u ≡ account.Nothing
-quits_no_login (Ok (Pass password)) said u e = absurd (true≢false (sym e))
-quits_no_login (Ok (Apop name digest)) said u e = absurd (true≢false (sym e))
-quits_no_login (Ok Quit) said u e = not_login (verdict said) (Ok Quit) u refl
-quits_no_login _ said u e = absurd (true≢false (sym e))
+-- a misread line of a session names nobody
+pub fault_inside : (p : Policy) (v : Sitting) (f : LineFault) → fault_told f (Says (said_inside p v (Err f))) ≡ account.Nothing
+fault_inside p v Unknown = refl
+fault_inside p v (Syntax keyword.User) = refl
+fault_inside p v (Syntax keyword.Apop) = refl
+fault_inside p v (Syntax _) = refl
+
+-- a command whose reply is made without the store
+no_quit : (w : Acted) (p : Policy) (s : Session) (command : Command) (said : Said) → is_told command ≡ true → inside_account w p s (Ok command) said ≡ command_account command said None
+no_quit w p s Quit said is = absurd (true≢false (sym is))
+no_quit w p s _ said is = refl
+
+pub told_so : (p : Policy) (s : Session) (v : Sitting) (w : Acted) (command : Command) (reply : Reply) (told : Account) → is_told command ≡ true → w ≡ acted.Done
+    → reply ≡ said_inside p v (Ok command) → told ≡ command_account command (Says reply) None
+    → told ≡ inside_account w p s (Ok command) (Says (answered_inside w p v (Ok command)))
+told_so p s v w command reply told is e said so =
+    rw e (so ∙ (ap (λ (r : Reply). command_account command (Says r) None) said ∙ sym (no_quit acted.Done p s command (Says (said_inside p v (Ok command))) is)))
+
+-- a QUIT before a login
+quits_told : (r : Result Command LineFault) (said : Said) (u : Option LoginName) → is_quit r ≡ true → line_account r said u ≡ account.QuitBeforeLogin
+quits_told (Ok Quit) said u e = refl
+quits_told _ said u e = absurd (true≢false (sym e))
 
 -- what is kept of a session removes what the store's messages say
 removal_alike : (c : Contents) (p : Policy) (s : Session) (kept : List Keyed) → LiesIn c s kept → (w : Acted) → removal_told w p s ≡ removal_seen w p (sitting_of s kept)
 removal_alike c p s kept lies w =
     let counted = counted_alike c p s kept lies in
     let denied = denying_alike c p s kept lies in
-    rw (counted, denied) refl
+    let marks = marks_counted c p s kept lies in
+    rw (counted, denied, marks) refl
 
 -- a line before a login is told by its reply
 pub outside_told : (w : Acted) (p : Policy) (r : Result Command LineFault) (said : Said) (u : Option LoginName) → line_account r said u ≡ seated_account w p None r said u
 outside_told w p r said u = at (is_quit r) refl
   where
-    at : (b : Bool) → is_quit r ≡ b → line_account r said u ≡ quit_or b account.Nothing (line_account r said u)
-    at true e = quits_no_login r said u e
+    at : (b : Bool) → is_quit r ≡ b → line_account r said u ≡ quit_or b account.QuitBeforeLogin (line_account r said u)
+    at true e = quits_told r said u e
     at false e = refl
 
--- a line of a session is told only where it quits
+-- a line of a session is told by its reply, unless it quits
 pub seated_told : (c : Contents) (p : Policy) (s : Session) (v : Sitting) (w : Acted) (u : Option LoginName) (x : Cut) (told : Account) → IsSeated c (Some s) (Some v)
-    → (w ≡ acted.Failed → asks_inside p v (reading x) ≡ true) → told ≡ quit_or (is_quit (reading x)) (account.Quit (removal_told w p s)) account.Nothing
+    → (w ≡ acted.Failed → asks_inside p v (reading x) ≡ true) → told ≡ inside_account w p s (reading x) (Says (reply_inside w p v x))
     → told ≡ seated_account w p (Some v) (reading x) (Says (reply_inside w p v x)) u
 seated_told c p s v w u x told seat may is =
     let quits = is_quit (reading x) in
-    is ∙ (ap (λ (r : Removal). quit_or quits (account.Quit r) account.Nothing) (removal_alike c p s seat.0 seat.1 w ∙ ap (removal_seen w p) (sym seat.2))
-    ∙ ap (λ (o : Account). quit_or quits (account.Quit (removal_seen w p v)) o) (sym (told_inside p v u w x may)))
+    is ∙ (ap (λ (r : Removal). quit_or quits (account.Quit r) (line_account (reading x) (Says (reply_inside w p v x)) None)) (removal_alike c p s seat.0 seat.1 w ∙ ap (removal_seen w p) (sym seat.2))
+    ∙ ap (λ (o : Account). quit_or quits (account.Quit (removal_seen w p v)) o) (told_inside p v u w x may))
 
 -- ---- a line that acts
 

@@ -92,6 +92,9 @@ module _ {A B : Type 0} (f : A → B) where
   pub length_unmarked-map : (marks : List ℕ) (xs : List A) → length (unmarked marks (map f xs)) ≡ length (unmarked marks xs)
   length_unmarked-map marks xs = ap length (unmarked-map marks xs) ∙ length_numbered (unmarked marks xs)
 
+  pub length_marked-map : (marks : List ℕ) (xs : List A) → length (marked marks (map f xs)) ≡ length (marked marks xs)
+  length_marked-map marks xs = ap length (marked-map marks xs) ∙ length_numbered (marked marks xs)
+
   -- ---- what QUIT removes
 
   map_rows : (rows : List (ℕ × A)) → map (λ (row : ℕ × B). row.1) (map with_number rows) ≡ map f (map (λ (row : ℕ × A). row.1) rows)

@@ -16,14 +16,14 @@ use Rattle.vault.specs.declared.record.Keyed.{Keyed}
 use Rattle.vault.specs.declared.record.Message.{Message}
 use Rattle.session.specs.Session.{Session}
 use Rattle.session.specs.Session as head
-use Rattle.session.specs.View.{to_remove, denying, is_marked}
+use Rattle.session.specs.View.{marked, to_remove, denying, is_marked}
 use Rattle.office.specs.History.{Says}
 use Rattle.office.specs.Sessions.{marks_after_line}
 use Rattle.office.specs.Replying.{quit_says, is_empty}
 use Rattle.office.specs.Output.{Output, OwesReply}
 use Rattle.office.specs.Sitting.{LiesIn, Obeyed, asks_inside, sitting_of, keys_to_remove, without_marked}
 use Rattle.office.specs.declared.talk.Acted.TheVariants as acted
-use Rattle.office.proofs.Alike.{to_remove-map, denying-map}
+use Rattle.office.proofs.Alike.{to_remove-map, denying-map, length_marked-map}
 use Rattle.office.proofs.Listed.{message_of}
 
 -- ---- no key
@@ -94,6 +94,11 @@ module _ (c : Contents) (p : Policy) (s : Session) (kept : List Keyed) (lies : L
       ∙ (denying-map head_of head.class_of p s.name s.marks kept ∙ sym (denying-map message_of records.class_of p s.name s.marks kept))
 
   -- what a QUIT's account counts
+  pub marks_counted : length (marked s.marks s.view) ≡ length (marked s.marks (map message_of kept))
+  marks_counted =
+      ap (λ (view : List Head). length (marked s.marks view)) lies.heads
+      ∙ (length_marked-map head_of s.marks kept ∙ sym (length_marked-map message_of s.marks kept))
+
   pub counted_alike : length (keys_to_remove p s) ≡ length (to_remove records.class_of p s.name s.marks (map message_of kept))
   counted_alike =
       ap length keys_chosen

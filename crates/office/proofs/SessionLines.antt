@@ -115,7 +115,8 @@ module _ (B : Records) (G : List Entry) (c : ℕ) (p : Policy) (v : Sitting) (a 
       let chosen = to_remove_alike v.marks (marks G c) a.marks class_of p v.name v.view in
       let denied = denying_alike v.marks (marks G c) a.marks class_of p v.name v.view in
       let done = done_so w in
-      rw (l, named, q, rows, done, chosen, denied) refl
+      let counted = marked_alike v.marks (marks G c) a.marks v.view in
+      rw (l, named, q, rows, done, chosen, denied, counted) refl
 
   says_inside : (command : Command) → session_says (in_force B G) (judging G) (name_or_nobody (login G c)) (marks G c) (view B G c) command ≡ session_says p v.removals v.name v.marks v.view command
   says_inside command =

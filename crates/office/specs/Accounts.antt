@@ -1,18 +1,20 @@
 -- What an office judged in an event: the account of the line that acted in it, by the history
 -- before it.
 use Rattle.std.specs.Prelude.{◌≡◌, ℕ, Bool, true, false, List, []}
-use Rattle.std.specs.Prelude.{◌∷◌, length, Option, Some, None, Result, Ok}
+use Rattle.std.specs.Prelude.{◌∷◌, length, Option, Some, None, Result, Ok, Err}
 use Rattle.creds.specs.declared.login_name.LoginName.{LoginName}
-use Rattle.popline.specs.Commands.{Command, Pass, Apop}
+use Rattle.popline.specs.Commands.{Command, Pass, Apop, Dele, Rset, Quit}
 use Rattle.popline.specs.declared.command.LineFault.{LineFault}
-use Rattle.popline.specs.Replies.{MaildropHas, LoginFailed, LoginFailedClosing}
-use Rattle.popline.specs.Replies.{DeniedBy, NoSuchMaildrop, InUse, StoreFailed}
+use Rattle.popline.specs.declared.command.LineFault.TheVariants.{Syntax}
+use Rattle.popline.specs.declared.command.Keyword.TheVariants as keyword
+use Rattle.popline.specs.Replies.{MaildropHas, LoginFailed, LoginFailedClosing, Marked}
+use Rattle.popline.specs.Replies.{DeniedBy, NoSuchMaildrop, InUse, StoreFailed, BadArguments}
 use Rattle.policy.specs.Policy.{Policy}
 use Rattle.popline.specs.Cutting.{Cut}
 use Rattle.vault.specs.Records.{Records, class_of}
 use Rattle.session.specs.Session.{Session}
 use Rattle.session.specs.Session as head
-use Rattle.session.specs.View.{to_remove, denying}
+use Rattle.session.specs.View.{marked as rows_marked, to_remove, denying}
 use Rattle.office.specs.History.{Act, Line, Tag, NoMemory, Said, Says, Entry, in_force, is_done}
 use Rattle.office.specs.Connections.{is_quit, reading, user}
 use Rattle.office.specs.Sessions.{in_session, marks, view}
@@ -26,6 +28,7 @@ use Rattle.office.specs.declared.talk.Acted.TheVariants as acted
 use Rattle.office.specs.declared.account.Account.{Account}
 use Rattle.office.specs.declared.account.Removal.{Removal}
 use Rattle.office.specs.declared.account.Account.TheVariants as account
+use Rattle.office.specs.declared.account.Way.{Way}
 use Rattle.office.specs.declared.account.Way.TheVariants as way
 use Rattle.office.specs.declared.account.Verdict.{Verdict}
 use Rattle.office.specs.declared.account.Verdict.TheVariants as as_judged
@@ -34,23 +37,49 @@ use Rattle.office.specs.declared.account.Verdict.TheVariants as as_judged
 abbrev pub verdict : Said → Option Verdict
 verdict (Says (MaildropHas messages octets)) = Some as_judged.Accepted
 verdict (Says LoginFailed) = Some as_judged.WrongCredential
-verdict (Says LoginFailedClosing) = Some as_judged.WrongCredential
+verdict (Says LoginFailedClosing) = Some as_judged.ThirdWrongCredential
 verdict (Says (DeniedBy rule)) = Some (as_judged.Denied rule)
 verdict (Says NoSuchMaildrop) = Some as_judged.NoSuchMaildrop
 verdict (Says InUse) = Some as_judged.InUse
 verdict (Says StoreFailed) = Some as_judged.StoreFailed
 verdict _ = None
 
--- only a PASS with a name in force and an APOP are logins
-abbrev pub login_judged : Option Verdict → Result Command LineFault → (user : Option LoginName)
-    → Account
-login_judged (Some judged) (Ok (Pass password)) (Some user) = account.Login user way.Pass judged
-login_judged (Some judged) (Ok (Apop name digest)) user = account.Login name way.Apop judged
-login_judged _ r user = account.Nothing
+-- the account of a login that was judged, where one was, under a name
+abbrev pub login_told : Option Verdict → Way → Option LoginName → Account
+login_told (Some judged) by (Some name) = account.Login name by judged
+login_told _ by name = account.Nothing
 
--- the account of a line that reads so, by what was said to it and the name in force before it
+-- the account of a DELE: it marked a message, or none
+abbrev pub mark_told : Said → Account
+mark_told (Says (Marked number)) = account.Marked
+mark_told _ = account.Nothing
+
+-- the account of a RSET: it took all marks away, or wasn't for its state
+abbrev pub reset_told : Said → Account
+reset_told (Says (MaildropHas messages octets)) = account.Unmarked
+reset_told _ = account.Nothing
+
+-- The account of a command, by what was said to it and the name in force before it. Only a PASS
+-- with a name in force and an APOP are logins.
+abbrev pub command_account : Command → Said → (user : Option LoginName) → Account
+command_account (Pass password) said user = login_told (verdict said) way.Pass user
+command_account (Apop name digest) said user = login_told (verdict said) way.Apop (Some name)
+command_account (Dele number) said user = mark_told said
+command_account Rset said user = reset_told said
+command_account Quit said user = account.QuitBeforeLogin
+command_account _ said user = account.Nothing
+
+-- the account of a line that reads as no command
+abbrev pub fault_told : LineFault → Said → Account
+fault_told (Syntax keyword.User) (Says BadArguments) = account.NoName
+fault_told (Syntax keyword.Apop) (Says BadArguments) = account.NoName
+fault_told _ said = account.Nothing
+
+-- the account of a line that reads so, by what was said to it and the name in force before it; that
+-- of a session's QUIT is another
 abbrev pub line_account : Result Command LineFault → Said → (user : Option LoginName) → Account
-line_account r said user = login_judged (verdict said) r user
+line_account (Ok command) said user = command_account command said user
+line_account (Err fault) said user = fault_told fault said
 
 -- a QUIT's account, or that of another line
 abbrev pub quit_or : (quits : Bool) → (quit other : Account) → Account
@@ -61,14 +90,15 @@ quit_or false quit other = other
 abbrev pub removal_by : Records → List Entry → ℕ → Tag → LoginName → Removal
 removal_by B G c t name = record {
   name = name;
+  marked = length (rows_marked (marks G c) (view B G c));
   messages = length (to_remove class_of (in_force B G) name (marks G c) (view B G c));
   denied = denying class_of (in_force B G) name (marks G c) (view B G c);
   is_done = is_done t;
 }
 
--- the account of a QUIT; before a login it is of nothing
+-- the account of a QUIT, in a session or before a login
 abbrev pub quit_account : Option LoginName → (LoginName → Removal) → Account
-quit_account None removal = account.Nothing
+quit_account None removal = account.QuitBeforeLogin
 quit_account (Some name) removal = account.Quit (removal name)
 
 -- the account of a line after a front; of nothing at want of memory
@@ -106,6 +136,7 @@ was_done acted.Failed = false
 abbrev pub removal_told : Acted → Policy → Session → Removal
 removal_told w p s = record {
   name = s.name;
+  marked = length (rows_marked s.marks s.view);
   messages = length (keys_to_remove p s);
   denied = denying head.class_of p s.name s.marks s.view;
   is_done = was_done w;
@@ -115,6 +146,7 @@ removal_told w p s = record {
 abbrev pub removal_seen : Acted → Policy → Sitting → Removal
 removal_seen w p v = record {
   name = v.name;
+  marked = length (rows_marked v.marks v.view);
   messages = length (to_remove class_of p v.name v.marks v.view);
   denied = denying class_of p v.name v.marks v.view;
   is_done = was_done w;
@@ -122,8 +154,14 @@ removal_seen w p v = record {
 
 -- the account of a QUIT by the session, if there is one
 abbrev pub quit_seen : Acted → Policy → Option Sitting → Account
-quit_seen w p None = account.Nothing
+quit_seen w p None = account.QuitBeforeLogin
 quit_seen w p (Some v) = account.Quit (removal_seen w p v)
+
+-- the account of a session's line by what is kept of the session, and by what was said to it; no
+-- line of a session is a login, so no name in force counts
+abbrev pub inside_account : Acted → Policy → Session → Result Command LineFault → Said → Account
+inside_account w p s r said = quit_or (is_quit r) (account.Quit (removal_told w p s))
+    (line_account r said None)
 
 -- the account of a line by the session, if there is one
 abbrev pub seated_account : Acted → Policy → Option Sitting → Result Command LineFault → Said

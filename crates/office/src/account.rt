@@ -1,13 +1,14 @@
 //! The account of an event: what the office judged in it.
 ghost use Rattle.std.specs.Prelude.{◌≡◌, Option};
-ghost use Rattle.popline.specs.Seen.{reply_seen};
+ghost use Rattle.popline.specs.Seen.{command_seen, reply_seen};
 ghost use Rattle.office.specs.History.{Says};
 ghost use Rattle.office.specs.Connections.{reading};
-ghost use Rattle.office.specs.Accounts.{verdict as verdict_of, line_account};
+ghost use Rattle.office.specs.Accounts.{verdict as verdict_of, login_told, mark_told, reset_told};
+ghost use Rattle.office.specs.Accounts.{command_account, fault_told, line_account};
 
 use crate::command_line::CommandLine;
 use creds::{LoginName, Name};
-use popline::{Command, Reply};
+use popline::{Command, Keyword, LineFault, Reply};
 
 /// By which command a login gives its credential (RFC 1939, 7).
 #[derive(Clone, Copy)]
@@ -23,6 +24,8 @@ pub enum Verdict {
     /// There is no such clerk, the password or digest is wrong, or the clerk's credential is of the
     /// other kind.
     WrongCredential,
+    /// The same for the third time on this connection, which ends it.
+    ThirdWrongCredential,
     /// The policy doesn't let the clerk open the maildrop: the rule's name.
     Denied(Name),
     NoSuchMaildrop,
@@ -37,6 +40,8 @@ pub enum Verdict {
 pub struct Removal {
     /// Whose session it was, in which maildrop.
     pub name: LoginName,
+    /// How many messages were marked.
+    pub marked: usize,
     /// How many of the marked messages the policy let the clerk remove.
     pub messages: usize,
     /// The rule that kept the lowest numbered of the other marked messages, where one did.
@@ -48,12 +53,21 @@ pub struct Removal {
 /// What an office judged in an event. It takes no memory, and holds no password and no digest.
 #[derive(Clone, Copy)]
 pub enum Account {
-    /// No login was judged, and no session quit.
+    /// Nothing of what follows.
     Nothing,
     /// A login was judged: under which name, by which command, and how.
     Login(LoginName, Way, Verdict),
+    /// USER or APOP came before a login with arguments that aren't of their form: nobody was named,
+    /// and nothing was judged.
+    NoName,
+    /// A session's DELE marked a message.
+    Marked,
+    /// A session's RSET took all its marks away.
+    Unmarked,
     /// A session quit.
     Quit(Removal),
+    /// QUIT came before a login.
+    QuitBeforeLogin,
 }
 
 /// How a login was judged that got this reply; `None` for a reply that judges no login.
@@ -63,7 +77,7 @@ fn judgement(reply: &Reply<'_>) -> Option<Verdict>
     match reply {
         Reply::MaildropHas { .. } => Some(Verdict::Accepted),
         Reply::LoginFailed => Some(Verdict::WrongCredential),
-        Reply::LoginFailedClosing => Some(Verdict::WrongCredential),
+        Reply::LoginFailedClosing => Some(Verdict::ThirdWrongCredential),
         Reply::DeniedBy(rule) => Some(Verdict::Denied(*rule)),
         Reply::NoSuchMaildrop => Some(Verdict::NoSuchMaildrop),
         Reply::InUse => Some(Verdict::InUse),
@@ -72,7 +86,73 @@ fn judgement(reply: &Reply<'_>) -> Option<Verdict>
     }
 }
 
+/// The account of a login that was judged, where one was, under a name.
+fn of_login(judged: Option<Verdict>, by: Way, user: Option<LoginName>) -> Account
+    ensures { result ≡ login_told judged by user }
+{
+    let Some(judged) = judged else {
+        return Account::Nothing;
+    };
+    let Some(name) = user else {
+        return Account::Nothing;
+    };
+    Account::Login(name, by, judged)
+}
+
+/// The account of a DELE that got this reply.
+fn of_mark(reply: &Reply<'_>) -> Account
+    ensures { result ≡ mark_told (Says (reply_seen reply.now)) }
+{
+    match reply {
+        Reply::Marked(_) => Account::Marked,
+        _ => Account::Nothing,
+    }
+}
+
+/// The account of a RSET that got this reply.
+fn of_reset(reply: &Reply<'_>) -> Account
+    ensures { result ≡ reset_told (Says (reply_seen reply.now)) }
+{
+    match reply {
+        Reply::MaildropHas { .. } => Account::Unmarked,
+        _ => Account::Nothing,
+    }
+}
+
+/// The account of a line that is no command, and got this reply.
+fn of_fault(fault: LineFault, reply: &Reply<'_>) -> Account
+    ensures { result ≡ fault_told fault (Says (reply_seen reply.now)) }
+{
+    match fault {
+        LineFault::Syntax(Keyword::User | Keyword::Apop) => match reply {
+            Reply::BadArguments => Account::NoName,
+            _ => Account::Nothing,
+        },
+        _ => Account::Nothing,
+    }
+}
+
 impl Account {
+    /// The account of a command that got this reply, but for a session's QUIT. `user` is the login
+    /// name that was in force.
+    pub(crate) fn of_command(
+        command: &Command<'_>,
+        reply: &Reply<'_>,
+        user: Option<LoginName>,
+    ) -> Account
+        ensures { result ≡ command_account (command_seen command.now)
+            (Says (reply_seen reply.now)) user }
+    {
+        match command {
+            Command::Pass(_) => of_login(judgement(reply), Way::Pass, user),
+            Command::Apop(name, _) => of_login(judgement(reply), Way::Apop, Some(*name)),
+            Command::Dele(_) => of_mark(reply),
+            Command::Rset => of_reset(reply),
+            Command::Quit => Account::QuitBeforeLogin,
+            _ => Account::Nothing,
+        }
+    }
+
     /// The account of a line before a login that got this reply. `user` is the login name that was
     /// in force.
     pub(crate) fn of_line(
@@ -82,16 +162,9 @@ impl Account {
     ) -> Account
         ensures { result ≡ line_account (reading line.now) (Says (reply_seen reply.now)) user }
     {
-        let Some(judged) = judgement(reply) else {
-            return Account::Nothing;
-        };
         match line.reading() {
-            Ok(Command::Pass(_)) => match user {
-                None => Account::Nothing,
-                Some(name) => Account::Login(name, Way::Pass, judged),
-            },
-            Ok(Command::Apop(name, _)) => Account::Login(*name, Way::Apop, judged),
-            _ => Account::Nothing,
+            Ok(command) => Account::of_command(command, reply, user),
+            Err(why) => of_fault(*why, reply),
         }
     }
 }

@@ -1,6 +1,6 @@
 //! A line of a session: what it is answered, what it changes, and what is remembered of it (RFC
 //! 1939, 5 and 6).
-ghost use Rattle.std.specs.Prelude.{◌≡◌, List, true, false, Ok, Err, OnErr, IfOk, IsOkAnd};
+ghost use Rattle.std.specs.Prelude.{◌≡◌, List, Option, None, true, false, Ok, Err, OnErr, IfOk, IsOkAnd};
 ghost use Rattle.popline.specs.Commands.{command_of};
 ghost use Rattle.popline.specs.Seen.{command_seen, cut_seen, reading_seen, reply_seen};
 ghost use Rattle.policy.specs.Policy.{Policy};
@@ -8,13 +8,15 @@ ghost use Rattle.vault.specs.Changes.{Contents};
 ghost use Rattle.vault.specs.Calls.{has_grown};
 ghost use Rattle.vault.specs.declared.record.Keyed.{Keyed};
 ghost use Rattle.session.specs.Session.{Session as State};
+ghost use Rattle.office.specs.History.{Says};
 ghost use Rattle.office.specs.Connections.{reading, is_quit};
 ghost use Rattle.office.specs.Kept.{talk_after};
-ghost use Rattle.office.specs.Accounts.{removal_told, quit_or};
+ghost use Rattle.office.specs.Accounts.{command_account, inside_account};
 ghost use Rattle.office.specs.Telling.{is_told};
 ghost use Rattle.office.specs.Stopping.{WasDone, ActsOnce};
 ghost use Rattle.office.specs.Output.{nothing_owed, OwesReply};
 ghost use Rattle.office.specs.Sitting.{Sitting, sitting_of, session_left, LiesIn, GoesOn, Obeyed, said_inside, reply_inside, asks_inside, held_after_line, user_inside};
+ghost use Rattle.office.specs.Sitting.{answered_inside};
 
 use crate::account::Account;
 use crate::command_line::CommandLine;
@@ -62,7 +64,29 @@ fn told(session: &mut Session, policy: &Policy, command: &Command<'_>) -> Reply<
     }
 }
 
-/// Does what a command says, and puts the reply. A QUIT is told to `account`.
+/// Puts the reply to a command that asks no store. `account` becomes what it did to the marks.
+fn put(
+    alloc: Global,
+    output: &mut Output,
+    command: &Command<'_>,
+    reply: &Reply<'_>,
+    account: &mut Account,
+) -> Result<Acted, AllocError>
+    requires { output.old ≡ nothing_owed }
+    ensures acted { IfOk result (λ acted. acted ≡ Acted.Done) }
+    ensures owed { IfOk result (λ _. (c : Contents) (s : Option State)
+        → OwesReply c s output.new (reply_seen reply.now)) }
+    ensures account { IfOk result (λ _. account.new ≡ command_account (command_seen command.now)
+        (Says (reply_seen reply.now)) None) }
+    ensures account_err { OnErr result (account.new ≡ account.old) }
+{
+    let acted = say(alloc, output, reply)?;
+    *account = Account::of_command(command, reply, None);
+    Ok(acted)
+}
+
+/// Does what a command says, and puts the reply. `account`, which tells nothing yet, becomes what it
+/// did to the marks, or a QUIT's account.
 fn follow<V: Vault>(
     alloc: Global,
     vault: &mut V,
@@ -77,9 +101,11 @@ fn follow<V: Vault>(
     ensures err { OnErr result ((c : Contents) → V.holds vault.old c → V.is_clean vault.new → V.holds vault.new c) }
     ensures acts { ActsOnce V.Vault vault.old vault.new (IsOkAnd result WasDone)
         (held_after_line Acted.Done policy.now session.old (Ok (command_seen command.now))) }
-    ensures account { IfOk result (λ acted. account.new ≡ quit_or (is_quit (Ok
-        (command_seen command.now))) (Account.Quit
-        (removal_told acted policy.now session.old)) account.old) }
+    ensures account { account.old ≡ Account.Nothing
+        → IfOk result (λ acted. (c : Contents) (kept : List Keyed) → LiesIn c session.old kept
+        → account.new ≡ inside_account acted policy.now session.old (Ok (command_seen command.now))
+        (Says (answered_inside acted policy.now (sitting_of session.old kept)
+        (Ok (command_seen command.now))))) }
     ensures account_err { OnErr result (account.new ≡ account.old) }
     ensures unasked { (c : Contents) (kept : List Keyed) → LiesIn c session.old kept → asks_inside policy.now (sitting_of session.old kept) (Ok (command_seen command.now)) ≡ false → vault.new ≡ vault.old }
 {
@@ -89,11 +115,15 @@ fn follow<V: Vault>(
         Command::Uidl(None) => list_uids(alloc, session, output),
         Command::Retr(n) => retrieve(alloc, vault, output, session, policy, *n),
         Command::Top(n, lines) => top(alloc, vault, output, session, policy, *n, *lines),
-        _ => say(alloc, output, &told(session, policy, command)),
+        _ => {
+            let reply = told(session, policy, command);
+            put(alloc, output, command, &reply, account)
+        }
     }
 }
 
-/// Does what a line says, and puts the reply. A QUIT is told to `account`.
+/// Does what a line says, and puts the reply. `account`, which tells nothing yet, becomes what it
+/// did to the marks, or a QUIT's account.
 fn obey<V: Vault>(
     alloc: Global,
     vault: &mut V,
@@ -108,8 +138,11 @@ fn obey<V: Vault>(
     ensures err { OnErr result ((c : Contents) → V.holds vault.old c → V.is_clean vault.new → V.holds vault.new c) }
     ensures acts { ActsOnce V.Vault vault.old vault.new (IsOkAnd result WasDone)
         (held_after_line Acted.Done policy.now session.old (reading line.now)) }
-    ensures account { IfOk result (λ acted. account.new ≡ quit_or (is_quit (reading line.now))
-        (Account.Quit (removal_told acted policy.now session.old)) account.old) }
+    ensures account { account.old ≡ Account.Nothing
+        → IfOk result (λ acted. (c : Contents) (kept : List Keyed) → LiesIn c session.old kept
+        → account.new ≡ inside_account acted policy.now session.old (reading line.now)
+        (Says (answered_inside acted policy.now (sitting_of session.old kept)
+        (reading line.now)))) }
     ensures account_err { OnErr result (account.new ≡ account.old) }
     ensures unasked { (c : Contents) (kept : List Keyed) → LiesIn c session.old kept → asks_inside policy.now (sitting_of session.old kept) (reading line.now) ≡ false → vault.new ≡ vault.old }
 {
@@ -120,7 +153,8 @@ fn obey<V: Vault>(
 }
 
 /// Answers a line of a session: puts its reply, and sets or takes away marks. A QUIT removes the
-/// marked messages, and is told to `account`; the caller then ends the session.
+/// marked messages; the caller then ends the session. `account`, which tells nothing yet, becomes
+/// what the line did to the marks, or a QUIT's account.
 pub(crate) fn answer<V: Vault>(
     alloc: Global,
     vault: &mut V,
@@ -139,8 +173,10 @@ pub(crate) fn answer<V: Vault>(
     ensures cause { IfOk result (λ acted. acted ≡ Acted.Failed → (c : Contents) (kept : List Keyed) → V.holds vault.old c → V.is_clean vault.new → LiesIn c session.old kept → has_grown (V.faults vault.old) (V.faults vault.new) ≡ true) }
     ensures acts { ActsOnce V.Vault vault.old vault.new (IsOkAnd result WasDone)
         (held_after_line Acted.Done policy.now session.old (reading line.now)) }
-    ensures account { IfOk result (λ acted. account.new ≡ quit_or (is_quit (reading line.now))
-        (Account.Quit (removal_told acted policy.now session.old)) account.old) }
+    ensures account { account.old ≡ Account.Nothing
+        → IfOk result (λ acted. (c : Contents) (kept : List Keyed) → LiesIn c session.old kept
+        → account.new ≡ inside_account acted policy.now session.old (reading line.now)
+        (Says (reply_inside acted policy.now (sitting_of session.old kept) line.now))) }
     ensures account_err { OnErr result (account.new ≡ account.old) }
     ensures unasked { (c : Contents) (kept : List Keyed) → LiesIn c session.old kept → asks_inside policy.now (sitting_of session.old kept) (reading line.now) ≡ false → vault.new ≡ vault.old }
 {

@@ -12,8 +12,8 @@ ghost use Rattle.office.specs.Replying.{is_allowed as is_allowed_of};
 ghost use Rattle.vault.specs.Parts.{OnlyLooks};
 ghost use Rattle.office.specs.Stopping.{LeavesHeld, WasDone, ActsOnce};
 ghost use Rattle.office.specs.Output.{nothing_owed, OwesReply};
-ghost use Rattle.office.specs.Sitting.{Sitting};
-ghost use Rattle.office.specs.Accounts.{line_account, seated_account, removal_told, quit_or};
+ghost use Rattle.office.specs.Sitting.{Sitting, reply_inside};
+ghost use Rattle.office.specs.Accounts.{line_account, seated_account, inside_account};
 ghost use Rattle.office.specs.Kept.{said_outside, line_outside, asks_outside, asks, talk_after};
 ghost use Rattle.office.specs.Answered.{desk_over, reply_of, name_cmp, IsSeated, SessionAfter, Becomes, LocksFollow, held_after};
 
@@ -200,7 +200,8 @@ fn answer_outside<V: Vault>(
 }
 
 /// Answers a line of a session, and returns the session. A QUIT ends it, and lets its maildrop's
-/// lock go, and is told to `account`.
+/// lock go. `account`, which tells nothing yet, becomes what the line did to the marks, or a QUIT's
+/// account.
 fn answer_inside<V: Vault>(
     alloc: Global,
     vault: &mut V,
@@ -224,8 +225,10 @@ fn answer_inside<V: Vault>(
     ensures cause { IfOk result (λ r. r.0 ≡ Acted.Failed → (c : Contents) (v : Sitting) → V.holds vault.old c → V.is_clean vault.new → IsSeated c (Some session) (Some v) → has_grown (V.faults vault.old) (V.faults vault.new) ≡ true) }
     ensures acts { ActsOnce V.Vault vault.old vault.new (IsOkAnd result (λ r. WasDone r.0))
         (held_after Acted.Done desk.entry.policy.now (Some session) (reading line.now)) }
-    ensures account { IfOk result (λ r. account.new ≡ quit_or (is_quit (reading line.now))
-        (Account.Quit (removal_told r.0 desk.entry.policy.now session)) account.old) }
+    ensures account { account.old ≡ Account.Nothing
+        → IfOk result (λ r. (c : Contents) (v : Sitting) → IsSeated c (Some session) (Some v)
+        → account.new ≡ inside_account r.0 desk.entry.policy.now session (reading line.now)
+        (Says (reply_inside r.0 desk.entry.policy.now v line.now))) }
     ensures account_err { OnErr result (account.new ≡ account.old) }
     ensures unasked { (c : Contents) (v : Sitting) → IsSeated c (Some session) (Some v) → asks desk.entry.policy.now talk.old (Some v) (reading line.now) ≡ false → vault.new ≡ vault.old }
 {

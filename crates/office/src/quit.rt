@@ -1,10 +1,11 @@
 //! The end of a session: what its QUIT removes, and the farewell (RFC 1939, 6).
-ghost use Rattle.std.specs.Prelude.{◌≡◌, ◌≤◌, List, [], Ok, OnErr, IfOk};
+ghost use Rattle.std.specs.Prelude.{◌≡◌, ◌≤◌, List, [], length, Ok, OnErr, IfOk};
 ghost use Rattle.popline.specs.Commands.{Quit};
 ghost use Rattle.popline.specs.Seen.{reply_seen};
 ghost use Rattle.vault.specs.Changes.{Contents};
 ghost use Rattle.vault.specs.Calls.{has_grown};
 ghost use Rattle.vault.specs.declared.record.Keyed.{Keyed};
+ghost use Rattle.session.specs.View.{marked as rows_marked};
 ghost use Rattle.office.specs.Replying.{quit_says};
 ghost use Rattle.office.specs.Output.{nothing_owed};
 ghost use Rattle.office.specs.Sitting.{LiesIn, Obeyed, keys_to_remove, without_marked};
@@ -39,6 +40,7 @@ fn quitting(session: &Session, messages: usize, denied: &Option<Name>, is_done: 
     ensures { result ≡ Account.Quit
         (record {
           name = session.now.name;
+          marked = length (rows_marked session.now.marks session.now.view);
           messages = messages;
           denied = denied.now;
           is_done =
@@ -51,6 +53,7 @@ fn quitting(session: &Session, messages: usize, denied: &Option<Name>, is_done: 
     };
     Account::Quit(Removal {
         name,
+        marked: session.marked(),
         messages,
         denied: *denied,
         is_done,

@@ -314,6 +314,20 @@ length-unmarked_from (row ∷ rows) n =
     count_at row n (filter (λ (r : ℕ × Row). not r.1.is_marked) (numbered_from (n + 1) rows)) (count_by (λ (r : Row). not r.is_marked) rows) (length-unmarked_from rows (n + 1)) row.is_marked
     ∙ sym (sum_by-cons (λ (r : Row). cond (not r.is_marked) 1 0) row rows)
 
+marked_at : (row : Row) (n : ℕ) (rest : List (ℕ × Row)) (k : ℕ) → length (map head_with rest) ≡ k → (b : Bool) →
+    length (map head_with (cond b ((n, row) ∷ rest) rest)) ≡ cond b 1 0 + k
+marked_at row n rest k e true = omega arith
+marked_at row n rest k e false = omega arith
+
+length-flagged : (rows : List Row) (n : ℕ) → length (map head_with (flagged n rows)) ≡ count_by (λ (row : Row). row.is_marked) rows
+length-flagged [] n = refl
+length-flagged (row ∷ rows) n =
+    marked_at row n (flagged (n + 1) rows) (count_by (λ (r : Row). r.is_marked) rows) (length-flagged rows (n + 1)) row.is_marked
+    ∙ sym (sum_by-cons (λ (r : Row). cond r.is_marked 1 0) row rows)
+
+pub length-marked : (rows : List Row) → length (marked (marks_of rows) (heads_of rows)) ≡ count_by (λ (row : Row). row.is_marked) rows
+length-marked rows = ap length (marked-rows rows) ∙ length-flagged rows 1
+
 total_at : (row : Row) (n : ℕ) (rest : List (ℕ × Row)) (k : ℕ) → total_of octets_of (map head_with rest) ≡ k → (b : Bool) →
     total_of octets_of (map head_with (cond (not b) ((n, row) ∷ rest) rest)) ≡ cond b 0 row.head.octets + k
 total_at row n rest k e true = e ∙ sym (zero-add k)

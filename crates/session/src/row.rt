@@ -85,6 +85,13 @@ pub(crate) fn totals(rows: &[Row]) -> (u64, u64)
     (messages, octets)
 }
 
+/// How many rows are marked.
+pub(crate) fn marked_count(rows: &[Row]) -> usize
+    ensures { result ≡ count_by (λ (row : Row). row.is_marked) rows.now }
+{
+    rows.iter().filter(|row| row.is_marked).count()
+}
+
 /// The head of message `n`, counted from 1. `NoSuch` where there is none, `Deleted` where it is
 /// marked.
 pub(crate) fn head_at(rows: &[Row], n: u64) -> Result<Head, Pick>

@@ -1,14 +1,15 @@
 //! A session and its calls.
 ghost use Rattle.std.specs.Prelude.{◌≡◌, ℕ, ◌+◌, ◌-◌, ◌^◌, ◌<◌, ◌≤◌, ◌||◌, ◌==◌, [], length, map, min, sum_by, IfOk, OnOk, OnErr};
 ghost use Rattle.session.specs.Session.{class_of, octets_of, uid_of, key_of, started, picked, picked_for, marking};
-ghost use Rattle.session.specs.View.{is_marked, numbered, unmarked, sizes_of, uids_of, total_of, to_remove, denying};
+ghost use Rattle.session.specs.View.{is_marked, numbered, marked, unmarked, sizes_of, uids_of};
+ghost use Rattle.session.specs.View.{total_of, to_remove, denying};
 
 use crate::listing::{Sizes, Uids};
 use crate::pick::Pick;
 use crate::removals::Removals;
 use crate::row::{
-    Row, denying_rule, head_at, judge_mark, removable_keys, retrieval, totals, unmark_all,
-    visible_rows,
+    Row, denying_rule, head_at, judge_mark, marked_count, removable_keys, retrieval, totals,
+    unmark_all, visible_rows,
 };
 use creds::{LoginName, Name};
 use policy::Policy;
@@ -90,6 +91,13 @@ impl Session {
             → result.1 ≡ total_of octets_of (unmarked self.now.marks self.now.view) }
     {
         totals(&self.rows)
+    }
+
+    /// How many messages are marked as deleted. It allocates nothing.
+    pub fn marked(&self) -> usize
+        ensures { result ≡ length (marked self.now.marks self.now.view) }
+    {
+        marked_count(&self.rows)
     }
 
     /// The numbers and octets of the unmarked messages, in ascending order of the numbers (RFC

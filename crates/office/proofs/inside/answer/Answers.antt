@@ -4,6 +4,8 @@ use Rattle.popline.specs.Replies.{Reply}
 use Rattle.office.specs.Connections.{reading}
 use Rattle.office.specs.LongLine.{is_too_long}
 use Rattle.office.specs.Output.{OwesReply}
+use Rattle.office.specs.History.{Says}
+use Rattle.office.specs.Accounts.{inside_account}
 use Rattle.office.specs.Sitting.{GoesOn, session_left, sitting_of}
 use Rattle.office.proofs.Obeying.{if_ok_so, if_ok_both, answered_alike, is_the_long}
 use Rattle.office.proofs.inside.answer.Goals as goal
@@ -38,3 +40,17 @@ pub returns-then-is_too_long-clause-owed : goal.returns-then-is_too_long-clause-
 returns-then-is_too_long-clause-owed g c = if_ok_both _ c.say.result c.say.ensures.acted c.say.ensures.owed (λ w e said d kept held clean lies.
     let long = is_the_long c.args.line.now (sym c.is_too_long.ensures ∙ c.if-is_too_long.true) in
     rw (e, long) (said d _))
+
+pub returns-clause-account : goal.returns-clause-account
+returns-clause-account g c fresh =
+    let x : Cut = c.args.line.now in
+    let p = c.args.policy.now in
+    let s = c.args.session.now in
+    let fits : is_too_long x ≡ false = sym c.is_too_long.ensures ∙ c.if-is_too_long.false in
+    if_ok_so _ c.obey.result (c.obey.ensures.account fresh) (λ w h d kept lies.
+    subst (λ (r : Reply). c.obey.new.account ≡ inside_account w p s (reading x) (Says r)) (answered_alike w p (sitting_of s kept) x fits) (h d kept lies))
+
+pub returns-then-is_too_long-clause-account : goal.returns-then-is_too_long-clause-account
+returns-then-is_too_long-clause-account g c fresh = if_ok_so _ c.say.result c.say.ensures.acted (λ w e d kept lies.
+    let long = is_the_long c.args.line.now (sym c.is_too_long.ensures ∙ c.if-is_too_long.true) in
+    rw (e, long) fresh)

@@ -1,7 +1,13 @@
-use Rattle.std.proofs.Common.{ap, ◌∙◌}
+use Rattle.std.proofs.Common.{◌≡◌, ap, sym, subst, Result, Err, ◌∙◌}
+use Rattle.popline.specs.Commands.{Command}
+use Rattle.popline.specs.declared.command.LineFault.{LineFault}
 use Rattle.popline.specs.Seen.{reply_seen}
 use Rattle.office.specs.Connections.{reading}
-use Rattle.office.specs.Sitting.{sitting_of, asks_inside}
+use Rattle.office.specs.History.{Says}
+use Rattle.office.specs.Accounts.{inside_account}
+use Rattle.office.specs.Sitting.{sitting_of, answered_inside, asks_inside}
+use Rattle.office.specs.declared.talk.Acted.TheVariants as acted
+use Rattle.office.proofs.Accounts.{fault_inside}
 use Rattle.office.proofs.Obeying.{if_ok_so, if_ok_both, reads_alike, said_so}
 use Rattle.office.proofs.inside.obey.Goals as goal
 
@@ -24,3 +30,20 @@ pub returns-in-Ok-clause-unasked : goal.returns-in-Ok-clause-unasked
 returns-in-Ok-clause-unasked g c d kept lies none =
     let read = rw c.in-Ok.is at c.reading.ensures in
     c.follow.ensures.unasked d kept lies (ap (asks_inside c.args.policy.now (sitting_of c.args.session.now kept)) read ∙ none)
+
+pub returns-in-Ok-clause-account : goal.returns-in-Ok-clause-account
+returns-in-Ok-clause-account g c fresh =
+    let read = rw c.in-Ok.is at c.reading.ensures in
+    let p = c.args.policy.now in
+    let s = c.args.session.now in
+    if_ok_so _ c.follow.result (c.follow.ensures.account fresh) (λ w h d kept lies.
+    subst (λ (r : Result Command LineFault). c.follow.new.account ≡ inside_account w p s r (Says (answered_inside w p (sitting_of s kept) r))) read (h d kept lies))
+
+pub returns-in-Err-clause-account : goal.returns-in-Err-clause-account
+returns-in-Err-clause-account g c fresh =
+    let read = rw c.in-Err.is at c.reading.ensures in
+    let p = c.args.policy.now in
+    let s = c.args.session.now in
+    if_ok_so _ c.say.result c.say.ensures.acted (λ w e d kept lies.
+    rw e (subst (λ (r : Result Command LineFault). c.args.account.now ≡ inside_account acted.Done p s r (Says (answered_inside acted.Done p (sitting_of s kept) r))) read
+    (fresh ∙ sym (fault_inside p (sitting_of s kept) _))))

@@ -139,8 +139,7 @@ returns-in_ok-acted-in-Some-clause-account g c fresh d v held clean sits =
     let w = c.in_ok-acted-in-Some.acted in
     let p = c.args.desk.policy.now in
     let u = c.args.talk.now.user in
-    let told = rw (c.read-line.ensures, fresh) at did.account in
     let P : Option Sitting → Type 0 =
     λ v. c.answer_inside.new.account ≡ seated_account w p v (reading x) (Says (reply_of w (desk_over d c.args.desk c.args.locks.now) c.args.talk.now v x)) u in
-    seated_case d c.in-Some.inside v P (λ q seat. seated_told d p c.in-Some.inside q w u x c.answer_inside.new.account seat (λ failed. rw c.read-line.ensures at did.may failed d q held clean seat) told)
+    seated_case d c.in-Some.inside v P (λ q seat. seated_told d p c.in-Some.inside q w u x c.answer_inside.new.account seat (λ failed. rw c.read-line.ensures at did.may failed d q held clean seat) (rw c.read-line.ensures at did.account fresh d q seat))
     (subst (λ o. IsSeated d o v) e sits)

@@ -1,5 +1,7 @@
 use Rattle.std.proofs.Common.{◌≡◌, true, false, sym, ◌∙◌, subst, rules}
+use Rattle.office.specs.History.{Says}
 use Rattle.office.specs.Connections.{reading, is_quit}
+use Rattle.office.specs.Accounts.{inside_account}
 use Rattle.office.specs.Output.{OwesReply}
 use Rattle.office.specs.Sitting.{Sitting, sitting_of, session_if, reply_inside, asks_inside}
 use Rattle.office.proofs.lines.answer_inside.Goals as goal
@@ -113,3 +115,19 @@ returns-then-is_quit-clause-unasked g c d v sits none =
 pub returns-clause-unasked : goal.returns-clause-unasked
 returns-clause-unasked g c d v sits none =
     c.answer.ensures.unasked d sits.0 sits.1 (subst (λ (w : Sitting). asks_inside c.args.desk.policy.now w (reading c.args.line.now) ≡ false) sits.2 none)
+
+pub returns-then-is_quit-clause-account : goal.returns-then-is_quit-clause-account
+returns-then-is_quit-clause-account g c fresh d v sits =
+    let w = c.in_ok-acted.acted in
+    let p = c.args.desk.policy.now in
+    let x = c.args.line.now in
+    subst (λ (v : Sitting). c.answer.new.account ≡ inside_account w p c.args.session (reading x) (Says (reply_inside w p v x))) (sym sits.2)
+    (c.in_ok-acted.ensures.account fresh d sits.0 sits.1)
+
+pub returns-clause-account : goal.returns-clause-account
+returns-clause-account g c fresh d v sits =
+    let w = c.in_ok-acted.acted in
+    let p = c.args.desk.policy.now in
+    let x = c.args.line.now in
+    subst (λ (v : Sitting). c.answer.new.account ≡ inside_account w p c.args.session (reading x) (Says (reply_inside w p v x))) (sym sits.2)
+    (c.in_ok-acted.ensures.account fresh d sits.0 sits.1)
