@@ -5,7 +5,7 @@ use Rattle.converse.proofs.check_store.put_store.Goals as goal
 pub returns-in-Ok-print_last-clause-told : goal.returns-in-Ok-print_last-clause-told
 returns-in-Ok-print_last-clause-told g c = λ d h k.
     let k2 = c.in_ok-tell_clerks.ensures.clean k in
-    let k1 = c.in_ok-policy.ensures.clean k2 in
+    let k1 = c.in_ok-policy.ensures.looks.clean k2 in
     let first = c.in_ok-totals.ensures.done d h k1 in
     let second = c.in_ok-policy.ensures.done d first.held k2 in
     store_told c.args.file.now d c.args.clerks.now c.as_slice.result.now c.as_slice-2.result.now c.len-rules.result

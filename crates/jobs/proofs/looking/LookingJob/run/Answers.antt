@@ -15,11 +15,11 @@ returns-clause-done g c = λ tells T k clean.
     let last = g.V.Vault.faults x.new.self in
     let answered = seen_as x.result (λ found. found.items) in
     let did = x.ensures.done k.contents k.held clean in
-    let look = looked_so (totals (records_of k.contents)) first last answered did.answer (λ e. x.ensures.counted.cause (refused_so x.result (λ found. found.items) _ e)) in (
+    let look = looked_so (totals (records_of k.contents)) first last answered did.answer (λ e. x.ensures.looks.counted.cause (refused_so x.result (λ found. found.items) _ e)) in (
       T,
       (refl, subst (λ these. IsLook these first last answered) (totals_agree (records_of k.contents) (records T.base (history T)) k.agree) look),
       keeps_on (g.V.Vault.holds c.args.vault) (g.V.Vault.holds x.new.self) T (λ b h. looked (g.V.Vault.holds x.new.self) b _ _ (x.ensures.done b h clean)) k,
     ))
 
 pub returns-clause-clean : goal.returns-clause-clean
-returns-clause-clean g c = λ tells clean. c.maildrops-totals.ensures.clean clean
+returns-clause-clean g c = λ tells clean. c.maildrops-totals.ensures.looks.clean clean
