@@ -9,7 +9,9 @@ use journal::{
 use office::{Limits, Office};
 use proxy::ProxiedWire;
 use recent::Recent;
-use serving::{FolderSpool, NotedWire, Server, SocketWire, Wire, begin_noted, serve_turn};
+use serving::{
+    Clock, FolderSpool, NotedWire, Server, SocketWire, Wire, begin_noted, serve_while,
+};
 use std::io;
 use std::io::Write;
 use std::net::{Ipv4Addr, SocketAddr};
@@ -155,6 +157,28 @@ fn tell_loss<E: Write>(
     status
 }
 
+/// The moments of a server's turns: the seconds since its start, until its store is lost.
+struct ServerClock<'a> {
+    rt: &'a HostRuntime,
+    start: Instant,
+    watch: &'a StoreWatch<'a>,
+    /// The system told no time.
+    is_broken: bool,
+}
+
+impl Clock for ServerClock<'_> {
+    ghost gave = { λ _ _. ⊥ };
+
+    fn moment(&mut self) -> Option<u64> {
+        if self.watch.is_lost() {
+            return None;
+        }
+        let elapsed = self.start.elapsed(self.rt);
+        self.is_broken = elapsed.is_err();
+        Some(elapsed.ok()?.as_secs())
+    }
+}
+
 /// Serves a wire, and the spool that is named, until so many turns are over, or the store is lost.
 fn serve_turns<'a, V: Vault, W: Wire + Peers + Drop>(
     rt: &'a HostRuntime,
@@ -182,14 +206,16 @@ fn serve_turns<'a, V: Vault, W: Wire + Peers + Drop>(
     let Ok(start) = Instant::now(rt) else {
         return Err(Fault::NoClock);
     };
-    for _ in 0..options.get_one::<u64>("turns").unwrap_or(u64::MAX) {
-        if watch.is_lost() {
-            return Ok(1);
-        }
-        let Ok(elapsed) = start.elapsed(rt) else {
-            return Err(Fault::NoClock);
-        };
-        serve_turn(&mut links, &mut wire, office, &mut spool, elapsed.as_secs());
+    let mut clock = ServerClock {
+        rt,
+        start,
+        watch,
+        is_broken: false,
+    };
+    let turns = options.get_one::<u64>("turns").unwrap_or(u64::MAX);
+    serve_while(&mut links, &mut wire, office, &mut spool, &mut clock, turns);
+    if clock.is_broken {
+        return Err(Fault::NoClock);
     }
     Ok(0)
 }

@@ -61,7 +61,11 @@ returns-clause-works g c = λ now seconds newcomers late.
 
 pub returns-then-ended-clause-works : goal.returns-then-ended-clause-works
 returns-then-ended-clause-works g c = λ now seconds newcomers late.
-    record { given = []; was_given = given_none g.V.Vault.holds g.V.Vault.is_clean g.V.Vault.faults c.args.office.now; facts = (
-      All-nil (IsLateGone now seconds newcomers),
-      λ B L s clean. (let over : c.ended.result ≡ true = search rules in shut_so (is_open (trace_of B L) c.args.seat.connection) c.ended.result (c.ended.ensures (trace_of B L) s) over),
-    ) }
+    record {
+      given = [];
+      was_given = given_none g.V.Vault.holds g.V.Vault.is_clean g.V.Vault.faults c.args.office.now;
+      facts = (
+        All-nil (IsLateGone now seconds newcomers),
+        λ B L s clean. (let over : c.ended.result ≡ true = search rules in shut_so (is_open (trace_of B L) c.args.seat.connection) c.ended.result (c.ended.ensures (trace_of B L) s) over),
+      );
+    }
