@@ -21,7 +21,7 @@ use Rattle.office.specs.declared.output.Source.TheVariants.{Nothing, Sizes, Uids
 -- at most so many octets are kept: the most that is lent, a page of a message with each dot
 -- doubled, and a line
 abbrev pub most_output : ℕ
-most_output = 24832
+most_output = 49408
 
 -- the octets that stand ready, and what feeds them
 pub record Output : Type 0 where

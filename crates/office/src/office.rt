@@ -456,7 +456,7 @@ impl<V: Vault> Office<V> {
     }
 
     /// How many octets of what it is owed are kept of a connection, whatever the store does: at
-    /// most 24,832, for which the room is made at its opening. None, where it isn't open.
+    /// most 49,408, for which the room is made at its opening. None, where it isn't open.
     pub fn output_kept(&self, c: u64) -> usize
         ensures value { result ≡ output_kept self.now c }
         ensures most { output_kept self.now c ≤ most_output }

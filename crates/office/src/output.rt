@@ -30,7 +30,7 @@ use vault::Vault;
 const LISTED: usize = 20_480;
 /// The octets for which room is made at the opening: the most that is lent, a page of a message
 /// with each dot doubled, and a line. An output never outgrows it.
-const ROOM: usize = 24_832;
+const ROOM: usize = 49_408;
 
 /// What feeds an output.
 #[derive(Drop)]
@@ -45,7 +45,7 @@ pub enum Source {
 }
 
 /// Octets that stand ready, and what feeds them. While more is to come, at least 16,384 octets are
-/// ready. At most 24,832 octets are kept, those that were taken included.
+/// ready. At most 49,408 octets are kept, those that were taken included.
 #[derive(Drop)]
 pub struct Output {
     /// Octets to send, of which the first `taken` were taken.
@@ -205,7 +205,7 @@ fn put_uids(
 }
 
 impl Output {
-    /// An output that owes nothing, with its room of 24,832 octets.
+    /// An output that owes nothing, with its room of 49,408 octets.
     pub fn new(alloc: Global) -> Result<Output, AllocError>
         ensures { IfOk result (λ o. o ≡ nothing_owed) }
     {

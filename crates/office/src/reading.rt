@@ -17,9 +17,9 @@ use vault::{MessageKey, Vault, VaultFault};
 /// At most so many octets are lent at once; while more are owed, so many at least stand ready.
 pub const MOST_LENT: usize = 16_384;
 /// How many octets of a message are read from the store at once.
-const PAGE_OCTETS: usize = 4096;
+const PAGE_OCTETS: usize = 16_384;
 /// How many octets a page has at most once its dots are doubled.
-const STUFFED_OCTETS: usize = 8192;
+const STUFFED_OCTETS: usize = 32_768;
 
 /// A message that is being sent: its key, how many octets it has and how many of them were read
 /// (`place`), and the state in which dot-stuffing and TOP's cut stand there.

@@ -22,5 +22,5 @@ pub returns-clause-most : goal.returns-clause-most
 returns-clause-most c =
     let out = c.feed-put.new.out in
     let put = c.feed-put.result.1 in
-    let size : length out ≤ 8192 = search rules in
-    length_extended c.extend_from_slice.result c.extend_from_slice.new.self.items c.args.ready.now.items (take put out) 8192 (search rules) (omega (arith, size, length-take put out))
+    let size : length out ≤ 32768 = search rules in
+    length_extended c.extend_from_slice.result c.extend_from_slice.new.self.items c.args.ready.now.items (take put out) 32768 (search rules) (omega (arith, size, length-take put out))
