@@ -301,7 +301,7 @@ module _ (now : ℕ) (B : Records) where
 
   pub turns_short : (L : Log) (held held_then : List Exchange) (g : Log) (c : List Call) → HadHttpTurns now B L held held_then g c → All IsShort held → All IsShort held_then
   turns_short _ _ _ _ _ (NoneHeld L) a = a
-  turns_short _ _ _ _ _ (IsHeldOn L g given e e_then held held_then c calls turn live rest) a =
+  turns_short _ _ _ _ _ (IsHeldOn L g given e e_then held held_then c calls turn live since rest) a =
       All-cons IsShort e_then held_then (turn_short L e e_then g c turn live (All-head IsShort e held a)) (turns_short (g ++ L) held held_then given calls rest (All-tail IsShort e held a))
   turns_short _ _ _ _ _ (IsClosed L g given e e_then held held_then c calls turn over rest) a = turns_short (g ++ L) held held_then given calls rest (All-tail IsShort e held a)
 

@@ -1,5 +1,5 @@
 -- What the parts of a turn do together.
-use Rattle.std.proofs.Common.{◌≡◌, ℕ, zero, suc, ◌+◌, ◌<◌, ◌≤◌, Bool, true, false, not, List, [], ◌∷◌, ◌++◌, length, map, refl, sym, ◌∙◌, ap, arith, Some, None, Option, ⊎_elim, ◌⊎◌, inl, inr, subst, append_assoc}
+use Rattle.std.proofs.Common.{◌≡◌, ◌||◌, ℕ, zero, suc, ◌+◌, ◌<◌, ◌≤◌, Bool, true, false, not, List, [], ◌∷◌, ◌++◌, length, map, refl, sym, ◌∙◌, ap, arith, Some, None, Option, ⊎_elim, ◌⊎◌, inl, inr, subst, append_assoc}
 use Rattle.std.specs.Bool.{⊤}
 use Rattle.std.specs.List.{All, Contains, list_any, filter, filter_map}
 use Rattle.std.proofs.lemmas.List.{append-nil}
@@ -17,15 +17,16 @@ use Rattle.serving.specs.Calls.{Call, Waited}
 use Rattle.serving.specs.declared.links.Seat.{Seat}
 use Rattle.serving.specs.declared.links.Links.{Links}
 use Rattle.serving.specs.declared.newcomers.Newcomer.{Newcomer}
-use Rattle.serving.specs.Works.{is_beside, waits, wait_of, arrivals, arrival_of, closings, closing_of, none_waited, tells_none, is_cut_of, is_cut, moments, moment_of, openings, is_opening, refusals, is_refusal, HasCause, AreCaused, WasGiven, WasAsked, Part, Asking, Giving, IsQuiet, IsQuietFor, IsPassed, Came, seat_of, unseated_of, link_of, HasAccepted, AreAccepted, most_links, HadTurn, HadTurns, AreDeposits, is_open_seat, is_shut_seat, closing, AreClosed, link_of_seat, IsLateGone, AreLateGone}
+use Rattle.serving.specs.Works.{is_beside, waits, wait_of, arrivals, arrival_of, closings, closing_of, none_waited, tells_none, is_cut_of, is_cut, moments, moment_of, openings, is_opening, refusals, is_refusal, HasCause, AreCaused, WasGiven, WasAsked, Part, Asking, Giving, IsQuiet, IsQuietFor, IsPassed, Came, seat_of, unseated_of, link_of, HasAccepted, AreAccepted, most_links, HadTurn, WereServed, AreDeposits, is_open_seat, is_shut_seat, closing, AreClosed, link_of_seat, IsLateGone, AreLateGone}
 use Rattle.serving.specs.Spools.{FileCall}
 use Rattle.serving.specs.HttpWorks.{AskedApart, DidApart, HasAcceptedBeside, HadHttpTurns}
 use Rattle.serving.specs.declared.requests.Exchange.{Exchange}
-use Rattle.serving.specs.Settings.{last_tried}
-use Rattle.serving.specs.SpoolTurns.{IsSpoolTurn, SpoolPart}
+use Rattle.serving.specs.Settings.{settings, last_tried}
+use Rattle.serving.specs.SpoolTurns.{IsSpoolTurn, has_dealt, SpoolPart}
 use Rattle.serving.specs.Turns.{way_of, millis_of, HasCauseInTurn, IsTurn, Works}
 use Rattle.serving.proofs.Staying.{Fewer, deposit_same}
-use Rattle.serving.proofs.Working.{given_then, asked_then, none_of, count_joined, any_left, any_right, quiet_none, caused_more, fewer_quiet, fewer_gone, none_joined, turned_left, turned_right}
+use Rattle.serving.proofs.Freeing.{freed_left, freed_right}
+use Rattle.serving.proofs.Working.{or_true, given_then, asked_then, none_of, count_joined, any_left, any_right, quiet_none, caused_more, fewer_quiet, fewer_gone, none_joined, turned_left, turned_right}
 
 -- ---- deposits
 
@@ -135,26 +136,30 @@ accepted_so Holds IsClean Faults o o1 seats seats1 false g c all more a =
     (λ (full : length seats1 ≡ 128). inl (inr full))
     (a.all refl)
 
+-- where the clients' links press, the next turn doesn't wait
+no_wait : (links : Links) → links.clients.presses ≡ true → millis_of links ≡ 0
+no_wait links e = rw e refl
+
 -- ---- the turn
 
 module _ {V W S : Type 0} (Holds : V → Contents → Type 0) (IsClean : V → Type 0) (Faults : V → ℕ) (Asked : W → List Call → Type 0) (AskedFiles : S → List FileCall → Type 0) where
-  pub turn_done : (T : Trace) (now : ℕ) (links links_then : Links) (o o1 o2 o3 o4 o5 o6 : Office V) (w w1 w2 w3 w4 w5 w6 : W) (f f1 : S) (seats2 : List Seat) (goes : Bool) (held : List Exchange) (more : Bool)
+  pub turn_done : (T : Trace) (now : ℕ) (links links_then : Links) (o o1 o2 o3 o4 o5 o6 : Office V) (w w1 w2 w3 w4 w5 w6 : W) (f f1 : S) (seats2 : List Seat) (goes : Bool) (held : List Exchange) (more freed pressed : Bool)
       → Part Holds IsClean Faults Asked o w o1 w1 (IsPassed (millis_of links) now)
       → Part Holds IsClean Faults Asked o1 w1 o2 w2 (AreAccepted Holds IsClean o1 o2 links.clients.seats.items seats2 64 goes)
       → Asking Asked w2 w3 (AskedApart (HasAcceptedBeside now 64 more links.requests.exchanges.items held))
-      → Part Holds IsClean Faults Asked o2 w3 o3 w4 (HadTurns Holds IsClean o2 o3 (way_of links (length seats2)) seats2 seats2)
+      → Part Holds IsClean Faults Asked o2 w3 o3 w4 (WereServed Holds IsClean o2 o3 (settings links) freed seats2 seats2)
       → Part Holds IsClean Faults Asked o3 w4 o4 w5 (DidApart Holds IsClean o3 o4 (λ B L. HadHttpTurns now B L held links_then.requests.exchanges.items))
       → Giving Holds IsClean Faults o4 o5 (AreLateGone now links.clients.newcomers.seconds links.clients.newcomers.newcomers.items)
       → ((U : Trace) → StandsFor Holds o5 U → Asking Asked w5 w6 (AreClosed U seats2 links_then.clients.seats.items))
-      → SpoolPart Holds IsClean Faults AskedFiles o5 f o6 f1 (IsSpoolTurn (last_tried links) (last_tried links_then))
+      → SpoolPart Holds IsClean Faults AskedFiles o5 f o6 f1 (λ U given calls. IsSpoolTurn (last_tried links) (last_tried links_then) U given calls × (links_then.clients.presses ≡ (pressed || has_dealt calls)))
       → StandsFor Holds o T → IsClean (vault_of o6) → Works Holds Faults Asked AskedFiles T now links o w f o6 links_then w6 f1
-  turn_done T now links links_then o o1 o2 o3 o4 o5 o6 w w1 w2 w3 w4 w5 w6 f f1 seats2 goes held more pass acc asked served reqs late close spool s k6 =
+  turn_done T now links links_then o o1 o2 o3 o4 o5 o6 w w1 w2 w3 w4 w5 w6 f f1 seats2 goes held more freed pressed pass acc asked served reqs late close spool s k6 =
       let B = T.base in
       let L = T.log in
       let seconds = links.clients.newcomers.seconds in
       let newcomers = links.clients.newcomers.newcomers.items in
       let millis = millis_of links in
-      let way = way_of links (length seats2) in
+      let way = way_of links (length seats2) freed in
       let gp = pass.given in
       let ga = acc.given in
       let gl = served.given in
@@ -191,6 +196,7 @@ module _ {V W S : Type 0} (Holds : V → Contents → Type 0) (IsClean : V → T
       let cr = reqs.calls in
       let cx = x.calls in
       let C5 : List Call = ((((cp ++ ca) ++ cq) ++ cl) ++ cr) ++ cx in
+      let filed = spool.facts (trace_of B ((gz ++ G3) ++ L)) (subst (λ l. StandsFor Holds o5 (trace_of B l)) (sym (append_assoc gz G3 L)) s5) k6 in
       let come = acc.facts.come in
       let came = acc.facts.came in
       let quiet = deposits_quiet gs spool.deposits in
@@ -208,14 +214,14 @@ module _ {V W S : Type 0} (Holds : V → Contents → Type 0) (IsClean : V → T
       let none : (q : Seat) → Contains [] q → Contains seats2 q = λ q h. absurd (none_contained q h) in
       let caused_s : AreCaused seats2 C5 gs = caused_more [] seats2 [] C5 gs none (λ l h. cc) quiet.caused in
       let caused_r : AreCaused seats2 C5 gr = caused_more [] seats2 cr C5 gr none (λ l h. seen_fifth cp ca cq cl cr cx (is_cut_of l) h) reqs.facts.caused in
-      let caused_l : AreCaused seats2 C5 gl = caused_more seats2 seats2 cl C5 gl (λ q h. h) cut served.facts.of_seats.caused in
+      let caused_l : AreCaused seats2 C5 gl = caused_more seats2 seats2 cl C5 gl (λ q h. h) cut served.facts.turns.of_seats.caused in
       let caused_a : AreCaused seats2 C5 ga = caused_more [] seats2 ca C5 ga none (λ l h. seen_second cp ca cq cl cr cx (is_cut_of l) h) come.caused in
       let caused_p : AreCaused seats2 C5 gp = subst (AreCaused seats2 C5) (sym pass.facts.given_is) (All-cons (HasCause seats2 C5) (event.Tick now, pass.facts.mark) [] tt (All-nil (HasCause seats2 C5))) in
       let P = HasCause seats2 C5 in
       let Q = HasCauseInTurn now links seats2 C5 in
       let by_cause : (g : Log) → All P g → All Q g = λ g h. All-weaker P Q (λ y p. inl p) g h in
       let caused_z : All Q gz = All-weaker (IsLateGone now seconds newcomers) Q (λ y p. inr p) gz late.facts in
-      let lq = served.facts.of_seats.quiet in
+      let lq = served.facts.turns.of_seats.quiet in
       let rq = reqs.facts.quiet in
       let waits_x : waits cx ≡ [] = ap waits x.facts.calls_are ∙ waits_of (filter (is_shut_seat trace4) seats2) in
       let arrivals_x : arrivals cx ≡ [] = ap arrivals x.facts.calls_are ∙ arrivals_of (filter (is_shut_seat trace4) seats2) in
@@ -235,6 +241,7 @@ module _ {V W S : Type 0} (Holds : V → Contents → Type 0) (IsClean : V → T
         came = came;
         seats = seats2;
         stands = u4.stands B L s k6;
+        counted = u4.counted;
         failed = u4.failed B L s k6;
         asked =
             asked_then Asked w w5 w6 ((((cp ++ ca) ++ cq) ++ cl) ++ cr) cx
@@ -246,8 +253,9 @@ module _ {V W S : Type 0} (Holds : V → Contents → Type 0) (IsClean : V → T
           deposits = gs;
           earlier = gz ++ G3;
           is = append_assoc gs gz G3;
-          tries = spool.facts (trace_of B ((gz ++ G3) ++ L)) (subst (λ l. StandsFor Holds o5 (trace_of B l)) (sym (append_assoc gz G3 L)) s5) k6;
+          tries = filed.0;
         };
+        dealt = λ e. no_wait links_then (filed.1 ∙ (ap (λ b. pressed || b) e ∙ or_true pressed));
         http = record {
           held = held;
           before = cp ++ ca;
@@ -258,7 +266,7 @@ module _ {V W S : Type 0} (Holds : V → Contents → Type 0) (IsClean : V → T
           goes = more;
           calls_are = append_assoc (((cp ++ ca) ++ cq) ++ cl) cr cx ∙ (append_assoc ((cp ++ ca) ++ cq) cl (cr ++ cx) ∙ append_assoc (cp ++ ca) cq (cl ++ (cr ++ cx)));
           apart = none_of is_beside (cp ++ ca) (cl ++ cx) (none_of is_beside cp ca (ap (list_any is_beside) pass.facts.calls_are) come.apart)
-              (none_of is_beside cl cx served.facts.of_seats.apart (ap (list_any is_beside) x.facts.calls_are ∙ apart_of (filter (is_shut_seat trace4) seats2)));
+              (none_of is_beside cl cx served.facts.turns.of_seats.apart (ap (list_any is_beside) x.facts.calls_are ∙ apart_of (filter (is_shut_seat trace4) seats2)));
           earlier = G2;
           commands = gr;
           later = gx;
@@ -309,11 +317,16 @@ module _ {V W S : Type 0} (Holds : V → Contents → Type 0) (IsClean : V → T
               let d = rq.no_refusals in
               let f = lq.no_refusals in
               omega (arith, e5, e4, e3, e2, e1, a, b, z, d, f, refusals_p));
+          freed = freed;
+          ended = λ e. (
+            (served.facts.freed_by e).0,
+            freed_left B L G3 gx seats2 (freed_left B L G2 gr seats2 (freed_right B L G1 gl seats2 ((served.facts.freed_by e).1 B (G1 ++ L) s2 k3))),
+          );
           turns = All-weaker (HadTurn way B (G1 ++ L) gl (trace_of B (gl ++ (G1 ++ L))) cl) (HadTurn way B L G4 after C5)
               (λ q h here.
               turned_left way B L G3 gx ((((cp ++ ca) ++ cq) ++ cl) ++ cr) cx q
               (turned_left way B L G2 gr (((cp ++ ca) ++ cq) ++ cl) cr q (turned_right way B L G1 gl ((cp ++ ca) ++ cq) cl q (h (to_links q.connection here)))))
-              seats2 (served.facts.turns B (G1 ++ L) s2 k3);
+              seats2 (served.facts.turns.turns B (G1 ++ L) s2 k3);
           caused = All-append Q gx G3 (All-append Q gs gz (by_cause gs caused_s) caused_z)
               (All-append Q gr G2 (by_cause gr caused_r) (All-append Q gl G1 (by_cause gl caused_l) (All-append Q ga gp (by_cause ga caused_a) (by_cause gp caused_p))));
           closed = filter_map-append closing_of ((((cp ++ ca) ++ cq) ++ cl) ++ cr) cx

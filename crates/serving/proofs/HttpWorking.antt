@@ -312,11 +312,11 @@ told_later e r has goes less =
 pub turns_then : (now : ℕ) (B : Records) (L : Log) (h1 t1 h2 t2 : List Exchange) (g1 g2 : Log) (c1 c2 : List Call) → HadHttpTurns now B L h1 t1 g1 c1 → HadHttpTurns now B (g1 ++ L) h2 t2 g2 c2
     → HadHttpTurns now B L (h1 ++ h2) (t1 ++ t2) (g2 ++ g1) (c1 ++ c2)
 turns_then now B _ _ _ h2 t2 _ g2 _ c2 (NoneHeld L) b = subst (λ g. HadHttpTurns now B L h2 t2 g c2) (sym (append-nil g2)) b
-turns_then now B _ _ _ h2 t2 _ g2 _ c2 (IsHeldOn L g given e e_then held held_then c calls turn live rest) b =
+turns_then now B _ _ _ h2 t2 _ g2 _ c2 (IsHeldOn L g given e e_then held held_then c calls turn live since rest) b =
     let later = turns_then now B (g ++ L) held held_then h2 t2 given g2 calls c2 rest (subst (λ l. HadHttpTurns now B l h2 t2 g2 c2) (append_assoc given g L) b) in
     subst (λ x. HadHttpTurns now B L (e ∷ (held ++ h2)) (e_then ∷ (held_then ++ t2)) (g2 ++ (given ++ g)) x) (sym (append_assoc c calls c2))
     (subst (λ x. HadHttpTurns now B L (e ∷ (held ++ h2)) (e_then ∷ (held_then ++ t2)) x (c ++ (calls ++ c2))) (append_assoc g2 given g)
-    (IsHeldOn L g (g2 ++ given) e e_then (held ++ h2) (held_then ++ t2) c (calls ++ c2) turn live later))
+    (IsHeldOn L g (g2 ++ given) e e_then (held ++ h2) (held_then ++ t2) c (calls ++ c2) turn live since later))
 turns_then now B _ _ _ h2 t2 _ g2 _ c2 (IsClosed L g given e e_then held held_then c calls turn over rest) b =
     let later = turns_then now B (g ++ L) held held_then h2 t2 given g2 calls c2 rest (subst (λ l. HadHttpTurns now B l h2 t2 g2 c2) (append_assoc given g L) b) in
     subst (λ x. HadHttpTurns now B L (e ∷ (held ++ h2)) (held_then ++ t2) (g2 ++ (given ++ g)) x) (sym (append_assoc c (Closed Admin e.link ∷ calls) c2))
@@ -330,8 +330,8 @@ turn_served now B L e e1 e2 g1 g2 c1 c2 late heard none told =
     subst (λ g. HasHttpTurn now B L e e2 g (c1 ++ c2)) is (IsServed e1 g1 c1 c2 late heard told)
 
 module _ (now : ℕ) (B : Records) (L : Log) (e t : Exchange) (g : Log) (c : List Call) where
-  pub held_on : HasHttpTurn now B L e t g c → t.is_over ≡ false → HadHttpTurns now B L (e ∷ []) (t ∷ []) g c
-  held_on turn live = subst (HadHttpTurns now B L (e ∷ []) (t ∷ []) g) (append-nil c) (IsHeldOn L g [] e t [] [] c [] turn live (NoneHeld (g ++ L)))
+  pub held_on : HasHttpTurn now B L e t g c → t.is_over ≡ false → t.since ≡ e.since → HadHttpTurns now B L (e ∷ []) (t ∷ []) g c
+  held_on turn live since = subst (HadHttpTurns now B L (e ∷ []) (t ∷ []) g) (append-nil c) (IsHeldOn L g [] e t [] [] c [] turn live since (NoneHeld (g ++ L)))
 
   closed : HasHttpTurn now B L e t g c → t.is_over ≡ true → (l : Link) → l ≡ e.link → HadHttpTurns now B L (e ∷ []) [] g (c ++ Closed Admin l ∷ [])
   closed turn over l same =

@@ -22,3 +22,5 @@ pub mod Ongoing
 pub mod Unread
 pub mod Late
 pub mod Noting
+pub mod Going
+pub mod Freeing

@@ -1,5 +1,5 @@
 -- One file of a spool is tried.
-use Rattle.std.proofs.Common.{◌≡◌, ℕ, Bool, List, [], ◌∷◌, ◌++◌, Option, Some, None, append_assoc, refl, sym, ◌∙◌, ap, subst}
+use Rattle.std.proofs.Common.{◌≡◌, ◌||◌, ℕ, Bool, true, false, List, [], ◌∷◌, ◌++◌, Option, Some, None, append_assoc, refl, sym, ◌∙◌, ap, subst}
 use Rattle.vault.specs.Changes.{Contents}
 use Rattle.office.specs.Events.{Mark, Tagged, Log, Trace}
 use Rattle.office.specs.Events as event
@@ -12,9 +12,17 @@ use Rattle.serving.specs.declared.file_name.FileName.{FileName}
 use Rattle.serving.specs.declared.files.Disposal.{Disposal}
 use Rattle.serving.specs.Spools.{FileCall, Next, Read, Removed, Renamed, disposal_of}
 use Rattle.serving.specs.Works.{WasGiven}
-use Rattle.serving.specs.SpoolTurns.{disposing, deposit_of, IsTrying, CouldNotRead, WasTried, IsSpoolTurn, NoFileThere, TriesOne, SpoolPart}
+use Rattle.serving.specs.SpoolTurns.{disposing, deposit_of, IsTrying, CouldNotRead, WasTried, IsSpoolTurn, NoFileThere, TriesOne, has_dealt, SpoolPart}
 use Rattle.serving.proofs.Depositing.{deposit_mark}
 use Rattle.serving.proofs.Working.{given_none}
+
+none_more : (b : Bool) → b ≡ (b || false)
+none_more true = refl
+none_more false = refl
+
+-- a file is dealt with where it was removed or renamed
+pub dealt_so : (b : Bool) → b ≡ (b || false)
+dealt_so b = none_more b
 
 -- what was to become of a file is what its answer says
 trying_so : (T : Trace) (lent : ℕ → ℕ) (n : FileName) (text read : List ℕ) (o : Outcome) (d : Disposal) (is_done : Bool) → text ≡ read → d ≡ disposal_of o
@@ -33,35 +41,37 @@ module _ {V S : Type 0} (Holds : V → Contents → Type 0) (IsClean : V → Typ
   two_calls s s1 s2 call calls a b before k = subst (Asked s2) (append_assoc before (call ∷ []) calls) (b (before ++ call ∷ []) (a before k))
 
   pub tries_none : (o : Office V) (s s1 : S) (last : Option FileName) → ((before : List FileCall) → Asked s before → Asked s1 (before ++ Next last None ∷ []))
-      → SpoolPart Holds IsClean Faults Asked o s o s1 (IsSpoolTurn last last)
-  tries_none o s s1 last is = record { given = []; calls = Next last None ∷ []; was_given = given_none Holds IsClean Faults o; was_asked = is; deposits = tt; facts = λ T st k. NoFileThere T }
+      → (b : Bool)
+      → SpoolPart Holds IsClean Faults Asked o s o s1 (λ T given calls. IsSpoolTurn last last T given calls × (b ≡ (b || has_dealt calls)))
+  tries_none o s s1 last is b = record { given = []; calls = Next last None ∷ []; was_given = given_none Holds IsClean Faults o; was_asked = is; deposits = tt; facts = λ T st k. (NoFileThere T, none_more b) }
 
-  pub tries_one : (o o1 : Office V) (s s1 s2 : S) (last : Option FileName) (name : FileName) → ((before : List FileCall) → Asked s before → Asked s1 (before ++ Next last (Some name) ∷ []))
-      → SpoolPart Holds IsClean Faults Asked o s1 o1 s2 (IsTrying name) → SpoolPart Holds IsClean Faults Asked o s o1 s2 (IsSpoolTurn last (Some name))
-  tries_one o o1 s s1 s2 last name is a = record {
+  pub tries_one : (o o1 : Office V) (s s1 s2 : S) (last : Option FileName) (name : FileName) (b dealt : Bool) → ((before : List FileCall) → Asked s before → Asked s1 (before ++ Next last (Some name) ∷ []))
+      → SpoolPart Holds IsClean Faults Asked o s1 o1 s2 (λ T given calls. IsTrying name T given calls × (dealt ≡ has_dealt calls))
+      → SpoolPart Holds IsClean Faults Asked o s o1 s2 (λ T given calls. IsSpoolTurn last (Some name) T given calls × ((b || dealt) ≡ (b || has_dealt calls)))
+  tries_one o o1 s s1 s2 last name b dealt is a = record {
     given = a.given;
     calls = Next last (Some name) ∷ a.calls;
     was_given = a.was_given;
     was_asked = two_calls s s1 s2 (Next last (Some name)) a.calls is a.was_asked;
     deposits = a.deposits;
-    facts = λ T st k. TriesOne name T a.given a.calls (a.facts T st k);
+    facts = λ T st k. (let f = a.facts T st k in (TriesOne name T a.given a.calls f.0, ap (λ x. b || x) f.1));
   }
 
-  pub tries_unread : (o : Office V) (s s1 : S) (name : FileName) → ((before : List FileCall) → Asked s before → Asked s1 (before ++ Read name None ∷ [])) → SpoolPart Holds IsClean Faults Asked o s o s1 (IsTrying name)
-  tries_unread o s s1 name is = record { given = []; calls = Read name None ∷ []; was_given = given_none Holds IsClean Faults o; was_asked = is; deposits = tt; facts = λ T st k. CouldNotRead }
+  pub tries_unread : (o : Office V) (s s1 : S) (name : FileName) → ((before : List FileCall) → Asked s before → Asked s1 (before ++ Read name None ∷ [])) → SpoolPart Holds IsClean Faults Asked o s o s1 (λ T given calls. IsTrying name T given calls × (false ≡ has_dealt calls))
+  tries_unread o s s1 name is = record { given = []; calls = Read name None ∷ []; was_given = given_none Holds IsClean Faults o; was_asked = is; deposits = tt; facts = λ T st k. (CouldNotRead, refl) }
 
   -- a file was read and deposited, and these further calls were made
-  pub tries_read : (o o1 : Office V) (s s1 s2 : S) (lent : ℕ → ℕ) (name : FileName) (text read : List ℕ) (out : Outcome) (d : Disposal) (is_done : Bool) → text ≡ read → d ≡ disposal_of out
+  pub tries_read : (o o1 : Office V) (s s1 s2 : S) (lent : ℕ → ℕ) (name : FileName) (text read : List ℕ) (out : Outcome) (d : Disposal) (is_done dealt : Bool) → dealt ≡ has_dealt (disposing name is_done d) → text ≡ read → d ≡ disposal_of out
       → WasGiven Holds IsClean Faults o o1 ((deposit_of name text, mark_of out) ∷ [])
       → ((T : Trace) → StandsFor Holds o T → IsClean (vault_of o1) → IsOutcome T lent (deposit_of name text) out)
       → ((before : List FileCall) → Asked s before → Asked s1 (before ++ Read name (Some read) ∷ []))
       → ((before : List FileCall) → Asked s1 before → Asked s2 (before ++ disposing name is_done d))
-      → SpoolPart Holds IsClean Faults Asked o s o1 s2 (IsTrying name)
-  tries_read o o1 s s1 s2 lent name text read out d is_done same fate given outcome a b = record {
+      → SpoolPart Holds IsClean Faults Asked o s o1 s2 (λ T given calls. IsTrying name T given calls × (dealt ≡ has_dealt calls))
+  tries_read o o1 s s1 s2 lent name text read out d is_done dealt is_dealt same fate given outcome a b = record {
     given = (deposit_of name text, mark_of out) ∷ [];
     calls = Read name (Some read) ∷ disposing name is_done d;
     was_given = given;
     was_asked = two_calls s s1 s2 (Read name (Some read)) (disposing name is_done d) a b;
     deposits = tt;
-    facts = λ T st k. trying_so T lent name text read out d is_done same fate (outcome T st k);
+    facts = λ T st k. (trying_so T lent name text read out d is_done same fate (outcome T st k), is_dealt);
   }

@@ -30,11 +30,11 @@ use Rattle.serving.proofs.Staying.{Fewer, fewer_framed, frame_read, frame_took, 
 
 -- ---- one after the other
 
-newly_then : (B : Records) (L g1 g2 : Log) → AreNewlyAdmitted B L g1 → AreNewlyAdmitted B (g1 ++ L) g2 → AreNewlyAdmitted B L (g2 ++ g1)
+pub newly_then : (B : Records) (L g1 g2 : Log) → AreNewlyAdmitted B L g1 → AreNewlyAdmitted B (g1 ++ L) g2 → AreNewlyAdmitted B L (g2 ++ g1)
 newly_then B L g1 [] a b = a
 newly_then B L g1 ((e, m) ∷ g2) a b = (subst (λ l. IsAdmitted (trace_of B l) e m) (sym (append_assoc g2 g1 L)) b.0, newly_then B L g1 g2 a b.1)
 
-or_true : (b : Bool) → (b || true) ≡ true
+pub or_true : (b : Bool) → (b || true) ≡ true
 or_true true = refl
 or_true false = refl
 
@@ -42,7 +42,7 @@ below : (a b c : ℕ) → a ≤ b → b ≤ c → a ≤ c
 below a b c h k = omega (arith, h, k)
 
 -- a count that grew within has grown
-grown_more : (a b c d : ℕ) → a ≤ b → c ≤ d → has_grown b c ≡ true → has_grown a d ≡ true
+pub grown_more : (a b c d : ℕ) → a ≤ b → c ≤ d → has_grown b c ≡ true → has_grown a d ≡ true
 grown_more a b c d low high h =
     ⊎_elim
     (λ (less : nat_lt b c ≡ true).

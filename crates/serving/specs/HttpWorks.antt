@@ -156,13 +156,13 @@ pub data HasHttpTurn (now : ℕ) (B : Records) (L : Log) (e e_then : Exchange) :
       → HasHttpTurn now B L e e_then given (reads ++ writes)
 
 -- Each link that is held has its turn, one after the other: those that are over by then are closed,
--- and the others are held on.
+-- and the others are held on, with the moment at which they were accepted.
 pub data HadHttpTurns (now : ℕ) (B : Records) : (L : Log) → (held held_then : List Exchange) → Log
     → List Call → Type 0 where
   NoneHeld : (L : Log) → HadHttpTurns now B L [] [] [] []
   IsHeldOn : (L g given : Log) (e e_then : Exchange) (held held_then : List Exchange)
       (c calls : List Call) → HasHttpTurn now B L e e_then g c → e_then.is_over ≡ false
-      → HadHttpTurns now B (g ++ L) held held_then given calls
+      → e_then.since ≡ e.since → HadHttpTurns now B (g ++ L) held held_then given calls
       → HadHttpTurns now B L (e ∷ held) (e_then ∷ held_then) (given ++ g) (c ++ calls)
   IsClosed : (L g given : Log) (e e_then : Exchange) (held held_then : List Exchange)
       (c calls : List Call) → HasHttpTurn now B L e e_then g c → e_then.is_over ≡ true

@@ -15,6 +15,7 @@ pub mod HttpTurns
 pub mod HttpWorks
 pub mod SpoolTurns
 pub mod Turns
+pub mod Running
 pub mod Deposits
 pub mod Scripts
 pub mod ScriptSpools

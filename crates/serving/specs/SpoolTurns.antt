@@ -1,5 +1,6 @@
 -- That a turn tries one file of its spool: the next one behind that which was tried last.
-use Rattle.std.specs.Prelude.{ℕ, Bool, List, [], ◌∷◌, ◌++◌, Option, Some, None}
+use Rattle.std.specs.Prelude.{ℕ, Bool, false, List, [], ◌∷◌, ◌++◌, Option, Some, None}
+use Rattle.std.specs.List.{list_any}
 use Rattle.vault.specs.Changes.{Contents}
 use Rattle.office.specs.History.{Tag}
 use Rattle.office.specs.Events.{Event, Tagged, Log, Trace}
@@ -35,6 +36,16 @@ pub data IsTrying (name : FileName) (T : Trace) : Log → List FileCall → Type
 pub data IsSpoolTurn (last : Option FileName) : (last_then : Option FileName) → Trace → Log → List FileCall → Type 0 where
   NoFileThere : (T : Trace) → IsSpoolTurn last last T [] (Next last None ∷ [])
   TriesOne : (name : FileName) (T : Trace) (given : Log) (calls : List FileCall) → IsTrying name T given calls → IsSpoolTurn last (Some name) T given (Next last (Some name) ∷ calls)
+
+-- a file was removed or renamed
+abbrev pub is_dealt : FileCall → Bool
+is_dealt (Removed name is_done) = is_done
+is_dealt (Renamed name is_done) = is_done
+is_dealt _ = false
+
+-- a file was dealt with, so that the next one may be tried at once
+abbrev pub has_dealt : List FileCall → Bool
+has_dealt calls = list_any is_dealt calls
 
 -- a part of a turn that gives deposits to the office and asks the spool
 pub record SpoolPart {V S : Type 0} (Holds : V → Contents → Type 0) (IsClean : V → Type 0) (Faults : V → ℕ) (Asked : S → List FileCall → Type 0)

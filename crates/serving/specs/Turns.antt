@@ -1,5 +1,5 @@
 -- What a turn does all together.
-use Rattle.std.specs.Prelude.{◌≡◌, ◌⊎◌, ◌≤◌, ℕ, true, ◌||◌, List, [], ◌∷◌, ◌++◌, length, map, filter, filter_map, if◌then◌else◌}
+use Rattle.std.specs.Prelude.{◌≡◌, ◌⊎◌, ◌≤◌, ℕ, Bool, true, false, ◌==◌, ◌||◌, List, [], ◌∷◌, ◌++◌, length, map, filter, filter_map, if◌then◌else◌}
 use Rattle.std.specs.List.{All, list_any}
 use Rattle.vault.specs.Calls.{has_grown}
 use Rattle.vault.specs.Changes.{Contents}
@@ -10,12 +10,12 @@ use Rattle.office.specs.Stands.{StandsFor, vault_of}
 use Rattle.office.specs.declared.office.Office.{Office}
 use Rattle.serving.specs.Calls.{Call, Waited}
 use Rattle.serving.specs.Spools.{FileCall}
-use Rattle.serving.specs.Settings.{last_tried}
+use Rattle.serving.specs.Settings.{settings, last_tried}
 use Rattle.serving.specs.declared.wire.Link.{Link}
 use Rattle.serving.specs.declared.links.Seat.{Seat}
 use Rattle.serving.specs.declared.links.Links.{Links}
-use Rattle.serving.specs.Works.{waits, arrivals, closings, moments, openings, refusals, AreNewlyAdmitted, HasCause, IsLateGone, is_failed, WasAsked, Came, seat_of, unseated_of, link_of, HasAccepted, most_links, Way, way_by, HadTurn, is_open_seat, is_shut_seat, link_of_seat}
-use Rattle.serving.specs.SpoolTurns.{IsSpoolTurn}
+use Rattle.serving.specs.Works.{waits, arrivals, closings, moments, openings, refusals, AreNewlyAdmitted, HasCause, IsLateGone, is_failed, WasAsked, Came, seat_of, unseated_of, link_of, HasAccepted, most_links, Way, way_by, HadTurn, HasFreed, is_open_seat, is_shut_seat, link_of_seat}
+use Rattle.serving.specs.SpoolTurns.{IsSpoolTurn, has_dealt}
 use Rattle.serving.specs.HttpWorks.{HttpWorks}
 
 -- how long a turn waits: not at all where more can be done at once
@@ -23,8 +23,8 @@ abbrev pub millis_of : Links → ℕ
 millis_of links = if links.clients.presses || links.requests.presses then 0 else 1000
 
 -- how it serves so many links
-abbrev pub way_of : Links → (count : ℕ) → Way
-way_of links count = way_by links.clients count
+abbrev pub way_of : Links → (count : ℕ) → (freed : Bool) → Way
+way_of links count freed = way_by (settings links) count freed
 
 -- an event has a cause: no connection goes but by its link's end, or because its client is late
 abbrev pub HasCauseInTurn : (now : ℕ) → Links → (seats : List Seat) → List Call → Event × Mark → Type 0
@@ -49,8 +49,11 @@ pub record IsTurn (T after : Trace) (now : ℕ) (links links_then : Links) (came
   -- for each an opening was asked for, and so many were refused as links got no seat
   pub opened : openings given ≡ length came
   pub refused : refusals given ≡ length (filter_map unseated_of came)
+  -- logins are kept back behind refusals, where guesses are slow, and behind a session that ended in this turn, where they wait for a lock
+  pub freed : Bool
+  pub ended : freed ≡ true → ((links.clients.wait == 0) ≡ false) × HasFreed T.base T.log given seats
   -- each link whose connection is open had its turn, or stays unread for a cause
-  pub turns : All (HadTurn (way_of links (length seats)) T.base T.log given after calls) seats
+  pub turns : All (HadTurn (way_of links (length seats) freed) T.base T.log given after calls) seats
   -- no connection went but by its link's end, or because its client is late
   pub caused : All (HasCauseInTurn now links seats calls) given
   -- exactly those links were closed that got no seat, and those whose connections aren't open
@@ -74,10 +77,13 @@ pub record Works {V W S : Type 0} (Holds : V → Contents → Type 0) (Faults : 
   pub came : List Came
   pub seats : List Seat
   pub stands : StandsFor Holds office_then (trace_of T.base (given ++ T.log))
-  -- an event failed only where the store's count of faults grew
+  -- the store's count of faults never falls, and an event failed only where it grew
+  pub counted : Faults (vault_of office) ≤ Faults (vault_of office_then)
   pub failed : list_any is_failed given ≡ true → has_grown (Faults (vault_of office)) (Faults (vault_of office_then)) ≡ true
   pub asked : WasAsked Asked wire wire_then calls
   pub asked_files : (before : List FileCall) → AskedFiles spool before → AskedFiles spool_then (before ++ file_calls)
   pub is : IsTurn T (trace_of T.base (given ++ T.log)) now links links_then came seats given calls
   pub files : IsFileTurn T links links_then given file_calls
+  -- behind a file that was removed or renamed the next turn doesn't wait
+  pub dealt : has_dealt file_calls ≡ true → millis_of links_then ≡ 0
   pub http : HttpWorks T now links links_then given calls

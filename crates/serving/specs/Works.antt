@@ -7,7 +7,8 @@ use Rattle.vault.specs.Changes.{Contents}
 use Rattle.office.specs.History.{Done, Failed}
 use Rattle.office.specs.Events.{Event, Mark, Ignored, Tagged, Log, Trace}
 use Rattle.office.specs.Events as event
-use Rattle.office.specs.Trace.{is_open, is_ready, rest}
+use Rattle.office.specs.Trace.{history, is_open, is_ready, rest}
+use Rattle.office.specs.Sessions.{live}
 use Rattle.office.specs.Taken.{trace_of, IsAdmitted}
 use Rattle.office.specs.Stands.{StandsFor, vault_of}
 use Rattle.office.specs.declared.office.Office.{Office}
@@ -21,6 +22,7 @@ use Rattle.serving.specs.Calls.{Call, Waited, Accepted, Looked, Read, Wrote, Clo
 use Rattle.serving.specs.declared.links.Seat.{Seat}
 use Rattle.serving.specs.declared.links.Clients.{Clients}
 use Rattle.serving.specs.declared.newcomers.Newcomer.{Newcomer}
+use Rattle.serving.specs.Settings.{Settings}
 use Rattle.serving.specs.Newcomers.{newcomer, is_late_by}
 use Rattle.serving.specs.Paces.{is_held, is_free, part_by}
 use Rattle.serving.specs.declared.pace.Pace.{Pace}
@@ -376,9 +378,9 @@ may_keep links = links.guesses.are_slow || links.is_freed
 abbrev pub way_at : Clients → Way
 way_at links = record { share = share_by (length links.seats.items); wait = links.wait; may = may_keep links }
 
--- so many links are served: a session may end in the turn, where logins wait for a lock
-abbrev pub way_by : Clients → (count : ℕ) → Way
-way_by links count = record { share = share_by count; wait = links.wait; may = links.guesses.are_slow || not (links.wait == 0) }
+-- so many links are served, by these settings, and whether a session ended meanwhile
+abbrev pub way_by : Settings → (count : ℕ) → (freed : Bool) → Way
+way_by set count freed = record { share = share_by count; wait = set.wait; may = set.slow_guesses || freed }
 
 -- a seat's link had its turn, or stays unread for a cause, where its connection is open by then
 abbrev pub HadTurn : Way → (B : Records) (older given : Log) → (after : Trace) → List Call → Seat → Type 0
@@ -391,6 +393,34 @@ pub record HadTurns {V : Type 0} (Holds : V → Contents → Type 0) (IsClean : 
   pub of_seats : IsQuietFor seats given calls
   pub turns : (B : Records) (L : Log) → StandsFor Holds office (trace_of B L) → IsClean (vault_of office_then)
       → All (HadTurn way B L given (trace_of B (given ++ L)) calls) these
+
+-- ---- sessions that end
+
+-- A connection's session ended by these events: it lived behind some of them, and no more behind the next ones.
+pub record HasEnded (B : Records) (older given : Log) (c : ℕ) : Type 0 where
+  pub later : Log
+  pub ending : Log
+  pub front : Log
+  pub is : given ≡ later ++ (ending ++ front)
+  pub lived : live (history (trace_of B (front ++ older))) c ≡ true
+  pub ended : live (history (trace_of B (ending ++ (front ++ older)))) c ≡ false
+
+-- that of one of these seats did
+pub record HasFreed (B : Records) (older given : Log) (seats : List Seat) : Type 0 where
+  pub seat : Seat
+  pub among : Contains seats seat
+  pub session : HasEnded B older given seat.connection
+
+-- logins are kept back behind sessions that ended, where they wait for a lock, and behind nothing else
+abbrev pub IsFreedBy : {V : Type 0} (Holds : V → Contents → Type 0) (IsClean : V → Type 0) (office office_then : Office V) (wait : ℕ) (freed : Bool) (seats : List Seat) (given : Log) → Type 0
+IsFreedBy Holds IsClean office office_then wait freed seats given =
+    freed ≡ true → ((wait == 0) ≡ false) × ((B : Records) (L : Log) → StandsFor Holds office (trace_of B L) → IsClean (vault_of office_then) → HasFreed B L given seats)
+
+-- the links of these seats had their turns, by these settings, and what was kept back behind a session that ended was so for that
+pub record WereServed {V : Type 0} (Holds : V → Contents → Type 0) (IsClean : V → Type 0) (office office_then : Office V) (set : Settings) (freed : Bool) (seats these : List Seat)
+    (given : Log) (calls : List Call) : Type 0 where
+  pub turns : HadTurns Holds IsClean office office_then (way_by set (length seats) freed) seats these given calls
+  pub freed_by : IsFreedBy Holds IsClean office office_then set.wait freed seats given
 
 -- deposits, and no other event
 abbrev pub AreDeposits : Log → Type 0

@@ -1,12 +1,12 @@
 //! One file of a spool in a turn.
-ghost use Rattle.std.specs.Prelude.{◌≡◌, List, Option};
+ghost use Rattle.std.specs.Prelude.{◌≡◌, ◌||◌, List, Option};
 ghost use Rattle.office.specs.Events.{Trace};
 ghost use Rattle.office.specs.Shown.{outcome_seen};
 ghost use Rattle.office.specs.Stands.{StandsFor, vault_of};
 ghost use Rattle.serving.specs.Spools.{FileAct, disposal_of};
 ghost use Rattle.serving.specs.Deposits.{IsTried};
 ghost use Rattle.serving.specs.Settings.{settings_of};
-ghost use Rattle.serving.specs.SpoolTurns.{SpoolPart, IsTrying, IsSpoolTurn};
+ghost use Rattle.serving.specs.SpoolTurns.{SpoolPart, IsTrying, IsSpoolTurn, has_dealt};
 
 use crate::file_name::FileName;
 use crate::links::Clients;
@@ -41,7 +41,7 @@ fn disposal_by(outcome: Outcome) -> Disposal
 /// Deposits a file, and removes, renames or leaves it by the office's answer; one that can't be
 /// read is left. Returns whether it was removed or renamed.
 fn try_file<V: Vault, S: Spool>(office: &mut Office<V>, spool: &mut S, name: &FileName) -> bool
-    ensures works { SpoolPart V.holds V.is_clean V.faults S.asked office.old spool.old office.new spool.new (IsTrying name.now) }
+    ensures works { SpoolPart V.holds V.is_clean V.faults S.asked office.old spool.old office.new spool.new (λ T given calls. IsTrying name.now T given calls × (result ≡ has_dealt calls)) }
     ensures tried { (T : Trace) (acts : List FileAct) → StandsFor V.holds office.old T → S.tells spool.old acts → V.is_clean (vault_of office.new) → IsTried V.holds S.tells T acts office.new spool.new }
     ensures clean { V.is_clean (vault_of office.new) → V.is_clean (vault_of office.old) }
 {
@@ -63,7 +63,7 @@ pub(crate) fn serve_spool<V: Vault, S: Spool>(
     spool: &mut S,
     links: &mut Clients,
 )
-    ensures works { SpoolPart V.holds V.is_clean V.faults S.asked office.old spool.old office.new spool.new (IsSpoolTurn links.old.last links.new.last) }
+    ensures works { SpoolPart V.holds V.is_clean V.faults S.asked office.old spool.old office.new spool.new (λ T given calls. IsSpoolTurn links.old.last links.new.last T given calls × (links.new.presses ≡ (links.old.presses || has_dealt calls))) }
     ensures tried { (T : Trace) (acts : List FileAct) → StandsFor V.holds office.old T → S.tells spool.old acts → V.is_clean (vault_of office.new) → IsTried V.holds S.tells T acts office.new spool.new }
     ensures clean { V.is_clean (vault_of office.new) → V.is_clean (vault_of office.old) }
     ensures seats { links.new.seats ≡ links.old.seats }
@@ -72,8 +72,7 @@ pub(crate) fn serve_spool<V: Vault, S: Spool>(
     let Some(name) = spool.next_name(&links.last) else {
         return;
     };
-    if try_file(office, spool, &name) {
-        links.presses = true;
-    }
+    let is_dealt = try_file(office, spool, &name);
+    links.presses |= is_dealt;
     links.last = Some(name);
 }

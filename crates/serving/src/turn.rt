@@ -16,8 +16,8 @@ ghost use Rattle.serving.specs.Newcomers.{others};
 ghost use Rattle.serving.specs.Paces.{has_freed, KeepsAside, LeavesSettings};
 ghost use Rattle.serving.specs.Settings.{settings, settings_of, none_set};
 ghost use Rattle.serving.specs.Works.{Part, Asking, Giving, IsPassed, AreAccepted, IsWritten};
-ghost use Rattle.serving.specs.Works.{IsWrittenOut, IsHeard, HadTurns, AreClosed, IsClosed};
-ghost use Rattle.serving.specs.Works.{share_by, may_keep, way_at, way_by, is_late, AreNoMoreLate};
+ghost use Rattle.serving.specs.Works.{IsWrittenOut, IsHeard, HadTurns, WereServed, AreClosed, IsClosed};
+ghost use Rattle.serving.specs.Works.{share_by, may_keep, way_at, is_late, AreNoMoreLate};
 ghost use Rattle.serving.specs.Works.{AreLateGone};
 ghost use Rattle.serving.specs.Turns.{Works, millis_of};
 ghost use Rattle.serving.specs.HttpTurns.{AllGoOn, AreFew};
@@ -239,6 +239,7 @@ fn note_freed<V: Vault>(
     ensures seats { links.new.seats ≡ links.old.seats }
     ensures freed { (T : Trace) → StandsFor V.holds office.now T → links.new.is_freed ≡ (links.old.is_freed || has_freed links.old.wait was_logged_in (live (history T) connection)) }
     ensures waits { links.new.is_freed ≡ true → (links.old.is_freed ≡ true) ⊎ ((links.old.wait == 0) ≡ false) }
+    ensures still { links.old.is_freed ≡ true → links.new.is_freed ≡ true }
     ensures aside { LeavesSettings links.old links.new }
 {
     if links.wait == 0 {
@@ -267,6 +268,7 @@ fn serve_client<V: Vault, W: Wire>(
     ensures seats { links.new.seats ≡ links.old.seats }
     ensures freed { (T U : Trace) → StandsFor V.holds office.old T → StandsFor V.holds office.new U → links.new.is_freed ≡ (links.old.is_freed || has_freed links.old.wait (live (history T) seat.connection) (live (history U) seat.connection)) }
     ensures waits { links.new.is_freed ≡ true → (links.old.is_freed ≡ true) ⊎ ((links.old.wait == 0) ≡ false) }
+    ensures still { links.old.is_freed ≡ true → links.new.is_freed ≡ true }
     ensures aside { LeavesSettings links.old links.new }
     ensures works { Part V.holds V.is_clean V.faults W.asked office.old wire.old office.new wire.new (HadTurns V.holds V.is_clean office.old office.new (way_at links.old) (seat ∷ []) (seat ∷ [])) }
 {
@@ -288,7 +290,9 @@ fn serve_seat<V: Vault, W: Wire>(
     ensures serves { StillServes V.holds V.is_clean W.tells office.old wire.old links.old.seats.items [] office.new wire.new links.new.seats.items [] }
     ensures clean { V.is_clean (vault_of office.new) → V.is_clean (vault_of office.old) }
     ensures seats { links.new.seats ≡ links.old.seats }
+    ensures freed { (d : declared.Seat) (T U : Trace) → StandsFor V.holds office.old T → StandsFor V.holds office.new U → links.new.is_freed ≡ (links.old.is_freed || has_freed links.old.wait (live (history T) (slice_index_or links.old.seats.items place d).connection) (live (history U) (slice_index_or links.old.seats.items place d).connection)) }
     ensures waits { links.new.is_freed ≡ true → (links.old.is_freed ≡ true) ⊎ ((links.old.wait == 0) ≡ false) }
+    ensures still { links.old.is_freed ≡ true → links.new.is_freed ≡ true }
     ensures aside { LeavesSettings links.old links.new }
     ensures works { Part V.holds V.is_clean V.faults W.asked office.old wire.old office.new wire.new (λ given calls. (d : declared.Seat) → HadTurns V.holds V.is_clean office.old office.new (way_at links.old) links.old.seats.items (slice_index_or links.old.seats.items place d ∷ []) given calls) }
 {
@@ -307,7 +311,7 @@ fn serve_links<V: Vault, W: Wire>(
     ensures clean { V.is_clean (vault_of office.new) → V.is_clean (vault_of office.old) }
     ensures seats { links.new.seats ≡ links.old.seats }
     ensures aside { LeavesSettings links.old links.new }
-    ensures works { Part V.holds V.is_clean V.faults W.asked office.old wire.old office.new wire.new (HadTurns V.holds V.is_clean office.old office.new (way_by links.old (length links.old.seats.items)) links.old.seats.items links.old.seats.items) }
+    ensures works { Part V.holds V.is_clean V.faults W.asked office.old wire.old office.new wire.new (WereServed V.holds V.is_clean office.old office.new (settings_of links.old) links.new.is_freed links.old.seats.items links.old.seats.items) }
 {
     links.is_freed = false;
     let mut place = 0;

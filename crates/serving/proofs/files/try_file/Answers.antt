@@ -7,7 +7,7 @@ use Rattle.serving.proofs.Depositing.{filed_if, tried_none, tried_one}
 use Rattle.std.proofs.lemmas.List.{append-nil}
 use Rattle.office.specs.Outcomes.{mark_of}
 use Rattle.serving.proofs.Working.{given_one}
-use Rattle.serving.proofs.Trying.{tries_unread, tries_read}
+use Rattle.serving.proofs.Trying.{tries_unread, tries_read, dealt_so}
 use Rattle.std.proofs.Common.{false, subst}
 use Rattle.serving.proofs.files.try_file.Goals as goal
 
@@ -50,7 +50,7 @@ returns-in-Remove-clause-works g c =
     let o1 = c.step.new.self in
     let out = outcome_seen c.step.result in
     let n = c.args.name.now in
-    tries_read g.V.Vault.holds g.V.Vault.is_clean g.V.Vault.faults g.S.Spool.asked o o1 c.args.spool.now c.read.new.self c.remove.new.self (lent_by o) n c.as_slice.result.now c.in-Some.text.items out disposal.Remove c.remove.result
+    tries_read g.V.Vault.holds g.V.Vault.is_clean g.V.Vault.faults g.S.Spool.asked o o1 c.args.spool.now c.read.new.self c.remove.new.self (lent_by o) n c.as_slice.result.now c.in-Some.text.items out disposal.Remove c.remove.result c.remove.result (dealt_so c.remove.result)
     c.as_slice.ensures.value (sym c.in-Remove.is ∙ c.disposal_by-fate.ensures)
     (given_one g.V.Vault.holds g.V.Vault.is_clean g.V.Vault.faults o o1 _ (outcome_seen c.step.result) c.step.ensures.clean c.step.ensures.stands c.step.ensures.admitted c.step.ensures.counted c.step.ensures.cause)
     c.step.ensures.outcome c.in-Some.ensures.called c.remove.ensures.called
@@ -61,7 +61,7 @@ returns-in-Rename-clause-works g c =
     let o1 = c.step.new.self in
     let out = outcome_seen c.step.result in
     let n = c.args.name.now in
-    tries_read g.V.Vault.holds g.V.Vault.is_clean g.V.Vault.faults g.S.Spool.asked o o1 c.args.spool.now c.read.new.self c.rename.new.self (lent_by o) n c.as_slice.result.now c.in-Some.text.items out disposal.Rename c.rename.result
+    tries_read g.V.Vault.holds g.V.Vault.is_clean g.V.Vault.faults g.S.Spool.asked o o1 c.args.spool.now c.read.new.self c.rename.new.self (lent_by o) n c.as_slice.result.now c.in-Some.text.items out disposal.Rename c.rename.result c.rename.result (dealt_so c.rename.result)
     c.as_slice.ensures.value (sym c.in-Rename.is ∙ c.disposal_by-fate.ensures)
     (given_one g.V.Vault.holds g.V.Vault.is_clean g.V.Vault.faults o o1 _ (outcome_seen c.step.result) c.step.ensures.clean c.step.ensures.stands c.step.ensures.admitted c.step.ensures.counted c.step.ensures.cause)
     c.step.ensures.outcome c.in-Some.ensures.called c.rename.ensures.called
@@ -72,7 +72,7 @@ returns-clause-works g c =
     let o1 = c.step.new.self in
     let out = outcome_seen c.step.result in
     let n = c.args.name.now in
-    tries_read g.V.Vault.holds g.V.Vault.is_clean g.V.Vault.faults g.S.Spool.asked o o1 c.args.spool.now c.read.new.self c.read.new.self (lent_by o) n c.as_slice.result.now c.in-Some.text.items out disposal.Leave false
+    tries_read g.V.Vault.holds g.V.Vault.is_clean g.V.Vault.faults g.S.Spool.asked o o1 c.args.spool.now c.read.new.self c.read.new.self (lent_by o) n c.as_slice.result.now c.in-Some.text.items out disposal.Leave false false refl
     c.as_slice.ensures.value (sym c.in-Leave.is ∙ c.disposal_by-fate.ensures)
     (given_one g.V.Vault.holds g.V.Vault.is_clean g.V.Vault.faults o o1 _ (outcome_seen c.step.result) c.step.ensures.clean c.step.ensures.stands c.step.ensures.admitted c.step.ensures.counted c.step.ensures.cause)
     c.step.ensures.outcome c.in-Some.ensures.called (λ before k. subst (g.S.Spool.asked c.read.new.self) (sym (append-nil before)) k)

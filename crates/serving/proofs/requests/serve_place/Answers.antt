@@ -78,7 +78,7 @@ returns-then-not-exchange-clause-works g c =
     did_so g.V.Vault.holds g.V.Vault.is_clean g.V.Vault.faults g.W.Wire.asked c.args.office.now c.serve_exchange.new.office c.args.wire.now c.serve_exchange.new.wire
     (λ B L. HasHttpTurn now B L e e2) (λ B L. HadHttpTurns now B L (take 1 (drop place xs)) (take 1 (drop place (set xs place e2))))
     (λ B L given calls turn.
-    subst (λ l. HadHttpTurns now B L l (take 1 (drop place (set xs place e2))) given calls) (sym is) (subst (λ l. HadHttpTurns now B L (e ∷ []) l given calls) (sym left) (held_on now B L e e2 given calls turn live)))
+    subst (λ l. HadHttpTurns now B L l (take 1 (drop place (set xs place e2))) given calls) (sym is) (subst (λ l. HadHttpTurns now B L (e ∷ []) l given calls) (sym left) (held_on now B L e e2 given calls turn live c.serve_exchange.ensures.since)))
     c.serve_exchange.ensures.works
 
 pub returns-clause-works : goal.returns-clause-works

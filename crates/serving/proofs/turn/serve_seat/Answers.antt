@@ -1,10 +1,20 @@
-use Rattle.std.proofs.Common.{[], arith, sym, subst}
+use Rattle.std.proofs.Common.{◌≡◌, ◌||◌, [], arith, sym, subst}
+use Rattle.office.specs.Trace.{history}
+use Rattle.office.specs.Sessions.{live}
+use Rattle.serving.specs.Paces.{has_freed}
 use Rattle.serving.specs.Served.{IsServing}
 use Rattle.serving.specs.Works.{way_at}
 use Rattle.serving.proofs.Seating.{contained}
 use Rattle.serving.proofs.Working.{part_so}
 use Rattle.serving.proofs.Turns.{served_at}
+use Rattle.serving.proofs.Freeing.{at_place}
 use Rattle.serving.proofs.turn.serve_seat.Goals as goal
+
+pub returns-clause-freed : goal.returns-clause-freed
+returns-clause-freed g c = λ d T U s u.
+    at_place c.args.links.now.seats.items c.deref.result.now c.args.place _
+    (λ q. c.serve_client.new.links.is_freed ≡ (c.args.links.now.is_freed || has_freed c.args.links.now.wait (live (history T) q.connection) (live (history U) q.connection)))
+    c.deref.ensures.0 c.requires (c.serve_client.ensures.freed T U s u) d
 
 pub returns-clause-serves : goal.returns-clause-serves
 returns-clause-serves g c = λ T beside s clean.

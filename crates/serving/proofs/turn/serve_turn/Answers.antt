@@ -3,11 +3,10 @@ use Rattle.office.specs.Taken.{trace_of}
 use Rattle.serving.specs.Served.{Beside, Serves}
 use Rattle.serving.specs.Requests.{AreHeld, AsksNone}
 use Rattle.serving.proofs.Depositing.{serves_tried, serves_asked, serves_answering}
-use Rattle.std.proofs.Common.{ℕ, ◌≡◌, ◌||◌, ◌==◌, not, ap, ◌∙◌}
-use Rattle.serving.specs.declared.links.Clients.{Clients}
-use Rattle.serving.specs.Settings.{Settings, settings_of}
-use Rattle.serving.specs.Works.{Part, Asking, IsPassed, AreClosed, AreNoMoreLate, HadTurns, Way, way_by, share_by}
-use Rattle.serving.specs.SpoolTurns.{SpoolPart, IsSpoolTurn}
+use Rattle.std.proofs.Common.{◌≡◌, ◌||◌, ap, ◌∙◌}
+use Rattle.serving.specs.Settings.{Settings}
+use Rattle.serving.specs.Works.{Part, Asking, IsPassed, AreClosed, AreNoMoreLate, WereServed}
+use Rattle.serving.specs.SpoolTurns.{SpoolPart, IsSpoolTurn, has_dealt}
 use Rattle.serving.proofs.Late.{gone_so}
 use Rattle.serving.proofs.Finishing.{turn_done}
 use Rattle.serving.proofs.Bounds.{all_short}
@@ -50,10 +49,6 @@ returns-clause-serves g c = λ T s clean.
     let serves = serves_tried Holds Tells g.S.Spool.tells T b3 _ _ _ _ _ _ closed c.taken_is_sent.ensures k.is.held tried in
     subst (λ seats. Serves Holds Tells g.S.Spool.tells T c.serve_spool.new.office c.close_links.new.wire c.serve_spool.new.spool seats.items c.serve_requests.new.requests.exchanges.items) (sym c.serve_spool.ensures.seats) serves)
 
--- links that are set alike are served alike
-way_same : (a b : Clients) (n : ℕ) → settings_of a ≡ settings_of b → way_by a n ≡ way_by b n
-way_same a b n e = ap (λ (s : Settings). record { share = share_by n; wait = s.wait; may = s.slow_guesses || not (s.wait == 0) }) e
-
 pub returns-clause-works : goal.returns-clause-works
 returns-clause-works g c = λ T s clean.
     (let Holds = g.V.Vault.holds in
@@ -78,18 +73,18 @@ returns-clause-works g c = λ T s clean.
     let w6 = c.close_links.new.wire in
     let a = c.accept_links.ensures.works in
     let passed = subst (λ n. Part Holds IsClean g.V.Vault.faults Asked c.args.office.now c.args.wire.now o1 w1 (IsPassed n now)) c.millis_for-millis.ensures c.pass_time.ensures.works in
-    let turned = subst (λ way. Part Holds IsClean g.V.Vault.faults Asked o2 w3 o3 w4 (HadTurns Holds IsClean o2 o3 way seats2 seats2)) (way_same came old (length seats2) c.accept_links.ensures.set) c.serve_links.ensures.works in
+    let turned = subst (λ set. Part Holds IsClean g.V.Vault.faults Asked o2 w3 o3 w4 (WereServed Holds IsClean o2 o3 set served.is_freed seats2 seats2)) c.accept_links.ensures.set c.serve_links.ensures.works in
     let same = c.serve_links.ensures.aside.newcomers in
     let seconds = ap (λ n. n.seconds) same ∙ ap (λ (s : Settings). s.login_seconds) c.accept_links.ensures.set in
     let less = subst (λ n. AreNoMoreLate now old.newcomers.seconds old.newcomers.newcomers.items n.newcomers.items) (sym same) c.accept_links.ensures.late in
     let late = gone_so Holds IsClean g.V.Vault.faults now served.newcomers.seconds old.newcomers.seconds old.newcomers.newcomers.items served.newcomers.newcomers.items o4 o5 seconds less c.end_late_ones.ensures.works in
     let last = c.close_links.ensures.last ∙ (c.end_late_ones.ensures.last ∙ (c.serve_links.ensures.aside.last ∙ c.accept_links.ensures.last)) in
-    let tried = subst (λ l. SpoolPart Holds IsClean g.V.Vault.faults g.S.Spool.asked o5 c.args.spool.now c.serve_spool.new.office c.serve_spool.new.spool (IsSpoolTurn l c.serve_spool.new.links.last)) last c.serve_spool.ensures.works in
+    let tried = subst (λ l. SpoolPart Holds IsClean g.V.Vault.faults g.S.Spool.asked o5 c.args.spool.now c.serve_spool.new.office c.serve_spool.new.spool (λ U given calls. IsSpoolTurn l c.serve_spool.new.links.last U given calls × (c.serve_spool.new.links.presses ≡ (c.close_links.new.links.presses || has_dealt calls)))) last c.serve_spool.ensures.works in
     let seats_same = c.end_late_ones.ensures.seats ∙ c.serve_links.ensures.seats in
     turn_done Holds IsClean g.V.Vault.faults Asked g.S.Spool.asked T now links (record { clients = c.serve_spool.new.links; requests = c.serve_requests.new.requests })
     c.args.office.now o1 o2 o3 o4 o5 c.serve_spool.new.office
     c.args.wire.now w1 c.accept_links.new.wire w3 w4 w5 w6 c.args.spool.now c.serve_spool.new.spool
-    seats2 a.0 c.accept_requests.new.requests.exchanges.items c.accept_requests.ensures.works.0 passed a.1 c.accept_requests.ensures.works.1 turned c.serve_requests.ensures.works late
+    seats2 a.0 c.accept_requests.new.requests.exchanges.items c.accept_requests.ensures.works.0 served.is_freed c.close_links.new.links.presses passed a.1 c.accept_requests.ensures.works.1 turned c.serve_requests.ensures.works late
     (λ U su.
     subst (λ v. Asking Asked w5 w6 (AreClosed U v.items c.serve_spool.new.links.seats.items)) seats_same
     (subst (λ v. Asking Asked w5 w6 (AreClosed U ended.seats.items v.items)) (sym c.serve_spool.ensures.seats) (c.close_links.ensures.works U su)))

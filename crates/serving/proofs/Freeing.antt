@@ -1,0 +1,137 @@
+-- Sessions that end while links are served, behind which logins are kept back.
+use Rattle.std.proofs.Common.{◌≡◌, ℕ, ◌+◌, ◌<◌, ◌≤◌, ◌==◌, ◌||◌, ◌&&◌, not, Bool, true, false, List, [], ◌∷◌, ◌++◌, length, take, get_or, refl, sym, ◌∙◌, ap, ⊎_elim, ◌⊎◌, inl, inr, subst, append_assoc}
+use Rattle.std.specs.List.{Contains}
+use Rattle.std.proofs.lemmas.Bool.{or_cases}
+use Rattle.std.proofs.lemmas.List.{append-nil}
+use Rattle.vault.specs.Records.{Records}
+use Rattle.vault.specs.Changes.{Contents}
+use Rattle.office.specs.Events.{Log, Trace}
+use Rattle.office.specs.Trace.{history}
+use Rattle.office.specs.Sessions.{live}
+use Rattle.office.specs.Taken.{trace_of}
+use Rattle.office.specs.Stands.{StandsFor, vault_of}
+use Rattle.office.specs.declared.office.Office.{Office}
+use Rattle.serving.specs.Calls.{Call}
+use Rattle.serving.specs.declared.links.Seat.{Seat}
+use Rattle.serving.specs.declared.links.Clients.{Clients}
+use Rattle.serving.specs.Paces.{has_freed}
+use Rattle.serving.specs.Settings.{Settings, settings_of}
+use Rattle.serving.specs.Works.{WasGiven, HadTurns, HasEnded, HasFreed, IsFreedBy, WereServed, share_by, way_at, way_by}
+use Rattle.serving.proofs.Seating.{any_default, contained}
+use Rattle.serving.proofs.Turns.{served_so, served_none, served_more, served_whole}
+
+-- ---- truths
+
+and_first : (a b : Bool) → (a && b) ≡ true → a ≡ true
+and_first true b e = refl
+and_first false b e = cc
+
+and_second : (a b : Bool) → (a && b) ≡ true → b ≡ true
+and_second true b e = e
+and_second false b e = cc
+
+not_so : (b : Bool) → not b ≡ true → b ≡ false
+not_so true e = cc
+not_so false e = refl
+
+or_more : (x y z : Bool) → (y ≡ true → z ≡ true) → (x || y) ≡ true → (x || z) ≡ true
+or_more true y z h e = refl
+or_more false y z h e = h e
+
+-- what holds of the seat at a place, whatever stands for none
+pub at_place : (xs ys : List Seat) (i : ℕ) (e : Seat) (P : Seat → Type 0) → ys ≡ xs → i < length xs → P (get_or ys i e) → (d : Seat) → P (get_or xs i d)
+at_place xs ys i e P is h p d = subst P (ap (λ zs. get_or zs i e) is ∙ any_default xs i e d h) p
+
+-- ---- one session
+
+pub ended_left : (B : Records) (L g1 g2 : Log) (c : ℕ) → HasEnded B L g1 c → HasEnded B L (g2 ++ g1) c
+ended_left B L g1 g2 c u = record {
+  later = g2 ++ u.later;
+  ending = u.ending;
+  front = u.front;
+  is = ap (λ g. g2 ++ g) u.is ∙ sym (append_assoc g2 u.later (u.ending ++ u.front));
+  lived = u.lived;
+  ended = u.ended;
+}
+
+pub ended_right : (B : Records) (L g1 g2 : Log) (c : ℕ) → HasEnded B (g1 ++ L) g2 c → HasEnded B L (g2 ++ g1) c
+ended_right B L g1 g2 c u = record {
+  later = u.later;
+  ending = u.ending;
+  front = u.front ++ g1;
+  is = ap (λ g. g ++ g1) u.is ∙ (append_assoc u.later (u.ending ++ u.front) g1 ∙ ap (λ g. u.later ++ g) (append_assoc u.ending u.front g1));
+  lived = subst (λ l. live (history (trace_of B l)) c ≡ true) (sym (append_assoc u.front g1 L)) u.lived;
+  ended = subst (λ l. live (history (trace_of B (u.ending ++ l))) c ≡ false) (sym (append_assoc u.front g1 L)) u.ended;
+}
+
+ended_now : (B : Records) (L given : Log) (c : ℕ) → live (history (trace_of B L)) c ≡ true → live (history (trace_of B (given ++ L))) c ≡ false → HasEnded B L given c
+ended_now B L given c lived ended = record { later = []; ending = given; front = []; is = sym (append-nil given); lived = lived; ended = ended }
+
+pub freed_left : (B : Records) (L g1 g2 : Log) (seats : List Seat) → HasFreed B L g1 seats → HasFreed B L (g2 ++ g1) seats
+freed_left B L g1 g2 seats u = record { seat = u.seat; among = u.among; session = ended_left B L g1 g2 u.seat.connection u.session }
+
+pub freed_right : (B : Records) (L g1 g2 : Log) (seats : List Seat) → HasFreed B (g1 ++ L) g2 seats → HasFreed B L (g2 ++ g1) seats
+freed_right B L g1 g2 seats u = record { seat = u.seat; among = u.among; session = ended_right B L g1 g2 u.seat.connection u.session }
+
+module _ {V : Type 0} (Holds : V → Contents → Type 0) (IsClean : V → Type 0) (Faults : V → ℕ) where
+  freed_next : (o o1 o2 : Office V) (wait : ℕ) (before freed : Bool) (seats : List Seat) (q : Seat) (g1 g2 : Log) → Contains seats q
+      → ((T U : Trace) → StandsFor Holds o1 T → StandsFor Holds o2 U → freed ≡ (before || has_freed wait (live (history T) q.connection) (live (history U) q.connection)))
+      → (freed ≡ true → (before ≡ true) ⊎ ((wait == 0) ≡ false))
+      → WasGiven Holds IsClean Faults o o1 g1 → WasGiven Holds IsClean Faults o1 o2 g2
+      → IsFreedBy Holds IsClean o o1 wait before seats g1 → IsFreedBy Holds IsClean o o2 wait freed seats (g2 ++ g1)
+  freed_next o o1 o2 wait before freed seats q g1 g2 among is waits wa wb a = λ e. (
+    ⊎_elim (λ (b : before ≡ true). (a b).0) (λ (some : (wait == 0) ≡ false). some) (waits e),
+    λ B L s k.
+        (let s1 = wa.stands B L s (wb.clean k) in
+        let s2 = wb.stands B (g1 ++ L) s1 k in
+        let was = live (history (trace_of B (g1 ++ L))) q.connection in
+        let lives = live (history (trace_of B (g2 ++ (g1 ++ L)))) q.connection in
+        ⊎_elim
+        (λ (b : before ≡ true). freed_left B L g1 g2 seats ((a b).1 B L s (wb.clean k)))
+        (λ (h : has_freed wait was lives ≡ true).
+        (let both : (was && not lives) ≡ true = and_second (not (wait == 0)) (was && not lives) h in
+        record {
+          seat = q;
+          among = among;
+          session = ended_right B L g1 g2 q.connection (ended_now B (g1 ++ L) g2 q.connection (and_first was (not lives) both) (not_so lives (and_second was (not lives) both)));
+        }))
+        (or_cases before (has_freed wait was lives) (sym (is (trace_of B (g1 ++ L)) (trace_of B (g2 ++ (g1 ++ L))) s1 s2) ∙ e))),
+  )
+
+  -- ---- all links
+
+  pub were_none : (o : Office V) (set : Settings) (seats : List Seat) → WereServed Holds IsClean o o set false seats [] [] []
+  were_none o set seats = record { turns = served_none Holds IsClean Faults o (way_by set (length seats) false) seats; freed_by = λ e. cc }
+
+  pub were_next : (o o1 o2 : Office V) (set : Settings) (seats : List Seat) (now : Clients) (freed : Bool) (i : ℕ) (d : Seat) (g1 g2 : Log) (c1 c2 : List Call)
+      → settings_of now ≡ set → now.seats.items ≡ seats → i < length now.seats.items
+      → (now.is_freed ≡ true → freed ≡ true)
+      → ((T U : Trace) → StandsFor Holds o1 T → StandsFor Holds o2 U
+      → freed ≡ (now.is_freed || has_freed now.wait (live (history T) (get_or now.seats.items i d).connection) (live (history U) (get_or now.seats.items i d).connection)))
+      → (freed ≡ true → (now.is_freed ≡ true) ⊎ ((now.wait == 0) ≡ false))
+      → WasGiven Holds IsClean Faults o o1 g1 → WasGiven Holds IsClean Faults o1 o2 g2
+      → WereServed Holds IsClean o o1 set now.is_freed seats (take i seats) g1 c1
+      → HadTurns Holds IsClean o1 o2 (way_at now) now.seats.items (get_or now.seats.items i d ∷ []) g2 c2
+      → WereServed Holds IsClean o o2 set freed seats (take (i + 1) seats) (g2 ++ g1) (c1 ++ c2)
+  were_next o o1 o2 set seats now freed i d g1 g2 c1 c2 same is within still law waits wa wb a b =
+      let wait : now.wait ≡ set.wait = ap (λ (s : Settings). s.wait) same in
+      let slow : now.guesses.are_slow ≡ set.slow_guesses = ap (λ (s : Settings). s.slow_guesses) same in
+      let q = get_or now.seats.items i d in
+      let way = way_by set (length seats) freed in
+      let first = served_so Holds IsClean Faults o o1 (way_by set (length seats) now.is_freed) way seats (take i seats) g1 c1 refl refl (or_more set.slow_guesses now.is_freed freed still) a.turns in
+      let next = served_so Holds IsClean Faults o1 o2 (way_at now) way now.seats.items (q ∷ []) g2 c2 (ap (λ xs. share_by (length xs)) (sym is)) (sym wait)
+      (λ e. or_more set.slow_guesses now.is_freed freed still (subst (λ b. (b || now.is_freed) ≡ true) slow e)) b in
+      let within_seats : i < length seats = subst (λ xs. i < length xs) is within in
+      record {
+        turns = served_more Holds IsClean Faults o o1 o2 way seats now.seats.items i d g1 g2 c1 c2 is within wa wb first next;
+        freed_by = freed_next o o1 o2 set.wait now.is_freed freed seats q g1 g2 (contained seats now.seats.items i d is within_seats)
+            (subst (λ n. (T U : Trace) → StandsFor Holds o1 T → StandsFor Holds o2 U → freed ≡ (now.is_freed || has_freed n (live (history T) q.connection) (live (history U) q.connection))) wait law)
+            (subst (λ n. freed ≡ true → (now.is_freed ≡ true) ⊎ ((n == 0) ≡ false)) wait waits) wa wb a.freed_by;
+      }
+
+  pub were_whole : (o o1 : Office V) (set : Settings) (freed : Bool) (seats now : List Seat) (n : ℕ) (g : Log) (c : List Call) → now ≡ seats → length now ≤ n → WereServed Holds IsClean o o1 set freed seats (take n seats) g c
+      → WereServed Holds IsClean o o1 set freed seats seats g c
+  were_whole o o1 set freed seats now n g c is h a = record {
+    turns = served_whole Holds IsClean Faults o o1 (way_by set (length seats) freed) seats now n g c is h a.turns;
+    freed_by = a.freed_by;
+  }

@@ -1,0 +1,23 @@
+use Rattle.std.proofs.Common.{◌≡◌, ℕ, List, false, length}
+use Rattle.office.specs.Events.{Trace}
+use Rattle.office.specs.Stands.{StandsFor, vault_of}
+use Rattle.serving.specs.Served.{Serves}
+use Rattle.serving.specs.Settings.{settings}
+use Rattle.serving.specs.HttpTurns.{AreFew}
+use Rattle.serving.specs.HttpWorks.{AreShort}
+use Rattle.serving.specs.Running.{HasTurned}
+use Rattle.serving.proofs.running.serve_while.Given as goal
+
+abbrev pub invariant-loop-turn : goal.invariant-loop-turn
+invariant-loop-turn g l = record {
+  serves : (T : Trace) → Serves g.V.Vault.holds g.W.Wire.tells g.S.Spool.tells T l.fn.office l.fn.wire l.fn.spool l.fn.links.clients.seats.items l.fn.links.requests.exchanges.items
+      → g.V.Vault.is_clean (vault_of l.office)
+      → Serves g.V.Vault.holds g.W.Wire.tells g.S.Spool.tells T l.office l.wire l.spool l.links.clients.seats.items l.links.requests.exchanges.items;
+  clean : g.V.Vault.is_clean (vault_of l.office) → g.V.Vault.is_clean (vault_of l.fn.office);
+  turned : (moments : List ℕ) × (length moments ≡ l._turn)
+      × HasTurned g.V.Vault.holds g.V.Vault.is_clean g.V.Vault.faults g.W.Wire.asked g.S.Spool.asked g.C.Clock.gave false moments
+      l.fn.links l.fn.office l.fn.wire l.fn.spool l.fn.clock l.links l.office l.wire l.spool l.clock;
+  few : AreFew l.fn.links → AreFew l.links;
+  short : (T : Trace) → StandsFor g.V.Vault.holds l.fn.office T → g.V.Vault.is_clean (vault_of l.office) → AreShort l.fn.links → AreShort l.links;
+  settings : settings l.links ≡ settings l.fn.links;
+}
