@@ -9,6 +9,7 @@ ghost use Rattle.serving.specs.HttpWorks.{AreShort};
 ghost use Rattle.serving.specs.Running.{HasRun};
 
 use crate::links::Links;
+use crate::listener::Listener;
 use crate::spool::Spool;
 use crate::turn::serve_turn;
 use crate::wire::Wire;
@@ -31,11 +32,12 @@ pub trait Clock {
 
 /// Does one turn after the other, each at the moment that a clock gives, until it gives none, or
 /// so many turns were done.
-pub fn serve_while<V: Vault, W: Wire, S: Spool, C: Clock>(
+pub fn serve_while<V: Vault, W: Wire, S: Spool, L: Listener, C: Clock>(
     links: &mut Links,
     wire: &mut W,
     office: &mut Office<V>,
     spool: &mut S,
+    listener: &mut L,
     clock: &mut C,
     most: u64,
 )
@@ -58,6 +60,6 @@ pub fn serve_while<V: Vault, W: Wire, S: Spool, C: Clock>(
         let Some(now) = clock.moment() else {
             return;
         };
-        serve_turn(links, wire, office, spool, now);
+        serve_turn(links, wire, office, spool, listener, now);
     }
 }

@@ -29,11 +29,12 @@ ghost use Rattle.arrayvec.specs.ArrayVec.{array_vec_len};
 
 use crate::files::serve_spool;
 use crate::links::{Clients, Links, MOST_LINKS, Seat};
+use crate::listener::Listener;
 use crate::pace::{MOST_AT_ONCE, next_part, origin_at, pace_behind, pace_of};
 use crate::requests::{accept_requests, serve_requests};
 use crate::spool::Spool;
 use crate::wire::{Io, Port, Wire};
-use office::{Event, Office, Outcome, taken_is_sent};
+use office::{Account, Event, Office, Outcome, taken_is_sent};
 use std::alloc::Global;
 use vault::Vault;
 
@@ -51,7 +52,12 @@ const MOST_MILLIS: u32 = 1000;
 
 /// Writes once what the office lends of a connection's output. Ends the connection where its link
 /// is broken or at its end. Returns how many octets the link took.
-fn write_once<V: Vault, W: Wire>(office: &mut Office<V>, wire: &mut W, seat: Seat) -> usize
+fn write_once<V: Vault, W: Wire, L: Listener>(
+    office: &mut Office<V>,
+    wire: &mut W,
+    listener: &mut L,
+    seat: Seat,
+) -> usize
     ensures serves { StillServesOne V.holds V.is_clean W.tells seat office.old wire.old office.new wire.new }
     ensures clean { V.is_clean (vault_of office.new) → V.is_clean (vault_of office.old) }
     ensures works { Part V.holds V.is_clean V.faults W.asked office.old wire.old office.new wire.new (IsWritten V.holds V.is_clean office.old office.new seat (if result == 0 then 0 else 1) result (not (result == 0))) }
@@ -62,7 +68,9 @@ fn write_once<V: Vault, W: Wire>(office: &mut Office<V>, wire: &mut W, seat: Sea
     }
     match wire.write(Port::Pop, seat.link, lent) {
         Io::Count(count) => {
-            let _ = office.step(Event::Took(seat.connection, count));
+            let mut account = Account::Nothing;
+            let _ = office.step_with_account(Event::Took(seat.connection, count), &mut account);
+            listener.hear(seat.connection, &account);
             count
         }
         Io::Later => 0,
@@ -75,9 +83,10 @@ fn write_once<V: Vault, W: Wire>(office: &mut Office<V>, wire: &mut W, seat: Sea
 
 /// Writes what a connection is owed until the link takes no more, nothing is owed, or its share is
 /// written. Returns whether the link may take more at once.
-fn write_owed<V: Vault, W: Wire>(
+fn write_owed<V: Vault, W: Wire, L: Listener>(
     office: &mut Office<V>,
     wire: &mut W,
+    listener: &mut L,
     seat: Seat,
     share: usize,
 ) -> bool
@@ -87,7 +96,7 @@ fn write_owed<V: Vault, W: Wire>(
 {
     let mut written: usize = 0;
     for _times in 0..MOST_WRITES {
-        let count = write_once(office, wire, seat);
+        let count = write_once(office, wire, listener, seat);
         if count == 0 {
             return false;
         }
@@ -101,9 +110,10 @@ fn write_owed<V: Vault, W: Wire>(
 
 /// Reads once from a link whose connection waits for octets, at most as many as a buffer has, and
 /// ends the connection where the link is broken or at its end. Whether octets came.
-fn read_once<V: Vault, W: Wire>(
+fn read_once<V: Vault, W: Wire, L: Listener>(
     office: &mut Office<V>,
     wire: &mut W,
+    listener: &mut L,
     seat: Seat,
     buffer: &mut [u8],
 ) -> bool
@@ -118,7 +128,10 @@ fn read_once<V: Vault, W: Wire>(
     }
     match wire.read(Port::Pop, seat.link, buffer) {
         Io::Count(count) => {
-            let _ = office.step(Event::Bytes(connection, &buffer[..count]));
+            let mut account = Account::Nothing;
+            let piece = Event::Bytes(connection, &buffer[..count]);
+            let _ = office.step_with_account(piece, &mut account);
+            listener.hear(connection, &account);
             true
         }
         Io::Later => false,
@@ -159,9 +172,10 @@ fn note_guess<V: Vault>(
 
 /// Reads a piece from a link whose connection waits for octets, but no login that is kept back.
 /// Whether octets came.
-fn read_piece<V: Vault, W: Wire>(
+fn read_piece<V: Vault, W: Wire, L: Listener>(
     office: &mut Office<V>,
     wire: &mut W,
+    listener: &mut L,
     links: &mut Clients,
     seat: Seat,
     now: u64,
@@ -184,7 +198,7 @@ fn read_piece<V: Vault, W: Wire>(
     }
     let before = office.refusals(seat.connection);
     let mut room = [0; MOST_AT_ONCE];
-    if !read_once(office, wire, seat, &mut room[..part]) {
+    if !read_once(office, wire, listener, seat, &mut room[..part]) {
         return false;
     }
     note_guess(office, links, seat.connection, origin, before, now);
@@ -193,9 +207,10 @@ fn read_piece<V: Vault, W: Wire>(
 
 /// Writes on a link up to its share, and where all is written reads from it and writes what that
 /// gave. Whether more can be written at once.
-fn serve_link<V: Vault, W: Wire>(
+fn serve_link<V: Vault, W: Wire, L: Listener>(
     office: &mut Office<V>,
     wire: &mut W,
+    listener: &mut L,
     links: &mut Clients,
     seat: Seat,
     now: u64,
@@ -207,13 +222,13 @@ fn serve_link<V: Vault, W: Wire>(
     ensures works { Part V.holds V.is_clean V.faults W.asked office.old wire.old office.new wire.new (HadTurns V.holds V.is_clean office.old office.new (way_at links.old) (seat ∷ []) (seat ∷ [])) }
 {
     let share = share_of(links);
-    if write_owed(office, wire, seat, share) {
+    if write_owed(office, wire, listener, seat, share) {
         return true;
     }
-    if !read_piece(office, wire, links, seat, now) {
+    if !read_piece(office, wire, listener, links, seat, now) {
         return false;
     }
-    write_owed(office, wire, seat, share)
+    write_owed(office, wire, listener, seat, share)
 }
 
 /// The share of each link.
@@ -257,9 +272,10 @@ fn note_freed<V: Vault>(
 }
 
 /// Serves a client's link, and notes whether its session ended.
-fn serve_client<V: Vault, W: Wire>(
+fn serve_client<V: Vault, W: Wire, L: Listener>(
     office: &mut Office<V>,
     wire: &mut W,
+    listener: &mut L,
     links: &mut Clients,
     seat: Seat,
     now: u64,
@@ -274,15 +290,16 @@ fn serve_client<V: Vault, W: Wire>(
     ensures works { Part V.holds V.is_clean V.faults W.asked office.old wire.old office.new wire.new (HadTurns V.holds V.is_clean office.old office.new (way_at links.old) (seat ∷ []) (seat ∷ [])) }
 {
     let was_logged_in = office.is_logged_in(seat.connection);
-    let more = serve_link(office, wire, links, seat, now);
+    let more = serve_link(office, wire, listener, links, seat, now);
     links.presses |= more;
     note_freed(office, links, seat.connection, was_logged_in);
 }
 
 /// Serves the link of one seat.
-fn serve_seat<V: Vault, W: Wire>(
+fn serve_seat<V: Vault, W: Wire, L: Listener>(
     office: &mut Office<V>,
     wire: &mut W,
+    listener: &mut L,
     links: &mut Clients,
     place: usize,
     now: u64,
@@ -298,13 +315,14 @@ fn serve_seat<V: Vault, W: Wire>(
     ensures works { Part V.holds V.is_clean V.faults W.asked office.old wire.old office.new wire.new (λ given calls. (d : declared.Seat) → HadTurns V.holds V.is_clean office.old office.new (way_at links.old) links.old.seats.items (slice_index_or links.old.seats.items place d ∷ []) given calls) }
 {
     let seat = links.seats[place];
-    serve_client(office, wire, links, seat, now);
+    serve_client(office, wire, listener, links, seat, now);
 }
 
 /// Serves each link, by ascending number of the connections.
-fn serve_links<V: Vault, W: Wire>(
+fn serve_links<V: Vault, W: Wire, L: Listener>(
     office: &mut Office<V>,
     wire: &mut W,
+    listener: &mut L,
     links: &mut Clients,
     now: u64,
 )
@@ -317,7 +335,7 @@ fn serve_links<V: Vault, W: Wire>(
     links.is_freed = false;
     let mut place = 0;
     while place < links.seats.len() {
-        serve_seat(office, wire, links, place, now);
+        serve_seat(office, wire, listener, links, place, now);
         place += 1;
     }
 }
@@ -449,9 +467,10 @@ fn opened(outcome: Outcome) -> Option<u64>
 
 /// Accepts the next client's link. It gets a seat with its connection, or is closed where the
 /// office opens none. Returns whether one came. While all 128 seats are taken none is accepted.
-fn accept_link<V: Vault, W: Wire>(
+fn accept_link<V: Vault, W: Wire, L: Listener>(
     office: &mut Office<V>,
     wire: &mut W,
+    listener: &mut L,
     links: &mut Clients,
     now: u64,
 ) -> bool
@@ -474,6 +493,7 @@ fn accept_link<V: Vault, W: Wire>(
         Some(connection) => {
             links.seats.push(Seat { link, connection });
             let _ = links.newcomers.note(connection, now);
+            listener.open(link, connection);
         }
         None => wire.close(Port::Pop, link),
     }
@@ -481,9 +501,10 @@ fn accept_link<V: Vault, W: Wire>(
 }
 
 /// Accepts the links that came.
-fn accept_links<V: Vault, W: Wire>(
+fn accept_links<V: Vault, W: Wire, L: Listener>(
     office: &mut Office<V>,
     wire: &mut W,
+    listener: &mut L,
     links: &mut Clients,
     now: u64,
 )
@@ -496,7 +517,7 @@ fn accept_links<V: Vault, W: Wire>(
     ensures works { (goes : Bool) × Part V.holds V.is_clean V.faults W.asked office.old wire.old office.new wire.new (AreAccepted V.holds V.is_clean office.old office.new links.old.seats.items links.new.seats.items 64 goes) }
 {
     for _times in 0..MOST_LINKS {
-        if !accept_link(office, wire, links, now) {
+        if !accept_link(office, wire, listener, links, now) {
             return;
         }
     }
@@ -512,12 +533,14 @@ fn millis_for(links: &Links) -> u32
 /// One turn: waits for at most a second, and not at all where more can be done at once; tells the
 /// office the moment, in seconds; accepts the links that came, at most 64 at each port; serves each
 /// client's link, and then each link of the administration; ends the clients that took too long to
-/// log in; closes the links whose connections ended; and tries one file of the spool.
-pub fn serve_turn<V: Vault, W: Wire, S: Spool>(
+/// log in; closes the links whose connections ended; and tries one file of the spool. The listener
+/// hears of each connection that is opened, and what was judged of what came on it.
+pub fn serve_turn<V: Vault, W: Wire, S: Spool, L: Listener>(
     links: &mut Links,
     wire: &mut W,
     office: &mut Office<V>,
     spool: &mut S,
+    listener: &mut L,
     now: u64,
 )
     ensures serves { (T : Trace) → Serves V.holds W.tells S.tells T office.old wire.old spool.old links.old.clients.seats.items links.old.requests.exchanges.items → V.is_clean (vault_of office.new) → Serves V.holds W.tells S.tells T office.new wire.new spool.new links.new.clients.seats.items links.new.requests.exchanges.items }
@@ -531,9 +554,9 @@ pub fn serve_turn<V: Vault, W: Wire, S: Spool>(
     let millis = millis_for(links);
     links.clients.presses = false;
     pass_time(office, wire, millis, now);
-    accept_links(office, wire, &mut links.clients, now);
+    accept_links(office, wire, listener, &mut links.clients, now);
     accept_requests(wire, &mut links.requests, MOST_LINKS, now);
-    serve_links(office, wire, &mut links.clients, now);
+    serve_links(office, wire, listener, &mut links.clients, now);
     serve_requests(office, wire, &mut links.requests, now);
     end_late_ones(office, wire, &mut links.clients, now);
     close_links(office, wire, &mut links.clients);

@@ -1,7 +1,7 @@
 //! An office with a wire in memory, its links and its spool, for the tests of what serves them.
 use crate::turns::octets;
 use office::Office;
-use serving::{Links, ScriptSpool, ScriptWire, begin, serve_turn};
+use serving::{Links, NoListener, ScriptSpool, ScriptWire, begin, serve_turn};
 use std::alloc::Global;
 use std::test::Fail;
 use transcripts::offices::opened;
@@ -49,6 +49,7 @@ pub fn turns<V: Vault>(bench: &mut Bench<V>, count: u32, now: u64) {
             &mut bench.wire,
             &mut bench.office,
             &mut bench.spool,
+            &mut NoListener,
             now,
         );
     }

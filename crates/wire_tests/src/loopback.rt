@@ -1,6 +1,6 @@
 //! A wire over sockets.
 use crate::turns::new_office;
-use serving::{NotedWire, ScriptSpool, SocketWire, begin, serve_turn};
+use serving::{NoListener, NotedWire, ScriptSpool, SocketWire, begin, serve_turn};
 use std::io::{Read, Write};
 use std::net::{Ipv4Addr, Shutdown, SocketAddr, TcpStream};
 use std::test::Fail;
@@ -21,7 +21,14 @@ fn greeting_row_over_loopback(rt: HostRuntime) -> Result<(), Fail> {
     client.write_all(b"CAPA\r\nQUIT\r\n")?;
     client.shutdown(Shutdown::Write)?;
     for _ in 0..6u32 {
-        serve_turn(&mut links, &mut wire, &mut office, &mut spool, 0);
+        serve_turn(
+            &mut links,
+            &mut wire,
+            &mut office,
+            &mut spool,
+            &mut NoListener,
+            0,
+        );
     }
     let mut read = Vec::new(alloc);
     client.read_to_end(&mut read)?;

@@ -1,6 +1,6 @@
 //! The spool, one file a turn.
 use crate::turns::new_office;
-use serving::{FileName, ScriptSpool, ScriptWire, begin, serve_turn};
+use serving::{FileName, NoListener, ScriptSpool, ScriptWire, begin, serve_turn};
 use std::test::Fail;
 
 #[test]
@@ -14,16 +14,44 @@ fn four_turns_over_four_names(rt: HostRuntime) -> Result<(), Fail> {
     spool.put("orders.note.a1.eml", b"x\n")?;
     spool.put("nowhere.note.c3.eml", b"x")?;
     let mut links = begin(alloc, &office, &wire, &spool);
-    serve_turn(&mut links, &mut wire, &mut office, &mut spool, 0);
+    serve_turn(
+        &mut links,
+        &mut wire,
+        &mut office,
+        &mut spool,
+        &mut NoListener,
+        0,
+    );
     assert!(rt; spool.has("nowhere.note.c3.eml") && spool.acts().len() == 1);
     assert_eq!(rt; wire.waited(), 1000);
-    serve_turn(&mut links, &mut wire, &mut office, &mut spool, 0);
+    serve_turn(
+        &mut links,
+        &mut wire,
+        &mut office,
+        &mut spool,
+        &mut NoListener,
+        0,
+    );
     assert!(rt; !spool.has("orders.note.a1.eml") && spool.acts().len() == 3);
     assert_eq!(rt; wire.waited(), 1000);
-    serve_turn(&mut links, &mut wire, &mut office, &mut spool, 0);
+    serve_turn(
+        &mut links,
+        &mut wire,
+        &mut office,
+        &mut spool,
+        &mut NoListener,
+        0,
+    );
     assert!(rt; spool.has("orders.note.b2.eml.bad") && spool.acts().len() == 5);
     assert_eq!(rt; wire.waited(), 0);
-    serve_turn(&mut links, &mut wire, &mut office, &mut spool, 0);
+    serve_turn(
+        &mut links,
+        &mut wire,
+        &mut office,
+        &mut spool,
+        &mut NoListener,
+        0,
+    );
     assert!(rt; spool.has("nowhere.note.c3.eml") && spool.acts().len() == 6);
     assert!(rt; spool.has("readme.txt") && !spool.has("orders.note.b2.eml"));
     Ok(())
@@ -40,7 +68,14 @@ fn a_file_that_stays(rt: HostRuntime) -> Result<(), Fail> {
     spool.refuse();
     let mut links = begin(alloc, &office, &wire, &spool);
     for _ in 0..3u32 {
-        serve_turn(&mut links, &mut wire, &mut office, &mut spool, 0);
+        serve_turn(
+            &mut links,
+            &mut wire,
+            &mut office,
+            &mut spool,
+            &mut NoListener,
+            0,
+        );
         assert_eq!(rt; wire.waited(), 1000);
     }
     assert!(rt; spool.has("orders.note.a1.eml") && spool.acts().len() == 3);

@@ -1,6 +1,6 @@
 //! Clients that break off, send too much, take nothing or do nothing, over a wire in memory.
 use crate::turns::{new_office, octets, one_link, turns};
-use serving::{ScriptSpool, ScriptWire, Stop, begin, serve_turn};
+use serving::{NoListener, ScriptSpool, ScriptWire, Stop, begin, serve_turn};
 use std::alloc::Global;
 use std::test::Fail;
 
@@ -101,10 +101,31 @@ fn idle_link(rt: HostRuntime) -> Result<(), Fail> {
     let mut wire = one_link(alloc, b"", 4096)?;
     let mut spool = ScriptSpool::new(alloc);
     let mut links = begin(alloc, &office, &wire, &spool);
-    serve_turn(&mut links, &mut wire, &mut office, &mut spool, 0);
-    serve_turn(&mut links, &mut wire, &mut office, &mut spool, 599);
+    serve_turn(
+        &mut links,
+        &mut wire,
+        &mut office,
+        &mut spool,
+        &mut NoListener,
+        0,
+    );
+    serve_turn(
+        &mut links,
+        &mut wire,
+        &mut office,
+        &mut spool,
+        &mut NoListener,
+        599,
+    );
     assert!(rt; !wire.is_closed(0));
-    serve_turn(&mut links, &mut wire, &mut office, &mut spool, 600);
+    serve_turn(
+        &mut links,
+        &mut wire,
+        &mut office,
+        &mut spool,
+        &mut NoListener,
+        600,
+    );
     assert!(rt; wire.is_closed(0) && links.count() == 0);
     Ok(())
 }

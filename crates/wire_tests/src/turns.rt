@@ -1,6 +1,6 @@
 //! Turns over a wire in memory.
 use office::Office;
-use serving::{Links, ScriptSpool, ScriptWire, begin, serve_turn};
+use serving::{Links, NoListener, ScriptSpool, ScriptWire, begin, serve_turn};
 use std::alloc::Global;
 use std::test::Fail;
 use transcripts::offices::{deposit, prepared};
@@ -49,7 +49,7 @@ pub(super) fn turns(
 ) {
     let mut spool = ScriptSpool::new(alloc);
     for turn in 0..count {
-        serve_turn(links, wire, office, &mut spool, turn / 100);
+        serve_turn(links, wire, office, &mut spool, &mut NoListener, turn / 100);
     }
 }
 

@@ -6,6 +6,7 @@ use super::reckoning::{Counts, Reckoning};
 use super::sent::{MAILDROPS, some_line, some_maildrop};
 use super::two_clerks::{name, office_of_two};
 use crate::links::Links;
+use crate::listener::NoListener;
 use crate::script_spool::ScriptSpool;
 use crate::turn::{begin, serve_turn};
 use creds::DepositId;
@@ -126,6 +127,7 @@ fn serve(game: &mut Game) {
         &mut game.wire,
         &mut game.office,
         &mut game.spool,
+        &mut NoListener,
         now,
     );
 }

@@ -3,6 +3,7 @@
 
 use super::two_clerks::{name, office_of_two};
 use crate::links::Links;
+use crate::listener::NoListener;
 use crate::script_links::Stop;
 use crate::script_wire::ScriptWire;
 use crate::spool::Spool;
@@ -106,6 +107,7 @@ pub fn turns<S: Spool>(stage: &mut Stage, spool: &mut S, count: u64, now: u64) {
             &mut stage.wire,
             &mut stage.office,
             spool,
+            &mut NoListener,
             now,
         );
     }
