@@ -1,8 +1,8 @@
 -- What a contract of an export needs of the contents: the text under a message's key is the message's own.
-use Rattle.std.proofs.Common.{◌≡◌, ◌<◌, ◌≤◌, ◌+◌, ◌==◌, ◌&&◌, ℕ, Bool, true, false, not, List, [], ◌∷◌, ◌++◌, length, take, drop, get_or, map, refl, subst, sym, ◌∙◌, ap, ap₂, append_assoc, append-nil, zero, suc, cond, arith, Option, None, Some, Result, Ok, Err, true≢false, take_all}
+use Rattle.std.proofs.Common.{◌≡◌, ◌⊎◌, inl, inr, ◌<◌, ◌≤◌, ◌+◌, ◌==◌, ◌&&◌, ℕ, Bool, true, false, not, List, [], ◌∷◌, ◌++◌, length, take, drop, get_or, map, refl, subst, sym, ◌∙◌, ap, ap₂, append_assoc, append-nil, zero, suc, cond, arith, Option, None, Some, Result, Ok, Err, true≢false, take_all}
 use Rattle.std.proofs.lemmas.List.{take_more, take-map, map-append, length-map}
 use Rattle.std.proofs.lemmas.Bool.{and_parts, or_parts, eq-eqb}
-use Rattle.std.specs.Prelude.{OnErr, unwrap_or, filter, is_ok, if◌then◌else◌}
+use Rattle.std.specs.Prelude.{OnOk, OnErr, unwrap_or, filter, is_ok, if◌then◌else◌}
 use Rattle.std.specs.List.{All, list_any, find}
 use Rattle.std.specs.Option.{option_map}
 use Rattle.std.specs.Str.{bytes_eq}
@@ -10,8 +10,12 @@ use Rattle.policy.specs.Policy.{are_distinct}
 use Rattle.vault.specs.declared.answer.Head.{Head}
 use Rattle.vault.specs.declared.fault.VaultFault.{VaultFault}
 use Rattle.vault.specs.declared.record.Keyed.{Keyed}
-use Rattle.vault.specs.Calls.{text_under}
+use Rattle.vault.specs.Calls.{text_under, has_grown}
 use Rattle.vault.specs.Changes.{Contents, AreSound, head_of, heads, kept_in}
+use Rattle.converse.specs.Causes.{IsReadFault, IsExportFault}
+use Rattle.converse.specs.declared.fault.Fault.{Fault}
+use Rattle.converse.specs.declared.fault.Fault.TheVariants as fault
+use Rattle.converse.proofs.Clauses.{grown_since}
 use Rattle.converse.specs.Exported.{File, export_line, file_name, file_of, files_of, file_under, IsFront, IsMeasured, Takes, TakesFirst}
 
 -- A loop over a vault kept what was held and that it was clean, and of what was held this holds.
@@ -19,6 +23,58 @@ pub record Stays {V : Type 0} (Holds : V → Contents → Type 0) (IsClean : V �
   pub clean : IsClean now → IsClean before
   pub held : (c : Contents) → Holds before c → IsClean now → Holds now c
   pub so : (c : Contents) → Holds before c → IsClean now → P c
+
+-- The same of a loop that puts files, whose folder's count of faults doesn't fall.
+pub record Puts {V : Type 0} (Holds : V → Contents → Type 0) (IsClean : V → Type 0) (before now : V) (first last : ℕ) (P : Contents → Type 0) : Type 0 where
+  pub clean : IsClean now → IsClean before
+  pub held : (c : Contents) → Holds before c → IsClean now → Holds now c
+  pub counted : first ≤ last
+  pub so : (c : Contents) → Holds before c → IsClean now → P c
+
+-- ---- why it ends
+
+pub counts_on : (a b d : ℕ) → a ≤ b → b ≤ d → a ≤ d
+counts_on a b d p q = omega (arith, p, q)
+
+-- a folder that refused is told as want of memory, or its count grew
+pub put_cause : (failed : Bool) (f : Fault) → (f ≡ fault.CannotPut) ⊎ (f ≡ fault.OutOfMemory) → failed ≡ true → IsExportFault failed f
+put_cause failed f (inl e) g = subst (IsExportFault failed) (sym e) g
+put_cause failed f (inr e) g = subst (IsExportFault failed) (sym e) tt
+
+-- a message that can't be read is a cause, whatever the folder did
+pub read_cause : (failed : Bool) (f : Fault) → IsReadFault f → IsExportFault failed f
+read_cause failed fault.CannotRead h = absurd h
+read_cause failed (fault.BadEvent n) h = absurd h
+read_cause failed fault.BadHost h = absurd h
+read_cause failed (fault.Store e) h = tt
+read_cause failed (fault.Talk e) h = absurd h
+read_cause failed (fault.NoPolicy e) h = absurd h
+read_cause failed fault.NoClock h = absurd h
+read_cause failed fault.CannotPut h = absurd h
+read_cause failed fault.CannotWrite h = absurd h
+read_cause failed fault.OutOfMemory h = tt
+
+-- what is a cause since a count is one since an earlier count
+pub export_fault_since : (first before now : ℕ) → first ≤ before → (f : Fault) → IsExportFault (has_grown before now) f → IsExportFault (has_grown first now) f
+export_fault_since first before now l fault.CannotRead h = absurd h
+export_fault_since first before now l (fault.BadEvent n) h = absurd h
+export_fault_since first before now l fault.BadHost h = absurd h
+export_fault_since first before now l (fault.Store e) h = tt
+export_fault_since first before now l (fault.Talk e) h = absurd h
+export_fault_since first before now l (fault.NoPolicy e) h = absurd h
+export_fault_since first before now l fault.NoClock h = absurd h
+export_fault_since first before now l fault.CannotPut h = grown_since first before now l h
+export_fault_since first before now l fault.CannotWrite h = tt
+export_fault_since first before now l fault.OutOfMemory h = tt
+
+-- what holds in any case holds of an answer
+pub on_ok : {A E P : Type 0} (r : Result A E) → P → OnOk r P
+on_ok (Ok x) p = p
+on_ok (Err e) p = tt
+
+pub on_err : {A E P : Type 0} (r : Result A E) → P → OnErr r P
+on_err (Ok x) p = tt
+on_err (Err e) p = p
 
 -- ---- what a folder takes
 
@@ -31,6 +87,10 @@ takes_then None b d fs gs p q = tt
 takes_then (Some x) None d fs gs p q = absurd p
 takes_then (Some x) (Some y) None fs gs p q = absurd q
 takes_then (Some x) (Some y) (Some z) fs gs p q = q ∙ ap (λ l. l ++ gs) p ∙ append_assoc x fs gs
+
+-- a call that takes none
+pub takes_kept : (a b d : Option (List File)) (fs : List File) → Takes a b fs → Takes b d [] → Takes a d fs
+takes_kept a b d fs p q = subst (λ (gs : List File). Takes a d gs) (append-nil fs) (takes_then a b d fs [] p q)
 
 -- the files of the first heads, and that of the next one
 pub takes_more : (f : Head → File) (hs : List Head) (i : ℕ) (h : Head) (a b d : Option (List File)) → i < length hs → h ≡ get_or hs i h

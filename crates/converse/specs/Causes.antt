@@ -1,5 +1,5 @@
 -- Which fault a run tells for the fault that it met.
-use Rattle.std.specs.Prelude.{◌≡◌, ℕ, ⊤, false, List, Option, Err, IsOk}
+use Rattle.std.specs.Prelude.{◌≡◌, ℕ, ⊤, Bool, true, false, List, Option, Err, IsOk}
 use Rattle.creds.specs.Names.{is_host}
 use Rattle.office.specs.declared.office.OpenFault.{OpenFault}
 use Rattle.office.specs.declared.office.OpenFault.TheVariants as opening
@@ -7,7 +7,7 @@ use Rattle.vault.specs.declared.fault.VaultFault.TheVariants as vault
 use Rattle.converse.specs.declared.script.ScriptFault.{ScriptFault}
 use Rattle.converse.specs.declared.script.ScriptFault.TheVariants as script
 use Rattle.converse.specs.declared.fault.Fault.{Fault}
-use Rattle.converse.specs.declared.fault.Fault.TheVariants.{CannotRead, BadEvent, BadHost, Store, OutOfMemory}
+use Rattle.converse.specs.declared.fault.Fault.TheVariants.{CannotRead, BadEvent, BadHost, Store, CannotPut, CannotWrite, OutOfMemory}
 use Rattle.converse.specs.Printed.{PrintsPart}
 use Rattle.converse.specs.Script.{script_of}
 use Rattle.converse.specs.Told.{fault_line}
@@ -34,3 +34,15 @@ IsWhyNot text host _ = ⊥
 -- one of these faults is told: its line, or a beginning of it
 abbrev pub Tells : (before after : Option (List ℕ)) → (Fault → Type 0) → Type 0
 Tells before after Is = (fault : Fault) × Is fault × PrintsPart before after (fault_line fault)
+
+-- why a message isn't read: the store refuses, or memory ran out
+abbrev pub IsReadFault : Fault → Type 0
+IsReadFault (Store fault) = ⊤
+IsReadFault OutOfMemory = ⊤
+IsReadFault _ = ⊥
+
+-- why an export ends: a file can't be put only where a call of the folder failed; or what is printed is refused, or a message isn't read
+abbrev pub IsExportFault : (failed : Bool) → Fault → Type 0
+IsExportFault failed CannotPut = failed ≡ true
+IsExportFault failed CannotWrite = ⊤
+IsExportFault failed fault = IsReadFault fault

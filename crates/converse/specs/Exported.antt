@@ -1,10 +1,10 @@
 -- The files that an export puts into a folder: a maildrop's messages, the oldest first.
-use Rattle.std.specs.Prelude.{◌≡◌, ℕ, ⊤, List, ◌++◌, length, map, take, Option, None, Some, codes}
+use Rattle.std.specs.Prelude.{◌≡◌, ◌≤◌, ℕ, ⊤, true, List, ◌++◌, length, map, take, Option, None, Some, Result, OnErr, codes}
 use Rattle.std.specs.Fmt.{decimal}
 use Rattle.creds.specs.Uid.{uid_text}
 use Rattle.vault.specs.declared.answer.Head.{Head}
 use Rattle.vault.specs.declared.record.Keyed.{Keyed}
-use Rattle.vault.specs.Calls.{text_under}
+use Rattle.vault.specs.Calls.{text_under, has_grown}
 use Rattle.vault.specs.Changes.{Contents, kept_in}
 
 -- a file: its name and its octets
@@ -33,6 +33,10 @@ Takes (Some had) (Some has) files = has ≡ had ++ files
 -- it took the first of these files, in their order, and none of the others
 abbrev pub TakesFirst : (before after : Option (List File)) → List File → Type 0
 TakesFirst before after files = (n : ℕ) × Takes before after (take n files)
+
+-- of a folder's call: the count of failed calls never falls, and an error is counted
+abbrev pub CountsRefusal : {A E : Type 0} → (before now : ℕ) → Result A E → Type 0
+CountsRefusal before now answer = (before ≤ now) × OnErr answer (has_grown before now ≡ true)
 
 -- what is printed of so many files
 abbrev pub export_line : ℕ → List ℕ

@@ -1,11 +1,12 @@
 //! `popbox export`: puts the messages of a maildrop as files into a folder.
 
-ghost use Rattle.std.specs.Prelude.{◌≡◌, ◌≤◌, ◌<◌, ◌∷◌, ◌⊎◌, [], false, ℕ, length, map, string_bytes, IsErr, IsOk, IfOk, OnOk, OnErr};
+ghost use Rattle.std.specs.Prelude.{◌≡◌, ◌≤◌, ◌<◌, ◌∷◌, ◌⊎◌, [], true, false, ℕ, length, map, string_bytes, IsErr, IsOk, IfOk, IfErr, OnOk, OnErr};
 ghost use Rattle.std.specs.List.{All};
 ghost use Rattle.std.specs.Io.KnownBytes.{Appends};
 ghost use Rattle.vault.specs.Records.{is_one_of};
-ghost use Rattle.vault.specs.Calls.{text_under};
+ghost use Rattle.vault.specs.Calls.{text_under, has_grown};
 ghost use Rattle.vault.specs.Changes.{Contents};
+ghost use Rattle.converse.specs.Causes.{IsReadFault, IsExportFault, Tells};
 ghost use Rattle.converse.specs.Printed.{PrintsPart};
 ghost use Rattle.converse.specs.Exported.{files_of, Takes, TakesFirst, export_line, IsFront, IsMeasured, file_under};
 
@@ -20,29 +21,44 @@ use vault::{Head, MessageKey, Vault, VaultFault};
 /// How many octets of a message are read at once.
 const PAGE_OCTETS: usize = 4096;
 
-/// A folder that takes files. Contracts see which files it took, where it tells them: a real folder
-/// doesn't.
+/// A folder that takes files. Contracts see which files it took, where it tells them (a real folder
+/// doesn't); whether the names of all of them last a power cut; and how many of its calls failed.
+/// That count stops at 2^64 - 1.
 pub trait Folder {
-    ghost use Rattle.std.specs.Prelude.{List, Option};
-    ghost use Rattle.converse.specs.Exported.{File};
+    ghost use Rattle.std.specs.Prelude.{List, Option, Bool};
+    ghost use Rattle.converse.specs.Exported.{File, CountsRefusal};
 
     /// The files that it took, in their order.
     ghost files: { Self → Option (List File) };
+
+    /// The name of each of them lasts a power cut.
+    ghost is_settled: { Self → Bool };
+
+    /// How many of its calls failed.
+    ghost faults: { Self → ℕ };
 
     /// Puts a file of this name and these octets into the folder, whole or not at all. Where the
     /// folder has a file of the name that file stays as it is, and the call is an error.
     fn put(&mut self, name: &str, octets: &[u8]) -> io::Result<()>
         ensures put { OnOk result (Takes (files self.old) (files self.new) (record { name = name.now; octets = octets.now } ∷ [])) }
-        ensures refused { OnErr result (Takes (files self.old) (files self.new) []) };
+        ensures refused { OnErr result (Takes (files self.old) (files self.new) []) }
+        ensures unsettled { IsOk result → is_settled self.new ≡ false }
+        ensures counted { CountsRefusal (faults self.old) (faults self.new) result };
+
+    /// Waits until the names of the files that it took last a power cut.
+    fn settle(&mut self) -> io::Result<()>
+        ensures kept { Takes (files self.old) (files self.new) [] }
+        ensures settled { IsOk result → is_settled self.new ≡ true }
+        ensures counted { CountsRefusal (faults self.old) (faults self.new) result };
 }
 
 /// Puts each message of a maildrop, the oldest first, as a file into a folder, and prints
-/// `ok, N messages` to `out`, which is flushed. The file's name is the message's unique-id with
-/// `.eml` behind it; its octets are the message's text with CRLF behind each line. Nothing in the
-/// store is changed. One message at a time is in memory.
+/// `ok, N messages` to `out`, which is flushed, once the names of the files last a power cut. The
+/// file's name is the message's unique-id with `.eml` behind it; its octets are the message's text
+/// with CRLF behind each line. Nothing in the store is changed. One message at a time is in memory.
 ///
 /// Gives the exit status, 0 or 1. A fault has status 1 and its text on `err`: there is no such
-/// maildrop, the store refuses, memory runs out, the folder refuses a file, `out` refuses octets.
+/// maildrop, the store refuses, memory runs out, the folder refuses, `out` refuses octets.
 /// The files that were put before a fault stay; none is put in part. Only before the last of these
 /// faults all messages are put, and a beginning of the line may be on `out`.
 pub fn export<V: Vault, F: Folder, W: Write, E: Write>(
@@ -64,6 +80,10 @@ pub fn export<V: Vault, F: Folder, W: Write, E: Write>(
         × PrintsPart (W.contents out.old) (W.contents out.new)
         (export_line (length (files_of maildrop.now c)))) }
     ensures missing { (c : Contents) → V.holds vault.old c → V.is_clean vault.new → is_one_of maildrop.now c.maildrops ≡ false → result ≡ 1 }
+    ensures settled { result ≡ 0 → F.is_settled folder.new ≡ true }
+    ensures settled_first { (out.new ≡ out.old) ⊎ (F.is_settled folder.new ≡ true) }
+    ensures why { result ≡ 1 → Tells (E.contents err.old) (E.contents err.new)
+        (IsExportFault (has_grown (F.faults folder.old) (F.faults folder.new))) }
     ensures held { (c : Contents) → V.holds vault.old c → V.is_clean vault.new → V.holds vault.new c }
     ensures clean { V.is_clean vault.new → V.is_clean vault.old }
 {
@@ -90,6 +110,10 @@ fn put_maildrop<V: Vault, F: Folder, W: Write>(
         × PrintsPart (W.contents out.old) (W.contents out.new)
         (export_line (length (files_of maildrop.now c)))) }
     ensures missing { (c : Contents) → V.holds vault.old c → V.is_clean vault.new → is_one_of maildrop.now c.maildrops ≡ false → IsErr result }
+    ensures settled { IsOk result → F.is_settled folder.new ≡ true }
+    ensures settled_first { (out.new ≡ out.old) ⊎ (F.is_settled folder.new ≡ true) }
+    ensures cause { IfErr result
+        (IsExportFault (has_grown (F.faults folder.old) (F.faults folder.new))) }
     ensures held { (c : Contents) → V.holds vault.old c → V.is_clean vault.new → V.holds vault.new c }
     ensures clean { V.is_clean vault.new → V.is_clean vault.old }
 {
@@ -100,7 +124,7 @@ fn put_maildrop<V: Vault, F: Folder, W: Write>(
     Ok(())
 }
 
-/// Puts the messages of these heads into a folder, in their order.
+/// Puts the messages of these heads into a folder, in their order, and has their names last.
 fn put_messages<V: Vault, F: Folder>(
     alloc: Global,
     vault: &mut V,
@@ -111,6 +135,43 @@ fn put_messages<V: Vault, F: Folder>(
     ensures part { OnErr result ((c : Contents) → V.holds vault.old c → V.is_clean vault.new → All (IsMeasured c) heads.now → TakesFirst (F.files folder.old) (F.files folder.new) (map (file_under c) heads.now)) }
     ensures held { (c : Contents) → V.holds vault.old c → V.is_clean vault.new → V.holds vault.new c }
     ensures clean { V.is_clean vault.new → V.is_clean vault.old }
+    ensures settled { IsOk result → F.is_settled folder.new ≡ true }
+    ensures cause { IfErr result
+        (IsExportFault (has_grown (F.faults folder.old) (F.faults folder.new))) }
+{
+    match put_each(alloc, vault, heads, folder) {
+        Ok(()) => settle(folder),
+        Err(fault) => Err(fault),
+    }
+}
+
+/// Has the names of the files that a folder took last.
+fn settle<F: Folder>(folder: &mut F) -> Result<(), Fault>
+    ensures kept { Takes (F.files folder.old) (F.files folder.new) [] }
+    ensures settled { IsOk result → F.is_settled folder.new ≡ true }
+    ensures cause { IfErr result
+        (IsExportFault (has_grown (F.faults folder.old) (F.faults folder.new))) }
+{
+    match folder.settle() {
+        Ok(()) => Ok(()),
+        Err(error) => Err(put_fault(&error)),
+    }
+}
+
+/// Puts the messages of these heads into a folder, in their order.
+fn put_each<V: Vault, F: Folder>(
+    alloc: Global,
+    vault: &mut V,
+    heads: &[Head],
+    folder: &mut F,
+) -> Result<(), Fault>
+    ensures whole { OnOk result ((c : Contents) → V.holds vault.old c → V.is_clean vault.new → All (IsMeasured c) heads.now → Takes (F.files folder.old) (F.files folder.new) (map (file_under c) heads.now)) }
+    ensures part { OnErr result ((c : Contents) → V.holds vault.old c → V.is_clean vault.new → All (IsMeasured c) heads.now → TakesFirst (F.files folder.old) (F.files folder.new) (map (file_under c) heads.now)) }
+    ensures held { (c : Contents) → V.holds vault.old c → V.is_clean vault.new → V.holds vault.new c }
+    ensures clean { V.is_clean vault.new → V.is_clean vault.old }
+    ensures counted { F.faults folder.old ≤ F.faults folder.new }
+    ensures cause { IfErr result
+        (IsExportFault (has_grown (F.faults folder.old) (F.faults folder.new))) }
 {
     for head in heads {
         put_message(alloc, vault, head, folder)?;
@@ -129,6 +190,9 @@ fn put_message<V: Vault, F: Folder>(
     ensures refused { OnErr result (Takes (F.files folder.old) (F.files folder.new) []) }
     ensures held { (c : Contents) → V.holds vault.old c → V.is_clean vault.new → V.holds vault.new c }
     ensures clean { V.is_clean vault.new → V.is_clean vault.old }
+    ensures counted { F.faults folder.old ≤ F.faults folder.new }
+    ensures cause { IfErr result
+        (IsExportFault (has_grown (F.faults folder.old) (F.faults folder.new))) }
 {
     let text = read_text(alloc, vault, head)?;
     let uid = Uid {
@@ -147,6 +211,7 @@ fn read_text<V: Vault>(alloc: Global, vault: &mut V, head: &Head) -> Result<Vec<
     ensures text { IfOk result (λ text. (c : Contents) → V.holds vault.old c → V.is_clean vault.new → IsMeasured c head.now → text.items ≡ text_under head.now.key c.messages) }
     ensures held { (c : Contents) → V.holds vault.old c → V.is_clean vault.new → V.holds vault.new c }
     ensures clean { V.is_clean vault.new → V.is_clean vault.old }
+    ensures cause { IfErr result IsReadFault }
 {
     let mut text = Vec::new(alloc);
     while (text.len() as u64) < head.octets {
@@ -165,6 +230,7 @@ fn read_more<V: Vault>(vault: &mut V, key: MessageKey, text: &mut Vec<u8>) -> Re
     ensures front { OnOk result ((c : Contents) → V.holds vault.old c → V.is_clean vault.new → IsFront text.old.items (text_under key c.messages) → IsFront text.new.items (text_under key c.messages)) }
     ensures held { (c : Contents) → V.holds vault.old c → V.is_clean vault.new → V.holds vault.new c }
     ensures clean { V.is_clean vault.new → V.is_clean vault.old }
+    ensures cause { IfErr result IsReadFault }
 {
     let mut page = [0u8; PAGE_OCTETS];
     let count = vault.page(key, text.len() as u64, &mut page)?;

@@ -1,8 +1,9 @@
 //! Prints a text whole, or a beginning of it.
 
-ghost use Rattle.std.specs.Prelude.{◌≤◌, IfOk, OnOk, length};
+ghost use Rattle.std.specs.Prelude.{◌≡◌, ◌≤◌, IfOk, IfErr, OnOk, length};
 ghost use Rattle.std.specs.Io.KnownBytes.{Appends, WriteAppends};
 ghost use Rattle.converse.specs.Printed.{PrintsPart};
+ghost use Rattle.converse.specs.declared.fault.Fault.TheVariants.{CannotWrite};
 
 use crate::fault::Fault;
 use std::io::{ErrorKind, Write};
@@ -12,6 +13,7 @@ use std::io::{ErrorKind, Write};
 fn put_some<W: Write>(out: &mut W, text: &[u8]) -> Result<usize, Fault>
     ensures bound { IfOk result (λ count. count ≤ length text.now) }
     ensures bytes { WriteAppends (W.contents out.old) (W.contents out.new) result text.now }
+    ensures cause { IfErr result (λ fault. fault ≡ CannotWrite) }
 {
     match out.write(text) {
         Ok(0) => Err(Fault::CannotWrite),
@@ -26,6 +28,7 @@ fn put_some<W: Write>(out: &mut W, text: &[u8]) -> Result<usize, Fault>
 pub(crate) fn print<W: Write>(out: &mut W, text: &[u8]) -> Result<(), Fault>
     ensures ok { OnOk result (Appends (W.contents out.old) (W.contents out.new) text.now) }
     ensures part { PrintsPart (W.contents out.old) (W.contents out.new) text.now }
+    ensures cause { IfErr result (λ fault. fault ≡ CannotWrite) }
 {
     let mut done: usize = 0;
     for _ in 0..u64::MAX {

@@ -1,26 +1,8 @@
-use Rattle.converse.specs.Exported.{IsMeasured, file_under}
-use Rattle.converse.proofs.Exporting.{at_index, takes_more, takes_all, takes_first, faults_first}
+use Rattle.converse.proofs.Exporting.{takes_kept, takes_whole, on_ok, on_err}
 use Rattle.converse.proofs.export.put_messages.Goals as goal
 
-pub loop-head-preserved : goal.loop-head-preserved
-loop-head-preserved g c =
-    let s = c.loop-head.invariant in
-    let t = c.in_ok-put_message.ensures in
-    record {
-      clean = λ k. s.clean (t.clean k);
-      held = λ d h k. t.held d (s.held d h (t.clean k)) k;
-      so = λ d h k all. takes_more (file_under d) c.args.heads.now c.loop-head.head-index _ _ _ _ c.loop-head-test.true c.head-item.is
-          (s.so d h (t.clean k) all)
-          (t.whole d (s.held d h (t.clean k)) k (at_index (IsMeasured d) c.args.heads.now c.loop-head.head-index _ c.loop-head-test.true c.head-item.is all));
-    }
+pub returns-in-Ok-clause-whole : goal.returns-in-Ok-clause-whole
+returns-in-Ok-clause-whole g c = on_ok c.settle.result (λ d h k all. takes_kept _ _ _ _ (c.in-Ok.ensures.whole d h k all) c.settle.ensures.kept)
 
-pub returns-clause-whole : goal.returns-clause-whole
-returns-clause-whole g c = λ d h k all.
-    takes_all (file_under d) c.args.heads.now c.loop-head.head-index _ _ c.loop-head-test.false (c.loop-head.invariant.so d h k all)
-
-pub returns-in_err-put_message-clause-part : goal.returns-in_err-put_message-clause-part
-returns-in_err-put_message-clause-part g c =
-    let t = c.in_err-put_message.ensures in
-    faults_first c.from_residual.result g.V.Vault.holds c.args.vault.now (g.V.Vault.is_clean c.put_message.new.vault) c.args.heads.now
-    (g.F.Folder.files c.args.folder.now) (g.F.Folder.files c.put_message.new.folder)
-    (λ d h k all. takes_first (file_under d) c.args.heads.now c.loop-head.head-index _ _ _ (c.loop-head.invariant.so d h (t.clean k) all) t.refused)
+pub returns-in-Ok-clause-part : goal.returns-in-Ok-clause-part
+returns-in-Ok-clause-part g c = on_err c.settle.result (λ d h k all. takes_whole _ _ _ (takes_kept _ _ _ _ (c.in-Ok.ensures.whole d h k all) c.settle.ensures.kept))

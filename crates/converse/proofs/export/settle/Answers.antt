@@ -1,0 +1,5 @@
+use Rattle.converse.proofs.Exporting.{put_cause}
+use Rattle.converse.proofs.export.settle.Goals as goal
+
+pub returns-in-Err-clause-cause : goal.returns-in-Err-clause-cause
+returns-in-Err-clause-cause g c = put_cause _ _ c.put_fault.ensures.cause c.in-Err.ensures.counted.1
