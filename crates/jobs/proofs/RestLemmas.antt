@@ -1,12 +1,12 @@
 -- A store that was closed, and is opened again.
-use Rattle.std.proofs.Common.{◌≡◌, inl, inr, [], length, IsTrue, Result, Ok, Err, sym, ap, subst, ◌∙◌, arith}
+use Rattle.std.proofs.Common.{◌≡◌, ◌<◌, inl, inr, ℕ, List, [], length, IsTrue, Result, Ok, Err, sym, ap, subst, ◌∙◌, arith}
 use Rattle.std.specs.Prelude.{IfOk}
 use Rattle.std.proofs.Math.Logic.{∥∥₁_elim}
 use Rattle.sqlite_disk.specs.declared.Disk.{Ghosts}
 use Rattle.sqlite_disk.specs.declared.Files.{Files}
 use Rattle.sqlite_wal.specs.Files.{outcomes}
 use Rattle.sqlite_wal.specs.Reads.{AreClean}
-use Rattle.sqlite_wal.specs.Recovery.{Image}
+use Rattle.sqlite_wal.specs.Recovery.{Image, Replays}
 use Rattle.sqlite_trees.specs.Tree.{Trees}
 use Rattle.sqlite_trees.specs.Props.{Trees-set}
 use Rattle.sqlite_trees.specs.Objects.{catalog_tree}
@@ -52,10 +52,19 @@ stores_at_rest image s c finds opens live r =
 
 -- ---- files that hold nothing yet
 
+-- no commit stands in an empty log
+none_in : (log : List ℕ) → log ≡ [] → (page_size frames : ℕ) → Replays page_size log frames → frames ≡ 0
+none_in log empty page_size frames (inl ignored) = ignored.1
+none_in log empty page_size frames (inr taken) = absurd (let long = taken.0.long in let none = ap length empty in omega (arith, long, none))
+
+-- two empty files are a store that isn't made
+pub unmade : (image : Image) → image.log ≡ [] → image.db ≡ [] → IsUnmade image
+unmade image log db = record { empty = db; uncommitted = none_in image.log log }
+
 found_empty : (image : Image) (db : Trees) → IsUnmade image → AreFoundIn image db → db catalog_tree ≡ []
 found_empty image db unmade (inl read) =
     let some = read.3.found.present in
-    absurd (let none = ap length unmade in omega (arith, some, none))
+    absurd (let none = ap length unmade.empty in omega (arith, some, none))
 found_empty image db unmade (inr nothing) = nothing.1.1
 
 pub blank_at_rest : (image : Image) (s : State) → IsUnmade image → FindsIn image s → Opens s → IsLive s → IsBlank s

@@ -1,6 +1,7 @@
 //! A job over a store in two files: the store is opened, the job is done over it, and it is closed.
 #![tactic(auto)]
 
+mod checking;
 mod job;
 mod looking;
 mod opening;
@@ -14,9 +15,10 @@ mod tests;
 mod twice;
 mod whole_laws;
 
+pub use checking::check_all;
 pub use job::Job;
 pub use looking::Looking;
-pub use opening::open;
+pub use opening::{Careful, open};
 pub use replaying::{Replayed, Replaying};
 pub use resting::{close, open_files, reopen};
 pub use running::{do_and_close, open_do_close};

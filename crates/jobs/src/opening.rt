@@ -9,13 +9,28 @@ ghost use Rattle.sqlvault.specs.Adopts.{IsAdoptFault};
 ghost use Rattle.sqlvault.specs.Stands.{Holds};
 ghost use Rattle.jobs.specs.Resting.{Rests, IsUnmade};
 
-use sqlite::{FileFrom, FileStore, Start};
+use sqlite::{FileFrom, FileStore, Start, Wary};
 use sqlvault::SqlVault;
 use vault::VaultFault;
 
-/// Opens the store in the file at a path, as [`SqlVault::open`] does. It holds what rests in the
-/// file and its log; where the file is empty, or none, a new store is made, which holds nothing.
-pub fn open<S: Start>(
+/// A start that trusts no byte of a torn write, so that each commit waits for the disk twice.
+pub trait Careful: Start {
+    ghost use Rattle.std.specs.Prelude.{◌≡◌, false};
+
+    /// After a crash any byte of what wasn't synced may be another one.
+    ghost doubts: { Self.is_mixing ≡ false };
+}
+
+impl Careful for Wary {
+    ghost use Rattle.std.proofs.Common.{refl};
+
+    ghost doubts = { refl };
+}
+
+/// Opens the store in the file at a path, as [`SqlVault::open`] does, by a careful start. It holds
+/// what rests in the file and its log; where there is neither, or the file is empty and its log has
+/// no commit, a new store is made, which holds nothing.
+pub fn open<S: Careful>(
     rt: &HostRuntime,
     path: &str,
     start: S,

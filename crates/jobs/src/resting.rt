@@ -19,7 +19,8 @@ use std::alloc::Global;
 use vault::VaultFault;
 
 /// Opens the store in two files, and adopts it as [`SqlVault::adopt`] does. It holds what rests in
-/// the files; where the database's file is empty, a new store is made, which holds nothing.
+/// the files; where the database's file is empty, and its log has no commit, a new store is made,
+/// which holds nothing.
 ///
 /// Answers what [`SqlVault::open`] answers, and [`VaultFault::Store`] where a sync of one of the
 /// files failed before. The files are dropped then.

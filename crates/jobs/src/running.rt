@@ -13,10 +13,10 @@ ghost use Rattle.jobs.specs.Jobs.{Leaves};
 ghost use Rattle.jobs.specs.Sittings.{unused};
 
 use crate::Job;
-use crate::opening::open;
+use crate::opening::{Careful, open};
 use crate::resting::close;
 use office::own_trace_is_kept;
-use sqlite::{Error, FileFrom, FileStore, Files, Start};
+use sqlite::{Error, FileFrom, FileStore, Files};
 use sqlite_disk::Disk;
 use sqlvault::SqlVault;
 use vault::VaultFault;
@@ -35,11 +35,11 @@ pub fn do_and_close<D: Disk + Drop, J: Job>(
 }
 
 /// Opens the store in the file at a path, does a job over it, and closes it. `start` stands for what
-/// the files hold, as in [`SqlVault::open`]. Gives the answer, and the files: as `Err` where the
-/// store couldn't be closed, which loses nothing that was done.
+/// the files hold, as in [`SqlVault::open`], and trusts no byte of a torn write. Gives the answer,
+/// and the files: as `Err` where the store couldn't be closed, which loses nothing that was done.
 ///
 /// Answers what [`SqlVault::open`] answers where the store isn't opened; the job isn't begun then.
-pub fn open_do_close<S: Start, J: Job + Drop>(
+pub fn open_do_close<S: Careful, J: Job + Drop>(
     rt: &HostRuntime,
     path: &str,
     start: S,

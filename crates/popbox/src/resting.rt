@@ -4,11 +4,11 @@ use crate::command_line::is_verbose;
 use crate::store_file::log_octets;
 use causes::{Watched, tell_closed_store, tell_refusal, tell_unread};
 use clap::ArgMatches;
-use converse::check_store::{StoreFile, check_store};
+use converse::check_store::StoreFile;
 use converse::export::{Folder, export};
 use converse::{Fault, tell_fault};
 use creds::Name;
-use mailsql::clerks::all_clerks;
+use jobs::check_all;
 use mailsql::meta::find_mark;
 use sqlite::{Alter, Connection, Error, ErrorCode, Wary};
 use sqlvault::SqlVault;
@@ -17,7 +17,7 @@ use std::fs::{File, OpenOptions};
 use std::io::{BufWriter, ErrorKind, Read, Write};
 use std::os::unix::fs::OpenOptionsExt;
 use std::{fs, io};
-use vault::{Vault, VaultFault, in_order};
+use vault::{Vault, VaultFault};
 
 /// The version of the tables that this popbox makes. A store of an older one would be changed by an
 /// opening.
@@ -182,64 +182,38 @@ fn run_over_connection<A: Alter + Drop, E: Write>(
     options: &ArgMatches<'_>,
     err: &mut E,
 ) -> Result<u8, Fault> {
-    let (mut vault, clerks) = match adopt(rt.alloc(), conn) {
-        Ok(adopted) => adopted,
+    let mut vault = match adopt(rt.alloc(), conn) {
+        Ok(vault) => vault,
         Err(closed) => return Ok(tell_closed(rt, err, is_verbose(options), path, &closed)),
     };
     match errand {
-        Errand::Check(octets) => check_over(
-            rt,
-            &mut vault,
-            clerks.as_slice(),
-            *octets,
-            options,
-            err,
-        ),
+        Errand::Check(octets) => check_over(rt, &mut vault, *octets, options, err),
         Errand::Export(maildrop, folder) => {
             export_over(rt, &mut vault, maildrop, folder, path, options, err)
         }
     }
 }
 
-/// Reads who the clerks of a store are, by name, and adopts it, which changes nothing in it.
-pub fn adopt<A: Alter + Drop>(
-    alloc: Global,
-    conn: Connection<A>,
-) -> Result<(SqlVault<A>, Vec<Name>), Closed> {
+/// Adopts the store of a connection, which changes nothing in it.
+pub fn adopt<A: Alter + Drop>(alloc: Global, conn: Connection<A>) -> Result<SqlVault<A>, Closed> {
     let mut conn = conn;
-    let clerks = clerks_of(alloc, &mut conn)?;
+    judge_mark(alloc, &mut conn)?;
     match SqlVault::adopt(alloc, conn) {
-        Ok(vault) => Ok((vault, clerks)),
+        Ok(vault) => Ok(vault),
         Err((fault, _)) => Err(Closed::Refused(fault)),
     }
 }
 
-/// The names of a store's clerks, in order. A database without our mark, which an adoption might
-/// make a store of, is refused here, and so is a store of another version.
-fn clerks_of<A: Alter>(alloc: Global, conn: &mut Connection<A>) -> Result<Vec<Name>, Closed> {
+/// Refuses a database without our mark, which an adoption might make a store of, and a store of
+/// another version.
+fn judge_mark<A: Alter>(alloc: Global, conn: &mut Connection<A>) -> Result<(), Closed> {
     match find_mark(alloc, conn, b"popbox") {
-        Ok(Some(mark)) if mark.value == VERSION => {}
-        Ok(Some(mark)) if mark.value == 1 || mark.value == 2 => {
-            return Err(Closed::Older(mark.value));
-        }
-        Ok(Some(_)) => return Err(Closed::Refused(VaultFault::OldVersion)),
-        Ok(None) => return Err(Closed::Refused(VaultFault::NotOurs)),
-        Err(error) => return Err(Closed::Refused(read_fault_of(&error))),
+        Ok(Some(mark)) if mark.value == VERSION => Ok(()),
+        Ok(Some(mark)) if mark.value == 1 || mark.value == 2 => Err(Closed::Older(mark.value)),
+        Ok(Some(_)) => Err(Closed::Refused(VaultFault::OldVersion)),
+        Ok(None) => Err(Closed::Refused(VaultFault::NotOurs)),
+        Err(error) => Err(Closed::Refused(read_fault_of(&error))),
     }
-    let rows = match all_clerks(alloc, conn) {
-        Ok(rows) => rows,
-        Err(error) => return Err(Closed::Refused(read_fault_of(&error))),
-    };
-    let mut names = Vec::new(alloc);
-    for row in rows.iter() {
-        let Some(name) = Name::read(row.name.as_slice()) else {
-            return Err(Closed::Refused(VaultFault::NotOurs));
-        };
-        if names.push(name).is_err() {
-            return Err(Closed::Refused(VaultFault::NoMemory));
-        }
-    }
-    in_order(alloc, names.as_slice()).map_err(|_| Closed::Refused(VaultFault::NoMemory))
 }
 
 /// Why a statement that only reads is refused: by a database that has no such table, or for want of
@@ -253,10 +227,9 @@ fn read_fault_of(error: &Error) -> VaultFault {
 }
 
 /// Prints what lies in a store to standard output.
-fn check_over<V: Vault, E: Write>(
+fn check_over<A: Alter, E: Write>(
     rt: &HostRuntime,
-    vault: &mut V,
-    clerks: &[Name],
+    vault: &mut SqlVault<A>,
     octets: u64,
     options: &ArgMatches<'_>,
     err: &mut E,
@@ -268,7 +241,7 @@ fn check_over<V: Vault, E: Write>(
         version: VERSION as u64,
         octets,
     };
-    let status = check_store(alloc, vault, clerks, &file, &mut out, err);
+    let status = check_all(alloc, vault, &file, &mut out, err);
     if is_verbose(options) {
         tell_refusal(err, "standard output", out.refusal());
     }
@@ -291,6 +264,8 @@ fn export_over<V: Vault, E: Write>(
     let mut folder = NamedFolder {
         rt,
         path,
+        is_settled: false,
+        faults: 0,
         refusal: None,
     };
     let status = export(alloc, vault, maildrop, &mut folder, &mut out, err);
@@ -304,11 +279,14 @@ fn export_over<V: Vault, E: Write>(
     Ok(status)
 }
 
-/// The folder at a path, and what the system answered to its last refusal.
+/// The folder at a path: whether it was synced behind the last file, how many of its calls failed,
+/// and what the system answered to the last of these.
 #[derive(Drop)]
 struct NamedFolder<'a> {
     rt: &'a HostRuntime,
     path: &'a str,
+    is_settled: bool,
+    faults: u64,
     refusal: Option<io::Error>,
 }
 
@@ -317,13 +295,40 @@ impl Folder for NamedFolder<'_> {
 
     ghost files = { λ _. None };
 
+    ghost is_settled = { λ folder. folder.is_settled };
+
+    ghost faults = { λ folder. folder.faults };
+
     fn put(&mut self, name: &str, octets: &[u8]) -> io::Result<()> {
-        let put = put_file(self.rt, self.path, name, octets);
-        if let Err(error) = put {
-            self.refusal = Some(error);
+        self.is_settled = false;
+        match put_file(self.rt, self.path, name, octets) {
+            Ok(()) => Ok(()),
+            Err(error) => {
+                self.faults = self.faults.saturating_add(1);
+                self.refusal = Some(error);
+                Err(error)
+            }
         }
-        put
     }
+
+    fn settle(&mut self) -> io::Result<()> {
+        match sync_folder(self.rt, self.path) {
+            Ok(()) => {
+                self.is_settled = true;
+                Ok(())
+            }
+            Err(error) => {
+                self.faults = self.faults.saturating_add(1);
+                self.refusal = Some(error);
+                Err(error)
+            }
+        }
+    }
+}
+
+/// Waits until the names in the folder at a path are on the disk.
+fn sync_folder(rt: &HostRuntime, path: &str) -> io::Result<()> {
+    fs::open(rt, path)?.sync_all()
 }
 
 /// Writes a file into the folder at a path under a name of its own, and gives it its name once its

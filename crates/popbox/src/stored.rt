@@ -41,13 +41,14 @@ fn read_connection<A: Alter + Drop, E: Write>(
     is_verbose: bool,
     err: &mut E,
 ) -> Result<Stored, u8> {
-    let (mut vault, clerks) = match adopt(rt.alloc(), conn) {
-        Ok(adopted) => adopted,
+    let mut vault = match adopt(rt.alloc(), conn) {
+        Ok(vault) => vault,
         Err(closed) => return Err(tell_closed(rt, err, is_verbose, path, &closed)),
     };
     let policy = vault.policy();
+    let clerks = vault.clerk_names();
     let totals = vault.maildrops();
-    match stored_of(rt.alloc(), policy, totals, clerks) {
+    match stored_of(rt.alloc(), policy, clerks, totals) {
         Ok(stored) => Ok(stored),
         Err(fault) => Err(tell_fault(err, Fault::from(fault))),
     }
@@ -66,10 +67,11 @@ fn maildrop_names(alloc: Global, totals: &[Total]) -> Result<Vec<Name>, VaultFau
 fn stored_of(
     alloc: Global,
     policy: Result<Policy, VaultFault>,
+    clerks: Result<Vec<Name>, VaultFault>,
     totals: Result<Vec<Total>, VaultFault>,
-    clerks: Vec<Name>,
 ) -> Result<Stored, VaultFault> {
     let policy = policy?;
+    let clerks = clerks?;
     let totals = totals?;
     let maildrops = maildrop_names(alloc, totals.as_slice())?;
     let kept = Kept { clerks, maildrops };
