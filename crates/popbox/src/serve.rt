@@ -182,6 +182,7 @@ fn serve_turns<'a, V: Vault, W: Wire + Peers + Drop>(
     let Ok(start) = Instant::now(rt) else {
         return Err(Fault::NoClock);
     };
+    let mut listener = journal;
     for _ in 0..options.get_one::<u64>("turns").unwrap_or(u64::MAX) {
         if watch.is_lost() {
             return Ok(1);
@@ -189,7 +190,14 @@ fn serve_turns<'a, V: Vault, W: Wire + Peers + Drop>(
         let Ok(elapsed) = start.elapsed(rt) else {
             return Err(Fault::NoClock);
         };
-        serve_turn(&mut links, &mut wire, office, &mut spool, elapsed.as_secs());
+        serve_turn(
+            &mut links,
+            &mut wire,
+            office,
+            &mut spool,
+            &mut listener,
+            elapsed.as_secs(),
+        );
     }
     Ok(0)
 }
