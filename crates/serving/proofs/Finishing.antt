@@ -26,6 +26,9 @@ use Rattle.serving.specs.SpoolTurns.{IsSpoolTurn, has_dealt, SpoolPart}
 use Rattle.serving.specs.Turns.{way_of, millis_of, HasCauseInTurn, IsTurn, Works}
 use Rattle.serving.proofs.Staying.{Fewer, deposit_same}
 use Rattle.serving.proofs.Freeing.{freed_left, freed_right}
+use Rattle.serving.specs.Newcomers.{newcomer}
+use Rattle.serving.specs.Late.{HasLived, IsInTime, HasEndedLate}
+use Rattle.serving.proofs.Timely.{late_kept, lived_left, lived_right}
 use Rattle.serving.proofs.Working.{or_true, given_then, asked_then, none_of, count_joined, any_left, any_right, quiet_none, caused_more, fewer_quiet, fewer_gone, none_joined, turned_left, turned_right}
 
 -- ---- deposits
@@ -143,17 +146,19 @@ no_wait links e = rw e refl
 -- ---- the turn
 
 module _ {V W S : Type 0} (Holds : V → Contents → Type 0) (IsClean : V → Type 0) (Faults : V → ℕ) (Asked : W → List Call → Type 0) (AskedFiles : S → List FileCall → Type 0) where
-  pub turn_done : (T : Trace) (now : ℕ) (links links_then : Links) (o o1 o2 o3 o4 o5 o6 : Office V) (w w1 w2 w3 w4 w5 w6 : W) (f f1 : S) (seats2 : List Seat) (goes : Bool) (held : List Exchange) (more freed pressed : Bool)
+  pub turn_done : (T : Trace) (now : ℕ) (links links_then : Links) (o o1 o2 o3 o4 o5 o6 : Office V) (w w1 w2 w3 w4 w5 w6 : W) (f f1 : S) (seats2 : List Seat) (goes : Bool) (held : List Exchange) (more freed pressed : Bool) (n1 n2 : List Newcomer)
       → Part Holds IsClean Faults Asked o w o1 w1 (IsPassed (millis_of links) now)
       → Part Holds IsClean Faults Asked o1 w1 o2 w2 (AreAccepted Holds IsClean o1 o2 links.clients.seats.items seats2 64 goes)
       → Asking Asked w2 w3 (AskedApart (HasAcceptedBeside now 64 more links.requests.exchanges.items held))
       → Part Holds IsClean Faults Asked o2 w3 o3 w4 (WereServed Holds IsClean o2 o3 (settings links) freed seats2 seats2)
       → Part Holds IsClean Faults Asked o3 w4 o4 w5 (DidApart Holds IsClean o3 o4 (λ B L. HadHttpTurns now B L held links_then.requests.exchanges.items))
-      → Giving Holds IsClean Faults o4 o5 (AreLateGone now links.clients.newcomers.seconds links.clients.newcomers.newcomers.items)
+      → ((c : ℕ) (n : Newcomer) → newcomer c links.clients.newcomers.newcomers.items ≡ Some n → newcomer c n1 ≡ Some n)
+      → Giving Holds IsClean Faults o4 o5 (λ g. AreLateGone now links.clients.newcomers.seconds links.clients.newcomers.newcomers.items g × HasEndedLate Holds IsClean o4 o5 now links.clients.newcomers.seconds n1 n2 seats2 g)
+      → ((U : Trace) → StandsFor Holds o5 U → (c : ℕ) → is_open U c ≡ true → newcomer c links_then.clients.newcomers.newcomers.items ≡ newcomer c n2)
       → ((U : Trace) → StandsFor Holds o5 U → Asking Asked w5 w6 (AreClosed U seats2 links_then.clients.seats.items))
       → SpoolPart Holds IsClean Faults AskedFiles o5 f o6 f1 (λ U given calls. IsSpoolTurn (last_tried links) (last_tried links_then) U given calls × (links_then.clients.presses ≡ (pressed || has_dealt calls)))
       → StandsFor Holds o T → IsClean (vault_of o6) → Works Holds Faults Asked AskedFiles T now links o w f o6 links_then w6 f1
-  turn_done T now links links_then o o1 o2 o3 o4 o5 o6 w w1 w2 w3 w4 w5 w6 f f1 seats2 goes held more freed pressed pass acc asked served reqs late close spool s k6 =
+  turn_done T now links links_then o o1 o2 o3 o4 o5 o6 w w1 w2 w3 w4 w5 w6 f f1 seats2 goes held more freed pressed n1 n2 pass acc asked served reqs keeps late forgets close spool s k6 =
       let B = T.base in
       let L = T.log in
       let seconds = links.clients.newcomers.seconds in
@@ -200,10 +205,10 @@ module _ {V W S : Type 0} (Holds : V → Contents → Type 0) (IsClean : V → T
       let come = acc.facts.come in
       let came = acc.facts.came in
       let quiet = deposits_quiet gs spool.deposits in
-      let hush = late_quiet now seconds newcomers gz late.facts in
+      let hush = late_quiet now seconds newcomers gz late.facts.0 in
       let log_is : G4 ++ L ≡ gs ++ (gz ++ (G3 ++ L)) = append_assoc gx G3 L ∙ append_assoc gs gz (G3 ++ L) in
       let same : (c : ℕ) → is_open after c ≡ is_open trace4 c = λ c. ap (λ l. is_open (trace_of B l) c) log_is ∙ same_open B (gz ++ (G3 ++ L)) gs spool.deposits c in
-      let fewer_late : Fewer B (G3 ++ L) (gz ++ (G3 ++ L)) = fewer_gone B (G3 ++ L) gz now seconds newcomers (late.was_given.admitted B (G3 ++ L) s4 k5) late.facts in
+      let fewer_late : Fewer B (G3 ++ L) (gz ++ (G3 ++ L)) = fewer_gone B (G3 ++ L) gz now seconds newcomers (late.was_given.admitted B (G3 ++ L) s4 k5) late.facts.0 in
       let fewer : Fewer B (G2 ++ L) (gr ++ (G2 ++ L)) = fewer_quiet B (G2 ++ L) gr [] cr (reqs.was_given.admitted B (G2 ++ L) s3 k4) reqs.facts.caused reqs.facts.quiet.no_openings in
       let to_links : (c : ℕ) → is_open after c ≡ true → is_open (trace_of B (gl ++ (G1 ++ L))) c ≡ true = λ c here.
       (let h4 : is_open trace4 c ≡ true = sym (same c) ∙ here in
@@ -220,7 +225,7 @@ module _ {V W S : Type 0} (Holds : V → Contents → Type 0) (IsClean : V → T
       let P = HasCause seats2 C5 in
       let Q = HasCauseInTurn now links seats2 C5 in
       let by_cause : (g : Log) → All P g → All Q g = λ g h. All-weaker P Q (λ y p. inl p) g h in
-      let caused_z : All Q gz = All-weaker (IsLateGone now seconds newcomers) Q (λ y p. inr p) gz late.facts in
+      let caused_z : All Q gz = All-weaker (IsLateGone now seconds newcomers) Q (λ y p. inr p) gz late.facts.0 in
       let lq = served.facts.turns.of_seats.quiet in
       let rq = reqs.facts.quiet in
       let waits_x : waits cx ≡ [] = ap waits x.facts.calls_are ∙ waits_of (filter (is_shut_seat trace4) seats2) in
@@ -332,6 +337,16 @@ module _ {V W S : Type 0} (Holds : V → Contents → Type 0) (IsClean : V → T
           closed = filter_map-append closing_of ((((cp ++ ca) ++ cq) ++ cl) ++ cr) cx
               ∙ (ap (λ zs. zs ++ closings cx) (seen_first cp ca cq cl cr cx closing_of asked.facts.0.no_closings lq.no_closings rq.no_closings ∙ (only_last closing_of cp ca closings_p ∙ come.closed))
               ∙ ap (λ zs. filter_map unseated_of came ++ zs) (closings_x ∙ ap (map link_of_seat) shut_same));
+          timely = All-weaker (IsInTime now seconds n1 B (G3 ++ L) gz trace4) (IsInTime now seconds newcomers B L G4 after)
+              (λ q t is_late_now here.
+              lived_right B L G3 gx q.connection
+              (lived_left B (G3 ++ L) gz gs q.connection (t (late_kept now seconds newcomers n1 q.connection (keeps q.connection) is_late_now) (sym (same q.connection) ∙ here))))
+              seats2 (late.facts.1.each B (G3 ++ L) s4 k5);
+          noted = λ c n is here.
+              ⊎_elim
+              (λ (e : newcomer c n2 ≡ newcomer c n1). inl (forgets trace4 s5 c (sym (same c) ∙ here) ∙ (e ∙ keeps c n is)))
+              (λ (u : HasLived B (G3 ++ L) gz c). inr (lived_right B L G3 gx c (lived_left B (G3 ++ L) gz gs c u)))
+              (late.facts.1.noted B (G3 ++ L) s4 k5 c);
           left = x.facts.left ∙ open_same;
         };
       }

@@ -4,20 +4,16 @@ use Rattle.std.specs.Bool.{if◌then◌else◌}
 use Rattle.std.proofs.lemmas.Bool.{cases_Bool}
 use Rattle.serving.specs.declared.newcomers.Newcomer.{Newcomer}
 use Rattle.serving.specs.Newcomers.{newcomer, others, is_late_by, noted}
-use Rattle.serving.specs.Works.{is_late, AreNoMoreLate, IsLateGone, AreLateGone, Giving}
-use Rattle.std.proofs.lemmas.List.Elements.{All-append, All-weaker}
-use Rattle.vault.specs.Changes.{Contents}
+use Rattle.serving.specs.Works.{is_late, AreNoMoreLate, IsLateGone}
 use Rattle.office.specs.Events.{Event, Mark}
 use Rattle.office.specs.Events as event
-use Rattle.office.specs.declared.office.Office.{Office}
-use Rattle.serving.proofs.Working.{given_then}
 
 -- ---- who is found
 
-found_here : (c : ℕ) (x : Newcomer) (xs : List Newcomer) → (x.connection == c) ≡ true → newcomer c (x ∷ xs) ≡ Some x
+pub found_here : (c : ℕ) (x : Newcomer) (xs : List Newcomer) → (x.connection == c) ≡ true → newcomer c (x ∷ xs) ≡ Some x
 found_here c x xs e = rw e refl
 
-found_later : (c : ℕ) (x : Newcomer) (xs : List Newcomer) → (x.connection == c) ≡ false → newcomer c (x ∷ xs) ≡ newcomer c xs
+pub found_later : (c : ℕ) (x : Newcomer) (xs : List Newcomer) → (x.connection == c) ≡ false → newcomer c (x ∷ xs) ≡ newcomer c xs
 found_later c x xs e = rw e refl
 
 others_gone : (d : ℕ) (x : Newcomer) (xs : List Newcomer) → (x.connection == d) ≡ true → others d (x ∷ xs) ≡ others d xs
@@ -37,7 +33,7 @@ none_of d (x ∷ xs) =
 same_number : (a b c : ℕ) → (a == b) ≡ true → (a == c) ≡ true → b ≡ c
 same_number a b c e f = sym (eqb-true a b e) ∙ eqb-true a c f
 
-others_of : (c d : ℕ) (xs : List Newcomer) → (c ≡ d → ⊥) → newcomer c (others d xs) ≡ newcomer c xs
+pub others_of : (c d : ℕ) (xs : List Newcomer) → (c ≡ d → ⊥) → newcomer c (others d xs) ≡ newcomer c xs
 others_of c d [] ne = refl
 others_of c d (x ∷ xs) ne =
     ⊎_elim
@@ -70,7 +66,7 @@ one_more c n (x ∷ xs) =
     (one_more c n xs))
     (cases_Bool (x.connection == c))
 
-apart : (a b : ℕ) → (a == b) ≡ false → a ≡ b → ⊥
+pub apart : (a b : ℕ) → (a == b) ≡ false → a ≡ b → ⊥
 apart a b e is = let k : (a == b) ≡ true = eq-eqb a b is in true≢false (sym k ∙ e)
 
 -- ---- who is late
@@ -138,7 +134,7 @@ late_next now seconds seconds0 xs ys zs is a b = late_then now seconds0 xs ys zs
 -- ---- connections that went
 
 -- whoever is late was so before
-late_gone_one : (now seconds : ℕ) (xs ys : List Newcomer) → AreNoMoreLate now seconds xs ys → (x : Event × Mark) → IsLateGone now seconds ys x → IsLateGone now seconds xs x
+pub late_gone_one : (now seconds : ℕ) (xs ys : List Newcomer) → AreNoMoreLate now seconds xs ys → (x : Event × Mark) → IsLateGone now seconds ys x → IsLateGone now seconds xs x
 late_gone_one now seconds xs ys less (event.Gone c, m) h = less c h
 late_gone_one now seconds xs ys less (event.Start host boot idle, m) h = absurd h
 late_gone_one now seconds xs ys less (event.Connect, m) h = absurd h
@@ -148,21 +144,3 @@ late_gone_one now seconds xs ys less (event.Tick moment, m) h = absurd h
 late_gone_one now seconds xs ys less (event.Deposit d class id text, m) h = absurd h
 late_gone_one now seconds xs ys less (event.Admin command, m) h = absurd h
 late_gone_one now seconds xs ys less (event.Restart boot, m) h = absurd h
-
-pub gone_then : {V : Type 0} (Holds : V → Contents → Type 0) (IsClean : V → Type 0) (Faults : V → ℕ) (now seconds : ℕ) (xs ys : List Newcomer) (o o1 o2 : Office V) → AreNoMoreLate now seconds xs ys
-    → Giving Holds IsClean Faults o o1 (AreLateGone now seconds xs) → Giving Holds IsClean Faults o1 o2 (AreLateGone now seconds ys) → Giving Holds IsClean Faults o o2 (AreLateGone now seconds xs)
-gone_then Holds IsClean Faults now seconds xs ys o o1 o2 less a b = record {
-  given = b.given ++ a.given;
-  was_given = given_then Holds IsClean Faults o o1 o2 a.given b.given a.was_given b.was_given;
-  facts = All-append (IsLateGone now seconds xs) b.given a.given (All-weaker (IsLateGone now seconds ys) (IsLateGone now seconds xs) (late_gone_one now seconds xs ys less) b.given b.facts) a.facts;
-}
-
-pub gone_so : {V : Type 0} (Holds : V → Contents → Type 0) (IsClean : V → Type 0) (Faults : V → ℕ) (now seconds seconds0 : ℕ) (xs ys : List Newcomer) (o o1 : Office V) → seconds ≡ seconds0 → AreNoMoreLate now seconds0 xs ys
-    → Giving Holds IsClean Faults o o1 (AreLateGone now seconds ys) → Giving Holds IsClean Faults o o1 (AreLateGone now seconds0 xs)
-gone_so Holds IsClean Faults now seconds seconds0 xs ys o o1 is less a =
-    let b = subst (λ n. Giving Holds IsClean Faults o o1 (AreLateGone now n ys)) is a in
-    record {
-      given = b.given;
-      was_given = b.was_given;
-      facts = All-weaker (IsLateGone now seconds0 ys) (IsLateGone now seconds0 xs) (late_gone_one now seconds0 xs ys less) b.given b.facts;
-    }

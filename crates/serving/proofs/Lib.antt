@@ -24,3 +24,4 @@ pub mod Late
 pub mod Noting
 pub mod Going
 pub mod Freeing
+pub mod Timely

@@ -11,6 +11,7 @@ pub mod NotedFiles
 pub mod Served
 pub mod Settings
 pub mod Works
+pub mod Late
 pub mod HttpTurns
 pub mod HttpWorks
 pub mod SpoolTurns

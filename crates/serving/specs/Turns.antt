@@ -1,5 +1,5 @@
 -- What a turn does all together.
-use Rattle.std.specs.Prelude.{◌≡◌, ◌⊎◌, ◌≤◌, ℕ, Bool, true, false, ◌==◌, ◌||◌, List, [], ◌∷◌, ◌++◌, length, map, filter, filter_map, if◌then◌else◌}
+use Rattle.std.specs.Prelude.{◌≡◌, ◌⊎◌, ◌≤◌, ℕ, Bool, true, false, ◌==◌, ◌||◌, List, [], ◌∷◌, ◌++◌, length, map, filter, filter_map, Option, Some, if◌then◌else◌}
 use Rattle.std.specs.List.{All, list_any}
 use Rattle.vault.specs.Calls.{has_grown}
 use Rattle.vault.specs.Changes.{Contents}
@@ -17,6 +17,10 @@ use Rattle.serving.specs.declared.links.Links.{Links}
 use Rattle.serving.specs.Works.{waits, arrivals, closings, moments, openings, refusals, AreNewlyAdmitted, HasCause, IsLateGone, is_failed, WasAsked, Came, seat_of, unseated_of, link_of, HasAccepted, most_links, Way, way_by, HadTurn, HasFreed, is_open_seat, is_shut_seat, link_of_seat}
 use Rattle.serving.specs.SpoolTurns.{IsSpoolTurn, has_dealt}
 use Rattle.serving.specs.HttpWorks.{HttpWorks}
+use Rattle.serving.specs.Newcomers.{newcomer}
+use Rattle.serving.specs.declared.newcomers.Newcomer.{Newcomer}
+use Rattle.serving.specs.Late.{HasLived, IsInTime}
+use Rattle.office.specs.Trace.{is_open}
 
 -- how long a turn waits: not at all where more can be done at once
 abbrev pub millis_of : Links → ℕ
@@ -58,6 +62,11 @@ pub record IsTurn (T after : Trace) (now : ℕ) (links links_then : Links) (came
   pub caused : All (HasCauseInTurn now links seats calls) given
   -- exactly those links were closed that got no seat, and those whose connections aren't open
   pub closed : closings calls ≡ filter_map unseated_of came ++ map link_of_seat (filter (is_shut_seat after) seats)
+  -- whoever was late isn't open, or logged in meanwhile
+  pub timely : All (IsInTime now links.clients.newcomers.seconds links.clients.newcomers.newcomers.items T.base T.log given after) seats
+  -- nobody is forgotten whose connection is open and who didn't log in meanwhile
+  pub noted : (c : ℕ) (n : Newcomer) → newcomer c links.clients.newcomers.newcomers.items ≡ Some n → is_open after c ≡ true
+      → (newcomer c links_then.clients.newcomers.newcomers.items ≡ Some n) ⊎ HasLived T.base T.log given c
   -- the others stay
   pub left : links_then.clients.seats.items ≡ filter (is_open_seat after) seats
 

@@ -67,6 +67,7 @@ pub(crate) fn serve_spool<V: Vault, S: Spool>(
     ensures tried { (T : Trace) (acts : List FileAct) → StandsFor V.holds office.old T → S.tells spool.old acts → V.is_clean (vault_of office.new) → IsTried V.holds S.tells T acts office.new spool.new }
     ensures clean { V.is_clean (vault_of office.new) → V.is_clean (vault_of office.old) }
     ensures seats { links.new.seats ≡ links.old.seats }
+    ensures newcomers { links.new.newcomers ≡ links.old.newcomers }
     ensures set { settings_of links.new ≡ settings_of links.old }
 {
     let Some(name) = spool.next_name(&links.last) else {

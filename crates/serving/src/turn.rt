@@ -12,13 +12,14 @@ ghost use Rattle.serving.specs.Wires.{ToldOfPorts, AreFresh, opened_by};
 ghost use Rattle.serving.specs.Served.{StillServes, StillServesOne, Serves};
 ghost use Rattle.office.specs.Logins.{refusals};
 ghost use Rattle.serving.specs.Guesses.{AreNotedSo};
-ghost use Rattle.serving.specs.Newcomers.{others};
+ghost use Rattle.serving.specs.Newcomers.{others, newcomer};
 ghost use Rattle.serving.specs.Paces.{has_freed, KeepsAside, LeavesSettings};
 ghost use Rattle.serving.specs.Settings.{settings, settings_of, none_set};
 ghost use Rattle.serving.specs.Works.{Part, Asking, Giving, IsPassed, AreAccepted, IsWritten};
 ghost use Rattle.serving.specs.Works.{IsWrittenOut, IsHeard, HadTurns, WereServed, AreClosed, IsClosed};
 ghost use Rattle.serving.specs.Works.{share_by, may_keep, way_at, is_late, AreNoMoreLate};
 ghost use Rattle.serving.specs.Works.{AreLateGone};
+ghost use Rattle.serving.specs.Late.{IsShutBy, HasEndedLate};
 ghost use Rattle.serving.specs.Turns.{Works, millis_of};
 ghost use Rattle.serving.specs.HttpTurns.{AllGoOn, AreFew};
 ghost use Rattle.serving.specs.HttpWorks.{AreShort};
@@ -343,7 +344,7 @@ fn serve_links<V: Vault, W: Wire, L: Listener>(
 fn end_seat<V: Vault, W: Wire>(office: &mut Office<V>, _wire: &W, seat: Seat)
     ensures serves { StillServesOne V.holds V.is_clean W.tells seat office.old _wire.now office.new _wire.now }
     ensures clean { V.is_clean (vault_of office.new) → V.is_clean (vault_of office.old) }
-    ensures works { (now seconds : ℕ) (newcomers : List Newcomer) → is_late now seconds newcomers seat.connection ≡ true → Giving V.holds V.is_clean V.faults office.old office.new (AreLateGone now seconds newcomers) }
+    ensures works { (now seconds : ℕ) (newcomers : List Newcomer) → is_late now seconds newcomers seat.connection ≡ true → Giving V.holds V.is_clean V.faults office.old office.new (λ given. AreLateGone now seconds newcomers given × IsShutBy V.holds V.is_clean office.old office.new seat.connection given) }
 {
     if office.ended(seat.connection) {
         return;
@@ -366,7 +367,7 @@ fn end_late<V: Vault, W: Wire>(
     ensures set { settings_of links.new ≡ settings_of links.old }
     ensures last { links.new.last ≡ links.old.last }
     ensures late { AreNoMoreLate now links.old.newcomers.seconds links.old.newcomers.newcomers.items links.new.newcomers.newcomers.items }
-    ensures works { (links.old.newcomers.seconds == 0) ≡ false → Giving V.holds V.is_clean V.faults office.old office.new (AreLateGone now links.old.newcomers.seconds links.old.newcomers.newcomers.items) }
+    ensures works { (links.old.newcomers.seconds == 0) ≡ false → Giving V.holds V.is_clean V.faults office.old office.new (λ given. (d : declared.Seat) → HasEndedLate V.holds V.is_clean office.old office.new now links.old.newcomers.seconds links.old.newcomers.newcomers.items links.new.newcomers.newcomers.items (slice_index_or links.old.seats.items place d ∷ []) given) }
 {
     let seat = links.seats[place];
     if office.is_logged_in(seat.connection) {
@@ -387,7 +388,7 @@ fn end_late_ones<V: Vault, W: Wire>(office: &mut Office<V>, wire: &W, links: &mu
     ensures seats { links.new.seats ≡ links.old.seats }
     ensures set { settings_of links.new ≡ settings_of links.old }
     ensures last { links.new.last ≡ links.old.last }
-    ensures works { Giving V.holds V.is_clean V.faults office.old office.new (AreLateGone now links.old.newcomers.seconds links.old.newcomers.newcomers.items) }
+    ensures works { Giving V.holds V.is_clean V.faults office.old office.new (HasEndedLate V.holds V.is_clean office.old office.new now links.old.newcomers.seconds links.old.newcomers.newcomers.items links.new.newcomers.newcomers.items links.old.seats.items) }
 {
     if links.newcomers.seconds == 0 {
         return;
@@ -433,6 +434,7 @@ fn close_links<V: Vault, W: Wire>(office: &Office<V>, wire: &mut W, links: &mut 
     ensures serves { StillServes V.holds V.is_clean W.tells office.now wire.old links.old.seats.items [] office.now wire.new links.new.seats.items links.new.seats.items }
     ensures set { settings_of links.new ≡ settings_of links.old }
     ensures last { links.new.last ≡ links.old.last }
+    ensures newcomers { (T : Trace) → StandsFor V.holds office.now T → (c : ℕ) → is_open T c ≡ true → newcomer c links.new.newcomers.newcomers.items ≡ newcomer c links.old.newcomers.newcomers.items }
     ensures works { (T : Trace) → StandsFor V.holds office.now T → Asking W.asked wire.old wire.new (AreClosed T links.old.seats.items links.new.seats.items) }
 {
     let mut place = 0;
@@ -477,6 +479,7 @@ fn accept_link<V: Vault, W: Wire, L: Listener>(
     ensures set { settings_of links.new ≡ settings_of links.old }
     ensures last { links.new.last ≡ links.old.last }
     ensures late { AreNoMoreLate now links.old.newcomers.seconds links.old.newcomers.newcomers.items links.new.newcomers.newcomers.items }
+    ensures noted { (c : ℕ) (n : Newcomer) → newcomer c links.old.newcomers.newcomers.items ≡ Some n → newcomer c links.new.newcomers.newcomers.items ≡ Some n }
     ensures works { Part V.holds V.is_clean V.faults W.asked office.old wire.old office.new wire.new (AreAccepted V.holds V.is_clean office.old office.new links.old.seats.items links.new.seats.items 1 result) }
 {
     if links.seats.is_full() {
@@ -510,6 +513,7 @@ fn accept_links<V: Vault, W: Wire, L: Listener>(
     ensures set { settings_of links.new ≡ settings_of links.old }
     ensures last { links.new.last ≡ links.old.last }
     ensures late { AreNoMoreLate now links.old.newcomers.seconds links.old.newcomers.newcomers.items links.new.newcomers.newcomers.items }
+    ensures noted { (c : ℕ) (n : Newcomer) → newcomer c links.old.newcomers.newcomers.items ≡ Some n → newcomer c links.new.newcomers.newcomers.items ≡ Some n }
     ensures works { (goes : Bool) × Part V.holds V.is_clean V.faults W.asked office.old wire.old office.new wire.new (AreAccepted V.holds V.is_clean office.old office.new links.old.seats.items links.new.seats.items 64 goes) }
 {
     for _times in 0..MOST_LINKS {

@@ -18,6 +18,7 @@ use Rattle.serving.specs.Calls.{Accepted, Closed}
 use Rattle.serving.proofs.Working.{given_one, given_none, asked_one, asked_then, part_none}
 use Rattle.serving.proofs.Arriving.{done_mark, refusal_so, accepted_full, accepted_none, accepted_seated, accepted_unseated}
 use Rattle.serving.proofs.Late.{late_noted_so}
+use Rattle.serving.proofs.Timely.{found_noted}
 use Rattle.serving.proofs.turn.accept_link.Goals as goal
 
 pub returns-in-Some-number-clause-serves : goal.returns-in-Some-number-clause-serves
@@ -125,3 +126,6 @@ returns-in-None-clause-works g c =
 pub returns-in-Some-number-clause-late : goal.returns-in-Some-number-clause-late
 returns-in-Some-number-clause-late g c =
     late_noted_so c.args.now c.args.links.now.newcomers.seconds c.in-Some-number.connection _ c.args.links.now.newcomers.newcomers.items _ c.note.ensures.newcomers
+
+pub returns-in-Some-number-clause-noted : goal.returns-in-Some-number-clause-noted
+returns-in-Some-number-clause-noted g c = found_noted _ c.in-Some-number.connection c.args.now c.args.links.now.newcomers.newcomers.items _ c.note.ensures.newcomers

@@ -14,6 +14,7 @@ loop-times-init g c = record {
   set = refl;
   last = refl;
   late = late_same c.args.now c.args.links.now.newcomers.seconds c.args.links.now.newcomers.newcomers.items;
+  noted = λ q n h. h;
   works = part_none g.V.Vault.holds g.V.Vault.is_clean g.V.Vault.faults g.W.Wire.asked c.args.office.now c.args.wire.now _ (accepting_none g.V.Vault.holds g.V.Vault.is_clean g.V.Vault.faults c.args.office.now c.args.links.now.seats.items);
 }
 
@@ -35,6 +36,7 @@ loop-times-preserved g c =
       last = x.ensures.last ∙ k.invariant.last;
       late = late_next c.args.now k.links.newcomers.seconds c.args.links.now.newcomers.seconds c.args.links.now.newcomers.newcomers.items k.links.newcomers.newcomers.items x.new.links.newcomers.newcomers.items
           (ap (λ (s : Settings). s.login_seconds) k.invariant.set) k.invariant.late x.ensures.late;
+      noted = λ q n h. x.ensures.noted q n (k.invariant.noted q n h);
       works = part_then Holds IsClean g.V.Vault.faults g.W.Wire.asked c.args.office.now k.office x.new.office c.args.wire.now k.wire x.new.wire _ _ _
           (λ g1 g2 c1 c2 wa wb a b. accepted_then Holds IsClean g.V.Vault.faults c.args.office.now k.office x.new.office seats seats1 seats2 k._times true g1 g2 c1 c2 wa wb a b) k.invariant.works once;
     }
@@ -73,3 +75,6 @@ returns-then-not-accept_link-clause-late g c =
     let x = c.accept_link in
     late_next c.args.now k.links.newcomers.seconds c.args.links.now.newcomers.seconds c.args.links.now.newcomers.newcomers.items k.links.newcomers.newcomers.items x.new.links.newcomers.newcomers.items
     (ap (λ (s : Settings). s.login_seconds) k.invariant.set) k.invariant.late x.ensures.late
+
+pub returns-then-not-accept_link-clause-noted : goal.returns-then-not-accept_link-clause-noted
+returns-then-not-accept_link-clause-noted g c = λ q n h. c.accept_link.ensures.noted q n (c.loop-times.invariant.noted q n h)

@@ -1,4 +1,6 @@
-use Rattle.std.proofs.Common.{◌≡◌, [], true}
+use Rattle.std.proofs.Common.{◌≡◌, [], true, ℕ, Some}
+use Rattle.serving.specs.declared.newcomers.Newcomer.{Newcomer}
+use Rattle.serving.specs.Newcomers.{newcomer}
 use Rattle.office.specs.Stands.{vault_of}
 use Rattle.serving.specs.Served.{StillServes}
 use Rattle.serving.specs.Settings.{settings_of}
@@ -12,6 +14,7 @@ invariant-loop-times g l = record {
   set : settings_of l.links ≡ settings_of l.fn.links;
   last : l.links.last ≡ l.fn.links.last;
   late : AreNoMoreLate l.fn.now l.fn.links.newcomers.seconds l.fn.links.newcomers.newcomers.items l.links.newcomers.newcomers.items;
+  noted : (c : ℕ) (n : Newcomer) → newcomer c l.fn.links.newcomers.newcomers.items ≡ Some n → newcomer c l.links.newcomers.newcomers.items ≡ Some n;
   works : Part g.V.Vault.holds g.V.Vault.is_clean g.V.Vault.faults g.W.Wire.asked l.fn.office l.fn.wire l.office l.wire
       (AreAccepted g.V.Vault.holds g.V.Vault.is_clean l.fn.office l.office l.fn.links.seats.items l.links.seats.items l._times true);
 }

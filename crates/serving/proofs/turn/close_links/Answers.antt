@@ -1,4 +1,9 @@
-use Rattle.std.proofs.Common.{rules, ◌∙◌, ◌<◌, ◌≤◌, length, true, false, arith}
+use Rattle.std.proofs.Common.{rules, ◌≡◌, ℕ, List, ◌∙◌, ◌<◌, ◌≤◌, length, get_or, true, false, sym, ap, true≢false}
+use Rattle.office.specs.Events.{Trace}
+use Rattle.office.specs.Trace.{is_open}
+use Rattle.serving.specs.declared.newcomers.Newcomer.{Newcomer}
+use Rattle.serving.specs.Newcomers.{newcomer, others}
+use Rattle.serving.proofs.Late.{others_of}
 use Rattle.office.specs.Taken.{trace_of}
 use Rattle.serving.proofs.Seating.{seated_whole}
 use Rattle.serving.specs.declared.links.Seat.{Seat}
@@ -10,6 +15,10 @@ use Rattle.serving.proofs.turn.close_links.Goals as goal
 no_seat : Seat
 no_seat = record { link = record { number = 0 }; connection = 0 }
 
+-- who is open is noted as before, where who isn't is forgotten
+others_open : (T : Trace) (q c : ℕ) (xs ys : List Newcomer) → ys ≡ others c xs → is_open T q ≡ true → is_open T c ≡ false → newcomer q ys ≡ newcomer q xs
+others_open T q c xs ys is here shut = ap (newcomer q) is ∙ others_of q c xs (λ e. true≢false (sym here ∙ (ap (is_open T) e ∙ shut)))
+
 pub loop-place-preserved-then-close_seat : goal.loop-place-preserved-then-close_seat
 loop-place-preserved-then-close_seat g c =
     let k = c.loop-place in
@@ -19,6 +28,7 @@ loop-place-preserved-then-close_seat g c =
       serves = λ T beside s clean. c.if-close_seat.ensures.serves T beside (k.invariant.serves T beside s clean) clean;
       set = x.ensures.set ∙ k.invariant.set;
       last = x.ensures.last ∙ k.invariant.last;
+      newcomers = λ T s q here. ap (λ v. newcomer q v) (c.if-close_seat.ensures.newcomers no_seat) ∙ k.invariant.newcomers T s q here;
       works = λ T s.
           asking_then g.W.Wire.asked c.args.wire.now k.wire x.new.wire _ _ _
           (λ c1 c2 a b. closes_more T c.args.links.now.seats.items k.links.seats.items x.new.links.seats.items k.place no_seat true c1 c2 within a b) (k.invariant.works T s) (c.if-close_seat.ensures.works T no_seat s);
@@ -33,6 +43,10 @@ loop-place-preserved g c =
       serves = λ T beside s clean. c.if-close_seat.ensures.serves T beside (k.invariant.serves T beside s clean) clean;
       set = x.ensures.set ∙ k.invariant.set;
       last = x.ensures.last ∙ k.invariant.last;
+      newcomers = λ T s q here.
+          (let seat = get_or k.links.seats.items k.place no_seat in
+          let shut : is_open T seat.connection ≡ false = sym (c.if-close_seat.ensures.works T no_seat s).facts.stays_if in
+          others_open T q seat.connection k.links.newcomers.newcomers.items x.new.links.newcomers.newcomers.items (c.if-close_seat.ensures.newcomers no_seat) here shut ∙ k.invariant.newcomers T s q here);
       works = λ T s.
           asking_then g.W.Wire.asked c.args.wire.now k.wire x.new.wire _ _ _
           (λ c1 c2 a b. closes_more T c.args.links.now.seats.items k.links.seats.items x.new.links.seats.items k.place no_seat false c1 c2 within a b) (k.invariant.works T s) (c.if-close_seat.ensures.works T no_seat s);

@@ -1,4 +1,6 @@
-use Rattle.std.proofs.Common.{◌≡◌, ◌-◌, [], take}
+use Rattle.std.proofs.Common.{◌≡◌, ◌-◌, [], take, ℕ, true}
+use Rattle.office.specs.Trace.{is_open}
+use Rattle.serving.specs.Newcomers.{newcomer}
 use Rattle.arrayvec.specs.ArrayVec.{array_vec_len}
 use Rattle.office.specs.Events.{Trace}
 use Rattle.office.specs.Stands.{StandsFor}
@@ -13,6 +15,7 @@ invariant-loop-place g l = record {
   serves : StillServes g.V.Vault.holds g.V.Vault.is_clean g.W.Wire.tells l.fn.office l.fn.wire l.fn.links.seats.items [] l.fn.office l.wire l.links.seats.items (take l.place l.links.seats.items);
   set : settings_of l.links ≡ settings_of l.fn.links;
   last : l.links.last ≡ l.fn.links.last;
+  newcomers : (T : Trace) → StandsFor g.V.Vault.holds l.fn.office T → (c : ℕ) → is_open T c ≡ true → newcomer c l.links.newcomers.newcomers.items ≡ newcomer c l.fn.links.newcomers.newcomers.items;
   works : (T : Trace) → StandsFor g.V.Vault.holds l.fn.office T → Asking g.W.Wire.asked l.fn.wire l.wire (ClosesSoFar T l.fn.links.seats.items l.links.seats.items l.place);
 }
 

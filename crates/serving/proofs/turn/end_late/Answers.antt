@@ -1,4 +1,4 @@
-use Rattle.std.proofs.Common.{[], arith}
+use Rattle.std.proofs.Common.{[], ◌∷◌, arith}
 use Rattle.serving.proofs.Seating.{contained}
 use Rattle.std.proofs.Common.{rules, ◌≡◌, ◌&&◌, ◌==◌, true, false, not, sym, refl, ap, ◌∙◌}
 use Rattle.std.proofs.lemmas.Bool.{and_from}
@@ -6,6 +6,9 @@ use Rattle.std.proofs.lemmas.List.Elements.{All-nil}
 use Rattle.serving.specs.Works.{IsLateGone, is_late}
 use Rattle.serving.proofs.Working.{given_none}
 use Rattle.serving.proofs.Late.{late_same, late_forgotten, late_so}
+use Rattle.serving.specs.Late.{HasEndedLate}
+use Rattle.serving.proofs.Freeing.{at_place}
+use Rattle.serving.proofs.Timely.{late_lived, late_prompt, late_shut, prompt_so}
 use Rattle.serving.proofs.turn.end_late.Goals as goal
 
 pub returns-clause-serves : goal.returns-clause-serves
@@ -18,14 +21,34 @@ returns-then-is_logged_in-clause-late g c = late_forgotten c.args.now c.args.lin
 
 pub returns-then-is_logged_in-clause-works : goal.returns-then-is_logged_in-clause-works
 returns-then-is_logged_in-clause-works g c = λ on.
-    record { given = []; was_given = given_none g.V.Vault.holds g.V.Vault.is_clean g.V.Vault.faults c.args.office.now; facts = All-nil (IsLateGone c.args.now c.args.links.now.newcomers.seconds c.args.links.now.newcomers.newcomers.items) }
+    (let n = c.args.links.now.newcomers in
+    let o = c.args.office.now in
+    let yes : c.is_logged_in.result ≡ true = search rules in
+    record {
+      given = [];
+      was_given = given_none g.V.Vault.holds g.V.Vault.is_clean g.V.Vault.faults o;
+      facts = λ d.
+          at_place c.args.links.now.seats.items c.deref.result.now c.args.place _
+          (λ q. HasEndedLate g.V.Vault.holds g.V.Vault.is_clean o o c.args.now n.seconds n.newcomers.items c.forget.new.self.newcomers.items (q ∷ []) []) c.deref.ensures.0 c.requires
+          (late_lived g.V.Vault.holds g.V.Vault.is_clean g.V.Vault.faults c.args.now n.seconds o n.newcomers.items c.forget.new.self.newcomers.items _ c.forget.ensures.newcomers (λ T s. sym (c.is_logged_in.ensures T s) ∙ yes)) d;
+    })
 
 pub returns-then-not-is_late-clause-late : goal.returns-then-not-is_late-clause-late
 returns-then-not-is_late-clause-late g c = late_same c.args.now c.args.links.now.newcomers.seconds c.args.links.now.newcomers.newcomers.items
 
 pub returns-then-not-is_late-clause-works : goal.returns-then-not-is_late-clause-works
 returns-then-not-is_late-clause-works g c = λ on.
-    record { given = []; was_given = given_none g.V.Vault.holds g.V.Vault.is_clean g.V.Vault.faults c.args.office.now; facts = All-nil (IsLateGone c.args.now c.args.links.now.newcomers.seconds c.args.links.now.newcomers.newcomers.items) }
+    (let n = c.args.links.now.newcomers in
+    let o = c.args.office.now in
+    let no : c.is_late.result ≡ false = search rules in
+    record {
+      given = [];
+      was_given = given_none g.V.Vault.holds g.V.Vault.is_clean g.V.Vault.faults o;
+      facts = λ d.
+          at_place c.args.links.now.seats.items c.deref.result.now c.args.place _
+          (λ q. HasEndedLate g.V.Vault.holds g.V.Vault.is_clean o o c.args.now n.seconds n.newcomers.items n.newcomers.items (q ∷ []) []) c.deref.ensures.0 c.requires
+          (late_prompt g.V.Vault.holds g.V.Vault.is_clean g.V.Vault.faults c.args.now n.seconds o n.newcomers.items _ (prompt_so c.args.now n.seconds n.newcomers.items _ (sym c.is_late.ensures ∙ no))) d;
+    })
 
 pub returns-clause-late : goal.returns-clause-late
 returns-clause-late g c = late_same c.args.now c.args.links.now.newcomers.seconds c.args.links.now.newcomers.newcomers.items
@@ -33,5 +56,15 @@ returns-clause-late g c = late_same c.args.now c.args.links.now.newcomers.second
 pub returns-clause-works : goal.returns-clause-works
 returns-clause-works g c = λ on.
     (let n = c.args.links.now.newcomers in
+    let o = c.args.office.now in
+    let o1 = c.end_seat.new.office in
     let is : c.is_late.result ≡ true = search rules in
-    c.end_seat.ensures.works c.args.now n.seconds n.newcomers.items (late_so c.args.now n.seconds n.newcomers.items _ on (sym c.is_late.ensures ∙ is)))
+    let w = c.end_seat.ensures.works c.args.now n.seconds n.newcomers.items (late_so c.args.now n.seconds n.newcomers.items _ on (sym c.is_late.ensures ∙ is)) in
+    record {
+      given = w.given;
+      was_given = w.was_given;
+      facts = λ d.
+          at_place c.args.links.now.seats.items c.deref.result.now c.args.place _
+          (λ q. HasEndedLate g.V.Vault.holds g.V.Vault.is_clean o o1 c.args.now n.seconds n.newcomers.items n.newcomers.items (q ∷ []) w.given) c.deref.ensures.0 c.requires
+          (late_shut g.V.Vault.holds g.V.Vault.is_clean g.V.Vault.faults c.args.now n.seconds o o1 n.newcomers.items _ w.given w.facts.0 w.facts.1) d;
+    })

@@ -1,14 +1,26 @@
-use Rattle.std.proofs.Common.{rules, ◌≡◌, ◌==◌, [], ℕ, true, false, not, refl, sym, ap, ◌∙◌, subst}
-use Rattle.std.proofs.lemmas.List.Elements.{All-nil}
+use Rattle.std.proofs.Common.{rules, ◌≡◌, ◌==◌, ◌<◌, ◌≤◌, ◌∷◌, [], true, false, get_or, length, refl, ap, ◌∙◌, subst}
+use Rattle.serving.specs.declared.links.Seat.{Seat}
+use Rattle.serving.specs.Late.{HasEndedLate}
+use Rattle.serving.proofs.Timely.{late_none, late_off, late_step, late_whole}
 use Rattle.serving.specs.Settings.{Settings}
-use Rattle.serving.specs.Works.{IsLateGone, AreNoMoreLate, Giving, AreLateGone}
+use Rattle.serving.specs.Works.{AreNoMoreLate, Giving}
 use Rattle.serving.proofs.Working.{given_none}
-use Rattle.serving.proofs.Late.{late_same, late_then, gone_then}
+use Rattle.serving.proofs.Late.{late_same, late_then}
 use Rattle.serving.proofs.turn.end_late_ones.Goals as goal
+
+-- any seat
+no_seat : Seat
+no_seat = record { link = record { number = 0 }; connection = 0 }
 
 pub returns-then-links-eq0-clause-works : goal.returns-then-links-eq0-clause-works
 returns-then-links-eq0-clause-works g c =
-    record { given = []; was_given = given_none g.V.Vault.holds g.V.Vault.is_clean g.V.Vault.faults c.args.office.now; facts = All-nil (IsLateGone c.args.now c.args.links.now.newcomers.seconds c.args.links.now.newcomers.newcomers.items) }
+    let n = c.args.links.now.newcomers in
+    let off : (n.seconds == 0) ≡ true = search rules in
+    record {
+      given = [];
+      was_given = given_none g.V.Vault.holds g.V.Vault.is_clean g.V.Vault.faults c.args.office.now;
+      facts = late_off g.V.Vault.holds g.V.Vault.is_clean g.V.Vault.faults c.args.now n.seconds c.args.office.now n.newcomers.items c.args.links.now.seats.items off;
+    }
 
 pub loop-place-init : goal.loop-place-init
 loop-place-init g c = record {
@@ -18,7 +30,7 @@ loop-place-init g c = record {
   set = refl;
   last = refl;
   late = late_same c.args.now c.args.links.now.newcomers.seconds c.args.links.now.newcomers.newcomers.items;
-  works = record { given = []; was_given = given_none g.V.Vault.holds g.V.Vault.is_clean g.V.Vault.faults c.args.office.now; facts = All-nil (IsLateGone c.args.now c.args.links.now.newcomers.seconds c.args.links.now.newcomers.newcomers.items) };
+  works = record { given = []; was_given = given_none g.V.Vault.holds g.V.Vault.is_clean g.V.Vault.faults c.args.office.now; facts = late_none g.V.Vault.holds g.V.Vault.is_clean g.V.Vault.faults c.args.now c.args.links.now.newcomers.seconds c.args.office.now c.args.links.now.newcomers.newcomers.items };
 }
 
 pub loop-place-preserved : goal.loop-place-preserved
@@ -32,8 +44,9 @@ loop-place-preserved g c =
     let on : (k.links.newcomers.seconds == 0) ≡ false = ap (λ m. m == 0) seconds ∙ some in
     let late : AreNoMoreLate now n.seconds k.links.newcomers.newcomers.items x.new.links.newcomers.newcomers.items =
     subst (λ m. AreNoMoreLate now m k.links.newcomers.newcomers.items x.new.links.newcomers.newcomers.items) seconds x.ensures.late in
-    let one : Giving g.V.Vault.holds g.V.Vault.is_clean g.V.Vault.faults k.office x.new.office (AreLateGone now n.seconds k.links.newcomers.newcomers.items) =
-    subst (λ m. Giving g.V.Vault.holds g.V.Vault.is_clean g.V.Vault.faults k.office x.new.office (AreLateGone now m k.links.newcomers.newcomers.items)) seconds (x.ensures.works on) in
+    let within : k.place < length k.links.seats.items = search rules in
+    let one = subst (λ m. Giving g.V.Vault.holds g.V.Vault.is_clean g.V.Vault.faults k.office x.new.office
+    (λ given. (d : Seat) → HasEndedLate g.V.Vault.holds g.V.Vault.is_clean k.office x.new.office now m k.links.newcomers.newcomers.items x.new.links.newcomers.newcomers.items (get_or k.links.seats.items k.place d ∷ []) given)) seconds (x.ensures.works on) in
     record {
       serves = λ T beside s clean. x.ensures.serves T beside (k.invariant.serves T beside s (x.ensures.clean clean)) clean;
       clean = λ clean. k.invariant.clean (x.ensures.clean clean);
@@ -41,5 +54,14 @@ loop-place-preserved g c =
       set = x.ensures.set ∙ k.invariant.set;
       last = x.ensures.last ∙ k.invariant.last;
       late = late_then now n.seconds n.newcomers.items k.links.newcomers.newcomers.items x.new.links.newcomers.newcomers.items k.invariant.late late;
-      works = gone_then g.V.Vault.holds g.V.Vault.is_clean g.V.Vault.faults now n.seconds n.newcomers.items k.links.newcomers.newcomers.items c.args.office.now k.office x.new.office k.invariant.late k.invariant.works one;
+      works = late_step g.V.Vault.holds g.V.Vault.is_clean g.V.Vault.faults now n.seconds c.args.office.now k.office x.new.office n.newcomers.items k.links.newcomers.newcomers.items x.new.links.newcomers.newcomers.items c.args.links.now.seats.items k.links.seats.items k.place no_seat
+          (ap (λ v. v.items) k.invariant.seats) within k.invariant.late k.invariant.works one;
     }
+
+pub returns-clause-works : goal.returns-clause-works
+returns-clause-works g c =
+    let k = c.loop-place in
+    let n = c.args.links.now.newcomers in
+    let done : length k.links.seats.items ≤ k.place = search rules in
+    late_whole g.V.Vault.holds g.V.Vault.is_clean g.V.Vault.faults c.args.now n.seconds c.args.office.now k.office n.newcomers.items k.links.newcomers.newcomers.items c.args.links.now.seats.items k.links.seats.items k.place
+    (ap (λ v. v.items) k.invariant.seats) done k.invariant.works

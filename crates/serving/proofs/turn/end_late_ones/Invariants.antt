@@ -1,9 +1,10 @@
-use Rattle.std.proofs.Common.{◌≡◌, ◌-◌, []}
+use Rattle.std.proofs.Common.{◌≡◌, ◌-◌, [], take}
 use Rattle.arrayvec.specs.ArrayVec.{array_vec_len}
 use Rattle.office.specs.Stands.{vault_of}
 use Rattle.serving.specs.Served.{StillServes}
 use Rattle.serving.specs.Settings.{settings_of}
-use Rattle.serving.specs.Works.{Giving, AreLateGone, AreNoMoreLate}
+use Rattle.serving.specs.Works.{Giving, AreNoMoreLate}
+use Rattle.serving.specs.Late.{HasEndedLate}
 use Rattle.serving.proofs.turn.end_late_ones.Given as goal
 
 abbrev pub invariant-loop-place : goal.invariant-loop-place
@@ -14,7 +15,8 @@ invariant-loop-place g l = record {
   set : settings_of l.links ≡ settings_of l.fn.links;
   last : l.links.last ≡ l.fn.links.last;
   late : AreNoMoreLate l.fn.now l.fn.links.newcomers.seconds l.fn.links.newcomers.newcomers.items l.links.newcomers.newcomers.items;
-  works : Giving g.V.Vault.holds g.V.Vault.is_clean g.V.Vault.faults l.fn.office l.office (AreLateGone l.fn.now l.fn.links.newcomers.seconds l.fn.links.newcomers.newcomers.items);
+  works : Giving g.V.Vault.holds g.V.Vault.is_clean g.V.Vault.faults l.fn.office l.office
+      (HasEndedLate g.V.Vault.holds g.V.Vault.is_clean l.fn.office l.office l.fn.now l.fn.links.newcomers.seconds l.fn.links.newcomers.newcomers.items l.links.newcomers.newcomers.items (take l.place l.fn.links.seats.items));
 }
 
 abbrev pub decreases-loop-place : goal.decreases-loop-place

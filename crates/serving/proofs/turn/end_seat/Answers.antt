@@ -1,4 +1,4 @@
-use Rattle.std.proofs.Common.{rules, ◌≡◌, ◌∷◌, false, sym, refl, subst}
+use Rattle.std.proofs.Common.{rules, ◌≡◌, ◌∷◌, true, false, sym, refl, subst}
 use Rattle.office.specs.Events.{Tagged}
 use Rattle.office.specs.Events as event
 use Rattle.office.specs.Shown.{outcome_seen}
@@ -8,8 +8,8 @@ use Rattle.office.specs.Taken.{trace_of}
 use Rattle.office.specs.Trace.{is_open}
 use Rattle.serving.specs.Served.{AreServed, AreSeated}
 use Rattle.serving.proofs.Marks.{gone_mark}
-use Rattle.serving.proofs.Staying.{fewer_framed, frame_gone}
-use Rattle.serving.proofs.Seating.{seat_owns, seated_one, open_so}
+use Rattle.serving.proofs.Staying.{fewer_framed, frame_gone, gone_so}
+use Rattle.serving.proofs.Seating.{seat_owns, seated_one, open_so, shut_so}
 use Rattle.serving.proofs.Keeping.{served_gone, adds_one}
 use Rattle.std.proofs.Common.{[]}
 use Rattle.std.proofs.lemmas.List.Elements.{All-nil, All-cons}
@@ -48,9 +48,24 @@ returns-clause-works g c = λ now seconds newcomers late.
     record {
       given = (e, m) ∷ [];
       was_given = given_one g.V.Vault.holds g.V.Vault.is_clean g.V.Vault.faults c.args.office.now c.step.new.self e (outcome_seen c.step.result) c.step.ensures.clean c.step.ensures.stands c.step.ensures.admitted c.step.ensures.counted c.step.ensures.cause;
-      facts = All-cons (IsLateGone now seconds newcomers) (e, m) [] late (All-nil (IsLateGone now seconds newcomers));
+      facts = (
+        All-cons (IsLateGone now seconds newcomers) (e, m) [] late (All-nil (IsLateGone now seconds newcomers)),
+        λ B L s clean.
+            (let connection = c.args.seat.connection in
+            let stays : c.ended.result ≡ false = search rules in
+            let here = open_so (is_open (trace_of B L) connection) c.ended.result (c.ended.ensures (trace_of B L) s) stays in
+            let k = gone_mark (trace_of B L) (lent_by c.args.office.now) connection (outcome_seen c.step.result) here (c.step.ensures.outcome (trace_of B L) s clean) in
+            subst (λ x. is_open (trace_of B ((event.Gone connection, x) ∷ L)) connection ≡ false) (sym k.1) (gone_so B L connection k.0)),
+      );
     })
 
 pub returns-then-ended-clause-works : goal.returns-then-ended-clause-works
 returns-then-ended-clause-works g c = λ now seconds newcomers late.
-    record { given = []; was_given = given_none g.V.Vault.holds g.V.Vault.is_clean g.V.Vault.faults c.args.office.now; facts = All-nil (IsLateGone now seconds newcomers) }
+    record {
+      given = [];
+      was_given = given_none g.V.Vault.holds g.V.Vault.is_clean g.V.Vault.faults c.args.office.now;
+      facts = (
+        All-nil (IsLateGone now seconds newcomers),
+        λ B L s clean. (let over : c.ended.result ≡ true = search rules in shut_so (is_open (trace_of B L) c.args.seat.connection) c.ended.result (c.ended.ensures (trace_of B L) s) over),
+      );
+    }

@@ -7,7 +7,15 @@ use Rattle.std.proofs.Common.{◌≡◌, ◌||◌, ap, ◌∙◌}
 use Rattle.serving.specs.Settings.{Settings}
 use Rattle.serving.specs.Works.{Part, Asking, IsPassed, AreClosed, AreNoMoreLate, WereServed}
 use Rattle.serving.specs.SpoolTurns.{SpoolPart, IsSpoolTurn, has_dealt}
-use Rattle.serving.proofs.Late.{gone_so}
+use Rattle.std.proofs.Common.{ℕ, Some, true}
+use Rattle.office.specs.Events.{Trace}
+use Rattle.office.specs.Trace.{is_open}
+use Rattle.office.specs.Stands.{StandsFor}
+use Rattle.serving.specs.declared.newcomers.Newcomer.{Newcomer}
+use Rattle.serving.specs.Newcomers.{newcomer}
+use Rattle.serving.specs.Works.{Giving}
+use Rattle.serving.specs.Late.{HasEndedLate}
+use Rattle.serving.proofs.Timely.{late_both}
 use Rattle.serving.proofs.Finishing.{turn_done}
 use Rattle.serving.proofs.Bounds.{all_short}
 use Rattle.serving.proofs.turn.serve_turn.Goals as goal
@@ -77,14 +85,19 @@ returns-clause-works g c = λ T s clean.
     let same = c.serve_links.ensures.aside.newcomers in
     let seconds = ap (λ n. n.seconds) same ∙ ap (λ (s : Settings). s.login_seconds) c.accept_links.ensures.set in
     let less = subst (λ n. AreNoMoreLate now old.newcomers.seconds old.newcomers.newcomers.items n.newcomers.items) (sym same) c.accept_links.ensures.late in
-    let late = gone_so Holds IsClean g.V.Vault.faults now served.newcomers.seconds old.newcomers.seconds old.newcomers.newcomers.items served.newcomers.newcomers.items o4 o5 seconds less c.end_late_ones.ensures.works in
+    let late = late_both Holds IsClean g.V.Vault.faults now served.newcomers.seconds old.newcomers.seconds old.newcomers.newcomers.items served.newcomers.newcomers.items ended.newcomers.newcomers.items seats2 o4 o5 seconds less
+    (subst (λ v. Giving Holds IsClean g.V.Vault.faults o4 o5 (HasEndedLate Holds IsClean o4 o5 now served.newcomers.seconds served.newcomers.newcomers.items ended.newcomers.newcomers.items v.items)) c.serve_links.ensures.seats c.end_late_ones.ensures.works) in
+    let keeps : (n : ℕ) (x : Newcomer) → newcomer n old.newcomers.newcomers.items ≡ Some x → newcomer n served.newcomers.newcomers.items ≡ Some x =
+    λ n x h. ap (λ v. newcomer n v.newcomers.items) same ∙ c.accept_links.ensures.noted n x h in
+    let forgets : (U : Trace) → StandsFor Holds o5 U → (n : ℕ) → is_open U n ≡ true → newcomer n c.serve_spool.new.links.newcomers.newcomers.items ≡ newcomer n ended.newcomers.newcomers.items =
+    λ U su n here. ap (λ v. newcomer n v.newcomers.items) c.serve_spool.ensures.newcomers ∙ c.close_links.ensures.newcomers U su n here in
     let last = c.close_links.ensures.last ∙ (c.end_late_ones.ensures.last ∙ (c.serve_links.ensures.aside.last ∙ c.accept_links.ensures.last)) in
     let tried = subst (λ l. SpoolPart Holds IsClean g.V.Vault.faults g.S.Spool.asked o5 c.args.spool.now c.serve_spool.new.office c.serve_spool.new.spool (λ U given calls. IsSpoolTurn l c.serve_spool.new.links.last U given calls × (c.serve_spool.new.links.presses ≡ (c.close_links.new.links.presses || has_dealt calls)))) last c.serve_spool.ensures.works in
     let seats_same = c.end_late_ones.ensures.seats ∙ c.serve_links.ensures.seats in
     turn_done Holds IsClean g.V.Vault.faults Asked g.S.Spool.asked T now links (record { clients = c.serve_spool.new.links; requests = c.serve_requests.new.requests })
     c.args.office.now o1 o2 o3 o4 o5 c.serve_spool.new.office
     c.args.wire.now w1 c.accept_links.new.wire w3 w4 w5 w6 c.args.spool.now c.serve_spool.new.spool
-    seats2 a.0 c.accept_requests.new.requests.exchanges.items c.accept_requests.ensures.works.0 served.is_freed c.close_links.new.links.presses passed a.1 c.accept_requests.ensures.works.1 turned c.serve_requests.ensures.works late
+    seats2 a.0 c.accept_requests.new.requests.exchanges.items c.accept_requests.ensures.works.0 served.is_freed c.close_links.new.links.presses served.newcomers.newcomers.items ended.newcomers.newcomers.items passed a.1 c.accept_requests.ensures.works.1 turned c.serve_requests.ensures.works keeps late forgets
     (λ U su.
     subst (λ v. Asking Asked w5 w6 (AreClosed U v.items c.serve_spool.new.links.seats.items)) seats_same
     (subst (λ v. Asking Asked w5 w6 (AreClosed U ended.seats.items v.items)) (sym c.serve_spool.ensures.seats) (c.close_links.ensures.works U su)))
