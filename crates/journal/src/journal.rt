@@ -1,26 +1,29 @@
 //! Where the lines of a log go.
-use super::holders::{Holder, Holders};
+use super::client::Clients;
 use super::pipe::takes_a_line;
 use creds::Name;
 use jiff::Timestamp;
+use office::Account;
+use serving::{Link, Listener};
 use std::alloc::{AllocError, Global};
 use std::cell::{Cell, RefCell};
 use std::io::Write;
+use std::net::{IpAddr, SocketAddr};
 use std::time::Clock;
 
-/// What the parts of a log share: how many lines were lost, and who is in which maildrop.
+/// What the parts of a log share: how many lines were lost, and the mail programs' connections.
 #[derive(Drop)]
 pub struct Shared {
     lost: Cell<u64>,
-    holders: RefCell<Holders>,
+    clients: RefCell<Clients>,
 }
 
 impl Shared {
-    /// No line was lost, and nobody is in a maildrop.
+    /// No line was lost, and nobody is connected.
     pub fn new(alloc: Global) -> Shared {
         Shared {
             lost: Cell::new(0),
-            holders: RefCell::new(Holders::new(alloc)),
+            clients: RefCell::new(Clients::new(alloc)),
         }
     }
 }
@@ -66,25 +69,44 @@ impl<'a> Journal<'a> {
         }
     }
 
-    /// Keeps that a session began.
-    pub fn begin(&self, session: Holder) {
-        if let Ok(mut holders) = self.shared.holders.try_borrow_mut() {
-            holders.begin(session);
+    /// Notes the line that there is, if there is one.
+    fn note_some(&self, text: Option<Result<String, AllocError>>) {
+        if let Some(text) = text {
+            self.note(text);
         }
     }
 
-    /// Keeps that the session of a connection is over.
-    pub fn end(&self, connection: u64) {
-        if let Ok(mut holders) = self.shared.holders.try_borrow_mut() {
-            holders.end(connection);
+    /// Keeps that a mail program's link came.
+    pub fn come(&self, link: Link, address: Option<SocketAddr>) {
+        let ip = address.map(|it| it.ip());
+        if let Ok(text) = address_text(self.alloc(), address)
+            && let Ok(mut clients) = self.shared.clients.try_borrow_mut()
+        {
+            let _ = clients.come(link, ip, text);
         }
     }
 
-    /// The session in a maildrop, where it is known.
-    pub fn holder(&self, maildrop: &Name) -> Option<Holder> {
-        match self.shared.holders.try_borrow() {
-            Ok(holders) => holders.find(maildrop),
+    /// Keeps the address of a mail program's link, which a proxy may have told since.
+    pub fn locate(&self, link: Link, ip: IpAddr) {
+        if let Ok(mut clients) = self.shared.clients.try_borrow_mut() {
+            clients.locate(self.alloc(), link, ip);
+        }
+    }
+
+    /// Notes that a mail program's link is closed, unless a QUIT was noted.
+    pub fn close(&self, link: Link) {
+        let text = match self.shared.clients.try_borrow_mut() {
+            Ok(mut clients) => clients.close(self.alloc(), link),
             Err(_) => None,
+        };
+        self.note_some(text);
+    }
+
+    /// Who is in a maildrop, as values of a line; empty where that isn't known.
+    pub fn holder(&self, maildrop: &Name) -> Result<String, AllocError> {
+        match self.shared.clients.try_borrow() {
+            Ok(clients) => clients.holder(self.alloc(), maildrop),
+            Err(_) => Ok(String::new(self.alloc())),
         }
     }
 
@@ -112,6 +134,39 @@ impl<'a> Journal<'a> {
         let now = self.rt.since_1970().ok()?;
         let seconds = i64::try_from(now.as_secs()).ok()?;
         Timestamp::from_second(seconds).ok()
+    }
+}
+
+/// Notes each connection that is opened, and what the office judged of what came on it.
+impl Listener for Journal<'_> {
+    fn open(&mut self, link: Link, connection: u64) {
+        if !self.is_on {
+            return;
+        }
+        let text = match self.shared.clients.try_borrow_mut() {
+            Ok(mut clients) => clients.open(self.alloc(), link, connection),
+            Err(_) => None,
+        };
+        self.note_some(text);
+    }
+
+    fn hear(&mut self, connection: u64, account: &Account) {
+        if !self.is_on || matches!(account, Account::Nothing) {
+            return;
+        }
+        let text = match self.shared.clients.try_borrow_mut() {
+            Ok(mut clients) => clients.hear(self.alloc(), connection, account),
+            Err(_) => None,
+        };
+        self.note_some(text);
+    }
+}
+
+/// The text of an address.
+pub fn address_text(alloc: Global, address: Option<SocketAddr>) -> Result<String, AllocError> {
+    match address {
+        Some(address) => format!(in alloc; "{address}"),
+        None => String::from_str(alloc, "unknown"),
     }
 }
 

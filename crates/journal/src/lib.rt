@@ -2,12 +2,14 @@
 //!
 //! A [`Journal`] writes the lines. [`LoggedVault`], [`LoggedWire`] and [`LoggedSpool`] stand around
 //! a server's vault, wire and spool: each does what the one inside does, and notes what came of it.
+//! As the server's listener a [`Journal`] notes connections, logins and QUITs as the office judged
+//! them.
 //! [`Guarded`] ends all that once a [`StoreWatch`] sees that the store's files are others.
 #![tactic(auto)]
 
+mod account_text;
 mod client;
 mod guarded;
-mod holders;
 mod journal;
 mod left;
 mod line;

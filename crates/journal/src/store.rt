@@ -75,17 +75,6 @@ fn deposit_text(
     format!(in alloc; "event=deposit file={maildrop}.{class}.{id}.eml {answer}")
 }
 
-/// The session in a maildrop, as it stands in a line; nothing where it isn't known.
-fn session_text(journal: &Journal<'_>, maildrop: &Name) -> Result<String, AllocError> {
-    match journal.holder(maildrop) {
-        Some(holder) => format!(in journal.alloc();
-            " connection={} clerk={}",
-            holder.connection, holder.name.clerk
-        ),
-        None => Ok(String::new(journal.alloc())),
-    }
-}
-
 /// The line of a removal, by a session in the maildrop.
 fn removal_text(
     alloc: Global,
@@ -140,7 +129,9 @@ fn note_removal(
     if !journal.is_on() {
         return;
     }
-    let session = session_text(&journal, maildrop).unwrap_or(String::new(journal.alloc()));
+    let session = journal
+        .holder(maildrop)
+        .unwrap_or(String::new(journal.alloc()));
     let text = removal_text(
         journal.alloc(),
         session.as_str(),

@@ -1,7 +1,6 @@
 //! A wire whose links are noted.
 
-use super::client::Client;
-use super::journal::Journal;
+use super::journal::{Journal, address_text};
 use super::request::Asking;
 use proxy::ProxiedWire;
 use serving::{Io, Link, NotedWire, Port, SocketWire, Wire};
@@ -34,20 +33,11 @@ impl<W: Wire + Peers, C: Clock> Peers for ProxiedWire<W, C> {
     }
 }
 
-/// The open links, of each what the log needs of it.
+/// The open links of the administration, of each what the log needs of it.
 #[derive(Drop)]
 pub struct Followed<'a> {
     journal: Journal<'a>,
-    clients: Vec<Client>,
     askings: Vec<Asking>,
-}
-
-/// The text of an address.
-fn address_text(alloc: Global, address: Option<SocketAddr>) -> Result<String, AllocError> {
-    match address {
-        Some(address) => format!(in alloc; "{address}"),
-        None => String::from_str(alloc, "unknown"),
-    }
 }
 
 impl<'a> Followed<'a> {
@@ -55,45 +45,26 @@ impl<'a> Followed<'a> {
     fn new(journal: Journal<'a>) -> Followed<'a> {
         Followed {
             journal,
-            clients: Vec::new(journal.alloc()),
             askings: Vec::new(journal.alloc()),
         }
     }
 
-    /// Follows a new link. Its error is want of memory: then the log doesn't tell of this link.
-    fn follow(
-        &mut self,
-        port: Port,
-        link: Link,
-        address: Option<SocketAddr>,
-    ) -> Result<(), AllocError> {
+    /// Follows a new link. Without memory the log doesn't tell of this link.
+    fn follow(&mut self, port: Port, link: Link, address: Option<SocketAddr>) {
+        match port {
+            Port::Pop => self.journal.come(link, address),
+            Port::Admin => {
+                let _ = self.follow_asking(link, address);
+            }
+        }
+    }
+
+    /// Follows a new link of the administration.
+    fn follow_asking(&mut self, link: Link, address: Option<SocketAddr>) -> Result<(), AllocError> {
         let alloc = self.journal.alloc();
         let text = address_text(alloc, address)?;
-        match port {
-            Port::Pop => {
-                let ip = address.map(|it| it.ip());
-                self.clients
-                    .push(Client::new(alloc, link, ip, text.as_str())?)?;
-            }
-            Port::Admin => self.askings.push(Asking::new(alloc, link, text.as_str())?)?,
-        }
+        self.askings.push(Asking::new(alloc, link, text.as_str())?)?;
         Ok(())
-    }
-
-    /// Takes the address of a client's link, which a proxy may have told since.
-    fn locate(&mut self, port: Port, link: Link, address: Option<IpAddr>) {
-        let alloc = self.journal.alloc();
-        if port != Port::Pop {
-            return;
-        }
-        if let (Some(client), Some(address)) = (self.client(link), address) {
-            client.locate(alloc, address);
-        }
-    }
-
-    /// The client at a link.
-    fn client(&mut self, link: Link) -> Option<&mut Client> {
-        self.clients.iter_mut().find(|client| client.link == link)
     }
 
     /// The administrator at a link.
@@ -101,60 +72,40 @@ impl<'a> Followed<'a> {
         self.askings.iter_mut().find(|asking| asking.link == link)
     }
 
-    /// Takes octets that came on a link.
-    fn hear(&mut self, port: Port, link: Link, octets: &[u8]) {
-        match port {
-            Port::Pop => {
-                if let Some(client) = self.client(link) {
-                    client.hear(octets);
-                }
-            }
-            Port::Admin => {
-                if let Some(asking) = self.asking(link) {
-                    asking.hear(octets);
-                }
-            }
+    /// Takes octets that came on a link of the administration.
+    fn hear(&mut self, link: Link, octets: &[u8]) {
+        if let Some(asking) = self.asking(link) {
+            asking.hear(octets);
         }
     }
 
-    /// Takes octets that were sent on a link.
-    fn say(&mut self, port: Port, link: Link, octets: &[u8]) {
-        let journal = self.journal;
-        match port {
-            Port::Pop => {
-                if let Some(client) = self.client(link) {
-                    client.say(&journal, octets);
-                }
-            }
-            Port::Admin => {
-                if let Some(asking) = self.asking(link) {
-                    asking.say(journal.alloc(), octets);
-                }
-            }
+    /// Takes octets that were sent on a link of the administration.
+    fn say(&mut self, link: Link, octets: &[u8]) {
+        let alloc = self.journal.alloc();
+        if let Some(asking) = self.asking(link) {
+            asking.say(alloc, octets);
         }
     }
 
     /// Notes the end of a link, and forgets it.
     fn close(&mut self, port: Port, link: Link) {
         match port {
-            Port::Pop => {
-                if let Some(at) = self.clients.iter().position(|client| client.link == link) {
-                    let client = self.clients.swap_remove(at);
-                    client.close(&self.journal);
-                }
-            }
-            Port::Admin => {
-                if let Some(at) = self.askings.iter().position(|asking| asking.link == link) {
-                    let asking = self.askings.swap_remove(at);
-                    asking.close(&self.journal);
-                }
-            }
+            Port::Pop => self.journal.close(link),
+            Port::Admin => self.close_asking(link),
+        }
+    }
+
+    /// Notes the end of a link of the administration, and forgets it.
+    fn close_asking(&mut self, link: Link) {
+        if let Some(at) = self.askings.iter().position(|asking| asking.link == link) {
+            let asking = self.askings.swap_remove(at);
+            asking.close(&self.journal);
         }
     }
 }
 
-/// A wire that does what the one inside does, and notes connections, logins, QUITs and ends of
-/// clients, and the requests of the administration.
+/// A wire that does what the one inside does, keeps from where clients came, and notes their ends
+/// and the requests of the administration.
 #[derive(Drop)]
 pub struct LoggedWire<'a, W: Wire> {
     pub wire: W,
@@ -167,6 +118,15 @@ impl<'a, W: Wire> LoggedWire<'a, W> {
         LoggedWire {
             wire,
             followed: Followed::new(journal),
+        }
+    }
+}
+
+impl<W: Wire + Peers> LoggedWire<'_, W> {
+    /// Keeps the address of a client's link, which a proxy may have told since.
+    fn locate(&self, link: Link) {
+        if let Some(ip) = self.wire.address(Port::Pop, link) {
+            self.followed.journal.locate(link, ip);
         }
     }
 }
@@ -186,7 +146,7 @@ impl<W: Wire + Peers> Wire for LoggedWire<'_, W> {
     fn accept(&mut self, port: Port) -> Option<Link> {
         let link = self.wire.accept(port)?;
         if self.followed.journal.is_on() {
-            let _ = self.followed.follow(port, link, self.wire.peer(port, link));
+            self.followed.follow(port, link, self.wire.peer(port, link));
         }
         Some(link)
     }
@@ -200,9 +160,10 @@ impl<W: Wire + Peers> Wire for LoggedWire<'_, W> {
         if let Io::Count(count) = came
             && self.followed.journal.is_on()
         {
-            self.followed
-                .locate(port, link, self.wire.address(port, link));
-            self.followed.hear(port, link, &buffer[..count]);
+            match port {
+                Port::Pop => self.locate(link),
+                Port::Admin => self.followed.hear(link, &buffer[..count]),
+            }
         }
         came
     }
@@ -211,8 +172,9 @@ impl<W: Wire + Peers> Wire for LoggedWire<'_, W> {
         let went = self.wire.write(port, link, octets);
         if let Io::Count(count) = went
             && self.followed.journal.is_on()
+            && port == Port::Admin
         {
-            self.followed.say(port, link, &octets[..count]);
+            self.followed.say(link, &octets[..count]);
         }
         went
     }

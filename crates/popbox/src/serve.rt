@@ -166,6 +166,21 @@ struct ServerClock<'a> {
     is_broken: bool,
 }
 
+impl<'a> ServerClock<'a> {
+    /// The clock of a server that starts now.
+    fn start(rt: &'a HostRuntime, watch: &'a StoreWatch<'a>) -> Result<ServerClock<'a>, Fault> {
+        let Ok(start) = Instant::now(rt) else {
+            return Err(Fault::NoClock);
+        };
+        Ok(ServerClock {
+            rt,
+            start,
+            watch,
+            is_broken: false,
+        })
+    }
+}
+
 impl Clock for ServerClock<'_> {
     ghost gave = { λ _ _. ⊥ };
 
@@ -203,17 +218,17 @@ fn serve_turns<'a, V: Vault, W: Wire + Peers + Drop>(
     let login = options.get_one::<u32>("login-seconds").unwrap_or(0);
     links.set_login_seconds(u64::from(login));
     links.set_slow_guesses(options.get_flag("slow-guesses"));
-    let Ok(start) = Instant::now(rt) else {
-        return Err(Fault::NoClock);
-    };
-    let mut clock = ServerClock {
-        rt,
-        start,
-        watch,
-        is_broken: false,
-    };
-    let turns = options.get_one::<u64>("turns").unwrap_or(u64::MAX);
-    serve_while(&mut links, &mut wire, office, &mut spool, &mut clock, turns);
+    let mut clock = ServerClock::start(rt, watch)?;
+    let mut listener = journal;
+    serve_while(
+        &mut links,
+        &mut wire,
+        office,
+        &mut spool,
+        &mut listener,
+        &mut clock,
+        options.get_one::<u64>("turns").unwrap_or(u64::MAX),
+    );
     if clock.is_broken {
         return Err(Fault::NoClock);
     }

@@ -1,0 +1,67 @@
+-- The text of the log's line that tells an account: what the office judged of a client's line. `who`
+-- are the connection and the client's address, as each line has them.
+use Rattle.std.specs.Prelude.{ℕ, Bool, true, false, List, [], ◌++◌, Option, Some, None, codes}
+use Rattle.std.specs.Fmt.{decimal}
+use Rattle.creds.specs.declared.login_name.LoginName.{LoginName}
+use Rattle.office.specs.declared.account.Account.{Account}
+use Rattle.office.specs.declared.account.Account.TheVariants as account
+use Rattle.office.specs.declared.account.Removal.{Removal}
+use Rattle.office.specs.declared.account.Way.{Way}
+use Rattle.office.specs.declared.account.Way.TheVariants as way
+use Rattle.office.specs.declared.account.Verdict.{Verdict}
+use Rattle.office.specs.declared.account.Verdict.TheVariants as judged
+
+-- the values of a login name
+abbrev pub name_text : LoginName → List ℕ
+name_text name = codes "clerk=" ++ name.clerk ++ codes " maildrop=" ++ name.maildrop
+
+-- by which command a login came
+abbrev pub way_text : Way → List ℕ
+way_text way.Pass = codes "pass"
+way_text way.Apop = codes "apop"
+
+-- how a login was judged: the reply's own words
+abbrev pub verdict_text : Verdict → List ℕ
+verdict_text judged.Accepted = codes "answer=accepted"
+verdict_text judged.WrongCredential = codes "answer=refused reason=\"login failed\""
+verdict_text judged.ThirdWrongCredential = codes "answer=refused reason=\"login failed, closing\""
+verdict_text (judged.Denied rule) = codes "answer=refused reason=\"denied by rule " ++ rule ++ codes "\""
+verdict_text judged.NoSuchMaildrop = codes "answer=refused reason=\"no such maildrop\""
+verdict_text judged.InUse = codes "answer=refused reason=\"[IN-USE] maildrop is in use\""
+verdict_text judged.StoreFailed = codes "answer=refused reason=\"store failed\""
+
+-- the farewell, by whether the removal is done and which rule kept a message
+abbrev pub farewell_text : (is_done : Bool) → (denied : Option (List ℕ)) → List ℕ
+farewell_text true None = codes "answer=\"bye\""
+farewell_text true (Some rule) =
+    codes "answer=\"some deleted messages not removed, denied by rule " ++ rule ++ codes "\""
+farewell_text false denied = codes "answer=\"some deleted messages not removed\""
+
+-- the line of a login that was judged
+abbrev pub login_text : (who : List ℕ) → LoginName → Way → Verdict → List ℕ
+login_text who name by verdict =
+    codes "event=login " ++ who ++ codes " " ++ name_text name
+    ++ codes " by=" ++ way_text by ++ codes " " ++ verdict_text verdict
+
+-- the line of a session's QUIT
+abbrev pub quit_text : (who : List ℕ) → Removal → List ℕ
+quit_text who removal =
+    codes "event=quit " ++ who ++ codes " " ++ name_text removal.name
+    ++ codes " marked=" ++ decimal removal.marked
+    ++ codes " " ++ farewell_text removal.is_done removal.denied
+
+-- an account's line; without text for one that has none
+abbrev pub account_text : (who : List ℕ) → Account → List ℕ
+account_text who (account.Login name by verdict) = login_text who name by verdict
+account_text who account.NoName =
+    codes "event=login " ++ who ++ codes " answer=refused reason=\"bad arguments\""
+account_text who (account.Quit removal) = quit_text who removal
+account_text who account.QuitBeforeLogin = codes "event=quit " ++ who ++ codes " answer=\"bye\""
+account_text who _ = []
+
+-- whether an account has a line
+abbrev pub is_told : Account → Bool
+is_told account.Nothing = false
+is_told account.Marked = false
+is_told account.Unmarked = false
+is_told _ = true

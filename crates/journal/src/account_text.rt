@@ -1,0 +1,155 @@
+//! The line of what the office judged.
+ghost use Rattle.std.specs.Prelude.{◌≡◌, IfOk, Some, true, string_bytes};
+ghost use Rattle.journal.specs.Lines.{name_text as name_words, way_text, verdict_text};
+ghost use Rattle.journal.specs.Lines.{farewell_text, login_text as login_line};
+ghost use Rattle.journal.specs.Lines.{quit_text as quit_line, account_text, is_told};
+
+use creds::{LoginName, Name};
+use office::{Account, Removal, Verdict, Way};
+use std::alloc::{AllocError, Global};
+
+/// By which command a login came.
+fn way_word(by: Way) -> &'static str
+    ensures { result.now ≡ way_text by }
+{
+    match by {
+        Way::Pass => "pass",
+        Way::Apop => "apop",
+    }
+}
+
+/// The values of a login name.
+fn name_text(alloc: Global, name: LoginName) -> Result<String, AllocError>
+    ensures { IfOk result (λ text. string_bytes text ≡ name_words name) }
+{
+    let text = format!(in alloc; "clerk={} maildrop={}", name.clerk, name.maildrop)?;
+    Ok(text)
+}
+
+/// How a login was judged, as a line tells it: by the reply's own words.
+fn judged_text(alloc: Global, verdict: Verdict) -> Result<String, AllocError>
+    ensures { IfOk result (λ text. string_bytes text ≡ verdict_text verdict) }
+{
+    match verdict {
+        Verdict::Accepted => String::from_str(alloc, "answer=accepted"),
+        Verdict::WrongCredential => {
+            String::from_str(alloc, "answer=refused reason=\"login failed\"")
+        }
+        Verdict::ThirdWrongCredential => {
+            String::from_str(alloc, "answer=refused reason=\"login failed, closing\"")
+        }
+        Verdict::Denied(rule) => denial_text(alloc, rule),
+        Verdict::NoSuchMaildrop => {
+            String::from_str(alloc, "answer=refused reason=\"no such maildrop\"")
+        }
+        Verdict::InUse => {
+            String::from_str(
+                alloc,
+                "answer=refused reason=\"[IN-USE] maildrop is in use\"",
+            )
+        }
+        Verdict::StoreFailed => {
+            String::from_str(alloc, "answer=refused reason=\"store failed\"")
+        }
+    }
+}
+
+/// A login that a rule denied, as a line tells it.
+fn denial_text(alloc: Global, rule: Name) -> Result<String, AllocError>
+    ensures { IfOk result (λ text. string_bytes text ≡ verdict_text (Verdict.Denied rule)) }
+{
+    let text = format!(in alloc; "answer=refused reason=\"denied by rule {rule}\"")?;
+    Ok(text)
+}
+
+/// The farewell of a session, as a line tells it.
+fn bye_text(alloc: Global, is_done: bool, denied: Option<Name>) -> Result<String, AllocError>
+    ensures { IfOk result (λ text. string_bytes text ≡ farewell_text is_done denied) }
+{
+    if !is_done {
+        return String::from_str(alloc, "answer=\"some deleted messages not removed\"");
+    }
+    match denied {
+        None => String::from_str(alloc, "answer=\"bye\""),
+        Some(rule) => kept_text(alloc, rule),
+    }
+}
+
+/// The farewell where a rule kept a message.
+fn kept_text(alloc: Global, rule: Name) -> Result<String, AllocError>
+    ensures { IfOk result (λ text. string_bytes text ≡ farewell_text true (Some rule)) }
+{
+    let text = format!(in alloc;
+        "answer=\"some deleted messages not removed, denied by rule {rule}\""
+    )?;
+    Ok(text)
+}
+
+/// The line of a login that was judged.
+fn login_text(
+    alloc: Global,
+    who: &str,
+    name: LoginName,
+    by: Way,
+    verdict: Verdict,
+) -> Result<String, AllocError>
+    ensures { IfOk result (λ text. string_bytes text ≡ login_line who.now name by verdict) }
+{
+    let name = name_text(alloc, name)?;
+    let by = way_word(by);
+    let judged = judged_text(alloc, verdict)?;
+    let text = format!(in alloc; "event=login {who} {name} by={by} {judged}")?;
+    Ok(text)
+}
+
+/// The line of a session's QUIT.
+fn quit_text(alloc: Global, who: &str, removal: &Removal) -> Result<String, AllocError>
+    ensures { IfOk result (λ text. string_bytes text ≡ quit_line who.now removal.now) }
+{
+    let name = name_text(alloc, removal.name)?;
+    let marked = removal.marked;
+    let bye = bye_text(alloc, removal.is_done, removal.denied)?;
+    let text = format!(in alloc; "event=quit {who} {name} marked={marked} {bye}")?;
+    Ok(text)
+}
+
+/// The line of a login that named nobody.
+fn nameless_text(alloc: Global, who: &str) -> Result<String, AllocError>
+    ensures { IfOk result (λ text. string_bytes text ≡ account_text who.now Account.NoName) }
+{
+    let text = format!(in alloc; "event=login {who} answer=refused reason=\"bad arguments\"")?;
+    Ok(text)
+}
+
+/// The line of a QUIT before a login.
+fn early_text(alloc: Global, who: &str) -> Result<String, AllocError>
+    ensures { IfOk result (λ text. string_bytes text ≡ account_text who.now
+        Account.QuitBeforeLogin) }
+{
+    let text = format!(in alloc; "event=quit {who} answer=\"bye\"")?;
+    Ok(text)
+}
+
+/// Whether an account has a line.
+pub fn has_line(account: &Account) -> bool
+    ensures { result ≡ is_told account.now }
+{
+    match account {
+        Account::Nothing | Account::Marked | Account::Unmarked => false,
+        _ => true,
+    }
+}
+
+/// An account's line, behind the connection and the client's address; without text for one that has
+/// none.
+pub fn line_of(alloc: Global, who: &str, account: &Account) -> Result<String, AllocError>
+    ensures { IfOk result (λ text. string_bytes text ≡ account_text who.now account.now) }
+{
+    match account {
+        Account::Login(name, by, verdict) => login_text(alloc, who, *name, *by, *verdict),
+        Account::NoName => nameless_text(alloc, who),
+        Account::Quit(removal) => quit_text(alloc, who, removal),
+        Account::QuitBeforeLogin => early_text(alloc, who),
+        Account::Nothing | Account::Marked | Account::Unmarked => Ok(String::new(alloc)),
+    }
+}
