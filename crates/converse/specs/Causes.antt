@@ -7,7 +7,8 @@ use Rattle.vault.specs.declared.fault.VaultFault.TheVariants as vault
 use Rattle.converse.specs.declared.script.ScriptFault.{ScriptFault}
 use Rattle.converse.specs.declared.script.ScriptFault.TheVariants as script
 use Rattle.converse.specs.declared.fault.Fault.{Fault}
-use Rattle.converse.specs.declared.fault.Fault.TheVariants.{CannotRead, BadEvent, BadHost, Store, CannotPut, CannotWrite, OutOfMemory}
+use Rattle.converse.specs.declared.fault.Fault.TheVariants.{CannotRead, BadEvent, BadHost, Store}
+use Rattle.converse.specs.declared.fault.Fault.TheVariants.{CannotPut, CannotWrite, OutOfMemory}
 use Rattle.converse.specs.Printed.{PrintsPart}
 use Rattle.converse.specs.Script.{script_of}
 use Rattle.converse.specs.Told.{fault_line}
@@ -41,7 +42,8 @@ IsReadFault (Store fault) = ⊤
 IsReadFault OutOfMemory = ⊤
 IsReadFault _ = ⊥
 
--- why an export ends: a file can't be put only where a call of the folder failed; or what is printed is refused, or a message isn't read
+-- why an export ends: a file can't be put only where a call of the folder failed; or what is
+-- printed is refused, or a message isn't read
 abbrev pub IsExportFault : (failed : Bool) → Fault → Type 0
 IsExportFault failed CannotPut = failed ≡ true
 IsExportFault failed CannotWrite = ⊤

@@ -1,5 +1,6 @@
 -- The files that an export puts into a folder: a maildrop's messages, the oldest first.
-use Rattle.std.specs.Prelude.{◌≡◌, ◌≤◌, ℕ, ⊤, true, List, ◌++◌, length, map, take, Option, None, Some, Result, OnErr, codes}
+use Rattle.std.specs.Prelude.{◌≡◌, ◌≤◌, ℕ, ⊤, true, List, ◌++◌, length, map, take, Option, None}
+use Rattle.std.specs.Prelude.{Some, Result, OnErr, codes}
 use Rattle.std.specs.Fmt.{decimal}
 use Rattle.creds.specs.Uid.{uid_text}
 use Rattle.vault.specs.declared.answer.Head.{Head}

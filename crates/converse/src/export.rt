@@ -1,6 +1,7 @@
 //! `popbox export`: puts the messages of a maildrop as files into a folder.
 
-ghost use Rattle.std.specs.Prelude.{◌≡◌, ◌≤◌, ◌<◌, ◌∷◌, ◌⊎◌, [], true, false, ℕ, length, map, string_bytes, IsErr, IsOk, IfOk, IfErr, OnOk, OnErr};
+ghost use Rattle.std.specs.Prelude.{◌≡◌, ◌≤◌, ◌<◌, ◌∷◌, ◌⊎◌, [], true, false, ℕ, length, map};
+ghost use Rattle.std.specs.Prelude.{string_bytes, IsErr, IsOk, IfOk, IfErr, OnOk, OnErr};
 ghost use Rattle.std.specs.List.{All};
 ghost use Rattle.std.specs.Io.KnownBytes.{Appends};
 ghost use Rattle.vault.specs.Records.{is_one_of};
@@ -84,7 +85,8 @@ pub fn export<V: Vault, F: Folder, W: Write, E: Write>(
     ensures settled_first { (out.new ≡ out.old) ⊎ (F.is_settled folder.new ≡ true) }
     ensures why { result ≡ 1 → Tells (E.contents err.old) (E.contents err.new)
         (IsExportFault (has_grown (F.faults folder.old) (F.faults folder.new))) }
-    ensures held { (c : Contents) → V.holds vault.old c → V.is_clean vault.new → V.holds vault.new c }
+    ensures held { (c : Contents) → V.holds vault.old c → V.is_clean vault.new
+        → V.holds vault.new c }
     ensures clean { V.is_clean vault.new → V.is_clean vault.old }
 {
     match put_maildrop(alloc, vault, maildrop, folder, out) {
@@ -114,7 +116,8 @@ fn put_maildrop<V: Vault, F: Folder, W: Write>(
     ensures settled_first { (out.new ≡ out.old) ⊎ (F.is_settled folder.new ≡ true) }
     ensures cause { IfErr result
         (IsExportFault (has_grown (F.faults folder.old) (F.faults folder.new))) }
-    ensures held { (c : Contents) → V.holds vault.old c → V.is_clean vault.new → V.holds vault.new c }
+    ensures held { (c : Contents) → V.holds vault.old c → V.is_clean vault.new
+        → V.holds vault.new c }
     ensures clean { V.is_clean vault.new → V.is_clean vault.old }
 {
     let heads = vault.heads(maildrop)?;
@@ -131,9 +134,14 @@ fn put_messages<V: Vault, F: Folder>(
     heads: &[Head],
     folder: &mut F,
 ) -> Result<(), Fault>
-    ensures whole { OnOk result ((c : Contents) → V.holds vault.old c → V.is_clean vault.new → All (IsMeasured c) heads.now → Takes (F.files folder.old) (F.files folder.new) (map (file_under c) heads.now)) }
-    ensures part { OnErr result ((c : Contents) → V.holds vault.old c → V.is_clean vault.new → All (IsMeasured c) heads.now → TakesFirst (F.files folder.old) (F.files folder.new) (map (file_under c) heads.now)) }
-    ensures held { (c : Contents) → V.holds vault.old c → V.is_clean vault.new → V.holds vault.new c }
+    ensures whole { OnOk result ((c : Contents) → V.holds vault.old c → V.is_clean vault.new
+        → All (IsMeasured c) heads.now → Takes (F.files folder.old) (F.files folder.new) (map
+        (file_under c) heads.now)) }
+    ensures part { OnErr result ((c : Contents) → V.holds vault.old c → V.is_clean vault.new
+        → All (IsMeasured c) heads.now → TakesFirst (F.files folder.old) (F.files folder.new) (map
+        (file_under c) heads.now)) }
+    ensures held { (c : Contents) → V.holds vault.old c → V.is_clean vault.new
+        → V.holds vault.new c }
     ensures clean { V.is_clean vault.new → V.is_clean vault.old }
     ensures settled { IsOk result → F.is_settled folder.new ≡ true }
     ensures cause { IfErr result
@@ -165,9 +173,14 @@ fn put_each<V: Vault, F: Folder>(
     heads: &[Head],
     folder: &mut F,
 ) -> Result<(), Fault>
-    ensures whole { OnOk result ((c : Contents) → V.holds vault.old c → V.is_clean vault.new → All (IsMeasured c) heads.now → Takes (F.files folder.old) (F.files folder.new) (map (file_under c) heads.now)) }
-    ensures part { OnErr result ((c : Contents) → V.holds vault.old c → V.is_clean vault.new → All (IsMeasured c) heads.now → TakesFirst (F.files folder.old) (F.files folder.new) (map (file_under c) heads.now)) }
-    ensures held { (c : Contents) → V.holds vault.old c → V.is_clean vault.new → V.holds vault.new c }
+    ensures whole { OnOk result ((c : Contents) → V.holds vault.old c → V.is_clean vault.new
+        → All (IsMeasured c) heads.now → Takes (F.files folder.old) (F.files folder.new) (map
+        (file_under c) heads.now)) }
+    ensures part { OnErr result ((c : Contents) → V.holds vault.old c → V.is_clean vault.new
+        → All (IsMeasured c) heads.now → TakesFirst (F.files folder.old) (F.files folder.new) (map
+        (file_under c) heads.now)) }
+    ensures held { (c : Contents) → V.holds vault.old c → V.is_clean vault.new
+        → V.holds vault.new c }
     ensures clean { V.is_clean vault.new → V.is_clean vault.old }
     ensures counted { F.faults folder.old ≤ F.faults folder.new }
     ensures cause { IfErr result
@@ -188,7 +201,8 @@ fn put_message<V: Vault, F: Folder>(
 ) -> Result<(), Fault>
     ensures whole { OnOk result ((c : Contents) → V.holds vault.old c → V.is_clean vault.new → IsMeasured c head.now → Takes (F.files folder.old) (F.files folder.new) (file_under c head.now ∷ [])) }
     ensures refused { OnErr result (Takes (F.files folder.old) (F.files folder.new) []) }
-    ensures held { (c : Contents) → V.holds vault.old c → V.is_clean vault.new → V.holds vault.new c }
+    ensures held { (c : Contents) → V.holds vault.old c → V.is_clean vault.new
+        → V.holds vault.new c }
     ensures clean { V.is_clean vault.new → V.is_clean vault.old }
     ensures counted { F.faults folder.old ≤ F.faults folder.new }
     ensures cause { IfErr result
@@ -209,7 +223,8 @@ fn put_message<V: Vault, F: Folder>(
 /// Reads the whole text of the message of a head.
 fn read_text<V: Vault>(alloc: Global, vault: &mut V, head: &Head) -> Result<Vec<u8>, Fault>
     ensures text { IfOk result (λ text. (c : Contents) → V.holds vault.old c → V.is_clean vault.new → IsMeasured c head.now → text.items ≡ text_under head.now.key c.messages) }
-    ensures held { (c : Contents) → V.holds vault.old c → V.is_clean vault.new → V.holds vault.new c }
+    ensures held { (c : Contents) → V.holds vault.old c → V.is_clean vault.new
+        → V.holds vault.new c }
     ensures clean { V.is_clean vault.new → V.is_clean vault.old }
     ensures cause { IfErr result IsReadFault }
 {
@@ -228,7 +243,8 @@ fn read_text<V: Vault>(alloc: Global, vault: &mut V, head: &Head) -> Result<Vec<
 fn read_more<V: Vault>(vault: &mut V, key: MessageKey, text: &mut Vec<u8>) -> Result<(), Fault>
     ensures grown { IsOk result → length text.old.items < length text.new.items }
     ensures front { OnOk result ((c : Contents) → V.holds vault.old c → V.is_clean vault.new → IsFront text.old.items (text_under key c.messages) → IsFront text.new.items (text_under key c.messages)) }
-    ensures held { (c : Contents) → V.holds vault.old c → V.is_clean vault.new → V.holds vault.new c }
+    ensures held { (c : Contents) → V.holds vault.old c → V.is_clean vault.new
+        → V.holds vault.new c }
     ensures clean { V.is_clean vault.new → V.is_clean vault.old }
     ensures cause { IfErr result IsReadFault }
 {

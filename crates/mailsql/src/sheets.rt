@@ -1,6 +1,7 @@
 //! The pages of the messages, each of 1 to 4,096 octets.
 
-ghost use Rattle.std.specs.Prelude.{◌≡◌, ◌<◌, pos, IsTrue, min, length, filter, IfOk, IfErr, OnOk, OnErr, [], ◌∷◌};
+ghost use Rattle.std.specs.Prelude.{◌≡◌, ◌<◌, pos, IsTrue, min, length, filter, IfOk, IfErr, OnOk};
+ghost use Rattle.std.specs.Prelude.{OnErr, [], ◌∷◌};
 ghost use Rattle.std.specs.List.{find};
 ghost use Rattle.sqlite.specs.Held.{state};
 ghost use Rattle.sqlite.specs.State.{HasCleanDisk, IsUnchanged, Survives};
@@ -11,7 +12,8 @@ ghost use Rattle.mailsql.specs.Sheets as cut;
 ghost use Rattle.mailsql.specs.Sheets.{SheetsAreTheText};
 ghost use Rattle.sqlite_value.specs.declared.value.Value.TheVariants.{Int, Blob};
 ghost use Rattle.mailsql.specs.Errors.{FailsToRun, FailsToAddSheets, FailsToRead, FailsToCount};
-ghost use Rattle.mailsql.specs.Statements.{add_sheet_text, find_sheet_text, sheets_between_text, all_sheets_text, sheet_count_text};
+ghost use Rattle.mailsql.specs.Statements.{add_sheet_text, find_sheet_text, sheets_between_text};
+ghost use Rattle.mailsql.specs.Statements.{all_sheets_text, sheet_count_text};
 
 use crate::rows::Sheet;
 use crate::run::{count, first, list, run};
