@@ -1,4 +1,5 @@
--- What a statement does to the typed rows of a store, what an error leaves of them, and what a stop may leave.
+-- What a statement does to the typed rows of a store, what an error leaves of them, and what a stop
+-- may leave.
 use Rattle.std.specs.Prelude.{◌≡◌, ◌⊎◌, ℤ, Bool, true, false, List, [], if◌then◌else◌, IsTrue, bytes_eq, ◌&&◌}
 use Rattle.std.specs.Ordering.{is_eq, is_lt, is_ge, int_cmp, nat_cmp, on}
 use Rattle.std.specs.Cmp.Lexicographic.{slice_cmp}
