@@ -158,6 +158,7 @@ fn tell_loss<E: Write>(
 }
 
 /// The moments of a server's turns: the seconds since its start, until its store is lost.
+#[derive(Drop)]
 struct ServerClock<'a> {
     rt: &'a HostRuntime,
     start: Instant,
