@@ -1,5 +1,5 @@
--- The text of the log's line that tells an account: what the office judged of a client's line. `who`
--- are the connection and the client's address, as each line has them.
+-- The text of the log's line that tells an account: what the office judged of a client's line.
+-- `who` are the connection and the client's address, as each line has them.
 use Rattle.std.specs.Prelude.{ℕ, Bool, true, false, List, [], ◌++◌, Option, Some, None, codes}
 use Rattle.std.specs.Fmt.{decimal}
 use Rattle.creds.specs.declared.login_name.LoginName.{LoginName}
@@ -25,7 +25,8 @@ abbrev pub verdict_text : Verdict → List ℕ
 verdict_text judged.Accepted = codes "answer=accepted"
 verdict_text judged.WrongCredential = codes "answer=refused reason=\"login failed\""
 verdict_text judged.ThirdWrongCredential = codes "answer=refused reason=\"login failed, closing\""
-verdict_text (judged.Denied rule) = codes "answer=refused reason=\"denied by rule " ++ rule ++ codes "\""
+verdict_text (judged.Denied rule) =
+    codes "answer=refused reason=\"denied by rule " ++ rule ++ codes "\""
 verdict_text judged.NoSuchMaildrop = codes "answer=refused reason=\"no such maildrop\""
 verdict_text judged.InUse = codes "answer=refused reason=\"[IN-USE] maildrop is in use\""
 verdict_text judged.StoreFailed = codes "answer=refused reason=\"store failed\""

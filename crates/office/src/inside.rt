@@ -1,6 +1,7 @@
 //! A line of a session: what it is answered, what it changes, and what is remembered of it (RFC
 //! 1939, 5 and 6).
-ghost use Rattle.std.specs.Prelude.{◌≡◌, List, Option, None, true, false, Ok, Err, OnErr, IfOk, IsOkAnd};
+ghost use Rattle.std.specs.Prelude.{◌≡◌, List, Option, None, true, false, Ok, Err, OnErr};
+ghost use Rattle.std.specs.Prelude.{IfOk, IsOkAnd};
 ghost use Rattle.popline.specs.Commands.{command_of};
 ghost use Rattle.popline.specs.Seen.{command_seen, cut_seen, reading_seen, reply_seen};
 ghost use Rattle.policy.specs.Policy.{Policy};
@@ -85,8 +86,8 @@ fn put(
     Ok(acted)
 }
 
-/// Does what a command says, and puts the reply. `account`, which tells nothing yet, becomes what it
-/// did to the marks, or a QUIT's account.
+/// Does what a command says, and puts the reply. `account`, which tells nothing yet, becomes what
+/// it did to the marks, or a QUIT's account.
 fn follow<V: Vault>(
     alloc: Global,
     vault: &mut V,

@@ -316,9 +316,9 @@ impl<V: Vault> Office<V> {
     }
 
     /// Does one event, as [`Office::step`] does, and tells what it judged: `account` becomes the
-    /// account of this event, whatever it told before. It is that of the line that acted, also where
-    /// the store failed. An event in which no line acted, one that is ignored and one without memory
-    /// have none.
+    /// account of this event, whatever it told before. It is that of the line that acted, also
+    /// where the store failed. An event in which no line acted, one that is ignored and one without
+    /// memory have none.
     pub fn step_with_account(&mut self, event: Event<'_>, account: &mut Account) -> Outcome
         ensures stands { (T : Trace) → StandsFor V.holds self.old T → V.is_clean (vault_of self.new)
             → StandsFor V.holds self.new (followed_by T (event_seen event.entry) result) }

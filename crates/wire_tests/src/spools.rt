@@ -1,7 +1,19 @@
 //! The spool, one file a turn.
 use crate::turns::new_office;
-use serving::{FileName, NoListener, ScriptSpool, ScriptWire, begin, serve_turn};
+use office::Office;
+use serving::{FileName, Links, NoListener, ScriptSpool, ScriptWire, begin, serve_turn};
 use std::test::Fail;
+use vault::PlainVault;
+
+/// Serves a turn.
+fn turn(
+    links: &mut Links,
+    wire: &mut ScriptWire,
+    office: &mut Office<PlainVault>,
+    spool: &mut ScriptSpool,
+) {
+    serve_turn(links, wire, office, spool, &mut NoListener, 0);
+}
 
 #[test]
 fn four_turns_over_four_names(rt: HostRuntime) -> Result<(), Fail> {
@@ -14,44 +26,16 @@ fn four_turns_over_four_names(rt: HostRuntime) -> Result<(), Fail> {
     spool.put("orders.note.a1.eml", b"x\n")?;
     spool.put("nowhere.note.c3.eml", b"x")?;
     let mut links = begin(alloc, &office, &wire, &spool);
-    serve_turn(
-        &mut links,
-        &mut wire,
-        &mut office,
-        &mut spool,
-        &mut NoListener,
-        0,
-    );
+    turn(&mut links, &mut wire, &mut office, &mut spool);
     assert!(rt; spool.has("nowhere.note.c3.eml") && spool.acts().len() == 1);
     assert_eq!(rt; wire.waited(), 1000);
-    serve_turn(
-        &mut links,
-        &mut wire,
-        &mut office,
-        &mut spool,
-        &mut NoListener,
-        0,
-    );
+    turn(&mut links, &mut wire, &mut office, &mut spool);
     assert!(rt; !spool.has("orders.note.a1.eml") && spool.acts().len() == 3);
     assert_eq!(rt; wire.waited(), 1000);
-    serve_turn(
-        &mut links,
-        &mut wire,
-        &mut office,
-        &mut spool,
-        &mut NoListener,
-        0,
-    );
+    turn(&mut links, &mut wire, &mut office, &mut spool);
     assert!(rt; spool.has("orders.note.b2.eml.bad") && spool.acts().len() == 5);
     assert_eq!(rt; wire.waited(), 0);
-    serve_turn(
-        &mut links,
-        &mut wire,
-        &mut office,
-        &mut spool,
-        &mut NoListener,
-        0,
-    );
+    turn(&mut links, &mut wire, &mut office, &mut spool);
     assert!(rt; spool.has("nowhere.note.c3.eml") && spool.acts().len() == 6);
     assert!(rt; spool.has("readme.txt") && !spool.has("orders.note.b2.eml"));
     Ok(())
@@ -68,14 +52,7 @@ fn a_file_that_stays(rt: HostRuntime) -> Result<(), Fail> {
     spool.refuse();
     let mut links = begin(alloc, &office, &wire, &spool);
     for _ in 0..3u32 {
-        serve_turn(
-            &mut links,
-            &mut wire,
-            &mut office,
-            &mut spool,
-            &mut NoListener,
-            0,
-        );
+        turn(&mut links, &mut wire, &mut office, &mut spool);
         assert_eq!(rt; wire.waited(), 1000);
     }
     assert!(rt; spool.has("orders.note.a1.eml") && spool.acts().len() == 3);

@@ -2,6 +2,7 @@
 //! another; and a share of a long response.
 
 use super::two_clerks::{name, office_of_two};
+use crate::links::Links;
 use crate::listener::NoListener;
 use crate::script_spool::ScriptSpool;
 use crate::script_wire::ScriptWire;
@@ -11,6 +12,16 @@ use office::{AdminCommand, Event, Office};
 use std::alloc::Global;
 use std::test::Fail;
 use vault::PlainVault;
+
+/// Serves a turn.
+fn serve(
+    links: &mut Links,
+    wire: &mut ScriptWire,
+    office: &mut Office<PlainVault>,
+    spool: &mut ScriptSpool,
+) {
+    serve_turn(links, wire, office, spool, &mut NoListener, 0);
+}
 
 /// An office with a message of 80,000 octets in the maildrop `orders`.
 fn office_with_a_long_message(alloc: Global) -> Result<Office<PlainVault>, Fail> {
@@ -42,14 +53,7 @@ fn told(alloc: Global, silent: u32) -> Result<[usize; 3], Fail> {
     let mut links = begin(alloc, &office, &wire, &spool);
     let mut behind = [0; 3];
     for turn in 0..3usize {
-        serve_turn(
-            &mut links,
-            &mut wire,
-            &mut office,
-            &mut spool,
-            &mut NoListener,
-            0,
-        );
+        serve(&mut links, &mut wire, &mut office, &mut spool);
         behind[turn] = wire.written(0).len();
     }
     Ok(behind)
@@ -92,42 +96,14 @@ fn of_a_response(rt: HostRuntime) -> Result<(), Fail> {
     wire.request(Vec::from_slice(alloc, b"GET /maildrops HTTP/1.1\r\n\r\n")?)?;
     let mut spool = ScriptSpool::new(alloc);
     let mut links = begin(alloc, &office, &wire, &spool);
-    serve_turn(
-        &mut links,
-        &mut wire,
-        &mut office,
-        &mut spool,
-        &mut NoListener,
-        0,
-    );
+    serve(&mut links, &mut wire, &mut office, &mut spool);
     assert_eq!(rt; wire.response(0).len(), 16_384);
-    serve_turn(
-        &mut links,
-        &mut wire,
-        &mut office,
-        &mut spool,
-        &mut NoListener,
-        0,
-    );
+    serve(&mut links, &mut wire, &mut office, &mut spool);
     assert!(rt; wire.response(0).len() > 18_500);
     assert!(rt; wire.is_request_closed(0));
     // Nothing is left to do: the turn behind one that does nothing waits.
-    serve_turn(
-        &mut links,
-        &mut wire,
-        &mut office,
-        &mut spool,
-        &mut NoListener,
-        0,
-    );
-    serve_turn(
-        &mut links,
-        &mut wire,
-        &mut office,
-        &mut spool,
-        &mut NoListener,
-        0,
-    );
+    serve(&mut links, &mut wire, &mut office, &mut spool);
+    serve(&mut links, &mut wire, &mut office, &mut spool);
     assert_eq!(rt; wire.waited(), 1000);
     Ok(())
 }
