@@ -1,8 +1,11 @@
 -- The words for what a part of a line keeps of the store: from one to the other.
 use Rattle.std.proofs.Common.{◌⊎◌, inl, Result, Ok, Err}
 use Rattle.std.specs.Result.{IsErrAnd, IsOkAnd}
+use Rattle.vault.specs.declared.fault.VaultFault.{VaultFault}
 use Rattle.vault.specs.declared.vault.Vault.{Ghosts}
 use Rattle.vault.specs.Changes.{Contents}
+use Rattle.vault.specs.Stops.{SaySame, IsOwn}
+use Rattle.vault.specs.Call.{Commits}
 use Rattle.vault.specs.Parts.{OnlyLooks}
 use Rattle.office.specs.Stopping.{ActsOnce}
 
@@ -31,4 +34,22 @@ acts_less less it = record {
   clean = it.clean;
   up = λ c held clean up is. it.up c held clean up (less is);
   stop = it.stop;
+}
+
+-- one call that changes records once, where what it makes of them is `after`
+pub acts_once : {V A Own : Type 0} (vault : Ghosts V) {old new : V}
+    {Done : Contents → (Contents → Type 0) → Result A VaultFault → Type 0}
+    {answered : Result A VaultFault} (after : Contents → Contents)
+    → Commits vault.holds vault.faults vault.is_clean vault.is_up vault.may_leave old new Done
+    answered → (Own → IsOwn answered)
+    → ((left c : Contents) → SaySame left c ⊎ ((x : A) × Done c (SaySame left) (Ok x))
+    → SaySame left c ⊎ SaySame left (after c))
+    → ActsOnce vault old new Own after
+acts_once vault after it own made = record {
+  counted = it.counted.kept;
+  clean = it.clean;
+  up = λ c held clean up is. it.up c clean held up (own is);
+  stop = λ c held clean up. record {
+    says = λ left may. made left c (it.stop c clean up held left may);
+  };
 }

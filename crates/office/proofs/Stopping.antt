@@ -20,7 +20,7 @@ use Rattle.office.specs.Trace.{history}
 use Rattle.office.specs.Outcomes.{Outcome, mark_of}
 use Rattle.office.specs.Outcomes as outcome
 use Rattle.office.specs.Stands.{Keeps}
-use Rattle.office.specs.Stopping.{SaysTrace, LeavesTrace, IsAnswered, StopLeaves, LeavesHeld, LeavesOneOf}
+use Rattle.office.specs.Stopping.{SaysTrace, LeavesTrace, IsAnswered, StopLeaves, LeavesHeld}
 use Rattle.office.proofs.Quiet.{IsQuiet, Became, Stored, mark-shown}
 
 -- records that agree with records that agree
@@ -136,12 +136,3 @@ removal_left left d p s name keys e f h = ⊎_elim (λ same. inl same) (λ done.
 -- a call that only looked
 pub looked_left : {MayLeave : Contents → Type 0} {d : Contents} → LeavesBefore MayLeave d → LeavesHeld MayLeave d
 looked_left h = record { says = h }
-
-pub one_left : {MayLeave : Contents → Type 0} {d : Contents} (after : Contents) → LeavesHeld MayLeave d → LeavesOneOf MayLeave d after
-one_left after h = record { says = λ left may. inl (h.says left may) }
-
-pub same_left : {MayLeave : Contents → Type 0} {d : Contents} (after : Contents) → ((left : Contents) → MayLeave left → SaySame left d) → LeavesOneOf MayLeave d after
-same_left after h = record { says = λ left may. inl (h left may) }
-
-pub held_left : {MayLeave : Contents → Type 0} {d : Contents} → ((left : Contents) → MayLeave left → SaySame left d) → LeavesHeld MayLeave d
-held_left h = record { says = h }

@@ -1,6 +1,6 @@
 -- What a stop of the device in an event (a crash, the power gone) leaves: what the store says when
 -- it is opened again.
-use Rattle.std.specs.Prelude.{◌≡◌, ◌≤◌, ◌⊎◌, ⊤, ℕ, Option, Some, None, Result, IfOk}
+use Rattle.std.specs.Prelude.{◌≡◌, ◌≤◌, ◌⊎◌, ⊤, ℕ, Option, Some, None}
 use Rattle.vault.specs.Records.{Agree}
 use Rattle.vault.specs.Changes.{Contents, records_of}
 use Rattle.vault.specs.Stops.{SaySame}
@@ -64,10 +64,6 @@ pub record LeavesHeld (MayLeave : Contents → Type 0) (c : Contents) : Type 0 w
 -- all contents that a stop may leave have the same records as one of these
 pub record LeavesOneOf (MayLeave : Contents → Type 0) (a b : Contents) : Type 0 where
   pub says : (left : Contents) → MayLeave left → SaySame left a ⊎ SaySame left b
-
--- a device that was up is up after a line that was done
-abbrev pub StaysUpWhenDone : {E : Type 0} → (was_up is_up : Type 0) → Result Acted E → Type 0
-StaysUpWhenDone was_up is_up answered = was_up → IfOk answered (λ w. w ≡ acted.Done → is_up)
 
 -- ---- a part of a line, in one word
 

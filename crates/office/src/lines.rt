@@ -4,13 +4,14 @@ ghost use Rattle.std.specs.BTreeMap.{get};
 ghost use Rattle.popline.specs.Replies.{bytes_of};
 ghost use Rattle.popline.specs.Seen.{cut_seen, command_seen, reading_seen, reply_seen};
 ghost use Rattle.vault.specs.Changes.{Contents};
-ghost use Rattle.vault.specs.Calls.{IsDone, CountsFaults, seen_as, has_grown};
+ghost use Rattle.vault.specs.Calls.{IsDone, seen_as, has_grown};
+ghost use Rattle.vault.specs.Call.{Looks};
 ghost use Rattle.office.specs.History.{Says};
 ghost use Rattle.office.specs.Connections.{reading, is_quit, user_after_line, closes, is_failure};
 ghost use Rattle.office.specs.Sessions.{logs_in};
 ghost use Rattle.office.specs.Replying.{is_allowed as is_allowed_of};
 ghost use Rattle.vault.specs.Parts.{OnlyLooks};
-ghost use Rattle.office.specs.Stopping.{LeavesHeld, WasDone, ActsOnce};
+ghost use Rattle.office.specs.Stopping.{WasDone, ActsOnce};
 ghost use Rattle.office.specs.Output.{nothing_owed, OwesReply};
 ghost use Rattle.office.specs.Sitting.{Sitting, reply_inside};
 ghost use Rattle.office.specs.Accounts.{line_account, seated_account, inside_account};
@@ -55,10 +56,7 @@ fn obey<V: Vault>(
     ensures said { (c : Contents) → V.holds vault.old c → V.is_clean vault.new → IsDone (V.holds vault.new) c c (Ok (said_outside (desk_over c desk.entry locks.now) talk (Ok (command_seen command.now)))) (seen_as result (λ r. reply_seen r.0)) }
     ensures session { IfOk result (λ r. (c : Contents) → V.holds vault.old c → V.is_clean vault.new → SessionAfter (is_quit (Ok (command_seen command.now))) (logs_in (Ok (command_seen command.now)) (Says (reply_seen r.0)) talk.user) c desk.entry.policy.now talk.removals (reply_seen r.0) None r.1) }
     ensures asked { OnErr result (asks_outside talk (Ok (command_seen command.now)) ≡ true) }
-    ensures counted { CountsFaults (V.faults vault.old) (V.faults vault.new) result }
-    ensures clean { V.is_clean vault.new → V.is_clean vault.old }
-    ensures up { (c : Contents) → V.holds vault.old c → V.is_clean vault.new → V.is_up vault.old → OnOk result (V.is_up vault.new) }
-    ensures stop { (c : Contents) → V.holds vault.old c → V.is_clean vault.new → V.is_up vault.old → LeavesHeld (V.may_leave vault.new) c }
+    ensures looks { Looks V.holds V.faults V.is_clean V.is_up V.may_leave vault.old vault.new result }
     ensures unasked { asks_outside talk (Ok (command_seen command.now)) ≡ false → vault.new ≡ vault.old }
 {
     let user = talk.user;
@@ -95,10 +93,7 @@ fn reply_to<V: Vault>(
     ensures said { (c : Contents) → V.holds vault.old c → V.is_clean vault.new → IsDone (V.holds vault.new) c c (Ok (line_outside (desk_over c desk.entry locks.now) talk line.now)) (seen_as result (λ r. reply_seen r.0)) }
     ensures session { IfOk result (λ r. (c : Contents) → V.holds vault.old c → V.is_clean vault.new → Becomes c desk.entry.policy.now talk line.now (reply_seen r.0) None r.1) }
     ensures asked { OnErr result (asks_outside talk (reading line.now) ≡ true) }
-    ensures counted { CountsFaults (V.faults vault.old) (V.faults vault.new) result }
-    ensures clean { V.is_clean vault.new → V.is_clean vault.old }
-    ensures up { (c : Contents) → V.holds vault.old c → V.is_clean vault.new → V.is_up vault.old → OnOk result (V.is_up vault.new) }
-    ensures stop { (c : Contents) → V.holds vault.old c → V.is_clean vault.new → V.is_up vault.old → LeavesHeld (V.may_leave vault.new) c }
+    ensures looks { Looks V.holds V.faults V.is_clean V.is_up V.may_leave vault.old vault.new result }
     ensures unasked { asks_outside talk (reading line.now) ≡ false → vault.new ≡ vault.old }
 {
     if line.is_too_long() {

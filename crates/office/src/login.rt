@@ -1,14 +1,14 @@
 //! Logging in: the credential is looked at first, then the policy, the maildrop and its lock (RFC
 //! 1939, 4 and 7).
-ghost use Rattle.std.specs.Prelude.{◌≡◌, ◌≤◌, true, [], Some, Ok, IfOk, OnOk};
+ghost use Rattle.std.specs.Prelude.{◌≡◌, true, [], Some, Ok, IfOk};
 ghost use Rattle.creds.specs.Credential.{shown as proof_shown, is_admitted};
 ghost use Rattle.popline.specs.Seen.{reply_seen};
 ghost use Rattle.policy.specs.Policy.{decide};
 ghost use Rattle.policy.specs.declared.rule.Action.TheVariants as to;
 ghost use Rattle.vault.specs.Records.{credential_in};
 ghost use Rattle.vault.specs.Changes.{Contents, heads};
-ghost use Rattle.vault.specs.Calls.{IsDone, CountsFaults, seen_as};
-ghost use Rattle.office.specs.Stopping.{LeavesHeld};
+ghost use Rattle.vault.specs.Calls.{IsDone, seen_as};
+ghost use Rattle.vault.specs.Call.{Looks};
 ghost use Rattle.session.specs.Session.{started};
 ghost use Rattle.office.specs.Replying.{login_failed};
 ghost use Rattle.office.specs.Kept.{judged};
@@ -54,10 +54,7 @@ fn is_admitted<V: Vault>(
     proof: &Proof<'_>,
 ) -> Result<bool, VaultFault>
     ensures said { (c : Contents) → V.holds vault.old c → V.is_clean vault.new → IsDone (V.holds vault.new) c c (Ok (is_admitted (credential_in name.now.clerk c.clerks) name.now.clerk stamp.now (proof_shown proof.now))) result }
-    ensures counted { CountsFaults (V.faults vault.old) (V.faults vault.new) result }
-    ensures clean { V.is_clean vault.new → V.is_clean vault.old }
-    ensures up { (c : Contents) → V.holds vault.old c → V.is_clean vault.new → V.is_up vault.old → OnOk result (V.is_up vault.new) }
-    ensures stop { (c : Contents) → V.holds vault.old c → V.is_clean vault.new → V.is_up vault.old → LeavesHeld (V.may_leave vault.new) c }
+    ensures looks { Looks V.holds V.faults V.is_clean V.is_up V.may_leave vault.old vault.new result }
 {
     Ok(match vault.credential(&name.clerk)? {
         None => false,
@@ -77,10 +74,7 @@ fn enter<V: Vault>(
 ) -> Result<(Reply<'static>, Option<Session>), VaultFault>
     ensures said { (c : Contents) → V.holds vault.old c → V.is_clean vault.new → IsDone (V.holds vault.new) c c (Ok (entered c policy.now locks.now name.now)) (seen_as result (λ r. reply_seen r.0)) }
     ensures session { IfOk result (λ r. (c : Contents) → V.holds vault.old c → V.is_clean vault.new → r.1 ≡ began (reply_seen r.0) (started policy.now removals name.now.clerk name.now.maildrop (heads name.now.maildrop c))) }
-    ensures counted { CountsFaults (V.faults vault.old) (V.faults vault.new) result }
-    ensures clean { V.is_clean vault.new → V.is_clean vault.old }
-    ensures up { (c : Contents) → V.holds vault.old c → V.is_clean vault.new → V.is_up vault.old → OnOk result (V.is_up vault.new) }
-    ensures stop { (c : Contents) → V.holds vault.old c → V.is_clean vault.new → V.is_up vault.old → LeavesHeld (V.may_leave vault.new) c }
+    ensures looks { Looks V.holds V.faults V.is_clean V.is_up V.may_leave vault.old vault.new result }
 {
     let heads = match vault.heads(&name.maildrop) {
         Ok(heads) => heads,
@@ -111,10 +105,7 @@ pub(crate) fn judge<V: Vault>(
 ) -> Result<(Reply<'static>, Option<Session>), VaultFault>
     ensures said { (c : Contents) → V.holds vault.old c → V.is_clean vault.new → IsDone (V.holds vault.new) c c (Ok (judged (desk_over c desk.entry locks.now) failures name.now (proof_shown proof.now))) (seen_as result (λ r. reply_seen r.0)) }
     ensures session { IfOk result (λ r. (c : Contents) → V.holds vault.old c → V.is_clean vault.new → r.1 ≡ began (reply_seen r.0) (started desk.entry.policy.now removals name.now.clerk name.now.maildrop (heads name.now.maildrop c))) }
-    ensures counted { CountsFaults (V.faults vault.old) (V.faults vault.new) result }
-    ensures clean { V.is_clean vault.new → V.is_clean vault.old }
-    ensures up { (c : Contents) → V.holds vault.old c → V.is_clean vault.new → V.is_up vault.old → OnOk result (V.is_up vault.new) }
-    ensures stop { (c : Contents) → V.holds vault.old c → V.is_clean vault.new → V.is_up vault.old → LeavesHeld (V.may_leave vault.new) c }
+    ensures looks { Looks V.holds V.faults V.is_clean V.is_up V.may_leave vault.old vault.new result }
 {
     if !is_admitted(vault, desk.stamp, name, proof)? {
         return Ok((refusal(failures), None));

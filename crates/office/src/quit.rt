@@ -1,5 +1,5 @@
 //! The end of a session: what its QUIT removes, and the farewell (RFC 1939, 6).
-ghost use Rattle.std.specs.Prelude.{◌≡◌, ◌≤◌, List, [], length, Ok, OnErr, IfOk};
+ghost use Rattle.std.specs.Prelude.{◌≡◌, List, [], length, Ok, OnErr, IfOk, IsOkAnd};
 ghost use Rattle.popline.specs.Commands.{Quit};
 ghost use Rattle.popline.specs.Seen.{reply_seen};
 ghost use Rattle.vault.specs.Changes.{Contents};
@@ -10,7 +10,7 @@ ghost use Rattle.office.specs.Replying.{quit_says};
 ghost use Rattle.office.specs.Output.{nothing_owed};
 ghost use Rattle.office.specs.Sitting.{LiesIn, Obeyed, keys_to_remove, without_marked};
 ghost use Rattle.office.specs.Accounts.{removal_told};
-ghost use Rattle.office.specs.Stopping.{StaysUpWhenDone, LeavesOneOf};
+ghost use Rattle.office.specs.Stopping.{ActsOnce, WasDone};
 
 use crate::account::{Account, Removal};
 use crate::output::Output;
@@ -74,10 +74,8 @@ pub(crate) fn quit<V: Vault>(
     requires { output.old ≡ nothing_owed }
     ensures done { IfOk result (λ acted. (c : Contents) (kept : List Keyed) → V.holds vault.old c → V.is_clean vault.new → LiesIn c session.now kept → Obeyed (V.holds vault.new) (has_grown (V.faults vault.old) (V.faults vault.new)) c policy.now session.now session.now kept output.new (Ok Quit) acted) }
     ensures err { OnErr result ((c : Contents) → V.holds vault.old c → V.is_clean vault.new → V.holds vault.new c) }
-    ensures counted { V.faults vault.old ≤ V.faults vault.new }
-    ensures clean { V.is_clean vault.new → V.is_clean vault.old }
-    ensures up { (c : Contents) → V.holds vault.old c → V.is_clean vault.new → StaysUpWhenDone (V.is_up vault.old) (V.is_up vault.new) result }
-    ensures stop { (c : Contents) → V.holds vault.old c → V.is_clean vault.new → V.is_up vault.old → LeavesOneOf (V.may_leave vault.new) c (without_marked policy.now session.now c) }
+    ensures acts { ActsOnce V.Vault vault.old vault.new (IsOkAnd result WasDone)
+        (without_marked policy.now session.now) }
     ensures account { IfOk result (λ acted. account.new ≡ Account.Quit
         (removal_told acted policy.now session.now)) }
     ensures account_err { OnErr result (account.new ≡ account.old) }

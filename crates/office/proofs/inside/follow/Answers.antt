@@ -75,3 +75,6 @@ returns-in_default-clause-account g c fresh = if_ok_both _ c.put.result c.put.en
     let s = c.args.session.now in
     let is : is_told (command_seen c.args.command.now) ≡ true = search rules in
     told_so p s (sitting_of s kept) w (command_seen c.args.command.now) (reply_seen c.told-reply.result) c.put.new.account is e (c.told-reply.ensures.said d kept lies is) so)
+
+pub returns-in-Quit-clause-acts : goal.returns-in-Quit-clause-acts
+returns-in-Quit-clause-acts g c = rw c.in-Quit.is c.quit.ensures.acts

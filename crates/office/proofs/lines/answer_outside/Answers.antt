@@ -2,6 +2,9 @@ use Rattle.std.proofs.Common.{◌≡◌, None, rules}
 use Rattle.office.specs.Connections.{reading}
 use Rattle.office.specs.declared.talk.Acted.TheVariants as acted
 use Rattle.office.proofs.Failing.{begins_none}
+use Rattle.vault.proofs.CallLemmas.{looks_once}
+use Rattle.office.specs.Stopping.{WasDone}
+use Rattle.office.proofs.Frames.{not_ok}
 use Rattle.office.proofs.lines.answer_outside.Goals as goal
 use Rattle.office.proofs.lines.answer_outside.Goals.{in-Ok, in-Err}
 
@@ -15,3 +18,24 @@ returns-clause-session g c d held clean =
           let nobody : c.match-reply_to.reply.1 ≡ None = search rules in
           rw (failed, nobody) none
     ]
+
+pub returns-in-Err-NoMemory-clause-looks : goal.returns-in-Err-NoMemory-clause-looks
+returns-in-Err-NoMemory-clause-looks g c =
+    looks_once g.V.Vault c.reply_to.ensures.looks (λ none. absurd none)
+
+pub returns-in_err-say-clause-looks : goal.returns-in_err-say-clause-looks
+returns-in_err-say-clause-looks g c = looks_once g.V.Vault c.reply_to.ensures.looks
+    (λ own. absurd (not_ok c.from_residual.result _ (λ r. WasDone r.0) c.from_residual.ensures.1 own))
+
+pub returns-in_err-lock-clause-looks : goal.returns-in_err-lock-clause-looks
+returns-in_err-lock-clause-looks g c = looks_once g.V.Vault c.reply_to.ensures.looks
+    (λ own. absurd (not_ok c.from_residual-in_err-lock.result _ (λ r. WasDone r.0)
+    c.from_residual-in_err-lock.ensures.1 own))
+
+pub returns-clause-looks : goal.returns-clause-looks
+returns-clause-looks g c = elim c.match-reply_to.branch [
+  | in-Ok w ↦ looks_once g.V.Vault c.reply_to.ensures.looks (λ own. search rules)
+  | in-Err w ↦
+      let failed : c.match-reply_to.reply.2 ≡ acted.Failed = search rules in
+      looks_once g.V.Vault c.reply_to.ensures.looks (λ own. absurd (rw failed at own))
+]

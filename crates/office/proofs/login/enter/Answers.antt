@@ -1,6 +1,7 @@
-use Rattle.office.proofs.Stopping.{looked_left}
+use Rattle.vault.proofs.CallLemmas.{looks_ok, looks_err, looks_as}
 use Rattle.office.proofs.login.enter.Goals as goal
-use Rattle.std.proofs.Common.{sym, ◌≡◌, ◌∙◌, ap, Ok, false, rules}
+use Rattle.std.proofs.Common.{sym, ◌≡◌, ◌∙◌, ap, Ok, Err, false, rules}
+use Rattle.vault.specs.declared.fault.VaultFault.TheVariants as fault
 use Rattle.session.specs.Session.{started}
 use Rattle.office.specs.Answered.{is_locked_by}
 use Rattle.office.proofs.Entering.{opens}
@@ -20,51 +21,33 @@ returns-then-contains_key-clause-said g c = search rules
 pub returns-then-contains_key-clause-session : goal.returns-then-contains_key-clause-session
 returns-then-contains_key-clause-session g c = search rules
 
-pub returns-then-contains_key-clause-counted : goal.returns-then-contains_key-clause-counted
-returns-then-contains_key-clause-counted g c = search rules
-
-pub returns-then-contains_key-clause-clean : goal.returns-then-contains_key-clause-clean
-returns-then-contains_key-clause-clean g c = search rules
-
 pub returns-in_default-clause-said : goal.returns-in_default-clause-said
 returns-in_default-clause-said g c = search rules
 
 pub returns-in_default-clause-session : goal.returns-in_default-clause-session
 returns-in_default-clause-session g c = search rules
 
-pub returns-in_default-clause-counted : goal.returns-in_default-clause-counted
-returns-in_default-clause-counted g c = search rules
-
-pub returns-in_default-clause-clean : goal.returns-in_default-clause-clean
-returns-in_default-clause-clean g c = search rules
-
 pub returns-clause-session : goal.returns-clause-session
 returns-clause-session g c = search rules
-
-pub returns-clause-counted : goal.returns-clause-counted
-returns-clause-counted g c = search rules
-
-pub returns-clause-clean : goal.returns-clause-clean
-returns-clause-clean g c = search rules
-
-pub returns-in-Err-NoMaildrop-clause-stop : goal.returns-in-Err-NoMaildrop-clause-stop
-returns-in-Err-NoMaildrop-clause-stop g c d held clean up = looked_left (c.heads.ensures.looks.stop d clean up held)
-
-pub returns-then-contains_key-clause-stop : goal.returns-then-contains_key-clause-stop
-returns-then-contains_key-clause-stop g c d held clean up = looked_left (c.heads.ensures.looks.stop d clean up held)
-
-pub returns-in_default-clause-stop : goal.returns-in_default-clause-stop
-returns-in_default-clause-stop g c d held clean up = looked_left (c.heads.ensures.looks.stop d clean up held)
-
-pub returns-clause-stop : goal.returns-clause-stop
-returns-clause-stop g c d held clean up = looked_left (c.heads.ensures.looks.stop d clean up held)
 
 pub returns-in-Err : goal.returns-in-Err
 returns-in-Err g c = record {
   said = search rules;
   session = search rules;
-  counted = search rules;
-  clean = search rules;
-  up = search rules;
-  stop = λ d held clean up. looked_left (c.heads.ensures.looks.stop d clean up held);
+  looks = looks_err g.V.Vault c.in-Err.fault c.in-Err.ensures.looks;
 }
+
+pub returns-in-Err-NoMaildrop-clause-looks : goal.returns-in-Err-NoMaildrop-clause-looks
+returns-in-Err-NoMaildrop-clause-looks g c =
+    looks_as g.V.Vault (Ok _) c.in-Err-NoMaildrop.ensures.looks (λ is. search rules)
+    (λ own. search rules)
+
+pub returns-then-contains_key-clause-looks : goal.returns-then-contains_key-clause-looks
+returns-then-contains_key-clause-looks g c = looks_ok g.V.Vault c.in-Ok.heads _ c.in-Ok.ensures.looks
+
+pub returns-in_default-clause-looks : goal.returns-in_default-clause-looks
+returns-in_default-clause-looks g c =
+    looks_as g.V.Vault (Err fault.NoMemory) c.in-Ok.ensures.looks (λ is. search rules) (λ own. tt)
+
+pub returns-clause-looks : goal.returns-clause-looks
+returns-clause-looks g c = looks_ok g.V.Vault c.in-Ok.heads _ c.in-Ok.ensures.looks

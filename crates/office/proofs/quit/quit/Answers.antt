@@ -8,7 +8,9 @@ use Rattle.office.proofs.Quitting.{nothing_removed, store_refused, quit_done, qu
 use Rattle.office.specs.Output.{OwesReply}
 use Rattle.office.specs.Sitting.{without_marked}
 use Rattle.office.proofs.Owing.{owes_put}
-use Rattle.office.proofs.Stopping.{removal_left, same_left}
+use Rattle.vault.proofs.CallLemmas.{looks_none}
+use Rattle.office.proofs.Frames.{acts_looking, acts_once}
+use Rattle.office.proofs.Stopping.{removal_left}
 use Rattle.office.proofs.quit.quit.Goals as goal
 
 pub returns-then-is_empty-clause-done : goal.returns-then-is_empty-clause-done
@@ -45,12 +47,6 @@ returns-in_err-keys-clause-done g c = search rules
 pub returns-in_err-keys-clause-err : goal.returns-in_err-keys-clause-err
 returns-in_err-keys-clause-err g c = search rules
 
-pub returns-in_err-keys-clause-counted : goal.returns-in_err-keys-clause-counted
-returns-in_err-keys-clause-counted g c = search rules
-
-pub returns-in_err-keys-clause-clean : goal.returns-in_err-keys-clause-clean
-returns-in_err-keys-clause-clean g c = search rules
-
 pub returns-in_err-keys-clause-unasked : goal.returns-in_err-keys-clause-unasked
 returns-in_err-keys-clause-unasked g c = search rules
 
@@ -59,12 +55,6 @@ returns-in_err-reserve-clause-done g c = search rules
 
 pub returns-in_err-reserve-clause-err : goal.returns-in_err-reserve-clause-err
 returns-in_err-reserve-clause-err g c = search rules
-
-pub returns-in_err-reserve-clause-counted : goal.returns-in_err-reserve-clause-counted
-returns-in_err-reserve-clause-counted g c = search rules
-
-pub returns-in_err-reserve-clause-clean : goal.returns-in_err-reserve-clause-clean
-returns-in_err-reserve-clause-clean g c = search rules
 
 pub returns-in_err-reserve-clause-unasked : goal.returns-in_err-reserve-clause-unasked
 returns-in_err-reserve-clause-unasked g c = search rules
@@ -75,12 +65,6 @@ returns-in_err-say-clause-done g c = search rules
 pub returns-in_err-say-clause-err : goal.returns-in_err-say-clause-err
 returns-in_err-say-clause-err g c = search rules
 
-pub returns-in_err-say-clause-counted : goal.returns-in_err-say-clause-counted
-returns-in_err-say-clause-counted g c = search rules
-
-pub returns-in_err-say-clause-clean : goal.returns-in_err-say-clause-clean
-returns-in_err-say-clause-clean g c = search rules
-
 pub returns-in_err-say-clause-unasked : goal.returns-in_err-say-clause-unasked
 returns-in_err-say-clause-unasked g c = search rules
 
@@ -90,38 +74,36 @@ returns-in_err-say-in-Err g c = search rules
 pub returns-in-Err-NoMemory-clause-err : goal.returns-in-Err-NoMemory-clause-err
 returns-in-Err-NoMemory-clause-err c = search rules
 
-pub returns-in_err-keys-clause-stop : goal.returns-in_err-keys-clause-stop
-returns-in_err-keys-clause-stop g c d held clean up = same_left (without_marked c.args.policy.now c.args.session.now d) (g.met.V.Vault.settled _ d clean up held)
+pub returns-in_err-keys-clause-acts : goal.returns-in_err-keys-clause-acts
+returns-in_err-keys-clause-acts g c = acts_looking (without_marked c.args.policy.now c.args.session.now)
+    (looks_none g.V.Vault c.args.vault.now (g.met.V.Vault.settled c.args.vault.now))
 
-pub returns-in_err-keys-clause-up : goal.returns-in_err-keys-clause-up
-returns-in_err-keys-clause-up g c = search rules
+pub returns-in_err-reserve-clause-acts : goal.returns-in_err-reserve-clause-acts
+returns-in_err-reserve-clause-acts g c = acts_looking (without_marked c.args.policy.now c.args.session.now)
+    (looks_none g.V.Vault c.args.vault.now (g.met.V.Vault.settled c.args.vault.now))
 
-pub returns-in_err-reserve-clause-stop : goal.returns-in_err-reserve-clause-stop
-returns-in_err-reserve-clause-stop g c d held clean up = same_left (without_marked c.args.policy.now c.args.session.now d) (g.met.V.Vault.settled _ d clean up held)
+pub returns-in_err-say-clause-acts : goal.returns-in_err-say-clause-acts
+returns-in_err-say-clause-acts g c = acts_looking (without_marked c.args.policy.now c.args.session.now)
+    (looks_none g.V.Vault c.args.vault.now (g.met.V.Vault.settled c.args.vault.now))
 
-pub returns-in_err-reserve-clause-up : goal.returns-in_err-reserve-clause-up
-returns-in_err-reserve-clause-up g c = search rules
+pub returns-then-is_empty-clause-acts : goal.returns-then-is_empty-clause-acts
+returns-then-is_empty-clause-acts g c = acts_looking (without_marked c.args.policy.now c.args.session.now)
+    (looks_none g.V.Vault c.args.vault.now (g.met.V.Vault.settled c.args.vault.now))
 
-pub returns-in_err-say-clause-stop : goal.returns-in_err-say-clause-stop
-returns-in_err-say-clause-stop g c d held clean up = same_left (without_marked c.args.policy.now c.args.session.now d) (g.met.V.Vault.settled _ d clean up held)
+pub returns-in-Ok-clause-acts : goal.returns-in-Ok-clause-acts
+returns-in-Ok-clause-acts g c = acts_once g.V.Vault (without_marked c.args.policy.now c.args.session.now)
+    c.in-Ok.ensures.commits (λ own. tt)
+    (λ left d. removal_left left d c.args.policy.now c.args.session.now _ _ c.maildrop.ensures
+    (c.deref.ensures.value ∙ c.in_ok-keys.ensures.keys))
 
-pub returns-in_err-say-clause-up : goal.returns-in_err-say-clause-up
-returns-in_err-say-clause-up g c = search rules
+pub returns-in-Err-NoMemory-clause-acts : goal.returns-in-Err-NoMemory-clause-acts
+returns-in-Err-NoMemory-clause-acts g c = acts_once g.V.Vault (without_marked c.args.policy.now c.args.session.now)
+    c.in-Err-NoMemory.ensures.commits (λ none. absurd none)
+    (λ left d. removal_left left d c.args.policy.now c.args.session.now _ _ c.maildrop.ensures
+    (c.deref.ensures.value ∙ c.in_ok-keys.ensures.keys))
 
-pub returns-then-is_empty-clause-stop : goal.returns-then-is_empty-clause-stop
-returns-then-is_empty-clause-stop g c d held clean up = same_left (without_marked c.args.policy.now c.args.session.now d) (g.met.V.Vault.settled _ d clean up held)
-
-pub returns-in-Ok-clause-stop : goal.returns-in-Ok-clause-stop
-returns-in-Ok-clause-stop g c d held clean up = record {
-  says = λ left may. removal_left left d c.args.policy.now c.args.session.now _ _ c.maildrop.ensures (c.deref.ensures.value ∙ c.in_ok-keys.ensures.keys) (c.in-Ok.ensures.commits.stop d clean up held left may);
-}
-
-pub returns-in-Err-NoMemory-clause-stop : goal.returns-in-Err-NoMemory-clause-stop
-returns-in-Err-NoMemory-clause-stop g c d held clean up = record {
-  says = λ left may. removal_left left d c.args.policy.now c.args.session.now _ _ c.maildrop.ensures (c.deref.ensures.value ∙ c.in_ok-keys.ensures.keys) (c.in-Err-NoMemory.ensures.commits.stop d clean up held left may);
-}
-
-pub returns-clause-stop : goal.returns-clause-stop
-returns-clause-stop g c d held clean up = record {
-  says = λ left may. removal_left left d c.args.policy.now c.args.session.now _ _ c.maildrop.ensures (c.deref.ensures.value ∙ c.in_ok-keys.ensures.keys) (c.in-Err.ensures.commits.stop d clean up held left may);
-}
+pub returns-clause-acts : goal.returns-clause-acts
+returns-clause-acts g c = acts_once g.V.Vault (without_marked c.args.policy.now c.args.session.now)
+    c.in-Err.ensures.commits (λ none. absurd none)
+    (λ left d. removal_left left d c.args.policy.now c.args.session.now _ _ c.maildrop.ensures
+    (c.deref.ensures.value ∙ c.in_ok-keys.ensures.keys))

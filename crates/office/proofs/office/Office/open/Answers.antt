@@ -4,7 +4,7 @@ use Rattle.std.specs.BTreeMap.{is_at}
 use Rattle.creds.specs.Names.{is_host}
 use Rattle.office.specs.Answered.{name_cmp}
 use Rattle.office.proofs.Coming.{start_stands, start_formed, same_ok}
-use Rattle.office.proofs.Stopping.{held_left, looked_left}
+use Rattle.office.proofs.Stopping.{looked_left}
 use Rattle.office.proofs.office.Office.open.Goals as goal
 
 pub returns-clause-opened : goal.returns-clause-opened
@@ -95,10 +95,10 @@ pub returns-clause-cause : goal.returns-clause-cause
 returns-clause-cause g c = search rules
 
 pub returns-then-is_none-clause-stop : goal.returns-then-is_none-clause-stop
-returns-then-is_none-clause-stop g c d held clean up = held_left (g.met.V.Vault.settled _ d clean up held)
+returns-then-is_none-clause-stop g c d held clean up = looked_left (g.met.V.Vault.settled _ d clean up held)
 
 pub returns-in_default-clause-stop : goal.returns-in_default-clause-stop
-returns-in_default-clause-stop g c d held clean up = held_left (g.met.V.Vault.settled _ d clean up held)
+returns-in_default-clause-stop g c d held clean up = looked_left (g.met.V.Vault.settled _ d clean up held)
 
 pub returns-in-Err-NoMemory-clause-stop : goal.returns-in-Err-NoMemory-clause-stop
 returns-in-Err-NoMemory-clause-stop g c d held clean up = looked_left (c.in-Err-NoMemory.ensures.looks.stop d clean up held)
