@@ -147,6 +147,23 @@ fn has_sheets(alloc: Global, store: &mut Store, key: i64) -> Result<bool, Error>
     Ok(first && second && sheet_numbers(alloc, store)? == (2, 2))
 }
 
+// Whether the sheets at the places from `from` on that are below `end` have these lengths.
+fn has_between(
+    alloc: Global,
+    store: &mut Store,
+    key: i64,
+    from: i64,
+    end: i64,
+    lengths: &[usize],
+) -> Result<bool, Error> {
+    let found = sheets::sheets_between(alloc, store, key, from, end)?;
+    let mut all = found.len() == lengths.len();
+    for (sheet, length) in found.iter().zip(lengths) {
+        all = all && sheet.octets.as_slice().len() == *length;
+    }
+    Ok(all)
+}
+
 #[test]
 fn a_text_as_sheets(rt: HostRuntime) -> Result<(), Fail> {
     let mut text = [0; 4097];
@@ -154,6 +171,8 @@ fn a_text_as_sheets(rt: HostRuntime) -> Result<(), Fail> {
     let mut store = new_store(rt.alloc())?;
     let key = add_text(&mut store, &text)?;
     assert!(rt; has_sheets(rt.alloc(), &mut store, key)?);
+    assert!(rt; has_between(rt.alloc(), &mut store, key, 0, 2, &[4096, 1])?);
+    assert!(rt; has_between(rt.alloc(), &mut store, key, 1, 9, &[1])?);
     Ok(())
 }
 
