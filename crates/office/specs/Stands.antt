@@ -25,6 +25,7 @@ use Rattle.office.specs.Kept.{Kept, most_failures}
 use Rattle.session.specs.Session.{Session}
 use Rattle.session.specs.View.{is_marked}
 use Rattle.vault.specs.declared.record.Keyed.{Keyed}
+use Rattle.vault.specs.declared.vault.Vault.{Ghosts}
 use Rattle.vault.specs.declared.record.Message as store
 use Rattle.office.specs.declared.office.Office.{Office}
 
@@ -184,3 +185,8 @@ lent_by o c = length_of_lent (get nat_cmp o.links c)
 -- the vault that an office was opened over
 abbrev pub vault_of : {V : Type 0} → Office V → V
 vault_of o = o.vault
+
+-- of each trace that the office stood for before a call, where the store is clean after it
+abbrev pub OfEachTrace : {V : Type 0} → Ghosts V → (old new : Office V) → (Trace → Type 0) → Type 0
+OfEachTrace vault old new Says =
+    (T : Trace) → StandsFor vault.holds old T → vault.is_clean (vault_of new) → Says T

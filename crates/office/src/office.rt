@@ -10,7 +10,7 @@ ghost use Rattle.creds.specs.Names.{is_host};
 ghost use Rattle.vault.specs.Changes.{Contents};
 ghost use Rattle.vault.specs.Calls.{has_grown};
 ghost use Rattle.office.specs.History.{Done, Failed, NoMemory};
-ghost use Rattle.office.specs.Stands.{StandsFor, Keeps, lent_by, vault_of};
+ghost use Rattle.office.specs.Stands.{OfEachTrace, StandsFor, Keeps, lent_by, vault_of};
 ghost use Rattle.office.specs.Taken.{IsAdmitted, AreAdmitted, IsSentExactly};
 ghost use Rattle.office.specs.Input.{input_kept, most_input};
 ghost use Rattle.office.specs.Stopping.{LeavesHeld, StaysUpUnless, StopLeaves};
@@ -143,13 +143,21 @@ impl<V: Vault> Office<V> {
     }
 
     fn connect(&mut self) -> Outcome
-        ensures stands { (T : Trace) → StandsFor V.holds self.old T → V.is_clean (vault_of self.new) → StandsFor V.holds self.new (followed_by T event.Connect result) }
-        ensures outcome { (T : Trace) → StandsFor V.holds self.old T → V.is_clean (vault_of self.new) → IsOutcome T (lent_by self.old) event.Connect (outcome_seen result) }
-        ensures cause { (T : Trace) → StandsFor V.holds self.old T → V.is_clean (vault_of self.new) → HasCause (V.faults (vault_of self.old)) (V.faults (vault_of self.new)) (outcome_seen result) }
+        ensures stands { OfEachTrace V.Vault self.old self.new (λ T.
+            StandsFor V.holds self.new (followed_by T event.Connect result)) }
+        ensures outcome { OfEachTrace V.Vault self.old self.new (λ T.
+            IsOutcome T (lent_by self.old) event.Connect (outcome_seen result)) }
+        ensures cause { OfEachTrace V.Vault self.old self.new (λ T.
+            HasCause (V.faults (vault_of self.old)) (V.faults (vault_of self.new))
+            (outcome_seen result)) }
         ensures counted { V.faults (vault_of self.old) ≤ V.faults (vault_of self.new) }
         ensures clean { V.is_clean (vault_of self.new) → V.is_clean (vault_of self.old) }
-        ensures up { (T : Trace) → StandsFor V.holds self.old T → V.is_clean (vault_of self.new) → StaysUpUnless (V.is_up (vault_of self.old)) (V.is_up (vault_of self.new)) (outcome_seen result) }
-        ensures stop { (T : Trace) → StandsFor V.holds self.old T → V.is_clean (vault_of self.new) → V.is_up (vault_of self.old) → StopLeaves (V.may_leave (vault_of self.new)) T event.Connect (outcome_seen result) }
+        ensures up { OfEachTrace V.Vault self.old self.new (λ T.
+            StaysUpUnless (V.is_up (vault_of self.old)) (V.is_up (vault_of self.new))
+            (outcome_seen result)) }
+        ensures stop { OfEachTrace V.Vault self.old self.new (λ T.
+            V.is_up (vault_of self.old) → StopLeaves (V.may_leave
+            (vault_of self.new)) T event.Connect (outcome_seen result)) }
         ensures unasked { vault_of self.new ≡ vault_of self.old }
     {
         if self.is_full() {
@@ -174,17 +182,24 @@ impl<V: Vault> Office<V> {
     }
 
     fn bytes(&mut self, c: u64, piece: &[u8], account: &mut Account) -> Outcome
-        ensures stands { (T : Trace) → StandsFor V.holds self.old T → V.is_clean (vault_of self.new) → StandsFor V.holds self.new (followed_by T (event.Bytes c piece.now) result) }
-        ensures outcome { (T : Trace) → StandsFor V.holds self.old T → V.is_clean (vault_of self.new) → IsOutcome T (lent_by self.old) (event.Bytes c piece.now) (outcome_seen result) }
-        ensures cause { (T : Trace) → StandsFor V.holds self.old T → V.is_clean (vault_of self.new) → HasCause (V.faults (vault_of self.old)) (V.faults (vault_of self.new)) (outcome_seen result) }
+        ensures stands { OfEachTrace V.Vault self.old self.new (λ T.
+            StandsFor V.holds self.new (followed_by T (event.Bytes c piece.now) result)) }
+        ensures outcome { OfEachTrace V.Vault self.old self.new (λ T.
+            IsOutcome T (lent_by self.old) (event.Bytes c piece.now) (outcome_seen result)) }
+        ensures cause { OfEachTrace V.Vault self.old self.new (λ T.
+            HasCause (V.faults (vault_of self.old)) (V.faults (vault_of self.new))
+            (outcome_seen result)) }
         ensures counted { V.faults (vault_of self.old) ≤ V.faults (vault_of self.new) }
         ensures clean { V.is_clean (vault_of self.new) → V.is_clean (vault_of self.old) }
-        ensures up { (T : Trace) → StandsFor V.holds self.old T → V.is_clean (vault_of self.new) → StaysUpUnless (V.is_up (vault_of self.old)) (V.is_up (vault_of self.new)) (outcome_seen result) }
-        ensures stop { (T : Trace) → StandsFor V.holds self.old T → V.is_clean (vault_of self.new) → V.is_up (vault_of self.old) → StopLeaves (V.may_leave (vault_of self.new)) T (event.Bytes c piece.now) (outcome_seen result) }
+        ensures up { OfEachTrace V.Vault self.old self.new (λ T.
+            StaysUpUnless (V.is_up (vault_of self.old)) (V.is_up (vault_of self.new))
+            (outcome_seen result)) }
+        ensures stop { OfEachTrace V.Vault self.old self.new (λ T.
+            V.is_up (vault_of self.old) → StopLeaves (V.may_leave (vault_of self.new)) T
+            (event.Bytes c piece.now) (outcome_seen result)) }
         ensures unasked { (T : Trace) → StandsFor V.holds self.old T → V.is_clean (vault_of self.old) → may_show T (event.Bytes c piece.now) Failed ≡ false → vault_of self.new ≡ vault_of self.old }
-        ensures account { account.old ≡ Account.Nothing → (T : Trace) → StandsFor V.holds self.old T
-            → V.is_clean (vault_of self.new) → IsAccount T (event.Bytes c piece.now)
-            (outcome_seen result) account.new }
+        ensures account { account.old ≡ Account.Nothing → OfEachTrace V.Vault self.old self.new (λ T. IsAccount T (event.Bytes c piece.now)
+            (outcome_seen result) account.new) }
     {
         let Some(link) = self.links.get_mut(&c) else {
             return Outcome::Ignored(Reason::NoSuchConnection);
@@ -215,17 +230,24 @@ impl<V: Vault> Office<V> {
     }
 
     fn took(&mut self, c: u64, octets: usize, account: &mut Account) -> Outcome
-        ensures stands { (T : Trace) → StandsFor V.holds self.old T → V.is_clean (vault_of self.new) → StandsFor V.holds self.new (followed_by T (event.Took c octets) result) }
-        ensures outcome { (T : Trace) → StandsFor V.holds self.old T → V.is_clean (vault_of self.new) → IsOutcome T (lent_by self.old) (event.Took c octets) (outcome_seen result) }
-        ensures cause { (T : Trace) → StandsFor V.holds self.old T → V.is_clean (vault_of self.new) → HasCause (V.faults (vault_of self.old)) (V.faults (vault_of self.new)) (outcome_seen result) }
+        ensures stands { OfEachTrace V.Vault self.old self.new (λ T.
+            StandsFor V.holds self.new (followed_by T (event.Took c octets) result)) }
+        ensures outcome { OfEachTrace V.Vault self.old self.new (λ T.
+            IsOutcome T (lent_by self.old) (event.Took c octets) (outcome_seen result)) }
+        ensures cause { OfEachTrace V.Vault self.old self.new (λ T.
+            HasCause (V.faults (vault_of self.old)) (V.faults (vault_of self.new))
+            (outcome_seen result)) }
         ensures counted { V.faults (vault_of self.old) ≤ V.faults (vault_of self.new) }
         ensures clean { V.is_clean (vault_of self.new) → V.is_clean (vault_of self.old) }
-        ensures up { (T : Trace) → StandsFor V.holds self.old T → V.is_clean (vault_of self.new) → StaysUpUnless (V.is_up (vault_of self.old)) (V.is_up (vault_of self.new)) (outcome_seen result) }
-        ensures stop { (T : Trace) → StandsFor V.holds self.old T → V.is_clean (vault_of self.new) → V.is_up (vault_of self.old) → StopLeaves (V.may_leave (vault_of self.new)) T (event.Took c octets) (outcome_seen result) }
+        ensures up { OfEachTrace V.Vault self.old self.new (λ T.
+            StaysUpUnless (V.is_up (vault_of self.old)) (V.is_up (vault_of self.new))
+            (outcome_seen result)) }
+        ensures stop { OfEachTrace V.Vault self.old self.new (λ T.
+            V.is_up (vault_of self.old) → StopLeaves (V.may_leave (vault_of self.new)) T
+            (event.Took c octets) (outcome_seen result)) }
         ensures unasked { (T : Trace) → StandsFor V.holds self.old T → V.is_clean (vault_of self.old) → may_show T (event.Took c octets) Failed ≡ false → vault_of self.new ≡ vault_of self.old }
-        ensures account { account.old ≡ Account.Nothing → (T : Trace) → StandsFor V.holds self.old T
-            → V.is_clean (vault_of self.new) → IsAccount T (event.Took c octets)
-            (outcome_seen result) account.new }
+        ensures account { account.old ≡ Account.Nothing → OfEachTrace V.Vault self.old self.new (λ T. IsAccount T (event.Took c octets)
+            (outcome_seen result) account.new) }
     {
         let Some(link) = self.links.get_mut(&c) else {
             return Outcome::Ignored(Reason::NoSuchConnection);
@@ -269,13 +291,21 @@ impl<V: Vault> Office<V> {
     }
 
     fn gone(&mut self, c: u64) -> Outcome
-        ensures stands { (T : Trace) → StandsFor V.holds self.old T → V.is_clean (vault_of self.new) → StandsFor V.holds self.new (followed_by T (event.Gone c) result) }
-        ensures outcome { (T : Trace) → StandsFor V.holds self.old T → V.is_clean (vault_of self.new) → IsOutcome T (lent_by self.old) (event.Gone c) (outcome_seen result) }
-        ensures cause { (T : Trace) → StandsFor V.holds self.old T → V.is_clean (vault_of self.new) → HasCause (V.faults (vault_of self.old)) (V.faults (vault_of self.new)) (outcome_seen result) }
+        ensures stands { OfEachTrace V.Vault self.old self.new (λ T.
+            StandsFor V.holds self.new (followed_by T (event.Gone c) result)) }
+        ensures outcome { OfEachTrace V.Vault self.old self.new (λ T.
+            IsOutcome T (lent_by self.old) (event.Gone c) (outcome_seen result)) }
+        ensures cause { OfEachTrace V.Vault self.old self.new (λ T.
+            HasCause (V.faults (vault_of self.old)) (V.faults (vault_of self.new))
+            (outcome_seen result)) }
         ensures counted { V.faults (vault_of self.old) ≤ V.faults (vault_of self.new) }
         ensures clean { V.is_clean (vault_of self.new) → V.is_clean (vault_of self.old) }
-        ensures up { (T : Trace) → StandsFor V.holds self.old T → V.is_clean (vault_of self.new) → StaysUpUnless (V.is_up (vault_of self.old)) (V.is_up (vault_of self.new)) (outcome_seen result) }
-        ensures stop { (T : Trace) → StandsFor V.holds self.old T → V.is_clean (vault_of self.new) → V.is_up (vault_of self.old) → StopLeaves (V.may_leave (vault_of self.new)) T (event.Gone c) (outcome_seen result) }
+        ensures up { OfEachTrace V.Vault self.old self.new (λ T.
+            StaysUpUnless (V.is_up (vault_of self.old)) (V.is_up (vault_of self.new))
+            (outcome_seen result)) }
+        ensures stop { OfEachTrace V.Vault self.old self.new (λ T.
+            V.is_up (vault_of self.old) → StopLeaves (V.may_leave (vault_of self.new)) T
+            (event.Gone c) (outcome_seen result)) }
         ensures unasked { vault_of self.new ≡ vault_of self.old }
         ensures done { (result ≡ Outcome.Done) ⊎ (result ≡ Outcome.Ignored Reason.NoSuchConnection) }
     {
@@ -291,17 +321,28 @@ impl<V: Vault> Office<V> {
     /// Does one event. An opening, the end of a connection, a tick and a restart ask no store; the
     /// last three take no memory and never fail.
     pub fn step(&mut self, event: Event<'_>) -> Outcome
-        ensures stands { (T : Trace) → StandsFor V.holds self.old T → V.is_clean (vault_of self.new) → StandsFor V.holds self.new (followed_by T (event_seen event.entry) result) }
-        ensures outcome { (T : Trace) → StandsFor V.holds self.old T → V.is_clean (vault_of self.new) → IsOutcome T (lent_by self.old) (event_seen event.entry) (outcome_seen result) }
-        ensures cause { (T : Trace) → StandsFor V.holds self.old T → V.is_clean (vault_of self.new) → HasCause (V.faults (vault_of self.old)) (V.faults (vault_of self.new)) (outcome_seen result) }
+        ensures stands { OfEachTrace V.Vault self.old self.new (λ T.
+            StandsFor V.holds self.new (followed_by T (event_seen event.entry) result)) }
+        ensures outcome { OfEachTrace V.Vault self.old self.new (λ T.
+            IsOutcome T (lent_by self.old) (event_seen event.entry) (outcome_seen result)) }
+        ensures cause { OfEachTrace V.Vault self.old self.new (λ T.
+            HasCause (V.faults (vault_of self.old)) (V.faults (vault_of self.new))
+            (outcome_seen result)) }
         ensures counted { V.faults (vault_of self.old) ≤ V.faults (vault_of self.new) }
         ensures clean { V.is_clean (vault_of self.new) → V.is_clean (vault_of self.old) }
-        ensures up { (T : Trace) → StandsFor V.holds self.old T → V.is_clean (vault_of self.new) → StaysUpUnless (V.is_up (vault_of self.old)) (V.is_up (vault_of self.new)) (outcome_seen result) }
-        ensures stop { (T : Trace) → StandsFor V.holds self.old T → V.is_clean (vault_of self.new) → V.is_up (vault_of self.old) → StopLeaves (V.may_leave (vault_of self.new)) T (event_seen event.entry) (outcome_seen result) }
-        ensures admitted { (T : Trace) → StandsFor V.holds self.old T → V.is_clean (vault_of self.new) → IsAdmitted T (event_seen event.entry) (mark_of (outcome_seen result)) }
+        ensures up { OfEachTrace V.Vault self.old self.new (λ T.
+            StaysUpUnless (V.is_up (vault_of self.old)) (V.is_up (vault_of self.new))
+            (outcome_seen result)) }
+        ensures stop { OfEachTrace V.Vault self.old self.new (λ T.
+            V.is_up (vault_of self.old) → StopLeaves (V.may_leave (vault_of self.new)) T
+            (event_seen event.entry) (outcome_seen result)) }
+        ensures admitted { OfEachTrace V.Vault self.old self.new (λ T.
+            IsAdmitted T (event_seen event.entry) (mark_of (outcome_seen result))) }
         // Where each event so far was answered as it may be, each connection is sent exactly what
         // the history sends it.
-        ensures sent { (T : Trace) → StandsFor V.holds self.old T → V.is_clean (vault_of self.new) → AreAdmitted T → (c : ℕ) → IsSentExactly (followed_by T (event_seen event.entry) result) c }
+        ensures sent { OfEachTrace V.Vault self.old self.new (λ T.
+            AreAdmitted T → (c : ℕ) → IsSentExactly (followed_by T
+            (event_seen event.entry) result) c) }
         ensures unasked { asks_no_store (event_seen event.entry) ≡ true → vault_of self.new ≡ vault_of self.old }
         // An event that may not be answered `Failed` asks no store: a line that needs none, and a
         // QUIT that removes nothing.
@@ -309,7 +350,9 @@ impl<V: Vault> Office<V> {
         ensures succeeds { Succeeds (event_seen event.entry) (outcome_seen result) }
         // Some events are never answered `NoMemory`: a piece without LF, a taking of a part where
         // all that is owed is lent, and others (`may_lack_memory_at`).
-        ensures memory { (T : Trace) → StandsFor V.holds self.old T → V.is_clean (vault_of self.new) → may_show T (event_seen event.entry) NoMemory ≡ false → HasMemory (outcome_seen result) }
+        ensures memory { OfEachTrace V.Vault self.old self.new (λ T.
+            may_show T (event_seen event.entry) NoMemory ≡ false → HasMemory
+            (outcome_seen result)) }
     {
         let mut account = Account::Nothing;
         self.step_with_account(event, &mut account)
@@ -320,41 +363,40 @@ impl<V: Vault> Office<V> {
     /// where the store failed. An event in which no line acted, one that is ignored and one without
     /// memory have none.
     pub fn step_with_account(&mut self, event: Event<'_>, account: &mut Account) -> Outcome
-        ensures stands { (T : Trace) → StandsFor V.holds self.old T → V.is_clean (vault_of self.new)
-            → StandsFor V.holds self.new (followed_by T (event_seen event.entry) result) }
-        ensures outcome { (T : Trace) → StandsFor V.holds self.old T
-            → V.is_clean (vault_of self.new) → IsOutcome T (lent_by self.old)
-            (event_seen event.entry) (outcome_seen result) }
-        ensures cause { (T : Trace) → StandsFor V.holds self.old T → V.is_clean (vault_of self.new)
-            → HasCause (V.faults (vault_of self.old)) (V.faults (vault_of self.new))
-            (outcome_seen result) }
+        ensures stands { OfEachTrace V.Vault self.old self.new (λ T.
+            StandsFor V.holds self.new (followed_by T (event_seen event.entry) result)) }
+        ensures outcome { OfEachTrace V.Vault self.old self.new (λ T. IsOutcome T (lent_by self.old)
+            (event_seen event.entry) (outcome_seen result)) }
+        ensures cause { OfEachTrace V.Vault self.old self.new (λ T.
+            HasCause (V.faults (vault_of self.old)) (V.faults (vault_of self.new))
+            (outcome_seen result)) }
         ensures counted { V.faults (vault_of self.old) ≤ V.faults (vault_of self.new) }
         ensures clean { V.is_clean (vault_of self.new) → V.is_clean (vault_of self.old) }
-        ensures up { (T : Trace) → StandsFor V.holds self.old T → V.is_clean (vault_of self.new)
-            → StaysUpUnless (V.is_up (vault_of self.old)) (V.is_up (vault_of self.new))
-            (outcome_seen result) }
-        ensures stop { (T : Trace) → StandsFor V.holds self.old T → V.is_clean (vault_of self.new)
-            → V.is_up (vault_of self.old) → StopLeaves (V.may_leave (vault_of self.new)) T
-            (event_seen event.entry) (outcome_seen result) }
-        ensures admitted { (T : Trace) → StandsFor V.holds self.old T
-            → V.is_clean (vault_of self.new) → IsAdmitted T (event_seen event.entry) (mark_of
+        ensures up { OfEachTrace V.Vault self.old self.new (λ T.
+            StaysUpUnless (V.is_up (vault_of self.old)) (V.is_up (vault_of self.new))
             (outcome_seen result)) }
-        ensures sent { (T : Trace) → StandsFor V.holds self.old T → V.is_clean (vault_of self.new)
-            → AreAdmitted T → (c : ℕ) → IsSentExactly (followed_by T
-            (event_seen event.entry) result) c }
+        ensures stop { OfEachTrace V.Vault self.old self.new (λ T.
+            V.is_up (vault_of self.old) → StopLeaves (V.may_leave (vault_of self.new)) T
+            (event_seen event.entry) (outcome_seen result)) }
+        ensures admitted { OfEachTrace V.Vault self.old self.new (λ T.
+            IsAdmitted T (event_seen event.entry) (mark_of
+            (outcome_seen result))) }
+        ensures sent { OfEachTrace V.Vault self.old self.new (λ T.
+            AreAdmitted T → (c : ℕ) → IsSentExactly (followed_by T
+            (event_seen event.entry) result) c) }
         ensures unasked { asks_no_store (event_seen event.entry) ≡ true
             → vault_of self.new ≡ vault_of self.old }
         ensures unasked_line { (T : Trace) → StandsFor V.holds self.old T
             → V.is_clean (vault_of self.old) → may_show T (event_seen event.entry) Failed ≡ false
             → vault_of self.new ≡ vault_of self.old }
         ensures succeeds { Succeeds (event_seen event.entry) (outcome_seen result) }
-        ensures memory { (T : Trace) → StandsFor V.holds self.old T → V.is_clean (vault_of self.new)
-            → may_show T (event_seen event.entry) NoMemory ≡ false
-            → HasMemory (outcome_seen result) }
+        ensures memory { OfEachTrace V.Vault self.old self.new (λ T.
+            may_show T (event_seen event.entry) NoMemory ≡ false
+            → HasMemory (outcome_seen result)) }
         // What is told is what the history says of the line that acted, if one did.
-        ensures account { (T : Trace) → StandsFor V.holds self.old T
-            → V.is_clean (vault_of self.new) → IsAccount T (event_seen event.entry)
-            (outcome_seen result) account.new }
+        ensures account { OfEachTrace V.Vault self.old self.new (λ T.
+            IsAccount T (event_seen event.entry)
+            (outcome_seen result) account.new) }
     {
         *account = Account::Nothing;
         match event {
@@ -375,17 +417,25 @@ impl<V: Vault> Office<V> {
     /// `NoMemory(done)` where the transcript couldn't grow: exactly the first `done` events are
     /// done.
     pub fn run(&mut self, events: &[Event<'_>]) -> Result<Transcript, RunFault>
-        ensures ok { IfOk result (λ steps. (T : Trace) → StandsFor V.holds self.old T → V.is_clean (vault_of self.new) → Follows V.holds events.now steps T self.new) }
+        ensures ok { IfOk result (λ steps. OfEachTrace V.Vault self.old self.new (λ T.
+            Follows V.holds events.now steps T self.new)) }
         ensures err_before_the_end { IfErr result (λ e. done_before e < length events.now) }
-        ensures err { IfErr result (λ e. (steps : List Shown) × ((T : Trace) → StandsFor V.holds self.old T → V.is_clean (vault_of self.new) → Follows V.holds (take (done_before e) events.now) steps T self.new)) }
-        ensures cause { IfOk result (λ steps. (T : Trace) → StandsFor V.holds self.old T → V.is_clean (vault_of self.new) → HaveCauses (V.faults (vault_of self.old)) (V.faults (vault_of self.new)) steps) }
-        ensures up { IfOk result (λ steps. (T : Trace) → StandsFor V.holds self.old T → V.is_clean (vault_of self.new) → V.is_up (vault_of self.old) → AreAnswered steps → V.is_up (vault_of self.new)) }
-        ensures stop { IfOk result (λ steps. (T : Trace) → StandsFor V.holds self.old T → V.is_clean (vault_of self.new) → V.is_up (vault_of self.old) → StopLeavesRun (V.may_leave (vault_of self.new)) T events.now steps) }
-        ensures admitted { IfOk result (λ steps. (T : Trace) → StandsFor V.holds self.old T → V.is_clean (vault_of self.new) → AreAdmitted T → AreAdmitted (followed T events.now steps)) }
-        ensures sent { IfOk result (λ steps. (T : Trace) → StandsFor V.holds self.old T → V.is_clean (vault_of self.new) → AreAdmitted T → (c : ℕ) → IsSentExactly (followed T events.now steps) c) }
-        ensures memory { IfOk result (λ steps. (T : Trace) → StandsFor V.holds self.old T → V.is_clean (vault_of self.new) → HaveMemory T events.now steps) }
+        ensures err { IfErr result (λ e. (steps : List Shown) × (OfEachTrace V.Vault self.old self.new (λ T. Follows V.holds (take (done_before e) events.now) steps T self.new))) }
+        ensures cause { IfOk result (λ steps. OfEachTrace V.Vault self.old self.new (λ T.
+            HaveCauses (V.faults (vault_of self.old)) (V.faults (vault_of self.new)) steps)) }
+        ensures up { IfOk result (λ steps. OfEachTrace V.Vault self.old self.new (λ T.
+            V.is_up (vault_of self.old) → AreAnswered steps → V.is_up (vault_of self.new))) }
+        ensures stop { IfOk result (λ steps. OfEachTrace V.Vault self.old self.new (λ T.
+            V.is_up (vault_of self.old) → StopLeavesRun (V.may_leave
+            (vault_of self.new)) T events.now steps)) }
+        ensures admitted { IfOk result (λ steps. OfEachTrace V.Vault self.old self.new (λ T.
+            AreAdmitted T → AreAdmitted (followed T events.now steps))) }
+        ensures sent { IfOk result (λ steps. OfEachTrace V.Vault self.old self.new (λ T.
+            AreAdmitted T → (c : ℕ) → IsSentExactly (followed T events.now steps) c)) }
+        ensures memory { IfOk result (λ steps. OfEachTrace V.Vault self.old self.new (λ T.
+            HaveMemory T events.now steps)) }
         // The same of the events that were done before the transcript couldn't grow.
-        ensures err_ran { IfErr result (λ e. (steps : List Shown) × ((T : Trace) → StandsFor V.holds self.old T → V.is_clean (vault_of self.new) → Ran V.holds V.faults V.is_up V.may_leave (take (done_before e) events.now) steps T self.old self.new)) }
+        ensures err_ran { IfErr result (λ e. (steps : List Shown) × (OfEachTrace V.Vault self.old self.new (λ T. Ran V.holds V.faults V.is_up V.may_leave (take (done_before e) events.now) steps T self.old self.new))) }
         ensures counted { V.faults (vault_of self.old) ≤ V.faults (vault_of self.new) }
         ensures clean { V.is_clean (vault_of self.new) → V.is_clean (vault_of self.old) }
     {
@@ -401,8 +451,10 @@ impl<V: Vault> Office<V> {
 
     /// Does one event and enters its step into the transcript; at want of memory neither.
     fn enter(&mut self, event: Event<'_>, steps: &mut Vec<Step>) -> Result<(), AllocError>
-        ensures ok { OnOk result ((T : Trace) → StandsFor V.holds self.old T → V.is_clean (vault_of self.new) → Enters V.holds event.entry steps.old.items steps.new.items T self.new) }
-        ensures ok_so { OnOk result ((T : Trace) → StandsFor V.holds self.old T → V.is_clean (vault_of self.new) → EntersSo V.holds V.faults V.is_up V.may_leave event.entry steps.old.items steps.new.items T self.old self.new) }
+        ensures ok { OnOk result (OfEachTrace V.Vault self.old self.new (λ T.
+            Enters V.holds event.entry steps.old.items steps.new.items T self.new)) }
+        ensures ok_so { OnOk result (OfEachTrace V.Vault self.old self.new (λ T.
+            EntersSo V.holds V.faults V.is_up V.may_leave event.entry steps.old.items steps.new.items T self.old self.new)) }
         ensures err { OnErr result (self.new ≡ self.old) }
         ensures err_steps { OnErr result (steps.new.items ≡ steps.old.items) }
         ensures counted { V.faults (vault_of self.old) ≤ V.faults (vault_of self.new) }
