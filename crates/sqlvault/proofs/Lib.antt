@@ -22,6 +22,7 @@ pub mod HasNumberLemmas
 pub mod AskedLemmas
 pub mod AgreeLemmas
 pub mod AskLemmas
+pub mod BehindLemmas
 pub mod StopLemmas
 pub mod StayLemmas
 pub mod PieceLemmas
@@ -32,6 +33,7 @@ pub mod EachLemmas
 pub mod UsesLemmas
 pub mod MoveLemmas
 pub mod CarryLemmas
+pub mod OlderLemmas
 pub mod AgainLemmas
 pub mod VersionLemmas
 pub mod CallLemmas

@@ -15,5 +15,6 @@ pub mod Stored
 pub mod Uses
 pub mod Moves
 pub mod Carries
+pub mod Older
 pub mod Again
 pub mod Pages

@@ -1,13 +1,17 @@
 //! Carrying an older store over.
-ghost use Rattle.std.specs.Prelude.{◌≡◌, true, false, Bool, IsTrue, IfOk, IfErr, OnOk, OnErr, [], ◌∷◌};
+ghost use Rattle.std.specs.Prelude.{◌≡◌, true, false, Bool, IfOk, IfErr};
 ghost use Rattle.sqlite.specs.Held.{Held, state};
-ghost use Rattle.sqlite.specs.State.{HasCleanDisk, Survives, IsUnchanged};
+ghost use Rattle.sqlite.specs.State.{HasCleanDisk, Survives};
 ghost use Rattle.mailsql.specs.Tables.{old_schema};
-ghost use Rattle.mailsql.specs.Rows.{IsOld, HasOldTables, IsKept, IsUndone, IsHalted, IsGone, IsBegunOn, GoesOn, is_carried, rows_in};
-ghost use Rattle.sqlvault.specs.Adopts.{StaysAs, IsAdoptFault, IsOfUnknownVersion, IsVersionRefused};
-ghost use Rattle.sqlvault.specs.Carries.{HasOlder, IsOlder, IsCarried, IsUncarried, IsOfRows, IsNoOlder, IsMarkedOlder, CarriesOver, LeavesEither, brought, old_mark, old_version};
+ghost use Rattle.mailsql.specs.Rows.{HasOldTables, IsGone, GoesOn, rows_in};
+ghost use Rattle.sqlvault.specs.Adopts.{IsAdoptFault, IsOfUnknownVersion, IsVersionRefused};
+ghost use Rattle.sqlvault.specs.Carries.{HasOlder, IsOlder, IsOfRows, IsNoOlder, IsMarkedOlder};
+ghost use Rattle.sqlvault.specs.Carries.{old_version};
+ghost use Rattle.sqlvault.specs.Moves.{Part};
+ghost use Rattle.sqlvault.specs.Older.{IsAllCommitted, IsBegunOlder, Brings};
+ghost use Rattle.sqlvault.specs.Older.{AsksOlder, CarriesOlder};
 ghost use Rattle.sqlvault.specs.Refusals.{answer_of, told};
-ghost use Rattle.sqlvault.specs.Stands.{WasClean, LeavesNoMore};
+ghost use Rattle.sqlvault.specs.Stands.{WasClean};
 
 use crate::adopt::{VERSION, are_rows_sound};
 use crate::moves::move_old;
@@ -29,9 +33,9 @@ const SECOND: i64 = 2;
 /// transaction: makes the tables that it lacks, moves the messages of version 1, and puts our mark
 /// in place of its own.
 fn bring<S: Alter>(alloc: Global, conn: &mut Connection<S>, carried: bool) -> Result<(), Error>
-    ensures done { HasCleanDisk (state S.Store conn.new) → IsBegunOn (state S.Store conn.old) → is_carried (state S.Store conn.old).now.trees ≡ carried → (rows_in (state S.Store conn.old).now.trees).marks ≡ old_mark carried ∷ [] → OnOk result ((IsKept (state S.Store conn.new).now × (rows_in (state S.Store conn.new).now.trees ≡ brought carried (rows_in (state S.Store conn.old).now.trees))) × GoesOn (state S.Store conn.old) (state S.Store conn.new)) }
-    ensures err { HasCleanDisk (state S.Store conn.new) → IsBegunOn (state S.Store conn.old) → is_carried (state S.Store conn.old).now.trees ≡ carried → (rows_in (state S.Store conn.old).now.trees).marks ≡ old_mark carried ∷ [] → OnErr result (IsHalted (state S.Store conn.old) (state S.Store conn.new)) }
-    ensures stop { HasCleanDisk (state S.Store conn.new) → IsBegunOn (state S.Store conn.old) → is_carried (state S.Store conn.old).now.trees ≡ carried → (rows_in (state S.Store conn.old).now.trees).marks ≡ old_mark carried ∷ [] → LeavesNoMore (state S.Store conn.old) (state S.Store conn.new) }
+    ensures part { HasCleanDisk (state S.Store conn.new)
+        → IsBegunOlder carried (state S.Store conn.old)
+        → Part (Brings carried) (state S.Store conn.old) (state S.Store conn.new) result }
     ensures clean { WasClean (state S.Store conn.old) (state S.Store conn.new) }
 {
     match tables::complete_tables(conn, carried) {
@@ -52,10 +56,9 @@ pub(crate) fn carry<S: Alter>(
     conn: &mut Connection<S>,
     carried: bool,
 ) -> Result<(), Refusal>
-    ensures carried { HasCleanDisk (state S.Store conn.new) → IsOlder carried (state S.Store conn.old) → OnOk result (IsCarried (state S.Store conn.old) (state S.Store conn.new)) }
-    ensures refused { HasCleanDisk (state S.Store conn.new) → IsOlder carried (state S.Store conn.old) → IfErr result (λ refusal. IsUncarried (state S.Store conn.old) (told refusal)) }
-    ensures stays { HasCleanDisk (state S.Store conn.new) → IsOlder carried (state S.Store conn.old) → OnErr result (StaysAs (state S.Store conn.old) (state S.Store conn.new)) }
-    ensures stop { HasCleanDisk (state S.Store conn.new) → IsOlder carried (state S.Store conn.old) → LeavesEither (state S.Store conn.old) (state S.Store conn.new) }
+    ensures turns { HasCleanDisk (state S.Store conn.new)
+        → IsOlder carried (state S.Store conn.old)
+        → CarriesOlder (state S.Store conn.old) (state S.Store conn.new) result }
     ensures kinds { IfErr result (λ refusal. IsAdoptFault (told refusal)) }
     ensures clean { WasClean (state S.Store conn.old) (state S.Store conn.new) }
 {
@@ -81,7 +84,9 @@ pub(crate) fn carry<S: Alter>(
 
 /// Rolls back a transaction whose rows aren't sound records. `NotOurs`, or the rollback's error.
 fn unsound<S: Alter>(conn: &mut Connection<S>) -> Refusal
-    ensures gone { (first : Held _) → HasCleanDisk (state S.Store conn.new) → GoesOn (state S.Store first) (state S.Store conn.old) → IsGone (state S.Store first) (state S.Store conn.new) }
+    ensures gone { (first : Held _) → HasCleanDisk (state S.Store conn.new)
+        → GoesOn (state S.Store first) (state S.Store conn.old)
+        → IsGone (state S.Store first) (state S.Store conn.new) }
     ensures survives { Survives (state S.Store conn.old) (state S.Store conn.new) (λ _. ⊥) }
     ensures kinds { IsOfRows (told result) }
 {
@@ -111,13 +116,13 @@ fn version_of(value: i64) -> Result<bool, VaultFault>
 /// The older version of the store's one mark: true for 1, false for 2. `OldVersion` where our mark
 /// has an unknown version; `NotOurs` where it has our version, is missing or isn't alone.
 fn find_older<S: Alter>(alloc: Global, conn: &mut Connection<S>) -> Result<bool, Refusal>
-    ensures judged { HasCleanDisk (state S.Store conn.new) → HasOldTables (state S.Store conn.old) → IsMarkedOlder (rows_in (state S.Store conn.old).now.trees) (answer_of result) }
-    ensures same { HasCleanDisk (state S.Store conn.new) → HasOldTables (state S.Store conn.old) → OnOk result (IsUnchanged (state S.Store conn.old) (state S.Store conn.new)) }
-    ensures err { HasCleanDisk (state S.Store conn.new) → HasOldTables (state S.Store conn.old) → OnErr result (IsUndone (state S.Store conn.old) (state S.Store conn.new)) }
-    ensures stop { HasCleanDisk (state S.Store conn.new) → IsOld (state S.Store conn.old).now → LeavesNoMore (state S.Store conn.old) (state S.Store conn.new) }
+    ensures asks { AsksOlder S.Store conn.old conn.new result }
+    ensures judged { HasCleanDisk (state S.Store conn.new) → HasOldTables (state S.Store conn.old)
+        → IsMarkedOlder (rows_in (state S.Store conn.old).now.trees) (answer_of result) }
     ensures kinds { IfErr result (λ refusal. IsAdoptFault (told refusal)) }
-    ensures clean { WasClean (state S.Store conn.old) (state S.Store conn.new) }
-    ensures unknown { HasCleanDisk (state S.Store conn.new) → IsOfUnknownVersion (state S.Store conn.old) → (IsTrue (state S.Store conn.old).is_open → (state S.Store conn.old).now ≡ (state S.Store conn.old).committed) → IsVersionRefused (state S.Store conn.old) (state S.Store conn.new) (answer_of result) }
+    ensures unknown { HasCleanDisk (state S.Store conn.new)
+        → IsOfUnknownVersion (state S.Store conn.old) → IsAllCommitted (state S.Store conn.old)
+        → IsVersionRefused (state S.Store conn.old) (state S.Store conn.new) (answer_of result) }
 {
     let carried = match meta::find_mark(alloc, conn, b"popbox") {
         Ok(Some(mark)) => match version_of(mark.value) {
@@ -142,7 +147,8 @@ fn find_older<S: Alter>(alloc: Global, conn: &mut Connection<S>) -> Result<bool,
 /// Whether the store has the tables of version 1 (`carried`) or of version 2 (not `carried`).
 fn has_older_columns<S: Alter>(conn: &Connection<S>, carried: bool) -> bool
     ensures fits { (state S.Store conn.now).now.schema ≡ old_schema carried → result ≡ true }
-    ensures order { (c : Bool) → (state S.Store conn.now).now.schema ≡ old_schema c → result ≡ true → c ≡ carried }
+    ensures order { (c : Bool) → (state S.Store conn.now).now.schema ≡ old_schema c
+        → result ≡ true → c ≡ carried }
 {
     if carried {
         has_first_columns(conn)
@@ -154,12 +160,15 @@ fn has_older_columns<S: Alter>(conn: &Connection<S>, carried: bool) -> bool
 /// Carries a store without all our tables over, where its tables and its one mark are those of an
 /// older version. Else `OldVersion` for a mark of ours of an unknown version, or `NotOurs`.
 pub(crate) fn carry_marked<S: Alter>(alloc: Global, conn: &mut Connection<S>) -> Result<(), Refusal>
-    ensures carried { HasCleanDisk (state S.Store conn.new) → HasOlder (state S.Store conn.old) → (state S.Store conn.old).in_transaction ≡ false → (IsTrue (state S.Store conn.old).is_open → (state S.Store conn.old).now ≡ (state S.Store conn.old).committed) → CarriesOver (state S.Store conn.old) (state S.Store conn.new) (answer_of result) }
-    ensures stays { HasCleanDisk (state S.Store conn.new) → HasOlder (state S.Store conn.old) → (state S.Store conn.old).in_transaction ≡ false → (IsTrue (state S.Store conn.old).is_open → (state S.Store conn.old).now ≡ (state S.Store conn.old).committed) → OnErr result (StaysAs (state S.Store conn.old) (state S.Store conn.new)) }
-    ensures stop { HasCleanDisk (state S.Store conn.new) → HasOlder (state S.Store conn.old) → (state S.Store conn.old).in_transaction ≡ false → (IsTrue (state S.Store conn.old).is_open → (state S.Store conn.old).now ≡ (state S.Store conn.old).committed) → LeavesEither (state S.Store conn.old) (state S.Store conn.new) }
+    ensures turns { HasCleanDisk (state S.Store conn.new) → HasOlder (state S.Store conn.old)
+        → (state S.Store conn.old).in_transaction ≡ false
+        → IsAllCommitted (state S.Store conn.old)
+        → CarriesOlder (state S.Store conn.old) (state S.Store conn.new) result }
     ensures kinds { IfErr result (λ refusal. IsAdoptFault (told refusal)) }
     ensures clean { WasClean (state S.Store conn.old) (state S.Store conn.new) }
-    ensures unknown { HasCleanDisk (state S.Store conn.new) → IsOfUnknownVersion (state S.Store conn.old) → (IsTrue (state S.Store conn.old).is_open → (state S.Store conn.old).now ≡ (state S.Store conn.old).committed) → IsVersionRefused (state S.Store conn.old) (state S.Store conn.new) (answer_of result) }
+    ensures unknown { HasCleanDisk (state S.Store conn.new)
+        → IsOfUnknownVersion (state S.Store conn.old) → IsAllCommitted (state S.Store conn.old)
+        → IsVersionRefused (state S.Store conn.old) (state S.Store conn.new) (answer_of result) }
 {
     let carried = match find_older(alloc, conn) {
         Ok(carried) => carried,

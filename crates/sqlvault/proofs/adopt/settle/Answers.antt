@@ -162,15 +162,15 @@ returns-then-not-has_columns-clause-clean g c clean =
 
 pub returns-then-not-has_columns-clause-carried : goal.returns-then-not-has_columns-clause-carried
 returns-then-not-has_columns-clause-carried g c clean older out =
-    c.carry_marked.ensures.carried clean older out (c.is_autocommit.ensures.settled c.if-not-is_autocommit.false)
+    (c.carry_marked.ensures.turns clean older out (c.is_autocommit.ensures.settled c.if-not-is_autocommit.false)).carried
 
 pub returns-then-not-has_columns-clause-carried_stays : goal.returns-then-not-has_columns-clause-carried_stays
 returns-then-not-has_columns-clause-carried_stays g c clean older out =
-    c.carry_marked.ensures.stays clean older out (c.is_autocommit.ensures.settled c.if-not-is_autocommit.false)
+    (c.carry_marked.ensures.turns clean older out (c.is_autocommit.ensures.settled c.if-not-is_autocommit.false)).stays
 
 pub returns-then-not-has_columns-clause-carried_stop : goal.returns-then-not-has_columns-clause-carried_stop
 returns-then-not-has_columns-clause-carried_stop g c clean older out =
-    c.carry_marked.ensures.stop clean older out (c.is_autocommit.ensures.settled c.if-not-is_autocommit.false)
+    (c.carry_marked.ensures.turns clean older out (c.is_autocommit.ensures.settled c.if-not-is_autocommit.false)).stop
 
 pub returns-then-not-is_autocommit-clause-carried : goal.returns-then-not-is_autocommit-clause-carried
 returns-then-not-is_autocommit-clause-carried g c clean older out =

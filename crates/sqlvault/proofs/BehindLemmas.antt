@@ -1,0 +1,36 @@
+-- What is found of the rows behind queries that changed nothing is so of the rows before them.
+use Rattle.std.proofs.Common.{◌≡◌, Bool, Result, Ok, sym, subst}
+use Rattle.sqlite_trees.specs.declared.store.Store.{Ghosts}
+use Rattle.sqlite.specs.Held.{Held, state}
+use Rattle.sqlite.specs.State.{HasCleanDisk}
+use Rattle.mailsql.specs.Apart.{AreApart}
+use Rattle.mailsql.specs.Rows.{Rows, HasTables, rows_in}
+use Rattle.sqlvault.specs.Frame.{Asks}
+use Rattle.sqlvault.specs.Parts.{Finds}
+use Rattle.sqlvault.proofs.AdoptLemmas.{tables_on, rows_on}
+
+-- whatever is said of them
+pub said_behind : {S A E : Type 0} {store : Ghosts S} {old new : Held S} {x : A}
+    (P : Rows → Type 0) → (let r : Result A E = Ok x in Asks store old new r)
+    → HasCleanDisk (state store new) → HasTables (state store old)
+    → AreApart (rows_in (state store old).now.trees)
+    → (HasTables (state store new) → AreApart (rows_in (state store new).now.trees)
+    → P (rows_in (state store new).now.trees)) → P (rows_in (state store old).now.trees)
+said_behind {store = store} {old = old} {new = new} P a clean tables apart said =
+    let same = a.same clean tables in
+    let rows = rows_on (state store old) (state store new) same in
+    subst P rows (said (tables_on (state store old) (state store new) same tables)
+    (subst AreApart (sym rows) apart))
+
+-- whether there are such records
+pub found_behind : {S A E X : Type 0} {store : Ghosts S} {old new : Held S} {x : A}
+    (Are : Rows → X → Type 0) (b is : Bool) → b ≡ is
+    → (let r : Result A E = Ok x in Asks store old new r)
+    → HasCleanDisk (state store new) → HasTables (state store old)
+    → AreApart (rows_in (state store old).now.trees)
+    → (HasTables (state store new) → AreApart (rows_in (state store new).now.trees)
+    → Finds (Are (rows_in (state store new).now.trees)) b)
+    → Finds (Are (rows_in (state store old).now.trees)) is
+found_behind {store = store} {old = old} Are b is test a clean tables apart found =
+    subst (Finds (Are (rows_in (state store old).now.trees))) test
+    (said_behind (λ rows. Finds (Are rows) b) a clean tables apart found)
