@@ -1,5 +1,5 @@
 -- What the parts of a turn do together.
-use Rattle.std.proofs.Common.{◌≡◌, ◌||◌, ℕ, zero, suc, ◌+◌, ◌<◌, ◌≤◌, Bool, true, false, not, List, [], ◌∷◌, ◌++◌, length, map, refl, sym, ◌∙◌, ap, arith, Some, None, Option, ⊎_elim, ◌⊎◌, inl, inr, subst, append_assoc}
+use Rattle.std.proofs.Common.{◌≡◌, ◌||◌, ℕ, zero, suc, ◌+◌, ◌<◌, ◌≤◌, Bool, true, false, not, List, [], ◌∷◌, ◌++◌, length, map, refl, sym, ◌∙◌, ap, arith, Some, None, Option, ⊎_elim, ◌⊎◌, inl, inr, subst, append_assoc, true≢false}
 use Rattle.std.specs.Bool.{⊤}
 use Rattle.std.specs.List.{All, Contains, list_any, filter, filter_map}
 use Rattle.std.proofs.lemmas.List.{append-nil}
@@ -17,7 +17,7 @@ use Rattle.serving.specs.Calls.{Call, Waited}
 use Rattle.serving.specs.declared.links.Seat.{Seat}
 use Rattle.serving.specs.declared.links.Links.{Links}
 use Rattle.serving.specs.declared.newcomers.Newcomer.{Newcomer}
-use Rattle.serving.specs.Works.{is_beside, waits, wait_of, arrivals, arrival_of, closings, closing_of, none_waited, tells_none, is_cut_of, is_cut, moments, moment_of, openings, is_opening, refusals, is_refusal, HasCause, AreCaused, WasGiven, WasAsked, Part, Asking, Giving, IsQuiet, IsQuietFor, IsPassed, Came, seat_of, unseated_of, link_of, HasAccepted, AreAccepted, most_links, HadTurn, WereServed, AreDeposits, is_open_seat, is_shut_seat, closing, AreClosed, link_of_seat, IsLateGone, AreLateGone}
+use Rattle.serving.specs.Works.{is_beside, waits, wait_of, arrivals, arrival_of, closings, closing_of, none_waited, tells_none, is_cut_of, is_cut, moments, moment_of, openings, is_opening, refusals, is_refusal, HasCause, AreCaused, WasGiven, WasAsked, Part, Asking, Giving, IsQuiet, IsQuietFor, IsPassed, Came, seat_of, unseated_of, link_of, HasAccepted, AreAccepted, most_links, HadTurn, WereServed, AreDeposits, is_open_seat, is_shut_seat, closing, AreClosed, link_of_seat, IsLateGone, AreLateGone, Also, PressedBy, has_moved, is_moving}
 use Rattle.serving.specs.Spools.{FileCall}
 use Rattle.serving.specs.HttpWorks.{AskedApart, DidApart, HasAcceptedBeside, HadHttpTurns}
 use Rattle.serving.specs.declared.requests.Exchange.{Exchange}
@@ -25,6 +25,7 @@ use Rattle.serving.specs.Settings.{settings, last_tried}
 use Rattle.serving.specs.SpoolTurns.{IsSpoolTurn, has_dealt, SpoolPart}
 use Rattle.serving.specs.Turns.{way_of, millis_of, HasCauseInTurn, IsTurn, Works}
 use Rattle.serving.proofs.Staying.{Fewer, deposit_same}
+use Rattle.serving.proofs.Resting.{rests_so, waits_then, not_true}
 use Rattle.serving.proofs.Freeing.{freed_left, freed_right}
 use Rattle.serving.specs.Newcomers.{newcomer}
 use Rattle.serving.specs.Late.{HasLived, IsInTime, HasEndedLate}
@@ -146,19 +147,19 @@ no_wait links e = rw e refl
 -- ---- the turn
 
 module _ {V W S : Type 0} (Holds : V → Contents → Type 0) (IsClean : V → Type 0) (Faults : V → ℕ) (Asked : W → List Call → Type 0) (AskedFiles : S → List FileCall → Type 0) where
-  pub turn_done : (T : Trace) (now : ℕ) (links links_then : Links) (o o1 o2 o3 o4 o5 o6 : Office V) (w w1 w2 w3 w4 w5 w6 : W) (f f1 : S) (seats2 : List Seat) (goes : Bool) (held : List Exchange) (more freed pressed : Bool) (n1 n2 : List Newcomer)
+  pub turn_done : (T : Trace) (now : ℕ) (links links_then : Links) (o o1 o2 o3 o4 o5 o6 : Office V) (w w1 w2 w3 w4 w5 w6 : W) (f f1 : S) (seats2 : List Seat) (goes : Bool) (held : List Exchange) (more freed pressing pressed : Bool) (n1 n2 : List Newcomer)
       → Part Holds IsClean Faults Asked o w o1 w1 (IsPassed (millis_of links) now)
       → Part Holds IsClean Faults Asked o1 w1 o2 w2 (AreAccepted Holds IsClean o1 o2 links.clients.seats.items seats2 64 goes)
       → Asking Asked w2 w3 (AskedApart (HasAcceptedBeside now 64 more links.requests.exchanges.items held))
-      → Part Holds IsClean Faults Asked o2 w3 o3 w4 (WereServed Holds IsClean o2 o3 (settings links) freed seats2 seats2)
-      → Part Holds IsClean Faults Asked o3 w4 o4 w5 (DidApart Holds IsClean o3 o4 (λ B L. HadHttpTurns now B L held links_then.requests.exchanges.items))
+      → Part Holds IsClean Faults Asked o2 w3 o3 w4 (Also (WereServed Holds IsClean o2 o3 (settings links) freed seats2 seats2) (PressedBy freed pressing))
+      → Part Holds IsClean Faults Asked o3 w4 o4 w5 (Also (DidApart Holds IsClean o3 o4 (λ B L. HadHttpTurns now B L held links_then.requests.exchanges.items)) (PressedBy false links_then.requests.presses))
       → ((c : ℕ) (n : Newcomer) → newcomer c links.clients.newcomers.newcomers.items ≡ Some n → newcomer c n1 ≡ Some n)
       → Giving Holds IsClean Faults o4 o5 (λ g. AreLateGone now links.clients.newcomers.seconds links.clients.newcomers.newcomers.items g × HasEndedLate Holds IsClean o4 o5 now links.clients.newcomers.seconds n1 n2 seats2 g)
       → ((U : Trace) → StandsFor Holds o5 U → (c : ℕ) → is_open U c ≡ true → newcomer c links_then.clients.newcomers.newcomers.items ≡ newcomer c n2)
-      → ((U : Trace) → StandsFor Holds o5 U → Asking Asked w5 w6 (AreClosed U seats2 links_then.clients.seats.items))
+      → ((U : Trace) → StandsFor Holds o5 U → Asking Asked w5 w6 (λ calls. AreClosed U seats2 links_then.clients.seats.items calls × PressedBy pressing pressed calls))
       → SpoolPart Holds IsClean Faults AskedFiles o5 f o6 f1 (λ U given calls. IsSpoolTurn (last_tried links) (last_tried links_then) U given calls × (links_then.clients.presses ≡ (pressed || has_dealt calls)))
       → StandsFor Holds o T → IsClean (vault_of o6) → Works Holds Faults Asked AskedFiles T now links o w f o6 links_then w6 f1
-  turn_done T now links links_then o o1 o2 o3 o4 o5 o6 w w1 w2 w3 w4 w5 w6 f f1 seats2 goes held more freed pressed n1 n2 pass acc asked served reqs keeps late forgets close spool s k6 =
+  turn_done T now links links_then o o1 o2 o3 o4 o5 o6 w w1 w2 w3 w4 w5 w6 f f1 seats2 goes held more freed pressing pressed n1 n2 pass acc asked served reqs keeps late forgets close spool s k6 =
       let B = T.base in
       let L = T.log in
       let seconds = links.clients.newcomers.seconds in
@@ -209,7 +210,7 @@ module _ {V W S : Type 0} (Holds : V → Contents → Type 0) (IsClean : V → T
       let log_is : G4 ++ L ≡ gs ++ (gz ++ (G3 ++ L)) = append_assoc gx G3 L ∙ append_assoc gs gz (G3 ++ L) in
       let same : (c : ℕ) → is_open after c ≡ is_open trace4 c = λ c. ap (λ l. is_open (trace_of B l) c) log_is ∙ same_open B (gz ++ (G3 ++ L)) gs spool.deposits c in
       let fewer_late : Fewer B (G3 ++ L) (gz ++ (G3 ++ L)) = fewer_gone B (G3 ++ L) gz now seconds newcomers (late.was_given.admitted B (G3 ++ L) s4 k5) late.facts.0 in
-      let fewer : Fewer B (G2 ++ L) (gr ++ (G2 ++ L)) = fewer_quiet B (G2 ++ L) gr [] cr (reqs.was_given.admitted B (G2 ++ L) s3 k4) reqs.facts.caused reqs.facts.quiet.no_openings in
+      let fewer : Fewer B (G2 ++ L) (gr ++ (G2 ++ L)) = fewer_quiet B (G2 ++ L) gr [] cr (reqs.was_given.admitted B (G2 ++ L) s3 k4) reqs.facts.0.caused reqs.facts.0.quiet.no_openings in
       let to_links : (c : ℕ) → is_open after c ≡ true → is_open (trace_of B (gl ++ (G1 ++ L))) c ≡ true = λ c here.
       (let h4 : is_open trace4 c ≡ true = sym (same c) ∙ here in
       let h3 : is_open (trace_of B (G3 ++ L)) c ≡ true = fewer_late c h4 in
@@ -218,19 +219,19 @@ module _ {V W S : Type 0} (Holds : V → Contents → Type 0) (IsClean : V → T
       let cut : (l : Link) → is_cut l cl ≡ true → is_cut l C5 ≡ true = λ l h. seen_fourth cp ca cq cl cr cx (is_cut_of l) h in
       let none : (q : Seat) → Contains [] q → Contains seats2 q = λ q h. absurd (none_contained q h) in
       let caused_s : AreCaused seats2 C5 gs = caused_more [] seats2 [] C5 gs none (λ l h. cc) quiet.caused in
-      let caused_r : AreCaused seats2 C5 gr = caused_more [] seats2 cr C5 gr none (λ l h. seen_fifth cp ca cq cl cr cx (is_cut_of l) h) reqs.facts.caused in
-      let caused_l : AreCaused seats2 C5 gl = caused_more seats2 seats2 cl C5 gl (λ q h. h) cut served.facts.turns.of_seats.caused in
+      let caused_r : AreCaused seats2 C5 gr = caused_more [] seats2 cr C5 gr none (λ l h. seen_fifth cp ca cq cl cr cx (is_cut_of l) h) reqs.facts.0.caused in
+      let caused_l : AreCaused seats2 C5 gl = caused_more seats2 seats2 cl C5 gl (λ q h. h) cut served.facts.0.turns.of_seats.caused in
       let caused_a : AreCaused seats2 C5 ga = caused_more [] seats2 ca C5 ga none (λ l h. seen_second cp ca cq cl cr cx (is_cut_of l) h) come.caused in
       let caused_p : AreCaused seats2 C5 gp = subst (AreCaused seats2 C5) (sym pass.facts.given_is) (All-cons (HasCause seats2 C5) (event.Tick now, pass.facts.mark) [] tt (All-nil (HasCause seats2 C5))) in
       let P = HasCause seats2 C5 in
       let Q = HasCauseInTurn now links seats2 C5 in
       let by_cause : (g : Log) → All P g → All Q g = λ g h. All-weaker P Q (λ y p. inl p) g h in
       let caused_z : All Q gz = All-weaker (IsLateGone now seconds newcomers) Q (λ y p. inr p) gz late.facts.0 in
-      let lq = served.facts.turns.of_seats.quiet in
-      let rq = reqs.facts.quiet in
-      let waits_x : waits cx ≡ [] = ap waits x.facts.calls_are ∙ waits_of (filter (is_shut_seat trace4) seats2) in
-      let arrivals_x : arrivals cx ≡ [] = ap arrivals x.facts.calls_are ∙ arrivals_of (filter (is_shut_seat trace4) seats2) in
-      let closings_x : closings cx ≡ map link_of_seat (filter (is_shut_seat trace4) seats2) = ap closings x.facts.calls_are ∙ closings_of (filter (is_shut_seat trace4) seats2) in
+      let lq = served.facts.0.turns.of_seats.quiet in
+      let rq = reqs.facts.0.quiet in
+      let waits_x : waits cx ≡ [] = ap waits x.facts.0.calls_are ∙ waits_of (filter (is_shut_seat trace4) seats2) in
+      let arrivals_x : arrivals cx ≡ [] = ap arrivals x.facts.0.calls_are ∙ arrivals_of (filter (is_shut_seat trace4) seats2) in
+      let closings_x : closings cx ≡ map link_of_seat (filter (is_shut_seat trace4) seats2) = ap closings x.facts.0.calls_are ∙ closings_of (filter (is_shut_seat trace4) seats2) in
       let waits_p : waits cp ≡ millis ∷ [] = ap waits pass.facts.calls_are in
       let arrivals_p : arrivals cp ≡ [] = ap arrivals pass.facts.calls_are in
       let closings_p : closings cp ≡ [] = ap closings pass.facts.calls_are in
@@ -260,6 +261,9 @@ module _ {V W S : Type 0} (Holds : V → Contents → Type 0) (IsClean : V → T
           is = append_assoc gs gz G3;
           tries = filed.0;
         };
+        rests = λ m f d. waits_then links_then (filed.1 ∙ rests_so pressing freed pressed (has_dealt spool.calls) (has_moved cl) (has_moved cx) (has_moved C5) served.facts.1 x.facts.1
+            (λ q. seen_fourth cp ca cq cl cr cx is_moving q) (λ q. any_right is_moving ((((cp ++ ca) ++ cq) ++ cl) ++ cr) cx q) m f d)
+            (not_true links_then.requests.presses (λ e. true≢false (sym (seen_fifth cp ca cq cl cr cx is_moving (reqs.facts.1 e)) ∙ m)));
         dealt = λ e. no_wait links_then (filed.1 ∙ (ap (λ b. pressed || b) e ∙ or_true pressed));
         http = record {
           held = held;
@@ -271,13 +275,13 @@ module _ {V W S : Type 0} (Holds : V → Contents → Type 0) (IsClean : V → T
           goes = more;
           calls_are = append_assoc (((cp ++ ca) ++ cq) ++ cl) cr cx ∙ (append_assoc ((cp ++ ca) ++ cq) cl (cr ++ cx) ∙ append_assoc (cp ++ ca) cq (cl ++ (cr ++ cx)));
           apart = none_of is_beside (cp ++ ca) (cl ++ cx) (none_of is_beside cp ca (ap (list_any is_beside) pass.facts.calls_are) come.apart)
-              (none_of is_beside cl cx served.facts.turns.of_seats.apart (ap (list_any is_beside) x.facts.calls_are ∙ apart_of (filter (is_shut_seat trace4) seats2)));
+              (none_of is_beside cl cx served.facts.0.turns.of_seats.apart (ap (list_any is_beside) x.facts.0.calls_are ∙ apart_of (filter (is_shut_seat trace4) seats2)));
           earlier = G2;
           commands = gr;
           later = gx;
           given_are = refl;
           accepted = asked.facts.1;
-          served = reqs.facts.did B (G2 ++ L) s3 k4;
+          served = reqs.facts.0.did B (G2 ++ L) s3 k4;
         };
         is = record {
           seats_are = come.seated;
@@ -324,14 +328,14 @@ module _ {V W S : Type 0} (Holds : V → Contents → Type 0) (IsClean : V → T
               omega (arith, e5, e4, e3, e2, e1, a, b, z, d, f, refusals_p));
           freed = freed;
           ended = λ e. (
-            (served.facts.freed_by e).0,
-            freed_left B L G3 gx seats2 (freed_left B L G2 gr seats2 (freed_right B L G1 gl seats2 ((served.facts.freed_by e).1 B (G1 ++ L) s2 k3))),
+            (served.facts.0.freed_by e).0,
+            freed_left B L G3 gx seats2 (freed_left B L G2 gr seats2 (freed_right B L G1 gl seats2 ((served.facts.0.freed_by e).1 B (G1 ++ L) s2 k3))),
           );
           turns = All-weaker (HadTurn way B (G1 ++ L) gl (trace_of B (gl ++ (G1 ++ L))) cl) (HadTurn way B L G4 after C5)
               (λ q h here.
               turned_left way B L G3 gx ((((cp ++ ca) ++ cq) ++ cl) ++ cr) cx q
               (turned_left way B L G2 gr (((cp ++ ca) ++ cq) ++ cl) cr q (turned_right way B L G1 gl ((cp ++ ca) ++ cq) cl q (h (to_links q.connection here)))))
-              seats2 (served.facts.turns.turns B (G1 ++ L) s2 k3);
+              seats2 (served.facts.0.turns.turns B (G1 ++ L) s2 k3);
           caused = All-append Q gx G3 (All-append Q gs gz (by_cause gs caused_s) caused_z)
               (All-append Q gr G2 (by_cause gr caused_r) (All-append Q gl G1 (by_cause gl caused_l) (All-append Q ga gp (by_cause ga caused_a) (by_cause gp caused_p))));
           closed = filter_map-append closing_of ((((cp ++ ca) ++ cq) ++ cl) ++ cr) cx
@@ -347,6 +351,6 @@ module _ {V W S : Type 0} (Holds : V → Contents → Type 0) (IsClean : V → T
               (λ (e : newcomer c n2 ≡ newcomer c n1). inl (forgets trace4 s5 c (sym (same c) ∙ here) ∙ (e ∙ keeps c n is)))
               (λ (u : HasLived B (G3 ++ L) gz c). inr (lived_right B L G3 gx c (lived_left B (G3 ++ L) gz gs c u)))
               (late.facts.1.noted B (G3 ++ L) s4 k5 c);
-          left = x.facts.left ∙ open_same;
+          left = x.facts.0.left ∙ open_same;
         };
       }

@@ -25,3 +25,4 @@ pub mod Noting
 pub mod Going
 pub mod Freeing
 pub mod Timely
+pub mod Resting

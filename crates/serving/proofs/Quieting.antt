@@ -14,7 +14,7 @@ use Rattle.serving.specs.declared.wire.Link.{Link}
 use Rattle.serving.specs.declared.wire.Port.TheVariants.{Admin}
 use Rattle.serving.specs.declared.wire.Io.{Io}
 use Rattle.serving.specs.Calls.{Call, Accepted, Read, Wrote, Closed}
-use Rattle.serving.specs.Works.{HasCause, WasGiven, Part, Asking, Giving, IsQuiet}
+use Rattle.serving.specs.Works.{HasCause, WasGiven, Part, Asking, Giving, IsQuiet, Also}
 use Rattle.serving.specs.HttpWorks.{DidApart, AskedApart}
 use Rattle.serving.proofs.Working.{given_none, asked_none, asked_one, asked_then, asking_then, part_then, quiet_then, quiet_none, caused_then}
 
@@ -117,6 +117,48 @@ module _ {V W : Type 0} (Holds : V → Contents → Type 0) (IsClean : V → Typ
     was_asked = asked_none Asked w;
     facts = record { quiet = a.facts.quiet; caused = a.facts.caused; did = λ B L s k. (refl, a.facts.did B L s k) };
   }
+
+  -- of which this holds besides
+  pub also_asked : (o : Office V) (w w1 : W) (F M : List Call → Type 0)
+      → Asking Asked w w1 (AskedApart (λ c. F c × M c)) → Part Holds IsClean Faults Asked o w o w1 (Also (DidApart Holds IsClean o o (NoEvent F)) M)
+  also_asked o w w1 F M a = record {
+    given = [];
+    calls = a.calls;
+    was_given = given_none Holds IsClean Faults o;
+    was_asked = a.was_asked;
+    facts = (record { quiet = a.facts.0; caused = All-nil (HasCause [] a.calls); did = λ B L s k. (refl, a.facts.1.0) }, a.facts.1.1);
+  }
+
+  pub also_then : (o o1 o2 : Office V) (w w1 w2 : W) (D E F : Records → Log → Log → List Call → Type 0) (M N K : List Call → Type 0)
+      → ((B : Records) (L g1 g2 : Log) (c1 c2 : List Call) → D B L g1 c1 → E B (g1 ++ L) g2 c2 → F B L (g2 ++ g1) (c1 ++ c2)) → ((c1 c2 : List Call) → M c1 → N c2 → K (c1 ++ c2))
+      → Part Holds IsClean Faults Asked o w o1 w1 (Also (DidApart Holds IsClean o o1 D) M) → Part Holds IsClean Faults Asked o1 w1 o2 w2 (Also (DidApart Holds IsClean o1 o2 E) N)
+      → Part Holds IsClean Faults Asked o w o2 w2 (Also (DidApart Holds IsClean o o2 F) K)
+  also_then o o1 o2 w w1 w2 D E F M N K join more a b =
+      part_then Holds IsClean Faults Asked o o1 o2 w w1 w2 (Also (DidApart Holds IsClean o o1 D) M) (Also (DidApart Holds IsClean o1 o2 E) N) (Also (DidApart Holds IsClean o o2 F) K)
+      (λ g1 g2 c1 c2 wa wb p q. (
+        record {
+          quiet = quiet_then g1 g2 c1 c2 p.0.quiet q.0.quiet;
+          caused = caused_then [] g1 g2 c1 c2 p.0.caused q.0.caused;
+          did = λ B L s k. join B L g1 g2 c1 c2 (p.0.did B L s (wb.clean k)) (q.0.did B (g1 ++ L) (wa.stands B L s (wb.clean k)) k);
+        },
+        more c1 c2 p.1 q.1,
+      ))
+      a b
+
+  pub also_so : (o o1 : Office V) (w w1 : W) (D E : Records → Log → Log → List Call → Type 0) (M N : List Call → Type 0) → ((B : Records) (L g : Log) (c : List Call) → D B L g c → E B L g c)
+      → ((c : List Call) → M c → N c)
+      → Part Holds IsClean Faults Asked o w o1 w1 (Also (DidApart Holds IsClean o o1 D) M) → Part Holds IsClean Faults Asked o w o1 w1 (Also (DidApart Holds IsClean o o1 E) N)
+  also_so o o1 w w1 D E M N so more a = record {
+    given = a.given;
+    calls = a.calls;
+    was_given = a.was_given;
+    was_asked = a.was_asked;
+    facts = (record { quiet = a.facts.0.quiet; caused = a.facts.0.caused; did = λ B L s k. so B L a.given a.calls (a.facts.0.did B L s k) }, more a.calls a.facts.1);
+  }
+
+  pub also_from : (o o1 : Office V) (w w1 : W) (D : Records → Log → Log → List Call → Type 0) (M : List Call → Type 0) → ((c : List Call) → M c)
+      → Part Holds IsClean Faults Asked o w o1 w1 (DidApart Holds IsClean o o1 D) → Part Holds IsClean Faults Asked o w o1 w1 (Also (DidApart Holds IsClean o o1 D) M)
+  also_from o o1 w w1 D M more a = record { given = a.given; calls = a.calls; was_given = a.was_given; was_asked = a.was_asked; facts = (a.facts, more a.calls) }
 
   pub did_then : (o o1 o2 : Office V) (w w1 w2 : W) (D E F : Records → Log → Log → List Call → Type 0)
       → ((B : Records) (L g1 g2 : Log) (c1 c2 : List Call) → D B L g1 c1 → E B (g1 ++ L) g2 c2 → F B L (g2 ++ g1) (c1 ++ c2))

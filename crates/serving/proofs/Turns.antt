@@ -23,7 +23,7 @@ use Rattle.serving.specs.declared.wire.Io.TheVariants.{Count, Later}
 use Rattle.serving.specs.Calls.{Call, Waited, Looked, Accepted, Read, Wrote, Closed}
 use Rattle.serving.specs.declared.links.Seat.{Seat}
 use Rattle.serving.specs.Wires.{is_fault, opened_by}
-use Rattle.serving.specs.Works.{waits, arrivals, arrival_of, closings, closing_of, none_waited, tells_none, is_read_of, is_later_of, is_taking_of, is_cut_of, is_cut, most_writes, octets_taken, had_its_turn, moments, openings, is_opening, refusals, is_refusal, AreNewlyAdmitted, HasCause, AreCaused, WasGiven, WasAsked, Part, Asking, Giving, IsQuiet, IsQuietFor, Came, seat_of, unseated_of, link_of, HaveCome, HasAccepted, AreAccepted, OwesNothing, IsWritten, IsWrittenOut, IsNotReady, IsUnread, IsHeard, IsKeptBack, StaysUnread, Way, HadTurn, HadTurns}
+use Rattle.serving.specs.Works.{Also, waits, arrivals, arrival_of, closings, closing_of, none_waited, tells_none, is_read_of, is_later_of, is_taking_of, is_cut_of, is_cut, most_writes, octets_taken, had_its_turn, moments, openings, is_opening, refusals, is_refusal, AreNewlyAdmitted, HasCause, AreCaused, WasGiven, WasAsked, Part, Asking, Giving, IsQuiet, IsQuietFor, Came, seat_of, unseated_of, link_of, HaveCome, HasAccepted, AreAccepted, OwesNothing, IsWritten, IsWrittenOut, IsNotReady, IsUnread, IsHeard, IsKeptBack, StaysUnread, Way, HadTurn, HadTurns}
 use Rattle.office.specs.Waiting as waiting
 use Rattle.office.specs.Logins.{brings_login}
 use Rattle.serving.proofs.Staying.{Fewer}
@@ -351,16 +351,16 @@ module _ {V : Type 0} (Holds : V → Contents → Type 0) (IsClean : V → Type 
 -- ---- what was looked at first
 
 module _ {V W : Type 0} (Holds : V → Contents → Type 0) (IsClean : V → Type 0) (Faults : V → ℕ) (Asked : W → List Call → Type 0) where
-  pub heard_asked : (o : Office V) (w w1 : W) (seat : Seat) (wait : ℕ) (may : Bool) (calls : List Call) → WasAsked Asked w w1 calls → IsHeard Holds o seat wait may [] calls
-      → Part Holds IsClean Faults Asked o w o w1 (IsHeard Holds o seat wait may)
-  heard_asked o w w1 seat wait may calls asked a = record { given = []; calls = calls; was_given = given_none Holds IsClean Faults o; was_asked = asked; facts = a }
+  pub heard_asked : (o : Office V) (w w1 : W) (seat : Seat) (wait : ℕ) (may : Bool) (N : List Call → Type 0) (calls : List Call) → WasAsked Asked w w1 calls → IsHeard Holds o seat wait may [] calls → N calls
+      → Part Holds IsClean Faults Asked o w o w1 (Also (IsHeard Holds o seat wait may) N)
+  heard_asked o w w1 seat wait may N calls asked a n = record { given = []; calls = calls; was_given = given_none Holds IsClean Faults o; was_asked = asked; facts = (a, n) }
 
-  pub heard_after : (o o1 : Office V) (w w1 w2 : W) (seat : Seat) (wait : ℕ) (may : Bool) (looks : List Call) → IsQuietFor (seat ∷ []) [] looks → WasAsked Asked w w1 looks
-      → Part Holds IsClean Faults Asked o w1 o1 w2 (IsHeard Holds o seat wait may) → Part Holds IsClean Faults Asked o w o1 w2 (IsHeard Holds o seat wait may)
-  heard_after o o1 w w1 w2 seat wait may looks quiet asked a = record {
+  pub heard_after : (o o1 : Office V) (w w1 w2 : W) (seat : Seat) (wait : ℕ) (may : Bool) (M N : List Call → Type 0) (looks : List Call) → ((c : List Call) → M c → N (looks ++ c)) → IsQuietFor (seat ∷ []) [] looks → WasAsked Asked w w1 looks
+      → Part Holds IsClean Faults Asked o w1 o1 w2 (Also (IsHeard Holds o seat wait may) M) → Part Holds IsClean Faults Asked o w o1 w2 (Also (IsHeard Holds o seat wait may) N)
+  heard_after o o1 w w1 w2 seat wait may M N looks more quiet asked a = record {
     given = a.given;
     calls = looks ++ a.calls;
     was_given = a.was_given;
     was_asked = asked_then Asked w w1 w2 looks a.calls asked a.was_asked;
-    facts = heard_behind Holds IsClean Faults wait may o seat a.given looks a.calls quiet a.facts;
+    facts = (heard_behind Holds IsClean Faults wait may o seat a.given looks a.calls quiet a.facts.0, more a.calls a.facts.1);
   }

@@ -14,7 +14,7 @@ use Rattle.serving.specs.Settings.{settings, last_tried}
 use Rattle.serving.specs.declared.wire.Link.{Link}
 use Rattle.serving.specs.declared.links.Seat.{Seat}
 use Rattle.serving.specs.declared.links.Links.{Links}
-use Rattle.serving.specs.Works.{waits, arrivals, closings, moments, openings, refusals, AreNewlyAdmitted, HasCause, IsLateGone, is_failed, WasAsked, Came, seat_of, unseated_of, link_of, HasAccepted, most_links, Way, way_by, HadTurn, HasFreed, is_open_seat, is_shut_seat, link_of_seat}
+use Rattle.serving.specs.Works.{waits, arrivals, closings, moments, openings, refusals, AreNewlyAdmitted, HasCause, IsLateGone, is_failed, WasAsked, Came, seat_of, unseated_of, link_of, HasAccepted, most_links, Way, way_by, HadTurn, HasFreed, is_open_seat, is_shut_seat, link_of_seat, has_moved}
 use Rattle.serving.specs.SpoolTurns.{IsSpoolTurn, has_dealt}
 use Rattle.serving.specs.HttpWorks.{HttpWorks}
 use Rattle.serving.specs.Newcomers.{newcomer}
@@ -95,4 +95,7 @@ pub record Works {V W S : Type 0} (Holds : V → Contents → Type 0) (Faults : 
   pub files : IsFileTurn T links links_then given file_calls
   -- behind a file that was removed or renamed the next turn doesn't wait
   pub dealt : has_dealt file_calls ≡ true → millis_of links_then ≡ 0
+  -- where nothing moved, no session ended and no file was dealt with, the next turn waits
+  pub rests : has_moved calls ≡ false → is.freed ≡ false → has_dealt file_calls ≡ false
+      → millis_of links_then ≡ 1000
   pub http : HttpWorks T now links links_then given calls

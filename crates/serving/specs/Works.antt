@@ -119,6 +119,27 @@ had_its_turn share link calls =
     ((list_any (is_read_of link) calls || list_any (is_later_of link) calls) || nat_le most_writes (length (filter (is_taking_of link) calls)))
     || nat_le share (octets_taken link calls)
 
+-- a link came or was closed, or octets were read from it or taken by it
+abbrev pub is_moving : Call → Bool
+is_moving (Accepted port (Some link)) = true
+is_moving (Read port link (Count n) octets) = true
+is_moving (Wrote port link (Count n) octets) = true
+is_moving (Closed port link) = true
+is_moving _ = false
+
+abbrev pub has_moved : List Call → Bool
+has_moved calls = list_any is_moving calls
+
+-- where it presses behind these calls, it did before, or something moved
+abbrev pub PressedBy : (pressed pressed_then : Bool) → List Call → Type 0
+PressedBy pressed pressed_then calls =
+    pressed_then ≡ true → (pressed || has_moved calls) ≡ true
+
+-- of the calls of a part this holds too
+abbrev pub Also : (Log → List Call → Type 0) → (List Call → Type 0) → Log → List Call
+    → Type 0
+Also Facts More given calls = Facts given calls × More calls
+
 -- ---- what is seen of the events of an office, the newest first
 
 -- each moment that it was told

@@ -13,7 +13,8 @@ ghost use Rattle.adminhttp.specs.declared.refusal.Refusal.TheVariants.{OutOfMemo
 ghost use Rattle.serving.specs.HttpTurns.{is_late_at, most_exchanges, GoesOnAt, TheseGoOn};
 ghost use Rattle.serving.specs.HttpWorks.{ComeTo, GivesApart, DoesApart, AsksApart, HadTurnAt};
 ghost use Rattle.serving.specs.HttpWorks.{HasAcceptedBeside, HasHeard, Tells, HasTold, HasHttpTurn};
-ghost use Rattle.serving.specs.HttpWorks.{HadHttpTurns, response_of};
+ghost use Rattle.serving.specs.HttpWorks.{HadHttpTurns, DidApart, response_of};
+ghost use Rattle.serving.specs.Works.{Part, Also, PressedBy};
 ghost use Rattle.serving.specs.Requests.{octets_of, IsToldBy, HasAsked, HasOneMore, StillAnswers};
 ghost use Rattle.serving.specs.Requests.{StillAsked, AllStillAnswer, AllStillAsked};
 
@@ -270,7 +271,8 @@ fn tell_once<W: Wire>(wire: &mut W, exchange: &mut Exchange) -> usize
 /// Writes a response as long as the link takes it, up to its share. Whether more can be written at
 /// once.
 fn tell<W: Wire>(wire: &mut W, exchange: &mut Exchange) -> bool
-    ensures works { AsksApart W.asked wire.old wire.new (HasTold exchange.old exchange.new) }
+    ensures works { AsksApart W.asked wire.old wire.new
+        (λ calls. HasTold exchange.old exchange.new calls × PressedBy false result calls) }
     ensures since { exchange.new.since ≡ exchange.old.since }
     ensures answers { StillAnswers W.tells wire.old exchange.old wire.new exchange.new }
     ensures link { exchange.new.link ≡ exchange.old.link }
@@ -298,7 +300,10 @@ fn serve_exchange<V: Vault, W: Wire>(
     exchange: &mut Exchange,
     now: u64,
 ) -> bool
-    ensures works { DoesApart V.holds V.is_clean V.faults W.asked office.old wire.old office.new wire.new (λ B L. HasHttpTurn now B L exchange.old exchange.new) }
+    ensures works { Part V.holds V.is_clean V.faults W.asked
+        office.old wire.old office.new wire.new
+        (Also (DidApart V.holds V.is_clean office.old office.new
+        (λ B L. HasHttpTurn now B L exchange.old exchange.new)) (PressedBy false result)) }
     ensures asked { StillAsked V.holds V.is_clean W.tells office.old wire.old exchange.old office.new wire.new exchange.new }
     ensures clean { V.is_clean (vault_of office.new) → V.is_clean (vault_of office.old) }
     ensures link { exchange.new.link ≡ exchange.old.link }
@@ -322,7 +327,11 @@ fn serve_place<V: Vault, W: Wire>(
     now: u64,
 ) -> bool
     requires { place < length requests.old.exchanges.items }
-    ensures works { DoesApart V.holds V.is_clean V.faults W.asked office.old wire.old office.new wire.new (HadTurnAt now place result requests.old.exchanges.items requests.new.exchanges.items) }
+    ensures works { Part V.holds V.is_clean V.faults W.asked
+        office.old wire.old office.new wire.new
+        (Also (DidApart V.holds V.is_clean office.old office.new
+        (HadTurnAt now place result requests.old.exchanges.items requests.new.exchanges.items))
+        (PressedBy requests.old.presses requests.new.presses)) }
     ensures asked { AllStillAsked V.holds V.is_clean W.tells office.old wire.old requests.old.exchanges.items office.new wire.new requests.new.exchanges.items }
     ensures clean { V.is_clean (vault_of office.new) → V.is_clean (vault_of office.old) }
     ensures left { length requests.new.exchanges.items + (if result then 0 else 1) ≡ length requests.old.exchanges.items }
@@ -348,7 +357,11 @@ pub(crate) fn serve_requests<V: Vault, W: Wire>(
     requests: &mut Requests,
     now: u64,
 )
-    ensures works { DoesApart V.holds V.is_clean V.faults W.asked office.old wire.old office.new wire.new (λ B L. HadHttpTurns now B L requests.old.exchanges.items requests.new.exchanges.items) }
+    ensures works { Part V.holds V.is_clean V.faults W.asked
+        office.old wire.old office.new wire.new
+        (Also (DidApart V.holds V.is_clean office.old office.new
+        (λ B L. HadHttpTurns now B L requests.old.exchanges.items requests.new.exchanges.items))
+        (PressedBy false requests.new.presses)) }
     ensures asked { AllStillAsked V.holds V.is_clean W.tells office.old wire.old requests.old.exchanges.items office.new wire.new requests.new.exchanges.items }
     ensures clean { V.is_clean (vault_of office.new) → V.is_clean (vault_of office.old) }
     ensures stay { TheseGoOn now requests.new.exchanges.items }

@@ -18,7 +18,7 @@ ghost use Rattle.serving.specs.Settings.{settings, settings_of, none_set};
 ghost use Rattle.serving.specs.Works.{Part, Asking, Giving, IsPassed, AreAccepted, IsWritten};
 ghost use Rattle.serving.specs.Works.{IsWrittenOut, IsHeard, HadTurns, WereServed, AreClosed, IsClosed};
 ghost use Rattle.serving.specs.Works.{share_by, may_keep, way_at, is_late, AreNoMoreLate};
-ghost use Rattle.serving.specs.Works.{AreLateGone};
+ghost use Rattle.serving.specs.Works.{AreLateGone, Also, PressedBy};
 ghost use Rattle.serving.specs.Late.{IsShutBy, HasEndedLate};
 ghost use Rattle.serving.specs.Turns.{Works, millis_of};
 ghost use Rattle.serving.specs.HttpTurns.{AllGoOn, AreFew};
@@ -120,7 +120,10 @@ fn read_once<V: Vault, W: Wire, L: Listener>(
     requires { length buffer.old ≤ 4096 }
     ensures serves { StillServesOne V.holds V.is_clean W.tells seat office.old wire.old office.new wire.new }
     ensures clean { V.is_clean (vault_of office.new) → V.is_clean (vault_of office.old) }
-    ensures works { (wait : ℕ) (may : Bool) → Part V.holds V.is_clean V.faults W.asked office.old wire.old office.new wire.new (IsHeard V.holds office.old seat wait may) }
+    ensures works { (wait : ℕ) (may : Bool) → Part V.holds V.is_clean V.faults W.asked
+        office.old wire.old office.new wire.new
+        (Also (IsHeard V.holds office.old seat wait may)
+        (PressedBy false result)) }
 {
     let connection = seat.connection;
     if !office.ready(connection) {
@@ -184,7 +187,10 @@ fn read_piece<V: Vault, W: Wire, L: Listener>(
     ensures clean { V.is_clean (vault_of office.new) → V.is_clean (vault_of office.old) }
     ensures seats { links.new.seats ≡ links.old.seats }
     ensures aside { KeepsAside links.old links.new }
-    ensures works { Part V.holds V.is_clean V.faults W.asked office.old wire.old office.new wire.new (IsHeard V.holds office.old seat links.old.wait (may_keep links.old)) }
+    ensures works { Part V.holds V.is_clean V.faults W.asked
+        office.old wire.old office.new wire.new
+        (Also (IsHeard V.holds office.old seat links.old.wait (may_keep links.old))
+        (PressedBy links.old.presses (links.new.presses || result))) }
 {
     if !office.ready(seat.connection) {
         return false;
@@ -219,7 +225,11 @@ fn serve_link<V: Vault, W: Wire, L: Listener>(
     ensures clean { V.is_clean (vault_of office.new) → V.is_clean (vault_of office.old) }
     ensures seats { links.new.seats ≡ links.old.seats }
     ensures aside { KeepsAside links.old links.new }
-    ensures works { Part V.holds V.is_clean V.faults W.asked office.old wire.old office.new wire.new (HadTurns V.holds V.is_clean office.old office.new (way_at links.old) (seat ∷ []) (seat ∷ [])) }
+    ensures works { Part V.holds V.is_clean V.faults W.asked
+        office.old wire.old office.new wire.new
+        (Also (HadTurns V.holds V.is_clean office.old office.new (way_at links.old)
+        (seat ∷ []) (seat ∷ []))
+        (PressedBy links.old.presses (links.new.presses || result))) }
 {
     let share = share_of(links);
     if write_owed(office, wire, listener, seat, share) {
@@ -255,6 +265,8 @@ fn note_freed<V: Vault>(
     ensures seats { links.new.seats ≡ links.old.seats }
     ensures freed { (T : Trace) → StandsFor V.holds office.now T → links.new.is_freed ≡ (links.old.is_freed || has_freed links.old.wait was_logged_in (live (history T) connection)) }
     ensures waits { links.new.is_freed ≡ true → (links.old.is_freed ≡ true) ⊎ ((links.old.wait == 0) ≡ false) }
+    ensures presses { links.new.presses ≡ true
+        → (links.old.presses || links.new.is_freed) ≡ true }
     ensures still { links.old.is_freed ≡ true → links.new.is_freed ≡ true }
     ensures aside { LeavesSettings links.old links.new }
 {
@@ -287,7 +299,11 @@ fn serve_client<V: Vault, W: Wire, L: Listener>(
     ensures waits { links.new.is_freed ≡ true → (links.old.is_freed ≡ true) ⊎ ((links.old.wait == 0) ≡ false) }
     ensures still { links.old.is_freed ≡ true → links.new.is_freed ≡ true }
     ensures aside { LeavesSettings links.old links.new }
-    ensures works { Part V.holds V.is_clean V.faults W.asked office.old wire.old office.new wire.new (HadTurns V.holds V.is_clean office.old office.new (way_at links.old) (seat ∷ []) (seat ∷ [])) }
+    ensures works { Part V.holds V.is_clean V.faults W.asked
+        office.old wire.old office.new wire.new
+        (Also (HadTurns V.holds V.is_clean office.old office.new (way_at links.old)
+        (seat ∷ []) (seat ∷ []))
+        (PressedBy (links.old.presses || links.new.is_freed) links.new.presses)) }
 {
     let was_logged_in = office.is_logged_in(seat.connection);
     let more = serve_link(office, wire, listener, links, seat, now);
@@ -312,7 +328,12 @@ fn serve_seat<V: Vault, W: Wire, L: Listener>(
     ensures waits { links.new.is_freed ≡ true → (links.old.is_freed ≡ true) ⊎ ((links.old.wait == 0) ≡ false) }
     ensures still { links.old.is_freed ≡ true → links.new.is_freed ≡ true }
     ensures aside { LeavesSettings links.old links.new }
-    ensures works { Part V.holds V.is_clean V.faults W.asked office.old wire.old office.new wire.new (λ given calls. (d : declared.Seat) → HadTurns V.holds V.is_clean office.old office.new (way_at links.old) links.old.seats.items (slice_index_or links.old.seats.items place d ∷ []) given calls) }
+    ensures works { Part V.holds V.is_clean V.faults W.asked
+        office.old wire.old office.new wire.new
+        (Also (λ given calls. (d : declared.Seat) → HadTurns V.holds V.is_clean
+        office.old office.new (way_at links.old) links.old.seats.items
+        (slice_index_or links.old.seats.items place d ∷ []) given calls)
+        (PressedBy (links.old.presses || links.new.is_freed) links.new.presses)) }
 {
     let seat = links.seats[place];
     serve_client(office, wire, listener, links, seat, now);
@@ -330,7 +351,11 @@ fn serve_links<V: Vault, W: Wire, L: Listener>(
     ensures clean { V.is_clean (vault_of office.new) → V.is_clean (vault_of office.old) }
     ensures seats { links.new.seats ≡ links.old.seats }
     ensures aside { LeavesSettings links.old links.new }
-    ensures works { Part V.holds V.is_clean V.faults W.asked office.old wire.old office.new wire.new (WereServed V.holds V.is_clean office.old office.new (settings_of links.old) links.new.is_freed links.old.seats.items links.old.seats.items) }
+    ensures works { Part V.holds V.is_clean V.faults W.asked
+        office.old wire.old office.new wire.new
+        (Also (WereServed V.holds V.is_clean office.old office.new (settings_of links.old)
+        links.new.is_freed links.old.seats.items links.old.seats.items)
+        (PressedBy (links.old.presses || links.new.is_freed) links.new.presses)) }
 {
     links.is_freed = false;
     let mut place = 0;
@@ -365,6 +390,7 @@ fn end_late<V: Vault, W: Wire>(
     ensures clean { V.is_clean (vault_of office.new) → V.is_clean (vault_of office.old) }
     ensures seats { links.new.seats ≡ links.old.seats }
     ensures set { settings_of links.new ≡ settings_of links.old }
+    ensures presses { links.new.presses ≡ links.old.presses }
     ensures last { links.new.last ≡ links.old.last }
     ensures late { AreNoMoreLate now links.old.newcomers.seconds links.old.newcomers.newcomers.items links.new.newcomers.newcomers.items }
     ensures works { (links.old.newcomers.seconds == 0) ≡ false → Giving V.holds V.is_clean V.faults office.old office.new (λ given. (d : declared.Seat) → HasEndedLate V.holds V.is_clean office.old office.new now links.old.newcomers.seconds links.old.newcomers.newcomers.items links.new.newcomers.newcomers.items (slice_index_or links.old.seats.items place d ∷ []) given) }
@@ -387,6 +413,7 @@ fn end_late_ones<V: Vault, W: Wire>(office: &mut Office<V>, wire: &W, links: &mu
     ensures off { links.old.newcomers.seconds ≡ 0 → office.new ≡ office.old }
     ensures seats { links.new.seats ≡ links.old.seats }
     ensures set { settings_of links.new ≡ settings_of links.old }
+    ensures presses { links.new.presses ≡ links.old.presses }
     ensures last { links.new.last ≡ links.old.last }
     ensures works { Giving V.holds V.is_clean V.faults office.old office.new (HasEndedLate V.holds V.is_clean office.old office.new now links.old.newcomers.seconds links.old.newcomers.newcomers.items links.new.newcomers.newcomers.items links.old.seats.items) }
 {
@@ -414,7 +441,11 @@ fn close_seat<V: Vault, W: Wire>(
     ensures set { settings_of links.new ≡ settings_of links.old }
     ensures last { links.new.last ≡ links.old.last }
     ensures newcomers { (d : declared.Seat) → links.new.newcomers.newcomers.items ≡ (if result then links.old.newcomers.newcomers.items else others (slice_index_or links.old.seats.items place d).connection links.old.newcomers.newcomers.items) }
-    ensures works { (T : Trace) (d : declared.Seat) → StandsFor V.holds office.now T → Asking W.asked wire.old wire.new (IsClosed T links.old.seats.items links.new.seats.items place (slice_index_or links.old.seats.items place d) result) }
+    ensures works { (T : Trace) (d : declared.Seat) → StandsFor V.holds office.now T
+        → Asking W.asked wire.old wire.new
+        (λ calls. IsClosed T links.old.seats.items links.new.seats.items place
+        (slice_index_or links.old.seats.items place d) result calls
+        × PressedBy links.old.presses links.new.presses calls) }
 {
     let seat = links.seats[place];
     if !office.ended(seat.connection) {
@@ -435,7 +466,10 @@ fn close_links<V: Vault, W: Wire>(office: &Office<V>, wire: &mut W, links: &mut 
     ensures set { settings_of links.new ≡ settings_of links.old }
     ensures last { links.new.last ≡ links.old.last }
     ensures newcomers { (T : Trace) → StandsFor V.holds office.now T → (c : ℕ) → is_open T c ≡ true → newcomer c links.new.newcomers.newcomers.items ≡ newcomer c links.old.newcomers.newcomers.items }
-    ensures works { (T : Trace) → StandsFor V.holds office.now T → Asking W.asked wire.old wire.new (AreClosed T links.old.seats.items links.new.seats.items) }
+    ensures works { (T : Trace) → StandsFor V.holds office.now T
+        → Asking W.asked wire.old wire.new
+        (λ calls. AreClosed T links.old.seats.items links.new.seats.items calls
+        × PressedBy links.old.presses links.new.presses calls) }
 {
     let mut place = 0;
     while place < links.seats.len() {
@@ -477,6 +511,7 @@ fn accept_link<V: Vault, W: Wire, L: Listener>(
     ensures serves { StillServes V.holds V.is_clean W.tells office.old wire.old links.old.seats.items [] office.new wire.new links.new.seats.items [] }
     ensures clean { V.is_clean (vault_of office.new) → V.is_clean (vault_of office.old) }
     ensures set { settings_of links.new ≡ settings_of links.old }
+    ensures presses { links.new.presses ≡ links.old.presses }
     ensures last { links.new.last ≡ links.old.last }
     ensures late { AreNoMoreLate now links.old.newcomers.seconds links.old.newcomers.newcomers.items links.new.newcomers.newcomers.items }
     ensures noted { (c : ℕ) (n : Newcomer) → newcomer c links.old.newcomers.newcomers.items ≡ Some n → newcomer c links.new.newcomers.newcomers.items ≡ Some n }
@@ -511,6 +546,7 @@ fn accept_links<V: Vault, W: Wire, L: Listener>(
     ensures serves { StillServes V.holds V.is_clean W.tells office.old wire.old links.old.seats.items [] office.new wire.new links.new.seats.items [] }
     ensures clean { V.is_clean (vault_of office.new) → V.is_clean (vault_of office.old) }
     ensures set { settings_of links.new ≡ settings_of links.old }
+    ensures presses { links.new.presses ≡ links.old.presses }
     ensures last { links.new.last ≡ links.old.last }
     ensures late { AreNoMoreLate now links.old.newcomers.seconds links.old.newcomers.newcomers.items links.new.newcomers.newcomers.items }
     ensures noted { (c : ℕ) (n : Newcomer) → newcomer c links.old.newcomers.newcomers.items ≡ Some n → newcomer c links.new.newcomers.newcomers.items ≡ Some n }

@@ -1,11 +1,13 @@
 use Rattle.std.proofs.Common.{refl}
 use Rattle.serving.specs.Requests.{AreKeptBeside}
 use Rattle.serving.proofs.Requesting.{asked_still, waited}
-use Rattle.serving.proofs.Quieting.{NoEvent, did_none, did_asked, did_then}
+use Rattle.serving.proofs.Quieting.{NoEvent, did_none, also_from, also_asked, also_then}
 use Rattle.serving.proofs.HttpWorking.{turn_served}
 use Rattle.serving.specs.HttpWorks.{HasHeard, HasTold, HasHttpTurn, IsLate}
 use Rattle.std.proofs.Common.{rules, ◌≡◌, true, false, [], ◌∙◌, sym}
 use Rattle.serving.proofs.Ongoing.{still_timely}
+use Rattle.serving.specs.Works.{PressedBy}
+use Rattle.serving.proofs.Resting.{pressed_same, pressed_then}
 use Rattle.serving.proofs.requests.serve_exchange.Goals as goal
 
 pub returns-then-is_late-clause-asked : goal.returns-then-is_late-clause-asked
@@ -32,7 +34,8 @@ returns-clause-timely g c =
 pub returns-then-is_late-clause-works : goal.returns-then-is_late-clause-works
 returns-then-is_late-clause-works g c =
     let yes : c.is_late.result ≡ true = search rules in
-    did_none g.V.Vault.holds g.V.Vault.is_clean g.V.Vault.faults g.W.Wire.asked c.args.office.now c.args.wire.now (λ B L. HasHttpTurn c.args.now B L c.args.exchange.now _) (λ B L. IsLate (sym c.is_late.ensures ∙ yes) refl)
+    also_from g.V.Vault.holds g.V.Vault.is_clean g.V.Vault.faults g.W.Wire.asked c.args.office.now c.args.office.now c.args.wire.now c.args.wire.now _ (PressedBy false false) (pressed_same false)
+    (did_none g.V.Vault.holds g.V.Vault.is_clean g.V.Vault.faults g.W.Wire.asked c.args.office.now c.args.wire.now (λ B L. HasHttpTurn c.args.now B L c.args.exchange.now _) (λ B L. IsLate (sym c.is_late.ensures ∙ yes) refl))
 
 pub returns-clause-works : goal.returns-clause-works
 returns-clause-works g c =
@@ -40,7 +43,8 @@ returns-clause-works g c =
     let e = c.args.exchange.now in
     let e1 = c.hear.new.exchange in
     let e2 = c.tell.new.exchange in
-    did_then g.V.Vault.holds g.V.Vault.is_clean g.V.Vault.faults g.W.Wire.asked c.args.office.now c.hear.new.office c.hear.new.office c.args.wire.now c.hear.new.wire c.tell.new.wire
-    (λ B L. HasHeard B L e e1) (NoEvent (HasTold e1 e2)) (λ B L. HasHttpTurn c.args.now B L e e2)
-    (λ B L g1 g2 c1 c2 p q. turn_served c.args.now B L e e1 e2 g1 g2 c1 c2 (sym c.is_late.ensures ∙ no) p q.0 q.1) c.hear.ensures.works
-    (did_asked g.V.Vault.holds g.V.Vault.is_clean g.V.Vault.faults g.W.Wire.asked c.hear.new.office c.hear.new.wire c.tell.new.wire (HasTold e1 e2) (NoEvent (HasTold e1 e2)) (λ B L cs told. (refl, told)) c.tell.ensures.works)
+    also_then g.V.Vault.holds g.V.Vault.is_clean g.V.Vault.faults g.W.Wire.asked c.args.office.now c.hear.new.office c.hear.new.office c.args.wire.now c.hear.new.wire c.tell.new.wire
+    (λ B L. HasHeard B L e e1) (NoEvent (HasTold e1 e2)) (λ B L. HasHttpTurn c.args.now B L e e2) (PressedBy false false) (PressedBy false c.tell.result) (PressedBy false c.tell.result)
+    (λ B L g1 g2 c1 c2 p q. turn_served c.args.now B L e e1 e2 g1 g2 c1 c2 (sym c.is_late.ensures ∙ no) p q.0 q.1) (λ c1 c2 m n. pressed_then false false c.tell.result c1 c2 m n)
+    (also_from g.V.Vault.holds g.V.Vault.is_clean g.V.Vault.faults g.W.Wire.asked c.args.office.now c.hear.new.office c.args.wire.now c.hear.new.wire _ (PressedBy false false) (pressed_same false) c.hear.ensures.works)
+    (also_asked g.V.Vault.holds g.V.Vault.is_clean g.V.Vault.faults g.W.Wire.asked c.hear.new.office c.hear.new.wire c.tell.new.wire (HasTold e1 e2) (PressedBy false c.tell.result) c.tell.ensures.works)

@@ -3,13 +3,15 @@ use Rattle.std.proofs.lemmas.List.{length-set, get_or-set_same}
 use Rattle.serving.specs.Wires.{has_closed}
 use Rattle.serving.specs.Requests.{AreHeld, AreKeptBeside}
 use Rattle.serving.proofs.Requesting.{asked_so, asked_still, exchanged_same, one_held, held_again, held_without}
-use Rattle.serving.proofs.Quieting.{NoEvent, IsOne, quiet_closed, asks_one, did_asked, did_then, did_so}
+use Rattle.serving.proofs.Quieting.{NoEvent, IsOne, quiet_closed, asks_one, did_asked, also_from, also_then, also_so}
 use Rattle.serving.proofs.HttpWorking.{held_on, closed_so, one_at, one_set, behind_held, behind_closed}
 use Rattle.serving.specs.HttpWorks.{HasHttpTurn, HadHttpTurns}
 use Rattle.serving.specs.Calls.{Closed}
 use Rattle.serving.specs.declared.wire.Port.TheVariants.{Admin}
-use Rattle.std.proofs.Common.{rules, ◌≡◌, true, false, [], ◌∷◌, ◌++◌, take, drop}
+use Rattle.std.proofs.Common.{rules, ◌≡◌, true, false, [], ◌∷◌, ◌++◌, take, drop, ◌||◌}
 use Rattle.serving.proofs.Ongoing.{front_stays, front_left, goes_on_there}
+use Rattle.serving.specs.Works.{PressedBy}
+use Rattle.serving.proofs.Resting.{pressed_same, beside_pressed, closed_pressed}
 use Rattle.serving.proofs.requests.serve_place.Goals as goal
 
 pub returns-then-not-exchange-clause-asked : goal.returns-then-not-exchange-clause-asked
@@ -72,13 +74,16 @@ returns-then-not-exchange-clause-works g c =
     let now = c.args.now in
     let e = c.index_mut-exchange.result.now in
     let e2 = c.serve_exchange.new.exchange in
+    let before = c.args.requests.now.presses in
+    let pressed = c.serve_exchange.result in
     let live : e2.is_over ≡ false = search rules in
     let is : take 1 (drop place xs) ≡ e ∷ [] = one_at xs place e c.requires ∙ ap (λ y. y ∷ []) (sym c.index_mut-exchange.ensures.value) in
     let left = one_set xs place e2 c.requires in
-    did_so g.V.Vault.holds g.V.Vault.is_clean g.V.Vault.faults g.W.Wire.asked c.args.office.now c.serve_exchange.new.office c.args.wire.now c.serve_exchange.new.wire
-    (λ B L. HasHttpTurn now B L e e2) (λ B L. HadHttpTurns now B L (take 1 (drop place xs)) (take 1 (drop place (set xs place e2))))
+    also_so g.V.Vault.holds g.V.Vault.is_clean g.V.Vault.faults g.W.Wire.asked c.args.office.now c.serve_exchange.new.office c.args.wire.now c.serve_exchange.new.wire
+    (λ B L. HasHttpTurn now B L e e2) (λ B L. HadHttpTurns now B L (take 1 (drop place xs)) (take 1 (drop place (set xs place e2)))) (PressedBy false pressed) (PressedBy before (before || pressed))
     (λ B L given calls turn.
     subst (λ l. HadHttpTurns now B L l (take 1 (drop place (set xs place e2))) given calls) (sym is) (subst (λ l. HadHttpTurns now B L (e ∷ []) l given calls) (sym left) (held_on now B L e e2 given calls turn live c.serve_exchange.ensures.since)))
+    (beside_pressed before pressed)
     c.serve_exchange.ensures.works
 
 pub returns-clause-works : goal.returns-clause-works
@@ -92,15 +97,20 @@ returns-clause-works g c =
     let w1 = c.serve_exchange.new.wire in
     let w2 = c.close.new.self in
     let call = Closed Admin e2.link in
+    let before = c.args.requests.now.presses in
+    let pressed = c.serve_exchange.result in
     let over : e2.is_over ≡ true = search rules in
     let is : take 1 (drop place xs) ≡ e ∷ [] = one_at xs place e c.requires ∙ ap (λ y. y ∷ []) (sym c.index_mut-exchange.ensures.value) in
-    did_then g.V.Vault.holds g.V.Vault.is_clean g.V.Vault.faults g.W.Wire.asked c.args.office.now o1 o1 c.args.wire.now w1 w2
+    also_then g.V.Vault.holds g.V.Vault.is_clean g.V.Vault.faults g.W.Wire.asked c.args.office.now o1 o1 c.args.wire.now w1 w2
     (λ B L. HasHttpTurn now B L e e2) (NoEvent (IsOne call)) (λ B L. HadHttpTurns now B L (take 1 (drop place xs)) [])
+    (PressedBy false pressed) (PressedBy false false) (PressedBy before (before || pressed))
     (λ B L g1 g2 c1 c2 turn q.
     subst (λ l. HadHttpTurns now B L l [] (g2 ++ g1) (c1 ++ c2)) (sym is) (closed_so now B L e e2 g1 g2 c1 c2 turn over e2.link c.serve_exchange.ensures.link q.0 q.1))
+    (λ c1 c2 m n. closed_pressed before pressed c1 c2 m)
     c.serve_exchange.ensures.works
+    (also_from g.V.Vault.holds g.V.Vault.is_clean g.V.Vault.faults g.W.Wire.asked o1 o1 w1 w2 _ (PressedBy false false) (pressed_same false)
     (did_asked g.V.Vault.holds g.V.Vault.is_clean g.V.Vault.faults g.W.Wire.asked o1 w1 w2 (IsOne call) (NoEvent (IsOne call)) (λ B L cs at. (refl, at))
-    (asks_one g.W.Wire.asked w1 w2 call (IsOne call) (quiet_closed e2.link) refl c.close.ensures.called))
+    (asks_one g.W.Wire.asked w1 w2 call (IsOne call) (quiet_closed e2.link) refl c.close.ensures.called)))
 
 pub returns-then-not-exchange-clause-behind : goal.returns-then-not-exchange-clause-behind
 returns-then-not-exchange-clause-behind g c = behind_held c.args.requests.now.exchanges.items c.args.place c.serve_exchange.new.exchange

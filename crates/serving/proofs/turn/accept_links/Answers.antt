@@ -12,6 +12,7 @@ loop-times-init g c = record {
   serves = λ T beside s clean. s;
   clean = λ k. k;
   set = refl;
+  presses = refl;
   last = refl;
   late = late_same c.args.now c.args.links.now.newcomers.seconds c.args.links.now.newcomers.newcomers.items;
   noted = λ q n h. h;
@@ -33,6 +34,7 @@ loop-times-preserved g c =
       serves = λ T beside s clean. x.ensures.serves T beside (k.invariant.serves T beside s (x.ensures.clean clean)) clean;
       clean = λ clean. k.invariant.clean (x.ensures.clean clean);
       set = x.ensures.set ∙ k.invariant.set;
+      presses = x.ensures.presses ∙ k.invariant.presses;
       last = x.ensures.last ∙ k.invariant.last;
       late = late_next c.args.now k.links.newcomers.seconds c.args.links.now.newcomers.seconds c.args.links.now.newcomers.newcomers.items k.links.newcomers.newcomers.items x.new.links.newcomers.newcomers.items
           (ap (λ (s : Settings). s.login_seconds) k.invariant.set) k.invariant.late x.ensures.late;

@@ -12,6 +12,7 @@ invariant-loop-times g l = record {
   serves : StillServes g.V.Vault.holds g.V.Vault.is_clean g.W.Wire.tells l.fn.office l.fn.wire l.fn.links.seats.items [] l.office l.wire l.links.seats.items [];
   clean : g.V.Vault.is_clean (vault_of l.office) → g.V.Vault.is_clean (vault_of l.fn.office);
   set : settings_of l.links ≡ settings_of l.fn.links;
+  presses : l.links.presses ≡ l.fn.links.presses;
   last : l.links.last ≡ l.fn.links.last;
   late : AreNoMoreLate l.fn.now l.fn.links.newcomers.seconds l.fn.links.newcomers.newcomers.items l.links.newcomers.newcomers.items;
   noted : (c : ℕ) (n : Newcomer) → newcomer c l.fn.links.newcomers.newcomers.items ≡ Some n → newcomer c l.links.newcomers.newcomers.items ≡ Some n;

@@ -1,4 +1,4 @@
-use Rattle.std.proofs.Common.{rules, ◌≡◌, ℕ, List, ◌∙◌, ◌<◌, ◌≤◌, length, get_or, true, false, sym, ap, true≢false}
+use Rattle.std.proofs.Common.{rules, ◌≡◌, ℕ, List, ◌∙◌, ◌<◌, ◌≤◌, length, get_or, true, false, [], refl, sym, ap, true≢false}
 use Rattle.office.specs.Events.{Trace}
 use Rattle.office.specs.Trace.{is_open}
 use Rattle.serving.specs.declared.newcomers.Newcomer.{Newcomer}
@@ -7,8 +7,9 @@ use Rattle.serving.proofs.Late.{others_of}
 use Rattle.office.specs.Taken.{trace_of}
 use Rattle.serving.proofs.Seating.{seated_whole}
 use Rattle.serving.specs.declared.links.Seat.{Seat}
-use Rattle.serving.proofs.Working.{asking_then}
-use Rattle.serving.proofs.Arriving.{closes_more, closes_all}
+use Rattle.serving.proofs.Working.{asking_then, asked_none}
+use Rattle.serving.proofs.Arriving.{closes_none, closes_more, closes_all}
+use Rattle.serving.proofs.Resting.{pressed_same, pressed_then}
 use Rattle.serving.proofs.turn.close_links.Goals as goal
 
 -- any seat
@@ -18,6 +19,19 @@ no_seat = record { link = record { number = 0 }; connection = 0 }
 -- who is open is noted as before, where who isn't is forgotten
 others_open : (T : Trace) (q c : ℕ) (xs ys : List Newcomer) → ys ≡ others c xs → is_open T q ≡ true → is_open T c ≡ false → newcomer q ys ≡ newcomer q xs
 others_open T q c xs ys is here shut = ap (newcomer q) is ∙ others_of q c xs (λ e. true≢false (sym here ∙ (ap (is_open T) e ∙ shut)))
+
+pub loop-place-init : goal.loop-place-init
+loop-place-init g c = record {
+  serves = λ T beside s clean. s;
+  set = refl;
+  last = refl;
+  newcomers = λ T s q here. refl;
+  works = λ T s. record {
+    calls = [];
+    was_asked = asked_none g.W.Wire.asked c.args.wire.now;
+    facts = (closes_none T c.args.links.now.seats.items, pressed_same c.args.links.now.presses []);
+  };
+}
 
 pub loop-place-preserved-then-close_seat : goal.loop-place-preserved-then-close_seat
 loop-place-preserved-then-close_seat g c =
@@ -31,7 +45,10 @@ loop-place-preserved-then-close_seat g c =
       newcomers = λ T s q here. ap (λ v. newcomer q v) (c.if-close_seat.ensures.newcomers no_seat) ∙ k.invariant.newcomers T s q here;
       works = λ T s.
           asking_then g.W.Wire.asked c.args.wire.now k.wire x.new.wire _ _ _
-          (λ c1 c2 a b. closes_more T c.args.links.now.seats.items k.links.seats.items x.new.links.seats.items k.place no_seat true c1 c2 within a b) (k.invariant.works T s) (c.if-close_seat.ensures.works T no_seat s);
+          (λ c1 c2 a b. (
+            closes_more T c.args.links.now.seats.items k.links.seats.items x.new.links.seats.items k.place no_seat true c1 c2 within a.0 b.0,
+            pressed_then c.args.links.now.presses k.links.presses x.new.links.presses c1 c2 a.1 b.1,
+          )) (k.invariant.works T s) (c.if-close_seat.ensures.works T no_seat s);
     }
 
 pub loop-place-preserved : goal.loop-place-preserved
@@ -45,11 +62,14 @@ loop-place-preserved g c =
       last = x.ensures.last ∙ k.invariant.last;
       newcomers = λ T s q here.
           (let seat = get_or k.links.seats.items k.place no_seat in
-          let shut : is_open T seat.connection ≡ false = sym (c.if-close_seat.ensures.works T no_seat s).facts.stays_if in
+          let shut : is_open T seat.connection ≡ false = sym (c.if-close_seat.ensures.works T no_seat s).facts.0.stays_if in
           others_open T q seat.connection k.links.newcomers.newcomers.items x.new.links.newcomers.newcomers.items (c.if-close_seat.ensures.newcomers no_seat) here shut ∙ k.invariant.newcomers T s q here);
       works = λ T s.
           asking_then g.W.Wire.asked c.args.wire.now k.wire x.new.wire _ _ _
-          (λ c1 c2 a b. closes_more T c.args.links.now.seats.items k.links.seats.items x.new.links.seats.items k.place no_seat false c1 c2 within a b) (k.invariant.works T s) (c.if-close_seat.ensures.works T no_seat s);
+          (λ c1 c2 a b. (
+            closes_more T c.args.links.now.seats.items k.links.seats.items x.new.links.seats.items k.place no_seat false c1 c2 within a.0 b.0,
+            pressed_then c.args.links.now.presses k.links.presses x.new.links.presses c1 c2 a.1 b.1,
+          )) (k.invariant.works T s) (c.if-close_seat.ensures.works T no_seat s);
     }
 
 pub returns-clause-works : goal.returns-clause-works
@@ -58,7 +78,7 @@ returns-clause-works g c = λ T s.
     let seats = k.links.seats.items in
     let done : length seats ≤ k.place = search rules in
     let w = k.invariant.works T s in
-    record { calls = w.calls; was_asked = w.was_asked; facts = closes_all T c.args.links.now.seats.items seats k.place w.calls done w.facts })
+    record { calls = w.calls; was_asked = w.was_asked; facts = (closes_all T c.args.links.now.seats.items seats k.place w.calls done w.facts.0, w.facts.1) })
 
 pub returns-clause-serves : goal.returns-clause-serves
 returns-clause-serves g c = λ T beside s clean.

@@ -6,7 +6,7 @@ use Rattle.office.specs.Events.{Trace}
 use Rattle.office.specs.Stands.{StandsFor}
 use Rattle.serving.specs.Served.{StillServes}
 use Rattle.serving.specs.Settings.{settings_of}
-use Rattle.serving.specs.Works.{Asking}
+use Rattle.serving.specs.Works.{Asking, PressedBy}
 use Rattle.serving.proofs.Arriving.{ClosesSoFar}
 use Rattle.serving.proofs.turn.close_links.Given as goal
 
@@ -16,7 +16,8 @@ invariant-loop-place g l = record {
   set : settings_of l.links ≡ settings_of l.fn.links;
   last : l.links.last ≡ l.fn.links.last;
   newcomers : (T : Trace) → StandsFor g.V.Vault.holds l.fn.office T → (c : ℕ) → is_open T c ≡ true → newcomer c l.links.newcomers.newcomers.items ≡ newcomer c l.fn.links.newcomers.newcomers.items;
-  works : (T : Trace) → StandsFor g.V.Vault.holds l.fn.office T → Asking g.W.Wire.asked l.fn.wire l.wire (ClosesSoFar T l.fn.links.seats.items l.links.seats.items l.place);
+  works : (T : Trace) → StandsFor g.V.Vault.holds l.fn.office T → Asking g.W.Wire.asked l.fn.wire l.wire
+      (λ calls. ClosesSoFar T l.fn.links.seats.items l.links.seats.items l.place calls × PressedBy l.fn.links.presses l.links.presses calls);
 }
 
 abbrev pub decreases-loop-place : goal.decreases-loop-place

@@ -8,9 +8,10 @@ use Rattle.serving.specs.Works.{is_open_seat}
 use Rattle.serving.specs.declared.wire.Port.TheVariants.{Pop}
 use Rattle.serving.specs.Calls.{Closed}
 use Rattle.serving.specs.declared.links.Seat.{Seat}
-use Rattle.serving.proofs.Working.{asked_none, asked_one}
+use Rattle.serving.proofs.Working.{asked_none, asked_one, or_true}
 use Rattle.serving.proofs.Seating.{any_default}
 use Rattle.serving.specs.Newcomers.{others}
+use Rattle.serving.proofs.Resting.{pressed_same}
 use Rattle.serving.proofs.turn.close_seat.Goals as goal
 
 -- what is read at a place
@@ -68,11 +69,14 @@ returns-then-not-ended-clause-works g c = λ T d s.
     record {
       calls = [];
       was_asked = asked_none g.W.Wire.asked c.args.wire.now;
-      facts = record {
-        stays_if = sym (subst (λ q. is_open_seat T q ≡ true) (at_place seats ys c.args.place _ d c.deref.ensures.0 c.requires) here);
-        left = refl;
-        calls_are = refl;
-      };
+      facts = (
+        record {
+          stays_if = sym (subst (λ q. is_open_seat T q ≡ true) (at_place seats ys c.args.place _ d c.deref.ensures.0 c.requires) here);
+          left = refl;
+          calls_are = refl;
+        },
+        pressed_same c.args.links.now.presses [],
+      );
     })
 
 pub returns-clause-works : goal.returns-clause-works
@@ -85,11 +89,14 @@ returns-clause-works g c = λ T d s.
     record {
       calls = Closed Pop _ ∷ [];
       was_asked = asked_one g.W.Wire.asked c.args.wire.now c.close.new.self _ c.close.ensures.called;
-      facts = record {
-        stays_if = sym (subst (λ q. is_open_seat T q ≡ false) at shut);
-        left = c.remove.ensures.items;
-        calls_are = ap (λ q. Closed Pop q.link ∷ []) at;
-      };
+      facts = (
+        record {
+          stays_if = sym (subst (λ q. is_open_seat T q ≡ false) at shut);
+          left = c.remove.ensures.items;
+          calls_are = ap (λ q. Closed Pop q.link ∷ []) at;
+        },
+        λ e. or_true c.args.links.now.presses,
+      );
     })
 
 pub returns-clause-newcomers : goal.returns-clause-newcomers

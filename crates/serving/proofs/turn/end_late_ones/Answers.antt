@@ -28,6 +28,7 @@ loop-place-init g c = record {
   clean = λ k. k;
   seats = refl;
   set = refl;
+  presses = refl;
   last = refl;
   late = late_same c.args.now c.args.links.now.newcomers.seconds c.args.links.now.newcomers.newcomers.items;
   works = record { given = []; was_given = given_none g.V.Vault.holds g.V.Vault.is_clean g.V.Vault.faults c.args.office.now; facts = late_none g.V.Vault.holds g.V.Vault.is_clean g.V.Vault.faults c.args.now c.args.links.now.newcomers.seconds c.args.office.now c.args.links.now.newcomers.newcomers.items };
@@ -52,6 +53,7 @@ loop-place-preserved g c =
       clean = λ clean. k.invariant.clean (x.ensures.clean clean);
       seats = x.ensures.seats ∙ k.invariant.seats;
       set = x.ensures.set ∙ k.invariant.set;
+      presses = x.ensures.presses ∙ k.invariant.presses;
       last = x.ensures.last ∙ k.invariant.last;
       late = late_then now n.seconds n.newcomers.items k.links.newcomers.newcomers.items x.new.links.newcomers.newcomers.items k.invariant.late late;
       works = late_step g.V.Vault.holds g.V.Vault.is_clean g.V.Vault.faults now n.seconds c.args.office.now k.office x.new.office n.newcomers.items k.links.newcomers.newcomers.items x.new.links.newcomers.newcomers.items c.args.links.now.seats.items k.links.seats.items k.place no_seat

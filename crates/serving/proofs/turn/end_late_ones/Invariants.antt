@@ -13,6 +13,7 @@ invariant-loop-place g l = record {
   clean : g.V.Vault.is_clean (vault_of l.office) → g.V.Vault.is_clean (vault_of l.fn.office);
   seats : l.links.seats ≡ l.fn.links.seats;
   set : settings_of l.links ≡ settings_of l.fn.links;
+  presses : l.links.presses ≡ l.fn.links.presses;
   last : l.links.last ≡ l.fn.links.last;
   late : AreNoMoreLate l.fn.now l.fn.links.newcomers.seconds l.fn.links.newcomers.newcomers.items l.links.newcomers.newcomers.items;
   works : Giving g.V.Vault.holds g.V.Vault.is_clean g.V.Vault.faults l.fn.office l.office

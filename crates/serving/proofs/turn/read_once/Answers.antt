@@ -18,6 +18,7 @@ use Rattle.serving.specs.declared.wire.Port.TheVariants.{Pop}
 use Rattle.serving.specs.Calls.{Read}
 use Rattle.serving.proofs.Working.{given_one, given_none, asked_one, part_none}
 use Rattle.serving.proofs.Turns.{heard_some, heard_later, heard_cut, heard_none}
+use Rattle.serving.proofs.Resting.{pressed_quiet}
 use Rattle.serving.proofs.turn.read_once.Goals as goal
 
 pub returns-in-Count-clause-serves : goal.returns-in-Count-clause-serves
@@ -103,7 +104,7 @@ returns-then-not-ready-clause-works g c = λ wait may.
     let seat = c.args.seat in
     let no : c.ready.result ≡ false = search rules in
     part_none g.V.Vault.holds g.V.Vault.is_clean g.V.Vault.faults g.W.Wire.asked o c.args.wire.now _
-    (heard_none g.V.Vault.holds g.V.Vault.is_clean g.V.Vault.faults wait may o seat (λ B L s. sym (c.ready.ensures (trace_of B L) s) ∙ no)))
+    (heard_none g.V.Vault.holds g.V.Vault.is_clean g.V.Vault.faults wait may o seat (λ B L s. sym (c.ready.ensures (trace_of B L) s) ∙ no), λ e. e))
 
 pub returns-in-Count-clause-works : goal.returns-in-Count-clause-works
 returns-in-Count-clause-works g c = λ wait may.
@@ -118,7 +119,7 @@ returns-in-Count-clause-works g c = λ wait may.
       calls = Read Pop seat.link (Count n) piece ∷ [];
       was_given = given_one Holds g.V.Vault.is_clean g.V.Vault.faults o c.step_with_account.new.self (event.Bytes seat.connection piece) (outcome_seen c.step_with_account.result) c.step_with_account.ensures.clean c.step_with_account.ensures.stands c.step_with_account.ensures.admitted c.step_with_account.ensures.counted c.step_with_account.ensures.cause;
       was_asked = asked_one g.W.Wire.asked c.args.wire.now c.read.new.self (Read Pop seat.link (Count n) piece) c.in-Count.ensures.called;
-      facts = heard_some Holds g.V.Vault.is_clean g.V.Vault.faults wait may o seat (Count n) piece piece m;
+      facts = (heard_some Holds g.V.Vault.is_clean g.V.Vault.faults wait may o seat (Count n) piece piece m, λ e. refl);
     })
 
 pub returns-in-Later-clause-works : goal.returns-in-Later-clause-works
@@ -130,7 +131,7 @@ returns-in-Later-clause-works g c = λ wait may.
       calls = Read Pop seat.link Later [] ∷ [];
       was_given = given_none g.V.Vault.holds g.V.Vault.is_clean g.V.Vault.faults o;
       was_asked = asked_one g.W.Wire.asked c.args.wire.now c.read.new.self (Read Pop seat.link Later []) c.in-Later.ensures.called;
-      facts = heard_later g.V.Vault.holds g.V.Vault.is_clean g.V.Vault.faults wait may o seat Later [];
+      facts = (heard_later g.V.Vault.holds g.V.Vault.is_clean g.V.Vault.faults wait may o seat Later [], λ e. e);
     })
 
 pub returns-in-End-clause-works : goal.returns-in-End-clause-works
@@ -148,5 +149,5 @@ returns-in-End-clause-works g c = λ wait may.
       calls = Read Pop seat.link io octets ∷ [];
       was_given = given_one Holds g.V.Vault.is_clean g.V.Vault.faults office c.step.new.self (event.Gone connection) (outcome_seen c.step.result) c.step.ensures.clean c.step.ensures.stands c.step.ensures.admitted c.step.ensures.counted c.step.ensures.cause;
       was_asked = asked_one g.W.Wire.asked c.args.wire.now c.read.new.self (Read Pop seat.link io octets) c.read.ensures.called;
-      facts = heard_cut Holds g.V.Vault.is_clean g.V.Vault.faults wait may office seat io octets m fault;
+      facts = (heard_cut Holds g.V.Vault.is_clean g.V.Vault.faults wait may office seat io octets m fault, pressed_quiet false (Read Pop seat.link io octets ∷ []));
     })

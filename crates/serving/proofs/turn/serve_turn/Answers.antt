@@ -4,8 +4,8 @@ use Rattle.serving.specs.Served.{Beside, Serves}
 use Rattle.serving.specs.Requests.{AreHeld, AsksNone}
 use Rattle.serving.proofs.Depositing.{serves_tried, serves_asked, serves_answering}
 use Rattle.std.proofs.Common.{◌≡◌, ◌||◌, ap, ◌∙◌}
-use Rattle.serving.specs.Settings.{Settings}
-use Rattle.serving.specs.Works.{Part, Asking, IsPassed, AreClosed, AreNoMoreLate, WereServed}
+use Rattle.serving.specs.Settings.{Settings, settings_of}
+use Rattle.serving.specs.Works.{Part, Asking, IsPassed, AreClosed, AreNoMoreLate, WereServed, Also, PressedBy}
 use Rattle.serving.specs.SpoolTurns.{SpoolPart, IsSpoolTurn, has_dealt}
 use Rattle.std.proofs.Common.{ℕ, Some, true}
 use Rattle.office.specs.Events.{Trace}
@@ -81,7 +81,8 @@ returns-clause-works g c = λ T s clean.
     let w6 = c.close_links.new.wire in
     let a = c.accept_links.ensures.works in
     let passed = subst (λ n. Part Holds IsClean g.V.Vault.faults Asked c.args.office.now c.args.wire.now o1 w1 (IsPassed n now)) c.millis_for-millis.ensures c.pass_time.ensures.works in
-    let turned = subst (λ set. Part Holds IsClean g.V.Vault.faults Asked o2 w3 o3 w4 (WereServed Holds IsClean o2 o3 set served.is_freed seats2 seats2)) c.accept_links.ensures.set c.serve_links.ensures.works in
+    let turned = subst (λ set. Part Holds IsClean g.V.Vault.faults Asked o2 w3 o3 w4 (Also (WereServed Holds IsClean o2 o3 set served.is_freed seats2 seats2) (PressedBy served.is_freed served.presses))) c.accept_links.ensures.set
+    (subst (λ b. Part Holds IsClean g.V.Vault.faults Asked o2 w3 o3 w4 (Also (WereServed Holds IsClean o2 o3 (settings_of came) served.is_freed seats2 seats2) (PressedBy (b || served.is_freed) served.presses))) c.accept_links.ensures.presses c.serve_links.ensures.works) in
     let same = c.serve_links.ensures.aside.newcomers in
     let seconds = ap (λ n. n.seconds) same ∙ ap (λ (s : Settings). s.login_seconds) c.accept_links.ensures.set in
     let less = subst (λ n. AreNoMoreLate now old.newcomers.seconds old.newcomers.newcomers.items n.newcomers.items) (sym same) c.accept_links.ensures.late in
@@ -97,10 +98,11 @@ returns-clause-works g c = λ T s clean.
     turn_done Holds IsClean g.V.Vault.faults Asked g.S.Spool.asked T now links (record { clients = c.serve_spool.new.links; requests = c.serve_requests.new.requests })
     c.args.office.now o1 o2 o3 o4 o5 c.serve_spool.new.office
     c.args.wire.now w1 c.accept_links.new.wire w3 w4 w5 w6 c.args.spool.now c.serve_spool.new.spool
-    seats2 a.0 c.accept_requests.new.requests.exchanges.items c.accept_requests.ensures.works.0 served.is_freed c.close_links.new.links.presses served.newcomers.newcomers.items ended.newcomers.newcomers.items passed a.1 c.accept_requests.ensures.works.1 turned c.serve_requests.ensures.works keeps late forgets
+    seats2 a.0 c.accept_requests.new.requests.exchanges.items c.accept_requests.ensures.works.0 served.is_freed served.presses c.close_links.new.links.presses served.newcomers.newcomers.items ended.newcomers.newcomers.items passed a.1 c.accept_requests.ensures.works.1 turned c.serve_requests.ensures.works keeps late forgets
     (λ U su.
-    subst (λ v. Asking Asked w5 w6 (AreClosed U v.items c.serve_spool.new.links.seats.items)) seats_same
-    (subst (λ v. Asking Asked w5 w6 (AreClosed U ended.seats.items v.items)) (sym c.serve_spool.ensures.seats) (c.close_links.ensures.works U su)))
+    subst (λ v. Asking Asked w5 w6 (λ calls. AreClosed U v.items c.serve_spool.new.links.seats.items calls × PressedBy served.presses c.close_links.new.links.presses calls)) seats_same
+    (subst (λ v. Asking Asked w5 w6 (λ calls. AreClosed U ended.seats.items v.items calls × PressedBy served.presses c.close_links.new.links.presses calls)) (sym c.serve_spool.ensures.seats)
+    (subst (λ b. Asking Asked w5 w6 (λ calls. AreClosed U ended.seats.items c.close_links.new.links.seats.items calls × PressedBy b c.close_links.new.links.presses calls)) c.end_late_ones.ensures.presses (c.close_links.ensures.works U su))))
     tried s clean)
 
 pub returns-clause-ongoing : goal.returns-clause-ongoing
