@@ -1,6 +1,6 @@
 -- Statements of one transaction that carries a store over, and what is left where one is refused.
 use Rattle.std.proofs.Common.{◌≡◌, ◌≢◌, inl, inr, IsTrue, Bool, true, false, cond, not, ℤ, List, [], ◌∷◌, ◌++◌, map, filter, refl, sym, ap, subst, ◌∙◌, true≢false, arith}
-use Rattle.std.specs.Prelude.{codes, flat_map, find, Some, None, pos, length, Result, Ok, Err, OnOk, OnErr, IfErr}
+use Rattle.std.specs.Prelude.{codes, flat_map, find, Some, None, pos, length, Result, Ok, Err, OnErr}
 use Rattle.sqlite_trees.specs.Tree.{Trees}
 use Rattle.sqlite.specs.declared.error.Error.{Error}
 use Rattle.sqlite.specs.Effect.{Database, IsDatabase}
@@ -11,9 +11,9 @@ use Rattle.mailsql.specs.Changes.{PutsMark}
 use Rattle.mailsql.specs.Uses.{marked}
 use Rattle.mailsql.specs.Rows.{Rows, IsOld, IsOldSchema, HasOldTables, rows_in, is_carried, completed, is_mark, IsKept, IsReady, IsBegunOn, IsHalted, GoesOn, Changes, MayLeave}
 use Rattle.sqlvault.specs.Keeps.{Keeps, our_mark, version}
-use Rattle.sqlvault.specs.Carries.{HasOlder, IsOfNoVersion, IsNoOlder, JudgesOlder, IsOfRows, CarriesOver, IsOlder, IsCarried, IsUncarried, KeepsOlder, IsStoreOf, LeavesEither, brought, brought_in, old_mark, old_version}
+use Rattle.sqlvault.specs.Carries.{HasOlder, IsOfNoVersion, IsNoOlder, JudgesOlder, IsOfRows, IsOlder, IsCarried, IsUncarried, KeepsOlder, IsStoreOf, LeavesEither, brought, brought_in, old_mark, old_version}
 use Rattle.sqlvault.specs.Moves.{MovesOld, body_head, body_sheets}
-use Rattle.sqlvault.specs.Refusals.{is_memory, fault_of, told, answer_of}
+use Rattle.sqlvault.specs.Refusals.{is_memory, fault_of}
 use Rattle.sqlvault.specs.Adopts.{StaysAs, IsAdoptFault, IsBlank, LeavesEmptyToo}
 use Rattle.sqlvault.specs.declared.refusal.Refusal.{Refusal}
 use Rattle.mailsql.specs.declared.rows.Mark.{Mark}
@@ -328,10 +328,6 @@ pub old_on : (s0 s1 : State) → IsUnchanged s0 s1 → HasOldTables s0 → HasOl
 old_on s0 s1 same h = λ _. subst (λ (d : Database). IsOld d) (sym same.0.now_is) (h same.0.was_open)
 
 -- what came of it, with the answer
-pub carried_result : (s0 s1 s2 : State) (r : Result (Unit {0}) Refusal) → IsUnchanged s0 s1 → OnOk r (IsCarried s1 s2) → IfErr r (λ refusal. IsUncarried s1 (told refusal)) → CarriesOver s0 s2 (answer_of r)
-carried_result s0 s1 s2 (Ok x) same ok err = carried_on s0 s1 s2 same ok
-carried_result s0 s1 s2 (Err refusal) same ok err = uncarried_from s0 s1 (told refusal) same err
-
 pub stays_result : (s0 s1 s2 : State) (r : Result (Unit {0}) Refusal) → IsUnchanged s0 s1 → OnErr r (StaysAs s1 s2) → OnErr r (StaysAs s0 s2)
 stays_result s0 s1 s2 (Ok x) same stays = tt
 stays_result s0 s1 s2 (Err refusal) same stays = stays_on s0 s1 s2 same stays

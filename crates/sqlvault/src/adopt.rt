@@ -4,7 +4,7 @@ ghost use Rattle.sqlite.specs.Held.{state};
 ghost use Rattle.sqlite.specs.State.{HasCleanDisk};
 ghost use Rattle.vault.specs.Plain.{no_contents};
 ghost use Rattle.mailsql.specs.Uses.{marked};
-ghost use Rattle.mailsql.specs.Rows.{HasTables, IsReady, IsHalted, IsBegun, GoesOn, rows_in, IsKept};
+ghost use Rattle.mailsql.specs.Rows.{HasTables, IsHalted, IsBegun, GoesOn, rows_in, IsKept};
 ghost use Rattle.sqlvault.specs.Frame.{Asks};
 ghost use Rattle.sqlvault.specs.Keeps.{Keeps, our_mark, version};
 ghost use Rattle.sqlvault.specs.Parts.{Finds};
@@ -12,7 +12,8 @@ ghost use Rattle.sqlvault.specs.Adopts.{Adopts, IsBlank, IsKnown, StaysAs, Leave
 ghost use Rattle.vault.specs.declared.fault.VaultFault.TheVariants.{NotOurs};
 ghost use Rattle.mailsql.specs.Names.{is_taken, has_marks};
 ghost use Rattle.sqlvault.specs.declared.refusal.Refusal.TheVariants.{Answered};
-ghost use Rattle.sqlvault.specs.Carries.{HasOlder, CarriesOver, LeavesEither};
+ghost use Rattle.sqlvault.specs.Carries.{HasOlder};
+ghost use Rattle.sqlvault.specs.Older.{IsAllCommitted, CarriesOlder};
 ghost use Rattle.sqlvault.specs.Refusals.{answer_of, told};
 ghost use Rattle.sqlvault.specs.Stands.{Holds, WasClean, LeavesNoMore};
 
@@ -70,10 +71,13 @@ fn make<S: Alter>(conn: &mut Connection<S>) -> Result<(), Error>
 /// Checks that the store's one mark is ours, of our version. `OldVersion` where our mark has
 /// another version, `NotOurs` where it is missing or not alone. Nothing is changed.
 fn judge_marks<S: Alter>(alloc: Global, conn: &mut Connection<S>) -> Result<(), Refusal>
-    ensures judged { HasCleanDisk (state S.Store conn.new) → HasTables (state S.Store conn.old) → IsMarked (rows_in (state S.Store conn.old).now.trees) (answer_of result) }
+    ensures judged { HasCleanDisk (state S.Store conn.new) → HasTables (state S.Store conn.old)
+        → IsMarked (rows_in (state S.Store conn.old).now.trees) (answer_of result) }
     ensures asks { Asks S.Store conn.old conn.new result }
     ensures kinds { IfErr result (λ refusal. IsAdoptFault (told refusal)) }
-    ensures unknown { HasCleanDisk (state S.Store conn.new) → IsOfUnknownVersion (state S.Store conn.old) → (IsTrue (state S.Store conn.old).is_open → (state S.Store conn.old).now ≡ (state S.Store conn.old).committed) → IsVersionRefused (state S.Store conn.old) (state S.Store conn.new) (answer_of result) }
+    ensures unknown { HasCleanDisk (state S.Store conn.new)
+        → IsOfUnknownVersion (state S.Store conn.old) → IsAllCommitted (state S.Store conn.old)
+        → IsVersionRefused (state S.Store conn.old) (state S.Store conn.new) (answer_of result) }
 {
     match meta::find_mark(alloc, conn, b"popbox") {
         Ok(Some(mark)) => {
@@ -101,7 +105,8 @@ pub(crate) fn are_rows_sound<S: Alter>(
     alloc: Global,
     conn: &mut Connection<S>,
 ) -> Result<bool, Error>
-    ensures judged { HasCleanDisk (state S.Store conn.new) → HasTables (state S.Store conn.old) → (rows_in (state S.Store conn.old).now.trees).marks ≡ our_mark ∷ []
+    ensures judged { HasCleanDisk (state S.Store conn.new) → HasTables (state S.Store conn.old)
+        → (rows_in (state S.Store conn.old).now.trees).marks ≡ our_mark ∷ []
         → IfOk result (Finds (Keeps (rows_in (state S.Store conn.old).now.trees))) }
     ensures asks { Asks S.Store conn.old conn.new result }
 {
@@ -131,12 +136,15 @@ pub(crate) fn are_rows_sound<S: Alter>(
 /// Checks the mark, the columns and the rows of a store that has our tables. `OldVersion` or
 /// `NotOurs` where they aren't ours. Nothing is changed.
 fn judge<S: Alter>(alloc: Global, conn: &mut Connection<S>) -> Result<(), Refusal>
-    ensures adopted { HasCleanDisk (state S.Store conn.new) → (state S.Store conn.old).in_transaction ≡ false → (IsTrue (state S.Store conn.old).is_open → (state S.Store conn.old).now ≡ (state S.Store conn.old).committed) → IsKept (state S.Store conn.old).now → Adopts (state S.Store conn.old) (state S.Store conn.new) (answer_of result) }
-    ensures stays { HasCleanDisk (state S.Store conn.new) → (state S.Store conn.old).in_transaction ≡ false → (IsTrue (state S.Store conn.old).is_open → (state S.Store conn.old).now ≡ (state S.Store conn.old).committed) → IsKept (state S.Store conn.old).now → OnErr result (StaysAs (state S.Store conn.old) (state S.Store conn.new)) }
-    ensures stop { HasCleanDisk (state S.Store conn.new) → IsReady (state S.Store conn.old) → LeavesNoMore (state S.Store conn.old) (state S.Store conn.new) }
+    ensures adopted { HasCleanDisk (state S.Store conn.new)
+        → (state S.Store conn.old).in_transaction ≡ false
+        → IsAllCommitted (state S.Store conn.old) → IsKept (state S.Store conn.old).now
+        → Adopts (state S.Store conn.old) (state S.Store conn.new) (answer_of result) }
+    ensures asks { Asks S.Store conn.old conn.new result }
     ensures kinds { IfErr result (λ refusal. IsAdoptFault (told refusal)) }
-    ensures clean { WasClean (state S.Store conn.old) (state S.Store conn.new) }
-    ensures unknown { HasCleanDisk (state S.Store conn.new) → IsOfUnknownVersion (state S.Store conn.old) → (IsTrue (state S.Store conn.old).is_open → (state S.Store conn.old).now ≡ (state S.Store conn.old).committed) → IsVersionRefused (state S.Store conn.old) (state S.Store conn.new) (answer_of result) }
+    ensures unknown { HasCleanDisk (state S.Store conn.new)
+        → IsOfUnknownVersion (state S.Store conn.old) → IsAllCommitted (state S.Store conn.old)
+        → IsVersionRefused (state S.Store conn.old) (state S.Store conn.new) (answer_of result) }
 {
     match judge_marks(alloc, conn) {
         Ok(()) => {}
@@ -156,18 +164,27 @@ fn judge<S: Alter>(alloc: Global, conn: &mut Connection<S>) -> Result<(), Refusa
 /// checks a store that has our tables. `NotOurs` inside a transaction, and where a name of ours is
 /// taken but there is no table of marks.
 pub(crate) fn settle<S: Alter>(alloc: Global, conn: &mut Connection<S>) -> Result<(), Refusal>
-    ensures adopted { HasCleanDisk (state S.Store conn.new) → IsKnown (state S.Store conn.old) → Adopts (state S.Store conn.old) (state S.Store conn.new) (answer_of result) }
-    ensures stays { HasCleanDisk (state S.Store conn.new) → IsKnown (state S.Store conn.old) → OnErr result (StaysAs (state S.Store conn.old) (state S.Store conn.new)) }
-    ensures stop { HasCleanDisk (state S.Store conn.new) → IsKnown (state S.Store conn.old) → IsTrue (state S.Store conn.old).is_open → LeavesEmptyToo (state S.Store conn.old) (state S.Store conn.new) }
-    ensures inside { IsTrue (state S.Store conn.old).in_transaction → (result ≡ Err (Answered NotOurs)) × (conn.new ≡ conn.old) }
-    ensures taken { (state S.Store conn.old).in_transaction ≡ false → is_taken (state S.Store conn.old).now.schema ≡ true → has_marks (state S.Store conn.old).now.schema.tables ≡ false
+    ensures adopted { HasCleanDisk (state S.Store conn.new) → IsKnown (state S.Store conn.old)
+        → Adopts (state S.Store conn.old) (state S.Store conn.new) (answer_of result) }
+    ensures stays { HasCleanDisk (state S.Store conn.new) → IsKnown (state S.Store conn.old)
+        → OnErr result (StaysAs (state S.Store conn.old) (state S.Store conn.new)) }
+    ensures stop { HasCleanDisk (state S.Store conn.new) → IsKnown (state S.Store conn.old)
+        → IsTrue (state S.Store conn.old).is_open
+        → LeavesEmptyToo (state S.Store conn.old) (state S.Store conn.new) }
+    ensures inside { IsTrue (state S.Store conn.old).in_transaction
+        → (result ≡ Err (Answered NotOurs)) × (conn.new ≡ conn.old) }
+    ensures taken { (state S.Store conn.old).in_transaction ≡ false
+        → is_taken (state S.Store conn.old).now.schema ≡ true
+        → has_marks (state S.Store conn.old).now.schema.tables ≡ false
         → (result ≡ Err (Answered NotOurs)) × (conn.new ≡ conn.old) }
     ensures kinds { IfErr result (λ refusal. IsAdoptFault (told refusal)) }
     ensures clean { WasClean (state S.Store conn.old) (state S.Store conn.new) }
-    ensures carried { HasCleanDisk (state S.Store conn.new) → HasOlder (state S.Store conn.old) → (state S.Store conn.old).in_transaction ≡ false → CarriesOver (state S.Store conn.old) (state S.Store conn.new) (answer_of result) }
-    ensures carried_stays { HasCleanDisk (state S.Store conn.new) → HasOlder (state S.Store conn.old) → (state S.Store conn.old).in_transaction ≡ false → OnErr result (StaysAs (state S.Store conn.old) (state S.Store conn.new)) }
-    ensures carried_stop { HasCleanDisk (state S.Store conn.new) → HasOlder (state S.Store conn.old) → (state S.Store conn.old).in_transaction ≡ false → LeavesEither (state S.Store conn.old) (state S.Store conn.new) }
-    ensures unknown { HasCleanDisk (state S.Store conn.new) → IsOfUnknownVersion (state S.Store conn.old) → IsVersionRefused (state S.Store conn.old) (state S.Store conn.new) (answer_of result) }
+    ensures older { HasCleanDisk (state S.Store conn.new) → HasOlder (state S.Store conn.old)
+        → (state S.Store conn.old).in_transaction ≡ false
+        → CarriesOlder (state S.Store conn.old) (state S.Store conn.new) result }
+    ensures unknown { HasCleanDisk (state S.Store conn.new)
+        → IsOfUnknownVersion (state S.Store conn.old)
+        → IsVersionRefused (state S.Store conn.old) (state S.Store conn.new) (answer_of result) }
 {
     if !conn.is_autocommit() {
         return Err(Refusal::Answered(VaultFault::NotOurs));

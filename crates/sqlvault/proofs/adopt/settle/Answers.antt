@@ -1,33 +1,31 @@
-use Rattle.std.proofs.Common.{◌≡◌, inl, inr, false, not, sym, ap, ◌∙◌, true≢false}
-use Rattle.std.specs.Prelude.{OnErr}
+use Rattle.std.proofs.Common.{inl, not, sym, ap, ◌∙◌, true≢false}
 use Rattle.sqlite.specs.Held.{state}
 use Rattle.mailsql.specs.Rows.{IsKept}
-use Rattle.sqlvault.specs.Adopts.{Adopts, IsKnown, StaysAs}
-use Rattle.sqlvault.specs.Refusals.{answer_of}
+use Rattle.mailsql.proofs.ResultLemmas.{on_err_then}
+use Rattle.sqlvault.specs.Adopts.{IsKnown, StaysAs}
 use Rattle.sqlvault.proofs.AdoptLemmas.{unknown, outside, kinds_met, blank_of, kept_of, refused_met}
+use Rattle.sqlvault.proofs.AdoptLemmas.{stays_undone}
 use Rattle.sqlvault.proofs.adopt.settle.Goals as goal
 
 pub returns-clause-adopted : goal.returns-clause-adopted
 returns-clause-adopted g c clean2 known =
     let s0 = state g.S.Store c.args.conn.now in
-    let s1 = state g.S.Store c.judge.new.conn in
-    let out = outside s0.in_transaction (sym c.if-not-is_autocommit.false ∙ c.is_autocommit.ensures.value) in
-    go known out
-  where
-    go : IsKnown (state g.S.Store c.args.conn.now) → (state g.S.Store c.args.conn.now).in_transaction ≡ false → Adopts (state g.S.Store c.args.conn.now) (state g.S.Store c.judge.new.conn) (answer_of c.judge.result)
-    go (inl blank) out = absurd (true≢false (sym c.if-not-is_taken.false ∙ c.is_taken.ensures.none blank.0))
-    go (inr kept) out = c.judge.ensures.adopted clean2 out (c.is_autocommit.ensures.settled c.if-not-is_autocommit.false) kept
+    let out = outside s0.in_transaction
+    (sym c.if-not-is_autocommit.false ∙ c.is_autocommit.ensures.value) in
+    c.judge.ensures.adopted clean2 out
+    (c.is_autocommit.ensures.settled c.if-not-is_autocommit.false)
+    (kept_of s0 c.is_taken.result c.is_taken.ensures.none c.if-not-is_taken.false known)
 
 pub returns-clause-stays : goal.returns-clause-stays
 returns-clause-stays g c clean2 known =
     let s0 = state g.S.Store c.args.conn.now in
     let s1 = state g.S.Store c.judge.new.conn in
-    let out = outside s0.in_transaction (sym c.if-not-is_autocommit.false ∙ c.is_autocommit.ensures.value) in
-    go known out
-  where
-    go : IsKnown (state g.S.Store c.args.conn.now) → (state g.S.Store c.args.conn.now).in_transaction ≡ false → OnErr c.judge.result (StaysAs (state g.S.Store c.args.conn.now) (state g.S.Store c.judge.new.conn))
-    go (inl blank) out = absurd (true≢false (sym c.if-not-is_taken.false ∙ c.is_taken.ensures.none blank.0))
-    go (inr kept) out = c.judge.ensures.stays clean2 out (c.is_autocommit.ensures.settled c.if-not-is_autocommit.false) kept
+    let out = outside s0.in_transaction
+    (sym c.if-not-is_autocommit.false ∙ c.is_autocommit.ensures.value) in
+    let kept = kept_of s0 c.is_taken.result c.is_taken.ensures.none c.if-not-is_taken.false known in
+    on_err_then c.judge.result {Q = StaysAs s0 s1}
+    (stays_undone s0 s1 out (c.is_autocommit.ensures.settled c.if-not-is_autocommit.false))
+    (c.judge.ensures.asks.err clean2 (λ _. kept))
 
 pub returns-in-Ok-clause-inside : goal.returns-in-Ok-clause-inside
 returns-in-Ok-clause-inside g c inside =
@@ -71,7 +69,7 @@ returns-in-Err-clause-clean g c clean =
 
 pub returns-clause-clean : goal.returns-clause-clean
 returns-clause-clean g c clean =
-    c.judge.ensures.clean clean
+    c.judge.ensures.asks.clean clean
 
 pub returns-clause-kinds : goal.returns-clause-kinds
 returns-clause-kinds g c =
@@ -113,7 +111,7 @@ pub returns-clause-stop : goal.returns-clause-stop
 returns-clause-stop g c clean known up =
     let s0 = state g.S.Store c.args.conn.now in
     let kept = kept_of s0 c.is_taken.result c.is_taken.ensures.none c.if-not-is_taken.false known in
-    λ db may. inl (c.judge.ensures.stop clean (up, kept) db may)
+    λ db may. inl (c.judge.ensures.asks.stop clean (up, kept) db may)
 
 pub returns-in-Ok-clause-adopted : goal.returns-in-Ok-clause-adopted
 returns-in-Ok-clause-adopted g c clean known =
@@ -160,76 +158,28 @@ pub returns-then-not-has_columns-clause-clean : goal.returns-then-not-has_column
 returns-then-not-has_columns-clause-clean g c clean =
     c.carry_marked.ensures.clean clean
 
-pub returns-then-not-has_columns-clause-carried : goal.returns-then-not-has_columns-clause-carried
-returns-then-not-has_columns-clause-carried g c clean older out =
-    (c.carry_marked.ensures.turns clean older out (c.is_autocommit.ensures.settled c.if-not-is_autocommit.false)).carried
+pub returns-then-not-has_columns-clause-older : goal.returns-then-not-has_columns-clause-older
+returns-then-not-has_columns-clause-older g c clean older out = c.carry_marked.ensures.turns clean
+    older out (c.is_autocommit.ensures.settled c.if-not-is_autocommit.false)
 
-pub returns-then-not-has_columns-clause-carried_stays : goal.returns-then-not-has_columns-clause-carried_stays
-returns-then-not-has_columns-clause-carried_stays g c clean older out =
-    (c.carry_marked.ensures.turns clean older out (c.is_autocommit.ensures.settled c.if-not-is_autocommit.false)).stays
-
-pub returns-then-not-has_columns-clause-carried_stop : goal.returns-then-not-has_columns-clause-carried_stop
-returns-then-not-has_columns-clause-carried_stop g c clean older out =
-    (c.carry_marked.ensures.turns clean older out (c.is_autocommit.ensures.settled c.if-not-is_autocommit.false)).stop
-
-pub returns-then-not-is_autocommit-clause-carried : goal.returns-then-not-is_autocommit-clause-carried
-returns-then-not-is_autocommit-clause-carried g c clean older out =
+pub returns-then-not-is_autocommit-clause-older : goal.returns-then-not-is_autocommit-clause-older
+returns-then-not-is_autocommit-clause-older g c clean older out =
     absurd (true≢false (sym (c.is_autocommit.ensures.value ∙ ap not out) ∙ c.if-not-is_autocommit.true))
 
-pub returns-in-Ok-clause-carried : goal.returns-in-Ok-clause-carried
-returns-in-Ok-clause-carried g c clean older out =
+pub returns-in-Ok-clause-older : goal.returns-in-Ok-clause-older
+returns-in-Ok-clause-older g c clean older out =
     absurd (true≢false (sym (c.is_taken.ensures.old older.0) ∙ c.if-not-is_taken.true))
 
-pub returns-in-Err-clause-carried : goal.returns-in-Err-clause-carried
-returns-in-Err-clause-carried g c clean older out =
+pub returns-in-Err-clause-older : goal.returns-in-Err-clause-older
+returns-in-Err-clause-older g c clean older out =
     absurd (true≢false (sym (c.is_taken.ensures.old older.0) ∙ c.if-not-is_taken.true))
 
-pub returns-then-not-has_marks-clause-carried : goal.returns-then-not-has_marks-clause-carried
-returns-then-not-has_marks-clause-carried g c clean older out =
+pub returns-then-not-has_marks-clause-older : goal.returns-then-not-has_marks-clause-older
+returns-then-not-has_marks-clause-older g c clean older out =
     absurd (true≢false (sym (c.has_marks.ensures.old older.0) ∙ c.if-not-has_marks.true))
 
-pub returns-clause-carried : goal.returns-clause-carried
-returns-clause-carried g c clean older out =
-    absurd (true≢false (sym c.if-not-has_columns.false ∙ c.has_columns.ensures.old older.0))
-
-pub returns-then-not-is_autocommit-clause-carried_stays : goal.returns-then-not-is_autocommit-clause-carried_stays
-returns-then-not-is_autocommit-clause-carried_stays g c clean older out =
-    absurd (true≢false (sym (c.is_autocommit.ensures.value ∙ ap not out) ∙ c.if-not-is_autocommit.true))
-
-pub returns-in-Ok-clause-carried_stays : goal.returns-in-Ok-clause-carried_stays
-returns-in-Ok-clause-carried_stays g c clean older out =
-    absurd (true≢false (sym (c.is_taken.ensures.old older.0) ∙ c.if-not-is_taken.true))
-
-pub returns-in-Err-clause-carried_stays : goal.returns-in-Err-clause-carried_stays
-returns-in-Err-clause-carried_stays g c clean older out =
-    absurd (true≢false (sym (c.is_taken.ensures.old older.0) ∙ c.if-not-is_taken.true))
-
-pub returns-then-not-has_marks-clause-carried_stays : goal.returns-then-not-has_marks-clause-carried_stays
-returns-then-not-has_marks-clause-carried_stays g c clean older out =
-    absurd (true≢false (sym (c.has_marks.ensures.old older.0) ∙ c.if-not-has_marks.true))
-
-pub returns-clause-carried_stays : goal.returns-clause-carried_stays
-returns-clause-carried_stays g c clean older out =
-    absurd (true≢false (sym c.if-not-has_columns.false ∙ c.has_columns.ensures.old older.0))
-
-pub returns-then-not-is_autocommit-clause-carried_stop : goal.returns-then-not-is_autocommit-clause-carried_stop
-returns-then-not-is_autocommit-clause-carried_stop g c clean older out =
-    absurd (true≢false (sym (c.is_autocommit.ensures.value ∙ ap not out) ∙ c.if-not-is_autocommit.true))
-
-pub returns-in-Ok-clause-carried_stop : goal.returns-in-Ok-clause-carried_stop
-returns-in-Ok-clause-carried_stop g c clean older out =
-    absurd (true≢false (sym (c.is_taken.ensures.old older.0) ∙ c.if-not-is_taken.true))
-
-pub returns-in-Err-clause-carried_stop : goal.returns-in-Err-clause-carried_stop
-returns-in-Err-clause-carried_stop g c clean older out =
-    absurd (true≢false (sym (c.is_taken.ensures.old older.0) ∙ c.if-not-is_taken.true))
-
-pub returns-then-not-has_marks-clause-carried_stop : goal.returns-then-not-has_marks-clause-carried_stop
-returns-then-not-has_marks-clause-carried_stop g c clean older out =
-    absurd (true≢false (sym (c.has_marks.ensures.old older.0) ∙ c.if-not-has_marks.true))
-
-pub returns-clause-carried_stop : goal.returns-clause-carried_stop
-returns-clause-carried_stop g c clean older out =
+pub returns-clause-older : goal.returns-clause-older
+returns-clause-older g c clean older out =
     absurd (true≢false (sym c.if-not-has_columns.false ∙ c.has_columns.ensures.old older.0))
 
 -- ---- a store of no version that is known here
