@@ -1,5 +1,6 @@
 -- What a turn does all together.
-use Rattle.std.specs.Prelude.{◌≡◌, ◌⊎◌, ◌≤◌, ℕ, Bool, true, false, ◌==◌, ◌||◌, List, [], ◌∷◌, ◌++◌, length, map, filter, filter_map, Option, Some, if◌then◌else◌}
+use Rattle.std.specs.Prelude.{◌≡◌, ◌⊎◌, ◌≤◌, ℕ, Bool, true, false, ◌==◌, ◌||◌, List, [], ◌∷◌, ◌++◌}
+use Rattle.std.specs.Prelude.{length, map, filter, filter_map, Option, Some, if◌then◌else◌}
 use Rattle.std.specs.List.{All, list_any}
 use Rattle.vault.specs.Calls.{has_grown}
 use Rattle.vault.specs.Changes.{Contents}
@@ -14,7 +15,11 @@ use Rattle.serving.specs.Settings.{settings, last_tried}
 use Rattle.serving.specs.declared.wire.Link.{Link}
 use Rattle.serving.specs.declared.links.Seat.{Seat}
 use Rattle.serving.specs.declared.links.Links.{Links}
-use Rattle.serving.specs.Works.{waits, arrivals, closings, moments, openings, refusals, AreNewlyAdmitted, HasCause, IsLateGone, is_failed, WasAsked, Came, seat_of, unseated_of, link_of, HasAccepted, most_links, Way, way_by, HadTurn, HasFreed, is_open_seat, is_shut_seat, link_of_seat, has_moved}
+use Rattle.serving.specs.Works.{waits, arrivals, closings, moments, openings, refusals}
+use Rattle.serving.specs.Works.{AreNewlyAdmitted, HasCause, IsLateGone, is_failed, WasAsked, Came}
+use Rattle.serving.specs.Works.{seat_of, unseated_of, link_of, HasAccepted, most_links, Way, way_by}
+use Rattle.serving.specs.Works.{HadTurn, HasFreed, is_open_seat, is_shut_seat, link_of_seat}
+use Rattle.serving.specs.Works.{has_moved}
 use Rattle.serving.specs.SpoolTurns.{IsSpoolTurn, has_dealt}
 use Rattle.serving.specs.HttpWorks.{HttpWorks}
 use Rattle.serving.specs.Newcomers.{newcomer}
@@ -53,7 +58,8 @@ pub record IsTurn (T after : Trace) (now : ℕ) (links links_then : Links) (came
   -- for each an opening was asked for, and so many were refused as links got no seat
   pub opened : openings given ≡ length came
   pub refused : refusals given ≡ length (filter_map unseated_of came)
-  -- logins are kept back behind refusals, where guesses are slow, and behind a session that ended in this turn, where they wait for a lock
+  -- logins are kept back behind refusals, where guesses are slow, and behind a session that ended
+  -- in this turn, where they wait for a lock
   pub freed : Bool
   pub ended : freed ≡ true → ((links.clients.wait == 0) ≡ false) × HasFreed T.base T.log given seats
   -- each link whose connection is open had its turn, or stays unread for a cause
@@ -63,10 +69,13 @@ pub record IsTurn (T after : Trace) (now : ℕ) (links links_then : Links) (came
   -- exactly those links were closed that got no seat, and those whose connections aren't open
   pub closed : closings calls ≡ filter_map unseated_of came ++ map link_of_seat (filter (is_shut_seat after) seats)
   -- whoever was late isn't open, or logged in meanwhile
-  pub timely : All (IsInTime now links.clients.newcomers.seconds links.clients.newcomers.newcomers.items T.base T.log given after) seats
+  pub timely : All (IsInTime now links.clients.newcomers.seconds
+      links.clients.newcomers.newcomers.items T.base T.log given after) seats
   -- nobody is forgotten whose connection is open and who didn't log in meanwhile
-  pub noted : (c : ℕ) (n : Newcomer) → newcomer c links.clients.newcomers.newcomers.items ≡ Some n → is_open after c ≡ true
-      → (newcomer c links_then.clients.newcomers.newcomers.items ≡ Some n) ⊎ HasLived T.base T.log given c
+  pub noted : (c : ℕ) (n : Newcomer) → newcomer c links.clients.newcomers.newcomers.items ≡ Some n →
+      is_open after c ≡ true
+      → (newcomer c links_then.clients.newcomers.newcomers.items ≡ Some n)
+      ⊎ HasLived T.base T.log given c
   -- the others stay
   pub left : links_then.clients.seats.items ≡ filter (is_open_seat after) seats
 

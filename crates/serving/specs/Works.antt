@@ -401,7 +401,12 @@ way_at links = record { share = share_by (length links.seats.items); wait = link
 
 -- so many links are served, by these settings, and whether a session ended meanwhile
 abbrev pub way_by : Settings → (count : ℕ) → (freed : Bool) → Way
-way_by set count freed = record { share = share_by count; wait = set.wait; may = set.slow_guesses || freed }
+way_by set count freed = record {
+  share = share_by count;
+  wait = set.wait;
+  may = set.slow_guesses ||
+      freed;
+}
 
 -- a seat's link had its turn, or stays unread for a cause, where its connection is open by then
 abbrev pub HadTurn : Way → (B : Records) (older given : Log) → (after : Trace) → List Call → Seat → Type 0
@@ -417,7 +422,8 @@ pub record HadTurns {V : Type 0} (Holds : V → Contents → Type 0) (IsClean : 
 
 -- ---- sessions that end
 
--- A connection's session ended by these events: it lived behind some of them, and no more behind the next ones.
+-- A connection's session ended by these events: it lived behind some of them, and no more behind
+-- the next ones.
 pub record HasEnded (B : Records) (older given : Log) (c : ℕ) : Type 0 where
   pub later : Log
   pub ending : Log
@@ -432,15 +438,24 @@ pub record HasFreed (B : Records) (older given : Log) (seats : List Seat) : Type
   pub among : Contains seats seat
   pub session : HasEnded B older given seat.connection
 
--- logins are kept back behind sessions that ended, where they wait for a lock, and behind nothing else
-abbrev pub IsFreedBy : {V : Type 0} (Holds : V → Contents → Type 0) (IsClean : V → Type 0) (office office_then : Office V) (wait : ℕ) (freed : Bool) (seats : List Seat) (given : Log) → Type 0
+-- logins are kept back behind sessions that ended, where they wait for a lock, and behind nothing
+-- else
+abbrev pub IsFreedBy : {V : Type 0} (Holds : V → Contents → Type 0) (IsClean : V
+    → Type 0) (office office_then : Office V) (wait : ℕ) (freed : Bool) (seats : List Seat) (given :
+    Log) → Type 0
 IsFreedBy Holds IsClean office office_then wait freed seats given =
-    freed ≡ true → ((wait == 0) ≡ false) × ((B : Records) (L : Log) → StandsFor Holds office (trace_of B L) → IsClean (vault_of office_then) → HasFreed B L given seats)
+    freed ≡ true → ((wait == 0) ≡ false) × ((B : Records) (L : Log)
+    → StandsFor Holds office (trace_of B L) → IsClean (vault_of office_then)
+    → HasFreed B L given seats)
 
--- the links of these seats had their turns, by these settings, and what was kept back behind a session that ended was so for that
-pub record WereServed {V : Type 0} (Holds : V → Contents → Type 0) (IsClean : V → Type 0) (office office_then : Office V) (set : Settings) (freed : Bool) (seats these : List Seat)
+-- the links of these seats had their turns, by these settings, and what was kept back behind a
+-- session that ended was so for that
+pub record WereServed {V : Type 0} (Holds : V → Contents → Type 0) (IsClean : V
+    → Type 0) (office office_then : Office V) (set : Settings) (freed : Bool) (seats these : List
+    Seat)
     (given : Log) (calls : List Call) : Type 0 where
-  pub turns : HadTurns Holds IsClean office office_then (way_by set (length seats) freed) seats these given calls
+  pub turns : HadTurns Holds IsClean office office_then (way_by set (length seats) freed) seats
+      these given calls
   pub freed_by : IsFreedBy Holds IsClean office office_then set.wait freed seats given
 
 -- deposits, and no other event

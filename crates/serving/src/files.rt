@@ -41,7 +41,8 @@ fn disposal_by(outcome: Outcome) -> Disposal
 /// Deposits a file, and removes, renames or leaves it by the office's answer; one that can't be
 /// read is left. Returns whether it was removed or renamed.
 fn try_file<V: Vault, S: Spool>(office: &mut Office<V>, spool: &mut S, name: &FileName) -> bool
-    ensures works { SpoolPart V.holds V.is_clean V.faults S.asked office.old spool.old office.new spool.new (λ T given calls. IsTrying name.now T given calls × (result ≡ has_dealt calls)) }
+    ensures works { SpoolPart V.holds V.is_clean V.faults S.asked office.old spool.old office.new
+        spool.new (λ T given calls. IsTrying name.now T given calls × (result ≡ has_dealt calls)) }
     ensures tried { (T : Trace) (acts : List FileAct) → StandsFor V.holds office.old T → S.tells spool.old acts → V.is_clean (vault_of office.new) → IsTried V.holds S.tells T acts office.new spool.new }
     ensures clean { V.is_clean (vault_of office.new) → V.is_clean (vault_of office.old) }
 {
@@ -63,7 +64,9 @@ pub(crate) fn serve_spool<V: Vault, S: Spool>(
     spool: &mut S,
     links: &mut Clients,
 )
-    ensures works { SpoolPart V.holds V.is_clean V.faults S.asked office.old spool.old office.new spool.new (λ T given calls. IsSpoolTurn links.old.last links.new.last T given calls × (links.new.presses ≡ (links.old.presses || has_dealt calls))) }
+    ensures works { SpoolPart V.holds V.is_clean V.faults S.asked office.old spool.old office.new
+        spool.new (λ T given calls. IsSpoolTurn links.old.last links.new.last T given calls ×
+        (links.new.presses ≡ (links.old.presses || has_dealt calls))) }
     ensures tried { (T : Trace) (acts : List FileAct) → StandsFor V.holds office.old T → S.tells spool.old acts → V.is_clean (vault_of office.new) → IsTried V.holds S.tells T acts office.new spool.new }
     ensures clean { V.is_clean (vault_of office.new) → V.is_clean (vault_of office.old) }
     ensures seats { links.new.seats ≡ links.old.seats }

@@ -16,7 +16,8 @@ ghost use Rattle.serving.specs.Newcomers.{others, newcomer};
 ghost use Rattle.serving.specs.Paces.{has_freed, KeepsAside, LeavesSettings};
 ghost use Rattle.serving.specs.Settings.{settings, settings_of, none_set};
 ghost use Rattle.serving.specs.Works.{Part, Asking, Giving, IsPassed, AreAccepted, IsWritten};
-ghost use Rattle.serving.specs.Works.{IsWrittenOut, IsHeard, HadTurns, WereServed, AreClosed, IsClosed};
+ghost use Rattle.serving.specs.Works.{IsWrittenOut, IsHeard, HadTurns, WereServed, AreClosed};
+ghost use Rattle.serving.specs.Works.{IsClosed};
 ghost use Rattle.serving.specs.Works.{share_by, may_keep, way_at, is_late, AreNoMoreLate};
 ghost use Rattle.serving.specs.Works.{AreLateGone, Also, PressedBy};
 ghost use Rattle.serving.specs.Late.{IsShutBy, HasEndedLate};
@@ -324,7 +325,10 @@ fn serve_seat<V: Vault, W: Wire, L: Listener>(
     ensures serves { StillServes V.holds V.is_clean W.tells office.old wire.old links.old.seats.items [] office.new wire.new links.new.seats.items [] }
     ensures clean { V.is_clean (vault_of office.new) → V.is_clean (vault_of office.old) }
     ensures seats { links.new.seats ≡ links.old.seats }
-    ensures freed { (d : declared.Seat) (T U : Trace) → StandsFor V.holds office.old T → StandsFor V.holds office.new U → links.new.is_freed ≡ (links.old.is_freed || has_freed links.old.wait (live (history T) (slice_index_or links.old.seats.items place d).connection) (live (history U) (slice_index_or links.old.seats.items place d).connection)) }
+    ensures freed { (d : declared.Seat) (T U : Trace) → StandsFor V.holds office.old T
+        → StandsFor V.holds office.new U → links.new.is_freed ≡ (links.old.is_freed || has_freed
+        links.old.wait (live (history T) (slice_index_or links.old.seats.items place d).connection)
+        (live (history U) (slice_index_or links.old.seats.items place d).connection)) }
     ensures waits { links.new.is_freed ≡ true → (links.old.is_freed ≡ true) ⊎ ((links.old.wait == 0) ≡ false) }
     ensures still { links.old.is_freed ≡ true → links.new.is_freed ≡ true }
     ensures aside { LeavesSettings links.old links.new }
@@ -369,7 +373,10 @@ fn serve_links<V: Vault, W: Wire, L: Listener>(
 fn end_seat<V: Vault, W: Wire>(office: &mut Office<V>, _wire: &W, seat: Seat)
     ensures serves { StillServesOne V.holds V.is_clean W.tells seat office.old _wire.now office.new _wire.now }
     ensures clean { V.is_clean (vault_of office.new) → V.is_clean (vault_of office.old) }
-    ensures works { (now seconds : ℕ) (newcomers : List Newcomer) → is_late now seconds newcomers seat.connection ≡ true → Giving V.holds V.is_clean V.faults office.old office.new (λ given. AreLateGone now seconds newcomers given × IsShutBy V.holds V.is_clean office.old office.new seat.connection given) }
+    ensures works { (now seconds : ℕ) (newcomers : List Newcomer)
+        → is_late now seconds newcomers seat.connection ≡ true
+        → Giving V.holds V.is_clean V.faults office.old office.new (λ given. AreLateGone now seconds
+        newcomers given × IsShutBy V.holds V.is_clean office.old office.new seat.connection given) }
 {
     if office.ended(seat.connection) {
         return;
@@ -393,7 +400,11 @@ fn end_late<V: Vault, W: Wire>(
     ensures presses { links.new.presses ≡ links.old.presses }
     ensures last { links.new.last ≡ links.old.last }
     ensures late { AreNoMoreLate now links.old.newcomers.seconds links.old.newcomers.newcomers.items links.new.newcomers.newcomers.items }
-    ensures works { (links.old.newcomers.seconds == 0) ≡ false → Giving V.holds V.is_clean V.faults office.old office.new (λ given. (d : declared.Seat) → HasEndedLate V.holds V.is_clean office.old office.new now links.old.newcomers.seconds links.old.newcomers.newcomers.items links.new.newcomers.newcomers.items (slice_index_or links.old.seats.items place d ∷ []) given) }
+    ensures works { (links.old.newcomers.seconds == 0) ≡ false
+        → Giving V.holds V.is_clean V.faults office.old office.new (λ given. (d : declared.Seat) →
+        HasEndedLate V.holds V.is_clean office.old office.new now links.old.newcomers.seconds
+        links.old.newcomers.newcomers.items links.new.newcomers.newcomers.items (slice_index_or
+        links.old.seats.items place d ∷ []) given) }
 {
     let seat = links.seats[place];
     if office.is_logged_in(seat.connection) {
@@ -415,7 +426,10 @@ fn end_late_ones<V: Vault, W: Wire>(office: &mut Office<V>, wire: &W, links: &mu
     ensures set { settings_of links.new ≡ settings_of links.old }
     ensures presses { links.new.presses ≡ links.old.presses }
     ensures last { links.new.last ≡ links.old.last }
-    ensures works { Giving V.holds V.is_clean V.faults office.old office.new (HasEndedLate V.holds V.is_clean office.old office.new now links.old.newcomers.seconds links.old.newcomers.newcomers.items links.new.newcomers.newcomers.items links.old.seats.items) }
+    ensures works { Giving V.holds V.is_clean V.faults office.old office.new (HasEndedLate V.holds
+        V.is_clean office.old office.new now links.old.newcomers.seconds
+        links.old.newcomers.newcomers.items links.new.newcomers.newcomers.items
+        links.old.seats.items) }
 {
     if links.newcomers.seconds == 0 {
         return;
@@ -465,7 +479,9 @@ fn close_links<V: Vault, W: Wire>(office: &Office<V>, wire: &mut W, links: &mut 
     ensures serves { StillServes V.holds V.is_clean W.tells office.now wire.old links.old.seats.items [] office.now wire.new links.new.seats.items links.new.seats.items }
     ensures set { settings_of links.new ≡ settings_of links.old }
     ensures last { links.new.last ≡ links.old.last }
-    ensures newcomers { (T : Trace) → StandsFor V.holds office.now T → (c : ℕ) → is_open T c ≡ true → newcomer c links.new.newcomers.newcomers.items ≡ newcomer c links.old.newcomers.newcomers.items }
+    ensures newcomers { (T : Trace) → StandsFor V.holds office.now T → (c : ℕ)
+        → is_open T c ≡ true → newcomer c links.new.newcomers.newcomers.items ≡ newcomer c
+        links.old.newcomers.newcomers.items }
     ensures works { (T : Trace) → StandsFor V.holds office.now T
         → Asking W.asked wire.old wire.new
         (λ calls. AreClosed T links.old.seats.items links.new.seats.items calls
@@ -514,7 +530,8 @@ fn accept_link<V: Vault, W: Wire, L: Listener>(
     ensures presses { links.new.presses ≡ links.old.presses }
     ensures last { links.new.last ≡ links.old.last }
     ensures late { AreNoMoreLate now links.old.newcomers.seconds links.old.newcomers.newcomers.items links.new.newcomers.newcomers.items }
-    ensures noted { (c : ℕ) (n : Newcomer) → newcomer c links.old.newcomers.newcomers.items ≡ Some n → newcomer c links.new.newcomers.newcomers.items ≡ Some n }
+    ensures noted { (c : ℕ) (n : Newcomer) → newcomer c links.old.newcomers.newcomers.items ≡ Some n
+        → newcomer c links.new.newcomers.newcomers.items ≡ Some n }
     ensures works { Part V.holds V.is_clean V.faults W.asked office.old wire.old office.new wire.new (AreAccepted V.holds V.is_clean office.old office.new links.old.seats.items links.new.seats.items 1 result) }
 {
     if links.seats.is_full() {
@@ -549,7 +566,8 @@ fn accept_links<V: Vault, W: Wire, L: Listener>(
     ensures presses { links.new.presses ≡ links.old.presses }
     ensures last { links.new.last ≡ links.old.last }
     ensures late { AreNoMoreLate now links.old.newcomers.seconds links.old.newcomers.newcomers.items links.new.newcomers.newcomers.items }
-    ensures noted { (c : ℕ) (n : Newcomer) → newcomer c links.old.newcomers.newcomers.items ≡ Some n → newcomer c links.new.newcomers.newcomers.items ≡ Some n }
+    ensures noted { (c : ℕ) (n : Newcomer) → newcomer c links.old.newcomers.newcomers.items ≡ Some n
+        → newcomer c links.new.newcomers.newcomers.items ≡ Some n }
     ensures works { (goes : Bool) × Part V.holds V.is_clean V.faults W.asked office.old wire.old office.new wire.new (AreAccepted V.holds V.is_clean office.old office.new links.old.seats.items links.new.seats.items 64 goes) }
 {
     for _times in 0..MOST_LINKS {
