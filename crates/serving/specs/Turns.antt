@@ -72,8 +72,8 @@ pub record IsTurn (T after : Trace) (now : ℕ) (links links_then : Links) (came
   pub timely : All (IsInTime now links.clients.newcomers.seconds
       links.clients.newcomers.newcomers.items T.base T.log given after) seats
   -- nobody is forgotten whose connection is open and who didn't log in meanwhile
-  pub noted : (c : ℕ) (n : Newcomer) → newcomer c links.clients.newcomers.newcomers.items ≡ Some n →
-      is_open after c ≡ true
+  pub noted : (c : ℕ) (n : Newcomer) → newcomer c links.clients.newcomers.newcomers.items ≡ Some n
+      → is_open after c ≡ true
       → (newcomer c links_then.clients.newcomers.newcomers.items ≡ Some n)
       ⊎ HasLived T.base T.log given c
   -- the others stay

@@ -404,8 +404,7 @@ abbrev pub way_by : Settings → (count : ℕ) → (freed : Bool) → Way
 way_by set count freed = record {
   share = share_by count;
   wait = set.wait;
-  may = set.slow_guesses ||
-      freed;
+  may = set.slow_guesses || freed;
 }
 
 -- a seat's link had its turn, or stays unread for a cause, where its connection is open by then
@@ -440,9 +439,9 @@ pub record HasFreed (B : Records) (older given : Log) (seats : List Seat) : Type
 
 -- logins are kept back behind sessions that ended, where they wait for a lock, and behind nothing
 -- else
-abbrev pub IsFreedBy : {V : Type 0} (Holds : V → Contents → Type 0) (IsClean : V
-    → Type 0) (office office_then : Office V) (wait : ℕ) (freed : Bool) (seats : List Seat) (given :
-    Log) → Type 0
+abbrev pub IsFreedBy : {V : Type 0} (Holds : V → Contents → Type 0) (IsClean : V → Type 0)
+    (office office_then : Office V) (wait : ℕ) (freed : Bool) (seats : List Seat) (given : Log)
+    → Type 0
 IsFreedBy Holds IsClean office office_then wait freed seats given =
     freed ≡ true → ((wait == 0) ≡ false) × ((B : Records) (L : Log)
     → StandsFor Holds office (trace_of B L) → IsClean (vault_of office_then)
@@ -450,9 +449,8 @@ IsFreedBy Holds IsClean office office_then wait freed seats given =
 
 -- the links of these seats had their turns, by these settings, and what was kept back behind a
 -- session that ended was so for that
-pub record WereServed {V : Type 0} (Holds : V → Contents → Type 0) (IsClean : V
-    → Type 0) (office office_then : Office V) (set : Settings) (freed : Bool) (seats these : List
-    Seat)
+pub record WereServed {V : Type 0} (Holds : V → Contents → Type 0) (IsClean : V → Type 0)
+    (office office_then : Office V) (set : Settings) (freed : Bool) (seats these : List Seat)
     (given : Log) (calls : List Call) : Type 0 where
   pub turns : HadTurns Holds IsClean office office_then (way_by set (length seats) freed) seats
       these given calls
