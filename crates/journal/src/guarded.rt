@@ -1,6 +1,7 @@
 //! A wire and a spool that give nothing more once the server's store is lost.
 ghost use Rattle.std.specs.Prelude.{◌≡◌, ℕ, List, []};
 ghost use Rattle.serving.specs.Wires.{IsWithin, counted};
+ghost use Rattle.journal.specs.Guards.{IsGuarded, AreGuarded};
 
 use super::watch::StoreWatch;
 use serving::{FileName, Io, Link, Port, Spool, Wire};
@@ -39,7 +40,7 @@ fn without_octets(io: Io) -> Io
 impl<W: Wire> Wire for Guarded<'_, W> {
     ghost tells = { λ r. W.tells r.inner };
 
-    ghost asked = { λ _ _. ⊥ };
+    ghost asked = { λ r calls. IsGuarded W.asked r.inner calls };
 
     ghost tells_once = { λ r. W.tells_once r.inner };
 
@@ -89,7 +90,7 @@ impl<W: Wire> Wire for Guarded<'_, W> {
 impl<S: Spool> Spool for Guarded<'_, S> {
     ghost tells = { λ r. S.tells r.inner };
 
-    ghost asked = { λ _ _. ⊥ };
+    ghost asked = { λ r calls. AreGuarded S.asked r.inner calls };
 
     ghost tells_once = { λ r. S.tells_once r.inner };
 

@@ -1,0 +1,6 @@
+use Rattle.serving.specs.Spools.{Removed}
+use Rattle.journal.proofs.Guarding.{file_on}
+use Rattle.journal.proofs.guarded.GuardedSpool.remove.Goals as goal
+
+pub returns-clause-called : goal.returns-clause-called
+returns-clause-called g c = file_on g.S.Spool.asked c.args.self.now.inner c.remove.new.self (Removed c.args.name.now c.remove.result) c.remove.ensures.called

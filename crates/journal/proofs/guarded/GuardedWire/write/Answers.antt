@@ -1,0 +1,12 @@
+use Rattle.serving.specs.Wires.{counted}
+use Rattle.serving.specs.Calls.{Wrote}
+use Rattle.journal.proofs.Guarding.{handed_on, wrote_on}
+use Rattle.journal.proofs.guarded.GuardedWire.write.Goals as goal
+
+pub returns-then-is_lost-clause-called : goal.returns-then-is_lost-clause-called
+returns-then-is_lost-clause-called g c =
+    wrote_on g.W.Wire.asked c.args.self.now.inner c.write.new.self c.args.port c.args.link c.write.result c.without_octets.result _ c.args.octets.now
+    c.without_octets.ensures.same c.without_octets.ensures.none c.write.ensures.called
+
+pub returns-clause-called : goal.returns-clause-called
+returns-clause-called g c = handed_on g.W.Wire.asked c.args.self.now.inner c.write-2.new.self (Wrote c.args.port c.args.link c.write-2.result (counted c.write-2.result c.args.octets.now)) c.write-2.ensures.called
