@@ -3,7 +3,8 @@
 ghost use Rattle.std.specs.Prelude.{◌≡◌, ◌≢◌, IfOk, IfErr, Ok, Err};
 ghost use Rattle.adminhttp.specs.Head.{headers_of, LieIn};
 ghost use Rattle.adminhttp.specs.Steps.{map_ok};
-ghost use Rattle.adminhttp.specs.Bodies.{body_of, without_line_end as text_of, credential_of, policy_of, stop_of as stop_told};
+ghost use Rattle.adminhttp.specs.Bodies.{body_of, without_line_end as text_of, credential_of};
+ghost use Rattle.adminhttp.specs.Bodies.{policy_of, stop_of as stop_told};
 
 use crate::fields::body_len;
 use crate::head::Head;
@@ -19,7 +20,8 @@ use std::str;
 #[tactic(auto, unfolding(crate::specs::Bodies::body_of))]
 pub fn read_body<'b>(head: &Head<'b>, headers: &[HeaderSpan]) -> Result<&'b [u8], Stop>
     requires { LieIn head.now headers.now }
-    ensures { map_ok (λ v. v.now) result ≡ body_of (headers_of head.now headers.now) head.now.behind.now }
+    ensures { map_ok (λ v. v.now) result ≡ body_of (headers_of head.now headers.now)
+        head.now.behind.now }
 {
     let len = body_len(head.text, headers)?;
     if head.behind.len() < len {

@@ -4,7 +4,8 @@ ghost use Rattle.std.specs.Prelude.{◌≡◌, ◌≢◌, IfOk, IfErr, Ok, Err};
 ghost use Rattle.office.specs.Shown.{command_seen};
 ghost use Rattle.adminhttp.specs.Head.{headers_of, LieIn};
 ghost use Rattle.adminhttp.specs.Steps.{map_ok};
-ghost use Rattle.adminhttp.specs.Request.{asked_of, by_get, clerk_asked, clerk_put, maildrop_asked, policy_asked, policy_put, session_asked};
+ghost use Rattle.adminhttp.specs.Request.{asked_of, by_get, clerk_asked, clerk_put, maildrop_asked};
+ghost use Rattle.adminhttp.specs.Request.{policy_asked, policy_put, session_asked};
 
 use crate::body::{read_body, read_credential, read_policy, without_line_end};
 use crate::head::Head;
@@ -28,8 +29,11 @@ pub fn read_command(
     headers: &[HeaderSpan],
 ) -> Result<AdminCommand, Stop>
     requires { LieIn head.now headers.now }
-    ensures ok { IfOk result (λ command. asked_of target.now head.now.method.now (headers_of head.now headers.now) head.now.behind.now ≡ Ok (command_seen command)) }
-    ensures fault { IfErr result (λ stop. stop ≢ Stop.NoMemory → asked_of target.now head.now.method.now (headers_of head.now headers.now) head.now.behind.now ≡ Err stop) }
+    ensures ok { IfOk result (λ command. asked_of target.now head.now.method.now
+        (headers_of head.now headers.now) head.now.behind.now ≡ Ok (command_seen command)) }
+    ensures fault { IfErr result (λ stop. stop ≢ Stop.NoMemory
+        → asked_of target.now head.now.method.now (headers_of head.now headers.now)
+        head.now.behind.now ≡ Err stop) }
 {
     match target {
         Target::Maildrops => by_get(Route::Maildrops, head.method, AdminCommand::ListMaildrops),
@@ -91,7 +95,8 @@ fn clerk_command(
     headers: &[HeaderSpan],
 ) -> Result<AdminCommand, Stop>
     requires { LieIn head.now headers.now }
-    ensures { map_ok command_seen result ≡ clerk_asked clerk.now head.now.method.now (headers_of head.now headers.now) head.now.behind.now }
+    ensures { map_ok command_seen result ≡ clerk_asked clerk.now head.now.method.now
+        (headers_of head.now headers.now) head.now.behind.now }
 {
     if head.method == b"GET".as_slice() {
         Ok(AdminCommand::ShowClerk(*clerk))
@@ -108,7 +113,8 @@ fn clerk_command(
 #[tactic(auto, unfolding(crate::specs::Request::clerk_put))]
 fn put_clerk(clerk: &Name, head: &Head<'_>, headers: &[HeaderSpan]) -> Result<AdminCommand, Stop>
     requires { LieIn head.now headers.now }
-    ensures { map_ok command_seen result ≡ clerk_put clerk.now (headers_of head.now headers.now) head.now.behind.now }
+    ensures { map_ok command_seen result ≡ clerk_put clerk.now (headers_of head.now headers.now)
+        head.now.behind.now }
 {
     let body = read_body(head, headers)?;
     match read_credential(clerk, without_line_end(body)) {
@@ -125,8 +131,11 @@ fn policy_command(
     headers: &[HeaderSpan],
 ) -> Result<AdminCommand, Stop>
     requires { LieIn head.now headers.now }
-    ensures ok { IfOk result (λ command. policy_asked head.now.method.now (headers_of head.now headers.now) head.now.behind.now ≡ Ok (command_seen command)) }
-    ensures fault { IfErr result (λ stop. stop ≢ Stop.NoMemory → policy_asked head.now.method.now (headers_of head.now headers.now) head.now.behind.now ≡ Err stop) }
+    ensures ok { IfOk result (λ command. policy_asked head.now.method.now
+        (headers_of head.now headers.now) head.now.behind.now ≡ Ok (command_seen command)) }
+    ensures fault { IfErr result (λ stop. stop ≢ Stop.NoMemory
+        → policy_asked head.now.method.now (headers_of head.now headers.now) head.now.behind.now
+        ≡ Err stop) }
 {
     if head.method == b"GET".as_slice() {
         Ok(AdminCommand::ShowPolicy)
@@ -141,8 +150,10 @@ fn policy_command(
 #[tactic(auto, unfolding(crate::specs::Request::policy_put))]
 fn put_policy(alloc: Global, head: &Head<'_>, headers: &[HeaderSpan]) -> Result<AdminCommand, Stop>
     requires { LieIn head.now headers.now }
-    ensures ok { IfOk result (λ command. policy_put (headers_of head.now headers.now) head.now.behind.now ≡ Ok (command_seen command)) }
-    ensures fault { IfErr result (λ stop. stop ≢ Stop.NoMemory → policy_put (headers_of head.now headers.now) head.now.behind.now ≡ Err stop) }
+    ensures ok { IfOk result (λ command. policy_put (headers_of head.now headers.now)
+        head.now.behind.now ≡ Ok (command_seen command)) }
+    ensures fault { IfErr result (λ stop. stop ≢ Stop.NoMemory
+        → policy_put (headers_of head.now headers.now) head.now.behind.now ≡ Err stop) }
 {
     let body = read_body(head, headers)?;
     let policy = read_policy(alloc, body)?;

@@ -1,12 +1,14 @@
 //! The headers that give the length of a request's body (RFC 9112, 6).
 
-ghost use Rattle.std.specs.Prelude.{◌≡◌, ◌<◌, nat_le, length, map, All, codes, IsTrue, if◌then◌else◌};
+ghost use Rattle.std.specs.Prelude.{◌≡◌, ◌<◌, nat_le, length, map, All, codes, IsTrue};
+ghost use Rattle.std.specs.Prelude.{if◌then◌else◌};
 ghost use Rattle.std.specs.List.{list_any, list_all};
 ghost use Rattle.std.specs.Str.Parse.{digits_value};
 ghost use Rattle.std.specs.Char.{is_ascii_digit, to_ascii_lowercase};
 ghost use Rattle.httparse.specs.Spans.{IsHeaderWithin, header_bytes};
 ghost use Rattle.adminhttp.specs.Steps.{map_ok};
-ghost use Rattle.adminhttp.specs.Fields.{is_named, length_text, length_of, body_length, only, values_of};
+ghost use Rattle.adminhttp.specs.Fields.{is_named, length_text, length_of, body_length, only};
+ghost use Rattle.adminhttp.specs.Fields.{values_of};
 
 use crate::refusal::Refusal;
 use crate::stop::Stop;
@@ -80,7 +82,8 @@ fn are_digits(value: &[u8]) -> bool
 /// The number that decimal digits write, at most 1,048,576.
 fn read_digits(digits: &[u8]) -> Option<usize>
     requires { IsTrue (list_all is_ascii_digit digits.now) }
-    ensures { result ≡ (if nat_le (digits_value 10 digits.now) MAX_BODY then Some (digits_value 10 digits.now) else None) }
+    ensures { result ≡ (if nat_le (digits_value 10 digits.now) MAX_BODY then Some
+        (digits_value 10 digits.now) else None) }
 {
     let mut length = 0;
     for digit in digits {

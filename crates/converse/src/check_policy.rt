@@ -1,10 +1,12 @@
 //! `popbox check-policy`: reads a policy's file, and prints how many rules it has or its first
 //! fault.
 
-ghost use Rattle.std.specs.Prelude.{◌≡◌, ◌≤◌, ◌⊎◌, IfOk, IsErr, IsOk, IfSome, OnOk, OnErr, length, string_bytes};
+ghost use Rattle.std.specs.Prelude.{◌≡◌, ◌≤◌, ◌⊎◌, IfOk, IsErr, IsOk, IfSome, OnOk, OnErr, length};
+ghost use Rattle.std.specs.Prelude.{string_bytes};
 ghost use Rattle.std.specs.Io.KnownBytes.{IsAtEnd};
 ghost use Rattle.policy.specs.declared.fault.PolicyFault.{PolicyFault};
-ghost use Rattle.converse.specs.PolicyFile.{IsPolicyText, IsFaultOf, IsNoPolicyText, TellsCount, TellsCountPart};
+ghost use Rattle.converse.specs.PolicyFile.{IsPolicyText, IsFaultOf, IsNoPolicyText, TellsCount};
+ghost use Rattle.converse.specs.PolicyFile.{TellsCountPart};
 ghost use Rattle.converse.specs.Told.{count_line as line_of};
 
 use crate::fault::{Fault, read_fault, tell_fault};
@@ -29,8 +31,10 @@ pub fn check_policy<R: Read, W: Write, E: Write>(
     ensures status { result ≤ 1 }
     ensures silent { result ≡ 0 → err.new ≡ err.old }
     ensures unread { (IsAtEnd (R.remaining file.new) → ⊥) → (result ≡ 1) × (out.new ≡ out.old) }
-    ensures good { result ≡ 0 → TellsCount (R.remaining file.old) (W.contents out.old) (W.contents out.new) }
-    ensures faulty { IfSome (R.remaining file.old) (λ octets. IsNoPolicyText octets → out.new ≡ out.old) }
+    ensures good { result ≡ 0 → TellsCount (R.remaining file.old) (W.contents out.old)
+        (W.contents out.new) }
+    ensures faulty { IfSome (R.remaining file.old)
+        (λ octets. IsNoPolicyText octets → out.new ≡ out.old) }
     ensures part { (out.new ≡ out.old)
         ⊎ TellsCountPart (R.remaining file.old) (W.contents out.old) (W.contents out.new) }
 {
@@ -43,8 +47,10 @@ pub fn check_policy<R: Read, W: Write, E: Write>(
 /// Prints how many rules the policy of a file has.
 fn tell_count<R: Read, W: Write>(alloc: Global, file: &mut R, out: &mut W) -> Result<(), Fault>
     ensures unread { (IsAtEnd (R.remaining file.new) → ⊥) → IsErr result × (out.new ≡ out.old) }
-    ensures ok { OnOk result (TellsCount (R.remaining file.old) (W.contents out.old) (W.contents out.new)) }
-    ensures faulty { IfSome (R.remaining file.old) (λ octets. IsNoPolicyText octets → out.new ≡ out.old) }
+    ensures ok { OnOk result (TellsCount (R.remaining file.old) (W.contents out.old)
+        (W.contents out.new)) }
+    ensures faulty { IfSome (R.remaining file.old)
+        (λ octets. IsNoPolicyText octets → out.new ≡ out.old) }
     ensures part { (out.new ≡ out.old)
         ⊎ TellsCountPart (R.remaining file.old) (W.contents out.old) (W.contents out.new) }
 {
@@ -57,8 +63,10 @@ fn tell_count<R: Read, W: Write>(alloc: Global, file: &mut R, out: &mut W) -> Re
 /// The policy of a file.
 pub(crate) fn read_file<R: Read>(alloc: Global, file: &mut R) -> Result<Policy, Fault>
     ensures end { IsOk result → IsAtEnd (R.remaining file.new) }
-    ensures ok { IfOk result (λ policy. IfSome (R.remaining file.old) (λ octets. IsPolicyText octets policy)) }
-    ensures fault { (fault : PolicyFault) → result ≡ Err (Fault.NoPolicy fault) → IfSome (R.remaining file.old) (λ octets. IsFaultOf octets fault) }
+    ensures ok { IfOk result (λ policy. IfSome (R.remaining file.old)
+        (λ octets. IsPolicyText octets policy)) }
+    ensures fault { (fault : PolicyFault) → result ≡ Err (Fault.NoPolicy fault)
+        → IfSome (R.remaining file.old) (λ octets. IsFaultOf octets fault) }
 {
     let mut octets = Vec::new(alloc);
     match file.read_to_end(&mut octets) {
@@ -70,7 +78,8 @@ pub(crate) fn read_file<R: Read>(alloc: Global, file: &mut R) -> Result<Policy, 
 /// The policy that octets spell, or their first fault.
 pub(crate) fn read_octets(alloc: Global, octets: &[u8]) -> Result<Policy, Fault>
     ensures ok { IfOk result (λ policy. IsPolicyText octets.now policy) }
-    ensures fault { (fault : PolicyFault) → result ≡ Err (Fault.NoPolicy fault) → IsFaultOf octets.now fault }
+    ensures fault { (fault : PolicyFault) → result ≡ Err (Fault.NoPolicy fault)
+        → IsFaultOf octets.now fault }
 {
     let Ok(text) = str::from_utf8(octets) else {
         return Err(Fault::NoPolicy(PolicyFault::NotToml));

@@ -7,7 +7,9 @@ ghost use Rattle.vault.specs.declared.answer.Total.{Total as Sum};
 ghost use Rattle.vault.specs.Records.{credential_in};
 ghost use Rattle.vault.specs.Changes.{Contents};
 ghost use Rattle.converse.specs.Printed.{PrintsPart};
-ghost use Rattle.converse.specs.Checked.{kind_text, counted, file_lines, maildrop_line, clerk_line, counts_front, counts_rest, counts_line, last_line, store_text};
+ghost use Rattle.converse.specs.Checked.{kind_text, counted, file_lines, maildrop_line, clerk_line};
+ghost use Rattle.converse.specs.Checked.{counts_front, counts_rest, counts_line, last_line};
+ghost use Rattle.converse.specs.Checked.{store_text};
 
 use crate::fault::{Fault, tell_fault};
 use crate::printing::print;
@@ -44,12 +46,15 @@ pub fn check_store<V: Vault, W: Write, E: Write>(
 ) -> u8
     ensures status { result ≤ 1 }
     ensures silent { result ≡ 0 → err.new ≡ err.old }
-    ensures told { result ≡ 0 → (c : Contents) → V.holds vault.old c → V.is_clean vault.new → Appends (W.contents out.old) (W.contents out.new) (store_text file.now c clerks.now) }
+    ensures told { result ≡ 0 → (c : Contents) → V.holds vault.old c → V.is_clean vault.new
+        → Appends (W.contents out.old) (W.contents out.new) (store_text file.now c clerks.now) }
     ensures part { (out.new ≡ out.old)
         ⊎ ((c : Contents) → V.holds vault.old c → V.is_clean vault.new
         → PrintsPart (W.contents out.old) (W.contents out.new) (store_text file.now c clerks.now)) }
-    ensures known { result ≡ 0 → (c : Contents) → V.holds vault.old c → V.is_clean vault.new → All (λ name. is_some (credential_in name c.clerks) ≡ true) clerks.now }
-    ensures held { (c : Contents) → V.holds vault.old c → V.is_clean vault.new → V.holds vault.new c }
+    ensures known { result ≡ 0 → (c : Contents) → V.holds vault.old c → V.is_clean vault.new
+        → All (λ name. is_some (credential_in name c.clerks) ≡ true) clerks.now }
+    ensures held { (c : Contents) → V.holds vault.old c → V.is_clean vault.new
+        → V.holds vault.new c }
     ensures clean { V.is_clean vault.new → V.is_clean vault.old }
 {
     match tell_store(alloc, vault, clerks, file, out) {
@@ -66,12 +71,15 @@ fn tell_store<V: Vault, W: Write>(
     file: &StoreFile,
     out: &mut W,
 ) -> Result<(), Fault>
-    ensures told { OnOk result ((c : Contents) → V.holds vault.old c → V.is_clean vault.new → Appends (W.contents out.old) (W.contents out.new) (store_text file.now c clerks.now)) }
+    ensures told { OnOk result ((c : Contents) → V.holds vault.old c → V.is_clean vault.new
+        → Appends (W.contents out.old) (W.contents out.new) (store_text file.now c clerks.now)) }
     ensures part { (out.new ≡ out.old)
         ⊎ ((c : Contents) → V.holds vault.old c → V.is_clean vault.new
         → PrintsPart (W.contents out.old) (W.contents out.new) (store_text file.now c clerks.now)) }
-    ensures known { OnOk result ((c : Contents) → V.holds vault.old c → V.is_clean vault.new → All (λ name. is_some (credential_in name c.clerks) ≡ true) clerks.now) }
-    ensures held { (c : Contents) → V.holds vault.old c → V.is_clean vault.new → V.holds vault.new c }
+    ensures known { OnOk result ((c : Contents) → V.holds vault.old c → V.is_clean vault.new
+        → All (λ name. is_some (credential_in name c.clerks) ≡ true) clerks.now) }
+    ensures held { (c : Contents) → V.holds vault.old c → V.is_clean vault.new
+        → V.holds vault.new c }
     ensures clean { V.is_clean vault.new → V.is_clean vault.old }
 {
     let mut text = Vec::new(alloc);
@@ -89,8 +97,10 @@ fn put_store<V: Vault>(
 ) -> Result<(), Fault>
     ensures told { OnOk result ((c : Contents) → V.holds vault.old c → V.is_clean vault.new
         → text.new.items ≡ text.old.items ++ store_text file.now c clerks.now) }
-    ensures known { OnOk result ((c : Contents) → V.holds vault.old c → V.is_clean vault.new → All (λ name. is_some (credential_in name c.clerks) ≡ true) clerks.now) }
-    ensures held { (c : Contents) → V.holds vault.old c → V.is_clean vault.new → V.holds vault.new c }
+    ensures known { OnOk result ((c : Contents) → V.holds vault.old c → V.is_clean vault.new
+        → All (λ name. is_some (credential_in name c.clerks) ≡ true) clerks.now) }
+    ensures held { (c : Contents) → V.holds vault.old c → V.is_clean vault.new
+        → V.holds vault.new c }
     ensures clean { V.is_clean vault.new → V.is_clean vault.old }
 {
     let totals = vault.maildrops()?;
@@ -107,7 +117,8 @@ fn put_store<V: Vault>(
 
 /// Prints the lines of a store's file and of its maildrops.
 fn print_front<W: Write>(out: &mut W, file: &StoreFile, totals: &[Total]) -> io::Result<()>
-    ensures { OnOk result (Appends (W.contents out.old) (W.contents out.new) (file_lines file.now ++ flat_map maildrop_line totals.now)) }
+    ensures { OnOk result (Appends (W.contents out.old) (W.contents out.new)
+        (file_lines file.now ++ flat_map maildrop_line totals.now)) }
 {
     let version = file.version;
     let octets = file.octets;
@@ -117,7 +128,8 @@ fn print_front<W: Write>(out: &mut W, file: &StoreFile, totals: &[Total]) -> io:
 
 /// Prints a line for each maildrop.
 fn print_totals<W: Write>(out: &mut W, totals: &[Total]) -> io::Result<()>
-    ensures { OnOk result (Appends (W.contents out.old) (W.contents out.new) (flat_map maildrop_line totals.now)) }
+    ensures { OnOk result (Appends (W.contents out.old) (W.contents out.new)
+        (flat_map maildrop_line totals.now)) }
 {
     for total in totals {
         print_total(out, total)?;
@@ -127,7 +139,8 @@ fn print_totals<W: Write>(out: &mut W, totals: &[Total]) -> io::Result<()>
 
 /// Prints the line of a maildrop.
 fn print_total<W: Write>(out: &mut W, total: &Total) -> io::Result<()>
-    ensures { OnOk result (Appends (W.contents out.old) (W.contents out.new) (maildrop_line total.now)) }
+    ensures { OnOk result (Appends (W.contents out.old) (W.contents out.new)
+        (maildrop_line total.now)) }
 {
     let maildrop = total.maildrop;
     let messages = total.messages;
@@ -137,9 +150,12 @@ fn print_total<W: Write>(out: &mut W, total: &Total) -> io::Result<()>
 
 /// Prints a line for each of these clerks.
 fn tell_clerks<V: Vault>(vault: &mut V, clerks: &[Name], text: &mut Vec<u8>) -> Result<(), Fault>
-    ensures told { OnOk result ((c : Contents) → V.holds vault.old c → V.is_clean vault.new → text.new.items ≡ text.old.items ++ flat_map (clerk_line c.clerks) clerks.now) }
-    ensures known { OnOk result ((c : Contents) → V.holds vault.old c → V.is_clean vault.new → All (λ name. is_some (credential_in name c.clerks) ≡ true) clerks.now) }
-    ensures held { (c : Contents) → V.holds vault.old c → V.is_clean vault.new → V.holds vault.new c }
+    ensures told { OnOk result ((c : Contents) → V.holds vault.old c → V.is_clean vault.new
+        → text.new.items ≡ text.old.items ++ flat_map (clerk_line c.clerks) clerks.now) }
+    ensures known { OnOk result ((c : Contents) → V.holds vault.old c → V.is_clean vault.new
+        → All (λ name. is_some (credential_in name c.clerks) ≡ true) clerks.now) }
+    ensures held { (c : Contents) → V.holds vault.old c → V.is_clean vault.new
+        → V.holds vault.new c }
     ensures clean { V.is_clean vault.new → V.is_clean vault.old }
 {
     for name in clerks {
@@ -150,9 +166,12 @@ fn tell_clerks<V: Vault>(vault: &mut V, clerks: &[Name], text: &mut Vec<u8>) -> 
 
 /// Prints the line of a clerk, who is asked of the store.
 fn tell_clerk<V: Vault>(vault: &mut V, name: &Name, text: &mut Vec<u8>) -> Result<(), Fault>
-    ensures told { OnOk result ((c : Contents) → V.holds vault.old c → V.is_clean vault.new → text.new.items ≡ text.old.items ++ clerk_line c.clerks name.now) }
-    ensures known { OnOk result ((c : Contents) → V.holds vault.old c → V.is_clean vault.new → is_some (credential_in name.now c.clerks) ≡ true) }
-    ensures held { (c : Contents) → V.holds vault.old c → V.is_clean vault.new → V.holds vault.new c }
+    ensures told { OnOk result ((c : Contents) → V.holds vault.old c → V.is_clean vault.new
+        → text.new.items ≡ text.old.items ++ clerk_line c.clerks name.now) }
+    ensures known { OnOk result ((c : Contents) → V.holds vault.old c → V.is_clean vault.new
+        → is_some (credential_in name.now c.clerks) ≡ true) }
+    ensures held { (c : Contents) → V.holds vault.old c → V.is_clean vault.new
+        → V.holds vault.new c }
     ensures clean { V.is_clean vault.new → V.is_clean vault.old }
 {
     let Some(credential) = vault.credential(name)? else {
@@ -182,7 +201,8 @@ fn print_last<W: Write>(
     clerks: usize,
     rules: usize,
 ) -> io::Result<()>
-    ensures { OnOk result (Appends (W.contents out.old) (W.contents out.new) (last_line totals.now clerks rules)) }
+    ensures { OnOk result (Appends (W.contents out.old) (W.contents out.new)
+        (last_line totals.now clerks rules)) }
 {
     let maildrops = totals.len();
     let messages = count_messages(totals);
@@ -200,7 +220,8 @@ fn print_counts<W: Write>(
     clerks: usize,
     rules: usize,
 ) -> io::Result<()>
-    ensures { OnOk result (Appends (W.contents out.old) (W.contents out.new) (counts_line maildrops messages octets clerks rules)) }
+    ensures { OnOk result (Appends (W.contents out.old) (W.contents out.new)
+        (counts_line maildrops messages octets clerks rules)) }
 {
     print_counts_front(out, maildrops, messages)?;
     print_counts_rest(out, octets, clerks, rules)
@@ -208,7 +229,8 @@ fn print_counts<W: Write>(
 
 /// Prints how many maildrops and messages there are.
 fn print_counts_front<W: Write>(out: &mut W, maildrops: usize, messages: u64) -> io::Result<()>
-    ensures { OnOk result (Appends (W.contents out.old) (W.contents out.new) (counts_front maildrops messages)) }
+    ensures { OnOk result (Appends (W.contents out.old) (W.contents out.new)
+        (counts_front maildrops messages)) }
 {
     write!(out, "ok, {maildrops} maildrops, {messages} messages, ")
 }
@@ -220,7 +242,8 @@ fn print_counts_rest<W: Write>(
     clerks: usize,
     rules: usize,
 ) -> io::Result<()>
-    ensures { OnOk result (Appends (W.contents out.old) (W.contents out.new) (counts_rest octets clerks rules)) }
+    ensures { OnOk result (Appends (W.contents out.old) (W.contents out.new)
+        (counts_rest octets clerks rules)) }
 {
     writeln!(out, "{octets} octets, {clerks} clerks, {rules} rules")
 }

@@ -1,5 +1,6 @@
 //! One conversation of a client over an office.
-ghost use Rattle.std.specs.Prelude.{◌≡◌, ◌<◌, ◌≤◌, ◌++◌, ◌⊎◌, ℕ, List, [], true, false, length, Ok, MatchResult, IfErr, cond};
+ghost use Rattle.std.specs.Prelude.{◌≡◌, ◌<◌, ◌≤◌, ◌++◌, ◌⊎◌, ℕ, List, [], true, false, length, Ok};
+ghost use Rattle.std.specs.Prelude.{MatchResult, IfErr, cond};
 ghost use Rattle.std.specs.Io.KnownBytes.{IsAtEnd};
 ghost use Rattle.vault.specs.Calls.{has_grown};
 ghost use Rattle.office.specs.Events.{Trace};
@@ -10,7 +11,8 @@ ghost use Rattle.office.specs.Shown.{outcome_seen};
 ghost use Rattle.office.specs.Stands.{StandsFor, vault_of};
 ghost use Rattle.converse.specs.Streams.{Reads, Writes, reads_failed, writes_failed};
 ghost use Rattle.converse.specs.Talked.{StandsSo, ComesOut, HasFailed};
-ghost use Rattle.converse.specs.Conversing.{GoesOn, Waits, Midway, IsPaid, IsOver, IsCut, Refuses, opened_by, memory_by};
+ghost use Rattle.converse.specs.Conversing.{GoesOn, Waits, Midway, IsPaid, IsOver, IsCut, Refuses};
+ghost use Rattle.converse.specs.Conversing.{opened_by, memory_by};
 
 use crate::streams::{Sink, Source};
 use office::{Event, Office, Outcome};
@@ -58,7 +60,11 @@ fn had_memory(outcome: Outcome) -> Result<(), TalkFault>
 
 /// Opens a connection, and answers its number.
 fn connect<V: Vault>(office: &mut Office<V>) -> Result<u64, TalkFault>
-    ensures began { (T : Trace) → StandsFor V.holds office.old T → V.is_clean (vault_of office.new) → StandsSo V.holds V.faults (V.faults (vault_of office.old)) office.new T (next_number T.log) (λ L. MatchResult result (λ c. (c ≡ next_number T.log) × GoesOn T.base (next_number T.log) (acts T) [] [] L) (λ e. Refuses T e L)) }
+    ensures began { (T : Trace) → StandsFor V.holds office.old T → V.is_clean (vault_of office.new)
+        → StandsSo V.holds V.faults (V.faults (vault_of office.old)) office.new T
+        (next_number T.log) (λ L. MatchResult result
+        (λ c. (c ≡ next_number T.log) × GoesOn T.base (next_number T.log) (acts T) [] [] L)
+        (λ e. Refuses T e L)) }
     ensures failed { IfErr result (HasFailed false false) }
     ensures counted { V.faults (vault_of office.old) ≤ V.faults (vault_of office.new) }
     ensures clean { V.is_clean (vault_of office.new) → V.is_clean (vault_of office.old) }
@@ -69,7 +75,12 @@ fn connect<V: Vault>(office: &mut Office<V>) -> Result<u64, TalkFault>
 /// Gives a piece of input to an office that waits for input.
 fn hear<V: Vault>(office: &mut Office<V>, c: u64, piece: &[u8]) -> Result<(), TalkFault>
     requires { length piece.now ≤ most_in_a_piece }
-    ensures heard { (before : ℕ) (T : Trace) (octets written : List ℕ) → before ≤ V.faults (vault_of office.old) → V.is_clean (vault_of office.new) → StandsSo V.holds V.faults before office.old T c (Waits T.base c (acts T) octets written) → StandsSo V.holds V.faults before office.new T c (λ L. MatchResult result (λ _. GoesOn T.base c (acts T) (octets ++ piece.now) written L) (λ e. IsCut e T.base c (acts T) (octets ++ piece.now) written L)) }
+    ensures heard { (before : ℕ) (T : Trace) (octets written : List ℕ)
+        → before ≤ V.faults (vault_of office.old) → V.is_clean (vault_of office.new)
+        → StandsSo V.holds V.faults before office.old T c (Waits T.base c (acts T) octets written)
+        → StandsSo V.holds V.faults before office.new T c
+        (λ L. MatchResult result (λ _. GoesOn T.base c (acts T) (octets ++ piece.now) written L)
+        (λ e. IsCut e T.base c (acts T) (octets ++ piece.now) written L)) }
     ensures failed { IfErr result (HasFailed false false) }
     ensures counted { V.faults (vault_of office.old) ≤ V.faults (vault_of office.new) }
     ensures clean { V.is_clean (vault_of office.new) → V.is_clean (vault_of office.old) }
@@ -84,8 +95,17 @@ fn listen<V: Vault, R: Source>(
     c: u64,
     reader: &mut R,
 ) -> Result<bool, TalkFault>
-    ensures read { (piece : List ℕ) × Reads (R.seen reader.old) (R.seen reader.new) piece × (result ≡ Ok true → 0 < length piece) × (result ≡ Ok false → IsAtEnd (R.seen reader.new).left)
-        × ((before : ℕ) (T : Trace) (octets written : List ℕ) → before ≤ V.faults (vault_of office.old) → V.is_clean (vault_of office.new) → StandsSo V.holds V.faults before office.old T c (Waits T.base c (acts T) octets written) → StandsSo V.holds V.faults before office.new T c (λ L. MatchResult result (λ more. cond more (GoesOn T.base c (acts T) (octets ++ piece) written L) (Waits T.base c (acts T) (octets ++ piece) written L)) (λ e. IsCut e T.base c (acts T) (octets ++ piece) written L))) }
+    ensures read { (piece : List ℕ) × Reads (R.seen reader.old) (R.seen reader.new) piece
+        × (result ≡ Ok true → 0 < length piece)
+        × (result ≡ Ok false → IsAtEnd (R.seen reader.new).left)
+        × ((before : ℕ) (T : Trace) (octets written : List ℕ)
+        → before ≤ V.faults (vault_of office.old) → V.is_clean (vault_of office.new)
+        → StandsSo V.holds V.faults before office.old T c (Waits T.base c (acts T) octets written)
+        → StandsSo V.holds V.faults before office.new T c
+        (λ L. MatchResult result (λ more. cond more
+        (GoesOn T.base c (acts T) (octets ++ piece) written L)
+        (Waits T.base c (acts T) (octets ++ piece) written L))
+        (λ e. IsCut e T.base c (acts T) (octets ++ piece) written L))) }
     ensures failed { IfErr result
         (HasFailed (reads_failed (R.seen reader.old) (R.seen reader.new)) false) }
     ensures counted { V.faults (vault_of office.old) ≤ V.faults (vault_of office.new) }
@@ -108,10 +128,17 @@ fn write_some<V: Vault, W: Sink>(
     c: u64,
     writer: &mut W,
 ) -> Result<bool, TalkFault>
-    ensures wrote { (more : List ℕ) × Writes (W.seen writer.old) (W.seen writer.new) more × (result ≡ Ok true → 0 < length more)
-        × ((before : ℕ) (T : Trace) (octets written : List ℕ) → before ≤ V.faults (vault_of office.old) → V.is_clean (vault_of office.new)
-        → StandsSo V.holds V.faults before office.old T c (Midway before (V.faults (vault_of office.old)) T.base c (acts T) octets written)
-        → StandsSo V.holds V.faults before office.new T c (λ L. MatchResult result (λ some. cond some (Midway before (V.faults (vault_of office.new)) T.base c (acts T) octets (written ++ more) L) (IsPaid before (V.faults (vault_of office.new)) T.base c (acts T) octets (written ++ more) L)) (λ e. IsCut e T.base c (acts T) octets (written ++ more) L))) }
+    ensures wrote { (more : List ℕ) × Writes (W.seen writer.old) (W.seen writer.new) more
+        × (result ≡ Ok true → 0 < length more)
+        × ((before : ℕ) (T : Trace) (octets written : List ℕ)
+        → before ≤ V.faults (vault_of office.old) → V.is_clean (vault_of office.new)
+        → StandsSo V.holds V.faults before office.old T c
+        (Midway before (V.faults (vault_of office.old)) T.base c (acts T) octets written)
+        → StandsSo V.holds V.faults before office.new T c
+        (λ L. MatchResult result (λ some. cond some
+        (Midway before (V.faults (vault_of office.new)) T.base c (acts T) octets (written ++ more)
+        L) (IsPaid before (V.faults (vault_of office.new)) T.base c (acts T) octets
+        (written ++ more) L)) (λ e. IsCut e T.base c (acts T) octets (written ++ more) L))) }
     ensures failed { IfErr result
         (HasFailed false (writes_failed (W.seen writer.old) (W.seen writer.new))) }
     ensures counted { V.faults (vault_of office.old) ≤ V.faults (vault_of office.new) }
@@ -138,9 +165,14 @@ fn write_owed<V: Vault, W: Sink>(
     writer: &mut W,
 ) -> Result<(), TalkFault>
     ensures wrote { (more : List ℕ) × Writes (W.seen writer.old) (W.seen writer.new) more
-        × ((before : ℕ) (T : Trace) (octets written : List ℕ) → before ≤ V.faults (vault_of office.old) → V.is_clean (vault_of office.new)
-        → StandsSo V.holds V.faults before office.old T c (Midway before (V.faults (vault_of office.old)) T.base c (acts T) octets written)
-        → StandsSo V.holds V.faults before office.new T c (λ L. MatchResult result (λ _. IsPaid before (V.faults (vault_of office.new)) T.base c (acts T) octets (written ++ more) L) (λ e. IsCut e T.base c (acts T) octets (written ++ more) L))) }
+        × ((before : ℕ) (T : Trace) (octets written : List ℕ)
+        → before ≤ V.faults (vault_of office.old) → V.is_clean (vault_of office.new)
+        → StandsSo V.holds V.faults before office.old T c
+        (Midway before (V.faults (vault_of office.old)) T.base c (acts T) octets written)
+        → StandsSo V.holds V.faults before office.new T c
+        (λ L. MatchResult result (λ _. IsPaid before (V.faults (vault_of office.new)) T.base c
+        (acts T) octets (written ++ more) L) (λ e. IsCut e T.base c (acts T) octets
+        (written ++ more) L))) }
     ensures failed { IfErr result
         (HasFailed false (writes_failed (W.seen writer.old) (W.seen writer.new))) }
     ensures counted { V.faults (vault_of office.old) ≤ V.faults (vault_of office.new) }
@@ -164,10 +196,16 @@ fn converse<V: Vault, R: Source, W: Sink>(
     reader: &mut R,
     writer: &mut W,
 ) -> Result<(), TalkFault>
-    ensures talked { (octets written : List ℕ) × Reads (R.seen reader.old) (R.seen reader.new) octets × Writes (W.seen writer.old) (W.seen writer.new) written
-        × ((before : ℕ) (T : Trace) → before ≤ V.faults (vault_of office.old) → V.is_clean (vault_of office.new)
+    ensures talked { (octets written : List ℕ)
+        × Reads (R.seen reader.old) (R.seen reader.new) octets
+        × Writes (W.seen writer.old) (W.seen writer.new) written
+        × ((before : ℕ) (T : Trace) → before ≤ V.faults (vault_of office.old)
+        → V.is_clean (vault_of office.new)
         → StandsSo V.holds V.faults before office.old T c (GoesOn T.base c (acts T) [] [])
-        → StandsSo V.holds V.faults before office.new T c (λ L. MatchResult result (λ _. (Waits T.base c (acts T) octets written L × IsAtEnd (R.seen reader.new).left) ⊎ IsOver before (V.faults (vault_of office.new)) T.base c (acts T) octets written L) (λ e. IsCut e T.base c (acts T) octets written L))) }
+        → StandsSo V.holds V.faults before office.new T c
+        (λ L. MatchResult result (λ _. (Waits T.base c (acts T) octets written L
+        × IsAtEnd (R.seen reader.new).left) ⊎ IsOver before (V.faults (vault_of office.new)) T.base
+        c (acts T) octets written L) (λ e. IsCut e T.base c (acts T) octets written L))) }
     ensures failed { IfErr result (HasFailed (reads_failed (R.seen reader.old) (R.seen reader.new))
         (writes_failed (W.seen writer.old) (W.seen writer.new))) }
     ensures counted { V.faults (vault_of office.old) ≤ V.faults (vault_of office.new) }
@@ -193,9 +231,14 @@ pub fn talk<V: Vault, R: Source, W: Sink>(
     reader: &mut R,
     writer: &mut W,
 ) -> Result<(), TalkFault>
-    ensures talked { (octets written : List ℕ) × Reads (R.seen reader.old) (R.seen reader.new) octets × Writes (W.seen writer.old) (W.seen writer.new) written
+    ensures talked { (octets written : List ℕ)
+        × Reads (R.seen reader.old) (R.seen reader.new) octets
+        × Writes (W.seen writer.old) (W.seen writer.new) written
         × ((T : Trace) → StandsFor V.holds office.old T → V.is_clean (vault_of office.new)
-        → StandsSo V.holds V.faults (V.faults (vault_of office.old)) office.new T (next_number T.log) (ComesOut (IsAtEnd (R.seen reader.new).left) (has_grown (V.faults (vault_of office.old)) (V.faults (vault_of office.new))) T (next_number T.log) octets written result)) }
+        → StandsSo V.holds V.faults (V.faults (vault_of office.old)) office.new T
+        (next_number T.log) (ComesOut (IsAtEnd (R.seen reader.new).left)
+        (has_grown (V.faults (vault_of office.old)) (V.faults (vault_of office.new))) T
+        (next_number T.log) octets written result)) }
     ensures failed { IfErr result (HasFailed (reads_failed (R.seen reader.old) (R.seen reader.new))
         (writes_failed (W.seen writer.old) (W.seen writer.new))) }
     ensures counted { V.faults (vault_of office.old) ≤ V.faults (vault_of office.new) }

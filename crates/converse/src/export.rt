@@ -9,7 +9,8 @@ ghost use Rattle.vault.specs.Calls.{text_under, has_grown};
 ghost use Rattle.vault.specs.Changes.{Contents};
 ghost use Rattle.converse.specs.Causes.{IsReadFault, IsExportFault, Tells};
 ghost use Rattle.converse.specs.Printed.{PrintsPart};
-ghost use Rattle.converse.specs.Exported.{files_of, Takes, TakesFirst, export_line, IsFront, IsMeasured, file_under};
+ghost use Rattle.converse.specs.Exported.{files_of, Takes, TakesFirst, export_line, IsFront};
+ghost use Rattle.converse.specs.Exported.{IsMeasured, file_under};
 
 use crate::fault::{Fault, put_fault, tell_fault};
 use crate::printing::print;
@@ -41,7 +42,8 @@ pub trait Folder {
     /// Puts a file of this name and these octets into the folder, whole or not at all. Where the
     /// folder has a file of the name that file stays as it is, and the call is an error.
     fn put(&mut self, name: &str, octets: &[u8]) -> io::Result<()>
-        ensures put { OnOk result (Takes (files self.old) (files self.new) (record { name = name.now; octets = octets.now } ∷ [])) }
+        ensures put { OnOk result (Takes (files self.old) (files self.new)
+            (record { name = name.now; octets = octets.now } ∷ [])) }
         ensures refused { OnErr result (Takes (files self.old) (files self.new) []) }
         ensures unsettled { IsOk result → is_settled self.new ≡ false }
         ensures counted { CountsRefusal (faults self.old) (faults self.new) result };
@@ -72,15 +74,20 @@ pub fn export<V: Vault, F: Folder, W: Write, E: Write>(
 ) -> u8
     ensures status { result ≤ 1 }
     ensures silent { result ≡ 0 → err.new ≡ err.old }
-    ensures whole { result ≡ 0 → (c : Contents) → V.holds vault.old c → V.is_clean vault.new → Takes (F.files folder.old) (F.files folder.new) (files_of maildrop.now c) }
-    ensures told { result ≡ 0 → (c : Contents) → V.holds vault.old c → V.is_clean vault.new → Appends (W.contents out.old) (W.contents out.new) (export_line (length (files_of maildrop.now c))) }
-    ensures part { (c : Contents) → V.holds vault.old c → V.is_clean vault.new → TakesFirst (F.files folder.old) (F.files folder.new) (files_of maildrop.now c) }
+    ensures whole { result ≡ 0 → (c : Contents) → V.holds vault.old c → V.is_clean vault.new
+        → Takes (F.files folder.old) (F.files folder.new) (files_of maildrop.now c) }
+    ensures told { result ≡ 0 → (c : Contents) → V.holds vault.old c → V.is_clean vault.new
+        → Appends (W.contents out.old) (W.contents out.new)
+        (export_line (length (files_of maildrop.now c))) }
+    ensures part { (c : Contents) → V.holds vault.old c → V.is_clean vault.new
+        → TakesFirst (F.files folder.old) (F.files folder.new) (files_of maildrop.now c) }
     ensures last { (out.new ≡ out.old)
         ⊎ ((c : Contents) → V.holds vault.old c → V.is_clean vault.new
         → Takes (F.files folder.old) (F.files folder.new) (files_of maildrop.now c)
         × PrintsPart (W.contents out.old) (W.contents out.new)
         (export_line (length (files_of maildrop.now c)))) }
-    ensures missing { (c : Contents) → V.holds vault.old c → V.is_clean vault.new → is_one_of maildrop.now c.maildrops ≡ false → result ≡ 1 }
+    ensures missing { (c : Contents) → V.holds vault.old c → V.is_clean vault.new
+        → is_one_of maildrop.now c.maildrops ≡ false → result ≡ 1 }
     ensures settled { result ≡ 0 → F.is_settled folder.new ≡ true }
     ensures settled_first { (out.new ≡ out.old) ⊎ (F.is_settled folder.new ≡ true) }
     ensures why { result ≡ 1 → Tells (E.contents err.old) (E.contents err.new)
@@ -103,15 +110,20 @@ fn put_maildrop<V: Vault, F: Folder, W: Write>(
     folder: &mut F,
     out: &mut W,
 ) -> Result<(), Fault>
-    ensures whole { OnOk result ((c : Contents) → V.holds vault.old c → V.is_clean vault.new → Takes (F.files folder.old) (F.files folder.new) (files_of maildrop.now c)) }
-    ensures told { OnOk result ((c : Contents) → V.holds vault.old c → V.is_clean vault.new → Appends (W.contents out.old) (W.contents out.new) (export_line (length (files_of maildrop.now c)))) }
-    ensures part { (c : Contents) → V.holds vault.old c → V.is_clean vault.new → TakesFirst (F.files folder.old) (F.files folder.new) (files_of maildrop.now c) }
+    ensures whole { OnOk result ((c : Contents) → V.holds vault.old c → V.is_clean vault.new
+        → Takes (F.files folder.old) (F.files folder.new) (files_of maildrop.now c)) }
+    ensures told { OnOk result ((c : Contents) → V.holds vault.old c → V.is_clean vault.new
+        → Appends (W.contents out.old) (W.contents out.new)
+        (export_line (length (files_of maildrop.now c)))) }
+    ensures part { (c : Contents) → V.holds vault.old c → V.is_clean vault.new
+        → TakesFirst (F.files folder.old) (F.files folder.new) (files_of maildrop.now c) }
     ensures last { (out.new ≡ out.old)
         ⊎ ((c : Contents) → V.holds vault.old c → V.is_clean vault.new
         → Takes (F.files folder.old) (F.files folder.new) (files_of maildrop.now c)
         × PrintsPart (W.contents out.old) (W.contents out.new)
         (export_line (length (files_of maildrop.now c)))) }
-    ensures missing { (c : Contents) → V.holds vault.old c → V.is_clean vault.new → is_one_of maildrop.now c.maildrops ≡ false → IsErr result }
+    ensures missing { (c : Contents) → V.holds vault.old c → V.is_clean vault.new
+        → is_one_of maildrop.now c.maildrops ≡ false → IsErr result }
     ensures settled { IsOk result → F.is_settled folder.new ≡ true }
     ensures settled_first { (out.new ≡ out.old) ⊎ (F.is_settled folder.new ≡ true) }
     ensures cause { IfErr result
@@ -199,7 +211,9 @@ fn put_message<V: Vault, F: Folder>(
     head: &Head,
     folder: &mut F,
 ) -> Result<(), Fault>
-    ensures whole { OnOk result ((c : Contents) → V.holds vault.old c → V.is_clean vault.new → IsMeasured c head.now → Takes (F.files folder.old) (F.files folder.new) (file_under c head.now ∷ [])) }
+    ensures whole { OnOk result ((c : Contents) → V.holds vault.old c → V.is_clean vault.new
+        → IsMeasured c head.now → Takes (F.files folder.old) (F.files folder.new)
+        (file_under c head.now ∷ [])) }
     ensures refused { OnErr result (Takes (F.files folder.old) (F.files folder.new) []) }
     ensures held { (c : Contents) → V.holds vault.old c → V.is_clean vault.new
         → V.holds vault.new c }
@@ -222,7 +236,8 @@ fn put_message<V: Vault, F: Folder>(
 
 /// Reads the whole text of the message of a head.
 fn read_text<V: Vault>(alloc: Global, vault: &mut V, head: &Head) -> Result<Vec<u8>, Fault>
-    ensures text { IfOk result (λ text. (c : Contents) → V.holds vault.old c → V.is_clean vault.new → IsMeasured c head.now → text.items ≡ text_under head.now.key c.messages) }
+    ensures text { IfOk result (λ text. (c : Contents) → V.holds vault.old c → V.is_clean vault.new
+        → IsMeasured c head.now → text.items ≡ text_under head.now.key c.messages) }
     ensures held { (c : Contents) → V.holds vault.old c → V.is_clean vault.new
         → V.holds vault.new c }
     ensures clean { V.is_clean vault.new → V.is_clean vault.old }
@@ -242,7 +257,9 @@ fn read_text<V: Vault>(alloc: Global, vault: &mut V, head: &Head) -> Result<Vec<
 /// refused, or gave a page that no clean store gives.
 fn read_more<V: Vault>(vault: &mut V, key: MessageKey, text: &mut Vec<u8>) -> Result<(), Fault>
     ensures grown { IsOk result → length text.old.items < length text.new.items }
-    ensures front { OnOk result ((c : Contents) → V.holds vault.old c → V.is_clean vault.new → IsFront text.old.items (text_under key c.messages) → IsFront text.new.items (text_under key c.messages)) }
+    ensures front { OnOk result ((c : Contents) → V.holds vault.old c → V.is_clean vault.new
+        → IsFront text.old.items (text_under key c.messages)
+        → IsFront text.new.items (text_under key c.messages)) }
     ensures held { (c : Contents) → V.holds vault.old c → V.is_clean vault.new
         → V.holds vault.new c }
     ensures clean { V.is_clean vault.new → V.is_clean vault.old }

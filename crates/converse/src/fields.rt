@@ -1,7 +1,8 @@
 //! The parts of a script's line: fields with one space between them (names, numbers), and a TEXT
 //! at the end.
 
-ghost use Rattle.std.specs.Prelude.{◌≡◌, ◌==◌, ◌+◌, ◌*◌, ◌<◌, ◌≤◌, ◌≢◌, MatchOption, length, vec_len, IfOk, IfSome, SomeIff, option_map, option_copied, []};
+ghost use Rattle.std.specs.Prelude.{◌≡◌, ◌==◌, ◌+◌, ◌*◌, ◌<◌, ◌≤◌, ◌≢◌, MatchOption, length};
+ghost use Rattle.std.specs.Prelude.{vec_len, IfOk, IfSome, SomeIff, option_map, option_copied, []};
 ghost use Rattle.std.specs.Char.{digit_value};
 ghost use Rattle.std.specs.List.{position};
 ghost use Rattle.converse.specs.Escapes.{behind_backslash, led, unescaped};
@@ -70,7 +71,8 @@ pub fn unescape(alloc: Global, text: &[u8]) -> Result<Option<Vec<u8>>, AllocErro
 
 /// The octet that a TEXT begins with, and the TEXT behind it.
 fn next_octet(text: &[u8]) -> Option<(u8, &[u8])>
-    ensures is { MatchOption result (text.now ≢ [] → unescaped text.now ≡ None) (λ r. unescaped text.now ≡ led r.0 (unescaped r.1.now)) }
+    ensures is { MatchOption result (text.now ≢ [] → unescaped text.now ≡ None)
+        (λ r. unescaped text.now ≡ led r.0 (unescaped r.1.now)) }
     ensures shorter { IfSome result (λ r. length r.1.now < length text.now) }
 {
     match text {
@@ -82,7 +84,8 @@ fn next_octet(text: &[u8]) -> Option<(u8, &[u8])>
 
 /// Reads an escape from behind its `\`: the octet that it stands for, and the TEXT behind it.
 fn escaped_octet(text: &[u8]) -> Option<(u8, &[u8])>
-    ensures is { MatchOption result (behind_backslash text.now ≡ None) (λ r. behind_backslash text.now ≡ led r.0 (unescaped r.1.now)) }
+    ensures is { MatchOption result (behind_backslash text.now ≡ None)
+        (λ r. behind_backslash text.now ≡ led r.0 (unescaped r.1.now)) }
     ensures shorter { IfSome result (λ r. length r.1.now < length text.now) }
 {
     match text {
@@ -96,7 +99,8 @@ fn escaped_octet(text: &[u8]) -> Option<(u8, &[u8])>
 
 /// The octet of two hexadecimal digits, which may be capitals.
 fn octet_of(high: u8, low: u8) -> Option<u8>
-    ensures { SomeIff result ((digit_value high < 16) × (digit_value low < 16)) (16 * digit_value high + digit_value low) }
+    ensures { SomeIff result ((digit_value high < 16) × (digit_value low < 16))
+        (16 * digit_value high + digit_value low) }
 {
     let high = char::from(high).to_digit(16)?;
     let low = char::from(low).to_digit(16)?;

@@ -36,7 +36,12 @@ impl<T> Noted<T> {
 }
 
 impl<R: Read> Source for Noted<R> {
-    ghost seen = { λ n. record { given = n.octets.noted; left = R.remaining n.inner; faults = n.faults } };
+    ghost seen = { λ n. record {
+      given = n.octets.noted;
+      left = R.remaining n.inner;
+      faults =
+          n.faults;
+    } };
 
     fn read(&mut self, room: &mut [u8]) -> io::Result<usize> {
         match self.inner.read(room) {
@@ -53,7 +58,12 @@ impl<R: Read> Source for Noted<R> {
 }
 
 impl<W: Write> Sink for Noted<W> {
-    ghost seen = { λ n. record { taken = n.octets.noted; holds = W.contents n.inner; faults = n.faults } };
+    ghost seen = { λ n. record {
+      taken = n.octets.noted;
+      holds = W.contents n.inner;
+      faults =
+          n.faults;
+    } };
 
     fn write(&mut self, octets: &[u8]) -> io::Result<usize> {
         match self.inner.write(octets) {

@@ -1,6 +1,8 @@
 //! `popbox replay`: does the events of a script in an office, and prints what each gives.
 
-ghost use Rattle.std.specs.Prelude.{◌≤◌, ◌≡◌, ◌∷◌, ◌++◌, [], false, true, ℕ, map, option_map, IfErr, IfOk, IfSome, IsErr, IsOk, List, MatchResult, Ok, OnErr, OnOk, Some, codes, if◌then◌else◌, ◌⊎◌};
+ghost use Rattle.std.specs.Prelude.{◌≤◌, ◌≡◌, ◌∷◌, ◌++◌, [], false, true, ℕ, map, option_map};
+ghost use Rattle.std.specs.Prelude.{IfErr, IfOk, IfSome, IsErr, IsOk, List, MatchResult, Ok, OnErr};
+ghost use Rattle.std.specs.Prelude.{OnOk, Some, codes, if◌then◌else◌, ◌⊎◌};
 ghost use Rattle.std.specs.Io.KnownBytes.{Appends, IsAtEnd, Keeps as Unchanged};
 ghost use Rattle.std.specs.List.{filter};
 ghost use Rattle.creds.specs.Names.{is_host};
@@ -12,9 +14,12 @@ ghost use Rattle.converse.specs.declared.fault.Fault.TheVariants.{CannotWrite, O
 ghost use Rattle.converse.specs.Causes.{IsWhyNot, Tells};
 ghost use Rattle.converse.specs.Runs.{StillHolds, opened_on};
 ghost use Rattle.converse.specs.Script.{ScriptLine, Does, Drains, line_seen, script_of};
-ghost use Rattle.converse.specs.Played.{Acts, Begun, TakesAll, PlaysLine, HasPlayed, PlaysInPart, ComesTo, WithCause, Reaches, HasRun, HasRunInPart, point, known_with, still_known, told_text, taken_text};
+ghost use Rattle.converse.specs.Played.{Acts, Begun, TakesAll, PlaysLine, HasPlayed, PlaysInPart};
+ghost use Rattle.converse.specs.Played.{ComesTo, WithCause, Reaches, HasRun, HasRunInPart, point};
+ghost use Rattle.converse.specs.Played.{known_with, still_known, told_text, taken_text};
 ghost use Rattle.converse.specs.Escapes.{by_digits, escape, escaped};
-ghost use Rattle.converse.specs.Told.{sent_line, outcome_lines, answer_lines, ended_lines, has_ended, no_policy_line, reason_name as name_of_reason};
+ghost use Rattle.converse.specs.Told.{sent_line, outcome_lines, answer_lines, ended_lines};
+ghost use Rattle.converse.specs.Told.{has_ended, no_policy_line, reason_name as name_of_reason};
 
 use crate::conversation::TalkFault;
 use crate::fault::{Fault, read_fault, tell_fault};
@@ -50,11 +55,23 @@ pub fn replay<R: Read, V: Vault, W: Write, E: Write>(
 ) -> (u8, V)
     ensures status { result.0 ≤ 1 }
     ensures silent { result.0 ≡ 0 → err.new ≡ err.old }
-    ensures unread { (IsAtEnd (R.remaining script.new) → ⊥) → (result.0 ≡ 1) × (out.new ≡ out.old) × (result.1 ≡ vault) }
-    ensures bad_line { IfSome (R.remaining script.old) (λ text. IsErr (script_of text) → (result.0 ≡ 1) × (out.new ≡ out.old) × (result.1 ≡ vault)) }
-    ensures bad_host { is_host host.now ≡ false → (result.0 ≡ 1) × (out.new ≡ out.old) × StillHolds V.holds V.is_clean vault result.1 }
-    ensures told { result.0 ≡ 0 → IfSome (R.remaining script.old) (λ text. (lines : List ScriptLine) → script_of text ≡ Ok lines → (T : Trace) → Keeps (V.holds vault) T → V.is_clean result.1 → HasRun V.holds result.1 (V.faults vault) (V.faults result.1) (W.contents out.old) (W.contents out.new) (opened_on T host.now boot removals) lines) }
-    ensures kept { (T : Trace) → Keeps (V.holds vault) T → V.is_clean result.1 → Keeps (V.holds result.1) T ⊎ ((lines : List ScriptLine) × IfSome (R.remaining script.old) (λ text. script_of text ≡ Ok lines) × HasRunInPart V.holds result.1 (V.faults vault) (V.faults result.1) (opened_on T host.now boot removals) lines) }
+    ensures unread { (IsAtEnd (R.remaining script.new) → ⊥) → (result.0 ≡ 1) × (out.new ≡ out.old)
+        × (result.1 ≡ vault) }
+    ensures bad_line { IfSome (R.remaining script.old)
+        (λ text. IsErr (script_of text) → (result.0 ≡ 1) × (out.new ≡ out.old)
+        × (result.1 ≡ vault)) }
+    ensures bad_host { is_host host.now ≡ false → (result.0 ≡ 1) × (out.new ≡ out.old)
+        × StillHolds V.holds V.is_clean vault result.1 }
+    ensures told { result.0 ≡ 0 → IfSome (R.remaining script.old)
+        (λ text. (lines : List ScriptLine) → script_of text ≡ Ok lines → (T : Trace)
+        → Keeps (V.holds vault) T → V.is_clean result.1
+        → HasRun V.holds result.1 (V.faults vault) (V.faults result.1) (W.contents out.old)
+        (W.contents out.new) (opened_on T host.now boot removals) lines) }
+    ensures kept { (T : Trace) → Keeps (V.holds vault) T → V.is_clean result.1
+        → Keeps (V.holds result.1) T ⊎ ((lines : List ScriptLine)
+        × IfSome (R.remaining script.old) (λ text. script_of text ≡ Ok lines)
+        × HasRunInPart V.holds result.1 (V.faults vault) (V.faults result.1)
+        (opened_on T host.now boot removals) lines) }
     ensures ran { result.0 ≡ 0 → (lines : List ScriptLine)
         × IfSome (R.remaining script.old) (λ text. script_of text ≡ Ok lines)
         × ((T : Trace) → Keeps (V.holds vault) T → V.is_clean result.1
@@ -88,8 +105,13 @@ fn play_over<V: Vault, W: Write, E: Write>(
 ) -> u8
     ensures status { result ≤ 1 }
     ensures silent { result ≡ 0 → err.new ≡ err.old }
-    ensures played { result ≡ 0 → (T : Trace) → StandsFor V.holds office.old T → V.is_clean (vault_of office.new) → ComesTo V.holds office.new (W.contents out.old) (W.contents out.new) (WithCause (V.faults (vault_of office.old)) (V.faults (vault_of office.new)) T (HasPlayed T (map line_seen lines.now))) }
-    ensures kept { (T : Trace) → StandsFor V.holds office.old T → V.is_clean (vault_of office.new) → Reaches V.holds office.new (V.faults (vault_of office.old)) (V.faults (vault_of office.new)) T (PlaysInPart (point T []) (map line_seen lines.now)) }
+    ensures played { result ≡ 0 → (T : Trace) → StandsFor V.holds office.old T
+        → V.is_clean (vault_of office.new) → ComesTo V.holds office.new (W.contents out.old)
+        (W.contents out.new) (WithCause (V.faults (vault_of office.old))
+        (V.faults (vault_of office.new)) T (HasPlayed T (map line_seen lines.now))) }
+    ensures kept { (T : Trace) → StandsFor V.holds office.old T → V.is_clean (vault_of office.new)
+        → Reaches V.holds office.new (V.faults (vault_of office.old))
+        (V.faults (vault_of office.new)) T (PlaysInPart (point T []) (map line_seen lines.now)) }
     ensures counted { V.faults (vault_of office.old) ≤ V.faults (vault_of office.new) }
     ensures clean { V.is_clean (vault_of office.new) → V.is_clean (vault_of office.old) }
 {
@@ -107,7 +129,8 @@ fn play_over<V: Vault, W: Write, E: Write>(
 /// Reads a script to its end.
 fn read_all<R: Read>(alloc: Global, script: &mut R) -> Result<Vec<Line>, Fault>
     ensures end { IsOk result → IsAtEnd (R.remaining script.new) }
-    ensures lines { IfOk result (λ lines. IfSome (R.remaining script.old) (λ text. script_of text ≡ Ok (map line_seen lines.items))) }
+    ensures lines { IfOk result (λ lines. IfSome (R.remaining script.old)
+        (λ text. script_of text ≡ Ok (map line_seen lines.items))) }
     ensures fault { IfErr result (λ fault. IfSome (R.remaining script.old) (λ text.
         (host : List ℕ) → IsWhyNot text host fault)) }
 {
@@ -136,7 +159,9 @@ pub(crate) fn open_office<V: Vault>(
     boot: u64,
     removals: Removals,
 ) -> Result<Office<V>, (Fault, V)>
-    ensures opened { IfOk result (λ office. (T : Trace) → Keeps (V.holds vault) T → V.is_clean (vault_of office) → StandsFor V.holds office (opened_on T host.now boot removals)) }
+    ensures opened { IfOk result (λ office. (T : Trace) → Keeps (V.holds vault) T
+        → V.is_clean (vault_of office) → StandsFor V.holds office
+        (opened_on T host.now boot removals)) }
     ensures host { IsOk result → is_host host.now ≡ true }
     ensures kept { IfErr result (λ e. StillHolds V.holds V.is_clean vault e.1) }
     ensures counted { IfOk result (λ office. V.faults vault ≤ V.faults (vault_of office)) }
@@ -160,8 +185,14 @@ fn play<V: Vault, W: Write>(
     lines: &[Line],
     out: &mut W,
 ) -> Result<(), Fault>
-    ensures played { OnOk result ((T : Trace) → StandsFor V.holds office.old T → V.is_clean (vault_of office.new) → ComesTo V.holds office.new (W.contents out.old) (W.contents out.new) (WithCause (V.faults (vault_of office.old)) (V.faults (vault_of office.new)) T (HasPlayed T (map line_seen lines.now)))) }
-    ensures broken { OnErr result ((T : Trace) → StandsFor V.holds office.old T → V.is_clean (vault_of office.new) → Reaches V.holds office.new (V.faults (vault_of office.old)) (V.faults (vault_of office.new)) T (PlaysInPart (point T []) (map line_seen lines.now))) }
+    ensures played { OnOk result ((T : Trace) → StandsFor V.holds office.old T
+        → V.is_clean (vault_of office.new) → ComesTo V.holds office.new (W.contents out.old)
+        (W.contents out.new) (WithCause (V.faults (vault_of office.old))
+        (V.faults (vault_of office.new)) T (HasPlayed T (map line_seen lines.now)))) }
+    ensures broken { OnErr result ((T : Trace) → StandsFor V.holds office.old T
+        → V.is_clean (vault_of office.new) → Reaches V.holds office.new
+        (V.faults (vault_of office.old)) (V.faults (vault_of office.new)) T
+        (PlaysInPart (point T []) (map line_seen lines.now))) }
     ensures counted { V.faults (vault_of office.old) ≤ V.faults (vault_of office.new) }
     ensures clean { V.is_clean (vault_of office.new) → V.is_clean (vault_of office.old) }
 {
@@ -181,8 +212,15 @@ fn play_line<V: Vault, W: Write>(
     known: &mut Vec<u64>,
     out: &mut W,
 ) -> Result<(), Fault>
-    ensures played { OnOk result ((T : Trace) → StandsFor V.holds office.old T → V.is_clean (vault_of office.new) → ComesTo V.holds office.new (W.contents out.old) (W.contents out.new) (WithCause (V.faults (vault_of office.old)) (V.faults (vault_of office.new)) T (λ printed U. PlaysLine (point T known.old.items) (line_seen line.now) printed (point U known.new.items)))) }
-    ensures broken { OnErr result ((T : Trace) → StandsFor V.holds office.old T → V.is_clean (vault_of office.new) → Reaches V.holds office.new (V.faults (vault_of office.old)) (V.faults (vault_of office.new)) T (Begun T (line_seen line.now))) }
+    ensures played { OnOk result ((T : Trace) → StandsFor V.holds office.old T
+        → V.is_clean (vault_of office.new) → ComesTo V.holds office.new (W.contents out.old)
+        (W.contents out.new) (WithCause (V.faults (vault_of office.old))
+        (V.faults (vault_of office.new)) T (λ printed U. PlaysLine (point T known.old.items)
+        (line_seen line.now) printed (point U known.new.items)))) }
+    ensures broken { OnErr result ((T : Trace) → StandsFor V.holds office.old T
+        → V.is_clean (vault_of office.new) → Reaches V.holds office.new
+        (V.faults (vault_of office.old)) (V.faults (vault_of office.new)) T
+        (Begun T (line_seen line.now))) }
     ensures counted { V.faults (vault_of office.old) ≤ V.faults (vault_of office.new) }
     ensures clean { V.is_clean (vault_of office.new) → V.is_clean (vault_of office.old) }
 {
@@ -201,8 +239,12 @@ fn tell_whole<V: Vault, W: Write>(
     known: &mut Vec<u64>,
     out: &mut W,
 ) -> Result<(), Fault>
-    ensures told { (T : Trace) → StandsFor V.holds office.now T → OnOk result (Appends (W.contents out.old) (W.contents out.new) (told_text T known.old.items (Some (outcome_seen outcome.now)))) }
-    ensures kept { (T : Trace) → StandsFor V.holds office.now T → OnOk result (known.new.items ≡ still_known T known.old.items (Some (outcome_seen outcome.now))) }
+    ensures told { (T : Trace) → StandsFor V.holds office.now T
+        → OnOk result (Appends (W.contents out.old) (W.contents out.new)
+        (told_text T known.old.items (Some (outcome_seen outcome.now)))) }
+    ensures kept { (T : Trace) → StandsFor V.holds office.now T
+        → OnOk result (known.new.items ≡ still_known T known.old.items
+        (Some (outcome_seen outcome.now))) }
 {
     add_opened(outcome, known)?;
     tell(alloc, out, outcome)?;
@@ -224,7 +266,8 @@ fn flush<W: Write>(out: &mut W) -> Result<(), Fault>
 
 /// Adds the connection that an outcome opened to those that are known.
 fn add_opened(outcome: &Outcome, known: &mut Vec<u64>) -> Result<(), Fault>
-    ensures { OnOk result (known.new.items ≡ known_with (outcome_seen outcome.now) known.old.items) }
+    ensures { OnOk result (known.new.items ≡ known_with (outcome_seen outcome.now)
+        known.old.items) }
 {
     match outcome {
         Outcome::Opened(number) => {
@@ -242,8 +285,15 @@ fn act<V: Vault, W: Write>(
     line: &Line,
     out: &mut W,
 ) -> Result<Option<Outcome>, Fault>
-    ensures acted { IfOk result (λ told. (T : Trace) → StandsFor V.holds office.old T → V.is_clean (vault_of office.new) → ComesTo V.holds office.new (W.contents out.old) (W.contents out.new) (WithCause (V.faults (vault_of office.old)) (V.faults (vault_of office.new)) T (Acts T (line_seen line.now) (option_map outcome_seen told)))) }
-    ensures broken { OnErr result ((T : Trace) → StandsFor V.holds office.old T → V.is_clean (vault_of office.new) → Reaches V.holds office.new (V.faults (vault_of office.old)) (V.faults (vault_of office.new)) T (Begun T (line_seen line.now))) }
+    ensures acted { IfOk result (λ told. (T : Trace) → StandsFor V.holds office.old T
+        → V.is_clean (vault_of office.new) → ComesTo V.holds office.new (W.contents out.old)
+        (W.contents out.new) (WithCause (V.faults (vault_of office.old))
+        (V.faults (vault_of office.new)) T (Acts T (line_seen line.now)
+        (option_map outcome_seen told)))) }
+    ensures broken { OnErr result ((T : Trace) → StandsFor V.holds office.old T
+        → V.is_clean (vault_of office.new) → Reaches V.holds office.new
+        (V.faults (vault_of office.old)) (V.faults (vault_of office.new)) T
+        (Begun T (line_seen line.now))) }
     ensures counted { V.faults (vault_of office.old) ≤ V.faults (vault_of office.new) }
     ensures clean { V.is_clean (vault_of office.new) → V.is_clean (vault_of office.old) }
 {
@@ -274,7 +324,8 @@ fn act<V: Vault, W: Write>(
 
 /// Prints the fault of a text that is no policy, and flushes it.
 fn tell_no_policy<W: Write>(out: &mut W, fault: PolicyFault) -> io::Result<()>
-    ensures { OnOk result (Appends (W.contents out.old) (W.contents out.new) (no_policy_line fault)) }
+    ensures { OnOk result (Appends (W.contents out.old) (W.contents out.new)
+        (no_policy_line fault)) }
 {
     writeln!(out, "answer {fault}")?;
     out.flush()
@@ -288,8 +339,15 @@ fn take<V: Vault, W: Write>(
     count: usize,
     out: &mut W,
 ) -> Result<Outcome, Fault>
-    ensures taken { IfOk result (λ outcome. (T : Trace) → StandsFor V.holds office.old T → V.is_clean (vault_of office.new) → ComesTo V.holds office.new (W.contents out.old) (W.contents out.new) (WithCause (V.faults (vault_of office.old)) (V.faults (vault_of office.new)) T (Acts T (Does (Took number count)) (Some (outcome_seen outcome))))) }
-    ensures broken { OnErr result ((T : Trace) → StandsFor V.holds office.old T → V.is_clean (vault_of office.new) → Reaches V.holds office.new (V.faults (vault_of office.old)) (V.faults (vault_of office.new)) T (Begun T (Does (Took number count)))) }
+    ensures taken { IfOk result (λ outcome. (T : Trace) → StandsFor V.holds office.old T
+        → V.is_clean (vault_of office.new) → ComesTo V.holds office.new (W.contents out.old)
+        (W.contents out.new) (WithCause (V.faults (vault_of office.old))
+        (V.faults (vault_of office.new)) T (Acts T (Does (Took number count))
+        (Some (outcome_seen outcome))))) }
+    ensures broken { OnErr result ((T : Trace) → StandsFor V.holds office.old T
+        → V.is_clean (vault_of office.new) → Reaches V.holds office.new
+        (V.faults (vault_of office.old)) (V.faults (vault_of office.new)) T
+        (Begun T (Does (Took number count)))) }
     ensures counted { V.faults (vault_of office.old) ≤ V.faults (vault_of office.new) }
     ensures clean { V.is_clean (vault_of office.new) → V.is_clean (vault_of office.old) }
 {
@@ -300,7 +358,8 @@ fn take<V: Vault, W: Write>(
 
 /// Prints the first `count` octets of what a connection is owed; nothing where it is owed fewer.
 fn tell_taken<W: Write>(out: &mut W, number: u64, owed: &[u8], count: usize) -> Result<(), Fault>
-    ensures { OnOk result (Appends (W.contents out.old) (W.contents out.new) (taken_text number owed.now count)) }
+    ensures { OnOk result (Appends (W.contents out.old) (W.contents out.new)
+        (taken_text number owed.now count)) }
 {
     if count == 0 {
         return Ok(());
@@ -316,7 +375,8 @@ fn tell_taken<W: Write>(out: &mut W, number: u64, owed: &[u8], count: usize) -> 
 
 /// Prints what a connection was sent.
 fn tell_sent<W: Write>(out: &mut W, number: u64, octets: &[u8]) -> io::Result<()>
-    ensures { OnOk result (Appends (W.contents out.old) (W.contents out.new) (sent_line number octets.now)) }
+    ensures { OnOk result (Appends (W.contents out.old) (W.contents out.new)
+        (sent_line number octets.now)) }
 {
     write!(out, "sent {number} ")?;
     write_escaped(out, octets)?;
@@ -329,8 +389,15 @@ fn drain<V: Vault, W: Write>(
     number: u64,
     out: &mut W,
 ) -> Result<Outcome, Fault>
-    ensures drained { IfOk result (λ outcome. (T : Trace) → StandsFor V.holds office.old T → V.is_clean (vault_of office.new) → ComesTo V.holds office.new (W.contents out.old) (W.contents out.new) (WithCause (V.faults (vault_of office.old)) (V.faults (vault_of office.new)) T (Acts T (Drains number) (Some (outcome_seen outcome))))) }
-    ensures broken { OnErr result ((T : Trace) → StandsFor V.holds office.old T → V.is_clean (vault_of office.new) → Reaches V.holds office.new (V.faults (vault_of office.old)) (V.faults (vault_of office.new)) T (Begun T (Drains number))) }
+    ensures drained { IfOk result (λ outcome. (T : Trace) → StandsFor V.holds office.old T
+        → V.is_clean (vault_of office.new) → ComesTo V.holds office.new (W.contents out.old)
+        (W.contents out.new) (WithCause (V.faults (vault_of office.old))
+        (V.faults (vault_of office.new)) T (Acts T (Drains number)
+        (Some (outcome_seen outcome))))) }
+    ensures broken { OnErr result ((T : Trace) → StandsFor V.holds office.old T
+        → V.is_clean (vault_of office.new) → Reaches V.holds office.new
+        (V.faults (vault_of office.old)) (V.faults (vault_of office.new)) T
+        (Begun T (Drains number))) }
     ensures counted { V.faults (vault_of office.old) ≤ V.faults (vault_of office.new) }
     ensures clean { V.is_clean (vault_of office.new) → V.is_clean (vault_of office.old) }
 {
@@ -354,8 +421,14 @@ fn take_all<V: Vault, W: Write>(
     number: u64,
     out: &mut W,
 ) -> Result<Outcome, Fault>
-    ensures taken { IfOk result (λ outcome. (T : Trace) → StandsFor V.holds office.old T → V.is_clean (vault_of office.new) → ComesTo V.holds office.new (W.contents out.old) (W.contents out.new) (WithCause (V.faults (vault_of office.old)) (V.faults (vault_of office.new)) T (TakesAll T number (outcome_seen outcome)))) }
-    ensures broken { OnErr result ((T : Trace) → StandsFor V.holds office.old T → V.is_clean (vault_of office.new) → Reaches V.holds office.new (V.faults (vault_of office.old)) (V.faults (vault_of office.new)) T (Begun T (Drains number))) }
+    ensures taken { IfOk result (λ outcome. (T : Trace) → StandsFor V.holds office.old T
+        → V.is_clean (vault_of office.new) → ComesTo V.holds office.new (W.contents out.old)
+        (W.contents out.new) (WithCause (V.faults (vault_of office.old))
+        (V.faults (vault_of office.new)) T (TakesAll T number (outcome_seen outcome)))) }
+    ensures broken { OnErr result ((T : Trace) → StandsFor V.holds office.old T
+        → V.is_clean (vault_of office.new) → Reaches V.holds office.new
+        (V.faults (vault_of office.old)) (V.faults (vault_of office.new)) T
+        (Begun T (Drains number))) }
     ensures counted { V.faults (vault_of office.old) ≤ V.faults (vault_of office.new) }
     ensures clean { V.is_clean (vault_of office.new) → V.is_clean (vault_of office.old) }
 {
@@ -416,7 +489,8 @@ fn write_digits<W: Write>(out: &mut W, octet: u8) -> io::Result<()>
 /// [`Fault::OutOfMemory`] where the text of an answer finds no memory; some of the lines may then
 /// be on `out`.
 pub fn tell<W: Write>(alloc: Global, out: &mut W, outcome: &Outcome) -> Result<(), Fault>
-    ensures told { OnOk result (Appends (W.contents out.old) (W.contents out.new) (outcome_lines (outcome_seen outcome.now))) }
+    ensures told { OnOk result (Appends (W.contents out.old) (W.contents out.new)
+        (outcome_lines (outcome_seen outcome.now))) }
     ensures cause { IfErr result (λ fault. (fault ≡ CannotWrite) ⊎ (fault ≡ OutOfMemory)) }
 {
     let told = match outcome {
@@ -450,7 +524,8 @@ fn reason_name(reason: Reason) -> &'static str
 
 /// Prints each line of an answer's body behind `answer `; of an empty body the word alone.
 fn tell_body<W: Write>(out: &mut W, body: &[u8]) -> io::Result<()>
-    ensures { OnOk result (Appends (W.contents out.old) (W.contents out.new) (answer_lines body.now)) }
+    ensures { OnOk result (Appends (W.contents out.old) (W.contents out.new)
+        (answer_lines body.now)) }
 {
     if body.is_empty() {
         return out.write_all(b"answer\n");
@@ -480,8 +555,11 @@ fn tell_ended<V: Vault, W: Write>(
     connections: &mut Vec<u64>,
     out: &mut W,
 ) -> io::Result<()>
-    ensures told { (T : Trace) → StandsFor V.holds office.now T → OnOk result (Appends (W.contents out.old) (W.contents out.new) (ended_lines (filter (has_ended T) connections.old.items))) }
-    ensures kept { (T : Trace) → StandsFor V.holds office.now T → OnOk result (connections.new.items ≡ filter (is_open T) connections.old.items) }
+    ensures told { (T : Trace) → StandsFor V.holds office.now T
+        → OnOk result (Appends (W.contents out.old) (W.contents out.new)
+        (ended_lines (filter (has_ended T) connections.old.items))) }
+    ensures kept { (T : Trace) → StandsFor V.holds office.now T
+        → OnOk result (connections.new.items ≡ filter (is_open T) connections.old.items) }
 {
     for number in connections.iter() {
         tell_if_ended(office, *number, out)?;
@@ -492,7 +570,9 @@ fn tell_ended<V: Vault, W: Write>(
 
 /// Prints that a connection ended, if it did.
 fn tell_if_ended<V: Vault, W: Write>(office: &Office<V>, number: u64, out: &mut W) -> io::Result<()>
-    ensures { (T : Trace) → StandsFor V.holds office.now T → OnOk result (Appends (W.contents out.old) (W.contents out.new) (ended_lines (filter (has_ended T) (number ∷ [])))) }
+    ensures { (T : Trace) → StandsFor V.holds office.now T
+        → OnOk result (Appends (W.contents out.old) (W.contents out.new)
+        (ended_lines (filter (has_ended T) (number ∷ [])))) }
 {
     if office.ended(number) {
         writeln!(out, "ended {number}")?;

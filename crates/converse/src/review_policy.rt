@@ -2,7 +2,9 @@
 
 ghost use Rattle.std.specs.Prelude.{◌≡◌, ◌⊎◌, IfOk, IfSome, OnOk};
 ghost use Rattle.converse.specs.PolicyFile.{IsNoPolicyText};
-ghost use Rattle.converse.specs.Reviewed.{TellsChange, TellsChangePart, TellsReview, TellsReviewPart, TellsStored, TellsStoredChange, TellsStoredChangePart, TellsStoredPart, status_of};
+ghost use Rattle.converse.specs.Reviewed.{TellsChange, TellsChangePart, TellsReview};
+ghost use Rattle.converse.specs.Reviewed.{TellsReviewPart, TellsStored, TellsStoredChange};
+ghost use Rattle.converse.specs.Reviewed.{TellsStoredChangePart, TellsStoredPart, status_of};
 
 use crate::check_policy::read_file;
 use crate::fault::{Fault, tell_fault};

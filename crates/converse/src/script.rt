@@ -2,10 +2,15 @@
 //!
 //! Lines end at LF; empty lines and lines that begin with `#` are skipped, and counted.
 
-ghost use Rattle.std.specs.Prelude.{◌≡◌, ◌+◌, ◌<◌, ◌≤◌, ◌∷◌, ◌++◌, ℕ, length, map, IfOk, OnOk, IsOkAnd, option_map};
+ghost use Rattle.std.specs.Prelude.{◌≡◌, ◌+◌, ◌<◌, ◌≤◌, ◌∷◌, ◌++◌, ℕ, length, map, IfOk, OnOk};
+ghost use Rattle.std.specs.Prelude.{IsOkAnd, option_map};
 ghost use Rattle.office.specs.Events.{Admin};
 ghost use Rattle.converse.specs.Escapes.{unescaped};
-ghost use Rattle.converse.specs.Script.{Does, script_of, line_asks, line_seen, line_of, word_line, text_line, number_line, bytes_line, took_line, deposit_line, clerk_command, secret_of_clerk, policy_line, command_of, maildrop_command, explain_command, is_skipped as is_line_skipped};
+ghost use Rattle.converse.specs.Script.{Does, script_of, line_asks, line_seen, line_of, word_line};
+ghost use Rattle.converse.specs.Script.{text_line, number_line, bytes_line, took_line};
+ghost use Rattle.converse.specs.Script.{deposit_line, clerk_command, secret_of_clerk, policy_line};
+ghost use Rattle.converse.specs.Script.{command_of, maildrop_command, explain_command};
+ghost use Rattle.converse.specs.Script.{is_skipped as is_line_skipped};
 ghost use Rattle.converse.specs.declared.script.ScriptFault.TheVariants.{NoMemory};
 
 use crate::check_policy::read_octets;
@@ -106,8 +111,10 @@ fn read_into(
     line: &[u8],
     number: u64,
 ) -> Result<(), ScriptFault>
-    ensures ok { OnOk result (IsOkAnd (line_asks number line.now) (λ asked. map line_seen lines.new.items ≡ map line_seen lines.old.items ++ asked)) }
-    ensures fault { (n : ℕ) → result ≡ Err (ScriptFault.BadEvent n) → (n ≡ number) × (line_asks number line.now ≡ Err n) }
+    ensures ok { OnOk result (IsOkAnd (line_asks number line.now)
+        (λ asked. map line_seen lines.new.items ≡ map line_seen lines.old.items ++ asked)) }
+    ensures fault { (n : ℕ) → result ≡ Err (ScriptFault.BadEvent n) → (n ≡ number)
+        × (line_asks number line.now ≡ Err n) }
 {
     if is_skipped(line) {
         return Ok(());
@@ -249,7 +256,8 @@ fn read_deposit(alloc: Global, rest: &[u8]) -> Result<Option<Line>, AllocError>
 
 /// `apop NAME TEXT`, `pass NAME TEXT`, `drop NAME` or `show NAME`, behind `clerk`.
 fn read_clerk(alloc: Global, rest: &[u8]) -> Result<Option<Line>, AllocError>
-    ensures { IfOk result (λ read. option_map line_seen read ≡ option_map (λ command. Does (Admin command)) (clerk_command rest.now)) }
+    ensures { IfOk result (λ read. option_map line_seen read
+        ≡ option_map (λ command. Does (Admin command)) (clerk_command rest.now)) }
 {
     let Some((word, rest)) = take_field(rest) else {
         return Ok(None);
@@ -301,7 +309,8 @@ fn read_secret(alloc: Global, rest: &[u8]) -> Result<Option<(Name, Secret)>, All
 
 /// `TEXT`, behind `policy`: a policy's text, or one with a fault.
 fn read_policy(alloc: Global, text: &[u8]) -> Result<Option<Line>, AllocError>
-    ensures { IfOk result (λ read. option_map line_seen read ≡ option_map policy_line (unescaped text.now)) }
+    ensures { IfOk result (λ read. option_map line_seen read
+        ≡ option_map policy_line (unescaped text.now)) }
 {
     let Some(octets) = unescape(alloc, text)? else {
         return Ok(None);
@@ -315,7 +324,8 @@ fn read_policy(alloc: Global, text: &[u8]) -> Result<Option<Line>, AllocError>
 
 /// A command whose line has no TEXT, by its keyword and what stands behind that.
 fn read_command(keyword: &[u8], rest: &[u8]) -> Option<Line>
-    ensures { option_map line_seen result ≡ option_map (λ command. Does (Admin command)) (command_of keyword.now rest.now) }
+    ensures { option_map line_seen result ≡ option_map (λ command. Does (Admin command))
+        (command_of keyword.now rest.now) }
 {
     if keyword == b"maildrop".as_slice() {
         read_maildrop(rest)
@@ -332,7 +342,8 @@ fn read_command(keyword: &[u8], rest: &[u8]) -> Option<Line>
 
 /// `add NAME` or `drop NAME`, behind `maildrop`.
 fn read_maildrop(rest: &[u8]) -> Option<Line>
-    ensures { option_map line_seen result ≡ option_map (λ command. Does (Admin command)) (maildrop_command rest.now) }
+    ensures { option_map line_seen result ≡ option_map (λ command. Does (Admin command))
+        (maildrop_command rest.now) }
 {
     let (word, name) = take_field(rest)?;
     if word == b"add".as_slice() {
@@ -346,7 +357,8 @@ fn read_maildrop(rest: &[u8]) -> Option<Line>
 
 /// `CLERK MAILDROP CLASS ACTION`, behind `explain`.
 fn read_explain(rest: &[u8]) -> Option<Line>
-    ensures { option_map line_seen result ≡ option_map (λ command. Does (Admin command)) (explain_command rest.now) }
+    ensures { option_map line_seen result ≡ option_map (λ command. Does (Admin command))
+        (explain_command rest.now) }
 {
     let (clerk, maildrop, class, action) = take_fields(rest)?;
     Some(Line::Admin(AdminCommand::Explain {

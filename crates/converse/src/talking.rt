@@ -38,10 +38,19 @@ pub fn talk<V: Vault, R: Source, W: Sink, E: Write>(
 ) -> (u8, V)
     ensures status { result.0 ≤ 1 }
     ensures silent { result.0 ≡ 0 → err.new ≡ err.old }
-    ensures bad_host { is_host host.now ≡ false → (result.0 ≡ 1) × (reader.new ≡ reader.old) × (writer.new ≡ writer.old) × StillHolds V.holds V.is_clean vault result.1 }
-    ensures talked { (octets written : List ℕ) × Reads (R.seen reader.old) (R.seen reader.new) octets × Writes (W.seen writer.old) (W.seen writer.new) written
-        × (result.0 ≡ 0 → (T : Trace) → Keeps (V.holds vault) T → V.is_clean result.1 → HasTalked V.holds result.1 (has_grown (V.faults vault) (V.faults result.1)) (opened_on T host.now boot removals) octets written (IsAtEnd (R.seen reader.new).left))
-        × (result.0 ≡ 1 → (T : Trace) → Keeps (V.holds vault) T → V.is_clean result.1 → HasStopped V.holds result.1 (has_grown (V.faults vault) (V.faults result.1)) (reads_failed (R.seen reader.old) (R.seen reader.new)) (writes_failed (W.seen writer.old) (W.seen writer.new)) T (opened_on T host.now boot removals) octets written (IsAtEnd (R.seen reader.new).left)) }
+    ensures bad_host { is_host host.now ≡ false → (result.0 ≡ 1) × (reader.new ≡ reader.old)
+        × (writer.new ≡ writer.old) × StillHolds V.holds V.is_clean vault result.1 }
+    ensures talked { (octets written : List ℕ)
+        × Reads (R.seen reader.old) (R.seen reader.new) octets
+        × Writes (W.seen writer.old) (W.seen writer.new) written
+        × (result.0 ≡ 0 → (T : Trace) → Keeps (V.holds vault) T → V.is_clean result.1
+        → HasTalked V.holds result.1 (has_grown (V.faults vault) (V.faults result.1))
+        (opened_on T host.now boot removals) octets written (IsAtEnd (R.seen reader.new).left))
+        × (result.0 ≡ 1 → (T : Trace) → Keeps (V.holds vault) T → V.is_clean result.1
+        → HasStopped V.holds result.1 (has_grown (V.faults vault) (V.faults result.1))
+        (reads_failed (R.seen reader.old) (R.seen reader.new))
+        (writes_failed (W.seen writer.old) (W.seen writer.new)) T
+        (opened_on T host.now boot removals) octets written (IsAtEnd (R.seen reader.new).left)) }
     ensures clean { V.is_clean result.1 → V.is_clean vault }
     ensures host_told { is_host host.now ≡ false
         → PrintsPart (E.contents err.old) (E.contents err.new) (fault_line Fault.BadHost) }
@@ -63,9 +72,19 @@ fn talk_over<V: Vault, R: Source, W: Sink, E: Write>(
 ) -> u8
     ensures status { result ≤ 1 }
     ensures silent { result ≡ 0 → err.new ≡ err.old }
-    ensures talked { (octets written : List ℕ) × Reads (R.seen reader.old) (R.seen reader.new) octets × Writes (W.seen writer.old) (W.seen writer.new) written
-        × (result ≡ 0 → (T : Trace) → StandsFor V.holds office.old T → V.is_clean (vault_of office.new) → HasTalked V.holds (vault_of office.new) (has_grown (V.faults (vault_of office.old)) (V.faults (vault_of office.new))) T octets written (IsAtEnd (R.seen reader.new).left))
-        × (result ≡ 1 → (T : Trace) → StandsFor V.holds office.old T → V.is_clean (vault_of office.new) → HasBroken V.holds (vault_of office.new) (has_grown (V.faults (vault_of office.old)) (V.faults (vault_of office.new))) (reads_failed (R.seen reader.old) (R.seen reader.new)) (writes_failed (W.seen writer.old) (W.seen writer.new)) T octets written (IsAtEnd (R.seen reader.new).left)) }
+    ensures talked { (octets written : List ℕ)
+        × Reads (R.seen reader.old) (R.seen reader.new) octets
+        × Writes (W.seen writer.old) (W.seen writer.new) written
+        × (result ≡ 0 → (T : Trace) → StandsFor V.holds office.old T
+        → V.is_clean (vault_of office.new) → HasTalked V.holds (vault_of office.new)
+        (has_grown (V.faults (vault_of office.old)) (V.faults (vault_of office.new))) T octets
+        written (IsAtEnd (R.seen reader.new).left))
+        × (result ≡ 1 → (T : Trace) → StandsFor V.holds office.old T
+        → V.is_clean (vault_of office.new) → HasBroken V.holds (vault_of office.new)
+        (has_grown (V.faults (vault_of office.old)) (V.faults (vault_of office.new)))
+        (reads_failed (R.seen reader.old) (R.seen reader.new))
+        (writes_failed (W.seen writer.old) (W.seen writer.new)) T octets written
+        (IsAtEnd (R.seen reader.new).left)) }
     ensures clean { V.is_clean (vault_of office.new) → V.is_clean (vault_of office.old) }
 {
     match conversation::talk(office, reader, writer) {

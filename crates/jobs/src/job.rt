@@ -22,6 +22,8 @@ pub trait Job {
 
     /// Does the job over a store, and gives the store back.
     fn run<V: Vault>(self, vault: V) -> (Self::Answer, V)
-        ensures done { tells self → (T : Trace) → Keeps (V.holds vault) T → V.is_clean result.1 → (U : Trace) × does self T U (V.faults vault) (V.faults result.1) result.0 × Keeps (V.holds result.1) U }
+        ensures done { tells self → (T : Trace) → Keeps (V.holds vault) T → V.is_clean result.1
+            → (U : Trace) × does self T U (V.faults vault) (V.faults result.1) result.0
+            × Keeps (V.holds result.1) U }
         ensures clean { tells self → V.is_clean result.1 → V.is_clean vault };
 }

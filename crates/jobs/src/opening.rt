@@ -35,8 +35,10 @@ pub fn open<S: Careful>(
     path: &str,
     start: S,
 ) -> Result<SqlVault<FileStore<FileFrom<S>>>, VaultFault>
-    ensures held { IfOk result (λ vault. (c : Contents) → HasCleanDisk (file_state vault.conn) → Rests (image_at S.Start) c → Holds (file_state vault.conn) c) }
-    ensures new { IfOk result (λ vault. HasCleanDisk (file_state vault.conn) → IsUnmade (image_at S.Start) → Holds (file_state vault.conn) no_contents) }
+    ensures held { IfOk result (λ vault. (c : Contents) → HasCleanDisk (file_state vault.conn)
+        → Rests (image_at S.Start) c → Holds (file_state vault.conn) c) }
+    ensures new { IfOk result (λ vault. HasCleanDisk (file_state vault.conn)
+        → IsUnmade (image_at S.Start) → Holds (file_state vault.conn) no_contents) }
     ensures kinds { IfErr result IsAdoptFault }
     ensures uncounted { IfOk result (λ vault. vault.faults ≡ 0) }
 {

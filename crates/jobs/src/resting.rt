@@ -29,9 +29,12 @@ pub fn open_files<D: Disk + Drop>(
     files: Files<D>,
     options: Options,
 ) -> Result<SqlVault<FileStore<D>>, VaultFault>
-    ensures held { IfOk result (λ vault. (c : Contents) → HasCleanDisk (file_state vault.conn) → Rests (image_of D.Disk files) c → Holds (file_state vault.conn) c) }
-    ensures new { IfOk result (λ vault. HasCleanDisk (file_state vault.conn) → IsUnmade (image_of D.Disk files) → Holds (file_state vault.conn) no_contents) }
-    ensures clean { IfOk result (λ vault. HasCleanDisk (file_state vault.conn) → AreClean D.Disk files.log files.db) }
+    ensures held { IfOk result (λ vault. (c : Contents) → HasCleanDisk (file_state vault.conn)
+        → Rests (image_of D.Disk files) c → Holds (file_state vault.conn) c) }
+    ensures new { IfOk result (λ vault. HasCleanDisk (file_state vault.conn)
+        → IsUnmade (image_of D.Disk files) → Holds (file_state vault.conn) no_contents) }
+    ensures clean { IfOk result (λ vault. HasCleanDisk (file_state vault.conn)
+        → AreClean D.Disk files.log files.db) }
     ensures kinds { IfErr result IsAdoptFault }
     ensures uncounted { IfOk result (λ vault. vault.faults ≡ 0) }
 {
@@ -46,7 +49,9 @@ pub fn open_files<D: Disk + Drop>(
 
 /// Adopts a connection, and drops it where it is refused.
 fn take<S: Alter + Drop>(alloc: Global, conn: Connection<S>) -> Result<SqlVault<S>, VaultFault>
-    ensures adopted { IfOk result (λ vault. HasCleanDisk (state S.Store vault.conn) → HasCleanDisk (state S.Store conn) × (IsKnown (state S.Store conn) → IsAdopted (state S.Store conn) (state S.Store vault.conn))) }
+    ensures adopted { IfOk result (λ vault. HasCleanDisk (state S.Store vault.conn)
+        → HasCleanDisk (state S.Store conn) × (IsKnown (state S.Store conn)
+        → IsAdopted (state S.Store conn) (state S.Store vault.conn))) }
     ensures kinds { IfErr result IsAdoptFault }
     ensures uncounted { IfOk result (λ vault. vault.faults ≡ 0) }
 {
@@ -78,9 +83,13 @@ pub(crate) fn tables_are_listed<S: Alter>(conn: &Connection<S>)
 /// after a crash. An error gives the files as they are: nothing that was done is lost, but the next
 /// opening has the log to read.
 pub fn close<D: Disk + Drop>(vault: SqlVault<FileStore<D>>) -> Result<Files<D>, (Error, Files<D>)>
-    ensures rests { IfOk result (λ files. (c : Contents) → AreClean D.Disk files.log files.db → Holds (file_state vault.conn) c → Rests (image_of D.Disk files) c) }
-    ensures left { IfOk result (λ files. (c : Contents) (image : Image) → AreClean D.Disk files.log files.db → Holds (file_state vault.conn) c → outcomes D.Disk files.log files.db image → Rests image c) }
-    ensures clean { IfOk result (λ files. AreClean D.Disk files.log files.db → HasCleanDisk (file_state vault.conn)) }
+    ensures rests { IfOk result (λ files. (c : Contents) → AreClean D.Disk files.log files.db
+        → Holds (file_state vault.conn) c → Rests (image_of D.Disk files) c) }
+    ensures left { IfOk result (λ files. (c : Contents) (image : Image)
+        → AreClean D.Disk files.log files.db → Holds (file_state vault.conn) c
+        → outcomes D.Disk files.log files.db image → Rests image c) }
+    ensures clean { IfOk result (λ files. AreClean D.Disk files.log files.db
+        → HasCleanDisk (file_state vault.conn)) }
 {
     let conn = vault.into_connection();
     tables_are_listed(&conn);
@@ -98,8 +107,10 @@ pub fn reopen<D: Disk + Drop>(
     vault: SqlVault<FileStore<D>>,
     options: Options,
 ) -> Result<SqlVault<FileStore<D>>, VaultFault>
-    ensures held { IfOk result (λ again. (c : Contents) → HasCleanDisk (file_state again.conn) → Holds (file_state vault.conn) c → Holds (file_state again.conn) c) }
-    ensures clean { IfOk result (λ again. HasCleanDisk (file_state again.conn) → HasCleanDisk (file_state vault.conn)) }
+    ensures held { IfOk result (λ again. (c : Contents) → HasCleanDisk (file_state again.conn)
+        → Holds (file_state vault.conn) c → Holds (file_state again.conn) c) }
+    ensures clean { IfOk result (λ again. HasCleanDisk (file_state again.conn)
+        → HasCleanDisk (file_state vault.conn)) }
     ensures kinds { IfErr result IsAdoptFault }
     ensures uncounted { IfOk result (λ again. again.faults ≡ 0) }
 {

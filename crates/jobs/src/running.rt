@@ -27,16 +27,20 @@ pub fn do_and_close<D: Disk + Drop, J: Job>(
     vault: SqlVault<FileStore<D>>,
     job: J,
 ) -> (J::Answer, Result<Files<D>, (Error, Files<D>)>)
-    ensures left { IfOk result.1 (λ files. J.tells job → AreClean D.Disk files.log files.db → (T : Trace) → Keeps (Holds (file_state vault.conn)) T → Leaves (λ T U n m. J.does job T U n m result.0) T vault.faults (image_of D.Disk files)) }
-    ensures clean { IfOk result.1 (λ files. J.tells job → AreClean D.Disk files.log files.db → HasCleanDisk (file_state vault.conn)) }
+    ensures left { IfOk result.1 (λ files. J.tells job → AreClean D.Disk files.log files.db
+        → (T : Trace) → Keeps (Holds (file_state vault.conn)) T
+        → Leaves (λ T U n m. J.does job T U n m result.0) T vault.faults (image_of D.Disk files)) }
+    ensures clean { IfOk result.1 (λ files. J.tells job → AreClean D.Disk files.log files.db
+        → HasCleanDisk (file_state vault.conn)) }
 {
     let (answer, vault) = job.run(vault);
     (answer, close(vault))
 }
 
-/// Opens the store in the file at a path, does a job over it, and closes it. `start` stands for what
-/// the files hold, as in [`SqlVault::open`], and trusts no byte of a torn write. Gives the answer,
-/// and the files: as `Err` where the store couldn't be closed, which loses nothing that was done.
+/// Opens the store in the file at a path, does a job over it, and closes it. `start` stands for
+/// what the files hold, as in [`SqlVault::open`], and trusts no byte of a torn write. Gives the
+/// answer, and the files: as `Err` where the store couldn't be closed, which loses nothing that was
+/// done.
 ///
 /// Answers what [`SqlVault::open`] answers where the store isn't opened; the job isn't begun then.
 pub fn open_do_close<S: Careful, J: Job + Drop>(
@@ -51,8 +55,14 @@ pub fn open_do_close<S: Careful, J: Job + Drop>(
     ),
     VaultFault,
 >
-    ensures left { IfOk result (λ ended. IfOk ended.1 (λ files. J.tells job → AreClean ⟦<FileFrom<S> as Disk>⟧ files.log files.db → (T : Trace) → Keeps (Rests (image_at S.Start)) T → Leaves (λ T U n m. J.does job T U n m ended.0) T 0 (image_of ⟦<FileFrom<S> as Disk>⟧ files))) }
-    ensures new { IfOk result (λ ended. IfOk ended.1 (λ files. J.tells job → AreClean ⟦<FileFrom<S> as Disk>⟧ files.log files.db → IsUnmade (image_at S.Start) → Leaves (λ T U n m. J.does job T U n m ended.0) unused 0 (image_of ⟦<FileFrom<S> as Disk>⟧ files))) }
+    ensures left { IfOk result (λ ended. IfOk ended.1
+        (λ files. J.tells job → AreClean ⟦<FileFrom<S> as Disk>⟧ files.log files.db → (T : Trace)
+        → Keeps (Rests (image_at S.Start)) T → Leaves (λ T U n m. J.does job T U n m ended.0) T 0
+        (image_of ⟦<FileFrom<S> as Disk>⟧ files))) }
+    ensures new { IfOk result (λ ended. IfOk ended.1
+        (λ files. J.tells job → AreClean ⟦<FileFrom<S> as Disk>⟧ files.log files.db
+        → IsUnmade (image_at S.Start) → Leaves (λ T U n m. J.does job T U n m ended.0) unused 0
+        (image_of ⟦<FileFrom<S> as Disk>⟧ files))) }
     ensures kinds { IfErr result IsAdoptFault }
 {
     match open(rt, path, start) {

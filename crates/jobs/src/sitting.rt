@@ -9,8 +9,8 @@ use office::{Event, Limits, Office, OpenFault, Outcome};
 use std::alloc::Global;
 use vault::Vault;
 
-/// Opens an office over a store, does one event in it, and ends it. Gives the outcome, and the store
-/// back; where the office isn't opened, its fault, and the store with what it held.
+/// Opens an office over a store, does one event in it, and ends it. Gives the outcome, and the
+/// store back; where the office isn't opened, its fault, and the store with what it held.
 pub fn sit_once<V: Vault>(
     alloc: Global,
     vault: V,
@@ -19,8 +19,10 @@ pub fn sit_once<V: Vault>(
     limits: Limits,
     event: Event<'_>,
 ) -> Result<(Outcome, V), (OpenFault, V)>
-    ensures done { IfOk result (λ it. (T : Trace) → Keeps (V.holds vault) T → V.is_clean it.1 → Keeps (V.holds it.1) (sat T host.now boot limits (event_seen event.entry) it.0)) }
-    ensures kept { IfErr result (λ it. (T : Trace) → Keeps (V.holds vault) T → V.is_clean it.1 → Keeps (V.holds it.1) T) }
+    ensures done { IfOk result (λ it. (T : Trace) → Keeps (V.holds vault) T → V.is_clean it.1
+        → Keeps (V.holds it.1) (sat T host.now boot limits (event_seen event.entry) it.0)) }
+    ensures kept { IfErr result (λ it. (T : Trace) → Keeps (V.holds vault) T → V.is_clean it.1
+        → Keeps (V.holds it.1) T) }
 {
     match Office::open(alloc, vault, host, boot, limits) {
         Ok(office) => {

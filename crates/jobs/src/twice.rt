@@ -34,7 +34,9 @@ pub fn open_twice(
     limits: Limits,
     event: Event<'_>,
 ) -> Result<(Outcome, Office<SqlVault<FileStore<Memory>>>), TwiceFault>
-    ensures stands { IfOk result (λ it. StandsFor holds it.1 (opened (sat unused host.now boot limits (event_seen event.entry) it.0) host.now again limits)) }
+    ensures stands { IfOk result (λ it. StandsFor holds it.1
+        (opened (sat unused host.now boot limits (event_seen event.entry) it.0) host.now again
+        limits)) }
 {
     let made = make(alloc)?;
     let sitting = sit(alloc, made, host, boot, limits, event)?;
@@ -70,7 +72,8 @@ fn sit(
     limits: Limits,
     event: Event<'_>,
 ) -> Result<(Outcome, SqlVault<FileStore<Memory>>), TwiceFault>
-    ensures kept { IfOk result (λ it. (T : Trace) → Keeps (holds vault) T → Keeps (holds it.1) (sat T host.now boot limits (event_seen event.entry) it.0)) }
+    ensures kept { IfOk result (λ it. (T : Trace) → Keeps (holds vault) T
+        → Keeps (holds it.1) (sat T host.now boot limits (event_seen event.entry) it.0)) }
 {
     match sit_once(alloc, vault, host, boot, limits, event) {
         Ok(sat) => Ok(sat),
@@ -83,7 +86,8 @@ fn find_again(
     alloc: Global,
     vault: SqlVault<FileStore<Memory>>,
 ) -> Result<SqlVault<FileStore<Memory>>, TwiceFault>
-    ensures kept { IfOk result (λ again. (T : Trace) → Keeps (holds vault) T → Keeps (holds again) T) }
+    ensures kept { IfOk result (λ again. (T : Trace) → Keeps (holds vault) T
+        → Keeps (holds again) T) }
 {
     match reopen(alloc, vault, Options::new(2)) {
         Ok(again) => Ok(again),
@@ -99,7 +103,8 @@ fn seat(
     boot: u64,
     limits: Limits,
 ) -> Result<Office<SqlVault<FileStore<Memory>>>, TwiceFault>
-    ensures stands { IfOk result (λ office. (T : Trace) → Keeps (holds vault) T → StandsFor holds office (opened T host.now boot limits)) }
+    ensures stands { IfOk result (λ office. (T : Trace) → Keeps (holds vault) T
+        → StandsFor holds office (opened T host.now boot limits)) }
 {
     match Office::open(alloc, vault, host, boot, limits) {
         Ok(office) => Ok(office),

@@ -22,8 +22,15 @@ pub fn adopt_whole<S: Alter, T: Alter>(
     stopped: &Connection<S>,
     conn: Connection<T>,
 ) -> Result<SqlVault<T>, (VaultFault, Connection<T>)>
-    ensures same { IfOk result (λ vault. (c : Contents) → HasCleanDisk (state T.Store vault.conn) → FindsWhole (state S.Store stopped.now) (state T.Store conn) → IsTrue (state S.Store stopped.now).is_open → Holds (state S.Store stopped.now) c → Holds (state T.Store vault.conn) c) }
-    ensures refused { IfErr result (λ refused. (c : Contents) → HasCleanDisk (state T.Store refused.1) → FindsWhole (state S.Store stopped.now) (state T.Store conn) → IsTrue (state S.Store stopped.now).is_open → Holds (state S.Store stopped.now) c → (refused.0 ≡ Store) ⊎ (refused.0 ≡ NoMemory)) }
+    ensures same { IfOk result (λ vault. (c : Contents) → HasCleanDisk (state T.Store vault.conn)
+        → FindsWhole (state S.Store stopped.now) (state T.Store conn)
+        → IsTrue (state S.Store stopped.now).is_open → Holds (state S.Store stopped.now) c
+        → Holds (state T.Store vault.conn) c) }
+    ensures refused { IfErr result (λ refused. (c : Contents)
+        → HasCleanDisk (state T.Store refused.1)
+        → FindsWhole (state S.Store stopped.now) (state T.Store conn)
+        → IsTrue (state S.Store stopped.now).is_open → Holds (state S.Store stopped.now) c
+        → (refused.0 ≡ Store) ⊎ (refused.0 ≡ NoMemory)) }
 {
     tables_are_listed(stopped);
     tables_are_listed(&conn);
@@ -38,7 +45,11 @@ pub fn carry_again<S: Alter, T: Alter>(
     stopped: &Connection<S>,
     conn: Connection<T>,
 ) -> Result<SqlVault<T>, (VaultFault, Connection<T>)>
-    ensures same { IfOk result (λ vault. (old : Held _) (c : Contents) → HasCleanDisk (state T.Store vault.conn) → StopsCarrying (state S.Store old) (state S.Store stopped.now) → FindsWhole (state S.Store stopped.now) (state T.Store conn) → KeepsOlder (state S.Store old) c → Holds (state T.Store vault.conn) c) }
+    ensures same { IfOk result (λ vault. (old : Held _) (c : Contents)
+        → HasCleanDisk (state T.Store vault.conn)
+        → StopsCarrying (state S.Store old) (state S.Store stopped.now)
+        → FindsWhole (state S.Store stopped.now) (state T.Store conn)
+        → KeepsOlder (state S.Store old) c → Holds (state T.Store vault.conn) c) }
 {
     let _stopped = stopped;
     tables_are_listed(&conn);

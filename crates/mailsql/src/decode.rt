@@ -272,8 +272,10 @@ pub(crate) fn read_first<T: Stored>(alloc: Global, rows: &[Row]) -> Result<Optio
 
 /// The number in the row that a `count(*)` answers.
 pub(crate) fn read_count(row: &Row) -> Result<u64, Error>
-    ensures ok { IfOk result (λ count. (0 < length row.now) × (column row.now 0 ≡ Int (pos count))) }
-    ensures memory { (count : ℕ) → column row.now 0 ≡ Int (pos count) → IfErr result IsWantOfMemory }
+    ensures ok { IfOk result (λ count. (0 < length row.now)
+        × (column row.now 0 ≡ Int (pos count))) }
+    ensures memory { (count : ℕ) → column row.now 0 ≡ Int (pos count)
+        → IfErr result IsWantOfMemory }
 {
     row.get(0)
 }

@@ -5,10 +5,12 @@ ghost use Rattle.sqlite.specs.Held.{state};
 ghost use Rattle.sqlite.specs.State.{HasCleanDisk, IsUnchanged, Survives};
 ghost use Rattle.mailsql.specs.Changes as changes;
 ghost use Rattle.mailsql.specs.Rows as rows;
-ghost use Rattle.mailsql.specs.Rows.{IsOurs, IsReady, HasTables, MayLeave, Changes, IsUndone, rows_in};
+ghost use Rattle.mailsql.specs.Rows.{IsOurs, IsReady, HasTables, MayLeave, Changes, IsUndone};
+ghost use Rattle.mailsql.specs.Rows.{rows_in};
 ghost use Rattle.sqlite_value.specs.declared.value.Value.TheVariants.{Int, Text};
 ghost use Rattle.mailsql.specs.Errors.{FailsToRun, FailsToRead, FailsToCount};
-ghost use Rattle.mailsql.specs.Statements.{add_message_text, add_keyed_text, remove_message_text, heads_text, all_messages_text, message_count_text};
+ghost use Rattle.mailsql.specs.Statements.{add_message_text, add_keyed_text, remove_message_text};
+ghost use Rattle.mailsql.specs.Statements.{heads_text, all_messages_text, message_count_text};
 
 use crate::rows::Message;
 use crate::run::{count, list, run};
@@ -26,10 +28,17 @@ pub fn add_message<'x, S: Alter>(
     octets: i64,
 ) -> Result<i64, Error>
     ensures ok { HasCleanDisk (state S.Store conn.new) → IsReady (state S.Store conn.old)
-        → IfOk result (λ key. Changes (changes.AddsMessage (record { key = key; maildrop = maildrop.now; class = class.now; k = k; octets = octets })) (state S.Store conn.old) (state S.Store conn.new)) }
-    ensures err { HasCleanDisk (state S.Store conn.new) → OnErr result (IsUndone (state S.Store conn.old) (state S.Store conn.new)) }
-    ensures cause { HasCleanDisk (state S.Store conn.new) → IfErr result (FailsToRun add_message_text (Text maildrop.now ∷ Text class.now ∷ Int k ∷ Int octets ∷ []) (state S.Store conn.old) (state S.Store conn.new)) }
-    ensures survives { Survives (state S.Store conn.old) (state S.Store conn.new) (MayLeave (changes.Arrives maildrop.now class.now k octets) (state S.Store conn.old)) }
+        → IfOk result (λ key. Changes (changes.AddsMessage
+        (record { key = key; maildrop = maildrop.now; class = class.now; k = k; octets = octets }))
+        (state S.Store conn.old) (state S.Store conn.new)) }
+    ensures err { HasCleanDisk (state S.Store conn.new)
+        → OnErr result (IsUndone (state S.Store conn.old) (state S.Store conn.new)) }
+    ensures cause { HasCleanDisk (state S.Store conn.new)
+        → IfErr result (FailsToRun add_message_text
+        (Text maildrop.now ∷ Text class.now ∷ Int k ∷ Int octets ∷ []) (state S.Store conn.old)
+        (state S.Store conn.new)) }
+    ensures survives { Survives (state S.Store conn.old) (state S.Store conn.new)
+        (MayLeave (changes.Arrives maildrop.now class.now k octets) (state S.Store conn.old)) }
 {
     let _schema = conn.schema();
     match conn.execute(
@@ -55,10 +64,25 @@ pub fn add_keyed<'x, S: Alter>(
     k: i64,
     octets: i64,
 ) -> Result<(), Error>
-    ensures ok { HasCleanDisk (state S.Store conn.new) → IsReady (state S.Store conn.old) → OnOk result (Changes (changes.AddsKeyed (record { key = key; maildrop = maildrop.now; class = class.now; k = k; octets = octets })) (state S.Store conn.old) (state S.Store conn.new)) }
-    ensures err { HasCleanDisk (state S.Store conn.new) → OnErr result (IsUndone (state S.Store conn.old) (state S.Store conn.new)) }
-    ensures cause { HasCleanDisk (state S.Store conn.new) → IfErr result (FailsToRun add_keyed_text (Int key ∷ Text maildrop.now ∷ Text class.now ∷ Int k ∷ Int octets ∷ []) (state S.Store conn.old) (state S.Store conn.new)) }
-    ensures survives { Survives (state S.Store conn.old) (state S.Store conn.new) (MayLeave (changes.AddsKeyed (record { key = key; maildrop = maildrop.now; class = class.now; k = k; octets = octets })) (state S.Store conn.old)) }
+    ensures ok { HasCleanDisk (state S.Store conn.new) → IsReady (state S.Store conn.old)
+        → OnOk result (Changes (changes.AddsKeyed
+        (record { key = key; maildrop = maildrop.now; class = class.now; k = k; octets = octets }))
+        (state S.Store conn.old) (state S.Store conn.new)) }
+    ensures err { HasCleanDisk (state S.Store conn.new)
+        → OnErr result (IsUndone (state S.Store conn.old) (state S.Store conn.new)) }
+    ensures cause { HasCleanDisk (state S.Store conn.new)
+        → IfErr result (FailsToRun add_keyed_text
+        (Int key ∷ Text maildrop.now ∷ Text class.now ∷ Int k ∷ Int octets ∷ [])
+        (state S.Store conn.old) (state S.Store conn.new)) }
+    ensures survives { Survives (state S.Store conn.old) (state S.Store conn.new)
+        (MayLeave (changes.AddsKeyed (record {
+          key = key;
+          maildrop = maildrop.now;
+          class =
+              class.now;
+          k = k;
+          octets = octets;
+        })) (state S.Store conn.old)) }
 {
     run(
         conn,
@@ -79,10 +103,16 @@ pub fn remove_message<'x, S: Alter>(
     key: i64,
     maildrop: &'x [u8],
 ) -> Result<(), Error>
-    ensures ok { HasCleanDisk (state S.Store conn.new) → IsReady (state S.Store conn.old) → OnOk result (Changes (changes.RemovesMessage key maildrop.now) (state S.Store conn.old) (state S.Store conn.new)) }
-    ensures err { HasCleanDisk (state S.Store conn.new) → OnErr result (IsUndone (state S.Store conn.old) (state S.Store conn.new)) }
-    ensures cause { HasCleanDisk (state S.Store conn.new) → IfErr result (FailsToRun remove_message_text (Int key ∷ Text maildrop.now ∷ []) (state S.Store conn.old) (state S.Store conn.new)) }
-    ensures survives { Survives (state S.Store conn.old) (state S.Store conn.new) (MayLeave (changes.RemovesMessage key maildrop.now) (state S.Store conn.old)) }
+    ensures ok { HasCleanDisk (state S.Store conn.new) → IsReady (state S.Store conn.old)
+        → OnOk result (Changes (changes.RemovesMessage key maildrop.now) (state S.Store conn.old)
+        (state S.Store conn.new)) }
+    ensures err { HasCleanDisk (state S.Store conn.new)
+        → OnErr result (IsUndone (state S.Store conn.old) (state S.Store conn.new)) }
+    ensures cause { HasCleanDisk (state S.Store conn.new)
+        → IfErr result (FailsToRun remove_message_text (Int key ∷ Text maildrop.now ∷ [])
+        (state S.Store conn.old) (state S.Store conn.new)) }
+    ensures survives { Survives (state S.Store conn.old) (state S.Store conn.new)
+        (MayLeave (changes.RemovesMessage key maildrop.now) (state S.Store conn.old)) }
 {
     run(
         conn,
@@ -97,11 +127,18 @@ pub fn heads<S: Alter>(
     conn: &mut Connection<S>,
     maildrop: &[u8],
 ) -> Result<Vec<Message>, Error>
-    ensures ok { HasCleanDisk (state S.Store conn.new) → HasTables (state S.Store conn.old) → IfOk result (λ all. all.items ≡ filter (rows.is_in maildrop.now) (rows_in (state S.Store conn.old).now.trees).messages) }
-    ensures same { HasCleanDisk (state S.Store conn.new) → HasTables (state S.Store conn.old) → OnOk result (IsUnchanged (state S.Store conn.old) (state S.Store conn.new)) }
-    ensures err { HasCleanDisk (state S.Store conn.new) → HasTables (state S.Store conn.old) → OnErr result (IsUndone (state S.Store conn.old) (state S.Store conn.new)) }
-    ensures cause { HasCleanDisk (state S.Store conn.new) → HasTables (state S.Store conn.old) → IfErr result (FailsToRead heads_text (Text maildrop.now ∷ []) (state S.Store conn.old) (state S.Store conn.new)) }
-    ensures survives { Survives (state S.Store conn.old) (state S.Store conn.new) (λ _. ¬ IsOurs (state S.Store conn.old).now) }
+    ensures ok { HasCleanDisk (state S.Store conn.new) → HasTables (state S.Store conn.old)
+        → IfOk result (λ all. all.items ≡ filter (rows.is_in maildrop.now)
+        (rows_in (state S.Store conn.old).now.trees).messages) }
+    ensures same { HasCleanDisk (state S.Store conn.new) → HasTables (state S.Store conn.old)
+        → OnOk result (IsUnchanged (state S.Store conn.old) (state S.Store conn.new)) }
+    ensures err { HasCleanDisk (state S.Store conn.new) → HasTables (state S.Store conn.old)
+        → OnErr result (IsUndone (state S.Store conn.old) (state S.Store conn.new)) }
+    ensures cause { HasCleanDisk (state S.Store conn.new) → HasTables (state S.Store conn.old)
+        → IfErr result (FailsToRead heads_text (Text maildrop.now ∷ []) (state S.Store conn.old)
+        (state S.Store conn.new)) }
+    ensures survives { Survives (state S.Store conn.old) (state S.Store conn.new)
+        (λ _. ¬ IsOurs (state S.Store conn.old).now) }
 {
     list(
         alloc,
@@ -116,11 +153,17 @@ pub fn all_messages<S: Alter>(
     alloc: Global,
     conn: &mut Connection<S>,
 ) -> Result<Vec<Message>, Error>
-    ensures ok { HasCleanDisk (state S.Store conn.new) → HasTables (state S.Store conn.old) → IfOk result (λ all. all.items ≡ (rows_in (state S.Store conn.old).now.trees).messages) }
-    ensures same { HasCleanDisk (state S.Store conn.new) → HasTables (state S.Store conn.old) → OnOk result (IsUnchanged (state S.Store conn.old) (state S.Store conn.new)) }
-    ensures err { HasCleanDisk (state S.Store conn.new) → HasTables (state S.Store conn.old) → OnErr result (IsUndone (state S.Store conn.old) (state S.Store conn.new)) }
-    ensures cause { HasCleanDisk (state S.Store conn.new) → HasTables (state S.Store conn.old) → IfErr result (FailsToRead all_messages_text [] (state S.Store conn.old) (state S.Store conn.new)) }
-    ensures survives { Survives (state S.Store conn.old) (state S.Store conn.new) (λ _. ¬ IsOurs (state S.Store conn.old).now) }
+    ensures ok { HasCleanDisk (state S.Store conn.new) → HasTables (state S.Store conn.old)
+        → IfOk result (λ all. all.items ≡ (rows_in (state S.Store conn.old).now.trees).messages) }
+    ensures same { HasCleanDisk (state S.Store conn.new) → HasTables (state S.Store conn.old)
+        → OnOk result (IsUnchanged (state S.Store conn.old) (state S.Store conn.new)) }
+    ensures err { HasCleanDisk (state S.Store conn.new) → HasTables (state S.Store conn.old)
+        → OnErr result (IsUndone (state S.Store conn.old) (state S.Store conn.new)) }
+    ensures cause { HasCleanDisk (state S.Store conn.new) → HasTables (state S.Store conn.old)
+        → IfErr result (FailsToRead all_messages_text [] (state S.Store conn.old)
+        (state S.Store conn.new)) }
+    ensures survives { Survives (state S.Store conn.old) (state S.Store conn.new)
+        (λ _. ¬ IsOurs (state S.Store conn.old).now) }
 {
     list(
         alloc,
@@ -132,11 +175,19 @@ pub fn all_messages<S: Alter>(
 
 /// How many messages the maildrop has.
 pub fn message_count<S: Alter>(conn: &mut Connection<S>, maildrop: &[u8]) -> Result<u64, Error>
-    ensures ok { HasCleanDisk (state S.Store conn.new) → HasTables (state S.Store conn.old) → IfOk result (λ count. count ≡ min (length (filter (rows.is_in maildrop.now) (rows_in (state S.Store conn.old).now.trees).messages)) 9223372036854775807) }
-    ensures same { HasCleanDisk (state S.Store conn.new) → HasTables (state S.Store conn.old) → OnOk result (IsUnchanged (state S.Store conn.old) (state S.Store conn.new)) }
-    ensures err { HasCleanDisk (state S.Store conn.new) → HasTables (state S.Store conn.old) → OnErr result (IsUndone (state S.Store conn.old) (state S.Store conn.new)) }
-    ensures cause { HasCleanDisk (state S.Store conn.new) → HasTables (state S.Store conn.old) → IfErr result (FailsToCount message_count_text (Text maildrop.now ∷ []) (state S.Store conn.old) (state S.Store conn.new)) }
-    ensures survives { Survives (state S.Store conn.old) (state S.Store conn.new) (λ _. ¬ IsOurs (state S.Store conn.old).now) }
+    ensures ok { HasCleanDisk (state S.Store conn.new) → HasTables (state S.Store conn.old)
+        → IfOk result (λ count. count ≡ min (length
+        (filter (rows.is_in maildrop.now) (rows_in (state S.Store conn.old).now.trees).messages))
+        9223372036854775807) }
+    ensures same { HasCleanDisk (state S.Store conn.new) → HasTables (state S.Store conn.old)
+        → OnOk result (IsUnchanged (state S.Store conn.old) (state S.Store conn.new)) }
+    ensures err { HasCleanDisk (state S.Store conn.new) → HasTables (state S.Store conn.old)
+        → OnErr result (IsUndone (state S.Store conn.old) (state S.Store conn.new)) }
+    ensures cause { HasCleanDisk (state S.Store conn.new) → HasTables (state S.Store conn.old)
+        → IfErr result (FailsToCount message_count_text (Text maildrop.now ∷ [])
+        (state S.Store conn.old) (state S.Store conn.new)) }
+    ensures survives { Survives (state S.Store conn.old) (state S.Store conn.new)
+        (λ _. ¬ IsOurs (state S.Store conn.old).now) }
 {
     count(
         conn,

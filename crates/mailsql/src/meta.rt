@@ -6,11 +6,13 @@ ghost use Rattle.sqlite.specs.Held.{state};
 ghost use Rattle.sqlite.specs.State.{HasCleanDisk, IsUnchanged, Survives};
 ghost use Rattle.mailsql.specs.Changes as changes;
 ghost use Rattle.mailsql.specs.Rows as rows;
-ghost use Rattle.mailsql.specs.Rows.{IsOurs, IsReady, HasTables, HasOldTables, IsOldSchema, MayLeave, Changes, IsUndone, IsHalted, rows_in, HoldsMark};
+ghost use Rattle.mailsql.specs.Rows.{IsOurs, IsReady, HasTables, HasOldTables, IsOldSchema};
+ghost use Rattle.mailsql.specs.Rows.{MayLeave, Changes, IsUndone, IsHalted, rows_in, HoldsMark};
 ghost use Rattle.sqlite_value.specs.declared.value.Value.TheVariants.{Null, Int, Text};
 ghost use Rattle.mailsql.specs.Marked.{HasMarks};
 ghost use Rattle.mailsql.specs.Errors.{FailsToRun, FailsAfter, FailsToRead, FailsToReadAs};
-ghost use Rattle.mailsql.specs.Statements.{add_mark_text, drop_mark_text, find_mark_text, all_marks_text, all_sequences_text};
+ghost use Rattle.mailsql.specs.Statements.{add_mark_text, drop_mark_text, find_mark_text};
+ghost use Rattle.mailsql.specs.Statements.{all_marks_text, all_sequences_text};
 
 use crate::rows::Mark;
 use crate::run::{first, list, run};
@@ -20,10 +22,17 @@ use std::alloc::Global;
 
 /// Adds a mark. The table refuses a name that is there.
 pub fn add_mark<S: Alter>(conn: &mut Connection<S>, name: &[u8], value: i64) -> Result<(), Error>
-    ensures ok { HasCleanDisk (state S.Store conn.new) → IsReady (state S.Store conn.old) → OnOk result (Changes (changes.AddsMark (record { name = name.now; value = value })) (state S.Store conn.old) (state S.Store conn.new)) }
-    ensures err { HasCleanDisk (state S.Store conn.new) → OnErr result (IsUndone (state S.Store conn.old) (state S.Store conn.new)) }
-    ensures cause { HasCleanDisk (state S.Store conn.new) → IfErr result (FailsToRun add_mark_text (Text name.now ∷ Int value ∷ []) (state S.Store conn.old) (state S.Store conn.new)) }
-    ensures survives { Survives (state S.Store conn.old) (state S.Store conn.new) (MayLeave (changes.AddsMark (record { name = name.now; value = value })) (state S.Store conn.old)) }
+    ensures ok { HasCleanDisk (state S.Store conn.new) → IsReady (state S.Store conn.old)
+        → OnOk result (Changes (changes.AddsMark (record { name = name.now; value = value }))
+        (state S.Store conn.old) (state S.Store conn.new)) }
+    ensures err { HasCleanDisk (state S.Store conn.new)
+        → OnErr result (IsUndone (state S.Store conn.old) (state S.Store conn.new)) }
+    ensures cause { HasCleanDisk (state S.Store conn.new)
+        → IfErr result (FailsToRun add_mark_text (Text name.now ∷ Int value ∷ [])
+        (state S.Store conn.old) (state S.Store conn.new)) }
+    ensures survives { Survives (state S.Store conn.old) (state S.Store conn.new)
+        (MayLeave (changes.AddsMark (record { name = name.now; value = value }))
+        (state S.Store conn.old)) }
 {
     run(
         conn,
@@ -34,10 +43,16 @@ pub fn add_mark<S: Alter>(conn: &mut Connection<S>, name: &[u8], value: i64) -> 
 
 /// Removes the mark of this name, if there is one.
 pub fn drop_mark<S: Alter>(conn: &mut Connection<S>, name: &[u8]) -> Result<(), Error>
-    ensures ok { HasCleanDisk (state S.Store conn.new) → IsReady (state S.Store conn.old) → OnOk result (Changes (changes.DropsMark name.now) (state S.Store conn.old) (state S.Store conn.new)) }
-    ensures err { HasCleanDisk (state S.Store conn.new) → OnErr result (IsUndone (state S.Store conn.old) (state S.Store conn.new)) }
-    ensures cause { HasCleanDisk (state S.Store conn.new) → IfErr result (FailsToRun drop_mark_text (Text name.now ∷ []) (state S.Store conn.old) (state S.Store conn.new)) }
-    ensures survives { Survives (state S.Store conn.old) (state S.Store conn.new) (MayLeave (changes.DropsMark name.now) (state S.Store conn.old)) }
+    ensures ok { HasCleanDisk (state S.Store conn.new) → IsReady (state S.Store conn.old)
+        → OnOk result (Changes (changes.DropsMark name.now) (state S.Store conn.old)
+        (state S.Store conn.new)) }
+    ensures err { HasCleanDisk (state S.Store conn.new)
+        → OnErr result (IsUndone (state S.Store conn.old) (state S.Store conn.new)) }
+    ensures cause { HasCleanDisk (state S.Store conn.new)
+        → IfErr result (FailsToRun drop_mark_text (Text name.now ∷ []) (state S.Store conn.old)
+        (state S.Store conn.new)) }
+    ensures survives { Survives (state S.Store conn.old) (state S.Store conn.new)
+        (MayLeave (changes.DropsMark name.now) (state S.Store conn.old)) }
 {
     run(
         conn,
@@ -49,10 +64,20 @@ pub fn drop_mark<S: Alter>(conn: &mut Connection<S>, name: &[u8]) -> Result<(), 
 /// Adds the mark, or replaces the one of its name. It runs two statements: call it inside a
 /// transaction, so that an error between them can be rolled back.
 pub fn put_mark<S: Alter>(conn: &mut Connection<S>, name: &[u8], value: i64) -> Result<(), Error>
-    ensures ok { HasCleanDisk (state S.Store conn.new) → IsReady (state S.Store conn.old) → OnOk result (Changes (changes.PutsMark (record { name = name.now; value = value })) (state S.Store conn.old) (state S.Store conn.new)) }
-    ensures err { HasCleanDisk (state S.Store conn.new) → IsReady (state S.Store conn.old) → IsTrue (state S.Store conn.old).in_transaction → OnErr result (IsHalted (state S.Store conn.old) (state S.Store conn.new)) }
-    ensures cause { HasCleanDisk (state S.Store conn.new) → IsReady (state S.Store conn.old) → IfErr result (λ e. FailsToRun drop_mark_text (Text name.now ∷ []) (state S.Store conn.old) (state S.Store conn.new) e ⊎ FailsAfter S.Store (changes.DropsMark name.now) add_mark_text (Text name.now ∷ Int value ∷ []) conn.old conn.new e) }
-    ensures survives { Survives (state S.Store conn.old) (state S.Store conn.new) (MayLeave (λ before after. changes.DropsMark name.now before after ⊎ changes.PutsMark (record { name = name.now; value = value }) before after) (state S.Store conn.old)) }
+    ensures ok { HasCleanDisk (state S.Store conn.new) → IsReady (state S.Store conn.old)
+        → OnOk result (Changes (changes.PutsMark (record { name = name.now; value = value }))
+        (state S.Store conn.old) (state S.Store conn.new)) }
+    ensures err { HasCleanDisk (state S.Store conn.new) → IsReady (state S.Store conn.old)
+        → IsTrue (state S.Store conn.old).in_transaction
+        → OnErr result (IsHalted (state S.Store conn.old) (state S.Store conn.new)) }
+    ensures cause { HasCleanDisk (state S.Store conn.new) → IsReady (state S.Store conn.old)
+        → IfErr result (λ e. FailsToRun drop_mark_text (Text name.now ∷ []) (state S.Store conn.old)
+        (state S.Store conn.new) e ⊎ FailsAfter S.Store (changes.DropsMark name.now) add_mark_text
+        (Text name.now ∷ Int value ∷ []) conn.old conn.new e) }
+    ensures survives { Survives (state S.Store conn.old) (state S.Store conn.new)
+        (MayLeave (λ before after. changes.DropsMark name.now before after
+        ⊎ changes.PutsMark (record { name = name.now; value = value }) before after)
+        (state S.Store conn.old)) }
 {
     match drop_mark(conn, name) {
         Ok(()) => add_mark(conn, name, value),
@@ -67,19 +92,39 @@ pub fn find_mark<S: Alter>(
     conn: &mut Connection<S>,
     name: &[u8],
 ) -> Result<Option<Mark>, Error>
-    ensures ok { HasCleanDisk (state S.Store conn.new) → HasTables (state S.Store conn.old) → IfOk result (λ found. found ≡ find (rows.is_mark name.now) (rows_in (state S.Store conn.old).now.trees).marks) }
-    ensures same { HasCleanDisk (state S.Store conn.new) → HasTables (state S.Store conn.old) → OnOk result (IsUnchanged (state S.Store conn.old) (state S.Store conn.new)) }
-    ensures err { HasCleanDisk (state S.Store conn.new) → HasTables (state S.Store conn.old) → OnErr result (IsUndone (state S.Store conn.old) (state S.Store conn.new)) }
-    ensures cause { HasCleanDisk (state S.Store conn.new) → HasTables (state S.Store conn.old) → IfErr result (FailsToRead find_mark_text (Text name.now ∷ []) (state S.Store conn.old) (state S.Store conn.new)) }
-    ensures survives { Survives (state S.Store conn.old) (state S.Store conn.new) (λ _. ¬ IsOurs (state S.Store conn.old).now) }
-    ensures old_ok { HasCleanDisk (state S.Store conn.new) → HasOldTables (state S.Store conn.old) → IfOk result (λ found. found ≡ find (rows.is_mark name.now) (rows_in (state S.Store conn.old).now.trees).marks) }
-    ensures old_same { HasCleanDisk (state S.Store conn.new) → HasOldTables (state S.Store conn.old) → OnOk result (IsUnchanged (state S.Store conn.old) (state S.Store conn.new)) }
-    ensures old_err { HasCleanDisk (state S.Store conn.new) → HasOldTables (state S.Store conn.old) → OnErr result (IsUndone (state S.Store conn.old) (state S.Store conn.new)) }
-    ensures old_survives { Survives (state S.Store conn.old) (state S.Store conn.new) (λ _. IsOldSchema (state S.Store conn.old).now → ⊥) }
-    ensures marked_ok { HasCleanDisk (state S.Store conn.new) → HasMarks (state S.Store conn.old).now → IfOk result (λ found. found ≡ find (rows.is_mark name.now) (rows_in (state S.Store conn.old).now.trees).marks) }
-    ensures marked_same { HasCleanDisk (state S.Store conn.new) → HasMarks (state S.Store conn.old).now → OnOk result (IsUnchanged (state S.Store conn.old) (state S.Store conn.new)) }
-    ensures marked_err { HasCleanDisk (state S.Store conn.new) → HasMarks (state S.Store conn.old).now → OnErr result (IsUndone (state S.Store conn.old) (state S.Store conn.new)) }
-    ensures marked_survives { Survives (state S.Store conn.old) (state S.Store conn.new) (λ _. HasMarks (state S.Store conn.old).now → ⊥) }
+    ensures ok { HasCleanDisk (state S.Store conn.new) → HasTables (state S.Store conn.old)
+        → IfOk result (λ found. found ≡ find (rows.is_mark name.now)
+        (rows_in (state S.Store conn.old).now.trees).marks) }
+    ensures same { HasCleanDisk (state S.Store conn.new) → HasTables (state S.Store conn.old)
+        → OnOk result (IsUnchanged (state S.Store conn.old) (state S.Store conn.new)) }
+    ensures err { HasCleanDisk (state S.Store conn.new) → HasTables (state S.Store conn.old)
+        → OnErr result (IsUndone (state S.Store conn.old) (state S.Store conn.new)) }
+    ensures cause { HasCleanDisk (state S.Store conn.new) → HasTables (state S.Store conn.old)
+        → IfErr result (FailsToRead find_mark_text (Text name.now ∷ []) (state S.Store conn.old)
+        (state S.Store conn.new)) }
+    ensures survives { Survives (state S.Store conn.old) (state S.Store conn.new)
+        (λ _. ¬ IsOurs (state S.Store conn.old).now) }
+    ensures old_ok { HasCleanDisk (state S.Store conn.new) → HasOldTables (state S.Store conn.old)
+        → IfOk result (λ found. found ≡ find (rows.is_mark name.now)
+        (rows_in (state S.Store conn.old).now.trees).marks) }
+    ensures old_same { HasCleanDisk (state S.Store conn.new) → HasOldTables (state S.Store conn.old)
+        → OnOk result (IsUnchanged (state S.Store conn.old) (state S.Store conn.new)) }
+    ensures old_err { HasCleanDisk (state S.Store conn.new) → HasOldTables (state S.Store conn.old)
+        → OnErr result (IsUndone (state S.Store conn.old) (state S.Store conn.new)) }
+    ensures old_survives { Survives (state S.Store conn.old) (state S.Store conn.new)
+        (λ _. IsOldSchema (state S.Store conn.old).now → ⊥) }
+    ensures marked_ok { HasCleanDisk (state S.Store conn.new)
+        → HasMarks (state S.Store conn.old).now
+        → IfOk result (λ found. found ≡ find (rows.is_mark name.now)
+        (rows_in (state S.Store conn.old).now.trees).marks) }
+    ensures marked_same { HasCleanDisk (state S.Store conn.new)
+        → HasMarks (state S.Store conn.old).now
+        → OnOk result (IsUnchanged (state S.Store conn.old) (state S.Store conn.new)) }
+    ensures marked_err { HasCleanDisk (state S.Store conn.new)
+        → HasMarks (state S.Store conn.old).now
+        → OnErr result (IsUndone (state S.Store conn.old) (state S.Store conn.new)) }
+    ensures marked_survives { Survives (state S.Store conn.old) (state S.Store conn.new)
+        (λ _. HasMarks (state S.Store conn.old).now → ⊥) }
 {
     first(
         alloc,
@@ -91,15 +136,25 @@ pub fn find_mark<S: Alter>(
 
 /// Every mark, in the order of adding. It reads an older store too.
 pub fn all_marks<S: Alter>(alloc: Global, conn: &mut Connection<S>) -> Result<Vec<Mark>, Error>
-    ensures ok { HasCleanDisk (state S.Store conn.new) → HasTables (state S.Store conn.old) → IfOk result (λ all. all.items ≡ (rows_in (state S.Store conn.old).now.trees).marks) }
-    ensures same { HasCleanDisk (state S.Store conn.new) → HasTables (state S.Store conn.old) → OnOk result (IsUnchanged (state S.Store conn.old) (state S.Store conn.new)) }
-    ensures err { HasCleanDisk (state S.Store conn.new) → HasTables (state S.Store conn.old) → OnErr result (IsUndone (state S.Store conn.old) (state S.Store conn.new)) }
-    ensures cause { HasCleanDisk (state S.Store conn.new) → HasTables (state S.Store conn.old) → IfErr result (FailsToRead all_marks_text [] (state S.Store conn.old) (state S.Store conn.new)) }
-    ensures survives { Survives (state S.Store conn.old) (state S.Store conn.new) (λ _. ¬ IsOurs (state S.Store conn.old).now) }
-    ensures old_ok { HasCleanDisk (state S.Store conn.new) → HasOldTables (state S.Store conn.old) → IfOk result (λ all. all.items ≡ (rows_in (state S.Store conn.old).now.trees).marks) }
-    ensures old_same { HasCleanDisk (state S.Store conn.new) → HasOldTables (state S.Store conn.old) → OnOk result (IsUnchanged (state S.Store conn.old) (state S.Store conn.new)) }
-    ensures old_err { HasCleanDisk (state S.Store conn.new) → HasOldTables (state S.Store conn.old) → OnErr result (IsUndone (state S.Store conn.old) (state S.Store conn.new)) }
-    ensures old_survives { Survives (state S.Store conn.old) (state S.Store conn.new) (λ _. IsOldSchema (state S.Store conn.old).now → ⊥) }
+    ensures ok { HasCleanDisk (state S.Store conn.new) → HasTables (state S.Store conn.old)
+        → IfOk result (λ all. all.items ≡ (rows_in (state S.Store conn.old).now.trees).marks) }
+    ensures same { HasCleanDisk (state S.Store conn.new) → HasTables (state S.Store conn.old)
+        → OnOk result (IsUnchanged (state S.Store conn.old) (state S.Store conn.new)) }
+    ensures err { HasCleanDisk (state S.Store conn.new) → HasTables (state S.Store conn.old)
+        → OnErr result (IsUndone (state S.Store conn.old) (state S.Store conn.new)) }
+    ensures cause { HasCleanDisk (state S.Store conn.new) → HasTables (state S.Store conn.old)
+        → IfErr result (FailsToRead all_marks_text [] (state S.Store conn.old)
+        (state S.Store conn.new)) }
+    ensures survives { Survives (state S.Store conn.old) (state S.Store conn.new)
+        (λ _. ¬ IsOurs (state S.Store conn.old).now) }
+    ensures old_ok { HasCleanDisk (state S.Store conn.new) → HasOldTables (state S.Store conn.old)
+        → IfOk result (λ all. all.items ≡ (rows_in (state S.Store conn.old).now.trees).marks) }
+    ensures old_same { HasCleanDisk (state S.Store conn.new) → HasOldTables (state S.Store conn.old)
+        → OnOk result (IsUnchanged (state S.Store conn.old) (state S.Store conn.new)) }
+    ensures old_err { HasCleanDisk (state S.Store conn.new) → HasOldTables (state S.Store conn.old)
+        → OnErr result (IsUndone (state S.Store conn.old) (state S.Store conn.new)) }
+    ensures old_survives { Survives (state S.Store conn.old) (state S.Store conn.new)
+        (λ _. IsOldSchema (state S.Store conn.old).now → ⊥) }
 {
     list(
         alloc,
@@ -112,11 +167,17 @@ pub fn all_marks<S: Alter>(alloc: Global, conn: &mut Connection<S>) -> Result<Ve
 /// The greatest key that SQLite gave in each table with AUTOINCREMENT, in the order of rowids. A
 /// new message's key is above that of `mail`.
 pub fn all_sequences<S: Alter>(alloc: Global, conn: &mut Connection<S>) -> Result<Vec<Mark>, Error>
-    ensures ok { HasCleanDisk (state S.Store conn.new) → HasTables (state S.Store conn.old) → IfOk result (λ all. all.items ≡ rows.sequences_in (state S.Store conn.old).now.trees) }
-    ensures same { HasCleanDisk (state S.Store conn.new) → HasTables (state S.Store conn.old) → OnOk result (IsUnchanged (state S.Store conn.old) (state S.Store conn.new)) }
-    ensures err { HasCleanDisk (state S.Store conn.new) → HasTables (state S.Store conn.old) → OnErr result (IsUndone (state S.Store conn.old) (state S.Store conn.new)) }
-    ensures cause { HasCleanDisk (state S.Store conn.new) → IfErr result (FailsToReadAs (λ row. HoldsMark (Null ∷ row)) all_sequences_text [] (state S.Store conn.old) (state S.Store conn.new)) }
-    ensures survives { Survives (state S.Store conn.old) (state S.Store conn.new) (λ _. ¬ IsOurs (state S.Store conn.old).now) }
+    ensures ok { HasCleanDisk (state S.Store conn.new) → HasTables (state S.Store conn.old)
+        → IfOk result (λ all. all.items ≡ rows.sequences_in (state S.Store conn.old).now.trees) }
+    ensures same { HasCleanDisk (state S.Store conn.new) → HasTables (state S.Store conn.old)
+        → OnOk result (IsUnchanged (state S.Store conn.old) (state S.Store conn.new)) }
+    ensures err { HasCleanDisk (state S.Store conn.new) → HasTables (state S.Store conn.old)
+        → OnErr result (IsUndone (state S.Store conn.old) (state S.Store conn.new)) }
+    ensures cause { HasCleanDisk (state S.Store conn.new)
+        → IfErr result (FailsToReadAs (λ row. HoldsMark (Null ∷ row)) all_sequences_text []
+        (state S.Store conn.old) (state S.Store conn.new)) }
+    ensures survives { Survives (state S.Store conn.old) (state S.Store conn.new)
+        (λ _. ¬ IsOurs (state S.Store conn.old).now) }
 {
     list(
         alloc,

@@ -12,9 +12,15 @@ use sqlite::{Alter, Connection, Error};
 
 /// Begins a transaction. Refused where one is under way.
 pub fn begin<S: Alter>(conn: &mut Connection<S>) -> Result<(), Error>
-    ensures ok { HasCleanDisk (state S.Store conn.new) → OnOk result (((state S.Store conn.old).in_transaction ≡ false) × Shows (state S.Store conn.old) (state S.Store conn.new) (state S.Store conn.old).now (state S.Store conn.old).committed true) }
-    ensures err { HasCleanDisk (state S.Store conn.new) → OnErr result (IsUndone (state S.Store conn.old) (state S.Store conn.new)) }
-    ensures cause { HasCleanDisk (state S.Store conn.new) → IfErr result (FailsToRun begin_text [] (state S.Store conn.old) (state S.Store conn.new)) }
+    ensures ok { HasCleanDisk (state S.Store conn.new)
+        → OnOk result (((state S.Store conn.old).in_transaction ≡ false)
+        × Shows (state S.Store conn.old) (state S.Store conn.new) (state S.Store conn.old).now
+        (state S.Store conn.old).committed true) }
+    ensures err { HasCleanDisk (state S.Store conn.new)
+        → OnErr result (IsUndone (state S.Store conn.old) (state S.Store conn.new)) }
+    ensures cause { HasCleanDisk (state S.Store conn.new)
+        → IfErr result (FailsToRun begin_text [] (state S.Store conn.old)
+        (state S.Store conn.new)) }
     ensures survives { Survives (state S.Store conn.old) (state S.Store conn.new) (λ _. ⊥) }
 {
     run(conn, "BEGIN", &[])
@@ -23,10 +29,17 @@ pub fn begin<S: Alter>(conn: &mut Connection<S>) -> Result<(), Error>
 /// Commits the transaction. Refused where none is under way. After an error the transaction is
 /// still under way, or was rolled back.
 pub fn commit<S: Alter>(conn: &mut Connection<S>) -> Result<(), Error>
-    ensures ok { HasCleanDisk (state S.Store conn.new) → OnOk result (IsTrue (state S.Store conn.old).in_transaction × Shows (state S.Store conn.old) (state S.Store conn.new) (state S.Store conn.old).now (state S.Store conn.old).now false) }
-    ensures err { HasCleanDisk (state S.Store conn.new) → OnErr result (IsUndone (state S.Store conn.old) (state S.Store conn.new)) }
-    ensures cause { HasCleanDisk (state S.Store conn.new) → IfErr result (FailsToRun commit_text [] (state S.Store conn.old) (state S.Store conn.new)) }
-    ensures survives { Survives (state S.Store conn.old) (state S.Store conn.new) (λ db. db ≡ (state S.Store conn.old).now.trees) }
+    ensures ok { HasCleanDisk (state S.Store conn.new)
+        → OnOk result (IsTrue (state S.Store conn.old).in_transaction
+        × Shows (state S.Store conn.old) (state S.Store conn.new) (state S.Store conn.old).now
+        (state S.Store conn.old).now false) }
+    ensures err { HasCleanDisk (state S.Store conn.new)
+        → OnErr result (IsUndone (state S.Store conn.old) (state S.Store conn.new)) }
+    ensures cause { HasCleanDisk (state S.Store conn.new)
+        → IfErr result (FailsToRun commit_text [] (state S.Store conn.old)
+        (state S.Store conn.new)) }
+    ensures survives { Survives (state S.Store conn.old) (state S.Store conn.new)
+        (λ db. db ≡ (state S.Store conn.old).now.trees) }
 {
     run(conn, "COMMIT", &[])
 }
@@ -34,9 +47,14 @@ pub fn commit<S: Alter>(conn: &mut Connection<S>) -> Result<(), Error>
 /// Rolls the transaction back. Refused where none is under way. Whatever it answers, nothing of
 /// the transaction is left.
 pub fn rollback<S: Alter>(conn: &mut Connection<S>) -> Result<(), Error>
-    ensures ok { HasCleanDisk (state S.Store conn.new) → OnOk result (IsTrue (state S.Store conn.old).in_transaction) }
-    ensures undone { HasCleanDisk (state S.Store conn.new) → IsTrue (state S.Store conn.old).in_transaction → IsRolledBack (state S.Store conn.old) (state S.Store conn.new) }
-    ensures cause { HasCleanDisk (state S.Store conn.new) → IfErr result (FailsToRun rollback_text [] (state S.Store conn.old) (state S.Store conn.new)) }
+    ensures ok { HasCleanDisk (state S.Store conn.new)
+        → OnOk result (IsTrue (state S.Store conn.old).in_transaction) }
+    ensures undone { HasCleanDisk (state S.Store conn.new)
+        → IsTrue (state S.Store conn.old).in_transaction
+        → IsRolledBack (state S.Store conn.old) (state S.Store conn.new) }
+    ensures cause { HasCleanDisk (state S.Store conn.new)
+        → IfErr result (FailsToRun rollback_text [] (state S.Store conn.old)
+        (state S.Store conn.new)) }
     ensures survives { Survives (state S.Store conn.old) (state S.Store conn.new) (λ _. ⊥) }
 {
     run(conn, "ROLLBACK", &[])

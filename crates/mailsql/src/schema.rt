@@ -8,7 +8,10 @@ ghost use Rattle.mailsql.specs.Marked.{HasMarks};
 ghost use Rattle.mailsql.specs.Apart.{AreApart};
 ghost use Rattle.mailsql.specs.Rows.{IsOurs, IsOldSchema, IsReady, rows_in};
 ghost use Rattle.mailsql.specs.Tables.{no_schema, first_schema, second_schema, members_at};
-ghost use Rattle.mailsql.specs.Names.{is_our_name, is_taken, is_kind, is_column, are_columns, is_table, has_keys, are_places, has_marks, has_common_columns, has_first_columns, has_second_columns, has_columns, made, table_made};
+ghost use Rattle.mailsql.specs.Names.{is_our_name, is_taken, is_kind, is_column, are_columns};
+ghost use Rattle.mailsql.specs.Names.{is_table, has_keys, are_places, has_marks};
+ghost use Rattle.mailsql.specs.Names.{has_common_columns, has_first_columns, has_second_columns};
+ghost use Rattle.mailsql.specs.Names.{has_columns, made, table_made};
 
 use sqlite::{Alter, Connection};
 use sqlite_schema::names::same_name;
@@ -214,7 +217,8 @@ fn has_table(
     primary: &[usize],
     unique: &[usize],
 ) -> bool
-    ensures { result ≡ list_any (is_table (table_made name.now columns.now primary.now unique.now)) tables.now }
+    ensures { result ≡ list_any (is_table (table_made name.now columns.now primary.now unique.now))
+        tables.now }
 {
     tables.iter().any(|table| {
         is_named(table, name)
@@ -317,7 +321,8 @@ pub fn has_first_columns<S: Alter>(conn: &Connection<S>) -> bool
 
 /// Does nothing. Its contract says what the tables' keys and references ensure of the rows.
 pub fn keys_hold<S: Alter>(conn: &Connection<S>)
-    ensures apart { IsReady (state S.Store conn.now) → AreApart (rows_in (state S.Store conn.now).now.trees) }
+    ensures apart { IsReady (state S.Store conn.now)
+        → AreApart (rows_in (state S.Store conn.now).now.trees) }
 {
     let _schema = conn.schema();
 }

@@ -7,7 +7,8 @@ ghost use Rattle.sqlite.specs.Held.{state};
 ghost use Rattle.sqlite.specs.State.{HasCleanDisk, IsUnchanged, Survives};
 ghost use Rattle.mailsql.specs.Changes as changes;
 ghost use Rattle.mailsql.specs.Rows as rows;
-ghost use Rattle.mailsql.specs.Rows.{IsOurs, IsReady, HasTables, MayLeave, Changes, IsUndone, IsHalted, rows_in};
+ghost use Rattle.mailsql.specs.Rows.{IsOurs, IsReady, HasTables, MayLeave, Changes, IsUndone};
+ghost use Rattle.mailsql.specs.Rows.{IsHalted, rows_in};
 ghost use Rattle.mailsql.specs.Sheets as cut;
 ghost use Rattle.mailsql.specs.Sheets.{SheetsAreTheText};
 ghost use Rattle.sqlite_value.specs.declared.value.Value.TheVariants.{Int, Blob};
@@ -32,10 +33,18 @@ pub fn add_sheet<S: Alter>(
     place: i64,
     octets: &[u8],
 ) -> Result<(), Error>
-    ensures ok { HasCleanDisk (state S.Store conn.new) → IsReady (state S.Store conn.old) → OnOk result (Changes (changes.AddsSheet (record { mail = mail; place = place; octets = octets.now })) (state S.Store conn.old) (state S.Store conn.new)) }
-    ensures err { HasCleanDisk (state S.Store conn.new) → OnErr result (IsUndone (state S.Store conn.old) (state S.Store conn.new)) }
-    ensures cause { HasCleanDisk (state S.Store conn.new) → IfErr result (FailsToRun add_sheet_text (Int mail ∷ Int place ∷ Blob octets.now ∷ []) (state S.Store conn.old) (state S.Store conn.new)) }
-    ensures survives { Survives (state S.Store conn.old) (state S.Store conn.new) (MayLeave (changes.AddsSheet (record { mail = mail; place = place; octets = octets.now })) (state S.Store conn.old)) }
+    ensures ok { HasCleanDisk (state S.Store conn.new) → IsReady (state S.Store conn.old)
+        → OnOk result (Changes (changes.AddsSheet
+        (record { mail = mail; place = place; octets = octets.now })) (state S.Store conn.old)
+        (state S.Store conn.new)) }
+    ensures err { HasCleanDisk (state S.Store conn.new)
+        → OnErr result (IsUndone (state S.Store conn.old) (state S.Store conn.new)) }
+    ensures cause { HasCleanDisk (state S.Store conn.new)
+        → IfErr result (FailsToRun add_sheet_text (Int mail ∷ Int place ∷ Blob octets.now ∷ [])
+        (state S.Store conn.old) (state S.Store conn.new)) }
+    ensures survives { Survives (state S.Store conn.old) (state S.Store conn.new)
+        (MayLeave (changes.AddsSheet (record { mail = mail; place = place; octets = octets.now }))
+        (state S.Store conn.old)) }
 {
     run(
         conn,
@@ -63,10 +72,17 @@ fn add_sheet_at<S: Alter>(
     place: usize,
 ) -> Result<(), Error>
     requires { place < cut.sheet_count text.now }
-    ensures ok { HasCleanDisk (state S.Store conn.new) → IsReady (state S.Store conn.old) → OnOk result (Changes (changes.AddsSheet (cut.sheet_at mail text.now place)) (state S.Store conn.old) (state S.Store conn.new)) }
-    ensures err { HasCleanDisk (state S.Store conn.new) → OnErr result (IsUndone (state S.Store conn.old) (state S.Store conn.new)) }
-    ensures cause { HasCleanDisk (state S.Store conn.new) → IfErr result (FailsToRun add_sheet_text (Int mail ∷ Int (pos place) ∷ Blob (cut.octets_at text.now place) ∷ []) (state S.Store conn.old) (state S.Store conn.new)) }
-    ensures survives { Survives (state S.Store conn.old) (state S.Store conn.new) (MayLeave (changes.AddsSheet (cut.sheet_at mail text.now place)) (state S.Store conn.old)) }
+    ensures ok { HasCleanDisk (state S.Store conn.new) → IsReady (state S.Store conn.old)
+        → OnOk result (Changes (changes.AddsSheet (cut.sheet_at mail text.now place))
+        (state S.Store conn.old) (state S.Store conn.new)) }
+    ensures err { HasCleanDisk (state S.Store conn.new)
+        → OnErr result (IsUndone (state S.Store conn.old) (state S.Store conn.new)) }
+    ensures cause { HasCleanDisk (state S.Store conn.new)
+        → IfErr result (FailsToRun add_sheet_text
+        (Int mail ∷ Int (pos place) ∷ Blob (cut.octets_at text.now place) ∷ [])
+        (state S.Store conn.old) (state S.Store conn.new)) }
+    ensures survives { Survives (state S.Store conn.old) (state S.Store conn.new)
+        (MayLeave (changes.AddsSheet (cut.sheet_at mail text.now place)) (state S.Store conn.old)) }
 {
     let start = place * SHEET_OCTETS;
     let end = text.len().min(start + SHEET_OCTETS);
@@ -78,10 +94,16 @@ fn add_sheet_at<S: Alter>(
 /// runs a statement for each sheet: call it inside a transaction, so that an error between them can
 /// be rolled back. Outside one, an error or a stop leaves the sheets added before it.
 pub fn add_sheets<S: Alter>(conn: &mut Connection<S>, mail: i64, text: &[u8]) -> Result<(), Error>
-    ensures ok { HasCleanDisk (state S.Store conn.new) → IsReady (state S.Store conn.old) → OnOk result (Changes (changes.AddsSheets mail text.now) (state S.Store conn.old) (state S.Store conn.new)) }
-    ensures err { HasCleanDisk (state S.Store conn.new) → IsReady (state S.Store conn.old) → IsTrue (state S.Store conn.old).in_transaction → OnErr result (IsHalted (state S.Store conn.old) (state S.Store conn.new)) }
-    ensures cause { HasCleanDisk (state S.Store conn.new) → IsReady (state S.Store conn.old) → IfErr result (FailsToAddSheets S.Store mail text.now conn.old conn.new) }
-    ensures survives { Survives (state S.Store conn.old) (state S.Store conn.new) (MayLeave (changes.AddsSomeSheets mail text.now) (state S.Store conn.old)) }
+    ensures ok { HasCleanDisk (state S.Store conn.new) → IsReady (state S.Store conn.old)
+        → OnOk result (Changes (changes.AddsSheets mail text.now) (state S.Store conn.old)
+        (state S.Store conn.new)) }
+    ensures err { HasCleanDisk (state S.Store conn.new) → IsReady (state S.Store conn.old)
+        → IsTrue (state S.Store conn.old).in_transaction
+        → OnErr result (IsHalted (state S.Store conn.old) (state S.Store conn.new)) }
+    ensures cause { HasCleanDisk (state S.Store conn.new) → IsReady (state S.Store conn.old)
+        → IfErr result (FailsToAddSheets S.Store mail text.now conn.old conn.new) }
+    ensures survives { Survives (state S.Store conn.old) (state S.Store conn.new)
+        (MayLeave (changes.AddsSomeSheets mail text.now) (state S.Store conn.old)) }
 {
     let _settled = conn.is_autocommit();
     for place in 0..count_sheets(text) {
@@ -100,11 +122,18 @@ pub fn find_sheet<S: Alter>(
     mail: i64,
     place: i64,
 ) -> Result<Option<Sheet>, Error>
-    ensures ok { HasCleanDisk (state S.Store conn.new) → HasTables (state S.Store conn.old) → IfOk result (λ found. found ≡ find (rows.is_sheet mail place) (rows_in (state S.Store conn.old).now.trees).sheets) }
-    ensures same { HasCleanDisk (state S.Store conn.new) → HasTables (state S.Store conn.old) → OnOk result (IsUnchanged (state S.Store conn.old) (state S.Store conn.new)) }
-    ensures err { HasCleanDisk (state S.Store conn.new) → HasTables (state S.Store conn.old) → OnErr result (IsUndone (state S.Store conn.old) (state S.Store conn.new)) }
-    ensures cause { HasCleanDisk (state S.Store conn.new) → HasTables (state S.Store conn.old) → IfErr result (FailsToRead find_sheet_text (Int mail ∷ Int place ∷ []) (state S.Store conn.old) (state S.Store conn.new)) }
-    ensures survives { Survives (state S.Store conn.old) (state S.Store conn.new) (λ _. ¬ IsOurs (state S.Store conn.old).now) }
+    ensures ok { HasCleanDisk (state S.Store conn.new) → HasTables (state S.Store conn.old)
+        → IfOk result (λ found. found ≡ find (rows.is_sheet mail place)
+        (rows_in (state S.Store conn.old).now.trees).sheets) }
+    ensures same { HasCleanDisk (state S.Store conn.new) → HasTables (state S.Store conn.old)
+        → OnOk result (IsUnchanged (state S.Store conn.old) (state S.Store conn.new)) }
+    ensures err { HasCleanDisk (state S.Store conn.new) → HasTables (state S.Store conn.old)
+        → OnErr result (IsUndone (state S.Store conn.old) (state S.Store conn.new)) }
+    ensures cause { HasCleanDisk (state S.Store conn.new) → HasTables (state S.Store conn.old)
+        → IfErr result (FailsToRead find_sheet_text (Int mail ∷ Int place ∷ [])
+        (state S.Store conn.old) (state S.Store conn.new)) }
+    ensures survives { Survives (state S.Store conn.old) (state S.Store conn.new)
+        (λ _. ¬ IsOurs (state S.Store conn.old).now) }
 {
     first(
         alloc,
@@ -146,22 +175,35 @@ pub fn sheets_between<S: Alter>(
 
 /// How many pages all messages have together.
 pub fn sheet_count<S: Alter>(conn: &mut Connection<S>) -> Result<u64, Error>
-    ensures ok { HasCleanDisk (state S.Store conn.new) → HasTables (state S.Store conn.old) → IfOk result (λ count. count ≡ min (length (rows_in (state S.Store conn.old).now.trees).sheets) 9223372036854775807) }
-    ensures same { HasCleanDisk (state S.Store conn.new) → HasTables (state S.Store conn.old) → OnOk result (IsUnchanged (state S.Store conn.old) (state S.Store conn.new)) }
-    ensures err { HasCleanDisk (state S.Store conn.new) → HasTables (state S.Store conn.old) → OnErr result (IsUndone (state S.Store conn.old) (state S.Store conn.new)) }
-    ensures cause { HasCleanDisk (state S.Store conn.new) → HasTables (state S.Store conn.old) → IfErr result (FailsToCount sheet_count_text [] (state S.Store conn.old) (state S.Store conn.new)) }
-    ensures survives { Survives (state S.Store conn.old) (state S.Store conn.new) (λ _. ¬ IsOurs (state S.Store conn.old).now) }
+    ensures ok { HasCleanDisk (state S.Store conn.new) → HasTables (state S.Store conn.old)
+        → IfOk result (λ count. count ≡ min (length
+        (rows_in (state S.Store conn.old).now.trees).sheets) 9223372036854775807) }
+    ensures same { HasCleanDisk (state S.Store conn.new) → HasTables (state S.Store conn.old)
+        → OnOk result (IsUnchanged (state S.Store conn.old) (state S.Store conn.new)) }
+    ensures err { HasCleanDisk (state S.Store conn.new) → HasTables (state S.Store conn.old)
+        → OnErr result (IsUndone (state S.Store conn.old) (state S.Store conn.new)) }
+    ensures cause { HasCleanDisk (state S.Store conn.new) → HasTables (state S.Store conn.old)
+        → IfErr result (FailsToCount sheet_count_text [] (state S.Store conn.old)
+        (state S.Store conn.new)) }
+    ensures survives { Survives (state S.Store conn.old) (state S.Store conn.new)
+        (λ _. ¬ IsOurs (state S.Store conn.old).now) }
 {
     count(conn, "SELECT count(*) FROM sheets", &[])
 }
 
 /// Every page of every message, in the order of adding. It takes memory for the octets of all.
 pub fn all_sheets<S: Alter>(alloc: Global, conn: &mut Connection<S>) -> Result<Vec<Sheet>, Error>
-    ensures ok { HasCleanDisk (state S.Store conn.new) → HasTables (state S.Store conn.old) → IfOk result (λ all. all.items ≡ (rows_in (state S.Store conn.old).now.trees).sheets) }
-    ensures same { HasCleanDisk (state S.Store conn.new) → HasTables (state S.Store conn.old) → OnOk result (IsUnchanged (state S.Store conn.old) (state S.Store conn.new)) }
-    ensures err { HasCleanDisk (state S.Store conn.new) → HasTables (state S.Store conn.old) → OnErr result (IsUndone (state S.Store conn.old) (state S.Store conn.new)) }
-    ensures cause { HasCleanDisk (state S.Store conn.new) → HasTables (state S.Store conn.old) → IfErr result (FailsToRead all_sheets_text [] (state S.Store conn.old) (state S.Store conn.new)) }
-    ensures survives { Survives (state S.Store conn.old) (state S.Store conn.new) (λ _. ¬ IsOurs (state S.Store conn.old).now) }
+    ensures ok { HasCleanDisk (state S.Store conn.new) → HasTables (state S.Store conn.old)
+        → IfOk result (λ all. all.items ≡ (rows_in (state S.Store conn.old).now.trees).sheets) }
+    ensures same { HasCleanDisk (state S.Store conn.new) → HasTables (state S.Store conn.old)
+        → OnOk result (IsUnchanged (state S.Store conn.old) (state S.Store conn.new)) }
+    ensures err { HasCleanDisk (state S.Store conn.new) → HasTables (state S.Store conn.old)
+        → OnErr result (IsUndone (state S.Store conn.old) (state S.Store conn.new)) }
+    ensures cause { HasCleanDisk (state S.Store conn.new) → HasTables (state S.Store conn.old)
+        → IfErr result (FailsToRead all_sheets_text [] (state S.Store conn.old)
+        (state S.Store conn.new)) }
+    ensures survives { Survives (state S.Store conn.old) (state S.Store conn.new)
+        (λ _. ¬ IsOurs (state S.Store conn.old).now) }
 {
     list(
         alloc,

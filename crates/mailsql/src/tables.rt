@@ -4,7 +4,8 @@ ghost use Rattle.std.specs.Prelude.{◌≡◌, ◌<◌, length, IfErr, OnOk, OnE
 ghost use Rattle.sqlite.specs.Held.{state};
 ghost use Rattle.sqlite.specs.State.{HasCleanDisk, Survives};
 ghost use Rattle.mailsql.specs.Tables.{create_text as text_at, lacked_text, lacked_texts};
-ghost use Rattle.mailsql.specs.Rows.{IsBegun, IsBegunOn, IsHalted, MakesTables, CompletesTables, is_carried};
+ghost use Rattle.mailsql.specs.Rows.{IsBegun, IsBegunOn, IsHalted, MakesTables, CompletesTables};
+ghost use Rattle.mailsql.specs.Rows.{is_carried};
 ghost use Rattle.mailsql.specs.Errors.{FailsToCreate, FailsToComplete};
 
 use sqlite::{Alter, Connection, Error};
@@ -40,10 +41,14 @@ fn create_text(at: usize) -> &'static str
 /// Makes the tables. Call it inside a transaction, over a store without tables. After an error the
 /// transaction is still under way, or gone with all that it wrote.
 pub fn create_tables<S: Alter>(conn: &mut Connection<S>) -> Result<(), Error>
-    ensures ok { HasCleanDisk (state S.Store conn.new) → IsBegun (state S.Store conn.old) → OnOk result (MakesTables (state S.Store conn.old) (state S.Store conn.new)) }
-    ensures err { HasCleanDisk (state S.Store conn.new) → IsBegun (state S.Store conn.old) → OnErr result (IsHalted (state S.Store conn.old) (state S.Store conn.new)) }
-    ensures cause { HasCleanDisk (state S.Store conn.new) → IsBegun (state S.Store conn.old) → IfErr result (FailsToCreate S.Store conn.old conn.new) }
-    ensures survives { Survives (state S.Store conn.old) (state S.Store conn.new) (λ _. ¬ IsBegun (state S.Store conn.old)) }
+    ensures ok { HasCleanDisk (state S.Store conn.new) → IsBegun (state S.Store conn.old)
+        → OnOk result (MakesTables (state S.Store conn.old) (state S.Store conn.new)) }
+    ensures err { HasCleanDisk (state S.Store conn.new) → IsBegun (state S.Store conn.old)
+        → OnErr result (IsHalted (state S.Store conn.old) (state S.Store conn.new)) }
+    ensures cause { HasCleanDisk (state S.Store conn.new) → IsBegun (state S.Store conn.old)
+        → IfErr result (FailsToCreate S.Store conn.old conn.new) }
+    ensures survives { Survives (state S.Store conn.old) (state S.Store conn.new)
+        (λ _. ¬ IsBegun (state S.Store conn.old)) }
 {
     for at in 0..TABLES {
         match conn.execute(create_text(at), &[]) {
@@ -88,10 +93,18 @@ fn lacked_place(carried: bool, at: usize) -> usize
 /// stay as they are. After an error the transaction is still under way, or gone with all that it
 /// wrote.
 pub fn complete_tables<S: Alter>(conn: &mut Connection<S>, carried: bool) -> Result<(), Error>
-    ensures ok { HasCleanDisk (state S.Store conn.new) → IsBegunOn (state S.Store conn.old) → is_carried (state S.Store conn.old).now.trees ≡ carried → OnOk result (CompletesTables (state S.Store conn.old) (state S.Store conn.new)) }
-    ensures err { HasCleanDisk (state S.Store conn.new) → IsBegunOn (state S.Store conn.old) → is_carried (state S.Store conn.old).now.trees ≡ carried → OnErr result (IsHalted (state S.Store conn.old) (state S.Store conn.new)) }
-    ensures cause { HasCleanDisk (state S.Store conn.new) → IsBegunOn (state S.Store conn.old) → is_carried (state S.Store conn.old).now.trees ≡ carried → IfErr result (FailsToComplete S.Store carried conn.old conn.new) }
-    ensures survives { Survives (state S.Store conn.old) (state S.Store conn.new) (λ _. IsBegunOn (state S.Store conn.old) → is_carried (state S.Store conn.old).now.trees ≡ carried → ⊥) }
+    ensures ok { HasCleanDisk (state S.Store conn.new) → IsBegunOn (state S.Store conn.old)
+        → is_carried (state S.Store conn.old).now.trees ≡ carried
+        → OnOk result (CompletesTables (state S.Store conn.old) (state S.Store conn.new)) }
+    ensures err { HasCleanDisk (state S.Store conn.new) → IsBegunOn (state S.Store conn.old)
+        → is_carried (state S.Store conn.old).now.trees ≡ carried
+        → OnErr result (IsHalted (state S.Store conn.old) (state S.Store conn.new)) }
+    ensures cause { HasCleanDisk (state S.Store conn.new) → IsBegunOn (state S.Store conn.old)
+        → is_carried (state S.Store conn.old).now.trees ≡ carried
+        → IfErr result (FailsToComplete S.Store carried conn.old conn.new) }
+    ensures survives { Survives (state S.Store conn.old) (state S.Store conn.new)
+        (λ _. IsBegunOn (state S.Store conn.old)
+        → is_carried (state S.Store conn.old).now.trees ≡ carried → ⊥) }
 {
     let count = lacked(carried);
     for at in 0..count {

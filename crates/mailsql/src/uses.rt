@@ -5,7 +5,9 @@ ghost use Rattle.std.specs.List.{find};
 ghost use Rattle.sqlite.specs.Held.{state};
 ghost use Rattle.sqlite.specs.Steps.{over_memory};
 ghost use Rattle.mailsql.specs.Rows.{is_sheet};
-ghost use Rattle.mailsql.specs.Uses.{Stands, marked, arrived, paged, Saw, FailsToOpenNew, FailsToArrive, FailsToAddPages, FailsToReadPages, FailsToSample};
+ghost use Rattle.mailsql.specs.Uses.{Stands, marked, arrived, paged, Saw, FailsToOpenNew};
+ghost use Rattle.mailsql.specs.Uses.{FailsToArrive, FailsToAddPages, FailsToReadPages};
+ghost use Rattle.mailsql.specs.Uses.{FailsToSample};
 
 use crate::rows::{Message, Sheet};
 use crate::{deposits, mail, maildrops, meta, mode, sheets, tables};
@@ -28,8 +30,10 @@ pub fn open_new(alloc: Global, version: i64) -> Result<Connection<MemStore>, Err
 
 /// Adds a maildrop, a deposit into it and the message, and returns the message's key.
 fn arrive(conn: &mut Connection<MemStore>) -> Result<i64, Error>
-    ensures stands { (rows : _) → Stands (state over_memory conn.old) rows → IfOk result (λ key. Stands (state over_memory conn.new) (arrived key rows)) }
-    ensures cause { (rows : _) → Stands (state over_memory conn.old) rows → IfErr result FailsToArrive }
+    ensures stands { (rows : _) → Stands (state over_memory conn.old) rows
+        → IfOk result (λ key. Stands (state over_memory conn.new) (arrived key rows)) }
+    ensures cause { (rows : _) → Stands (state over_memory conn.old) rows
+        → IfErr result FailsToArrive }
 {
     maildrops::add_maildrop(conn, b"orders")?;
     deposits::add_deposit(conn, b"orders", b"d1", b"note", 1, b"digest")?;
@@ -42,8 +46,10 @@ fn add_pages(
     first: &[u8],
     second: &[u8],
 ) -> Result<(), Error>
-    ensures stands { (rows : _) → Stands (state over_memory conn.old) rows → OnOk result (Stands (state over_memory conn.new) (paged key first.now second.now rows)) }
-    ensures cause { (rows : _) → Stands (state over_memory conn.old) rows → IfErr result (FailsToAddPages key first.now second.now) }
+    ensures stands { (rows : _) → Stands (state over_memory conn.old) rows
+        → OnOk result (Stands (state over_memory conn.new) (paged key first.now second.now rows)) }
+    ensures cause { (rows : _) → Stands (state over_memory conn.old) rows
+        → IfErr result (FailsToAddPages key first.now second.now) }
 {
     sheets::add_sheet(conn, key, 0, first)?;
     sheets::add_sheet(conn, key, 1, second)
@@ -57,9 +63,13 @@ pub struct Pages {
 }
 
 fn read_pages(alloc: Global, conn: &mut Connection<MemStore>, key: i64) -> Result<Pages, Error>
-    ensures found { (rows : _) → Stands (state over_memory conn.old) rows → IfOk result (λ pages. (pages.first ≡ find (is_sheet key (pos 0)) rows.sheets) × (pages.second ≡ find (is_sheet key (pos 1)) rows.sheets)) }
-    ensures same { (rows : _) → Stands (state over_memory conn.old) rows → OnOk result (Stands (state over_memory conn.new) rows) }
-    ensures cause { (rows : _) → Stands (state over_memory conn.old) rows → IfErr result (FailsToReadPages key) }
+    ensures found { (rows : _) → Stands (state over_memory conn.old) rows
+        → IfOk result (λ pages. (pages.first ≡ find (is_sheet key (pos 0)) rows.sheets)
+        × (pages.second ≡ find (is_sheet key (pos 1)) rows.sheets)) }
+    ensures same { (rows : _) → Stands (state over_memory conn.old) rows
+        → OnOk result (Stands (state over_memory conn.new) rows) }
+    ensures cause { (rows : _) → Stands (state over_memory conn.old) rows
+        → IfErr result (FailsToReadPages key) }
 {
     let first = sheets::find_sheet(alloc, conn, key, 0)?;
     let second = sheets::find_sheet(alloc, conn, key, 1)?;

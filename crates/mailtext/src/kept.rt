@@ -89,7 +89,8 @@ pub fn canon(alloc: Global, text: &[u8]) -> Result<MailText, TextFault>
     ensures ok { IfOk result (λ kept. kept ≡ kept_form text.now) }
     ensures lines { IfOk result (λ kept. lines_of kept ≡ lines_of text.now) }
     ensures empty { (result ≡ Err TextFault.Empty) ↔ (text.now ≡ []) }
-    ensures too_large { (result ≡ Err TextFault.TooLarge) ↔ (most_octets < length (kept_form text.now)) }
+    ensures too_large { (result ≡ Err TextFault.TooLarge) ↔
+        (most_octets < length (kept_form text.now)) }
 {
     if text.is_empty() {
         return Err(TextFault::Empty);

@@ -69,7 +69,8 @@ fn dotted(line: &[u8], dots: Dots) -> (&'static [u8], &[u8])
 
 /// How many octets the lines of `text` take; `None` where a `usize` can't say it.
 pub fn written_len(text: &[u8], dots: Dots) -> Option<usize>
-    ensures { SomeIff result (length (written dots text.now) < 2 ^ 64) (length (written dots text.now)) }
+    ensures { SomeIff result (length (written dots text.now) < 2 ^ 64)
+        (length (written dots text.now)) }
 {
     let mut len = 0usize;
     let mut rest = text;

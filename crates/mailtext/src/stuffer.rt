@@ -1,7 +1,8 @@
 //! The lines of a reply sent from pieces of a text, a dot put before each that begins with one
 //! (RFC 1939, section 3).
 
-ghost use Rattle.std.specs.Prelude.{◌≡◌, ◌==◌, ◌&&◌, ◌<◌, ◌≤◌, ◌+◌, ◌*◌, ◌++◌, ℕ, List, length, take, drop, slice_index, true};
+ghost use Rattle.std.specs.Prelude.{◌≡◌, ◌==◌, ◌&&◌, ◌<◌, ◌≤◌, ◌+◌, ◌*◌, ◌++◌, ℕ, List, length};
+ghost use Rattle.std.specs.Prelude.{take, drop, slice_index, true};
 ghost use Rattle.mailtext.specs.Text.{kept_form, lines_of, stuffed_lines};
 ghost use Rattle.mailtext.specs.Streams.{stuffed_from, front_at, owed_dots};
 

@@ -1,9 +1,11 @@
 //! The lines of a reply of many lines: as a server sends them, a dot put before each that begins
 //! with one, and as a client reads them (RFC 1939, section 3).
 
-ghost use Rattle.std.specs.Prelude.{◌≡◌, ◌≤◌, ◌+◌, ◌++◌, ℕ, List, length, take, map, codes, IfOk, OnOk, OnErr, IfSome, MatchOption};
+ghost use Rattle.std.specs.Prelude.{◌≡◌, ◌≤◌, ◌+◌, ◌++◌, ℕ, List, length, take, map, codes, IfOk};
+ghost use Rattle.std.specs.Prelude.{OnOk, OnErr, IfSome, MatchOption};
 ghost use Rattle.std.specs.Str.{bytes_eq};
-ghost use Rattle.mailtext.specs.Text.{lines_of, kept_form, stuffed_lines, dot_line, without_return, without_dot, pieces, read_lines, unstuffed};
+ghost use Rattle.mailtext.specs.Text.{lines_of, kept_form, stuffed_lines, dot_line, without_return};
+ghost use Rattle.mailtext.specs.Text.{without_dot, pieces, read_lines, unstuffed};
 
 use crate::lines::{Dots, LF, write_lines, written_len};
 use std::alloc::{AllocError, Global};
@@ -59,7 +61,8 @@ fn is_dot(line: &[u8]) -> bool
 /// Where the first ended line that is a dot begins and ends.
 fn find_dot_line(octets: &[u8]) -> Option<Range<usize>>
     ensures found { MatchOption result (read_lines (pieces octets.now) ≡ None)
-        (λ dot. read_lines (pieces octets.now) ≡ Some (map without_dot (lines_of (take dot.start octets.now)), dot.end)) }
+        (λ dot. read_lines (pieces octets.now) ≡ Some
+        (map without_dot (lines_of (take dot.start octets.now)), dot.end)) }
     ensures within { IfSome result (λ dot. dot.start ≤ length octets.now) }
 {
     let mut start = 0;

@@ -82,7 +82,8 @@ fn rows_of(alloc: Global, heads: &[Head]) -> Result<Vec<MessageRow>, AllocError>
 
 /// The answer to a look at a maildrop, by the vault's answer; or want of memory.
 fn shown(alloc: Global, answered: Result<Vec<Head>, VaultFault>) -> Outcome
-    ensures { (outcome_seen result ≡ by_vault.shown (seen_as answered (λ v. v.items))) ⊎ (outcome_seen result ≡ outcomes.NoMemory) }
+    ensures { (outcome_seen result ≡ by_vault.shown (seen_as answered (λ v. v.items)))
+        ⊎ (outcome_seen result ≡ outcomes.NoMemory) }
 {
     match answered {
         Ok(heads) => match rows_of(alloc, &heads) {

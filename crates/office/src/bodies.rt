@@ -1,7 +1,9 @@
 //! The texts of answers: what deposits and an administrator's commands are told.
 
 ghost use Rattle.std.specs.Prelude.{◌≡◌, IfOk, map};
-ghost use Rattle.office.specs.Answers.{body_of, body_line, body_lines, total_text, message_text, session_text, group_line, New, Known, Explained, PolicyIs, RuleCount};
+ghost use Rattle.office.specs.Answers.{body_of, body_line, body_lines, total_text, message_text};
+ghost use Rattle.office.specs.Answers.{session_text, group_line, New, Known, Explained, PolicyIs};
+ghost use Rattle.office.specs.Answers.{RuleCount};
 ghost use Rattle.office.specs.Shown.{answer_seen, row_seen, session_seen};
 
 use crate::answer::{Answer, MessageRow, SessionRow};
@@ -169,7 +171,8 @@ fn group_line(alloc: Global, group: &Group) -> Result<Vec<u8>, AllocError>
 
 /// A line for each session.
 fn session_lines(alloc: Global, rows: &[SessionRow]) -> Result<Vec<u8>, AllocError>
-    ensures { IfOk result (λ text. text.items ≡ body_lines session_text (map session_seen rows.now)) }
+    ensures { IfOk result (λ text. text.items
+        ≡ body_lines session_text (map session_seen rows.now)) }
 {
     let mut text = Vec::new(alloc);
     for row in rows {

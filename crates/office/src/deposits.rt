@@ -7,7 +7,8 @@ ghost use Rattle.office.specs.Expected.{IsOutcome};
 ghost use Rattle.office.specs.Outcomes.{HasCause};
 ghost use Rattle.office.specs.Stands.{OfEachTrace, StandsFor, lent_by, vault_of};
 ghost use Rattle.office.specs.Stopping.{StaysUpUnless, StopLeaves};
-ghost use Rattle.office.specs.VaultAnswers.{refused as refused_of, not_kept as not_kept_of, deposited as deposited_of};
+ghost use Rattle.office.specs.VaultAnswers.{refused as refused_of, not_kept as not_kept_of};
+ghost use Rattle.office.specs.VaultAnswers.{deposited as deposited_of};
 
 use crate::{Answer, Office, Outcome};
 use creds::{DepositId, Name};

@@ -6,7 +6,11 @@ ghost use Rattle.popline.specs.ReplyForm.{IsWellFormed};
 ghost use Rattle.office.specs.Events.{Trace};
 ghost use Rattle.office.specs.History.{deposits};
 ghost use Rattle.office.specs.Trace.{history};
-ghost use Rattle.office.specs.Laws.{OneHolder, ViewStaysPresent, UniqueIdsAreUnique, OwnRecordsAgree, MarksAreByView, GreetingsDiffer, DepositIdsActOnce, RepliesHaveTheirForm, UniqueIdTextsDiffer, TakenIsSent, OpeningsAreAdmitted, TimestampsDiffer, AllReplies, same_uid_text};
+ghost use Rattle.office.specs.Laws.{OneHolder, ViewStaysPresent, UniqueIdsAreUnique};
+ghost use Rattle.office.specs.Laws.{OwnRecordsAgree, MarksAreByView, GreetingsDiffer};
+ghost use Rattle.office.specs.Laws.{DepositIdsActOnce, RepliesHaveTheirForm, UniqueIdTextsDiffer};
+ghost use Rattle.office.specs.Laws.{TakenIsSent, OpeningsAreAdmitted, TimestampsDiffer, AllReplies};
+ghost use Rattle.office.specs.Laws.{same_uid_text};
 ghost use Rattle.office.specs.Served.{AllServed, ServedIsAllowed};
 ghost use Rattle.office.specs.Runs.{FailuresAreCounted};
 ghost use Rattle.vault.specs.Changes.{Contents, records_of};
@@ -90,7 +94,8 @@ pub fn failures_are_counted()
 /// A clean store keeps the empty trace over its own records, so that an office can be opened over
 /// it.
 pub fn own_trace_is_kept<V: Vault>(vault: &V)
-    ensures { (c : Contents) → V.holds vault.now c → V.is_clean vault.now → Keeps (V.holds vault.now) (begun (records_of c)) }
+    ensures { (c : Contents) → V.holds vault.now c → V.is_clean vault.now
+        → Keeps (V.holds vault.now) (begun (records_of c)) }
 {
     let _vault = vault;
 }
@@ -100,8 +105,10 @@ pub fn own_trace_is_kept<V: Vault>(vault: &V)
 /// served was allowed.
 pub fn laws_of_its_trace<V: Vault>(office: &Office<V>)
     ensures greetings { (T : Trace) → StandsFor V.holds office.now T → TimestampsDiffer T }
-    ensures unique_ids { (T : Trace) → StandsFor V.holds office.now T → (d : List ℕ) → are_distinct same_uid_text (deposits T.base (history T) d) ≡ true }
-    ensures replies { (T : Trace) → StandsFor V.holds office.now T → AllReplies IsWellFormed (history T) }
+    ensures unique_ids { (T : Trace) → StandsFor V.holds office.now T → (d : List ℕ)
+        → are_distinct same_uid_text (deposits T.base (history T) d) ≡ true }
+    ensures replies { (T : Trace) → StandsFor V.holds office.now T
+        → AllReplies IsWellFormed (history T) }
     ensures served { (T : Trace) → StandsFor V.holds office.now T → AllServed T.base (history T) }
 {
     let _office = office;

@@ -16,7 +16,9 @@ ghost use Rattle.office.specs.Accounts.{command_account, inside_account};
 ghost use Rattle.office.specs.Telling.{is_told};
 ghost use Rattle.office.specs.Stopping.{WasDone, ActsOnce};
 ghost use Rattle.office.specs.Output.{nothing_owed, OwesReply};
-ghost use Rattle.office.specs.Sitting.{Sitting, sitting_of, session_left, LiesIn, GoesOn, Obeyed, said_inside, reply_inside, asks_inside, held_after_line, user_inside};
+ghost use Rattle.office.specs.Sitting.{Sitting, sitting_of, session_left, LiesIn, GoesOn, Obeyed};
+ghost use Rattle.office.specs.Sitting.{said_inside, reply_inside, asks_inside, held_after_line};
+ghost use Rattle.office.specs.Sitting.{user_inside};
 ghost use Rattle.office.specs.Sitting.{answered_inside};
 
 use crate::account::Account;
@@ -50,7 +52,10 @@ fn misread(fault: LineFault) -> Reply<'static>
 /// The reply to a command that sends no listing and asks no store. DELE marks a message, RSET takes
 /// all marks away.
 fn told(session: &mut Session, policy: &Policy, command: &Command<'_>) -> Reply<'static>
-    ensures said { (c : Contents) (kept : List Keyed) → LiesIn c session.old kept → is_told (command_seen command.now) ≡ true → reply_seen result ≡ said_inside policy.now (sitting_of session.old kept) (Ok (command_seen command.now)) }
+    ensures said { (c : Contents) (kept : List Keyed) → LiesIn c session.old kept
+        → is_told (command_seen command.now) ≡ true
+        → reply_seen result ≡ said_inside policy.now (sitting_of session.old kept)
+        (Ok (command_seen command.now)) }
     ensures session { GoesOn (reply_seen result) session.old session.new }
 {
     match command {
@@ -98,8 +103,12 @@ fn follow<V: Vault>(
     account: &mut Account,
 ) -> Result<Acted, AllocError>
     requires { output.old ≡ nothing_owed }
-    ensures done { IfOk result (λ acted. (c : Contents) (kept : List Keyed) → V.holds vault.old c → V.is_clean vault.new → LiesIn c session.old kept → Obeyed (V.holds vault.new) (has_grown (V.faults vault.old) (V.faults vault.new)) c policy.now session.old session.new kept output.new (Ok (command_seen command.now)) acted) }
-    ensures err { OnErr result ((c : Contents) → V.holds vault.old c → V.is_clean vault.new → V.holds vault.new c) }
+    ensures done { IfOk result (λ acted. (c : Contents) (kept : List Keyed) → V.holds vault.old c
+        → V.is_clean vault.new → LiesIn c session.old kept
+        → Obeyed (V.holds vault.new) (has_grown (V.faults vault.old) (V.faults vault.new)) c
+        policy.now session.old session.new kept output.new (Ok (command_seen command.now)) acted) }
+    ensures err { OnErr result ((c : Contents) → V.holds vault.old c → V.is_clean vault.new
+        → V.holds vault.new c) }
     ensures acts { ActsOnce V.Vault vault.old vault.new (IsOkAnd result WasDone)
         (held_after_line Acted.Done policy.now session.old (Ok (command_seen command.now))) }
     ensures account { account.old ≡ Account.Nothing
@@ -108,7 +117,9 @@ fn follow<V: Vault>(
         (Says (answered_inside acted policy.now (sitting_of session.old kept)
         (Ok (command_seen command.now))))) }
     ensures account_err { OnErr result (account.new ≡ account.old) }
-    ensures unasked { (c : Contents) (kept : List Keyed) → LiesIn c session.old kept → asks_inside policy.now (sitting_of session.old kept) (Ok (command_seen command.now)) ≡ false → vault.new ≡ vault.old }
+    ensures unasked { (c : Contents) (kept : List Keyed) → LiesIn c session.old kept
+        → asks_inside policy.now (sitting_of session.old kept) (Ok (command_seen command.now))
+        ≡ false → vault.new ≡ vault.old }
 {
     match command {
         Command::Quit => quit(alloc, vault, policy, output, session, account),
@@ -135,8 +146,12 @@ fn obey<V: Vault>(
     account: &mut Account,
 ) -> Result<Acted, AllocError>
     requires { output.old ≡ nothing_owed }
-    ensures done { IfOk result (λ acted. (c : Contents) (kept : List Keyed) → V.holds vault.old c → V.is_clean vault.new → LiesIn c session.old kept → Obeyed (V.holds vault.new) (has_grown (V.faults vault.old) (V.faults vault.new)) c policy.now session.old session.new kept output.new (reading line.now) acted) }
-    ensures err { OnErr result ((c : Contents) → V.holds vault.old c → V.is_clean vault.new → V.holds vault.new c) }
+    ensures done { IfOk result (λ acted. (c : Contents) (kept : List Keyed) → V.holds vault.old c
+        → V.is_clean vault.new → LiesIn c session.old kept
+        → Obeyed (V.holds vault.new) (has_grown (V.faults vault.old) (V.faults vault.new)) c
+        policy.now session.old session.new kept output.new (reading line.now) acted) }
+    ensures err { OnErr result ((c : Contents) → V.holds vault.old c → V.is_clean vault.new
+        → V.holds vault.new c) }
     ensures acts { ActsOnce V.Vault vault.old vault.new (IsOkAnd result WasDone)
         (held_after_line Acted.Done policy.now session.old (reading line.now)) }
     ensures account { account.old ≡ Account.Nothing
@@ -145,7 +160,9 @@ fn obey<V: Vault>(
         (Says (answered_inside acted policy.now (sitting_of session.old kept)
         (reading line.now)))) }
     ensures account_err { OnErr result (account.new ≡ account.old) }
-    ensures unasked { (c : Contents) (kept : List Keyed) → LiesIn c session.old kept → asks_inside policy.now (sitting_of session.old kept) (reading line.now) ≡ false → vault.new ≡ vault.old }
+    ensures unasked { (c : Contents) (kept : List Keyed) → LiesIn c session.old kept
+        → asks_inside policy.now (sitting_of session.old kept) (reading line.now) ≡ false
+        → vault.new ≡ vault.old }
 {
     match line.reading() {
         Ok(command) => follow(alloc, vault, policy, command, output, session, account),
@@ -166,12 +183,25 @@ pub(crate) fn answer<V: Vault>(
     account: &mut Account,
 ) -> Result<Acted, AllocError>
     requires { output.old ≡ nothing_owed }
-    ensures owed { IfOk result (λ acted. (c : Contents) (kept : List Keyed) → V.holds vault.old c → V.is_clean vault.new → LiesIn c session.old kept → OwesReply c (session_left (reading line.now) session.new) output.new (reply_inside acted policy.now (sitting_of session.old kept) line.now)) }
-    ensures session { IfOk result (λ acted. (c : Contents) (kept : List Keyed) → V.holds vault.old c → V.is_clean vault.new → LiesIn c session.old kept → GoesOn (reply_inside acted policy.now (sitting_of session.old kept) line.now) session.old session.new) }
-    ensures held { IfOk result (λ acted. (c : Contents) (kept : List Keyed) → V.holds vault.old c → V.is_clean vault.new → LiesIn c session.old kept → V.holds vault.new (held_after_line acted policy.now session.old (reading line.now) c)) }
-    ensures err { OnErr result ((c : Contents) → V.holds vault.old c → V.is_clean vault.new → V.holds vault.new c) }
-    ensures may { IfOk result (λ acted. acted ≡ Acted.Failed → (c : Contents) (kept : List Keyed) → V.holds vault.old c → V.is_clean vault.new → LiesIn c session.old kept → asks_inside policy.now (sitting_of session.old kept) (reading line.now) ≡ true) }
-    ensures cause { IfOk result (λ acted. acted ≡ Acted.Failed → (c : Contents) (kept : List Keyed) → V.holds vault.old c → V.is_clean vault.new → LiesIn c session.old kept → has_grown (V.faults vault.old) (V.faults vault.new) ≡ true) }
+    ensures owed { IfOk result (λ acted. (c : Contents) (kept : List Keyed) → V.holds vault.old c
+        → V.is_clean vault.new → LiesIn c session.old kept
+        → OwesReply c (session_left (reading line.now) session.new) output.new
+        (reply_inside acted policy.now (sitting_of session.old kept) line.now)) }
+    ensures session { IfOk result (λ acted. (c : Contents) (kept : List Keyed) → V.holds vault.old c
+        → V.is_clean vault.new → LiesIn c session.old kept
+        → GoesOn (reply_inside acted policy.now (sitting_of session.old kept) line.now) session.old
+        session.new) }
+    ensures held { IfOk result (λ acted. (c : Contents) (kept : List Keyed) → V.holds vault.old c
+        → V.is_clean vault.new → LiesIn c session.old kept
+        → V.holds vault.new (held_after_line acted policy.now session.old (reading line.now) c)) }
+    ensures err { OnErr result ((c : Contents) → V.holds vault.old c → V.is_clean vault.new
+        → V.holds vault.new c) }
+    ensures may { IfOk result (λ acted. acted ≡ Acted.Failed → (c : Contents) (kept : List Keyed)
+        → V.holds vault.old c → V.is_clean vault.new → LiesIn c session.old kept
+        → asks_inside policy.now (sitting_of session.old kept) (reading line.now) ≡ true) }
+    ensures cause { IfOk result (λ acted. acted ≡ Acted.Failed → (c : Contents) (kept : List Keyed)
+        → V.holds vault.old c → V.is_clean vault.new → LiesIn c session.old kept
+        → has_grown (V.faults vault.old) (V.faults vault.new) ≡ true) }
     ensures acts { ActsOnce V.Vault vault.old vault.new (IsOkAnd result WasDone)
         (held_after_line Acted.Done policy.now session.old (reading line.now)) }
     ensures account { account.old ≡ Account.Nothing
@@ -179,7 +209,9 @@ pub(crate) fn answer<V: Vault>(
         → account.new ≡ inside_account acted policy.now session.old (reading line.now)
         (Says (reply_inside acted policy.now (sitting_of session.old kept) line.now))) }
     ensures account_err { OnErr result (account.new ≡ account.old) }
-    ensures unasked { (c : Contents) (kept : List Keyed) → LiesIn c session.old kept → asks_inside policy.now (sitting_of session.old kept) (reading line.now) ≡ false → vault.new ≡ vault.old }
+    ensures unasked { (c : Contents) (kept : List Keyed) → LiesIn c session.old kept
+        → asks_inside policy.now (sitting_of session.old kept) (reading line.now) ≡ false
+        → vault.new ≡ vault.old }
 {
     if line.is_too_long() {
         return say(alloc, output, &Reply::LineTooLong);
@@ -200,7 +232,8 @@ fn next_user(line: &CommandLine<'_>, acted: Acted, user: Option<LoginName>) -> O
 /// What is remembered after a line of a session. Only an answered CAPA leaves a login name in
 /// force, no line counts as a refused credential, and a QUIT closes the connection.
 pub(crate) fn next_talk(line: &CommandLine<'_>, acted: Acted, talk: Talk) -> Talk
-    ensures { (p : Policy) (v : Sitting) → result ≡ talk_after line.now (reply_inside acted p v line.now) talk }
+    ensures { (p : Policy) (v : Sitting) → result
+        ≡ talk_after line.now (reply_inside acted p v line.now) talk }
 {
     Talk {
         user: next_user(line, acted, talk.user),

@@ -30,7 +30,8 @@ impl Limits {
     /// Idle seconds, with removals judged at the DELE. None where the seconds are out of range.
     pub fn new(idle: u32) -> Option<Limits>
         ensures valid { IsSome result ↔ ((600 ≤ idle) × (idle ≤ 86400)) }
-        ensures value { IfSome result (λ limits. limits ≡ record { idle = idle; removals = JudgedAtDele }) }
+        ensures value { IfSome result (λ limits. limits
+            ≡ record { idle = idle; removals = JudgedAtDele }) }
     {
         if (600..=86_400).contains(&idle) {
             Some(Limits {

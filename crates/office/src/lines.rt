@@ -1,5 +1,6 @@
 //! The reply to a line, and what is remembered after it.
-ghost use Rattle.std.specs.Prelude.{◌≡◌, ◌≤◌, ◌++◌, ℕ, List, Option, None, Some, true, false, Ok, OnOk, OnErr, IfOk, IsOkAnd};
+ghost use Rattle.std.specs.Prelude.{◌≡◌, ◌≤◌, ◌++◌, ℕ, List, Option, None, Some, true, false, Ok};
+ghost use Rattle.std.specs.Prelude.{OnOk, OnErr, IfOk, IsOkAnd};
 ghost use Rattle.std.specs.BTreeMap.{get};
 ghost use Rattle.popline.specs.Replies.{bytes_of};
 ghost use Rattle.popline.specs.Seen.{cut_seen, command_seen, reading_seen, reply_seen};
@@ -16,7 +17,8 @@ ghost use Rattle.office.specs.Output.{nothing_owed, OwesReply};
 ghost use Rattle.office.specs.Sitting.{Sitting, reply_inside};
 ghost use Rattle.office.specs.Accounts.{line_account, seated_account, inside_account};
 ghost use Rattle.office.specs.Kept.{said_outside, line_outside, asks_outside, asks, talk_after};
-ghost use Rattle.office.specs.Answered.{desk_over, reply_of, name_cmp, IsSeated, SessionAfter, Becomes, LocksFollow, held_after};
+ghost use Rattle.office.specs.Answered.{desk_over, reply_of, name_cmp, IsSeated, SessionAfter};
+ghost use Rattle.office.specs.Answered.{Becomes, LocksFollow, held_after};
 
 use crate::account::Account;
 use crate::command_line::CommandLine;
@@ -53,11 +55,18 @@ fn obey<V: Vault>(
     command: &Command<'_>,
     talk: Talk,
 ) -> Result<(Reply<'static>, Option<Session>), VaultFault>
-    ensures said { (c : Contents) → V.holds vault.old c → V.is_clean vault.new → IsDone (V.holds vault.new) c c (Ok (said_outside (desk_over c desk.entry locks.now) talk (Ok (command_seen command.now)))) (seen_as result (λ r. reply_seen r.0)) }
-    ensures session { IfOk result (λ r. (c : Contents) → V.holds vault.old c → V.is_clean vault.new → SessionAfter (is_quit (Ok (command_seen command.now))) (logs_in (Ok (command_seen command.now)) (Says (reply_seen r.0)) talk.user) c desk.entry.policy.now talk.removals (reply_seen r.0) None r.1) }
+    ensures said { (c : Contents) → V.holds vault.old c → V.is_clean vault.new
+        → IsDone (V.holds vault.new) c c (Ok (said_outside (desk_over c desk.entry locks.now) talk
+        (Ok (command_seen command.now)))) (seen_as result (λ r. reply_seen r.0)) }
+    ensures session { IfOk result (λ r. (c : Contents) → V.holds vault.old c → V.is_clean vault.new
+        → SessionAfter (is_quit (Ok (command_seen command.now)))
+        (logs_in (Ok (command_seen command.now)) (Says (reply_seen r.0)) talk.user) c
+        desk.entry.policy.now talk.removals (reply_seen r.0) None r.1) }
     ensures asked { OnErr result (asks_outside talk (Ok (command_seen command.now)) ≡ true) }
-    ensures looks { Looks V.holds V.faults V.is_clean V.is_up V.may_leave vault.old vault.new result }
-    ensures unasked { asks_outside talk (Ok (command_seen command.now)) ≡ false → vault.new ≡ vault.old }
+    ensures looks { Looks V.holds V.faults V.is_clean V.is_up V.may_leave vault.old vault.new
+        result }
+    ensures unasked { asks_outside talk (Ok (command_seen command.now)) ≡ false
+        → vault.new ≡ vault.old }
 {
     let user = talk.user;
     let failures = talk.failures;
@@ -90,10 +99,14 @@ fn reply_to<V: Vault>(
     line: &CommandLine<'_>,
     talk: Talk,
 ) -> Result<(Reply<'static>, Option<Session>), VaultFault>
-    ensures said { (c : Contents) → V.holds vault.old c → V.is_clean vault.new → IsDone (V.holds vault.new) c c (Ok (line_outside (desk_over c desk.entry locks.now) talk line.now)) (seen_as result (λ r. reply_seen r.0)) }
-    ensures session { IfOk result (λ r. (c : Contents) → V.holds vault.old c → V.is_clean vault.new → Becomes c desk.entry.policy.now talk line.now (reply_seen r.0) None r.1) }
+    ensures said { (c : Contents) → V.holds vault.old c → V.is_clean vault.new
+        → IsDone (V.holds vault.new) c c (Ok (line_outside (desk_over c desk.entry locks.now) talk
+        line.now)) (seen_as result (λ r. reply_seen r.0)) }
+    ensures session { IfOk result (λ r. (c : Contents) → V.holds vault.old c → V.is_clean vault.new
+        → Becomes c desk.entry.policy.now talk line.now (reply_seen r.0) None r.1) }
     ensures asked { OnErr result (asks_outside talk (reading line.now) ≡ true) }
-    ensures looks { Looks V.holds V.faults V.is_clean V.is_up V.may_leave vault.old vault.new result }
+    ensures looks { Looks V.holds V.faults V.is_clean V.is_up V.may_leave vault.old vault.new
+        result }
     ensures unasked { asks_outside talk (reading line.now) ≡ false → vault.new ≡ vault.old }
 {
     if line.is_too_long() {
@@ -168,13 +181,24 @@ fn answer_outside<V: Vault>(
     account: &mut Account,
 ) -> Result<(Acted, Option<Session>), AllocError>
     requires { output.old ≡ nothing_owed }
-    ensures owed { IfOk result (λ r. (c : Contents) → V.holds vault.old c → V.is_clean vault.new → output.new ≡ record output.old { ready = output.old.ready ++ bytes_of (reply_of r.0 (desk_over c desk.entry locks.old) talk.old None line.now) }) }
-    ensures talk { IfOk result (λ r. (c : Contents) → V.holds vault.old c → V.is_clean vault.new → talk.new ≡ talk_after line.now (reply_of r.0 (desk_over c desk.entry locks.old) talk.old None line.now) talk.old) }
-    ensures session { IfOk result (λ r. (c : Contents) → V.holds vault.old c → V.is_clean vault.new → Becomes c desk.entry.policy.now talk.old line.now (reply_of r.0 (desk_over c desk.entry locks.old) talk.old None line.now) None r.1) }
+    ensures owed { IfOk result (λ r. (c : Contents) → V.holds vault.old c → V.is_clean vault.new
+        → output.new ≡ record output.old {
+          ready = output.old.ready
+              ++ bytes_of (reply_of r.0 (desk_over c desk.entry locks.old) talk.old None line.now);
+        }) }
+    ensures talk { IfOk result (λ r. (c : Contents) → V.holds vault.old c → V.is_clean vault.new
+        → talk.new ≡ talk_after line.now (reply_of r.0 (desk_over c desk.entry locks.old) talk.old
+        None line.now) talk.old) }
+    ensures session { IfOk result (λ r. (c : Contents) → V.holds vault.old c → V.is_clean vault.new
+        → Becomes c desk.entry.policy.now talk.old line.now
+        (reply_of r.0 (desk_over c desk.entry locks.old) talk.old None line.now) None r.1) }
     ensures locks { IfOk result (λ r. LocksFollow desk.entry.number None r.1 locks.old locks.new) }
-    ensures locks_err { OnErr result ((d : List ℕ) → get name_cmp locks.new d ≡ get name_cmp locks.old d) }
-    ensures may { IfOk result (λ r. r.0 ≡ Acted.Failed → asks_outside talk.old (reading line.now) ≡ true) }
-    ensures cause { IfOk result (λ r. r.0 ≡ Acted.Failed → (c : Contents) → V.holds vault.old c → V.is_clean vault.new → has_grown (V.faults vault.old) (V.faults vault.new) ≡ true) }
+    ensures locks_err { OnErr result ((d : List ℕ)
+        → get name_cmp locks.new d ≡ get name_cmp locks.old d) }
+    ensures may { IfOk result (λ r. r.0 ≡ Acted.Failed
+        → asks_outside talk.old (reading line.now) ≡ true) }
+    ensures cause { IfOk result (λ r. r.0 ≡ Acted.Failed → (c : Contents) → V.holds vault.old c
+        → V.is_clean vault.new → has_grown (V.faults vault.old) (V.faults vault.new) ≡ true) }
     ensures looks { OnlyLooks V.Vault vault.old vault.new (IsOkAnd result (λ r. WasDone r.0)) }
     ensures account { IfOk result (λ r. (c : Contents) → V.holds vault.old c → V.is_clean vault.new
         → account.new ≡ line_account (reading line.now) (Says (reply_of r.0
@@ -209,15 +233,35 @@ fn answer_inside<V: Vault>(
     account: &mut Account,
 ) -> Result<(Acted, Option<Session>), AllocError>
     requires { output.old ≡ nothing_owed }
-    ensures owed { IfOk result (λ r. (c : Contents) (v : Sitting) → V.holds vault.old c → V.is_clean vault.new → IsSeated c (Some session) (Some v) → OwesReply c r.1 output.new (reply_of r.0 (desk_over c desk.entry locks.old) talk.old (Some v) line.now)) }
-    ensures talk { IfOk result (λ r. (c : Contents) (v : Sitting) → V.holds vault.old c → V.is_clean vault.new → IsSeated c (Some session) (Some v) → talk.new ≡ talk_after line.now (reply_of r.0 (desk_over c desk.entry locks.old) talk.old (Some v) line.now) talk.old) }
-    ensures session { IfOk result (λ r. (c : Contents) (v : Sitting) → V.holds vault.old c → V.is_clean vault.new → IsSeated c (Some session) (Some v) → Becomes c desk.entry.policy.now talk.old line.now (reply_of r.0 (desk_over c desk.entry locks.old) talk.old (Some v) line.now) (Some session) r.1) }
-    ensures locks { IfOk result (λ r. LocksFollow desk.entry.number (Some session) r.1 locks.old locks.new) }
-    ensures locks_err { OnErr result ((d : List ℕ) → get name_cmp locks.new d ≡ get name_cmp locks.old d) }
-    ensures held { IfOk result (λ r. (c : Contents) (v : Sitting) → V.holds vault.old c → V.is_clean vault.new → IsSeated c (Some session) (Some v) → V.holds vault.new (held_after r.0 desk.entry.policy.now (Some session) (reading line.now) c)) }
-    ensures err { OnErr result ((c : Contents) → V.holds vault.old c → V.is_clean vault.new → V.holds vault.new c) }
-    ensures may { IfOk result (λ r. r.0 ≡ Acted.Failed → (c : Contents) (v : Sitting) → V.holds vault.old c → V.is_clean vault.new → IsSeated c (Some session) (Some v) → asks desk.entry.policy.now talk.old (Some v) (reading line.now) ≡ true) }
-    ensures cause { IfOk result (λ r. r.0 ≡ Acted.Failed → (c : Contents) (v : Sitting) → V.holds vault.old c → V.is_clean vault.new → IsSeated c (Some session) (Some v) → has_grown (V.faults vault.old) (V.faults vault.new) ≡ true) }
+    ensures owed { IfOk result (λ r. (c : Contents) (v : Sitting) → V.holds vault.old c
+        → V.is_clean vault.new → IsSeated c (Some session) (Some v)
+        → OwesReply c r.1 output.new (reply_of r.0 (desk_over c desk.entry locks.old) talk.old
+        (Some v) line.now)) }
+    ensures talk { IfOk result (λ r. (c : Contents) (v : Sitting) → V.holds vault.old c
+        → V.is_clean vault.new → IsSeated c (Some session) (Some v)
+        → talk.new ≡ talk_after line.now (reply_of r.0 (desk_over c desk.entry locks.old) talk.old
+        (Some v) line.now) talk.old) }
+    ensures session { IfOk result (λ r. (c : Contents) (v : Sitting) → V.holds vault.old c
+        → V.is_clean vault.new → IsSeated c (Some session) (Some v)
+        → Becomes c desk.entry.policy.now talk.old line.now
+        (reply_of r.0 (desk_over c desk.entry locks.old) talk.old (Some v) line.now) (Some session)
+        r.1) }
+    ensures locks { IfOk result (λ r. LocksFollow desk.entry.number (Some session) r.1 locks.old
+        locks.new) }
+    ensures locks_err { OnErr result ((d : List ℕ)
+        → get name_cmp locks.new d ≡ get name_cmp locks.old d) }
+    ensures held { IfOk result (λ r. (c : Contents) (v : Sitting) → V.holds vault.old c
+        → V.is_clean vault.new → IsSeated c (Some session) (Some v)
+        → V.holds vault.new (held_after r.0 desk.entry.policy.now (Some session) (reading line.now)
+        c)) }
+    ensures err { OnErr result ((c : Contents) → V.holds vault.old c → V.is_clean vault.new
+        → V.holds vault.new c) }
+    ensures may { IfOk result (λ r. r.0 ≡ Acted.Failed → (c : Contents) (v : Sitting)
+        → V.holds vault.old c → V.is_clean vault.new → IsSeated c (Some session) (Some v)
+        → asks desk.entry.policy.now talk.old (Some v) (reading line.now) ≡ true) }
+    ensures cause { IfOk result (λ r. r.0 ≡ Acted.Failed → (c : Contents) (v : Sitting)
+        → V.holds vault.old c → V.is_clean vault.new → IsSeated c (Some session) (Some v)
+        → has_grown (V.faults vault.old) (V.faults vault.new) ≡ true) }
     ensures acts { ActsOnce V.Vault vault.old vault.new (IsOkAnd result (λ r. WasDone r.0))
         (held_after Acted.Done desk.entry.policy.now (Some session) (reading line.now)) }
     ensures account { account.old ≡ Account.Nothing
@@ -225,7 +269,9 @@ fn answer_inside<V: Vault>(
         → account.new ≡ inside_account r.0 desk.entry.policy.now session (reading line.now)
         (Says (reply_inside r.0 desk.entry.policy.now v line.now))) }
     ensures account_err { OnErr result (account.new ≡ account.old) }
-    ensures unasked { (c : Contents) (v : Sitting) → IsSeated c (Some session) (Some v) → asks desk.entry.policy.now talk.old (Some v) (reading line.now) ≡ false → vault.new ≡ vault.old }
+    ensures unasked { (c : Contents) (v : Sitting) → IsSeated c (Some session) (Some v)
+        → asks desk.entry.policy.now talk.old (Some v) (reading line.now) ≡ false
+        → vault.new ≡ vault.old }
 {
     let mut session = session;
     let maildrop = session.maildrop();
@@ -247,8 +293,8 @@ fn answer_inside<V: Vault>(
 }
 
 /// Answers a line: puts its reply, and keeps what the line leaves: what is remembered, the session
-/// and its maildrop's lock. Where the store fails, the reply says so. `account`, which tells nothing
-/// yet, becomes what was judged. An error is want of memory.
+/// and its maildrop's lock. Where the store fails, the reply says so. `account`, which tells
+/// nothing yet, becomes what was judged. An error is want of memory.
 pub fn answer<V: Vault>(
     alloc: Global,
     vault: &mut V,
@@ -261,15 +307,36 @@ pub fn answer<V: Vault>(
     account: &mut Account,
 ) -> Result<Acted, AllocError>
     requires { output.old ≡ nothing_owed }
-    ensures owed { IfOk result (λ acted. (c : Contents) (v : Option Sitting) → V.holds vault.old c → V.is_clean vault.new → IsSeated c session.old v → OwesReply c session.new output.new (reply_of acted (desk_over c desk.entry locks.old) talk.old v (cut_seen cut.entry))) }
-    ensures talk { IfOk result (λ acted. (c : Contents) (v : Option Sitting) → V.holds vault.old c → V.is_clean vault.new → IsSeated c session.old v → talk.new ≡ talk_after (cut_seen cut.entry) (reply_of acted (desk_over c desk.entry locks.old) talk.old v (cut_seen cut.entry)) talk.old) }
-    ensures session { IfOk result (λ acted. (c : Contents) (v : Option Sitting) → V.holds vault.old c → V.is_clean vault.new → IsSeated c session.old v → Becomes c desk.entry.policy.now talk.old (cut_seen cut.entry) (reply_of acted (desk_over c desk.entry locks.old) talk.old v (cut_seen cut.entry)) session.old session.new) }
-    ensures locks { OnOk result (LocksFollow desk.entry.number session.old session.new locks.old locks.new) }
-    ensures locks_err { OnErr result ((d : List ℕ) → get name_cmp locks.new d ≡ get name_cmp locks.old d) }
-    ensures held { IfOk result (λ acted. (c : Contents) (v : Option Sitting) → V.holds vault.old c → V.is_clean vault.new → IsSeated c session.old v → V.holds vault.new (held_after acted desk.entry.policy.now session.old (reading (cut_seen cut.entry)) c)) }
-    ensures err { OnErr result ((c : Contents) → V.holds vault.old c → V.is_clean vault.new → V.holds vault.new c) }
-    ensures may { IfOk result (λ acted. acted ≡ Acted.Failed → (c : Contents) (v : Option Sitting) → V.holds vault.old c → V.is_clean vault.new → IsSeated c session.old v → asks desk.entry.policy.now talk.old v (reading (cut_seen cut.entry)) ≡ true) }
-    ensures cause { IfOk result (λ acted. acted ≡ Acted.Failed → (c : Contents) (v : Option Sitting) → V.holds vault.old c → V.is_clean vault.new → IsSeated c session.old v → has_grown (V.faults vault.old) (V.faults vault.new) ≡ true) }
+    ensures owed { IfOk result (λ acted. (c : Contents) (v : Option Sitting) → V.holds vault.old c
+        → V.is_clean vault.new → IsSeated c session.old v
+        → OwesReply c session.new output.new (reply_of acted (desk_over c desk.entry locks.old)
+        talk.old v (cut_seen cut.entry))) }
+    ensures talk { IfOk result (λ acted. (c : Contents) (v : Option Sitting) → V.holds vault.old c
+        → V.is_clean vault.new → IsSeated c session.old v
+        → talk.new ≡ talk_after (cut_seen cut.entry)
+        (reply_of acted (desk_over c desk.entry locks.old) talk.old v (cut_seen cut.entry))
+        talk.old) }
+    ensures session { IfOk result (λ acted. (c : Contents) (v : Option Sitting)
+        → V.holds vault.old c → V.is_clean vault.new → IsSeated c session.old v
+        → Becomes c desk.entry.policy.now talk.old (cut_seen cut.entry)
+        (reply_of acted (desk_over c desk.entry locks.old) talk.old v (cut_seen cut.entry))
+        session.old session.new) }
+    ensures locks { OnOk result (LocksFollow desk.entry.number session.old session.new locks.old
+        locks.new) }
+    ensures locks_err { OnErr result ((d : List ℕ)
+        → get name_cmp locks.new d ≡ get name_cmp locks.old d) }
+    ensures held { IfOk result (λ acted. (c : Contents) (v : Option Sitting) → V.holds vault.old c
+        → V.is_clean vault.new → IsSeated c session.old v
+        → V.holds vault.new (held_after acted desk.entry.policy.now session.old
+        (reading (cut_seen cut.entry)) c)) }
+    ensures err { OnErr result ((c : Contents) → V.holds vault.old c → V.is_clean vault.new
+        → V.holds vault.new c) }
+    ensures may { IfOk result (λ acted. acted ≡ Acted.Failed → (c : Contents) (v : Option Sitting)
+        → V.holds vault.old c → V.is_clean vault.new → IsSeated c session.old v
+        → asks desk.entry.policy.now talk.old v (reading (cut_seen cut.entry)) ≡ true) }
+    ensures cause { IfOk result (λ acted. acted ≡ Acted.Failed → (c : Contents) (v : Option Sitting)
+        → V.holds vault.old c → V.is_clean vault.new → IsSeated c session.old v
+        → has_grown (V.faults vault.old) (V.faults vault.new) ≡ true) }
     ensures acts { ActsOnce V.Vault vault.old vault.new (IsOkAnd result WasDone)
         (held_after Acted.Done desk.entry.policy.now session.old (reading (cut_seen cut.entry))) }
     ensures account { account.old ≡ Account.Nothing
@@ -279,7 +346,9 @@ pub fn answer<V: Vault>(
         (Says (reply_of acted (desk_over c desk.entry locks.old) talk.old v
         (cut_seen cut.entry))) talk.old.user) }
     ensures account_err { OnErr result (account.new ≡ account.old) }
-    ensures unasked { (c : Contents) (v : Option Sitting) → IsSeated c session.old v → asks desk.entry.policy.now talk.old v (reading (cut_seen cut.entry)) ≡ false → vault.new ≡ vault.old }
+    ensures unasked { (c : Contents) (v : Option Sitting) → IsSeated c session.old v
+        → asks desk.entry.policy.now talk.old v (reading (cut_seen cut.entry)) ≡ false
+        → vault.new ≡ vault.old }
 {
     let line = CommandLine::read(cut);
     match session.take() {

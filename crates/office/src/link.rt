@@ -1,5 +1,7 @@
 //! One connection: the input that isn't cut yet, and the octets that it is owed.
-ghost use Rattle.std.specs.Prelude.{◌≡◌, ◌++◌, ◌+◌, ◌≤◌, ◌<◌, ◌==◌, ◌||◌, nat_lt, ℕ, List, [], Option, None, true, false, is_some, OnOk, OnErr, IfOk, IsOkAnd, IsTrue, drop, length, string_bytes};
+ghost use Rattle.std.specs.Prelude.{◌≡◌, ◌++◌, ◌+◌, ◌≤◌, ◌<◌, ◌==◌, ◌||◌, nat_lt, ℕ, List, []};
+ghost use Rattle.std.specs.Prelude.{Option, None, true, false, is_some, OnOk, OnErr, IfOk, IsOkAnd};
+ghost use Rattle.std.specs.Prelude.{IsTrue, drop, length, string_bytes};
 ghost use Rattle.std.specs.BTreeMap.{get};
 ghost use Rattle.popline.specs.Replies.{Greeting, bytes_of, timestamp};
 ghost use Rattle.popline.specs.Cutting.{has_newline, coming, shown, nothing_held};
@@ -8,7 +10,8 @@ ghost use Rattle.vault.specs.Calls.{has_grown};
 ghost use Rattle.vault.specs.Parts.{OnlyLooks};
 ghost use Rattle.office.specs.Stopping.{WasDone, ActsOnce};
 ghost use Rattle.office.specs.Replying.{is_empty};
-ghost use Rattle.office.specs.Output.{nothing_owed, most_output, lent_of, is_feeding, reads_text, Owes, OwesIf};
+ghost use Rattle.office.specs.Output.{nothing_owed, most_output, lent_of, is_feeding, reads_text};
+ghost use Rattle.office.specs.Output.{Owes, OwesIf};
 ghost use Rattle.office.specs.Sitting.{Sitting};
 ghost use Rattle.office.specs.History.{Says};
 ghost use Rattle.office.specs.Accounts.{account_if, seated_account};
@@ -18,7 +21,8 @@ ghost use Rattle.office.specs.InSession.{name_of};
 ghost use Rattle.office.specs.Input.{most_input};
 ghost use Rattle.office.specs.Connections.{reading};
 ghost use Rattle.office.specs.Expected.{most_in_a_piece};
-ghost use Rattle.office.specs.Answered.{judged_at, reply_of, name_cmp, is_locked_by, IsSeated, BecomesIf, LocksFollow, held_if};
+ghost use Rattle.office.specs.Answered.{judged_at, reply_of, name_cmp, is_locked_by, IsSeated};
+ghost use Rattle.office.specs.Answered.{BecomesIf, LocksFollow, held_if};
 ghost use Rattle.office.specs.Waiting.{is_held_for, coming_login, line_with};
 
 use crate::account::Account;
@@ -60,9 +64,20 @@ impl Model for Link {
 
     ghost Value = { Kept };
 
-    ghost view = { λ l. record { held = l.cutter; pending = drop l.cut l.pending.items; output = l.output; talk = l.talk; stamp = string_bytes l.stamp; session = l.session; clock = l.clock } };
+    ghost view = { λ l. record {
+      held = l.cutter;
+      pending = drop l.cut l.pending.items;
+      output =
+          l.output;
+      talk = l.talk;
+      stamp = string_bytes l.stamp;
+      session = l.session;
+      clock =
+          l.clock;
+    } };
 
-    ghost invariant = { λ l. (l.cut ≤ length l.pending.items) × (length l.pending.items ≤ most_in_a_piece) };
+    ghost invariant = { λ l. (l.cut ≤ length l.pending.items)
+        × (length l.pending.items ≤ most_in_a_piece) };
 }
 
 impl Link {
@@ -76,7 +91,18 @@ impl Link {
         now: u64,
         removals: Removals,
     ) -> Result<Link, AllocError>
-        ensures { IfOk result (λ k. k ≡ record { held = nothing_held; pending = []; output = record { ready = bytes_of (Greeting number boot host.now); source = Source.Nothing }; talk = nothing_said removals; stamp = timestamp number boot host.now; session = None; clock = now }) }
+        ensures { IfOk result (λ k. k ≡ record {
+          held = nothing_held;
+          pending = [];
+          output = record
+              { ready = bytes_of (Greeting number boot host.now); source = Source.Nothing };
+          talk =
+              nothing_said removals;
+          stamp = timestamp number boot host.now;
+          session = None;
+          clock =
+              now;
+        }) }
     {
         let mut output = Output::new(alloc)?;
         let greeting = Reply::Greeting { number, boot, host };
@@ -104,7 +130,8 @@ impl Link {
     /// Whether so many octets may be taken: some, and no more than are lent.
     pub fn lends(&self, octets: usize) -> bool
         ensures some { result ≡ true → (0 < octets) × (octets ≤ length (lent_of self.now.output)) }
-        ensures none { result ≡ false → (octets == 0 || nat_lt (length (lent_of self.now.output)) octets) ≡ true }
+        ensures none { result ≡ false → (octets == 0
+            || nat_lt (length (lent_of self.now.output)) octets) ≡ true }
     {
         0 < octets && octets <= self.owed().len()
     }
@@ -150,11 +177,19 @@ impl Link {
     ) -> Result<bool, AllocError>
         requires { octets ≤ length self.old.output.ready }
         ensures kept { self.new ≡ record self.old { output = self.new.output; clock = now } }
-        ensures owes { IfOk result (λ taken. taken ≡ true → (c : Contents) (owed : List ℕ) → V.holds vault.old c → V.is_clean vault.new → Owes c self.old.session self.old.output owed → Owes c self.old.session self.new.output (drop octets owed)) }
-        ensures kind { IfOk result (λ taken. reads_text self.new.output.source ≡ true → reads_text self.old.output.source ≡ true) }
-        ensures cause { IfOk result (λ taken. taken ≡ false → (c : Contents) (owed : List ℕ) → V.holds vault.old c → V.is_clean vault.new → Owes c self.old.session self.old.output owed → has_grown (V.faults vault.old) (V.faults vault.new) ≡ true) }
+        ensures owes { IfOk result (λ taken. taken ≡ true → (c : Contents) (owed : List ℕ)
+            → V.holds vault.old c → V.is_clean vault.new
+            → Owes c self.old.session self.old.output owed
+            → Owes c self.old.session self.new.output (drop octets owed)) }
+        ensures kind { IfOk result (λ taken. reads_text self.new.output.source ≡ true
+            → reads_text self.old.output.source ≡ true) }
+        ensures cause { IfOk result (λ taken. taken ≡ false → (c : Contents) (owed : List ℕ)
+            → V.holds vault.old c → V.is_clean vault.new
+            → Owes c self.old.session self.old.output owed
+            → has_grown (V.faults vault.old) (V.faults vault.new) ≡ true) }
         // Only a message can be refused, and only what is still coming takes memory.
-        ensures refused { IfOk result (λ taken. taken ≡ false → reads_text self.old.output.source ≡ true) }
+        ensures refused { IfOk result (λ taken. taken ≡ false
+            → reads_text self.old.output.source ≡ true) }
         ensures err { OnErr result (is_feeding self.old.output.source ≡ true) }
         ensures looks { OnlyLooks V.Vault vault.old vault.new (IsOkAnd result IsTrue) }
         ensures unasked { reads_text self.old.output.source ≡ false → vault.new ≡ vault.old }
@@ -225,7 +260,8 @@ impl Link {
     /// Whom the line that is whole with this piece would log in: nobody where no line is whole,
     /// where the line isn't a login, or where somebody is in session. The piece isn't taken.
     pub fn coming_login(&self, piece: &[u8]) -> Option<LoginName>
-        ensures { result ≡ coming_login (is_some self.now.session) self.now.talk.user (line_with self.now piece.now) }
+        ensures { result ≡ coming_login (is_some self.now.session) self.now.talk.user
+            (line_with self.now piece.now) }
     {
         if self.session.is_some() {
             return None;
@@ -241,7 +277,9 @@ impl Link {
     /// Whether the line that is whole with this piece is a login to a maildrop that is locked. The
     /// piece isn't taken.
     pub fn meets_lock(&self, locks: &Locks, piece: &[u8]) -> bool
-        ensures { result ≡ is_held_for (is_locked_by locks.now) (coming_login (is_some self.now.session) self.now.talk.user (line_with self.now piece.now)) }
+        ensures { result ≡ is_held_for (is_locked_by locks.now)
+            (coming_login (is_some self.now.session) self.now.talk.user
+            (line_with self.now piece.now)) }
     {
         asks_locked(locks, self.coming_login(piece))
     }
@@ -261,18 +299,45 @@ impl Link {
         account: &mut Account,
     ) -> Result<Acted, AllocError>
         requires { (self.old.output ≡ nothing_owed) × (length piece.now ≤ most_in_a_piece) }
-        ensures ok { IfOk result (λ acted. (c : Contents) (v : Option Sitting) → V.holds vault.old c → V.is_clean vault.new → IsSeated c self.old.session v → self.new ≡ answered (clocked now piece.now self.old) piece.now (reply_of acted (judged_at c policy.now self.old.stamp locks.old) self.old.talk v (line_after self.old piece.now)) self.new.session self.new.output) }
-        ensures owes { IfOk result (λ acted. (c : Contents) (v : Option Sitting) → V.holds vault.old c → V.is_clean vault.new → IsSeated c self.old.session v → OwesIf (has_newline piece.now) c self.new.session self.new.output (reply_of acted (judged_at c policy.now self.old.stamp locks.old) self.old.talk v (line_after self.old piece.now))) }
-        ensures session { IfOk result (λ acted. (c : Contents) (v : Option Sitting) → V.holds vault.old c → V.is_clean vault.new → IsSeated c self.old.session v → BecomesIf (has_newline piece.now) c policy.now self.old.talk (line_after self.old piece.now) (reply_of acted (judged_at c policy.now self.old.stamp locks.old) self.old.talk v (line_after self.old piece.now)) self.old.session self.new.session) }
-        ensures lines { IfOk result (λ _. (more : List ℕ) → coming self.old.held (piece.now ++ more) ≡ shown self.new.held ++ coming self.new.held (self.new.pending ++ more)) }
+        ensures ok { IfOk result (λ acted. (c : Contents) (v : Option Sitting) → V.holds vault.old c
+            → V.is_clean vault.new → IsSeated c self.old.session v
+            → self.new ≡ answered (clocked now piece.now self.old) piece.now
+            (reply_of acted (judged_at c policy.now self.old.stamp locks.old) self.old.talk v
+            (line_after self.old piece.now)) self.new.session self.new.output) }
+        ensures owes { IfOk result (λ acted. (c : Contents) (v : Option Sitting)
+            → V.holds vault.old c → V.is_clean vault.new → IsSeated c self.old.session v
+            → OwesIf (has_newline piece.now) c self.new.session self.new.output
+            (reply_of acted (judged_at c policy.now self.old.stamp locks.old) self.old.talk v
+            (line_after self.old piece.now))) }
+        ensures session { IfOk result (λ acted. (c : Contents) (v : Option Sitting)
+            → V.holds vault.old c → V.is_clean vault.new → IsSeated c self.old.session v
+            → BecomesIf (has_newline piece.now) c policy.now self.old.talk
+            (line_after self.old piece.now) (reply_of acted
+            (judged_at c policy.now self.old.stamp locks.old) self.old.talk v
+            (line_after self.old piece.now)) self.old.session self.new.session) }
+        ensures lines { IfOk result (λ _. (more : List ℕ)
+            → coming self.old.held (piece.now ++ more) ≡ shown self.new.held
+            ++ coming self.new.held (self.new.pending ++ more)) }
         // Only a line takes memory.
         ensures err { OnErr result (has_newline piece.now ≡ true) }
-        ensures locks { OnOk result (LocksFollow number self.old.session self.new.session locks.old locks.new) }
-        ensures locks_err { OnErr result ((d : List ℕ) → get name_cmp locks.new d ≡ get name_cmp locks.old d) }
-        ensures held { IfOk result (λ acted. (c : Contents) (v : Option Sitting) → V.holds vault.old c → V.is_clean vault.new → IsSeated c self.old.session v → V.holds vault.new (held_if (has_newline piece.now) acted policy.now self.old.session (reading (line_after self.old piece.now)) c)) }
-        ensures held_err { OnErr result ((c : Contents) → V.holds vault.old c → V.is_clean vault.new → V.holds vault.new c) }
-        ensures may { IfOk result (λ acted. acted ≡ Acted.Failed → (c : Contents) (v : Option Sitting) → V.holds vault.old c → V.is_clean vault.new → IsSeated c self.old.session v → (has_newline piece.now ≡ true) × (asks policy.now self.old.talk v (reading (line_after self.old piece.now)) ≡ true)) }
-        ensures cause { IfOk result (λ acted. acted ≡ Acted.Failed → (c : Contents) (v : Option Sitting) → V.holds vault.old c → V.is_clean vault.new → IsSeated c self.old.session v → has_grown (V.faults vault.old) (V.faults vault.new) ≡ true) }
+        ensures locks { OnOk result (LocksFollow number self.old.session self.new.session locks.old
+            locks.new) }
+        ensures locks_err { OnErr result ((d : List ℕ)
+            → get name_cmp locks.new d ≡ get name_cmp locks.old d) }
+        ensures held { IfOk result (λ acted. (c : Contents) (v : Option Sitting)
+            → V.holds vault.old c → V.is_clean vault.new → IsSeated c self.old.session v
+            → V.holds vault.new (held_if (has_newline piece.now) acted policy.now self.old.session
+            (reading (line_after self.old piece.now)) c)) }
+        ensures held_err { OnErr result ((c : Contents) → V.holds vault.old c → V.is_clean vault.new
+            → V.holds vault.new c) }
+        ensures may { IfOk result (λ acted. acted ≡ Acted.Failed
+            → (c : Contents) (v : Option Sitting) → V.holds vault.old c → V.is_clean vault.new
+            → IsSeated c self.old.session v → (has_newline piece.now ≡ true)
+            × (asks policy.now self.old.talk v (reading (line_after self.old piece.now)) ≡ true)) }
+        ensures cause { IfOk result (λ acted. acted ≡ Acted.Failed
+            → (c : Contents) (v : Option Sitting) → V.holds vault.old c → V.is_clean vault.new
+            → IsSeated c self.old.session v → has_grown (V.faults vault.old) (V.faults vault.new)
+            ≡ true) }
         ensures acts { ActsOnce V.Vault vault.old vault.new (IsOkAnd result WasDone)
             (held_if (has_newline piece.now) Acted.Done policy.now self.old.session
             (reading (line_after self.old piece.now))) }
@@ -284,7 +349,9 @@ impl Link {
             (judged_at c policy.now self.old.stamp locks.old) self.old.talk v
             (line_after self.old piece.now))) self.old.talk.user)) }
         ensures account_err { OnErr result (account.new ≡ account.old) }
-        ensures unasked { (c : Contents) (v : Option Sitting) → IsSeated c self.old.session v → (has_newline piece.now ≡ true → asks policy.now self.old.talk v (reading (line_after self.old piece.now)) ≡ false) → vault.new ≡ vault.old }
+        ensures unasked { (c : Contents) (v : Option Sitting) → IsSeated c self.old.session v
+            → (has_newline piece.now ≡ true → asks policy.now self.old.talk v
+            (reading (line_after self.old piece.now)) ≡ false) → vault.new ≡ vault.old }
     {
         self.output.clear();
         self.pending.clear();
@@ -326,17 +393,45 @@ impl Link {
         account: &mut Account,
     ) -> Result<Acted, AllocError>
         requires { self.old.output ≡ nothing_owed }
-        ensures ok { IfOk result (λ acted. (c : Contents) (v : Option Sitting) → V.holds vault.old c → V.is_clean vault.new → IsSeated c self.old.session v → self.new ≡ answered self.old self.old.pending (reply_of acted (judged_at c policy.now self.old.stamp locks.old) self.old.talk v (line_after self.old self.old.pending)) self.new.session self.new.output) }
-        ensures owes { IfOk result (λ acted. (c : Contents) (v : Option Sitting) → V.holds vault.old c → V.is_clean vault.new → IsSeated c self.old.session v → OwesIf (has_newline self.old.pending) c self.new.session self.new.output (reply_of acted (judged_at c policy.now self.old.stamp locks.old) self.old.talk v (line_after self.old self.old.pending))) }
-        ensures session { IfOk result (λ acted. (c : Contents) (v : Option Sitting) → V.holds vault.old c → V.is_clean vault.new → IsSeated c self.old.session v → BecomesIf (has_newline self.old.pending) c policy.now self.old.talk (line_after self.old self.old.pending) (reply_of acted (judged_at c policy.now self.old.stamp locks.old) self.old.talk v (line_after self.old self.old.pending)) self.old.session self.new.session) }
-        ensures lines { IfOk result (λ _. (more : List ℕ) → coming self.old.held (self.old.pending ++ more) ≡ shown self.new.held ++ coming self.new.held (self.new.pending ++ more)) }
+        ensures ok { IfOk result (λ acted. (c : Contents) (v : Option Sitting) → V.holds vault.old c
+            → V.is_clean vault.new → IsSeated c self.old.session v
+            → self.new ≡ answered self.old self.old.pending
+            (reply_of acted (judged_at c policy.now self.old.stamp locks.old) self.old.talk v
+            (line_after self.old self.old.pending)) self.new.session self.new.output) }
+        ensures owes { IfOk result (λ acted. (c : Contents) (v : Option Sitting)
+            → V.holds vault.old c → V.is_clean vault.new → IsSeated c self.old.session v
+            → OwesIf (has_newline self.old.pending) c self.new.session self.new.output
+            (reply_of acted (judged_at c policy.now self.old.stamp locks.old) self.old.talk v
+            (line_after self.old self.old.pending))) }
+        ensures session { IfOk result (λ acted. (c : Contents) (v : Option Sitting)
+            → V.holds vault.old c → V.is_clean vault.new → IsSeated c self.old.session v
+            → BecomesIf (has_newline self.old.pending) c policy.now self.old.talk
+            (line_after self.old self.old.pending) (reply_of acted
+            (judged_at c policy.now self.old.stamp locks.old) self.old.talk v
+            (line_after self.old self.old.pending)) self.old.session self.new.session) }
+        ensures lines { IfOk result (λ _. (more : List ℕ)
+            → coming self.old.held (self.old.pending ++ more) ≡ shown self.new.held
+            ++ coming self.new.held (self.new.pending ++ more)) }
         ensures err { OnErr result (has_newline self.old.pending ≡ true) }
-        ensures locks { OnOk result (LocksFollow number self.old.session self.new.session locks.old locks.new) }
-        ensures locks_err { OnErr result ((d : List ℕ) → get name_cmp locks.new d ≡ get name_cmp locks.old d) }
-        ensures held { IfOk result (λ acted. (c : Contents) (v : Option Sitting) → V.holds vault.old c → V.is_clean vault.new → IsSeated c self.old.session v → V.holds vault.new (held_if (has_newline self.old.pending) acted policy.now self.old.session (reading (line_after self.old self.old.pending)) c)) }
-        ensures held_err { OnErr result ((c : Contents) → V.holds vault.old c → V.is_clean vault.new → V.holds vault.new c) }
-        ensures may { IfOk result (λ acted. acted ≡ Acted.Failed → (c : Contents) (v : Option Sitting) → V.holds vault.old c → V.is_clean vault.new → IsSeated c self.old.session v → (has_newline self.old.pending ≡ true) × (asks policy.now self.old.talk v (reading (line_after self.old self.old.pending)) ≡ true)) }
-        ensures cause { IfOk result (λ acted. acted ≡ Acted.Failed → (c : Contents) (v : Option Sitting) → V.holds vault.old c → V.is_clean vault.new → IsSeated c self.old.session v → has_grown (V.faults vault.old) (V.faults vault.new) ≡ true) }
+        ensures locks { OnOk result (LocksFollow number self.old.session self.new.session locks.old
+            locks.new) }
+        ensures locks_err { OnErr result ((d : List ℕ)
+            → get name_cmp locks.new d ≡ get name_cmp locks.old d) }
+        ensures held { IfOk result (λ acted. (c : Contents) (v : Option Sitting)
+            → V.holds vault.old c → V.is_clean vault.new → IsSeated c self.old.session v
+            → V.holds vault.new (held_if (has_newline self.old.pending) acted policy.now
+            self.old.session (reading (line_after self.old self.old.pending)) c)) }
+        ensures held_err { OnErr result ((c : Contents) → V.holds vault.old c → V.is_clean vault.new
+            → V.holds vault.new c) }
+        ensures may { IfOk result (λ acted. acted ≡ Acted.Failed
+            → (c : Contents) (v : Option Sitting) → V.holds vault.old c → V.is_clean vault.new
+            → IsSeated c self.old.session v → (has_newline self.old.pending ≡ true)
+            × (asks policy.now self.old.talk v (reading (line_after self.old self.old.pending))
+            ≡ true)) }
+        ensures cause { IfOk result (λ acted. acted ≡ Acted.Failed
+            → (c : Contents) (v : Option Sitting) → V.holds vault.old c → V.is_clean vault.new
+            → IsSeated c self.old.session v → has_grown (V.faults vault.old) (V.faults vault.new)
+            ≡ true) }
         ensures acts { ActsOnce V.Vault vault.old vault.new (IsOkAnd result WasDone)
             (held_if (has_newline self.old.pending) Acted.Done policy.now self.old.session
             (reading (line_after self.old self.old.pending))) }
@@ -348,7 +443,9 @@ impl Link {
             (Says (reply_of acted (judged_at c policy.now self.old.stamp locks.old) self.old.talk v
             (line_after self.old self.old.pending))) self.old.talk.user)) }
         ensures account_err { OnErr result (account.new ≡ account.old) }
-        ensures unasked { (c : Contents) (v : Option Sitting) → IsSeated c self.old.session v → (has_newline self.old.pending ≡ true → asks policy.now self.old.talk v (reading (line_after self.old self.old.pending)) ≡ false) → vault.new ≡ vault.old }
+        ensures unasked { (c : Contents) (v : Option Sitting) → IsSeated c self.old.session v
+            → (has_newline self.old.pending ≡ true → asks policy.now self.old.talk v
+            (reading (line_after self.old self.old.pending)) ≡ false) → vault.new ≡ vault.old }
     {
         self.output.clear();
         self.cut += self.cutter.feed(&self.pending[self.cut..]);

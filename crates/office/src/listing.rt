@@ -19,7 +19,8 @@ use std::alloc::{AllocError, Global};
 
 /// How many messages aren't marked, and their octets.
 pub(crate) fn drop_listing(session: &Session) -> Reply<'static>
-    ensures said { (p : Policy) (c : Contents) (kept : List Keyed) → LiesIn c session.now kept → reply_seen result ≡ told_inside p session.now kept Stat }
+    ensures said { (p : Policy) (c : Contents) (kept : List Keyed) → LiesIn c session.now kept
+        → reply_seen result ≡ told_inside p session.now kept Stat }
     ensures session { GoesOn (reply_seen result) session.now session.now }
 {
     let (messages, octets) = session.stat();
@@ -34,7 +35,9 @@ pub(crate) fn list(
 ) -> Result<Acted, AllocError>
     requires { output.old ≡ nothing_owed }
     ensures acted { IfOk result (λ acted. acted ≡ Acted.Done) }
-    ensures owed { IfOk result (λ _. (c : Contents) → OwesReply c (Some session.now) output.new (ScanListing (sizes_of octets_of (unmarked session.now.marks session.now.view)))) }
+    ensures owed { IfOk result (λ _. (c : Contents)
+        → OwesReply c (Some session.now) output.new
+        (ScanListing (sizes_of octets_of (unmarked session.now.marks session.now.view)))) }
 {
     output.begin_sizes()?;
     output.send_sizes(alloc, session, 0)?;
@@ -49,7 +52,9 @@ pub(crate) fn list_uids(
 ) -> Result<Acted, AllocError>
     requires { output.old ≡ nothing_owed }
     ensures acted { IfOk result (λ acted. acted ≡ Acted.Done) }
-    ensures owed { IfOk result (λ _. (c : Contents) → OwesReply c (Some session.now) output.new (UidListing (uids_of uid_of (unmarked session.now.marks session.now.view)))) }
+    ensures owed { IfOk result (λ _. (c : Contents)
+        → OwesReply c (Some session.now) output.new
+        (UidListing (uids_of uid_of (unmarked session.now.marks session.now.view)))) }
 {
     output.begin_uids()?;
     output.send_uids(alloc, session, 0)?;

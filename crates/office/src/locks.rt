@@ -17,7 +17,8 @@ pub type Locks = BTreeMap<Name, u64>;
 /// refused.
 pub fn lock(locks: &mut Locks, number: u64, begun: &Option<Session>) -> Result<(), AllocError>
     ensures ok { OnOk result (LocksFollow number None begun.now locks.old locks.new) }
-    ensures err { OnErr result ((d : List ℕ) → get name_cmp locks.new d ≡ get name_cmp locks.old d) }
+    ensures err { OnErr result ((d : List ℕ)
+        → get name_cmp locks.new d ≡ get name_cmp locks.old d) }
 {
     if let Some(session) = begun {
         locks.insert(session.maildrop(), number)?;

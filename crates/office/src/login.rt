@@ -53,8 +53,11 @@ fn is_admitted<V: Vault>(
     name: &LoginName,
     proof: &Proof<'_>,
 ) -> Result<bool, VaultFault>
-    ensures said { (c : Contents) → V.holds vault.old c → V.is_clean vault.new → IsDone (V.holds vault.new) c c (Ok (is_admitted (credential_in name.now.clerk c.clerks) name.now.clerk stamp.now (proof_shown proof.now))) result }
-    ensures looks { Looks V.holds V.faults V.is_clean V.is_up V.may_leave vault.old vault.new result }
+    ensures said { (c : Contents) → V.holds vault.old c → V.is_clean vault.new
+        → IsDone (V.holds vault.new) c c (Ok (is_admitted (credential_in name.now.clerk c.clerks)
+        name.now.clerk stamp.now (proof_shown proof.now))) result }
+    ensures looks { Looks V.holds V.faults V.is_clean V.is_up V.may_leave vault.old vault.new
+        result }
 {
     Ok(match vault.credential(&name.clerk)? {
         None => false,
@@ -72,9 +75,14 @@ fn enter<V: Vault>(
     locks: &Locks,
     name: &LoginName,
 ) -> Result<(Reply<'static>, Option<Session>), VaultFault>
-    ensures said { (c : Contents) → V.holds vault.old c → V.is_clean vault.new → IsDone (V.holds vault.new) c c (Ok (entered c policy.now locks.now name.now)) (seen_as result (λ r. reply_seen r.0)) }
-    ensures session { IfOk result (λ r. (c : Contents) → V.holds vault.old c → V.is_clean vault.new → r.1 ≡ began (reply_seen r.0) (started policy.now removals name.now.clerk name.now.maildrop (heads name.now.maildrop c))) }
-    ensures looks { Looks V.holds V.faults V.is_clean V.is_up V.may_leave vault.old vault.new result }
+    ensures said { (c : Contents) → V.holds vault.old c → V.is_clean vault.new
+        → IsDone (V.holds vault.new) c c (Ok (entered c policy.now locks.now name.now))
+        (seen_as result (λ r. reply_seen r.0)) }
+    ensures session { IfOk result (λ r. (c : Contents) → V.holds vault.old c → V.is_clean vault.new
+        → r.1 ≡ began (reply_seen r.0) (started policy.now removals name.now.clerk name.now.maildrop
+        (heads name.now.maildrop c))) }
+    ensures looks { Looks V.holds V.faults V.is_clean V.is_up V.may_leave vault.old vault.new
+        result }
 {
     let heads = match vault.heads(&name.maildrop) {
         Ok(heads) => heads,
@@ -103,9 +111,14 @@ pub(crate) fn judge<V: Vault>(
     name: &LoginName,
     proof: &Proof<'_>,
 ) -> Result<(Reply<'static>, Option<Session>), VaultFault>
-    ensures said { (c : Contents) → V.holds vault.old c → V.is_clean vault.new → IsDone (V.holds vault.new) c c (Ok (judged (desk_over c desk.entry locks.now) failures name.now (proof_shown proof.now))) (seen_as result (λ r. reply_seen r.0)) }
-    ensures session { IfOk result (λ r. (c : Contents) → V.holds vault.old c → V.is_clean vault.new → r.1 ≡ began (reply_seen r.0) (started desk.entry.policy.now removals name.now.clerk name.now.maildrop (heads name.now.maildrop c))) }
-    ensures looks { Looks V.holds V.faults V.is_clean V.is_up V.may_leave vault.old vault.new result }
+    ensures said { (c : Contents) → V.holds vault.old c → V.is_clean vault.new
+        → IsDone (V.holds vault.new) c c (Ok (judged (desk_over c desk.entry locks.now) failures
+        name.now (proof_shown proof.now))) (seen_as result (λ r. reply_seen r.0)) }
+    ensures session { IfOk result (λ r. (c : Contents) → V.holds vault.old c → V.is_clean vault.new
+        → r.1 ≡ began (reply_seen r.0) (started desk.entry.policy.now removals name.now.clerk
+        name.now.maildrop (heads name.now.maildrop c))) }
+    ensures looks { Looks V.holds V.faults V.is_clean V.is_up V.may_leave vault.old vault.new
+        result }
 {
     if !is_admitted(vault, desk.stamp, name, proof)? {
         return Ok((refusal(failures), None));

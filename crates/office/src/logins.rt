@@ -45,7 +45,8 @@ impl<V: Vault> Office<V> {
     /// It reads the line as the office would. It asks no store, takes no memory and changes
     /// nothing. Lines behind the next one aren't looked at.
     pub fn brings_login(&self, c: u64, piece: &[u8]) -> bool
-        ensures { (T : Trace) → StandsFor V.holds self.now T → result ≡ brings_login_at T c piece.now }
+        ensures { (T : Trace) → StandsFor V.holds self.now T
+            → result ≡ brings_login_at T c piece.now }
     {
         let Some(link) = self.links.get(&c) else {
             return false;

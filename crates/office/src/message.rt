@@ -29,7 +29,10 @@ fn serve<V: Vault>(
     text: Reading,
 ) -> Result<Acted, AllocError>
     requires { output.old.source ≡ Source.Nothing }
-    ensures served { IfOk result (λ acted. (c : Contents) (s : State) (coming : List ℕ) → V.holds vault.old c → V.is_clean vault.new → Reads c s text coming → IsServed (V.holds vault.new) (has_grown (V.faults vault.old) (V.faults vault.new)) c s (output.old.ready ++ coming) output.new acted) }
+    ensures served { IfOk result (λ acted. (c : Contents) (s : State) (coming : List ℕ)
+        → V.holds vault.old c → V.is_clean vault.new → Reads c s text coming
+        → IsServed (V.holds vault.new) (has_grown (V.faults vault.old) (V.faults vault.new)) c s
+        (output.old.ready ++ coming) output.new acted) }
     ensures looks { OnlyLooks V.Vault vault.old vault.new (IsOkAnd result WasDone) }
 {
     if output.send_text(vault, text)? {
@@ -51,9 +54,14 @@ pub(crate) fn retrieve<V: Vault>(
     n: u64,
 ) -> Result<Acted, AllocError>
     requires { output.old ≡ nothing_owed }
-    ensures done { IfOk result (λ acted. (c : Contents) (kept : List Keyed) → V.holds vault.old c → V.is_clean vault.new → LiesIn c session.now kept → Obeyed (V.holds vault.new) (has_grown (V.faults vault.old) (V.faults vault.new)) c policy.now session.now session.now kept output.new (Ok (Retr n)) acted) }
+    ensures done { IfOk result (λ acted. (c : Contents) (kept : List Keyed) → V.holds vault.old c
+        → V.is_clean vault.new → LiesIn c session.now kept
+        → Obeyed (V.holds vault.new) (has_grown (V.faults vault.old) (V.faults vault.new)) c
+        policy.now session.now session.now kept output.new (Ok (Retr n)) acted) }
     ensures looks { OnlyLooks V.Vault vault.old vault.new (IsOkAnd result WasDone) }
-    ensures unasked { (c : Contents) (kept : List Keyed) → LiesIn c session.now kept → asks_inside policy.now (sitting_of session.now kept) (Ok (Retr n)) ≡ false → vault.new ≡ vault.old }
+    ensures unasked { (c : Contents) (kept : List Keyed) → LiesIn c session.now kept
+        → asks_inside policy.now (sitting_of session.now kept) (Ok (Retr n)) ≡ false
+        → vault.new ≡ vault.old }
 {
     match session.pick_for(n, policy) {
         Err(why) => say(alloc, output, &refused(why, n)),
@@ -76,9 +84,14 @@ pub(crate) fn top<V: Vault>(
     lines: u64,
 ) -> Result<Acted, AllocError>
     requires { output.old ≡ nothing_owed }
-    ensures done { IfOk result (λ acted. (c : Contents) (kept : List Keyed) → V.holds vault.old c → V.is_clean vault.new → LiesIn c session.now kept → Obeyed (V.holds vault.new) (has_grown (V.faults vault.old) (V.faults vault.new)) c policy.now session.now session.now kept output.new (Ok (Top number lines)) acted) }
+    ensures done { IfOk result (λ acted. (c : Contents) (kept : List Keyed) → V.holds vault.old c
+        → V.is_clean vault.new → LiesIn c session.now kept
+        → Obeyed (V.holds vault.new) (has_grown (V.faults vault.old) (V.faults vault.new)) c
+        policy.now session.now session.now kept output.new (Ok (Top number lines)) acted) }
     ensures looks { OnlyLooks V.Vault vault.old vault.new (IsOkAnd result WasDone) }
-    ensures unasked { (c : Contents) (kept : List Keyed) → LiesIn c session.now kept → asks_inside policy.now (sitting_of session.now kept) (Ok (Top number lines)) ≡ false → vault.new ≡ vault.old }
+    ensures unasked { (c : Contents) (kept : List Keyed) → LiesIn c session.now kept
+        → asks_inside policy.now (sitting_of session.now kept) (Ok (Top number lines)) ≡ false
+        → vault.new ≡ vault.old }
 {
     match session.pick_for(number, policy) {
         Err(why) => say(alloc, output, &refused(why, number)),

@@ -20,7 +20,8 @@ pub fn read_number(field: &[u8]) -> Option<u64>
 
 /// The same, in the words of std.
 fn parse_number(field: &[u8]) -> Option<u64>
-    ensures { SomeIff result (IsNumeral 10 field.now × (length field.now ≤ MOST_DIGITS) × (digits_value 10 field.now < 2 ^ 64)) (digits_value 10 field.now) }
+    ensures { SomeIff result (IsNumeral 10 field.now × (length field.now ≤ MOST_DIGITS)
+        × (digits_value 10 field.now < 2 ^ 64)) (digits_value 10 field.now) }
 {
     if field.len() > MOST_DIGITS || field.starts_with(b"+") {
         return None;

@@ -1,10 +1,12 @@
 //! An office: one function for each event.
-ghost use Rattle.std.specs.Prelude.{◌≡◌, ◌⊎◌, ◌<◌, ◌≤◌, ◌↔◌, not, true, false, ℕ, List, length, take, min, None, IfOk, IfErr, OnOk, OnErr, MatchResult};
+ghost use Rattle.std.specs.Prelude.{◌≡◌, ◌⊎◌, ◌<◌, ◌≤◌, ◌↔◌, not, true, false, ℕ, List, length};
+ghost use Rattle.std.specs.Prelude.{take, min, None, IfOk, IfErr, OnOk, OnErr, MatchResult};
 ghost use Rattle.office.specs.Events.{Trace, given};
 ghost use Rattle.office.specs.Shown.{event_seen, outcome_seen, followed_by};
 ghost use Rattle.office.specs.Events as event;
 ghost use Rattle.office.specs.Trace.{history, rest, is_open, is_ready, IsLent, most_lent};
-ghost use Rattle.office.specs.Expected.{IsOutcome, is_full, octets_taken, asks_no_store, may_show, Succeeds};
+ghost use Rattle.office.specs.Expected.{IsOutcome, is_full, octets_taken, asks_no_store, may_show};
+ghost use Rattle.office.specs.Expected.{Succeeds};
 ghost use Rattle.office.specs.Outcomes.{mark_of, HasCause, HasMemory};
 ghost use Rattle.creds.specs.Names.{is_host};
 ghost use Rattle.vault.specs.Changes.{Contents};
@@ -21,7 +23,9 @@ ghost use Rattle.office.specs.Buffered.{output_kept};
 ghost use Rattle.office.specs.Output.{most_output};
 ghost use Rattle.office.specs.Answered.{shown_of};
 ghost use Rattle.office.specs.Accounts.{IsAccount};
-ghost use Rattle.office.specs.Runs.{Step as Shown, followed, Follows, Enters, EntersSo, Ran, HaveCauses, HaveMemory, AreAnswered, StopLeavesRun, done_before};
+ghost use Rattle.office.specs.Runs.{Step as Shown, followed, Follows, Enters, EntersSo, Ran};
+ghost use Rattle.office.specs.Runs.{HaveCauses, HaveMemory, AreAnswered, StopLeavesRun};
+ghost use Rattle.office.specs.Runs.{done_before};
 
 use crate::link::Link;
 use crate::locks::{Locks, release};
@@ -99,15 +103,28 @@ impl<V: Vault> Office<V> {
         boot: u64,
         limits: Limits,
     ) -> Result<Office<V>, (OpenFault, V)>
-        ensures opened { IfOk result (λ office. (T : Trace) → Keeps (V.holds vault) T → V.is_clean (vault_of office) → StandsFor V.holds office (given T (event.Start host.now boot limits) (event.Tagged Done))) }
-        ensures host { MatchResult result (λ _. is_host host.now ≡ true) (λ e. (e.0 ≡ OpenFault.BadHost) ↔ (is_host host.now ≡ false)) }
-        ensures kept { IfErr result (λ e. (c : Contents) → V.holds vault c → V.is_clean e.1 → V.holds e.1 c) }
-        ensures left { IfOk result (λ office. (c : Contents) → V.holds vault c → V.is_clean (vault_of office) → V.holds (vault_of office) c) }
-        ensures up { IfOk result (λ office. (c : Contents) → V.holds vault c → V.is_clean (vault_of office) → V.is_up vault → V.is_up (vault_of office)) }
-        ensures stop { MatchResult result (λ office. (c : Contents) → V.holds vault c → V.is_clean (vault_of office) → V.is_up vault → LeavesHeld (V.may_leave (vault_of office)) c) (λ e. (c : Contents) → V.holds vault c → V.is_clean e.1 → V.is_up vault → LeavesHeld (V.may_leave e.1) c) }
-        ensures clean { MatchResult result (λ office. V.is_clean (vault_of office) → V.is_clean vault) (λ e. V.is_clean e.1 → V.is_clean vault) }
-        ensures counted { MatchResult result (λ office. V.faults vault ≤ V.faults (vault_of office)) (λ e. V.faults vault ≤ V.faults e.1) }
-        ensures cause { IfErr result (λ e. e.0 ≡ OpenFault.Store → (c : Contents) → V.holds vault c → V.is_clean e.1 → has_grown (V.faults vault) (V.faults e.1) ≡ true) }
+        ensures opened { IfOk result (λ office. (T : Trace) → Keeps (V.holds vault) T
+            → V.is_clean (vault_of office) → StandsFor V.holds office
+            (given T (event.Start host.now boot limits) (event.Tagged Done))) }
+        ensures host { MatchResult result (λ _. is_host host.now ≡ true)
+            (λ e. (e.0 ≡ OpenFault.BadHost) ↔ (is_host host.now ≡ false)) }
+        ensures kept { IfErr result (λ e. (c : Contents) → V.holds vault c → V.is_clean e.1
+            → V.holds e.1 c) }
+        ensures left { IfOk result (λ office. (c : Contents) → V.holds vault c
+            → V.is_clean (vault_of office) → V.holds (vault_of office) c) }
+        ensures up { IfOk result (λ office. (c : Contents) → V.holds vault c
+            → V.is_clean (vault_of office) → V.is_up vault → V.is_up (vault_of office)) }
+        ensures stop { MatchResult result (λ office. (c : Contents) → V.holds vault c
+            → V.is_clean (vault_of office) → V.is_up vault
+            → LeavesHeld (V.may_leave (vault_of office)) c)
+            (λ e. (c : Contents) → V.holds vault c → V.is_clean e.1 → V.is_up vault
+            → LeavesHeld (V.may_leave e.1) c) }
+        ensures clean { MatchResult result (λ office. V.is_clean (vault_of office)
+            → V.is_clean vault) (λ e. V.is_clean e.1 → V.is_clean vault) }
+        ensures counted { MatchResult result (λ office. V.faults vault ≤ V.faults (vault_of office))
+            (λ e. V.faults vault ≤ V.faults e.1) }
+        ensures cause { IfErr result (λ e. e.0 ≡ OpenFault.Store → (c : Contents) → V.holds vault c
+            → V.is_clean e.1 → has_grown (V.faults vault) (V.faults e.1) ≡ true) }
     {
         if HostName::read(host.as_bytes()).is_none() {
             return Err((OpenFault::BadHost, vault));
@@ -197,8 +214,11 @@ impl<V: Vault> Office<V> {
         ensures stop { OfEachTrace V.Vault self.old self.new (λ T.
             V.is_up (vault_of self.old) → StopLeaves (V.may_leave (vault_of self.new)) T
             (event.Bytes c piece.now) (outcome_seen result)) }
-        ensures unasked { (T : Trace) → StandsFor V.holds self.old T → V.is_clean (vault_of self.old) → may_show T (event.Bytes c piece.now) Failed ≡ false → vault_of self.new ≡ vault_of self.old }
-        ensures account { account.old ≡ Account.Nothing → OfEachTrace V.Vault self.old self.new (λ T. IsAccount T (event.Bytes c piece.now)
+        ensures unasked { (T : Trace) → StandsFor V.holds self.old T
+            → V.is_clean (vault_of self.old) → may_show T (event.Bytes c piece.now) Failed ≡ false
+            → vault_of self.new ≡ vault_of self.old }
+        ensures account { account.old ≡ Account.Nothing
+            → OfEachTrace V.Vault self.old self.new (λ T. IsAccount T (event.Bytes c piece.now)
             (outcome_seen result) account.new) }
     {
         let Some(link) = self.links.get_mut(&c) else {
@@ -245,8 +265,11 @@ impl<V: Vault> Office<V> {
         ensures stop { OfEachTrace V.Vault self.old self.new (λ T.
             V.is_up (vault_of self.old) → StopLeaves (V.may_leave (vault_of self.new)) T
             (event.Took c octets) (outcome_seen result)) }
-        ensures unasked { (T : Trace) → StandsFor V.holds self.old T → V.is_clean (vault_of self.old) → may_show T (event.Took c octets) Failed ≡ false → vault_of self.new ≡ vault_of self.old }
-        ensures account { account.old ≡ Account.Nothing → OfEachTrace V.Vault self.old self.new (λ T. IsAccount T (event.Took c octets)
+        ensures unasked { (T : Trace) → StandsFor V.holds self.old T
+            → V.is_clean (vault_of self.old) → may_show T (event.Took c octets) Failed ≡ false
+            → vault_of self.new ≡ vault_of self.old }
+        ensures account { account.old ≡ Account.Nothing
+            → OfEachTrace V.Vault self.old self.new (λ T. IsAccount T (event.Took c octets)
             (outcome_seen result) account.new) }
     {
         let Some(link) = self.links.get_mut(&c) else {
@@ -307,7 +330,8 @@ impl<V: Vault> Office<V> {
             V.is_up (vault_of self.old) → StopLeaves (V.may_leave (vault_of self.new)) T
             (event.Gone c) (outcome_seen result)) }
         ensures unasked { vault_of self.new ≡ vault_of self.old }
-        ensures done { (result ≡ Outcome.Done) ⊎ (result ≡ Outcome.Ignored Reason.NoSuchConnection) }
+        ensures done { (result ≡ Outcome.Done) ⊎ (result
+            ≡ Outcome.Ignored Reason.NoSuchConnection) }
     {
         match self.links.remove(&c) {
             None => Outcome::Ignored(Reason::NoSuchConnection),
@@ -343,10 +367,13 @@ impl<V: Vault> Office<V> {
         ensures sent { OfEachTrace V.Vault self.old self.new (λ T.
             AreAdmitted T → (c : ℕ) → IsSentExactly (followed_by T
             (event_seen event.entry) result) c) }
-        ensures unasked { asks_no_store (event_seen event.entry) ≡ true → vault_of self.new ≡ vault_of self.old }
+        ensures unasked { asks_no_store (event_seen event.entry) ≡ true
+            → vault_of self.new ≡ vault_of self.old }
         // An event that may not be answered `Failed` asks no store: a line that needs none, and a
         // QUIT that removes nothing.
-        ensures unasked_line { (T : Trace) → StandsFor V.holds self.old T → V.is_clean (vault_of self.old) → may_show T (event_seen event.entry) Failed ≡ false → vault_of self.new ≡ vault_of self.old }
+        ensures unasked_line { (T : Trace) → StandsFor V.holds self.old T
+            → V.is_clean (vault_of self.old) → may_show T (event_seen event.entry) Failed ≡ false
+            → vault_of self.new ≡ vault_of self.old }
         ensures succeeds { Succeeds (event_seen event.entry) (outcome_seen result) }
         // Some events are never answered `NoMemory`: a piece without LF, a taking of a part where
         // all that is owed is lent, and others (`may_lack_memory_at`).
@@ -420,7 +447,9 @@ impl<V: Vault> Office<V> {
         ensures ok { IfOk result (λ steps. OfEachTrace V.Vault self.old self.new (λ T.
             Follows V.holds events.now steps T self.new)) }
         ensures err_before_the_end { IfErr result (λ e. done_before e < length events.now) }
-        ensures err { IfErr result (λ e. (steps : List Shown) × (OfEachTrace V.Vault self.old self.new (λ T. Follows V.holds (take (done_before e) events.now) steps T self.new))) }
+        ensures err { IfErr result (λ e. (steps : List Shown)
+            × (OfEachTrace V.Vault self.old self.new
+            (λ T. Follows V.holds (take (done_before e) events.now) steps T self.new))) }
         ensures cause { IfOk result (λ steps. OfEachTrace V.Vault self.old self.new (λ T.
             HaveCauses (V.faults (vault_of self.old)) (V.faults (vault_of self.new)) steps)) }
         ensures up { IfOk result (λ steps. OfEachTrace V.Vault self.old self.new (λ T.
@@ -435,7 +464,10 @@ impl<V: Vault> Office<V> {
         ensures memory { IfOk result (λ steps. OfEachTrace V.Vault self.old self.new (λ T.
             HaveMemory T events.now steps)) }
         // The same of the events that were done before the transcript couldn't grow.
-        ensures err_ran { IfErr result (λ e. (steps : List Shown) × (OfEachTrace V.Vault self.old self.new (λ T. Ran V.holds V.faults V.is_up V.may_leave (take (done_before e) events.now) steps T self.old self.new))) }
+        ensures err_ran { IfErr result (λ e. (steps : List Shown)
+            × (OfEachTrace V.Vault self.old self.new
+            (λ T. Ran V.holds V.faults V.is_up V.may_leave (take (done_before e) events.now) steps T
+            self.old self.new))) }
         ensures counted { V.faults (vault_of self.old) ≤ V.faults (vault_of self.new) }
         ensures clean { V.is_clean (vault_of self.new) → V.is_clean (vault_of self.old) }
     {
@@ -469,7 +501,10 @@ impl<V: Vault> Office<V> {
 
     /// A copy of the octets that an event would take.
     fn next_octets(&self, event: Event<'_>) -> Result<Vec<u8>, AllocError>
-        ensures { IfOk result (λ octets. (T : Trace) (outcome : Outcome) → StandsFor V.holds self.now T → IsOutcome T (lent_by self.now) (event_seen event.entry) (outcome_seen outcome) → octets.items ≡ octets_taken T (event_seen event.entry) (mark_of (outcome_seen outcome))) }
+        ensures { IfOk result (λ octets. (T : Trace) (outcome : Outcome)
+            → StandsFor V.holds self.now T → IsOutcome T (lent_by self.now) (event_seen event.entry)
+            (outcome_seen outcome) → octets.items ≡ octets_taken T (event_seen event.entry)
+            (mark_of (outcome_seen outcome))) }
     {
         let mut octets = Vec::new(self.alloc);
         if let Event::Took(c, count) = event {
@@ -486,7 +521,8 @@ impl<V: Vault> Office<V> {
     pub fn owed(&self, c: u64) -> &[u8]
         ensures lent { (T : Trace) → StandsFor V.holds self.now T → IsLent (rest T c) result.now }
         ensures count { length result.now ≡ lent_by self.now c }
-        ensures exact { (T : Trace) → StandsFor V.holds self.now T → length result.now ≡ min (length (rest T c)) most_lent }
+        ensures exact { (T : Trace) → StandsFor V.holds self.now T
+            → length result.now ≡ min (length (rest T c)) most_lent }
         ensures most { length result.now ≤ most_lent }
     {
         match self.links.get(&c) {

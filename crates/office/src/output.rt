@@ -1,8 +1,10 @@
 //! What a connection is owed: octets that stand ready, and what feeds them (RFC 1939, 3: replies of
 //! many lines).
-ghost use Rattle.std.specs.Prelude.{◌≡◌, ◌≤◌, ◌<◌, ◌++◌, ◌⊎◌, ℕ, List, [], Option, Some, true, false, IfOk, IsOkAnd, IsTrue, OnOk, drop, length, codes};
+ghost use Rattle.std.specs.Prelude.{◌≡◌, ◌≤◌, ◌<◌, ◌++◌, ◌⊎◌, ℕ, List, [], Option, Some, true};
+ghost use Rattle.std.specs.Prelude.{false, IfOk, IsOkAnd, IsTrue, OnOk, drop, length, codes};
 ghost use Rattle.std.specs.Fmt.{decimal};
-ghost use Rattle.popline.specs.Replies.{bytes_of, one_line, scan_text, uid_row_text, scan_begun, uids_begun};
+ghost use Rattle.popline.specs.Replies.{bytes_of, one_line, scan_text, uid_row_text, scan_begun};
+ghost use Rattle.popline.specs.Replies.{uids_begun};
 ghost use Rattle.popline.specs.Seen.{reply_seen};
 ghost use Rattle.vault.specs.Changes.{Contents};
 ghost use Rattle.vault.specs.Calls.{has_grown};
@@ -10,7 +12,9 @@ ghost use Rattle.session.specs.Session.{Session as State};
 ghost use Rattle.session.specs.Session.{octets_of, uid_of};
 ghost use Rattle.session.specs.View.{unmarked, sizes_of, uids_of};
 ghost use Rattle.office.specs.Replying.{is_empty};
-ghost use Rattle.office.specs.Output.{nothing_owed, is_feeding, reads_text, most_output, last_line, lent_of, IsFilled, Owes, Reads, IsListed, sizes_coming, uids_coming};
+ghost use Rattle.office.specs.Output.{nothing_owed, is_feeding, reads_text, most_output, last_line};
+ghost use Rattle.office.specs.Output.{lent_of, IsFilled, Owes, Reads, IsListed, sizes_coming};
+ghost use Rattle.office.specs.Output.{uids_coming};
 ghost use Rattle.office.specs.Trace.{most_lent};
 ghost use Rattle.vault.specs.Parts.{OnlyLooks};
 
@@ -63,7 +67,9 @@ impl Model for Output {
 
     ghost view = { λ o. record { ready = drop o.taken o.ready.items; source = o.source } };
 
-    ghost invariant = { λ o. (o.taken ≤ length o.ready.items) × (is_feeding o.source ≡ true → most_lent ≤ length (drop o.taken o.ready.items)) × (length o.ready.items ≤ most_output) };
+    ghost invariant = { λ o. (o.taken ≤ length o.ready.items)
+        × (is_feeding o.source ≡ true → most_lent ≤ length (drop o.taken o.ready.items))
+        × (length o.ready.items ≤ most_output) };
 }
 
 /// Takes back what was put behind the first octets where it outgrows the room, and reports want of
@@ -94,7 +100,8 @@ fn remove_front(octets: &mut Vec<u8>, n: usize)
 
 /// A scan listing without its first rows.
 fn sizes_behind(session: &Session, done: usize) -> Sizes<'_>
-    ensures { result ≡ drop done (sizes_of octets_of (unmarked session.now.marks session.now.view)) }
+    ensures { result ≡ drop done (sizes_of octets_of
+        (unmarked session.now.marks session.now.view)) }
 {
     let mut rows = session.list();
     for _ in 0..done {
@@ -117,7 +124,8 @@ fn uids_behind(session: &Session, done: usize) -> Uids<'_>
 /// Puts the line of one message and its octets, where it fits into the room.
 fn put_size(alloc: Global, ready: &mut Vec<u8>, number: u64, octets: u64) -> Result<(), AllocError>
     requires { length ready.old.items ≤ most_output }
-    ensures ok { OnOk result (ready.new.items ≡ ready.old.items ++ one_line (scan_text (number, octets))) }
+    ensures ok { OnOk result (ready.new.items ≡ ready.old.items
+        ++ one_line (scan_text (number, octets))) }
     ensures most { length ready.new.items ≤ most_output }
 {
     let before = ready.len();
@@ -128,7 +136,8 @@ fn put_size(alloc: Global, ready: &mut Vec<u8>, number: u64, octets: u64) -> Res
 /// The same of its unique-id.
 fn put_uid(alloc: Global, ready: &mut Vec<u8>, number: u64, uid: Uid) -> Result<(), AllocError>
     requires { length ready.old.items ≤ most_output }
-    ensures ok { OnOk result (ready.new.items ≡ ready.old.items ++ one_line (uid_row_text (number, uid))) }
+    ensures ok { OnOk result (ready.new.items ≡ ready.old.items
+        ++ one_line (uid_row_text (number, uid))) }
     ensures most { length ready.new.items ≤ most_output }
 {
     let before = ready.len();
@@ -156,8 +165,10 @@ fn put_sizes(
     ready: &mut Vec<u8>,
 ) -> Result<Source, AllocError>
     requires { length ready.old.items ≤ most_output }
-    ensures put { IfOk result (λ source. IsListed session.now source ready.old.items ready.new.items (sizes_coming passed session.now)) }
-    ensures full { IfOk result (λ source. is_feeding source ≡ true → most_lent ≤ length ready.new.items) }
+    ensures put { IfOk result (λ source. IsListed session.now source ready.old.items ready.new.items
+        (sizes_coming passed session.now)) }
+    ensures full { IfOk result (λ source. is_feeding source ≡ true
+        → most_lent ≤ length ready.new.items) }
     ensures most { length ready.new.items ≤ most_output }
 {
     let mut rows = sizes_behind(session, passed);
@@ -184,8 +195,10 @@ fn put_uids(
     ready: &mut Vec<u8>,
 ) -> Result<Source, AllocError>
     requires { length ready.old.items ≤ most_output }
-    ensures put { IfOk result (λ source. IsListed session.now source ready.old.items ready.new.items (uids_coming passed session.now)) }
-    ensures full { IfOk result (λ source. is_feeding source ≡ true → most_lent ≤ length ready.new.items) }
+    ensures put { IfOk result (λ source. IsListed session.now source ready.old.items ready.new.items
+        (uids_coming passed session.now)) }
+    ensures full { IfOk result (λ source. is_feeding source ≡ true
+        → most_lent ≤ length ready.new.items) }
     ensures most { length ready.new.items ≤ most_output }
 {
     let mut rows = uids_behind(session, passed);
@@ -258,7 +271,8 @@ impl Output {
 
     /// Puts a reply.
     pub fn say(&mut self, alloc: Global, reply: &Reply<'_>) -> Result<(), AllocError>
-        ensures { OnOk result (self.new ≡ record self.old { ready = self.old.ready ++ bytes_of (reply_seen reply.now) }) }
+        ensures { OnOk result (self.new ≡ record self.old
+            { ready = self.old.ready ++ bytes_of (reply_seen reply.now) }) }
     {
         let before = self.ready.len();
         reply.put(alloc, &mut self.ready)?;
@@ -267,7 +281,8 @@ impl Output {
 
     /// Puts the first line of a scan listing.
     pub fn begin_sizes(&mut self) -> Result<(), AllocError>
-        ensures { OnOk result (self.new ≡ record self.old { ready = self.old.ready ++ scan_begun [] }) }
+        ensures { OnOk result (self.new ≡ record self.old
+            { ready = self.old.ready ++ scan_begun [] }) }
     {
         let before = self.ready.len();
         begin_scan_listing(&mut self.ready)?;
@@ -276,7 +291,8 @@ impl Output {
 
     /// Puts the first line of a listing of unique-ids.
     pub fn begin_uids(&mut self) -> Result<(), AllocError>
-        ensures { OnOk result (self.new ≡ record self.old { ready = self.old.ready ++ uids_begun [] }) }
+        ensures { OnOk result (self.new ≡ record self.old
+            { ready = self.old.ready ++ uids_begun [] }) }
     {
         let before = self.ready.len();
         begin_uid_listing(&mut self.ready)?;
@@ -307,7 +323,8 @@ impl Output {
         requires { octets ≤ length self.old.ready }
         ensures ready { self.new.ready ≡ drop octets self.old.ready }
         ensures filled { IsFilled self.new }
-        ensures source { ((result ≡ Source.Nothing) × (self.new.source ≡ self.old.source)) ⊎ ((result ≡ self.old.source) × (self.new.source ≡ Source.Nothing)) }
+        ensures source { ((result ≡ Source.Nothing) × (self.new.source ≡ self.old.source))
+            ⊎ ((result ≡ self.old.source) × (self.new.source ≡ Source.Nothing)) }
     {
         let source = mem::replace(&mut self.source, Source::Nothing);
         self.taken += octets;
@@ -326,7 +343,9 @@ impl Output {
         done: usize,
     ) -> Result<(), AllocError>
         requires { self.old.source ≡ Source.Nothing }
-        ensures owes { OnOk result ((c : Contents) → Owes c (Some session.now) self.new (self.old.ready ++ sizes_coming done session.now)) }
+        ensures owes { OnOk result ((c : Contents)
+            → Owes c (Some session.now) self.new (self.old.ready
+            ++ sizes_coming done session.now)) }
         ensures kind { OnOk result (reads_text self.new.source ≡ false) }
     {
         remove_front(&mut self.ready, self.taken);
@@ -343,7 +362,8 @@ impl Output {
         done: usize,
     ) -> Result<(), AllocError>
         requires { self.old.source ≡ Source.Nothing }
-        ensures owes { OnOk result ((c : Contents) → Owes c (Some session.now) self.new (self.old.ready ++ uids_coming done session.now)) }
+        ensures owes { OnOk result ((c : Contents)
+            → Owes c (Some session.now) self.new (self.old.ready ++ uids_coming done session.now)) }
         ensures kind { OnOk result (reads_text self.new.source ≡ false) }
     {
         remove_front(&mut self.ready, self.taken);
@@ -356,8 +376,14 @@ impl Output {
     /// page.
     pub fn send_text<V: Vault>(&mut self, vault: &mut V, text: Reading) -> Result<bool, AllocError>
         requires { self.old.source ≡ Source.Nothing }
-        ensures owes { IfOk result (λ sent. sent ≡ true → (c : Contents) (s : State) (coming : List ℕ) → V.holds vault.old c → V.is_clean vault.new → Reads c s text coming → Owes c (Some s) self.new (self.old.ready ++ coming)) }
-        ensures cause { IfOk result (λ sent. sent ≡ false → (c : Contents) (s : State) (coming : List ℕ) → V.holds vault.old c → V.is_clean vault.new → Reads c s text coming → has_grown (V.faults vault.old) (V.faults vault.new) ≡ true) }
+        ensures owes { IfOk result (λ sent. sent ≡ true
+            → (c : Contents) (s : State) (coming : List ℕ) → V.holds vault.old c
+            → V.is_clean vault.new → Reads c s text coming
+            → Owes c (Some s) self.new (self.old.ready ++ coming)) }
+        ensures cause { IfOk result (λ sent. sent ≡ false
+            → (c : Contents) (s : State) (coming : List ℕ) → V.holds vault.old c
+            → V.is_clean vault.new → Reads c s text coming
+            → has_grown (V.faults vault.old) (V.faults vault.new) ≡ true) }
         ensures looks { OnlyLooks V.Vault vault.old vault.new (IsOkAnd result IsTrue) }
     {
         remove_front(&mut self.ready, self.taken);

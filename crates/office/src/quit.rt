@@ -72,8 +72,12 @@ pub(crate) fn quit<V: Vault>(
     account: &mut Account,
 ) -> Result<Acted, AllocError>
     requires { output.old ≡ nothing_owed }
-    ensures done { IfOk result (λ acted. (c : Contents) (kept : List Keyed) → V.holds vault.old c → V.is_clean vault.new → LiesIn c session.now kept → Obeyed (V.holds vault.new) (has_grown (V.faults vault.old) (V.faults vault.new)) c policy.now session.now session.now kept output.new (Ok Quit) acted) }
-    ensures err { OnErr result ((c : Contents) → V.holds vault.old c → V.is_clean vault.new → V.holds vault.new c) }
+    ensures done { IfOk result (λ acted. (c : Contents) (kept : List Keyed) → V.holds vault.old c
+        → V.is_clean vault.new → LiesIn c session.now kept
+        → Obeyed (V.holds vault.new) (has_grown (V.faults vault.old) (V.faults vault.new)) c
+        policy.now session.now session.now kept output.new (Ok Quit) acted) }
+    ensures err { OnErr result ((c : Contents) → V.holds vault.old c → V.is_clean vault.new
+        → V.holds vault.new c) }
     ensures acts { ActsOnce V.Vault vault.old vault.new (IsOkAnd result WasDone)
         (without_marked policy.now session.now) }
     ensures account { IfOk result (λ acted. account.new ≡ Account.Quit

@@ -1,10 +1,13 @@
 //! A message that is sent page by page (RFC 1939, 5: RETR; 7: TOP).
-ghost use Rattle.std.specs.Prelude.{◌≡◌, ◌≤◌, ◌<◌, ◌++◌, ◌+◌, ℕ, List, [], Some, None, true, false, min, length, take, drop, OnOk, IfOk, IfSome, IsOkAnd, if◌then◌else◌};
+ghost use Rattle.std.specs.Prelude.{◌≡◌, ◌≤◌, ◌<◌, ◌++◌, ◌+◌, ℕ, List, [], Some, None, true, false};
+ghost use Rattle.std.specs.Prelude.{min, length, take, drop, OnOk, IfOk, IfSome, IsOkAnd};
+ghost use Rattle.std.specs.Prelude.{if◌then◌else◌};
 ghost use Rattle.mailtext.specs.Text.{kept_form, lines_of, stuffed_lines, top_part};
 ghost use Rattle.mailtext.specs.Streams.{stuffed_from, nothing_come};
 ghost use Rattle.vault.specs.Changes.{Contents};
 ghost use Rattle.vault.specs.Calls.{has_grown, text_under};
-ghost use Rattle.office.specs.Output.{most_output, cut_from, text_coming, last_line, IsBegun, IsPut};
+ghost use Rattle.office.specs.Output.{most_output, cut_from, text_coming, last_line, IsBegun};
+ghost use Rattle.office.specs.Output.{IsPut};
 ghost use Rattle.office.specs.Trace.{most_lent};
 ghost use Rattle.vault.specs.Parts.{OnlyLooks};
 ghost use Rattle.office.specs.Stopping.{HasRead, WasPut};
@@ -47,8 +50,16 @@ pub enum Page {
 impl Reading {
     /// The whole message under a key, of so many octets, before its first page.
     pub fn whole(key: MessageKey, octets: u64) -> Reading
-        ensures is { result ≡ record { key = key; octets = octets; place = 0; stuffer = true; cut = None } }
-        ensures coming { (text : List ℕ) → kept_form text ≡ text → text_coming result text ≡ stuffed_lines (lines_of text) ++ last_line }
+        ensures is { result ≡ record {
+          key = key;
+          octets = octets;
+          place = 0;
+          stuffer = true;
+          cut =
+              None;
+        } }
+        ensures coming { (text : List ℕ) → kept_form text ≡ text
+            → text_coming result text ≡ stuffed_lines (lines_of text) ++ last_line }
     {
         Reading {
             key,
@@ -61,8 +72,17 @@ impl Reading {
 
     /// The header of the message under a key, and so many lines of its body, before its first page.
     pub fn top(key: MessageKey, octets: u64, lines: u64) -> Reading
-        ensures is { result ≡ record { key = key; octets = octets; place = 0; stuffer = true; cut = Some (nothing_come lines) } }
-        ensures coming { (text : List ℕ) → kept_form text ≡ text → text_coming result text ≡ stuffed_lines (top_part (lines_of text) lines) ++ last_line }
+        ensures is { result ≡ record {
+          key = key;
+          octets = octets;
+          place = 0;
+          stuffer = true;
+          cut =
+              Some (nothing_come lines);
+        } }
+        ensures coming { (text : List ℕ) → kept_form text ≡ text
+            → text_coming result text ≡ stuffed_lines (top_part (lines_of text) lines)
+            ++ last_line }
     {
         Reading {
             key,
@@ -78,8 +98,13 @@ impl Reading {
     fn read<V: Vault>(&self, vault: &mut V, page: &mut [u8]) -> Result<Option<usize>, AllocError>
         requires { 0 < length page.old }
         ensures some { IfOk result (λ read. IfSome read (λ n. (0 < n) × (n ≤ length page.new))) }
-        ensures text { IfOk result (λ read. IfSome read (λ n. (c : Contents) → V.holds vault.old c → V.is_clean vault.new → take n page.new ≡ take n (drop self.now.place (text_under self.now.key c.messages)))) }
-        ensures cause { IfOk result (λ read. read ≡ None → (c : Contents) → V.holds vault.old c → V.is_clean vault.new → self.now.place < length (text_under self.now.key c.messages) → has_grown (V.faults vault.old) (V.faults vault.new) ≡ true) }
+        ensures text { IfOk result (λ read. IfSome read
+            (λ n. (c : Contents) → V.holds vault.old c → V.is_clean vault.new
+            → take n page.new ≡ take n (drop self.now.place
+            (text_under self.now.key c.messages)))) }
+        ensures cause { IfOk result (λ read. read ≡ None → (c : Contents) → V.holds vault.old c
+            → V.is_clean vault.new → self.now.place < length (text_under self.now.key c.messages)
+            → has_grown (V.faults vault.old) (V.faults vault.new) ≡ true) }
         ensures looks { OnlyLooks V.Vault vault.old vault.new (IsOkAnd result HasRead) }
     {
         let room = page.len();
@@ -94,8 +119,10 @@ impl Reading {
     /// How many octets of a page, from its front, belong to what is sent.
     fn part_of(&mut self, page: &[u8]) -> usize
         ensures within { result ≤ length page.now }
-        ensures part { (more : List ℕ) → cut_from self.old.cut (page.now ++ more) ≡ take result page.now ++ cut_from self.new.cut (drop result page.now ++ more) }
-        ensures over { result < length page.now → (more : List ℕ) → cut_from self.new.cut more ≡ [] }
+        ensures part { (more : List ℕ) → cut_from self.old.cut (page.now ++ more)
+            ≡ take result page.now ++ cut_from self.new.cut (drop result page.now ++ more) }
+        ensures over { result < length page.now → (more : List ℕ)
+            → cut_from self.new.cut more ≡ [] }
         ensures same { self.new ≡ record self.old { cut = self.new.cut } }
     {
         match &mut self.cut {
@@ -107,7 +134,9 @@ impl Reading {
     /// Puts octets of a page, with a dot before each line that begins with one.
     fn put_stuffed(&mut self, octets: &[u8], ready: &mut Vec<u8>) -> Result<(), AllocError>
         requires { length octets.now ≤ PAGE_OCTETS }
-        ensures ok { OnOk result ((more : List ℕ) → ready.old.items ++ stuffed_from self.old.stuffer (octets.now ++ more) ≡ ready.new.items ++ stuffed_from self.new.stuffer more) }
+        ensures ok { OnOk result ((more : List ℕ)
+            → ready.old.items ++ stuffed_from self.old.stuffer (octets.now ++ more)
+            ≡ ready.new.items ++ stuffed_from self.new.stuffer more) }
         ensures same { self.new ≡ record self.old { stuffer = self.new.stuffer } }
         ensures most { length ready.new.items ≤ length ready.old.items + STUFFED_OCTETS }
     {
@@ -119,9 +148,13 @@ impl Reading {
     /// Puts a page of the message. Returns whether more is to come; else it puts the last dot too.
     fn put(&mut self, page: &[u8], ready: &mut Vec<u8>) -> Result<bool, AllocError>
         requires { length page.now ≤ PAGE_OCTETS }
-        ensures put { IfOk result (λ more. (text : List ℕ) → length text ≡ self.old.octets → page.now ≡ take (length page.now) (drop self.old.place text) → ready.old.items ++ text_coming self.old text ≡ ready.new.items ++ (if more then text_coming self.new text else [])) }
+        ensures put { IfOk result (λ more. (text : List ℕ) → length text ≡ self.old.octets
+            → page.now ≡ take (length page.now) (drop self.old.place text)
+            → ready.old.items ++ text_coming self.old text ≡ ready.new.items
+            ++ (if more then text_coming self.new text else [])) }
         ensures left { IfOk result (λ more. more ≡ true → self.new.place < self.new.octets) }
-        ensures passed { IfOk result (λ more. more ≡ true → self.new.place ≡ self.old.place + length page.now) }
+        ensures passed { IfOk result (λ more. more ≡ true
+            → self.new.place ≡ self.old.place + length page.now) }
         ensures key { self.new.key ≡ self.old.key }
         ensures octets { self.new.octets ≡ self.old.octets }
         ensures most { length ready.new.items ≤ length ready.old.items + STUFFED_OCTETS + 3 }
@@ -138,9 +171,17 @@ impl Reading {
 
     /// Reads the next page and puts it.
     fn put_page<V: Vault>(&mut self, vault: &mut V, ready: &mut Vec<u8>) -> Result<Page, AllocError>
-        ensures put { IfOk result (λ page. (c : Contents) → V.holds vault.old c → V.is_clean vault.new → IsBegun self.old (text_under self.old.key c.messages) → IsPut page ready.old.items ready.new.items (text_coming self.old (text_under self.old.key c.messages)) (text_coming self.new (text_under self.old.key c.messages))) }
-        ensures left { IfOk result (λ page. page ≡ Page.More → (self.new.place < self.new.octets) × (self.old.place < self.new.place)) }
-        ensures cause { IfOk result (λ page. page ≡ Page.Refused → (c : Contents) → V.holds vault.old c → V.is_clean vault.new → IsBegun self.old (text_under self.old.key c.messages) → has_grown (V.faults vault.old) (V.faults vault.new) ≡ true) }
+        ensures put { IfOk result (λ page. (c : Contents) → V.holds vault.old c
+            → V.is_clean vault.new → IsBegun self.old (text_under self.old.key c.messages)
+            → IsPut page ready.old.items ready.new.items
+            (text_coming self.old (text_under self.old.key c.messages))
+            (text_coming self.new (text_under self.old.key c.messages))) }
+        ensures left { IfOk result (λ page. page ≡ Page.More → (self.new.place < self.new.octets)
+            × (self.old.place < self.new.place)) }
+        ensures cause { IfOk result (λ page. page ≡ Page.Refused → (c : Contents)
+            → V.holds vault.old c → V.is_clean vault.new
+            → IsBegun self.old (text_under self.old.key c.messages)
+            → has_grown (V.faults vault.old) (V.faults vault.new) ≡ true) }
         ensures key { self.new.key ≡ self.old.key }
         ensures octets { self.new.octets ≡ self.old.octets }
         ensures looks { OnlyLooks V.Vault vault.old vault.new (IsOkAnd result WasPut) }
@@ -161,10 +202,18 @@ impl Reading {
     /// a page.
     pub fn fill<V: Vault>(&mut self, vault: &mut V, ready: &mut Vec<u8>) -> Result<Page, AllocError>
         requires { length ready.old.items ≤ most_output }
-        ensures put { IfOk result (λ page. (c : Contents) → V.holds vault.old c → V.is_clean vault.new → IsBegun self.old (text_under self.old.key c.messages) → IsPut page ready.old.items ready.new.items (text_coming self.old (text_under self.old.key c.messages)) (text_coming self.new (text_under self.old.key c.messages))) }
-        ensures more { IfOk result (λ page. page ≡ Page.More → (self.old.place < self.old.octets) → self.new.place < self.new.octets) }
+        ensures put { IfOk result (λ page. (c : Contents) → V.holds vault.old c
+            → V.is_clean vault.new → IsBegun self.old (text_under self.old.key c.messages)
+            → IsPut page ready.old.items ready.new.items
+            (text_coming self.old (text_under self.old.key c.messages))
+            (text_coming self.new (text_under self.old.key c.messages))) }
+        ensures more { IfOk result (λ page. page ≡ Page.More → (self.old.place < self.old.octets)
+            → self.new.place < self.new.octets) }
         ensures full { IfOk result (λ page. page ≡ Page.More → most_lent ≤ length ready.new.items) }
-        ensures cause { IfOk result (λ page. page ≡ Page.Refused → (c : Contents) → V.holds vault.old c → V.is_clean vault.new → IsBegun self.old (text_under self.old.key c.messages) → has_grown (V.faults vault.old) (V.faults vault.new) ≡ true) }
+        ensures cause { IfOk result (λ page. page ≡ Page.Refused → (c : Contents)
+            → V.holds vault.old c → V.is_clean vault.new
+            → IsBegun self.old (text_under self.old.key c.messages)
+            → has_grown (V.faults vault.old) (V.faults vault.new) ≡ true) }
         ensures key { self.new.key ≡ self.old.key }
         ensures octets { self.new.octets ≡ self.old.octets }
         ensures looks { OnlyLooks V.Vault vault.old vault.new (IsOkAnd result WasPut) }

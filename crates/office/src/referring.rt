@@ -27,7 +27,8 @@ pub(crate) fn refused(why: Pick, n: u64) -> Reply<'static>
 
 /// The scan listing of one message.
 pub(crate) fn scan_line(session: &Session, n: u64) -> Reply<'static>
-    ensures said { (p : Policy) (c : Contents) (kept : List Keyed) → LiesIn c session.now kept → reply_seen result ≡ told_inside p session.now kept (ListOne n) }
+    ensures said { (p : Policy) (c : Contents) (kept : List Keyed) → LiesIn c session.now kept
+        → reply_seen result ≡ told_inside p session.now kept (ListOne n) }
     ensures session { GoesOn (reply_seen result) session.now session.now }
 {
     match session.pick(n) {
@@ -41,7 +42,8 @@ pub(crate) fn scan_line(session: &Session, n: u64) -> Reply<'static>
 
 /// The unique-id of one message.
 pub(crate) fn uid_line(session: &Session, n: u64) -> Reply<'static>
-    ensures said { (p : Policy) (c : Contents) (kept : List Keyed) → LiesIn c session.now kept → reply_seen result ≡ told_inside p session.now kept (UidlOne n) }
+    ensures said { (p : Policy) (c : Contents) (kept : List Keyed) → LiesIn c session.now kept
+        → reply_seen result ≡ told_inside p session.now kept (UidlOne n) }
     ensures session { GoesOn (reply_seen result) session.now session.now }
 {
     match session.pick(n) {
@@ -58,7 +60,8 @@ pub(crate) fn uid_line(session: &Session, n: u64) -> Reply<'static>
 
 /// Marks a message, where the policy lets the clerk remove its class.
 pub(crate) fn delete(session: &mut Session, policy: &Policy, n: u64) -> Reply<'static>
-    ensures said { (c : Contents) (kept : List Keyed) → LiesIn c session.old kept → reply_seen result ≡ told_inside policy.now session.old kept (Dele n) }
+    ensures said { (c : Contents) (kept : List Keyed) → LiesIn c session.old kept
+        → reply_seen result ≡ told_inside policy.now session.old kept (Dele n) }
     ensures session { GoesOn (reply_seen result) session.old session.new }
 {
     match session.mark(n, policy) {
@@ -69,7 +72,8 @@ pub(crate) fn delete(session: &mut Session, policy: &Policy, n: u64) -> Reply<'s
 
 /// Takes all marks away.
 pub(crate) fn reset(session: &mut Session) -> Reply<'static>
-    ensures said { (p : Policy) (c : Contents) (kept : List Keyed) → LiesIn c session.old kept → reply_seen result ≡ told_inside p session.old kept Rset }
+    ensures said { (p : Policy) (c : Contents) (kept : List Keyed) → LiesIn c session.old kept
+        → reply_seen result ≡ told_inside p session.old kept Rset }
     ensures session { GoesOn (reply_seen result) session.old session.new }
 {
     session.reset();

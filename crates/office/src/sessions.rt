@@ -22,7 +22,8 @@ use vault::Vault;
 
 /// Adds a connection's session to the rows, where it has one.
 fn put_session(rows: &mut Vec<SessionRow>, number: u64, link: &Link) -> Result<(), AllocError>
-    ensures { OnOk result (map session_seen rows.new.items ≡ map session_seen rows.old.items ++ filter_map kept_row ((number, link.now) ∷ [])) }
+    ensures { OnOk result (map session_seen rows.new.items ≡ map session_seen rows.old.items
+        ++ filter_map kept_row ((number, link.now) ∷ [])) }
 {
     if let Some(name) = link.login() {
         rows.push(SessionRow { number, name })?;
@@ -32,7 +33,8 @@ fn put_session(rows: &mut Vec<SessionRow>, number: u64, link: &Link) -> Result<(
 
 /// The sessions of the connections that are kept, by number.
 fn sessions_of(alloc: Global, links: &BTreeMap<u64, Link>) -> Result<Vec<SessionRow>, AllocError>
-    ensures rows { IfOk result (λ rows. map session_seen rows.items ≡ filter_map kept_row links.now.entries) }
+    ensures rows { IfOk result (λ rows. map session_seen rows.items
+        ≡ filter_map kept_row links.now.entries) }
     ensures ordered { IsOrdered nat_cmp links.now }
 {
     let mut rows = Vec::new(alloc);

@@ -26,7 +26,13 @@ pub fn step_and_open<V: Vault>(
     boot: u64,
     limits: Limits,
 ) -> (Outcome, Result<Office<V>, (OpenFault, V)>)
-    ensures { IfOk result.1 (λ o. (T : Trace) (left : Contents) → StandsFor V.holds office.old T → V.is_clean (vault_of office.new) → V.is_up (vault_of office.old) → V.may_leave (vault_of office.new) left → V.holds reopened left → V.is_clean (vault_of o) → EitherOrWith (outcome_seen result.0) (StandsFor V.holds o (given T (events.Start host.now boot limits) (Tagged Done))) (StandsFor V.holds o (given (with_it_done T (event_seen event.entry) (outcome_seen result.0)) (events.Start host.now boot limits) (Tagged Done)))) }
+    ensures { IfOk result.1 (λ o. (T : Trace) (left : Contents) → StandsFor V.holds office.old T
+        → V.is_clean (vault_of office.new) → V.is_up (vault_of office.old)
+        → V.may_leave (vault_of office.new) left → V.holds reopened left → V.is_clean (vault_of o)
+        → EitherOrWith (outcome_seen result.0) (StandsFor V.holds o
+        (given T (events.Start host.now boot limits) (Tagged Done)))
+        (StandsFor V.holds o (given (with_it_done T (event_seen event.entry)
+        (outcome_seen result.0)) (events.Start host.now boot limits) (Tagged Done)))) }
 {
     let outcome = office.step(event);
     let opened = Office::open(alloc, reopened, host, boot, limits);
@@ -36,7 +42,9 @@ pub fn step_and_open<V: Vault>(
 /// While the device is up, a stop between two events leaves what the trace says: every event that
 /// was answered is in.
 pub fn stop_between_events<V: Vault>(office: &Office<V>)
-    ensures { (T : Trace) → StandsFor V.holds office.now T → V.is_clean (vault_of office.now) → V.is_up (vault_of office.now) → (left : Contents) → V.may_leave (vault_of office.now) left → SaysTrace left T }
+    ensures { (T : Trace) → StandsFor V.holds office.now T → V.is_clean (vault_of office.now)
+        → V.is_up (vault_of office.now) → (left : Contents) → V.may_leave (vault_of office.now) left
+        → SaysTrace left T }
 {
     let _office = office;
 }

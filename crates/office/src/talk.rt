@@ -68,7 +68,8 @@ pub(crate) fn say(
 ) -> Result<Acted, AllocError>
     requires { output.old ≡ nothing_owed }
     ensures acted { IfOk result (λ acted. acted ≡ Acted.Done) }
-    ensures owed { IfOk result (λ _. (c : Contents) (s : Option State) → OwesReply c s output.new (reply_seen reply.now)) }
+    ensures owed { IfOk result (λ _. (c : Contents) (s : Option State)
+        → OwesReply c s output.new (reply_seen reply.now)) }
 {
     output.say(alloc, reply)?;
     Ok(Acted::Done)

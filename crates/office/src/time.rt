@@ -19,14 +19,16 @@ use vault::Vault;
 
 /// Ends the connections that have done nothing for so many seconds at this moment.
 fn end_idle(links: &mut BTreeMap<u64, Link>, moment: u64, seconds: u64)
-    ensures { (c : ℕ) → get nat_cmp links.new c ≡ unless_idle moment seconds (get nat_cmp links.old c) }
+    ensures { (c : ℕ) → get nat_cmp links.new c
+        ≡ unless_idle moment seconds (get nat_cmp links.old c) }
 {
     links.retain(|_, link| !link.is_idle(moment, seconds));
 }
 
 /// Lets the maildrop of each ended connection go.
 fn release_ended(locks: &mut Locks, links: &BTreeMap<u64, Link>)
-    ensures { (d : List ℕ) → get name_cmp locks.new d ≡ lock_of_kept links.now (get name_cmp locks.old d) }
+    ensures { (d : List ℕ) → get name_cmp locks.new d
+        ≡ lock_of_kept links.now (get name_cmp locks.old d) }
 {
     locks.retain(|_, number| links.contains_key(&*number));
 }

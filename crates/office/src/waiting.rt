@@ -4,7 +4,8 @@ ghost use Rattle.office.specs.Connections.{reading};
 ghost use Rattle.office.specs.Events.{Trace};
 ghost use Rattle.office.specs.Answered.{is_locked_by};
 ghost use Rattle.office.specs.Stands.{StandsFor};
-ghost use Rattle.office.specs.Waiting.{login_asked as login_asked_by, is_held_for, kept_waits, waits as waits_at};
+ghost use Rattle.office.specs.Waiting.{login_asked as login_asked_by, is_held_for, kept_waits};
+ghost use Rattle.office.specs.Waiting.{waits as waits_at};
 
 use crate::Office;
 use crate::command_line::CommandLine;
@@ -53,7 +54,8 @@ impl<V: Vault> Office<V> {
     /// own. It asks no store, takes no memory and changes nothing; whether the credential is right
     /// isn't looked at. Lines behind the next one aren't looked at either.
     pub fn waits(&self, c: u64, piece: &[u8], seconds: u64) -> bool
-        ensures { (T : Trace) → StandsFor V.holds self.now T → result ≡ waits_at T c piece.now seconds }
+        ensures { (T : Trace) → StandsFor V.holds self.now T
+            → result ≡ waits_at T c piece.now seconds }
     {
         let Some(link) = self.links.get(&c) else {
             return false;

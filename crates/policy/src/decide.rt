@@ -1,6 +1,7 @@
 //! Which rule decides.
 ghost use Rattle.std.specs.Prelude.{◌≡◌, slice_get};
-ghost use Rattle.policy.specs.Policy.{default_rule, fits, fits_clerk, is_member, lists, fits_class, decision_of};
+ghost use Rattle.policy.specs.Policy.{default_rule, fits, fits_clerk, is_member, lists, fits_class};
+ghost use Rattle.policy.specs.Policy.{decision_of};
 
 use crate::group::Group;
 use crate::rule::{Action, Actions, Clerks, Effect, Pattern, Rule};

@@ -56,7 +56,8 @@ pub(crate) fn no_index(alloc: Global) -> Index
 
 /// The place of the first rule that names these clerks and this maildrop.
 pub(crate) fn first_place(index: &Index, clerk: &Clerks, maildrop: &Pattern) -> usize
-    ensures { result ≡ first_place index.now.first (record { clerk = clerk.now; maildrop = maildrop.now }) (length index.now.next.items) }
+    ensures { result ≡ first_place index.now.first
+        (record { clerk = clerk.now; maildrop = maildrop.now }) (length index.now.next.items) }
 {
     let key = Key {
         clerk: *clerk,
@@ -80,7 +81,8 @@ pub(crate) struct Starts {
 
 /// Where the rules about the clerk and the maildrop that name no group begin.
 pub(crate) fn starts_of(index: &Index, clerk: &Name, maildrop: &Name) -> Starts
-    ensures { (rules : List Rule) → IsIndexOf rules index.now → AreStarts clerk.now maildrop.now rules result }
+    ensures { (rules : List Rule) → IsIndexOf rules index.now
+        → AreStarts clerk.now maildrop.now rules result }
 {
     let clerk = Clerks::Is(*clerk);
     let maildrop = Pattern::Is(*maildrop);

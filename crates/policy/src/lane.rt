@@ -62,7 +62,8 @@ impl<'a> Lane<'a> {
     ///
     /// For `Open` the class plays no part. It takes no memory.
     pub fn decide(&self, class: &Name, action: Action) -> Decision
-        ensures { result ≡ decide self.now.policy self.now.clerk self.now.maildrop class.now action }
+        ensures { result ≡ decide self.now.policy self.now.clerk self.now.maildrop class.now
+            action }
     {
         let policy = self.policy;
         let named = first_by_name(&policy.index, &policy.rules, &self.starts, class, action);

@@ -1,4 +1,5 @@
-//! Theorems about the definition of a policy's text, as the contracts of functions with empty bodies.
+//! Theorems about the definition of a policy's text, as the contracts of functions with empty
+//! bodies.
 ghost use Rattle.policy.specs.FirstFault.{NumbersTheFirstFault, NumbersTheFirstGroup};
 
 /// Where a fault has a rule's number, all groups and all rules before that rule are read, and the

@@ -1,5 +1,6 @@
 //! A policy and its calls.
-ghost use Rattle.std.specs.Prelude.{◌≡◌, ◌≢◌, ◌==◌, ◌++◌, [], length, true, IsTrue, IfOk, IfErr, OnOk, OnErr};
+ghost use Rattle.std.specs.Prelude.{◌≡◌, ◌≢◌, ◌==◌, ◌++◌, [], length, true, IsTrue, IfOk, IfErr};
+ghost use Rattle.std.specs.Prelude.{OnOk, OnErr};
 ghost use Rattle.policy.specs.Policy.{decide, is_sound_policy, policy_of, policy_with};
 ghost use Rattle.policy.specs.PolicyText.{rules_of};
 ghost use Rattle.policy.specs.WrittenText.{policy_text};
@@ -48,13 +49,16 @@ impl Model for Policy {
 
     ghost view = { λ p. record { groups = p.groups.items; rules = p.rules.items } };
 
-    ghost invariant = { λ p. (is_sound_policy (record { groups = p.groups.items; rules = p.rules.items }) ≡ true) × IsIndexOf p.rules.items p.index };
+    ghost invariant = { λ p. (is_sound_policy
+        (record { groups = p.groups.items; rules = p.rules.items }) ≡ true)
+        × IsIndexOf p.rules.items p.index };
 }
 
 /// The policy of these groups and rules, which must be sound. An `Err` is want of memory.
 fn indexed(groups: Vec<Group>, rules: Vec<Rule>) -> Result<Policy, AllocError>
     requires { is_sound_policy (record { groups = groups.items; rules = rules.items }) ≡ true }
-    ensures { IfOk result (λ policy. policy ≡ record { groups = groups.items; rules = rules.items }) }
+    ensures { IfOk result (λ policy. policy
+        ≡ record { groups = groups.items; rules = rules.items }) }
 {
     let index = index_of(*rules.allocator(), &rules)?;
     Ok(Policy {
@@ -160,7 +164,12 @@ impl Policy {
     /// The rules about the clerk and the maildrop, for a caller that asks about them often. It
     /// takes no memory.
     pub fn lane(&self, clerk: &Name, maildrop: &Name) -> Lane<'_>
-        ensures { result ≡ record { policy = self.now; clerk = clerk.now; maildrop = maildrop.now } }
+        ensures { result ≡ record {
+          policy = self.now;
+          clerk = clerk.now;
+          maildrop =
+              maildrop.now;
+        } }
     {
         Lane {
             policy: self,

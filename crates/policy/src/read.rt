@@ -1,12 +1,20 @@
 //! Reading a policy's text: its groups and rules, or its first fault.
-ghost use Rattle.std.specs.Prelude.{◌≡◌, ◌≢◌, ◌≤◌, [], length, true, false, IfOk, IfErr, MatchOption, MatchResult, Some, None, Ok, Err, codes, option_map, option_and_then, is_some, string_bytes, take, drop};
+ghost use Rattle.std.specs.Prelude.{◌≡◌, ◌≢◌, ◌≤◌, [], length, true, false, IfOk, IfErr};
+ghost use Rattle.std.specs.Prelude.{MatchOption, MatchResult, Some, None, Ok, Err, codes};
+ghost use Rattle.std.specs.Prelude.{option_map, option_and_then, is_some, string_bytes, take, drop};
 ghost use Rattle.std.specs.List.{list_all};
 ghost use Rattle.std.specs.Str.{bytes_eq};
 ghost use Rattle.std.specs.BTreeMap.{keys};
 ghost use Rattle.toml.specs.Data.{get_member, as_str, as_array, as_table};
 ghost use Rattle.toml.specs.View.{view, table_view, items_view};
-ghost use Rattle.policy.specs.Policy.{are_known, are_sound_rules, is_sound_policy, is_sound_rule, know_groups};
-ghost use Rattle.policy.specs.PolicyText.{clerks_named, clerks_of, has_name, seen, settings_of, is_sound_subject, subject_of, decided, rule_of, rules_in, rules_of, rule_name_of, pattern_of, effect_of, actions_of, actions_of_items, with_action, with_item, is_rule_key, all_keys, is_top_key, are_tables, tables_of, tables_at, rule_at, rules_from};
+ghost use Rattle.policy.specs.Policy.{are_known, are_sound_rules, is_sound_policy, is_sound_rule};
+ghost use Rattle.policy.specs.Policy.{know_groups};
+ghost use Rattle.policy.specs.PolicyText.{clerks_named, clerks_of, has_name, seen, settings_of};
+ghost use Rattle.policy.specs.PolicyText.{is_sound_subject, subject_of, decided, rule_of, rules_in};
+ghost use Rattle.policy.specs.PolicyText.{rules_of, rule_name_of, pattern_of, effect_of};
+ghost use Rattle.policy.specs.PolicyText.{actions_of, actions_of_items, with_action, with_item};
+ghost use Rattle.policy.specs.PolicyText.{is_rule_key, all_keys, is_top_key, are_tables, tables_of};
+ghost use Rattle.policy.specs.PolicyText.{tables_at, rule_at, rules_from};
 
 use crate::fault::PolicyFault;
 use crate::group::Group;
@@ -39,7 +47,8 @@ struct Subject {
 }
 
 fn field<'a>(table: &'a Table, key: &str, n: usize) -> Result<&'a Value, PolicyFault>
-    ensures { MatchResult result (λ v. get_member key.now (table_view table.now) ≡ Some (view v.now))
+    ensures { MatchResult result (λ v. get_member key.now (table_view table.now)
+        ≡ Some (view v.now))
         (λ e. (get_member key.now (table_view table.now) ≡ None) × (e ≡ PolicyFault.MissingKey n)) }
 {
     match table.get(key) {
@@ -293,7 +302,8 @@ fn are_all_tables(values: &[Value]) -> bool
 }
 
 fn tables_in(value: &Value) -> Option<&[Value]>
-    ensures { option_map (λ v. items_view v.now) result ≡ option_and_then tables_of (as_array (view value.now)) }
+    ensures { option_map (λ v. items_view v.now) result
+        ≡ option_and_then tables_of (as_array (view value.now)) }
 {
     let values = value.as_array()?;
     if are_all_tables(values) {
@@ -311,7 +321,8 @@ pub(crate) fn lookup<'a>(table: &'a Table, key: &str) -> Option<&'a Value>
 }
 
 fn read_tables<'a>(table: &'a Table, key: &str) -> Option<&'a [Value]>
-    ensures { option_map (λ v. items_view v.now) result ≡ tables_at (get_member key.now (table_view table.now)) }
+    ensures { option_map (λ v. items_view v.now) result
+        ≡ tables_at (get_member key.now (table_view table.now)) }
 {
     match lookup(table, key) {
         None => Some(&[]),
@@ -333,8 +344,10 @@ fn read_one(groups: &[Group], n: usize, before: &[Rule], value: &Value) -> Resul
 
 fn read_rules(alloc: Global, groups: &[Group], values: &[Value]) -> Result<Vec<Rule>, PolicyFault>
     requires { length values.now ≤ 1000 }
-    ensures ok { IfOk result (λ v. rules_from groups.now 1 [] (items_view values.now) ≡ Ok v.items) }
-    ensures fault { IfErr result (λ e. e ≢ PolicyFault.NoMemory → rules_from groups.now 1 [] (items_view values.now) ≡ Err e) }
+    ensures ok { IfOk result (λ v. rules_from groups.now 1 [] (items_view values.now)
+        ≡ Ok v.items) }
+    ensures fault { IfErr result (λ e. e ≢ PolicyFault.NoMemory
+        → rules_from groups.now 1 [] (items_view values.now) ≡ Err e) }
     ensures sound { IfOk result (λ v. are_sound_rules v.items ≡ true) }
     ensures known { IfOk result (λ v. know_groups groups.now v.items ≡ true) }
 {
@@ -357,9 +370,12 @@ pub(crate) struct Parts {
 
 #[tactic(auto, using(crate::proofs::Views::items_len_view), unfolding(crate::specs::PolicyText::rules_in))]
 fn read_table(alloc: Global, table: &Table) -> Result<Parts, PolicyFault>
-    ensures ok { IfOk result (λ p. rules_in (table_view table.now) ≡ Ok (record { groups = p.groups.items; rules = p.rules.items })) }
-    ensures fault { IfErr result (λ e. e ≢ PolicyFault.NoMemory → rules_in (table_view table.now) ≡ Err e) }
-    ensures sound { IfOk result (λ p. is_sound_policy (record { groups = p.groups.items; rules = p.rules.items }) ≡ true) }
+    ensures ok { IfOk result (λ p. rules_in (table_view table.now)
+        ≡ Ok (record { groups = p.groups.items; rules = p.rules.items })) }
+    ensures fault { IfErr result (λ e. e ≢ PolicyFault.NoMemory
+        → rules_in (table_view table.now) ≡ Err e) }
+    ensures sound { IfOk result (λ p. is_sound_policy
+        (record { groups = p.groups.items; rules = p.rules.items }) ≡ true) }
 {
     let groups = read_tables(table, "group").ok_or(PolicyFault::NotToml)?;
     let rules = read_tables(table, "rule").ok_or(PolicyFault::NotToml)?;
@@ -380,9 +396,11 @@ fn read_table(alloc: Global, table: &Table) -> Result<Parts, PolicyFault>
 /// The groups and the rules of a text, or its first fault.
 #[tactic(auto, unfolding(crate::specs::PolicyText::rules_of))]
 pub(crate) fn read_text(alloc: Global, text: &str) -> Result<Parts, PolicyFault>
-    ensures ok { IfOk result (λ p. rules_of text.now ≡ Ok (record { groups = p.groups.items; rules = p.rules.items })) }
+    ensures ok { IfOk result (λ p. rules_of text.now
+        ≡ Ok (record { groups = p.groups.items; rules = p.rules.items })) }
     ensures fault { IfErr result (λ e. e ≢ PolicyFault.NoMemory → rules_of text.now ≡ Err e) }
-    ensures sound { IfOk result (λ p. is_sound_policy (record { groups = p.groups.items; rules = p.rules.items }) ≡ true) }
+    ensures sound { IfOk result (λ p. is_sound_policy
+        (record { groups = p.groups.items; rules = p.rules.items }) ≡ true) }
 {
     match toml::table_from_str(alloc, text) {
         Ok(table) => read_table(alloc, &table),

@@ -1,11 +1,13 @@
 //! Reading the groups of a policy's text: the groups, or their first fault.
-ghost use Rattle.std.specs.Prelude.{◌≡◌, ◌≢◌, ◌≤◌, [], length, true, false, IfOk, IfErr, Some, None, Ok, Err, string_bytes};
+ghost use Rattle.std.specs.Prelude.{◌≡◌, ◌≢◌, ◌≤◌, [], length, true, false, IfOk, IfErr, Some};
+ghost use Rattle.std.specs.Prelude.{None, Ok, Err, string_bytes};
 ghost use Rattle.std.specs.List.{list_all};
 ghost use Rattle.std.specs.BTreeMap.{keys};
 ghost use Rattle.toml.specs.View.{view, table_view, items_view};
 ghost use Rattle.creds.specs.Names.{is_name};
 ghost use Rattle.policy.specs.Policy.{are_members, are_sound_groups, has_group, is_sound_group};
-ghost use Rattle.policy.specs.PolicyText.{all_keys, group_at, group_of, groups_from, is_group_key, members_of, name_at, names_from};
+ghost use Rattle.policy.specs.PolicyText.{all_keys, group_at, group_of, groups_from, is_group_key};
+ghost use Rattle.policy.specs.PolicyText.{members_of, name_at, names_from};
 
 use crate::fault::PolicyFault;
 use crate::group::Group;
@@ -43,7 +45,8 @@ fn read_name(value: &Value) -> Option<Name>
 /// The names that the values hold, or the fault of group `n`.
 fn read_names(alloc: Global, n: usize, values: &[Value]) -> Result<Vec<Name>, PolicyFault>
     ensures ok { IfOk result (λ v. names_from [] (items_view values.now) ≡ Some v.items) }
-    ensures fault { IfErr result (λ e. e ≢ PolicyFault.NoMemory → (names_from [] (items_view values.now) ≡ None) × (e ≡ PolicyFault.GroupMembers n)) }
+    ensures fault { IfErr result (λ e. e ≢ PolicyFault.NoMemory
+        → (names_from [] (items_view values.now) ≡ None) × (e ≡ PolicyFault.GroupMembers n)) }
     ensures formed { IfOk result (λ v. list_all is_name v.items ≡ true) }
 {
     let mut names = Vec::new(alloc);
@@ -59,7 +62,8 @@ fn read_names(alloc: Global, n: usize, values: &[Value]) -> Result<Vec<Name>, Po
 /// The members that the value lists, or the fault of group `n`.
 fn read_members(alloc: Global, n: usize, value: &Value) -> Result<Vec<Name>, PolicyFault>
     ensures ok { IfOk result (λ v. members_of (view value.now) ≡ Some v.items) }
-    ensures fault { IfErr result (λ e. e ≢ PolicyFault.NoMemory → (members_of (view value.now) ≡ None) × (e ≡ PolicyFault.GroupMembers n)) }
+    ensures fault { IfErr result (λ e. e ≢ PolicyFault.NoMemory
+        → (members_of (view value.now) ≡ None) × (e ≡ PolicyFault.GroupMembers n)) }
     ensures formed { IfOk result (λ v. list_all is_name v.items ≡ true) }
     ensures members { IfOk result (λ v. are_members v.items ≡ true) }
 {
@@ -79,7 +83,8 @@ fn read_group(
     table: &Table,
 ) -> Result<Group, PolicyFault>
     ensures ok { IfOk result (λ g. group_of n before.now (table_view table.now) ≡ Ok g) }
-    ensures fault { IfErr result (λ e. e ≢ PolicyFault.NoMemory → group_of n before.now (table_view table.now) ≡ Err e) }
+    ensures fault { IfErr result (λ e. e ≢ PolicyFault.NoMemory
+        → group_of n before.now (table_view table.now) ≡ Err e) }
     ensures sound { IfOk result (λ g. is_sound_group g ≡ true) }
     ensures own_name { IfOk result (λ g. has_group before.now g.name ≡ false) }
 {
@@ -98,7 +103,8 @@ fn read_group(
 
 fn read_one(alloc: Global, n: usize, before: &[Group], value: &Value) -> Result<Group, PolicyFault>
     ensures ok { IfOk result (λ g. group_at n before.now (view value.now) ≡ Ok g) }
-    ensures fault { IfErr result (λ e. e ≢ PolicyFault.NoMemory → group_at n before.now (view value.now) ≡ Err e) }
+    ensures fault { IfErr result (λ e. e ≢ PolicyFault.NoMemory
+        → group_at n before.now (view value.now) ≡ Err e) }
     ensures sound { IfOk result (λ g. is_sound_group g ≡ true) }
     ensures own_name { IfOk result (λ g. has_group before.now g.name ≡ false) }
 {
@@ -112,7 +118,8 @@ fn read_one(alloc: Global, n: usize, before: &[Group], value: &Value) -> Result<
 pub(crate) fn read_groups(alloc: Global, values: &[Value]) -> Result<Vec<Group>, PolicyFault>
     requires { length values.now ≤ 100 }
     ensures ok { IfOk result (λ v. groups_from 1 [] (items_view values.now) ≡ Ok v.items) }
-    ensures fault { IfErr result (λ e. e ≢ PolicyFault.NoMemory → groups_from 1 [] (items_view values.now) ≡ Err e) }
+    ensures fault { IfErr result (λ e. e ≢ PolicyFault.NoMemory
+        → groups_from 1 [] (items_view values.now) ≡ Err e) }
     ensures sound { IfOk result (λ v. are_sound_groups v.items ≡ true) }
 {
     let mut groups = Vec::new(alloc);

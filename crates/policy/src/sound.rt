@@ -3,7 +3,10 @@ ghost use Rattle.std.specs.Prelude.{◌≡◌};
 ghost use Rattle.std.specs.List.{list_all, list_any};
 ghost use Rattle.creds.specs.Names.{is_name};
 ghost use Rattle.std.specs.Str.{bytes_eq};
-ghost use Rattle.policy.specs.Policy.{are_clerks, are_known, are_members, are_sound_groups, has_group, is_any, is_pattern, is_sound_group, is_sound_policy, know_groups, lists_any, is_sound_rule, are_distinct, same_group, same_name, are_sound_rules};
+ghost use Rattle.policy.specs.Policy.{are_clerks, are_known, are_members, are_sound_groups};
+ghost use Rattle.policy.specs.Policy.{has_group, is_any, is_pattern, is_sound_group};
+ghost use Rattle.policy.specs.Policy.{is_sound_policy, know_groups, lists_any, is_sound_rule};
+ghost use Rattle.policy.specs.Policy.{are_distinct, same_group, same_name, are_sound_rules};
 ghost use Rattle.policy.specs.PolicyText.{has_name};
 
 use crate::group::Group;

@@ -2,7 +2,8 @@
 ghost use Rattle.std.specs.Prelude.{◌≡◌, List, ℕ, ◌&&◌};
 ghost use Rattle.policy.specs.declared.key.Key.{Key};
 ghost use Rattle.policy.specs.Index.{IsIndexOf, has_key, place_from};
-ghost use Rattle.policy.specs.Lane.{AreStarts, group_start, group_starts, is_about_action, is_about_group, is_about_groups, is_about_one};
+ghost use Rattle.policy.specs.Lane.{AreStarts, group_start, group_starts, is_about_action};
+ghost use Rattle.policy.specs.Lane.{is_about_group, is_about_groups, is_about_one};
 ghost use Rattle.policy.specs.Policy.{Group, fits_class, lists};
 
 use crate::decide::{actions_list, class_fits};
@@ -45,7 +46,8 @@ pub(crate) fn first_by_name(
 ) -> usize
     requires { IsIndexOf rules.now index.now }
     ensures { (clerk maildrop : List ℕ) → AreStarts clerk maildrop rules.now starts.now
-        → result ≡ place_from (λ r. is_about_one clerk maildrop r && is_about_action action class.now r) 0 rules.now }
+        → result ≡ place_from (λ r. is_about_one clerk maildrop r
+        && is_about_action action class.now r) 0 rules.now }
 {
     first_of_key(index, rules, starts.both, class, action)
         .min(first_of_key(index, rules, starts.clerk, class, action))
@@ -63,7 +65,8 @@ fn first_of_group(
 ) -> usize
     requires { IsIndexOf rules.now index.now }
     ensures { (maildrop group : List ℕ) → start.now ≡ group_start rules.now maildrop group
-        → result ≡ place_from (λ r. is_about_group group maildrop r && is_about_action action class.now r) 0 rules.now }
+        → result ≡ place_from (λ r. is_about_group group maildrop r
+        && is_about_action action class.now r) 0 rules.now }
 {
     first_of_key(index, rules, start.maildrop, class, action).min(first_of_key(
         index, rules, start.all, class, action,
@@ -82,7 +85,8 @@ pub(crate) fn first_by_group(
     requires { IsIndexOf rules.now index.now }
     ensures { (groups : List Group) (clerk maildrop : List ℕ)
         → starts.now ≡ group_starts groups clerk maildrop rules.now
-        → result ≡ place_from (λ r. is_about_groups groups clerk maildrop r && is_about_action action class.now r) 0 rules.now }
+        → result ≡ place_from (λ r. is_about_groups groups clerk maildrop r
+        && is_about_action action class.now r) 0 rules.now }
 {
     let mut place = rules.len();
     for start in starts {

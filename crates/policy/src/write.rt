@@ -1,6 +1,8 @@
 //! The text that a policy is written as.
 ghost use Rattle.std.specs.Prelude.{◌≡◌, ◌++◌, codes, map, IfOk, OnOk};
-ghost use Rattle.policy.specs.WrittenText.{action_words, array_text, clerks_text, effect_text, group_text, joined, pattern_text, quoted, rule_text, setting};
+ghost use Rattle.policy.specs.WrittenText.{action_words, array_text, clerks_text, effect_text};
+ghost use Rattle.policy.specs.WrittenText.{group_text, joined, pattern_text, quoted, rule_text};
+ghost use Rattle.policy.specs.WrittenText.{setting};
 
 use crate::group::Group;
 use crate::rule::{Actions, Clerks, Effect, Pattern, Rule};

@@ -142,8 +142,8 @@ fn flag<'a>(alloc: Global, name: &'a str, help: &'a str) -> Arg<'a> {
         .action(ArgAction::SetTrue)
 }
 
-/// `[--idle N] [--wait N] [--login-seconds N] [--slow-guesses] [--proxy-protocol]`: how long clients
-/// may be idle, wait and guess, and how their addresses are known.
+/// `[--idle N] [--wait N] [--login-seconds N] [--slow-guesses] [--proxy-protocol]`: how long
+/// clients may be idle, wait and guess, and how their addresses are known.
 fn patience<'a>(alloc: Global) -> Result<Vec<Arg<'a>>, AllocError> {
     let idle = "After so many seconds an idle client is ended";
     let wait = "For so many seconds a login waits for a maildrop that is in use";

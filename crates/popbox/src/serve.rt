@@ -9,9 +9,7 @@ use journal::{
 use office::{Limits, Office};
 use proxy::ProxiedWire;
 use recent::Recent;
-use serving::{
-    Clock, FolderSpool, NotedWire, Server, SocketWire, Wire, begin_noted, serve_while,
-};
+use serving::{Clock, FolderSpool, NotedWire, Server, SocketWire, Wire, begin_noted, serve_while};
 use std::io;
 use std::io::Write;
 use std::net::{Ipv4Addr, SocketAddr};

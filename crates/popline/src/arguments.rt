@@ -1,6 +1,7 @@
 //! The parts of a command line (RFC 1939, 3): its words, its numbers, its digits.
 
-ghost use Rattle.std.specs.Prelude.{◌≡◌, ◌==◌, ◌<◌, ◌∷◌, [], ◌+◌, ◌-◌, ◌*◌, ◌^◌, length, IfSome, MatchOption, position, min};
+ghost use Rattle.std.specs.Prelude.{◌≡◌, ◌==◌, ◌<◌, ◌∷◌, [], ◌+◌, ◌-◌, ◌*◌, ◌^◌, length, IfSome};
+ghost use Rattle.std.specs.Prelude.{MatchOption, position, min};
 ghost use Rattle.std.specs.List.{list_all, before_first, after_first, slice_split, fold};
 ghost use Rattle.creds.specs.Names.{is_digit};
 ghost use Rattle.popline.specs.Commands.{is_space, trimmed, number_of, value_of, digest_of};
@@ -20,7 +21,8 @@ pub(crate) fn split_word(line: &[u8]) -> (&[u8], &[u8])
 
 /// The octets before the first space and those behind it; `None` where there is no space.
 pub(crate) fn split_once(line: &[u8]) -> Option<(&[u8], &[u8])>
-    ensures { MatchOption result (slice_split is_space line.now ≡ line.now ∷ []) (λ parts. slice_split is_space line.now ≡ parts.0.now ∷ slice_split is_space parts.1.now) }
+    ensures { MatchOption result (slice_split is_space line.now ≡ line.now ∷ [])
+        (λ parts. slice_split is_space line.now ≡ parts.0.now ∷ slice_split is_space parts.1.now) }
 {
     match first_space(line) {
         Some(at) => Some((&line[..at], &line[at + 1..])),

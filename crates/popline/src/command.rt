@@ -1,7 +1,10 @@
 //! What a command line says (RFC 1939, 3 to 7; RFC 2449, 4 and 5).
 
 ghost use Rattle.std.specs.Prelude.{◌≡◌, map};
-ghost use Rattle.popline.specs.Commands.{command_of, command_with, keywords, keyword_in, keyword_of, is_spelled, lowered, with_arguments, alone as alone_of, with_one as with_one_of, with_two as with_two_of, with_password};
+ghost use Rattle.popline.specs.Commands.{command_of, command_with, keywords, keyword_in};
+ghost use Rattle.popline.specs.Commands.{keyword_of, is_spelled, lowered, with_arguments};
+ghost use Rattle.popline.specs.Commands.{alone as alone_of, with_one as with_one_of};
+ghost use Rattle.popline.specs.Commands.{with_two as with_two_of, with_password};
 ghost use Rattle.popline.specs.Commands.{arguments as arguments_of};
 ghost use Rattle.popline.specs.Seen.{reading_seen, command_seen, found_seen, keyword_row_seen};
 

@@ -68,7 +68,8 @@ impl Cutter {
         ensures held { self.new ≡ fed self.old piece.now }
         // Whatever comes after the piece: the next lines are the one that is whole now, if any,
         // and those of the octets that weren't taken.
-        ensures stream { (more : List ℕ) → coming self.old (piece.now ++ more) ≡ shown self.new ++ coming self.new (drop result piece.now ++ more) }
+        ensures stream { (more : List ℕ) → coming self.old (piece.now ++ more) ≡ shown self.new
+            ++ coming self.new (drop result piece.now ++ more) }
     {
         if self.whole {
             self.len = 0;

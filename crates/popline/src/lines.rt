@@ -5,7 +5,8 @@
 
 ghost use Rattle.std.specs.Prelude.{◌≡◌, ◌++◌, OnOk, OnErr, ℕ, List, ◌∷◌, [], codes};
 ghost use Rattle.std.specs.Fmt.{decimal};
-ghost use Rattle.popline.specs.Replies.{bytes_of, one_line, scan_text, uid_row_text, scan_begun, uids_begun, ScanListing, UidListing};
+ghost use Rattle.popline.specs.Replies.{bytes_of, one_line, scan_text, uid_row_text, scan_begun};
+ghost use Rattle.popline.specs.Replies.{uids_begun, ScanListing, UidListing};
 
 use crate::reply::put_octets;
 use crate::texts;
@@ -27,8 +28,10 @@ pub fn put_scan_row(
     number: u64,
     octets: u64,
 ) -> Result<(), AllocError>
-    ensures ok { OnOk result (out.new.items ≡ out.old.items ++ one_line (scan_text (number, octets))) }
-    ensures row { OnOk result ((front : List ℕ) (rows : List (ℕ × ℕ)) → out.old.items ≡ front ++ scan_begun rows
+    ensures ok { OnOk result (out.new.items ≡ out.old.items
+        ++ one_line (scan_text (number, octets))) }
+    ensures row { OnOk result ((front : List ℕ) (rows : List (ℕ × ℕ))
+        → out.old.items ≡ front ++ scan_begun rows
         → out.new.items ≡ front ++ scan_begun (rows ++ (number, octets) ∷ [])) }
     ensures err { OnErr result (out.new.items ≡ out.old.items) }
 {
@@ -53,8 +56,10 @@ pub fn put_uid_row(
     number: u64,
     uid: Uid,
 ) -> Result<(), AllocError>
-    ensures ok { OnOk result (out.new.items ≡ out.old.items ++ one_line (uid_row_text (number, uid))) }
-    ensures row { OnOk result ((front : List ℕ) (rows : List (ℕ × Uid)) → out.old.items ≡ front ++ uids_begun rows
+    ensures ok { OnOk result (out.new.items ≡ out.old.items
+        ++ one_line (uid_row_text (number, uid))) }
+    ensures row { OnOk result ((front : List ℕ) (rows : List (ℕ × Uid))
+        → out.old.items ≡ front ++ uids_begun rows
         → out.new.items ≡ front ++ uids_begun (rows ++ (number, uid) ∷ [])) }
     ensures err { OnErr result (out.new.items ≡ out.old.items) }
 {
@@ -84,9 +89,11 @@ pub fn begin_top(out: &mut Vec<u8>) -> Result<(), AllocError>
 /// Appends the line of the dot, which ends a multi-line reply.
 pub fn end_lines(out: &mut Vec<u8>) -> Result<(), AllocError>
     ensures ok { OnOk result (out.new.items ≡ out.old.items ++ one_line (codes ".")) }
-    ensures scan { OnOk result ((front : List ℕ) (rows : List (ℕ × ℕ)) → out.old.items ≡ front ++ scan_begun rows
+    ensures scan { OnOk result ((front : List ℕ) (rows : List (ℕ × ℕ))
+        → out.old.items ≡ front ++ scan_begun rows
         → out.new.items ≡ front ++ bytes_of (ScanListing rows)) }
-    ensures uids { OnOk result ((front : List ℕ) (rows : List (ℕ × Uid)) → out.old.items ≡ front ++ uids_begun rows
+    ensures uids { OnOk result ((front : List ℕ) (rows : List (ℕ × Uid))
+        → out.old.items ≡ front ++ uids_begun rows
         → out.new.items ≡ front ++ bytes_of (UidListing rows)) }
     ensures err { OnErr result (out.new.items ≡ out.old.items) }
 {

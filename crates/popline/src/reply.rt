@@ -1,6 +1,7 @@
 //! What a POP3 server says, octet by octet (RFC 1939, 3 to 7; RFC 2449, 5 and 8).
 
-ghost use Rattle.std.specs.Prelude.{◌≡◌, ◌++◌, ℕ, List, IfOk, OnOk, OnErr, codes, string_bytes, take, vec_len};
+ghost use Rattle.std.specs.Prelude.{◌≡◌, ◌++◌, ℕ, List, IfOk, OnOk, OnErr, codes, string_bytes};
+ghost use Rattle.std.specs.Prelude.{take, vec_len};
 ghost use Rattle.popline.specs.Replies.{bytes_of};
 ghost use Rattle.popline.specs.Seen.{reply_seen};
 
@@ -170,7 +171,8 @@ pub(crate) fn put_octets(out: &mut Vec<u8>, octets: &[u8]) -> Result<(), AllocEr
 
 /// Appends the text, or returns its error.
 fn put_text(out: &mut Vec<u8>, text: Result<String, AllocError>) -> Result<(), AllocError>
-    ensures ok { (octets : List ℕ) → IfOk text (λ t. string_bytes t ≡ octets) → OnOk result (out.new.items ≡ out.old.items ++ octets) }
+    ensures ok { (octets : List ℕ) → IfOk text (λ t. string_bytes t ≡ octets)
+        → OnOk result (out.new.items ≡ out.old.items ++ octets) }
     ensures err { OnErr result (out.new.items ≡ out.old.items) }
 {
     out.extend_from_slice(text?.as_bytes())

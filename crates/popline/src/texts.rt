@@ -2,7 +2,9 @@
 
 ghost use Rattle.std.specs.Prelude.{◌≡◌, ◌++◌, IfOk, codes, string_bytes};
 ghost use Rattle.std.specs.Fmt.{decimal};
-ghost use Rattle.popline.specs.Replies.{bytes_of, one_line, scan_text, uid_row_text, Greeting, DeniedBy, MaildropHas, DropListing, ScanLine, UidLine, Marked, AlreadyMarked, RemovalDenied};
+ghost use Rattle.popline.specs.Replies.{bytes_of, one_line, scan_text, uid_row_text, Greeting};
+ghost use Rattle.popline.specs.Replies.{DeniedBy, MaildropHas, DropListing, ScanLine, UidLine};
+ghost use Rattle.popline.specs.Replies.{Marked, AlreadyMarked, RemovalDenied};
 
 use creds::{Name, Uid};
 use std::alloc::{AllocError, Global};

@@ -1,10 +1,13 @@
 //! What a proxy's first line says.
-ghost use Rattle.std.specs.Prelude.{◌≡◌, ◌<◌, ◌≤◌, ◌-◌, length, take, drop, true, ◌&&◌, MatchOption, Option, IfSome, position, codes};
+ghost use Rattle.std.specs.Prelude.{◌≡◌, ◌<◌, ◌≤◌, ◌-◌, length, take, drop, true, ◌&&◌};
+ghost use Rattle.std.specs.Prelude.{MatchOption, Option, IfSome, position, codes};
 ghost use Rattle.std.specs.Net.Grammar.{IsIpv4Text, IsIpv6Text};
 ghost use Rattle.std.specs.declared.net.ip_addr.IpAddr.{IpAddr as Address};
 ghost use Rattle.std.specs.declared.net.ipv4_addr.Ipv4Addr.{Ipv4Addr as Address4};
 ghost use Rattle.std.specs.declared.net.ipv6_addr.Ipv6Addr.{Ipv6Addr as Address6};
-ghost use Rattle.proxy.specs.Lines.{is_space, is_digit, word, rest as behind_word, are_digits_behind, is_port, AreEnds, Tells, text_of, IsProxyLine};
+ghost use Rattle.proxy.specs.Lines.{is_space, is_digit, word, rest as behind_word};
+ghost use Rattle.proxy.specs.Lines.{are_digits_behind, is_port, AreEnds, Tells, text_of};
+ghost use Rattle.proxy.specs.Lines.{IsProxyLine};
 
 use std::net::{IpAddr, Ipv4Addr, Ipv6Addr};
 
@@ -24,7 +27,8 @@ impl ProxyLine {
     /// A line is `PROXY TCP4` or `PROXY TCP6`, the addresses of source and destination, and their
     /// ports, one space before each, or `PROXY UNKNOWN` and anything; at most 107 octets.
     pub fn read(line: &[u8]) -> Option<ProxyLine>
-        ensures { MatchOption result ((source : Option Address) → ¬ (IsProxyLine line.now source)) (λ it. IsProxyLine line.now it.source) }
+        ensures { MatchOption result ((source : Option Address) → ¬ (IsProxyLine line.now source))
+            (λ it. IsProxyLine line.now it.source) }
     {
         if line.len() > MOST_OCTETS || line.len() < 2 {
             return None;
@@ -43,7 +47,8 @@ impl ProxyLine {
 
 /// What stands behind `PROXY` and a space.
 fn told_by(text: &[u8]) -> Option<ProxyLine>
-    ensures { MatchOption result ((source : Option Address) → ¬ (Tells text.now source)) (λ it. Tells text.now it.source) }
+    ensures { MatchOption result ((source : Option Address) → ¬ (Tells text.now source))
+        (λ it. Tells text.now it.source) }
 {
     let (family, ends) = split_word(text);
     if family == b"UNKNOWN".as_slice() {
@@ -70,7 +75,8 @@ fn told_by(text: &[u8]) -> Option<ProxyLine>
 
 /// The source of a connection over IPv4.
 fn source_v4(ends: &[u8]) -> Option<Ipv4Addr>
-    ensures { MatchOption result ((source : Address4) → ¬ (AreEnds IsIpv4Text ends.now source)) (AreEnds IsIpv4Text ends.now) }
+    ensures { MatchOption result ((source : Address4) → ¬ (AreEnds IsIpv4Text ends.now source))
+        (AreEnds IsIpv4Text ends.now) }
 {
     let (source, others) = split_word(ends);
     let (destination, ports) = split_word(others);
@@ -88,7 +94,8 @@ fn source_v4(ends: &[u8]) -> Option<Ipv4Addr>
 
 /// The source of a connection over IPv6.
 fn source_v6(ends: &[u8]) -> Option<Ipv6Addr>
-    ensures { MatchOption result ((source : Address6) → ¬ (AreEnds IsIpv6Text ends.now source)) (AreEnds IsIpv6Text ends.now) }
+    ensures { MatchOption result ((source : Address6) → ¬ (AreEnds IsIpv6Text ends.now source))
+        (AreEnds IsIpv6Text ends.now) }
 {
     let (source, others) = split_word(ends);
     let (destination, ports) = split_word(others);

@@ -1,13 +1,17 @@
 //! A wire whose clients come through a proxy on the same machine.
-ghost use Rattle.std.specs.Prelude.{◌≡◌, ◌<◌, ◌++◌, ◌⊎◌, ℕ, List, [], Option, Some, None, length, false, IfSome};
+ghost use Rattle.std.specs.Prelude.{◌≡◌, ◌<◌, ◌++◌, ◌⊎◌, ℕ, List, [], Option, Some, None, length};
+ghost use Rattle.std.specs.Prelude.{false, IfSome};
 ghost use Rattle.std.specs.Ordering.{nat_cmp};
 ghost use Rattle.std.specs.declared.net.ip_addr.IpAddr.{IpAddr as Address};
 ghost use Rattle.std.specs.BTreeMap.{get};
 ghost use Rattle.arrayvec.specs.ArrayVec.{array_vec_len};
-ghost use Rattle.serving.specs.Wires.{ToldOfPorts, AreFresh, at_port, has_read, has_accepted, counted, IsWithin};
+ghost use Rattle.serving.specs.Wires.{ToldOfPorts, AreFresh, at_port, has_read, has_accepted};
+ghost use Rattle.serving.specs.Wires.{counted, IsWithin};
 ghost use Rattle.serving.specs.declared.wire.Port.TheVariants.{Pop as ThePop};
-ghost use Rattle.serving.specs.declared.wire.Io.TheVariants.{Later as TheLater, Broken as TheBroken};
-ghost use Rattle.proxy.specs.Proxied.{TellsProxy, TellsProxied, proxy_once, IsLineRead, IsAmid, IsAsFarAs, has_line};
+ghost use Rattle.serving.specs.declared.wire.Io.TheVariants.{Later as TheLater};
+ghost use Rattle.serving.specs.declared.wire.Io.TheVariants.{Broken as TheBroken};
+ghost use Rattle.proxy.specs.Proxied.{TellsProxy, TellsProxied, proxy_once, IsLineRead, IsAmid};
+ghost use Rattle.proxy.specs.Proxied.{IsAsFarAs, has_line};
 
 use crate::line::{MOST_OCTETS, ProxyLine};
 use arrayvec::ArrayVec;
@@ -44,8 +48,8 @@ pub(crate) enum Progress {
 /// is a proxy's.
 ///
 /// That line is read here, and never handed on: a read gives `Later` until it was read whole, and a
-/// look gives `Later` too. A link is closed, and its read gives `Broken`, where the first line is no
-/// PROXY line, is longer than 107 octets, isn't whole at a read ten seconds or more behind the
+/// look gives `Later` too. A link is closed, and its read gives `Broken`, where the first line is
+/// no PROXY line, is longer than 107 octets, isn't whole at a read ten seconds or more behind the
 /// acceptance, or where memory for it is wanting. Links of the administration have no such line.
 ///
 /// Contracts see what the wire inside tells, but of what was read from a client's link only the
@@ -65,7 +69,8 @@ pub struct ProxiedWire<W: Wire, C: Clock> {
 /// Reads the next octet of a line.
 fn read_octet<W: Wire>(wire: &mut W, link: Link, line: &mut Line) -> Progress
     requires { array_vec_len line.old < 107 }
-    ensures told { (t : ToldOfPorts) → W.tells wire.old t → IsLineRead W.tells wire.new link.number line.old.items line.new.items result t }
+    ensures told { (t : ToldOfPorts) → W.tells wire.old t
+        → IsLineRead W.tells wire.new link.number line.old.items line.new.items result t }
     ensures so_far { has_line line.old.items ≡ false → IsAsFarAs result line.new.items }
 {
     let mut one = [0u8; 1];
@@ -87,7 +92,8 @@ fn read_octet<W: Wire>(wire: &mut W, link: Link, line: &mut Line) -> Progress
 /// behind one more than `left`.
 fn read_octets<W: Wire>(wire: &mut W, link: Link, line: &mut Line, left: usize) -> Progress
     requires { array_vec_len line.old < 107 }
-    ensures told { (t : ToldOfPorts) → W.tells wire.old t → IsLineRead W.tells wire.new link.number line.old.items line.new.items result t }
+    ensures told { (t : ToldOfPorts) → W.tells wire.old t
+        → IsLineRead W.tells wire.new link.number line.old.items line.new.items result t }
     ensures so_far { has_line line.old.items ≡ false → IsAsFarAs result line.new.items }
 {
     match read_octet(wire, link, line) {
@@ -112,7 +118,9 @@ impl<W: Wire, C: Clock> ProxiedWire<W, C> {
     /// link's first line takes.
     pub fn new(alloc: Global, wire: W, clock: C) -> ProxiedWire<W, C>
         ensures wire { result.wire ≡ wire }
-        ensures tells { (t : ToldOfPorts) → W.tells wire t → AreFresh t → TellsProxy W.tells result.wire (get nat_cmp result.begun) (get nat_cmp result.known) t }
+        ensures tells { (t : ToldOfPorts) → W.tells wire t → AreFresh t
+            → TellsProxy W.tells result.wire (get nat_cmp result.begun) (get nat_cmp result.known)
+            t }
     {
         ProxiedWire {
             wire,
@@ -133,7 +141,12 @@ impl<W: Wire, C: Clock> ProxiedWire<W, C> {
 
     /// Closes a client's link that was read from in vain, and tells that it is broken.
     fn break_off(&mut self, link: Link) -> Io
-        ensures told { (u : ToldOfPorts) → TellsProxy W.tells self.old.wire (get nat_cmp self.old.begun) (get nat_cmp self.old.known) (at_port ThePop (λ of. has_read of link.number TheLater []) u) → TellsProxy W.tells self.new.wire (get nat_cmp self.new.begun) (get nat_cmp self.new.known) (at_port ThePop (λ of. has_read of link.number result []) u) }
+        ensures told { (u : ToldOfPorts) → TellsProxy W.tells self.old.wire
+            (get nat_cmp self.old.begun) (get nat_cmp self.old.known)
+            (at_port ThePop (λ of. has_read of link.number TheLater []) u)
+            → TellsProxy W.tells self.new.wire (get nat_cmp self.new.begun)
+            (get nat_cmp self.new.known) (at_port ThePop (λ of. has_read of link.number result [])
+            u) }
         ensures broken { result ≡ TheBroken }
     {
         self.wire.close(Port::Pop, link);
@@ -143,7 +156,11 @@ impl<W: Wire, C: Clock> ProxiedWire<W, C> {
     /// Reads on a client's link whose first line isn't wanted any more, or never was: what lies
     /// there stays unread, and the link is closed.
     fn refuse(&mut self, link: Link) -> Io
-        ensures told { (u : ToldOfPorts) → TellsProxy W.tells self.old.wire (get nat_cmp self.old.begun) (get nat_cmp self.old.known) u → TellsProxy W.tells self.new.wire (get nat_cmp self.new.begun) (get nat_cmp self.new.known) (at_port ThePop (λ of. has_read of link.number result []) u) }
+        ensures told { (u : ToldOfPorts) → TellsProxy W.tells self.old.wire
+            (get nat_cmp self.old.begun) (get nat_cmp self.old.known) u
+            → TellsProxy W.tells self.new.wire (get nat_cmp self.new.begun)
+            (get nat_cmp self.new.known) (at_port ThePop (λ of. has_read of link.number result [])
+            u) }
         ensures within { IsWithin 0 result }
     {
         let mut none = [0u8; 0];
@@ -157,7 +174,11 @@ impl<W: Wire, C: Clock> ProxiedWire<W, C> {
     /// Keeps what was read of a line that isn't whole; or closes the link, where the line is too
     /// long or takes too long.
     fn keep(&mut self, link: Link, begun: Begun) -> Io
-        ensures told { (u : ToldOfPorts) → IsAmid W.tells self.old.wire (get nat_cmp self.old.begun) (get nat_cmp self.old.known) link.number begun.line.items u → has_line begun.line.items ≡ false → TellsProxy W.tells self.new.wire (get nat_cmp self.new.begun) (get nat_cmp self.new.known) (at_port ThePop (λ of. has_read of link.number result []) u) }
+        ensures told { (u : ToldOfPorts) → IsAmid W.tells self.old.wire (get nat_cmp self.old.begun)
+            (get nat_cmp self.old.known) link.number begun.line.items u
+            → has_line begun.line.items ≡ false → TellsProxy W.tells self.new.wire
+            (get nat_cmp self.new.begun) (get nat_cmp self.new.known)
+            (at_port ThePop (λ of. has_read of link.number result []) u) }
         ensures within { IsWithin 0 result }
     {
         if begun.line.is_full() {
@@ -174,7 +195,11 @@ impl<W: Wire, C: Clock> ProxiedWire<W, C> {
 
     /// Learns the source that a whole line tells; or closes the link, where it is no PROXY line.
     fn learn(&mut self, link: Link, line: &[u8]) -> Io
-        ensures told { (u : ToldOfPorts) → IsAmid W.tells self.old.wire (get nat_cmp self.old.begun) (get nat_cmp self.old.known) link.number line.now u → IsAsFarAs Progress.Whole line.now → TellsProxy W.tells self.new.wire (get nat_cmp self.new.begun) (get nat_cmp self.new.known) (at_port ThePop (λ of. has_read of link.number result []) u) }
+        ensures told { (u : ToldOfPorts) → IsAmid W.tells self.old.wire (get nat_cmp self.old.begun)
+            (get nat_cmp self.old.known) link.number line.now u → IsAsFarAs Progress.Whole line.now
+            → TellsProxy W.tells self.new.wire (get nat_cmp self.new.begun)
+            (get nat_cmp self.new.known) (at_port ThePop (λ of. has_read of link.number result [])
+            u) }
         ensures within { IsWithin 0 result }
     {
         let Some(read) = ProxyLine::read(line) else {
@@ -191,7 +216,11 @@ impl<W: Wire, C: Clock> ProxiedWire<W, C> {
 
     /// Reads on a client's link whose first line isn't known.
     fn read_line(&mut self, link: Link) -> Io
-        ensures told { (u : ToldOfPorts) → TellsProxy W.tells self.old.wire (get nat_cmp self.old.begun) (get nat_cmp self.old.known) u → TellsProxy W.tells self.new.wire (get nat_cmp self.new.begun) (get nat_cmp self.new.known) (at_port ThePop (λ of. has_read of link.number result []) u) }
+        ensures told { (u : ToldOfPorts) → TellsProxy W.tells self.old.wire
+            (get nat_cmp self.old.begun) (get nat_cmp self.old.known) u
+            → TellsProxy W.tells self.new.wire (get nat_cmp self.new.begun)
+            (get nat_cmp self.new.known) (at_port ThePop (λ of. has_read of link.number result [])
+            u) }
         ensures within { IsWithin 0 result }
     {
         let Some(mut begun) = self.begun.remove(&link.number) else {
@@ -215,7 +244,11 @@ impl<W: Wire, C: Clock> ProxiedWire<W, C> {
     /// Reads from a client's link.
     fn read_client(&mut self, link: Link, buffer: &mut [u8]) -> Io
         ensures within { IsWithin (length buffer.old) result }
-        ensures told { (u : ToldOfPorts) → TellsProxy W.tells self.old.wire (get nat_cmp self.old.begun) (get nat_cmp self.old.known) u → TellsProxy W.tells self.new.wire (get nat_cmp self.new.begun) (get nat_cmp self.new.known) (at_port ThePop (λ of. has_read of link.number result (counted result buffer.new)) u) }
+        ensures told { (u : ToldOfPorts) → TellsProxy W.tells self.old.wire
+            (get nat_cmp self.old.begun) (get nat_cmp self.old.known) u
+            → TellsProxy W.tells self.new.wire (get nat_cmp self.new.begun)
+            (get nat_cmp self.new.known) (at_port ThePop
+            (λ of. has_read of link.number result (counted result buffer.new)) u) }
     {
         if self.known.contains_key(&link.number) {
             return self.wire.read(Port::Pop, link, buffer);
@@ -226,7 +259,11 @@ impl<W: Wire, C: Clock> ProxiedWire<W, C> {
     /// Begins to read the first line of a link that was accepted. Where memory is wanting the link
     /// has none, and its first read closes it.
     fn begin(&mut self, link: Link)
-        ensures { (t u : ToldOfPorts) → link.number ≡ t.pop.accepted → W.tells self.old.wire (at_port ThePop has_accepted t) → TellsProxied (get nat_cmp self.old.begun) (get nat_cmp self.old.known) t u → TellsProxy W.tells self.new.wire (get nat_cmp self.new.begun) (get nat_cmp self.new.known) (at_port ThePop has_accepted u) }
+        ensures { (t u : ToldOfPorts) → link.number ≡ t.pop.accepted
+            → W.tells self.old.wire (at_port ThePop has_accepted t)
+            → TellsProxied (get nat_cmp self.old.begun) (get nat_cmp self.old.known) t u
+            → TellsProxy W.tells self.new.wire (get nat_cmp self.new.begun)
+            (get nat_cmp self.new.known) (at_port ThePop has_accepted u) }
     {
         let begun = Begun {
             line: ArrayVec::new(),
@@ -237,11 +274,13 @@ impl<W: Wire, C: Clock> ProxiedWire<W, C> {
 }
 
 impl<W: Wire, C: Clock> Wire for ProxiedWire<W, C> {
-    ghost tells = { λ r u. TellsProxy W.tells r.wire (get nat_cmp r.begun) (get nat_cmp r.known) u };
+    ghost tells = { λ r u. TellsProxy W.tells r.wire (get nat_cmp r.begun) (get nat_cmp r.known)
+        u };
 
     ghost asked = { λ _ _. ⊥ };
 
-    ghost tells_once = { λ r u v a b. proxy_once W.tells W.tells_once r.wire (get nat_cmp r.begun) (get nat_cmp r.known) u v a b };
+    ghost tells_once = { λ r u v a b. proxy_once W.tells W.tells_once r.wire (get nat_cmp r.begun)
+        (get nat_cmp r.known) u v a b };
 
     fn wait(&mut self, millis: u32) {
         let millis = if self.presses { 0 } else { millis };
@@ -284,8 +323,10 @@ impl<W: Wire, C: Clock> Wire for ProxiedWire<W, C> {
     /// The address that the link's first line told; that of the wire inside where the proxy doesn't
     /// know it; `None` while the line isn't whole.
     fn address(&self, port: Port, link: Link) -> Option<IpAddr>
-        ensures told { (source : Address) → port ≡ ThePop → get nat_cmp self.now.known link.number ≡ Some (Some source) → result ≡ Some source }
-        ensures open_yet { port ≡ ThePop → get nat_cmp self.now.known link.number ≡ None → result ≡ None }
+        ensures told { (source : Address) → port ≡ ThePop
+            → get nat_cmp self.now.known link.number ≡ Some (Some source) → result ≡ Some source }
+        ensures open_yet { port ≡ ThePop → get nat_cmp self.now.known link.number ≡ None
+            → result ≡ None }
     {
         match port {
             Port::Pop => match self.known.get(&link.number) {

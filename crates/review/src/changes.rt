@@ -1,9 +1,12 @@
 //! What a change of the policy changes.
 ghost use Rattle.std.specs.Prelude.{◌≡◌, ◌++◌, IfOk, OnOk};
 ghost use Rattle.std.specs.List.{flat_map};
-ghost use Rattle.review.specs.Differences.{becomes, becoming, change_line, change_lines, decision_text, differences_text, effect_word, question_text, questions};
+ghost use Rattle.review.specs.Differences.{becomes, becoming, change_line, change_lines};
+ghost use Rattle.review.specs.Differences.{decision_text, differences_text, effect_word};
+ghost use Rattle.review.specs.Differences.{question_text, questions};
 ghost use Rattle.review.specs.Questions.{columns};
-ghost use Rattle.review.specs.Steps.{of_clerk, of_maildrop, told, told_clerk, told_column, told_maildrop};
+ghost use Rattle.review.specs.Steps.{of_clerk, of_maildrop, told, told_clerk, told_column};
+ghost use Rattle.review.specs.Steps.{told_maildrop};
 
 use crate::label::{Label, label_bytes, put};
 use crate::question::{Column, Question, columns, decide_among, of_clerk, of_maildrop};
@@ -225,7 +228,8 @@ fn put_change_lines(
 ) -> Result<(), AllocError>
     ensures { OnOk result (out.new.items
         ≡ out.old.items ++ change_lines change.now.old.now change.now.new.now
-        (becoming change.now.allowed change.now.old.now change.now.new.now (questions names.now.clerks.items names.now.maildrops.items asked.now))) }
+        (becoming change.now.allowed change.now.old.now change.now.new.now
+        (questions names.now.clerks.items names.now.maildrops.items asked.now))) }
 {
     put_clerks(out, change, &names.clerks, &names.maildrops, asked)
 }

@@ -2,7 +2,9 @@
 ghost use Rattle.std.specs.Prelude.{◌≡◌, ◌<◌, ◌++◌, Some, IfOk, IfSome, OnOk, length, slice_get};
 ghost use Rattle.std.specs.List.{list_all, position};
 ghost use Rattle.policy.specs.Policy.{fits, fits_clerk, is_member};
-ghost use Rattle.review.specs.Covers.{NeverDecides, covers, covers_actions, covers_clerks, covers_members, cover_line, covered_text, covers_pattern, first_cover, is_everyone, name_of_rule, rule_words};
+ghost use Rattle.review.specs.Covers.{NeverDecides, covers, covers_actions, covers_clerks};
+ghost use Rattle.review.specs.Covers.{covers_members, cover_line, covered_text, covers_pattern};
+ghost use Rattle.review.specs.Covers.{first_cover, is_everyone, name_of_rule, rule_words};
 
 use crate::label::put;
 use creds::Name;

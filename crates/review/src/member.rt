@@ -1,7 +1,8 @@
 //! A clerk, and the groups that the clerk is in.
 ghost use Rattle.std.specs.Prelude.{◌≡◌, ◌++◌, IfOk, OnOk, map};
 ghost use Rattle.policy.specs.Policy.{has_member};
-ghost use Rattle.review.specs.Steps.{fits_member, groups_of, is_among, is_label_of, member_of, name_if, names_of_groups};
+ghost use Rattle.review.specs.Steps.{fits_member, groups_of, is_among, is_label_of, member_of};
+ghost use Rattle.review.specs.Steps.{name_if, names_of_groups};
 
 use crate::label::Label;
 use creds::Name;

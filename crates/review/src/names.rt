@@ -2,7 +2,8 @@
 ghost use Rattle.std.specs.Prelude.{◌≡◌, ◌++◌, ◌∷◌, [], IfOk, OnOk, map};
 ghost use Rattle.std.specs.List.{flat_map};
 ghost use Rattle.review.specs.declared.label.Label.TheVariants.{Named, Others};
-ghost use Rattle.review.specs.Names.{classes_in, clerk_of, clerks_in, labels, maildrops_in, name_in, nobody, put_names};
+ghost use Rattle.review.specs.Names.{classes_in, clerk_of, clerks_in, labels, maildrops_in};
+ghost use Rattle.review.specs.Names.{name_in, nobody, put_names};
 
 use crate::changes::Names;
 use crate::label::Label;

@@ -2,7 +2,9 @@
 ghost use Rattle.std.specs.Prelude.{◌≡◌, ◌<◌, ◌++◌, IfOk, OnOk, length, slice_get};
 ghost use Rattle.std.specs.List.{flat_map};
 ghost use Rattle.review.specs.Names.{is_one_of};
-ghost use Rattle.review.specs.Notes.{clerk_note, group_note, has_kept, has_one_of, maildrop_note, member_note, missing_words, notes_of_group, notes_of_rule, missing_lines, rule_note};
+ghost use Rattle.review.specs.Notes.{clerk_note, group_note, has_kept, has_one_of, maildrop_note};
+ghost use Rattle.review.specs.Notes.{member_note, missing_words, notes_of_group, notes_of_rule};
+ghost use Rattle.review.specs.Notes.{missing_lines, rule_note};
 ghost use Rattle.review.specs.Places.{text_at, text_by_rule};
 
 use crate::covers::put_rule;

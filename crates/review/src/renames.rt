@@ -1,8 +1,11 @@
 //! Which rules of a new policy say what a rule of the old one said under another name, which rules
 //! are gone, and which are new.
-ghost use Rattle.std.specs.Prelude.{◌≡◌, ◌<◌, ◌++◌, ◌&&◌, not, Some, IfOk, IfSome, OnOk, length, slice_get};
+ghost use Rattle.std.specs.Prelude.{◌≡◌, ◌<◌, ◌++◌, ◌&&◌, not, Some, IfOk, IfSome, OnOk, length};
+ghost use Rattle.std.specs.Prelude.{slice_get};
 ghost use Rattle.std.specs.List.{list_any, position};
-ghost use Rattle.review.specs.Renames.{exchanged_text, has_rule, is_line, is_unmatched, renamed_from, renamed_line, renamed_text, said_before, same_effect, says_same, unmatched_line, was_line, was_words};
+ghost use Rattle.review.specs.Renames.{exchanged_text, has_rule, is_line, is_unmatched};
+ghost use Rattle.review.specs.Renames.{renamed_from, renamed_line, renamed_text, said_before};
+ghost use Rattle.review.specs.Renames.{same_effect, says_same, unmatched_line, was_line, was_words};
 ghost use Rattle.review.specs.Places.{text_at, text_by_rule};
 
 use crate::covers::{put_rule, rule_covers};

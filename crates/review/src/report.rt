@@ -1,6 +1,8 @@
 //! What a review prints.
 ghost use Rattle.std.specs.Prelude.{◌≡◌, ◌++◌, IfOk, OnOk};
-ghost use Rattle.review.specs.Review.{against_text, change_text, changes_of, chosen, classes_of, clerks_of, has_lines, is_narrow, maildrops_of, missing_text, plain_text, review_text, rules_text, stored_text, who_text};
+ghost use Rattle.review.specs.Review.{against_text, change_text, changes_of, chosen, classes_of};
+ghost use Rattle.review.specs.Review.{clerks_of, has_lines, is_narrow, maildrops_of, missing_text};
+ghost use Rattle.review.specs.Review.{plain_text, review_text, rules_text, stored_text, who_text};
 ghost use Rattle.review.specs.declared.rows.Format.TheVariants.{Csv};
 ghost use Rattle.review.specs.Differences.{questions};
 ghost use Rattle.review.specs.Questions.{columns};

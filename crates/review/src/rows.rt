@@ -4,7 +4,8 @@ ghost use Rattle.std.specs.List.{flat_map};
 ghost use Rattle.review.specs.Differences.{questions};
 ghost use Rattle.review.specs.Questions.{columns};
 ghost use Rattle.review.specs.Steps.{answers_clerk, answers_column, answers_maildrop};
-ghost use Rattle.review.specs.Table.{answer_line, answers_text, column_fields, csv_decision, csv_line, csv_question, plain_line};
+ghost use Rattle.review.specs.Table.{answer_line, answers_text, column_fields, csv_decision};
+ghost use Rattle.review.specs.Table.{csv_line, csv_question, plain_line};
 
 use crate::changes::{Names, effect_word, put_decision, put_question};
 use crate::label::{Label, label_bytes, put};
@@ -201,8 +202,8 @@ pub(crate) fn put_answers(
 
 /// Who may do what by the policy: a line for each clerk, maildrop, class and action, in the order
 /// of the names, with the rule that decides. As CSV its fields are the clerk, the maildrop, the
-/// class, which to open is none, the action, `allow` or `deny`, and the rule; no field needs quotes.
-/// An `Err` is want of memory.
+/// class, which to open is none, the action, `allow` or `deny`, and the rule; no field needs
+/// quotes. An `Err` is want of memory.
 pub fn answers(
     alloc: Global,
     policy: &Policy,

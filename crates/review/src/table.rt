@@ -2,7 +2,9 @@
 ghost use Rattle.std.specs.Prelude.{◌≡◌, ◌++◌, [], IfOk, OnOk, map};
 ghost use Rattle.std.specs.List.{flat_map, list_any};
 ghost use Rattle.review.specs.Steps.{cells, marks_among, row_among, table_among};
-ghost use Rattle.review.specs.Table.{also, class_cell, class_name, class_width, class_words, line_text, lines_text, mark, padded, same_marks, spaces, table_head, tables_text};
+ghost use Rattle.review.specs.Table.{also, class_cell, class_name, class_width, class_words};
+ghost use Rattle.review.specs.Table.{line_text, lines_text, mark, padded, same_marks, spaces};
+ghost use Rattle.review.specs.Table.{table_head, tables_text};
 
 use crate::changes::Names;
 use crate::label::{Label, label_bytes, put};

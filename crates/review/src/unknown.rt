@@ -2,7 +2,8 @@
 ghost use Rattle.std.specs.Prelude.{◌≡◌, ◌++◌, OnOk};
 ghost use Rattle.std.specs.List.{list_any};
 ghost use Rattle.review.specs.Names.{is_of};
-ghost use Rattle.review.specs.Review.{chosen_note, name_note, unknown_names, unknown_note, unknown_text};
+ghost use Rattle.review.specs.Review.{chosen_note, name_note, unknown_names, unknown_note};
+ghost use Rattle.review.specs.Review.{unknown_text};
 
 use crate::choice::Choice;
 use crate::label::{Label, put};

@@ -23,7 +23,13 @@ fn first_dot(text: &[u8]) -> Option<usize>
 
 impl FileName {
     ghost use Rattle.std.specs.Prelude.{◌≡◌, IfOk, string_bytes};
-    ghost use Rattle.serving.specs.FileNames.{file_name_of, with_class as with_class_of, with_id as with_id_of, text_of};
+    ghost use Rattle.serving.specs.FileNames.{
+      file_name_of,
+      with_class as with_class_of,
+      with_id as
+          with_id_of,
+      text_of,
+    };
 
     /// The name that a text is; `None` where it isn't of the form.
     #[tactic(auto, unfolding(crate::specs::FileNames::file_name_of))]

@@ -43,7 +43,9 @@ fn disposal_by(outcome: Outcome) -> Disposal
 fn try_file<V: Vault, S: Spool>(office: &mut Office<V>, spool: &mut S, name: &FileName) -> bool
     ensures works { SpoolPart V.holds V.is_clean V.faults S.asked office.old spool.old office.new
         spool.new (λ T given calls. IsTrying name.now T given calls × (result ≡ has_dealt calls)) }
-    ensures tried { (T : Trace) (acts : List FileAct) → StandsFor V.holds office.old T → S.tells spool.old acts → V.is_clean (vault_of office.new) → IsTried V.holds S.tells T acts office.new spool.new }
+    ensures tried { (T : Trace) (acts : List FileAct) → StandsFor V.holds office.old T
+        → S.tells spool.old acts → V.is_clean (vault_of office.new)
+        → IsTried V.holds S.tells T acts office.new spool.new }
     ensures clean { V.is_clean (vault_of office.new) → V.is_clean (vault_of office.old) }
 {
     let Some(text) = spool.read(name) else {
@@ -67,7 +69,9 @@ pub(crate) fn serve_spool<V: Vault, S: Spool>(
     ensures works { SpoolPart V.holds V.is_clean V.faults S.asked office.old spool.old office.new
         spool.new (λ T given calls. IsSpoolTurn links.old.last links.new.last T given calls ×
         (links.new.presses ≡ (links.old.presses || has_dealt calls))) }
-    ensures tried { (T : Trace) (acts : List FileAct) → StandsFor V.holds office.old T → S.tells spool.old acts → V.is_clean (vault_of office.new) → IsTried V.holds S.tells T acts office.new spool.new }
+    ensures tried { (T : Trace) (acts : List FileAct) → StandsFor V.holds office.old T
+        → S.tells spool.old acts → V.is_clean (vault_of office.new)
+        → IsTried V.holds S.tells T acts office.new spool.new }
     ensures clean { V.is_clean (vault_of office.new) → V.is_clean (vault_of office.old) }
     ensures seats { links.new.seats ≡ links.old.seats }
     ensures newcomers { links.new.newcomers ≡ links.old.newcomers }

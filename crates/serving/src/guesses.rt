@@ -1,9 +1,12 @@
 //! Logins that were refused: which addresses they came from, and until when the next login from
 //! there is kept back.
-ghost use Rattle.std.specs.Prelude.{◌≡◌, option_copied, ◌++◌, ◌∷◌, [], is_ok, false, ⊤, if◌then◌else◌};
+ghost use Rattle.std.specs.Prelude.{◌≡◌, option_copied, ◌++◌, ◌∷◌, [], is_ok, false, ⊤};
+ghost use Rattle.std.specs.Prelude.{if◌then◌else◌};
 ghost use Rattle.std.specs.Net.Addr.{MatchIp, ipv4_bits, ipv6_segments, IsCanonicalOf};
 ghost use Rattle.std.specs.declared.net.ip_addr.IpAddr as declared;
-ghost use Rattle.serving.specs.Guesses.{network, origin as origin_by, refusal_of, without, holds_back, next_seconds as seconds_behind, with_room, one_more};
+ghost use Rattle.serving.specs.Guesses.{network, origin as origin_by, refusal_of, without};
+ghost use Rattle.serving.specs.Guesses.{holds_back, next_seconds as seconds_behind, with_room};
+ghost use Rattle.serving.specs.Guesses.{one_more};
 
 use std::alloc::{AllocError, Global};
 use std::net::{IpAddr, Ipv6Addr};
@@ -55,7 +58,8 @@ fn canonical_origin(address: &IpAddr) -> u64
 /// all that begin with them.
 pub(crate) fn origin_of(address: &IpAddr) -> u64
     ensures four { MatchIp address.now (λ a. result ≡ ipv4_bits a) (λ _. ⊤) }
-    ensures six { MatchIp address.now (λ _. ⊤) (λ a. (c : declared.IpAddr) × IsCanonicalOf a c × (result ≡ origin_by c)) }
+    ensures six { MatchIp address.now (λ _. ⊤)
+        (λ a. (c : declared.IpAddr) × IsCanonicalOf a c × (result ≡ origin_by c)) }
 {
     canonical_origin(&address.to_canonical())
 }
@@ -141,7 +145,9 @@ impl Guesses {
     /// forgotten then.
     pub(crate) fn refuse(&mut self, origin: u64, now: u64) -> Result<(), AllocError>
         ensures slow { self.new.are_slow ≡ self.old.are_slow }
-        ensures refusals { self.new.refusals.items ≡ with_room (without origin self.old.refusals.items) ++ (if is_ok result then one_more now origin self.old.refusals.items ∷ [] else []) }
+        ensures refusals { self.new.refusals.items
+            ≡ with_room (without origin self.old.refusals.items)
+            ++ (if is_ok result then one_more now origin self.old.refusals.items ∷ [] else []) }
     {
         let seconds = next_seconds(self.last(origin), now);
         self.forget(origin);

@@ -1,6 +1,7 @@
 //! The open links, each with its connection.
 ghost use Rattle.std.specs.Prelude.{◌≡◌, ◌||◌, [], min};
-ghost use Rattle.serving.specs.Settings.{settings, settings_of, none_set, with_wait, with_login_seconds, with_slow_guesses};
+ghost use Rattle.serving.specs.Settings.{settings, settings_of, none_set, with_wait};
+ghost use Rattle.serving.specs.Settings.{with_login_seconds, with_slow_guesses};
 
 use crate::file_name::FileName;
 use crate::guesses::Guesses;
@@ -66,9 +67,11 @@ impl Links {
     /// its link was accepted so long ago and it hasn't logged in, its connection is ended and the
     /// link closed, at the end of a turn. Links begin with 0: the office's idle time alone counts.
     pub fn set_login_seconds(&mut self, seconds: u64)
-        ensures settings { settings self.new ≡ with_login_seconds (min seconds 600) (settings self.old) }
+        ensures settings { settings self.new ≡ with_login_seconds (min seconds 600)
+            (settings self.old) }
         ensures seconds { self.new.clients.newcomers.seconds ≡ min seconds 600 }
-        ensures newcomers { self.new.clients.newcomers.newcomers ≡ self.old.clients.newcomers.newcomers }
+        ensures newcomers { self.new.clients.newcomers.newcomers
+            ≡ self.old.clients.newcomers.newcomers }
         ensures seats { self.new.clients.seats ≡ self.old.clients.seats }
         ensures requests { self.new.requests ≡ self.old.requests }
     {

@@ -44,7 +44,9 @@ impl Newcomers {
     /// connection isn't noted then, and has all the time that the office gives.
     pub(crate) fn note(&mut self, connection: u64, now: u64) -> Result<(), AllocError>
         ensures seconds { self.new.seconds ≡ self.old.seconds }
-        ensures newcomers { self.new.newcomers.items ≡ noted (is_ok result && not (self.old.seconds == 0)) connection now self.old.newcomers.items }
+        ensures newcomers { self.new.newcomers.items
+            ≡ noted (is_ok result && not (self.old.seconds == 0)) connection now
+            self.old.newcomers.items }
     {
         if self.seconds == 0 {
             return Ok(());
@@ -73,7 +75,8 @@ impl Newcomers {
 
     /// Whether a connection hasn't logged in, and its seconds are over at this moment.
     pub(crate) fn is_late(&self, connection: u64, now: u64) -> bool
-        ensures { result ≡ is_late_by now self.now.seconds (newcomer connection self.now.newcomers.items) }
+        ensures { result ≡ is_late_by now self.now.seconds
+            (newcomer connection self.now.newcomers.items) }
     {
         match self.find(connection) {
             None => false,

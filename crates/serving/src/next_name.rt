@@ -1,7 +1,8 @@
 //! Which file of a spool is the next.
 ghost use Rattle.std.specs.Prelude.{◌≡◌, OnOk, option_map, string_bytes};
 ghost use Rattle.creds.specs.Names.{comes_before as precedes};
-ghost use Rattle.serving.specs.NextNames.{is_file as has_form, is_behind as follows, is_less as is_least, least_after};
+ghost use Rattle.serving.specs.NextNames.{is_file as has_form, is_behind as follows};
+ghost use Rattle.serving.specs.NextNames.{is_less as is_least, least_after};
 
 use crate::file_name::FileName;
 use std::alloc::{AllocError, Global};
@@ -57,7 +58,8 @@ fn keep_least(
     counts: bool,
     least: &mut Option<String>,
 ) -> Result<(), AllocError>
-    ensures { OnOk result (option_map string_bytes least.new ≡ least_after counts name.now (option_map string_bytes least.old)) }
+    ensures { OnOk result (option_map string_bytes least.new
+        ≡ least_after counts name.now (option_map string_bytes least.old)) }
 {
     if counts && is_less(name, least) {
         *least = Some(String::from_str(alloc, name)?);
@@ -89,7 +91,8 @@ impl NextName {
     /// Sees a name; one that isn't of the form is passed over. Its error is [`AllocError`], where
     /// memory was refused: don't ask for the next name then.
     pub(crate) fn see(&mut self, name: &str) -> Result<(), AllocError>
-        ensures { OnOk result ((last : Option TheName) (names : List (List ℕ)) → HasSeen last names self.old → HasSeen last (name.now ∷ names) self.new) }
+        ensures { OnOk result ((last : Option TheName) (names : List (List ℕ))
+            → HasSeen last names self.old → HasSeen last (name.now ∷ names) self.new) }
     {
         let counts = is_file(name);
         keep_least(self.alloc, name, counts, &mut self.least)?;
@@ -101,7 +104,8 @@ impl NextName {
     /// The next name of those seen: the least one greater than the last one, else the least of all;
     /// `None` where none was of the form.
     pub(crate) fn get(&self) -> Option<FileName>
-        ensures { (last : Option TheName) (names : List (List ℕ)) → HasSeen last names self.now → result ≡ next_of last names }
+        ensures { (last : Option TheName) (names : List (List ℕ)) → HasSeen last names self.now
+            → result ≡ next_of last names }
     {
         match (&self.behind, &self.least) {
             (Some(text), _) | (None, Some(text)) => FileName::read(text.as_bytes()),

@@ -1,5 +1,6 @@
 //! A spool that notes what the one inside does.
-ghost use Rattle.std.specs.Prelude.{◌≡◌, List, [], ◌∷◌, ◌++◌, MatchOption, option_map, if◌then◌else◌};
+ghost use Rattle.std.specs.Prelude.{◌≡◌, List, [], ◌∷◌, ◌++◌, MatchOption, option_map};
+ghost use Rattle.std.specs.Prelude.{if◌then◌else◌};
 ghost use Rattle.serving.specs.Spools.{FileAct, WasRead, WasRemoved, WasRenamed, FileCall};
 ghost use Rattle.serving.specs.Spools as call;
 ghost use Rattle.serving.specs.NotedFiles.{acts_of, call_of, tells_once, WasAsked};
@@ -37,7 +38,8 @@ fn asked_next(last: &Option<FileName>, next: &Option<FileName>) -> FileAsked
 
 /// Notes that a file was to be read, and its text where it was read.
 fn note_text(notes: &mut FileNotes, name: &FileName, text: &Option<Vec<u8>>)
-    ensures { notes.new.calls ≡ notes.old.calls ++ call.Read name.now (option_map (λ text. text.items) text.now) ∷ [] }
+    ensures { notes.new.calls ≡ notes.old.calls
+        ++ call.Read name.now (option_map (λ text. text.items) text.now) ∷ [] }
 {
     match text {
         Some(octets) => notes.note(&FileAsked::Read(*name), octets.as_slice()),
@@ -66,9 +68,12 @@ impl<S: Spool> Spool for NotedSpool<S> {
     ghost tells_once = { λ noted a b h k. tells_once noted.notes.calls a b h k };
 
     fn next_name(&mut self, last: &Option<FileName>) -> Option<FileName>
-        ensures told { (a : List FileAct) → a ≡ acts_of self.old.notes.calls → a ≡ acts_of self.new.notes.calls }
-        ensures called { (a : List FileCall) → a ≡ self.old.notes.calls → a ++ call.Next last.now result ∷ [] ≡ self.new.notes.calls }
-        ensures inside { WasAsked S.tells S.asked self.old.spool self.new.spool (call.Next last.now result) }
+        ensures told { (a : List FileAct) → a ≡ acts_of self.old.notes.calls
+            → a ≡ acts_of self.new.notes.calls }
+        ensures called { (a : List FileCall) → a ≡ self.old.notes.calls
+            → a ++ call.Next last.now result ∷ [] ≡ self.new.notes.calls }
+        ensures inside { WasAsked S.tells S.asked self.old.spool self.new.spool
+            (call.Next last.now result) }
     {
         let next = self.spool.next_name(last);
         self.notes.note(&asked_next(last, &next), &[]);
@@ -76,9 +81,14 @@ impl<S: Spool> Spool for NotedSpool<S> {
     }
 
     fn read(&mut self, name: &FileName) -> Option<Vec<u8>>
-        ensures told { (a : List FileAct) → a ≡ acts_of self.old.notes.calls → MatchOption result (a ≡ acts_of self.new.notes.calls) (λ text. a ++ WasRead name.now text.items ∷ [] ≡ acts_of self.new.notes.calls) }
-        ensures called { (a : List FileCall) → a ≡ self.old.notes.calls → a ++ call.Read name.now (option_map (λ text. text.items) result) ∷ [] ≡ self.new.notes.calls }
-        ensures inside { WasAsked S.tells S.asked self.old.spool self.new.spool (call.Read name.now (option_map (λ text. text.items) result)) }
+        ensures told { (a : List FileAct) → a ≡ acts_of self.old.notes.calls
+            → MatchOption result (a ≡ acts_of self.new.notes.calls)
+            (λ text. a ++ WasRead name.now text.items ∷ [] ≡ acts_of self.new.notes.calls) }
+        ensures called { (a : List FileCall) → a ≡ self.old.notes.calls
+            → a ++ call.Read name.now (option_map (λ text. text.items) result) ∷ []
+            ≡ self.new.notes.calls }
+        ensures inside { WasAsked S.tells S.asked self.old.spool self.new.spool
+            (call.Read name.now (option_map (λ text. text.items) result)) }
     {
         let text = self.spool.read(name);
         note_text(&mut self.notes, name, &text);
@@ -86,9 +96,12 @@ impl<S: Spool> Spool for NotedSpool<S> {
     }
 
     fn remove(&mut self, name: &FileName) -> bool
-        ensures told { (a : List FileAct) → a ≡ acts_of self.old.notes.calls → (if result then a ++ WasRemoved name.now ∷ [] else a) ≡ acts_of self.new.notes.calls }
-        ensures called { (a : List FileCall) → a ≡ self.old.notes.calls → a ++ call.Removed name.now result ∷ [] ≡ self.new.notes.calls }
-        ensures inside { WasAsked S.tells S.asked self.old.spool self.new.spool (call.Removed name.now result) }
+        ensures told { (a : List FileAct) → a ≡ acts_of self.old.notes.calls
+            → (if result then a ++ WasRemoved name.now ∷ [] else a) ≡ acts_of self.new.notes.calls }
+        ensures called { (a : List FileCall) → a ≡ self.old.notes.calls
+            → a ++ call.Removed name.now result ∷ [] ≡ self.new.notes.calls }
+        ensures inside { WasAsked S.tells S.asked self.old.spool self.new.spool
+            (call.Removed name.now result) }
     {
         let is_done = self.spool.remove(name);
         self.notes.note(&FileAsked::Remove(*name, is_done), &[]);
@@ -96,9 +109,12 @@ impl<S: Spool> Spool for NotedSpool<S> {
     }
 
     fn rename(&mut self, name: &FileName) -> bool
-        ensures told { (a : List FileAct) → a ≡ acts_of self.old.notes.calls → (if result then a ++ WasRenamed name.now ∷ [] else a) ≡ acts_of self.new.notes.calls }
-        ensures called { (a : List FileCall) → a ≡ self.old.notes.calls → a ++ call.Renamed name.now result ∷ [] ≡ self.new.notes.calls }
-        ensures inside { WasAsked S.tells S.asked self.old.spool self.new.spool (call.Renamed name.now result) }
+        ensures told { (a : List FileAct) → a ≡ acts_of self.old.notes.calls
+            → (if result then a ++ WasRenamed name.now ∷ [] else a) ≡ acts_of self.new.notes.calls }
+        ensures called { (a : List FileCall) → a ≡ self.old.notes.calls
+            → a ++ call.Renamed name.now result ∷ [] ≡ self.new.notes.calls }
+        ensures inside { WasAsked S.tells S.asked self.old.spool self.new.spool
+            (call.Renamed name.now result) }
     {
         let is_done = self.spool.rename(name);
         self.notes.note(&FileAsked::Rename(*name, is_done), &[]);

@@ -1,6 +1,7 @@
 //! A wire that notes what the one inside does.
 ghost use Rattle.std.specs.Prelude.{◌≡◌, List, [], ◌∷◌, ◌++◌, IfSome, length};
-ghost use Rattle.serving.specs.Wires.{ToldOfPorts, IsWithin, IsAccepted, at_port, counted, has_read, has_written, has_closed};
+ghost use Rattle.serving.specs.Wires.{ToldOfPorts, IsWithin, IsAccepted, at_port, counted};
+ghost use Rattle.serving.specs.Wires.{has_read, has_written, has_closed};
 ghost use Rattle.serving.specs.Calls.{Call};
 ghost use Rattle.serving.specs.Calls as call;
 ghost use Rattle.serving.specs.Counting.{count_at, counted_with};
@@ -43,7 +44,8 @@ impl<W: Wire> NotedWire<W> {
         ensures next { IfSome result (λ link. link.number ≡ count_at port self.old.counts) }
         ensures counts { self.new.counts ≡ counted_with port result self.old.counts }
         ensures notes { self.new.notes ≡ self.old.notes }
-        ensures inside { WasAskedFor W.tells W.asked port self.old.counts self.old.wire self.new.wire (call.Accepted port result) }
+        ensures inside { WasAskedFor W.tells W.asked port self.old.counts self.old.wire
+            self.new.wire (call.Accepted port result) }
     {
         let link = self.wire.accept(port)?;
         if !self.counts.count(port, link) {
@@ -62,8 +64,10 @@ impl<W: Wire> Wire for NotedWire<W> {
     ghost tells_once = { λ noted t u a b. tells_once noted.counts noted.notes.calls t u a b };
 
     fn wait(&mut self, millis: u32)
-        ensures told { (t : ToldOfPorts) → AreTold self.old.counts self.old.notes.calls t → AreTold self.new.counts self.new.notes.calls t }
-        ensures called { (a : List Call) → a ≡ self.old.notes.calls → a ++ call.Waited millis ∷ [] ≡ self.new.notes.calls }
+        ensures told { (t : ToldOfPorts) → AreTold self.old.counts self.old.notes.calls t
+            → AreTold self.new.counts self.new.notes.calls t }
+        ensures called { (a : List Call) → a ≡ self.old.notes.calls
+            → a ++ call.Waited millis ∷ [] ≡ self.new.notes.calls }
         ensures inside { WasAsked W.tells W.asked self.old.wire self.new.wire (call.Waited millis) }
     {
         self.wire.wait(millis);
@@ -71,9 +75,12 @@ impl<W: Wire> Wire for NotedWire<W> {
     }
 
     fn accept(&mut self, port: Port) -> Option<Link>
-        ensures told { (t : ToldOfPorts) → AreTold self.old.counts self.old.notes.calls t → IsAccepted (AreTold self.new.counts self.new.notes.calls) port t result }
-        ensures called { (a : List Call) → a ≡ self.old.notes.calls → a ++ call.Accepted port result ∷ [] ≡ self.new.notes.calls }
-        ensures inside { WasAskedFor W.tells W.asked port self.old.counts self.old.wire self.new.wire (call.Accepted port result) }
+        ensures told { (t : ToldOfPorts) → AreTold self.old.counts self.old.notes.calls t
+            → IsAccepted (AreTold self.new.counts self.new.notes.calls) port t result }
+        ensures called { (a : List Call) → a ≡ self.old.notes.calls
+            → a ++ call.Accepted port result ∷ [] ≡ self.new.notes.calls }
+        ensures inside { WasAskedFor W.tells W.asked port self.old.counts self.old.wire
+            self.new.wire (call.Accepted port result) }
     {
         let link = self.accept_next(port);
         self.notes.note(&Asked::Accept(port, link), &[]);
@@ -82,9 +89,13 @@ impl<W: Wire> Wire for NotedWire<W> {
 
     fn look(&mut self, port: Port, link: Link, buffer: &mut [u8]) -> Io
         ensures within { IsWithin (length buffer.old) result }
-        ensures told { (t : ToldOfPorts) → AreTold self.old.counts self.old.notes.calls t → AreTold self.new.counts self.new.notes.calls t }
-        ensures called { (a : List Call) → a ≡ self.old.notes.calls → a ++ call.Looked port link result (counted result buffer.new) ∷ [] ≡ self.new.notes.calls }
-        ensures inside { WasAsked W.tells W.asked self.old.wire self.new.wire (call.Looked port link result (counted result buffer.new)) }
+        ensures told { (t : ToldOfPorts) → AreTold self.old.counts self.old.notes.calls t
+            → AreTold self.new.counts self.new.notes.calls t }
+        ensures called { (a : List Call) → a ≡ self.old.notes.calls
+            → a ++ call.Looked port link result (counted result buffer.new) ∷ []
+            ≡ self.new.notes.calls }
+        ensures inside { WasAsked W.tells W.asked self.old.wire self.new.wire
+            (call.Looked port link result (counted result buffer.new)) }
     {
         let io = self.wire.look(port, link, buffer);
         self.notes.note(&Asked::Look(port, link, io), buffer);
@@ -93,9 +104,14 @@ impl<W: Wire> Wire for NotedWire<W> {
 
     fn read(&mut self, port: Port, link: Link, buffer: &mut [u8]) -> Io
         ensures within { IsWithin (length buffer.old) result }
-        ensures told { (t : ToldOfPorts) → AreTold self.old.counts self.old.notes.calls t → AreTold self.new.counts self.new.notes.calls (at_port port (λ of. has_read of link.number result (counted result buffer.new)) t) }
-        ensures called { (a : List Call) → a ≡ self.old.notes.calls → a ++ call.Read port link result (counted result buffer.new) ∷ [] ≡ self.new.notes.calls }
-        ensures inside { WasAsked W.tells W.asked self.old.wire self.new.wire (call.Read port link result (counted result buffer.new)) }
+        ensures told { (t : ToldOfPorts) → AreTold self.old.counts self.old.notes.calls t
+            → AreTold self.new.counts self.new.notes.calls
+            (at_port port (λ of. has_read of link.number result (counted result buffer.new)) t) }
+        ensures called { (a : List Call) → a ≡ self.old.notes.calls
+            → a ++ call.Read port link result (counted result buffer.new) ∷ []
+            ≡ self.new.notes.calls }
+        ensures inside { WasAsked W.tells W.asked self.old.wire self.new.wire
+            (call.Read port link result (counted result buffer.new)) }
     {
         let io = self.wire.read(port, link, buffer);
         self.notes.note(&Asked::Read(port, link, io), buffer);
@@ -104,9 +120,14 @@ impl<W: Wire> Wire for NotedWire<W> {
 
     fn write(&mut self, port: Port, link: Link, octets: &[u8]) -> Io
         ensures within { IsWithin (length octets.now) result }
-        ensures told { (t : ToldOfPorts) → AreTold self.old.counts self.old.notes.calls t → AreTold self.new.counts self.new.notes.calls (at_port port (λ of. has_written of link.number result (counted result octets.now)) t) }
-        ensures called { (a : List Call) → a ≡ self.old.notes.calls → a ++ call.Wrote port link result (counted result octets.now) ∷ [] ≡ self.new.notes.calls }
-        ensures inside { WasAsked W.tells W.asked self.old.wire self.new.wire (call.Wrote port link result (counted result octets.now)) }
+        ensures told { (t : ToldOfPorts) → AreTold self.old.counts self.old.notes.calls t
+            → AreTold self.new.counts self.new.notes.calls
+            (at_port port (λ of. has_written of link.number result (counted result octets.now)) t) }
+        ensures called { (a : List Call) → a ≡ self.old.notes.calls
+            → a ++ call.Wrote port link result (counted result octets.now) ∷ []
+            ≡ self.new.notes.calls }
+        ensures inside { WasAsked W.tells W.asked self.old.wire self.new.wire
+            (call.Wrote port link result (counted result octets.now)) }
     {
         let io = self.wire.write(port, link, octets);
         self.notes.note(&Asked::Write(port, link, io), octets);
@@ -118,9 +139,13 @@ impl<W: Wire> Wire for NotedWire<W> {
     }
 
     fn close(&mut self, port: Port, link: Link)
-        ensures told { (t : ToldOfPorts) → AreTold self.old.counts self.old.notes.calls t → AreTold self.new.counts self.new.notes.calls (at_port port (λ of. has_closed of link.number) t) }
-        ensures called { (a : List Call) → a ≡ self.old.notes.calls → a ++ call.Closed port link ∷ [] ≡ self.new.notes.calls }
-        ensures inside { WasAsked W.tells W.asked self.old.wire self.new.wire (call.Closed port link) }
+        ensures told { (t : ToldOfPorts) → AreTold self.old.counts self.old.notes.calls t
+            → AreTold self.new.counts self.new.notes.calls
+            (at_port port (λ of. has_closed of link.number) t) }
+        ensures called { (a : List Call) → a ≡ self.old.notes.calls
+            → a ++ call.Closed port link ∷ [] ≡ self.new.notes.calls }
+        ensures inside { WasAsked W.tells W.asked self.old.wire self.new.wire
+            (call.Closed port link) }
     {
         self.wire.close(port, link);
         self.notes.note(&Asked::Close(port, link), &[]);

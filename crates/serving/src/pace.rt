@@ -102,7 +102,8 @@ fn is_held_back<V: Vault>(
     wait: u64,
     pace: Pace,
 ) -> bool
-    ensures { (T : Trace) → StandsFor V.holds office.now T → result ≡ is_held T connection piece.now wait pace }
+    ensures { (T : Trace) → StandsFor V.holds office.now T
+        → result ≡ is_held T connection piece.now wait pace }
 {
     if office.waits(connection, piece, wait) {
         return true;
@@ -141,8 +142,11 @@ fn part_of_piece<V: Vault>(
     pace: Pace,
 ) -> usize
     requires { length piece.now ≤ 4096 }
-    ensures part { (T : Trace) → StandsFor V.holds office.now T → result ≡ part_by (is_held T connection piece.now wait pace) (is_free_by pace) 4096 piece.now }
-    ensures held { result ≡ 0 → 0 < length piece.now → (T : Trace) → StandsFor V.holds office.now T → is_held T connection piece.now wait pace ≡ true }
+    ensures part { (T : Trace) → StandsFor V.holds office.now T
+        → result ≡ part_by (is_held T connection piece.now wait pace) (is_free_by pace) 4096
+        piece.now }
+    ensures held { result ≡ 0 → 0 < length piece.now → (T : Trace) → StandsFor V.holds office.now T
+        → is_held T connection piece.now wait pace ≡ true }
     ensures most { result ≤ 4096 }
 {
     if is_held_back(office, connection, piece, wait, pace) {
@@ -164,9 +168,12 @@ pub(crate) fn next_part<V: Vault, W: Wire>(
     pace: Pace,
 ) -> usize
     ensures told { (t : ToldOfPorts) → W.tells wire.old t → W.tells wire.new t }
-    ensures works { Asking W.asked wire.old wire.new (HasLooked V.holds office.now seat wait pace result) }
+    ensures works { Asking W.asked wire.old wire.new
+        (HasLooked V.holds office.now seat wait pace result) }
     ensures most { result ≤ 4096 }
-    ensures held { result ≡ 0 → (piece : List ℕ) × ((T : Trace) → StandsFor V.holds office.now T → is_held T seat.connection piece wait pace ≡ true) }
+    ensures held { result ≡ 0 → (piece : List ℕ)
+        × ((T : Trace) → StandsFor V.holds office.now T
+        → is_held T seat.connection piece wait pace ≡ true) }
     ensures all { wait ≡ 0 → is_free_by pace ≡ true → result ≡ 4096 }
     ensures alone { wait ≡ 0 → is_free_by pace ≡ true → wire.new ≡ wire.old }
 {

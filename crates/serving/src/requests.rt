@@ -116,9 +116,11 @@ impl Requests {
     /// Keeps a link that was accepted, unless eight are open or memory is short. Whether it is
     /// kept.
     fn keep(&mut self, link: Link, now: u64) -> bool
-        ensures kept { result ≡ true → HasOneMore now link self.old.exchanges.items self.new.exchanges.items }
+        ensures kept { result ≡ true → HasOneMore now link self.old.exchanges.items
+            self.new.exchanges.items }
         ensures refused { result ≡ false → self.new.exchanges.items ≡ self.old.exchanges.items }
-        ensures few { length self.old.exchanges.items ≤ most_exchanges → length self.new.exchanges.items ≤ most_exchanges }
+        ensures few { length self.old.exchanges.items ≤ most_exchanges
+            → length self.new.exchanges.items ≤ most_exchanges }
     {
         if self.exchanges.len() >= MOST_REQUESTS {
             return false;
@@ -137,7 +139,8 @@ impl Requests {
 
 /// The response of these octets; where there was no memory for them, the one for want of memory.
 fn made(octets: Result<Vec<u8>, AllocError>) -> Response
-    ensures { (wanted : List ℕ) → IfOk octets (λ made. made.items ≡ wanted) → (octets_of result ≡ wanted) ⊎ (octets_of result ≡ refusal_response OutOfMemory) }
+    ensures { (wanted : List ℕ) → IfOk octets (λ made. made.items ≡ wanted)
+        → (octets_of result ≡ wanted) ⊎ (octets_of result ≡ refusal_response OutOfMemory) }
 {
     match octets {
         Ok(octets) => Response::Made(octets),
@@ -158,8 +161,13 @@ fn response_to(alloc: Global, outcome: &Outcome) -> Response
 
 /// Gives a command to the office, and makes the response.
 fn command<V: Vault>(alloc: Global, office: &mut Office<V>, command: &AdminCommand) -> Response
-    ensures works { (read : List ℕ) → IsRequest read (Ok (command_seen command.now)) → GivesApart V.holds V.is_clean V.faults office.old office.new (ComeTo read (Some (octets_of result))) }
-    ensures asked { (B : Records) (L : Log) (read : List ℕ) → StandsFor V.holds office.old (trace_of B L) → IsRequest read (Ok (command_seen command.now)) → V.is_clean (vault_of office.new) → HasAsked V.holds B L read office.new (Some (octets_of result)) }
+    ensures works { (read : List ℕ) → IsRequest read (Ok (command_seen command.now))
+        → GivesApart V.holds V.is_clean V.faults office.old office.new
+        (ComeTo read (Some (octets_of result))) }
+    ensures asked { (B : Records) (L : Log) (read : List ℕ)
+        → StandsFor V.holds office.old (trace_of B L)
+        → IsRequest read (Ok (command_seen command.now)) → V.is_clean (vault_of office.new)
+        → HasAsked V.holds B L read office.new (Some (octets_of result)) }
     ensures clean { V.is_clean (vault_of office.new) → V.is_clean (vault_of office.old) }
 {
     let outcome = office.step(Event::Admin(command));
@@ -169,8 +177,11 @@ fn command<V: Vault>(alloc: Global, office: &mut Office<V>, command: &AdminComma
 /// The response to what was read of a request; `None` while the request isn't whole. A command is
 /// given to the office.
 fn ask<V: Vault>(alloc: Global, office: &mut Office<V>, read: &[u8]) -> Option<Response>
-    ensures works { GivesApart V.holds V.is_clean V.faults office.old office.new (ComeTo read.now (option_map octets_of result)) }
-    ensures asked { (B : Records) (L : Log) → StandsFor V.holds office.old (trace_of B L) → V.is_clean (vault_of office.new) → HasAsked V.holds B L read.now office.new (option_map octets_of result) }
+    ensures works { GivesApart V.holds V.is_clean V.faults office.old office.new
+        (ComeTo read.now (option_map octets_of result)) }
+    ensures asked { (B : Records) (L : Log) → StandsFor V.holds office.old (trace_of B L)
+        → V.is_clean (vault_of office.new) → HasAsked V.holds B L read.now office.new
+        (option_map octets_of result) }
     ensures clean { V.is_clean (vault_of office.new) → V.is_clean (vault_of office.old) }
 {
     match Request::read(alloc, read) {
@@ -189,10 +200,15 @@ fn take_piece<V: Vault>(
     exchange: &mut Exchange,
     piece: &[u8],
 )
-    ensures works { GivesApart V.holds V.is_clean V.faults office.old office.new (ComeTo (exchange.old.read.items ++ piece.now) (response_of exchange.new)) }
-    ensures asked { (B : Records) (L : Log) → StandsFor V.holds office.old (trace_of B L) → V.is_clean (vault_of office.new) → HasAsked V.holds B L (exchange.old.read.items ++ piece.now) office.new (option_map octets_of exchange.new.response) }
+    ensures works { GivesApart V.holds V.is_clean V.faults office.old office.new
+        (ComeTo (exchange.old.read.items ++ piece.now) (response_of exchange.new)) }
+    ensures asked { (B : Records) (L : Log) → StandsFor V.holds office.old (trace_of B L)
+        → V.is_clean (vault_of office.new) → HasAsked V.holds B L
+        (exchange.old.read.items ++ piece.now) office.new
+        (option_map octets_of exchange.new.response) }
     ensures clean { V.is_clean (vault_of office.new) → V.is_clean (vault_of office.old) }
-    ensures read { IfNone exchange.new.response (exchange.new.read.items ≡ exchange.old.read.items ++ piece.now) }
+    ensures read { IfNone exchange.new.response
+        (exchange.new.read.items ≡ exchange.old.read.items ++ piece.now) }
     ensures link { exchange.new.link ≡ exchange.old.link }
     ensures since { exchange.new.since ≡ exchange.old.since }
     ensures written { exchange.new.written ≡ exchange.old.written }
@@ -213,8 +229,10 @@ fn hear<V: Vault, W: Wire>(
     wire: &mut W,
     exchange: &mut Exchange,
 )
-    ensures works { DoesApart V.holds V.is_clean V.faults W.asked office.old wire.old office.new wire.new (λ B L. HasHeard B L exchange.old exchange.new) }
-    ensures asked { StillAsked V.holds V.is_clean W.tells office.old wire.old exchange.old office.new wire.new exchange.new }
+    ensures works { DoesApart V.holds V.is_clean V.faults W.asked office.old wire.old office.new
+        wire.new (λ B L. HasHeard B L exchange.old exchange.new) }
+    ensures asked { StillAsked V.holds V.is_clean W.tells office.old wire.old exchange.old
+        office.new wire.new exchange.new }
     ensures clean { V.is_clean (vault_of office.new) → V.is_clean (vault_of office.old) }
     ensures link { exchange.new.link ≡ exchange.old.link }
     ensures since { exchange.new.since ≡ exchange.old.since }
@@ -236,7 +254,9 @@ fn hear<V: Vault, W: Wire>(
 /// Writes once of a response. How many octets were taken. The exchange is over where nothing is
 /// left, or the link is broken.
 fn tell_once<W: Wire>(wire: &mut W, exchange: &mut Exchange) -> usize
-    ensures works { AsksApart W.asked wire.old wire.new (Tells exchange.old exchange.new (if result == 0 then 0 else 1) result (not (result == 0))) }
+    ensures works { AsksApart W.asked wire.old wire.new
+        (Tells exchange.old exchange.new (if result == 0 then 0 else 1) result
+        (not (result == 0))) }
     ensures since { exchange.new.since ≡ exchange.old.since }
     ensures answers { StillAnswers W.tells wire.old exchange.old wire.new exchange.new }
     ensures link { exchange.new.link ≡ exchange.old.link }
@@ -304,7 +324,8 @@ fn serve_exchange<V: Vault, W: Wire>(
         office.old wire.old office.new wire.new
         (Also (DidApart V.holds V.is_clean office.old office.new
         (λ B L. HasHttpTurn now B L exchange.old exchange.new)) (PressedBy false result)) }
-    ensures asked { StillAsked V.holds V.is_clean W.tells office.old wire.old exchange.old office.new wire.new exchange.new }
+    ensures asked { StillAsked V.holds V.is_clean W.tells office.old wire.old exchange.old
+        office.new wire.new exchange.new }
     ensures clean { V.is_clean (vault_of office.new) → V.is_clean (vault_of office.old) }
     ensures link { exchange.new.link ≡ exchange.old.link }
     ensures since { exchange.new.since ≡ exchange.old.since }
@@ -332,11 +353,15 @@ fn serve_place<V: Vault, W: Wire>(
         (Also (DidApart V.holds V.is_clean office.old office.new
         (HadTurnAt now place result requests.old.exchanges.items requests.new.exchanges.items))
         (PressedBy requests.old.presses requests.new.presses)) }
-    ensures asked { AllStillAsked V.holds V.is_clean W.tells office.old wire.old requests.old.exchanges.items office.new wire.new requests.new.exchanges.items }
+    ensures asked { AllStillAsked V.holds V.is_clean W.tells office.old wire.old
+        requests.old.exchanges.items office.new wire.new requests.new.exchanges.items }
     ensures clean { V.is_clean (vault_of office.new) → V.is_clean (vault_of office.old) }
-    ensures left { length requests.new.exchanges.items + (if result then 0 else 1) ≡ length requests.old.exchanges.items }
-    ensures before { take place requests.new.exchanges.items ≡ take place requests.old.exchanges.items }
-    ensures behind { drop (if result then place + 1 else place) requests.new.exchanges.items ≡ drop (place + 1) requests.old.exchanges.items }
+    ensures left { length requests.new.exchanges.items + (if result then 0 else 1)
+        ≡ length requests.old.exchanges.items }
+    ensures before { take place requests.new.exchanges.items
+        ≡ take place requests.old.exchanges.items }
+    ensures behind { drop (if result then place + 1 else place) requests.new.exchanges.items
+        ≡ drop (place + 1) requests.old.exchanges.items }
     ensures stays { result ≡ true → GoesOnAt now requests.new.exchanges.items place }
 {
     let exchange = &mut requests.exchanges[place];
@@ -362,7 +387,8 @@ pub(crate) fn serve_requests<V: Vault, W: Wire>(
         (Also (DidApart V.holds V.is_clean office.old office.new
         (λ B L. HadHttpTurns now B L requests.old.exchanges.items requests.new.exchanges.items))
         (PressedBy false requests.new.presses)) }
-    ensures asked { AllStillAsked V.holds V.is_clean W.tells office.old wire.old requests.old.exchanges.items office.new wire.new requests.new.exchanges.items }
+    ensures asked { AllStillAsked V.holds V.is_clean W.tells office.old wire.old
+        requests.old.exchanges.items office.new wire.new requests.new.exchanges.items }
     ensures clean { V.is_clean (vault_of office.new) → V.is_clean (vault_of office.old) }
     ensures stay { TheseGoOn now requests.new.exchanges.items }
     ensures no_more { length requests.new.exchanges.items ≤ length requests.old.exchanges.items }
@@ -379,9 +405,12 @@ pub(crate) fn serve_requests<V: Vault, W: Wire>(
 /// Accepts a link of the administration; or closes it, where eight are open or memory is short.
 /// Whether one came.
 fn accept_request<W: Wire>(wire: &mut W, requests: &mut Requests, now: u64) -> bool
-    ensures few { length requests.old.exchanges.items ≤ most_exchanges → length requests.new.exchanges.items ≤ most_exchanges }
-    ensures works { AsksApart W.asked wire.old wire.new (HasAcceptedBeside now 1 result requests.old.exchanges.items requests.new.exchanges.items) }
-    ensures answers { AllStillAnswer W.tells wire.old requests.old.exchanges.items wire.new requests.new.exchanges.items }
+    ensures few { length requests.old.exchanges.items ≤ most_exchanges
+        → length requests.new.exchanges.items ≤ most_exchanges }
+    ensures works { AsksApart W.asked wire.old wire.new
+        (HasAcceptedBeside now 1 result requests.old.exchanges.items requests.new.exchanges.items) }
+    ensures answers { AllStillAnswer W.tells wire.old requests.old.exchanges.items wire.new
+        requests.new.exchanges.items }
 {
     let Some(link) = wire.accept(Port::Admin) else {
         return false;
@@ -395,9 +424,13 @@ fn accept_request<W: Wire>(wire: &mut W, requests: &mut Requests, now: u64) -> b
 
 /// Accepts the links of the administration that came, at most so many.
 pub(crate) fn accept_requests<W: Wire>(wire: &mut W, requests: &mut Requests, most: usize, now: u64)
-    ensures few { length requests.old.exchanges.items ≤ most_exchanges → length requests.new.exchanges.items ≤ most_exchanges }
-    ensures works { (goes : Bool) × AsksApart W.asked wire.old wire.new (HasAcceptedBeside now most goes requests.old.exchanges.items requests.new.exchanges.items) }
-    ensures answers { AllStillAnswer W.tells wire.old requests.old.exchanges.items wire.new requests.new.exchanges.items }
+    ensures few { length requests.old.exchanges.items ≤ most_exchanges
+        → length requests.new.exchanges.items ≤ most_exchanges }
+    ensures works { (goes : Bool) × AsksApart W.asked wire.old wire.new
+        (HasAcceptedBeside now most goes requests.old.exchanges.items
+        requests.new.exchanges.items) }
+    ensures answers { AllStillAnswer W.tells wire.old requests.old.exchanges.items wire.new
+        requests.new.exchanges.items }
 {
     for _times in 0..most {
         if !accept_request(wire, requests, now) {

@@ -1,6 +1,8 @@
 //! Links in memory, of one port of a wire.
-ghost use Rattle.std.specs.Prelude.{◌≡◌, ℕ, List, ◌<◌, ◌≤◌, ◌++◌, ◌||◌, true, false, [], length, take, drop, MatchOption};
-ghost use Rattle.serving.specs.Wires.{Told, IsWithin, counted, has_accepted, has_read, has_written, has_closed, is_fault};
+ghost use Rattle.std.specs.Prelude.{◌≡◌, ℕ, List, ◌<◌, ◌≤◌, ◌++◌, ◌||◌, true, false, [], length};
+ghost use Rattle.std.specs.Prelude.{take, drop, MatchOption};
+ghost use Rattle.serving.specs.Wires.{Told, IsWithin, counted, has_accepted, has_read, has_written};
+ghost use Rattle.serving.specs.Wires.{has_closed, is_fault};
 ghost use Rattle.serving.specs.Scripts.{TellsOf, taken_of};
 
 use crate::octets::rest_of;
@@ -89,7 +91,10 @@ impl ScriptLinks {
 
     /// The next link that came.
     pub(crate) fn accept(&mut self, alloc: Global) -> Option<Link>
-        ensures { (t : Told) → TellsOf self.old.accepted.items self.old.strayed t → MatchOption result (TellsOf self.new.accepted.items self.new.strayed t) (λ link. (link.number ≡ t.accepted) × TellsOf self.new.accepted.items self.new.strayed (has_accepted t)) }
+        ensures { (t : Told) → TellsOf self.old.accepted.items self.old.strayed t
+            → MatchOption result (TellsOf self.new.accepted.items self.new.strayed t)
+            (λ link. (link.number ≡ t.accepted) × TellsOf self.new.accepted.items self.new.strayed
+            (has_accepted t)) }
     {
         let number = u64::try_from(self.accepted.len()).ok()?;
         if self.accepted.reserve(1).is_err() {
@@ -118,7 +123,9 @@ impl ScriptLinks {
         buffer: &mut [u8],
     ) -> Io
         ensures within { IsWithin (length buffer.old) result }
-        ensures told { (t : Told) → TellsOf self.old.accepted.items self.old.strayed t → TellsOf self.new.accepted.items self.new.strayed (has_read t link.number result (counted result buffer.new)) }
+        ensures told { (t : Told) → TellsOf self.old.accepted.items self.old.strayed t
+            → TellsOf self.new.accepted.items self.new.strayed
+            (has_read t link.number result (counted result buffer.new)) }
     {
         let Some(place) = place_of(self.accepted.as_slice(), link) else {
             self.strayed = true;
@@ -147,7 +154,9 @@ impl ScriptLinks {
         octets: &[u8],
     ) -> Io
         ensures within { IsWithin (length octets.now) result }
-        ensures told { (t : Told) → TellsOf self.old.accepted.items self.old.strayed t → TellsOf self.new.accepted.items self.new.strayed (has_written t link.number result (counted result octets.now)) }
+        ensures told { (t : Told) → TellsOf self.old.accepted.items self.old.strayed t
+            → TellsOf self.new.accepted.items self.new.strayed
+            (has_written t link.number result (counted result octets.now)) }
     {
         let Some(place) = place_of(self.accepted.as_slice(), link) else {
             self.strayed = true;
@@ -159,7 +168,8 @@ impl ScriptLinks {
 
     /// Closes a link.
     pub(crate) fn close(&mut self, link: Link)
-        ensures { (t : Told) → TellsOf self.old.accepted.items self.old.strayed t → TellsOf self.new.accepted.items self.new.strayed (has_closed t link.number) }
+        ensures { (t : Told) → TellsOf self.old.accepted.items self.old.strayed t
+            → TellsOf self.new.accepted.items self.new.strayed (has_closed t link.number) }
     {
         if let Some(place) = place_of(self.accepted.as_slice(), link) {
             shut(&mut self.accepted[place]);
@@ -289,7 +299,8 @@ fn shut(link: &mut ScriptLink)
 
 /// Where a link is kept.
 fn place_of(accepted: &[ScriptLink], link: Link) -> Option<usize>
-    ensures { MatchOption result (length accepted.now ≤ link.number) (λ place. (place < length accepted.now) × (place ≡ link.number)) }
+    ensures { MatchOption result (length accepted.now ≤ link.number)
+        (λ place. (place < length accepted.now) × (place ≡ link.number)) }
 {
     let place = usize::try_from(link.number).ok()?;
     if place < accepted.len() {

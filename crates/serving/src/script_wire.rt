@@ -32,7 +32,9 @@ impl ScriptWire {
     /// No link was accepted. Those that wait come the last one first; each read and each write
     /// moves at most `piece` octets.
     pub fn new(alloc: Global, waiting: Vec<Vec<u8>>, piece: usize) -> ScriptWire
-        ensures fresh { (t : ToldOfPorts) → TellsOf result.clients.accepted.items result.clients.strayed t.pop → TellsOf result.requests.accepted.items result.requests.strayed t.admin → AreFresh t }
+        ensures fresh { (t : ToldOfPorts) → TellsOf result.clients.accepted.items
+            result.clients.strayed t.pop → TellsOf result.requests.accepted.items
+            result.requests.strayed t.admin → AreFresh t }
     {
         ScriptWire {
             alloc,
@@ -153,11 +155,17 @@ impl ScriptWire {
 }
 
 impl Wire for ScriptWire {
-    ghost tells = { λ wire t. TellsOf wire.clients.accepted.items wire.clients.strayed t.pop × TellsOf wire.requests.accepted.items wire.requests.strayed t.admin };
+    ghost tells = { λ wire t. TellsOf wire.clients.accepted.items wire.clients.strayed t.pop
+        × TellsOf wire.requests.accepted.items wire.requests.strayed t.admin };
 
     ghost asked = { λ _ _. ⊥ };
 
-    ghost tells_once = { λ wire t u a b. (tells_once wire.clients.accepted.items wire.clients.strayed t.pop u.pop a.0 b.0, tells_once wire.requests.accepted.items wire.requests.strayed t.admin u.admin a.1 b.1) };
+    ghost tells_once = { λ wire t u a b. (
+      tells_once wire.clients.accepted.items
+          wire.clients.strayed t.pop u.pop a.0 b.0,
+      tells_once wire.requests.accepted.items
+          wire.requests.strayed t.admin u.admin a.1 b.1,
+    ) };
 
     fn wait(&mut self, millis: u32) {
         self.waited = millis;

@@ -36,7 +36,10 @@ pub fn begin_noted<V: Vault, W: Wire, S: Spool>(
     wire: W,
     spool: S,
 ) -> Server<W, S>
-    ensures serves { (T : Trace) → StandsFor V.holds office.now T → AreAdmitted T → ((c : ℕ) → is_open T c ≡ false) → Serves V.holds ⟦<NotedWire<W> as Wire>⟧.tells ⟦<NotedSpool<S> as Spool>⟧.tells T office.now result.wire result.spool result.links.clients.seats.items result.links.requests.exchanges.items }
+    ensures serves { (T : Trace) → StandsFor V.holds office.now T → AreAdmitted T
+        → ((c : ℕ) → is_open T c ≡ false) → Serves V.holds ⟦<NotedWire<W> as Wire>⟧.tells
+        ⟦<NotedSpool<S> as Spool>⟧.tells T office.now result.wire result.spool
+        result.links.clients.seats.items result.links.requests.exchanges.items }
     ensures few { AreFew result.links }
     ensures short { AreShort result.links }
     ensures settings { settings result.links ≡ none_set }

@@ -261,7 +261,8 @@ impl Place {
     /// Reads the octets that were looked at before, or else the socket.
     fn read(&mut self, buffer: &mut [u8]) -> Io
         ensures within { IsWithin (length buffer.old) result }
-        ensures ahead { (self.old.ahead ≡ []) ⊎ (shown_of result buffer.new ++ self.new.ahead ≡ self.old.ahead) }
+        ensures ahead { (self.old.ahead ≡ []) ⊎ (shown_of result buffer.new ++ self.new.ahead
+            ≡ self.old.ahead) }
     {
         if self.ahead.is_empty() {
             return self.read_stream(buffer);

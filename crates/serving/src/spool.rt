@@ -1,6 +1,8 @@
 //! What a server needs of the folder into which the mail system puts messages.
-ghost use Rattle.std.specs.Prelude.{◌≡◌, List, ◌∷◌, [], ◌++◌, MatchOption, option_map, if◌then◌else◌};
-ghost use Rattle.serving.specs.Spools.{FileAct, WasRead, WasRemoved, WasRenamed, FileCall, Next, Read, Removed, Renamed};
+ghost use Rattle.std.specs.Prelude.{◌≡◌, List, ◌∷◌, [], ◌++◌, MatchOption, option_map};
+ghost use Rattle.std.specs.Prelude.{if◌then◌else◌};
+ghost use Rattle.serving.specs.Spools.{FileAct, WasRead, WasRemoved, WasRenamed, FileCall, Next};
+ghost use Rattle.serving.specs.Spools.{Read, Removed, Renamed};
 
 use crate::file_name::FileName;
 
@@ -24,25 +26,34 @@ pub trait Spool {
     /// it, or no name is given. `None` where there is no file, or the folder can't be listed.
     fn next_name(&mut self, last: &Option<FileName>) -> Option<FileName>
         ensures told { (a : List FileAct) → tells self.old a → tells self.new a }
-        ensures called { (a : List FileCall) → asked self.old a → asked self.new (a ++ Next last.now result ∷ []) };
+        ensures called { (a : List FileCall) → asked self.old a
+            → asked self.new (a ++ Next last.now result ∷ []) };
 
     /// The first [`MOST_OCTETS`] octets of a file; `None` where it can't be read, or isn't
     /// a file of the folder's own.
     fn read(&mut self, name: &FileName) -> Option<Vec<u8>>
-        ensures told { (a : List FileAct) → tells self.old a → MatchOption result (tells self.new a) (λ text. tells self.new (a ++ WasRead name.now text.items ∷ [])) }
-        ensures called { (a : List FileCall) → asked self.old a → asked self.new (a ++ Read name.now (option_map (λ text. text.items) result) ∷ []) };
+        ensures told { (a : List FileAct) → tells self.old a
+            → MatchOption result (tells self.new a)
+            (λ text. tells self.new (a ++ WasRead name.now text.items ∷ [])) }
+        ensures called { (a : List FileCall) → asked self.old a
+            → asked self.new (a ++ Read name.now (option_map (λ text. text.items) result) ∷ []) };
 
     /// Removes a file. Whether it was removed.
     fn remove(&mut self, name: &FileName) -> bool
-        ensures told { (a : List FileAct) → tells self.old a → tells self.new (if result then a ++ WasRemoved name.now ∷ [] else a) }
-        ensures called { (a : List FileCall) → asked self.old a → asked self.new (a ++ Removed name.now result ∷ []) };
+        ensures told { (a : List FileAct) → tells self.old a
+            → tells self.new (if result then a ++ WasRemoved name.now ∷ [] else a) }
+        ensures called { (a : List FileCall) → asked self.old a
+            → asked self.new (a ++ Removed name.now result ∷ []) };
 
     /// Renames a file, by `.bad` behind its name, or by `.bad.2` and so on where such a file is
     /// there. Whether it was renamed.
     fn rename(&mut self, name: &FileName) -> bool
-        ensures told { (a : List FileAct) → tells self.old a → tells self.new (if result then a ++ WasRenamed name.now ∷ [] else a) }
-        ensures called { (a : List FileCall) → asked self.old a → asked self.new (a ++ Renamed name.now result ∷ []) };
+        ensures told { (a : List FileAct) → tells self.old a
+            → tells self.new (if result then a ++ WasRenamed name.now ∷ [] else a) }
+        ensures called { (a : List FileCall) → asked self.old a
+            → asked self.new (a ++ Renamed name.now result ∷ []) };
 
     /// Any two records of one spool are the same.
-    ghost tells_once: { (spool : Self) (a b : List FileAct) → tells spool a → tells spool b → a ≡ b };
+    ghost tells_once: { (spool : Self) (a b : List FileAct) → tells spool a → tells spool b
+        → a ≡ b };
 }

@@ -59,9 +59,12 @@ fn write_once<V: Vault, W: Wire, L: Listener>(
     listener: &mut L,
     seat: Seat,
 ) -> usize
-    ensures serves { StillServesOne V.holds V.is_clean W.tells seat office.old wire.old office.new wire.new }
+    ensures serves { StillServesOne V.holds V.is_clean W.tells seat office.old wire.old office.new
+        wire.new }
     ensures clean { V.is_clean (vault_of office.new) → V.is_clean (vault_of office.old) }
-    ensures works { Part V.holds V.is_clean V.faults W.asked office.old wire.old office.new wire.new (IsWritten V.holds V.is_clean office.old office.new seat (if result == 0 then 0 else 1) result (not (result == 0))) }
+    ensures works { Part V.holds V.is_clean V.faults W.asked office.old wire.old office.new wire.new
+        (IsWritten V.holds V.is_clean office.old office.new seat (if result == 0 then 0 else 1)
+        result (not (result == 0))) }
 {
     let lent = office.owed(seat.connection);
     if lent.is_empty() {
@@ -91,9 +94,11 @@ fn write_owed<V: Vault, W: Wire, L: Listener>(
     seat: Seat,
     share: usize,
 ) -> bool
-    ensures serves { StillServesOne V.holds V.is_clean W.tells seat office.old wire.old office.new wire.new }
+    ensures serves { StillServesOne V.holds V.is_clean W.tells seat office.old wire.old office.new
+        wire.new }
     ensures clean { V.is_clean (vault_of office.new) → V.is_clean (vault_of office.old) }
-    ensures works { Part V.holds V.is_clean V.faults W.asked office.old wire.old office.new wire.new (IsWrittenOut V.holds V.is_clean office.old office.new seat share result) }
+    ensures works { Part V.holds V.is_clean V.faults W.asked office.old wire.old office.new wire.new
+        (IsWrittenOut V.holds V.is_clean office.old office.new seat share result) }
 {
     let mut written: usize = 0;
     for _times in 0..MOST_WRITES {
@@ -119,7 +124,8 @@ fn read_once<V: Vault, W: Wire, L: Listener>(
     buffer: &mut [u8],
 ) -> bool
     requires { length buffer.old ≤ 4096 }
-    ensures serves { StillServesOne V.holds V.is_clean W.tells seat office.old wire.old office.new wire.new }
+    ensures serves { StillServesOne V.holds V.is_clean W.tells seat office.old wire.old office.new
+        wire.new }
     ensures clean { V.is_clean (vault_of office.new) → V.is_clean (vault_of office.old) }
     ensures works { (wait : ℕ) (may : Bool) → Part V.holds V.is_clean V.faults W.asked
         office.old wire.old office.new wire.new
@@ -159,7 +165,10 @@ fn note_guess<V: Vault>(
 )
     ensures seats { links.new.seats ≡ links.old.seats }
     ensures aside { KeepsAside links.old links.new }
-    ensures noted { (T : Trace) → StandsFor V.holds office.now T → AreNotedSo now origin (nat_lt before (refusals T connection)) (live (history T) connection) links.old.guesses.refusals.items links.new.guesses.refusals.items }
+    ensures noted { (T : Trace) → StandsFor V.holds office.now T
+        → AreNotedSo now origin (nat_lt before (refusals T connection))
+        (live (history T) connection) links.old.guesses.refusals.items
+        links.new.guesses.refusals.items }
 {
     let Some(origin) = origin else {
         return;
@@ -184,7 +193,8 @@ fn read_piece<V: Vault, W: Wire, L: Listener>(
     seat: Seat,
     now: u64,
 ) -> bool
-    ensures serves { StillServesOne V.holds V.is_clean W.tells seat office.old wire.old office.new wire.new }
+    ensures serves { StillServesOne V.holds V.is_clean W.tells seat office.old wire.old office.new
+        wire.new }
     ensures clean { V.is_clean (vault_of office.new) → V.is_clean (vault_of office.old) }
     ensures seats { links.new.seats ≡ links.old.seats }
     ensures aside { KeepsAside links.old links.new }
@@ -222,7 +232,8 @@ fn serve_link<V: Vault, W: Wire, L: Listener>(
     seat: Seat,
     now: u64,
 ) -> bool
-    ensures serves { StillServesOne V.holds V.is_clean W.tells seat office.old wire.old office.new wire.new }
+    ensures serves { StillServesOne V.holds V.is_clean W.tells seat office.old wire.old office.new
+        wire.new }
     ensures clean { V.is_clean (vault_of office.new) → V.is_clean (vault_of office.old) }
     ensures seats { links.new.seats ≡ links.old.seats }
     ensures aside { KeepsAside links.old links.new }
@@ -264,8 +275,11 @@ fn note_freed<V: Vault>(
     was_logged_in: bool,
 )
     ensures seats { links.new.seats ≡ links.old.seats }
-    ensures freed { (T : Trace) → StandsFor V.holds office.now T → links.new.is_freed ≡ (links.old.is_freed || has_freed links.old.wait was_logged_in (live (history T) connection)) }
-    ensures waits { links.new.is_freed ≡ true → (links.old.is_freed ≡ true) ⊎ ((links.old.wait == 0) ≡ false) }
+    ensures freed { (T : Trace) → StandsFor V.holds office.now T
+        → links.new.is_freed ≡ (links.old.is_freed
+        || has_freed links.old.wait was_logged_in (live (history T) connection)) }
+    ensures waits { links.new.is_freed ≡ true → (links.old.is_freed ≡ true)
+        ⊎ ((links.old.wait == 0) ≡ false) }
     ensures presses { links.new.presses ≡ true
         → (links.old.presses || links.new.is_freed) ≡ true }
     ensures still { links.old.is_freed ≡ true → links.new.is_freed ≡ true }
@@ -293,11 +307,16 @@ fn serve_client<V: Vault, W: Wire, L: Listener>(
     seat: Seat,
     now: u64,
 )
-    ensures serves { StillServesOne V.holds V.is_clean W.tells seat office.old wire.old office.new wire.new }
+    ensures serves { StillServesOne V.holds V.is_clean W.tells seat office.old wire.old office.new
+        wire.new }
     ensures clean { V.is_clean (vault_of office.new) → V.is_clean (vault_of office.old) }
     ensures seats { links.new.seats ≡ links.old.seats }
-    ensures freed { (T U : Trace) → StandsFor V.holds office.old T → StandsFor V.holds office.new U → links.new.is_freed ≡ (links.old.is_freed || has_freed links.old.wait (live (history T) seat.connection) (live (history U) seat.connection)) }
-    ensures waits { links.new.is_freed ≡ true → (links.old.is_freed ≡ true) ⊎ ((links.old.wait == 0) ≡ false) }
+    ensures freed { (T U : Trace) → StandsFor V.holds office.old T → StandsFor V.holds office.new U
+        → links.new.is_freed ≡ (links.old.is_freed
+        || has_freed links.old.wait (live (history T) seat.connection)
+        (live (history U) seat.connection)) }
+    ensures waits { links.new.is_freed ≡ true → (links.old.is_freed ≡ true)
+        ⊎ ((links.old.wait == 0) ≡ false) }
     ensures still { links.old.is_freed ≡ true → links.new.is_freed ≡ true }
     ensures aside { LeavesSettings links.old links.new }
     ensures works { Part V.holds V.is_clean V.faults W.asked
@@ -322,14 +341,16 @@ fn serve_seat<V: Vault, W: Wire, L: Listener>(
     now: u64,
 )
     requires { place < array_vec_len links.old.seats }
-    ensures serves { StillServes V.holds V.is_clean W.tells office.old wire.old links.old.seats.items [] office.new wire.new links.new.seats.items [] }
+    ensures serves { StillServes V.holds V.is_clean W.tells office.old wire.old
+        links.old.seats.items [] office.new wire.new links.new.seats.items [] }
     ensures clean { V.is_clean (vault_of office.new) → V.is_clean (vault_of office.old) }
     ensures seats { links.new.seats ≡ links.old.seats }
     ensures freed { (d : declared.Seat) (T U : Trace) → StandsFor V.holds office.old T
         → StandsFor V.holds office.new U → links.new.is_freed ≡ (links.old.is_freed || has_freed
         links.old.wait (live (history T) (slice_index_or links.old.seats.items place d).connection)
         (live (history U) (slice_index_or links.old.seats.items place d).connection)) }
-    ensures waits { links.new.is_freed ≡ true → (links.old.is_freed ≡ true) ⊎ ((links.old.wait == 0) ≡ false) }
+    ensures waits { links.new.is_freed ≡ true → (links.old.is_freed ≡ true)
+        ⊎ ((links.old.wait == 0) ≡ false) }
     ensures still { links.old.is_freed ≡ true → links.new.is_freed ≡ true }
     ensures aside { LeavesSettings links.old links.new }
     ensures works { Part V.holds V.is_clean V.faults W.asked
@@ -351,7 +372,8 @@ fn serve_links<V: Vault, W: Wire, L: Listener>(
     links: &mut Clients,
     now: u64,
 )
-    ensures serves { StillServes V.holds V.is_clean W.tells office.old wire.old links.old.seats.items [] office.new wire.new links.new.seats.items [] }
+    ensures serves { StillServes V.holds V.is_clean W.tells office.old wire.old
+        links.old.seats.items [] office.new wire.new links.new.seats.items [] }
     ensures clean { V.is_clean (vault_of office.new) → V.is_clean (vault_of office.old) }
     ensures seats { links.new.seats ≡ links.old.seats }
     ensures aside { LeavesSettings links.old links.new }
@@ -371,7 +393,8 @@ fn serve_links<V: Vault, W: Wire, L: Listener>(
 
 /// Ends the connection of a seat, where it is open.
 fn end_seat<V: Vault, W: Wire>(office: &mut Office<V>, _wire: &W, seat: Seat)
-    ensures serves { StillServesOne V.holds V.is_clean W.tells seat office.old _wire.now office.new _wire.now }
+    ensures serves { StillServesOne V.holds V.is_clean W.tells seat office.old _wire.now office.new
+        _wire.now }
     ensures clean { V.is_clean (vault_of office.new) → V.is_clean (vault_of office.old) }
     ensures works { (now seconds : ℕ) (newcomers : List Newcomer)
         → is_late now seconds newcomers seat.connection ≡ true
@@ -393,13 +416,15 @@ fn end_late<V: Vault, W: Wire>(
     now: u64,
 )
     requires { place < array_vec_len links.old.seats }
-    ensures serves { StillServes V.holds V.is_clean W.tells office.old wire.now links.old.seats.items [] office.new wire.now links.new.seats.items [] }
+    ensures serves { StillServes V.holds V.is_clean W.tells office.old wire.now
+        links.old.seats.items [] office.new wire.now links.new.seats.items [] }
     ensures clean { V.is_clean (vault_of office.new) → V.is_clean (vault_of office.old) }
     ensures seats { links.new.seats ≡ links.old.seats }
     ensures set { settings_of links.new ≡ settings_of links.old }
     ensures presses { links.new.presses ≡ links.old.presses }
     ensures last { links.new.last ≡ links.old.last }
-    ensures late { AreNoMoreLate now links.old.newcomers.seconds links.old.newcomers.newcomers.items links.new.newcomers.newcomers.items }
+    ensures late { AreNoMoreLate now links.old.newcomers.seconds links.old.newcomers.newcomers.items
+        links.new.newcomers.newcomers.items }
     ensures works { (links.old.newcomers.seconds == 0) ≡ false
         → Giving V.holds V.is_clean V.faults office.old office.new (λ given. (d : declared.Seat) →
         HasEndedLate V.holds V.is_clean office.old office.new now links.old.newcomers.seconds
@@ -419,7 +444,8 @@ fn end_late<V: Vault, W: Wire>(
 
 /// Ends the connection of each client that took too long to log in.
 fn end_late_ones<V: Vault, W: Wire>(office: &mut Office<V>, wire: &W, links: &mut Clients, now: u64)
-    ensures serves { StillServes V.holds V.is_clean W.tells office.old wire.now links.old.seats.items [] office.new wire.now links.new.seats.items [] }
+    ensures serves { StillServes V.holds V.is_clean W.tells office.old wire.now
+        links.old.seats.items [] office.new wire.now links.new.seats.items [] }
     ensures clean { V.is_clean (vault_of office.new) → V.is_clean (vault_of office.old) }
     ensures off { links.old.newcomers.seconds ≡ 0 → office.new ≡ office.old }
     ensures seats { links.new.seats ≡ links.old.seats }
@@ -450,11 +476,17 @@ fn close_seat<V: Vault, W: Wire>(
     place: usize,
 ) -> bool
     requires { place < array_vec_len links.old.seats }
-    ensures serves { StillServes V.holds V.is_clean W.tells office.now wire.old links.old.seats.items (take place links.old.seats.items) office.now wire.new links.new.seats.items (take (if result then place + 1 else place) links.new.seats.items) }
-    ensures left { array_vec_len links.new.seats + (if result then 0 else 1) ≡ array_vec_len links.old.seats }
+    ensures serves { StillServes V.holds V.is_clean W.tells office.now wire.old
+        links.old.seats.items (take place links.old.seats.items) office.now wire.new
+        links.new.seats.items (take (if result then place + 1 else place) links.new.seats.items) }
+    ensures left { array_vec_len links.new.seats + (if result then 0 else 1)
+        ≡ array_vec_len links.old.seats }
     ensures set { settings_of links.new ≡ settings_of links.old }
     ensures last { links.new.last ≡ links.old.last }
-    ensures newcomers { (d : declared.Seat) → links.new.newcomers.newcomers.items ≡ (if result then links.old.newcomers.newcomers.items else others (slice_index_or links.old.seats.items place d).connection links.old.newcomers.newcomers.items) }
+    ensures newcomers { (d : declared.Seat)
+        → links.new.newcomers.newcomers.items ≡ (if result then links.old.newcomers.newcomers.items
+        else others (slice_index_or links.old.seats.items place d).connection
+        links.old.newcomers.newcomers.items) }
     ensures works { (T : Trace) (d : declared.Seat) → StandsFor V.holds office.now T
         → Asking W.asked wire.old wire.new
         (λ calls. IsClosed T links.old.seats.items links.new.seats.items place
@@ -476,7 +508,8 @@ fn close_seat<V: Vault, W: Wire>(
 
 /// Closes each link whose connection ended.
 fn close_links<V: Vault, W: Wire>(office: &Office<V>, wire: &mut W, links: &mut Clients)
-    ensures serves { StillServes V.holds V.is_clean W.tells office.now wire.old links.old.seats.items [] office.now wire.new links.new.seats.items links.new.seats.items }
+    ensures serves { StillServes V.holds V.is_clean W.tells office.now wire.old
+        links.old.seats.items [] office.now wire.new links.new.seats.items links.new.seats.items }
     ensures set { settings_of links.new ≡ settings_of links.old }
     ensures last { links.new.last ≡ links.old.last }
     ensures newcomers { (T : Trace) → StandsFor V.holds office.now T → (c : ℕ)
@@ -497,9 +530,12 @@ fn close_links<V: Vault, W: Wire>(office: &Office<V>, wire: &mut W, links: &mut 
 
 /// Waits, and tells the office the moment.
 fn pass_time<V: Vault, W: Wire>(office: &mut Office<V>, wire: &mut W, millis: u32, now: u64)
-    ensures serves { (seats these : List declared.Seat) → StillServes V.holds V.is_clean W.tells office.old wire.old seats these office.new wire.new seats [] }
+    ensures serves { (seats these : List declared.Seat)
+        → StillServes V.holds V.is_clean W.tells office.old wire.old seats these office.new wire.new
+        seats [] }
     ensures clean { V.is_clean (vault_of office.new) → V.is_clean (vault_of office.old) }
-    ensures works { Part V.holds V.is_clean V.faults W.asked office.old wire.old office.new wire.new (IsPassed millis now) }
+    ensures works { Part V.holds V.is_clean V.faults W.asked office.old wire.old office.new wire.new
+        (IsPassed millis now) }
 {
     wire.wait(millis);
     let _ = office.step(Event::Tick(now));
@@ -524,15 +560,19 @@ fn accept_link<V: Vault, W: Wire, L: Listener>(
     links: &mut Clients,
     now: u64,
 ) -> bool
-    ensures serves { StillServes V.holds V.is_clean W.tells office.old wire.old links.old.seats.items [] office.new wire.new links.new.seats.items [] }
+    ensures serves { StillServes V.holds V.is_clean W.tells office.old wire.old
+        links.old.seats.items [] office.new wire.new links.new.seats.items [] }
     ensures clean { V.is_clean (vault_of office.new) → V.is_clean (vault_of office.old) }
     ensures set { settings_of links.new ≡ settings_of links.old }
     ensures presses { links.new.presses ≡ links.old.presses }
     ensures last { links.new.last ≡ links.old.last }
-    ensures late { AreNoMoreLate now links.old.newcomers.seconds links.old.newcomers.newcomers.items links.new.newcomers.newcomers.items }
+    ensures late { AreNoMoreLate now links.old.newcomers.seconds links.old.newcomers.newcomers.items
+        links.new.newcomers.newcomers.items }
     ensures noted { (c : ℕ) (n : Newcomer) → newcomer c links.old.newcomers.newcomers.items ≡ Some n
         → newcomer c links.new.newcomers.newcomers.items ≡ Some n }
-    ensures works { Part V.holds V.is_clean V.faults W.asked office.old wire.old office.new wire.new (AreAccepted V.holds V.is_clean office.old office.new links.old.seats.items links.new.seats.items 1 result) }
+    ensures works { Part V.holds V.is_clean V.faults W.asked office.old wire.old office.new wire.new
+        (AreAccepted V.holds V.is_clean office.old office.new links.old.seats.items
+        links.new.seats.items 1 result) }
 {
     if links.seats.is_full() {
         return false;
@@ -560,15 +600,19 @@ fn accept_links<V: Vault, W: Wire, L: Listener>(
     links: &mut Clients,
     now: u64,
 )
-    ensures serves { StillServes V.holds V.is_clean W.tells office.old wire.old links.old.seats.items [] office.new wire.new links.new.seats.items [] }
+    ensures serves { StillServes V.holds V.is_clean W.tells office.old wire.old
+        links.old.seats.items [] office.new wire.new links.new.seats.items [] }
     ensures clean { V.is_clean (vault_of office.new) → V.is_clean (vault_of office.old) }
     ensures set { settings_of links.new ≡ settings_of links.old }
     ensures presses { links.new.presses ≡ links.old.presses }
     ensures last { links.new.last ≡ links.old.last }
-    ensures late { AreNoMoreLate now links.old.newcomers.seconds links.old.newcomers.newcomers.items links.new.newcomers.newcomers.items }
+    ensures late { AreNoMoreLate now links.old.newcomers.seconds links.old.newcomers.newcomers.items
+        links.new.newcomers.newcomers.items }
     ensures noted { (c : ℕ) (n : Newcomer) → newcomer c links.old.newcomers.newcomers.items ≡ Some n
         → newcomer c links.new.newcomers.newcomers.items ≡ Some n }
-    ensures works { (goes : Bool) × Part V.holds V.is_clean V.faults W.asked office.old wire.old office.new wire.new (AreAccepted V.holds V.is_clean office.old office.new links.old.seats.items links.new.seats.items 64 goes) }
+    ensures works { (goes : Bool) × Part V.holds V.is_clean V.faults W.asked office.old wire.old
+        office.new wire.new (AreAccepted V.holds V.is_clean office.old office.new
+        links.old.seats.items links.new.seats.items 64 goes) }
 {
     for _times in 0..MOST_LINKS {
         if !accept_link(office, wire, listener, links, now) {
@@ -597,12 +641,18 @@ pub fn serve_turn<V: Vault, W: Wire, S: Spool, L: Listener>(
     listener: &mut L,
     now: u64,
 )
-    ensures serves { (T : Trace) → Serves V.holds W.tells S.tells T office.old wire.old spool.old links.old.clients.seats.items links.old.requests.exchanges.items → V.is_clean (vault_of office.new) → Serves V.holds W.tells S.tells T office.new wire.new spool.new links.new.clients.seats.items links.new.requests.exchanges.items }
+    ensures serves { (T : Trace) → Serves V.holds W.tells S.tells T office.old wire.old spool.old
+        links.old.clients.seats.items links.old.requests.exchanges.items
+        → V.is_clean (vault_of office.new) → Serves V.holds W.tells S.tells T office.new wire.new
+        spool.new links.new.clients.seats.items links.new.requests.exchanges.items }
     ensures clean { V.is_clean (vault_of office.new) → V.is_clean (vault_of office.old) }
-    ensures works { (T : Trace) → StandsFor V.holds office.old T → V.is_clean (vault_of office.new) → Works V.holds V.faults W.asked S.asked T now links.old office.old wire.old spool.old office.new links.new wire.new spool.new }
+    ensures works { (T : Trace) → StandsFor V.holds office.old T → V.is_clean (vault_of office.new)
+        → Works V.holds V.faults W.asked S.asked T now links.old office.old wire.old spool.old
+        office.new links.new wire.new spool.new }
     ensures ongoing { AllGoOn now links.new }
     ensures few { AreFew links.old → AreFew links.new }
-    ensures short { (T : Trace) → StandsFor V.holds office.old T → V.is_clean (vault_of office.new) → AreShort links.old → AreShort links.new }
+    ensures short { (T : Trace) → StandsFor V.holds office.old T → V.is_clean (vault_of office.new)
+        → AreShort links.old → AreShort links.new }
     ensures settings { settings links.new ≡ settings links.old }
 {
     let millis = millis_for(links);
@@ -625,7 +675,10 @@ pub fn begin<V: Vault, W: Wire, S: Spool>(
     _wire: &W,
     _spool: &S,
 ) -> Links
-    ensures serves { (T : Trace) (t : ToldOfPorts) → StandsFor V.holds _office.now T → AreAdmitted T → ((c : ℕ) → is_open T c ≡ false) → W.tells _wire.now t → AreFresh t → S.tells _spool.now [] → Serves V.holds W.tells S.tells T _office.now _wire.now _spool.now result.clients.seats.items result.requests.exchanges.items }
+    ensures serves { (T : Trace) (t : ToldOfPorts) → StandsFor V.holds _office.now T → AreAdmitted T
+        → ((c : ℕ) → is_open T c ≡ false) → W.tells _wire.now t → AreFresh t → S.tells _spool.now []
+        → Serves V.holds W.tells S.tells T _office.now _wire.now _spool.now
+        result.clients.seats.items result.requests.exchanges.items }
     ensures few { AreFew result }
     ensures short { AreShort result }
     ensures settings { settings result ≡ none_set }

@@ -1,6 +1,7 @@
 //! What a server needs of its links.
 ghost use Rattle.std.specs.Prelude.{◌≡◌, List, ◌∷◌, [], ◌++◌, length};
-ghost use Rattle.serving.specs.Wires.{ToldOfPorts, at_port, counted, has_read, has_written, has_closed};
+ghost use Rattle.serving.specs.Wires.{ToldOfPorts, at_port, counted, has_read, has_written};
+ghost use Rattle.serving.specs.Wires.{has_closed};
 ghost use Rattle.serving.specs.Calls.{Call, Waited, Accepted, Looked, Read, Wrote, Closed};
 
 use std::net::IpAddr;
@@ -50,41 +51,54 @@ pub trait Wire {
     /// Waits until a link may be accepted, read or written, at most so many milliseconds.
     fn wait(&mut self, millis: u32)
         ensures told { (t : ToldOfPorts) → tells self.old t → tells self.new t }
-        ensures called { (a : List Call) → asked self.old a → asked self.new (a ++ Waited millis ∷ []) };
+        ensures called { (a : List Call) → asked self.old a
+            → asked self.new (a ++ Waited millis ∷ []) };
 
     /// Accepts the next link that came at a port; `None` where none waits, or where it can't be
     /// accepted now.
     fn accept(&mut self, port: Port) -> Option<Link>
-        ensures told { (t : ToldOfPorts) → tells self.old t → IsAccepted (tells self.new) port t result }
-        ensures called { (a : List Call) → asked self.old a → asked self.new (a ++ Accepted port result ∷ []) };
+        ensures told { (t : ToldOfPorts) → tells self.old t
+            → IsAccepted (tells self.new) port t result }
+        ensures called { (a : List Call) → asked self.old a
+            → asked self.new (a ++ Accepted port result ∷ []) };
 
     /// Shows in the front of the buffer what comes next on a link, and reads nothing: the next read
     /// gives these octets first. `Later` also where there is no memory to look.
     fn look(&mut self, port: Port, link: Link, buffer: &mut [u8]) -> Io
         ensures within { IsWithin (length buffer.old) result }
         ensures told { (t : ToldOfPorts) → tells self.old t → tells self.new t }
-        ensures called { (a : List Call) → asked self.old a → asked self.new (a ++ Looked port link result (counted result buffer.new) ∷ []) };
+        ensures called { (a : List Call) → asked self.old a
+            → asked self.new (a ++ Looked port link result (counted result buffer.new) ∷ []) };
 
     /// Reads from a link into the front of the buffer.
     fn read(&mut self, port: Port, link: Link, buffer: &mut [u8]) -> Io
         ensures within { IsWithin (length buffer.old) result }
-        ensures told { (t : ToldOfPorts) → tells self.old t → tells self.new (at_port port (λ of. has_read of link.number result (counted result buffer.new)) t) }
-        ensures called { (a : List Call) → asked self.old a → asked self.new (a ++ Read port link result (counted result buffer.new) ∷ []) };
+        ensures told { (t : ToldOfPorts) → tells self.old t
+            → tells self.new (at_port port (λ of. has_read of link.number result
+            (counted result buffer.new)) t) }
+        ensures called { (a : List Call) → asked self.old a
+            → asked self.new (a ++ Read port link result (counted result buffer.new) ∷ []) };
 
     /// Writes octets on a link, from the first on.
     fn write(&mut self, port: Port, link: Link, octets: &[u8]) -> Io
         ensures within { IsWithin (length octets.now) result }
-        ensures told { (t : ToldOfPorts) → tells self.old t → tells self.new (at_port port (λ of. has_written of link.number result (counted result octets.now)) t) }
-        ensures called { (a : List Call) → asked self.old a → asked self.new (a ++ Wrote port link result (counted result octets.now) ∷ []) };
+        ensures told { (t : ToldOfPorts) → tells self.old t
+            → tells self.new (at_port port (λ of. has_written of link.number result
+            (counted result octets.now)) t) }
+        ensures called { (a : List Call) → asked self.old a
+            → asked self.new (a ++ Wrote port link result (counted result octets.now) ∷ []) };
 
     /// The address that a link came from; `None` where it isn't known.
     fn address(&self, port: Port, link: Link) -> Option<IpAddr>;
 
     /// Closes a link.
     fn close(&mut self, port: Port, link: Link)
-        ensures told { (t : ToldOfPorts) → tells self.old t → tells self.new (at_port port (λ of. has_closed of link.number) t) }
-        ensures called { (a : List Call) → asked self.old a → asked self.new (a ++ Closed port link ∷ []) };
+        ensures told { (t : ToldOfPorts) → tells self.old t
+            → tells self.new (at_port port (λ of. has_closed of link.number) t) }
+        ensures called { (a : List Call) → asked self.old a
+            → asked self.new (a ++ Closed port link ∷ []) };
 
     /// Any two records of one wire say the same.
-    ghost tells_once: { (wire : Self) (t u : ToldOfPorts) → tells wire t → tells wire u → SayAlikeOfPorts t u };
+    ghost tells_once: { (wire : Self) (t u : ToldOfPorts) → tells wire t → tells wire u
+        → SayAlikeOfPorts t u };
 }

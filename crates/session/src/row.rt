@@ -1,9 +1,11 @@
 //! The messages of a view, each with its mark.
-ghost use Rattle.std.specs.Prelude.{◌≡◌, ◌<◌, ◌≤◌, not, length, map, count_by, sum_by, find, min, IfOk, OnOk};
+ghost use Rattle.std.specs.Prelude.{◌≡◌, ◌<◌, ◌≤◌, not, length, map, count_by, sum_by, find, min};
+ghost use Rattle.std.specs.Prelude.{IfOk, OnOk};
 ghost use Rattle.std.specs.Option.{option_copied};
 ghost use Rattle.session.specs.declared.row.Row.{Row};
 ghost use Rattle.session.specs.Session.{class_of, mark_answer};
-ghost use Rattle.session.specs.Rows.{login_of, heads_of, unmarked_row, octets_unless_marked, row_picked, is_denied, removable_keys, denying_rule};
+ghost use Rattle.session.specs.Rows.{login_of, heads_of, unmarked_row, octets_unless_marked};
+ghost use Rattle.session.specs.Rows.{row_picked, is_denied, removable_keys, denying_rule};
 ghost use Rattle.session.specs.View.{visible, retrieval, removal};
 
 use crate::pick::Pick;
@@ -37,7 +39,8 @@ pub(crate) fn removal(lane: &Lane<'_>, class: &Name) -> Decision
 /// Whether a DELE may mark a message of a class: `Denied` where removals are judged at the DELE
 /// and the policy denies this one.
 pub(crate) fn judge_mark(removals: Removals, lane: &Lane<'_>, class: &Name) -> Result<(), Pick>
-    ensures { result ≡ mark_answer removals (removal lane.now.policy (login_of lane.now) class.now) }
+    ensures { result ≡ mark_answer removals
+        (removal lane.now.policy (login_of lane.now) class.now) }
 {
     match removals {
         Removals::JudgedAtDele => {
@@ -57,7 +60,8 @@ pub(crate) fn visible_rows(
     lane: &Lane<'_>,
     heads: &[Head],
 ) -> Result<Vec<Row>, AllocError>
-    ensures { IfOk result (λ rows. rows.items ≡ map unmarked_row (visible class_of lane.now.policy (login_of lane.now) heads.now)) }
+    ensures { IfOk result (λ rows. rows.items
+        ≡ map unmarked_row (visible class_of lane.now.policy (login_of lane.now) heads.now)) }
 {
     heads
         .iter()
@@ -114,7 +118,8 @@ pub(crate) fn removable_keys(
     lane: &Lane<'_>,
     rows: &[Row],
 ) -> Result<Vec<MessageKey>, AllocError>
-    ensures { IfOk result (λ keys. keys.items ≡ removable_keys lane.now.policy (login_of lane.now) rows.now) }
+    ensures { IfOk result (λ keys. keys.items
+        ≡ removable_keys lane.now.policy (login_of lane.now) rows.now) }
 {
     rows.iter()
         .filter(|row| row.is_marked && removal(lane, &row.head.class).allowed)

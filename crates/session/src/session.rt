@@ -1,6 +1,8 @@
 //! A session and its calls.
-ghost use Rattle.std.specs.Prelude.{◌≡◌, ℕ, ◌+◌, ◌-◌, ◌^◌, ◌<◌, ◌≤◌, ◌||◌, ◌==◌, [], length, map, min, sum_by, IfOk, OnOk, OnErr};
-ghost use Rattle.session.specs.Session.{class_of, octets_of, uid_of, key_of, started, picked, picked_for, marking};
+ghost use Rattle.std.specs.Prelude.{◌≡◌, ℕ, ◌+◌, ◌-◌, ◌^◌, ◌<◌, ◌≤◌, ◌||◌, ◌==◌, [], length, map};
+ghost use Rattle.std.specs.Prelude.{min, sum_by, IfOk, OnOk, OnErr};
+ghost use Rattle.session.specs.Session.{class_of, octets_of, uid_of, key_of, started, picked};
+ghost use Rattle.session.specs.Session.{picked_for, marking};
 ghost use Rattle.session.specs.View.{is_marked, numbered, marked, unmarked, sizes_of, uids_of};
 ghost use Rattle.session.specs.View.{total_of, to_remove, denying};
 
@@ -53,7 +55,8 @@ impl Session {
         policy: &Policy,
         removals: Removals,
     ) -> Result<Session, AllocError>
-        ensures session { IfOk result (λ s. s ≡ started policy.now removals clerk maildrop heads.now) }
+        ensures session { IfOk result (λ s. s ≡ started policy.now removals clerk maildrop
+            heads.now) }
         ensures octets { IfOk result (λ s. sum_by octets_of s.view ≤ sum_by octets_of heads.now) }
     {
         let name = LoginName { clerk, maildrop };
@@ -86,7 +89,8 @@ impl Session {
     /// messages of 26,214,400 octets fit. It allocates nothing.
     pub fn stat(&self) -> (u64, u64)
         ensures messages { result.0 ≡ length (unmarked self.now.marks self.now.view) }
-        ensures octets { result.1 ≡ min (total_of octets_of (unmarked self.now.marks self.now.view)) u64.MAX }
+        ensures octets { result.1 ≡ min (total_of octets_of (unmarked self.now.marks self.now.view))
+            u64.MAX }
         ensures exact { sum_by octets_of self.now.view < 2 ^ 64
             → result.1 ≡ total_of octets_of (unmarked self.now.marks self.now.view) }
     {
@@ -151,7 +155,8 @@ impl Session {
     pub fn mark(&mut self, n: u64, policy: &Policy) -> Result<(), Pick>
         ensures answer { result ≡ marking policy.now self.old n }
         ensures kept { self.new ≡ record self.old { marks = self.new.marks } }
-        ensures marked { OnOk result ((m : ℕ) → is_marked self.new.marks m ≡ (is_marked self.old.marks m || m == n)) }
+        ensures marked { OnOk result ((m : ℕ) → is_marked self.new.marks m
+            ≡ (is_marked self.old.marks m || m == n)) }
         ensures err { OnErr result (self.new ≡ self.old) }
     {
         let head = head_at(&self.rows, n)?;
@@ -173,7 +178,8 @@ impl Session {
     /// name of the rule that denies the lowest numbered of them. An `Err` is want of memory.
     pub fn to_remove(&self, policy: &Policy) -> Result<(Vec<MessageKey>, Option<Name>), AllocError>
         ensures keys { IfOk result (λ r. r.0.items
-            ≡ map key_of (to_remove class_of policy.now self.now.name self.now.marks self.now.view)) }
+            ≡ map key_of (to_remove class_of policy.now self.now.name self.now.marks
+            self.now.view)) }
         ensures rule { IfOk result (λ r. r.1
             ≡ denying class_of policy.now self.now.name self.now.marks self.now.view) }
     {

@@ -1,5 +1,6 @@
 //! Adopting a connection: its tables are made, carried over or checked.
-ghost use Rattle.std.specs.Prelude.{◌≡◌, true, false, IsTrue, IfOk, IfErr, OnOk, OnErr, Err, [], ◌∷◌};
+ghost use Rattle.std.specs.Prelude.{◌≡◌, true, false, IsTrue, IfOk, IfErr, OnOk, OnErr, Err, []};
+ghost use Rattle.std.specs.Prelude.{◌∷◌};
 ghost use Rattle.sqlite.specs.Held.{state};
 ghost use Rattle.sqlite.specs.State.{HasCleanDisk};
 ghost use Rattle.vault.specs.Plain.{no_contents};
@@ -8,7 +9,9 @@ ghost use Rattle.mailsql.specs.Rows.{HasTables, IsHalted, IsBegun, GoesOn, rows_
 ghost use Rattle.sqlvault.specs.Frame.{Asks};
 ghost use Rattle.sqlvault.specs.Keeps.{Keeps, our_mark, version};
 ghost use Rattle.sqlvault.specs.Parts.{Finds};
-ghost use Rattle.sqlvault.specs.Adopts.{Adopts, IsBlank, IsKnown, StaysAs, LeavesEmptyToo, IsAdoptFault, IsMarked, IsOfUnknownVersion, IsVersionRefused};
+ghost use Rattle.sqlvault.specs.Adopts.{Adopts, IsBlank, IsKnown, StaysAs, LeavesEmptyToo};
+ghost use Rattle.sqlvault.specs.Adopts.{IsAdoptFault, IsMarked, IsOfUnknownVersion};
+ghost use Rattle.sqlvault.specs.Adopts.{IsVersionRefused};
 ghost use Rattle.vault.specs.declared.fault.VaultFault.TheVariants.{NotOurs};
 ghost use Rattle.mailsql.specs.Names.{is_taken, has_marks};
 ghost use Rattle.sqlvault.specs.declared.refusal.Refusal.TheVariants.{Answered};
@@ -35,9 +38,14 @@ pub(crate) const VERSION: i64 = 3;
 
 /// Makes the tables and the mark, inside a transaction.
 fn fill<S: Alter>(conn: &mut Connection<S>) -> Result<(), Error>
-    ensures filled { HasCleanDisk (state S.Store conn.new) → IsBegun (state S.Store conn.old) → OnOk result ((IsKept (state S.Store conn.new).now × (rows_in (state S.Store conn.new).now.trees ≡ marked version)) × GoesOn (state S.Store conn.old) (state S.Store conn.new)) }
-    ensures err { HasCleanDisk (state S.Store conn.new) → IsBegun (state S.Store conn.old) → OnErr result (IsHalted (state S.Store conn.old) (state S.Store conn.new)) }
-    ensures stop { HasCleanDisk (state S.Store conn.new) → IsBegun (state S.Store conn.old) → LeavesNoMore (state S.Store conn.old) (state S.Store conn.new) }
+    ensures filled { HasCleanDisk (state S.Store conn.new) → IsBegun (state S.Store conn.old)
+        → OnOk result ((IsKept (state S.Store conn.new).now
+        × (rows_in (state S.Store conn.new).now.trees ≡ marked version))
+        × GoesOn (state S.Store conn.old) (state S.Store conn.new)) }
+    ensures err { HasCleanDisk (state S.Store conn.new) → IsBegun (state S.Store conn.old)
+        → OnErr result (IsHalted (state S.Store conn.old) (state S.Store conn.new)) }
+    ensures stop { HasCleanDisk (state S.Store conn.new) → IsBegun (state S.Store conn.old)
+        → LeavesNoMore (state S.Store conn.old) (state S.Store conn.new) }
     ensures clean { WasClean (state S.Store conn.old) (state S.Store conn.new) }
 {
     match tables::create_tables(conn) {
@@ -48,9 +56,16 @@ fn fill<S: Alter>(conn: &mut Connection<S>) -> Result<(), Error>
 
 /// Makes a store of a connection without tables, in one transaction.
 fn make<S: Alter>(conn: &mut Connection<S>) -> Result<(), Error>
-    ensures made { HasCleanDisk (state S.Store conn.new) → IsBlank (state S.Store conn.old) → OnOk result (IsTrue (state S.Store conn.new).is_open × Holds (state S.Store conn.new) no_contents) }
-    ensures stays { HasCleanDisk (state S.Store conn.new) → IsBlank (state S.Store conn.old) → (state S.Store conn.old).in_transaction ≡ false → (IsTrue (state S.Store conn.old).is_open → (state S.Store conn.old).now ≡ (state S.Store conn.old).committed) → OnErr result (StaysAs (state S.Store conn.old) (state S.Store conn.new)) }
-    ensures stop { HasCleanDisk (state S.Store conn.new) → IsBlank (state S.Store conn.old) → LeavesEmptyToo (state S.Store conn.old) (state S.Store conn.new) }
+    ensures made { HasCleanDisk (state S.Store conn.new) → IsBlank (state S.Store conn.old)
+        → OnOk result (IsTrue (state S.Store conn.new).is_open
+        × Holds (state S.Store conn.new) no_contents) }
+    ensures stays { HasCleanDisk (state S.Store conn.new) → IsBlank (state S.Store conn.old)
+        → (state S.Store conn.old).in_transaction ≡ false
+        → (IsTrue (state S.Store conn.old).is_open
+        → (state S.Store conn.old).now ≡ (state S.Store conn.old).committed)
+        → OnErr result (StaysAs (state S.Store conn.old) (state S.Store conn.new)) }
+    ensures stop { HasCleanDisk (state S.Store conn.new) → IsBlank (state S.Store conn.old)
+        → LeavesEmptyToo (state S.Store conn.old) (state S.Store conn.new) }
     ensures clean { WasClean (state S.Store conn.old) (state S.Store conn.new) }
 {
     match mode::begin(conn) {

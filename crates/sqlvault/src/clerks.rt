@@ -7,7 +7,8 @@ ghost use Rattle.creds.specs.Names.{is_name, by_name};
 ghost use Rattle.vault.specs.declared.record.Clerk as vault;
 ghost use Rattle.vault.specs.Records.{is_sound_credential, credential_in};
 ghost use Rattle.vault.specs.Changes.{Contents, put_clerk_answer};
-ghost use Rattle.vault.specs.Calls.{IsAnswer, seen_as, put_result, IsCredential, IsClerkPut, IsClerkDropped};
+ghost use Rattle.vault.specs.Calls.{IsAnswer, seen_as, put_result, IsCredential, IsClerkPut};
+ghost use Rattle.vault.specs.Calls.{IsClerkDropped};
 ghost use Rattle.mailsql.specs.Rows as tables;
 ghost use Rattle.mailsql.specs.Changes as changes;
 ghost use Rattle.sqlvault.specs.Clerks.{row_name, row_of, AreClerks};
@@ -74,7 +75,8 @@ fn digest_of(octets: &[u8]) -> [u8; 32]
 /// The credential of a clerk's row; `None` where the row is no clerk's.
 pub(crate) fn read_credential(row: &Clerk) -> Option<Credential>
     ensures sound { is_some result ≡ is_credential_row row.now }
-    ensures read { (c : vault.Clerk) → row.now ≡ clerk_row c → is_sound_credential c.credential ≡ true → result ≡ Some c.credential }
+    ensures read { (c : vault.Clerk) → row.now ≡ clerk_row c
+        → is_sound_credential c.credential ≡ true → result ≡ Some c.credential }
 {
     let octets = row.secret.as_slice();
     match row.kind {
@@ -99,7 +101,9 @@ pub(crate) fn find_credential<S: Alter>(
     conn: &mut Connection<S>,
     clerk: &Name,
 ) -> Result<Option<Credential>, Refusal>
-    ensures done { (c : Contents) → HasCleanDisk (state S.Store conn.new) → Holds (state S.Store conn.old) c → IsCredential (Holds (state S.Store conn.new)) c clerk.now (answer_of result) }
+    ensures done { (c : Contents) → HasCleanDisk (state S.Store conn.new)
+        → Holds (state S.Store conn.old) c → IsCredential (Holds (state S.Store conn.new)) c
+        clerk.now (answer_of result) }
     ensures looks { Looks S.Store conn.old conn.new (IsMet result) }
 {
     match clerks::find_clerk(alloc, conn, clerk.as_bytes()) {
@@ -156,7 +160,9 @@ pub(crate) fn clerk_names<S: Alter>(
 
 /// Whether there is a clerk of that name.
 fn has_clerk<S: Alter>(alloc: Global, conn: &mut Connection<S>, clerk: &Name) -> Result<bool, Error>
-    ensures there { (c : Contents) → HasCleanDisk (state S.Store conn.new) → Holds (state S.Store conn.old) c → IfOk result (λ there. there ≡ is_some (credential_in clerk.now c.clerks)) }
+    ensures there { (c : Contents) → HasCleanDisk (state S.Store conn.new)
+        → Holds (state S.Store conn.old) c → IfOk result
+        (λ there. there ≡ is_some (credential_in clerk.now c.clerks)) }
     ensures open { (c : Contents) → HasCleanDisk (state S.Store conn.new)
         → Holds (state S.Store conn.old) c → OnOk result (IsTrue (state S.Store conn.new).is_open) }
     ensures looks { Looks S.Store conn.old conn.new (IsOk result) }

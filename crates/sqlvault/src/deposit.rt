@@ -12,7 +12,8 @@ ghost use Rattle.vault.specs.declared.answer.Deposited.TheVariants as stored;
 ghost use Rattle.vault.specs.declared.record.Receipt as receipt;
 ghost use Rattle.vault.specs.Records.{receipts_of, class_count, most_deposits};
 ghost use Rattle.vault.specs.Changes.{Contents, deposit_answered, is_full, known_or_conflict};
-ghost use Rattle.vault.specs.Calls.{IsAnswer, IsDeposited, deposit_result, deposit_answer_in, present_in};
+ghost use Rattle.vault.specs.Calls.{IsAnswer, IsDeposited, deposit_result, deposit_answer_in};
+ghost use Rattle.vault.specs.Calls.{present_in};
 ghost use Rattle.sqlvault.specs.Keeps.{deposit_row, number_in};
 ghost use Rattle.sqlvault.specs.Deposits.{PutsReceipt, PutsMessage, Accepts, Stores, message_of};
 ghost use Rattle.sqlvault.specs.Refusals.{answer_of};
@@ -68,7 +69,9 @@ fn known_or_conflict(
     class: &Name,
     digest: &[u8; 32],
 ) -> Result<Deposited, Refusal>
-    ensures answered { (r : receipt.Receipt) (text : List ℕ) → row.now ≡ deposit_row r → digest.now ≡ text_digest text → answer_of result ≡ deposit_result (known_or_conflict class.now text r) }
+    ensures answered { (r : receipt.Receipt) (text : List ℕ) → row.now ≡ deposit_row r
+        → digest.now ≡ text_digest text → answer_of result
+        ≡ deposit_result (known_or_conflict class.now text r) }
     ensures old { (u : uid.Uid) → ¬ (result ≡ Ok (stored.New u)) }
 {
     if !is_same(row, class, digest) {
@@ -87,7 +90,9 @@ fn find_before<S: Alter>(
     maildrop: &Name,
     class: &Name,
 ) -> Result<u64, Error>
-    ensures answered { (c : Contents) → HasCleanDisk (state S.Store conn.new) → Holds (state S.Store conn.old) c → IfOk result (λ n. n ≡ class_count class.now (receipts_of maildrop.now c.deposits)) }
+    ensures answered { (c : Contents) → HasCleanDisk (state S.Store conn.new)
+        → Holds (state S.Store conn.old) c → IfOk result
+        (λ n. n ≡ class_count class.now (receipts_of maildrop.now c.deposits)) }
     ensures looks { Looks S.Store conn.old conn.new (IsOk result) }
 {
     match counts::find_count(alloc, conn, maildrop.as_bytes(), class.as_bytes()) {
@@ -103,8 +108,11 @@ fn judge_new<S: Alter>(
     maildrop: &Name,
     class: &Name,
 ) -> Result<Deposited, Refusal>
-    ensures answered { (c : Contents) (text : List ℕ) → HasCleanDisk (state S.Store conn.new) → Holds (state S.Store conn.old) c
-        → IsAnswer (deposit_result (deposit_answered None class.now text (is_full (present_in maildrop.now c) (receipts_of maildrop.now c.deposits) class.now) (class_count class.now (receipts_of maildrop.now c.deposits) + 1))) (answer_of result) }
+    ensures answered { (c : Contents) (text : List ℕ) → HasCleanDisk (state S.Store conn.new)
+        → Holds (state S.Store conn.old) c
+        → IsAnswer (deposit_result (deposit_answered None class.now text
+        (is_full (present_in maildrop.now c) (receipts_of maildrop.now c.deposits) class.now)
+        (class_count class.now (receipts_of maildrop.now c.deposits) + 1))) (answer_of result) }
     ensures looks { Looks S.Store conn.old conn.new (IsMet result) }
     ensures within { (u : uid.Uid) → result ≡ Ok (stored.New u) → u.k ≤ most_deposits }
 {
@@ -137,8 +145,10 @@ fn judge<S: Alter>(
     id: &DepositId,
     digest: &[u8; 32],
 ) -> Result<Deposited, Refusal>
-    ensures answered { (c : Contents) (text : List ℕ) → HasCleanDisk (state S.Store conn.new) → Holds (state S.Store conn.old) c → digest.now ≡ text_digest text
-        → IsAnswer (deposit_result (deposit_answer_in c maildrop.now class.now id.now text)) (answer_of result) }
+    ensures answered { (c : Contents) (text : List ℕ) → HasCleanDisk (state S.Store conn.new)
+        → Holds (state S.Store conn.old) c → digest.now ≡ text_digest text
+        → IsAnswer (deposit_result (deposit_answer_in c maildrop.now class.now id.now text))
+        (answer_of result) }
     ensures looks { Looks S.Store conn.old conn.new (IsMet result) }
     ensures within { (u : uid.Uid) → result ≡ Ok (stored.New u) → u.k ≤ most_deposits }
 {
@@ -237,7 +247,14 @@ fn store<S: Alter>(
 
 /// The receipt of a deposit that gets this number.
 fn receipt_for(maildrop: &Name, class: &Name, id: &DepositId, k: u64, digest: [u8; 32]) -> Receipt
-    ensures value { result ≡ record { maildrop = maildrop.now; id = id.now; class = class.now; k = k; digest = digest } }
+    ensures value { result ≡ record {
+      maildrop = maildrop.now;
+      id = id.now;
+      class = class.now;
+      k =
+          k;
+      digest = digest;
+    } }
     ensures maildrop_form { is_name maildrop.now ≡ true }
     ensures id_form { is_deposit_id id.now ≡ true }
     ensures class_form { is_name class.now ≡ true }

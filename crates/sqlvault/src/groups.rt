@@ -23,8 +23,11 @@ fn members_of(
     rows: &[rows::Member],
     group: i64,
 ) -> Result<Option<Vec<Name>>, AllocError>
-    ensures names { IfOk result (λ read. IfSome read (λ names. names.items ≡ member_names group rows.now)) }
-    ensures all { list_all is_name (member_names group rows.now) ≡ true → IfOk result (λ read. IsSomeAnd read (λ names. names.items ≡ member_names group rows.now)) }
+    ensures names { IfOk result (λ read. IfSome read
+        (λ names. names.items ≡ member_names group rows.now)) }
+    ensures all { list_all is_name (member_names group rows.now) ≡ true
+        → IfOk result (λ read. IsSomeAnd read (λ names. names.items
+        ≡ member_names group rows.now)) }
 {
     let mut names = Vec::new(alloc);
     for row in rows {
@@ -44,8 +47,10 @@ fn group_of(
     row: &rows::Group,
     members: &[rows::Member],
 ) -> Result<Option<Group>, AllocError>
-    ensures row { IfOk result (λ read. IfSome read (λ group. group ≡ group_in members.now row.now)) }
-    ensures all { is_sound_group (group_in members.now row.now) ≡ true → IfOk result (λ read. read ≡ Some (group_in members.now row.now)) }
+    ensures row { IfOk result (λ read. IfSome read
+        (λ group. group ≡ group_in members.now row.now)) }
+    ensures all { is_sound_group (group_in members.now row.now) ≡ true
+        → IfOk result (λ read. read ≡ Some (group_in members.now row.now)) }
 {
     let Some(name) = Name::read(row.name.as_slice()) else {
         return Ok(None);
@@ -62,8 +67,11 @@ fn groups_of(
     rows: &[rows::Group],
     members: &[rows::Member],
 ) -> Result<Option<Vec<Group>>, AllocError>
-    ensures rows { IfOk result (λ read. IfSome read (λ groups. groups.items ≡ map (group_in members.now) rows.now)) }
-    ensures all { list_all is_sound_group (map (group_in members.now) rows.now) ≡ true → IfOk result (λ read. IsSomeAnd read (λ groups. groups.items ≡ map (group_in members.now) rows.now)) }
+    ensures rows { IfOk result (λ read. IfSome read
+        (λ groups. groups.items ≡ map (group_in members.now) rows.now)) }
+    ensures all { list_all is_sound_group (map (group_in members.now) rows.now) ≡ true
+        → IfOk result (λ read. IsSomeAnd read (λ groups. groups.items
+        ≡ map (group_in members.now) rows.now)) }
 {
     let mut groups = Vec::new(alloc);
     for row in rows {
@@ -80,9 +88,13 @@ pub(crate) fn read_groups<S: Alter>(
     alloc: Global,
     conn: &mut Connection<S>,
 ) -> Result<Option<Vec<Group>>, Error>
-    ensures rows { HasCleanDisk (state S.Store conn.new) → HasTables (state S.Store conn.old) → IfOk result (λ read. IfSome read (λ groups. groups.items ≡ groups_in (rows_in (state S.Store conn.old).now.trees))) }
-    ensures all { HasCleanDisk (state S.Store conn.new) → HasTables (state S.Store conn.old) → list_all is_sound_group (groups_in (rows_in (state S.Store conn.old).now.trees)) ≡ true
-        → IfOk result (λ read. IsSomeAnd read (λ groups. groups.items ≡ groups_in (rows_in (state S.Store conn.old).now.trees))) }
+    ensures rows { HasCleanDisk (state S.Store conn.new) → HasTables (state S.Store conn.old)
+        → IfOk result (λ read. IfSome read (λ groups. groups.items
+        ≡ groups_in (rows_in (state S.Store conn.old).now.trees))) }
+    ensures all { HasCleanDisk (state S.Store conn.new) → HasTables (state S.Store conn.old)
+        → list_all is_sound_group (groups_in (rows_in (state S.Store conn.old).now.trees)) ≡ true
+        → IfOk result (λ read. IsSomeAnd read (λ groups. groups.items
+        ≡ groups_in (rows_in (state S.Store conn.old).now.trees))) }
     ensures asks { Asks S.Store conn.old conn.new result }
 {
     match groups::all_groups(alloc, conn) {

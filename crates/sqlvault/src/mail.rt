@@ -24,7 +24,8 @@ use vault::{Head, MessageKey, VaultFault};
 
 /// The head of a message's row; `None` where its class hasn't the form of a name.
 fn read_head(row: &Message) -> Option<Head>
-    ensures { (x : Keyed) → row.now ≡ message_row x → is_name x.message.class ≡ true → x.key < 2 ^ 64 → result ≡ Some (head_of x) }
+    ensures { (x : Keyed) → row.now ≡ message_row x → is_name x.message.class ≡ true
+        → x.key < 2 ^ 64 → result ≡ Some (head_of x) }
 {
     match Name::read(row.class.as_slice()) {
         Some(class) => Some(Head {
@@ -40,8 +41,13 @@ fn read_head(row: &Message) -> Option<Head>
 /// The heads of these rows, in order. Where each row is that of a message, want of memory is the
 /// only error.
 fn read_heads(alloc: Global, rows: &[Message]) -> Result<Vec<Head>, Error>
-    ensures items { (ms : List Keyed) → rows.now ≡ map message_row ms → list_all (λ x. is_name x.message.class) ms ≡ true → list_all (λ x. nat_lt x.key (2 ^ 64)) ms ≡ true → IfOk result (λ heads. heads.items ≡ map head_of ms) }
-    ensures memory { (ms : List Keyed) → rows.now ≡ map message_row ms → list_all (λ x. is_name x.message.class) ms ≡ true → list_all (λ x. nat_lt x.key (2 ^ 64)) ms ≡ true → IfErr result IsWantOfMemory }
+    ensures items { (ms : List Keyed) → rows.now ≡ map message_row ms
+        → list_all (λ x. is_name x.message.class) ms ≡ true
+        → list_all (λ x. nat_lt x.key (2 ^ 64)) ms ≡ true
+        → IfOk result (λ heads. heads.items ≡ map head_of ms) }
+    ensures memory { (ms : List Keyed) → rows.now ≡ map message_row ms
+        → list_all (λ x. is_name x.message.class) ms ≡ true
+        → list_all (λ x. nat_lt x.key (2 ^ 64)) ms ≡ true → IfErr result IsWantOfMemory }
 {
     let mut heads = Vec::new(alloc);
     for row in rows {

@@ -20,7 +20,9 @@ use std::alloc::Global;
 
 /// Puts a message of version 1 into our tables, under its key, inside a transaction.
 fn put_body<S: Alter>(conn: &mut Connection<S>, body: &Body) -> Result<(), Error>
-    ensures part { HasCleanDisk (state S.Store conn.new) → IsInside (state S.Store conn.old) → AllByRecursion (λ (m : heads.Message). m.key <ℤ body.now.head.key) (rows_in (state S.Store conn.old).now.trees).messages
+    ensures part { HasCleanDisk (state S.Store conn.new) → IsInside (state S.Store conn.old)
+        → AllByRecursion (λ (m : heads.Message). m.key <ℤ body.now.head.key)
+        (rows_in (state S.Store conn.old).now.trees).messages
         → Part (Moves (body.now ∷ [])) (state S.Store conn.old) (state S.Store conn.new) result }
     ensures clean { WasClean (state S.Store conn.old) (state S.Store conn.new) }
 {
@@ -40,8 +42,12 @@ fn put_body<S: Alter>(conn: &mut Connection<S>, body: &Body) -> Result<(), Error
 
 /// Puts the message that version 1 has under a key into our tables, inside a transaction.
 fn move_one<S: Alter>(alloc: Global, conn: &mut Connection<S>, key: i64) -> Result<(), Error>
-    ensures part { (body : rows.Body) → HasCleanDisk (state S.Store conn.new) → IsInside (state S.Store conn.old) → is_carried (state S.Store conn.old).now.trees ≡ true → find (is_body key) (rows_in (state S.Store conn.old).now.trees).bodies ≡ Some body
-        → AllByRecursion (λ (m : heads.Message). m.key <ℤ body.head.key) (rows_in (state S.Store conn.old).now.trees).messages → Part (Moves (body ∷ [])) (state S.Store conn.old) (state S.Store conn.new) result }
+    ensures part { (body : rows.Body) → HasCleanDisk (state S.Store conn.new)
+        → IsInside (state S.Store conn.old) → is_carried (state S.Store conn.old).now.trees ≡ true
+        → find (is_body key) (rows_in (state S.Store conn.old).now.trees).bodies ≡ Some body
+        → AllByRecursion (λ (m : heads.Message). m.key <ℤ body.head.key)
+        (rows_in (state S.Store conn.old).now.trees).messages
+        → Part (Moves (body ∷ [])) (state S.Store conn.old) (state S.Store conn.new) result }
     ensures clean { WasClean (state S.Store conn.old) (state S.Store conn.new) }
 {
     match bodies::find_body(alloc, conn, key) {
@@ -58,10 +64,19 @@ fn move_all<S: Alter>(
     conn: &mut Connection<S>,
     heads: &[Message],
 ) -> Result<(), Error>
-    ensures part { HasCleanDisk (state S.Store conn.new) → IsInside (state S.Store conn.old) → is_carried (state S.Store conn.old).now.trees ≡ true → (rows_in (state S.Store conn.old).now.trees).messages ≡ [] → AreRising (rows_in (state S.Store conn.old).now.trees).bodies
-        → heads.now ≡ map body_head (rows_in (state S.Store conn.old).now.trees).bodies → Part (λ before after. Moves before.bodies before after) (state S.Store conn.old) (state S.Store conn.new) result }
-    ensures carried { HasCleanDisk (state S.Store conn.new) → IsInside (state S.Store conn.old) → is_carried (state S.Store conn.old).now.trees ≡ true → (rows_in (state S.Store conn.old).now.trees).messages ≡ [] → AreRising (rows_in (state S.Store conn.old).now.trees).bodies
-        → heads.now ≡ map body_head (rows_in (state S.Store conn.old).now.trees).bodies → OnOk result (is_carried (state S.Store conn.new).now.trees ≡ true) }
+    ensures part { HasCleanDisk (state S.Store conn.new) → IsInside (state S.Store conn.old)
+        → is_carried (state S.Store conn.old).now.trees ≡ true
+        → (rows_in (state S.Store conn.old).now.trees).messages ≡ []
+        → AreRising (rows_in (state S.Store conn.old).now.trees).bodies
+        → heads.now ≡ map body_head (rows_in (state S.Store conn.old).now.trees).bodies
+        → Part (λ before after. Moves before.bodies before after) (state S.Store conn.old)
+        (state S.Store conn.new) result }
+    ensures carried { HasCleanDisk (state S.Store conn.new) → IsInside (state S.Store conn.old)
+        → is_carried (state S.Store conn.old).now.trees ≡ true
+        → (rows_in (state S.Store conn.old).now.trees).messages ≡ []
+        → AreRising (rows_in (state S.Store conn.old).now.trees).bodies
+        → heads.now ≡ map body_head (rows_in (state S.Store conn.old).now.trees).bodies
+        → OnOk result (is_carried (state S.Store conn.new).now.trees ≡ true) }
     ensures clean { WasClean (state S.Store conn.old) (state S.Store conn.new) }
 {
     for head in heads {
@@ -76,7 +91,9 @@ fn move_all<S: Alter>(
 /// Moves every message of version 1 into our tables, which have no message yet, and empties the old
 /// table, inside a transaction.
 fn move_messages<S: Alter>(alloc: Global, conn: &mut Connection<S>) -> Result<(), Error>
-    ensures part { HasCleanDisk (state S.Store conn.new) → IsInside (state S.Store conn.old) → is_carried (state S.Store conn.old).now.trees ≡ true → (rows_in (state S.Store conn.old).now.trees).messages ≡ []
+    ensures part { HasCleanDisk (state S.Store conn.new) → IsInside (state S.Store conn.old)
+        → is_carried (state S.Store conn.old).now.trees ≡ true
+        → (rows_in (state S.Store conn.old).now.trees).messages ≡ []
         → Part MovesAll (state S.Store conn.old) (state S.Store conn.new) result }
     ensures clean { WasClean (state S.Store conn.old) (state S.Store conn.new) }
 {
@@ -98,7 +115,9 @@ pub(crate) fn move_old<S: Alter>(
     conn: &mut Connection<S>,
     carried: bool,
 ) -> Result<(), Error>
-    ensures part { HasCleanDisk (state S.Store conn.new) → IsInside (state S.Store conn.old) → is_carried (state S.Store conn.old).now.trees ≡ carried → (IsTrue carried → (rows_in (state S.Store conn.old).now.trees).messages ≡ [])
+    ensures part { HasCleanDisk (state S.Store conn.new) → IsInside (state S.Store conn.old)
+        → is_carried (state S.Store conn.old).now.trees ≡ carried
+        → (IsTrue carried → (rows_in (state S.Store conn.old).now.trees).messages ≡ [])
         → Part (MovesOld carried) (state S.Store conn.old) (state S.Store conn.new) result }
     ensures clean { WasClean (state S.Store conn.old) (state S.Store conn.new) }
 {

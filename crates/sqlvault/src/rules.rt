@@ -1,5 +1,6 @@
 //! The policy, read from its rows and written to them.
-ghost use Rattle.std.specs.Prelude.{◌≡◌, true, false, codes, take, drop, pos, List, [], ◌∷◌, map, Some, MatchOption, IsTrue, OnOk, IfOk, IfSome, IsSomeAnd};
+ghost use Rattle.std.specs.Prelude.{◌≡◌, true, false, codes, take, drop, pos, List, [], ◌∷◌, map};
+ghost use Rattle.std.specs.Prelude.{Some, MatchOption, IsTrue, OnOk, IfOk, IfSome, IsSomeAnd};
 ghost use Rattle.std.specs.List.{list_all};
 ghost use Rattle.std.specs.Str.{bytes_eq};
 ghost use Rattle.sqlite.specs.Held.{state};
@@ -11,7 +12,8 @@ ghost use Rattle.policy.specs.Policy.{Policy, is_pattern, is_sound_rule, is_soun
 ghost use Rattle.policy.specs.PolicyText.{clerks_named};
 ghost use Rattle.vault.specs.Changes.{Contents};
 ghost use Rattle.vault.specs.Calls.{IsPolicy, IsPolicySet};
-ghost use Rattle.sqlvault.specs.Keeps.{clerks_text, pattern_text, effect_number, actions_number, rule_row, at_place};
+ghost use Rattle.sqlvault.specs.Keeps.{clerks_text, pattern_text, effect_number, actions_number};
+ghost use Rattle.sqlvault.specs.Keeps.{rule_row, at_place};
 ghost use Rattle.sqlvault.specs.Rules.{AddsRules, SetsRules, SetsPolicy};
 ghost use Rattle.sqlvault.specs.Refusals.{answer_of};
 ghost use Rattle.sqlvault.specs.Frame.{IsMet, Looks, Acts, Writes};
@@ -71,7 +73,8 @@ fn actions_number(actions: Actions) -> i64
 
 fn read_pattern(text: &[u8]) -> Option<Pattern>
     ensures text { IfSome result (λ p. text.now ≡ pattern_text p) }
-    ensures read { (p : pattern.Pattern) → is_pattern p ≡ true → text.now ≡ pattern_text p → result ≡ Some p }
+    ensures read { (p : pattern.Pattern) → is_pattern p ≡ true → text.now ≡ pattern_text p
+        → result ≡ Some p }
 {
     if text == b"*".as_slice() {
         Some(Pattern::Any)
@@ -136,7 +139,8 @@ fn read_actions(number: i64) -> Option<Actions>
 /// The rule of a row, whatever its place; `None` where the row is no rule's.
 fn read_rule(row: &rows::Rule) -> Option<Rule>
     ensures row { IfSome result (λ r. at_place (pos 0) row.now ≡ rule_row (pos 0) r) }
-    ensures read { (r : rule.Rule) → is_sound_rule r ≡ true → at_place (pos 0) row.now ≡ rule_row (pos 0) r → result ≡ Some r }
+    ensures read { (r : rule.Rule) → is_sound_rule r ≡ true
+        → at_place (pos 0) row.now ≡ rule_row (pos 0) r → result ≡ Some r }
 {
     Some(Rule {
         name: Name::read(row.name.as_slice())?,
@@ -150,8 +154,11 @@ fn read_rule(row: &rows::Rule) -> Option<Rule>
 
 /// The rules of the rows, in order; `None` where a row is no sound rule's.
 pub(crate) fn rules_of(alloc: Global, rows: &[rows::Rule]) -> Result<Option<Vec<Rule>>, AllocError>
-    ensures rows { IfOk result (λ read. IfSome read (λ rules. map (at_place (pos 0)) rows.now ≡ map (rule_row (pos 0)) rules.items)) }
-    ensures all { (rs : List rule.Rule) → list_all is_sound_rule rs ≡ true → map (at_place (pos 0)) rows.now ≡ map (rule_row (pos 0)) rs → IfOk result (λ read. IsSomeAnd read (λ rules. rules.items ≡ rs)) }
+    ensures rows { IfOk result (λ read. IfSome read
+        (λ rules. map (at_place (pos 0)) rows.now ≡ map (rule_row (pos 0)) rules.items)) }
+    ensures all { (rs : List rule.Rule) → list_all is_sound_rule rs ≡ true
+        → map (at_place (pos 0)) rows.now ≡ map (rule_row (pos 0)) rs
+        → IfOk result (λ read. IsSomeAnd read (λ rules. rules.items ≡ rs)) }
 {
     let mut rules = Vec::new(alloc);
     for row in rows {
@@ -165,7 +172,9 @@ pub(crate) fn rules_of(alloc: Global, rows: &[rows::Rule]) -> Result<Option<Vec<
 
 /// The policy of these groups and of the rules of these rows.
 fn read_policy(alloc: Global, groups: Vec<Group>, rows: &[rows::Rule]) -> Result<Policy, Error>
-    ensures { (p : Policy) → is_sound_policy p ≡ true → groups.items ≡ p.groups → map (at_place (pos 0)) rows.now ≡ map (rule_row (pos 0)) p.rules → IfOk result (λ read. read ≡ p) }
+    ensures { (p : Policy) → is_sound_policy p ≡ true → groups.items ≡ p.groups
+        → map (at_place (pos 0)) rows.now ≡ map (rule_row (pos 0)) p.rules
+        → IfOk result (λ read. read ≡ p) }
 {
     match rules_of(alloc, rows)? {
         Some(rules) => match Policy::from_parts(groups, rules)? {

@@ -77,7 +77,9 @@ pub(crate) fn are_clerks_sound<S: Alter>(
     alloc: Global,
     conn: &mut Connection<S>,
 ) -> Result<bool, Error>
-    ensures judged { HasCleanDisk (state S.Store conn.new) → HasTables (state S.Store conn.old) → AreApart (rows_in (state S.Store conn.old).now.trees) → IfOk result (Finds (ClerksAre (rows_in (state S.Store conn.old).now.trees))) }
+    ensures judged { HasCleanDisk (state S.Store conn.new) → HasTables (state S.Store conn.old)
+        → AreApart (rows_in (state S.Store conn.old).now.trees)
+        → IfOk result (Finds (ClerksAre (rows_in (state S.Store conn.old).now.trees))) }
     ensures asks { Asks S.Store conn.old conn.new result }
 {
     match clerks::all_clerks(alloc, conn) {
@@ -91,7 +93,9 @@ pub(crate) fn are_maildrops_sound<S: Alter>(
     alloc: Global,
     conn: &mut Connection<S>,
 ) -> Result<bool, Error>
-    ensures judged { HasCleanDisk (state S.Store conn.new) → HasTables (state S.Store conn.old) → AreApart (rows_in (state S.Store conn.old).now.trees) → IfOk result (Finds (MaildropsAre (rows_in (state S.Store conn.old).now.trees))) }
+    ensures judged { HasCleanDisk (state S.Store conn.new) → HasTables (state S.Store conn.old)
+        → AreApart (rows_in (state S.Store conn.old).now.trees)
+        → IfOk result (Finds (MaildropsAre (rows_in (state S.Store conn.old).now.trees))) }
     ensures asks { Asks S.Store conn.old conn.new result }
 {
     match maildrops::all_maildrops(alloc, conn) {

@@ -1,5 +1,6 @@
 //! Whether the rows of the deposits are sound records, with counts that agree.
-ghost use Rattle.std.specs.Prelude.{◌≡◌, ◌==◌, ◌&&◌, List, map, sum_by, true, false, Some, None, IfOk, IfSome, MatchOption, if◌then◌else◌};
+ghost use Rattle.std.specs.Prelude.{◌≡◌, ◌==◌, ◌&&◌, List, map, sum_by, true, false, Some, None};
+ghost use Rattle.std.specs.Prelude.{IfOk, IfSome, MatchOption, if◌then◌else◌};
 ghost use Rattle.std.specs.List.{list_all};
 ghost use Rattle.sqlite.specs.Held.{state};
 ghost use Rattle.sqlite.specs.State.{HasCleanDisk};
@@ -35,7 +36,8 @@ fn natural(number: i64) -> Option<u64>
 
 /// The number of a deposit's row; `None` where the row is no deposit's.
 fn read_deposit(row: &Deposit) -> Option<Number>
-    ensures { result ≡ (if spec.is_deposit_row row.now then Some (spec.number_of row.now) else None) }
+    ensures { result ≡ (if spec.is_deposit_row row.now then Some (spec.number_of row.now) else
+        None) }
 {
     let maildrop = Name::read(row.maildrop.as_slice())?;
     let _id = DepositId::read(row.id.as_slice())?;
@@ -52,7 +54,9 @@ fn read_deposit(row: &Deposit) -> Option<Number>
 
 /// The numbers of the rows; `None` where one is no deposit's.
 fn read_deposits(alloc: Global, rows: &[Deposit]) -> Result<Option<BTreeSet<Number>>, AllocError>
-    ensures { IfOk result (λ read. MatchOption read (list_all spec.is_deposit_row rows.now ≡ false) (λ s. (list_all spec.is_deposit_row rows.now ≡ true) × spec.IsSetOf (map spec.number_of rows.now) s)) }
+    ensures { IfOk result (λ read. MatchOption read (list_all spec.is_deposit_row rows.now ≡ false)
+        (λ s. (list_all spec.is_deposit_row rows.now ≡ true)
+        × spec.IsSetOf (map spec.number_of rows.now) s)) }
 {
     let mut numbers = BTreeSet::new(alloc);
     for row in rows {
@@ -77,7 +81,8 @@ fn read_count(count: &Count) -> Option<u64>
 
 /// Whether the numbers 1 to `count` of the class are all there.
 fn has_all(numbers: &BTreeSet<Number>, maildrop: &Name, class: &Name, count: u64) -> bool
-    ensures { (ns : List spec.Number) → spec.IsSetOf ns numbers.now → result ≡ spec.has_all ns maildrop.now class.now count }
+    ensures { (ns : List spec.Number) → spec.IsSetOf ns numbers.now
+        → result ≡ spec.has_all ns maildrop.now class.now count }
 {
     for before in 0..count {
         if !numbers.contains(&(*maildrop, *class, before + 1)) {
@@ -89,7 +94,9 @@ fn has_all(numbers: &BTreeSet<Number>, maildrop: &Name, class: &Name, count: u64
 
 /// Whether the row's names have their form, and its class has all the numbers 1 to `count`.
 fn has_named(numbers: &BTreeSet<Number>, row: &Count, count: u64) -> bool
-    ensures { (ns : List spec.Number) → spec.IsSetOf ns numbers.now → result ≡ (is_name row.now.maildrop && is_name row.now.class && spec.has_all ns row.now.maildrop row.now.class count) }
+    ensures { (ns : List spec.Number) → spec.IsSetOf ns numbers.now
+        → result ≡ (is_name row.now.maildrop && is_name row.now.class
+        && spec.has_all ns row.now.maildrop row.now.class count) }
 {
     let Some(maildrop) = Name::read(row.maildrop.as_slice()) else {
         return false;
@@ -102,7 +109,8 @@ fn has_named(numbers: &BTreeSet<Number>, row: &Count, count: u64) -> bool
 
 /// The number of a count; `None` where it is out of its range or a number from 1 to it is missing.
 fn filled(numbers: &BTreeSet<Number>, row: &Count) -> Option<u64>
-    ensures value { (ns : List spec.Number) → spec.IsSetOf ns numbers.now → result ≡ (if spec.is_filled ns row.now then Some (spec.asked row.now) else None) }
+    ensures value { (ns : List spec.Number) → spec.IsSetOf ns numbers.now
+        → result ≡ (if spec.is_filled ns row.now then Some (spec.asked row.now) else None) }
     ensures asked { IfSome result (λ count. count ≡ spec.asked row.now) }
 {
     let count = read_count(row)?;
@@ -118,7 +126,9 @@ fn filled(numbers: &BTreeSet<Number>, row: &Count) -> Option<u64>
 
 /// Whether the numbers of each count are there, and their sum is the number of deposits.
 fn are_filled(numbers: &BTreeSet<Number>, rows: &[Count], deposits: usize) -> bool
-    ensures { (ns : List spec.Number) → spec.IsSetOf ns numbers.now → result ≡ (list_all (spec.is_filled ns) rows.now && sum_by spec.asked rows.now == deposits) }
+    ensures { (ns : List spec.Number) → spec.IsSetOf ns numbers.now
+        → result ≡ (list_all (spec.is_filled ns) rows.now
+        && sum_by spec.asked rows.now == deposits) }
 {
     let mut left = deposits as u64;
     for row in rows {
@@ -149,7 +159,9 @@ pub(crate) fn are_deposits_sound<S: Alter>(
     alloc: Global,
     conn: &mut Connection<S>,
 ) -> Result<bool, Error>
-    ensures judged { HasCleanDisk (state S.Store conn.new) → HasTables (state S.Store conn.old) → AreApart (rows_in (state S.Store conn.old).now.trees) → IfOk result (Finds (DepositsAre (rows_in (state S.Store conn.old).now.trees))) }
+    ensures judged { HasCleanDisk (state S.Store conn.new) → HasTables (state S.Store conn.old)
+        → AreApart (rows_in (state S.Store conn.old).now.trees)
+        → IfOk result (Finds (DepositsAre (rows_in (state S.Store conn.old).now.trees))) }
     ensures asks { Asks S.Store conn.old conn.new result }
 {
     let rows = match deposits::all_deposits(alloc, conn) {

@@ -7,7 +7,9 @@ ghost use Rattle.mailsql.specs.Rows.{HasTables, rows_in};
 ghost use Rattle.mailsql.specs.Apart.{AreApart};
 ghost use Rattle.sqlvault.specs.Frame.{Asks, Reads};
 ghost use Rattle.sqlvault.specs.Parts.{Finds, MaildropsAre, DepositsAre, MessagesAre};
-ghost use Rattle.sqlvault.specs.Stored.{Tells, Counts, Brings, IsPiece, HasText, is_kept_text, IsNumber, IsStored, HasMessage, sheets_in, IsSoundIn, sheets_under};
+ghost use Rattle.sqlvault.specs.Stored.{Tells, Counts, Brings, IsPiece, HasText, is_kept_text};
+ghost use Rattle.sqlvault.specs.Stored.{IsNumber, IsStored, HasMessage, sheets_in, IsSoundIn};
+ghost use Rattle.sqlvault.specs.Stored.{sheets_under};
 
 use mailsql::rows::{Message, Sheet};
 use mailsql::sheets::{self, SHEET_OCTETS};
@@ -28,7 +30,9 @@ fn find_piece<S: Alter>(
     place: u32,
     size: usize,
 ) -> Result<Option<Sheet>, Error>
-    ensures judged { HasCleanDisk (state S.Store conn.new) → HasTables (state S.Store conn.old) → IfOk result (Brings (λ s. s.octets) (IsPiece (rows_in (state S.Store conn.old).now.trees) mail place size)) }
+    ensures judged { HasCleanDisk (state S.Store conn.new) → HasTables (state S.Store conn.old)
+        → IfOk result (Brings (λ s. s.octets) (IsPiece (rows_in (state S.Store conn.old).now.trees)
+        mail place size)) }
     ensures reads { Reads S.Store conn.old conn.new result }
 {
     match sheets::find_sheet(alloc, conn, mail, i64::from(place)) {
@@ -51,7 +55,9 @@ fn find_text<S: Alter>(
     mail: i64,
     octets: u32,
 ) -> Result<Option<Vec<u8>>, Error>
-    ensures judged { HasCleanDisk (state S.Store conn.new) → HasTables (state S.Store conn.old) → IfOk result (Brings (λ text. text.items) (HasText (rows_in (state S.Store conn.old).now.trees) mail octets)) }
+    ensures judged { HasCleanDisk (state S.Store conn.new) → HasTables (state S.Store conn.old)
+        → IfOk result (Brings (λ text. text.items)
+        (HasText (rows_in (state S.Store conn.old).now.trees) mail octets)) }
     ensures reads { Reads S.Store conn.old conn.new result }
 {
     let long = octets as usize;
@@ -80,7 +86,10 @@ fn is_numbered<S: Alter>(
     conn: &mut Connection<S>,
     row: &Message,
 ) -> Result<bool, Error>
-    ensures judged { (deposits : List vault.Receipt) → HasCleanDisk (state S.Store conn.new) → HasTables (state S.Store conn.old) → DepositsAre (rows_in (state S.Store conn.old).now.trees) deposits → IfOk result (Finds (IsNumber deposits row.now)) }
+    ensures judged { (deposits : List vault.Receipt) → HasCleanDisk (state S.Store conn.new)
+        → HasTables (state S.Store conn.old) → DepositsAre
+        (rows_in (state S.Store conn.old).now.trees) deposits
+        → IfOk result (Finds (IsNumber deposits row.now)) }
     ensures reads { Reads S.Store conn.old conn.new result }
 {
     match counts::find_count(alloc, conn, row.maildrop.as_slice(), row.class.as_slice()) {
@@ -104,7 +113,11 @@ fn is_message_sound<S: Alter>(
     conn: &mut Connection<S>,
     row: &Message,
 ) -> Result<bool, Error>
-    ensures judged { (deposits : List vault.Receipt) → HasCleanDisk (state S.Store conn.new) → HasTables (state S.Store conn.old) → DepositsAre (rows_in (state S.Store conn.old).now.trees) deposits → IfOk result (Finds (IsStored (rows_in (state S.Store conn.old).now.trees) deposits row.now)) }
+    ensures judged { (deposits : List vault.Receipt) → HasCleanDisk (state S.Store conn.new)
+        → HasTables (state S.Store conn.old) → DepositsAre
+        (rows_in (state S.Store conn.old).now.trees) deposits
+        → IfOk result (Finds (IsStored (rows_in (state S.Store conn.old).now.trees) deposits
+        row.now)) }
     ensures reads { Reads S.Store conn.old conn.new result }
 {
     match is_numbered(alloc, conn, row) {
@@ -131,7 +144,11 @@ fn are_all_sound<S: Alter>(
     conn: &mut Connection<S>,
     rows: &[Message],
 ) -> Result<bool, Error>
-    ensures judged { (deposits : List vault.Receipt) → HasCleanDisk (state S.Store conn.new) → HasTables (state S.Store conn.old) → DepositsAre (rows_in (state S.Store conn.old).now.trees) deposits → IfOk result (Tells (All (HasMessage (rows_in (state S.Store conn.old).now.trees) deposits) rows.now)) }
+    ensures judged { (deposits : List vault.Receipt) → HasCleanDisk (state S.Store conn.new)
+        → HasTables (state S.Store conn.old) → DepositsAre
+        (rows_in (state S.Store conn.old).now.trees) deposits
+        → IfOk result (Tells (All (HasMessage (rows_in (state S.Store conn.old).now.trees) deposits)
+        rows.now)) }
     ensures reads { Reads S.Store conn.old conn.new result }
 {
     for row in rows {
@@ -163,7 +180,11 @@ fn judge_maildrop<S: Alter>(
     conn: &mut Connection<S>,
     name: &[u8],
 ) -> Result<Option<u64>, Error>
-    ensures judged { (deposits : List vault.Receipt) → HasCleanDisk (state S.Store conn.new) → HasTables (state S.Store conn.old) → DepositsAre (rows_in (state S.Store conn.old).now.trees) deposits → IfOk result (Counts (IsSoundIn (rows_in (state S.Store conn.old).now.trees) deposits name.now) (sheets_under (rows_in (state S.Store conn.old).now.trees) name.now)) }
+    ensures judged { (deposits : List vault.Receipt) → HasCleanDisk (state S.Store conn.new)
+        → HasTables (state S.Store conn.old) → DepositsAre
+        (rows_in (state S.Store conn.old).now.trees) deposits
+        → IfOk result (Counts (IsSoundIn (rows_in (state S.Store conn.old).now.trees) deposits
+        name.now) (sheets_under (rows_in (state S.Store conn.old).now.trees) name.now)) }
     ensures reads { Reads S.Store conn.old conn.new result }
 {
     let rows = match mail::heads(alloc, conn, name) {
@@ -187,7 +208,11 @@ fn judge_maildrops<S: Alter>(
     conn: &mut Connection<S>,
     names: &[Bytes],
 ) -> Result<Option<u64>, Error>
-    ensures judged { (deposits : List vault.Receipt) → HasCleanDisk (state S.Store conn.new) → HasTables (state S.Store conn.old) → DepositsAre (rows_in (state S.Store conn.old).now.trees) deposits → IfOk result (Counts (All (IsSoundIn (rows_in (state S.Store conn.old).now.trees) deposits) names.now) (sum_by (sheets_under (rows_in (state S.Store conn.old).now.trees)) names.now)) }
+    ensures judged { (deposits : List vault.Receipt) → HasCleanDisk (state S.Store conn.new)
+        → HasTables (state S.Store conn.old) → DepositsAre
+        (rows_in (state S.Store conn.old).now.trees) deposits
+        → IfOk result (Counts (All (IsSoundIn (rows_in (state S.Store conn.old).now.trees) deposits)
+        names.now) (sum_by (sheets_under (rows_in (state S.Store conn.old).now.trees)) names.now)) }
     ensures reads { Reads S.Store conn.old conn.new result }
 {
     let mut sheets: u64 = 0;
@@ -208,8 +233,11 @@ pub(crate) fn are_messages_sound<S: Alter>(
     alloc: Global,
     conn: &mut Connection<S>,
 ) -> Result<bool, Error>
-    ensures judged { (deposits : List vault.Receipt) → HasCleanDisk (state S.Store conn.new) → HasTables (state S.Store conn.old) → AreApart (rows_in (state S.Store conn.old).now.trees)
-        → MaildropsAre (rows_in (state S.Store conn.old).now.trees) (rows_in (state S.Store conn.old).now.trees).maildrops → DepositsAre (rows_in (state S.Store conn.old).now.trees) deposits
+    ensures judged { (deposits : List vault.Receipt) → HasCleanDisk (state S.Store conn.new)
+        → HasTables (state S.Store conn.old) → AreApart (rows_in (state S.Store conn.old).now.trees)
+        → MaildropsAre (rows_in (state S.Store conn.old).now.trees)
+        (rows_in (state S.Store conn.old).now.trees).maildrops
+        → DepositsAre (rows_in (state S.Store conn.old).now.trees) deposits
         → IfOk result (Finds (MessagesAre (rows_in (state S.Store conn.old).now.trees) deposits)) }
     ensures asks { Asks S.Store conn.old conn.new result }
 {

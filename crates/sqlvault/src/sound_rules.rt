@@ -17,7 +17,9 @@ use std::alloc::{AllocError, Global};
 
 /// Whether the rows are the rules of a policy with these groups.
 fn are_rules(alloc: Global, groups: Vec<Group>, rows: &[rows::Rule]) -> Result<bool, AllocError>
-    ensures { IfOk result (Finds (λ p. (groups.items ≡ p.groups) × (map (at_place (pos 0)) rows.now ≡ map (rule_row (pos 0)) p.rules) × (is_sound_policy p ≡ true))) }
+    ensures { IfOk result (Finds (λ p. (groups.items ≡ p.groups)
+        × (map (at_place (pos 0)) rows.now ≡ map (rule_row (pos 0)) p.rules)
+        × (is_sound_policy p ≡ true))) }
 {
     match rules_of(alloc, rows)? {
         Some(rules) => Ok(Policy::from_parts(groups, rules)?.is_some()),
@@ -31,7 +33,9 @@ fn are_rules_with<S: Alter>(
     conn: &mut Connection<S>,
     groups: Vec<Group>,
 ) -> Result<bool, Error>
-    ensures judged { HasCleanDisk (state S.Store conn.new) → HasTables (state S.Store conn.old) → groups.items ≡ groups_in (rows_in (state S.Store conn.old).now.trees) → IfOk result (Finds (PolicyIs (rows_in (state S.Store conn.old).now.trees))) }
+    ensures judged { HasCleanDisk (state S.Store conn.new) → HasTables (state S.Store conn.old)
+        → groups.items ≡ groups_in (rows_in (state S.Store conn.old).now.trees)
+        → IfOk result (Finds (PolicyIs (rows_in (state S.Store conn.old).now.trees))) }
     ensures asks { Asks S.Store conn.old conn.new result }
 {
     match rules::all_rules(alloc, conn) {
@@ -45,7 +49,8 @@ pub(crate) fn are_rules_sound<S: Alter>(
     alloc: Global,
     conn: &mut Connection<S>,
 ) -> Result<bool, Error>
-    ensures judged { HasCleanDisk (state S.Store conn.new) → HasTables (state S.Store conn.old) → IfOk result (Finds (PolicyIs (rows_in (state S.Store conn.old).now.trees))) }
+    ensures judged { HasCleanDisk (state S.Store conn.new) → HasTables (state S.Store conn.old)
+        → IfOk result (Finds (PolicyIs (rows_in (state S.Store conn.old).now.trees))) }
     ensures asks { Asks S.Store conn.old conn.new result }
 {
     match read_groups(alloc, conn) {

@@ -3,7 +3,9 @@ ghost use Rattle.std.specs.Prelude.{◌≡◌, false, IfOk, IfErr, IsTrue};
 ghost use Rattle.sqlite.specs.Held.{Held, state};
 ghost use Rattle.sqlite.specs.State.{HasCleanDisk};
 ghost use Rattle.vault.specs.Calls.{CountsFaults};
-ghost use Rattle.sqlvault.specs.Adopts.{IsAdopted, IsKnown, IsRefused, IsAdoptFault, LeavesEmptyToo, RefusesOlder, IsOfUnknownVersion, RefusesVersion};
+ghost use Rattle.sqlvault.specs.Adopts.{IsAdopted, IsKnown, IsRefused, IsAdoptFault};
+ghost use Rattle.sqlvault.specs.Adopts.{LeavesEmptyToo, RefusesOlder, IsOfUnknownVersion};
+ghost use Rattle.sqlvault.specs.Adopts.{RefusesVersion};
 ghost use Rattle.sqlvault.specs.Carries.{HasOlder, IsCarried, LeavesEither};
 ghost use Rattle.sqlvault.specs.Refusals.{answer_of, count_after, open_fault};
 
@@ -50,7 +52,8 @@ impl SqlVault<MemStore> {
     /// Answers [`VaultFault::NoMemory`] where memory was refused, and [`VaultFault::Store`] where
     /// SQLite refused a statement.
     pub fn in_memory(alloc: Global) -> Result<SqlVault<MemStore>, VaultFault>
-        ensures empty { IfOk result (λ vault. IsTrue (state over_memory vault.conn).is_open × Holds (state over_memory vault.conn) no_contents) }
+        ensures empty { IfOk result (λ vault. IsTrue (state over_memory vault.conn).is_open
+            × Holds (state over_memory vault.conn) no_contents) }
         ensures uncounted { IfOk result (λ vault. vault.faults ≡ 0) }
         ensures refused { IfErr result (λ fault. (fault ≡ Store) ⊎ (fault ≡ NoMemory)) }
     {
@@ -104,11 +107,25 @@ fn open_fault(error: &Error) -> VaultFault
 
 /// Adopts a connection, and drops it where it is refused.
 fn take<S: Alter + Drop>(alloc: Global, conn: Connection<S>) -> Result<SqlVault<S>, VaultFault>
-    ensures adopted { IfOk result (λ vault. HasCleanDisk (state S.Store vault.conn) → HasCleanDisk (state S.Store conn) × (IsKnown (state S.Store conn) → IsAdopted (state S.Store conn) (state S.Store vault.conn))) }
-    ensures stop { IfOk result (λ vault. HasCleanDisk (state S.Store vault.conn) → IsKnown (state S.Store conn) → IsTrue (state S.Store conn).is_open → LeavesEmptyToo (state S.Store conn) (state S.Store vault.conn)) }
-    ensures carried { IfOk result (λ vault. HasCleanDisk (state S.Store vault.conn) → HasOlder (state S.Store conn) → (state S.Store conn).in_transaction ≡ false → IsCarried (state S.Store conn) (state S.Store vault.conn) × LeavesEither (state S.Store conn) (state S.Store vault.conn)) }
-    ensures refused { IfErr result (λ fault. (last : Held _) × (HasCleanDisk (state S.Store last) → HasCleanDisk (state S.Store conn) × (IsKnown (state S.Store conn) → IsRefused (state S.Store conn) fault) × ((state S.Store conn).in_transaction ≡ false → RefusesOlder (state S.Store conn) (state S.Store last) fault) × (IsOfUnknownVersion (state S.Store conn) → RefusesVersion (state S.Store conn) (state S.Store last) fault))) }
-    ensures known_version { IfOk result (λ vault. HasCleanDisk (state S.Store vault.conn) → IsOfUnknownVersion (state S.Store conn) → ⊥) }
+    ensures adopted { IfOk result (λ vault. HasCleanDisk (state S.Store vault.conn)
+        → HasCleanDisk (state S.Store conn) × (IsKnown (state S.Store conn)
+        → IsAdopted (state S.Store conn) (state S.Store vault.conn))) }
+    ensures stop { IfOk result (λ vault. HasCleanDisk (state S.Store vault.conn)
+        → IsKnown (state S.Store conn) → IsTrue (state S.Store conn).is_open
+        → LeavesEmptyToo (state S.Store conn) (state S.Store vault.conn)) }
+    ensures carried { IfOk result (λ vault. HasCleanDisk (state S.Store vault.conn)
+        → HasOlder (state S.Store conn) → (state S.Store conn).in_transaction ≡ false
+        → IsCarried (state S.Store conn) (state S.Store vault.conn)
+        × LeavesEither (state S.Store conn) (state S.Store vault.conn)) }
+    ensures refused { IfErr result (λ fault. (last : Held _)
+        × (HasCleanDisk (state S.Store last) → HasCleanDisk (state S.Store conn)
+        × (IsKnown (state S.Store conn) → IsRefused (state S.Store conn) fault)
+        × ((state S.Store conn).in_transaction ≡ false
+        → RefusesOlder (state S.Store conn) (state S.Store last) fault)
+        × (IsOfUnknownVersion (state S.Store conn)
+        → RefusesVersion (state S.Store conn) (state S.Store last) fault))) }
+    ensures known_version { IfOk result (λ vault. HasCleanDisk (state S.Store vault.conn)
+        → IsOfUnknownVersion (state S.Store conn) → ⊥) }
     ensures kinds { IfErr result IsAdoptFault }
     ensures uncounted { IfOk result (λ vault. vault.faults ≡ 0) }
 {
@@ -158,18 +175,36 @@ impl<S: Alter> SqlVault<S> {
         alloc: Global,
         conn: Connection<S>,
     ) -> Result<SqlVault<S>, (VaultFault, Connection<S>)>
-        ensures adopted { HasCleanDisk (state S.Store (conn_of result)) → IsKnown (state S.Store conn) → Adopts (state S.Store conn) (state S.Store (conn_of result)) (judged_in result) }
+        ensures adopted { HasCleanDisk (state S.Store (conn_of result))
+            → IsKnown (state S.Store conn) → Adopts (state S.Store conn)
+            (state S.Store (conn_of result)) (judged_in result) }
         ensures inside { IsTrue (state S.Store conn).in_transaction → result ≡ Err (NotOurs, conn) }
-        ensures taken { (state S.Store conn).in_transaction ≡ false → is_taken (state S.Store conn).now.schema ≡ true → has_marks (state S.Store conn).now.schema.tables ≡ false → result ≡ Err (NotOurs, conn) }
+        ensures taken { (state S.Store conn).in_transaction ≡ false
+            → is_taken (state S.Store conn).now.schema ≡ true
+            → has_marks (state S.Store conn).now.schema.tables ≡ false
+            → result ≡ Err (NotOurs, conn) }
         ensures kinds { IfErr result (λ refused. IsAdoptFault refused.0) }
-        ensures stays { IfErr result (λ refused. HasCleanDisk (state S.Store refused.1) → IsKnown (state S.Store conn) → StaysAs (state S.Store conn) (state S.Store refused.1)) }
+        ensures stays { IfErr result (λ refused. HasCleanDisk (state S.Store refused.1)
+            → IsKnown (state S.Store conn) → StaysAs (state S.Store conn)
+            (state S.Store refused.1)) }
         ensures uncounted { IfOk result (λ vault. vault.faults ≡ 0) }
-        ensures stop { HasCleanDisk (state S.Store (conn_of result)) → IsKnown (state S.Store conn) → IsTrue (state S.Store conn).is_open → LeavesEmptyToo (state S.Store conn) (state S.Store (conn_of result)) }
+        ensures stop { HasCleanDisk (state S.Store (conn_of result)) → IsKnown (state S.Store conn)
+            → IsTrue (state S.Store conn).is_open → LeavesEmptyToo (state S.Store conn)
+            (state S.Store (conn_of result)) }
         ensures clean { WasClean (state S.Store conn) (state S.Store (conn_of result)) }
-        ensures carried { HasCleanDisk (state S.Store (conn_of result)) → HasOlder (state S.Store conn) → (state S.Store conn).in_transaction ≡ false → CarriesOver (state S.Store conn) (state S.Store (conn_of result)) (judged_in result) }
-        ensures carried_stays { IfErr result (λ refused. HasCleanDisk (state S.Store refused.1) → HasOlder (state S.Store conn) → (state S.Store conn).in_transaction ≡ false → StaysAs (state S.Store conn) (state S.Store refused.1)) }
-        ensures carried_stop { HasCleanDisk (state S.Store (conn_of result)) → HasOlder (state S.Store conn) → (state S.Store conn).in_transaction ≡ false → LeavesEither (state S.Store conn) (state S.Store (conn_of result)) }
-        ensures unknown { HasCleanDisk (state S.Store (conn_of result)) → IsOfUnknownVersion (state S.Store conn) → IsVersionRefused (state S.Store conn) (state S.Store (conn_of result)) (judged_in result) }
+        ensures carried { HasCleanDisk (state S.Store (conn_of result))
+            → HasOlder (state S.Store conn) → (state S.Store conn).in_transaction ≡ false
+            → CarriesOver (state S.Store conn) (state S.Store (conn_of result)) (judged_in result) }
+        ensures carried_stays { IfErr result (λ refused. HasCleanDisk (state S.Store refused.1)
+            → HasOlder (state S.Store conn) → (state S.Store conn).in_transaction ≡ false
+            → StaysAs (state S.Store conn) (state S.Store refused.1)) }
+        ensures carried_stop { HasCleanDisk (state S.Store (conn_of result))
+            → HasOlder (state S.Store conn) → (state S.Store conn).in_transaction ≡ false
+            → LeavesEither (state S.Store conn) (state S.Store (conn_of result)) }
+        ensures unknown { HasCleanDisk (state S.Store (conn_of result))
+            → IsOfUnknownVersion (state S.Store conn)
+            → IsVersionRefused (state S.Store conn) (state S.Store (conn_of result))
+            (judged_in result) }
     {
         let mut conn = conn;
         match settle(alloc, &mut conn) {
@@ -240,7 +275,8 @@ impl<S: Alter> Vault for SqlVault<S> {
 
     ghost sound = { λ vault c held clean. held.sound };
 
-    ghost settled = { λ vault c clean up held left may. settled_at _ c held up (λ db o m. S.Store.settled vault.conn.store db o m) left may };
+    ghost settled = { λ vault c clean up held left may. settled_at _ c held up
+        (λ db o m. S.Store.settled vault.conn.store db o m) left may };
 
     fn policy(&mut self) -> Result<Policy, VaultFault> {
         let answer = rules::policy(self.alloc, &mut self.conn);

@@ -22,11 +22,21 @@ pub fn adopt_again<S: Alter, T: Alter>(
     stopped: &SqlVault<S>,
     conn: Connection<T>,
 ) -> Result<SqlVault<T>, (VaultFault, Connection<T>)>
-    ensures left { IfOk result (λ vault. HasCleanDisk (state T.Store vault.conn) → FindsLeft (state S.Store stopped.now.conn) (state T.Store conn) → HoldsLeft (state S.Store stopped.now.conn) (state T.Store vault.conn)) }
-    ensures same { IfOk result (λ vault. (c : Contents) → HasCleanDisk (state T.Store vault.conn) → FindsLeft (state S.Store stopped.now.conn) (state T.Store conn) → IsTrue (state S.Store stopped.now.conn).is_open → Holds (state S.Store stopped.now.conn) c
+    ensures left { IfOk result (λ vault. HasCleanDisk (state T.Store vault.conn)
+        → FindsLeft (state S.Store stopped.now.conn) (state T.Store conn)
+        → HoldsLeft (state S.Store stopped.now.conn) (state T.Store vault.conn)) }
+    ensures same { IfOk result (λ vault. (c : Contents) → HasCleanDisk (state T.Store vault.conn)
+        → FindsLeft (state S.Store stopped.now.conn) (state T.Store conn)
+        → IsTrue (state S.Store stopped.now.conn).is_open → Holds (state S.Store stopped.now.conn) c
         → Holds (state T.Store vault.conn) c) }
-    ensures refused { IfErr result (λ refused. HasCleanDisk (state T.Store refused.1) → FindsLeft (state S.Store stopped.now.conn) (state T.Store conn) → RulesOut (state S.Store stopped.now.conn) → (refused.0 ≡ Store) ⊎ (refused.0 ≡ NoMemory)) }
-    ensures refused_between { IfErr result (λ refused. (c : Contents) → HasCleanDisk (state T.Store refused.1) → FindsLeft (state S.Store stopped.now.conn) (state T.Store conn) → IsTrue (state S.Store stopped.now.conn).is_open → Holds (state S.Store stopped.now.conn) c
+    ensures refused { IfErr result (λ refused. HasCleanDisk (state T.Store refused.1)
+        → FindsLeft (state S.Store stopped.now.conn) (state T.Store conn)
+        → RulesOut (state S.Store stopped.now.conn) → (refused.0 ≡ Store)
+        ⊎ (refused.0 ≡ NoMemory)) }
+    ensures refused_between { IfErr result (λ refused. (c : Contents)
+        → HasCleanDisk (state T.Store refused.1)
+        → FindsLeft (state S.Store stopped.now.conn) (state T.Store conn)
+        → IsTrue (state S.Store stopped.now.conn).is_open → Holds (state S.Store stopped.now.conn) c
         → (refused.0 ≡ Store) ⊎ (refused.0 ≡ NoMemory)) }
 {
     let _stopped = stopped;

@@ -1,5 +1,6 @@
 //! The maildrops, with their messages and octets.
-ghost use Rattle.std.specs.Prelude.{◌≡◌, ◌^◌, ◌-◌, true, List, [], ◌∷◌, ◌++◌, length, map, min, sum_by, IfOk, OnOk};
+ghost use Rattle.std.specs.Prelude.{◌≡◌, ◌^◌, ◌-◌, true, List, [], ◌∷◌, ◌++◌, length, map, min};
+ghost use Rattle.std.specs.Prelude.{sum_by, IfOk, OnOk};
 ghost use Rattle.std.specs.List.{list_all};
 ghost use Rattle.sqlite.specs.Held.{state};
 ghost use Rattle.sqlite.specs.State.{HasCleanDisk};
@@ -24,7 +25,8 @@ use vault::{Total, in_order};
 
 /// Adds the name of a row behind the others.
 pub(crate) fn push_name(names: &mut Vec<Name>, row: &Bytes) -> Result<(), Error>
-    ensures { is_name row.now ≡ true → OnOk result (names.new.items ≡ names.old.items ++ row.now ∷ []) }
+    ensures { is_name row.now ≡ true → OnOk result
+        (names.new.items ≡ names.old.items ++ row.now ∷ []) }
 {
     let Some(name) = Name::read(row.as_slice()) else {
         return Err(unreadable());
@@ -61,7 +63,8 @@ fn names<S: Alter>(alloc: Global, conn: &mut Connection<S>) -> Result<Vec<Name>,
 
 /// The octets of the messages of the rows, 2^64 - 1 at most.
 fn octets_of(rows: &[Message]) -> u64
-    ensures { (ms : List Keyed) → rows.now ≡ map message_row ms → result ≡ min (sum_by (λ x. length x.message.text) ms) (2 ^ 64 - 1) }
+    ensures { (ms : List Keyed) → rows.now ≡ map message_row ms
+        → result ≡ min (sum_by (λ x. length x.message.text) ms) (2 ^ 64 - 1) }
 {
     let mut octets: u64 = 0;
     for row in rows {

@@ -15,8 +15,11 @@ use sqlite::{Alter, Connection, Error};
 /// Rolls the transaction back after an error, if it is still under way. Answers that error; where
 /// it is want of memory and the rollback fails too, the rollback's error.
 pub(crate) fn undo<S: Alter>(conn: &mut Connection<S>, error: Error) -> Error
-    ensures holds { (base : Contents) → HasCleanDisk (state S.Store conn.new) → Halted (state S.Store conn.old) base → Holds (state S.Store conn.new) base }
-    ensures gone { (first : Held _) → HasCleanDisk (state S.Store conn.new) → IsHalted (state S.Store first) (state S.Store conn.old) → IsGone (state S.Store first) (state S.Store conn.new) }
+    ensures holds { (base : Contents) → HasCleanDisk (state S.Store conn.new)
+        → Halted (state S.Store conn.old) base → Holds (state S.Store conn.new) base }
+    ensures gone { (first : Held _) → HasCleanDisk (state S.Store conn.new)
+        → IsHalted (state S.Store first) (state S.Store conn.old)
+        → IsGone (state S.Store first) (state S.Store conn.new) }
     ensures told { (result ≡ error) ⊎ IsTrue (is_memory error) }
     ensures survives { Survives (state S.Store conn.old) (state S.Store conn.new) (λ _. ⊥) }
 {
@@ -38,9 +41,14 @@ pub(crate) fn tables_are_listed<S: Alter>(conn: &Connection<S>)
 
 /// Commits the transaction, or rolls it back and answers the error.
 pub(crate) fn end<S: Alter>(conn: &mut Connection<S>) -> Result<(), Error>
-    ensures ended { (base after : Contents) (rows : Rows) → HasCleanDisk (state S.Store conn.new) → Within (state S.Store conn.old) base rows → Keeps rows after → Ends base after (state S.Store conn.new) result }
-    ensures stop { (base after : Contents) (rows : Rows) → HasCleanDisk (state S.Store conn.new) → Within (state S.Store conn.old) base rows → Keeps rows after → Leaves (state S.Store conn.new) (λ left. Keeps left base ⊎ Keeps left after) }
-    ensures up { HasCleanDisk (state S.Store conn.new) → OnOk result (IsTrue (state S.Store conn.new).is_open) }
+    ensures ended { (base after : Contents) (rows : Rows) → HasCleanDisk (state S.Store conn.new)
+        → Within (state S.Store conn.old) base rows → Keeps rows after
+        → Ends base after (state S.Store conn.new) result }
+    ensures stop { (base after : Contents) (rows : Rows) → HasCleanDisk (state S.Store conn.new)
+        → Within (state S.Store conn.old) base rows → Keeps rows after
+        → Leaves (state S.Store conn.new) (λ left. Keeps left base ⊎ Keeps left after) }
+    ensures up { HasCleanDisk (state S.Store conn.new)
+        → OnOk result (IsTrue (state S.Store conn.new).is_open) }
     ensures clean { WasClean (state S.Store conn.old) (state S.Store conn.new) }
 {
     match mode::commit(conn) {

@@ -2,7 +2,8 @@
 
 ghost use Rattle.std.specs.Prelude.{◌≡◌, ℕ, [], IfOk, IfErr, OnOk};
 ghost use Rattle.vault.specs.Plain.{no_contents};
-ghost use Rattle.sqlvault.specs.Uses.{IsOfAnyCall, filled, emptied, WasNew, ShowsMail, ShowsKept, Saw};
+ghost use Rattle.sqlvault.specs.Uses.{IsOfAnyCall, filled, emptied, WasNew, ShowsMail, ShowsKept};
+ghost use Rattle.sqlvault.specs.Uses.{Saw};
 
 use crate::SqlVault;
 use creds::{Credential, DepositId, Name};
@@ -43,9 +44,12 @@ pub struct Filled {
 
 /// Puts the stock into a store that holds nothing. An error is that of a call.
 fn fill<V: Vault>(vault: &mut V, stock: &Stock) -> Result<Filled, VaultFault>
-    ensures answers { V.is_clean vault.new → V.holds vault.old no_contents → IfOk result (WasNew stock.now) }
-    ensures held { V.is_clean vault.new → V.holds vault.old no_contents → OnOk result ((key : ℕ) × V.holds vault.new (filled key stock.now)) }
-    ensures cause { V.is_clean vault.new → V.holds vault.old no_contents → IfErr result IsOfAnyCall }
+    ensures answers { V.is_clean vault.new → V.holds vault.old no_contents
+        → IfOk result (WasNew stock.now) }
+    ensures held { V.is_clean vault.new → V.holds vault.old no_contents
+        → OnOk result ((key : ℕ) × V.holds vault.new (filled key stock.now)) }
+    ensures cause { V.is_clean vault.new → V.holds vault.old no_contents
+        → IfErr result IsOfAnyCall }
     ensures clean { V.is_clean vault.new → V.is_clean vault.old }
 {
     let maildrop_is_new = vault.add_maildrop(&stock.maildrop)?;
@@ -75,10 +79,14 @@ pub struct Mail {
 /// Looks at the mail, and reads the message into the front of the buffer. An error is that of a
 /// call.
 fn look<V: Vault>(vault: &mut V, stock: &Stock, buffer: &mut [u8]) -> Result<Mail, VaultFault>
-    ensures shown { (key : ℕ) → V.is_clean vault.new → V.holds vault.old (filled key stock.now) → IfOk result (ShowsMail stock.now buffer.new) }
-    ensures key { (key : ℕ) → V.is_clean vault.new → V.holds vault.old (filled key stock.now) → IfOk result (λ mail. mail.key ≡ key) }
-    ensures same { (key : ℕ) → V.is_clean vault.new → V.holds vault.old (filled key stock.now) → OnOk result (V.holds vault.new (filled key stock.now)) }
-    ensures cause { (key : ℕ) → V.is_clean vault.new → V.holds vault.old (filled key stock.now) → IfErr result IsOfAnyCall }
+    ensures shown { (key : ℕ) → V.is_clean vault.new → V.holds vault.old (filled key stock.now)
+        → IfOk result (ShowsMail stock.now buffer.new) }
+    ensures key { (key : ℕ) → V.is_clean vault.new → V.holds vault.old (filled key stock.now)
+        → IfOk result (λ mail. mail.key ≡ key) }
+    ensures same { (key : ℕ) → V.is_clean vault.new → V.holds vault.old (filled key stock.now)
+        → OnOk result (V.holds vault.new (filled key stock.now)) }
+    ensures cause { (key : ℕ) → V.is_clean vault.new → V.holds vault.old (filled key stock.now)
+        → IfErr result IsOfAnyCall }
     ensures clean { V.is_clean vault.new → V.is_clean vault.old }
 {
     let totals = vault.maildrops()?;
@@ -107,9 +115,12 @@ pub struct Kept {
 
 /// Looks up the clerk's credential and the policy. An error is that of a call.
 fn look_up<V: Vault>(vault: &mut V, stock: &Stock) -> Result<Kept, VaultFault>
-    ensures shown { (key : ℕ) → V.is_clean vault.new → V.holds vault.old (filled key stock.now) → IfOk result (ShowsKept stock.now) }
-    ensures same { (key : ℕ) → V.is_clean vault.new → V.holds vault.old (filled key stock.now) → OnOk result (V.holds vault.new (filled key stock.now)) }
-    ensures cause { (key : ℕ) → V.is_clean vault.new → V.holds vault.old (filled key stock.now) → IfErr result IsOfAnyCall }
+    ensures shown { (key : ℕ) → V.is_clean vault.new → V.holds vault.old (filled key stock.now)
+        → IfOk result (ShowsKept stock.now) }
+    ensures same { (key : ℕ) → V.is_clean vault.new → V.holds vault.old (filled key stock.now)
+        → OnOk result (V.holds vault.new (filled key stock.now)) }
+    ensures cause { (key : ℕ) → V.is_clean vault.new → V.holds vault.old (filled key stock.now)
+        → IfErr result IsOfAnyCall }
     ensures clean { V.is_clean vault.new → V.is_clean vault.old }
 {
     let credential = vault.credential(&stock.clerk)?;
@@ -120,9 +131,12 @@ fn look_up<V: Vault>(vault: &mut V, stock: &Stock) -> Result<Kept, VaultFault>
 /// Removes the message, and drops the clerk and the maildrop. Answers the heads that were left. An
 /// error is that of a call.
 fn empty<V: Vault>(vault: &mut V, stock: &Stock, key: MessageKey) -> Result<Vec<Head>, VaultFault>
-    ensures none { V.is_clean vault.new → V.holds vault.old (filled key stock.now) → IfOk result (λ left. left.items ≡ []) }
-    ensures held { V.is_clean vault.new → V.holds vault.old (filled key stock.now) → OnOk result (V.holds vault.new (emptied stock.now)) }
-    ensures cause { V.is_clean vault.new → V.holds vault.old (filled key stock.now) → IfErr result IsOfAnyCall }
+    ensures none { V.is_clean vault.new → V.holds vault.old (filled key stock.now)
+        → IfOk result (λ left. left.items ≡ []) }
+    ensures held { V.is_clean vault.new → V.holds vault.old (filled key stock.now)
+        → OnOk result (V.holds vault.new (emptied stock.now)) }
+    ensures cause { V.is_clean vault.new → V.holds vault.old (filled key stock.now)
+        → IfErr result IsOfAnyCall }
     ensures clean { V.is_clean vault.new → V.is_clean vault.old }
 {
     vault.remove(&stock.maildrop, &[key])?;
@@ -148,9 +162,12 @@ pub struct Seen {
 /// Puts the stock into a store that holds nothing, looks at all of it, and takes it out again. An
 /// error is that of a call.
 fn go_through<V: Vault>(vault: &mut V, stock: &Stock, buffer: &mut [u8]) -> Result<Seen, VaultFault>
-    ensures saw { V.is_clean vault.new → V.holds vault.old no_contents → IfOk result (Saw stock.now buffer.new) }
-    ensures left { V.is_clean vault.new → V.holds vault.old no_contents → OnOk result (V.holds vault.new (emptied stock.now)) }
-    ensures cause { V.is_clean vault.new → V.holds vault.old no_contents → IfErr result IsOfAnyCall }
+    ensures saw { V.is_clean vault.new → V.holds vault.old no_contents
+        → IfOk result (Saw stock.now buffer.new) }
+    ensures left { V.is_clean vault.new → V.holds vault.old no_contents
+        → OnOk result (V.holds vault.new (emptied stock.now)) }
+    ensures cause { V.is_clean vault.new → V.holds vault.old no_contents
+        → IfErr result IsOfAnyCall }
     ensures clean { V.is_clean vault.new → V.is_clean vault.old }
 {
     let filled = fill(vault, stock)?;

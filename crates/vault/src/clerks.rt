@@ -1,5 +1,6 @@
 //! Clerks of a store in memory, and their credentials.
-ghost use Rattle.std.specs.Prelude.{◌≡◌, ◌≢◌, ℕ, List, [], ◌∷◌, ◌++◌, length, map, is_ok, is_some, true, if◌then◌else◌, find, option_map};
+ghost use Rattle.std.specs.Prelude.{◌≡◌, ◌≢◌, ℕ, List, [], ◌∷◌, ◌++◌, length, map, is_ok, is_some};
+ghost use Rattle.std.specs.Prelude.{true, if◌then◌else◌, find, option_map};
 ghost use Rattle.std.specs.Str.{bytes_eq};
 ghost use Rattle.creds.specs.Names.{is_name};
 ghost use Rattle.vault.specs.Records.{credential_in, is_sound_credential};
@@ -50,7 +51,8 @@ pub(crate) fn put_credential(
 ) -> Result<bool, VaultFault>
     ensures answer { IsAnswer (put_result (put_clerk_answer name.now clerks.old.items)) result }
     ensures in_memory { result ≢ Err VaultFault.Store }
-    ensures items { clerks.new.items ≡ (if is_ok result then with_clerk name.now credential.now clerks.old.items else clerks.old.items) }
+    ensures items { clerks.new.items ≡ (if is_ok result then with_clerk name.now credential.now
+        clerks.old.items else clerks.old.items) }
     ensures form { is_name name.now ≡ true }
 {
     let _ = name.as_bytes();
@@ -73,7 +75,8 @@ pub(crate) fn drop_credential(clerks: &mut Vec<Clerk>, name: &Name) -> Result<()
     ensures answer { IsAnswer (drop_clerk_result name.now clerks.old.items) result }
     ensures in_memory { result ≢ Err VaultFault.Store }
     ensures has_memory { result ≢ Err VaultFault.NoMemory }
-    ensures items { clerks.new.items ≡ (if is_ok result then without_clerk name.now clerks.old.items else clerks.old.items) }
+    ensures items { clerks.new.items ≡ (if is_ok result then without_clerk name.now clerks.old.items
+        else clerks.old.items) }
 {
     if credential_of(clerks, name).is_none() {
         return Err(VaultFault::NoClerk);

@@ -1,11 +1,13 @@
 //! Deposits into a store in memory: how each is answered, and how it is kept.
-ghost use Rattle.std.specs.Prelude.{◌≡◌, ◌&&◌, find, option_copied, ◌+◌, ◌≤◌, ℕ, List, [], ◌∷◌, ◌++◌, length, is_ok, true, if◌then◌else◌, IfOk, OnOk, OnErr};
+ghost use Rattle.std.specs.Prelude.{◌≡◌, ◌&&◌, find, option_copied, ◌+◌, ◌≤◌, ℕ, List, [], ◌∷◌};
+ghost use Rattle.std.specs.Prelude.{◌++◌, length, is_ok, true, if◌then◌else◌, IfOk, OnOk, OnErr};
 ghost use Rattle.std.specs.Str.{bytes_eq};
 ghost use Rattle.creds.specs.Names.{is_name, is_deposit_id};
 ghost use Rattle.creds.specs.Digests.{text_digest};
 ghost use Rattle.mailtext.specs.MailText.{IsMailText};
 ghost use Rattle.vault.specs.Records.{is_one_of, receipts_of, receipt_of, class_count};
-ghost use Rattle.vault.specs.Changes.{kept_in, deposit_answer, known_or_conflict, message_for, receipt_for};
+ghost use Rattle.vault.specs.Changes.{kept_in, deposit_answer, known_or_conflict, message_for};
+ghost use Rattle.vault.specs.Changes.{receipt_for};
 ghost use Rattle.vault.specs.Calls.{deposit_result};
 ghost use Rattle.vault.specs.Plain.{with_message};
 
@@ -36,7 +38,8 @@ pub(crate) struct Asked {
 
 /// Whether the receipt has this id and this maildrop's name.
 fn is_of(receipt: &Receipt, maildrop: &Name, id: &DepositId) -> bool
-    ensures { result ≡ (bytes_eq receipt.now.maildrop maildrop.now && bytes_eq receipt.now.id id.now) }
+    ensures { result ≡ (bytes_eq receipt.now.maildrop maildrop.now
+        && bytes_eq receipt.now.id id.now) }
 {
     receipt.maildrop == *maildrop && receipt.id == *id
 }
@@ -47,7 +50,8 @@ fn first_receipt<'a>(
     maildrop: &Name,
     id: &DepositId,
 ) -> Option<&'a Receipt>
-    ensures { option_copied result ≡ find (λ r. bytes_eq r.maildrop maildrop.now && bytes_eq r.id id.now) deposits.now }
+    ensures { option_copied result ≡ find (λ r. bytes_eq r.maildrop maildrop.now
+        && bytes_eq r.id id.now) deposits.now }
 {
     deposits.iter().find(|receipt| is_of(receipt, maildrop, id))
 }
@@ -72,7 +76,8 @@ fn class_count(deposits: &[Receipt], maildrop: &Name, class: &Name) -> usize
 
 /// The answer to a deposit whose id was used before.
 fn known_or_conflict(receipt: &Receipt, asked: &Asked) -> Result<Deposited, VaultFault>
-    ensures { (text : List ℕ) → asked.now.digest ≡ text_digest text → result ≡ deposit_result (known_or_conflict asked.now.class text receipt.now) }
+    ensures { (text : List ℕ) → asked.now.digest ≡ text_digest text
+        → result ≡ deposit_result (known_or_conflict asked.now.class text receipt.now) }
 {
     if receipt.class == asked.class && receipt.digest == asked.digest {
         Ok(Deposited::Known(Uid {
@@ -91,7 +96,10 @@ pub(crate) fn judge(
     deposits: &[Receipt],
     asked: &Asked,
 ) -> Result<Deposited, VaultFault>
-    ensures { (text : List ℕ) → asked.now.digest ≡ text_digest text → result ≡ deposit_result (deposit_answer (is_one_of asked.now.maildrop names.now) (length (kept_in asked.now.maildrop messages.now)) (receipts_of asked.now.maildrop deposits.now) asked.now.class asked.now.id text) }
+    ensures { (text : List ℕ) → asked.now.digest ≡ text_digest text
+        → result ≡ deposit_result (deposit_answer (is_one_of asked.now.maildrop names.now)
+        (length (kept_in asked.now.maildrop messages.now))
+        (receipts_of asked.now.maildrop deposits.now) asked.now.class asked.now.id text) }
 {
     if !has_name(names, &asked.maildrop) {
         return Err(VaultFault::NoMaildrop);
@@ -118,8 +126,10 @@ fn put_both(
     message: Message,
     receipt: Receipt,
 ) -> Result<(), AllocError>
-    ensures messages { messages.new.items ≡ (if is_ok result then with_message message deposits.new.items messages.old.items else messages.old.items) }
-    ensures deposits { deposits.new.items ≡ (if is_ok result then deposits.old.items ++ receipt ∷ [] else deposits.old.items) }
+    ensures messages { messages.new.items ≡ (if is_ok result then with_message message
+        deposits.new.items messages.old.items else messages.old.items) }
+    ensures deposits { deposits.new.items ≡ (if is_ok result then deposits.old.items ++ receipt
+        ∷ [] else deposits.old.items) }
 {
     messages.reserve(1)?;
     deposits.push(receipt)?;
@@ -138,8 +148,12 @@ pub(crate) fn accept(
     text: &MailText,
 ) -> Result<(), AllocError>
     requires { asked.now.digest ≡ text_digest text.now }
-    ensures messages { messages.new.items ≡ (if is_ok result then with_message (message_for asked.now.maildrop asked.now.class text.now k) deposits.new.items messages.old.items else messages.old.items) }
-    ensures deposits { deposits.new.items ≡ (if is_ok result then deposits.old.items ++ receipt_for asked.now.maildrop asked.now.class asked.now.id text.now k ∷ [] else deposits.old.items) }
+    ensures messages { messages.new.items ≡ (if is_ok result then with_message
+        (message_for asked.now.maildrop asked.now.class text.now k) deposits.new.items
+        messages.old.items else messages.old.items) }
+    ensures deposits { deposits.new.items ≡ (if is_ok result then deposits.old.items
+        ++ receipt_for asked.now.maildrop asked.now.class asked.now.id text.now k
+        ∷ [] else deposits.old.items) }
 {
     let message = Message {
         maildrop: asked.maildrop,

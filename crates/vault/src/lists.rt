@@ -1,10 +1,13 @@
 //! The lists of a store in memory: names of maildrops, their order, and totals.
-ghost use Rattle.std.specs.Prelude.{◌≡◌, ◌≢◌, ◌≤◌, ◌-◌, ◌^◌, ℕ, List, length, filter, map, min, sum_by, true, not, is_ok, if◌then◌else◌, unwrap_or, position, OnErr, OnOk, IfOk, insert};
+ghost use Rattle.std.specs.Prelude.{◌≡◌, ◌≢◌, ◌≤◌, ◌-◌, ◌^◌, ℕ, List, length, filter, map, min};
+ghost use Rattle.std.specs.Prelude.{sum_by, true, not, is_ok, if◌then◌else◌, unwrap_or, position};
+ghost use Rattle.std.specs.Prelude.{OnErr, OnOk, IfOk, insert};
 ghost use Rattle.std.specs.List.{list_any};
 ghost use Rattle.std.specs.Str.{bytes_eq};
 ghost use Rattle.creds.specs.Names.{is_name, comes_before, put_by_name, by_name};
 ghost use Rattle.vault.specs.Records.{is_one_of};
-ghost use Rattle.vault.specs.Changes.{kept_in, put_maildrop_answer, with_maildrop, drop_answer, without_maildrop};
+ghost use Rattle.vault.specs.Changes.{kept_in, put_maildrop_answer, with_maildrop, drop_answer};
+ghost use Rattle.vault.specs.Changes.{without_maildrop};
 ghost use Rattle.vault.specs.Calls.{IsAnswer, put_result, seen_as, drop_result};
 ghost use Rattle.vault.specs.Plain.{capped_total};
 
@@ -29,7 +32,8 @@ pub(crate) fn has_name(names: &[Name], name: &Name) -> bool
 pub(crate) fn put_name(names: &mut Vec<Name>, name: &Name) -> Result<bool, VaultFault>
     ensures answer { IsAnswer (put_result (put_maildrop_answer name.now names.old.items)) result }
     ensures in_memory { result ≢ Err VaultFault.Store }
-    ensures items { names.new.items ≡ (if is_ok result then with_maildrop name.now names.old.items else names.old.items) }
+    ensures items { names.new.items ≡ (if is_ok result then with_maildrop name.now names.old.items
+        else names.old.items) }
     ensures form { is_name name.now ≡ true }
 {
     let _ = name.as_bytes();
@@ -50,10 +54,12 @@ pub(crate) fn drop_name(
     messages: &[Keyed],
     name: &Name,
 ) -> Result<(), VaultFault>
-    ensures answer { IsAnswer (drop_result (drop_answer (is_one_of name.now names.old.items) (length (kept_in name.now messages.now)))) result }
+    ensures answer { IsAnswer (drop_result (drop_answer (is_one_of name.now names.old.items)
+        (length (kept_in name.now messages.now)))) result }
     ensures in_memory { result ≢ Err VaultFault.Store }
     ensures has_memory { result ≢ Err VaultFault.NoMemory }
-    ensures items { names.new.items ≡ (if is_ok result then without_maildrop name.now names.old.items else names.old.items) }
+    ensures items { names.new.items ≡ (if is_ok result then without_maildrop name.now
+        names.old.items else names.old.items) }
 {
     if !has_name(names, name) {
         return Err(VaultFault::NoMaildrop);
@@ -81,7 +87,8 @@ fn first_behind(names: &[Name], name: &Name) -> Option<usize>
 
 /// The place where the name belongs among sorted names.
 fn place_of(names: &[Name], name: &Name) -> usize
-    ensures { result ≡ unwrap_or (position (λ x. not (comes_before x name.now)) names.now) (length names.now) }
+    ensures { result ≡ unwrap_or (position (λ x. not (comes_before x name.now)) names.now)
+        (length names.now) }
 {
     first_behind(names, name).unwrap_or(names.len())
 }
@@ -118,7 +125,8 @@ pub(crate) fn count_in(messages: &[Keyed], maildrop: &Name) -> usize
 
 /// The octets of the messages that lie in the maildrop, capped at 2^64 - 1.
 fn octets_in(messages: &[Keyed], maildrop: &Name) -> u64
-    ensures { result ≡ min (sum_by (λ x. length x.message.text) (kept_in maildrop.now messages.now)) (2 ^ 64 - 1) }
+    ensures { result ≡ min (sum_by (λ x. length x.message.text) (kept_in maildrop.now messages.now))
+        (2 ^ 64 - 1) }
 {
     let mut octets: u64 = 0;
     for kept in messages {
@@ -156,7 +164,8 @@ pub(crate) fn totals_of(
     names: &[Name],
     messages: &[Keyed],
 ) -> Result<Vec<Total>, VaultFault>
-    ensures answer { IsAnswer (Ok (map (capped_total messages.now) (by_name names.now))) (seen_as result (λ v. v.items)) }
+    ensures answer { IsAnswer (Ok (map (capped_total messages.now) (by_name names.now)))
+        (seen_as result (λ v. v.items)) }
     ensures in_memory { result ≢ Err VaultFault.Store }
 {
     let sorted = in_order(alloc, names)?;

@@ -1,5 +1,7 @@
 //! Messages of a store in memory: their heads, their pages, and their removal.
-ghost use Rattle.std.specs.Prelude.{◌≡◌, ◌≢◌, ◌==◌, ◌≤◌, ℕ, [], length, map, min, take, drop, filter, not, ◌&&◌, if◌then◌else◌, IfOk, option_map, option_copied, find};
+ghost use Rattle.std.specs.Prelude.{◌≡◌, ◌≢◌, ◌==◌, ◌≤◌, ℕ, [], length, map, min, take, drop};
+ghost use Rattle.std.specs.Prelude.{filter, not, ◌&&◌, if◌then◌else◌, IfOk, option_map};
+ghost use Rattle.std.specs.Prelude.{option_copied, find};
 ghost use Rattle.std.specs.List.{list_any};
 ghost use Rattle.std.specs.Str.{bytes_eq};
 ghost use Rattle.vault.specs.Records.{is_one_of};
@@ -43,7 +45,9 @@ pub(crate) fn heads_of(
     messages: &[Keyed],
     maildrop: &Name,
 ) -> Result<Vec<Head>, VaultFault>
-    ensures answer { IsAnswer (if is_one_of maildrop.now names.now then Ok (map head_of (kept_in maildrop.now messages.now)) else Err VaultFault.NoMaildrop) (seen_as result (λ v. v.items)) }
+    ensures answer { IsAnswer (if is_one_of maildrop.now names.now then Ok
+        (map head_of (kept_in maildrop.now messages.now)) else Err VaultFault.NoMaildrop)
+        (seen_as result (λ v. v.items)) }
     ensures in_memory { result ≢ Err VaultFault.Store }
 {
     if !has_name(names, maildrop) {
@@ -63,7 +67,8 @@ fn message_under(messages: &[Keyed], key: MessageKey) -> Option<&Keyed>
 /// and returns how many. Under an unknown key there are none.
 pub(crate) fn read_page(messages: &[Keyed], key: MessageKey, from: u64, buffer: &mut [u8]) -> usize
     ensures within { result ≤ length buffer.new }
-    ensures page { IsPage (text_under key messages.now) from (length buffer.new) (take result buffer.new) }
+    ensures page { IsPage (text_under key messages.now) from (length buffer.new)
+        (take result buffer.new) }
 {
     match message_under(messages, key) {
         Some(kept) => kept.message.text.read(from as usize, buffer),

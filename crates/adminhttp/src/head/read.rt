@@ -16,7 +16,8 @@ use httparse::spans::{HeaderSpan, RequestSpans, parse_request};
 fn parse_head(text: &[u8], headers: &mut [HeaderSpan]) -> Option<RequestSpans>
     requires { length headers.old ≡ most_headers }
     ensures within { IfSome result (IsRequestWithin text.now headers.new) }
-    ensures some { IfSome result (λ spans. (h : RequestHead) × IsRequestAt text.now headers.new spans h × IsHead text.now h) }
+    ensures some { IfSome result (λ spans. (h : RequestHead)
+        × IsRequestAt text.now headers.new spans h × IsHead text.now h) }
     ensures whole { IfSome result (λ spans. spans.len ≡ length text.now) }
     ensures none { IfNone result (IsNoHead text.now) }
 {

@@ -51,8 +51,11 @@ fn ask(alloc: Global, octets: &[u8]) -> Result<AdminCommand, Stop>
 fn ask_by(alloc: Global, head: &Head<'_>, headers: &[HeaderSpan]) -> Result<AdminCommand, Stop>
     requires within { LieIn head.now headers.now }
     requires utf8 { IsUtf8 head.now.target.now }
-    ensures ok { IfOk result (λ command. asked_by head.now.method.now head.now.target.now (headers_of head.now headers.now) head.now.behind.now ≡ Ok (command_seen command)) }
-    ensures fault { IfErr result (λ stop. stop ≢ Stop.NoMemory → asked_by head.now.method.now head.now.target.now (headers_of head.now headers.now) head.now.behind.now ≡ Err stop) }
+    ensures ok { IfOk result (λ command. asked_by head.now.method.now head.now.target.now
+        (headers_of head.now headers.now) head.now.behind.now ≡ Ok (command_seen command)) }
+    ensures fault { IfErr result (λ stop. stop ≢ Stop.NoMemory
+        → asked_by head.now.method.now head.now.target.now (headers_of head.now headers.now)
+        head.now.behind.now ≡ Err stop) }
 {
     let target = read_target(alloc, head.target)?;
     read_command(alloc, &target, head, headers)

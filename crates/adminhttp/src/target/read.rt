@@ -1,9 +1,11 @@
 //! The reader of a target.
 
-ghost use Rattle.std.specs.Prelude.{◌≡◌, ◌≢◌, ◌+◌, ◌<◌, length, option_map, IfOk, IfErr, IfSome, Ok, Err};
+ghost use Rattle.std.specs.Prelude.{◌≡◌, ◌≢◌, ◌+◌, ◌<◌, length, option_map, IfOk, IfErr, IfSome};
+ghost use Rattle.std.specs.Prelude.{Ok, Err};
 ghost use Rattle.std.specs.List.{position};
 ghost use Rattle.std.specs.Str.{IsUtf8};
-ghost use Rattle.adminhttp.specs.Targets.{target_of, target_on, found_on, explained, first_part, behind as text_behind, alone as target_alone, is_slash};
+ghost use Rattle.adminhttp.specs.Targets.{target_of, target_on, found_on, explained, first_part};
+ghost use Rattle.adminhttp.specs.Targets.{behind as text_behind, alone as target_alone, is_slash};
 ghost use Rattle.adminhttp.specs.Steps.{value_or};
 ghost use Rattle.adminhttp.specs.declared.refusal.Refusal.TheVariants.{NotFound};
 
@@ -23,7 +25,8 @@ use std::str;
 pub fn read_target(alloc: Global, target: &[u8]) -> Result<Target, Stop>
     requires { IsUtf8 target.now }
     ensures ok { IfOk result (λ found. value_or (target_of target.now) NotFound ≡ Ok found) }
-    ensures fault { IfErr result (λ stop. stop ≢ Stop.NoMemory → value_or (target_of target.now) NotFound ≡ Err stop) }
+    ensures fault { IfErr result (λ stop. stop ≢ Stop.NoMemory
+        → value_or (target_of target.now) NotFound ≡ Err stop) }
 {
     let Ok(path) = str::from_utf8(target) else {
         unreachable!()
