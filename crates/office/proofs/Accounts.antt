@@ -21,17 +21,17 @@ use Rattle.office.specs.Events.{Event, Mark, Ignored, Tagged, Trace}
 use Rattle.office.specs.Events as event
 use Rattle.office.specs.Answers.{AdminCommand}
 use Rattle.office.specs.Trace.{history, idle_acts, idle_numbers, acts_of_piece, acts_of_took, line_act}
-use Rattle.office.specs.Kept.{Desk, asks}
-use Rattle.office.specs.Sitting.{Sitting, LiesIn, sitting_of, said_inside, answered_inside, refused_reading, asks_inside, reply_inside}
+use Rattle.office.specs.Kept.{LineContext, asks}
+use Rattle.office.specs.Transaction.{Transaction, LiesIn, transaction_of, transaction_said, transaction_answered, refused_reading, transaction_asks, transaction_reply}
 use Rattle.office.specs.Telling.{is_told}
-use Rattle.office.specs.Answered.{reply_of, tag_of, IsSeated}
-use Rattle.office.specs.Accounts.{command_account, fault_told, line_account, inside_account, quit_or, quit_account, removal_by, line_told, acts_account, account_of, removal_told, removal_seen, seated_account}
+use Rattle.office.specs.Answered.{reply_of, tag_of, HasTransaction}
+use Rattle.office.specs.Accounts.{command_account, fault_told, line_account, transaction_account, quit_or, quit_account, removal_by, line_told, acts_account, account_of, removal_told, removal_seen, state_account}
 use Rattle.office.specs.declared.account.Account.{Account}
 use Rattle.office.specs.declared.account.Account.TheVariants as account
 use Rattle.office.specs.declared.account.Removal.{Removal}
-use Rattle.office.specs.declared.talk.Talk.{Talk}
-use Rattle.office.specs.declared.talk.Acted.{Acted}
-use Rattle.office.specs.declared.talk.Acted.TheVariants as acted
+use Rattle.office.specs.declared.login_state.LoginState.{LoginState}
+use Rattle.office.specs.declared.login_state.LineOutcome.{LineOutcome}
+use Rattle.office.specs.declared.login_state.LineOutcome.TheVariants as outcome
 use Rattle.office.proofs.Quitting.{counted_alike, denying_alike, marks_counted}
 use Rattle.office.proofs.Judging.{Judges}
 
@@ -46,39 +46,39 @@ nobody_named : (r : Result Command LineFault) (said : Said) (u : Option LoginNam
 nobody_named (Ok (Pass password)) said u e = absurd (true≢false e)
 nobody_named _ said u e = refl
 
-module _ (p : Policy) (v : Sitting) (u : Option LoginName) where
-  told_read : (r : Result Command LineFault) → line_account r (Says (said_inside p v r)) None ≡ line_account r (Says (said_inside p v r)) u
+module _ (p : Policy) (v : Transaction) (u : Option LoginName) where
+  told_read : (r : Result Command LineFault) → line_account r (Says (transaction_said p v r)) None ≡ line_account r (Says (transaction_said p v r)) u
   told_read (Ok (Pass password)) = refl
   told_read _ = refl
 
-  asks_no_pass : (r : Result Command LineFault) → asks_inside p v r ≡ true → is_pass r ≡ false
+  asks_no_pass : (r : Result Command LineFault) → transaction_asks p v r ≡ true → is_pass r ≡ false
   asks_no_pass (Ok (Pass password)) e = cc
   asks_no_pass _ e = refl
 
   -- a line of a session is told the same under every name
-  pub told_inside : (w : Acted) (x : Cut) → (w ≡ acted.Failed → asks_inside p v (reading x) ≡ true)
-      → line_account (reading x) (Says (reply_inside w p v x)) None ≡ line_account (reading x) (Says (reply_inside w p v x)) u
-  told_inside acted.Done TooLong may = refl
-  told_inside acted.Done (cutting.Line l) may = told_read (command_of l)
-  told_inside acted.Failed x may = nobody_named (reading x) (Says (refused_reading (reading x))) u (asks_no_pass (reading x) (may refl))
+  pub transaction_told : (w : LineOutcome) (x : Cut) → (w ≡ outcome.Failed → transaction_asks p v (reading x) ≡ true)
+      → line_account (reading x) (Says (transaction_reply w p v x)) None ≡ line_account (reading x) (Says (transaction_reply w p v x)) u
+  transaction_told outcome.Done TooLong may = refl
+  transaction_told outcome.Done (cutting.Line l) may = told_read (command_of l)
+  transaction_told outcome.Failed x may = nobody_named (reading x) (Says (refused_reading (reading x))) u (asks_no_pass (reading x) (may refl))
 
 -- a misread line of a session names nobody
-pub fault_inside : (p : Policy) (v : Sitting) (f : LineFault) → fault_told f (Says (said_inside p v (Err f))) ≡ account.Nothing
-fault_inside p v Unknown = refl
-fault_inside p v (Syntax keyword.User) = refl
-fault_inside p v (Syntax keyword.Apop) = refl
-fault_inside p v (Syntax _) = refl
+pub transaction_fault : (p : Policy) (v : Transaction) (f : LineFault) → fault_told f (Says (transaction_said p v (Err f))) ≡ account.Nothing
+transaction_fault p v Unknown = refl
+transaction_fault p v (Syntax keyword.User) = refl
+transaction_fault p v (Syntax keyword.Apop) = refl
+transaction_fault p v (Syntax _) = refl
 
 -- a command whose reply is made without the store
-no_quit : (w : Acted) (p : Policy) (s : Session) (command : Command) (said : Said) → is_told command ≡ true → inside_account w p s (Ok command) said ≡ command_account command said None
+no_quit : (w : LineOutcome) (p : Policy) (s : Session) (command : Command) (said : Said) → is_told command ≡ true → transaction_account w p s (Ok command) said ≡ command_account command said None
 no_quit w p s Quit said is = absurd (true≢false (sym is))
 no_quit w p s _ said is = refl
 
-pub told_so : (p : Policy) (s : Session) (v : Sitting) (w : Acted) (command : Command) (reply : Reply) (told : Account) → is_told command ≡ true → w ≡ acted.Done
-    → reply ≡ said_inside p v (Ok command) → told ≡ command_account command (Says reply) None
-    → told ≡ inside_account w p s (Ok command) (Says (answered_inside w p v (Ok command)))
+pub told_so : (p : Policy) (s : Session) (v : Transaction) (w : LineOutcome) (command : Command) (reply : Reply) (told : Account) → is_told command ≡ true → w ≡ outcome.Done
+    → reply ≡ transaction_said p v (Ok command) → told ≡ command_account command (Says reply) None
+    → told ≡ transaction_account w p s (Ok command) (Says (transaction_answered w p v (Ok command)))
 told_so p s v w command reply told is e said so =
-    rw e (so ∙ (ap (λ (r : Reply). command_account command (Says r) None) said ∙ sym (no_quit acted.Done p s command (Says (said_inside p v (Ok command))) is)))
+    rw e (so ∙ (ap (λ (r : Reply). command_account command (Says r) None) said ∙ sym (no_quit outcome.Done p s command (Says (transaction_said p v (Ok command))) is)))
 
 -- a QUIT before a login
 quits_told : (r : Result Command LineFault) (said : Said) (u : Option LoginName) → is_quit r ≡ true → line_account r said u ≡ account.QuitBeforeLogin
@@ -86,7 +86,7 @@ quits_told (Ok Quit) said u e = refl
 quits_told _ said u e = absurd (true≢false (sym e))
 
 -- what is kept of a session removes what the store's messages say
-removal_alike : (c : Contents) (p : Policy) (s : Session) (kept : List Keyed) → LiesIn c s kept → (w : Acted) → removal_told w p s ≡ removal_seen w p (sitting_of s kept)
+removal_alike : (c : Contents) (p : Policy) (s : Session) (kept : List Keyed) → LiesIn c s kept → (w : LineOutcome) → removal_told w p s ≡ removal_seen w p (transaction_of s kept)
 removal_alike c p s kept lies w =
     let counted = counted_alike c p s kept lies in
     let denied = denying_alike c p s kept lies in
@@ -94,39 +94,39 @@ removal_alike c p s kept lies w =
     rw (counted, denied, marks) refl
 
 -- a line before a login is told by its reply
-pub outside_told : (w : Acted) (p : Policy) (r : Result Command LineFault) (said : Said) (u : Option LoginName) → line_account r said u ≡ seated_account w p None r said u
-outside_told w p r said u = at (is_quit r) refl
+pub authorization_told : (w : LineOutcome) (p : Policy) (r : Result Command LineFault) (said : Said) (u : Option LoginName) → line_account r said u ≡ state_account w p None r said u
+authorization_told w p r said u = at (is_quit r) refl
   where
     at : (b : Bool) → is_quit r ≡ b → line_account r said u ≡ quit_or b account.QuitBeforeLogin (line_account r said u)
     at true e = quits_told r said u e
     at false e = refl
 
 -- a line of a session is told by its reply, unless it quits
-pub seated_told : (c : Contents) (p : Policy) (s : Session) (v : Sitting) (w : Acted) (u : Option LoginName) (x : Cut) (told : Account) → IsSeated c (Some s) (Some v)
-    → (w ≡ acted.Failed → asks_inside p v (reading x) ≡ true) → told ≡ inside_account w p s (reading x) (Says (reply_inside w p v x))
-    → told ≡ seated_account w p (Some v) (reading x) (Says (reply_inside w p v x)) u
-seated_told c p s v w u x told seat may is =
+pub state_told : (c : Contents) (p : Policy) (s : Session) (v : Transaction) (w : LineOutcome) (u : Option LoginName) (x : Cut) (told : Account) → HasTransaction c (Some s) (Some v)
+    → (w ≡ outcome.Failed → transaction_asks p v (reading x) ≡ true) → told ≡ transaction_account w p s (reading x) (Says (transaction_reply w p v x))
+    → told ≡ state_account w p (Some v) (reading x) (Says (transaction_reply w p v x)) u
+state_told c p s v w u x told seat may is =
     let quits = is_quit (reading x) in
-    is ∙ (ap (λ (r : Removal). quit_or quits (account.Quit r) (line_account (reading x) (Says (reply_inside w p v x)) None)) (removal_alike c p s seat.0 seat.1 w ∙ ap (removal_seen w p) (sym seat.2))
-    ∙ ap (λ (o : Account). quit_or quits (account.Quit (removal_seen w p v)) o) (told_inside p v u w x may))
+    is ∙ (ap (λ (r : Removal). quit_or quits (account.Quit r) (line_account (reading x) (Says (transaction_reply w p v x)) None)) (removal_alike c p s seat.0 seat.1 w ∙ ap (removal_seen w p) (sym seat.2))
+    ∙ ap (λ (o : Account). quit_or quits (account.Quit (removal_seen w p v)) o) (transaction_told p v u w x may))
 
 -- ---- a line that acts
 
-said_with : (B : Records) (G : List Entry) (c : ℕ) (x : Cut) (w : Acted) → said_to_line B G c x (tag_of w) ≡ Says (reply_to_cut B G c x (tag_of w))
-said_with B G c x acted.Done = refl
-said_with B G c x acted.Failed = refl
+said_with : (B : Records) (G : List Entry) (c : ℕ) (x : Cut) (w : LineOutcome) → said_to_line B G c x (tag_of w) ≡ Says (reply_to_cut B G c x (tag_of w))
+said_with B G c x outcome.Done = refl
+said_with B G c x outcome.Failed = refl
 
-told_with : (B : Records) (G : List Entry) (c : ℕ) (x : Cut) (w : Acted) → line_told B G c x (tag_of w)
+told_with : (B : Records) (G : List Entry) (c : ℕ) (x : Cut) (w : LineOutcome) → line_told B G c x (tag_of w)
     ≡ quit_or (is_quit (reading x)) (quit_account (in_session G c) (removal_by B G c (tag_of w))) (line_account (reading x) (said_to_line B G c x (tag_of w)) (user G c))
-told_with B G c x acted.Done = refl
-told_with B G c x acted.Failed = refl
+told_with B G c x outcome.Done = refl
+told_with B G c x outcome.Failed = refl
 
-pub line_so : (B : Records) (G : List Entry) (c : ℕ) (k : Contents) (d : Desk) (t : Talk) (old : Option Session) (j : Judges B G c k d t old) → t.user ≡ user G c → (x : Cut) (w : Acted)
-    → (w ≡ acted.Failed → asks d.policy t j.sitting (reading x) ≡ true)
-    → seated_account w d.policy j.sitting (reading x) (Says (reply_of w d t j.sitting x)) t.user ≡ acts_account B G (line_act c (tag_of w) (Some x))
+pub line_so : (B : Records) (G : List Entry) (c : ℕ) (k : Contents) (d : LineContext) (t : LoginState) (old : Option Session) (j : Judges B G c k d t old) → t.user ≡ user G c → (x : Cut) (w : LineOutcome)
+    → (w ≡ outcome.Failed → asks d.policy t j.transaction (reading x) ≡ true)
+    → state_account w d.policy j.transaction (reading x) (Says (reply_of w d t j.transaction x)) t.user ≡ acts_account B G (line_act c (tag_of w) (Some x))
 line_so B G c k d t old j named x w may =
     let quits = is_quit (reading x) in
-    ap (λ (q : Account). quit_or quits q (line_account (reading x) (Says (reply_of w d t j.sitting x)) t.user)) (sym (j.quits w))
+    ap (λ (q : Account). quit_or quits q (line_account (reading x) (Says (reply_of w d t j.transaction x)) t.user)) (sym (j.quits w))
     ∙ (ap (λ (o : Account). quit_or quits (quit_account (in_session G c) (removal_by B G c (tag_of w))) o)
     (ap (λ (r : Reply). line_account (reading x) (Says r) t.user) (sym (j.reply x w may))
     ∙ (ap (λ (s : Said). line_account (reading x) s t.user) (sym (said_with B G c x w))

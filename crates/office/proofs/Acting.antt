@@ -14,11 +14,11 @@ use Rattle.session.specs.View.{is_marked, visible}
 use Rattle.office.specs.History.{Says}
 use Rattle.office.specs.Connections.{reading, is_quit}
 use Rattle.office.specs.Sessions.{logs_in, marks_after_line}
-use Rattle.office.specs.Sitting.{GoesOn}
+use Rattle.office.specs.Transaction.{GoesOn}
 use Rattle.office.specs.Answered.{SessionAfter, held_after}
-use Rattle.office.specs.Stands.{Seen, IsSession, IsSitting}
-use Rattle.office.specs.declared.talk.Acted.{Acted}
-use Rattle.office.specs.declared.talk.Acted.TheVariants as acted
+use Rattle.office.specs.Stands.{Seen, IsSession, IsTransaction}
+use Rattle.office.specs.declared.login_state.LineOutcome.{LineOutcome}
+use Rattle.office.specs.declared.login_state.LineOutcome.TheVariants as outcome
 use Rattle.office.proofs.Lying.{found, found_messages, lies_found, lies_marked}
 use Rattle.office.proofs.GoingOn.{marks_alike}
 use Rattle.office.proofs.Hearing.{lined}
@@ -45,11 +45,11 @@ no_marks _ reply u name ms e = absurd (nobody name e)
     nobody name e = cc
 
 -- only a QUIT removes
-pub held_same : (w : Acted) (p : Policy) (o : Option Session) (r : Result Command LineFault) (c : Contents) → is_quit r ≡ false → held_after w p o r c ≡ c
+pub held_same : (w : LineOutcome) (p : Policy) (o : Option Session) (r : Result Command LineFault) (c : Contents) → is_quit r ≡ false → held_after w p o r c ≡ c
 held_same w p None r c q = refl
-held_same acted.Failed p (Some s) r c q = refl
-held_same acted.Done p (Some s) (Ok Quit) c q = absurd (true≢false q)
-held_same acted.Done p (Some s) _ c q = refl
+held_same outcome.Failed p (Some s) r c q = refl
+held_same outcome.Done p (Some s) (Ok Quit) c q = absurd (true≢false q)
+held_same outcome.Done p (Some s) _ c q = refl
 
 module _ (c : Contents) (p : Policy) (s : Seen) (x : Cut) (reply : Reply) where
   abbrev after : Seen
@@ -59,7 +59,7 @@ module _ (c : Contents) (p : Policy) (s : Seen) (x : Cut) (reply : Reply) where
   quit_after u q = rw q refl
 
   began_after : AreSound c → (name : LoginName) → is_quit (reading x) ≡ false → logs_in (reading x) (Says reply) s.user ≡ Some name
-      → IsSitting c after (started p s.judging name.clerk name.maildrop (heads name.maildrop c))
+      → IsTransaction c after (started p s.judging name.clerk name.maildrop (heads name.maildrop c))
   began_after sound name q e = record {
     live = rw (q, e) refl;
     login = rw e refl;
@@ -70,7 +70,7 @@ module _ (c : Contents) (p : Policy) (s : Seen) (x : Cut) (reply : Reply) where
     view = rw e (found_messages c p name);
   }
 
-  stayed_after : (k new : Session) → is_quit (reading x) ≡ false → logs_in (reading x) (Says reply) s.user ≡ None → IsSitting c s k → GoesOn reply k new → IsSitting c after new
+  stayed_after : (k new : Session) → is_quit (reading x) ≡ false → logs_in (reading x) (Says reply) s.user ≡ None → IsTransaction c s k → GoesOn reply k new → IsTransaction c after new
   stayed_after k new q e i on = record {
     live = let l = i.live in rw (q, e, l) refl;
     login = rw e (i.login ∙ ap (λ n. Some n) (sym on.name));
@@ -94,7 +94,7 @@ module _ (c : Contents) (p : Policy) (s : Seen) (x : Cut) (reply : Reply) where
   session_at (Some k) None false None q e sound i became c' same = absurd became
 
   -- the session after a line
-  pub session_after : (w : Acted) (old new : Option Session) → AreSound c → IsSession c s old
+  pub session_after : (w : LineOutcome) (old new : Option Session) → AreSound c → IsSession c s old
       → SessionAfter (is_quit (reading x)) (logs_in (reading x) (Says reply) s.user) c p s.judging reply old new → IsSession (held_after w p old (reading x) c) after new
   session_after w old new sound i became =
       session_at old new (is_quit (reading x)) (logs_in (reading x) (Says reply) s.user) refl refl sound i became (held_after w p old (reading x) c)

@@ -107,9 +107,9 @@ pub record Nothing (T : Trace) (e : Event) (m : Mark) : Type 0 where
 
 pub nothing_stands : {V : Type 0} (Holds : V → Contents → Type 0) (o o' : Office V) (T : Trace) (e : Event) (m : Mark) → (st : StandsFor Holds o T)
     → Nothing T e m → ((k : Contents) → Holds o.vault k → Holds o'.vault k) → o'.policy ≡ o.policy → o'.boot ≡ o.boot → string_bytes o'.host ≡ string_bytes o.host
-    → o'.limits ≡ o.limits → counters o' ≡ counters o → ((q : ℕ) → get nat_cmp o'.links q ≡ get nat_cmp o.links q)
+    → o'.limits ≡ o.limits → counters o' ≡ counters o → ((q : ℕ) → get nat_cmp o'.connections q ≡ get nat_cmp o.connections q)
     → ((d : List ℕ) → get name_cmp o'.locks d ≡ get name_cmp o.locks d) → StandsFor Holds o' (given T e m)
-nothing_stands Holds o o' T e m st n on p b s l k links locks =
+nothing_stands Holds o o' T e m st n on p b s l k connections locks =
     let T' = given T e m in
     let same : history T' ≡ history T = ap (told T.base) n.acts in
     let looks : (q : ℕ) → seen T' q ≡ seen T q = λ q.
@@ -125,9 +125,9 @@ nothing_stands Holds o o' T e m st n on p b s l k links locks =
       judged = ap (λ (x : Limits). x.removals) l ∙ rw same st.judged;
       idle = ap (λ (x : Limits). x.idle) l ∙ (st.idle ∙ sym idle);
       moment = ap (λ (x : ℕ × ℕ). x.1) k ∙ (st.moment ∙ ap (λ (x : ℕ × ℕ). x.1) (sym number));
-      numbered = λ q some. let same : opened T'.log ≡ opened T.log = ap (λ (x : ℕ × ℕ). x.0) number in rw same (st.numbered q (rw (links q) at some));
+      numbered = λ q some. let same : opened T'.log ≡ opened T.log = ap (λ (x : ℕ × ℕ). x.0) number in rw same (st.numbered q (rw (connections q) at some));
       opened = ap (λ (x : ℕ × ℕ). x.0) k ∙ (st.opened ∙ ap (λ (x : ℕ × ℕ). x.0) (sym number));
-      links = λ q. rw (looks q, links q) (st.links q);
+      connections = λ q. rw (looks q, connections q) (st.connections q);
       locks = λ d. locks d ∙ (st.locks d ∙ ap (λ G. holder G d) (sym same));
     }
 
@@ -173,7 +173,7 @@ greeted c boot host removals now = record {
   held = nothing_held;
   pending = [];
   output = record { ready = bytes_of (Greeting c boot host); source = source.Nothing };
-  talk = nothing_said removals;
+  state = nothing_said removals;
   stamp = timestamp c boot host;
   session = None;
   clock = now;
@@ -195,8 +195,8 @@ module _ {V : Type 0} (Holds : V → Contents → Type 0) (o o' : Office V) (T :
   come_none : (d : List ℕ) → holds (history with_one) d newest ≡ false
   come_none d = let e = eq-eqb newest newest refl in rw e refl
 
-  unheard : (k : Option Kept) → get nat_cmp o.links newest ≡ k → IsKeptFor st.keeps.contents (seen T newest) k → live (history T) newest ≡ false
-  unheard None e h = h.outside
+  unheard : (k : Option Kept) → get nat_cmp o.connections newest ≡ k → IsKeptFor st.keeps.contents (seen T newest) k → live (history T) newest ≡ false
+  unheard None e h = h.authorization
   unheard (Some k) e h = absurd (let fits = (st.numbered newest (rw e refl)).1 in omega (arith, fits))
 
   come_matches : Matches st.keeps.contents (seen with_one newest) (greeted newest (setting (history T)).0 (setting (history T)).1 (judging (history T)) (moment T.log))
@@ -221,10 +221,10 @@ module _ {V : Type 0} (Holds : V → Contents → Type 0) (o o' : Office V) (T :
 
   pub come_stands : (n : ℕ) (k : Kept) → n ≡ newest → k ≡ greeted n o.boot (string_bytes o.host) o.limits.removals o.moment → is_formed T.log event.Connect ≡ true
       → ((k : Contents) → Holds o.vault k → Holds o'.vault k) → o'.policy ≡ o.policy → o'.boot ≡ o.boot → string_bytes o'.host ≡ string_bytes o.host → o'.limits ≡ o.limits
-      → counters o' ≡ (n, o.moment) → Updates nat_cmp o.links o'.links n (Some k) → ((d : List ℕ) → get name_cmp o'.locks d ≡ get name_cmp o.locks d) → StandsFor Holds o' with_one
+      → counters o' ≡ (n, o.moment) → Updates nat_cmp o.connections o'.connections n (Some k) → ((d : List ℕ) → get name_cmp o'.locks d ≡ get name_cmp o.locks d) → StandsFor Holds o' with_one
   come_stands n k number kept formed on p b s l m u locks =
-      let at : Updates nat_cmp o.links o'.links newest (Some k) = subst (λ x. Updates nat_cmp o.links o'.links x (Some k)) number u in
-      let there : (q : ℕ) → eqb newest q ≡ false → get nat_cmp o'.links q ≡ get nat_cmp o.links q = λ q e. at.2 q (is_apart newest q e) in
+      let at : Updates nat_cmp o.connections o'.connections newest (Some k) = subst (λ x. Updates nat_cmp o.connections o'.connections x (Some k)) number u in
+      let there : (q : ℕ) → eqb newest q ≡ false → get nat_cmp o'.connections q ≡ get nat_cmp o.connections q = λ q e. at.2 q (is_apart newest q e) in
       let here : k ≡ greeted newest (setting (history T)).0 (setting (history T)).1 (judging (history T)) (moment T.log) =
       kept ∙ (ap (λ x. greeted x o.boot (string_bytes o.host) o.limits.removals o.moment) number ∙ (ap (λ x. greeted newest x (string_bytes o.host) o.limits.removals o.moment) st.boot
       ∙ (ap (λ x. greeted newest (setting (history T)).0 x o.limits.removals o.moment) st.host ∙ (ap (λ x. greeted newest (setting (history T)).0 (setting (history T)).1 x o.moment) st.judged
@@ -243,13 +243,13 @@ module _ {V : Type 0} (Holds : V → Contents → Type 0) (o o' : Office V) (T :
             (λ e. let fits = st.numbered q (rw (there q e) at some) in (fits.0, omega (arith, fits.1)))
             (cases_Bool (eqb newest q));
         opened = ap (λ (x : ℕ × ℕ). x.0) m ∙ number;
-        links = λ q. ⊎_elim
-            (λ e. subst (λ x. IsKeptFor st.keeps.contents (seen with_one x) (get nat_cmp o'.links x)) (eqb-true newest q e)
+        connections = λ q. ⊎_elim
+            (λ e. subst (λ x. IsKeptFor st.keeps.contents (seen with_one x) (get nat_cmp o'.connections x)) (eqb-true newest q e)
             (subst (IsKeptFor st.keeps.contents (seen with_one newest)) (sym (at.1 ∙ ap Some here)) come_matches))
-            (λ e. rw (come_other q e, there q e) (st.links q))
+            (λ e. rw (come_other q e, there q e) (st.connections q))
             (cases_Bool (eqb newest q));
         locks = λ d.
-            let out : live (history T) newest ≡ false = unheard (get nat_cmp o.links newest) refl (st.links newest) in
+            let out : live (history T) newest ≡ false = unheard (get nat_cmp o.connections newest) refl (st.connections newest) in
             locks d ∙ (st.locks d ∙ sym (still_held T.base (acts T) (acts with_one) newest come_holds come_none d (rw out refl)));
       }
 
@@ -282,9 +282,9 @@ start_formed T host boot limits h fits low high =
 
 pub start_stands : {V : Type 0} (Holds Before : V → Contents → Type 0) (v : V) (o : Office V) (T : Trace) (host : List ℕ) (boot : ℕ) (limits : Limits) → (k : Keeps (Before v) T)
     → Holds o.vault k.contents → o.policy ≡ k.contents.policy → o.boot ≡ boot → string_bytes o.host ≡ host → o.limits ≡ limits → counters o ≡ (0, 0)
-    → is_formed T.log (event.Start host boot limits) ≡ true → ((q : ℕ) → get nat_cmp o.links q ≡ None) → ((d : List ℕ) → get name_cmp o.locks d ≡ None)
+    → is_formed T.log (event.Start host boot limits) ≡ true → ((q : ℕ) → get nat_cmp o.connections q ≡ None) → ((d : List ℕ) → get name_cmp o.locks d ≡ None)
     → StandsFor Holds o (given T (event.Start host boot limits) (Tagged Done))
-start_stands Holds Before v o T host boot limits k held p b s l n formed links locks =
+start_stands Holds Before v o T host boot limits k held p b s l n formed connections locks =
     let T' = given T (event.Start host boot limits) (Tagged Done) in
     record {
       keeps = record { contents = k.contents; held = held; agree = k.agree; sound = k.sound; formed = rw formed k.formed; began = begun_of T'.log (begins_anew host boot limits Done T.log k.began) };
@@ -295,8 +295,8 @@ start_stands Holds Before v o T host boot limits k held p b s l n formed links l
       judged = ap (λ (x : Limits). x.removals) l;
       idle = ap (λ (x : Limits). x.idle) l;
       moment = ap (λ (x : ℕ × ℕ). x.1) n;
-      numbered = λ q some. let none = links q in absurd (true≢false (sym (rw none at some)));
+      numbered = λ q some. let none = connections q in absurd (true≢false (sym (rw none at some)));
       opened = ap (λ (x : ℕ × ℕ). x.0) n;
-      links = λ q. let none = links q in rw none (record { closed = refl; outside = refl });
+      connections = λ q. let none = connections q in rw none (record { closed = refl; authorization = refl });
       locks = λ d. locks d ∙ sym (holder_is T.base (acts T') d None (λ q. refl));
     }

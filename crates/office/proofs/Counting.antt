@@ -94,18 +94,18 @@ kept_is_open : (c : Contents) (s : Seen) (o : Option Kept) → IsKeptFor c s o �
 kept_is_open c s None h = sym h.closed
 kept_is_open c s (Some k) m = sym m.opened
 
-pub open_numbers-len : {V : Type 0} (Holds : V → Contents → Type 0) (o : Office V) (T : Trace) → StandsFor Holds o T → IsOrdered nat_cmp o.links → length (open_numbers T) ≡ btree_map_len o.links
+pub open_numbers-len : {V : Type 0} (Holds : V → Contents → Type 0) (o : Office V) (T : Trace) → StandsFor Holds o T → IsOrdered nat_cmp o.connections → length (open_numbers T) ≡ btree_map_len o.connections
 open_numbers-len Holds o T st ordered =
-    let there : (c : ℕ) → is_some (get nat_cmp o.links c) ≡ is_open T c = λ c. kept_is_open st.keeps.contents (seen T c) (get nat_cmp o.links c) (st.links c) in
-    count_of_keys (is_open T) (opened T.log) 1 o.links.entries
-    (ascends 1 o.links.entries ordered (λ k some. (st.numbered k some).0))
+    let there : (c : ℕ) → is_some (get nat_cmp o.connections c) ≡ is_open T c = λ c. kept_is_open st.keeps.contents (seen T c) (get nat_cmp o.connections c) (st.connections c) in
+    count_of_keys (is_open T) (opened T.log) 1 o.connections.entries
+    (ascends 1 o.connections.entries ordered (λ k some. (st.numbered k some).0))
     (λ c h. there c)
     (λ c h. ⊎_elim (λ (e : is_open T c ≡ true). absurd (omega (arith, h, (st.numbered c (there c ∙ e)).1))) (λ (e : is_open T c ≡ false). e) (cases_Bool (is_open T c)))
 
 last_number : (most n : ℕ) → n ≤ most → (n == most) ≡ nat_lt most (n + 1)
 last_number most n fits = grind (arith, nat_tests, fits)
 
-module _ {V : Type 0} (Holds : V → Contents → Type 0) (o : Office V) (T : Trace) (st : StandsFor Holds o T) (ordered : IsOrdered nat_cmp o.links) (len : ℕ) (counted : len ≡ btree_map_len o.links) where
+module _ {V : Type 0} (Holds : V → Contents → Type 0) (o : Office V) (T : Trace) (st : StandsFor Holds o T) (ordered : IsOrdered nat_cmp o.connections) (len : ℕ) (counted : len ≡ btree_map_len o.connections) where
   open_len : length (open_numbers T) ≡ len
   open_len = open_numbers-len Holds o T st ordered ∙ sym counted
 

@@ -56,10 +56,10 @@ module _ {V : Type 0} (Holds : V → Contents → Type 0) (o o' : Office V) (T :
   -- what is kept of connections, and the locks, follow
   follows : Leaves T e t → (st : StandsFor Holds o T) → ((k : Contents) → Holds o.vault k → Holds o'.vault k) → o'.policy ≡ o.policy → o'.boot ≡ o.boot
       → string_bytes o'.host ≡ string_bytes o.host → o'.limits ≡ o.limits → counters o' ≡ counters o
-      → ((q : ℕ) → IsSome (get nat_cmp o'.links q) → IsSome (get nat_cmp o.links q))
-      → ((q : ℕ) → IsKeptFor st.keeps.contents (seen after q) (get nat_cmp o'.links q))
+      → ((q : ℕ) → IsSome (get nat_cmp o'.connections q) → IsSome (get nat_cmp o.connections q))
+      → ((q : ℕ) → IsKeptFor st.keeps.contents (seen after q) (get nat_cmp o'.connections q))
       → ((d : List ℕ) → get name_cmp o'.locks d ≡ holder (history after) d) → StandsFor Holds o' after
-  follows l st on p b s w n there links locks =
+  follows l st on p b s w n there connections locks =
       let formed = l.formed in
       record {
         keeps = record {
@@ -79,45 +79,45 @@ module _ {V : Type 0} (Holds : V → Contents → Type 0) (o o' : Office V) (T :
         moment = ap (λ (x : ℕ × ℕ). x.1) n ∙ (st.moment ∙ ap (λ (x : ℕ × ℕ). x.1) (sym l.number));
         numbered = λ q some. subst (λ (m : ℕ). (1 ≤ q) × (q ≤ m)) (ap (λ (x : ℕ × ℕ). x.0) (sym l.number)) (st.numbered q (there q some));
         opened = ap (λ (x : ℕ × ℕ). x.0) n ∙ (st.opened ∙ ap (λ (x : ℕ × ℕ). x.0) (sym l.number));
-        links = links;
+        connections = connections;
         locks = locks;
       }
 
   -- one connection is ended
-  pub ended_by : (c : ℕ) → Ends T e t c → (st : StandsFor Holds o T) (k : Kept) → get nat_cmp o.links c ≡ Some k → ((k : Contents) → Holds o.vault k → Holds o'.vault k)
+  pub ended_by : (c : ℕ) → Ends T e t c → (st : StandsFor Holds o T) (k : Kept) → get nat_cmp o.connections c ≡ Some k → ((k : Contents) → Holds o.vault k → Holds o'.vault k)
       → o'.policy ≡ o.policy → o'.boot ≡ o.boot → string_bytes o'.host ≡ string_bytes o.host → o'.limits ≡ o.limits → counters o' ≡ counters o
-      → get nat_cmp o'.links c ≡ None → ((q : ℕ) → is_at (nat_cmp c) q ≡ false → get nat_cmp o'.links q ≡ get nat_cmp o.links q) → Released (maildrop_of k.session) o.locks o'.locks → StandsFor Holds o' after
+      → get nat_cmp o'.connections c ≡ None → ((q : ℕ) → is_at (nat_cmp c) q ≡ false → get nat_cmp o'.connections q ≡ get nat_cmp o.connections q) → Released (maildrop_of k.session) o.locks o'.locks → StandsFor Holds o' after
   ended_by c x st k found on p b s w n gone_is kept_are r =
-      let m : Matches st.keeps.contents (seen T c) k = subst (IsKeptFor st.keeps.contents (seen T c)) found (st.links c) in
-      let there : (q : ℕ) → eqb c q ≡ false → get nat_cmp o'.links q ≡ get nat_cmp o.links q = λ q e. kept_are q (is_apart c q e) in
-      let none : (q : ℕ) → eqb c q ≡ true → get nat_cmp o'.links q ≡ None = λ q e. subst (λ y. get nat_cmp o'.links y ≡ None) (eqb-true c q e) gone_is in
+      let m : Matches st.keeps.contents (seen T c) k = subst (IsKeptFor st.keeps.contents (seen T c)) found (st.connections c) in
+      let there : (q : ℕ) → eqb c q ≡ false → get nat_cmp o'.connections q ≡ get nat_cmp o.connections q = λ q e. kept_are q (is_apart c q e) in
+      let none : (q : ℕ) → eqb c q ≡ true → get nat_cmp o'.connections q ≡ None = λ q e. subst (λ y. get nat_cmp o'.connections y ≡ None) (eqb-true c q e) gone_is in
       follows x.leaves st on p b s w n
       (λ q some. ⊎_elim
       (λ e. let gone = none q e in absurd (true≢false (sym (rw gone at some))))
       (λ e. let same = there q e in rw same at some)
       (cases_Bool (eqb c q)))
       (λ q. ⊎_elim
-      (λ e. subst (λ y. IsKeptFor st.keeps.contents (seen after y) (get nat_cmp o'.links y)) (eqb-true c q e) (rw gone_is x.over))
-      (λ e. rw (x.others q e, there q e) (st.links q))
+      (λ e. subst (λ y. IsKeptFor st.keeps.contents (seen after y) (get nat_cmp o'.connections y)) (eqb-true c q e) (rw gone_is x.over))
+      (λ e. rw (x.others q e, there q e) (st.connections q))
       (cases_Bool (eqb c q)))
       (released T.base (acts T) (acts after) c
       (λ d q e. ap (λ (y : Seen). y.live && is_login_to d y.login) (x.others q e))
-      (λ d. ap (λ (y : Bool). y && is_login_to d (login (history after) c)) x.over.outside)
+      (λ d. ap (λ (y : Bool). y && is_login_to d (login (history after) c)) x.over.authorization)
       st.keeps.contents (seen T c) k.session o.locks o'.locks m.session refl refl st.locks r)
 
-  pub ended_stands : (c : ℕ) → Ends T e t c → (st : StandsFor Holds o T) (k : Kept) → get nat_cmp o.links c ≡ Some k → ((k : Contents) → Holds o.vault k → Holds o'.vault k)
+  pub ended_stands : (c : ℕ) → Ends T e t c → (st : StandsFor Holds o T) (k : Kept) → get nat_cmp o.connections c ≡ Some k → ((k : Contents) → Holds o.vault k → Holds o'.vault k)
       → o'.policy ≡ o.policy → o'.boot ≡ o.boot → string_bytes o'.host ≡ string_bytes o.host → o'.limits ≡ o.limits → counters o' ≡ counters o
-      → Updates nat_cmp o.links o'.links c None → Released (maildrop_of k.session) o.locks o'.locks → StandsFor Holds o' after
+      → Updates nat_cmp o.connections o'.connections c None → Released (maildrop_of k.session) o.locks o'.locks → StandsFor Holds o' after
   ended_stands c x st k found on p b s w n u r = ended_by c x st k found on p b s w n u.1 u.2 r
 
   -- no connection is
   unchanged : Leaves T e t → ((q : ℕ) → seen after q ≡ seen T q) → StandsFor Holds o T → ((k : Contents) → Holds o.vault k → Holds o'.vault k)
       → o'.policy ≡ o.policy → o'.boot ≡ o.boot → string_bytes o'.host ≡ string_bytes o.host → o'.limits ≡ o.limits → counters o' ≡ counters o
-      → ((q : ℕ) → get nat_cmp o'.links q ≡ get nat_cmp o.links q) → ((d : List ℕ) → get name_cmp o'.locks d ≡ get name_cmp o.locks d) → StandsFor Holds o' after
-  unchanged l same st on p b s w n links locks =
+      → ((q : ℕ) → get nat_cmp o'.connections q ≡ get nat_cmp o.connections q) → ((d : List ℕ) → get name_cmp o'.locks d ≡ get name_cmp o.locks d) → StandsFor Holds o' after
+  unchanged l same st on p b s w n connections locks =
       follows l st on p b s w n
-      (λ q some. rw (links q) at some)
-      (λ q. rw (same q, links q) (st.links q))
+      (λ q some. rw (connections q) at some)
+      (λ q. rw (same q, connections q) (st.connections q))
       (λ d. locks d ∙ (st.locks d ∙ sym (same_holder T.base (acts T) (acts after) d (λ q. ap (λ (y : Seen). y.live && is_login_to d y.login) (same q)))))
 
 -- ---- a connection goes
@@ -126,7 +126,7 @@ gone_other : (T : Trace) (c q : ℕ) → eqb c q ≡ false → seen (given T (ev
 gone_other T c q e = rw e refl
 
 gone_over : (T : Trace) (c : ℕ) → IsOver (seen (given T (event.Gone c) (Tagged Done)) c)
-gone_over T c = let e = eq-eqb c c refl in record { closed = rw e refl; outside = rw e refl }
+gone_over T c = let e = eq-eqb c c refl in record { closed = rw e refl; authorization = rw e refl }
 
 pub gone_ends : (T : Trace) (c : ℕ) → Ends T (event.Gone c) Done c
 gone_ends T c = record {
@@ -159,7 +159,7 @@ module _ (T : Trace) (c n : ℕ) (t : Tag) (left : is_left T.log (history T) c n
       formed = refl;
     };
     others = λ q apart. seen-took_other T c n q t apart;
-    over = subst IsOver (sym gone_seen) (record { closed = rw e refl; outside = rw e refl });
+    over = subst IsOver (sym gone_seen) (record { closed = rw e refl; authorization = rw e refl });
   }
 
 -- ---- a session is ended
@@ -176,9 +176,9 @@ pub record IsSeatedAs (s : Seen) (o : Option Kept) (name : LoginName) : Type 0 w
   pub alive : s.live ≡ true
   pub maildrop : maildrop_of kept.session ≡ Some name.maildrop
 
-pub seated_as : (c : Contents) (s : Seen) (o : Option Kept) (name : LoginName) → IsKeptFor c s o → name_at o ≡ Some name → IsSeatedAs s o name
-seated_as c s None name h e = absurd (let none : None ≡ Some name = e in cc)
-seated_as c s (Some k) name m e =
+pub state_as : (c : Contents) (s : Seen) (o : Option Kept) (name : LoginName) → IsKeptFor c s o → name_at o ≡ Some name → IsSeatedAs s o name
+state_as c s None name h e = absurd (let none : None ≡ Some name = e in cc)
+state_as c s (Some k) name m e =
     let both = in_session_live c s k.session name m.session e in
     record { kept = k; is = refl; alive = both.0; maildrop = both.1 }
 
@@ -187,7 +187,7 @@ nobody_in c s None i e = i
 nobody_in c s (Some k) i e = absurd (let some : Some k.name ≡ None = e in cc)
 
 pub nobody_at : (c : Contents) (s : Seen) (o : Option Kept) → IsKeptFor c s o → name_at o ≡ None → s.live ≡ false
-nobody_at c s None h e = h.outside
+nobody_at c s None h e = h.authorization
 nobody_at c s (Some k) m e = nobody_in c s k.session m.session e
 
 module _ (T : Trace) (c : ℕ) where
@@ -204,7 +204,7 @@ module _ (T : Trace) (c : ℕ) where
   end_other alive q e = rw (alive, e) refl
 
   end_over : live (history T) c ≡ true → IsOver (seen with_end c)
-  end_over alive = let e = eq-eqb c c refl in record { closed = rw (alive, e) refl; outside = rw (alive, e) refl }
+  end_over alive = let e = eq-eqb c c refl in record { closed = rw (alive, e) refl; authorization = rw (alive, e) refl }
 
   pub end_ends : live (history T) c ≡ true → Ends T asked Done c
   end_ends alive = record { leaves = end_leaves; others = end_other alive; over = end_over alive }
@@ -214,6 +214,6 @@ module _ (T : Trace) (c : ℕ) where
 
   pub nobody_stands : {V : Type 0} (Holds : V → Contents → Type 0) (o o' : Office V) → live (history T) c ≡ false → StandsFor Holds o T
       → ((k : Contents) → Holds o.vault k → Holds o'.vault k) → o'.policy ≡ o.policy → o'.boot ≡ o.boot → string_bytes o'.host ≡ string_bytes o.host
-      → o'.limits ≡ o.limits → counters o' ≡ counters o → ((q : ℕ) → get nat_cmp o'.links q ≡ get nat_cmp o.links q)
+      → o'.limits ≡ o.limits → counters o' ≡ counters o → ((q : ℕ) → get nat_cmp o'.connections q ≡ get nat_cmp o.connections q)
       → ((d : List ℕ) → get name_cmp o'.locks d ≡ get name_cmp o.locks d) → StandsFor Holds o' with_end
   nobody_stands Holds o o' out = unchanged Holds o o' T asked Done end_leaves (end_nobody out)

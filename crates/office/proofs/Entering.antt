@@ -19,13 +19,13 @@ use Rattle.session.specs.Session as head
 use Rattle.session.specs.View.{visible, is_marked, numbered_from, unmarked, total_of}
 use Rattle.session.specs.declared.removals.Removals.{Removals}
 use Rattle.office.specs.History.{Says}
-use Rattle.office.specs.Answered.{is_locked_by, SessionAfter, IsSeated}
-use Rattle.office.specs.Sitting.{Sitting}
+use Rattle.office.specs.Answered.{is_locked_by, SessionAfter, HasTransaction}
+use Rattle.office.specs.Transaction.{Transaction}
 use Rattle.office.specs.Sessions.{logs_in}
 use Rattle.creds.specs.Credential.{ByPass}
 use Rattle.office.specs.Replying.{when_permitted, name_or_nobody}
-use Rattle.office.specs.Kept.{Desk, said_outside, judged}
-use Rattle.office.specs.declared.talk.Talk.{Talk}
+use Rattle.office.specs.Kept.{LineContext, authorization_said, judged}
+use Rattle.office.specs.declared.login_state.LoginState.{LoginState}
 use Rattle.office.specs.Entering.{entered, began}
 use Rattle.office.proofs.Lying.{found, found_heads, found_messages, found_fit}
 
@@ -121,20 +121,20 @@ apop_begins c p j name digest u (MaildropHas n m) = refl
 apop_begins c p j name digest u _ = refl
 
 -- a password is given where a login name is in force
-pub pass_said : (d : Desk) (t : Talk) (password : List ℕ) (name : LoginName) → t.user ≡ Some name → said_outside d t (Ok (Pass password)) ≡ judged d t.failures name (ByPass password)
+pub pass_said : (d : LineContext) (t : LoginState) (password : List ℕ) (name : LoginName) → t.user ≡ Some name → authorization_said d t (Ok (Pass password)) ≡ judged d t.failures name (ByPass password)
 pass_said d t password name e = ap (λ u. when_permitted (is_some u) (judged d t.failures (name_or_nobody u) (ByPass password))) e
 
 -- a session that is kept has its messages
-pub seated : (c : Contents) (s : Session) (v : Option Sitting) → IsSeated c (Some s) v → (w : Sitting) × IsSeated c (Some s) (Some w)
-seated c s None h = absurd h
-seated c s (Some w) h = (w, h)
+pub has_transaction : (c : Contents) (s : Session) (v : Option Transaction) → HasTransaction c (Some s) v → (w : Transaction) × HasTransaction c (Some s) (Some w)
+has_transaction c s None h = absurd h
+has_transaction c s (Some w) h = (w, h)
 
--- what holds of every sitting of a session holds of what is seated
-pub seated_case : (c : Contents) (s : Session) (v : Option Sitting) (P : Option Sitting → Type 0) → ((w : Sitting) → IsSeated c (Some s) (Some w) → P (Some w)) → IsSeated c (Some s) v → P v
-seated_case c s None P f h = absurd h
-seated_case c s (Some w) P f h = f w h
+-- what holds of every transaction that a session has holds of one
+pub state_case : (c : Contents) (s : Session) (v : Option Transaction) (P : Option Transaction → Type 0) → ((w : Transaction) → HasTransaction c (Some s) (Some w) → P (Some w)) → HasTransaction c (Some s) v → P v
+state_case c s None P f h = absurd h
+state_case c s (Some w) P f h = f w h
 
 -- nobody is seated where there is no session
-pub unseated_case : (c : Contents) (v : Option Sitting) (P : Option Sitting → Type 0) → P None → IsSeated c None v → P v
+pub unseated_case : (c : Contents) (v : Option Transaction) (P : Option Transaction → Type 0) → P None → HasTransaction c None v → P v
 unseated_case c None P p h = p
 unseated_case c (Some w) P p h = absurd h

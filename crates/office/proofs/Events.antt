@@ -30,8 +30,8 @@ use Rattle.vault.specs.Calls.{has_grown}
 use Rattle.office.specs.Outcomes.{Outcome, mark_of, HasCause}
 use Rattle.office.specs.Stands.{Seen, seen, Matches, IsSession, IsOver, IsKeptFor, is_seen_open, untaken_of, StandsFor}
 use Rattle.office.specs.declared.office.Office.{Office}
-use Rattle.office.specs.declared.talk.Acted.{Acted}
-use Rattle.office.specs.declared.talk.Acted.TheVariants as acted
+use Rattle.office.specs.declared.login_state.LineOutcome.{LineOutcome}
+use Rattle.office.specs.declared.login_state.LineOutcome.TheVariants as outcome
 use Rattle.office.proofs.Owing.{none_owed}
 use Rattle.office.proofs.Standing.{counters, counted}
 use Rattle.office.proofs.Hearing.{streamed, took, lined, at_drop, Awaits, open_still}
@@ -174,7 +174,7 @@ abbrev pub finds_by : Trace → LoginName → List store.Message
 finds_by T name = visible class_of (in_force T.base (history T)) name (without (in_maildrop name.maildrop (arrivals T.base (history T))) (removed T.base (history T)))
 
 -- the entry of a line
-abbrev pub line_entry : Trace → ℕ → Cut → Acted → Entry
+abbrev pub line_entry : Trace → ℕ → Cut → LineOutcome → Entry
 line_entry T c x w = record { act = Line c x; tag = tag_of w; said = said_to_line T.base (history T) c x (tag_of w) }
 
 -- ---- a piece
@@ -194,12 +194,12 @@ module _ (T : Trace) (c : ℕ) (p : List ℕ) where
   pub records-bytes_part : (t : Tag) → has_newline p ≡ false → records T.base (history (given T (Bytes c p) (Tagged t))) ≡ records T.base (history T)
   records-bytes_part t h = rw h refl
 
-  pub seen-bytes_line : (now : ℕ) → now ≡ moment T.log → (w : Acted) (x : Cut) → has_newline p ≡ true → next_line T.log (history T) c p ≡ Some x
+  pub seen-bytes_line : (now : ℕ) → now ≡ moment T.log → (w : LineOutcome) (x : Cut) → has_newline p ≡ true → next_line T.log (history T) c p ≡ Some x
       → seen (given T (Bytes c p) (Tagged (tag_of w))) c ≡ lined (streamed (seen T c) p now) x (reply_to_cut T.base (history T) c x (tag_of w)) (finds_by T)
-  seen-bytes_line now same acted.Done x h n = let e = eq-eqb c c refl in rw (same, h, n, e) refl
-  seen-bytes_line now same acted.Failed x h n = let e = eq-eqb c c refl in rw (same, h, n, e) refl
+  seen-bytes_line now same outcome.Done x h n = let e = eq-eqb c c refl in rw (same, h, n, e) refl
+  seen-bytes_line now same outcome.Failed x h n = let e = eq-eqb c c refl in rw (same, h, n, e) refl
 
-  pub records-bytes_line : (w : Acted) (x : Cut) → has_newline p ≡ true → next_line T.log (history T) c p ≡ Some x
+  pub records-bytes_line : (w : LineOutcome) (x : Cut) → has_newline p ≡ true → next_line T.log (history T) c p ≡ Some x
       → records T.base (history (given T (Bytes c p) (Tagged (tag_of w)))) ≡ records T.base (line_entry T c x w ∷ history T)
   records-bytes_line w x h n = rw (h, n) refl
 
@@ -208,7 +208,7 @@ module _ (T : Trace) (c : ℕ) (p : List ℕ) where
   records-bytes_lacking x h n = rw (h, n) (lacking_records T.base (acts T) c x)
 
   pub over-bytes : (x : Cut) → has_newline p ≡ true → next_line T.log (history T) c p ≡ Some x → IsOver (seen (given T (Bytes c p) (Tagged NoMemory)) c)
-  over-bytes x h n = let e = eq-eqb c c refl in record { closed = rw (h, n, e) refl; outside = rw (h, n, e) (never (is_quit (reading x)) _) }
+  over-bytes x h n = let e = eq-eqb c c refl in record { closed = rw (h, n, e) refl; authorization = rw (h, n, e) (never (is_quit (reading x)) _) }
 
 -- ---- a LF in a piece makes a line
 
@@ -241,17 +241,17 @@ pub record Moves {V : Type 0} (Holds : V → Contents → Type 0) (o o' : Office
   pub contents : Contents
   pub held : Holds o'.vault contents
   pub agree : Agree (records_of contents) (records T'.base (history T'))
-  pub here : IsKeptFor contents (seen T' c) (get nat_cmp o'.links c)
-  pub carried : (q : ℕ) → eqb c q ≡ false → IsKeptFor k (seen T q) (get nat_cmp o.links q) → IsKeptFor contents (seen T q) (get nat_cmp o.links q)
+  pub here : IsKeptFor contents (seen T' c) (get nat_cmp o'.connections c)
+  pub carried : (q : ℕ) → eqb c q ≡ false → IsKeptFor k (seen T q) (get nat_cmp o.connections q) → IsKeptFor contents (seen T q) (get nat_cmp o.connections q)
   pub locks : (d : List ℕ) → get name_cmp o'.locks d ≡ holder (history T') d
 
 moved_so : {V : Type 0} (Holds : V → Contents → Type 0) (o o' : Office V) (T : Trace) (e : Event) (t : Tag) (c : ℕ) → (st : StandsFor Holds o T) → is_formed T.log e ≡ true
     → o'.policy ≡ o.policy → o'.boot ≡ o.boot → string_bytes o'.host ≡ string_bytes o.host → o'.limits ≡ o.limits → counters o' ≡ counters o
     → whole T.base (acts (given T e (Tagged t))) ≡ whole T.base (acts T) → idle_seconds (given T e (Tagged t)).log ≡ idle_seconds T.log
-    → counted (given T e (Tagged t)).log ≡ counted T.log → IsSome (get nat_cmp o.links c)
-    → ((q : ℕ) → eqb c q ≡ false → seen (given T e (Tagged t)) q ≡ seen T q) → ((q : ℕ) → (c ≡ q → ⊥) → get nat_cmp o'.links q ≡ get nat_cmp o.links q)
+    → counted (given T e (Tagged t)).log ≡ counted T.log → IsSome (get nat_cmp o.connections c)
+    → ((q : ℕ) → eqb c q ≡ false → seen (given T e (Tagged t)) q ≡ seen T q) → ((q : ℕ) → (c ≡ q → ⊥) → get nat_cmp o'.connections q ≡ get nat_cmp o.connections q)
     → Moves Holds o o' T st.keeps.contents c (given T e (Tagged t)) → StandsFor Holds o' (given T e (Tagged t))
-moved_so Holds o o' T e t c st formed p b h l n same idle number there others links m =
+moved_so Holds o o' T e t c st formed p b h l n same idle number there others connections m =
     let rules : in_force T.base (history (given T e (Tagged t))) ≡ in_force T.base (history T) = ap (λ (w : Whole). w.rules) same in
     let newest : opened (given T e (Tagged t)).log ≡ opened T.log = ap (λ (x : ℕ × ℕ). x.0) number in
     record {
@@ -265,12 +265,12 @@ moved_so Holds o o' T e t c st formed p b h l n same idle number there others li
       moment = ap (λ (x : ℕ × ℕ). x.1) n ∙ (st.moment ∙ ap (λ (x : ℕ × ℕ). x.1) (sym number));
       numbered = λ q. ⊎_elim
           (λ (e : c ≡ q) some. rw (newest, sym e) (st.numbered c there))
-          (λ (ne : c ≡ q → ⊥) some. rw newest (st.numbered q (rw (links q ne) at some)))
+          (λ (ne : c ≡ q → ⊥) some. rw newest (st.numbered q (rw (connections q ne) at some)))
           (cases_eq c q);
       opened = ap (λ (x : ℕ × ℕ). x.0) n ∙ (st.opened ∙ sym newest);
-      links = λ q. ⊎_elim
-          (λ (same : c ≡ q). subst (λ q. IsKeptFor m.contents (seen (given T e (Tagged t)) q) (get nat_cmp o'.links q)) same m.here)
-          (λ (ne : c ≡ q → ⊥). rw (others q (ne_eqb c q ne), links q ne) (m.carried q (ne_eqb c q ne) (st.links q)))
+      connections = λ q. ⊎_elim
+          (λ (same : c ≡ q). subst (λ q. IsKeptFor m.contents (seen (given T e (Tagged t)) q) (get nat_cmp o'.connections q)) same m.here)
+          (λ (ne : c ≡ q → ⊥). rw (others q (ne_eqb c q ne), connections q ne) (m.carried q (ne_eqb c q ne) (st.connections q)))
           (cases_eq c q);
       locks = m.locks;
     }
@@ -279,16 +279,16 @@ moved_so Holds o o' T e t c st formed p b h l n same idle number there others li
 pub moved : {V : Type 0} (Holds : V → Contents → Type 0) (o o' : Office V) (T : Trace) (e : Event) (m : Mark) (t : Tag) (c : ℕ) → m ≡ Tagged t → (st : StandsFor Holds o T) → is_formed T.log e ≡ true
     → o'.policy ≡ o.policy → o'.boot ≡ o.boot → string_bytes o'.host ≡ string_bytes o.host → o'.limits ≡ o.limits → counters o' ≡ counters o
     → whole T.base (acts (given T e (Tagged t))) ≡ whole T.base (acts T) → idle_seconds (given T e (Tagged t)).log ≡ idle_seconds T.log
-    → counted (given T e (Tagged t)).log ≡ counted T.log → IsSome (get nat_cmp o.links c)
-    → ((q : ℕ) → eqb c q ≡ false → seen (given T e (Tagged t)) q ≡ seen T q) → ((q : ℕ) → (c ≡ q → ⊥) → get nat_cmp o'.links q ≡ get nat_cmp o.links q)
+    → counted (given T e (Tagged t)).log ≡ counted T.log → IsSome (get nat_cmp o.connections c)
+    → ((q : ℕ) → eqb c q ≡ false → seen (given T e (Tagged t)) q ≡ seen T q) → ((q : ℕ) → (c ≡ q → ⊥) → get nat_cmp o'.connections q ≡ get nat_cmp o.connections q)
     → Moves Holds o o' T st.keeps.contents c (given T e (Tagged t)) → StandsFor Holds o' (given T e m)
-moved Holds o o' T e m t c mark st formed p b h l n same idle number there others links moves =
-    rw mark (moved_so Holds o o' T e t c st formed p b h l n same idle number there others links moves)
+moved Holds o o' T e m t c mark st formed p b h l n same idle number there others connections moves =
+    rw mark (moved_so Holds o o' T e t c st formed p b h l n same idle number there others connections moves)
 
 -- what a line's event shows
-pub marked : (w : Acted) (o : Outcome) → o ≡ shown_of w → mark_of o ≡ Tagged (tag_of w)
-marked acted.Done o e = rw e refl
-marked acted.Failed o e = rw e refl
+pub marked : (w : LineOutcome) (o : Outcome) → o ≡ shown_of w → mark_of o ≡ Tagged (tag_of w)
+marked outcome.Done o e = rw e refl
+marked outcome.Failed o e = rw e refl
 
 -- a session that is kept is one of a trace that says the same of it
 pub same_session : (k : Contents) (s s' : Seen) (o : Option Session) → s'.live ≡ s.live → s'.login ≡ s.login → s'.judging ≡ s.judging → s'.marks ≡ s.marks → s'.view ≡ s.view → IsSession k s o → IsSession k s' o
@@ -384,10 +384,10 @@ module _ (T : Trace) (c n : ℕ) where
   seen-took_none now same h b o = seen-took Done false false None h b o ∙ at_moment now same
 
   -- all is taken, and a line acts
-  pub seen-took_line : (now : ℕ) → now ≡ moment T.log → (w : Acted) (x : Cut) → now_left ≡ false → closing (history T) c ≡ false → next ≡ Some x
+  pub seen-took_line : (now : ℕ) → now ≡ moment T.log → (w : LineOutcome) (x : Cut) → now_left ≡ false → closing (history T) c ≡ false → next ≡ Some x
       → seen (given T (Took c n) (Tagged (tag_of w))) c ≡ lined (took (seen T c) n now) x (reply_to_cut T.base (history T) c x (tag_of w)) (finds_by T)
-  seen-took_line now same acted.Done x h b o = let e = eq-eqb c c refl in seen-took Done false false (Some x) h b o ∙ rw (e, same) refl
-  seen-took_line now same acted.Failed x h b o = let e = eq-eqb c c refl in seen-took Failed false false (Some x) h b o ∙ rw (e, same) refl
+  seen-took_line now same outcome.Done x h b o = let e = eq-eqb c c refl in seen-took Done false false (Some x) h b o ∙ rw (e, same) refl
+  seen-took_line now same outcome.Failed x h b o = let e = eq-eqb c c refl in seen-took Failed false false (Some x) h b o ∙ rw (e, same) refl
 
   -- the locks where no line acts
   part_holder : (s : Bool) (d : List ℕ) → holder (told T.base (act_of_part s c Done ++ acts T)) d ≡ holder (history T) d
@@ -414,7 +414,7 @@ module _ (T : Trace) (c n : ℕ) where
   pub records-took_none : now_left ≡ false → closing (history T) c ≡ false → next ≡ None → records T.base (history (given T (Took c n) (Tagged Done))) ≡ records T.base (history T)
   records-took_none h b o = rw (h, b, o) refl
 
-  pub records-took_line : (w : Acted) (x : Cut) → now_left ≡ false → closing (history T) c ≡ false → next ≡ Some x
+  pub records-took_line : (w : LineOutcome) (x : Cut) → now_left ≡ false → closing (history T) c ≡ false → next ≡ Some x
       → records T.base (history (given T (Took c n) (Tagged (tag_of w)))) ≡ records T.base (line_entry T c x w ∷ history T)
   records-took_line w x h b o = rw (h, b, o) refl
 
@@ -426,7 +426,7 @@ module _ (T : Trace) (c n : ℕ) where
   over-took x h b o =
       let e = eq-eqb c c refl in
       let s = seen-took NoMemory false false (Some x) h b o in
-      record { closed = ap is_seen_open s ∙ rw e refl; outside = ap (λ (s : Seen). s.live) s ∙ rw e (never (is_quit (reading x)) _) }
+      record { closed = ap is_seen_open s ∙ rw e refl; authorization = ap (λ (s : Seen). s.live) s ∙ rw e (never (is_quit (reading x)) _) }
 
 -- ---- what is kept, at a Took
 
@@ -521,6 +521,6 @@ took_goes T lent c n o p q =
 -- ---- refusals and their causes
 
 -- that a line failed has its cause
-pub line_cause : (before now : ℕ) (w : Acted) (o : Outcome) → o ≡ shown_of w → (w ≡ acted.Failed → has_grown before now ≡ true) → HasCause before now o
-line_cause before now acted.Done o e h = subst (HasCause before now) (sym e) tt
-line_cause before now acted.Failed o e h = subst (HasCause before now) (sym e) (h refl)
+pub line_cause : (before now : ℕ) (w : LineOutcome) (o : Outcome) → o ≡ shown_of w → (w ≡ outcome.Failed → has_grown before now ≡ true) → HasCause before now o
+line_cause before now outcome.Done o e h = subst (HasCause before now) (sym e) tt
+line_cause before now outcome.Failed o e h = subst (HasCause before now) (sym e) (h refl)

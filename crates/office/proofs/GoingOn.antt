@@ -14,10 +14,10 @@ use Rattle.office.specs.History.{Entry, Line, Tag, Said, Says, in_force, is_no_m
 use Rattle.office.specs.Connections.{is_quit, judging, opens, reading, user}
 use Rattle.office.specs.Sessions.{ends_session, login_by, marks, marks_after_line}
 use Rattle.office.specs.Answered.{tag_of}
-use Rattle.office.specs.Sitting.{Sitting, GoesOn, reply_inside, sitting_of}
-use Rattle.office.specs.declared.talk.Acted.{Acted}
-use Rattle.office.specs.declared.talk.Acted.TheVariants as acted
-use Rattle.office.proofs.SessionLines.{AgreesInside, no_login_inside}
+use Rattle.office.specs.Transaction.{Transaction, GoesOn, transaction_reply, transaction_of}
+use Rattle.office.specs.declared.login_state.LineOutcome.{LineOutcome}
+use Rattle.office.specs.declared.login_state.LineOutcome.TheVariants as outcome
+use Rattle.office.proofs.SessionLines.{AgreesInTransaction, transaction_no_login}
 
 -- an entry that neither ends a session of a connection nor logs in on it, and leaves its marks, as they count by number, and the policy
 pub record LeavesInside (B : Records) (e : Entry) (G : List Entry) (c : ℕ) (before now : List ℕ) : Type 0 where
@@ -29,8 +29,8 @@ pub record LeavesInside (B : Records) (e : Entry) (G : List Entry) (c : ℕ) (be
   pub marked : ((n : ℕ) → is_marked before n ≡ is_marked (marks G c) n) → (n : ℕ) → is_marked now n ≡ is_marked (marks (e ∷ G) c) n
 
 module _ (B : Records) (e : Entry) (G : List Entry) (c : ℕ) (p : Policy) where
-  pub stays_inside : (v w : Sitting) → w.name ≡ v.name → w.removals ≡ v.removals → w.view ≡ v.view → LeavesInside B e G c v.marks w.marks → AgreesInside B G c p v → AgreesInside B (e ∷ G) c p w
-  stays_inside v w n j rows l a =
+  pub transaction_stays : (v w : Transaction) → w.name ≡ v.name → w.removals ≡ v.removals → w.view ≡ v.view → LeavesInside B e G c v.marks w.marks → AgreesInTransaction B G c p v → AgreesInTransaction B (e ∷ G) c p w
+  transaction_stays v w n j rows l a =
       let g = l.goes_on in
       let s = l.stays in
       let o = l.opened in
@@ -56,14 +56,14 @@ module _ (ms ns : List ℕ) (same : (n : ℕ) → is_marked ms n ≡ is_marked n
   marks_alike (Says (MaildropHas k m)) n = refl
   marks_alike _ n = same n
 
-acted_so : (w : Acted) → is_no_memory (tag_of w) ≡ false
-acted_so acted.Done = refl
-acted_so acted.Failed = refl
+acted_so : (w : LineOutcome) → is_no_memory (tag_of w) ≡ false
+acted_so outcome.Done = refl
+acted_so outcome.Failed = refl
 
-module _ (B : Records) (G : List Entry) (c : ℕ) (p : Policy) (s new : Session) (kept : List Keyed) (w : Acted) (x : Cut)
-    (on : GoesOn (reply_inside w p (sitting_of s kept) x) s new) where
+module _ (B : Records) (G : List Entry) (c : ℕ) (p : Policy) (s new : Session) (kept : List Keyed) (w : LineOutcome) (x : Cut)
+    (on : GoesOn (transaction_reply w p (transaction_of s kept) x) s new) where
   abbrev told_so : Reply
-  told_so = reply_inside w p (sitting_of s kept) x
+  told_so = transaction_reply w p (transaction_of s kept) x
 
   abbrev line_said : Entry
   line_said = record { act = Line c x; tag = tag_of w; said = Says told_so }
@@ -72,7 +72,7 @@ module _ (B : Records) (G : List Entry) (c : ℕ) (p : Policy) (s new : Session)
   line_leaves q =
       let own = eq-eqb c c refl in
       let m = acted_so w in
-      let none = no_login_inside w p (sitting_of s kept) x (user G c) in
+      let none = transaction_no_login w p (transaction_of s kept) x (user G c) in
       record {
         goes_on = rw (own, q, m) refl;
         stays = rw (own, none) refl;
@@ -83,15 +83,15 @@ module _ (B : Records) (G : List Entry) (c : ℕ) (p : Policy) (s new : Session)
       }
 
   -- its own line, other than a QUIT
-  pub goes_on_inside : is_quit (reading x) ≡ false → AgreesInside B G c p (sitting_of s kept) → AgreesInside B (line_said ∷ G) c p (sitting_of new kept)
-  goes_on_inside q a = stays_inside B line_said G c p (sitting_of s kept) (sitting_of new kept) on.name on.removals refl (line_leaves q) a
+  pub transaction_goes_on : is_quit (reading x) ≡ false → AgreesInTransaction B G c p (transaction_of s kept) → AgreesInTransaction B (line_said ∷ G) c p (transaction_of new kept)
+  transaction_goes_on q a = transaction_stays B line_said G c p (transaction_of s kept) (transaction_of new kept) on.name on.removals refl (line_leaves q) a
 
 -- another connection's line
-pub other_line : (B : Records) (G : List Entry) (n c : ℕ) (p : Policy) (v : Sitting) (x : Cut) (t : Tag) (said : Said) → (n ≡ c → ⊥)
-    → AgreesInside B G c p v → AgreesInside B (record { act = Line n x; tag = t; said = said } ∷ G) c p v
+pub other_line : (B : Records) (G : List Entry) (n c : ℕ) (p : Policy) (v : Transaction) (x : Cut) (t : Tag) (said : Said) → (n ≡ c → ⊥)
+    → AgreesInTransaction B G c p v → AgreesInTransaction B (record { act = Line n x; tag = t; said = said } ∷ G) c p v
 other_line B G n c p v x t said apart a =
     let f = ne_eqb n c apart in
-    stays_inside B (record { act = Line n x; tag = t; said = said }) G c p v v refl refl refl (record {
+    transaction_stays B (record { act = Line n x; tag = t; said = said }) G c p v v refl refl refl (record {
       goes_on = rw f refl;
       stays = rw f refl;
       opened = refl;

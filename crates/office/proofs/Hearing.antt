@@ -13,10 +13,10 @@ use Rattle.office.specs.Sessions.{logs_in, login_after, marks_after_line, view_a
 use Rattle.office.specs.Replying.{is_empty}
 use Rattle.office.specs.Expected.{most_in_a_piece}
 use Rattle.office.specs.Output.{Output, nothing_owed, reads_text, Owes, OwesReply}
-use Rattle.office.specs.Kept.{Kept, answered, line_after, talk_after, most_failures}
+use Rattle.office.specs.Kept.{Kept, answered, line_after, login_state_after, most_failures}
 use Rattle.office.specs.Stands.{Seen, Matches, IsSession, is_seen_open, untaken_of, most_in_a_line}
-use Rattle.office.specs.declared.talk.Talk.{Talk}
-use Rattle.office.proofs.Outside.{failures_counted}
+use Rattle.office.specs.declared.login_state.LoginState.{LoginState}
+use Rattle.office.proofs.Authorization.{failures_counted}
 use Rattle.office.proofs.Owing.{owes_none}
 
 -- what stands at a place, and what follows it
@@ -35,10 +35,10 @@ at_end (suc n) (a ∷ xs) e = at_end n xs e
 
 -- what a trace says of a connection after more octets came at a moment, after some were taken, and after a line got this reply
 abbrev pub streamed : Seen → List ℕ → (now : ℕ) → Seen
-streamed s p now = record { connected = s.connected; closing = s.closing; live = s.live; stream = s.stream ++ p; acted = s.acted; serving = s.serving; sent = s.sent; taken = s.taken; user = s.user; failures = s.failures; stamp = s.stamp; judging = s.judging; login = s.login; marks = s.marks; view = s.view; clock = if has_newline p then now else s.clock }
+streamed s p now = record { connected = s.connected; closing = s.closing; live = s.live; stream = s.stream ++ p; outcome = s.acted; serving = s.serving; sent = s.sent; taken = s.taken; user = s.user; failures = s.failures; stamp = s.stamp; judging = s.judging; login = s.login; marks = s.marks; view = s.view; clock = if has_newline p then now else s.clock }
 
 abbrev pub took : Seen → ℕ → (now : ℕ) → Seen
-took s n now = record { connected = s.connected; closing = s.closing; live = s.live; stream = s.stream; acted = s.acted; serving = s.serving; sent = s.sent; taken = s.taken + n; user = s.user; failures = s.failures; stamp = s.stamp; judging = s.judging; login = s.login; marks = s.marks; view = s.view; clock = now }
+took s n now = record { connected = s.connected; closing = s.closing; live = s.live; stream = s.stream; outcome = s.acted; serving = s.serving; sent = s.sent; taken = s.taken + n; user = s.user; failures = s.failures; stamp = s.stamp; judging = s.judging; login = s.login; marks = s.marks; view = s.view; clock = now }
 
 -- `found` is what a login would find
 abbrev pub lined : Seen → Cut → Reply → (found : LoginName → List store.Message) → Seen
@@ -134,11 +134,11 @@ pub record Awaits (c : Contents) (s : Seen) (k : Kept) (octets : List ℕ) : Typ
   pub owed : untaken_of s ≡ []
   pub session : IsSession c s k.session
   pub open_yet : s.closing ≡ false
-  pub closing : k.talk.closing ≡ s.closing
-  pub user : k.talk.user ≡ s.user
-  pub failures : k.talk.failures ≡ min s.failures most_failures
+  pub closing : k.state.closing ≡ s.closing
+  pub user : k.state.user ≡ s.user
+  pub failures : k.state.failures ≡ min s.failures most_failures
   pub stamp : k.stamp ≡ s.stamp
-  pub judged : k.talk.removals ≡ s.judging
+  pub judged : k.state.removals ≡ s.judging
   pub clock : k.clock ≡ s.clock
   pub lines : (more : List ℕ) → drop s.acted (cut (s.stream ++ more)) ≡ coming k.held (octets ++ more)
   pub piece : length octets ≤ most_in_a_piece
@@ -174,10 +174,10 @@ module _ (c : Contents) (s : Seen) (k k' : Kept) (p : List ℕ) (answer : Reply)
         serving = λ t. absurd (true≢false (sym t ∙ ap (λ (o : Output). reads_text o.source) none));
         session = subst (IsSession c s) (sym same) m.session;
         parted = quiet_yet;
-        closing = ap (λ (k : Kept). k.talk.closing) e' ∙ m.closing;
-        user = ap (λ (k : Kept). k.talk.user) e' ∙ m.user;
-        failures = ap (λ (k : Kept). k.talk.failures) e' ∙ m.failures;
-        judged = ap (λ (k : Kept). k.talk.removals) e' ∙ m.judged;
+        closing = ap (λ (k : Kept). k.state.closing) e' ∙ m.closing;
+        user = ap (λ (k : Kept). k.state.user) e' ∙ m.user;
+        failures = ap (λ (k : Kept). k.state.failures) e' ∙ m.failures;
+        judged = ap (λ (k : Kept). k.state.removals) e' ∙ m.judged;
         stamp = ap (λ (k : Kept). k.stamp) e ∙ m.stamp;
         clock = ap (λ (k : Kept). k.clock) e ∙ m.clock;
         lines = λ more. left more ∙ ap (λ xs. xs ++ coming k'.held (k'.pending ++ more)) (let q : shown k'.held ≡ [] = rw w refl in q);
@@ -214,8 +214,8 @@ module _ (c : Contents) (s : Seen) (k k' : Kept) (p : List ℕ) (answer : Reply)
       let more_owed = owed_more s x answer found m.taken m.owed in
       let said = says_something answer in
       let held_is : k'.held ≡ fed k.held p = ap (λ (k : Kept). k.held) e in
-      let talk_is : k'.talk ≡ talk_after x answer k.talk =
-      ap (λ (k : Kept). k.talk) e' ∙ ap (λ y. talk_after y answer k.talk) (sym (same ∙ acting_is)) in
+      let login_state_is : k'.state ≡ login_state_after x answer k.state =
+      ap (λ (k : Kept). k.state) e' ∙ ap (λ y. login_state_after y answer k.state) (sym (same ∙ acting_is)) in
       record {
         opened = rw (more_owed, said) (open_still s.connected (s.closing && is_empty (untaken_of s)) (closes (reading x) (Says answer) || s.closing) m.opened);
         session = sits;
@@ -223,10 +223,10 @@ module _ (c : Contents) (s : Seen) (k k' : Kept) (p : List ℕ) (answer : Reply)
         taken = omega (arith, m.taken, length-append s.sent (bytes_of answer));
         owed = subst (λ xs. Owes c' k'.session k'.output xs) (sym more_owed) owes.owes;
         serving = owes.serves;
-        closing = ap (λ (t : Talk). t.closing) talk_is ∙ ap (λ b. closes (reading x) (Says answer) || b) m.closing;
-        user = ap (λ (t : Talk). t.user) talk_is ∙ ap (user_after_line (reading x) (Says answer)) m.user;
-        judged = ap (λ (t : Talk). t.removals) talk_is ∙ m.judged;
-        failures = ap (λ (t : Talk). t.failures) talk_is ∙ failures_counted (is_failure (Says answer)) k.talk.failures s.failures m.failures;
+        closing = ap (λ (t : LoginState). t.closing) login_state_is ∙ ap (λ b. closes (reading x) (Says answer) || b) m.closing;
+        user = ap (λ (t : LoginState). t.user) login_state_is ∙ ap (user_after_line (reading x) (Says answer)) m.user;
+        judged = ap (λ (t : LoginState). t.removals) login_state_is ∙ m.judged;
+        failures = ap (λ (t : LoginState). t.failures) login_state_is ∙ failures_counted (is_failure (Says answer)) k.state.failures s.failures m.failures;
         stamp = ap (λ (k : Kept). k.stamp) e ∙ m.stamp;
         clock = ap (λ (k : Kept). k.clock) e ∙ m.clock;
         lines = λ more. (at_drop s.acted (cut (s.stream ++ more)) acting (coming k'.held (k'.pending ++ more)) (next h more)).1;

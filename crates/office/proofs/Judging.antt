@@ -16,32 +16,32 @@ use Rattle.office.specs.Connections.{reading, is_quit, closes}
 use Rattle.office.specs.Sessions.{live, marks, view, logs_in, in_session, records, removed, removed_after, removed_by, quits_if}
 use Rattle.office.specs.Replying.{reply_to_cut, line_may_fail}
 use Rattle.office.specs.Accounts.{quit_account, removal_by, quit_seen}
-use Rattle.office.specs.Kept.{Desk, asks}
-use Rattle.office.specs.Sitting.{Sitting, LiesIn, sitting_of}
-use Rattle.office.specs.Answered.{reply_of, tag_of, IsSeated, held_after}
+use Rattle.office.specs.Kept.{LineContext, asks}
+use Rattle.office.specs.Transaction.{Transaction, LiesIn, transaction_of}
+use Rattle.office.specs.Answered.{reply_of, tag_of, HasTransaction, held_after}
 use Rattle.office.specs.Stands.{Seen}
-use Rattle.office.specs.declared.talk.Talk.{Talk}
-use Rattle.office.specs.declared.talk.Acted.{Acted}
-use Rattle.office.specs.declared.talk.Acted.TheVariants as acted
+use Rattle.office.specs.declared.login_state.LoginState.{LoginState}
+use Rattle.office.specs.declared.login_state.LineOutcome.{LineOutcome}
+use Rattle.office.specs.declared.login_state.LineOutcome.TheVariants as outcome
 use Rattle.office.proofs.Hearing.{lined}
-use Rattle.office.proofs.Outside.{AgreesOutside, reply_outside, fails_outside}
-use Rattle.office.proofs.SessionLines.{AgreesInside, removal_inside, reply_said_inside, fails_inside, no_login_inside, closes_inside}
+use Rattle.office.proofs.Authorization.{AgreesInAuthorization, authorization_reply, authorization_fails}
+use Rattle.office.proofs.SessionLines.{AgreesInTransaction, transaction_removal, transaction_reply_said, transaction_fails, transaction_no_login, transaction_closes}
 use Rattle.office.proofs.LineRecords.{agree_line}
 
 -- A line is answered, may be refused, and leaves the records, as the history says.
-pub record Judges (B : Records) (G : List Entry) (c : ℕ) (k : Contents) (d : Desk) (t : Talk) (old : Option Session) : Type 0 where
-  pub sitting : Option Sitting
-  pub seated : IsSeated k old sitting
-  pub reply : (x : Cut) (w : Acted) → (w ≡ acted.Failed → asks d.policy t sitting (reading x) ≡ true) → reply_to_cut B G c x (tag_of w) ≡ reply_of w d t sitting x
-  pub quits : (w : Acted) → quit_account (in_session G c) (removal_by B G c (tag_of w)) ≡ quit_seen w d.policy sitting
-  pub fails : (x : Cut) → asks d.policy t sitting (reading x) ≡ true → line_may_fail B G c x ≡ true
-  pub agrees : AreSound k → Agree (records_of k) (records B G) → (w : Acted) (x : Cut) (said : Said)
+pub record Judges (B : Records) (G : List Entry) (c : ℕ) (k : Contents) (d : LineContext) (t : LoginState) (old : Option Session) : Type 0 where
+  pub transaction : Option Transaction
+  pub has_transaction : HasTransaction k old transaction
+  pub reply : (x : Cut) (w : LineOutcome) → (w ≡ outcome.Failed → asks d.policy t transaction (reading x) ≡ true) → reply_to_cut B G c x (tag_of w) ≡ reply_of w d t transaction x
+  pub quits : (w : LineOutcome) → quit_account (in_session G c) (removal_by B G c (tag_of w)) ≡ quit_seen w d.policy transaction
+  pub fails : (x : Cut) → asks d.policy t transaction (reading x) ≡ true → line_may_fail B G c x ≡ true
+  pub agrees : AreSound k → Agree (records_of k) (records B G) → (w : LineOutcome) (x : Cut) (said : Said)
       → Agree (records_of (held_after w d.policy old (reading x) k)) (records B (record { act = Line c x; tag = tag_of w; said = said } ∷ G))
   -- who is in session doesn't log in
-  pub stays : (o : Session) → old ≡ Some o → (x : Cut) (w : Acted) (u : Option LoginName) → logs_in (reading x) (Says (reply_of w d t sitting x)) u ≡ None
+  pub stays : (o : Session) → old ≡ Some o → (x : Cut) (w : LineOutcome) (u : Option LoginName) → logs_in (reading x) (Says (reply_of w d t transaction x)) u ≡ None
   -- what closes a connection ends its session
-  pub parts : (s : Seen) → s.live ≡ live G c → (found : LoginName → List store.Message) (x : Cut) (w : Acted)
-      → closes (reading x) (Says (reply_of w d t sitting x)) ≡ true → (lined s x (reply_of w d t sitting x) found).live ≡ false
+  pub parts : (s : Seen) → s.live ≡ live G c → (found : LoginName → List store.Message) (x : Cut) (w : LineOutcome)
+      → closes (reading x) (Says (reply_of w d t transaction x)) ≡ true → (lined s x (reply_of w d t transaction x) found).live ≡ false
 
 -- ---- before a login
 
@@ -54,29 +54,29 @@ refused_in (Ok (Pass p)) u = refl
 refused_in (Ok (Apop who d)) u = refl
 refused_in _ u = refl
 
-closed_outside : (r : Result Command LineFault) (reply : Reply) (u : Option LoginName) (l : Bool) → l ≡ false → closes r (Says reply) ≡ true
+authorization_closed : (r : Result Command LineFault) (reply : Reply) (u : Option LoginName) (l : Bool) → l ≡ false → closes r (Says reply) ≡ true
     → (not (is_quit r || false) && (is_some (logs_in r (Says reply) u) || l)) ≡ false
-closed_outside r LoginFailedClosing u l e h = let n = refused_in r u in rw (n, e) (and_false (not (is_quit r || false)))
-closed_outside r _ u l e h = rw h refl
+authorization_closed r LoginFailedClosing u l e h = let n = refused_in r u in rw (n, e) (and_false (not (is_quit r || false)))
+authorization_closed r _ u l e h = rw h refl
 
 -- who isn't in session removes nothing
-records_outside : (B : Records) (G : List Entry) (c : ℕ) (x : Cut) (t : Tag) (said : Said) → live G c ≡ false → records B (record { act = Line c x; tag = t; said = said } ∷ G) ≡ records B G
-records_outside B G c x t said lv = ap (λ rs. record (records B G) { messages = Rattle.vault.specs.Records.without (Rattle.office.specs.History.arrivals B G) rs }) (at (is_quit (reading x) && is_done t))
+authorization_records : (B : Records) (G : List Entry) (c : ℕ) (x : Cut) (t : Tag) (said : Said) → live G c ≡ false → records B (record { act = Line c x; tag = t; said = said } ∷ G) ≡ records B G
+authorization_records B G c x t said lv = ap (λ rs. record (records B G) { messages = Rattle.vault.specs.Records.without (Rattle.office.specs.History.arrivals B G) rs }) (at (is_quit (reading x) && is_done t))
   where
     at : (b : Bool) → removed_after (quits_if b c) (λ n. removed_by (in_session G n) (λ (name : LoginName). to_remove class_of (in_force B G) name (marks G n) (view B G n))) (removed B G) ≡ removed B G
     at true = rw lv (append-nil (removed B G))
     at false = refl
 
-pub judges_outside : (B : Records) (G : List Entry) (c : ℕ) (k : Contents) (d : Desk) (t : Talk) → AgreesOutside B G c d t → Judges B G c k d t None
-judges_outside B G c k d t a = record {
-  sitting = None;
-  seated = tt;
-  reply = reply_outside B G c d t a;
-  quits = λ w. let l = a.outside in rw l refl;
-  fails = fails_outside B G c d t a;
-  agrees = λ sound g w x said. rw (records_outside B G c x (tag_of w) said a.outside) g;
+pub authorization_judges : (B : Records) (G : List Entry) (c : ℕ) (k : Contents) (d : LineContext) (t : LoginState) → AgreesInAuthorization B G c d t → Judges B G c k d t None
+authorization_judges B G c k d t a = record {
+  transaction = None;
+  has_transaction = tt;
+  reply = authorization_reply B G c d t a;
+  quits = λ w. let l = a.authorization in rw l refl;
+  fails = authorization_fails B G c d t a;
+  agrees = λ sound g w x said. rw (authorization_records B G c x (tag_of w) said a.authorization) g;
   stays = λ o e x w u. absurd (nobody o e);
-  parts = λ s l found x w h. closed_outside (reading x) (reply_of w d t None x) s.user s.live (l ∙ a.outside) h;
+  parts = λ s l found x w h. authorization_closed (reading x) (reply_of w d t None x) s.user s.live (l ∙ a.authorization) h;
 }
   where
     nobody : (o : Session) → None ≡ Some o → ⊥
@@ -84,17 +84,17 @@ judges_outside B G c k d t a = record {
 
 -- ---- in a session
 
-pub judges_inside : (B : Records) (G : List Entry) (c : ℕ) (k : Contents) (d : Desk) (t : Talk) (o : Session) (kept : List Keyed) → LiesIn k o kept
-    → AgreesInside B G c d.policy (sitting_of o kept) → Judges B G c k d t (Some o)
-judges_inside B G c k d t o kept lies a =
-    let v = sitting_of o kept in
+pub transaction_judges : (B : Records) (G : List Entry) (c : ℕ) (k : Contents) (d : LineContext) (t : LoginState) (o : Session) (kept : List Keyed) → LiesIn k o kept
+    → AgreesInTransaction B G c d.policy (transaction_of o kept) → Judges B G c k d t (Some o)
+transaction_judges B G c k d t o kept lies a =
+    let v = transaction_of o kept in
     record {
-      sitting = Some v;
-      seated = (kept, lies, refl);
-      reply = reply_said_inside B G c d.policy v a;
-      quits = removal_inside B G c d.policy v a;
-      fails = fails_inside B G c d.policy v a;
+      transaction = Some v;
+      has_transaction = (kept, lies, refl);
+      reply = transaction_reply_said B G c d.policy v a;
+      quits = transaction_removal B G c d.policy v a;
+      fails = transaction_fails B G c d.policy v a;
       agrees = λ sound g w x said. agree_line B G c d.policy o kept a k sound lies g w x said;
-      stays = λ o' e x w u. no_login_inside w d.policy v x u;
-      parts = λ s l found x w h. let q = sym (closes_inside w d.policy v x) ∙ h in rw q refl;
+      stays = λ o' e x w u. transaction_no_login w d.policy v x u;
+      parts = λ s l found x w h. let q = sym (transaction_closes w d.policy v x) ∙ h in rw q refl;
     }

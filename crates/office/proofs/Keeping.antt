@@ -6,11 +6,11 @@ use Rattle.popline.specs.Cutting.{Cut, cut_of, Held, fed, shown, coming, through
 use Rattle.popline.specs.Replies.{Reply}
 use Rattle.session.specs.Session.{Session}
 use Rattle.office.specs.Output.{Output}
-use Rattle.office.specs.Kept.{Kept, clocked, answered, line_after, talk_after}
-use Rattle.office.specs.declared.talk.Talk.{Talk}
+use Rattle.office.specs.Kept.{Kept, clocked, answered, line_after, login_state_after}
+use Rattle.office.specs.declared.login_state.LoginState.{LoginState}
 
-abbrev kept : Held → List ℕ → Output → Talk → List ℕ → Option Session → ℕ → Kept
-kept h p o t s session clock = record { held = h; pending = p; output = o; talk = t; stamp = s; session = session; clock = clock }
+abbrev kept : Held → List ℕ → Output → LoginState → List ℕ → Option Session → ℕ → Kept
+kept h p o t s session clock = record { held = h; pending = p; output = o; state = t; stamp = s; session = session; clock = clock }
 
 shown_whole : (b : Bool) (x y : Cut) → x ∷ [] ≡ cond b (y ∷ []) [] → b ≡ true
 shown_whole true x y e = refl
@@ -30,22 +30,22 @@ module _ (k : Kept) (w : Held) (p : List ℕ) (x : Cut) (e : w ≡ fed k.held p)
   pub is_line : x ≡ line_after k p
   is_line = shown_line w.whole x (cut_of w.octets) whole there ∙ ap (λ (v : Held). cut_of v.octets) e
 
-  pub line_answered : (reply : Cut → Reply) (rest : List ℕ) (output : Output) (talk : Talk) (stamp : List ℕ) (session : Option Session) (clock : ℕ) → stamp ≡ k.stamp → clock ≡ k.clock → rest ≡ drop (through_newline p) p
-      → talk ≡ talk_after x (reply x) k.talk
-      → kept w rest output talk stamp session clock ≡ answered k p (reply (line_after k p)) session output
-  line_answered reply rest output talk stamp session clock st cl r t =
+  pub line_answered : (reply : Cut → Reply) (rest : List ℕ) (output : Output) (state : LoginState) (stamp : List ℕ) (session : Option Session) (clock : ℕ) → stamp ≡ k.stamp → clock ≡ k.clock → rest ≡ drop (through_newline p) p
+      → state ≡ login_state_after x (reply x) k.state
+      → kept w rest output state stamp session clock ≡ answered k p (reply (line_after k p)) session output
+  line_answered reply rest output state stamp session clock st cl r t =
       let h = has_line in
-      let talk_is : talk ≡ talk_after (line_after k p) (reply (line_after k p)) k.talk = t ∙ ap (λ y. talk_after y (reply y) k.talk) is_line in
-      rw (st, cl, r, talk_is, e, h) refl
+      let login_state_is : state ≡ login_state_after (line_after k p) (reply (line_after k p)) k.state = t ∙ ap (λ y. login_state_after y (reply y) k.state) is_line in
+      rw (st, cl, r, login_state_is, e, h) refl
 
   -- the same, where the octets just came and set the clock
-  pub line_clocked : (now : ℕ) (reply : Cut → Reply) (rest : List ℕ) (output : Output) (talk : Talk) (stamp : List ℕ) (session : Option Session) → stamp ≡ k.stamp → rest ≡ drop (through_newline p) p
-      → talk ≡ talk_after x (reply x) k.talk
-      → kept w rest output talk stamp session now ≡ answered (clocked now p k) p (reply (line_after k p)) session output
-  line_clocked now reply rest output talk stamp session st r t =
+  pub line_clocked : (now : ℕ) (reply : Cut → Reply) (rest : List ℕ) (output : Output) (state : LoginState) (stamp : List ℕ) (session : Option Session) → stamp ≡ k.stamp → rest ≡ drop (through_newline p) p
+      → state ≡ login_state_after x (reply x) k.state
+      → kept w rest output state stamp session now ≡ answered (clocked now p k) p (reply (line_after k p)) session output
+  line_clocked now reply rest output state stamp session st r t =
       let h = has_line in
-      let talk_is : talk ≡ talk_after (line_after k p) (reply (line_after k p)) k.talk = t ∙ ap (λ y. talk_after y (reply y) k.talk) is_line in
-      rw (st, r, talk_is, e, h) refl
+      let login_state_is : state ≡ login_state_after (line_after k p) (reply (line_after k p)) k.state = t ∙ ap (λ y. login_state_after y (reply y) k.state) is_line in
+      rw (st, r, login_state_is, e, h) refl
 
 none_shown : (b : Bool) (y : Cut) → [] ≡ cond b (y ∷ []) [] → b ≡ false
 none_shown true y e = cc
@@ -59,15 +59,15 @@ module _ (k : Kept) (w : Held) (p : List ℕ) (e : w ≡ fed k.held p) (none : [
   pub no_line : has_newline p ≡ false
   no_line = sym (ap (λ (v : Held). v.whole) e) ∙ none_whole
 
-  pub none_answered : (reply : Reply) (rest : List ℕ) (output : Output) (talk : Talk) (stamp : List ℕ) (session : Option Session) (clock : ℕ) → stamp ≡ k.stamp → clock ≡ k.clock → rest ≡ drop (through_newline p) p
-      → talk ≡ k.talk → kept w rest output talk stamp session clock ≡ answered k p reply session output
-  none_answered reply rest output talk stamp session clock st cl r t =
+  pub none_answered : (reply : Reply) (rest : List ℕ) (output : Output) (state : LoginState) (stamp : List ℕ) (session : Option Session) (clock : ℕ) → stamp ≡ k.stamp → clock ≡ k.clock → rest ≡ drop (through_newline p) p
+      → state ≡ k.state → kept w rest output state stamp session clock ≡ answered k p reply session output
+  none_answered reply rest output state stamp session clock st cl r t =
       let h = no_line in
       rw (st, cl, r, t, e, h) refl
 
-  pub none_clocked : (now : ℕ) (reply : Reply) (rest : List ℕ) (output : Output) (talk : Talk) (stamp : List ℕ) (session : Option Session) (clock : ℕ) → stamp ≡ k.stamp → clock ≡ k.clock → rest ≡ drop (through_newline p) p
-      → talk ≡ k.talk → kept w rest output talk stamp session clock ≡ answered (clocked now p k) p reply session output
-  none_clocked now reply rest output talk stamp session clock st cl r t =
+  pub none_clocked : (now : ℕ) (reply : Reply) (rest : List ℕ) (output : Output) (state : LoginState) (stamp : List ℕ) (session : Option Session) (clock : ℕ) → stamp ≡ k.stamp → clock ≡ k.clock → rest ≡ drop (through_newline p) p
+      → state ≡ k.state → kept w rest output state stamp session clock ≡ answered (clocked now p k) p reply session output
+  none_clocked now reply rest output state stamp session clock st cl r t =
       let h = no_line in
       rw (st, cl, r, t, e, h) refl
 

@@ -26,15 +26,15 @@ rest_open false u e = cc
 
 lends : (k : Contents) (T : Trace) (c : ℕ) (l : Option Kept) → IsKeptFor k (seen T c) l → length_of_lent l ≤ length (rest T c)
 lends k T c None over = omega arith
-lends k T c (Some link) m =
+lends k T c (Some connection) m =
     let r : rest T c ≡ untaken T.log (history T) c = rest_open (is_open T c) (untaken T.log (history T) c) m.opened in
-    let lent = length-take most_lent link.output.ready in
-    let within = owes_within k link.session link.output (untaken_of (seen T c)) m.owed in
+    let lent = length-take most_lent connection.output.ready in
+    let within = owes_within k connection.session connection.output (untaken_of (seen T c)) m.owed in
     let same = ap length r in
     omega (arith, lent, within, same)
 
 pub lends_owed : {V : Type 0} {Holds : V → Contents → Type 0} (o : Office V) (T : Trace) → StandsFor Holds o T → (c : ℕ) → lent_by o c ≤ length (rest T c)
-lends_owed o T st c = lends st.keeps.contents T c (get nat_cmp o.links c) (st.links c)
+lends_owed o T st c = lends st.keeps.contents T c (get nat_cmp o.connections c) (st.connections c)
 
 pub admitted : {V : Type 0} {Holds : V → Contents → Type 0} (o : Office V) (T : Trace) (e : Event) (w : Outcome) → StandsFor Holds o T → IsOutcome T (lent_by o) e w
     → IsAdmitted T e (mark_of w)

@@ -25,11 +25,11 @@ use Rattle.office.specs.Trace.{history, acts}
 use Rattle.office.specs.Formed.{is_formed}
 use Rattle.office.specs.Laws.{In}
 use Rattle.office.specs.Output.{OwesIf, OwesReply}
-use Rattle.office.specs.Kept.{Kept, Desk, answered, line_after, asks}
+use Rattle.office.specs.Kept.{Kept, LineContext, answered, line_after, asks}
 use Rattle.office.specs.Answered.{name_cmp, judged_at, reply_of, tag_of, held_after, held_if, SessionAfter, Becomes, BecomesIf, LocksFollow}
-use Rattle.office.specs.Stands.{Seen, seen, untaken_of, Matches, IsKeptFor, IsSession, IsSitting, Keeps}
-use Rattle.office.specs.declared.talk.Acted.{Acted}
-use Rattle.office.specs.declared.talk.Acted.TheVariants as acted
+use Rattle.office.specs.Stands.{Seen, seen, untaken_of, Matches, IsKeptFor, IsSession, IsTransaction, Keeps}
+use Rattle.office.specs.declared.login_state.LineOutcome.{LineOutcome}
+use Rattle.office.specs.declared.login_state.LineOutcome.TheVariants as outcome
 use Rattle.office.proofs.NameOrder.{same_any}
 use Rattle.office.proofs.AgreeLists.{in_maildrop-without}
 use Rattle.office.proofs.Laws.{one_holder}
@@ -38,20 +38,20 @@ use Rattle.office.proofs.Locked.{lock_found, holder_is}
 use Rattle.office.proofs.Locking.{holds_by, locks_follow}
 use Rattle.office.proofs.Acting.{finds, session_after, held_same}
 use Rattle.office.proofs.Owing.{StayFor, owes_on}
-use Rattle.office.proofs.Outside.{AgreesOutside}
-use Rattle.office.proofs.Judging.{Judges, judges_outside, judges_inside}
+use Rattle.office.proofs.Authorization.{AgreesInAuthorization}
+use Rattle.office.proofs.Judging.{Judges, authorization_judges, transaction_judges}
 use Rattle.office.proofs.Events.{finds_by, line_entry, same_session}
 use Rattle.office.proofs.Hearing.{lined, Awaits, part_heard, line_heard, acts_next}
 
 -- what a session saw of a store is there after another connection's line
-stays_after : (w : Acted) (p : Policy) (old : Option Session) (r : Result Command LineFault) (c : Contents) (d : List ℕ)
+stays_after : (w : LineOutcome) (p : Policy) (old : Option Session) (r : Result Command LineFault) (c : Contents) (d : List ℕ)
     → ((o : Session) → old ≡ Some o → o.name.maildrop ≡ d → ⊥) → (x : Keyed) → In x c.messages → x.message.maildrop ≡ d → In x (held_after w p old r c).messages
 stays_after w p None r c d apart x i e = i
-stays_after acted.Failed p (Some o) r c d apart x i e = i
-stays_after acted.Done p (Some o) (Ok Quit) c d apart x i e = stays_by_removal c o.name.maildrop _ x i (λ f. apart o refl (sym f ∙ e))
-stays_after acted.Done p (Some o) _ c d apart x i e = i
+stays_after outcome.Failed p (Some o) r c d apart x i e = i
+stays_after outcome.Done p (Some o) (Ok Quit) c d apart x i e = stays_by_removal c o.name.maildrop _ x i (λ f. apart o refl (sym f ∙ e))
+stays_after outcome.Done p (Some o) _ c d apart x i e = i
 
-carry : (k k' : Contents) (s : Seen) (kq : Kept) → ((o : Session) → kq.session ≡ Some o → IsSitting k s o → (x : Keyed) → In x k.messages → x.message.maildrop ≡ o.name.maildrop → In x k'.messages)
+carry : (k k' : Contents) (s : Seen) (kq : Kept) → ((o : Session) → kq.session ≡ Some o → IsTransaction k s o → (x : Keyed) → In x k.messages → x.message.maildrop ≡ o.name.maildrop → In x k'.messages)
     → Matches k s kq → Matches k' s kq
 carry k k' s kq stays m = record {
   opened = m.opened;
@@ -72,7 +72,7 @@ carry k k' s kq stays m = record {
   piece_kept = m.piece_kept;
 }
   where
-    at : (o : Option Session) → ((q : Session) → o ≡ Some q → IsSitting k s q → (x : Keyed) → In x k.messages → x.message.maildrop ≡ q.name.maildrop → In x k'.messages) → IsSession k s o → IsSession k' s o
+    at : (o : Option Session) → ((q : Session) → o ≡ Some q → IsTransaction k s q → (x : Keyed) → In x k.messages → x.message.maildrop ≡ q.name.maildrop → In x k'.messages) → IsSession k s o → IsSession k' s o
     at None on i = i
     at (Some q) on i = record {
       live = i.live;
@@ -85,7 +85,7 @@ carry k k' s kq stays m = record {
     }
 
 -- a connection that is kept over some contents is kept over others, where the messages of its session stay
-pub carry_kept : (k k' : Contents) (s : Seen) (o : Option Kept) → ((q : Session) → IsSitting k s q → (x : Keyed) → In x k.messages → x.message.maildrop ≡ q.name.maildrop → In x k'.messages)
+pub carry_kept : (k k' : Contents) (s : Seen) (o : Option Kept) → ((q : Session) → IsTransaction k s q → (x : Keyed) → In x k.messages → x.message.maildrop ≡ q.name.maildrop → In x k'.messages)
     → IsKeptFor k s o → IsKeptFor k' s o
 carry_kept k k' s None stays m = m
 carry_kept k k' s (Some kq) stays m = carry k k' s kq (λ o e i. stays o i) m
@@ -107,8 +107,8 @@ module _ {Before : Contents → Type 0} (T : Trace) (n : ℕ) (keeps : Keeps Bef
   abbrev store_now : Contents
   store_now = keeps.contents
 
-  abbrev desk : List ℕ → Desk
-  desk stamp = judged_at store_now policy stamp locks
+  abbrev context : List ℕ → LineContext
+  context stamp = judged_at store_now policy stamp locks
 
   is_there : (d : List ℕ) → is_one_of d store_now.maildrops ≡ exists T.base (history T) d
   is_there d = same_any (λ x. bytes_eq x d) store_now.maildrops (maildrops T.base (history T)) keeps.agree.maildrops
@@ -120,9 +120,9 @@ module _ {Before : Contents → Type 0} (T : Trace) (n : ℕ) (keeps : Keeps Bef
   module _ (s : Seen) (k : Kept) (p : List ℕ) (m : Awaits store_now s k p) (l : s.live ≡ live (history T) n) (u : s.user ≡ user (history T) n)
       (f : s.failures ≡ failures (history T) n) (st : s.stamp ≡ stamp (history T) n) (jg : s.judging ≡ judging (history T)) (lg : s.login ≡ login (history T) n) (mk : s.marks ≡ marks (history T) n)
       (vw : s.view ≡ view T.base (history T) n) where
-    outside : IsSession store_now s None → AgreesOutside T.base (history T) n (desk k.stamp) k.talk
-    outside i = record {
-      outside = sym l ∙ i;
+    authorization : IsSession store_now s None → AgreesInAuthorization T.base (history T) n (context k.stamp) k.state
+    authorization i = record {
+      authorization = sym l ∙ i;
       user = m.user ∙ u;
       failures = rw (sym f) m.failures;
       credentials = keeps.agree.credentials;
@@ -133,8 +133,8 @@ module _ {Before : Contents → Type 0} (T : Trace) (n : ℕ) (keeps : Keeps Bef
       stamp = m.stamp ∙ st;
     }
 
-    inside : (o : Session) → (i : IsSession store_now s (Some o)) → Judges T.base (history T) n store_now (desk k.stamp) k.talk (Some o)
-    inside o i = judges_inside T.base (history T) n store_now (desk k.stamp) k.talk o i.kept i.lies (record {
+    transaction : (o : Session) → (i : IsSession store_now s (Some o)) → Judges T.base (history T) n store_now (context k.stamp) k.state (Some o)
+    transaction o i = transaction_judges T.base (history T) n store_now (context k.stamp) k.state o i.kept i.lies (record {
       live = sym l ∙ i.live;
       login = sym lg ∙ i.login;
       judged = i.judged ∙ jg;
@@ -143,16 +143,16 @@ module _ {Before : Contents → Type 0} (T : Trace) (n : ℕ) (keeps : Keeps Bef
       policy = rules;
     })
 
-    judged_for : (o : Option Session) → IsSession store_now s o → Judges T.base (history T) n store_now (desk k.stamp) k.talk o
-    judged_for None i = judges_outside T.base (history T) n store_now (desk k.stamp) k.talk (outside i)
-    judged_for (Some o) i = inside o i
+    judged_for : (o : Option Session) → IsSession store_now s o → Judges T.base (history T) n store_now (context k.stamp) k.state o
+    judged_for None i = authorization_judges T.base (history T) n store_now (context k.stamp) k.state (authorization i)
+    judged_for (Some o) i = transaction o i
 
-    pub judges : Judges T.base (history T) n store_now (desk k.stamp) k.talk k.session
+    pub judges : Judges T.base (history T) n store_now (context k.stamp) k.state k.session
     judges = judged_for k.session m.session
 
     -- the reply, where the line's event shows what became of it
-    abbrev reply : Acted → Reply
-    reply w = reply_of w (desk k.stamp) k.talk judges.sitting (line_after k p)
+    abbrev reply : LineOutcome → Reply
+    reply w = reply_of w (context k.stamp) k.state judges.transaction (line_after k p)
 
     found_alike : (name : LoginName) → finds_by T name ≡ finds store_now policy name
     found_alike name =
@@ -160,11 +160,11 @@ module _ {Before : Contents → Type 0} (T : Trace) (n : ℕ) (keeps : Keeps Bef
         ∙ ap (λ ms. visible class_of policy name ms) (sym (are_present name.maildrop))
 
     -- what became of the octets
-    module _ (e : Event) (w : Acted) (k' : Kept) (locks' : BTreeMap (List ℕ) ℕ)
-        (may : w ≡ acted.Failed → (has_newline p ≡ true) × (asks policy k.talk judges.sitting (reading (line_after k p)) ≡ true))
+    module _ (e : Event) (w : LineOutcome) (k' : Kept) (locks' : BTreeMap (List ℕ) ℕ)
+        (may : w ≡ outcome.Failed → (has_newline p ≡ true) × (asks policy k.state judges.transaction (reading (line_after k p)) ≡ true))
         (is : k' ≡ answered k p (reply w) k'.session k'.output)
         (law : (more : List ℕ) → coming k.held (p ++ more) ≡ shown k'.held ++ coming k'.held (k'.pending ++ more))
-        (became : BecomesIf (has_newline p) store_now policy k.talk (line_after k p) (reply w) k.session k'.session)
+        (became : BecomesIf (has_newline p) store_now policy k.state (line_after k p) (reply w) k.session k'.session)
         (follow : LocksFollow n k.session k'.session locks locks')
         (owes : OwesIf (has_newline p) store_now k'.session k'.output (reply w))
         (formed : is_formed T.log e ≡ true)
@@ -172,8 +172,8 @@ module _ {Before : Contents → Type 0} (T : Trace) (n : ℕ) (keeps : Keeps Bef
         → seen (given T e (Tagged (tag_of w))) n ≡ lined s (line_after k p) (reply_to_cut T.base (history T) n (line_after k p) (tag_of w)) (finds_by T))
         (line_records : has_newline p ≡ true → slice_get (cut s.stream) s.acted ≡ Some (line_after k p)
         → records T.base (history (given T e (Tagged (tag_of w)))) ≡ records T.base (line_entry T n (line_after k p) w ∷ history T))
-        (part_seen : has_newline p ≡ false → w ≡ acted.Done → seen (given T e (Tagged (tag_of w))) n ≡ s)
-        (part_records : has_newline p ≡ false → w ≡ acted.Done → records T.base (history (given T e (Tagged (tag_of w)))) ≡ records T.base (history T))
+        (part_seen : has_newline p ≡ false → w ≡ outcome.Done → seen (given T e (Tagged (tag_of w))) n ≡ s)
+        (part_records : has_newline p ≡ false → w ≡ outcome.Done → records T.base (history (given T e (Tagged (tag_of w)))) ≡ records T.base (history T))
         (others : (q : ℕ) → eqb n q ≡ false → seen (given T e (Tagged (tag_of w))) q ≡ seen T q) where
       abbrev T' : Trace
       T' = given T e (Tagged (tag_of w))
@@ -184,12 +184,12 @@ module _ {Before : Contents → Type 0} (T : Trace) (n : ℕ) (keeps : Keeps Bef
       abbrev after : Contents
       after = held_if (has_newline p) w policy k.session (reading x) store_now
 
-      no_line : has_newline p ≡ false → w ≡ acted.Done
+      no_line : has_newline p ≡ false → w ≡ outcome.Done
       no_line h = at w (λ g. (may g).0)
         where
-          at : (v : Acted) → (v ≡ acted.Failed → has_newline p ≡ true) → v ≡ acted.Done
-          at acted.Done g = refl
-          at acted.Failed g = absurd (true≢false (sym (g refl) ∙ h))
+          at : (v : LineOutcome) → (v ≡ outcome.Failed → has_newline p ≡ true) → v ≡ outcome.Done
+          at outcome.Done g = refl
+          at outcome.Failed g = absurd (true≢false (sym (g refl) ∙ h))
 
       next : has_newline p ≡ true → slice_get (cut s.stream) s.acted ≡ Some x
       next h = acts_next store_now s k k' p (reply w) m is law h
@@ -200,18 +200,18 @@ module _ {Before : Contents → Type 0} (T : Trace) (n : ℕ) (keeps : Keeps Bef
       seen_line : has_newline p ≡ true → seen T' n ≡ lined s x (reply w) (finds store_now policy)
       seen_line h = line_seen h (next h) ∙ (ap (λ r. lined s x r (finds_by T)) said ∙ lined_alike s x (reply w) (finds_by T) (finds store_now policy) found_alike)
 
-      became_line : has_newline p ≡ true → Becomes store_now policy k.talk x (reply w) k.session k'.session
-      became_line h = subst (λ b. BecomesIf b store_now policy k.talk x (reply w) k.session k'.session) h became
+      became_line : has_newline p ≡ true → Becomes store_now policy k.state x (reply w) k.session k'.session
+      became_line h = subst (λ b. BecomesIf b store_now policy k.state x (reply w) k.session k'.session) h became
 
       -- the session's own name in force is the trace's
       sits_line : has_newline p ≡ true → IsSession (held_after w policy k.session (reading x) store_now) (lined s x (reply w) (finds store_now policy)) k'.session
       sits_line h =
           session_after store_now policy s x (reply w) w k.session k'.session sound m.session
           (subst (λ j. SessionAfter (is_quit (reading x)) (logs_in (reading x) (Says (reply w)) s.user) store_now policy j (reply w) k.session k'.session) m.judged
-          (subst (λ o. SessionAfter (is_quit (reading x)) (logs_in (reading x) (Says (reply w)) o) store_now policy k.talk.removals (reply w) k.session k'.session) m.user (became_line h)))
+          (subst (λ o. SessionAfter (is_quit (reading x)) (logs_in (reading x) (Says (reply w)) o) store_now policy k.state.removals (reply w) k.session k'.session) m.user (became_line h)))
 
       -- the messages of a session that goes on stay
-      stays_own : (quits : Bool) (logged : Option LoginName) → is_quit (reading x) ≡ quits → SessionAfter quits logged store_now policy k.talk.removals (reply w) k.session k'.session
+      stays_own : (quits : Bool) (logged : Option LoginName) → is_quit (reading x) ≡ quits → SessionAfter quits logged store_now policy k.state.removals (reply w) k.session k'.session
           → StayFor store_now (held_after w policy k.session (reading x) store_now) k'.session
       stays_own true logged q is = λ o e. absurd (nobody o (sym is ∙ e))
         where
@@ -235,7 +235,7 @@ module _ {Before : Contents → Type 0} (T : Trace) (n : ℕ) (keeps : Keeps Bef
           (judges.parts s l (finds store_now policy) x w))))
           (λ h. subst (λ b. Matches (held_if b w policy k.session (reading x) store_now) (seen T' n) k') (sym h)
           (subst (λ y. Matches store_now y k') (sym (part_seen h (no_line h)))
-          (part_heard store_now s k k' p (reply w) m is law h (subst (λ b. BecomesIf b store_now policy k.talk x (reply w) k.session k'.session) h became)
+          (part_heard store_now s k k' p (reply w) m is law h (subst (λ b. BecomesIf b store_now policy k.state x (reply w) k.session k'.session) h became)
           (subst (λ b. OwesIf b store_now k'.session k'.output (reply w)) h owes))))
           (cases_Bool (has_newline p))
 

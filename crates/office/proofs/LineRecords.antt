@@ -16,18 +16,18 @@ use Rattle.office.specs.History.{Entry, Line, Tag, Done, Said, is_done, arrivals
 use Rattle.office.specs.Connections.{is_quit, reading}
 use Rattle.office.specs.Sessions.{in_session, marks, view, quits_if, records, removed, removed_after, removed_by}
 use Rattle.office.specs.Answered.{tag_of}
-use Rattle.office.specs.Sitting.{LiesIn, sitting_of, held_after_line, without_marked}
-use Rattle.office.specs.declared.talk.Acted.{Acted}
-use Rattle.office.specs.declared.talk.Acted.TheVariants as acted
+use Rattle.office.specs.Transaction.{LiesIn, transaction_of, held_after_line, without_marked}
+use Rattle.office.specs.declared.login_state.LineOutcome.{LineOutcome}
+use Rattle.office.specs.declared.login_state.LineOutcome.TheVariants as outcome
 use Rattle.office.proofs.Bounds.{without_more}
 use Rattle.office.proofs.Removing.{agree_removed}
-use Rattle.office.proofs.SessionLines.{AgreesInside, chosen_alike, name_inside}
+use Rattle.office.proofs.SessionLines.{AgreesInTransaction, chosen_alike, transaction_name}
 
 and_false : (b : Bool) → (b && false) ≡ false
 and_false true = refl
 and_false false = refl
 
-module _ (B : Records) (G : List Entry) (c : ℕ) (p : Policy) (s : Session) (kept : List Keyed) (a : AgreesInside B G c p (sitting_of s kept)) where
+module _ (B : Records) (G : List Entry) (c : ℕ) (p : Policy) (s : Session) (kept : List Keyed) (a : AgreesInTransaction B G c p (transaction_of s kept)) where
   -- what the session of a connection would remove
   abbrev taken_by : ℕ → List store.Message
   taken_by q = removed_by (in_session G q) (λ (name : LoginName). to_remove class_of (in_force B G) name (marks G q) (view B G q))
@@ -38,43 +38,43 @@ module _ (B : Records) (G : List Entry) (c : ℕ) (p : Policy) (s : Session) (ke
   abbrev rows : List store.Message
   rows = map (λ (x : Keyed). x.message) kept
 
-  taken_inside : taken_by c ≡ to_remove class_of p s.name s.marks rows
-  taken_inside =
+  transaction_taken : taken_by c ≡ to_remove class_of p s.name s.marks rows
+  transaction_taken =
       let lv = a.live in
       let lg = a.login in
-      rw (lv, lg) (ap (λ n. to_remove class_of (in_force B G) n (marks G c) (view B G c)) (sym (name_inside B G c p (sitting_of s kept) a))
-      ∙ sym (chosen_alike B G c p (sitting_of s kept) a))
+      rw (lv, lg) (ap (λ n. to_remove class_of (in_force B G) n (marks G c) (view B G c)) (sym (transaction_name B G c p (transaction_of s kept) a))
+      ∙ sym (chosen_alike B G c p (transaction_of s kept) a))
 
   quit_leaves : record (records B G) { messages = without (records B G).messages (to_remove class_of p s.name s.marks rows) }
       ≡ record (records B G) { messages = without (arrivals B G) (removed B G ++ taken_by c) }
   quit_leaves =
       ap (λ ms. record (records B G) { messages = ms })
-      (ap (λ ms. without (without (arrivals B G) (removed B G)) ms) (sym taken_inside) ∙ sym (without_more (arrivals B G) (removed B G) (taken_by c)))
+      (ap (λ ms. without (without (arrivals B G) (removed B G)) ms) (sym transaction_taken) ∙ sym (without_more (arrivals B G) (removed B G) (taken_by c)))
 
   module _ (k : Contents) (sound : AreSound k) (lies : LiesIn k s kept) (g : Agree (records_of k) (records B G)) where
     after_quit : Agree (records_of (without_marked p s k)) (left_by (Ok Quit) Done)
     after_quit = subst (λ R. Agree (records_of (without_marked p s k)) R) quit_leaves (agree_removed k (records B G) s kept p sound lies g)
 
-    after_reading : (w : Acted) (r : Result Command LineFault) → Agree (records_of (held_after_line w p s r k)) (left_by r (tag_of w))
-    after_reading acted.Failed r = let f = and_false (is_quit r) in rw f g
-    after_reading acted.Done (Err e) = g
-    after_reading acted.Done (Ok Quit) = after_quit
-    after_reading acted.Done (Ok Capa) = g
-    after_reading acted.Done (Ok (User name)) = g
-    after_reading acted.Done (Ok (Pass password)) = g
-    after_reading acted.Done (Ok (Apop name digest)) = g
-    after_reading acted.Done (Ok Stat) = g
-    after_reading acted.Done (Ok ListAll) = g
-    after_reading acted.Done (Ok (ListOne n)) = g
-    after_reading acted.Done (Ok UidlAll) = g
-    after_reading acted.Done (Ok (UidlOne n)) = g
-    after_reading acted.Done (Ok (Retr n)) = g
-    after_reading acted.Done (Ok (Top n m)) = g
-    after_reading acted.Done (Ok (Dele n)) = g
-    after_reading acted.Done (Ok Rset) = g
-    after_reading acted.Done (Ok Noop) = g
+    after_reading : (w : LineOutcome) (r : Result Command LineFault) → Agree (records_of (held_after_line w p s r k)) (left_by r (tag_of w))
+    after_reading outcome.Failed r = let f = and_false (is_quit r) in rw f g
+    after_reading outcome.Done (Err e) = g
+    after_reading outcome.Done (Ok Quit) = after_quit
+    after_reading outcome.Done (Ok Capa) = g
+    after_reading outcome.Done (Ok (User name)) = g
+    after_reading outcome.Done (Ok (Pass password)) = g
+    after_reading outcome.Done (Ok (Apop name digest)) = g
+    after_reading outcome.Done (Ok Stat) = g
+    after_reading outcome.Done (Ok ListAll) = g
+    after_reading outcome.Done (Ok (ListOne n)) = g
+    after_reading outcome.Done (Ok UidlAll) = g
+    after_reading outcome.Done (Ok (UidlOne n)) = g
+    after_reading outcome.Done (Ok (Retr n)) = g
+    after_reading outcome.Done (Ok (Top n m)) = g
+    after_reading outcome.Done (Ok (Dele n)) = g
+    after_reading outcome.Done (Ok Rset) = g
+    after_reading outcome.Done (Ok Noop) = g
 
     -- whatever was said
-    pub agree_line : (w : Acted) (x : Cut) (said : Said)
+    pub agree_line : (w : LineOutcome) (x : Cut) (said : Said)
         → Agree (records_of (held_after_line w p s (reading x) k)) (records B (record { act = Line c x; tag = tag_of w; said = said } ∷ G))
     agree_line w x said = after_reading w (reading x)

@@ -13,7 +13,7 @@ use Rattle.vault.specs.declared.record.Message.{Message}
 use Rattle.session.specs.Session.{Session}
 use Rattle.session.specs.Session as head
 use Rattle.session.specs.View.{unmarked, sizes_of, uids_of, total_of}
-use Rattle.office.specs.Sitting.{LiesIn, told_inside}
+use Rattle.office.specs.Transaction.{LiesIn, transaction_told}
 use Rattle.office.proofs.Alike.{sizes_of-map, uids_of-map, total_of-map, length_unmarked-map, all_unmarked, total_unmarked}
 
 -- a stored message without its key
@@ -41,13 +41,13 @@ module _ (c : Contents) (s : Session) (kept : List Keyed) (lies : LiesIn c s kep
       ∙ (uids_of-map head_of head.uid_of s.marks kept ∙ sym (uids_of-map message_of records.uid_of s.marks kept))
 
   pub stat_said : (p : Policy) (n m : ℕ) → n ≡ length (unmarked s.marks s.view)
-      → (sum_by head.octets_of s.view < 2 ^ 64 → m ≡ total_of head.octets_of (unmarked s.marks s.view)) → DropListing n m ≡ told_inside p s kept Stat
+      → (sum_by head.octets_of s.view < 2 ^ 64 → m ≡ total_of head.octets_of (unmarked s.marks s.view)) → DropListing n m ≡ transaction_told p s kept Stat
   stat_said p n m e f = ap₂ DropListing (e ∙ lengths_alike) (f lies.fits ∙ totals_alike)
 
-  pub list_said : (p : Policy) → ScanListing (sizes_of head.octets_of (unmarked s.marks s.view)) ≡ told_inside p s kept ListAll
+  pub list_said : (p : Policy) → ScanListing (sizes_of head.octets_of (unmarked s.marks s.view)) ≡ transaction_told p s kept ListAll
   list_said p = ap ScanListing sizes_alike
 
-  pub uidl_said : (p : Policy) → UidListing (uids_of head.uid_of (unmarked s.marks s.view)) ≡ told_inside p s kept UidlAll
+  pub uidl_said : (p : Policy) → UidListing (uids_of head.uid_of (unmarked s.marks s.view)) ≡ transaction_told p s kept UidlAll
   uidl_said p = ap UidListing uids_alike
 
 -- a session goes on over the same messages
@@ -64,14 +64,14 @@ module _ (c : Contents) (s : Session) (kept : List Keyed) (lies : LiesIn c s kep
   unmarked_all = record s { marks = [] }
 
   unmarked_said : (p : Policy) (n m : ℕ) → n ≡ length (unmarked [] s.view)
-      → (sum_by head.octets_of s.view < 2 ^ 64 → m ≡ total_of head.octets_of (unmarked [] s.view)) → MaildropHas n m ≡ told_inside p s kept Rset
+      → (sum_by head.octets_of s.view < 2 ^ 64 → m ≡ total_of head.octets_of (unmarked [] s.view)) → MaildropHas n m ≡ transaction_told p s kept Rset
   unmarked_said p n m e f =
       let still = lies_still c s unmarked_all kept lies refl refl in
       ap₂ MaildropHas (e ∙ (lengths_alike c unmarked_all kept still ∙ all_unmarked (map message_of kept)))
       (f lies.fits ∙ (totals_alike c unmarked_all kept still ∙ total_unmarked records.octets_of (map message_of kept)))
 
   pub reset_said : (new : Session) → new ≡ unmarked_all → (p : Policy) (n m : ℕ) → n ≡ length (unmarked new.marks new.view)
-      → (sum_by head.octets_of new.view < 2 ^ 64 → m ≡ total_of head.octets_of (unmarked new.marks new.view)) → MaildropHas n m ≡ told_inside p s kept Rset
+      → (sum_by head.octets_of new.view < 2 ^ 64 → m ≡ total_of head.octets_of (unmarked new.marks new.view)) → MaildropHas n m ≡ transaction_told p s kept Rset
   reset_said new same p n m e f = unmarked_said p n m (rw same at e) (rw same at f)
 
 -- what an iterator yields, looked at as it is

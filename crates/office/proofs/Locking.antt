@@ -8,7 +8,7 @@ use Rattle.vault.specs.Changes.{Contents}
 use Rattle.session.specs.Session.{Session}
 use Rattle.office.specs.Sessions.{is_login_to}
 use Rattle.office.specs.Answered.{name_cmp, LocksFollow}
-use Rattle.office.specs.Stands.{Seen, IsSession, IsSitting}
+use Rattle.office.specs.Stands.{Seen, IsSession, IsTransaction}
 
 -- who holds a maildrop by what a trace says of each connection
 abbrev pub holds_by : Seen → List ℕ → Bool
@@ -72,7 +72,7 @@ module _ (S S' : ℕ → Seen) (c : ℕ) (others : (q : ℕ) → eqb c q ≡ fal
   not_live : (s : Seen) → s.live ≡ false → (d : List ℕ) → holds_by s d ≡ false
   not_live s e d = rw e refl
 
-  sits : (k : Contents) (s : Seen) (o : Session) → IsSitting k s o → (d : List ℕ) → holds_by s d ≡ bytes_eq o.name.maildrop d
+  sits : (k : Contents) (s : Seen) (o : Session) → IsTransaction k s o → (d : List ℕ) → holds_by s d ≡ bytes_eq o.name.maildrop d
   sits k s o i d = let l = i.live in let n = i.login in rw (l, n) refl
 
   -- the locks after a session began, ended or went on

@@ -22,7 +22,7 @@ use Rattle.session.specs.Session as head
 use Rattle.session.specs.View.{visible, may_read}
 use Rattle.session.specs.declared.removals.Removals.{Removals}
 use Rattle.office.specs.Laws.{In}
-use Rattle.office.specs.Sitting.{LiesIn}
+use Rattle.office.specs.Transaction.{LiesIn}
 use Rattle.office.proofs.Snapshot.{in_filter, filter_in, in_front}
 use Rattle.office.proofs.UniqueIds.{all_in}
 

@@ -36,20 +36,20 @@ line_if b k p = if b then Some (line_after k p) else None
 -- whom it would log in: before a login the line and the name in force alone count
 module _ (k : Kept) (p : List ℕ) (out : is_some k.session ≡ false) where
   abbrev asked : Bool → Option LoginName
-  asked b = coming_login false k.talk.user (line_if b k p)
+  asked b = coming_login false k.state.user (line_if b k p)
 
-  outside : asked (has_newline p) ≡ coming_login (is_some k.session) k.talk.user (line_with k p)
-  outside = ap (λ (b : Bool). coming_login b k.talk.user (line_with k p)) (sym out)
+  authorization : asked (has_newline p) ≡ coming_login (is_some k.session) k.state.user (line_with k p)
+  authorization = ap (λ (b : Bool). coming_login b k.state.user (line_with k p)) (sym out)
 
   pub comes_line : (x : Cut) → has_newline p ≡ true → x ≡ line_after k p
-      → login_asked (reading x) k.talk.user
-      ≡ coming_login (is_some k.session) k.talk.user (line_with k p)
+      → login_asked (reading x) k.state.user
+      ≡ coming_login (is_some k.session) k.state.user (line_with k p)
   comes_line x h e =
-      ap (λ y. coming_login false k.talk.user (Some y)) e ∙ (ap asked (sym h) ∙ outside)
+      ap (λ y. coming_login false k.state.user (Some y)) e ∙ (ap asked (sym h) ∙ authorization)
 
   pub comes_none : has_newline p ≡ false
-      → None ≡ coming_login (is_some k.session) k.talk.user (line_with k p)
-  comes_none h = ap asked (sym h) ∙ outside
+      → None ≡ coming_login (is_some k.session) k.state.user (line_with k p)
+  comes_none h = ap asked (sym h) ∙ authorization
 
 -- ---- by the trace
 
@@ -100,7 +100,7 @@ ready_so T n o r = rw (o, r) refl
 module _ (c : Contents) (T : Trace) (n : ℕ) (p : List ℕ) (k : Kept) (m : Matches c (seen T n) k)
     (o : k.output ≡ nothing_owed) where
   abbrev coming_by_kept : Option LoginName
-  coming_by_kept = coming_login (is_some k.session) k.talk.user (line_with k p)
+  coming_by_kept = coming_login (is_some k.session) k.state.user (line_with k p)
 
   ready : is_ready T n ≡ true
   ready = ready_so T n m.opened (none_owed c k.session k.output (untaken_of (seen T n)) m.owed o)

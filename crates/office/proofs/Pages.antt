@@ -4,7 +4,7 @@ use Rattle.std.proofs.lemmas.List.{length-take-le}
 use Rattle.std.proofs.lemmas.Slice.{take-put_mid}
 use Rattle.std.proofs.Math.Seq.{take-add, take-append-add}
 use Rattle.vault.specs.Changes.{IsPage}
-use Rattle.office.specs.Sitting.{Begins}
+use Rattle.office.specs.Transaction.{Begins}
 use borrow.Rule.Slice.PartMut.{put_mid}
 
 take_fewer : (n m : ℕ) (xs : List ℕ) → n ≤ m → take n (take m xs) ≡ take n xs

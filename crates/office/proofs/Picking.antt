@@ -18,7 +18,7 @@ use Rattle.session.specs.Session.{Session, picked, marking, mark_answer}
 use Rattle.session.specs.Session as head
 use Rattle.session.specs.View.{at_number, is_marked, refer, referred, removal}
 use Rattle.office.specs.Replying.{deleted_if}
-use Rattle.office.specs.Sitting.{LiesIn, told_inside, refused_pick}
+use Rattle.office.specs.Transaction.{LiesIn, transaction_told, refused_pick}
 use Rattle.office.proofs.Alike.{refer-map}
 use Rattle.office.proofs.Listed.{message_of}
 
@@ -55,10 +55,10 @@ said_alike {B} c s kept lies n test found of_message same r e =
     ∙ sym (refer-map message_of s.marks kept n NoSuchMessage (AlreadyMarked n) of_message)))))
 
 module _ (c : Contents) (s : Session) (kept : List Keyed) (lies : LiesIn c s kept) (p : Policy) (n : ℕ) where
-  pub scan_said : (r : Result Head Pick) → r ≡ picked s n → answer_by (λ (h : Head). ScanLine n h.octets) n r ≡ told_inside p s kept (ListOne n)
+  pub scan_said : (r : Result Head Pick) → r ≡ picked s n → answer_by (λ (h : Head). ScanLine n h.octets) n r ≡ transaction_told p s kept (ListOne n)
   scan_said r e = said_alike c s kept lies n (λ (h : Head). Ok h) (λ (h : Head). ScanLine n h.octets) (λ (m : Stored). ScanLine n (records.octets_of m)) (λ x. refl) r e
 
-  pub uid_said : (r : Result Head Pick) → r ≡ picked s n → answer_by (λ (h : Head). UidLine n (head.uid_of h)) n r ≡ told_inside p s kept (UidlOne n)
+  pub uid_said : (r : Result Head Pick) → r ≡ picked s n → answer_by (λ (h : Head). UidLine n (head.uid_of h)) n r ≡ transaction_told p s kept (UidlOne n)
   uid_said r e = said_alike c s kept lies n (λ (h : Head). Ok h) (λ (h : Head). UidLine n (head.uid_of h)) (λ (m : Stored). UidLine n (records.uid_of m)) (λ x. refl) r e
 
   marked_by : (j : Removals) (d : Decision) → answer_by (λ (u : Unit {0}). Marked n) n (mark_answer j d) ≡ deleted_if j d n
@@ -69,6 +69,6 @@ module _ (c : Contents) (s : Session) (kept : List Keyed) (lies : LiesIn c s kep
       at true = refl
       at false = refl
 
-  pub dele_said : (r : Result (Unit {0}) Pick) → r ≡ marking p s n → answer_by (λ (u : Unit {0}). Marked n) n r ≡ told_inside p s kept (Dele n)
+  pub dele_said : (r : Result (Unit {0}) Pick) → r ≡ marking p s n → answer_by (λ (u : Unit {0}). Marked n) n r ≡ transaction_told p s kept (Dele n)
   dele_said r e = said_alike c s kept lies n (λ (h : Head). mark_answer s.removals (removal p s.name h.class)) (λ (u : Unit {0}). Marked n)
       (λ (m : Stored). deleted_if s.removals (removal p s.name m.class) n) (λ x. marked_by s.removals (removal p s.name x.message.class)) r e

@@ -19,13 +19,13 @@ use Rattle.office.specs.Answered.{name_cmp, judged_at, reply_of, tag_of, shown_o
 use Rattle.vault.specs.Records.{Agree}
 use Rattle.office.specs.Stands.{seen, untaken_of, Matches, IsKeptFor, Keeps}
 use Rattle.office.specs.declared.office.Office.{Office}
-use Rattle.office.specs.declared.talk.Acted.{Acted}
-use Rattle.office.specs.declared.talk.Acted.TheVariants as acted
+use Rattle.office.specs.declared.login_state.LineOutcome.{LineOutcome}
+use Rattle.office.specs.declared.login_state.LineOutcome.TheVariants as outcome
 use Rattle.office.proofs.Judging.{Judges}
 use Rattle.office.proofs.Hearing.{streamed, Awaits, acts_next}
 use Rattle.office.proofs.Events.{Moves, awaits_bytes, bytes_goes, seen-bytes_line, records-bytes_line, seen-bytes_part, records-bytes_part, seen-bytes_other}
 use Rattle.office.proofs.Owing.{none_owed}
-use Rattle.office.specs.Accounts.{account_if, seated_account, acts_account}
+use Rattle.office.specs.Accounts.{account_if, state_account, acts_account}
 use Rattle.office.proofs.Accounts.{line_so}
 use Rattle.office.proofs.LineDone.{judges, here, agrees, carried, locked}
 
@@ -39,17 +39,17 @@ module _ {Before : Contents → Type 0} (T : Trace) (n : ℕ) (p : List ℕ) (ke
   abbrev pub ready : Awaits keeps.contents (streamed (seen T n) p now) set p
   ready = awaits_bytes keeps.contents (seen T n) k p now m nothing fits
 
-  abbrev pub judged : Judges T.base (history T) n keeps.contents (judged_at keeps.contents policy k.stamp locks) k.talk k.session
+  abbrev pub judged : Judges T.base (history T) n keeps.contents (judged_at keeps.contents policy k.stamp locks) k.state k.session
   judged = judges T n keeps sound policy rules locks held (streamed (seen T n) p now) set p ready refl refl refl refl refl refl refl refl
 
-  abbrev replied : Acted → Reply
-  replied w = reply_of w (judged_at keeps.contents policy k.stamp locks) k.talk judged.sitting (line_after k p)
+  abbrev replied : LineOutcome → Reply
+  replied w = reply_of w (judged_at keeps.contents policy k.stamp locks) k.state judged.transaction (line_after k p)
 
-  module _ (w : Acted) (k' : Kept) (locks' : BTreeMap (List ℕ) ℕ)
-      (may : w ≡ acted.Failed → (has_newline p ≡ true) × (asks policy k.talk judged.sitting (reading (line_after k p)) ≡ true))
+  module _ (w : LineOutcome) (k' : Kept) (locks' : BTreeMap (List ℕ) ℕ)
+      (may : w ≡ outcome.Failed → (has_newline p ≡ true) × (asks policy k.state judged.transaction (reading (line_after k p)) ≡ true))
       (is : k' ≡ answered set p (replied w) k'.session k'.output)
       (law : (more : List ℕ) → coming k.held (p ++ more) ≡ shown k'.held ++ coming k'.held (k'.pending ++ more)) where
-    module _ (became : BecomesIf (has_newline p) keeps.contents policy k.talk (line_after k p) (replied w) k.session k'.session)
+    module _ (became : BecomesIf (has_newline p) keeps.contents policy k.state (line_after k p) (replied w) k.session k'.session)
         (follow : LocksFollow n k.session k'.session locks locks') (owes : OwesIf (has_newline p) keeps.contents k'.session k'.output (replied w)) where
       abbrev left : Contents
       left = held_if (has_newline p) w policy k.session (reading (line_after k p)) keeps.contents
@@ -74,14 +74,14 @@ module _ {Before : Contents → Type 0} (T : Trace) (n : ℕ) (p : List ℕ) (ke
           (λ h nx. seen-bytes_line T n p now moment_is w (line_after k p) h nx) (λ h nx. records-bytes_line T n p w (line_after k p) h nx)
           (λ h d. rw d (seen-bytes_part T n p h now)) (λ h d. records-bytes_part T n p (tag_of w) h) (λ q e. seen-bytes_other T n p q (tag_of w) e)
 
-      pub piece_moves : {V : Type 0} (Holds : V → Contents → Type 0) (o o' : Office V) → get nat_cmp o'.links n ≡ Some k' → o'.locks ≡ locks' → Holds o'.vault left
+      pub piece_moves : {V : Type 0} (Holds : V → Contents → Type 0) (o o' : Office V) → get nat_cmp o'.connections n ≡ Some k' → o'.locks ≡ locks' → Holds o'.vault left
           → Moves Holds o o' T keeps.contents n (given T (Bytes n p) (Tagged (tag_of w)))
       piece_moves Holds o o' kept same put = record {
         contents = left;
         held = put;
         agree = piece_agrees;
         here = rw kept piece_here;
-        carried = λ q e i. piece_carried q e (get nat_cmp o.links q) i;
+        carried = λ q e i. piece_carried q e (get nat_cmp o.connections q) i;
         locks = λ d. ap (λ l. get name_cmp l d) same ∙ piece_locked d;
       }
 
@@ -89,27 +89,27 @@ module _ {Before : Contents → Type 0} (T : Trace) (n : ℕ) (p : List ℕ) (ke
     pub piece_answered : (lent : ℕ → ℕ) (o : Outcome) → o ≡ shown_of w → IsOutcome T lent (Bytes n p) o
     piece_answered lent o e = at w may is e
       where
-        at : (w : Acted) → (w ≡ acted.Failed → (has_newline p ≡ true) × (asks policy k.talk judged.sitting (reading (line_after k p)) ≡ true))
+        at : (w : LineOutcome) → (w ≡ outcome.Failed → (has_newline p ≡ true) × (asks policy k.state judged.transaction (reading (line_after k p)) ≡ true))
             → k' ≡ answered set p (replied w) k'.session k'.output → o ≡ shown_of w → IsOutcome T lent (Bytes n p) o
-        at acted.Done may is e =
+        at outcome.Done may is e =
             let goes = bytes_goes T lent n p m.opened (none_owed keeps.contents k.session k.output (untaken_of (seen T n)) m.owed nothing) fits in
             record { tag = Done; may = refl; is = e ∙ rw goes refl }
-        at acted.Failed may is e =
+        at outcome.Failed may is e =
             let goes = bytes_goes T lent n p m.opened (none_owed keeps.contents k.session k.output (untaken_of (seen T n)) m.owed nothing) fits in
             let there = may refl in
             let h = there.0 in
-            let next = acts_next keeps.contents (streamed (seen T n) p now) set k' p (replied acted.Failed) ready is law h in
+            let next = acts_next keeps.contents (streamed (seen T n) p now) set k' p (replied outcome.Failed) ready is law h in
             let fails = judged.fails (line_after k p) there.1 in
             record { tag = Failed; may = rw (h, next, fails) refl; is = e ∙ rw goes refl }
 
     -- what a piece's line was told to have been judged is what the history says
-    pub piece_told : account_if (has_newline p) (seated_account w policy judged.sitting (reading (line_after k p)) (Says (replied w)) k.talk.user)
+    pub piece_told : account_if (has_newline p) (state_account w policy judged.transaction (reading (line_after k p)) (Says (replied w)) k.state.user)
         ≡ acts_account T.base (history T) (acts_of_piece (has_newline p) n (tag_of w) (next_line T.log (history T) n p))
     piece_told = at (has_newline p) refl
       where
-        at : (b : Bool) → has_newline p ≡ b → account_if b (seated_account w policy judged.sitting (reading (line_after k p)) (Says (replied w)) k.talk.user)
+        at : (b : Bool) → has_newline p ≡ b → account_if b (state_account w policy judged.transaction (reading (line_after k p)) (Says (replied w)) k.state.user)
             ≡ acts_account T.base (history T) (acts_of_piece b n (tag_of w) (next_line T.log (history T) n p))
         at false h = refl
         at true h =
             let next = acts_next keeps.contents (streamed (seen T n) p now) set k' p (replied w) ready is law h in
-            rw next (line_so T.base (history T) n keeps.contents (judged_at keeps.contents policy k.stamp locks) k.talk k.session judged m.user (line_after k p) w (λ g. (may g).1))
+            rw next (line_so T.base (history T) n keeps.contents (judged_at keeps.contents policy k.stamp locks) k.state k.session judged m.user (line_after k p) w (λ g. (may g).1))

@@ -169,9 +169,9 @@ pub record Carries (After : Contents → Type 0) (before : Contents) (T : Trace)
 -- only the store and the policy may have changed
 pub quiet : {V : Type 0} (Holds : V → Contents → Type 0) (o o' : Office V) (T : Trace) (e : Event) (t : Tag) → IsQuiet e → (st : StandsFor Holds o T)
     → Carries (Holds o'.vault) st.keeps.contents T e t → o'.policy ≡ in_force T.base (history (given T e (Tagged t))) → o'.boot ≡ o.boot → string_bytes o'.host ≡ string_bytes o.host
-    → o'.limits ≡ o.limits → counters o' ≡ counters o → ((q : ℕ) → get nat_cmp o'.links q ≡ get nat_cmp o.links q)
+    → o'.limits ≡ o.limits → counters o' ≡ counters o → ((q : ℕ) → get nat_cmp o'.connections q ≡ get nat_cmp o.connections q)
     → ((d : List ℕ) → get name_cmp o'.locks d ≡ get name_cmp o.locks d) → StandsFor Holds o' (given T e (Tagged t))
-quiet Holds o o' T e t h st k p b s l n links locks =
+quiet Holds o o' T e t h st k p b s l n connections locks =
     let T' = given T e (Tagged t) in
     let office : setting (history T') ≡ setting (history T) = ap (λ (x : Left). x.office) (event_left T e t 0 [] h) in
     let number : (opened T'.log, moment T'.log) ≡ (opened T.log, moment T.log) = ap (λ (x : Heard). x.number) (event_heard T e t 0 h) in
@@ -185,9 +185,9 @@ quiet Holds o o' T e t h st k p b s l n links locks =
       judged = ap (λ (x : Limits). x.removals) l ∙ (st.judged ∙ ap (λ (x : ℕ × List ℕ × Removals). x.2) (sym office));
       idle = ap (λ (x : Limits). x.idle) l ∙ (st.idle ∙ sym idle);
       moment = ap (λ (x : ℕ × ℕ). x.1) n ∙ (st.moment ∙ ap (λ (x : ℕ × ℕ). x.1) (sym number));
-      numbered = λ q some. let same : opened T'.log ≡ opened T.log = ap (λ (x : ℕ × ℕ). x.0) number in rw same (st.numbered q (rw (links q) at some));
+      numbered = λ q some. let same : opened T'.log ≡ opened T.log = ap (λ (x : ℕ × ℕ). x.0) number in rw same (st.numbered q (rw (connections q) at some));
       opened = ap (λ (x : ℕ × ℕ). x.0) n ∙ (st.opened ∙ ap (λ (x : ℕ × ℕ). x.0) (sym number));
-      links = λ q. rw (seen-quiet T e t q h, links q) (kept_on st.keeps.contents k.stored.contents (seen T q) (get nat_cmp o.links q) k.stays (st.links q));
+      connections = λ q. rw (seen-quiet T e t q h, connections q) (kept_on st.keeps.contents k.stored.contents (seen T q) (get nat_cmp o.connections q) k.stays (st.connections q));
       locks = λ d. locks d ∙ (st.locks d ∙ sym (ap (λ (x : Left). x.lock) (event_left T e t 0 d h)));
     }
 
@@ -300,14 +300,14 @@ module _ {V : Type 0} (Holds : V → Contents → Type 0) (o o' : Office V) (T :
   -- whatever rules are in force then
   pub became-ruled : IsQuiet e → (st : StandsFor Holds o T) → Became (Holds o'.vault) st.keeps.contents T e grown w
       → ((t : Tag) → mark_of w ≡ Tagged t → o'.policy ≡ in_force T.base (history (given T e (Tagged t)))) → o'.boot ≡ o.boot
-      → string_bytes o'.host ≡ string_bytes o.host → o'.limits ≡ o.limits → counters o' ≡ counters o → ((q : ℕ) → get nat_cmp o'.links q ≡ get nat_cmp o.links q)
+      → string_bytes o'.host ≡ string_bytes o.host → o'.limits ≡ o.limits → counters o' ≡ counters o → ((q : ℕ) → get nat_cmp o'.connections q ≡ get nat_cmp o.connections q)
       → ((d : List ℕ) → get name_cmp o'.locks d ≡ get name_cmp o.locks d) → StandsFor Holds o' (given T e (mark_of w))
-  became-ruled h st b p boot host l n links locks =
+  became-ruled h st b p boot host l n connections locks =
       let m = ap mark_of b.is ∙ mark-shown T e b.tag h in
-      subst (λ (m : Mark). StandsFor Holds o' (given T e m)) (sym m) (quiet Holds o o' T e b.tag h st b.carries (p b.tag m) boot host l n links locks)
+      subst (λ (m : Mark). StandsFor Holds o' (given T e m)) (sym m) (quiet Holds o o' T e b.tag h st b.carries (p b.tag m) boot host l n connections locks)
 
   pub became-stands : IsStill e → (st : StandsFor Holds o T) → Became (Holds o'.vault) st.keeps.contents T e grown w → o'.policy ≡ o.policy → o'.boot ≡ o.boot
-      → string_bytes o'.host ≡ string_bytes o.host → o'.limits ≡ o.limits → counters o' ≡ counters o → ((q : ℕ) → get nat_cmp o'.links q ≡ get nat_cmp o.links q)
+      → string_bytes o'.host ≡ string_bytes o.host → o'.limits ≡ o.limits → counters o' ≡ counters o → ((q : ℕ) → get nat_cmp o'.connections q ≡ get nat_cmp o.connections q)
       → ((d : List ℕ) → get name_cmp o'.locks d ≡ get name_cmp o.locks d) → StandsFor Holds o' (given T e (mark_of w))
   became-stands h st b p = became-ruled (still_quiet e h) st b (λ t m. p ∙ (st.policy ∙ sym (still_rules T e t h)))
 

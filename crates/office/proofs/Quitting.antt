@@ -21,8 +21,8 @@ use Rattle.office.specs.History.{Says}
 use Rattle.office.specs.Sessions.{marks_after_line}
 use Rattle.office.specs.Replying.{quit_says, is_empty}
 use Rattle.office.specs.Output.{Output, OwesReply}
-use Rattle.office.specs.Sitting.{LiesIn, Obeyed, asks_inside, sitting_of, keys_to_remove, without_marked}
-use Rattle.office.specs.declared.talk.Acted.TheVariants as acted
+use Rattle.office.specs.Transaction.{LiesIn, IsAnswered, transaction_asks, transaction_of, keys_to_remove, without_marked}
+use Rattle.office.specs.declared.login_state.LineOutcome.TheVariants as outcome
 use Rattle.office.proofs.Alike.{to_remove-map, denying-map, length_marked-map}
 use Rattle.office.proofs.Listed.{message_of}
 
@@ -85,7 +85,7 @@ module _ (c : Contents) (p : Policy) (s : Session) (kept : List Keyed) (lies : L
   asks_removal n = ap (λ (ms : List Message). not (is_empty ms)) (to_remove-map message_of records.class_of p s.name s.marks kept)
       ∙ some_key chosen (λ e. n (keys_chosen ∙ e))
 
-  pub none_asked : asks_inside p (sitting_of s kept) (Ok Quit) ≡ false → keys_to_remove p s ≡ []
+  pub none_asked : transaction_asks p (transaction_of s kept) (Ok Quit) ≡ false → keys_to_remove p s ≡ []
   none_asked e = keys_chosen
       ∙ no_key chosen (sym (ap (λ (ms : List Message). not (is_empty ms)) (to_remove-map message_of records.class_of p s.name s.marks kept)) ∙ e)
 
@@ -107,7 +107,7 @@ module _ (c : Contents) (p : Policy) (s : Session) (kept : List Keyed) (lies : L
 
   module _ (After : Contents → Type 0) (grown : Bool) (after : Output) where
     pub quit_done : (denied : Option (List ℕ)) → denied ≡ denying head.class_of p s.name s.marks s.view → OwesReply c None after (quit_says denied)
-        → After (without_marked p s c) → Obeyed After grown c p s s kept after (Ok Quit) acted.Done
+        → After (without_marked p s c) → IsAnswered After grown c p s s kept after (Ok Quit) outcome.Done
     quit_done denied e said held = record {
       owed = subst (λ (o : Option (List ℕ)). OwesReply c None after (quit_says o)) (e ∙ denying_alike) said;
       session = record {
@@ -122,7 +122,7 @@ module _ (c : Contents) (p : Policy) (s : Session) (kept : List Keyed) (lies : L
     }
 
     pub quit_failed : OwesReply c None after RemovalFailed → (keys_to_remove p s ≡ [] → ⊥) → After c → grown ≡ true
-        → Obeyed After grown c p s s kept after (Ok Quit) acted.Failed
+        → IsAnswered After grown c p s s kept after (Ok Quit) outcome.Failed
     quit_failed said some held grew = record {
       owed = said;
       session = record { name = refl; removals = refl; view = refl; marks = λ n. refl };

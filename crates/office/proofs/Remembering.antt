@@ -20,11 +20,11 @@ use Rattle.session.specs.declared.removals.Removals.{Removals}
 use Rattle.office.specs.History.{Says}
 use Rattle.office.specs.Connections.{reading, closes, is_quit, user_after_line, is_failure}
 use Rattle.office.specs.Replying.{is_allowed, when_permitted, quit_says, deleted_if, served_if}
-use Rattle.office.specs.Kept.{talk_after, one_more_failure}
-use Rattle.office.specs.Sitting.{Sitting, said_inside, refused_reading, reply_inside, user_inside}
-use Rattle.office.specs.declared.talk.Acted.{Acted}
-use Rattle.office.specs.declared.talk.Acted.TheVariants as acted
-use Rattle.office.specs.declared.talk.Talk.{Talk}
+use Rattle.office.specs.Kept.{login_state_after, one_more_failure}
+use Rattle.office.specs.Transaction.{Transaction, transaction_said, refused_reading, transaction_reply, transaction_user}
+use Rattle.office.specs.declared.login_state.LineOutcome.{LineOutcome}
+use Rattle.office.specs.declared.login_state.LineOutcome.TheVariants as outcome
+use Rattle.office.specs.declared.login_state.LoginState.{LoginState}
 
 -- ---- no reply refuses a credential
 
@@ -61,8 +61,8 @@ quit_fine : (o : Option (List ℕ)) → is_failure (Says (quit_says o)) ≡ fals
 quit_fine None = refl
 quit_fine (Some rule) = refl
 
-module _ (p : Policy) (v : Sitting) where
-  said_fine : (r : Result Command LineFault) → is_failure (Says (said_inside p v r)) ≡ false
+module _ (p : Policy) (v : Transaction) where
+  said_fine : (r : Result Command LineFault) → is_failure (Says (transaction_said p v r)) ≡ false
   said_fine (Err Unknown) = refl
   said_fine (Err (Syntax k)) = permitted_fine (is_allowed k true false)
   said_fine (Ok Capa) = refl
@@ -88,42 +88,42 @@ module _ (p : Policy) (v : Sitting) where
   refused_fine (Ok _) = refl
   refused_fine (Err fault) = refl
 
-  reply_fine : (w : Acted) (x : Cut) → is_failure (Says (reply_inside w p v x)) ≡ false
-  reply_fine acted.Done TooLong = refl
-  reply_fine acted.Done (cutting.Line l) = said_fine (command_of l)
-  reply_fine acted.Failed x = refused_fine (reading x)
+  reply_fine : (w : LineOutcome) (x : Cut) → is_failure (Says (transaction_reply w p v x)) ≡ false
+  reply_fine outcome.Done TooLong = refl
+  reply_fine outcome.Done (cutting.Line l) = said_fine (command_of l)
+  reply_fine outcome.Failed x = refused_fine (reading x)
 
   -- ---- the login name in force
 
-  said_user : (r : Result Command LineFault) (u : Option LoginName) → user_after_line r (Says (said_inside p v r)) u ≡ user_inside acted.Done r u
+  said_user : (r : Result Command LineFault) (u : Option LoginName) → user_after_line r (Says (transaction_said p v r)) u ≡ transaction_user outcome.Done r u
   said_user (Ok Capa) u = refl
   said_user (Ok (User name)) u = refl
   said_user (Ok _) u = refl
   said_user (Err fault) u = refl
 
-  refused_user : (r : Result Command LineFault) (u : Option LoginName) → user_after_line r (Says (refused_reading r)) u ≡ user_inside acted.Failed r u
+  refused_user : (r : Result Command LineFault) (u : Option LoginName) → user_after_line r (Says (refused_reading r)) u ≡ transaction_user outcome.Failed r u
   refused_user (Ok Capa) u = refl
   refused_user (Ok (User name)) u = refl
   refused_user (Ok _) u = refl
   refused_user (Err fault) u = refl
 
-  user_is : (w : Acted) (x : Cut) (u : Option LoginName) → user_after_line (reading x) (Says (reply_inside w p v x)) u ≡ user_inside w (reading x) u
-  user_is acted.Done TooLong u = refl
-  user_is acted.Done (cutting.Line l) u = said_user (command_of l) u
-  user_is acted.Failed x u = refused_user (reading x) u
+  user_is : (w : LineOutcome) (x : Cut) (u : Option LoginName) → user_after_line (reading x) (Says (transaction_reply w p v x)) u ≡ transaction_user w (reading x) u
+  user_is outcome.Done TooLong u = refl
+  user_is outcome.Done (cutting.Line l) u = said_user (command_of l) u
+  user_is outcome.Failed x u = refused_user (reading x) u
 
-  abbrev talk_of : Removals → Option LoginName → ℕ → Bool → Talk
-  talk_of removals user failures closing = record { user = user; failures = failures; closing = closing; removals = removals }
+  abbrev login_state_of : Removals → Option LoginName → ℕ → Bool → LoginState
+  login_state_of removals user failures closing = record { user = user; failures = failures; closing = closing; removals = removals }
 
-  pub remembered : (w : Acted) (x : Cut) (t : Talk) (user : Option LoginName) (closing : Bool) → user ≡ user_inside w (reading x) t.user → closing ≡ (is_quit (reading x) || t.closing)
-      → talk_of t.removals user t.failures closing ≡ talk_after x (reply_inside w p v x) t
+  pub remembered : (w : LineOutcome) (x : Cut) (t : LoginState) (user : Option LoginName) (closing : Bool) → user ≡ transaction_user w (reading x) t.user → closing ≡ (is_quit (reading x) || t.closing)
+      → login_state_of t.removals user t.failures closing ≡ login_state_after x (transaction_reply w p v x) t
   remembered w x t user closing e f =
-      let reply : Reply = reply_inside w p v x in
+      let reply : Reply = transaction_reply w p v x in
       let fine : is_failure (Says reply) ≡ false = reply_fine w x in
       let named : user ≡ user_after_line (reading x) (Says reply) t.user = e ∙ sym (user_is w x t.user) in
       let counted : t.failures ≡ (if is_failure (Says reply) then one_more_failure t.failures else t.failures) =
       sym (ap (λ (b : Bool). if b then one_more_failure t.failures else t.failures) fine) in
       let closed : closing ≡ (closes (reading x) (Says reply) || t.closing) = f ∙ ap (λ (b : Bool). b || t.closing) (sym (closes_quit (reading x) reply fine)) in
-      ap (λ (u : Option LoginName). talk_of t.removals u t.failures closing) named
-      ∙ (ap (λ (n : ℕ). talk_of t.removals (user_after_line (reading x) (Says reply) t.user) n closing) counted
-      ∙ ap (λ (b : Bool). talk_of t.removals (user_after_line (reading x) (Says reply) t.user) (if is_failure (Says reply) then one_more_failure t.failures else t.failures) b) closed)
+      ap (λ (u : Option LoginName). login_state_of t.removals u t.failures closing) named
+      ∙ (ap (λ (n : ℕ). login_state_of t.removals (user_after_line (reading x) (Says reply) t.user) n closing) counted
+      ∙ ap (λ (b : Bool). login_state_of t.removals (user_after_line (reading x) (Says reply) t.user) (if is_failure (Says reply) then one_more_failure t.failures else t.failures) b) closed)

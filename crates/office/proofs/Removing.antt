@@ -16,7 +16,7 @@ use Rattle.session.specs.Session.{Session}
 use Rattle.session.specs.Session as head
 use Rattle.session.specs.View.{is_marked, marked, may_remove, numbered, numbered_from, to_remove}
 use Rattle.office.specs.Laws.{In}
-use Rattle.office.specs.Sitting.{LiesIn, keys_to_remove, without_marked}
+use Rattle.office.specs.Transaction.{LiesIn, keys_to_remove, without_marked}
 use Rattle.office.proofs.AgreeLists.{in_maildrop-without}
 use Rattle.office.proofs.Bounds.{any_witness}
 use Rattle.office.proofs.Lying.{filter-map}

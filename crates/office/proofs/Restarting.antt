@@ -20,8 +20,8 @@ boot_formed T boot fits = lt-ltb boot (2 ^ 64) (omega (arith, fits))
 -- the store, the policy, the host's name and the idle seconds stay
 pub restart_stands : {V : Type 0} (Holds : V → Contents → Type 0) (o o' : Office V) (T : Trace) (boot : ℕ) → (st : StandsFor Holds o T) → is_formed T.log (event.Restart boot) ≡ true
     → ((k : Contents) → Holds o.vault k → Holds o'.vault k) → o'.policy ≡ o.policy → o'.boot ≡ boot → string_bytes o'.host ≡ string_bytes o.host → o'.limits ≡ o.limits → counters o' ≡ (0, 0)
-    → ((q : ℕ) → get nat_cmp o'.links q ≡ None) → ((d : List ℕ) → get name_cmp o'.locks d ≡ None) → StandsFor Holds o' (given T (event.Restart boot) (Tagged Done))
-restart_stands Holds o o' T boot st formed on p b s l n links locks =
+    → ((q : ℕ) → get nat_cmp o'.connections q ≡ None) → ((d : List ℕ) → get name_cmp o'.locks d ≡ None) → StandsFor Holds o' (given T (event.Restart boot) (Tagged Done))
+restart_stands Holds o o' T boot st formed on p b s l n connections locks =
     let T' = given T (event.Restart boot) (Tagged Done) in
     record {
       keeps = record { contents = st.keeps.contents; held = on st.keeps.contents st.keeps.held; agree = st.keeps.agree; sound = st.keeps.sound; formed = rw formed st.keeps.formed; began = begun_on (event.Restart boot) (Tagged Done) T.log st.began };
@@ -32,8 +32,8 @@ restart_stands Holds o o' T boot st formed on p b s l n links locks =
       judged = ap (λ (x : Limits). x.removals) l ∙ st.judged;
       idle = ap (λ (x : Limits). x.idle) l ∙ st.idle;
       moment = ap (λ (x : ℕ × ℕ). x.1) n;
-      numbered = λ q some. let none = links q in absurd (true≢false (sym (rw none at some)));
+      numbered = λ q some. let none = connections q in absurd (true≢false (sym (rw none at some)));
       opened = ap (λ (x : ℕ × ℕ). x.0) n;
-      links = λ q. let none = links q in rw none (record { closed = refl; outside = refl });
+      connections = λ q. let none = connections q in rw none (record { closed = refl; authorization = refl });
       locks = λ d. locks d ∙ sym (holder_is T.base (acts T') d None (λ q. refl));
     }

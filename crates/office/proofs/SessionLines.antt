@@ -27,9 +27,9 @@ use Rattle.office.specs.Accounts.{quit_account, removal_by, removal_seen, was_do
 use Rattle.office.specs.declared.account.Account.TheVariants as account
 use Rattle.office.specs.Replying.{session_says, quit_says, is_allowed, when_permitted, name_or_nobody, is_readable, may_serve, served_if, is_empty, pick, deleted_if, reply_to_reading, reply_to_cut, line_may_fail, reading_may_fail}
 use Rattle.office.specs.Answered.{tag_of}
-use Rattle.office.specs.Sitting.{Sitting, said_inside, refused_reading, asks_inside, reply_inside}
-use Rattle.office.specs.declared.talk.Acted.{Acted}
-use Rattle.office.specs.declared.talk.Acted.TheVariants as acted
+use Rattle.office.specs.Transaction.{Transaction, transaction_said, refused_reading, transaction_asks, transaction_reply}
+use Rattle.office.specs.declared.login_state.LineOutcome.{LineOutcome}
+use Rattle.office.specs.declared.login_state.LineOutcome.TheVariants as outcome
 
 -- ---- marks count by number
 
@@ -73,7 +73,7 @@ module _ (ms ns : List ℕ) (same : (n : ℕ) → is_marked ms n ≡ is_marked n
 -- ---- a live session
 
 -- What is kept of a session, with its messages and the policy in force, is what the history says.
-pub record AgreesInside (B : Records) (G : List Entry) (c : ℕ) (p : Policy) (v : Sitting) : Type 0 where
+pub record AgreesInTransaction (B : Records) (G : List Entry) (c : ℕ) (p : Policy) (v : Transaction) : Type 0 where
   pub live : live G c ≡ true
   pub login : login G c ≡ Some v.name
   pub judged : v.removals ≡ judging G
@@ -82,32 +82,32 @@ pub record AgreesInside (B : Records) (G : List Entry) (c : ℕ) (p : Policy) (v
   pub policy : p ≡ in_force B G
 
 -- after a login, what may stand doesn't depend on a name in force
-allowed_inside : (k : Keyword) (has_user : Bool) → is_allowed k true has_user ≡ is_allowed k true false
-allowed_inside keyword.Capa u = refl
-allowed_inside keyword.Quit u = refl
-allowed_inside keyword.User u = refl
-allowed_inside keyword.Apop u = refl
-allowed_inside keyword.Pass u = refl
-allowed_inside _ u = refl
+transaction_allowed : (k : Keyword) (has_user : Bool) → is_allowed k true has_user ≡ is_allowed k true false
+transaction_allowed keyword.Capa u = refl
+transaction_allowed keyword.Quit u = refl
+transaction_allowed keyword.User u = refl
+transaction_allowed keyword.Apop u = refl
+transaction_allowed keyword.Pass u = refl
+transaction_allowed _ u = refl
 
-done_so : (w : Acted) → is_done (tag_of w) ≡ was_done w
-done_so acted.Done = refl
-done_so acted.Failed = refl
+done_so : (w : LineOutcome) → is_done (tag_of w) ≡ was_done w
+done_so outcome.Done = refl
+done_so outcome.Failed = refl
 
-module _ (B : Records) (G : List Entry) (c : ℕ) (p : Policy) (v : Sitting) (a : AgreesInside B G c p v) where
-  pub name_inside : name_or_nobody (login G c) ≡ v.name
-  name_inside = ap name_or_nobody a.login
+module _ (B : Records) (G : List Entry) (c : ℕ) (p : Policy) (v : Transaction) (a : AgreesInTransaction B G c p v) where
+  pub transaction_name : name_or_nobody (login G c) ≡ v.name
+  transaction_name = ap name_or_nobody a.login
 
   pub chosen_alike : to_remove class_of p v.name v.marks v.view ≡ to_remove class_of (in_force B G) (name_or_nobody (login G c)) (marks G c) (view B G c)
   chosen_alike =
-      let n = name_inside in
+      let n = transaction_name in
       let w = sym a.view in
       let q = sym a.policy in
       rw (n, w, q) (to_remove_alike v.marks (marks G c) a.marks class_of p v.name v.view)
 
   -- what a QUIT's account tells
-  pub removal_inside : (w : Acted) → quit_account (in_session G c) (removal_by B G c (tag_of w)) ≡ account.Quit (removal_seen w p v)
-  removal_inside w =
+  pub transaction_removal : (w : LineOutcome) → quit_account (in_session G c) (removal_by B G c (tag_of w)) ≡ account.Quit (removal_seen w p v)
+  transaction_removal w =
       let l = a.live in
       let named = a.login in
       let q = sym a.policy in
@@ -118,63 +118,63 @@ module _ (B : Records) (G : List Entry) (c : ℕ) (p : Policy) (v : Sitting) (a 
       let counted = marked_alike v.marks (marks G c) a.marks v.view in
       rw (l, named, q, rows, done, chosen, denied, counted) refl
 
-  says_inside : (command : Command) → session_says (in_force B G) (judging G) (name_or_nobody (login G c)) (marks G c) (view B G c) command ≡ session_says p v.removals v.name v.marks v.view command
-  says_inside command =
+  transaction_says : (command : Command) → session_says (in_force B G) (judging G) (name_or_nobody (login G c)) (marks G c) (view B G c) command ≡ session_says p v.removals v.name v.marks v.view command
+  transaction_says command =
       ap (λ q. session_says q (judging G) (name_or_nobody (login G c)) (marks G c) (view B G c) command) (sym a.policy)
       ∙ (ap (λ j. session_says p j (name_or_nobody (login G c)) (marks G c) (view B G c) command) (sym a.judged)
-      ∙ (ap (λ n. session_says p v.removals n (marks G c) (view B G c) command) name_inside
+      ∙ (ap (λ n. session_says p v.removals n (marks G c) (view B G c) command) transaction_name
       ∙ (ap (λ rows. session_says p v.removals v.name (marks G c) rows command) (sym a.view)
       ∙ sym (says_alike v.marks (marks G c) a.marks p v.removals v.name v.view command))))
 
-  reading_inside : (r : Result Command LineFault) → reply_to_reading B G c r Done ≡ said_inside p v r
-  reading_inside (Err Unknown) = refl
-  reading_inside (Err (Syntax k)) = let lv = a.live in rw lv (ap (λ b. when_permitted b BadArguments) (allowed_inside k (is_some (user G c))))
-  reading_inside (Ok Capa) = refl
-  reading_inside (Ok (User name)) = let lv = a.live in rw lv refl
-  reading_inside (Ok (Pass password)) = let lv = a.live in rw lv refl
-  reading_inside (Ok (Apop name digest)) = let lv = a.live in rw lv refl
-  reading_inside (Ok Quit) = let lv = a.live in rw lv (says_inside Quit)
-  reading_inside (Ok Stat) = let lv = a.live in rw lv (says_inside Stat)
-  reading_inside (Ok ListAll) = let lv = a.live in rw lv (says_inside ListAll)
-  reading_inside (Ok (ListOne n)) = let lv = a.live in rw lv (says_inside (ListOne n))
-  reading_inside (Ok UidlAll) = let lv = a.live in rw lv (says_inside UidlAll)
-  reading_inside (Ok (UidlOne n)) = let lv = a.live in rw lv (says_inside (UidlOne n))
-  reading_inside (Ok (Retr n)) = let lv = a.live in rw lv (says_inside (Retr n))
-  reading_inside (Ok (Top n k)) = let lv = a.live in rw lv (says_inside (Top n k))
-  reading_inside (Ok (Dele n)) = let lv = a.live in rw lv (says_inside (Dele n))
-  reading_inside (Ok Rset) = let lv = a.live in rw lv (says_inside Rset)
-  reading_inside (Ok Noop) = let lv = a.live in rw lv (says_inside Noop)
+  transaction_reading : (r : Result Command LineFault) → reply_to_reading B G c r Done ≡ transaction_said p v r
+  transaction_reading (Err Unknown) = refl
+  transaction_reading (Err (Syntax k)) = let lv = a.live in rw lv (ap (λ b. when_permitted b BadArguments) (transaction_allowed k (is_some (user G c))))
+  transaction_reading (Ok Capa) = refl
+  transaction_reading (Ok (User name)) = let lv = a.live in rw lv refl
+  transaction_reading (Ok (Pass password)) = let lv = a.live in rw lv refl
+  transaction_reading (Ok (Apop name digest)) = let lv = a.live in rw lv refl
+  transaction_reading (Ok Quit) = let lv = a.live in rw lv (transaction_says Quit)
+  transaction_reading (Ok Stat) = let lv = a.live in rw lv (transaction_says Stat)
+  transaction_reading (Ok ListAll) = let lv = a.live in rw lv (transaction_says ListAll)
+  transaction_reading (Ok (ListOne n)) = let lv = a.live in rw lv (transaction_says (ListOne n))
+  transaction_reading (Ok UidlAll) = let lv = a.live in rw lv (transaction_says UidlAll)
+  transaction_reading (Ok (UidlOne n)) = let lv = a.live in rw lv (transaction_says (UidlOne n))
+  transaction_reading (Ok (Retr n)) = let lv = a.live in rw lv (transaction_says (Retr n))
+  transaction_reading (Ok (Top n k)) = let lv = a.live in rw lv (transaction_says (Top n k))
+  transaction_reading (Ok (Dele n)) = let lv = a.live in rw lv (transaction_says (Dele n))
+  transaction_reading (Ok Rset) = let lv = a.live in rw lv (transaction_says Rset)
+  transaction_reading (Ok Noop) = let lv = a.live in rw lv (transaction_says Noop)
 
-  refused_inside : (r : Result Command LineFault) → asks_inside p v r ≡ true → reply_to_reading B G c r Failed ≡ refused_reading r
-  refused_inside (Err e) h = cc
-  refused_inside (Ok (Retr n)) h = let lv = a.live in rw lv refl
-  refused_inside (Ok (Top n k)) h = let lv = a.live in rw lv refl
-  refused_inside (Ok Quit) h = refl
-  refused_inside (Ok Capa) h = cc
-  refused_inside (Ok (User name)) h = cc
-  refused_inside (Ok (Pass password)) h = cc
-  refused_inside (Ok (Apop name digest)) h = cc
-  refused_inside (Ok Stat) h = cc
-  refused_inside (Ok ListAll) h = cc
-  refused_inside (Ok (ListOne n)) h = cc
-  refused_inside (Ok UidlAll) h = cc
-  refused_inside (Ok (UidlOne n)) h = cc
-  refused_inside (Ok (Dele n)) h = cc
-  refused_inside (Ok Rset) h = cc
-  refused_inside (Ok Noop) h = cc
+  transaction_refused : (r : Result Command LineFault) → transaction_asks p v r ≡ true → reply_to_reading B G c r Failed ≡ refused_reading r
+  transaction_refused (Err e) h = cc
+  transaction_refused (Ok (Retr n)) h = let lv = a.live in rw lv refl
+  transaction_refused (Ok (Top n k)) h = let lv = a.live in rw lv refl
+  transaction_refused (Ok Quit) h = refl
+  transaction_refused (Ok Capa) h = cc
+  transaction_refused (Ok (User name)) h = cc
+  transaction_refused (Ok (Pass password)) h = cc
+  transaction_refused (Ok (Apop name digest)) h = cc
+  transaction_refused (Ok Stat) h = cc
+  transaction_refused (Ok ListAll) h = cc
+  transaction_refused (Ok (ListOne n)) h = cc
+  transaction_refused (Ok UidlAll) h = cc
+  transaction_refused (Ok (UidlOne n)) h = cc
+  transaction_refused (Ok (Dele n)) h = cc
+  transaction_refused (Ok Rset) h = cc
+  transaction_refused (Ok Noop) h = cc
 
-  picked_inside : (n : ℕ) → is_readable p v.name (at_number v.view n) (is_marked v.marks n) ≡ true → may_serve B G c n ≡ true
-  picked_inside n h =
+  transaction_picked : (n : ℕ) → is_readable p v.name (at_number v.view n) (is_marked v.marks n) ≡ true → may_serve B G c n ≡ true
+  transaction_picked n h =
       let name = name_or_nobody (login G c) in
       ap (λ b. is_readable (in_force B G) name (at_number (view B G c) n) b) (sym (a.marks n))
       ∙ (ap (λ (rows : List store.Message). is_readable (in_force B G) name (at_number rows n) (is_marked v.marks n)) (sym a.view)
       ∙ (ap (λ (q : Policy). is_readable q name (at_number v.view n) (is_marked v.marks n)) (sym a.policy)
-      ∙ (ap (λ (who : LoginName). is_readable p who (at_number v.view n) (is_marked v.marks n)) name_inside ∙ h)))
+      ∙ (ap (λ (who : LoginName). is_readable p who (at_number v.view n) (is_marked v.marks n)) transaction_name ∙ h)))
 
-  may_be_refused : (r : Result Command LineFault) → asks_inside p v r ≡ true → reading_may_fail B G c r ≡ true
+  may_be_refused : (r : Result Command LineFault) → transaction_asks p v r ≡ true → reading_may_fail B G c r ≡ true
   may_be_refused (Err e) h = cc
-  may_be_refused (Ok (Retr n)) h = let lv = a.live in let k = picked_inside n h in rw (lv, k) refl
-  may_be_refused (Ok (Top n k)) h = let lv = a.live in let e = picked_inside n h in rw (lv, e) refl
+  may_be_refused (Ok (Retr n)) h = let lv = a.live in let k = transaction_picked n h in rw (lv, k) refl
+  may_be_refused (Ok (Top n k)) h = let lv = a.live in let e = transaction_picked n h in rw (lv, e) refl
   may_be_refused (Ok Quit) h = let lv = a.live in rw lv (ap (λ (rows : List store.Message). not (is_empty rows)) (sym chosen_alike) ∙ h)
   may_be_refused (Ok Capa) h = cc
   may_be_refused (Ok (User name)) h = cc
@@ -189,26 +189,26 @@ module _ (B : Records) (G : List Entry) (c : ℕ) (p : Policy) (v : Sitting) (a 
   may_be_refused (Ok Rset) h = cc
   may_be_refused (Ok Noop) h = cc
 
-  reply_done : (x : Cut) → reply_to_cut B G c x Done ≡ reply_inside acted.Done p v x
+  reply_done : (x : Cut) → reply_to_cut B G c x Done ≡ transaction_reply outcome.Done p v x
   reply_done TooLong = refl
-  reply_done (cutting.Line l) = reading_inside (command_of l)
+  reply_done (cutting.Line l) = transaction_reading (command_of l)
 
-  reply_refused : (x : Cut) → asks_inside p v (reading x) ≡ true → reply_to_cut B G c x Failed ≡ reply_inside acted.Failed p v x
+  reply_refused : (x : Cut) → transaction_asks p v (reading x) ≡ true → reply_to_cut B G c x Failed ≡ transaction_reply outcome.Failed p v x
   reply_refused TooLong h = cc
-  reply_refused (cutting.Line l) h = refused_inside (command_of l) h
+  reply_refused (cutting.Line l) h = transaction_refused (command_of l) h
 
   -- what the history says of a line is what it is told
-  pub reply_said_inside : (x : Cut) (w : Acted) → (w ≡ acted.Failed → asks_inside p v (reading x) ≡ true) → reply_to_cut B G c x (tag_of w) ≡ reply_inside w p v x
-  reply_said_inside x acted.Done may = reply_done x
-  reply_said_inside x acted.Failed may = reply_refused x (may refl)
+  pub transaction_reply_said : (x : Cut) (w : LineOutcome) → (w ≡ outcome.Failed → transaction_asks p v (reading x) ≡ true) → reply_to_cut B G c x (tag_of w) ≡ transaction_reply w p v x
+  transaction_reply_said x outcome.Done may = reply_done x
+  transaction_reply_said x outcome.Failed may = reply_refused x (may refl)
 
   -- only a line that asks may be refused
-  pub fails_inside : (x : Cut) → asks_inside p v (reading x) ≡ true → line_may_fail B G c x ≡ true
-  fails_inside x h = may_be_refused (reading x) h
+  pub transaction_fails : (x : Cut) → transaction_asks p v (reading x) ≡ true → line_may_fail B G c x ≡ true
+  transaction_fails x h = may_be_refused (reading x) h
 
 -- ---- no line of a session logs in
 
-no_login_read : (p : Policy) (v : Sitting) (r : Result Command LineFault) (u : Option LoginName) → logs_in r (Says (said_inside p v r)) u ≡ None
+no_login_read : (p : Policy) (v : Transaction) (r : Result Command LineFault) (u : Option LoginName) → logs_in r (Says (transaction_said p v r)) u ≡ None
 no_login_read p v (Err e) u = refl
 no_login_read p v (Ok (Pass password)) u = refl
 no_login_read p v (Ok (Apop name digest)) u = refl
@@ -220,10 +220,10 @@ no_login_refused (Ok (Pass password)) u = refl
 no_login_refused (Ok (Apop name digest)) u = refl
 no_login_refused _ u = refl
 
-pub no_login_inside : (w : Acted) (p : Policy) (v : Sitting) (x : Cut) (u : Option LoginName) → logs_in (reading x) (Says (reply_inside w p v x)) u ≡ None
-no_login_inside acted.Done p v TooLong u = refl
-no_login_inside acted.Done p v (cutting.Line l) u = no_login_read p v (command_of l) u
-no_login_inside acted.Failed p v x u = no_login_refused (reading x) u
+pub transaction_no_login : (w : LineOutcome) (p : Policy) (v : Transaction) (x : Cut) (u : Option LoginName) → logs_in (reading x) (Says (transaction_reply w p v x)) u ≡ None
+transaction_no_login outcome.Done p v TooLong u = refl
+transaction_no_login outcome.Done p v (cutting.Line l) u = no_login_read p v (command_of l) u
+transaction_no_login outcome.Failed p v x u = no_login_refused (reading x) u
 
 -- ---- no line of a session but QUIT closes its connection
 
@@ -257,7 +257,7 @@ closes_bad : (b : Bool) (k : Keyword) → closes (Err (Syntax k)) (Says (when_pe
 closes_bad true k = refl
 closes_bad false k = refl
 
-closes_read : (p : Policy) (v : Sitting) (r : Result Command LineFault) → closes r (Says (said_inside p v r)) ≡ is_quit r
+closes_read : (p : Policy) (v : Transaction) (r : Result Command LineFault) → closes r (Says (transaction_said p v r)) ≡ is_quit r
 closes_read p v (Err Unknown) = refl
 closes_read p v (Err (Syntax k)) = closes_bad (is_allowed k true false) k
 closes_read p v (Ok Capa) = refl
@@ -281,7 +281,7 @@ closes_refused (Err e) = refl
 closes_refused (Ok Quit) = refl
 closes_refused (Ok _) = refl
 
-pub closes_inside : (w : Acted) (p : Policy) (v : Sitting) (x : Cut) → closes (reading x) (Says (reply_inside w p v x)) ≡ is_quit (reading x)
-closes_inside acted.Done p v TooLong = refl
-closes_inside acted.Done p v (cutting.Line l) = closes_read p v (command_of l)
-closes_inside acted.Failed p v x = closes_refused (reading x)
+pub transaction_closes : (w : LineOutcome) (p : Policy) (v : Transaction) (x : Cut) → closes (reading x) (Says (transaction_reply w p v x)) ≡ is_quit (reading x)
+transaction_closes outcome.Done p v TooLong = refl
+transaction_closes outcome.Done p v (cutting.Line l) = closes_read p v (command_of l)
+transaction_closes outcome.Failed p v x = closes_refused (reading x)

@@ -220,7 +220,7 @@ named_in c s None i = sym (ap (λ b. when_live b s.login) i)
 named_in c s (Some k) i = sym (ap₂ when_live i.live i.login)
 
 named_at : (c : Contents) (s : Seen) (o : Option Kept) → IsKeptFor c s o → name_at o ≡ when_live s.live s.login
-named_at c s None h = sym (ap (λ b. when_live b s.login) h.outside)
+named_at c s None h = sym (ap (λ b. when_live b s.login) h.authorization)
 named_at c s (Some k) m = named_in c s k.session m.session
 
 module _ (B : Records) (H : List (Act × Tag)) (c : ℕ) where
@@ -255,9 +255,9 @@ named_kept None = refl
 named_kept (Some k) = refl
 
 -- the rows of what is kept are the sessions of the trace
-pub kept_sessions : {V : Type 0} (Holds : V → Contents → Type 0) (o : Office V) (T : Trace) → StandsFor Holds o T → IsOrdered nat_cmp o.links → filter_map kept_row o.links.entries ≡ sessions (history T)
+pub kept_sessions : {V : Type 0} (Holds : V → Contents → Type 0) (o : Office V) (T : Trace) → StandsFor Holds o T → IsOrdered nat_cmp o.connections → filter_map kept_row o.connections.entries ≡ sessions (history T)
 kept_sessions Holds o T st ordered =
-    let es = o.links.entries in
+    let es = o.connections.entries in
     let by_key : Ascends 0 (keys_of es) = ascends (keys_of es) ordered in
     let fs : List (ℕ × Option LoginName) = paired (in_session (history T)) (heard (history T)) in
     let by_number : Ascends 0 (keys_of fs) = subst (Ascends 0) (sym (keys_paired (in_session (history T)) (heard (history T)))) (heard_ascends (history T)) in
@@ -266,7 +266,7 @@ kept_sessions Holds o T st ordered =
     (rows_ascend (λ n. n) 0 fs by_number)
     (λ c. found_row (λ (k : Kept). name_of k.session) 0 es c by_key
     ∙ (named_kept (found c es)
-    ∙ (named_at st.keeps.contents (seen T c) (found c es) (st.links c)
+    ∙ (named_at st.keeps.contents (seen T c) (found c es) (st.connections c)
     ∙ (sym (found_heard T.base (acts T) c) ∙ sym (found_row (λ n. n) 0 fs c by_number)))))
     ∙ same_rows (in_session (history T)) (heard (history T))
 

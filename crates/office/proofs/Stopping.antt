@@ -9,7 +9,7 @@ use Rattle.vault.specs.Changes.{Contents, records_of, with_messages, without_key
 use Rattle.vault.specs.Calls.{AreRemoved}
 use Rattle.policy.specs.Policy.{Policy}
 use Rattle.session.specs.Session.{Session}
-use Rattle.office.specs.Sitting.{keys_to_remove, without_marked}
+use Rattle.office.specs.Transaction.{keys_to_remove, without_marked}
 use Rattle.vault.specs.Stops.{SaySame, IsOwn, LeavesEither, LeavesBefore}
 use Rattle.vault.specs.declared.fault.VaultFault.{VaultFault}
 use Rattle.vault.specs.declared.fault.VaultFault.TheVariants as fault

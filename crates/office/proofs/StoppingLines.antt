@@ -14,14 +14,14 @@ use Rattle.office.specs.Formed.{are_formed}
 use Rattle.office.specs.Trace.{history}
 use Rattle.office.specs.Outcomes.{Outcome, mark_of}
 use Rattle.office.specs.Outcomes as outcome
-use Rattle.office.specs.Kept.{Desk, Kept, answered, line_after}
+use Rattle.office.specs.Kept.{LineContext, Kept, answered, line_after}
 use Rattle.office.specs.Answered.{shown_of, held_after, held_if}
 use Rattle.office.specs.Stands.{Keeps, Seen}
 use Rattle.office.specs.Output.{nothing_owed}
 use Rattle.office.specs.Stopping.{SaysTrace, IsAnswered, taken_as_done, with_it_done, EitherOrWith, LeavesOneOf, WasDone}
-use Rattle.office.specs.declared.talk.Talk.{Talk}
-use Rattle.office.specs.declared.talk.Acted.{Acted}
-use Rattle.office.specs.declared.talk.Acted.TheVariants as acted
+use Rattle.office.specs.declared.login_state.LoginState.{LoginState}
+use Rattle.office.specs.declared.login_state.LineOutcome.{LineOutcome}
+use Rattle.office.specs.declared.login_state.LineOutcome.TheVariants as line_outcome
 use Rattle.office.proofs.Hearing.{Awaits, acts_next, none_next}
 use Rattle.office.proofs.Events.{line_entry}
 use Rattle.office.proofs.Judging.{Judges}
@@ -29,14 +29,14 @@ use Rattle.office.proofs.Stopping.{agree_through, says_kept}
 use Rattle.office.proofs.Beginning.{begun_done}
 
 -- a line that was answered otherwise than Failed was done
-pub line_answered : (w : Acted) (o : Outcome) → o ≡ shown_of w → IsAnswered o → WasDone w
-line_answered acted.Done o e a = tt
-line_answered acted.Failed o e a = absurd (subst IsAnswered e a)
+pub line_answered : (w : LineOutcome) (o : Outcome) → o ≡ shown_of w → IsAnswered o → WasDone w
+line_answered line_outcome.Done o e a = tt
+line_answered line_outcome.Failed o e a = absurd (subst IsAnswered e a)
 
-module _ {Before : Contents → Type 0} (T : Trace) (n : ℕ) (keeps : Keeps Before T) (sound : AreSound keeps.contents) (s : Seen) (k : Kept) (p : List ℕ) (d : Desk) (t : Talk)
+module _ {Before : Contents → Type 0} (T : Trace) (n : ℕ) (keeps : Keeps Before T) (sound : AreSound keeps.contents) (s : Seen) (k : Kept) (p : List ℕ) (d : LineContext) (t : LoginState)
     (m : Awaits keeps.contents s k p) (j : Judges T.base (history T) n keeps.contents d t k.session) (e : Event)
     (line : has_newline p ≡ true → slice_get (cut s.stream) s.acted ≡ Some (line_after k p)
-    → records T.base (history (given T e (Tagged Done))) ≡ records T.base (line_entry T n (line_after k p) acted.Done ∷ history T))
+    → records T.base (history (given T e (Tagged Done))) ≡ records T.base (line_entry T n (line_after k p) line_outcome.Done ∷ history T))
     (part : has_newline p ≡ false → slice_get (cut s.stream) s.acted ≡ None → records T.base (history (given T e (Tagged Done))) ≡ records T.base (history T)) where
   -- the line that is next, whatever it is answered
   next_is : has_newline p ≡ true → slice_get (cut s.stream) s.acted ≡ Some (line_after k p)
@@ -46,14 +46,14 @@ module _ {Before : Contents → Type 0} (T : Trace) (n : ℕ) (keeps : Keeps Bef
   next_none h = none_next keeps.contents s k (answered k p Bye k.session nothing_owed) p Bye m refl (λ more. coming-fed k.held (answered k p Bye k.session nothing_owed).held p (through_newline p) refl refl more) h
 
   abbrev after : Contents
-  after = held_if (has_newline p) acted.Done d.policy k.session (reading (line_after k p)) keeps.contents
+  after = held_if (has_newline p) line_outcome.Done d.policy k.session (reading (line_after k p)) keeps.contents
 
   done_agrees : Agree (records_of after) (records T.base (history (given T e (Tagged Done))))
   done_agrees = ⊎_elim
-      (λ h. subst (λ b. Agree (records_of (held_if b acted.Done d.policy k.session (reading (line_after k p)) keeps.contents)) (records T.base (history (given T e (Tagged Done))))) (sym h)
-      (subst (λ R. Agree (records_of (held_after acted.Done d.policy k.session (reading (line_after k p)) keeps.contents)) R) (sym (line h (next_is h)))
-      (j.agrees sound keeps.agree acted.Done (line_after k p) (line_entry T n (line_after k p) acted.Done).said)))
-      (λ h. subst (λ b. Agree (records_of (held_if b acted.Done d.policy k.session (reading (line_after k p)) keeps.contents)) (records T.base (history (given T e (Tagged Done))))) (sym h)
+      (λ h. subst (λ b. Agree (records_of (held_if b line_outcome.Done d.policy k.session (reading (line_after k p)) keeps.contents)) (records T.base (history (given T e (Tagged Done))))) (sym h)
+      (subst (λ R. Agree (records_of (held_after line_outcome.Done d.policy k.session (reading (line_after k p)) keeps.contents)) R) (sym (line h (next_is h)))
+      (j.agrees sound keeps.agree line_outcome.Done (line_after k p) (line_entry T n (line_after k p) line_outcome.Done).said)))
+      (λ h. subst (λ b. Agree (records_of (held_if b line_outcome.Done d.policy k.session (reading (line_after k p)) keeps.contents)) (records T.base (history (given T e (Tagged Done))))) (sym h)
       (subst (λ R. Agree (records_of keeps.contents) R) (sym (part h (next_none h))) keeps.agree))
       (cases_Bool (has_newline p))
 

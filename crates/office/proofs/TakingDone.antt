@@ -19,12 +19,12 @@ use Rattle.office.specs.Answered.{name_cmp, judged_at, reply_of, tag_of, shown_o
 use Rattle.vault.specs.Records.{Agree}
 use Rattle.office.specs.Stands.{seen, Matches, IsKeptFor, Keeps}
 use Rattle.office.specs.declared.office.Office.{Office}
-use Rattle.office.specs.declared.talk.Acted.{Acted}
-use Rattle.office.specs.declared.talk.Acted.TheVariants as acted
+use Rattle.office.specs.declared.login_state.LineOutcome.{LineOutcome}
+use Rattle.office.specs.declared.login_state.LineOutcome.TheVariants as outcome
 use Rattle.office.proofs.Judging.{Judges}
 use Rattle.office.proofs.Hearing.{took, Awaits, acts_next, none_next}
 use Rattle.office.proofs.Events.{Moves, next_kept, seen-took_line, records-took_line, seen-took_none, records-took_none, seen-took_other}
-use Rattle.office.specs.Accounts.{account_if, seated_account, acts_account}
+use Rattle.office.specs.Accounts.{account_if, state_account, acts_account}
 use Rattle.office.proofs.Accounts.{line_so, all_taken}
 use Rattle.office.proofs.LineDone.{judges, here, agrees, carried, locked}
 
@@ -34,20 +34,20 @@ module _ {Before : Contents → Type 0} (T : Trace) (n octets : ℕ) (keeps : Ke
   abbrev p : List ℕ
   p = k.pending
 
-  abbrev pub judged : Judges T.base (history T) n keeps.contents (judged_at keeps.contents policy k.stamp locks) k.talk k.session
+  abbrev pub judged : Judges T.base (history T) n keeps.contents (judged_at keeps.contents policy k.stamp locks) k.state k.session
   judged = judges T n keeps sound policy rules locks held (took (seen T n) octets now) k p ready refl refl refl refl refl refl refl refl
 
-  abbrev replied : Acted → Reply
-  replied w = reply_of w (judged_at keeps.contents policy k.stamp locks) k.talk judged.sitting (line_after k p)
+  abbrev replied : LineOutcome → Reply
+  replied w = reply_of w (judged_at keeps.contents policy k.stamp locks) k.state judged.transaction (line_after k p)
 
-  module _ (w : Acted) (k' : Kept) (locks' : BTreeMap (List ℕ) ℕ)
-      (may : w ≡ acted.Failed → (has_newline p ≡ true) × (asks policy k.talk judged.sitting (reading (line_after k p)) ≡ true))
+  module _ (w : LineOutcome) (k' : Kept) (locks' : BTreeMap (List ℕ) ℕ)
+      (may : w ≡ outcome.Failed → (has_newline p ≡ true) × (asks policy k.state judged.transaction (reading (line_after k p)) ≡ true))
       (is : k' ≡ answered k p (replied w) k'.session k'.output)
       (law : (more : List ℕ) → coming k.held (p ++ more) ≡ shown k'.held ++ coming k'.held (k'.pending ++ more)) where
     none : has_newline p ≡ false → next_line T.log (history T) n [] ≡ None
     none h = next_kept T n ∙ none_next keeps.contents (took (seen T n) octets now) k k' p (replied w) ready is law h
 
-    module _ (became : BecomesIf (has_newline p) keeps.contents policy k.talk (line_after k p) (replied w) k.session k'.session)
+    module _ (became : BecomesIf (has_newline p) keeps.contents policy k.state (line_after k p) (replied w) k.session k'.session)
         (follow : LocksFollow n k.session k'.session locks locks') (owes : OwesIf (has_newline p) keeps.contents k'.session k'.output (replied w)) where
       abbrev left : Contents
       left = held_if (has_newline p) w policy k.session (reading (line_after k p)) keeps.contents
@@ -72,14 +72,14 @@ module _ {Before : Contents → Type 0} (T : Trace) (n octets : ℕ) (keeps : Ke
           (λ h nx. seen-took_line T n octets now moment_is w (line_after k p) all open_yet (next_kept T n ∙ nx)) (λ h nx. records-took_line T n octets w (line_after k p) all open_yet (next_kept T n ∙ nx))
           (λ h d. rw d (seen-took_none T n octets now moment_is all open_yet (none h))) (λ h d. rw d (records-took_none T n octets all open_yet (none h))) (λ q e. seen-took_other T n octets q (tag_of w) e)
 
-      pub taking_moves : {V : Type 0} (Holds : V → Contents → Type 0) (o o' : Office V) → get nat_cmp o'.links n ≡ Some k' → o'.locks ≡ locks' → Holds o'.vault left
+      pub taking_moves : {V : Type 0} (Holds : V → Contents → Type 0) (o o' : Office V) → get nat_cmp o'.connections n ≡ Some k' → o'.locks ≡ locks' → Holds o'.vault left
           → Moves Holds o o' T keeps.contents n (given T (Took n octets) (Tagged (tag_of w)))
       taking_moves Holds o o' kept same put = record {
         contents = left;
         held = put;
         agree = taking_agrees;
         here = rw kept taking_here;
-        carried = λ q e i. taking_carried q e (get nat_cmp o.links q) i;
+        carried = λ q e i. taking_carried q e (get nat_cmp o.connections q) i;
         locks = λ d. ap (λ l. get name_cmp l d) same ∙ taking_locked d;
       }
 
@@ -87,24 +87,24 @@ module _ {Before : Contents → Type 0} (T : Trace) (n octets : ℕ) (keeps : Ke
     pub taking_answered : (lent : ℕ → ℕ) (o : Outcome) → ignored T lent (Took n octets) ≡ None → o ≡ shown_of w → IsOutcome T lent (Took n octets) o
     taking_answered lent o goes e = at w may is e
       where
-        at : (w : Acted) → (w ≡ acted.Failed → (has_newline p ≡ true) × (asks policy k.talk judged.sitting (reading (line_after k p)) ≡ true))
+        at : (w : LineOutcome) → (w ≡ outcome.Failed → (has_newline p ≡ true) × (asks policy k.state judged.transaction (reading (line_after k p)) ≡ true))
             → k' ≡ answered k p (replied w) k'.session k'.output → o ≡ shown_of w → IsOutcome T lent (Took n octets) o
-        at acted.Done may is e = record { tag = Done; may = refl; is = e ∙ rw goes refl }
-        at acted.Failed may is e =
+        at outcome.Done may is e = record { tag = Done; may = refl; is = e ∙ rw goes refl }
+        at outcome.Failed may is e =
             let there = may refl in
-            let next = next_kept T n ∙ acts_next keeps.contents (took (seen T n) octets now) k k' p (replied acted.Failed) ready is law there.0 in
+            let next = next_kept T n ∙ acts_next keeps.contents (took (seen T n) octets now) k k' p (replied outcome.Failed) ready is law there.0 in
             let fails = judged.fails (line_after k p) there.1 in
             record { tag = Failed; may = rw (all, open_yet, next, fails) refl; is = e ∙ rw goes refl }
 
     -- the line after a taking was told to have judged what the history says
-    pub taking_told : k.talk.user ≡ user (history T) n → account_if (has_newline p) (seated_account w policy judged.sitting (reading (line_after k p)) (Says (replied w)) k.talk.user)
+    pub taking_told : k.state.user ≡ user (history T) n → account_if (has_newline p) (state_account w policy judged.transaction (reading (line_after k p)) (Says (replied w)) k.state.user)
         ≡ acts_account T.base (history T) (acts_of_took (is_left T.log (history T) n octets) (serving (history T) n) (closing (history T) n) n (tag_of w) (next_line T.log (history T) n []))
     taking_told named = at (has_newline p) refl
       where
-        at : (b : Bool) → has_newline p ≡ b → account_if b (seated_account w policy judged.sitting (reading (line_after k p)) (Says (replied w)) k.talk.user)
+        at : (b : Bool) → has_newline p ≡ b → account_if b (state_account w policy judged.transaction (reading (line_after k p)) (Says (replied w)) k.state.user)
             ≡ acts_account T.base (history T) (acts_of_took (is_left T.log (history T) n octets) (serving (history T) n) (closing (history T) n) n (tag_of w) (next_line T.log (history T) n []))
         at false h = sym (all_taken T.base (history T) (is_left T.log (history T) n octets) (serving (history T) n) (closing (history T) n) n (tag_of w) (next_line T.log (history T) n []) None all open_yet (none h))
         at true h =
             let next = next_kept T n ∙ acts_next keeps.contents (took (seen T n) octets now) k k' p (replied w) ready is law h in
-            line_so T.base (history T) n keeps.contents (judged_at keeps.contents policy k.stamp locks) k.talk k.session judged named (line_after k p) w (λ g. (may g).1)
+            line_so T.base (history T) n keeps.contents (judged_at keeps.contents policy k.stamp locks) k.state k.session judged named (line_after k p) w (λ g. (may g).1)
             ∙ sym (all_taken T.base (history T) (is_left T.log (history T) n octets) (serving (history T) n) (closing (history T) n) n (tag_of w) (next_line T.log (history T) n []) (Some (line_after k p)) all open_yet next)

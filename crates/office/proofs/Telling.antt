@@ -4,11 +4,11 @@ use Rattle.popline.specs.Commands.{Command, Capa, User, Pass, Apop, Quit, Stat, 
 use Rattle.policy.specs.Policy.{Policy}
 use Rattle.vault.specs.Changes.{Contents}
 use Rattle.session.specs.Session.{Session}
-use Rattle.office.specs.Sitting.{held_after_line}
+use Rattle.office.specs.Transaction.{held_after_line}
 use Rattle.office.specs.Telling.{is_told}
-use Rattle.office.specs.declared.talk.Acted.TheVariants as acted
+use Rattle.office.specs.declared.login_state.LineOutcome.TheVariants as outcome
 
-pub stays_held : (p : Policy) (s : Session) (c : Contents) (command : Command) → is_told command ≡ true → held_after_line acted.Done p s (Ok command) c ≡ c
+pub stays_held : (p : Policy) (s : Session) (c : Contents) (command : Command) → is_told command ≡ true → held_after_line outcome.Done p s (Ok command) c ≡ c
 stays_held p s c Quit e = cc
 stays_held p s c Capa e = refl
 stays_held p s c (User name) e = refl

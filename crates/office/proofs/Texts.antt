@@ -27,10 +27,10 @@ use Rattle.session.specs.View.{at_number, is_marked, refer, referred, retrieval,
 use Rattle.office.specs.Laws.{In}
 use Rattle.office.specs.Replying.{is_readable, served_if}
 use Rattle.office.specs.Output.{Output, Owes, OwesReply, Reads, IsBegun, text_coming}
-use Rattle.office.specs.Sitting.{LiesIn, GoesOn, Obeyed, HasText, IsServed, told_inside, refused_pick}
+use Rattle.office.specs.Transaction.{LiesIn, GoesOn, IsAnswered, HasText, IsServed, transaction_told, refused_pick}
 use Rattle.office.specs.declared.reading.Reading.{Reading}
-use Rattle.office.specs.declared.talk.Acted.{Acted}
-use Rattle.office.specs.declared.talk.Acted.TheVariants as acted
+use Rattle.office.specs.declared.login_state.LineOutcome.{LineOutcome}
+use Rattle.office.specs.declared.login_state.LineOutcome.TheVariants as outcome
 use Rattle.office.proofs.Alike.{refer-map, at_number-map}
 use Rattle.office.proofs.Listed.{message_of}
 
@@ -118,10 +118,10 @@ module _ (c : Contents) (p : Policy) (s : Session) (kept : List Keyed) (n : ℕ)
       ∙ ap₂ (λ (o : Option Keyed) (b : Bool). referred o b NoSuchMessage (AlreadyMarked n) (λ (x : Keyed). served_if (retrieval p s.name x.message.class) (reply x.message))) f.at f.unmarked
       ∙ ap (λ (b : Bool). if b then reply f.stored.message else DeniedBy d.rule) f.readable
 
-  pub message_said : Message (length f.stored.message.text) (stuffed_lines (lines_of f.stored.message.text)) ≡ told_inside p s kept (Retr n)
+  pub message_said : Message (length f.stored.message.text) (stuffed_lines (lines_of f.stored.message.text)) ≡ transaction_told p s kept (Retr n)
   message_said = sym (said_of (λ (m : Stored). Message (octets_of m) (stuffed_lines (lines_of m.text))))
 
-  pub top_said : (lines : ℕ) → TopPart (stuffed_lines (top_part (lines_of f.stored.message.text) lines)) ≡ told_inside p s kept (Top n lines)
+  pub top_said : (lines : ℕ) → TopPart (stuffed_lines (top_part (lines_of f.stored.message.text) lines)) ≡ transaction_told p s kept (Top n lines)
   top_said lines = sym (said_of (λ (m : Stored). TopPart (stuffed_lines (top_part (lines_of m.text) lines))))
 
   pub is_asked : is_readable p s.name (at_number (map message_of kept) n) (is_marked s.marks n) ≡ true
@@ -209,10 +209,10 @@ found_text c sound p s kept lies n head f =
 
 -- why a message isn't found is what the session says
 module _ (c : Contents) (p : Policy) (s : Session) (kept : List Keyed) (lies : LiesIn c s kept) (n : ℕ) (why : Pick) (e : ◌≡◌ {A = Result Head Pick} (Err why) (picked_for p s n)) where
-  pub retrieve_refused : refused_pick n why ≡ told_inside p s kept (Retr n)
+  pub retrieve_refused : refused_pick n why ≡ transaction_told p s kept (Retr n)
   retrieve_refused = refused_said c p s kept lies n why (λ (m : Stored). Message (octets_of m) (stuffed_lines (lines_of m.text))) e
 
-  pub top_refused : (lines : ℕ) → refused_pick n why ≡ told_inside p s kept (Top n lines)
+  pub top_refused : (lines : ℕ) → refused_pick n why ≡ transaction_told p s kept (Top n lines)
   top_refused lines = refused_said c p s kept lies n why (λ (m : Stored). TopPart (stuffed_lines (top_part (lines_of m.text) lines))) e
 
 some_octets : (xs : List ℕ) → (xs ≡ [] → ⊥) → 0 < length xs
@@ -243,9 +243,9 @@ module _ (c : Contents) (sound : AreSound c) (p : Policy) (s : Session) (kept : 
 
   module _ (After : Contents → Type 0) (grown : Bool) (o : Output) where
     -- what became of a RETR whose reply was to be these octets
-    pub retrieved : (w : Acted) (octets : List ℕ) → octets ≡ bytes_of (Message (length text) (stuffed_lines (lines_of text))) → IsServed After grown c s octets o w
-        → Obeyed After grown c p s s kept o (Ok (Retr n)) w
-    retrieved acted.Done octets is served =
+    pub retrieved : (w : LineOutcome) (octets : List ℕ) → octets ≡ bytes_of (Message (length text) (stuffed_lines (lines_of text))) → IsServed After grown c s octets o w
+        → IsAnswered After grown c p s s kept o (Ok (Retr n)) w
+    retrieved outcome.Done octets is served =
         let e = message_said c p s kept n head f in
         record {
           owed = subst (λ (r : Reply). OwesReply c (Some s) o r) e (record { owes = subst (λ xs. Owes c (Some s) o xs) is served.owed; serves = λ h. refl });
@@ -254,7 +254,7 @@ module _ (c : Contents) (sound : AreSound c) (p : Policy) (s : Session) (kept : 
           may = λ e. cc;
           cause = λ e. cc;
         }
-    retrieved acted.Failed octets is served = record {
+    retrieved outcome.Failed octets is served = record {
       owed = served.owed.0;
       session = record { name = refl; removals = refl; view = refl; marks = λ m. refl };
       held = served.held;
@@ -263,9 +263,9 @@ module _ (c : Contents) (sound : AreSound c) (p : Policy) (s : Session) (kept : 
     }
 
     -- the same of a TOP
-    pub topped : (lines : ℕ) (w : Acted) (octets : List ℕ) → octets ≡ bytes_of (TopPart (stuffed_lines (top_part (lines_of text) lines))) → IsServed After grown c s octets o w
-        → Obeyed After grown c p s s kept o (Ok (Top n lines)) w
-    topped lines acted.Done octets is served =
+    pub topped : (lines : ℕ) (w : LineOutcome) (octets : List ℕ) → octets ≡ bytes_of (TopPart (stuffed_lines (top_part (lines_of text) lines))) → IsServed After grown c s octets o w
+        → IsAnswered After grown c p s s kept o (Ok (Top n lines)) w
+    topped lines outcome.Done octets is served =
         let e = top_said c p s kept n head f lines in
         record {
           owed = subst (λ (r : Reply). OwesReply c (Some s) o r) e (record { owes = subst (λ xs. Owes c (Some s) o xs) is served.owed; serves = λ h. refl });
@@ -274,7 +274,7 @@ module _ (c : Contents) (sound : AreSound c) (p : Policy) (s : Session) (kept : 
           may = λ e. cc;
           cause = λ e. cc;
         }
-    topped lines acted.Failed octets is served = record {
+    topped lines outcome.Failed octets is served = record {
       owed = served.owed.0;
       session = record { name = refl; removals = refl; view = refl; marks = λ m. refl };
       held = served.held;

@@ -1,4 +1,4 @@
--- A tick: which connections end, and what is left of the links, the locks and what the trace says.
+-- A tick: which connections end, and what is left of the connections, the locks and what the trace says.
 use Rattle.std.proofs.Common.{◌≡◌, ℕ, zero, suc, ◌+◌, ◌<◌, ◌≤◌, Bool, true, false, not, ◌&&◌, ◌||◌, cond, List, [], ◌∷◌, ◌++◌, filter, refl, sym, ◌∙◌, ap, subst, true≢false, arith, append_assoc, Option, Some, None, IsSome, is_some, eqb, eqb-true, ⊎_elim, nat_cmp, nat_le, max, string_bytes}
 use Rattle.std.proofs.lemmas.Bool.{cases_Bool, eqb-false}
 use Rattle.std.proofs.lemmas.Bool.Decides.{nat_tests}
@@ -41,23 +41,23 @@ link_filter m s (Some k) = at (is_idle m s k)
     at true = refl
     at false = refl
 
--- the links that stay are those that aren't idle
-pub kept_links : (moment seconds : ℕ) (links : BTreeMap ℕ Kept) → IsOrdered nat_cmp links → (c : ℕ)
-    → lookup (is_at (nat_cmp c)) (filter (λ p. not (is_idle moment seconds p.1)) links.entries) ≡ unless_idle moment seconds (get nat_cmp links c)
-kept_links m s links ordered c =
-    lookup-filter-values (eq_by_cmp_equiv nat_cmp_total) (λ k. not (is_idle m s k)) c links.entries (IsDistinct-from_sorted nat_cmp _ ordered)
-    ∙ link_filter m s (get nat_cmp links c)
+-- the connections that stay are those that aren't idle
+pub kept_links : (moment seconds : ℕ) (connections : BTreeMap ℕ Kept) → IsOrdered nat_cmp connections → (c : ℕ)
+    → lookup (is_at (nat_cmp c)) (filter (λ p. not (is_idle moment seconds p.1)) connections.entries) ≡ unless_idle moment seconds (get nat_cmp connections c)
+kept_links m s connections ordered c =
+    lookup-filter-values (eq_by_cmp_equiv nat_cmp_total) (λ k. not (is_idle m s k)) c connections.entries (IsDistinct-from_sorted nat_cmp _ ordered)
+    ∙ link_filter m s (get nat_cmp connections c)
 
-lock_filter : (links : BTreeMap ℕ Kept) (o : Option ℕ) → option_filter (λ c. is_some (get nat_cmp links c)) o ≡ lock_of_kept links o
-lock_filter links None = refl
-lock_filter links (Some c) = refl
+lock_filter : (connections : BTreeMap ℕ Kept) (o : Option ℕ) → option_filter (λ c. is_some (get nat_cmp connections c)) o ≡ lock_of_kept connections o
+lock_filter connections None = refl
+lock_filter connections (Some c) = refl
 
 -- the locks that stay are those whose holder is still there
-pub kept_locks : (links : BTreeMap ℕ Kept) (locks : BTreeMap (List ℕ) ℕ) → IsOrdered name_cmp locks → (d : List ℕ)
-    → lookup (is_at (name_cmp d)) (filter (λ p. is_some (get nat_cmp links p.1)) locks.entries) ≡ lock_of_kept links (get name_cmp locks d)
-kept_locks links locks ordered d =
-    lookup-filter-values (eq_by_cmp_equiv nat_list_cmp_total) (λ c. is_some (get nat_cmp links c)) d locks.entries (IsDistinct-from_sorted name_cmp _ ordered)
-    ∙ lock_filter links (get name_cmp locks d)
+pub kept_locks : (connections : BTreeMap ℕ Kept) (locks : BTreeMap (List ℕ) ℕ) → IsOrdered name_cmp locks → (d : List ℕ)
+    → lookup (is_at (name_cmp d)) (filter (λ p. is_some (get nat_cmp connections p.1)) locks.entries) ≡ lock_of_kept connections (get name_cmp locks d)
+kept_locks connections locks ordered d =
+    lookup-filter-values (eq_by_cmp_equiv nat_list_cmp_total) (λ c. is_some (get nat_cmp connections c)) d locks.entries (IsDistinct-from_sorted name_cmp _ ordered)
+    ∙ lock_filter connections (get name_cmp locks d)
 
 -- ---- what the trace says
 
@@ -118,26 +118,26 @@ module _ (B : Records) where
   holds-idle ns H d q = ap (λ (f : Facts). f.live && is_login_to d f.login) (facts-idle ns H q) ∙ held_yet (among ns q) (facts B H q) d
 
   -- the maildrops of the ended connections are let go, and no other
-  module _ (ns : List ℕ) (H : List (Act × Tag)) (links : BTreeMap ℕ Kept)
-      (gone : (q : ℕ) → among ns q ≡ true → get nat_cmp links q ≡ None)
-      (there : (d : List ℕ) (q : ℕ) → holds (told B H) d q ≡ true → among ns q ≡ false → is_some (get nat_cmp links q) ≡ true) where
+  module _ (ns : List ℕ) (H : List (Act × Tag)) (connections : BTreeMap ℕ Kept)
+      (gone : (q : ℕ) → among ns q ≡ true → get nat_cmp connections q ≡ None)
+      (there : (d : List ℕ) (q : ℕ) → holds (told B H) d q ≡ true → among ns q ≡ false → is_some (get nat_cmp connections q) ≡ true) where
     none_held : (d : List ℕ) (c q : ℕ) → holds (told B H) d c ≡ true → among ns c ≡ true → (b : Bool) → holds (told B H) d q ≡ b → (not (among ns q) && b) ≡ false
     none_held d c q h e true k = let n = subst (λ x. among ns x ≡ true) (one_holder B H d c q h k) e in rw n refl
     none_held d c q h e false k = and_none (not (among ns q))
 
-    lock_of : (d : List ℕ) (o : Option ℕ) → holder (told B H) d ≡ o → IsLock (told B (idle_acts ns ++ H)) d (lock_of_kept links o)
+    lock_of : (d : List ℕ) (o : Option ℕ) → holder (told B H) d ≡ o → IsLock (told B (idle_acts ns ++ H)) d (lock_of_kept connections o)
     lock_of d None e = let free = lock_found B H d None e in λ q. holds-idle ns H d q ∙ (ap (λ b. not (among ns q) && b) (free q) ∙ and_none (not (among ns q)))
     lock_of d (Some c) e = at (among ns c) refl
       where
         held : holds (told B H) d c ≡ true
         held = lock_found B H d (Some c) e
 
-        at : (b : Bool) → among ns c ≡ b → IsLock (told B (idle_acts ns ++ H)) d (lock_of_kept links (Some c))
+        at : (b : Bool) → among ns c ≡ b → IsLock (told B (idle_acts ns ++ H)) d (lock_of_kept connections (Some c))
         at true k = let none = gone c k in rw none (λ q. holds-idle ns H d q ∙ none_held d c q held k (holds (told B H) d q) refl)
         at false k = let some = there d c held k in rw some (holds-idle ns H d c ∙ (ap (λ b. not b && holds (told B H) d c) k ∙ held))
 
-    pub locks-idle : (d : List ℕ) → lock_of_kept links (holder (told B H) d) ≡ holder (told B (idle_acts ns ++ H)) d
-    locks-idle d = sym (holder_is B (idle_acts ns ++ H) d (lock_of_kept links (holder (told B H) d)) (lock_of d (holder (told B H) d) refl))
+    pub locks-idle : (d : List ℕ) → lock_of_kept connections (holder (told B H) d) ≡ holder (told B (idle_acts ns ++ H)) d
+    locks-idle d = sym (holder_is B (idle_acts ns ++ H) d (lock_of_kept connections (holder (told B H) d)) (lock_of d (holder (told B H) d) refl))
 
 -- ---- the numbers that are idle
 
@@ -180,17 +180,17 @@ module _ {V : Type 0} (Holds : V → Contents → Type 0) (o o' : Office V) (T :
   over_still q h = rw (seen-tick q false (closed_idle T (max (moment T.log) t) q h.closed)) h
 
   over_now : (q : ℕ) → among idle_now q ≡ true → IsOver (seen ticked q)
-  over_now q e = rw (seen-tick q true e) (record { closed = refl; outside = refl })
+  over_now q e = rw (seen-tick q true e) (record { closed = refl; authorization = refl })
 
   -- a kept connection is among the idle ones by what is kept of it
-  idle_kept : (q : ℕ) (k : Kept) → get nat_cmp o.links q ≡ Some k → Matches st.keeps.contents (seen T q) k → among idle_now q ≡ is_idle (max o.moment t) o.limits.idle k
+  idle_kept : (q : ℕ) (k : Kept) → get nat_cmp o.connections q ≡ Some k → Matches st.keeps.contents (seen T q) k → among idle_now q ≡ is_idle (max o.moment t) o.limits.idle k
   idle_kept q k found m =
       let fits = st.numbered q (rw found refl) in
       open_idle T (max (moment T.log) t) q m.opened fits.0 fits.1
       ∙ (ap (λ c. nat_le (c + idle_seconds T.log) (max (moment T.log) t)) (sym m.clock)
       ∙ (ap (λ s. nat_le (k.clock + s) (max (moment T.log) t)) (sym st.idle) ∙ ap (λ n. nat_le (k.clock + o.limits.idle) (max n t)) (sym st.moment)))
 
-  kept_ticked : (q : ℕ) (l : Option Kept) → get nat_cmp o.links q ≡ l → IsKeptFor st.keeps.contents (seen T q) l
+  kept_ticked : (q : ℕ) (l : Option Kept) → get nat_cmp o.connections q ≡ l → IsKeptFor st.keeps.contents (seen T q) l
       → IsKeptFor st.keeps.contents (seen ticked q) (unless_idle (max o.moment t) o.limits.idle l)
   kept_ticked q None found h = over_still q h
   kept_ticked q (Some k) found m = at (is_idle (max o.moment t) o.limits.idle k) (idle_kept q k found m)
@@ -199,23 +199,23 @@ module _ {V : Type 0} (Holds : V → Contents → Type 0) (o o' : Office V) (T :
       at true e = over_now q e
       at false e = rw (seen-tick q false e) m
 
-  module _ (links : (q : ℕ) → get nat_cmp o'.links q ≡ unless_idle (max o.moment t) o.limits.idle (get nat_cmp o.links q)) where
+  module _ (connections : (q : ℕ) → get nat_cmp o'.connections q ≡ unless_idle (max o.moment t) o.limits.idle (get nat_cmp o.connections q)) where
     -- what is no more was there
     was_kept : (q : ℕ) (l : Option Kept) → IsSome (unless_idle (max o.moment t) o.limits.idle l) → IsSome l
     was_kept q None h = h
     was_kept q (Some k) h = refl
 
-    gone_link : (q : ℕ) (l : Option Kept) → get nat_cmp o.links q ≡ l → IsKeptFor st.keeps.contents (seen T q) l → among idle_now q ≡ true → unless_idle (max o.moment t) o.limits.idle l ≡ None
+    gone_link : (q : ℕ) (l : Option Kept) → get nat_cmp o.connections q ≡ l → IsKeptFor st.keeps.contents (seen T q) l → among idle_now q ≡ true → unless_idle (max o.moment t) o.limits.idle l ≡ None
     gone_link q None found h e = refl
     gone_link q (Some k) found m e = let b : is_idle (max o.moment t) o.limits.idle k ≡ true = sym (idle_kept q k found m) ∙ e in ap (λ b. cond b None (Some k)) b
 
-    live_link : (d : List ℕ) (q : ℕ) (l : Option Kept) → get nat_cmp o.links q ≡ l → IsKeptFor st.keeps.contents (seen T q) l → holds (history T) d q ≡ true → among idle_now q ≡ false
+    live_link : (d : List ℕ) (q : ℕ) (l : Option Kept) → get nat_cmp o.connections q ≡ l → IsKeptFor st.keeps.contents (seen T q) l → holds (history T) d q ≡ true → among idle_now q ≡ false
         → is_some (unless_idle (max o.moment t) o.limits.idle l) ≡ true
-    live_link d q None found h held e = let out = h.outside in absurd (true≢false (sym (rw out at held)))
+    live_link d q None found h held e = let out = h.authorization in absurd (true≢false (sym (rw out at held)))
     live_link d q (Some k) found m held e = let b : is_idle (max o.moment t) o.limits.idle k ≡ false = sym (idle_kept q k found m) ∙ e in ap (λ b. is_some (cond b None (Some k))) b
 
     pub tick_stands : ((k : Contents) → Holds o.vault k → Holds o'.vault k) → o'.policy ≡ o.policy → o'.boot ≡ o.boot → string_bytes o'.host ≡ string_bytes o.host → o'.limits ≡ o.limits
-        → counters o' ≡ (o.opened, max o.moment t) → ((d : List ℕ) → get name_cmp o'.locks d ≡ lock_of_kept o'.links (get name_cmp o.locks d)) → StandsFor Holds o' ticked
+        → counters o' ≡ (o.opened, max o.moment t) → ((d : List ℕ) → get name_cmp o'.locks d ≡ lock_of_kept o'.connections (get name_cmp o.locks d)) → StandsFor Holds o' ticked
     tick_stands on p b s l n locks =
         let same : whole T.base (acts ticked) ≡ whole T.base (acts T) = whole-idle T.base idle_now (acts T) in
         record {
@@ -227,10 +227,10 @@ module _ {V : Type 0} (Holds : V → Contents → Type 0) (o o' : Office V) (T :
           judged = ap (λ (x : Limits). x.removals) l ∙ (st.judged ∙ ap (λ (w : Whole). w.office.2) (sym same));
           idle = ap (λ (x : Limits). x.idle) l ∙ st.idle;
           moment = ap (λ (x : ℕ × ℕ). x.1) n ∙ ap (λ m. max m t) st.moment;
-          numbered = λ q some. st.numbered q (was_kept q (get nat_cmp o.links q) (rw (links q) at some));
+          numbered = λ q some. st.numbered q (was_kept q (get nat_cmp o.connections q) (rw (connections q) at some));
           opened = ap (λ (x : ℕ × ℕ). x.0) n ∙ st.opened;
-          links = λ q. rw (links q) (kept_ticked q (get nat_cmp o.links q) refl (st.links q));
-          locks = λ d. locks d ∙ (ap (lock_of_kept o'.links) (st.locks d) ∙ locks-idle T.base idle_now (acts T) o'.links
-              (λ q e. links q ∙ gone_link q (get nat_cmp o.links q) refl (st.links q) e)
-              (λ d q held e. ap is_some (links q) ∙ live_link d q (get nat_cmp o.links q) refl (st.links q) held e) d);
+          connections = λ q. rw (connections q) (kept_ticked q (get nat_cmp o.connections q) refl (st.connections q));
+          locks = λ d. locks d ∙ (ap (lock_of_kept o'.connections) (st.locks d) ∙ locks-idle T.base idle_now (acts T) o'.connections
+              (λ q e. connections q ∙ gone_link q (get nat_cmp o.connections q) refl (st.connections q) e)
+              (λ d q held e. ap is_some (connections q) ∙ live_link d q (get nat_cmp o.connections q) refl (st.connections q) held e) d);
         }

@@ -13,11 +13,11 @@ use Rattle.office.specs.Connections.{reading, closing, serving}
 use Rattle.office.specs.Events.{Trace, Bytes, Took}
 use Rattle.office.specs.Trace.{history, is_left}
 use Rattle.office.specs.Expected.{may_show}
-use Rattle.office.specs.Sitting.{Sitting}
-use Rattle.office.specs.Kept.{Desk, Kept, answered, line_after, clocked, asks, asks_outside}
-use Rattle.office.specs.Answered.{IsSeated}
+use Rattle.office.specs.Transaction.{Transaction}
+use Rattle.office.specs.Kept.{LineContext, Kept, answered, line_after, clocked, asks, authorization_asks}
+use Rattle.office.specs.Answered.{HasTransaction}
 use Rattle.office.specs.Stands.{Seen, seen, Matches}
-use Rattle.office.specs.declared.talk.Talk.{Talk}
+use Rattle.office.specs.declared.login_state.LoginState.{LoginState}
 use Rattle.office.proofs.Hearing.{Awaits, acts_next, streamed, took}
 use Rattle.office.specs.Output.{Output, reads_text}
 use Rattle.office.proofs.Events.{next_kept, left_over}
@@ -32,20 +32,20 @@ none_true false h = refl
 -- ---- a line
 
 -- who isn't in session
-pub asks_none_outside : (c : Contents) (p : Policy) (t : Talk) (v : Option Sitting) (r : Result Command LineFault) → IsSeated c None v → asks p t v r ≡ false → asks_outside t r ≡ false
-asks_none_outside c p t None r sits none = none
-asks_none_outside c p t (Some v) r sits none = absurd sits
+pub authorization_asks_none : (c : Contents) (p : Policy) (t : LoginState) (v : Option Transaction) (r : Result Command LineFault) → HasTransaction c None v → asks p t v r ≡ false → authorization_asks t r ≡ false
+authorization_asks_none c p t None r sits none = none
+authorization_asks_none c p t (Some v) r sits none = absurd sits
 
 -- who is
-pub record AsksNone (c : Contents) (p : Policy) (s : Session) (t : Talk) (r : Result Command LineFault) : Type 0 where
-  pub sitting : Sitting
-  pub seated : IsSeated c (Some s) (Some sitting)
-  pub none : asks p t (Some sitting) r ≡ false
+pub record AsksNone (c : Contents) (p : Policy) (s : Session) (t : LoginState) (r : Result Command LineFault) : Type 0 where
+  pub transaction : Transaction
+  pub has_transaction : HasTransaction c (Some s) (Some transaction)
+  pub none : asks p t (Some transaction) r ≡ false
 
-pub asks_none_inside : (c : Contents) (p : Policy) (s : Session) (t : Talk) (v : Option Sitting) (r : Result Command LineFault) → IsSeated c (Some s) v → asks p t v r ≡ false
+pub transaction_asks_none : (c : Contents) (p : Policy) (s : Session) (t : LoginState) (v : Option Transaction) (r : Result Command LineFault) → HasTransaction c (Some s) v → asks p t v r ≡ false
     → AsksNone c p s t r
-asks_none_inside c p s t None r sits none = absurd sits
-asks_none_inside c p s t (Some v) r sits none = record { sitting = v; seated = sits; none = none }
+transaction_asks_none c p s t None r sits none = absurd sits
+transaction_asks_none c p s t (Some v) r sits none = record { transaction = v; has_transaction = sits; none = none }
 
 -- ---- on a trace
 
@@ -54,12 +54,12 @@ next_at : (c : Contents) (s : Seen) (k : Kept) (p : List ℕ) → Awaits c s k p
 next_at c s k p ready h =
     acts_next c s k (answered k p Bye k.session k.output) p Bye ready refl (λ more. coming-fed k.held (answered k p Bye k.session k.output).held p (through_newline p) refl refl more) h
 
-module _ (T : Trace) (n : ℕ) (c : Contents) (k : Kept) (d : Desk) (t : Talk) (old : Option Session) (j : Judges T.base (history T) n c d t old) where
+module _ (T : Trace) (n : ℕ) (c : Contents) (k : Kept) (d : LineContext) (t : LoginState) (old : Option Session) (j : Judges T.base (history T) n c d t old) where
   -- a piece whose line may not fail
   pub piece_asks_none : (p : List ℕ) (now : ℕ) → Awaits c (streamed (seen T n) p now) (clocked now p k) p → may_show T (Bytes n p) Failed ≡ false → has_newline p ≡ true
-      → asks d.policy t j.sitting (reading (line_after k p)) ≡ false
+      → asks d.policy t j.transaction (reading (line_after k p)) ≡ false
   piece_asks_none p now ready none h =
-      none_true (asks d.policy t j.sitting (reading (line_after k p))) (λ asked.
+      none_true (asks d.policy t j.transaction (reading (line_after k p))) (λ asked.
       let next = next_at c (streamed (seen T n) p now) (clocked now p k) p ready h in
       let fails = j.fails (line_after k p) asked in
       let may : may_show T (Bytes n p) Failed ≡ true = rw (h, next, fails) refl in
@@ -67,9 +67,9 @@ module _ (T : Trace) (n : ℕ) (c : Contents) (k : Kept) (d : Desk) (t : Talk) (
 
   -- a taking of all behind which a line acts that may not fail
   pub taking_asks_none : (octets now : ℕ) → Awaits c (took (seen T n) octets now) k k.pending → is_left T.log (history T) n octets ≡ false → closing (history T) n ≡ false
-      → may_show T (Took n octets) Failed ≡ false → has_newline k.pending ≡ true → asks d.policy t j.sitting (reading (line_after k k.pending)) ≡ false
+      → may_show T (Took n octets) Failed ≡ false → has_newline k.pending ≡ true → asks d.policy t j.transaction (reading (line_after k k.pending)) ≡ false
   taking_asks_none octets now ready all open_yet none h =
-      none_true (asks d.policy t j.sitting (reading (line_after k k.pending))) (λ asked.
+      none_true (asks d.policy t j.transaction (reading (line_after k k.pending))) (λ asked.
       let next = next_kept T n ∙ next_at c (took (seen T n) octets now) k k.pending ready h in
       let fails = j.fails (line_after k k.pending) asked in
       let may : may_show T (Took n octets) Failed ≡ true = rw (all, open_yet, next, fails) refl in

@@ -22,9 +22,9 @@ use Rattle.office.specs.Replying.{said_to_line}
 use Rattle.office.specs.Events.{Event, Mark, Trace}
 use Rattle.office.specs.Outcomes.{Outcome, mark_of}
 use Rattle.office.specs.Trace.{history, acts_at}
-use Rattle.office.specs.Sitting.{Sitting, keys_to_remove}
-use Rattle.office.specs.declared.talk.Acted.{Acted}
-use Rattle.office.specs.declared.talk.Acted.TheVariants as acted
+use Rattle.office.specs.Transaction.{Transaction, keys_to_remove}
+use Rattle.office.specs.declared.login_state.LineOutcome.{LineOutcome}
+use Rattle.office.specs.declared.login_state.LineOutcome.TheVariants as outcome
 use Rattle.office.specs.declared.account.Account.{Account}
 use Rattle.office.specs.declared.account.Removal.{Removal}
 use Rattle.office.specs.declared.account.Account.TheVariants as account
@@ -128,12 +128,12 @@ account_if false told = account.Nothing
 -- ---- by what is kept
 
 -- whether a line that was answered so was done
-abbrev pub was_done : Acted → Bool
-was_done acted.Done = true
-was_done acted.Failed = false
+abbrev pub was_done : LineOutcome → Bool
+was_done outcome.Done = true
+was_done outcome.Failed = false
 
 -- what a QUIT removes of a session's messages
-abbrev pub removal_told : Acted → Policy → Session → Removal
+abbrev pub removal_told : LineOutcome → Policy → Session → Removal
 removal_told w p s = record {
   name = s.name;
   marked = length (rows_marked s.marks s.view);
@@ -143,7 +143,7 @@ removal_told w p s = record {
 }
 
 -- the same, with the messages as the store holds them
-abbrev pub removal_seen : Acted → Policy → Sitting → Removal
+abbrev pub removal_seen : LineOutcome → Policy → Transaction → Removal
 removal_seen w p v = record {
   name = v.name;
   marked = length (rows_marked v.marks v.view);
@@ -153,17 +153,19 @@ removal_seen w p v = record {
 }
 
 -- the account of a QUIT by the session, if there is one
-abbrev pub quit_seen : Acted → Policy → Option Sitting → Account
+abbrev pub quit_seen : LineOutcome → Policy → Option Transaction → Account
 quit_seen w p None = account.QuitBeforeLogin
 quit_seen w p (Some v) = account.Quit (removal_seen w p v)
 
 -- the account of a session's line by what is kept of the session, and by what was said to it; no
 -- line of a session is a login, so no name in force counts
-abbrev pub inside_account : Acted → Policy → Session → Result Command LineFault → Said → Account
-inside_account w p s r said = quit_or (is_quit r) (account.Quit (removal_told w p s))
-    (line_account r said None)
+abbrev pub transaction_account : LineOutcome → Policy → Session → Result Command LineFault → Said
+    → Account
+transaction_account w p s r said =
+    quit_or (is_quit r) (account.Quit (removal_told w p s)) (line_account r said None)
 
 -- the account of a line by the session, if there is one
-abbrev pub seated_account : Acted → Policy → Option Sitting → Result Command LineFault → Said
+abbrev pub state_account : LineOutcome → Policy → Option Transaction → Result Command LineFault
+    → Said
     → (user : Option LoginName) → Account
-seated_account w p v r said user = quit_or (is_quit r) (quit_seen w p v) (line_account r said user)
+state_account w p v r said user = quit_or (is_quit r) (quit_seen w p v) (line_account r said user)

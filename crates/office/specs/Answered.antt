@@ -1,6 +1,7 @@
 -- What answering a line does: its reply, the session after it, the locks, and what the store then
 -- holds.
-use Rattle.std.specs.Prelude.{◌≡◌, ℕ, Bool, true, false, List, ⊤, Option, Some, None, Result, is_some}
+use Rattle.std.specs.Prelude.{◌≡◌, ℕ, Bool, true, false, List, ⊤, Option, Some, None, Result}
+use Rattle.std.specs.Prelude.{is_some}
 use Rattle.std.specs.Ordering.{nat_cmp}
 use Rattle.std.specs.declared.cmp.Ordering.{Ordering}
 use Rattle.std.specs.Cmp.Lexicographic.{slice_cmp}
@@ -21,12 +22,13 @@ use Rattle.office.specs.Outcomes as outcomes
 use Rattle.office.specs.Outcomes.{Outcome}
 use Rattle.office.specs.Connections.{reading, is_quit}
 use Rattle.office.specs.Sessions.{logs_in}
-use Rattle.office.specs.Sitting.{Sitting, sitting_of, LiesIn, GoesOn, reply_inside, held_after_line}
-use Rattle.office.specs.Kept.{Desk as Judged, line_outside}
-use Rattle.office.specs.declared.talk.Talk.{Talk}
-use Rattle.office.specs.declared.talk.Desk.{Desk}
-use Rattle.office.specs.declared.talk.Acted.{Acted}
-use Rattle.office.specs.declared.talk.Acted.TheVariants as acted
+use Rattle.office.specs.Transaction.{Transaction, transaction_of, LiesIn, GoesOn, transaction_reply}
+use Rattle.office.specs.Transaction.{held_after_line}
+use Rattle.office.specs.Kept.{LineContext as Judged, authorization_line}
+use Rattle.office.specs.declared.login_state.LoginState.{LoginState}
+use Rattle.office.specs.declared.login_state.LineContext.{LineContext}
+use Rattle.office.specs.declared.login_state.LineOutcome.{LineOutcome}
+use Rattle.office.specs.declared.login_state.LineOutcome.TheVariants as outcome
 
 -- ---- what a line is judged by
 
@@ -40,58 +42,66 @@ is_locked_by locks name = is_some (get name_cmp locks name)
 
 -- what a line is judged by, over a store with these contents and under these locks
 abbrev pub judged_at : Contents → Policy → (stamp : List ℕ) → BTreeMap (List ℕ) ℕ → Judged
-judged_at c policy stamp locks = record { store = records_of c; policy = policy; stamp = stamp; is_locked = is_locked_by locks }
+judged_at c policy stamp locks = record
+    { store = records_of c; policy = policy; stamp = stamp; is_locked = is_locked_by locks }
 
--- the same, by the desk that the code passes
-abbrev pub desk_over : Contents → Desk → BTreeMap (List ℕ) ℕ → Judged
-desk_over c d locks = judged_at c d.policy.now d.stamp.now locks
+-- the same, by the context that the code passes
+abbrev pub context_over : Contents → LineContext → BTreeMap (List ℕ) ℕ → Judged
+context_over c d locks = judged_at c d.policy.now d.stamp.now locks
 
 -- a session that is kept, with its messages as the store holds them
-abbrev pub IsSeated : Contents → Option Session → Option Sitting → Type 0
-IsSeated c None None = ⊤
-IsSeated c (Some s) (Some v) = (kept : List Keyed) × LiesIn c s kept × (v ≡ sitting_of s kept)
-IsSeated c _ _ = ⊥
+abbrev pub HasTransaction : Contents → Option Session → Option Transaction → Type 0
+HasTransaction c None None = ⊤
+HasTransaction c (Some s) (Some v) =
+    (kept : List Keyed) × LiesIn c s kept × (v ≡ transaction_of s kept)
+HasTransaction c _ _ = ⊥
 
 -- ---- the reply
 
 -- the reply to a line: its answer, or that the store failed
-abbrev pub reply_of : Acted → Judged → Talk → Option Sitting → Cut → Reply
-reply_of w d t (Some v) x = reply_inside w d.policy v x
-reply_of acted.Done d t None x = line_outside d t x
-reply_of acted.Failed d t None x = StoreFailed
+abbrev pub reply_of : LineOutcome → Judged → LoginState → Option Transaction → Cut → Reply
+reply_of w d t (Some v) x = transaction_reply w d.policy v x
+reply_of outcome.Done d t None x = authorization_line d t x
+reply_of outcome.Failed d t None x = StoreFailed
 
 -- the tag of the event in which a line acted
-abbrev pub tag_of : Acted → Tag
-tag_of acted.Done = history.Done
-tag_of acted.Failed = history.Failed
+abbrev pub tag_of : LineOutcome → Tag
+tag_of outcome.Done = history.Done
+tag_of outcome.Failed = history.Failed
 
 -- the outcome of that event
-abbrev pub shown_of : Acted → Outcome
-shown_of acted.Done = outcomes.Done
-shown_of acted.Failed = outcomes.Failed
+abbrev pub shown_of : LineOutcome → Outcome
+shown_of outcome.Done = outcomes.Done
+shown_of outcome.Failed = outcomes.Failed
 
 -- ---- the session
 
 -- A QUIT ends a session; an accepted login begins one, which judges removals as `Removals` says;
 -- any other line leaves the session, with the marks that its reply says.
-abbrev pub SessionAfter : (quits : Bool) → (logged_in : Option LoginName) → Contents → Policy → Removals → Reply → (old new : Option Session) → Type 0
+abbrev pub SessionAfter : (quits : Bool) → (logged_in : Option LoginName) → Contents → Policy
+    → Removals → Reply → (old new : Option Session) → Type 0
 SessionAfter true logged_in c p j reply old new = new ≡ None
-SessionAfter false (Some name) c p j reply old new = new ≡ Some (started p j name.clerk name.maildrop (heads name.maildrop c))
+SessionAfter false (Some name) c p j reply old new =
+    new ≡ Some (started p j name.clerk name.maildrop (heads name.maildrop c))
 SessionAfter false None c p j reply None new = new ≡ None
 SessionAfter false None c p j reply (Some s) (Some n) = GoesOn reply s n
 SessionAfter false None c p j reply (Some s) None = ⊥
 
 -- the session after a line that got this reply
-abbrev pub Becomes : Contents → Policy → Talk → Cut → Reply → (old new : Option Session) → Type 0
-Becomes c p t x reply old new = SessionAfter (is_quit (reading x)) (logs_in (reading x) (Says reply) t.user) c p t.removals reply old new
+abbrev pub Becomes : Contents → Policy → LoginState → Cut → Reply → (old new : Option Session)
+    → Type 0
+Becomes c p t x reply old new = SessionAfter (is_quit (reading x))
+    (logs_in (reading x) (Says reply) t.user) c p t.removals reply old new
 
 -- the session after octets: the same, where no line is whole
-abbrev pub BecomesIf : (has_line : Bool) → Contents → Policy → Talk → Cut → Reply → (old new : Option Session) → Type 0
+abbrev pub BecomesIf : (has_line : Bool) → Contents → Policy → LoginState → Cut → Reply
+    → (old new : Option Session) → Type 0
 BecomesIf true c p t x reply old new = Becomes c p t x reply old new
 BecomesIf false c p t x reply old new = new ≡ old
 
 -- a session that begins takes its maildrop's lock, one that ends lets it go, and no other changes
-abbrev pub LocksFollow : ℕ → (old new : Option Session) → (before now : BTreeMap (List ℕ) ℕ) → Type 0
+abbrev pub LocksFollow : ℕ → (old new : Option Session) → (before now : BTreeMap (List ℕ) ℕ)
+    → Type 0
 LocksFollow n None (Some s) before now = Updates name_cmp before now s.name.maildrop (Some n)
 LocksFollow n (Some s) None before now = Updates name_cmp before now s.name.maildrop None
 LocksFollow n _ _ before now = (d : List ℕ) → get name_cmp now d ≡ get name_cmp before d
@@ -99,11 +109,13 @@ LocksFollow n _ _ before now = (d : List ℕ) → get name_cmp now d ≡ get nam
 -- ---- the store
 
 -- what the store holds after a line
-abbrev pub held_after : Acted → Policy → Option Session → Result Command LineFault → Contents → Contents
+abbrev pub held_after : LineOutcome → Policy → Option Session → Result Command LineFault → Contents
+    → Contents
 held_after w p None r c = c
 held_after w p (Some s) r c = held_after_line w p s r c
 
 -- what it holds after octets, with a whole line or none
-abbrev pub held_if : (has_line : Bool) → Acted → Policy → Option Session → Result Command LineFault → Contents → Contents
+abbrev pub held_if : (has_line : Bool) → LineOutcome → Policy → Option Session
+    → Result Command LineFault → Contents → Contents
 held_if true w p s r c = held_after w p s r c
 held_if false w p s r c = c

@@ -12,4 +12,4 @@ length_of_output (Some k) = length k.output.ready
 
 -- how many octets of output are kept of a connection of this number
 abbrev pub output_kept : {V : Type 0} → Office V → ℕ → ℕ
-output_kept o c = length_of_output (get nat_cmp o.links c)
+output_kept o c = length_of_output (get nat_cmp o.connections c)

@@ -1,16 +1,19 @@
 -- What a history says of one connection: whether it is connected and closing, how many lines acted,
 -- what it was sent, and the login name in force (RFC 1939, 4; RFC 2449, 4).
-use Rattle.std.specs.Prelude.{ℕ, Bool, true, false, ◌&&◌, ◌||◌, ◌+◌, ◌==◌, nat_lt, List, [], ◌∷◌, ◌++◌, Option, Some, None, Result, Ok, Err, if◌then◌else◌}
+use Rattle.std.specs.Prelude.{ℕ, Bool, true, false, ◌&&◌, ◌||◌, ◌+◌, ◌==◌, nat_lt, List, [], ◌∷◌}
+use Rattle.std.specs.Prelude.{◌++◌, Option, Some, None, Result, Ok, Err, if◌then◌else◌}
 use Rattle.creds.specs.declared.login_name.LoginName.{LoginName}
 use Rattle.popline.specs.Cutting.{Cut, TooLong}
 use Rattle.popline.specs.Commands.{Command, Capa, User, Quit, command_of}
 use Rattle.popline.specs.declared.command.LineFault.{LineFault}
 use Rattle.popline.specs.declared.command.LineFault.TheVariants.{Unknown}
-use Rattle.popline.specs.Replies.{LoginFailed, LoginFailedClosing, SendPass, Capabilities, Message, TopPart, bytes_of}
+use Rattle.popline.specs.Replies.{LoginFailed, LoginFailedClosing, SendPass, Capabilities, Message}
+use Rattle.popline.specs.Replies.{TopPart, bytes_of}
 use Rattle.session.specs.declared.removals.Removals.{Removals}
 use Rattle.session.specs.declared.removals.Removals.TheVariants.{JudgedAtDele}
 use Rattle.office.specs.Answers.{EndSession, Ended}
-use Rattle.office.specs.History.{NoMemory, Line, Administer, Tag, Idle, Gone, Says, Restart, Open, Said, Answers, Act, Entry}
+use Rattle.office.specs.History.{NoMemory, Line, Administer, Tag, Idle, Gone, Says, Restart, Open}
+use Rattle.office.specs.History.{Said, Answers, Act, Entry}
 use Rattle.popline.specs.Cutting as cutting
 
 -- ---- connections
@@ -52,7 +55,8 @@ connected_after (Line n x) NoMemory said c before = if n == c then false else be
 connected_after (Gone n) t said c before = if n == c then false else before
 connected_after (Idle n) t said c before = if n == c then false else before
 connected_after (Restart boot host removals) t said c before = false
-connected_after (Administer (EndSession n)) t (Answers Ended) c before = if n == c then false else before
+connected_after (Administer (EndSession n)) t (Answers Ended) c before =
+    if n == c then false else before
 connected_after _ t said c before = before
 
 -- whether a connection is connected at the end of a history
@@ -68,7 +72,8 @@ closes r _ = is_quit r
 -- an opening begins anew; a connection that closes stays so
 abbrev pub closing_after : Act → Said → ℕ → Bool → Bool
 closing_after (Open n) said c before = if n == c then false else before
-closing_after (Line n x) said c before = if n == c then closes (reading x) said || before else before
+closing_after (Line n x) said c before =
+    if n == c then closes (reading x) said || before else before
 closing_after _ said c before = before
 
 -- whether a connection is to end as soon as all is taken
@@ -123,7 +128,8 @@ sent (e ∷ G) c = sent_after e.act e.said c (sent G c)
 -- an ascending list with one number more, unless it is there
 abbrev pub put_number : ℕ → List ℕ → List ℕ
 put_number n [] = n ∷ []
-put_number n (x ∷ xs) = if n == x then x ∷ xs else if nat_lt n x then n ∷ x ∷ xs else x ∷ put_number n xs
+put_number n (x ∷ xs) =
+    if n == x then x ∷ xs else if nat_lt n x then n ∷ x ∷ xs else x ∷ put_number n xs
 
 -- a line adds its connection's number
 abbrev pub heard_after : Act → List ℕ → List ℕ
@@ -147,7 +153,8 @@ user_after_line _ _ before = None
 -- an opening leaves no name in force
 abbrev pub user_after : Act → Said → ℕ → Option LoginName → Option LoginName
 user_after (Open n) said c before = if n == c then None else before
-user_after (Line n x) said c before = if n == c then user_after_line (reading x) said before else before
+user_after (Line n x) said c before = if n == c then user_after_line
+    (reading x) said before else before
 user_after _ said c before = before
 
 -- the login name in force on a connection

@@ -1,5 +1,7 @@
 -- The outcome of the next event: why it is ignored, and which tags it may show.
-use Rattle.std.specs.Prelude.{◌≡◌, ◌⊎◌, ⊤, ℕ, Bool, true, false, not, ◌&&◌, ◌||◌, ◌-◌, ◌^◌, ◌==◌, nat_lt, nat_le, List, [], length, take, Option, Some, None, is_some, if◌then◌else◌}
+use Rattle.std.specs.Prelude.{◌≡◌, ◌⊎◌, ⊤, ℕ, Bool, true, false, not, ◌&&◌, ◌||◌, ◌-◌, ◌^◌, ◌==◌}
+use Rattle.std.specs.Prelude.{nat_lt, nat_le, List, [], length, take, Option, Some, None, is_some}
+use Rattle.std.specs.Prelude.{if◌then◌else◌}
 use Rattle.popline.specs.Cutting.{Cut, has_newline}
 use Rattle.vault.specs.Records.{Records}
 use Rattle.office.specs.History.{Tag, Done, Failed, NoMemory, Entry}
@@ -7,9 +9,11 @@ use Rattle.office.specs.Connections.{closing, serving}
 use Rattle.office.specs.Replying.{line_may_fail, is_empty}
 use Rattle.office.specs.Told.{deposited, administered}
 use Rattle.office.specs.Events.{Event, Mark, Tagged, Log, Trace}
-use Rattle.office.specs.Outcomes.{Outcome, Reason, NoSuchConnection, NotReady, PieceTooLong, TooManyConnections}
+use Rattle.office.specs.Outcomes.{Outcome, Reason, NoSuchConnection, NotReady, PieceTooLong}
+use Rattle.office.specs.Outcomes.{TooManyConnections}
 use Rattle.office.specs.Log.{next_number}
-use Rattle.office.specs.Trace.{next_line, open_numbers_at, rest, is_left, is_open_at, rest_at, history, most_lent}
+use Rattle.office.specs.Trace.{next_line, open_numbers_at, rest, is_left, is_open_at, rest_at}
+use Rattle.office.specs.Trace.{history, most_lent}
 use Rattle.office.specs.Events as event
 use Rattle.office.specs.Outcomes as outcome
 
@@ -29,7 +33,8 @@ most_number = 2 ^ 64 - 1
 
 -- the most connections are open, or no number is left
 abbrev pub is_full_at : Log → List Entry → Bool
-is_full_at T G = nat_le most_open (length (open_numbers_at T G)) || nat_lt most_number (next_number T)
+is_full_at T G =
+    nat_le most_open (length (open_numbers_at T G)) || nat_lt most_number (next_number T)
 
 -- the same of a trace
 abbrev pub is_full : Trace → Bool
@@ -63,7 +68,8 @@ abbrev pub shown_at : Records → Log → List Entry → Event → Tag → Outco
 shown_at B T G e Failed = outcome.Failed
 shown_at B T G e NoMemory = outcome.NoMemory
 shown_at B T G event.Connect Done = outcome.Opened (next_number T)
-shown_at B T G (event.Deposit d class id text) Done = outcome.Answered (deposited B G d class id text)
+shown_at B T G (event.Deposit d class id text) Done =
+    outcome.Answered (deposited B G d class id text)
 shown_at B T G (event.Admin command) Done = outcome.Answered (administered B G command)
 shown_at B T G e Done = outcome.Done
 
@@ -92,8 +98,10 @@ took_may false while_left false at_next = at_next
 
 -- the store may fail at lines that need it, at later pages of a message, deposits and commands
 abbrev pub may_fail_at : Records → Log → List Entry → Event → Bool
-may_fail_at B T G (event.Bytes c piece) = has_newline piece && next_may_fail B G c (next_line T G c piece)
-may_fail_at B T G (event.Took c octets) = took_may (is_left T G c octets) (serving G c) (closing G c) (next_may_fail B G c (next_line T G c []))
+may_fail_at B T G (event.Bytes c piece) =
+    has_newline piece && next_may_fail B G c (next_line T G c piece)
+may_fail_at B T G (event.Took c octets) = took_may (is_left T G c octets) (serving G c)
+    (closing G c) (next_may_fail B G c (next_line T G c []))
 may_fail_at B T G (event.Deposit d class id text) = true
 may_fail_at B T G (event.Admin command) = true
 may_fail_at B T G _ = false
@@ -103,7 +111,8 @@ may_fail_at B T G _ = false
 abbrev pub may_lack_memory_at : Log → List Entry → Event → Bool
 may_lack_memory_at T G event.Connect = true
 may_lack_memory_at T G (event.Bytes c piece) = has_newline piece
-may_lack_memory_at T G (event.Took c octets) = took_may (is_left T G c octets) (nat_lt most_lent (length (rest_at T G c))) (closing G c) (is_some (next_line T G c []))
+may_lack_memory_at T G (event.Took c octets) = took_may (is_left T G c octets)
+    (nat_lt most_lent (length (rest_at T G c))) (closing G c) (is_some (next_line T G c []))
 may_lack_memory_at T G (event.Deposit d class id text) = true
 may_lack_memory_at T G (event.Admin command) = true
 may_lack_memory_at T G _ = false

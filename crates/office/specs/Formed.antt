@@ -23,7 +23,8 @@ is_u64 n = nat_lt n (2 ^ 64)
 
 -- an event's values have their form, and so has the number that a connection gets
 abbrev pub is_formed : Log → Event → Bool
-is_formed T (event.Start host boot limits) = is_host host && is_u64 boot && nat_le 600 limits.idle && nat_le limits.idle 86400
+is_formed T (event.Start host boot limits) =
+    is_host host && is_u64 boot && nat_le 600 limits.idle && nat_le limits.idle 86400
 is_formed T (event.Restart boot) = is_u64 boot
 is_formed T event.Connect = is_u64 (next_number T)
 is_formed T (event.Deposit d class id text) = is_name d && is_name class && is_deposit_id id

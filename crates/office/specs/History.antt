@@ -10,9 +10,11 @@ use Rattle.policy.specs.Policy.{Policy}
 use Rattle.vault.specs.Records.{Records, in_maildrop, receipts_of, credential_in, is_one_of}
 use Rattle.vault.specs.declared.record.Clerk.{Clerk}
 use Rattle.vault.specs.declared.record.Receipt.{Receipt}
-use Rattle.vault.specs.Changes.{with_clerk, without_clerk, with_maildrop, without_maildrop, message_for, receipt_for}
+use Rattle.vault.specs.Changes.{with_clerk, without_clerk, with_maildrop, without_maildrop}
+use Rattle.vault.specs.Changes.{message_for, receipt_for}
 use Rattle.session.specs.declared.removals.Removals.{Removals}
-use Rattle.office.specs.Answers.{AdminCommand, AddMaildrop, DropMaildrop, PutClerk, DropClerk, SetPolicy, Answer, New, Added, Dropped, Replaced}
+use Rattle.office.specs.Answers.{AdminCommand, AddMaildrop, DropMaildrop, PutClerk, DropClerk}
+use Rattle.office.specs.Answers.{SetPolicy, Answer, New, Added, Dropped, Replaced}
 use Rattle.vault.specs.declared.record.Message as store
 
 -- the acts; Idle and Gone end a connection from outside
@@ -70,8 +72,10 @@ in_force B (e ∷ G) = policy_after e.act e.tag (in_force B G)
 
 -- the clerks with their credentials
 abbrev pub clerks_after : Act → Said → List Clerk → List Clerk
-clerks_after (Administer (PutClerk name given)) (Answers Added) before = with_clerk name given before
-clerks_after (Administer (PutClerk name given)) (Answers Replaced) before = with_clerk name given before
+clerks_after (Administer (PutClerk name given)) (Answers Added) before =
+    with_clerk name given before
+clerks_after (Administer (PutClerk name given)) (Answers Replaced) before =
+    with_clerk name given before
 clerks_after (Administer (DropClerk name)) (Answers Dropped) before = without_clerk name before
 clerks_after _ _ before = before
 
@@ -87,7 +91,8 @@ credential B G clerk = credential_in clerk (clerks B G)
 -- the maildrops that are there
 abbrev pub maildrops_after : Act → Said → List (List ℕ) → List (List ℕ)
 maildrops_after (Administer (AddMaildrop name)) (Answers Added) before = with_maildrop name before
-maildrops_after (Administer (DropMaildrop name)) (Answers Dropped) before = without_maildrop name before
+maildrops_after (Administer (DropMaildrop name)) (Answers Dropped) before =
+    without_maildrop name before
 maildrops_after _ _ before = before
 
 -- the names of the maildrops at the end of a history
@@ -103,7 +108,8 @@ exists B G d = is_one_of d (maildrops B G)
 
 -- the messages that ever arrived, after an act
 abbrev pub arrivals_after : Act → Said → List store.Message → List store.Message
-arrivals_after (Deposit d class id text) (Answers (New uid)) before = before ++ message_for d class (kept_form text) uid.k ∷ []
+arrivals_after (Deposit d class id text) (Answers (New uid)) before =
+    before ++ message_for d class (kept_form text) uid.k ∷ []
 arrivals_after _ _ before = before
 
 -- the base's messages, and behind them those of the new deposits

@@ -15,5 +15,5 @@ unless_idle moment seconds (Some k) = if is_idle moment seconds k then None else
 
 -- a lock after the tick: let go where the connection that held it is ended
 abbrev pub lock_of_kept : BTreeMap ℕ Kept → Option ℕ → Option ℕ
-lock_of_kept links None = None
-lock_of_kept links (Some c) = if is_some (get nat_cmp links c) then Some c else None
+lock_of_kept connections None = None
+lock_of_kept connections (Some c) = if is_some (get nat_cmp connections c) then Some c else None

@@ -16,4 +16,4 @@ length_of_input (Some k) = length k.held.octets + length k.pending
 
 -- how many octets of its input are kept of a connection of this number
 abbrev pub input_kept : {V : Type 0} → Office V → ℕ → ℕ
-input_kept o c = length_of_input (get nat_cmp o.links c)
+input_kept o c = length_of_input (get nat_cmp o.connections c)

@@ -1,5 +1,6 @@
 -- What an office keeps of a connection, and what it keeps after the next line.
-use Rattle.std.specs.Prelude.{ℕ, Bool, true, false, ◌||◌, ◌+◌, nat_lt, List, [], drop, Option, Some, None, Result, Ok, Err, is_some, if◌then◌else◌}
+use Rattle.std.specs.Prelude.{ℕ, Bool, true, false, ◌||◌, ◌+◌, nat_lt, List, [], drop, Option, Some}
+use Rattle.std.specs.Prelude.{None, Result, Ok, Err, is_some, if◌then◌else◌}
 use Rattle.creds.specs.declared.login_name.LoginName.{LoginName}
 use Rattle.creds.specs.Credential.{Shown, ByApop, ByPass, is_admitted}
 use Rattle.popline.specs.Cutting.{Cut, TooLong, cut_of, Held, fed, through_newline, has_newline}
@@ -7,7 +8,8 @@ use Rattle.popline.specs.Cutting as cutting
 use Rattle.popline.specs.Commands.{Command, Capa, User, Pass, Apop, Quit, command_of, keyword_of}
 use Rattle.popline.specs.declared.command.LineFault.{LineFault}
 use Rattle.popline.specs.declared.command.LineFault.TheVariants.{Unknown, Syntax}
-use Rattle.popline.specs.Replies.{Reply, LineTooLong, UnknownCommand, WrongState, BadArguments, Capabilities, SendPass, Bye}
+use Rattle.popline.specs.Replies.{Reply, LineTooLong, UnknownCommand, WrongState, BadArguments}
+use Rattle.popline.specs.Replies.{Capabilities, SendPass, Bye}
 use Rattle.policy.specs.Policy.{Policy, decide}
 use Rattle.policy.specs.declared.rule.Action.TheVariants as to
 use Rattle.vault.specs.Records.{Records, credential_in, is_one_of, in_maildrop, class_of}
@@ -18,56 +20,61 @@ use Rattle.office.specs.History.{Says}
 use Rattle.office.specs.Connections.{reading, closes, user_after_line, is_failure}
 use Rattle.office.specs.Replying.{is_allowed, when_permitted, login_reply, name_or_nobody}
 use Rattle.office.specs.Output.{Output}
-use Rattle.office.specs.Sitting.{Sitting, asks_inside}
-use Rattle.office.specs.declared.talk.Talk.{Talk}
+use Rattle.office.specs.Transaction.{Transaction, transaction_asks}
+use Rattle.office.specs.declared.login_state.LoginState.{LoginState}
 
 -- What a line is judged by, beside what its connection remembers: the store's records, the policy,
 -- the greeting's timestamp, and which maildrops are locked.
-pub record Desk : Type 0 where
+pub record LineContext : Type 0 where
   pub store : Records
   pub policy : Policy
   pub stamp : List ℕ
   pub is_locked : List ℕ → Bool
 
 -- the reply to a login: it is judged by the credential, the policy, the maildrop, the lock
-abbrev pub judged : Desk → (failures : ℕ) → LoginName → Shown → Reply
-judged d failures name proof = login_reply (is_admitted (credential_in name.clerk d.store.clerks) name.clerk d.stamp proof) failures
-    (decide d.policy name.clerk name.maildrop [] to.Open) (is_one_of name.maildrop d.store.maildrops) (d.is_locked name.maildrop)
+abbrev pub judged : LineContext → (failures : ℕ) → LoginName → Shown → Reply
+judged d failures name proof = login_reply
+    (is_admitted (credential_in name.clerk d.store.clerks) name.clerk d.stamp proof) failures
+    (decide d.policy name.clerk name.maildrop [] to.Open)
+    (is_one_of name.maildrop d.store.maildrops) (d.is_locked name.maildrop)
     (visible class_of d.policy name (in_maildrop name.maildrop d.store.messages))
 
 -- the reply to a command before a login
-abbrev pub obeyed_outside : Desk → Talk → Command → Reply
-obeyed_outside d t Capa = Capabilities
-obeyed_outside d t (User name) = SendPass
-obeyed_outside d t (Pass password) = judged d t.failures (name_or_nobody t.user) (ByPass password)
-obeyed_outside d t (Apop name digest) = judged d t.failures name (ByApop digest)
-obeyed_outside d t Quit = Bye
-obeyed_outside d t _ = WrongState
+abbrev pub authorization_obeyed : LineContext → LoginState → Command → Reply
+authorization_obeyed d t Capa = Capabilities
+authorization_obeyed d t (User name) = SendPass
+authorization_obeyed d t (Pass password) =
+    judged d t.failures (name_or_nobody t.user) (ByPass password)
+authorization_obeyed d t (Apop name digest) = judged d t.failures name (ByApop digest)
+authorization_obeyed d t Quit = Bye
+authorization_obeyed d t _ = WrongState
 
 -- the reply to what a line reads as
-abbrev pub said_outside : Desk → Talk → Result Command LineFault → Reply
-said_outside d t (Err Unknown) = UnknownCommand
-said_outside d t (Err (Syntax k)) = when_permitted (is_allowed k false (is_some t.user)) BadArguments
-said_outside d t (Ok command) = when_permitted (is_allowed (keyword_of command) false (is_some t.user)) (obeyed_outside d t command)
+abbrev pub authorization_said : LineContext → LoginState → Result Command LineFault → Reply
+authorization_said d t (Err Unknown) = UnknownCommand
+authorization_said d t (Err (Syntax k)) =
+    when_permitted (is_allowed k false (is_some t.user)) BadArguments
+authorization_said d t (Ok command) = when_permitted
+    (is_allowed (keyword_of command) false (is_some t.user)) (authorization_obeyed d t command)
 
 -- the reply to a line before a login
-abbrev pub line_outside : Desk → Talk → Cut → Reply
-line_outside d t TooLong = LineTooLong
-line_outside d t (cutting.Line l) = said_outside d t (command_of l)
+abbrev pub authorization_line : LineContext → LoginState → Cut → Reply
+authorization_line d t TooLong = LineTooLong
+authorization_line d t (cutting.Line l) = authorization_said d t (command_of l)
 
 -- a line that asks the store for a credential
-abbrev pub asks_outside : Talk → Result Command LineFault → Bool
-asks_outside t (Ok (Pass password)) = is_some t.user
-asks_outside t (Ok (Apop name digest)) = true
-asks_outside t _ = false
+abbrev pub authorization_asks : LoginState → Result Command LineFault → Bool
+authorization_asks t (Ok (Pass password)) = is_some t.user
+authorization_asks t (Ok (Apop name digest)) = true
+authorization_asks t _ = false
 
 -- a line that asks the store, in a session or before one
-abbrev pub asks : Policy → Talk → Option Sitting → Result Command LineFault → Bool
-asks p t None r = asks_outside t r
-asks p t (Some v) r = asks_inside p v r
+abbrev pub asks : Policy → LoginState → Option Transaction → Result Command LineFault → Bool
+asks p t None r = authorization_asks t r
+asks p t (Some v) r = transaction_asks p v r
 
 -- what a new connection remembers: no name in force, and no credential refused
-abbrev pub nothing_said : Removals → Talk
+abbrev pub nothing_said : Removals → LoginState
 nothing_said removals = record { user = None; failures = 0; closing = false; removals = removals }
 
 -- at most so many failures are counted
@@ -79,8 +86,8 @@ abbrev pub one_more_failure : ℕ → ℕ
 one_more_failure n = if nat_lt n most_failures then n + 1 else n
 
 -- what is remembered after a line that got this reply
-abbrev pub talk_after : Cut → Reply → Talk → Talk
-talk_after x r t = record {
+abbrev pub login_state_after : Cut → Reply → LoginState → LoginState
+login_state_after x r t = record {
   user = user_after_line (reading x) (Says r) t.user;
   failures = if is_failure (Says r) then one_more_failure t.failures else t.failures;
   closing = closes (reading x) (Says r) || t.closing;
@@ -94,7 +101,7 @@ pub record Kept : Type 0 where
   pub held : Held
   pub pending : List ℕ
   pub output : Output
-  pub talk : Talk
+  pub state : LoginState
   pub stamp : List ℕ
   pub session : Option Session
   pub clock : ℕ
@@ -117,7 +124,7 @@ answered k octets reply session output =
       held = w;
       pending = drop (through_newline octets) octets;
       output = output;
-      talk = if w.whole then talk_after (cut_of w.octets) reply k.talk else k.talk;
+      state = if w.whole then login_state_after (cut_of w.octets) reply k.state else k.state;
       stamp = k.stamp;
       session = session;
       clock = k.clock;

@@ -1,5 +1,6 @@
 -- Laws over every history: their statements.
-use Rattle.std.specs.Prelude.{◌≡◌, ℕ, Bool, true, false, not, ◌&&◌, ◌⊎◌, ◌==◌, List, [], ◌∷◌, ◌++◌, ⊤, Option, Some, None, Result, Ok, if◌then◌else◌}
+use Rattle.std.specs.Prelude.{◌≡◌, ℕ, Bool, true, false, not, ◌&&◌, ◌⊎◌, ◌==◌, List, [], ◌∷◌, ◌++◌}
+use Rattle.std.specs.Prelude.{⊤, Option, Some, None, Result, Ok, if◌then◌else◌}
 use Rattle.std.specs.Str.{bytes_eq}
 use Rattle.popline.specs.ReplyForm.{IsWellFormed}
 use Rattle.creds.specs.declared.login_name.LoginName.{LoginName}
@@ -12,8 +13,10 @@ use Rattle.vault.specs.Records.{Records, IsSound, same_uid, same_id, Agree}
 use Rattle.vault.specs.declared.record.Message.{Message}
 use Rattle.vault.specs.declared.record.Receipt.{Receipt}
 use Rattle.popline.specs.Replies.{Reply, Greeting, timestamp}
-use Rattle.office.specs.History.{Act, Open, Line, Tag, Said, Says, Silence, Answers, Entry, Done, in_force, deposits}
-use Rattle.office.specs.Sessions.{holds, in_session, live, login, login_by, marks, view, present, records}
+use Rattle.office.specs.History.{Act, Open, Line, Tag, Said, Says, Silence, Answers, Entry, Done}
+use Rattle.office.specs.History.{in_force, deposits}
+use Rattle.office.specs.Sessions.{holds, in_session, live, login, login_by, marks, view, present}
+use Rattle.office.specs.Sessions.{records}
 use Rattle.office.specs.Connections.{user, reading, judging}
 use Rattle.office.specs.Told.{told}
 use Rattle.office.specs.Replying.{name_or_nobody}
@@ -32,16 +35,19 @@ In x (y ∷ ys) = (x ≡ y) ⊎ In x ys
 
 -- a maildrop has at most one holder
 abbrev pub OneHolder : Type 0
-OneHolder = (B : Records) (H : List (Act × Tag)) (d : List ℕ) (c q : ℕ) → holds (told B H) d c ≡ true → holds (told B H) d q ≡ true → c ≡ q
+OneHolder = (B : Records) (H : List (Act × Tag)) (d : List ℕ) (c q : ℕ)
+    → holds (told B H) d c ≡ true → holds (told B H) d q ≡ true → c ≡ q
 
 -- while a session lives, its messages stay in the maildrop
 abbrev pub ViewStaysPresent : Type 0
-ViewStaysPresent = (B : Records) (H : List (Act × Tag)) (c : ℕ) (name : LoginName) → in_session (told B H) c ≡ Some name
+ViewStaysPresent = (B : Records) (H : List (Act × Tag)) (c : ℕ) (name : LoginName)
+    → in_session (told B H) c ≡ Some name
     → (m : Message) → In m (view B (told B H) c) → In m (present B (told B H) name.maildrop)
 
 -- no two accepted deposits into a maildrop's name have one unique-id
 abbrev pub UniqueIdsAreUnique : Type 0
-UniqueIdsAreUnique = (B : Records) → IsSound B → (H : List (Act × Tag)) (d : List ℕ) → are_distinct same_uid (deposits B (told B H) d) ≡ true
+UniqueIdsAreUnique = (B : Records) → IsSound B → (H : List (Act × Tag)) (d : List ℕ)
+    → are_distinct same_uid (deposits B (told B H) d) ≡ true
 
 -- a deposit's unique-id as it is written
 abbrev pub uid_text_of : Receipt → List ℕ
@@ -54,11 +60,13 @@ same_uid_text r s = bytes_eq (uid_text_of r) (uid_text_of s)
 -- over sound records and events of their types, no two accepted deposits into a maildrop's name
 -- have one unique-id as it is written
 abbrev pub UniqueIdTextsDiffer : Type 0
-UniqueIdTextsDiffer = (T : Trace) → IsSound T.base → are_formed T.log ≡ true → (d : List ℕ) → are_distinct same_uid_text (deposits T.base (history T) d) ≡ true
+UniqueIdTextsDiffer = (T : Trace) → IsSound T.base → are_formed T.log ≡ true → (d : List ℕ)
+    → are_distinct same_uid_text (deposits T.base (history T) d) ≡ true
 
 -- no two accepted deposits into a maildrop's name have one id, whatever came between
 abbrev pub DepositIdsActOnce : Type 0
-DepositIdsActOnce = (B : Records) → IsSound B → (H : List (Act × Tag)) (d : List ℕ) → are_distinct same_id (deposits B (told B H) d) ≡ true
+DepositIdsActOnce = (B : Records) → IsSound B → (H : List (Act × Tag)) (d : List ℕ)
+    → are_distinct same_id (deposits B (told B H) d) ≡ true
 
 -- ---- greetings
 
@@ -104,11 +112,14 @@ IsNewOrBegun T = (T ≡ []) ⊎ BeginsWithStart T
 
 -- where all boot numbers differ, all timestamps differ
 abbrev pub GreetingsDiffer : Type 0
-GreetingsDiffer = (T : Trace) → BeginsWithStart T.log → are_formed T.log ≡ true → are_distinct (λ (n m : ℕ). n == m) (boots T.log) ≡ true → are_distinct bytes_eq (stamps (history T)) ≡ true
+GreetingsDiffer = (T : Trace) → BeginsWithStart T.log → are_formed T.log ≡ true
+    → are_distinct (λ (n m : ℕ). n == m) (boots T.log) ≡ true
+    → are_distinct bytes_eq (stamps (history T)) ≡ true
 
 -- the same, of one trace
 abbrev pub TimestampsDiffer : Trace → Type 0
-TimestampsDiffer T = are_distinct (λ (n m : ℕ). n == m) (boots T.log) ≡ true → are_distinct bytes_eq (stamps (history T)) ≡ true
+TimestampsDiffer T = are_distinct (λ (n m : ℕ). n == m) (boots T.log) ≡ true
+    → are_distinct bytes_eq (stamps (history T)) ≡ true
 
 -- ---- the form of replies
 
@@ -125,7 +136,8 @@ AllReplies P (e ∷ G) = IfReply P e.said × AllReplies P G
 
 -- over sound records and events of their types, every reply has the form that replies have
 abbrev pub RepliesHaveTheirForm : Type 0
-RepliesHaveTheirForm = (T : Trace) → IsSound T.base → are_formed T.log ≡ true → AllReplies IsWellFormed (history T)
+RepliesHaveTheirForm =
+    (T : Trace) → IsSound T.base → are_formed T.log ≡ true → AllReplies IsWellFormed (history T)
 
 -- ---- marks by the view and the policy
 
@@ -148,7 +160,8 @@ is_markable JudgedAtQuit (Some m) policy name = true
 
 -- a number may be marked: it isn't marked yet, and its message may be
 abbrev pub may_mark : Records → List Entry → ℕ → LoginName → List ℕ → ℕ → Bool
-may_mark B G c name before n = not (is_marked before n) && is_markable (judging G) (at_number (view B G c) n) (in_force B G) name
+may_mark B G c name before n = not (is_marked before n) && is_markable (judging G)
+    (at_number (view B G c) n) (in_force B G) name
 
 -- the marks with one more number, where it may be marked
 abbrev pub marks_with : Option ℕ → (may_mark : ℕ → Bool) → List ℕ → List ℕ
@@ -158,11 +171,13 @@ marks_with (Some n) may_mark before = if may_mark n then before ++ n ∷ [] else
 -- a RSET unmarks all, a DELE marks its number
 abbrev pub marks_by_line : Records → List Entry → ℕ → Result Command LineFault → List ℕ → List ℕ
 marks_by_line B G c r before =
-    if is_rset r then [] else marks_with (number_to_mark r) (may_mark B G c (name_or_nobody (login G c)) before) before
+    if is_rset r then [] else marks_with (number_to_mark r)
+    (may_mark B G c (name_or_nobody (login G c)) before) before
 
 -- only a line of this connection that is done marks or unmarks
 abbrev pub marks_by_act : Records → List Entry → ℕ → Act → Tag → List ℕ → List ℕ
-marks_by_act B G c (Line n x) Done before = if n == c then marks_by_line B G c (reading x) before else before
+marks_by_act B G c (Line n x) Done before =
+    if n == c then marks_by_line B G c (reading x) before else before
 marks_by_act B G c _ t before = before
 
 -- a login begins without marks
@@ -173,11 +188,13 @@ marks_unless_login None before = before
 -- a session's marks: the numbers of the DELE lines done since its login and its last RSET
 abbrev pub marks_by_view : Records → List Entry → ℕ → List ℕ
 marks_by_view B [] c = []
-marks_by_view B (e ∷ G) c = marks_unless_login (login_by e.act e.said c (user G c)) (marks_by_act B G c e.act e.tag (marks_by_view B G c))
+marks_by_view B (e ∷ G) c = marks_unless_login (login_by e.act e.said c (user G c))
+    (marks_by_act B G c e.act e.tag (marks_by_view B G c))
 
 -- a session's marks by the replies and by the view are the same
 abbrev pub MarksAreByView : Type 0
-MarksAreByView = (B : Records) (H : List (Act × Tag)) (c : ℕ) → live (told B H) c ≡ true → marks (told B H) c ≡ marks_by_view B (told B H) c
+MarksAreByView = (B : Records) (H : List (Act × Tag)) (c : ℕ) → live (told B H) c ≡ true
+    → marks (told B H) c ≡ marks_by_view B (told B H) c
 
 -- ---- a store of its own
 
@@ -194,4 +211,5 @@ TakenIsSent = (T : Trace) → AreAdmitted T → (c : ℕ) → IsSentExactly T c
 
 -- an office's opening may always have the mark Done
 abbrev pub OpeningsAreAdmitted : Type 0
-OpeningsAreAdmitted = (T : Trace) (host : List ℕ) (boot : ℕ) (limits : Limits) → IsAdmitted T (event.Start host boot limits) (Tagged Done)
+OpeningsAreAdmitted = (T : Trace) (host : List ℕ) (boot : ℕ) (limits : Limits)
+    → IsAdmitted T (event.Start host boot limits) (Tagged Done)

@@ -35,7 +35,7 @@ pub mod Output
 pub mod Kept
 pub mod Answered
 pub mod Runs
-pub mod Sitting
+pub mod Transaction
 pub mod Locks
 pub mod Idle
 pub mod Waiting

@@ -62,7 +62,8 @@ stream ((e, m) ∷ T) c = stream_after e m (next_number T) c (stream T c)
 -- how many octets it took
 abbrev pub taken_after : Event → Mark → (next c : ℕ) → ℕ → ℕ
 taken_after event.Connect (Tagged Done) next c before = if next == c then 0 else before
-taken_after (event.Took n octets) (Tagged t) next c before = if n == c then before + octets else before
+taken_after (event.Took n octets) (Tagged t) next c before =
+    if n == c then before + octets else before
 taken_after _ m next c before = before
 
 -- how many octets a connection took since its opening
@@ -73,7 +74,8 @@ taken ((e, m) ∷ T) c = taken_after e m (next_number T) c (taken T c)
 -- its clock: the moment of its opening, of its last line that acted or of its last taking
 abbrev pub clock_after : Event → Mark → (next now c : ℕ) → ℕ → ℕ
 clock_after event.Connect (Tagged Done) next now c before = if next == c then now else before
-clock_after (event.Bytes n piece) (Tagged t) next now c before = if n == c && has_newline piece then now else before
+clock_after (event.Bytes n piece) (Tagged t) next now c before =
+    if n == c && has_newline piece then now else before
 clock_after (event.Took n octets) (Tagged t) next now c before = if n == c then now else before
 clock_after _ m next now c before = before
 

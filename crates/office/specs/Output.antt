@@ -1,6 +1,7 @@
 -- What a connection is owed, as it is kept: octets that stand ready, and what feeds them (RFC 1939,
 -- 3: replies of many lines).
-use Rattle.std.specs.Prelude.{◌≡◌, ℕ, Bool, true, false, List, [], ◌++◌, ◌<◌, ◌≤◌, length, take, drop, codes, Option, Some, None}
+use Rattle.std.specs.Prelude.{◌≡◌, ℕ, Bool, true, false, List, [], ◌++◌, ◌<◌, ◌≤◌, length, take}
+use Rattle.std.specs.Prelude.{drop, codes, Option, Some, None}
 use Rattle.std.specs.List.{flat_map}
 use Rattle.mailtext.specs.Streams.{Come, stuffed_from, top_from}
 use Rattle.popline.specs.Replies.{Reply, one_line, scan_text, uid_row_text, bytes_of}
@@ -58,11 +59,13 @@ last_line = one_line (codes ".")
 
 -- the lines of a scan listing from row `done` on, and the dot
 abbrev pub sizes_coming : (done : ℕ) → Session → List ℕ
-sizes_coming done s = flat_map (λ row. one_line (scan_text row)) (drop done (sizes_of octets_of (unmarked s.marks s.view))) ++ last_line
+sizes_coming done s = flat_map (λ row. one_line (scan_text row))
+    (drop done (sizes_of octets_of (unmarked s.marks s.view))) ++ last_line
 
 -- the lines of a listing of unique-ids from row `done` on, and the dot
 abbrev pub uids_coming : (done : ℕ) → Session → List ℕ
-uids_coming done s = flat_map (λ row. one_line (uid_row_text row)) (drop done (uids_of uid_of (unmarked s.marks s.view))) ++ last_line
+uids_coming done s = flat_map (λ row. one_line (uid_row_text row))
+    (drop done (uids_of uid_of (unmarked s.marks s.view))) ++ last_line
 
 -- how much of the octets that follow is sent: TOP's part, or all
 abbrev pub cut_from : Option Come → List ℕ → List ℕ

@@ -25,7 +25,8 @@ pub record Step : Type 0 where
 
 -- a step is an event's outcome, with the octets taken; how many octets are lent is told by an
 -- office that stands for the trace
-pub record IsStep {V : Type 0} (Holds : V → Contents → Type 0) (T : Trace) (e : Event) (s : Step) : Type 0 where
+pub record IsStep {V : Type 0} (Holds : V → Contents
+    → Type 0) (T : Trace) (e : Event) (s : Step) : Type 0 where
   pub office : Office V
   pub stood : StandsFor Holds office T
   pub outcome : IsOutcome T (lent_by office) e (outcome_seen s.outcome)
@@ -39,18 +40,22 @@ followed T (e ∷ es) (s ∷ ss) = followed (followed_by T (event_seen e) s.outc
 followed T _ _ = T
 
 -- each event has its step
-abbrev pub AreSteps : {V : Type 0} → (Holds : V → Contents → Type 0) → Trace → List Given → List Step → Type 0
+abbrev pub AreSteps : {V : Type 0} → (Holds : V → Contents → Type 0) → Trace → List Given
+    → List Step → Type 0
 AreSteps Holds T [] [] = ⊤
-AreSteps Holds T (e ∷ es) (s ∷ ss) = IsStep Holds T (event_seen e) s × AreSteps Holds (followed_by T (event_seen e) s.outcome) es ss
+AreSteps Holds T (e ∷ es) (s ∷ ss) =
+    IsStep Holds T (event_seen e) s × AreSteps Holds (followed_by T (event_seen e) s.outcome) es ss
 AreSteps Holds T _ _ = ⊥
 
 -- over a trace these events have these steps, and the office then stands for the trace with them
-pub record Follows {V : Type 0} (Holds : V → Contents → Type 0) (events : List Given) (steps : List Step) (T : Trace) (o : Office V) : Type 0 where
+pub record Follows {V : Type 0} (Holds : V → Contents
+    → Type 0) (events : List Given) (steps : List Step) (T : Trace) (o : Office V) : Type 0 where
   pub each : AreSteps Holds T events steps
   pub stands : StandsFor Holds o (followed T events steps)
 
 -- one more event has its step, and the office then stands for the trace with it
-pub record Enters {V : Type 0} (Holds : V → Contents → Type 0) (event : Given) (before after : List Step) (T : Trace) (o : Office V) : Type 0 where
+pub record Enters {V : Type 0} (Holds : V → Contents
+    → Type 0) (event : Given) (before after : List Step) (T : Trace) (o : Office V) : Type 0 where
   pub step : Step
   pub entered : after ≡ before ++ step ∷ []
   pub is : IsStep Holds T (event_seen event) step
@@ -66,7 +71,8 @@ done_before (NoMemory done) = done
 -- is lower than the one before, and each step that was answered Failed raised it.
 abbrev pub HaveCauses : (before now : ℕ) → List Step → Type 0
 HaveCauses before now [] = before ≡ now
-HaveCauses before now (s ∷ ss) = (after : ℕ) × (before ≤ after) × HasCause before after (outcome_seen s.outcome) × HaveCauses after now ss
+HaveCauses before now (s ∷ ss) = (after : ℕ) × (before ≤ after)
+    × HasCause before after (outcome_seen s.outcome) × HaveCauses after now ss
 
 -- 1 for the outcome Failed, 0 for any other
 abbrev pub one_if_failed : outcomes.Outcome → ℕ
@@ -81,13 +87,15 @@ failures_in (s ∷ ss) = one_if_failed (outcome_seen s.outcome) + failures_in ss
 -- the count of faults grew at least by the number of failed steps, while it is below its greatest
 -- value; so where it didn't grow, no step failed
 abbrev pub FailuresAreCounted : Type 0
-FailuresAreCounted = (before now : ℕ) (ss : List Step) → now < greatest_count → HaveCauses before now ss → before + failures_in ss ≤ now
+FailuresAreCounted = (before now : ℕ) (ss : List Step) → now < greatest_count
+    → HaveCauses before now ss → before + failures_in ss ≤ now
 
 -- ---- memory
 
 -- each step whose event takes no memory isn't answered NoMemory
 abbrev pub HaveMemory : Trace → List Given → List Step → Type 0
-HaveMemory T (e ∷ es) (s ∷ ss) = (may_show T (event_seen e) history.NoMemory ≡ false → HasMemory (outcome_seen s.outcome))
+HaveMemory T (e ∷ es) (s ∷ ss) = (may_show T (event_seen e) history.NoMemory ≡ false
+    → HasMemory (outcome_seen s.outcome))
     × HaveMemory (followed_by T (event_seen e) s.outcome) es ss
 HaveMemory T _ _ = ⊤
 
@@ -103,15 +111,18 @@ AreAnswered (s ∷ ss) = IsAnswered (outcome_seen s.outcome) × AreAnswered ss
 -- answered.
 abbrev pub StopLeavesRun : (MayLeave : Contents → Type 0) → Trace → List Given → List Step → Type 0
 StopLeavesRun MayLeave T [] [] = LeavesTrace MayLeave T
-StopLeavesRun MayLeave T (e ∷ []) (s ∷ []) = StopLeaves MayLeave T (event_seen e) (outcome_seen s.outcome)
-StopLeavesRun MayLeave T (e ∷ es) (s ∷ ss) = IsAnswered (outcome_seen s.outcome) → StopLeavesRun MayLeave (followed_by T (event_seen e) s.outcome) es ss
+StopLeavesRun MayLeave T (e ∷ []) (s ∷ []) =
+    StopLeaves MayLeave T (event_seen e) (outcome_seen s.outcome)
+StopLeavesRun MayLeave T (e ∷ es) (s ∷ ss) = IsAnswered (outcome_seen s.outcome)
+    → StopLeavesRun MayLeave (followed_by T (event_seen e) s.outcome) es ss
 StopLeavesRun MayLeave T _ _ = ⊤
 
 -- ---- what a run promises beside its steps
 
 -- The store's count of faults, whether its device is up, and what a stop may leave are those of the
 -- office's vault before and after.
-pub record Ran {V : Type 0} (Holds : V → Contents → Type 0) (faults : V → ℕ) (IsUp : V → Type 0) (MayLeave : V → Contents → Type 0)
+pub record Ran {V : Type 0} (Holds : V → Contents → Type 0) (faults : V → ℕ) (IsUp : V
+    → Type 0) (MayLeave : V → Contents → Type 0)
     (events : List Given) (steps : List Step) (T : Trace) (old new : Office V) : Type 0 where
   pub follows : Follows Holds events steps T new
   pub admitted : AreAdmitted T → AreAdmitted (followed T events steps)
@@ -120,9 +131,12 @@ pub record Ran {V : Type 0} (Holds : V → Contents → Type 0) (faults : V → 
   pub stop : IsUp (vault_of old) → StopLeavesRun (MayLeave (vault_of new)) T events steps
 
 -- one more event has its step, with its cause; and a stop leaves what the step's outcome tells
-pub record EntersSo {V : Type 0} (Holds : V → Contents → Type 0) (faults : V → ℕ) (IsUp : V → Type 0) (MayLeave : V → Contents → Type 0)
+pub record EntersSo {V : Type 0} (Holds : V → Contents → Type 0) (faults : V → ℕ) (IsUp : V
+    → Type 0) (MayLeave : V → Contents → Type 0)
     (event : Given) (before after : List Step) (T : Trace) (old new : Office V) : Type 0 where
   pub enters : Enters Holds event before after T new
-  pub cause : HasCause (faults (vault_of old)) (faults (vault_of new)) (outcome_seen enters.step.outcome)
+  pub cause : HasCause (faults (vault_of old)) (faults (vault_of new))
+      (outcome_seen enters.step.outcome)
   pub up : IsUp (vault_of old) → IsAnswered (outcome_seen enters.step.outcome) → IsUp (vault_of new)
-  pub stop : IsUp (vault_of old) → StopLeaves (MayLeave (vault_of new)) T (event_seen event) (outcome_seen enters.step.outcome)
+  pub stop : IsUp (vault_of old) → StopLeaves (MayLeave (vault_of new)) T (event_seen event)
+      (outcome_seen enters.step.outcome)

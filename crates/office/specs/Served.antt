@@ -17,13 +17,16 @@ use Rattle.vault.specs.declared.record.Message as store
 -- the reply to a RETR of this number has this message's octets, the reply to a TOP its first ones;
 -- no other command's reply has any
 abbrev pub IsReplyWith : Result Command LineFault → (number : ℕ) → store.Message → Reply → Type 0
-IsReplyWith (Ok (Retr n)) number m reply = (n ≡ number) × (reply ≡ Message (octets_of m) (stuffed_lines (lines_of m.text)))
-IsReplyWith (Ok (Top n k)) number m reply = (n ≡ number) × (reply ≡ TopPart (stuffed_lines (top_part (lines_of m.text) k)))
+IsReplyWith (Ok (Retr n)) number m reply =
+    (n ≡ number) × (reply ≡ Message (octets_of m) (stuffed_lines (lines_of m.text)))
+IsReplyWith (Ok (Top n k)) number m reply =
+    (n ≡ number) × (reply ≡ TopPart (stuffed_lines (top_part (lines_of m.text) k)))
 IsReplyWith _ number m reply = ⊥
 
 -- After this front, a line of a clerk in session was answered by the octets of one message of that
 -- session's view. It isn't marked, and the policy in force lets the clerk read its class.
-pub record IsServed (B : Records) (G : List Entry) (c : ℕ) (r : Result Command LineFault) (reply : Reply) : Type 0 where
+pub record IsServed (B : Records) (G : List Entry) (c : ℕ) (r : Result Command LineFault)
+    (reply : Reply) : Type 0 where
   pub name : LoginName
   pub session : in_session G c ≡ Some name
   pub number : ℕ
@@ -35,7 +38,8 @@ pub record IsServed (B : Records) (G : List Entry) (c : ℕ) (r : Result Command
 
 -- what was said to an act after this front has no message's octets, or the line was served so
 abbrev pub IsServedTo : Records → (front : List Entry) → Act → Said → Type 0
-IsServedTo B G (Line c x) (Says reply) = has_message (Says reply) ≡ true → IsServed B G c (reading x) reply
+IsServedTo B G (Line c x) (Says reply) =
+    has_message (Says reply) ≡ true → IsServed B G c (reading x) reply
 IsServedTo B G _ said = has_message said ≡ false
 
 -- the same of every entry of a history

@@ -1,6 +1,7 @@
 -- What a history says of sessions: logins, the lock, marks, views, what a QUIT removed, and the
 -- records that are left (RFC 1939, 4 to 6).
-use Rattle.std.specs.Prelude.{ℕ, Bool, true, false, not, ◌&&◌, ◌||◌, ◌==◌, List, [], ◌∷◌, ◌++◌, Option, Some, None, Result, Ok, if◌then◌else◌, is_some}
+use Rattle.std.specs.Prelude.{ℕ, Bool, true, false, not, ◌&&◌, ◌||◌, ◌==◌, List, [], ◌∷◌, ◌++◌}
+use Rattle.std.specs.Prelude.{Option, Some, None, Result, Ok, if◌then◌else◌, is_some}
 use Rattle.std.specs.List.{find}
 use Rattle.std.specs.Str.{bytes_eq}
 use Rattle.creds.specs.declared.login_name.LoginName.{LoginName}
@@ -10,7 +11,9 @@ use Rattle.popline.specs.Replies.{MaildropHas, Marked}
 use Rattle.vault.specs.Records.{Records, class_of, without, in_maildrop}
 use Rattle.session.specs.View.{visible, to_remove}
 use Rattle.office.specs.Answers.{EndSession, Ended}
-use Rattle.office.specs.History.{Line, Administer, is_no_memory, arrivals, Tag, Idle, in_force, clerks, Gone, Says, Restart, Open, receipts, Said, Answers, maildrops, is_done, Act, Entry, arrived}
+use Rattle.office.specs.History.{Line, Administer, is_no_memory, arrivals, Tag, Idle, in_force}
+use Rattle.office.specs.History.{clerks, Gone, Says, Restart, Open, receipts, Said, Answers}
+use Rattle.office.specs.History.{maildrops, is_done, Act, Entry, arrived}
 use Rattle.office.specs.Connections.{heard, is_quit, reading, user, opens}
 use Rattle.vault.specs.declared.record.Message as store
 
@@ -51,7 +54,8 @@ ends_session _ tag said c = false
 -- a session lives on a connection: it logged in, and nothing ended the session since
 abbrev pub live : List Entry → ℕ → Bool
 live [] c = false
-live (e ∷ G) c = not (ends_session e.act e.tag e.said c) && (is_some (login_by e.act e.said c (user G c)) || live G c)
+live (e ∷ G) c = not (ends_session e.act e.tag e.said c) &&
+    (is_some (login_by e.act e.said c (user G c)) || live G c)
 
 -- the name, where the session lives
 abbrev pub when_live : Bool → Option LoginName → Option LoginName
@@ -104,17 +108,20 @@ quits _ tag = None
 -- ---- what a session sees, and what sessions removed
 
 -- a session's view after an entry: what its login finds, where the entry is a login
-abbrev pub view_after : Option LoginName → (found : LoginName → List store.Message) → (before : List store.Message) → List store.Message
+abbrev pub view_after : Option LoginName → (found : LoginName → List store.Message)
+    → (before : List store.Message) → List store.Message
 view_after None found before = before
 view_after (Some name) found before = found name
 
 -- what a session removes; a connection without one removes nothing
-abbrev pub removed_by : Option LoginName → (chosen : LoginName → List store.Message) → List store.Message
+abbrev pub removed_by : Option LoginName → (chosen : LoginName → List store.Message)
+    → List store.Message
 removed_by None chosen = []
 removed_by (Some name) chosen = chosen name
 
 -- what an act removes comes behind what was removed before
-abbrev pub removed_after : Option ℕ → (taken : ℕ → List store.Message) → (before : List store.Message) → List store.Message
+abbrev pub removed_after : Option ℕ → (taken : ℕ → List store.Message)
+    → (before : List store.Message) → List store.Message
 removed_after None taken before = before
 removed_after (Some c) taken before = before ++ taken c
 
@@ -123,13 +130,15 @@ abbrev mutual
   pub view : Records → List Entry → ℕ → List store.Message
   view B [] c = []
   view B (e ∷ G) c = view_after (login_by e.act e.said c (user G c))
-      (λ (name : LoginName). visible class_of (in_force B G) name (without (in_maildrop name.maildrop (arrivals B G)) (removed B G)))
+      (λ (name : LoginName). visible class_of (in_force B G) name
+      (without (in_maildrop name.maildrop (arrivals B G)) (removed B G)))
       (view B G c)
 
   pub removed : Records → List Entry → List store.Message
   removed B [] = []
   removed B (e ∷ G) = removed_after (quits e.act e.tag)
-      (λ c. removed_by (in_session G c) (λ (name : LoginName). to_remove class_of (in_force B G) name (marks G c) (view B G c)))
+      (λ c. removed_by (in_session G c)
+      (λ (name : LoginName). to_remove class_of (in_force B G) name (marks G c) (view B G c)))
       (removed B G)
 
 -- the messages that a maildrop has

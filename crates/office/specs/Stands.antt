@@ -1,6 +1,7 @@
 -- When an office stands for a trace: what it keeps of each connection and of the whole is what the
 -- trace says.
-use Rattle.std.specs.Prelude.{◌≡◌, ℕ, Bool, true, false, List, [], ◌++◌, length, drop, map, min, ◌≤◌, Option, Some, None, IsSome, string_bytes}
+use Rattle.std.specs.Prelude.{◌≡◌, ℕ, Bool, true, false, List, [], ◌++◌, length, drop, map, min}
+use Rattle.std.specs.Prelude.{◌≤◌, Option, Some, None, IsSome, string_bytes}
 use Rattle.std.specs.Ordering.{nat_cmp}
 use Rattle.std.specs.BTreeMap.{get}
 use Rattle.creds.specs.declared.login_name.LoginName.{LoginName}
@@ -9,7 +10,8 @@ use Rattle.vault.specs.Records.{Records, IsSound, Agree}
 use Rattle.vault.specs.Changes.{Contents, records_of}
 use Rattle.session.specs.declared.removals.Removals.{Removals}
 use Rattle.office.specs.History.{Entry, in_force}
-use Rattle.office.specs.Connections.{user, failures, setting, judging, connected, closing, acted, serving, sent}
+use Rattle.office.specs.Connections.{user, failures, setting, judging, connected, closing, acted}
+use Rattle.office.specs.Connections.{serving, sent}
 use Rattle.office.specs.Sessions.{live, login, marks, view, holder, records}
 use Rattle.office.specs.Replying.{stamp}
 use Rattle.office.specs.Events.{Log, Trace}
@@ -18,7 +20,7 @@ use Rattle.office.specs.Laws.{HasBegun, IsNewOrBegun}
 use Rattle.office.specs.Log.{opened, idle_seconds, moment, stream, taken, clock}
 use Rattle.office.specs.Trace.{history, is_open_by}
 use Rattle.office.specs.Expected.{most_in_a_piece}
-use Rattle.office.specs.Sitting.{LiesIn}
+use Rattle.office.specs.Transaction.{LiesIn}
 use Rattle.office.specs.Answered.{name_cmp}
 use Rattle.office.specs.Output.{Owes, reads_text, lent_of}
 use Rattle.office.specs.Kept.{Kept, most_failures}
@@ -105,7 +107,7 @@ most_in_a_line = 255
 
 -- The session that is kept is the trace's: the same login, the same numbers marked, and a view of
 -- messages that the store holds.
-pub record IsSitting (c : Contents) (s : Seen) (k : Session) : Type 0 where
+pub record IsTransaction (c : Contents) (s : Seen) (k : Session) : Type 0 where
   pub live : s.live ≡ true
   pub login : s.login ≡ Some k.name
   pub judged : k.removals ≡ s.judging
@@ -117,7 +119,7 @@ pub record IsSitting (c : Contents) (s : Seen) (k : Session) : Type 0 where
 -- a session is kept exactly where the trace has one
 abbrev pub IsSession : Contents → Seen → Option Session → Type 0
 IsSession c s None = s.live ≡ false
-IsSession c s (Some k) = IsSitting c s k
+IsSession c s (Some k) = IsTransaction c s k
 
 -- what is kept of an open connection is what the trace says of it, over a store with these contents
 pub record Matches (c : Contents) (s : Seen) (k : Kept) : Type 0 where
@@ -129,14 +131,15 @@ pub record Matches (c : Contents) (s : Seen) (k : Kept) : Type 0 where
   pub owed : Owes c k.session k.output (untaken_of s)
   -- more of a message is to come only where the last reply has one
   pub serving : reads_text k.output.source ≡ true → s.serving ≡ true
-  pub closing : k.talk.closing ≡ s.closing
-  pub user : k.talk.user ≡ s.user
-  pub failures : k.talk.failures ≡ min s.failures most_failures
+  pub closing : k.state.closing ≡ s.closing
+  pub user : k.state.user ≡ s.user
+  pub failures : k.state.failures ≡ min s.failures most_failures
   pub stamp : k.stamp ≡ s.stamp
-  pub judged : k.talk.removals ≡ s.judging
+  pub judged : k.state.removals ≡ s.judging
   pub clock : k.clock ≡ s.clock
   -- whatever comes next, the lines that haven't acted are those that what is kept and it give
-  pub lines : (more : List ℕ) → drop s.acted (cut (s.stream ++ more)) ≡ coming k.held (k.pending ++ more)
+  pub lines : (more : List ℕ) → drop s.acted (cut (s.stream ++ more)) ≡ coming k.held
+      (k.pending ++ more)
   -- where nothing is owed, all octets that were kept are cut
   pub cut_whole : untaken_of s ≡ [] → k.pending ≡ []
   -- it keeps at most a line and a piece of input: 255 + 4,096 octets
@@ -146,7 +149,7 @@ pub record Matches (c : Contents) (s : Seen) (k : Kept) : Type 0 where
 -- a connection that isn't kept isn't open, and nobody is in session on it
 pub record IsOver (s : Seen) : Type 0 where
   pub closed : is_seen_open s ≡ false
-  pub outside : s.live ≡ false
+  pub authorization : s.live ≡ false
 
 -- what is kept of a connection, or that nothing is, fits what the trace says of it
 abbrev pub IsKeptFor : Contents → Seen → Option Kept → Type 0
@@ -157,7 +160,8 @@ IsKeptFor c s (Some k) = Matches c s k
 
 -- An office stands for a trace, which begins with an opening. `Holds` says which contents a store
 -- holds.
-pub record StandsFor {V : Type 0} (Holds : V → Contents → Type 0) (o : Office V) (T : Trace) : Type 0 where
+pub record StandsFor {V : Type 0} (Holds : V → Contents
+    → Type 0) (o : Office V) (T : Trace) : Type 0 where
   pub keeps : Keeps (Holds o.vault) T
   pub began : HasBegun T.log
   pub policy : o.policy ≡ in_force T.base (history T)
@@ -167,9 +171,9 @@ pub record StandsFor {V : Type 0} (Holds : V → Contents → Type 0) (o : Offic
   pub idle : o.limits.idle ≡ idle_seconds T.log
   pub moment : o.moment ≡ moment T.log
   -- an open connection's number was given since the last restart
-  pub numbered : (c : ℕ) → IsSome (get nat_cmp o.links c) → (1 ≤ c) × (c ≤ opened T.log)
+  pub numbered : (c : ℕ) → IsSome (get nat_cmp o.connections c) → (1 ≤ c) × (c ≤ opened T.log)
   pub opened : o.opened ≡ opened T.log
-  pub links : (c : ℕ) → IsKeptFor keeps.contents (seen T c) (get nat_cmp o.links c)
+  pub connections : (c : ℕ) → IsKeptFor keeps.contents (seen T c) (get nat_cmp o.connections c)
   -- a maildrop's lock is its holder's
   pub locks : (d : List ℕ) → get name_cmp o.locks d ≡ holder (history T) d
 
@@ -180,7 +184,7 @@ length_of_lent (Some k) = length (lent_of k.output)
 
 -- how many octets an office lends a connection of this number
 abbrev pub lent_by : {V : Type 0} → Office V → ℕ → ℕ
-lent_by o c = length_of_lent (get nat_cmp o.links c)
+lent_by o c = length_of_lent (get nat_cmp o.connections c)
 
 -- the vault that an office was opened over
 abbrev pub vault_of : {V : Type 0} → Office V → V

@@ -7,8 +7,8 @@ use Rattle.vault.specs.Stops.{SaySame}
 use Rattle.vault.specs.declared.vault.Vault.{Ghosts}
 use Rattle.office.specs.declared.reading.Page.{Page}
 use Rattle.office.specs.declared.reading.Page.TheVariants as page
-use Rattle.office.specs.declared.talk.Acted.{Acted}
-use Rattle.office.specs.declared.talk.Acted.TheVariants as acted
+use Rattle.office.specs.declared.login_state.LineOutcome.{LineOutcome}
+use Rattle.office.specs.declared.login_state.LineOutcome.TheVariants as line_outcome
 use Rattle.office.specs.History.{Done}
 use Rattle.office.specs.Sessions.{records}
 use Rattle.office.specs.Events.{Event, Mark, Ignored, Tagged, Trace, given}
@@ -49,7 +49,8 @@ EitherOrWith _ without with_it = with_it
 -- event says, or the trace with the event taken as done; only the latter where the outcome is
 -- neither Failed nor NoMemory.
 abbrev pub StopLeaves : (MayLeave : Contents → Type 0) → Trace → Event → Outcome → Type 0
-StopLeaves MayLeave T e o = (left : Contents) → MayLeave left → EitherOrWith o (SaysTrace left T) (SaysTrace left (with_it_done T e o))
+StopLeaves MayLeave T e o = (left : Contents) → MayLeave left
+    → EitherOrWith o (SaysTrace left T) (SaysTrace left (with_it_done T e o))
 
 -- a device that was up is up after an event that was answered otherwise than Failed or NoMemory
 abbrev pub StaysUpUnless : (was_up is_up : Type 0) → Outcome → Type 0
@@ -79,9 +80,9 @@ WasPut page.Last = ⊤
 WasPut page.Refused = ⊥
 
 -- a line was done
-abbrev pub WasDone : Acted → Type 0
-WasDone acted.Done = ⊤
-WasDone acted.Failed = ⊥
+abbrev pub WasDone : LineOutcome → Type 0
+WasDone line_outcome.Done = ⊤
+WasDone line_outcome.Failed = ⊥
 
 -- A part changes records once at most. The count of faults doesn't fall, and the store doesn't
 -- become clean again. Where it is clean, it is up still if the part ended as `Own` says, and a stop

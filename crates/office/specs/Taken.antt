@@ -1,6 +1,7 @@
 -- All that a connection took since its opening, and what the history sends it; and which marks the
 -- events of a log may have.
-use Rattle.std.specs.Prelude.{◌≡◌, ℕ, Bool, true, false, ◌&&◌, ◌||◌, ◌≤◌, ◌==◌, List, [], ◌∷◌, ◌++◌, length, ⊤, if◌then◌else◌}
+use Rattle.std.specs.Prelude.{◌≡◌, ℕ, Bool, true, false, ◌&&◌, ◌||◌, ◌≤◌, ◌==◌, List, [], ◌∷◌, ◌++◌}
+use Rattle.std.specs.Prelude.{length, ⊤, if◌then◌else◌}
 use Rattle.vault.specs.Records.{Records}
 use Rattle.office.specs.History.{Done, Entry}
 use Rattle.office.specs.Connections.{connected, closing, sent}
@@ -22,13 +23,15 @@ trace_of B L = record { base = B; log = L }
 -- that an opening gets
 abbrev pub all_taken_after : Event → Mark → (next c : ℕ) → (octets before : List ℕ) → List ℕ
 all_taken_after event.Connect (Tagged Done) next c octets before = if next == c then [] else before
-all_taken_after (event.Took n count) (Tagged t) next c octets before = if n == c then before ++ octets else before
+all_taken_after (event.Took n count) (Tagged t) next c octets before =
+    if n == c then before ++ octets else before
 all_taken_after _ m next c octets before = before
 
 -- the octets that a connection took since its opening, of a log over these records
 abbrev pub all_taken_by : Records → Log → ℕ → List ℕ
 all_taken_by B [] c = []
-all_taken_by B ((e, m) ∷ L) c = all_taken_after e m (next_number L) c (octets_taken (trace_of B L) e m) (all_taken_by B L c)
+all_taken_by B ((e, m) ∷ L) c =
+    all_taken_after e m (next_number L) c (octets_taken (trace_of B L) e m) (all_taken_by B L c)
 
 -- the same, of a trace
 abbrev pub all_taken : Trace → ℕ → List ℕ
@@ -49,7 +52,8 @@ closed_after _ m next c now before = now || before
 -- whether its own closing ended a connection, of a log over these records
 abbrev pub has_closed_by : Records → Log → ℕ → Bool
 has_closed_by B [] c = false
-has_closed_by B ((e, m) ∷ L) c = closed_after e m (next_number L) c (closes_at ((e, m) ∷ L) (history (trace_of B ((e, m) ∷ L))) c) (has_closed_by B L c)
+has_closed_by B ((e, m) ∷ L) c = closed_after e m (next_number L) c
+    (closes_at ((e, m) ∷ L) (history (trace_of B ((e, m) ∷ L))) c) (has_closed_by B L c)
 
 -- the same, of a trace
 abbrev pub has_closed : Trace → ℕ → Bool
@@ -84,4 +88,5 @@ pub record IsSentExactly (T : Trace) (c : ℕ) : Type 0 where
   pub beginning : (untaken : List ℕ) × (all_taken T c ++ untaken ≡ sent (history T) c)
   pub closed : has_closed T c ≡ true → all_taken T c ≡ sent (history T) c
   -- so it ended, where nothing else ended it
-  pub else_closed : is_open T c ≡ false → connected (history T) c ≡ true → all_taken T c ≡ sent (history T) c
+  pub else_closed : is_open T c ≡ false → connected (history T) c ≡ true
+      → all_taken T c ≡ sent (history T) c

@@ -1,6 +1,7 @@
 -- What is said to each act, by the history before it, its front: replies, and answers to deposits
 -- and commands.
-use Rattle.std.specs.Prelude.{ℕ, nat_lt, List, [], ◌∷◌, length, map, Option, Some, None, if◌then◌else◌, is_some}
+use Rattle.std.specs.Prelude.{ℕ, nat_lt, List, [], ◌∷◌, length, map, Option, Some, None}
+use Rattle.std.specs.Prelude.{if◌then◌else◌, is_some}
 use Rattle.std.specs.List.{filter_map}
 use Rattle.mailtext.specs.Text.{kept_form}
 use Rattle.creds.specs.declared.login_name.LoginName.{LoginName}
@@ -11,10 +12,16 @@ use Rattle.creds.specs.declared.credential.Credential.TheVariants as kept
 use Rattle.popline.specs.Replies.{Greeting}
 use Rattle.policy.specs.Policy.{decide}
 use Rattle.vault.specs.Records.{Records, uid_of, octets_of, most_octets}
-use Rattle.vault.specs.Changes.{DepositAnswer, Accepted, KnownAs, deposit_answer, PutAnswer, put_maildrop_answer, put_clerk_answer, DropAnswer, drop_answer, total_in}
+use Rattle.vault.specs.Changes.{DepositAnswer, Accepted, KnownAs, deposit_answer, PutAnswer}
+use Rattle.vault.specs.Changes.{put_maildrop_answer, put_clerk_answer, DropAnswer, drop_answer}
+use Rattle.vault.specs.Changes.{total_in}
 use Rattle.vault.specs.Changes as changes
-use Rattle.office.specs.Answers.{AdminCommand, ListMaildrops, ShowMaildrop, AddMaildrop, DropMaildrop, ShowClerk, PutClerk, DropClerk, ShowPolicy, SetPolicy, ListGroups, ListSessions, EndSession, Explain, Answer}
-use Rattle.office.specs.History.{Act, Open, Line, Deposit, Administer, Tag, Done, Said, Silence, Says, Answers, Entry, in_force, clerks, credential, maildrops, exists, deposits}
+use Rattle.office.specs.Answers.{AdminCommand, ListMaildrops, ShowMaildrop, AddMaildrop}
+use Rattle.office.specs.Answers.{DropMaildrop, ShowClerk, PutClerk, DropClerk, ShowPolicy}
+use Rattle.office.specs.Answers.{SetPolicy, ListGroups, ListSessions, EndSession, Explain, Answer}
+use Rattle.office.specs.History.{Act, Open, Line, Deposit, Administer, Tag, Done, Said, Silence}
+use Rattle.office.specs.History.{Says, Answers, Entry, in_force, clerks, credential, maildrops}
+use Rattle.office.specs.History.{exists, deposits}
 use Rattle.office.specs.Connections.{setting, heard}
 use Rattle.office.specs.Sessions.{live, in_session, holder, present}
 use Rattle.office.specs.Replying.{said_to_line, is_empty}
@@ -36,7 +43,8 @@ abbrev pub deposited : Records → List Entry → (maildrop class id text : List
 deposited B G d class id text =
     if is_empty text then answer.EmptyText
     else if nat_lt most_octets (length (kept_form text)) then answer.TextTooLarge
-    else answer_of_deposit (deposit_answer (exists B G d) (length (present B G d)) (deposits B G d) class id (kept_form text))
+    else answer_of_deposit (deposit_answer (exists B G d) (length (present B G d))
+    (deposits B G d) class id (kept_form text))
 
 -- ---- administration
 
@@ -73,21 +81,27 @@ answer_of_drop changes.NotEmpty = answer.NotEmpty
 
 -- the answer to a command after a front
 abbrev pub administered : Records → List Entry → AdminCommand → Answer
-administered B G ListMaildrops = answer.Maildrops (map (λ d. total_in d (present B G d)) (by_name (maildrops B G)))
-administered B G (ShowMaildrop d) = if exists B G d then answer.Messages (map row_of (present B G d)) else answer.NoSuchMaildrop
-administered B G (AddMaildrop d) = answer_of_put answer.WasThere (put_maildrop_answer d (maildrops B G))
+administered B G ListMaildrops =
+    answer.Maildrops (map (λ d. total_in d (present B G d)) (by_name (maildrops B G)))
+administered B G (ShowMaildrop d) =
+    if exists B G d then answer.Messages (map row_of (present B G d)) else answer.NoSuchMaildrop
+administered B G (AddMaildrop d) =
+    answer_of_put answer.WasThere (put_maildrop_answer d (maildrops B G))
 administered B G (DropMaildrop d) =
     if is_some (holder G d) then answer.MaildropInUse
     else answer_of_drop (drop_answer (exists B G d) (length (present B G d)))
 administered B G (ShowClerk name) = kind_of (credential B G name)
-administered B G (PutClerk name given) = answer_of_put answer.Replaced (put_clerk_answer name (clerks B G))
-administered B G (DropClerk name) = if is_some (credential B G name) then answer.Dropped else answer.NoSuchClerk
+administered B G (PutClerk name given) =
+    answer_of_put answer.Replaced (put_clerk_answer name (clerks B G))
+administered B G (DropClerk name) =
+    if is_some (credential B G name) then answer.Dropped else answer.NoSuchClerk
 administered B G ShowPolicy = answer.PolicyIs (in_force B G)
 administered B G (SetPolicy policy) = answer.RuleCount (length policy.rules)
 administered B G ListGroups = answer.GroupsOf (in_force B G)
 administered B G ListSessions = answer.Sessions (sessions G)
 administered B G (EndSession c) = if live G c then answer.Ended else answer.NoSuchSession
-administered B G (Explain clerk d class action) = answer.Explained (decide (in_force B G) clerk d class action)
+administered B G (Explain clerk d class action) =
+    answer.Explained (decide (in_force B G) clerk d class action)
 
 -- ---- a history
 

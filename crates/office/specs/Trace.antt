@@ -1,9 +1,12 @@
 -- The acts that a list of events gives rise to, and what each connection is still owed.
-use Rattle.std.specs.Prelude.{◌≡◌, ℕ, Bool, true, false, not, ◌&&◌, ◌+◌, ◌≤◌, nat_lt, nat_le, List, [], ◌∷◌, ◌++◌, length, take, drop, min, max, filter, Option, Some, None, slice_get}
+use Rattle.std.specs.Prelude.{◌≡◌, ℕ, Bool, true, false, not, ◌&&◌, ◌+◌, ◌≤◌, nat_lt, nat_le, List}
+use Rattle.std.specs.Prelude.{[], ◌∷◌, ◌++◌, length, take, drop, min, max, filter, Option, Some}
+use Rattle.std.specs.Prelude.{None, slice_get}
 use Rattle.std.specs.List.{range_with_len}
 use Rattle.popline.specs.Cutting.{Cut, cut, has_newline}
 use Rattle.vault.specs.Records.{Records}
-use Rattle.office.specs.History.{Act, Open, Line, Gone, Idle, Deposit, Administer, Restart, Tag, Done, Failed, NoMemory, Entry}
+use Rattle.office.specs.History.{Act, Open, Line, Gone, Idle, Deposit, Administer, Restart, Tag}
+use Rattle.office.specs.History.{Done, Failed, NoMemory, Entry}
 use Rattle.office.specs.Connections.{setting, judging, connected, closing, acted, serving, sent}
 use Rattle.office.specs.Told.{told}
 use Rattle.office.specs.Replying.{is_empty}
@@ -31,7 +34,8 @@ open_numbers_at T G = filter (is_open_at T G) (range_with_len 1 (opened T))
 
 -- the numbers of those that have done nothing for the idle seconds at this moment
 abbrev pub idle_numbers : Log → List Entry → (moment : ℕ) → List ℕ
-idle_numbers T G moment = filter (λ c. nat_le (clock T c + idle_seconds T) moment) (open_numbers_at T G)
+idle_numbers T G moment =
+    filter (λ c. nat_le (clock T c + idle_seconds T) moment) (open_numbers_at T G)
 
 -- a connection's next line, with this piece behind what came before
 abbrev pub next_line : Log → List Entry → ℕ → (piece : List ℕ) → Option Cut
@@ -89,7 +93,8 @@ abbrev pub acts_of : Log → List Entry → Event → Tag → List (Act × Tag)
 acts_of T G (event.Start host boot limits) t = (Restart boot host limits.removals, t) ∷ []
 acts_of T G event.Connect t = open_act (next_number T) t
 acts_of T G (event.Bytes c piece) t = acts_of_piece (has_newline piece) c t (next_line T G c piece)
-acts_of T G (event.Took c octets) t = acts_of_took (is_left T G c octets) (serving G c) (closing G c) c t (next_line T G c [])
+acts_of T G (event.Took c octets) t =
+    acts_of_took (is_left T G c octets) (serving G c) (closing G c) c t (next_line T G c [])
 acts_of T G (event.Gone c) t = (Gone c, t) ∷ []
 acts_of T G (event.Tick now) t = idle_acts (idle_numbers T G (max (moment T) now))
 acts_of T G (event.Deposit d class id text) t = (Deposit d class id text, t) ∷ []

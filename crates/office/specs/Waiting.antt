@@ -62,4 +62,4 @@ line_with k piece = if has_newline piece then Some (line_after k piece) else Non
 abbrev pub kept_waits : (is_held : List ℕ → Bool) → (moment seconds : ℕ) → Kept → List ℕ → Bool
 kept_waits is_held moment seconds k piece =
     not (is_idle moment seconds k)
-    && is_held_for is_held (coming_login (is_some k.session) k.talk.user (line_with k piece))
+    && is_held_for is_held (coming_login (is_some k.session) k.state.user (line_with k piece))

@@ -14,19 +14,21 @@ ghost use Rattle.office.specs.Replying.{is_allowed as is_allowed_of};
 ghost use Rattle.vault.specs.Parts.{OnlyLooks};
 ghost use Rattle.office.specs.Stopping.{WasDone, ActsOnce};
 ghost use Rattle.office.specs.Output.{nothing_owed, OwesReply};
-ghost use Rattle.office.specs.Sitting.{Sitting, reply_inside};
-ghost use Rattle.office.specs.Accounts.{line_account, seated_account, inside_account};
-ghost use Rattle.office.specs.Kept.{said_outside, line_outside, asks_outside, asks, talk_after};
-ghost use Rattle.office.specs.Answered.{desk_over, reply_of, name_cmp, IsSeated, SessionAfter};
+ghost use Rattle.office.specs.Transaction.{Transaction, transaction_reply};
+ghost use Rattle.office.specs.Accounts.{line_account, state_account, transaction_account};
+ghost use Rattle.office.specs.Kept.{authorization_said, authorization_line, authorization_asks};
+ghost use Rattle.office.specs.Kept.{asks, login_state_after};
+ghost use Rattle.office.specs.Answered.{context_over, reply_of, name_cmp, HasTransaction};
+ghost use Rattle.office.specs.Answered.{SessionAfter};
 ghost use Rattle.office.specs.Answered.{Becomes, LocksFollow, held_after};
 
 use crate::account::Account;
 use crate::command_line::CommandLine;
-use crate::inside;
 use crate::locks::{Locks, lock, release};
 use crate::login::judge;
+use crate::login_state::{LineContext, LineOutcome, LoginState};
 use crate::output::Output;
-use crate::talk::{Acted, Desk, Talk};
+use crate::transaction;
 use creds::{LoginName, Proof};
 use popline::{Command, Cut, Keyword, LineFault, Reply};
 use session::Session;
@@ -47,30 +49,32 @@ fn is_allowed(keyword: Keyword, live: bool, has_user: bool) -> bool
 }
 
 /// The reply to a command before a login, and the session where one begins.
-fn obey<V: Vault>(
+fn command_reply<V: Vault>(
     alloc: Global,
     vault: &mut V,
-    desk: Desk<'_>,
+    context: LineContext<'_>,
     locks: &Locks,
     command: &Command<'_>,
-    talk: Talk,
+    state: LoginState,
 ) -> Result<(Reply<'static>, Option<Session>), VaultFault>
     ensures said { (c : Contents) → V.holds vault.old c → V.is_clean vault.new
-        → IsDone (V.holds vault.new) c c (Ok (said_outside (desk_over c desk.entry locks.now) talk
+        → IsDone (V.holds vault.new) c c
+        (Ok (authorization_said (context_over c context.entry locks.now) state
         (Ok (command_seen command.now)))) (seen_as result (λ r. reply_seen r.0)) }
     ensures session { IfOk result (λ r. (c : Contents) → V.holds vault.old c → V.is_clean vault.new
         → SessionAfter (is_quit (Ok (command_seen command.now)))
-        (logs_in (Ok (command_seen command.now)) (Says (reply_seen r.0)) talk.user) c
-        desk.entry.policy.now talk.removals (reply_seen r.0) None r.1) }
-    ensures asked { OnErr result (asks_outside talk (Ok (command_seen command.now)) ≡ true) }
+        (logs_in (Ok (command_seen command.now)) (Says (reply_seen r.0)) state.user) c
+        context.entry.policy.now state.removals (reply_seen r.0) None r.1) }
+    ensures asked { OnErr result (authorization_asks state (Ok (command_seen command.now))
+        ≡ true) }
     ensures looks { Looks V.holds V.faults V.is_clean V.is_up V.may_leave vault.old vault.new
         result }
-    ensures unasked { asks_outside talk (Ok (command_seen command.now)) ≡ false
+    ensures unasked { authorization_asks state (Ok (command_seen command.now)) ≡ false
         → vault.new ≡ vault.old }
 {
-    let user = talk.user;
-    let failures = talk.failures;
-    let removals = talk.removals;
+    let user = state.user;
+    let failures = state.failures;
+    let removals = state.removals;
     match command {
         Command::Capa => Ok((Reply::Capabilities, None)),
         Command::User(_) => Ok((Reply::SendPass, None)),
@@ -78,12 +82,16 @@ fn obey<V: Vault>(
             None => Ok((Reply::WrongState, None)),
             Some(name) => {
                 let proof = Proof::Pass(*password);
-                judge(alloc, vault, desk, locks, failures, removals, &name, &proof)
+                judge(
+                    alloc, vault, context, locks, failures, removals, &name, &proof,
+                )
             }
         },
         Command::Apop(name, digest) => {
             let proof = Proof::Apop(*digest);
-            judge(alloc, vault, desk, locks, failures, removals, name, &proof)
+            judge(
+                alloc, vault, context, locks, failures, removals, name, &proof,
+            )
         }
         Command::Quit => Ok((Reply::Bye, None)),
         _ => Ok((Reply::WrongState, None)),
@@ -94,31 +102,33 @@ fn obey<V: Vault>(
 fn reply_to<V: Vault>(
     alloc: Global,
     vault: &mut V,
-    desk: Desk<'_>,
+    context: LineContext<'_>,
     locks: &Locks,
     line: &CommandLine<'_>,
-    talk: Talk,
+    state: LoginState,
 ) -> Result<(Reply<'static>, Option<Session>), VaultFault>
     ensures said { (c : Contents) → V.holds vault.old c → V.is_clean vault.new
-        → IsDone (V.holds vault.new) c c (Ok (line_outside (desk_over c desk.entry locks.now) talk
+        → IsDone (V.holds vault.new) c c
+        (Ok (authorization_line (context_over c context.entry locks.now) state
         line.now)) (seen_as result (λ r. reply_seen r.0)) }
     ensures session { IfOk result (λ r. (c : Contents) → V.holds vault.old c → V.is_clean vault.new
-        → Becomes c desk.entry.policy.now talk line.now (reply_seen r.0) None r.1) }
-    ensures asked { OnErr result (asks_outside talk (reading line.now) ≡ true) }
+        → Becomes c context.entry.policy.now state line.now (reply_seen r.0) None r.1) }
+    ensures asked { OnErr result (authorization_asks state (reading line.now) ≡ true) }
     ensures looks { Looks V.holds V.faults V.is_clean V.is_up V.may_leave vault.old vault.new
         result }
-    ensures unasked { asks_outside talk (reading line.now) ≡ false → vault.new ≡ vault.old }
+    ensures unasked { authorization_asks state (reading line.now) ≡ false
+        → vault.new ≡ vault.old }
 {
     if line.is_too_long() {
         return Ok((Reply::LineTooLong, None));
     }
     match line.reading() {
         Err(LineFault::Unknown) => Ok((Reply::UnknownCommand, None)),
-        Err(LineFault::Syntax(keyword)) if is_allowed(*keyword, false, talk.user.is_some()) => {
+        Err(LineFault::Syntax(keyword)) if is_allowed(*keyword, false, state.user.is_some()) => {
             Ok((Reply::BadArguments, None))
         }
         Err(LineFault::Syntax(_)) => Ok((Reply::WrongState, None)),
-        Ok(command) => obey(alloc, vault, desk, locks, command, talk),
+        Ok(command) => command_reply(alloc, vault, context, locks, command, state),
     }
 }
 
@@ -152,144 +162,156 @@ fn is_refusal(reply: &Reply<'_>) -> bool
 }
 
 /// What is remembered after a line that got this reply.
-fn next_talk(line: &CommandLine<'_>, reply: &Reply<'_>, talk: Talk) -> Talk
-    ensures { result ≡ talk_after line.now (reply_seen reply.now) talk }
+fn next_login_state(line: &CommandLine<'_>, reply: &Reply<'_>, state: LoginState) -> LoginState
+    ensures { result ≡ login_state_after line.now (reply_seen reply.now) state }
 {
-    Talk {
-        user: next_user(line, reply, talk.user),
+    LoginState {
+        user: next_user(line, reply, state.user),
         failures: if is_refusal(reply) {
-            talk.failures.saturating_add(1)
+            state.failures.saturating_add(1)
         } else {
-            talk.failures
+            state.failures
         },
-        closing: is_closing(line, reply) || talk.closing,
-        removals: talk.removals,
+        closing: is_closing(line, reply) || state.closing,
+        removals: state.removals,
     }
 }
 
 /// Answers a line before a login: puts its reply, and remembers what it leaves. Where a session
 /// begins, returns it and locks its maildrop. Where the store fails, the reply says so. `account`
 /// becomes what was judged.
-fn answer_outside<V: Vault>(
+fn authorization_answer<V: Vault>(
     alloc: Global,
     vault: &mut V,
-    desk: Desk<'_>,
+    context: LineContext<'_>,
     locks: &mut Locks,
     line: &CommandLine<'_>,
     output: &mut Output,
-    talk: &mut Talk,
+    state: &mut LoginState,
     account: &mut Account,
-) -> Result<(Acted, Option<Session>), AllocError>
+) -> Result<(LineOutcome, Option<Session>), AllocError>
     requires { output.old ≡ nothing_owed }
     ensures owed { IfOk result (λ r. (c : Contents) → V.holds vault.old c → V.is_clean vault.new
         → output.new ≡ record output.old {
           ready = output.old.ready
-              ++ bytes_of (reply_of r.0 (desk_over c desk.entry locks.old) talk.old None line.now);
+              ++ bytes_of (reply_of r.0 (context_over c context.entry locks.old) state.old
+              None line.now);
         }) }
-    ensures talk { IfOk result (λ r. (c : Contents) → V.holds vault.old c → V.is_clean vault.new
-        → talk.new ≡ talk_after line.now (reply_of r.0 (desk_over c desk.entry locks.old) talk.old
-        None line.now) talk.old) }
+    ensures state { IfOk result (λ r. (c : Contents) → V.holds vault.old c
+        → V.is_clean vault.new
+        → state.new ≡ login_state_after line.now
+        (reply_of r.0 (context_over c context.entry locks.old) state.old
+        None line.now) state.old) }
     ensures session { IfOk result (λ r. (c : Contents) → V.holds vault.old c → V.is_clean vault.new
-        → Becomes c desk.entry.policy.now talk.old line.now
-        (reply_of r.0 (desk_over c desk.entry locks.old) talk.old None line.now) None r.1) }
-    ensures locks { IfOk result (λ r. LocksFollow desk.entry.number None r.1 locks.old locks.new) }
+        → Becomes c context.entry.policy.now state.old line.now
+        (reply_of r.0 (context_over c context.entry locks.old) state.old None line.now) None
+        r.1) }
+    ensures locks { IfOk result (λ r. LocksFollow context.entry.number None r.1 locks.old locks.new) }
     ensures locks_err { OnErr result ((d : List ℕ)
         → get name_cmp locks.new d ≡ get name_cmp locks.old d) }
-    ensures may { IfOk result (λ r. r.0 ≡ Acted.Failed
-        → asks_outside talk.old (reading line.now) ≡ true) }
-    ensures cause { IfOk result (λ r. r.0 ≡ Acted.Failed → (c : Contents) → V.holds vault.old c
+    ensures may { IfOk result (λ r. r.0 ≡ LineOutcome.Failed
+        → authorization_asks state.old (reading line.now) ≡ true) }
+    ensures cause { IfOk result (λ r. r.0 ≡ LineOutcome.Failed → (c : Contents)
+        → V.holds vault.old c
         → V.is_clean vault.new → has_grown (V.faults vault.old) (V.faults vault.new) ≡ true) }
     ensures looks { OnlyLooks V.Vault vault.old vault.new (IsOkAnd result (λ r. WasDone r.0)) }
     ensures account { IfOk result (λ r. (c : Contents) → V.holds vault.old c → V.is_clean vault.new
         → account.new ≡ line_account (reading line.now) (Says (reply_of r.0
-        (desk_over c desk.entry locks.old) talk.old None line.now)) talk.old.user) }
+        (context_over c context.entry locks.old) state.old None line.now))
+        state.old.user) }
     ensures account_err { OnErr result (account.new ≡ account.old) }
-    ensures unasked { asks_outside talk.old (reading line.now) ≡ false → vault.new ≡ vault.old }
+    ensures unasked { authorization_asks state.old (reading line.now) ≡ false
+        → vault.new ≡ vault.old }
 {
-    let (reply, begun, acted) = match reply_to(alloc, vault, desk, locks, line, *talk) {
-        Ok((reply, begun)) => (reply, begun, Acted::Done),
+    let (reply, begun, outcome) = match reply_to(alloc, vault, context, locks, line, *state) {
+        Ok((reply, begun)) => (reply, begun, LineOutcome::Done),
         Err(VaultFault::NoMemory) => return Err(AllocError),
-        Err(_) => (Reply::StoreFailed, None, Acted::Failed),
+        Err(_) => (Reply::StoreFailed, None, LineOutcome::Failed),
     };
     output.say(alloc, &reply)?;
-    lock(locks, desk.number, &begun)?;
-    *account = Account::of_line(line, &reply, talk.user);
-    *talk = next_talk(line, &reply, *talk);
-    Ok((acted, begun))
+    lock(locks, context.number, &begun)?;
+    *account = Account::of_line(line, &reply, state.user);
+    *state = next_login_state(line, &reply, *state);
+    Ok((outcome, begun))
 }
 
 /// Answers a line of a session, and returns the session. A QUIT ends it, and lets its maildrop's
 /// lock go. `account`, which tells nothing yet, becomes what the line did to the marks, or a QUIT's
 /// account.
-fn answer_inside<V: Vault>(
+fn transaction_answer<V: Vault>(
     alloc: Global,
     vault: &mut V,
-    desk: Desk<'_>,
+    context: LineContext<'_>,
     locks: &mut Locks,
     line: &CommandLine<'_>,
     output: &mut Output,
-    talk: &mut Talk,
+    state: &mut LoginState,
     session: Session,
     account: &mut Account,
-) -> Result<(Acted, Option<Session>), AllocError>
+) -> Result<(LineOutcome, Option<Session>), AllocError>
     requires { output.old ≡ nothing_owed }
-    ensures owed { IfOk result (λ r. (c : Contents) (v : Sitting) → V.holds vault.old c
-        → V.is_clean vault.new → IsSeated c (Some session) (Some v)
-        → OwesReply c r.1 output.new (reply_of r.0 (desk_over c desk.entry locks.old) talk.old
+    ensures owed { IfOk result (λ r. (c : Contents) (v : Transaction) → V.holds vault.old c
+        → V.is_clean vault.new → HasTransaction c (Some session) (Some v)
+        → OwesReply c r.1 output.new (reply_of r.0
+        (context_over c context.entry locks.old) state.old
         (Some v) line.now)) }
-    ensures talk { IfOk result (λ r. (c : Contents) (v : Sitting) → V.holds vault.old c
-        → V.is_clean vault.new → IsSeated c (Some session) (Some v)
-        → talk.new ≡ talk_after line.now (reply_of r.0 (desk_over c desk.entry locks.old) talk.old
-        (Some v) line.now) talk.old) }
-    ensures session { IfOk result (λ r. (c : Contents) (v : Sitting) → V.holds vault.old c
-        → V.is_clean vault.new → IsSeated c (Some session) (Some v)
-        → Becomes c desk.entry.policy.now talk.old line.now
-        (reply_of r.0 (desk_over c desk.entry locks.old) talk.old (Some v) line.now) (Some session)
+    ensures state { IfOk result (λ r. (c : Contents) (v : Transaction) → V.holds vault.old c
+        → V.is_clean vault.new → HasTransaction c (Some session) (Some v)
+        → state.new ≡ login_state_after line.now
+        (reply_of r.0 (context_over c context.entry locks.old) state.old
+        (Some v) line.now) state.old) }
+    ensures session { IfOk result (λ r. (c : Contents) (v : Transaction) → V.holds vault.old c
+        → V.is_clean vault.new → HasTransaction c (Some session) (Some v)
+        → Becomes c context.entry.policy.now state.old line.now
+        (reply_of r.0 (context_over c context.entry locks.old) state.old (Some v) line.now)
+        (Some session)
         r.1) }
-    ensures locks { IfOk result (λ r. LocksFollow desk.entry.number (Some session) r.1 locks.old
+    ensures locks { IfOk result (λ r. LocksFollow context.entry.number (Some session) r.1 locks.old
         locks.new) }
     ensures locks_err { OnErr result ((d : List ℕ)
         → get name_cmp locks.new d ≡ get name_cmp locks.old d) }
-    ensures held { IfOk result (λ r. (c : Contents) (v : Sitting) → V.holds vault.old c
-        → V.is_clean vault.new → IsSeated c (Some session) (Some v)
-        → V.holds vault.new (held_after r.0 desk.entry.policy.now (Some session) (reading line.now)
+    ensures held { IfOk result (λ r. (c : Contents) (v : Transaction) → V.holds vault.old c
+        → V.is_clean vault.new → HasTransaction c (Some session) (Some v)
+        → V.holds vault.new (held_after r.0 context.entry.policy.now (Some session)
+        (reading line.now)
         c)) }
     ensures err { OnErr result ((c : Contents) → V.holds vault.old c → V.is_clean vault.new
         → V.holds vault.new c) }
-    ensures may { IfOk result (λ r. r.0 ≡ Acted.Failed → (c : Contents) (v : Sitting)
-        → V.holds vault.old c → V.is_clean vault.new → IsSeated c (Some session) (Some v)
-        → asks desk.entry.policy.now talk.old (Some v) (reading line.now) ≡ true) }
-    ensures cause { IfOk result (λ r. r.0 ≡ Acted.Failed → (c : Contents) (v : Sitting)
-        → V.holds vault.old c → V.is_clean vault.new → IsSeated c (Some session) (Some v)
+    ensures may { IfOk result (λ r. r.0 ≡ LineOutcome.Failed → (c : Contents) (v : Transaction)
+        → V.holds vault.old c → V.is_clean vault.new → HasTransaction c (Some session) (Some v)
+        → asks context.entry.policy.now state.old (Some v) (reading line.now) ≡ true) }
+    ensures cause { IfOk result (λ r. r.0 ≡ LineOutcome.Failed → (c : Contents) (v : Transaction)
+        → V.holds vault.old c → V.is_clean vault.new → HasTransaction c (Some session) (Some v)
         → has_grown (V.faults vault.old) (V.faults vault.new) ≡ true) }
     ensures acts { ActsOnce V.Vault vault.old vault.new (IsOkAnd result (λ r. WasDone r.0))
-        (held_after Acted.Done desk.entry.policy.now (Some session) (reading line.now)) }
+        (held_after LineOutcome.Done context.entry.policy.now (Some session) (reading line.now)) }
     ensures account { account.old ≡ Account.Nothing
-        → IfOk result (λ r. (c : Contents) (v : Sitting) → IsSeated c (Some session) (Some v)
-        → account.new ≡ inside_account r.0 desk.entry.policy.now session (reading line.now)
-        (Says (reply_inside r.0 desk.entry.policy.now v line.now))) }
+        → IfOk result (λ r. (c : Contents) (v : Transaction)
+        → HasTransaction c (Some session) (Some v)
+        → account.new ≡ transaction_account r.0 context.entry.policy.now session (reading line.now)
+        (Says (transaction_reply r.0 context.entry.policy.now v line.now))) }
     ensures account_err { OnErr result (account.new ≡ account.old) }
-    ensures unasked { (c : Contents) (v : Sitting) → IsSeated c (Some session) (Some v)
-        → asks desk.entry.policy.now talk.old (Some v) (reading line.now) ≡ false
+    ensures unasked { (c : Contents) (v : Transaction) → HasTransaction c (Some session) (Some v)
+        → asks context.entry.policy.now state.old (Some v) (reading line.now) ≡ false
         → vault.new ≡ vault.old }
 {
     let mut session = session;
     let maildrop = session.maildrop();
-    let acted = inside::answer(
+    let outcome = transaction::answer(
         alloc,
         vault,
-        desk.policy,
+        context.policy,
         line,
         output,
         &mut session,
         account,
     )?;
-    *talk = inside::next_talk(line, acted, *talk);
+    *state = transaction::next_login_state(line, outcome, *state);
     if line.is_quit() {
         release(locks, Some(maildrop));
-        return Ok((acted, None));
+        return Ok((outcome, None));
     }
-    Ok((acted, Some(session)))
+    Ok((outcome, Some(session)))
 }
 
 /// Answers a line: puts its reply, and keeps what the line leaves: what is remembered, the session
@@ -298,73 +320,83 @@ fn answer_inside<V: Vault>(
 pub fn answer<V: Vault>(
     alloc: Global,
     vault: &mut V,
-    desk: Desk<'_>,
+    context: LineContext<'_>,
     locks: &mut Locks,
     cut: Cut<'_>,
     output: &mut Output,
-    talk: &mut Talk,
+    state: &mut LoginState,
     session: &mut Option<Session>,
     account: &mut Account,
-) -> Result<Acted, AllocError>
+) -> Result<LineOutcome, AllocError>
     requires { output.old ≡ nothing_owed }
-    ensures owed { IfOk result (λ acted. (c : Contents) (v : Option Sitting) → V.holds vault.old c
-        → V.is_clean vault.new → IsSeated c session.old v
-        → OwesReply c session.new output.new (reply_of acted (desk_over c desk.entry locks.old)
-        talk.old v (cut_seen cut.entry))) }
-    ensures talk { IfOk result (λ acted. (c : Contents) (v : Option Sitting) → V.holds vault.old c
-        → V.is_clean vault.new → IsSeated c session.old v
-        → talk.new ≡ talk_after (cut_seen cut.entry)
-        (reply_of acted (desk_over c desk.entry locks.old) talk.old v (cut_seen cut.entry))
-        talk.old) }
-    ensures session { IfOk result (λ acted. (c : Contents) (v : Option Sitting)
-        → V.holds vault.old c → V.is_clean vault.new → IsSeated c session.old v
-        → Becomes c desk.entry.policy.now talk.old (cut_seen cut.entry)
-        (reply_of acted (desk_over c desk.entry locks.old) talk.old v (cut_seen cut.entry))
+    ensures owed { IfOk result (λ outcome. (c : Contents) (v : Option Transaction)
+        → V.holds vault.old c
+        → V.is_clean vault.new → HasTransaction c session.old v
+        → OwesReply c session.new output.new
+        (reply_of outcome (context_over c context.entry locks.old)
+        state.old v (cut_seen cut.entry))) }
+    ensures state { IfOk result (λ outcome. (c : Contents) (v : Option Transaction)
+        → V.holds vault.old c
+        → V.is_clean vault.new → HasTransaction c session.old v
+        → state.new ≡ login_state_after (cut_seen cut.entry)
+        (reply_of outcome (context_over c context.entry locks.old) state.old v
+        (cut_seen cut.entry))
+        state.old) }
+    ensures session { IfOk result (λ outcome. (c : Contents) (v : Option Transaction)
+        → V.holds vault.old c → V.is_clean vault.new → HasTransaction c session.old v
+        → Becomes c context.entry.policy.now state.old (cut_seen cut.entry)
+        (reply_of outcome (context_over c context.entry locks.old) state.old v
+        (cut_seen cut.entry))
         session.old session.new) }
-    ensures locks { OnOk result (LocksFollow desk.entry.number session.old session.new locks.old
+    ensures locks { OnOk result (LocksFollow context.entry.number session.old session.new locks.old
         locks.new) }
     ensures locks_err { OnErr result ((d : List ℕ)
         → get name_cmp locks.new d ≡ get name_cmp locks.old d) }
-    ensures held { IfOk result (λ acted. (c : Contents) (v : Option Sitting) → V.holds vault.old c
-        → V.is_clean vault.new → IsSeated c session.old v
-        → V.holds vault.new (held_after acted desk.entry.policy.now session.old
+    ensures held { IfOk result (λ outcome. (c : Contents) (v : Option Transaction)
+        → V.holds vault.old c
+        → V.is_clean vault.new → HasTransaction c session.old v
+        → V.holds vault.new (held_after outcome context.entry.policy.now session.old
         (reading (cut_seen cut.entry)) c)) }
     ensures err { OnErr result ((c : Contents) → V.holds vault.old c → V.is_clean vault.new
         → V.holds vault.new c) }
-    ensures may { IfOk result (λ acted. acted ≡ Acted.Failed → (c : Contents) (v : Option Sitting)
-        → V.holds vault.old c → V.is_clean vault.new → IsSeated c session.old v
-        → asks desk.entry.policy.now talk.old v (reading (cut_seen cut.entry)) ≡ true) }
-    ensures cause { IfOk result (λ acted. acted ≡ Acted.Failed → (c : Contents) (v : Option Sitting)
-        → V.holds vault.old c → V.is_clean vault.new → IsSeated c session.old v
+    ensures may { IfOk result (λ outcome. outcome ≡ LineOutcome.Failed
+        → (c : Contents) (v : Option Transaction)
+        → V.holds vault.old c → V.is_clean vault.new → HasTransaction c session.old v
+        → asks context.entry.policy.now state.old v (reading (cut_seen cut.entry)) ≡ true) }
+    ensures cause { IfOk result (λ outcome. outcome ≡ LineOutcome.Failed
+        → (c : Contents) (v : Option Transaction)
+        → V.holds vault.old c → V.is_clean vault.new → HasTransaction c session.old v
         → has_grown (V.faults vault.old) (V.faults vault.new) ≡ true) }
     ensures acts { ActsOnce V.Vault vault.old vault.new (IsOkAnd result WasDone)
-        (held_after Acted.Done desk.entry.policy.now session.old (reading (cut_seen cut.entry))) }
+        (held_after LineOutcome.Done context.entry.policy.now session.old
+        (reading (cut_seen cut.entry))) }
     ensures account { account.old ≡ Account.Nothing
-        → IfOk result (λ acted. (c : Contents) (v : Option Sitting) → V.holds vault.old c
-        → V.is_clean vault.new → IsSeated c session.old v
-        → account.new ≡ seated_account acted desk.entry.policy.now v (reading (cut_seen cut.entry))
-        (Says (reply_of acted (desk_over c desk.entry locks.old) talk.old v
-        (cut_seen cut.entry))) talk.old.user) }
+        → IfOk result (λ outcome. (c : Contents) (v : Option Transaction) → V.holds vault.old c
+        → V.is_clean vault.new → HasTransaction c session.old v
+        → account.new ≡ state_account outcome context.entry.policy.now v
+        (reading (cut_seen cut.entry))
+        (Says (reply_of outcome (context_over c context.entry locks.old) state.old v
+        (cut_seen cut.entry))) state.old.user) }
     ensures account_err { OnErr result (account.new ≡ account.old) }
-    ensures unasked { (c : Contents) (v : Option Sitting) → IsSeated c session.old v
-        → asks desk.entry.policy.now talk.old v (reading (cut_seen cut.entry)) ≡ false
+    ensures unasked { (c : Contents) (v : Option Transaction) → HasTransaction c session.old v
+        → asks context.entry.policy.now state.old v (reading (cut_seen cut.entry)) ≡ false
         → vault.new ≡ vault.old }
 {
     let line = CommandLine::read(cut);
     match session.take() {
         None => {
-            let (acted, begun) = answer_outside(
-                alloc, vault, desk, locks, &line, output, talk, account,
+            let (outcome, begun) = authorization_answer(
+                alloc, vault, context, locks, &line, output, state, account,
             )?;
             *session = begun;
-            Ok(acted)
+            Ok(outcome)
         }
-        Some(inside) => {
-            let (acted, after) = answer_inside(
-                alloc, vault, desk, locks, &line, output, talk, inside, account,
+        Some(current) => {
+            let (outcome, after) = transaction_answer(
+                alloc, vault, context, locks, &line, output, state, current, account,
             )?;
             *session = after;
-            Ok(acted)
+            Ok(outcome)
         }
     }
 }

@@ -12,11 +12,11 @@ ghost use Rattle.vault.specs.Call.{Looks};
 ghost use Rattle.session.specs.Session.{started};
 ghost use Rattle.office.specs.Replying.{login_failed};
 ghost use Rattle.office.specs.Kept.{judged};
-ghost use Rattle.office.specs.Answered.{desk_over, judged_at};
+ghost use Rattle.office.specs.Answered.{context_over, judged_at};
 ghost use Rattle.office.specs.Entering.{entered, began};
 
 use crate::locks::Locks;
-use crate::talk::Desk;
+use crate::login_state::LineContext;
 use creds::{LoginName, Proof};
 use policy::{Action, Decision, Policy};
 use popline::Reply;
@@ -104,7 +104,7 @@ fn enter<V: Vault>(
 pub(crate) fn judge<V: Vault>(
     alloc: Global,
     vault: &mut V,
-    desk: Desk<'_>,
+    context: LineContext<'_>,
     locks: &Locks,
     failures: u8,
     removals: Removals,
@@ -112,20 +112,21 @@ pub(crate) fn judge<V: Vault>(
     proof: &Proof<'_>,
 ) -> Result<(Reply<'static>, Option<Session>), VaultFault>
     ensures said { (c : Contents) → V.holds vault.old c → V.is_clean vault.new
-        → IsDone (V.holds vault.new) c c (Ok (judged (desk_over c desk.entry locks.now) failures
+        → IsDone (V.holds vault.new) c c
+        (Ok (judged (context_over c context.entry locks.now) failures
         name.now (proof_shown proof.now))) (seen_as result (λ r. reply_seen r.0)) }
     ensures session { IfOk result (λ r. (c : Contents) → V.holds vault.old c → V.is_clean vault.new
-        → r.1 ≡ began (reply_seen r.0) (started desk.entry.policy.now removals name.now.clerk
+        → r.1 ≡ began (reply_seen r.0) (started context.entry.policy.now removals name.now.clerk
         name.now.maildrop (heads name.now.maildrop c))) }
     ensures looks { Looks V.holds V.faults V.is_clean V.is_up V.may_leave vault.old vault.new
         result }
 {
-    if !is_admitted(vault, desk.stamp, name, proof)? {
+    if !is_admitted(vault, context.stamp, name, proof)? {
         return Ok((refusal(failures), None));
     }
-    let opening = opening(desk.policy, name);
+    let opening = opening(context.policy, name);
     if !opening.allowed {
         return Ok((Reply::DeniedBy(opening.rule), None));
     }
-    enter(alloc, vault, desk.policy, removals, locks, name)
+    enter(alloc, vault, context.policy, removals, locks, name)
 }

@@ -18,9 +18,9 @@ impl<V: Vault> Office<V> {
     pub fn is_logged_in(&self, c: u64) -> bool
         ensures { (T : Trace) → StandsFor V.holds self.now T → result ≡ live (history T) c }
     {
-        match self.links.get(&c) {
+        match self.connections.get(&c) {
             None => false,
-            Some(link) => link.is_in_session(),
+            Some(connection) => connection.is_in_session(),
         }
     }
 
@@ -32,9 +32,9 @@ impl<V: Vault> Office<V> {
     pub fn refusals(&self, c: u64) -> u8
         ensures { (T : Trace) → StandsFor V.holds self.now T → result ≡ refusals_at T c }
     {
-        match self.links.get(&c) {
+        match self.connections.get(&c) {
             None => 0,
-            Some(link) => link.refusals(),
+            Some(connection) => connection.refusals(),
         }
     }
 
@@ -48,12 +48,12 @@ impl<V: Vault> Office<V> {
         ensures { (T : Trace) → StandsFor V.holds self.now T
             → result ≡ brings_login_at T c piece.now }
     {
-        let Some(link) = self.links.get(&c) else {
+        let Some(connection) = self.connections.get(&c) else {
             return false;
         };
-        if !link.owes_nothing() {
+        if !connection.owes_nothing() {
             return false;
         }
-        link.coming_login(piece).is_some()
+        connection.coming_login(piece).is_some()
     }
 }

@@ -8,12 +8,13 @@ ghost use Rattle.session.specs.Session.{Session as State};
 ghost use Rattle.office.specs.Output.{nothing_owed, Reads};
 ghost use Rattle.vault.specs.Parts.{OnlyLooks};
 ghost use Rattle.office.specs.Stopping.{WasDone};
-ghost use Rattle.office.specs.Sitting.{LiesIn, Obeyed, IsServed, asks_inside, sitting_of};
+ghost use Rattle.office.specs.Transaction.{LiesIn, IsAnswered, IsServed, transaction_asks};
+ghost use Rattle.office.specs.Transaction.{transaction_of};
 
+use crate::login_state::{LineOutcome, say};
 use crate::output::{Output, Source};
 use crate::reading::Reading;
 use crate::referring::refused;
-use crate::talk::{Acted, say};
 use policy::Policy;
 use popline::Reply;
 use session::Session;
@@ -27,20 +28,20 @@ fn serve<V: Vault>(
     vault: &mut V,
     output: &mut Output,
     text: Reading,
-) -> Result<Acted, AllocError>
+) -> Result<LineOutcome, AllocError>
     requires { output.old.source ≡ Source.Nothing }
-    ensures served { IfOk result (λ acted. (c : Contents) (s : State) (coming : List ℕ)
+    ensures served { IfOk result (λ outcome. (c : Contents) (s : State) (coming : List ℕ)
         → V.holds vault.old c → V.is_clean vault.new → Reads c s text coming
         → IsServed (V.holds vault.new) (has_grown (V.faults vault.old) (V.faults vault.new)) c s
-        (output.old.ready ++ coming) output.new acted) }
+        (output.old.ready ++ coming) output.new outcome) }
     ensures looks { OnlyLooks V.Vault vault.old vault.new (IsOkAnd result WasDone) }
 {
     if output.send_text(vault, text)? {
-        return Ok(Acted::Done);
+        return Ok(LineOutcome::Done);
     }
     output.clear();
     output.say(alloc, &Reply::StoreFailed)?;
-    Ok(Acted::Failed)
+    Ok(LineOutcome::Failed)
 }
 
 /// Begins to send a message of a session, where the policy in force lets the clerk read it (RFC
@@ -52,15 +53,16 @@ pub(crate) fn retrieve<V: Vault>(
     session: &Session,
     policy: &Policy,
     n: u64,
-) -> Result<Acted, AllocError>
+) -> Result<LineOutcome, AllocError>
     requires { output.old ≡ nothing_owed }
-    ensures done { IfOk result (λ acted. (c : Contents) (kept : List Keyed) → V.holds vault.old c
+    ensures done { IfOk result (λ outcome. (c : Contents) (kept : List Keyed)
+        → V.holds vault.old c
         → V.is_clean vault.new → LiesIn c session.now kept
-        → Obeyed (V.holds vault.new) (has_grown (V.faults vault.old) (V.faults vault.new)) c
-        policy.now session.now session.now kept output.new (Ok (Retr n)) acted) }
+        → IsAnswered (V.holds vault.new) (has_grown (V.faults vault.old) (V.faults vault.new)) c
+        policy.now session.now session.now kept output.new (Ok (Retr n)) outcome) }
     ensures looks { OnlyLooks V.Vault vault.old vault.new (IsOkAnd result WasDone) }
     ensures unasked { (c : Contents) (kept : List Keyed) → LiesIn c session.now kept
-        → asks_inside policy.now (sitting_of session.now kept) (Ok (Retr n)) ≡ false
+        → transaction_asks policy.now (transaction_of session.now kept) (Ok (Retr n)) ≡ false
         → vault.new ≡ vault.old }
 {
     match session.pick_for(n, policy) {
@@ -82,15 +84,17 @@ pub(crate) fn top<V: Vault>(
     policy: &Policy,
     number: u64,
     lines: u64,
-) -> Result<Acted, AllocError>
+) -> Result<LineOutcome, AllocError>
     requires { output.old ≡ nothing_owed }
-    ensures done { IfOk result (λ acted. (c : Contents) (kept : List Keyed) → V.holds vault.old c
+    ensures done { IfOk result (λ outcome. (c : Contents) (kept : List Keyed)
+        → V.holds vault.old c
         → V.is_clean vault.new → LiesIn c session.now kept
-        → Obeyed (V.holds vault.new) (has_grown (V.faults vault.old) (V.faults vault.new)) c
-        policy.now session.now session.now kept output.new (Ok (Top number lines)) acted) }
+        → IsAnswered (V.holds vault.new) (has_grown (V.faults vault.old) (V.faults vault.new)) c
+        policy.now session.now session.now kept output.new (Ok (Top number lines)) outcome) }
     ensures looks { OnlyLooks V.Vault vault.old vault.new (IsOkAnd result WasDone) }
     ensures unasked { (c : Contents) (kept : List Keyed) → LiesIn c session.now kept
-        → asks_inside policy.now (sitting_of session.now kept) (Ok (Top number lines)) ≡ false
+        → transaction_asks policy.now (transaction_of session.now kept) (Ok (Top number lines))
+        ≡ false
         → vault.new ≡ vault.old }
 {
     match session.pick_for(number, policy) {

@@ -27,9 +27,9 @@ ghost use Rattle.office.specs.Runs.{Step as Shown, followed, Follows, Enters, En
 ghost use Rattle.office.specs.Runs.{HaveCauses, HaveMemory, AreAnswered, StopLeavesRun};
 ghost use Rattle.office.specs.Runs.{done_before};
 
-use crate::link::Link;
+use crate::connection::Connection;
 use crate::locks::{Locks, release};
-use crate::talk::Acted;
+use crate::login_state::LineOutcome;
 use crate::{Account, Event, Limits, Outcome, Reason, RunFault, Step, Transcript};
 use creds::{HostName, Name};
 use policy::Policy;
@@ -66,26 +66,31 @@ pub struct Office<V: Vault> {
     pub(crate) opened: u64,
     /// The present moment, in seconds.
     pub(crate) moment: u64,
-    pub(crate) links: BTreeMap<u64, Link>,
+    pub(crate) connections: BTreeMap<u64, Connection>,
     pub(crate) locks: Locks,
 }
 
 /// The outcome of the event in which a line acted.
-fn shown(acted: Acted) -> Outcome
-    ensures { outcome_seen result ≡ shown_of acted }
+fn shown(line_outcome: LineOutcome) -> Outcome
+    ensures { outcome_seen result ≡ shown_of line_outcome }
 {
-    match acted {
-        Acted::Done => Outcome::Done,
-        Acted::Failed => Outcome::Failed,
+    match line_outcome {
+        LineOutcome::Done => Outcome::Done,
+        LineOutcome::Failed => Outcome::Failed,
     }
 }
 
 /// Ends a connection, with nothing removed, and lets the maildrop that it holds go.
-fn cut_off(links: &mut BTreeMap<u64, Link>, locks: &mut Locks, c: u64, held: Option<Name>)
-    ensures links { Updates nat_cmp links.old links.new c None }
+fn cut_off(
+    connections: &mut BTreeMap<u64, Connection>,
+    locks: &mut Locks,
+    c: u64,
+    held: Option<Name>,
+)
+    ensures connections { Updates nat_cmp connections.old connections.new c None }
     ensures locks { Released held locks.old locks.new }
 {
-    let _ = links.remove(&c);
+    let _ = connections.remove(&c);
     release(locks, held);
 }
 
@@ -145,7 +150,7 @@ impl<V: Vault> Office<V> {
                 limits,
                 opened: 0,
                 moment: 0,
-                links: BTreeMap::new(alloc),
+                connections: BTreeMap::new(alloc),
                 locks: BTreeMap::new(alloc),
             }),
         }
@@ -156,7 +161,7 @@ impl<V: Vault> Office<V> {
         ensures value { (T : Trace) → StandsFor V.holds self.now T → result ≡ is_full T }
         ensures room { result ≡ false → self.now.opened < u64.MAX }
     {
-        self.links.len() >= MOST_OPEN || self.opened == u64::MAX
+        self.connections.len() >= MOST_OPEN || self.opened == u64::MAX
     }
 
     fn connect(&mut self) -> Outcome
@@ -181,7 +186,7 @@ impl<V: Vault> Office<V> {
             return Outcome::Ignored(Reason::TooManyConnections);
         }
         let c = self.opened + 1;
-        let Ok(link) = Link::open(
+        let Ok(connection) = Connection::open(
             self.alloc,
             c,
             self.boot,
@@ -191,7 +196,7 @@ impl<V: Vault> Office<V> {
         ) else {
             return Outcome::NoMemory;
         };
-        if self.links.insert(c, link).is_err() {
+        if self.connections.insert(c, connection).is_err() {
             return Outcome::NoMemory;
         }
         self.opened = c;
@@ -221,17 +226,17 @@ impl<V: Vault> Office<V> {
             → OfEachTrace V.Vault self.old self.new (λ T. IsAccount T (event.Bytes c piece.now)
             (outcome_seen result) account.new) }
     {
-        let Some(link) = self.links.get_mut(&c) else {
+        let Some(connection) = self.connections.get_mut(&c) else {
             return Outcome::Ignored(Reason::NoSuchConnection);
         };
-        if !link.owes_nothing() {
+        if !connection.owes_nothing() {
             return Outcome::Ignored(Reason::NotReady);
         }
         if piece.len() > MOST_IN_A_PIECE {
             return Outcome::Ignored(Reason::PieceTooLong);
         }
-        let held = link.maildrop();
-        match link.hear(
+        let held = connection.maildrop();
+        match connection.hear(
             self.alloc,
             &mut self.vault,
             &self.policy,
@@ -241,9 +246,9 @@ impl<V: Vault> Office<V> {
             self.moment,
             account,
         ) {
-            Ok(acted) => shown(acted),
+            Ok(line_outcome) => shown(line_outcome),
             Err(_) => {
-                cut_off(&mut self.links, &mut self.locks, c, held);
+                cut_off(&mut self.connections, &mut self.locks, c, held);
                 Outcome::NoMemory
             }
         }
@@ -272,32 +277,32 @@ impl<V: Vault> Office<V> {
             → OfEachTrace V.Vault self.old self.new (λ T. IsAccount T (event.Took c octets)
             (outcome_seen result) account.new) }
     {
-        let Some(link) = self.links.get_mut(&c) else {
+        let Some(connection) = self.connections.get_mut(&c) else {
             return Outcome::Ignored(Reason::NoSuchConnection);
         };
-        if !link.lends(octets) {
+        if !connection.lends(octets) {
             return Outcome::Ignored(Reason::NotReady);
         }
-        let held = link.maildrop();
-        let taken = match link.take(self.alloc, &mut self.vault, octets, self.moment) {
+        let held = connection.maildrop();
+        let taken = match connection.take(self.alloc, &mut self.vault, octets, self.moment) {
             Ok(taken) => taken,
             Err(_) => {
-                cut_off(&mut self.links, &mut self.locks, c, held);
+                cut_off(&mut self.connections, &mut self.locks, c, held);
                 return Outcome::NoMemory;
             }
         };
         if !taken {
-            cut_off(&mut self.links, &mut self.locks, c, held);
+            cut_off(&mut self.connections, &mut self.locks, c, held);
             return Outcome::Failed;
         }
-        if !link.owes_nothing() {
+        if !connection.owes_nothing() {
             return Outcome::Done;
         }
-        if link.is_closing() {
-            let _ = self.links.remove(&c);
+        if connection.is_closing() {
+            let _ = self.connections.remove(&c);
             return Outcome::Done;
         }
-        match link.resume(
+        match connection.resume(
             self.alloc,
             &mut self.vault,
             &self.policy,
@@ -305,9 +310,9 @@ impl<V: Vault> Office<V> {
             c,
             account,
         ) {
-            Ok(acted) => shown(acted),
+            Ok(line_outcome) => shown(line_outcome),
             Err(_) => {
-                cut_off(&mut self.links, &mut self.locks, c, held);
+                cut_off(&mut self.connections, &mut self.locks, c, held);
                 Outcome::NoMemory
             }
         }
@@ -333,10 +338,10 @@ impl<V: Vault> Office<V> {
         ensures done { (result ≡ Outcome.Done) ⊎ (result
             ≡ Outcome.Ignored Reason.NoSuchConnection) }
     {
-        match self.links.remove(&c) {
+        match self.connections.remove(&c) {
             None => Outcome::Ignored(Reason::NoSuchConnection),
-            Some(link) => {
-                release(&mut self.locks, link.maildrop());
+            Some(connection) => {
+                release(&mut self.locks, connection.maildrop());
                 Outcome::Done
             }
         }
@@ -486,7 +491,8 @@ impl<V: Vault> Office<V> {
         ensures ok { OnOk result (OfEachTrace V.Vault self.old self.new (λ T.
             Enters V.holds event.entry steps.old.items steps.new.items T self.new)) }
         ensures ok_so { OnOk result (OfEachTrace V.Vault self.old self.new (λ T.
-            EntersSo V.holds V.faults V.is_up V.may_leave event.entry steps.old.items steps.new.items T self.old self.new)) }
+            EntersSo V.holds V.faults V.is_up V.may_leave event.entry steps.old.items
+            steps.new.items T self.old self.new)) }
         ensures err { OnErr result (self.new ≡ self.old) }
         ensures err_steps { OnErr result (steps.new.items ≡ steps.old.items) }
         ensures counted { V.faults (vault_of self.old) ≤ V.faults (vault_of self.new) }
@@ -525,9 +531,9 @@ impl<V: Vault> Office<V> {
             → length result.now ≡ min (length (rest T c)) most_lent }
         ensures most { length result.now ≤ most_lent }
     {
-        match self.links.get(&c) {
+        match self.connections.get(&c) {
             None => &[],
-            Some(link) => link.owed(),
+            Some(connection) => connection.owed(),
         }
     }
 
@@ -537,9 +543,9 @@ impl<V: Vault> Office<V> {
         ensures value { result ≡ input_kept self.now c }
         ensures most { input_kept self.now c ≤ most_input }
     {
-        match self.links.get(&c) {
+        match self.connections.get(&c) {
             None => 0,
-            Some(link) => link.input(),
+            Some(connection) => connection.input(),
         }
     }
 
@@ -549,9 +555,9 @@ impl<V: Vault> Office<V> {
         ensures value { result ≡ output_kept self.now c }
         ensures most { output_kept self.now c ≤ most_output }
     {
-        match self.links.get(&c) {
+        match self.connections.get(&c) {
             None => 0,
-            Some(link) => link.output(),
+            Some(connection) => connection.output(),
         }
     }
 
@@ -559,9 +565,9 @@ impl<V: Vault> Office<V> {
     pub fn ready(&self, c: u64) -> bool
         ensures { (T : Trace) → StandsFor V.holds self.now T → result ≡ is_ready T c }
     {
-        match self.links.get(&c) {
+        match self.connections.get(&c) {
             None => false,
-            Some(link) => link.owes_nothing(),
+            Some(connection) => connection.owes_nothing(),
         }
     }
 
@@ -569,7 +575,7 @@ impl<V: Vault> Office<V> {
     pub fn ended(&self, c: u64) -> bool
         ensures { (T : Trace) → StandsFor V.holds self.now T → result ≡ not (is_open T c) }
     {
-        !self.links.contains_key(&c)
+        !self.connections.contains_key(&c)
     }
 
     /// Ends the office, and gives its vault back.

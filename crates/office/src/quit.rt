@@ -8,13 +8,13 @@ ghost use Rattle.vault.specs.declared.record.Keyed.{Keyed};
 ghost use Rattle.session.specs.View.{marked as rows_marked};
 ghost use Rattle.office.specs.Replying.{quit_says};
 ghost use Rattle.office.specs.Output.{nothing_owed};
-ghost use Rattle.office.specs.Sitting.{LiesIn, Obeyed, keys_to_remove, without_marked};
+ghost use Rattle.office.specs.Transaction.{LiesIn, IsAnswered, keys_to_remove, without_marked};
 ghost use Rattle.office.specs.Accounts.{removal_told};
 ghost use Rattle.office.specs.Stopping.{ActsOnce, WasDone};
 
 use crate::account::{Account, Removal};
+use crate::login_state::LineOutcome;
 use crate::output::Output;
-use crate::talk::Acted;
 use creds::{LoginName, Name};
 use policy::Policy;
 use popline::Reply;
@@ -70,18 +70,19 @@ pub(crate) fn quit<V: Vault>(
     output: &mut Output,
     session: &Session,
     account: &mut Account,
-) -> Result<Acted, AllocError>
+) -> Result<LineOutcome, AllocError>
     requires { output.old ≡ nothing_owed }
-    ensures done { IfOk result (λ acted. (c : Contents) (kept : List Keyed) → V.holds vault.old c
+    ensures done { IfOk result (λ outcome. (c : Contents) (kept : List Keyed)
+        → V.holds vault.old c
         → V.is_clean vault.new → LiesIn c session.now kept
-        → Obeyed (V.holds vault.new) (has_grown (V.faults vault.old) (V.faults vault.new)) c
-        policy.now session.now session.now kept output.new (Ok Quit) acted) }
+        → IsAnswered (V.holds vault.new) (has_grown (V.faults vault.old) (V.faults vault.new)) c
+        policy.now session.now session.now kept output.new (Ok Quit) outcome) }
     ensures err { OnErr result ((c : Contents) → V.holds vault.old c → V.is_clean vault.new
         → V.holds vault.new c) }
     ensures acts { ActsOnce V.Vault vault.old vault.new (IsOkAnd result WasDone)
         (without_marked policy.now session.now) }
-    ensures account { IfOk result (λ acted. account.new ≡ Account.Quit
-        (removal_told acted policy.now session.now)) }
+    ensures account { IfOk result (λ outcome. account.new ≡ Account.Quit
+        (removal_told outcome policy.now session.now)) }
     ensures account_err { OnErr result (account.new ≡ account.old) }
     // Where nothing is to be removed, no store is asked.
     ensures unasked { keys_to_remove policy.now session.now ≡ [] → vault.new ≡ vault.old }
@@ -91,19 +92,19 @@ pub(crate) fn quit<V: Vault>(
     output.say(alloc, &farewell(&denied))?;
     if keys.is_empty() {
         *account = quitting(session, keys.len(), &denied, true);
-        return Ok(Acted::Done);
+        return Ok(LineOutcome::Done);
     }
     match vault.remove(&session.maildrop(), &keys) {
         Ok(()) => {
             *account = quitting(session, keys.len(), &denied, true);
-            Ok(Acted::Done)
+            Ok(LineOutcome::Done)
         }
         Err(VaultFault::NoMemory) => Err(AllocError),
         Err(_) => {
             output.clear();
             output.say(alloc, &Reply::RemovalFailed)?;
             *account = quitting(session, keys.len(), &denied, false);
-            Ok(Acted::Failed)
+            Ok(LineOutcome::Failed)
         }
     }
 }

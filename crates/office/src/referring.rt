@@ -6,7 +6,7 @@ ghost use Rattle.popline.specs.Seen.{reply_seen};
 ghost use Rattle.policy.specs.Policy.{Policy};
 ghost use Rattle.vault.specs.Changes.{Contents};
 ghost use Rattle.vault.specs.declared.record.Keyed.{Keyed};
-ghost use Rattle.office.specs.Sitting.{LiesIn, GoesOn, told_inside, refused_pick};
+ghost use Rattle.office.specs.Transaction.{LiesIn, GoesOn, transaction_told, refused_pick};
 
 use creds::Uid;
 use policy::Policy;
@@ -28,7 +28,7 @@ pub(crate) fn refused(why: Pick, n: u64) -> Reply<'static>
 /// The scan listing of one message.
 pub(crate) fn scan_line(session: &Session, n: u64) -> Reply<'static>
     ensures said { (p : Policy) (c : Contents) (kept : List Keyed) → LiesIn c session.now kept
-        → reply_seen result ≡ told_inside p session.now kept (ListOne n) }
+        → reply_seen result ≡ transaction_told p session.now kept (ListOne n) }
     ensures session { GoesOn (reply_seen result) session.now session.now }
 {
     match session.pick(n) {
@@ -43,7 +43,7 @@ pub(crate) fn scan_line(session: &Session, n: u64) -> Reply<'static>
 /// The unique-id of one message.
 pub(crate) fn uid_line(session: &Session, n: u64) -> Reply<'static>
     ensures said { (p : Policy) (c : Contents) (kept : List Keyed) → LiesIn c session.now kept
-        → reply_seen result ≡ told_inside p session.now kept (UidlOne n) }
+        → reply_seen result ≡ transaction_told p session.now kept (UidlOne n) }
     ensures session { GoesOn (reply_seen result) session.now session.now }
 {
     match session.pick(n) {
@@ -61,7 +61,7 @@ pub(crate) fn uid_line(session: &Session, n: u64) -> Reply<'static>
 /// Marks a message, where the policy lets the clerk remove its class.
 pub(crate) fn delete(session: &mut Session, policy: &Policy, n: u64) -> Reply<'static>
     ensures said { (c : Contents) (kept : List Keyed) → LiesIn c session.old kept
-        → reply_seen result ≡ told_inside policy.now session.old kept (Dele n) }
+        → reply_seen result ≡ transaction_told policy.now session.old kept (Dele n) }
     ensures session { GoesOn (reply_seen result) session.old session.new }
 {
     match session.mark(n, policy) {
@@ -73,7 +73,7 @@ pub(crate) fn delete(session: &mut Session, policy: &Policy, n: u64) -> Reply<'s
 /// Takes all marks away.
 pub(crate) fn reset(session: &mut Session) -> Reply<'static>
     ensures said { (p : Policy) (c : Contents) (kept : List Keyed) → LiesIn c session.old kept
-        → reply_seen result ≡ told_inside p session.old kept Rset }
+        → reply_seen result ≡ transaction_told p session.old kept Rset }
     ensures session { GoesOn (reply_seen result) session.old session.new }
 {
     session.reset();

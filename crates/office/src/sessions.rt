@@ -12,7 +12,7 @@ ghost use Rattle.office.specs.Stands.{OfEachTrace, StandsFor, lent_by, vault_of}
 ghost use Rattle.office.specs.Stopping.{StaysUpUnless, StopLeaves};
 ghost use Rattle.office.specs.InSession.{name_at, kept_row};
 
-use crate::link::Link;
+use crate::connection::Connection;
 use crate::locks::release;
 use crate::{Answer, Office, Outcome, SessionRow, Sessions};
 use creds::LoginName;
@@ -21,25 +21,32 @@ use std::collections::BTreeMap;
 use vault::Vault;
 
 /// Adds a connection's session to the rows, where it has one.
-fn put_session(rows: &mut Vec<SessionRow>, number: u64, link: &Link) -> Result<(), AllocError>
+fn put_session(
+    rows: &mut Vec<SessionRow>,
+    number: u64,
+    connection: &Connection,
+) -> Result<(), AllocError>
     ensures { OnOk result (map session_seen rows.new.items ≡ map session_seen rows.old.items
-        ++ filter_map kept_row ((number, link.now) ∷ [])) }
+        ++ filter_map kept_row ((number, connection.now) ∷ [])) }
 {
-    if let Some(name) = link.login() {
+    if let Some(name) = connection.login() {
         rows.push(SessionRow { number, name })?;
     }
     Ok(())
 }
 
 /// The sessions of the connections that are kept, by number.
-fn sessions_of(alloc: Global, links: &BTreeMap<u64, Link>) -> Result<Vec<SessionRow>, AllocError>
+fn sessions_of(
+    alloc: Global,
+    connections: &BTreeMap<u64, Connection>,
+) -> Result<Vec<SessionRow>, AllocError>
     ensures rows { IfOk result (λ rows. map session_seen rows.items
-        ≡ filter_map kept_row links.now.entries) }
-    ensures ordered { IsOrdered nat_cmp links.now }
+        ≡ filter_map kept_row connections.now.entries) }
+    ensures ordered { IsOrdered nat_cmp connections.now }
 {
     let mut rows = Vec::new(alloc);
-    for (number, link) in links.iter() {
-        put_session(&mut rows, *number, link)?;
+    for (number, connection) in connections.iter() {
+        put_session(&mut rows, *number, connection)?;
     }
     Ok(rows)
 }
@@ -47,11 +54,11 @@ fn sessions_of(alloc: Global, links: &BTreeMap<u64, Link>) -> Result<Vec<Session
 impl<V: Vault> Office<V> {
     /// Who is in session on a connection.
     fn login_at(&self, c: u64) -> Option<LoginName>
-        ensures { result ≡ name_at (get nat_cmp self.now.links c) }
+        ensures { result ≡ name_at (get nat_cmp self.now.connections c) }
     {
-        match self.links.get(&c) {
+        match self.connections.get(&c) {
             None => None,
-            Some(link) => link.login(),
+            Some(connection) => connection.login(),
         }
     }
 
@@ -74,7 +81,7 @@ impl<V: Vault> Office<V> {
             (event.Admin asked.ListSessions) (outcome_seen result)) }
         ensures unasked { vault_of self.new ≡ vault_of self.old }
     {
-        match sessions_of(self.alloc, &self.links) {
+        match sessions_of(self.alloc, &self.connections) {
             Ok(rows) => Outcome::Answered(Answer::Sessions(Sessions::new(rows))),
             Err(_) => Outcome::NoMemory,
         }
@@ -104,7 +111,7 @@ impl<V: Vault> Office<V> {
         match self.login_at(c) {
             None => Outcome::Answered(Answer::NoSuchSession),
             Some(name) => {
-                let _ = self.links.remove(&c);
+                let _ = self.connections.remove(&c);
                 release(&mut self.locks, Some(name.maildrop));
                 Outcome::Answered(Answer::Ended)
             }

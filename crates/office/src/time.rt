@@ -11,26 +11,26 @@ ghost use Rattle.office.specs.Outcomes.{HasCause};
 ghost use Rattle.office.specs.Stands.{OfEachTrace, StandsFor, lent_by, vault_of};
 ghost use Rattle.office.specs.Stopping.{StaysUpUnless, StopLeaves};
 
-use crate::link::Link;
+use crate::connection::Connection;
 use crate::locks::Locks;
 use crate::{Office, Outcome};
 use std::collections::BTreeMap;
 use vault::Vault;
 
 /// Ends the connections that have done nothing for so many seconds at this moment.
-fn end_idle(links: &mut BTreeMap<u64, Link>, moment: u64, seconds: u64)
-    ensures { (c : ℕ) → get nat_cmp links.new c
-        ≡ unless_idle moment seconds (get nat_cmp links.old c) }
+fn end_idle(connections: &mut BTreeMap<u64, Connection>, moment: u64, seconds: u64)
+    ensures { (c : ℕ) → get nat_cmp connections.new c
+        ≡ unless_idle moment seconds (get nat_cmp connections.old c) }
 {
-    links.retain(|_, link| !link.is_idle(moment, seconds));
+    connections.retain(|_, connection| !connection.is_idle(moment, seconds));
 }
 
 /// Lets the maildrop of each ended connection go.
-fn release_ended(locks: &mut Locks, links: &BTreeMap<u64, Link>)
+fn release_ended(locks: &mut Locks, connections: &BTreeMap<u64, Connection>)
     ensures { (d : List ℕ) → get name_cmp locks.new d
-        ≡ lock_of_kept links.now (get name_cmp locks.old d) }
+        ≡ lock_of_kept connections.now (get name_cmp locks.old d) }
 {
-    locks.retain(|_, number| links.contains_key(&*number));
+    locks.retain(|_, number| connections.contains_key(&*number));
 }
 
 impl<V: Vault> Office<V> {
@@ -56,8 +56,8 @@ impl<V: Vault> Office<V> {
         ensures done { result ≡ Outcome.Done }
     {
         self.moment = self.moment.max(now);
-        end_idle(&mut self.links, self.moment, self.limits.idle());
-        release_ended(&mut self.locks, &self.links);
+        end_idle(&mut self.connections, self.moment, self.limits.idle());
+        release_ended(&mut self.locks, &self.connections);
         Outcome::Done
     }
 
@@ -82,7 +82,7 @@ impl<V: Vault> Office<V> {
         ensures unasked { vault_of self.new ≡ vault_of self.old }
         ensures done { result ≡ Outcome.Done }
     {
-        self.links.clear();
+        self.connections.clear();
         self.locks.clear();
         self.opened = 0;
         self.moment = 0;

@@ -9,7 +9,7 @@ ghost use Rattle.office.specs.Waiting.{waits as waits_at};
 
 use crate::Office;
 use crate::command_line::CommandLine;
-use crate::link::Link;
+use crate::connection::Connection;
 use crate::locks::Locks;
 use creds::LoginName;
 use popline::Command;
@@ -38,10 +38,16 @@ pub(crate) fn asks_locked(locks: &Locks, login: Option<LoginName>) -> bool
 
 /// Whether a connection that is owed nothing waits with this piece: its last line or taking was
 /// less than so many seconds ago, and its next line is a login to a locked maildrop.
-fn link_waits(link: &Link, locks: &Locks, piece: &[u8], moment: u64, seconds: u64) -> bool
-    ensures { result ≡ kept_waits (is_locked_by locks.now) moment seconds link.now piece.now }
+fn link_waits(
+    connection: &Connection,
+    locks: &Locks,
+    piece: &[u8],
+    moment: u64,
+    seconds: u64,
+) -> bool
+    ensures { result ≡ kept_waits (is_locked_by locks.now) moment seconds connection.now piece.now }
 {
-    !link.is_idle(moment, seconds) && link.meets_lock(locks, piece)
+    !connection.is_idle(moment, seconds) && connection.meets_lock(locks, piece)
 }
 
 impl<V: Vault> Office<V> {
@@ -57,12 +63,12 @@ impl<V: Vault> Office<V> {
         ensures { (T : Trace) → StandsFor V.holds self.now T
             → result ≡ waits_at T c piece.now seconds }
     {
-        let Some(link) = self.links.get(&c) else {
+        let Some(connection) = self.connections.get(&c) else {
             return false;
         };
-        if !link.owes_nothing() {
+        if !connection.owes_nothing() {
             return false;
         }
-        link_waits(link, &self.locks, piece, self.moment, seconds)
+        link_waits(connection, &self.locks, piece, self.moment, seconds)
     }
 }

@@ -8,7 +8,7 @@ use Rattle.office.specs.Output.{Output, text_coming, last_line}
 use Rattle.office.specs.declared.reading.Reading.{Reading}
 use Rattle.office.specs.Output.{OwesReply}
 use Rattle.popline.specs.Replies.{Reply}
-use Rattle.office.specs.Sitting.{refused_pick}
+use Rattle.office.specs.Transaction.{refused_pick}
 use Rattle.office.proofs.Texts.{found, form, size, begins, retrieved, retrieve_refused, refused_goes_on, asks_for}
 use Rattle.office.proofs.Obeying.{if_ok_so, if_ok_both, said_so}
 use Rattle.vault.proofs.CallLemmas.{looks_none}
@@ -31,7 +31,7 @@ returns-in_ok-begin_message-in-Ok-clause-done g c = if_ok_so _ c.serve.result c.
     retrieved d sound p s kept lies c.args.n c.in-Ok.head f _ _ _ w (c.begin_message.new.self.ready ++ text_coming r t) whole (h d s (text_coming r t) held clean reads))
 
 pub returns-in-Err-clause-done : goal.returns-in-Err-clause-done
-returns-in-Err-clause-done g c = if_ok_both _ c.say.result c.say.ensures.acted c.say.ensures.owed (λ w e said d kept held clean lies.
+returns-in-Err-clause-done g c = if_ok_both _ c.say.result c.say.ensures.outcome c.say.ensures.owed (λ w e said d kept held clean lies.
     let p = c.args.policy.now in
     let s = c.args.session.now in
     let put = subst (λ (r : Reply). OwesReply d (Some s) c.say.new.output r) c.refused.ensures (said d (Some s)) in

@@ -6,7 +6,7 @@ use Rattle.vault.specs.declared.fault.VaultFault.{VaultFault}
 use Rattle.vault.specs.declared.fault.VaultFault.TheVariants as fault
 use Rattle.office.proofs.Quitting.{nothing_removed, store_refused, quit_done, quit_failed, none_left, some_left}
 use Rattle.office.specs.Output.{OwesReply}
-use Rattle.office.specs.Sitting.{without_marked}
+use Rattle.office.specs.Transaction.{without_marked}
 use Rattle.office.proofs.Owing.{owes_put}
 use Rattle.vault.proofs.CallLemmas.{looks_none}
 use Rattle.office.proofs.Frames.{acts_looking, acts_once}

@@ -9,4 +9,4 @@ use Rattle.office.proofs.time.end_idle.Goals as goal
 pub returns : goal.returns
 returns c n =
     let e = filter_same_pairs _ (λ p. not (is_idle c.args.moment c.args.seconds p.1)) _ (λ k v b w f' t. search rules) _ _ c.retain.ensures.filtered in
-    ap (λ es. lookup (is_at (nat_cmp n)) es) e ∙ kept_links c.args.moment c.args.seconds c.args.links.now c.retain.ensures.was_ordered n
+    ap (λ es. lookup (is_at (nat_cmp n)) es) e ∙ kept_links c.args.moment c.args.seconds c.args.connections.now c.retain.ensures.was_ordered n

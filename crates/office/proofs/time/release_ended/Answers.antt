@@ -8,5 +8,5 @@ use Rattle.office.proofs.time.release_ended.Goals as goal
 
 pub returns : goal.returns
 returns c d =
-    let e = filter_same_pairs _ (λ p. is_some (get nat_cmp c.args.links.now p.1)) _ (λ k v b w f' t. search rules) _ _ c.retain.ensures.filtered in
-    ap (λ es. lookup (is_at (name_cmp d)) es) e ∙ kept_locks c.args.links.now c.args.locks.now c.retain.ensures.was_ordered d
+    let e = filter_same_pairs _ (λ p. is_some (get nat_cmp c.args.connections.now p.1)) _ (λ k v b w f' t. search rules) _ _ c.retain.ensures.filtered in
+    ap (λ es. lookup (is_at (name_cmp d)) es) e ∙ kept_locks c.args.connections.now c.args.locks.now c.retain.ensures.was_ordered d

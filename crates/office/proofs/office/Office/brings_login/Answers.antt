@@ -12,10 +12,10 @@ use Rattle.office.proofs.office.Office.brings_login.Goals as goal
 pub returns : goal.returns
 returns g c T st =
     let n = c.args.c in
-    let k : Kept = c.in-Some.link.now in
+    let k : Kept = c.in-Some.connection.now in
     let ct = st.keeps.contents in
-    let found : get nat_cmp c.args.self.now.links n ≡ Some k = sym c.in-Some.ensures.value in
-    let m : Matches ct (seen T n) k = subst (IsKeptFor ct (seen T n)) found (st.links n) in
+    let found : get nat_cmp c.args.self.now.connections n ≡ Some k = sym c.in-Some.ensures.value in
+    let m : Matches ct (seen T n) k = subst (IsKeptFor ct (seen T n)) found (st.connections n) in
     let nothing = c.owes_nothing.ensures.nothing c.if-not-owes_nothing.false in
     let p = c.args.piece.now in
     let asked = ap (λ (x : Option LoginName). is_some x) c.coming_login.ensures in
@@ -25,8 +25,8 @@ pub returns-in_default : goal.returns-in_default
 returns-in_default g c T st =
     let n = c.args.c in
     let ct = st.keeps.contents in
-    let found : get nat_cmp c.args.self.now.links n ≡ None = sym c.in_default.ensures.value in
-    let over : IsOver (seen T n) = subst (IsKeptFor ct (seen T n)) found (st.links n) in
+    let found : get nat_cmp c.args.self.now.connections n ≡ None = sym c.in_default.ensures.value in
+    let over : IsOver (seen T n) = subst (IsKeptFor ct (seen T n)) found (st.connections n) in
     let closed : is_open T n ≡ false = over.closed in
     rw closed refl
 
@@ -34,10 +34,10 @@ pub returns-then-not-owes_nothing : goal.returns-then-not-owes_nothing
 returns-then-not-owes_nothing g c T st =
     let n = c.args.c in
     let s = seen T n in
-    let k : Kept = c.in-Some.link.now in
+    let k : Kept = c.in-Some.connection.now in
     let ct = st.keeps.contents in
-    let found : get nat_cmp c.args.self.now.links n ≡ Some k = sym c.in-Some.ensures.value in
-    let m : Matches ct s k = subst (IsKeptFor ct s) found (st.links n) in
+    let found : get nat_cmp c.args.self.now.connections n ≡ Some k = sym c.in-Some.ensures.value in
+    let m : Matches ct s k = subst (IsKeptFor ct s) found (st.connections n) in
     let opened : is_open T n ≡ true = m.opened in
     let owes = sym c.owes_nothing.ensures.value ∙ c.if-not-owes_nothing.true in
     let some : is_empty (untaken_of s) ≡ false =

@@ -32,7 +32,7 @@ returns-then-is_err-clause-outcome g c T st clean =
 pub returns-clause-stands : goal.returns-clause-stands
 returns-clause-stands g c T st clean =
     let change = after_ok _ (sym c.is_err.ensures.value ∙ c.if-is_err.false) c.insert.ensures.updates in
-    come_stands g.V.Vault.holds c.args.self.now _ T st _ c.in-Ok.link (ap (λ n. n + 1) st.opened)
+    come_stands g.V.Vault.holds c.args.self.now _ T st _ c.in-Ok.connection (ap (λ n. n + 1) st.opened)
     (c.in-Ok.ensures ∙ ap (λ h. greeted (c.args.self.now.opened + 1) c.args.self.now.boot h c.removals.result c.args.self.now.moment) c.as_str.ensures.value
     ∙ ap (λ j. greeted (c.args.self.now.opened + 1) c.args.self.now.boot (string_bytes c.args.self.now.host) j c.args.self.now.moment) c.removals.ensures) (number_left _ _ st.opened (c.is_full.ensures.room c.if-is_full.false))
     (λ k h. h) refl refl refl refl refl change (λ d. refl)

@@ -3,7 +3,7 @@ use Rattle.office.specs.Locks.{Released}
 use Rattle.office.specs.Sessions.{live}
 use Rattle.office.specs.Stands.{seen}
 use Rattle.office.specs.Trace.{history}
-use Rattle.office.proofs.Ending.{ended_stands, end_ends, seated_as, nobody_at, nobody_stands}
+use Rattle.office.proofs.Ending.{ended_stands, end_ends, state_as, nobody_at, nobody_stands}
 use Rattle.office.proofs.Stopping.{unasked_stops}
 use Rattle.office.specs.Answers.{EndSession}
 use Rattle.office.specs.Events.{Admin}
@@ -13,14 +13,14 @@ use Rattle.office.proofs.office.Office.end_session.Goals as goal
 
 pub returns-in-None-clause-stands : goal.returns-in-None-clause-stands
 returns-in-None-clause-stands g c T st clean =
-    let out : live (history T) c.args.c ≡ false = nobody_at st.keeps.contents (seen T c.args.c) _ (st.links c.args.c) (sym c.login_at.ensures ∙ c.in-None.is) in
+    let out : live (history T) c.args.c ≡ false = nobody_at st.keeps.contents (seen T c.args.c) _ (st.connections c.args.c) (sym c.login_at.ensures ∙ c.in-None.is) in
     nobody_stands T c.args.c g.V.Vault.holds c.args.self.now _ out st (λ k h. h) refl refl refl refl refl (λ q. refl) (λ d. refl)
 
 pub returns-in-Some-clause-stands : goal.returns-in-Some-clause-stands
 returns-in-Some-clause-stands g c T st clean =
-    let seated = seated_as st.keeps.contents (seen T c.args.c) _ c.in-Some.name (st.links c.args.c) (sym c.login_at.ensures ∙ c.in-Some.is) in
-    ended_stands g.V.Vault.holds c.args.self.now _ T _ _ c.args.c (end_ends T c.args.c seated.alive) st seated.kept seated.is (λ k h. h) refl refl refl refl refl
-    c.remove.ensures.updates (subst (λ m. Released m c.args.self.now.locks c.release.new.locks) (sym seated.maildrop) c.release.ensures)
+    let has_transaction = state_as st.keeps.contents (seen T c.args.c) _ c.in-Some.name (st.connections c.args.c) (sym c.login_at.ensures ∙ c.in-Some.is) in
+    ended_stands g.V.Vault.holds c.args.self.now _ T _ _ c.args.c (end_ends T c.args.c has_transaction.alive) st has_transaction.kept has_transaction.is (λ k h. h) refl refl refl refl refl
+    c.remove.ensures.updates (subst (λ m. Released m c.args.self.now.locks c.release.new.locks) (sym has_transaction.maildrop) c.release.ensures)
 
 pub returns-in-Some-clause-unasked : goal.returns-in-Some-clause-unasked
 returns-in-Some-clause-unasked c = search rules

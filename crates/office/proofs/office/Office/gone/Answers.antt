@@ -17,8 +17,8 @@ returns-in-None-clause-stands g c T st clean =
 
 pub returns-in-Some-clause-stands : goal.returns-in-Some-clause-stands
 returns-in-Some-clause-stands g c T st clean =
-    let k : Kept = c.in-Some.link in
-    let found : get nat_cmp c.args.self.now.links c.args.c ≡ Some k = sym c.in-Some.ensures.value in
+    let k : Kept = c.in-Some.connection in
+    let found : get nat_cmp c.args.self.now.connections c.args.c ≡ Some k = sym c.in-Some.ensures.value in
     ended_stands g.V.Vault.holds c.args.self.now _ T _ _ c.args.c (gone_ends T c.args.c) st k found (λ k h. h) refl refl refl refl refl c.remove.ensures.updates
     (subst (λ m. Released m c.args.self.now.locks c.release.new.locks) c.maildrop.ensures c.release.ensures)
 

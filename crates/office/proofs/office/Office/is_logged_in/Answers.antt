@@ -9,16 +9,16 @@ pub returns-in-Some : goal.returns-in-Some
 returns-in-Some g c T st =
     let n = c.args.c in
     let s = seen T n in
-    let k : Kept = c.in-Some.link.now in
+    let k : Kept = c.in-Some.connection.now in
     let ct = st.keeps.contents in
-    let found : get nat_cmp c.args.self.now.links n ≡ Some k = sym c.in-Some.ensures.value in
-    let m : Matches ct s k = subst (IsKeptFor ct s) found (st.links n) in
+    let found : get nat_cmp c.args.self.now.connections n ≡ Some k = sym c.in-Some.ensures.value in
+    let m : Matches ct s k = subst (IsKeptFor ct s) found (st.connections n) in
     c.is_in_session.ensures ∙ session_live ct s k.session m.session
 
 pub returns-in-None : goal.returns-in-None
 returns-in-None g c T st =
     let n = c.args.c in
     let ct = st.keeps.contents in
-    let found : get nat_cmp c.args.self.now.links n ≡ None = sym c.in-None.ensures.value in
-    let over : IsOver (seen T n) = subst (IsKeptFor ct (seen T n)) found (st.links n) in
-    sym over.outside
+    let found : get nat_cmp c.args.self.now.connections n ≡ None = sym c.in-None.ensures.value in
+    let over : IsOver (seen T n) = subst (IsKeptFor ct (seen T n)) found (st.connections n) in
+    sym over.authorization

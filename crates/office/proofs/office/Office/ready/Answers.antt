@@ -11,10 +11,10 @@ pub returns-in-Some : goal.returns-in-Some
 returns-in-Some g c T st =
     let n = c.args.c in
     let s = seen T n in
-    let k : Kept = c.in-Some.link.now in
+    let k : Kept = c.in-Some.connection.now in
     let ct = st.keeps.contents in
-    let found : get nat_cmp c.args.self.now.links n ≡ Some k = sym c.in-Some.ensures.value in
-    let m : Matches ct s k = subst (IsKeptFor ct s) found (st.links n) in
+    let found : get nat_cmp c.args.self.now.connections n ≡ Some k = sym c.in-Some.ensures.value in
+    let m : Matches ct s k = subst (IsKeptFor ct s) found (st.connections n) in
     let opened : is_open T n ≡ true = m.opened in
     let same : c.owes_nothing.result ≡ is_empty (untaken_of s) = same_empty ct k.session k.output (untaken_of s) m.owed c.owes_nothing.result (sym c.owes_nothing.ensures.value) c.owes_nothing.ensures.nothing in
     rw opened same

@@ -12,7 +12,7 @@ returns-clause-stands g c T st clean =
     let o = c.args.self.now in
     let later : c.max-self.result ≡ max o.moment c.args.now = search rules in
     tick_stands g.V.Vault.holds o _ T c.args.now st
-    (λ q. c.end_idle.ensures q ∙ (ap (λ m. unless_idle m c.idle.result (get nat_cmp o.links q)) later ∙ ap (λ s. unless_idle (max o.moment c.args.now) s (get nat_cmp o.links q)) c.idle.ensures))
+    (λ q. c.end_idle.ensures q ∙ (ap (λ m. unless_idle m c.idle.result (get nat_cmp o.connections q)) later ∙ ap (λ s. unless_idle (max o.moment c.args.now) s (get nat_cmp o.connections q)) c.idle.ensures))
     (λ k h. h) refl refl refl refl (ap (λ m. (o.opened, m)) later) c.release_ended.ensures
 
 pub returns-clause-stop : goal.returns-clause-stop

@@ -13,7 +13,7 @@ use Rattle.office.specs.Kept.{Kept, line_after, maildrop_of}
 use Rattle.office.specs.Locks.{Released}
 use Rattle.office.specs.Answered.{tag_of, judged_at}
 use Rattle.office.specs.Stands.{Matches, IsKeptFor, IsSession, seen, untaken_of, lent_by, length_of_lent}
-use Rattle.office.specs.declared.talk.Acted.TheVariants as acted
+use Rattle.office.specs.declared.login_state.LineOutcome.TheVariants as line_outcome
 use Rattle.office.proofs.Events.{moved, marked, seen-took_other, seen-took_part, records-took_part, seen-took_closing, records-took_closing, records-took_lacking, whole-took, over-took, next_there, next_kept, is_apart, left_over, all_over, closed_took, took_goes, line_cause, same_part, same_closing, records-took_line, records-took_none}
 use Rattle.office.proofs.Hearing.{Awaits, took}
 use Rattle.office.proofs.Locking.{holds_by}
@@ -32,28 +32,28 @@ use Rattle.office.proofs.office.Office.took.Goals as goal
 pub returns-in_default-clause-stands : goal.returns-in_default-clause-stands
 returns-in_default-clause-stands g c T st clean =
     nothing_stands g.V.Vault.holds c.args.self.now _ T _ _ st (ignored_event T (Took c.args.c c.args.octets) st.keeps.formed) (λ k h. h) refl refl refl refl refl
-    (λ q. ap (λ links. get nat_cmp links q) c.get_mut.follows.holds-at-none) (λ d. refl)
+    (λ q. ap (λ connections. get nat_cmp connections q) c.get_mut.follows.holds-at-none) (λ d. refl)
 
 pub returns-then-not-lends-clause-stands : goal.returns-then-not-lends-clause-stands
 returns-then-not-lends-clause-stands g c T st clean =
     let o = c.args.self.now in
-    let k : Kept = c.in-Some.link.now in
-    let found : get nat_cmp o.links c.args.c ≡ Some k = sym c.in-Some.ensures.value in
+    let k : Kept = c.in-Some.connection.now in
+    let found : get nat_cmp o.connections c.args.c ≡ Some k = sym c.in-Some.ensures.value in
     let updates = (c.get_mut.follows.holds k).3 (search rules) in
     nothing_stands g.V.Vault.holds o _ T _ _ st (ignored_event T (Took c.args.c c.args.octets) st.keeps.formed) (λ k h. h) refl refl refl refl refl
-    (put_back c.args.c k o.links (c.get_mut.follows.lender k) found updates) (λ d. refl)
+    (put_back c.args.c k o.connections (c.get_mut.follows.lender k) found updates) (λ d. refl)
 
 pub returns-then-not-owes_nothing-clause-stands : goal.returns-then-not-owes_nothing-clause-stands
 returns-then-not-owes_nothing-clause-stands g c T st clean =
     let o = c.args.self.now in
     let x = c.args.c in
     let n = c.args.octets in
-    let k : Kept = c.in-Some.link.now in
+    let k : Kept = c.in-Some.connection.now in
     let s = seen T x in
     let ct = st.keeps.contents in
     let k1 : Kept = c.take.new.self in
-    let found : get nat_cmp o.links x ≡ Some k = sym c.in-Some.ensures.value in
-    let m : Matches ct s k = subst (IsKeptFor ct s) found (st.links x) in
+    let found : get nat_cmp o.connections x ≡ Some k = sym c.in-Some.ensures.value in
+    let m : Matches ct s k = subst (IsKeptFor ct s) found (st.connections x) in
     let lends = c.lends.ensures.some c.if-not-lends.false in
     let fits = lent_ready k.output n lends.1 in
     let does = c.in-Ok.ensures in
@@ -80,12 +80,12 @@ returns-then-not-owes_nothing-clause-outcome g c T st clean =
     let o = c.args.self.now in
     let x = c.args.c in
     let n = c.args.octets in
-    let k : Kept = c.in-Some.link.now in
+    let k : Kept = c.in-Some.connection.now in
     let s = seen T x in
     let ct = st.keeps.contents in
     let k1 : Kept = c.take.new.self in
-    let found : get nat_cmp o.links x ≡ Some k = sym c.in-Some.ensures.value in
-    let m : Matches ct s k = subst (IsKeptFor ct s) found (st.links x) in
+    let found : get nat_cmp o.connections x ≡ Some k = sym c.in-Some.ensures.value in
+    let m : Matches ct s k = subst (IsKeptFor ct s) found (st.connections x) in
     let lends = c.lends.ensures.some c.if-not-lends.false in
     let fits = lent_ready k.output n lends.1 in
     let lent : n ≤ lent_by o x = subst (λ (e : Option Kept). n ≤ length_of_lent e) (sym found) lends.1 in
@@ -97,18 +97,18 @@ returns-then-not-taken-clause-stands g c T st clean =
     let o = c.args.self.now in
     let x = c.args.c in
     let n = c.args.octets in
-    let k : Kept = c.in-Some.link.now in
+    let k : Kept = c.in-Some.connection.now in
     let s = seen T x in
     let ct = st.keeps.contents in
     let k1 : Kept = c.take.new.self in
-    let found : get nat_cmp o.links x ≡ Some k = sym c.in-Some.ensures.value in
-    let m : Matches ct s k = subst (IsKeptFor ct s) found (st.links x) in
+    let found : get nat_cmp o.connections x ≡ Some k = sym c.in-Some.ensures.value in
+    let m : Matches ct s k = subst (IsKeptFor ct s) found (st.connections x) in
     let lends = c.lends.ensures.some c.if-not-lends.false in
     let fits = lent_ready k.output n lends.1 in
     let reads = c.in-Ok.ensures.refused c.if-not-taken.true in
     let left = left_over s n (took_more ct s k n o.moment m fits (text_feeds k.output.source reads)) in
     let first = (c.get_mut.follows.holds k1).3 (search rules) in
-    let second = c.cut_off-then-not-taken.ensures.links in
+    let second = c.cut_off-then-not-taken.ensures.connections in
     ended_by g.V.Vault.holds o _ T (Took x n) Failed x (took_ends T x n Failed left (refused_ends (serving (history T) x) x (m.serving reads))) st k found
     (λ d h. c.take.ensures.looks.held d h clean) refl refl refl refl refl second.1 (λ q e. second.2 q e ∙ first.2 q e)
     (subst (λ h. Released h o.locks c.cut_off-then-not-taken.new.locks) c.maildrop-held.ensures c.cut_off-then-not-taken.ensures.locks)
@@ -118,12 +118,12 @@ returns-then-not-taken-clause-outcome g c T st clean =
     let o = c.args.self.now in
     let x = c.args.c in
     let n = c.args.octets in
-    let k : Kept = c.in-Some.link.now in
+    let k : Kept = c.in-Some.connection.now in
     let s = seen T x in
     let ct = st.keeps.contents in
     let k1 : Kept = c.take.new.self in
-    let found : get nat_cmp o.links x ≡ Some k = sym c.in-Some.ensures.value in
-    let m : Matches ct s k = subst (IsKeptFor ct s) found (st.links x) in
+    let found : get nat_cmp o.connections x ≡ Some k = sym c.in-Some.ensures.value in
+    let m : Matches ct s k = subst (IsKeptFor ct s) found (st.connections x) in
     let lends = c.lends.ensures.some c.if-not-lends.false in
     let fits = lent_ready k.output n lends.1 in
     let lent : n ≤ lent_by o x = subst (λ (e : Option Kept). n ≤ length_of_lent e) (sym found) lends.1 in
@@ -138,12 +138,12 @@ returns-then-not-taken-clause-cause g c T st clean =
     let o = c.args.self.now in
     let x = c.args.c in
     let n = c.args.octets in
-    let k : Kept = c.in-Some.link.now in
+    let k : Kept = c.in-Some.connection.now in
     let s = seen T x in
     let ct = st.keeps.contents in
     let k1 : Kept = c.take.new.self in
-    let found : get nat_cmp o.links x ≡ Some k = sym c.in-Some.ensures.value in
-    let m : Matches ct s k = subst (IsKeptFor ct s) found (st.links x) in
+    let found : get nat_cmp o.connections x ≡ Some k = sym c.in-Some.ensures.value in
+    let m : Matches ct s k = subst (IsKeptFor ct s) found (st.connections x) in
     let lends = c.lends.ensures.some c.if-not-lends.false in
     let fits = lent_ready k.output n lends.1 in
     c.in-Ok.ensures.cause c.if-not-taken.true ct (untaken_of s) st.keeps.held clean m.owed
@@ -157,17 +157,17 @@ returns-in-Err-clause-stands g c T st clean =
     let o = c.args.self.now in
     let x = c.args.c in
     let n = c.args.octets in
-    let k : Kept = c.in-Some.link.now in
+    let k : Kept = c.in-Some.connection.now in
     let s = seen T x in
     let ct = st.keeps.contents in
     let k1 : Kept = c.take.new.self in
-    let found : get nat_cmp o.links x ≡ Some k = sym c.in-Some.ensures.value in
-    let m : Matches ct s k = subst (IsKeptFor ct s) found (st.links x) in
+    let found : get nat_cmp o.connections x ≡ Some k = sym c.in-Some.ensures.value in
+    let m : Matches ct s k = subst (IsKeptFor ct s) found (st.connections x) in
     let lends = c.lends.ensures.some c.if-not-lends.false in
     let fits = lent_ready k.output n lends.1 in
     let left = left_over s n (took_more ct s k n o.moment m fits c.in-Err.ensures.err) in
     let first = (c.get_mut.follows.holds k1).3 (search rules) in
-    let second = c.cut_off.ensures.links in
+    let second = c.cut_off.ensures.connections in
     ended_by g.V.Vault.holds o _ T (Took x n) NoMemory x (took_ends T x n NoMemory left (lacking_ends (serving (history T) x) x)) st k found
     (λ d h. c.take.ensures.looks.held d h clean) refl refl refl refl refl second.1 (λ q e. second.2 q e ∙ first.2 q e)
     (subst (λ h. Released h o.locks c.cut_off.new.locks) c.maildrop-held.ensures c.cut_off.ensures.locks)
@@ -177,12 +177,12 @@ returns-in-Err-clause-outcome g c T st clean =
     let o = c.args.self.now in
     let x = c.args.c in
     let n = c.args.octets in
-    let k : Kept = c.in-Some.link.now in
+    let k : Kept = c.in-Some.connection.now in
     let s = seen T x in
     let ct = st.keeps.contents in
     let k1 : Kept = c.take.new.self in
-    let found : get nat_cmp o.links x ≡ Some k = sym c.in-Some.ensures.value in
-    let m : Matches ct s k = subst (IsKeptFor ct s) found (st.links x) in
+    let found : get nat_cmp o.connections x ≡ Some k = sym c.in-Some.ensures.value in
+    let m : Matches ct s k = subst (IsKeptFor ct s) found (st.connections x) in
     let lends = c.lends.ensures.some c.if-not-lends.false in
     let fits = lent_ready k.output n lends.1 in
     let lent : n ≤ lent_by o x = subst (λ (e : Option Kept). n ≤ length_of_lent e) (sym found) lends.1 in
@@ -200,12 +200,12 @@ returns-then-is_closing-clause-stands g c T st clean =
     let o = c.args.self.now in
     let x = c.args.c in
     let n = c.args.octets in
-    let k : Kept = c.in-Some.link.now in
+    let k : Kept = c.in-Some.connection.now in
     let s = seen T x in
     let ct = st.keeps.contents in
     let k1 : Kept = c.take.new.self in
-    let found : get nat_cmp o.links x ≡ Some k = sym c.in-Some.ensures.value in
-    let m : Matches ct s k = subst (IsKeptFor ct s) found (st.links x) in
+    let found : get nat_cmp o.connections x ≡ Some k = sym c.in-Some.ensures.value in
+    let m : Matches ct s k = subst (IsKeptFor ct s) found (st.connections x) in
     let lends = c.lends.ensures.some c.if-not-lends.false in
     let fits = lent_ready k.output n lends.1 in
     let does = c.in-Ok.ensures in
@@ -213,7 +213,7 @@ returns-then-is_closing-clause-stands g c T st clean =
     let owes = does.owes yes ct (untaken_of s) st.keeps.held clean m.owed in
     let none : k1.output ≡ nothing_owed = c.owes_nothing.ensures.nothing c.if-not-owes_nothing.false in
     let all = took_all ct s k n o.moment m fits k1.output owes none in
-    let closed : s.closing ≡ true = sym m.closing ∙ (sym (ap (λ (k : Kept). k.talk.closing) c.take.ensures.kept) ∙ (sym c.is_closing.ensures ∙ c.if-is_closing.true)) in
+    let closed : s.closing ≡ true = sym m.closing ∙ (sym (ap (λ (k : Kept). k.state.closing) c.take.ensures.kept) ∙ (sym c.is_closing.ensures ∙ c.if-is_closing.true)) in
     let first = (c.get_mut.follows.holds k1).3 (search rules) in
     let second = c.remove.ensures.updates in
     moved g.V.Vault.holds o _ T (Took x n) _ Done x refl st refl refl refl refl refl refl (whole-took T x n Done) refl refl (rw found refl) (λ q e. seen-took_other T x n q Done e)
@@ -221,7 +221,7 @@ returns-then-is_closing-clause-stands g c T st clean =
       contents = ct;
       held = c.take.ensures.looks.held ct st.keeps.held clean;
       agree = rw (records-took_closing T x n (all_over s n all) closed) st.keeps.agree;
-      here = rw (second.1, seen-took_closing T x n o.moment st.moment (all_over s n all) closed) (record { closed = closed_took s n o.moment all closed; outside = m.parted closed });
+      here = rw (second.1, seen-took_closing T x n o.moment st.moment (all_over s n all) closed) (record { closed = closed_took s n o.moment all closed; authorization = m.parted closed });
       carried = λ q e i. i;
       locks = λ d. st.locks d ∙ sym (same_closing T x n (all_over s n all) closed d);
     })
@@ -231,12 +231,12 @@ returns-then-is_closing-clause-outcome g c T st clean =
     let o = c.args.self.now in
     let x = c.args.c in
     let n = c.args.octets in
-    let k : Kept = c.in-Some.link.now in
+    let k : Kept = c.in-Some.connection.now in
     let s = seen T x in
     let ct = st.keeps.contents in
     let k1 : Kept = c.take.new.self in
-    let found : get nat_cmp o.links x ≡ Some k = sym c.in-Some.ensures.value in
-    let m : Matches ct s k = subst (IsKeptFor ct s) found (st.links x) in
+    let found : get nat_cmp o.connections x ≡ Some k = sym c.in-Some.ensures.value in
+    let m : Matches ct s k = subst (IsKeptFor ct s) found (st.connections x) in
     let lends = c.lends.ensures.some c.if-not-lends.false in
     let fits = lent_ready k.output n lends.1 in
     let lent : n ≤ lent_by o x = subst (λ (e : Option Kept). n ≤ length_of_lent e) (sym found) lends.1 in
@@ -249,12 +249,12 @@ returns-in-Ok-resume-clause-stands g c T st clean =
     let o = c.args.self.now in
     let x = c.args.c in
     let n = c.args.octets in
-    let k : Kept = c.in-Some.link.now in
+    let k : Kept = c.in-Some.connection.now in
     let s = seen T x in
     let ct = st.keeps.contents in
     let k1 : Kept = c.take.new.self in
-    let found : get nat_cmp o.links x ≡ Some k = sym c.in-Some.ensures.value in
-    let m : Matches ct s k = subst (IsKeptFor ct s) found (st.links x) in
+    let found : get nat_cmp o.connections x ≡ Some k = sym c.in-Some.ensures.value in
+    let m : Matches ct s k = subst (IsKeptFor ct s) found (st.connections x) in
     let lends = c.lends.ensures.some c.if-not-lends.false in
     let fits = lent_ready k.output n lends.1 in
     let does = c.in-Ok.ensures in
@@ -262,21 +262,21 @@ returns-in-Ok-resume-clause-stands g c T st clean =
     let owes = does.owes yes ct (untaken_of s) st.keeps.held before m.owed in
     let none : k1.output ≡ nothing_owed = c.owes_nothing.ensures.nothing c.if-not-owes_nothing.false in
     let all = took_all ct s k n o.moment m fits k1.output owes none in
-    let open_yet : s.closing ≡ false = sym m.closing ∙ (sym (ap (λ (k : Kept). k.talk.closing) c.take.ensures.kept) ∙ (sym c.is_closing.ensures ∙ c.if-is_closing.false)) in
+    let open_yet : s.closing ≡ false = sym m.closing ∙ (sym (ap (λ (k : Kept). k.state.closing) c.take.ensures.kept) ∙ (sym c.is_closing.ensures ∙ c.if-is_closing.false)) in
     let ready : Awaits ct (took s n o.moment) k1 k1.pending = all_taken ct s k n o.moment m fits k1.output owes k1 c.take.ensures.kept none open_yet in
     let held = c.take.ensures.looks.held ct st.keeps.held before in
     let sound : AreSound ct = g.met.V.Vault.sound o.vault ct st.keeps.held (c.take.ensures.looks.clean before) in
     let over = all_over s n all in
-    let w = c.in-Ok-resume.acted in
+    let w = c.in-Ok-resume.line_outcome in
     let j = judged T x n st.keeps sound o.policy st.policy o.locks st.locks o.moment st.moment k1 ready over open_yet in
     let line = c.in-Ok-resume.ensures in
     let k' : Kept = c.resume.new.self in
     let change = (c.get_mut.follows.holds k').3 (search rules) in
     moved g.V.Vault.holds o _ T (Took x n) _ (tag_of w) x (marked w _ c.shown.ensures) st refl refl refl refl refl refl (whole-took T x n (tag_of w)) refl refl
     (rw found refl) (λ q e. seen-took_other T x n q (tag_of w) e) (λ q ne. change.2 q (is_apart x q ne))
-    (taking_moves T x n st.keeps sound o.policy st.policy o.locks st.locks o.moment st.moment k1 ready over open_yet w k' _ (λ (f : w ≡ acted.Failed). line.may f ct j.sitting held clean j.seated)
-    (line.ok ct j.sitting held clean j.seated) line.lines (line.session ct j.sitting held clean j.seated) line.locks (line.owes ct j.sitting held clean j.seated) g.V.Vault.holds o _ change.1 refl
-    (line.held ct j.sitting held clean j.seated))
+    (taking_moves T x n st.keeps sound o.policy st.policy o.locks st.locks o.moment st.moment k1 ready over open_yet w k' _ (λ (f : w ≡ line_outcome.Failed). line.may f ct j.transaction held clean j.has_transaction)
+    (line.ok ct j.transaction held clean j.has_transaction) line.lines (line.session ct j.transaction held clean j.has_transaction) line.locks (line.owes ct j.transaction held clean j.has_transaction) g.V.Vault.holds o _ change.1 refl
+    (line.held ct j.transaction held clean j.has_transaction))
 
 pub returns-in-Ok-resume-clause-cause : goal.returns-in-Ok-resume-clause-cause
 returns-in-Ok-resume-clause-cause g c T st clean =
@@ -284,12 +284,12 @@ returns-in-Ok-resume-clause-cause g c T st clean =
     let o = c.args.self.now in
     let x = c.args.c in
     let n = c.args.octets in
-    let k : Kept = c.in-Some.link.now in
+    let k : Kept = c.in-Some.connection.now in
     let s = seen T x in
     let ct = st.keeps.contents in
     let k1 : Kept = c.take.new.self in
-    let found : get nat_cmp o.links x ≡ Some k = sym c.in-Some.ensures.value in
-    let m : Matches ct s k = subst (IsKeptFor ct s) found (st.links x) in
+    let found : get nat_cmp o.connections x ≡ Some k = sym c.in-Some.ensures.value in
+    let m : Matches ct s k = subst (IsKeptFor ct s) found (st.connections x) in
     let lends = c.lends.ensures.some c.if-not-lends.false in
     let fits = lent_ready k.output n lends.1 in
     let does = c.in-Ok.ensures in
@@ -297,16 +297,16 @@ returns-in-Ok-resume-clause-cause g c T st clean =
     let owes = does.owes yes ct (untaken_of s) st.keeps.held before m.owed in
     let none : k1.output ≡ nothing_owed = c.owes_nothing.ensures.nothing c.if-not-owes_nothing.false in
     let all = took_all ct s k n o.moment m fits k1.output owes none in
-    let open_yet : s.closing ≡ false = sym m.closing ∙ (sym (ap (λ (k : Kept). k.talk.closing) c.take.ensures.kept) ∙ (sym c.is_closing.ensures ∙ c.if-is_closing.false)) in
+    let open_yet : s.closing ≡ false = sym m.closing ∙ (sym (ap (λ (k : Kept). k.state.closing) c.take.ensures.kept) ∙ (sym c.is_closing.ensures ∙ c.if-is_closing.false)) in
     let ready : Awaits ct (took s n o.moment) k1 k1.pending = all_taken ct s k n o.moment m fits k1.output owes k1 c.take.ensures.kept none open_yet in
     let held = c.take.ensures.looks.held ct st.keeps.held before in
     let sound : AreSound ct = g.met.V.Vault.sound o.vault ct st.keeps.held (c.take.ensures.looks.clean before) in
     let over = all_over s n all in
-    let w = c.in-Ok-resume.acted in
+    let w = c.in-Ok-resume.line_outcome in
     let j = judged T x n st.keeps sound o.policy st.policy o.locks st.locks o.moment st.moment k1 ready over open_yet in
     let line = c.in-Ok-resume.ensures in
     line_cause (g.V.Vault.faults o.vault) (g.V.Vault.faults c.resume.new.vault) w _ c.shown.ensures
-    (λ f. grown_behind (g.V.Vault.faults o.vault) (g.V.Vault.faults c.take.new.vault) (g.V.Vault.faults c.resume.new.vault) c.take.ensures.looks.counted (line.cause f ct j.sitting held clean j.seated))
+    (λ f. grown_behind (g.V.Vault.faults o.vault) (g.V.Vault.faults c.take.new.vault) (g.V.Vault.faults c.resume.new.vault) c.take.ensures.looks.counted (line.cause f ct j.transaction held clean j.has_transaction))
 
 pub returns-in-Ok-resume-clause-outcome : goal.returns-in-Ok-resume-clause-outcome
 returns-in-Ok-resume-clause-outcome g c T st clean =
@@ -314,12 +314,12 @@ returns-in-Ok-resume-clause-outcome g c T st clean =
     let o = c.args.self.now in
     let x = c.args.c in
     let n = c.args.octets in
-    let k : Kept = c.in-Some.link.now in
+    let k : Kept = c.in-Some.connection.now in
     let s = seen T x in
     let ct = st.keeps.contents in
     let k1 : Kept = c.take.new.self in
-    let found : get nat_cmp o.links x ≡ Some k = sym c.in-Some.ensures.value in
-    let m : Matches ct s k = subst (IsKeptFor ct s) found (st.links x) in
+    let found : get nat_cmp o.connections x ≡ Some k = sym c.in-Some.ensures.value in
+    let m : Matches ct s k = subst (IsKeptFor ct s) found (st.connections x) in
     let lends = c.lends.ensures.some c.if-not-lends.false in
     let fits = lent_ready k.output n lends.1 in
     let does = c.in-Ok.ensures in
@@ -327,18 +327,18 @@ returns-in-Ok-resume-clause-outcome g c T st clean =
     let owes = does.owes yes ct (untaken_of s) st.keeps.held before m.owed in
     let none : k1.output ≡ nothing_owed = c.owes_nothing.ensures.nothing c.if-not-owes_nothing.false in
     let all = took_all ct s k n o.moment m fits k1.output owes none in
-    let open_yet : s.closing ≡ false = sym m.closing ∙ (sym (ap (λ (k : Kept). k.talk.closing) c.take.ensures.kept) ∙ (sym c.is_closing.ensures ∙ c.if-is_closing.false)) in
+    let open_yet : s.closing ≡ false = sym m.closing ∙ (sym (ap (λ (k : Kept). k.state.closing) c.take.ensures.kept) ∙ (sym c.is_closing.ensures ∙ c.if-is_closing.false)) in
     let ready : Awaits ct (took s n o.moment) k1 k1.pending = all_taken ct s k n o.moment m fits k1.output owes k1 c.take.ensures.kept none open_yet in
     let held = c.take.ensures.looks.held ct st.keeps.held before in
     let sound : AreSound ct = g.met.V.Vault.sound o.vault ct st.keeps.held (c.take.ensures.looks.clean before) in
     let over = all_over s n all in
-    let w = c.in-Ok-resume.acted in
+    let w = c.in-Ok-resume.line_outcome in
     let j = judged T x n st.keeps sound o.policy st.policy o.locks st.locks o.moment st.moment k1 ready over open_yet in
     let line = c.in-Ok-resume.ensures in
     let lent : n ≤ lent_by o x = subst (λ (e : Option Kept). n ≤ length_of_lent e) (sym found) lends.1 in
     let goes = took_goes T (lent_by o) x n m.opened lends.0 lent in
-    taking_answered T x n st.keeps sound o.policy st.policy o.locks st.locks o.moment st.moment k1 ready over open_yet w c.resume.new.self o.locks (λ (f : w ≡ acted.Failed). line.may f ct j.sitting held clean j.seated)
-    (line.ok ct j.sitting held clean j.seated) line.lines (lent_by o) _ goes c.shown.ensures
+    taking_answered T x n st.keeps sound o.policy st.policy o.locks st.locks o.moment st.moment k1 ready over open_yet w c.resume.new.self o.locks (λ (f : w ≡ line_outcome.Failed). line.may f ct j.transaction held clean j.has_transaction)
+    (line.ok ct j.transaction held clean j.has_transaction) line.lines (lent_by o) _ goes c.shown.ensures
 
 pub returns-in-Err-resume-clause-stands : goal.returns-in-Err-resume-clause-stands
 returns-in-Err-resume-clause-stands g c T st clean =
@@ -346,12 +346,12 @@ returns-in-Err-resume-clause-stands g c T st clean =
     let o = c.args.self.now in
     let x = c.args.c in
     let n = c.args.octets in
-    let k : Kept = c.in-Some.link.now in
+    let k : Kept = c.in-Some.connection.now in
     let s = seen T x in
     let ct = st.keeps.contents in
     let k1 : Kept = c.take.new.self in
-    let found : get nat_cmp o.links x ≡ Some k = sym c.in-Some.ensures.value in
-    let m : Matches ct s k = subst (IsKeptFor ct s) found (st.links x) in
+    let found : get nat_cmp o.connections x ≡ Some k = sym c.in-Some.ensures.value in
+    let m : Matches ct s k = subst (IsKeptFor ct s) found (st.connections x) in
     let lends = c.lends.ensures.some c.if-not-lends.false in
     let fits = lent_ready k.output n lends.1 in
     let does = c.in-Ok.ensures in
@@ -359,14 +359,14 @@ returns-in-Err-resume-clause-stands g c T st clean =
     let owes = does.owes yes ct (untaken_of s) st.keeps.held before m.owed in
     let none : k1.output ≡ nothing_owed = c.owes_nothing.ensures.nothing c.if-not-owes_nothing.false in
     let all = took_all ct s k n o.moment m fits k1.output owes none in
-    let open_yet : s.closing ≡ false = sym m.closing ∙ (sym (ap (λ (k : Kept). k.talk.closing) c.take.ensures.kept) ∙ (sym c.is_closing.ensures ∙ c.if-is_closing.false)) in
+    let open_yet : s.closing ≡ false = sym m.closing ∙ (sym (ap (λ (k : Kept). k.state.closing) c.take.ensures.kept) ∙ (sym c.is_closing.ensures ∙ c.if-is_closing.false)) in
     let ready : Awaits ct (took s n o.moment) k1 k1.pending = all_taken ct s k n o.moment m fits k1.output owes k1 c.take.ensures.kept none open_yet in
     let held = c.take.ensures.looks.held ct st.keeps.held before in
     let sound : AreSound ct = g.met.V.Vault.sound o.vault ct st.keeps.held (c.take.ensures.looks.clean before) in
     let over = all_over s n all in
     let next = next_there ct (took s n o.moment) k1 k1.pending ready c.in-Err-resume.ensures.err in
     let first = (c.get_mut.follows.holds c.resume.new.self).3 (search rules) in
-    let second = c.cut_off-in-Err-resume.ensures.links in
+    let second = c.cut_off-in-Err-resume.ensures.connections in
     let gone = over-took T x n next.0 over open_yet (next_kept T x ∙ next.1) in
     let sits : k1.session ≡ k.session = ap (λ (k : Kept). k.session) c.take.ensures.kept in
     moved g.V.Vault.holds o _ T (Took x n) _ NoMemory x refl st refl refl refl refl refl refl (whole-took T x n NoMemory) refl refl (rw found refl) (λ q e. seen-took_other T x n q NoMemory e)
@@ -377,7 +377,7 @@ returns-in-Err-resume-clause-stands g c T st clean =
       here = rw second.1 gone;
       carried = λ q e i. i;
       locks = released T.base (acts T) (acts (given T (Took x n) (Tagged NoMemory))) x (λ d q e. ap (λ s. holds_by s d) (seen-took_other T x n q NoMemory e))
-          (λ d. let out = gone.outside in rw out refl) ct s k1.session c.resume.new.locks _ (subst (IsSession ct s) (sym sits) m.session) refl refl
+          (λ d. let out = gone.authorization in rw out refl) ct s k1.session c.resume.new.locks _ (subst (IsSession ct s) (sym sits) m.session) refl refl
           (λ d. c.in-Err-resume.ensures.locks_err d ∙ st.locks d)
           (subst (λ h. Released h c.resume.new.locks c.cut_off-in-Err-resume.new.locks) (c.maildrop-held.ensures ∙ ap maildrop_of (sym sits)) c.cut_off-in-Err-resume.ensures.locks);
     })
@@ -388,12 +388,12 @@ returns-in-Err-resume-clause-outcome g c T st clean =
     let o = c.args.self.now in
     let x = c.args.c in
     let n = c.args.octets in
-    let k : Kept = c.in-Some.link.now in
+    let k : Kept = c.in-Some.connection.now in
     let s = seen T x in
     let ct = st.keeps.contents in
     let k1 : Kept = c.take.new.self in
-    let found : get nat_cmp o.links x ≡ Some k = sym c.in-Some.ensures.value in
-    let m : Matches ct s k = subst (IsKeptFor ct s) found (st.links x) in
+    let found : get nat_cmp o.connections x ≡ Some k = sym c.in-Some.ensures.value in
+    let m : Matches ct s k = subst (IsKeptFor ct s) found (st.connections x) in
     let lends = c.lends.ensures.some c.if-not-lends.false in
     let fits = lent_ready k.output n lends.1 in
     let does = c.in-Ok.ensures in
@@ -401,7 +401,7 @@ returns-in-Err-resume-clause-outcome g c T st clean =
     let owes = does.owes yes ct (untaken_of s) st.keeps.held before m.owed in
     let none : k1.output ≡ nothing_owed = c.owes_nothing.ensures.nothing c.if-not-owes_nothing.false in
     let all = took_all ct s k n o.moment m fits k1.output owes none in
-    let open_yet : s.closing ≡ false = sym m.closing ∙ (sym (ap (λ (k : Kept). k.talk.closing) c.take.ensures.kept) ∙ (sym c.is_closing.ensures ∙ c.if-is_closing.false)) in
+    let open_yet : s.closing ≡ false = sym m.closing ∙ (sym (ap (λ (k : Kept). k.state.closing) c.take.ensures.kept) ∙ (sym c.is_closing.ensures ∙ c.if-is_closing.false)) in
     let ready : Awaits ct (took s n o.moment) k1 k1.pending = all_taken ct s k n o.moment m fits k1.output owes k1 c.take.ensures.kept none open_yet in
     let held = c.take.ensures.looks.held ct st.keeps.held before in
     let sound : AreSound ct = g.met.V.Vault.sound o.vault ct st.keeps.held (c.take.ensures.looks.clean before) in
@@ -438,7 +438,7 @@ pub returns-in-Ok-resume-clause-up : goal.returns-in-Ok-resume-clause-up
 returns-in-Ok-resume-clause-up g c T st clean up answered =
     let up1 = c.in-Ok.ensures.looks.up st.keeps.contents st.keeps.held (c.resume.ensures.acts.clean clean) up c.if-not-taken.false in
     let held = c.take.ensures.looks.held st.keeps.contents st.keeps.held (c.resume.ensures.acts.clean clean) in
-    c.in-Ok-resume.ensures.acts.up st.keeps.contents held clean up1 (line_answered c.in-Ok-resume.acted _ c.shown.ensures answered)
+    c.in-Ok-resume.ensures.acts.up st.keeps.contents held clean up1 (line_answered c.in-Ok-resume.line_outcome _ c.shown.ensures answered)
 
 pub returns-in-Ok-resume-clause-stop : goal.returns-in-Ok-resume-clause-stop
 returns-in-Ok-resume-clause-stop g c T st clean up =
@@ -446,12 +446,12 @@ returns-in-Ok-resume-clause-stop g c T st clean up =
     let o = c.args.self.now in
     let x = c.args.c in
     let n = c.args.octets in
-    let k : Kept = c.in-Some.link.now in
+    let k : Kept = c.in-Some.connection.now in
     let s = seen T x in
     let ct = st.keeps.contents in
     let k1 : Kept = c.take.new.self in
-    let found : get nat_cmp o.links x ≡ Some k = sym c.in-Some.ensures.value in
-    let m : Matches ct s k = subst (IsKeptFor ct s) found (st.links x) in
+    let found : get nat_cmp o.connections x ≡ Some k = sym c.in-Some.ensures.value in
+    let m : Matches ct s k = subst (IsKeptFor ct s) found (st.connections x) in
     let lends = c.lends.ensures.some c.if-not-lends.false in
     let fits = lent_ready k.output n lends.1 in
     let does = c.in-Ok.ensures in
@@ -459,15 +459,15 @@ returns-in-Ok-resume-clause-stop g c T st clean up =
     let owes = does.owes yes ct (untaken_of s) st.keeps.held before m.owed in
     let none : k1.output ≡ nothing_owed = c.owes_nothing.ensures.nothing c.if-not-owes_nothing.false in
     let all = took_all ct s k n o.moment m fits k1.output owes none in
-    let open_yet : s.closing ≡ false = sym m.closing ∙ (sym (ap (λ (k : Kept). k.talk.closing) c.take.ensures.kept) ∙ (sym c.is_closing.ensures ∙ c.if-is_closing.false)) in
+    let open_yet : s.closing ≡ false = sym m.closing ∙ (sym (ap (λ (k : Kept). k.state.closing) c.take.ensures.kept) ∙ (sym c.is_closing.ensures ∙ c.if-is_closing.false)) in
     let ready : Awaits ct (took s n o.moment) k1 k1.pending = all_taken ct s k n o.moment m fits k1.output owes k1 c.take.ensures.kept none open_yet in
     let held = c.take.ensures.looks.held ct st.keeps.held before in
     let sound : AreSound ct = g.met.V.Vault.sound o.vault ct st.keeps.held (c.take.ensures.looks.clean before) in
     let over = all_over s n all in
     let up1 = c.in-Ok.ensures.looks.up st.keeps.contents st.keeps.held (c.resume.ensures.acts.clean clean) up c.if-not-taken.false in
     let j = judged T x n st.keeps sound o.policy st.policy o.locks st.locks o.moment st.moment k1 ready over open_yet in
-    let left = line_left T x st.keeps sound (took s n o.moment) k1 k1.pending (judged_at ct o.policy k1.stamp o.locks) k1.talk ready j (Took x n)
-    (λ h nx. records-took_line T x n acted.Done (line_after k1 k1.pending) over open_yet (next_kept T x ∙ nx)) (λ h nx. records-took_none T x n over open_yet (next_kept T x ∙ nx))
+    let left = line_left T x st.keeps sound (took s n o.moment) k1 k1.pending (judged_at ct o.policy k1.stamp o.locks) k1.state ready j (Took x n)
+    (λ h nx. records-took_line T x n line_outcome.Done (line_after k1 k1.pending) over open_yet (next_kept T x ∙ nx)) (λ h nx. records-took_none T x n over open_yet (next_kept T x ∙ nx))
     (c.resume.ensures.acts.stop ct held clean up1) in
     stop_leaves T (Took x n) _ left (λ answered. settled_leaves _ (returns-in-Ok-resume-clause-stands g c T st clean).keeps (λ d. g.met.V.Vault.settled _ d clean (returns-in-Ok-resume-clause-up g c T st clean up answered)))
 
@@ -477,12 +477,12 @@ returns-in-Err-resume-clause-stop g c T st clean up =
     let o = c.args.self.now in
     let x = c.args.c in
     let n = c.args.octets in
-    let k : Kept = c.in-Some.link.now in
+    let k : Kept = c.in-Some.connection.now in
     let s = seen T x in
     let ct = st.keeps.contents in
     let k1 : Kept = c.take.new.self in
-    let found : get nat_cmp o.links x ≡ Some k = sym c.in-Some.ensures.value in
-    let m : Matches ct s k = subst (IsKeptFor ct s) found (st.links x) in
+    let found : get nat_cmp o.connections x ≡ Some k = sym c.in-Some.ensures.value in
+    let m : Matches ct s k = subst (IsKeptFor ct s) found (st.connections x) in
     let lends = c.lends.ensures.some c.if-not-lends.false in
     let fits = lent_ready k.output n lends.1 in
     let does = c.in-Ok.ensures in
@@ -490,15 +490,15 @@ returns-in-Err-resume-clause-stop g c T st clean up =
     let owes = does.owes yes ct (untaken_of s) st.keeps.held before m.owed in
     let none : k1.output ≡ nothing_owed = c.owes_nothing.ensures.nothing c.if-not-owes_nothing.false in
     let all = took_all ct s k n o.moment m fits k1.output owes none in
-    let open_yet : s.closing ≡ false = sym m.closing ∙ (sym (ap (λ (k : Kept). k.talk.closing) c.take.ensures.kept) ∙ (sym c.is_closing.ensures ∙ c.if-is_closing.false)) in
+    let open_yet : s.closing ≡ false = sym m.closing ∙ (sym (ap (λ (k : Kept). k.state.closing) c.take.ensures.kept) ∙ (sym c.is_closing.ensures ∙ c.if-is_closing.false)) in
     let ready : Awaits ct (took s n o.moment) k1 k1.pending = all_taken ct s k n o.moment m fits k1.output owes k1 c.take.ensures.kept none open_yet in
     let held = c.take.ensures.looks.held ct st.keeps.held before in
     let sound : AreSound ct = g.met.V.Vault.sound o.vault ct st.keeps.held (c.take.ensures.looks.clean before) in
     let over = all_over s n all in
     let up1 = c.in-Ok.ensures.looks.up st.keeps.contents st.keeps.held (c.resume.ensures.acts.clean clean) up c.if-not-taken.false in
     let j = judged T x n st.keeps sound o.policy st.policy o.locks st.locks o.moment st.moment k1 ready over open_yet in
-    let left = line_left T x st.keeps sound (took s n o.moment) k1 k1.pending (judged_at ct o.policy k1.stamp o.locks) k1.talk ready j (Took x n)
-    (λ h nx. records-took_line T x n acted.Done (line_after k1 k1.pending) over open_yet (next_kept T x ∙ nx)) (λ h nx. records-took_none T x n over open_yet (next_kept T x ∙ nx))
+    let left = line_left T x st.keeps sound (took s n o.moment) k1 k1.pending (judged_at ct o.policy k1.stamp o.locks) k1.state ready j (Took x n)
+    (λ h nx. records-took_line T x n line_outcome.Done (line_after k1 k1.pending) over open_yet (next_kept T x ∙ nx)) (λ h nx. records-took_none T x n over open_yet (next_kept T x ∙ nx))
     (c.resume.ensures.acts.stop ct held clean up1) in
     stop_leaves T (Took x n) outcome.NoMemory left (λ answered. absurd answered)
 
@@ -506,18 +506,18 @@ pub resume-requires : goal.resume-requires
 resume-requires g c = c.owes_nothing.ensures.nothing c.if-not-owes_nothing.false
 
 pub take-requires : goal.take-requires
-take-requires g c = lent_ready c.in-Some.link.now.output c.args.octets (c.lends.ensures.some c.if-not-lends.false).1
+take-requires g c = lent_ready c.in-Some.connection.now.output c.args.octets (c.lends.ensures.some c.if-not-lends.false).1
 
 pub returns-in-Err-clause-unasked : goal.returns-in-Err-clause-unasked
 returns-in-Err-clause-unasked g c T st clean none =
     let o = c.args.self.now in
     let x = c.args.c in
     let n = c.args.octets in
-    let k : Kept = c.in-Some.link.now in
+    let k : Kept = c.in-Some.connection.now in
     let s = seen T x in
     let ct = st.keeps.contents in
-    let found : get nat_cmp o.links x ≡ Some k = sym c.in-Some.ensures.value in
-    let m : Matches ct s k = subst (IsKeptFor ct s) found (st.links x) in
+    let found : get nat_cmp o.connections x ≡ Some k = sym c.in-Some.ensures.value in
+    let m : Matches ct s k = subst (IsKeptFor ct s) found (st.connections x) in
     let lends = c.lends.ensures.some c.if-not-lends.false in
     let fits = lent_ready k.output n lends.1 in
     c.take.ensures.unasked (taking_reads_none T x n ct k o.moment m fits none)
@@ -527,11 +527,11 @@ returns-then-not-taken-clause-unasked g c T st clean none =
     let o = c.args.self.now in
     let x = c.args.c in
     let n = c.args.octets in
-    let k : Kept = c.in-Some.link.now in
+    let k : Kept = c.in-Some.connection.now in
     let s = seen T x in
     let ct = st.keeps.contents in
-    let found : get nat_cmp o.links x ≡ Some k = sym c.in-Some.ensures.value in
-    let m : Matches ct s k = subst (IsKeptFor ct s) found (st.links x) in
+    let found : get nat_cmp o.connections x ≡ Some k = sym c.in-Some.ensures.value in
+    let m : Matches ct s k = subst (IsKeptFor ct s) found (st.connections x) in
     let lends = c.lends.ensures.some c.if-not-lends.false in
     let fits = lent_ready k.output n lends.1 in
     c.take.ensures.unasked (taking_reads_none T x n ct k o.moment m fits none)
@@ -541,11 +541,11 @@ returns-then-not-owes_nothing-clause-unasked g c T st clean none =
     let o = c.args.self.now in
     let x = c.args.c in
     let n = c.args.octets in
-    let k : Kept = c.in-Some.link.now in
+    let k : Kept = c.in-Some.connection.now in
     let s = seen T x in
     let ct = st.keeps.contents in
-    let found : get nat_cmp o.links x ≡ Some k = sym c.in-Some.ensures.value in
-    let m : Matches ct s k = subst (IsKeptFor ct s) found (st.links x) in
+    let found : get nat_cmp o.connections x ≡ Some k = sym c.in-Some.ensures.value in
+    let m : Matches ct s k = subst (IsKeptFor ct s) found (st.connections x) in
     let lends = c.lends.ensures.some c.if-not-lends.false in
     let fits = lent_ready k.output n lends.1 in
     c.take.ensures.unasked (taking_reads_none T x n ct k o.moment m fits none)
@@ -555,11 +555,11 @@ returns-then-is_closing-clause-unasked g c T st clean none =
     let o = c.args.self.now in
     let x = c.args.c in
     let n = c.args.octets in
-    let k : Kept = c.in-Some.link.now in
+    let k : Kept = c.in-Some.connection.now in
     let s = seen T x in
     let ct = st.keeps.contents in
-    let found : get nat_cmp o.links x ≡ Some k = sym c.in-Some.ensures.value in
-    let m : Matches ct s k = subst (IsKeptFor ct s) found (st.links x) in
+    let found : get nat_cmp o.connections x ≡ Some k = sym c.in-Some.ensures.value in
+    let m : Matches ct s k = subst (IsKeptFor ct s) found (st.connections x) in
     let lends = c.lends.ensures.some c.if-not-lends.false in
     let fits = lent_ready k.output n lends.1 in
     c.take.ensures.unasked (taking_reads_none T x n ct k o.moment m fits none)
@@ -569,11 +569,11 @@ returns-in-Ok-resume-clause-unasked g c T st clean none =
     let o = c.args.self.now in
     let x = c.args.c in
     let n = c.args.octets in
-    let k : Kept = c.in-Some.link.now in
+    let k : Kept = c.in-Some.connection.now in
     let s = seen T x in
     let ct = st.keeps.contents in
-    let found : get nat_cmp o.links x ≡ Some k = sym c.in-Some.ensures.value in
-    let m : Matches ct s k = subst (IsKeptFor ct s) found (st.links x) in
+    let found : get nat_cmp o.connections x ≡ Some k = sym c.in-Some.ensures.value in
+    let m : Matches ct s k = subst (IsKeptFor ct s) found (st.connections x) in
     let lends = c.lends.ensures.some c.if-not-lends.false in
     let fits = lent_ready k.output n lends.1 in
     let k1 : Kept = c.take.new.self in
@@ -584,23 +584,23 @@ returns-in-Ok-resume-clause-unasked g c T st clean none =
     let owes = does.owes yes ct (untaken_of s) st.keeps.held before m.owed in
     let nothing : k1.output ≡ nothing_owed = c.owes_nothing.ensures.nothing c.if-not-owes_nothing.false in
     let all = took_all ct s k n o.moment m fits k1.output owes nothing in
-    let open_yet : s.closing ≡ false = sym m.closing ∙ (sym (ap (λ (k : Kept). k.talk.closing) c.take.ensures.kept) ∙ (sym c.is_closing.ensures ∙ c.if-is_closing.false)) in
+    let open_yet : s.closing ≡ false = sym m.closing ∙ (sym (ap (λ (k : Kept). k.state.closing) c.take.ensures.kept) ∙ (sym c.is_closing.ensures ∙ c.if-is_closing.false)) in
     let ready : Awaits ct (took s n o.moment) k1 k1.pending = all_taken ct s k n o.moment m fits k1.output owes k1 c.take.ensures.kept nothing open_yet in
     let sound : AreSound ct = g.met.V.Vault.sound o.vault ct st.keeps.held clean in
     let over = all_over s n all in
     let j = judged T x n st.keeps sound o.policy st.policy o.locks st.locks o.moment st.moment k1 ready over open_yet in
-    c.resume.ensures.unasked ct j.sitting j.seated (taking_asks_none T x ct k1 (judged_at ct o.policy k1.stamp o.locks) k1.talk k1.session j n o.moment ready over open_yet none) ∙ same
+    c.resume.ensures.unasked ct j.transaction j.has_transaction (taking_asks_none T x ct k1 (judged_at ct o.policy k1.stamp o.locks) k1.state k1.session j n o.moment ready over open_yet none) ∙ same
 
 pub returns-in-Err-resume-clause-unasked : goal.returns-in-Err-resume-clause-unasked
 returns-in-Err-resume-clause-unasked g c T st clean none =
     let o = c.args.self.now in
     let x = c.args.c in
     let n = c.args.octets in
-    let k : Kept = c.in-Some.link.now in
+    let k : Kept = c.in-Some.connection.now in
     let s = seen T x in
     let ct = st.keeps.contents in
-    let found : get nat_cmp o.links x ≡ Some k = sym c.in-Some.ensures.value in
-    let m : Matches ct s k = subst (IsKeptFor ct s) found (st.links x) in
+    let found : get nat_cmp o.connections x ≡ Some k = sym c.in-Some.ensures.value in
+    let m : Matches ct s k = subst (IsKeptFor ct s) found (st.connections x) in
     let lends = c.lends.ensures.some c.if-not-lends.false in
     let fits = lent_ready k.output n lends.1 in
     let k1 : Kept = c.take.new.self in
@@ -611,12 +611,12 @@ returns-in-Err-resume-clause-unasked g c T st clean none =
     let owes = does.owes yes ct (untaken_of s) st.keeps.held before m.owed in
     let nothing : k1.output ≡ nothing_owed = c.owes_nothing.ensures.nothing c.if-not-owes_nothing.false in
     let all = took_all ct s k n o.moment m fits k1.output owes nothing in
-    let open_yet : s.closing ≡ false = sym m.closing ∙ (sym (ap (λ (k : Kept). k.talk.closing) c.take.ensures.kept) ∙ (sym c.is_closing.ensures ∙ c.if-is_closing.false)) in
+    let open_yet : s.closing ≡ false = sym m.closing ∙ (sym (ap (λ (k : Kept). k.state.closing) c.take.ensures.kept) ∙ (sym c.is_closing.ensures ∙ c.if-is_closing.false)) in
     let ready : Awaits ct (took s n o.moment) k1 k1.pending = all_taken ct s k n o.moment m fits k1.output owes k1 c.take.ensures.kept nothing open_yet in
     let sound : AreSound ct = g.met.V.Vault.sound o.vault ct st.keeps.held clean in
     let over = all_over s n all in
     let j = judged T x n st.keeps sound o.policy st.policy o.locks st.locks o.moment st.moment k1 ready over open_yet in
-    c.resume.ensures.unasked ct j.sitting j.seated (taking_asks_none T x ct k1 (judged_at ct o.policy k1.stamp o.locks) k1.talk k1.session j n o.moment ready over open_yet none) ∙ same
+    c.resume.ensures.unasked ct j.transaction j.has_transaction (taking_asks_none T x ct k1 (judged_at ct o.policy k1.stamp o.locks) k1.state k1.session j n o.moment ready over open_yet none) ∙ same
 
 pub returns-in-Ok-resume-clause-account : goal.returns-in-Ok-resume-clause-account
 returns-in-Ok-resume-clause-account g c fresh T st clean =
@@ -624,12 +624,12 @@ returns-in-Ok-resume-clause-account g c fresh T st clean =
     let o = c.args.self.now in
     let x = c.args.c in
     let n = c.args.octets in
-    let k : Kept = c.in-Some.link.now in
+    let k : Kept = c.in-Some.connection.now in
     let s = seen T x in
     let ct = st.keeps.contents in
     let k1 : Kept = c.take.new.self in
-    let found : get nat_cmp o.links x ≡ Some k = sym c.in-Some.ensures.value in
-    let m : Matches ct s k = subst (IsKeptFor ct s) found (st.links x) in
+    let found : get nat_cmp o.connections x ≡ Some k = sym c.in-Some.ensures.value in
+    let m : Matches ct s k = subst (IsKeptFor ct s) found (st.connections x) in
     let lends = c.lends.ensures.some c.if-not-lends.false in
     let fits = lent_ready k.output n lends.1 in
     let does = c.in-Ok.ensures in
@@ -637,18 +637,18 @@ returns-in-Ok-resume-clause-account g c fresh T st clean =
     let owes = does.owes yes ct (untaken_of s) st.keeps.held before m.owed in
     let none : k1.output ≡ nothing_owed = c.owes_nothing.ensures.nothing c.if-not-owes_nothing.false in
     let all = took_all ct s k n o.moment m fits k1.output owes none in
-    let open_yet : s.closing ≡ false = sym m.closing ∙ (sym (ap (λ (k : Kept). k.talk.closing) c.take.ensures.kept) ∙ (sym c.is_closing.ensures ∙ c.if-is_closing.false)) in
+    let open_yet : s.closing ≡ false = sym m.closing ∙ (sym (ap (λ (k : Kept). k.state.closing) c.take.ensures.kept) ∙ (sym c.is_closing.ensures ∙ c.if-is_closing.false)) in
     let ready : Awaits ct (took s n o.moment) k1 k1.pending = all_taken ct s k n o.moment m fits k1.output owes k1 c.take.ensures.kept none open_yet in
     let held = c.take.ensures.looks.held ct st.keeps.held before in
     let sound : AreSound ct = g.met.V.Vault.sound o.vault ct st.keeps.held (c.take.ensures.looks.clean before) in
     let over = all_over s n all in
-    let w = c.in-Ok-resume.acted in
+    let w = c.in-Ok-resume.line_outcome in
     let j = judged T x n st.keeps sound o.policy st.policy o.locks st.locks o.moment st.moment k1 ready over open_yet in
     let line = c.in-Ok-resume.ensures in
-    let told = line.account fresh ct j.sitting held clean j.seated in
-    let named : k1.talk.user ≡ user (history T) x = ap (λ (k : Kept). k.talk.user) c.take.ensures.kept ∙ m.user in
-    let is = taking_told T x n st.keeps sound o.policy st.policy o.locks st.locks o.moment st.moment k1 ready over open_yet w c.resume.new.self o.locks (λ (f : w ≡ acted.Failed). line.may f ct j.sitting held clean j.seated)
-    (line.ok ct j.sitting held clean j.seated) line.lines named in
+    let told = line.account fresh ct j.transaction held clean j.has_transaction in
+    let named : k1.state.user ≡ user (history T) x = ap (λ (k : Kept). k.state.user) c.take.ensures.kept ∙ m.user in
+    let is = taking_told T x n st.keeps sound o.policy st.policy o.locks st.locks o.moment st.moment k1 ready over open_yet w c.resume.new.self o.locks (λ (f : w ≡ line_outcome.Failed). line.may f ct j.transaction held clean j.has_transaction)
+    (line.ok ct j.transaction held clean j.has_transaction) line.lines named in
     told ∙ (is ∙ sym (ap (account_of T (Took x n)) (marked w _ c.shown.ensures)))
 
 pub returns-in-Err-resume-clause-account : goal.returns-in-Err-resume-clause-account
@@ -664,12 +664,12 @@ returns-then-not-taken-clause-account g c fresh T st clean =
     let o = c.args.self.now in
     let x = c.args.c in
     let n = c.args.octets in
-    let k : Kept = c.in-Some.link.now in
+    let k : Kept = c.in-Some.connection.now in
     let s = seen T x in
     let ct = st.keeps.contents in
     let k1 : Kept = c.take.new.self in
-    let found : get nat_cmp o.links x ≡ Some k = sym c.in-Some.ensures.value in
-    let m : Matches ct s k = subst (IsKeptFor ct s) found (st.links x) in
+    let found : get nat_cmp o.connections x ≡ Some k = sym c.in-Some.ensures.value in
+    let m : Matches ct s k = subst (IsKeptFor ct s) found (st.connections x) in
     let lends = c.lends.ensures.some c.if-not-lends.false in
     let fits = lent_ready k.output n lends.1 in
     let reads = c.in-Ok.ensures.refused c.if-not-taken.true in
@@ -681,12 +681,12 @@ returns-then-not-owes_nothing-clause-account g c fresh T st clean =
     let o = c.args.self.now in
     let x = c.args.c in
     let n = c.args.octets in
-    let k : Kept = c.in-Some.link.now in
+    let k : Kept = c.in-Some.connection.now in
     let s = seen T x in
     let ct = st.keeps.contents in
     let k1 : Kept = c.take.new.self in
-    let found : get nat_cmp o.links x ≡ Some k = sym c.in-Some.ensures.value in
-    let m : Matches ct s k = subst (IsKeptFor ct s) found (st.links x) in
+    let found : get nat_cmp o.connections x ≡ Some k = sym c.in-Some.ensures.value in
+    let m : Matches ct s k = subst (IsKeptFor ct s) found (st.connections x) in
     let lends = c.lends.ensures.some c.if-not-lends.false in
     let fits = lent_ready k.output n lends.1 in
     let does = c.in-Ok.ensures in
@@ -702,11 +702,11 @@ returns-then-is_closing-clause-account g c fresh T st clean =
     let o = c.args.self.now in
     let x = c.args.c in
     let n = c.args.octets in
-    let k : Kept = c.in-Some.link.now in
+    let k : Kept = c.in-Some.connection.now in
     let s = seen T x in
     let ct = st.keeps.contents in
     let k1 : Kept = c.take.new.self in
-    let found : get nat_cmp o.links x ≡ Some k = sym c.in-Some.ensures.value in
-    let m : Matches ct s k = subst (IsKeptFor ct s) found (st.links x) in
-    let closed : closing (history T) x ≡ true = sym m.closing ∙ (sym (ap (λ (k : Kept). k.talk.closing) c.take.ensures.kept) ∙ (sym c.is_closing.ensures ∙ c.if-is_closing.true)) in
+    let found : get nat_cmp o.connections x ≡ Some k = sym c.in-Some.ensures.value in
+    let m : Matches ct s k = subst (IsKeptFor ct s) found (st.connections x) in
+    let closed : closing (history T) x ≡ true = sym m.closing ∙ (sym (ap (λ (k : Kept). k.state.closing) c.take.ensures.kept) ∙ (sym c.is_closing.ensures ∙ c.if-is_closing.true)) in
     rw closed (fresh ∙ sym (closed_taken T.base (history T) (is_left T.log (history T) x n) (serving (history T) x) x (next_line T.log (history T) x [])))

@@ -1,0 +1,35 @@
+use Rattle.std.proofs.Common.{◌≡◌, false, is_some, ◌∙◌, ap, rules}
+use Rattle.popline.specs.Cutting.{Held, fed}
+use Rattle.popline.specs.Seen.{cut_seen}
+use Rattle.office.specs.Connections.{reading}
+use Rattle.office.specs.Kept.{Kept}
+use Rattle.office.specs.Waiting.{login_asked}
+use Rattle.office.proofs.Keeping.{has_line, is_line, no_line}
+use Rattle.office.proofs.MeetingLocks.{comes_line, comes_none}
+use Rattle.office.proofs.connection.Connection.coming_login.Goals as goal
+
+pub returns : goal.returns
+returns c =
+    let v = c.self.view_is in
+    let p = c.args.piece.now in
+    let k : Kept = c.args.self.now in
+    let x = cut_seen c.in-Some.cut in
+    let held = c.copied-cutter.ensures ∙ ap (λ (k : Kept). k.held) v in
+    let fed_is = c.feed.ensures.held ∙ ap (λ (h : Held). fed h p) held in
+    let out : is_some k.session ≡ false = search rules in
+    let there = has_line k c.feed.new.self p x fed_is c.in-Some.ensures in
+    let same = is_line k c.feed.new.self p x fed_is c.in-Some.ensures in
+    let user = ap (λ (k : Kept). login_asked (reading x) k.state.user) v in
+    let asked = ap (λ y. login_asked (reading y) c.self.inside.state.user) c.read.ensures in
+    c.login_asked.ensures ∙ (asked ∙ (user ∙ comes_line k p out x there same))
+
+pub returns-in_default : goal.returns-in_default
+returns-in_default c =
+    let v = c.self.view_is in
+    let p = c.args.piece.now in
+    let k : Kept = c.args.self.now in
+    let held = c.copied-cutter.ensures ∙ ap (λ (k : Kept). k.held) v in
+    let fed_is = c.feed.ensures.held ∙ ap (λ (h : Held). fed h p) held in
+    let out : is_some k.session ≡ false = search rules in
+    let none = no_line k c.feed.new.self p fed_is c.in_default.ensures in
+    comes_none k p out none

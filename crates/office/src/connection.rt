@@ -1,0 +1,500 @@
+//! One connection: the input that isn't cut yet, and the octets that it is owed.
+ghost use Rattle.std.specs.Prelude.{◌≡◌, ◌++◌, ◌+◌, ◌≤◌, ◌<◌, ◌==◌, ◌||◌, nat_lt, ℕ, List, []};
+ghost use Rattle.std.specs.Prelude.{Option, None, true, false, is_some, OnOk, OnErr, IfOk, IsOkAnd};
+ghost use Rattle.std.specs.Prelude.{IsTrue, drop, length, string_bytes};
+ghost use Rattle.std.specs.BTreeMap.{get};
+ghost use Rattle.popline.specs.Replies.{Greeting, bytes_of, timestamp};
+ghost use Rattle.popline.specs.Cutting.{has_newline, coming, shown, nothing_held};
+ghost use Rattle.vault.specs.Changes.{Contents};
+ghost use Rattle.vault.specs.Calls.{has_grown};
+ghost use Rattle.vault.specs.Parts.{OnlyLooks};
+ghost use Rattle.office.specs.Stopping.{WasDone, ActsOnce};
+ghost use Rattle.office.specs.Replying.{is_empty};
+ghost use Rattle.office.specs.Output.{nothing_owed, most_output, lent_of, is_feeding, reads_text};
+ghost use Rattle.office.specs.Output.{Owes, OwesIf};
+ghost use Rattle.office.specs.Transaction.{Transaction};
+ghost use Rattle.office.specs.History.{Says};
+ghost use Rattle.office.specs.Accounts.{account_if, state_account};
+ghost use Rattle.office.specs.Kept.{answered, clocked, line_after, asks, nothing_said, maildrop_of};
+ghost use Rattle.office.specs.Idle.{is_idle};
+ghost use Rattle.office.specs.InSession.{name_of};
+ghost use Rattle.office.specs.Input.{most_input};
+ghost use Rattle.office.specs.Connections.{reading};
+ghost use Rattle.office.specs.Expected.{most_in_a_piece};
+ghost use Rattle.office.specs.Answered.{judged_at, reply_of, name_cmp, is_locked_by};
+ghost use Rattle.office.specs.Answered.{HasTransaction};
+ghost use Rattle.office.specs.Answered.{BecomesIf, LocksFollow, held_if};
+ghost use Rattle.office.specs.Waiting.{is_held_for, coming_login, line_with};
+
+use crate::account::Account;
+use crate::command_line::CommandLine;
+use crate::lines;
+use crate::locks::Locks;
+use crate::login_state::{LineContext, LineOutcome, LoginState};
+use crate::output::{Output, Source};
+use crate::waiting::{asks_locked, login_asked};
+use creds::{LoginName, Name};
+use policy::Policy;
+use popline::{Cutter, Reply};
+use session::{Removals, Session};
+use std::alloc::{AllocError, Global};
+use std::marker::Model;
+use vault::Vault;
+
+/// What is kept of a connection. Of its input that is at most 4,096 octets of the last piece, and
+/// 255 of the line that is being cut.
+#[derive(Drop)]
+pub struct Connection {
+    cutter: Cutter,
+    /// Octets of the last piece; the first `cut` of them are cut into lines.
+    pending: Vec<u8>,
+    cut: usize,
+    output: Output,
+    state: LoginState,
+    /// The timestamp of the greeting, which APOP signs.
+    stamp: String,
+    session: Option<Session>,
+    /// The moment of its opening, of its last line that acted or of its last taking, in seconds.
+    clock: u64,
+}
+
+impl Model for Connection {
+    ghost use Rattle.std.specs.Prelude.{drop, length, string_bytes, ◌≤◌};
+    ghost use Rattle.office.specs.Expected.{most_in_a_piece};
+    ghost use Rattle.office.specs.Kept.{Kept};
+
+    ghost Value = { Kept };
+
+    ghost view = { λ l. record {
+      held = l.cutter;
+      pending = drop l.cut l.pending.items;
+      output =
+          l.output;
+      state = l.state;
+      stamp = string_bytes l.stamp;
+      session = l.session;
+      clock =
+          l.clock;
+    } };
+
+    ghost invariant = { λ l. (l.cut ≤ length l.pending.items)
+        × (length l.pending.items ≤ most_in_a_piece) };
+}
+
+impl Connection {
+    /// A connection that was opened at this moment and is owed its greeting. `removals` says when
+    /// its session's removals are judged.
+    pub fn open(
+        alloc: Global,
+        number: u64,
+        boot: u64,
+        host: &str,
+        now: u64,
+        removals: Removals,
+    ) -> Result<Connection, AllocError>
+        ensures { IfOk result (λ k. k ≡ record {
+          held = nothing_held;
+          pending = [];
+          output = record
+              { ready = bytes_of (Greeting number boot host.now); source = Source.Nothing };
+          state =
+              nothing_said removals;
+          stamp = timestamp number boot host.now;
+          session = None;
+          clock =
+              now;
+        }) }
+    {
+        let mut output = Output::new(alloc)?;
+        let greeting = Reply::Greeting { number, boot, host };
+        output.say(alloc, &greeting)?;
+        let stamp = timestamp_of(alloc, number, boot, host)?;
+        Ok(Connection {
+            cutter: Cutter::new(),
+            pending: Vec::new(alloc),
+            cut: 0,
+            output,
+            state: LoginState::new(removals),
+            stamp,
+            session: None,
+            clock: now,
+        })
+    }
+
+    /// The octets that may be taken now: all that stand ready, but at most 16,384.
+    pub fn owed(&self) -> &[u8]
+        ensures { result.now ≡ lent_of self.now.output }
+    {
+        self.output.lent()
+    }
+
+    /// Whether so many octets may be taken: some, and no more than are lent.
+    pub fn lends(&self, octets: usize) -> bool
+        ensures some { result ≡ true → (0 < octets) × (octets ≤ length (lent_of self.now.output)) }
+        ensures none { result ≡ false → (octets == 0
+            || nat_lt (length (lent_of self.now.output)) octets) ≡ true }
+    {
+        0 < octets && octets <= self.owed().len()
+    }
+
+    /// Whether nothing is owed.
+    pub fn owes_nothing(&self) -> bool
+        ensures value { result ≡ is_empty self.now.output.ready }
+        ensures nothing { result ≡ true → self.now.output ≡ nothing_owed }
+    {
+        self.output.is_empty()
+    }
+
+    /// How many octets of its input are kept: of the line that is being cut, and of the last piece.
+    pub fn input(&self) -> usize
+        ensures value { result ≡ length self.now.held.octets + length self.now.pending }
+        ensures most { result ≤ most_input }
+    {
+        self.cutter.held() + self.pending[self.cut..].len()
+    }
+
+    /// How many octets of what it is owed stand ready, whatever the store did.
+    pub fn output(&self) -> usize
+        ensures value { result ≡ length self.now.output.ready }
+        ensures most { result ≤ most_output }
+    {
+        self.output.kept()
+    }
+
+    pub fn is_closing(&self) -> bool
+        ensures { result ≡ self.now.state.closing }
+    {
+        self.state.closing
+    }
+
+    /// Takes octets that stand ready, at this moment, and reads more where few are left. `false`
+    /// where the store refused a page: the caller then ends the connection.
+    pub fn take<V: Vault>(
+        &mut self,
+        alloc: Global,
+        vault: &mut V,
+        octets: usize,
+        now: u64,
+    ) -> Result<bool, AllocError>
+        requires { octets ≤ length self.old.output.ready }
+        ensures kept { self.new ≡ record self.old { output = self.new.output; clock = now } }
+        ensures owes { IfOk result (λ taken. taken ≡ true → (c : Contents) (owed : List ℕ)
+            → V.holds vault.old c → V.is_clean vault.new
+            → Owes c self.old.session self.old.output owed
+            → Owes c self.old.session self.new.output (drop octets owed)) }
+        ensures kind { IfOk result (λ taken. reads_text self.new.output.source ≡ true
+            → reads_text self.old.output.source ≡ true) }
+        ensures cause { IfOk result (λ taken. taken ≡ false → (c : Contents) (owed : List ℕ)
+            → V.holds vault.old c → V.is_clean vault.new
+            → Owes c self.old.session self.old.output owed
+            → has_grown (V.faults vault.old) (V.faults vault.new) ≡ true) }
+        // Only a message can be refused, and only what is still coming takes memory.
+        ensures refused { IfOk result (λ taken. taken ≡ false
+            → reads_text self.old.output.source ≡ true) }
+        ensures err { OnErr result (is_feeding self.old.output.source ≡ true) }
+        ensures looks { OnlyLooks V.Vault vault.old vault.new (IsOkAnd result IsTrue) }
+        ensures unasked { reads_text self.old.output.source ≡ false → vault.new ≡ vault.old }
+    {
+        self.clock = now;
+        match self.output.take(octets) {
+            Source::Nothing => Ok(true),
+            Source::Sizes(done) => {
+                if let Some(session) = &self.session {
+                    self.output.send_sizes(alloc, session, done)?;
+                }
+                Ok(true)
+            }
+            Source::Uids(done) => {
+                if let Some(session) = &self.session {
+                    self.output.send_uids(alloc, session, done)?;
+                }
+                Ok(true)
+            }
+            Source::Text(text) => self.output.send_text(vault, text),
+        }
+    }
+
+    /// Whether the connection has done nothing for so many seconds at this moment.
+    pub fn is_idle(&self, moment: u64, seconds: u64) -> bool
+        ensures { result ≡ is_idle moment seconds self.now }
+    {
+        moment >= self.clock && moment - self.clock >= seconds
+    }
+
+    /// The maildrop that the connection's session holds, where it has one.
+    pub fn maildrop(&self) -> Option<Name>
+        ensures { result ≡ maildrop_of self.now.session }
+    {
+        match &self.session {
+            None => None,
+            Some(session) => Some(session.maildrop()),
+        }
+    }
+
+    /// Who is in session on the connection.
+    pub fn login(&self) -> Option<LoginName>
+        ensures { result ≡ name_of self.now.session }
+    {
+        match &self.session {
+            None => None,
+            Some(session) => Some(LoginName {
+                clerk: session.clerk(),
+                maildrop: session.maildrop(),
+            }),
+        }
+    }
+
+    /// Whether somebody is in session on the connection.
+    pub fn is_in_session(&self) -> bool
+        ensures { result ≡ is_some self.now.session }
+    {
+        self.session.is_some()
+    }
+
+    /// How many credentials the connection had refused; at most 255 are counted.
+    pub fn refusals(&self) -> u8
+        ensures { result ≡ self.now.state.failures }
+    {
+        self.state.failures
+    }
+
+    /// Whom the line that is whole with this piece would log in: nobody where no line is whole,
+    /// where the line isn't a login, or where somebody is in session. The piece isn't taken.
+    pub fn coming_login(&self, piece: &[u8]) -> Option<LoginName>
+        ensures { result ≡ coming_login (is_some self.now.session) self.now.state.user
+            (line_with self.now piece.now) }
+    {
+        if self.session.is_some() {
+            return None;
+        }
+        let mut cutter = self.cutter.copied();
+        let _ = cutter.feed(piece);
+        let Some(cut) = cutter.line() else {
+            return None;
+        };
+        login_asked(&CommandLine::read(cut), self.state.user)
+    }
+
+    /// Whether the line that is whole with this piece is a login to a maildrop that is locked. The
+    /// piece isn't taken.
+    pub fn meets_lock(&self, locks: &Locks, piece: &[u8]) -> bool
+        ensures { result ≡ is_held_for (is_locked_by locks.now)
+            (coming_login (is_some self.now.session) self.now.state.user
+            (line_with self.now piece.now)) }
+    {
+        asks_locked(locks, self.coming_login(piece))
+    }
+
+    /// Takes the next piece at this moment, and answers the first line that is now whole; the lines
+    /// behind it wait for [`Connection::resume`]. `account`, which tells nothing yet, becomes what
+    /// was judged.
+    pub fn hear<V: Vault>(
+        &mut self,
+        alloc: Global,
+        vault: &mut V,
+        policy: &Policy,
+        locks: &mut Locks,
+        number: u64,
+        piece: &[u8],
+        now: u64,
+        account: &mut Account,
+    ) -> Result<LineOutcome, AllocError>
+        requires { (self.old.output ≡ nothing_owed) × (length piece.now ≤ most_in_a_piece) }
+        ensures ok { IfOk result (λ outcome. (c : Contents) (v : Option Transaction)
+            → V.holds vault.old c
+            → V.is_clean vault.new → HasTransaction c self.old.session v
+            → self.new ≡ answered (clocked now piece.now self.old) piece.now
+            (reply_of outcome (judged_at c policy.now self.old.stamp locks.old)
+            self.old.state v
+            (line_after self.old piece.now)) self.new.session self.new.output) }
+        ensures owes { IfOk result (λ outcome. (c : Contents) (v : Option Transaction)
+            → V.holds vault.old c → V.is_clean vault.new → HasTransaction c self.old.session v
+            → OwesIf (has_newline piece.now) c self.new.session self.new.output
+            (reply_of outcome (judged_at c policy.now self.old.stamp locks.old)
+            self.old.state v
+            (line_after self.old piece.now))) }
+        ensures session { IfOk result (λ outcome. (c : Contents) (v : Option Transaction)
+            → V.holds vault.old c → V.is_clean vault.new → HasTransaction c self.old.session v
+            → BecomesIf (has_newline piece.now) c policy.now self.old.state
+            (line_after self.old piece.now) (reply_of outcome
+            (judged_at c policy.now self.old.stamp locks.old) self.old.state v
+            (line_after self.old piece.now)) self.old.session self.new.session) }
+        ensures lines { IfOk result (λ _. (more : List ℕ)
+            → coming self.old.held (piece.now ++ more) ≡ shown self.new.held
+            ++ coming self.new.held (self.new.pending ++ more)) }
+        // Only a line takes memory.
+        ensures err { OnErr result (has_newline piece.now ≡ true) }
+        ensures locks { OnOk result (LocksFollow number self.old.session self.new.session locks.old
+            locks.new) }
+        ensures locks_err { OnErr result ((d : List ℕ)
+            → get name_cmp locks.new d ≡ get name_cmp locks.old d) }
+        ensures held { IfOk result (λ outcome. (c : Contents) (v : Option Transaction)
+            → V.holds vault.old c → V.is_clean vault.new → HasTransaction c self.old.session v
+            → V.holds vault.new (held_if (has_newline piece.now) outcome policy.now
+            self.old.session
+            (reading (line_after self.old piece.now)) c)) }
+        ensures held_err { OnErr result ((c : Contents) → V.holds vault.old c → V.is_clean vault.new
+            → V.holds vault.new c) }
+        ensures may { IfOk result (λ outcome. outcome ≡ LineOutcome.Failed
+            → (c : Contents) (v : Option Transaction) → V.holds vault.old c → V.is_clean vault.new
+            → HasTransaction c self.old.session v → (has_newline piece.now ≡ true)
+            × (asks policy.now self.old.state v (reading (line_after self.old piece.now))
+            ≡ true)) }
+        ensures cause { IfOk result (λ outcome. outcome ≡ LineOutcome.Failed
+            → (c : Contents) (v : Option Transaction) → V.holds vault.old c → V.is_clean vault.new
+            → HasTransaction c self.old.session v
+            → has_grown (V.faults vault.old) (V.faults vault.new)
+            ≡ true) }
+        ensures acts { ActsOnce V.Vault vault.old vault.new (IsOkAnd result WasDone)
+            (held_if (has_newline piece.now) LineOutcome.Done policy.now self.old.session
+            (reading (line_after self.old piece.now))) }
+        ensures account { account.old ≡ Account.Nothing
+            → IfOk result (λ outcome. (c : Contents) (v : Option Transaction)
+            → V.holds vault.old c
+            → V.is_clean vault.new → HasTransaction c self.old.session v
+            → account.new ≡ account_if (has_newline piece.now)
+            (state_account outcome policy.now v
+            (reading (line_after self.old piece.now)) (Says (reply_of outcome
+            (judged_at c policy.now self.old.stamp locks.old) self.old.state v
+            (line_after self.old piece.now))) self.old.state.user)) }
+        ensures account_err { OnErr result (account.new ≡ account.old) }
+        ensures unasked { (c : Contents) (v : Option Transaction)
+            → HasTransaction c self.old.session v
+            → (has_newline piece.now ≡ true → asks policy.now self.old.state v
+            (reading (line_after self.old piece.now)) ≡ false) → vault.new ≡ vault.old }
+    {
+        self.output.clear();
+        self.pending.clear();
+        self.cut = 0;
+        let n = self.cutter.feed(piece);
+        let Some(cut) = self.cutter.line() else {
+            return Ok(LineOutcome::Done);
+        };
+        self.clock = now;
+        self.pending.extend_from_slice(&piece[n..])?;
+        let context = LineContext {
+            policy,
+            stamp: self.stamp.as_bytes(),
+            number,
+        };
+        let outcome = lines::answer(
+            alloc,
+            vault,
+            context,
+            locks,
+            cut,
+            &mut self.output,
+            &mut self.state,
+            &mut self.session,
+            account,
+        )?;
+        Ok(outcome)
+    }
+
+    /// Answers the next whole line of the octets that were kept, if there is one. `account`, which
+    /// tells nothing yet, becomes what was judged.
+    pub fn resume<V: Vault>(
+        &mut self,
+        alloc: Global,
+        vault: &mut V,
+        policy: &Policy,
+        locks: &mut Locks,
+        number: u64,
+        account: &mut Account,
+    ) -> Result<LineOutcome, AllocError>
+        requires { self.old.output ≡ nothing_owed }
+        ensures ok { IfOk result (λ outcome. (c : Contents) (v : Option Transaction)
+            → V.holds vault.old c
+            → V.is_clean vault.new → HasTransaction c self.old.session v
+            → self.new ≡ answered self.old self.old.pending
+            (reply_of outcome (judged_at c policy.now self.old.stamp locks.old)
+            self.old.state v
+            (line_after self.old self.old.pending)) self.new.session self.new.output) }
+        ensures owes { IfOk result (λ outcome. (c : Contents) (v : Option Transaction)
+            → V.holds vault.old c → V.is_clean vault.new → HasTransaction c self.old.session v
+            → OwesIf (has_newline self.old.pending) c self.new.session self.new.output
+            (reply_of outcome (judged_at c policy.now self.old.stamp locks.old)
+            self.old.state v
+            (line_after self.old self.old.pending))) }
+        ensures session { IfOk result (λ outcome. (c : Contents) (v : Option Transaction)
+            → V.holds vault.old c → V.is_clean vault.new → HasTransaction c self.old.session v
+            → BecomesIf (has_newline self.old.pending) c policy.now self.old.state
+            (line_after self.old self.old.pending) (reply_of outcome
+            (judged_at c policy.now self.old.stamp locks.old) self.old.state v
+            (line_after self.old self.old.pending)) self.old.session self.new.session) }
+        ensures lines { IfOk result (λ _. (more : List ℕ)
+            → coming self.old.held (self.old.pending ++ more) ≡ shown self.new.held
+            ++ coming self.new.held (self.new.pending ++ more)) }
+        ensures err { OnErr result (has_newline self.old.pending ≡ true) }
+        ensures locks { OnOk result (LocksFollow number self.old.session self.new.session locks.old
+            locks.new) }
+        ensures locks_err { OnErr result ((d : List ℕ)
+            → get name_cmp locks.new d ≡ get name_cmp locks.old d) }
+        ensures held { IfOk result (λ outcome. (c : Contents) (v : Option Transaction)
+            → V.holds vault.old c → V.is_clean vault.new → HasTransaction c self.old.session v
+            → V.holds vault.new (held_if (has_newline self.old.pending) outcome policy.now
+            self.old.session (reading (line_after self.old self.old.pending)) c)) }
+        ensures held_err { OnErr result ((c : Contents) → V.holds vault.old c → V.is_clean vault.new
+            → V.holds vault.new c) }
+        ensures may { IfOk result (λ outcome. outcome ≡ LineOutcome.Failed
+            → (c : Contents) (v : Option Transaction) → V.holds vault.old c → V.is_clean vault.new
+            → HasTransaction c self.old.session v → (has_newline self.old.pending ≡ true)
+            × (asks policy.now self.old.state v
+            (reading (line_after self.old self.old.pending))
+            ≡ true)) }
+        ensures cause { IfOk result (λ outcome. outcome ≡ LineOutcome.Failed
+            → (c : Contents) (v : Option Transaction) → V.holds vault.old c → V.is_clean vault.new
+            → HasTransaction c self.old.session v
+            → has_grown (V.faults vault.old) (V.faults vault.new)
+            ≡ true) }
+        ensures acts { ActsOnce V.Vault vault.old vault.new (IsOkAnd result WasDone)
+            (held_if (has_newline self.old.pending) LineOutcome.Done policy.now self.old.session
+            (reading (line_after self.old self.old.pending))) }
+        ensures account { account.old ≡ Account.Nothing
+            → IfOk result (λ outcome. (c : Contents) (v : Option Transaction)
+            → V.holds vault.old c
+            → V.is_clean vault.new → HasTransaction c self.old.session v
+            → account.new ≡ account_if (has_newline self.old.pending)
+            (state_account outcome policy.now v
+            (reading (line_after self.old self.old.pending))
+            (Says (reply_of outcome (judged_at c policy.now self.old.stamp locks.old)
+            self.old.state v
+            (line_after self.old self.old.pending))) self.old.state.user)) }
+        ensures account_err { OnErr result (account.new ≡ account.old) }
+        ensures unasked { (c : Contents) (v : Option Transaction)
+            → HasTransaction c self.old.session v
+            → (has_newline self.old.pending ≡ true → asks policy.now self.old.state v
+            (reading (line_after self.old self.old.pending)) ≡ false) → vault.new ≡ vault.old }
+    {
+        self.output.clear();
+        self.cut += self.cutter.feed(&self.pending[self.cut..]);
+        let Some(cut) = self.cutter.line() else {
+            return Ok(LineOutcome::Done);
+        };
+        let context = LineContext {
+            policy,
+            stamp: self.stamp.as_bytes(),
+            number,
+        };
+        let outcome = lines::answer(
+            alloc,
+            vault,
+            context,
+            locks,
+            cut,
+            &mut self.output,
+            &mut self.state,
+            &mut self.session,
+            account,
+        )?;
+        Ok(outcome)
+    }
+}
+
+/// The timestamp of a greeting (RFC 1939, 7).
+fn timestamp_of(alloc: Global, number: u64, boot: u64, host: &str) -> Result<String, AllocError>
+    ensures { IfOk result (λ text. string_bytes text ≡ timestamp number boot host.now) }
+{
+    let text = format!(in alloc; "<{number}.{boot}@{host}>")?;
+    Ok(text)
+}

@@ -1,0 +1,271 @@
+//! A line of a session: what it is answered, what it changes, and what is remembered of it (RFC
+//! 1939, 5 and 6).
+ghost use Rattle.std.specs.Prelude.{◌≡◌, List, Option, None, true, false, Ok, Err, OnErr};
+ghost use Rattle.std.specs.Prelude.{IfOk, IsOkAnd};
+ghost use Rattle.popline.specs.Commands.{command_of};
+ghost use Rattle.popline.specs.Seen.{command_seen, cut_seen, reading_seen, reply_seen};
+ghost use Rattle.policy.specs.Policy.{Policy};
+ghost use Rattle.vault.specs.Changes.{Contents};
+ghost use Rattle.vault.specs.Calls.{has_grown};
+ghost use Rattle.vault.specs.declared.record.Keyed.{Keyed};
+ghost use Rattle.session.specs.Session.{Session as State};
+ghost use Rattle.office.specs.History.{Says};
+ghost use Rattle.office.specs.Connections.{reading, is_quit};
+ghost use Rattle.office.specs.Kept.{login_state_after};
+ghost use Rattle.office.specs.Accounts.{command_account, transaction_account};
+ghost use Rattle.office.specs.Telling.{is_told};
+ghost use Rattle.office.specs.Stopping.{WasDone, ActsOnce};
+ghost use Rattle.office.specs.Output.{nothing_owed, OwesReply};
+ghost use Rattle.office.specs.Transaction.{Transaction, transaction_of, session_left, LiesIn};
+ghost use Rattle.office.specs.Transaction.{GoesOn, IsAnswered};
+ghost use Rattle.office.specs.Transaction.{transaction_said, transaction_reply, transaction_asks};
+ghost use Rattle.office.specs.Transaction.{held_after_line};
+ghost use Rattle.office.specs.Transaction.{transaction_user};
+ghost use Rattle.office.specs.Transaction.{transaction_answered};
+
+use crate::account::Account;
+use crate::command_line::CommandLine;
+use crate::listing::{drop_listing, list, list_uids};
+use crate::login_state::{LineOutcome, LoginState, say};
+use crate::message::{retrieve, top};
+use crate::output::Output;
+use crate::quit::quit;
+use crate::referring::{delete, reset, scan_line, uid_line};
+use creds::LoginName;
+use policy::Policy;
+use popline::{Command, Keyword, LineFault, Reply};
+use session::Session;
+use std::alloc::{AllocError, Global};
+use vault::Vault;
+
+/// The reply to a line that doesn't read as a command. USER, PASS and APOP are refused as out of
+/// place, whatever arguments they have.
+fn misread(fault: LineFault) -> Reply<'static>
+    ensures said { (p : Policy) (v : Transaction)
+        → reply_seen result ≡ transaction_said p v (Err fault) }
+    ensures session { (s : State) → GoesOn (reply_seen result) s s }
+{
+    match fault {
+        LineFault::Unknown => Reply::UnknownCommand,
+        LineFault::Syntax(Keyword::User | Keyword::Pass | Keyword::Apop) => Reply::WrongState,
+        LineFault::Syntax(_) => Reply::BadArguments,
+    }
+}
+
+/// The reply to a command that sends no listing and asks no store. DELE marks a message, RSET takes
+/// all marks away.
+fn plain_reply(session: &mut Session, policy: &Policy, command: &Command<'_>) -> Reply<'static>
+    ensures said { (c : Contents) (kept : List Keyed) → LiesIn c session.old kept
+        → is_told (command_seen command.now) ≡ true
+        → reply_seen result ≡ transaction_said policy.now (transaction_of session.old kept)
+        (Ok (command_seen command.now)) }
+    ensures session { GoesOn (reply_seen result) session.old session.new }
+{
+    match command {
+        Command::Capa => Reply::Capabilities,
+        Command::Stat => drop_listing(session),
+        Command::List(Some(n)) => scan_line(session, *n),
+        Command::Uidl(Some(n)) => uid_line(session, *n),
+        Command::Dele(n) => delete(session, policy, *n),
+        Command::Rset => reset(session),
+        Command::Noop => Reply::Okay,
+        _ => Reply::WrongState,
+    }
+}
+
+/// Puts the reply to a command that asks no store. `account` becomes what it did to the marks.
+fn put(
+    alloc: Global,
+    output: &mut Output,
+    command: &Command<'_>,
+    reply: &Reply<'_>,
+    account: &mut Account,
+) -> Result<LineOutcome, AllocError>
+    requires { output.old ≡ nothing_owed }
+    ensures outcome { IfOk result (λ outcome. outcome ≡ LineOutcome.Done) }
+    ensures owed { IfOk result (λ _. (c : Contents) (s : Option State)
+        → OwesReply c s output.new (reply_seen reply.now)) }
+    ensures account { IfOk result (λ _. account.new ≡ command_account (command_seen command.now)
+        (Says (reply_seen reply.now)) None) }
+    ensures account_err { OnErr result (account.new ≡ account.old) }
+{
+    let outcome = say(alloc, output, reply)?;
+    *account = Account::of_command(command, reply, None);
+    Ok(outcome)
+}
+
+/// Does what a command says, and puts the reply. `account`, which tells nothing yet, becomes what
+/// it did to the marks, or a QUIT's account.
+fn answer_command<V: Vault>(
+    alloc: Global,
+    vault: &mut V,
+    policy: &Policy,
+    command: &Command<'_>,
+    output: &mut Output,
+    session: &mut Session,
+    account: &mut Account,
+) -> Result<LineOutcome, AllocError>
+    requires { output.old ≡ nothing_owed }
+    ensures done { IfOk result (λ outcome. (c : Contents) (kept : List Keyed)
+        → V.holds vault.old c
+        → V.is_clean vault.new → LiesIn c session.old kept
+        → IsAnswered (V.holds vault.new) (has_grown (V.faults vault.old) (V.faults vault.new)) c
+        policy.now session.old session.new kept output.new
+        (Ok (command_seen command.now)) outcome) }
+    ensures err { OnErr result ((c : Contents) → V.holds vault.old c → V.is_clean vault.new
+        → V.holds vault.new c) }
+    ensures acts { ActsOnce V.Vault vault.old vault.new (IsOkAnd result WasDone)
+        (held_after_line LineOutcome.Done policy.now session.old (Ok (command_seen command.now))) }
+    ensures account { account.old ≡ Account.Nothing
+        → IfOk result (λ outcome. (c : Contents) (kept : List Keyed)
+        → LiesIn c session.old kept
+        → account.new ≡ transaction_account outcome policy.now session.old
+        (Ok (command_seen command.now))
+        (Says (transaction_answered outcome policy.now (transaction_of session.old kept)
+        (Ok (command_seen command.now))))) }
+    ensures account_err { OnErr result (account.new ≡ account.old) }
+    ensures unasked { (c : Contents) (kept : List Keyed) → LiesIn c session.old kept
+        → transaction_asks policy.now (transaction_of session.old kept)
+        (Ok (command_seen command.now))
+        ≡ false → vault.new ≡ vault.old }
+{
+    match command {
+        Command::Quit => quit(alloc, vault, policy, output, session, account),
+        Command::List(None) => list(alloc, session, output),
+        Command::Uidl(None) => list_uids(alloc, session, output),
+        Command::Retr(n) => retrieve(alloc, vault, output, session, policy, *n),
+        Command::Top(n, lines) => top(alloc, vault, output, session, policy, *n, *lines),
+        _ => {
+            let reply = plain_reply(session, policy, command);
+            put(alloc, output, command, &reply, account)
+        }
+    }
+}
+
+/// Does what a line says, and puts the reply. `account`, which tells nothing yet, becomes what it
+/// did to the marks, or a QUIT's account.
+fn answer_reading<V: Vault>(
+    alloc: Global,
+    vault: &mut V,
+    policy: &Policy,
+    line: &CommandLine<'_>,
+    output: &mut Output,
+    session: &mut Session,
+    account: &mut Account,
+) -> Result<LineOutcome, AllocError>
+    requires { output.old ≡ nothing_owed }
+    ensures done { IfOk result (λ outcome. (c : Contents) (kept : List Keyed)
+        → V.holds vault.old c
+        → V.is_clean vault.new → LiesIn c session.old kept
+        → IsAnswered (V.holds vault.new) (has_grown (V.faults vault.old) (V.faults vault.new)) c
+        policy.now session.old session.new kept output.new (reading line.now) outcome) }
+    ensures err { OnErr result ((c : Contents) → V.holds vault.old c → V.is_clean vault.new
+        → V.holds vault.new c) }
+    ensures acts { ActsOnce V.Vault vault.old vault.new (IsOkAnd result WasDone)
+        (held_after_line LineOutcome.Done policy.now session.old (reading line.now)) }
+    ensures account { account.old ≡ Account.Nothing
+        → IfOk result (λ outcome. (c : Contents) (kept : List Keyed)
+        → LiesIn c session.old kept
+        → account.new ≡ transaction_account outcome policy.now session.old (reading line.now)
+        (Says (transaction_answered outcome policy.now (transaction_of session.old kept)
+        (reading line.now)))) }
+    ensures account_err { OnErr result (account.new ≡ account.old) }
+    ensures unasked { (c : Contents) (kept : List Keyed) → LiesIn c session.old kept
+        → transaction_asks policy.now (transaction_of session.old kept) (reading line.now) ≡ false
+        → vault.new ≡ vault.old }
+{
+    match line.reading() {
+        Ok(command) => answer_command(alloc, vault, policy, command, output, session, account),
+        Err(fault) => say(alloc, output, &misread(*fault)),
+    }
+}
+
+/// Answers a line of a session: puts its reply, and sets or takes away marks. A QUIT removes the
+/// marked messages; the caller then ends the session. `account`, which tells nothing yet, becomes
+/// what the line did to the marks, or a QUIT's account.
+pub(crate) fn answer<V: Vault>(
+    alloc: Global,
+    vault: &mut V,
+    policy: &Policy,
+    line: &CommandLine<'_>,
+    output: &mut Output,
+    session: &mut Session,
+    account: &mut Account,
+) -> Result<LineOutcome, AllocError>
+    requires { output.old ≡ nothing_owed }
+    ensures owed { IfOk result (λ outcome. (c : Contents) (kept : List Keyed)
+        → V.holds vault.old c
+        → V.is_clean vault.new → LiesIn c session.old kept
+        → OwesReply c (session_left (reading line.now) session.new) output.new
+        (transaction_reply outcome policy.now (transaction_of session.old kept) line.now)) }
+    ensures session { IfOk result (λ outcome. (c : Contents) (kept : List Keyed)
+        → V.holds vault.old c
+        → V.is_clean vault.new → LiesIn c session.old kept
+        → GoesOn (transaction_reply outcome policy.now
+        (transaction_of session.old kept) line.now) session.old
+        session.new) }
+    ensures held { IfOk result (λ outcome. (c : Contents) (kept : List Keyed)
+        → V.holds vault.old c
+        → V.is_clean vault.new → LiesIn c session.old kept
+        → V.holds vault.new (held_after_line outcome policy.now session.old
+        (reading line.now) c)) }
+    ensures err { OnErr result ((c : Contents) → V.holds vault.old c → V.is_clean vault.new
+        → V.holds vault.new c) }
+    ensures may { IfOk result (λ outcome. outcome ≡ LineOutcome.Failed
+        → (c : Contents) (kept : List Keyed)
+        → V.holds vault.old c → V.is_clean vault.new → LiesIn c session.old kept
+        → transaction_asks policy.now (transaction_of session.old kept) (reading line.now) ≡ true) }
+    ensures cause { IfOk result (λ outcome. outcome ≡ LineOutcome.Failed
+        → (c : Contents) (kept : List Keyed)
+        → V.holds vault.old c → V.is_clean vault.new → LiesIn c session.old kept
+        → has_grown (V.faults vault.old) (V.faults vault.new) ≡ true) }
+    ensures acts { ActsOnce V.Vault vault.old vault.new (IsOkAnd result WasDone)
+        (held_after_line LineOutcome.Done policy.now session.old (reading line.now)) }
+    ensures account { account.old ≡ Account.Nothing
+        → IfOk result (λ outcome. (c : Contents) (kept : List Keyed)
+        → LiesIn c session.old kept
+        → account.new ≡ transaction_account outcome policy.now session.old (reading line.now)
+        (Says (transaction_reply outcome policy.now
+        (transaction_of session.old kept) line.now))) }
+    ensures account_err { OnErr result (account.new ≡ account.old) }
+    ensures unasked { (c : Contents) (kept : List Keyed) → LiesIn c session.old kept
+        → transaction_asks policy.now (transaction_of session.old kept) (reading line.now) ≡ false
+        → vault.new ≡ vault.old }
+{
+    if line.is_too_long() {
+        return say(alloc, output, &Reply::LineTooLong);
+    }
+    answer_reading(alloc, vault, policy, line, output, session, account)
+}
+
+/// The login name in force after a line.
+fn next_user(
+    line: &CommandLine<'_>,
+    outcome: LineOutcome,
+    user: Option<LoginName>,
+) -> Option<LoginName>
+    ensures { result ≡ transaction_user outcome (reading line.now) user }
+{
+    match (outcome, line.reading()) {
+        (LineOutcome::Done, Ok(Command::Capa)) => user,
+        _ => None,
+    }
+}
+
+/// What is remembered after a line of a session. Only an answered CAPA leaves a login name in
+/// force, no line counts as a refused credential, and a QUIT closes the connection.
+pub(crate) fn next_login_state(
+    line: &CommandLine<'_>,
+    outcome: LineOutcome,
+    state: LoginState,
+) -> LoginState
+    ensures { (p : Policy) (v : Transaction) → result
+        ≡ login_state_after line.now (transaction_reply outcome p v line.now) state }
+{
+    LoginState {
+        user: next_user(line, outcome, state.user),
+        failures: state.failures,
+        closing: line.is_quit() || state.closing,
+        removals: state.removals,
+    }
+}
