@@ -35,10 +35,10 @@ at_end (suc n) (a ∷ xs) e = at_end n xs e
 
 -- what a trace says of a connection after more octets came at a moment, after some were taken, and after a line got this reply
 abbrev pub streamed : Seen → List ℕ → (now : ℕ) → Seen
-streamed s p now = record { connected = s.connected; closing = s.closing; live = s.live; stream = s.stream ++ p; outcome = s.acted; serving = s.serving; sent = s.sent; taken = s.taken; user = s.user; failures = s.failures; stamp = s.stamp; judging = s.judging; login = s.login; marks = s.marks; view = s.view; clock = if has_newline p then now else s.clock }
+streamed s p now = record { connected = s.connected; closing = s.closing; live = s.live; stream = s.stream ++ p; acted = s.acted; serving = s.serving; sent = s.sent; taken = s.taken; user = s.user; failures = s.failures; stamp = s.stamp; judging = s.judging; login = s.login; marks = s.marks; view = s.view; clock = if has_newline p then now else s.clock }
 
 abbrev pub took : Seen → ℕ → (now : ℕ) → Seen
-took s n now = record { connected = s.connected; closing = s.closing; live = s.live; stream = s.stream; outcome = s.acted; serving = s.serving; sent = s.sent; taken = s.taken + n; user = s.user; failures = s.failures; stamp = s.stamp; judging = s.judging; login = s.login; marks = s.marks; view = s.view; clock = now }
+took s n now = record { connected = s.connected; closing = s.closing; live = s.live; stream = s.stream; acted = s.acted; serving = s.serving; sent = s.sent; taken = s.taken + n; user = s.user; failures = s.failures; stamp = s.stamp; judging = s.judging; login = s.login; marks = s.marks; view = s.view; clock = now }
 
 -- `found` is what a login would find
 abbrev pub lined : Seen → Cut → Reply → (found : LoginName → List store.Message) → Seen

@@ -19,7 +19,7 @@ pub mod Bounds
 pub mod RepliesForm
 pub mod UniqueIdTexts
 mod Keeping
-mod Outside
+mod Authorization
 mod Hearing
 mod Events
 mod Counting

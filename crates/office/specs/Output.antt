@@ -14,8 +14,8 @@ use Rattle.office.specs.Connections.{has_message}
 use Rattle.office.specs.Laws.{In}
 use Rattle.office.specs.Trace.{most_lent}
 use Rattle.office.specs.declared.reading.Reading.{Reading}
-use Rattle.office.specs.declared.reading.Page.{Page}
-use Rattle.office.specs.declared.reading.Page.TheVariants as page
+use Rattle.office.specs.declared.reading.PutPage.{PutPage}
+use Rattle.office.specs.declared.reading.PutPage.TheVariants as page
 use Rattle.office.specs.declared.output.Source.{Source}
 use Rattle.office.specs.declared.output.Source.TheVariants.{Nothing, Sizes, Uids, Text}
 
@@ -135,7 +135,7 @@ OwesIf false c s o reply = o ≡ nothing_owed
 -- ---- a page
 
 -- a page was put: what was put and what is still to come are what was to come before
-abbrev pub IsPut : Page → (before after coming_before coming_after : List ℕ) → Type 0
+abbrev pub IsPut : PutPage → (before after coming_before coming_after : List ℕ) → Type 0
 IsPut page.More before after coming still = before ++ coming ≡ after ++ still
 IsPut page.Last before after coming still = before ++ coming ≡ after
 IsPut page.Refused before after coming still = Unit {0}

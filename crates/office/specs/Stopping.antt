@@ -5,8 +5,8 @@ use Rattle.vault.specs.Records.{Agree}
 use Rattle.vault.specs.Changes.{Contents, records_of}
 use Rattle.vault.specs.Stops.{SaySame}
 use Rattle.vault.specs.declared.vault.Vault.{Ghosts}
-use Rattle.office.specs.declared.reading.Page.{Page}
-use Rattle.office.specs.declared.reading.Page.TheVariants as page
+use Rattle.office.specs.declared.reading.PutPage.{PutPage}
+use Rattle.office.specs.declared.reading.PutPage.TheVariants as page
 use Rattle.office.specs.declared.login_state.LineOutcome.{LineOutcome}
 use Rattle.office.specs.declared.login_state.LineOutcome.TheVariants as line_outcome
 use Rattle.office.specs.History.{Done}
@@ -74,7 +74,7 @@ HasRead None = ⊥
 HasRead (Some n) = ⊤
 
 -- a page was put, the last one or not
-abbrev pub WasPut : Page → Type 0
+abbrev pub WasPut : PutPage → Type 0
 WasPut page.More = ⊤
 WasPut page.Last = ⊤
 WasPut page.Refused = ⊥

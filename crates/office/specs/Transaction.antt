@@ -53,8 +53,13 @@ pub record LiesIn (c : Contents) (s : Session) (kept : List Keyed) : Type 0 wher
 
 -- a session with the messages under its heads
 abbrev pub transaction_of : Session → List Keyed → Transaction
-transaction_of s kept = record { name = s.name; removals = s.removals; marks = s.marks; view = map
-    (λ (x : Keyed). x.message) kept }
+transaction_of s kept = record {
+  name = s.name;
+  removals = s.removals;
+  marks = s.marks;
+  view = map
+      (λ (x : Keyed). x.message) kept;
+}
 
 -- the reply of a session with these messages to a command
 abbrev pub transaction_told : Policy → Session → List Keyed → Command → Reply

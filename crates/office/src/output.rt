@@ -18,7 +18,7 @@ ghost use Rattle.office.specs.Output.{uids_coming};
 ghost use Rattle.office.specs.Trace.{most_lent};
 ghost use Rattle.vault.specs.Parts.{OnlyLooks};
 
-use crate::reading::{MOST_LENT, Page, Reading};
+use crate::reading::{MOST_LENT, PutPage, Reading};
 use creds::Uid;
 use popline::{
     Reply, begin_message, begin_scan_listing, begin_top, begin_uid_listing, end_lines,
@@ -390,12 +390,12 @@ impl Output {
         self.taken = 0;
         let mut text = text;
         match text.fill(vault, &mut self.ready)? {
-            Page::More => {
+            PutPage::More => {
                 self.source = Source::Text(text);
                 Ok(true)
             }
-            Page::Last => Ok(true),
-            Page::Refused => Ok(false),
+            PutPage::Last => Ok(true),
+            PutPage::Refused => Ok(false),
         }
     }
 }

@@ -38,7 +38,7 @@ pub struct Reading {
 
 /// What came of reading and putting a page.
 #[derive(Clone, Copy)]
-pub enum Page {
+pub enum PutPage {
     /// It was put, and more is to come.
     More,
     /// It was put, and the dot behind it.
@@ -170,15 +170,19 @@ impl Reading {
     }
 
     /// Reads the next page and puts it.
-    fn put_page<V: Vault>(&mut self, vault: &mut V, ready: &mut Vec<u8>) -> Result<Page, AllocError>
+    fn put_page<V: Vault>(
+        &mut self,
+        vault: &mut V,
+        ready: &mut Vec<u8>,
+    ) -> Result<PutPage, AllocError>
         ensures put { IfOk result (λ page. (c : Contents) → V.holds vault.old c
             → V.is_clean vault.new → IsBegun self.old (text_under self.old.key c.messages)
             → IsPut page ready.old.items ready.new.items
             (text_coming self.old (text_under self.old.key c.messages))
             (text_coming self.new (text_under self.old.key c.messages))) }
-        ensures left { IfOk result (λ page. page ≡ Page.More → (self.new.place < self.new.octets)
+        ensures left { IfOk result (λ page. page ≡ PutPage.More → (self.new.place < self.new.octets)
             × (self.old.place < self.new.place)) }
-        ensures cause { IfOk result (λ page. page ≡ Page.Refused → (c : Contents)
+        ensures cause { IfOk result (λ page. page ≡ PutPage.Refused → (c : Contents)
             → V.holds vault.old c → V.is_clean vault.new
             → IsBegun self.old (text_under self.old.key c.messages)
             → has_grown (V.faults vault.old) (V.faults vault.new) ≡ true) }
@@ -189,28 +193,33 @@ impl Reading {
     {
         let mut page = [0u8; PAGE_OCTETS];
         let Some(octets) = self.read(vault, &mut page)? else {
-            return Ok(Page::Refused);
+            return Ok(PutPage::Refused);
         };
         if self.put(&page[..octets], ready)? {
-            Ok(Page::More)
+            Ok(PutPage::More)
         } else {
-            Ok(Page::Last)
+            Ok(PutPage::Last)
         }
     }
 
     /// Reads and puts pages until 16,384 octets stand ready, the message ends, or the store refuses
     /// a page.
-    pub fn fill<V: Vault>(&mut self, vault: &mut V, ready: &mut Vec<u8>) -> Result<Page, AllocError>
+    pub fn fill<V: Vault>(
+        &mut self,
+        vault: &mut V,
+        ready: &mut Vec<u8>,
+    ) -> Result<PutPage, AllocError>
         requires { length ready.old.items ≤ most_output }
         ensures put { IfOk result (λ page. (c : Contents) → V.holds vault.old c
             → V.is_clean vault.new → IsBegun self.old (text_under self.old.key c.messages)
             → IsPut page ready.old.items ready.new.items
             (text_coming self.old (text_under self.old.key c.messages))
             (text_coming self.new (text_under self.old.key c.messages))) }
-        ensures more { IfOk result (λ page. page ≡ Page.More → (self.old.place < self.old.octets)
+        ensures more { IfOk result (λ page. page ≡ PutPage.More → (self.old.place < self.old.octets)
             → self.new.place < self.new.octets) }
-        ensures full { IfOk result (λ page. page ≡ Page.More → most_lent ≤ length ready.new.items) }
-        ensures cause { IfOk result (λ page. page ≡ Page.Refused → (c : Contents)
+        ensures full { IfOk result (λ page. page ≡ PutPage.More
+            → most_lent ≤ length ready.new.items) }
+        ensures cause { IfOk result (λ page. page ≡ PutPage.Refused → (c : Contents)
             → V.holds vault.old c → V.is_clean vault.new
             → IsBegun self.old (text_under self.old.key c.messages)
             → has_grown (V.faults vault.old) (V.faults vault.new) ≡ true) }
@@ -222,11 +231,11 @@ impl Reading {
     {
         while ready.len() < MOST_LENT {
             match self.put_page(vault, ready)? {
-                Page::More => {}
-                Page::Last => return Ok(Page::Last),
-                Page::Refused => return Ok(Page::Refused),
+                PutPage::More => {}
+                PutPage::Last => return Ok(PutPage::Last),
+                PutPage::Refused => return Ok(PutPage::Refused),
             }
         }
-        Ok(Page::More)
+        Ok(PutPage::More)
     }
 }
