@@ -3,6 +3,7 @@
 
 mod chance;
 mod guest;
+mod heard;
 mod late;
 mod random_turns;
 mod random_wire;

@@ -1,9 +1,11 @@
 //! What one link must be told, reckoned by an office that is given each line, and each request,
 //! whole and only when it may act, and of which all is taken at once.
+use super::heard::Heard;
 use super::stream::{Stream, front, line_len};
+use crate::listener::Listener;
 use crate::wire::Port;
 use adminhttp::{Got, Request, response};
-use office::{Event, Office, Outcome};
+use office::{Account, Event, Office, Outcome};
 use std::alloc::{AllocError, Global};
 use vault::PlainVault;
 
@@ -37,10 +39,12 @@ fn connect(office: &mut Office<PlainVault>) -> u64 {
     }
 }
 
-/// Gives an office a line.
-fn say(office: &mut Office<PlainVault>, connection: u64, line: &[u8]) {
+/// Gives an office a line. What it judged is heard.
+fn say(office: &mut Office<PlainVault>, heard: &mut Heard, connection: u64, line: &[u8]) {
     for piece in line.chunks(4096) {
-        let _ = office.step(Event::Bytes(connection, piece));
+        let mut account = Account::Nothing;
+        let _ = office.step_with_account(Event::Bytes(connection, piece), &mut account);
+        heard.hear(connection, &account);
     }
 }
 
@@ -199,11 +203,21 @@ impl Guest {
     }
 
     /// A client's next line acts, where there is one.
-    fn act_line(&mut self, office: &mut Office<PlainVault>, now: u64) -> Result<bool, AllocError> {
+    fn act_line(
+        &mut self,
+        office: &mut Office<PlainVault>,
+        heard: &mut Heard,
+        now: u64,
+    ) -> Result<bool, AllocError> {
         let Some(len) = line_len(self.heard.rest()) else {
             return Ok(false);
         };
-        say(office, self.connection, front(self.heard.rest(), len));
+        say(
+            office,
+            heard,
+            self.connection,
+            front(self.heard.rest(), len),
+        );
         self.heard.pass(len);
         self.since = now;
         take_all(office, self.connection, &mut self.wanted)?;
@@ -231,13 +245,14 @@ impl Guest {
         &mut self,
         alloc: Global,
         office: &mut Office<PlainVault>,
+        heard: &mut Heard,
         now: u64,
     ) -> Result<bool, AllocError> {
         if self.is_over || self.is_closing || !self.wanted.is_empty() {
             return Ok(false);
         }
         match self.port {
-            Port::Pop => self.act_line(office, now),
+            Port::Pop => self.act_line(office, heard, now),
             Port::Admin => self.act_request(alloc, office),
         }
     }

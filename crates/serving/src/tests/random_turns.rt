@@ -1,12 +1,12 @@
 //! Turns over a wire by chance: clients and requests in pieces, that wait, end and break, beside a
 //! reckoning that is given whole lines.
 use super::chance::Chance;
+use super::heard::Heard;
 use super::random_wire::RandomWire;
 use super::reckoning::{Counts, Reckoning};
 use super::sent::{MAILDROPS, some_line, some_maildrop};
 use super::two_clerks::{name, office_of_two};
 use crate::links::Links;
-use crate::listener::NoListener;
 use crate::script_spool::ScriptSpool;
 use crate::turn::{begin, serve_turn};
 use creds::DepositId;
@@ -32,6 +32,8 @@ struct Game {
     links: Links,
     wire: RandomWire,
     spool: ScriptSpool,
+    /// What the server judged in a turn, as it was told.
+    heard: Heard,
     /// How many files were put.
     files: u64,
 }
@@ -58,6 +60,7 @@ fn new_game(
         links,
         wire,
         spool,
+        heard: Heard::new(alloc),
         files: 0,
     }
 }
@@ -127,7 +130,7 @@ fn serve(game: &mut Game) {
         &mut game.wire,
         &mut game.office,
         &mut game.spool,
-        &mut NoListener,
+        &mut game.heard,
         now,
     );
 }
@@ -176,6 +179,16 @@ fn look_at_links(links: &Links, reckoning: &mut Reckoning) {
     }
 }
 
+/// What the server judged in a turn is what the office that reckons did, line by line.
+fn look_at_accounts(heard: &mut Heard, reckoning: &mut Reckoning) {
+    if !heard.is_as(&reckoning.heard) {
+        reckoning.note("another account");
+    }
+    reckoning.counts.judged = reckoning.counts.judged.saturating_add(heard.len() as u64);
+    heard.clear();
+    reckoning.heard.clear();
+}
+
 /// A turn.
 fn turn(game: &mut Game) -> Result<(), Fail> {
     come_some(&mut game.wire)?;
@@ -185,6 +198,7 @@ fn turn(game: &mut Game) -> Result<(), Fail> {
         serve(game);
     }
     look_at_links(&game.links, &mut game.wire.reckoning);
+    look_at_accounts(&mut game.heard, &mut game.wire.reckoning);
     Ok(())
 }
 
@@ -208,6 +222,7 @@ fn calm_down(game: &mut Game) {
         }
         serve(game);
         look_at_links(&game.links, &mut game.wire.reckoning);
+        look_at_accounts(&mut game.heard, &mut game.wire.reckoning);
     }
     game.wire.reckoning.note("not all was told");
 }
@@ -243,10 +258,11 @@ fn counts_text(alloc: Global, counts: &Counts) -> Result<String, AllocError> {
         late,
         ended,
         closed,
+        judged,
     } = *counts;
     format!(in alloc;
         "{came} links, {lines} lines, {requests} requests, {told} octets, {lost} lost, \
-        {late} late, {ended} ended, {closed} closed"
+        {late} late, {ended} ended, {closed} closed, {judged} judged"
     )
 }
 
@@ -259,6 +275,7 @@ fn are_many(counts: &Counts) -> bool {
         && counts.late > 20
         && counts.ended > 5
         && counts.closed > 1000
+        && counts.judged > 1000
 }
 
 #[test]

@@ -1,5 +1,6 @@
 //! What must happen on all links, reckoned beside a server.
 use super::guest::Guest;
+use super::heard::Heard;
 use crate::wire::Port;
 use office::Office;
 use std::alloc::{AllocError, Global};
@@ -24,6 +25,8 @@ pub struct Counts {
     pub ended: u64,
     /// Links that were closed.
     pub closed: u64,
+    /// Accounts of what was judged.
+    pub judged: u64,
 }
 
 /// The open links, the office that reckons, and what went wrong first.
@@ -32,6 +35,8 @@ pub struct Reckoning {
     pub alloc: Global,
     pub office: Office<PlainVault>,
     pub guests: Vec<Guest>,
+    /// What the office judged since the last turn.
+    pub heard: Heard,
     /// The moment, in seconds.
     pub now: u64,
     pub fault: Option<&'static str>,
@@ -89,6 +94,7 @@ impl Reckoning {
             alloc,
             office,
             guests: Vec::new(alloc),
+            heard: Heard::new(alloc),
             now: 0,
             fault: None,
             counts: Counts::default(),
@@ -192,7 +198,7 @@ impl Reckoning {
         let Some(guest) = self.guests.get_mut(place) else {
             return Ok(());
         };
-        if guest.act(self.alloc, &mut self.office, self.now)? {
+        if guest.act(self.alloc, &mut self.office, &mut self.heard, self.now)? {
             self.count_act(port);
         }
         Ok(())

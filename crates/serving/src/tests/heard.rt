@@ -1,0 +1,125 @@
+//! What was judged, line by line: as a server's listener heard it, and as the office that reckons
+//! told it.
+use crate::listener::Listener;
+use crate::wire::Link;
+use creds::LoginName;
+use office::{Account, Removal, Verdict, Way};
+use std::alloc::{AllocError, Global};
+
+/// Accounts in their order, each with its connection, as texts.
+#[derive(Drop)]
+pub struct Heard {
+    alloc: Global,
+    texts: Vec<String>,
+    /// Whether memory was wanting for one.
+    is_short: bool,
+}
+
+/// By which command a login came.
+fn way_word(by: Way) -> &'static str {
+    match by {
+        Way::Pass => "pass",
+        Way::Apop => "apop",
+    }
+}
+
+/// How a login was judged.
+fn verdict_word(verdict: Verdict) -> &'static str {
+    match verdict {
+        Verdict::Accepted => "accepted",
+        Verdict::WrongCredential => "wrong credential",
+        Verdict::ThirdWrongCredential => "third wrong credential",
+        Verdict::Denied(_) => "denied",
+        Verdict::NoSuchMaildrop => "no such maildrop",
+        Verdict::InUse => "in use",
+        Verdict::StoreFailed => "store failed",
+    }
+}
+
+/// A login that was judged.
+fn login_text(
+    alloc: Global,
+    name: &LoginName,
+    by: Way,
+    verdict: Verdict,
+) -> Result<String, AllocError> {
+    let by = way_word(by);
+    let verdict = verdict_word(verdict);
+    format!(in alloc; "login {} {} {by} {verdict}", name.clerk, name.maildrop)
+}
+
+/// A session's QUIT.
+fn quit_text(alloc: Global, removal: &Removal) -> Result<String, AllocError> {
+    let name = &removal.name;
+    let marked = removal.marked;
+    let messages = removal.messages;
+    let is_denied = removal.denied.is_some();
+    let is_done = removal.is_done;
+    format!(in alloc;
+        "quit {} {} {marked} {messages} {is_denied} {is_done}",
+        name.clerk, name.maildrop
+    )
+}
+
+/// An account; empty where nothing was judged.
+fn account_text(alloc: Global, account: &Account) -> Result<String, AllocError> {
+    match account {
+        Account::Login(name, by, verdict) => login_text(alloc, name, *by, *verdict),
+        Account::NoName => String::from_str(alloc, "no name"),
+        Account::Marked => String::from_str(alloc, "marked"),
+        Account::Unmarked => String::from_str(alloc, "unmarked"),
+        Account::Quit(removal) => quit_text(alloc, removal),
+        Account::QuitBeforeLogin => String::from_str(alloc, "quit before a login"),
+        Account::Nothing => Ok(String::new(alloc)),
+    }
+}
+
+impl Heard {
+    /// Nothing was heard yet.
+    pub fn new(alloc: Global) -> Heard {
+        Heard {
+            alloc,
+            texts: Vec::new(alloc),
+            is_short: false,
+        }
+    }
+
+    /// Keeps an account, where something was judged.
+    fn keep(&mut self, connection: u64, account: &Account) -> Result<(), AllocError> {
+        let text = account_text(self.alloc, account)?;
+        if text.is_empty() {
+            return Ok(());
+        }
+        self.texts
+            .push(format!(in self.alloc; "{connection} {text}")?)?;
+        Ok(())
+    }
+
+    /// How many accounts were heard.
+    pub fn len(&self) -> usize {
+        self.texts.len()
+    }
+
+    /// Whether the other one heard just the same, in the same order.
+    pub fn is_as(&self, other: &Heard) -> bool {
+        let same = self
+            .texts
+            .iter()
+            .zip(other.texts.iter())
+            .all(|(a, b)| a.as_str() == b.as_str());
+        same && self.texts.len() == other.texts.len() && !self.is_short && !other.is_short
+    }
+
+    /// Forgets all.
+    pub fn clear(&mut self) {
+        self.texts.clear();
+    }
+}
+
+impl Listener for Heard {
+    fn open(&mut self, _link: Link, _connection: u64) {}
+
+    fn hear(&mut self, connection: u64, account: &Account) {
+        self.is_short |= self.keep(connection, account).is_err();
+    }
+}
