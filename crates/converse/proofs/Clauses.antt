@@ -15,8 +15,8 @@ use Rattle.converse.specs.Printed.{PrintsPart}
 use Rattle.converse.specs.Talk.{TalksInPart}
 use Rattle.converse.specs.Talked.{trace_of, is_own, Extends, ComesOut, MetLack}
 use Rattle.converse.specs.Conversing.{GoesOn, Waits, Midway, IsPaid, IsOver, IsCut, Refuses, memory_by}
-use Rattle.converse.specs.declared.conversation.TalkFault.{TalkFault}
-use Rattle.converse.specs.declared.conversation.TalkFault.TheVariants as fault
+use Rattle.converse.specs.declared.talk.TalkFault.{TalkFault}
+use Rattle.converse.specs.declared.talk.TalkFault.TheVariants as fault
 use Rattle.converse.proofs.Events.{is_lack, hears_on, hears_last}
 use Rattle.converse.proofs.Takings.{IsTaking, takes_on, takes_last}
 use Rattle.converse.proofs.Ends.{part_lends, part_shut, goes, waited, waited_reading, closed, part_stays, broken}

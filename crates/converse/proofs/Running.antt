@@ -8,8 +8,8 @@ use Rattle.office.specs.Stands.{Keeps, vault_of}
 use Rattle.office.specs.declared.office.Office.{Office}
 use Rattle.converse.specs.Talked.{StandsSo, ComesOut, HasFailed}
 use Rattle.converse.specs.Runs.{HasTalked, HasBroken}
-use Rattle.converse.specs.declared.conversation.TalkFault.{TalkFault}
-use Rattle.converse.specs.declared.conversation.TalkFault.TheVariants as fault
+use Rattle.converse.specs.declared.talk.TalkFault.{TalkFault}
+use Rattle.converse.specs.declared.talk.TalkFault.TheVariants as fault
 
 -- it came out well
 pub has_talked : {V : Type 0} (Holds : V → Contents → Type 0) (faults : V → ℕ) (before : ℕ) (o : Office V) (T : Trace) (octets written : List ℕ) (AtEnd : Type 0) (done : Unit {0})

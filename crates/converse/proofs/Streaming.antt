@@ -2,8 +2,8 @@
 use Rattle.std.proofs.Common.{◌≡◌, ℕ, ◌<◌, ◌≤◌, Bool, true, false, List, [], ◌∷◌, ◌++◌, ◌==◌, length, append-nil, append_assoc, sym, ◌∙◌, ap, subst, arith, Ok, Err, Result, IsErrAnd, IfErr}
 use Rattle.converse.specs.Streams.{Reading, Writing, Reads, Writes, reads_failed, writes_failed}
 use Rattle.converse.specs.Talked.{HasFailed}
-use Rattle.converse.specs.declared.conversation.TalkFault.{TalkFault}
-use Rattle.converse.specs.declared.conversation.TalkFault.TheVariants as fault
+use Rattle.converse.specs.declared.talk.TalkFault.{TalkFault}
+use Rattle.converse.specs.declared.talk.TalkFault.TheVariants as fault
 use Rattle.converse.proofs.Clauses.{appends_none, consumes_none, keeps_same, appends_then, consumes_then, grown_since}
 
 -- ---- octets

@@ -14,8 +14,8 @@ use Rattle.office.specs.Outcomes.{Outcome, Opened}
 use Rattle.office.specs.Outcomes as outcome
 use Rattle.office.specs.Trace.{acts, history, rest, is_open, is_open_by, is_ready}
 use Rattle.office.specs.Expected.{is_full}
-use Rattle.converse.specs.declared.conversation.TalkFault.{TalkFault}
-use Rattle.converse.specs.declared.conversation.TalkFault.TheVariants as fault
+use Rattle.converse.specs.declared.talk.TalkFault.{TalkFault}
+use Rattle.converse.specs.declared.talk.TalkFault.TheVariants as fault
 use Rattle.converse.specs.Talk.{spoken, are_fit, AreInTurn, TalksInPart}
 use Rattle.converse.specs.Talked.{trace_of, MetLack, IsEndless}
 

@@ -2,8 +2,8 @@
 use Rattle.std.specs.Prelude.{ℕ, List, codes}
 use Rattle.vault.specs.declared.fault.VaultFault.{VaultFault}
 use Rattle.vault.specs.declared.fault.VaultFault.TheVariants.{NoMaildrop, Conflict, Full, Store, NoMemory, NotEmpty, NotOurs, OldVersion, NoClerk}
-use Rattle.converse.specs.declared.conversation.TalkFault.{TalkFault}
-use Rattle.converse.specs.declared.conversation.TalkFault.TheVariants as talk
+use Rattle.converse.specs.declared.talk.TalkFault.{TalkFault}
+use Rattle.converse.specs.declared.talk.TalkFault.TheVariants as talk
 
 -- the name of a store's fault
 abbrev pub store_fault_name : VaultFault → List ℕ

@@ -11,7 +11,7 @@ use Rattle.office.specs.Trace.{acts}
 use Rattle.converse.specs.Played.{failures}
 use Rattle.converse.specs.Talk.{Talks, TalksInPart}
 use Rattle.converse.specs.Talked.{trace_of, Extends, Leaves, ComesOut, HasFailed}
-use Rattle.converse.specs.declared.conversation.TalkFault.{TalkFault}
+use Rattle.converse.specs.declared.talk.TalkFault.{TalkFault}
 
 -- a store that is clean at the end holds what it held
 abbrev pub StillHolds : {V : Type 0} (Holds : V → Contents → Type 0) (IsClean : V → Type 0) → (old new : V) → Type 0

@@ -10,8 +10,8 @@ use Rattle.office.specs.Trace.{acts, is_open}
 use Rattle.office.specs.Expected.{is_full}
 use Rattle.office.specs.Stands.{StandsFor, vault_of}
 use Rattle.office.specs.declared.office.Office.{Office}
-use Rattle.converse.specs.declared.conversation.TalkFault.{TalkFault}
-use Rattle.converse.specs.declared.conversation.TalkFault.TheVariants as fault
+use Rattle.converse.specs.declared.talk.TalkFault.{TalkFault}
+use Rattle.converse.specs.declared.talk.TalkFault.TheVariants as fault
 use Rattle.converse.specs.Played.{Caused}
 use Rattle.converse.specs.Talk.{NeverBegins, Talks, TalksInPart, BreaksOff, BreaksOffReading}
 

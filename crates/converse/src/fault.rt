@@ -8,9 +8,9 @@ ghost use Rattle.converse.specs.Causes.{of_script, of_opening};
 ghost use Rattle.converse.specs.Printed.{PrintsPart};
 ghost use Rattle.converse.specs.declared.fault.Fault.TheVariants.{OutOfMemory, Store};
 
-use crate::conversation::TalkFault;
 use crate::printing::print;
 use crate::script::ScriptFault;
+use crate::talk::TalkFault;
 use arrayvec::ArrayVec;
 use office::OpenFault;
 use policy::PolicyFault;

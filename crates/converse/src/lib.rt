@@ -9,7 +9,6 @@ ghost use Rattle.converse.specs.Talk.{RemovesByQuitAlone};
 
 pub mod check_policy;
 pub mod check_store;
-mod conversation;
 pub mod export;
 mod fault;
 mod fields;
@@ -20,13 +19,14 @@ pub mod replay;
 pub mod review_policy;
 pub mod script;
 mod streams;
-pub mod talking;
+mod talk;
+pub mod talk_over_store;
 
-pub use conversation::{TalkFault, talk};
 pub use fault::{Fault, fault_text, put_fault, read_fault, tell_fault};
 pub use noted::Noted;
 pub use record::Record;
 pub use streams::{Sink, Source};
+pub use talk::{TalkFault, talk};
 
 /// A conversation removes what its QUIT removes, and nothing else.
 pub fn removes_by_quit_alone()

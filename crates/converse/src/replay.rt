@@ -21,9 +21,9 @@ ghost use Rattle.converse.specs.Escapes.{by_digits, escape, escaped};
 ghost use Rattle.converse.specs.Told.{sent_line, outcome_lines, answer_lines, ended_lines};
 ghost use Rattle.converse.specs.Told.{has_ended, no_policy_line, reason_name as name_of_reason};
 
-use crate::conversation::TalkFault;
 use crate::fault::{Fault, read_fault, tell_fault};
 use crate::script::{Line, read_script};
+use crate::talk::TalkFault;
 use office::{Event, Limits, Office, Outcome, Reason, answer_body};
 use policy::PolicyFault;
 use session::Removals;

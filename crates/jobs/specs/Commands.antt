@@ -8,7 +8,7 @@ use Rattle.vault.specs.declared.fault.VaultFault.{VaultFault}
 use Rattle.vault.specs.declared.fault.VaultFault.TheVariants.{Store, NoMemory}
 use Rattle.vault.specs.Calls.{has_grown}
 use Rattle.office.specs.Events.{Log, Trace}
-use Rattle.converse.specs.declared.conversation.TalkFault.{TalkFault}
+use Rattle.converse.specs.declared.talk.TalkFault.{TalkFault}
 use Rattle.converse.specs.Script.{ScriptLine, script_of}
 use Rattle.converse.specs.Played.{Runs, RunsInPart}
 use Rattle.converse.specs.Runs.{TalksOn, BreaksOn}

@@ -1,13 +1,13 @@
 //! One conversation over a store, as a job.
 use crate::Job;
-use converse::talking::talk;
+use converse::talk_over_store::talk_over_store;
 use converse::{Sink, Source};
 use session::Removals;
 use std::alloc::Global;
 use std::io::Write;
 use vault::Vault;
 
-/// Has one conversation with a client, as `talk` of `converse` does.
+/// Has one conversation with a client, as `talk_over_store` of `converse` does.
 #[derive(Drop)]
 pub struct Talking<'a, R, W, E> {
     /// Where what is kept of the conversation lies.
@@ -61,7 +61,7 @@ impl<R: Source, W: Sink, E: Write + Drop> Job for Talking<'_, R, W, E> {
             err,
         } = self;
         let (mut reader, mut writer, mut err) = (reader, writer, err);
-        let (status, vault) = talk(
+        let (status, vault) = talk_over_store(
             alloc,
             vault,
             host,

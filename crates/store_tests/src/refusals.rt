@@ -1,7 +1,7 @@
 //! A store that isn't adopted because a transaction is under way, and conversations that are broken
 //! off.
 
-use converse::talking::talk;
+use converse::talk_over_store::talk_over_store;
 use converse::{Noted, fault_text};
 use session::Removals;
 use sqlite::{Connection, MemStore};
@@ -39,7 +39,7 @@ fn is_broken_off<W: Write>(alloc: Global, writer: &mut W, err: &mut Vec<u8>) -> 
     let vault = PlainVault::new(alloc);
     let removals = Removals::JudgedAtDele;
     let (mut reader, mut writer) = (Noted::new(Refusing), Noted::new(writer));
-    let (status, _) = talk(
+    let (status, _) = talk_over_store(
         alloc,
         vault,
         "h",

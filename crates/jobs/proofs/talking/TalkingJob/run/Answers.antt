@@ -4,7 +4,7 @@ use Rattle.jobs.proofs.talking.TalkingJob.run.Goals as goal
 
 pub returns-clause-done : goal.returns-clause-done
 returns-clause-done g c = λ tells T k clean.
-    (let x = c.talk-status in
+    (let x = c.talk_over_store-status in
     let job = c.args.self in
     let d = x.ensures.talked in
     let opened = opened_on T job.host.now job.boot job.removals in
@@ -13,4 +13,4 @@ returns-clause-done g c = λ tells T k clean.
     (λ well. d.4 well T k clean) (λ ill. d.5 ill T k clean))
 
 pub returns-clause-clean : goal.returns-clause-clean
-returns-clause-clean g c = λ tells clean. c.talk-status.ensures.clean clean
+returns-clause-clean g c = λ tells clean. c.talk_over_store-status.ensures.clean clean

@@ -11,7 +11,7 @@ use Rattle.converse.proofs.Ends.{midway_broken}
 use Rattle.converse.proofs.Playing.{caused_next}
 use Rattle.converse.proofs.Clauses.{one_taken, paid, taking, takes, found_empty, refused_as, not_ok}
 use Rattle.converse.proofs.Streaming.{writes_none, failed_none, handed_on, some_lent}
-use Rattle.converse.proofs.conversation.write_some.Goals as goal
+use Rattle.converse.proofs.talk.write_some.Goals as goal
 
 pub returns-then-is_empty-clause-wrote : goal.returns-then-is_empty-clause-wrote
 returns-then-is_empty-clause-wrote g c = (

@@ -8,7 +8,7 @@ use Rattle.converse.specs.Talked.{trace_of}
 use Rattle.converse.specs.Conversing.{GoesOn, IsCut}
 use Rattle.converse.proofs.Clauses.{hears, one_heard}
 use Rattle.converse.proofs.Playing.{caused_next}
-use Rattle.converse.proofs.conversation.hear.Goals as goal
+use Rattle.converse.proofs.talk.hear.Goals as goal
 
 pub returns-clause-heard : goal.returns-clause-heard
 returns-clause-heard g c = λ before T octets written first clean w.

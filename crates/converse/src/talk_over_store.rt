@@ -11,10 +11,10 @@ ghost use Rattle.converse.specs.Printed.{PrintsPart};
 ghost use Rattle.converse.specs.Runs.{HasTalked, HasBroken, HasStopped, StillHolds, opened_on};
 ghost use Rattle.converse.specs.Told.{fault_line};
 
-use crate::conversation;
 use crate::fault::{Fault, tell_fault};
 use crate::replay::open_office;
 use crate::streams::{Sink, Source};
+use crate::talk;
 use office::Office;
 use session::Removals;
 use std::alloc::Global;
@@ -26,7 +26,7 @@ use vault::Vault;
 ///
 /// Gives the exit status, 0 or 1, and the vault as the conversation left it. At a fault the status
 /// is 1, and `err` gets its text. Where the host is bad nothing is read or written.
-pub fn talk<V: Vault, R: Source, W: Sink, E: Write>(
+pub fn talk_over_store<V: Vault, R: Source, W: Sink, E: Write>(
     alloc: Global,
     vault: V,
     host: &str,
@@ -59,12 +59,12 @@ pub fn talk<V: Vault, R: Source, W: Sink, E: Write>(
         Ok(office) => office,
         Err((fault, vault)) => return (tell_fault(err, fault), vault),
     };
-    let status = talk_over(&mut office, reader, writer, err);
+    let status = talk_and_tell(&mut office, reader, writer, err);
     (status, office.into_vault())
 }
 
 /// Has one conversation in an office, and tells its fault on `err`. Gives the exit status.
-fn talk_over<V: Vault, R: Source, W: Sink, E: Write>(
+fn talk_and_tell<V: Vault, R: Source, W: Sink, E: Write>(
     office: &mut Office<V>,
     reader: &mut R,
     writer: &mut W,
@@ -87,7 +87,7 @@ fn talk_over<V: Vault, R: Source, W: Sink, E: Write>(
         (IsAtEnd (R.seen reader.new).left)) }
     ensures clean { V.is_clean (vault_of office.new) → V.is_clean (vault_of office.old) }
 {
-    match conversation::talk(office, reader, writer) {
+    match talk::talk(office, reader, writer) {
         Ok(()) => 0,
         Err(fault) => tell_fault(err, Fault::Talk(fault)),
     }

@@ -8,7 +8,7 @@ use Rattle.converse.proofs.Ends.{midway_broken}
 use Rattle.converse.proofs.Clauses.{refused_as, none_written, some_written}
 use Rattle.converse.proofs.Streaming.{writes_then, writes_kept, writes_failed_then, failed_more, handed_on}
 use Rattle.converse.proofs.SoFar.{wrote_none, so_by, wrote_then}
-use Rattle.converse.proofs.conversation.write_owed.Goals as goal
+use Rattle.converse.proofs.talk.write_owed.Goals as goal
 
 pub returns-in_err-write_some-clause-wrote : goal.returns-in_err-write_some-clause-wrote
 returns-in_err-write_some-clause-wrote g c =

@@ -2,7 +2,7 @@ use Rattle.std.proofs.Common.{rules, ◌≡◌, arith}
 use Rattle.std.specs.Io.KnownBytes.{IsAtEnd}
 use Rattle.office.specs.Stands.{vault_of}
 use Rattle.converse.proofs.Running.{has_talked, has_broken}
-use Rattle.converse.proofs.talking.talk_over.Goals as goal
+use Rattle.converse.proofs.talk_over_store.talk_and_tell.Goals as goal
 
 pub returns-in-Ok-clause-talked : goal.returns-in-Ok-clause-talked
 returns-in-Ok-clause-talked g c =

@@ -1,5 +1,5 @@
 use Rattle.converse.proofs.SoFar.{TalkedSoFar}
-use Rattle.converse.proofs.conversation.converse.Given as goal
+use Rattle.converse.proofs.talk.converse.Given as goal
 
 abbrev pub invariant-loop : goal.invariant-loop
 invariant-loop g l =

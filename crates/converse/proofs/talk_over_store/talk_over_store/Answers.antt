@@ -11,11 +11,11 @@ use Rattle.converse.specs.Runs.{HasTalked, HasStopped, opened_on}
 use Rattle.converse.proofs.Clauses.{grown_since}
 use Rattle.converse.proofs.Streaming.{reads_none, writes_none}
 use Rattle.converse.proofs.Running.{talked_since, broken_since, keeps_still}
-use Rattle.converse.proofs.talking.talk.Goals as goal
+use Rattle.converse.proofs.talk_over_store.talk_over_store.Goals as goal
 
 pub returns-clause-talked : goal.returns-clause-talked
 returns-clause-talked g c =
-    let d = c.talk_over-status.ensures.talked in (
+    let d = c.talk_and_tell-status.ensures.talked in (
       d.0,
       d.1,
       d.2,
@@ -25,23 +25,23 @@ returns-clause-talked g c =
           let opened = opened_on T c.args.host.now c.args.boot c.args.removals in
           let first = g.V.Vault.faults c.args.vault in
           let before = g.V.Vault.faults (vault_of c.in-Ok.office) in
-          let now = g.V.Vault.faults (vault_of c.talk_over-status.new.office) in
-          let at_end = IsAtEnd (g.R.Source.seen c.talk_over-status.new.reader).left in
+          let now = g.V.Vault.faults (vault_of c.talk_and_tell-status.new.office) in
+          let at_end = IsAtEnd (g.R.Source.seen c.talk_and_tell-status.new.reader).left in
           subst (λ v. HasTalked g.V.Vault.holds v (has_grown first (g.V.Vault.faults v)) opened d.0 d.1 at_end) (sym c.into_vault.ensures)
-          (talked_since g.V.Vault.holds (vault_of c.talk_over-status.new.office) opened d.0 d.1 at_end (has_grown before now) (has_grown first now)
-          (grown_since first before now c.in-Ok.ensures.counted) (d.4 well opened (c.in-Ok.ensures.opened T keeps (c.talk_over-status.ensures.clean clean2)) clean2))),
+          (talked_since g.V.Vault.holds (vault_of c.talk_and_tell-status.new.office) opened d.0 d.1 at_end (has_grown before now) (has_grown first now)
+          (grown_since first before now c.in-Ok.ensures.counted) (d.4 well opened (c.in-Ok.ensures.opened T keeps (c.talk_and_tell-status.ensures.clean clean2)) clean2))),
       λ ill T keeps clean.
-          (let reads = reads_failed (g.R.Source.seen c.args.reader.now) (g.R.Source.seen c.talk_over-status.new.reader) in
-          let writes = writes_failed (g.W.Sink.seen c.args.writer.now) (g.W.Sink.seen c.talk_over-status.new.writer) in
+          (let reads = reads_failed (g.R.Source.seen c.args.reader.now) (g.R.Source.seen c.talk_and_tell-status.new.reader) in
+          let writes = writes_failed (g.W.Sink.seen c.args.writer.now) (g.W.Sink.seen c.talk_and_tell-status.new.writer) in
           let clean2 = subst g.V.Vault.is_clean c.into_vault.ensures clean in
           let opened = opened_on T c.args.host.now c.args.boot c.args.removals in
           let first = g.V.Vault.faults c.args.vault in
           let before = g.V.Vault.faults (vault_of c.in-Ok.office) in
-          let now = g.V.Vault.faults (vault_of c.talk_over-status.new.office) in
-          let at_end = IsAtEnd (g.R.Source.seen c.talk_over-status.new.reader).left in
+          let now = g.V.Vault.faults (vault_of c.talk_and_tell-status.new.office) in
+          let at_end = IsAtEnd (g.R.Source.seen c.talk_and_tell-status.new.reader).left in
           subst (λ v. HasStopped g.V.Vault.holds v (has_grown first (g.V.Vault.faults v)) reads writes T opened d.0 d.1 at_end) (sym c.into_vault.ensures)
-          (inr (broken_since g.V.Vault.holds (vault_of c.talk_over-status.new.office) opened d.0 d.1 at_end (has_grown before now) (has_grown first now)
-          (grown_since first before now c.in-Ok.ensures.counted) (d.5 ill opened (c.in-Ok.ensures.opened T keeps (c.talk_over-status.ensures.clean clean2)) clean2)))),
+          (inr (broken_since g.V.Vault.holds (vault_of c.talk_and_tell-status.new.office) opened d.0 d.1 at_end (has_grown before now) (has_grown first now)
+          (grown_since first before now c.in-Ok.ensures.counted) (d.5 ill opened (c.in-Ok.ensures.opened T keeps (c.talk_and_tell-status.ensures.clean clean2)) clean2)))),
     )
 
 pub returns-in-Err-clause-talked : goal.returns-in-Err-clause-talked
@@ -74,7 +74,7 @@ returns-clause-bad_host g c = search rules
 
 pub returns-clause-clean : goal.returns-clause-clean
 returns-clause-clean g c = λ clean.
-    c.in-Ok.ensures.clean (c.talk_over-status.ensures.clean (subst g.V.Vault.is_clean c.into_vault.ensures clean))
+    c.in-Ok.ensures.clean (c.talk_and_tell-status.ensures.clean (subst g.V.Vault.is_clean c.into_vault.ensures clean))
 
 pub returns-in-Err-clause-clean : goal.returns-in-Err-clause-clean
 returns-in-Err-clause-clean g c = search rules

@@ -9,7 +9,7 @@ use Rattle.converse.proofs.Ends.{goes_broken}
 use Rattle.converse.proofs.Clauses.{refused_as, none_written, some_written}
 use Rattle.converse.proofs.Streaming.{reads_then, writes_then, reads_failed_then, writes_failed_then, failed_more, handed_on}
 use Rattle.converse.proofs.SoFar.{talked_none, so_by, talked_then, talked_waits, talked_over}
-use Rattle.converse.proofs.conversation.converse.Goals as goal
+use Rattle.converse.proofs.talk.converse.Goals as goal
 
 pub returns-in_err-write_owed-clause-talked : goal.returns-in_err-write_owed-clause-talked
 returns-in_err-write_owed-clause-talked g c =

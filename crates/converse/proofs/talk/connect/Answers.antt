@@ -8,7 +8,7 @@ use Rattle.office.specs.Stands.{lent_by, vault_of}
 use Rattle.converse.specs.Conversing.{GoesOn, Refuses}
 use Rattle.converse.proofs.Ends.{connects}
 use Rattle.converse.proofs.Playing.{caused_one}
-use Rattle.converse.proofs.conversation.connect.Goals as goal
+use Rattle.converse.proofs.talk.connect.Goals as goal
 
 pub returns-clause-began : goal.returns-clause-began
 returns-clause-began g c = λ T st clean.

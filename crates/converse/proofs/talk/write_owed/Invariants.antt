@@ -1,5 +1,5 @@
 use Rattle.converse.proofs.SoFar.{WroteSoFar}
-use Rattle.converse.proofs.conversation.write_owed.Given as goal
+use Rattle.converse.proofs.talk.write_owed.Given as goal
 
 abbrev pub invariant-loop : goal.invariant-loop
 invariant-loop g l =

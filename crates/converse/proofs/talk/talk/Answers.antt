@@ -13,7 +13,7 @@ use Rattle.converse.proofs.Playing.{caused_next}
 use Rattle.converse.proofs.Clauses.{refused_as, one_gone, refused_out, comes_out}
 use Rattle.converse.proofs.Streaming.{reads_none, writes_none, failed_none, handed_on}
 use Rattle.converse.proofs.SoFar.{so_by}
-use Rattle.converse.proofs.conversation.talk.Goals as goal
+use Rattle.converse.proofs.talk.talk.Goals as goal
 
 pub returns-in_err-c-clause-talked : goal.returns-in_err-c-clause-talked
 returns-in_err-c-clause-talked g c =

@@ -3,7 +3,7 @@ use Rattle.office.specs.Trace.{acts}
 use Rattle.converse.specs.Conversing.{GoesOn, Waits, IsCut}
 use Rattle.converse.proofs.Clauses.{refused_as, not_ok}
 use Rattle.converse.proofs.Streaming.{failed_none, handed_on}
-use Rattle.converse.proofs.conversation.listen.Goals as goal
+use Rattle.converse.proofs.talk.listen.Goals as goal
 
 pub returns-in_default-clause-read : goal.returns-in_default-clause-read
 returns-in_default-clause-read g c = (
