@@ -4,6 +4,7 @@ use crate::listener::Listener;
 use crate::wire::Link;
 use creds::LoginName;
 use office::{Account, Removal, Verdict, Way};
+use session::Removed;
 use std::alloc::{AllocError, Global};
 
 /// Accounts in their order, each with its connection, as texts.
@@ -48,15 +49,26 @@ fn login_text(
     format!(in alloc; "login {} {} {by} {verdict}", name.clerk, name.maildrop)
 }
 
+/// The unique-ids of what a QUIT removes.
+fn uids_text(alloc: Global, removed: &Removed) -> Result<String, AllocError> {
+    let mut text = String::new(alloc);
+    for place in 0..removed.len() {
+        if let Some(uid) = removed.get(place) {
+            text.push_str(format!(in alloc; " {uid}")?.as_str())?;
+        }
+    }
+    Ok(text)
+}
+
 /// A session's QUIT.
 fn quit_text(alloc: Global, removal: &Removal) -> Result<String, AllocError> {
     let name = &removal.name;
     let marked = removal.marked;
-    let messages = removal.messages;
+    let uids = uids_text(alloc, &removal.removed)?;
     let is_denied = removal.denied.is_some();
     let is_done = removal.is_done;
     format!(in alloc;
-        "quit {} {} {marked} {messages} {is_denied} {is_done}",
+        "quit {} {} {marked} {is_denied} {is_done}{uids}",
         name.clerk, name.maildrop
     )
 }
