@@ -27,7 +27,7 @@ use Rattle.office.specs.Output.{Output, nothing_owed, reads_text, Owes}
 use Rattle.office.specs.Kept.{Kept, clocked}
 use Rattle.office.specs.Answered.{name_cmp, tag_of, shown_of}
 use Rattle.vault.specs.Calls.{has_grown}
-use Rattle.office.specs.Outcomes.{Outcome, mark_of, HasCause}
+use Rattle.office.specs.Outcomes.{Outcome, NotReady, PieceTooLong, mark_of, HasCause}
 use Rattle.office.specs.Stands.{Seen, seen, Matches, IsSession, IsOver, IsKeptFor, is_seen_open, untaken_of, StandsFor}
 use Rattle.office.specs.declared.office.Office.{Office}
 use Rattle.office.specs.declared.login_state.LineOutcome.{LineOutcome}
@@ -334,6 +334,15 @@ awaits_bytes c s k p now m o fits = record {
 -- a piece that isn't ignored is answered what became of its line
 pub bytes_goes : (T : Trace) (lent : ℕ → ℕ) (c : ℕ) (p : List ℕ) → is_open T c ≡ true → untaken T.log (history T) c ≡ [] → length p ≤ most_in_a_piece → ignored T lent (Bytes c p) ≡ None
 bytes_goes T lent c p o r fits = let within : nat_lt most_in_a_piece (length p) ≡ false = le-ltb most_in_a_piece (length p) fits in rw (o, r, within) refl
+
+-- a piece that comes while something is owed
+pub bytes_waits : (T : Trace) (lent : ℕ → ℕ) (c : ℕ) (p : List ℕ) → is_open T c ≡ true → is_empty (untaken T.log (history T) c) ≡ false → ignored T lent (Bytes c p) ≡ Some NotReady
+bytes_waits T lent c p o some = rw (o, some) refl
+
+-- one that is too long
+pub bytes_too_long : (T : Trace) (lent : ℕ → ℕ) (c : ℕ) (p : List ℕ) → is_open T c ≡ true → untaken T.log (history T) c ≡ [] → nat_lt most_in_a_piece (length p) ≡ true
+    → ignored T lent (Bytes c p) ≡ Some PieceTooLong
+bytes_too_long T lent c p o r long = rw (o, r, long) refl
 
 -- ---- a Took
 

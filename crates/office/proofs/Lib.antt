@@ -40,6 +40,7 @@ mod Quiet
 mod NewMessage
 mod VaultCalls
 mod PolicyCommands
+mod AfterEvents
 pub mod Lying
 pub mod Removing
 mod Entering

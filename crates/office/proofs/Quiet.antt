@@ -6,7 +6,7 @@ use Rattle.creds.specs.declared.login_name.LoginName.{LoginName}
 use Rattle.vault.specs.declared.record.Message.{Message}
 use Rattle.vault.specs.Records.{Records, Agree, IsSound}
 use Rattle.vault.specs.Changes.{Contents, records_of}
-use Rattle.vault.specs.Calls.{IsAnswer, has_grown, CountsFaults}
+use Rattle.vault.specs.Calls.{IsAnswer, has_grown}
 use Rattle.vault.specs.declared.fault.VaultFault.{VaultFault}
 use Rattle.vault.specs.declared.fault.VaultFault.TheVariants as fault
 use Rattle.session.specs.declared.removals.Removals.{Removals}
@@ -282,7 +282,7 @@ command_rules : (B : Records) (H : List (Act × Tag)) (command : AdminCommand) (
 command_rules B H (SetPolicy policy) t h = absurd h
 command_rules B H _ t h = refl
 
-still_rules : (T : Trace) (e : Event) (t : Tag) → IsStill e → in_force T.base (history (given T e (Tagged t))) ≡ in_force T.base (history T)
+pub still_rules : (T : Trace) (e : Event) (t : Tag) → IsStill e → in_force T.base (history (given T e (Tagged t))) ≡ in_force T.base (history T)
 still_rules T (event.Deposit d class id text) t h = refl
 still_rules T (event.Admin command) t h = command_rules T.base (acts T) command t h
 still_rules T _ t h = absurd h
@@ -291,7 +291,7 @@ leaves_alone : (command : AdminCommand) → LeavesRules command → LeavesAlone 
 leaves_alone (SetPolicy policy) h = absurd h
 leaves_alone _ h = h
 
-still_quiet : (e : Event) → IsStill e → IsQuiet e
+pub still_quiet : (e : Event) → IsStill e → IsQuiet e
 still_quiet (event.Deposit d class id text) h = tt
 still_quiet (event.Admin command) h = leaves_alone command h
 still_quiet _ h = absurd h
@@ -306,18 +306,13 @@ module _ {V : Type 0} (Holds : V → Contents → Type 0) (o o' : Office V) (T :
       let m = ap mark_of b.is ∙ mark-shown T e b.tag h in
       subst (λ (m : Mark). StandsFor Holds o' (given T e m)) (sym m) (quiet Holds o o' T e b.tag h st b.carries (p b.tag m) boot host l n connections locks)
 
-  pub became-stands : IsStill e → (st : StandsFor Holds o T) → Became (Holds o'.vault) st.keeps.contents T e grown w → o'.policy ≡ o.policy → o'.boot ≡ o.boot
-      → string_bytes o'.host ≡ string_bytes o.host → o'.limits ≡ o.limits → counters o' ≡ counters o → ((q : ℕ) → get nat_cmp o'.connections q ≡ get nat_cmp o.connections q)
-      → ((d : List ℕ) → get name_cmp o'.locks d ≡ get name_cmp o.locks d) → StandsFor Holds o' (given T e (mark_of w))
-  became-stands h st b p = became-ruled (still_quiet e h) st b (λ t m. p ∙ (st.policy ∙ sym (still_rules T e t h)))
-
 module _ {After : Contents → Type 0} {before : Contents} (T : Trace) (e : Event) (grown : Bool) (w : Outcome) (h : IsQuiet e) (b : Became After before T e grown w) where
   pub became-outcome : (lent : ℕ → ℕ) → IsOutcome T lent e w
   became-outcome lent = record { tag = b.tag; may = may-quiet T e b.tag h; is = b.is ∙ never-ignored T lent e b.tag h }
 
-pub became-cause : {A : Type 0} {After : Contents → Type 0} {c : Contents} {before now : ℕ} {answered : Result A VaultFault} (T : Trace) (e : Event) (w : Outcome) → IsQuiet e
-    → CountsFaults before now answered → Became After c T e (has_grown before now) w → HasCause before now w
-became-cause {A} {After} {c} {before} {now} T e w h counts b = subst (HasCause before now) (sym b.is) (has-cause before now T e b.tag h b.cause)
+pub became-cause : {After : Contents → Type 0} {c : Contents} (before now : ℕ) (T : Trace) (e : Event) (w : Outcome) → IsQuiet e → Became After c T e (has_grown before now) w
+    → HasCause before now w
+became-cause before now T e w h b = subst (HasCause before now) (sym b.is) (has-cause before now T e b.tag h b.cause)
 
 -- ---- a call of the vault
 

@@ -3,13 +3,14 @@ use Rattle.std.proofs.Common.{◌≡◌, ◌<◌, ◌≤◌, ◌+◌, ℕ, Bool,
 use Rattle.std.proofs.lemmas.Bool.{ltb-true, lt-leb}
 use Rattle.vault.specs.Calls.{greatest_count, has_grown}
 use Rattle.vault.specs.Changes.{Contents}
+use Rattle.vault.specs.declared.vault.Vault.{Ghosts}
 use Rattle.office.specs.Events.{Trace}
 use Rattle.office.specs.Shown.{event_seen, outcome_seen, followed_by}
 use Rattle.office.specs.Outcomes.{HasCause}
 use Rattle.office.specs.Outcomes as outcomes
 use Rattle.office.specs.Stands.{vault_of}
 use Rattle.office.specs.Stopping.{IsAnswered, StopLeaves}
-use Rattle.office.specs.Runs.{Step, IsStep, AreSteps, followed, Follows, Enters, EntersSo, Ran, HaveCauses, AreAnswered, StopLeavesRun, one_if_failed, failures_in, FailuresAreCounted}
+use Rattle.office.specs.Runs.{Step, IsStep, AreSteps, followed, Follows, Enters, Ran, HaveCauses, AreAnswered, StopLeavesRun, one_if_failed, failures_in, FailuresAreCounted}
 use Rattle.office.specs.declared.event.Event.{Event}
 use Rattle.office.specs.declared.event.Outcome.{Outcome}
 use Rattle.office.specs.declared.office.Office.{Office}
@@ -29,12 +30,14 @@ steps_more H T [] (q ∷ ss) e s are is = absurd are
 steps_more H T (d ∷ es) [] e s are is = absurd are
 steps_more H T (d ∷ es) (q ∷ ss) e s are is = (are.0, steps_more H (followed_by T (event_seen d) q.outcome) es ss e s are.1 is)
 
-pub follows_more : {V : Type 0} (H : V → Contents → Type 0) (o o' : Office V) (es : List Event) (ss ss' : List Step) (e : Event) (T : Trace)
-    → Follows H es ss T o → Enters H e ss ss' (followed T es ss) o' → Follows H (es ++ e ∷ []) ss' T o'
-follows_more H o o' es ss ss' e T f n = record {
-  each = rw n.entered (steps_more H T es ss e n.step f.each n.is);
-  stands = rw (n.entered, followed_more H T es ss e n.step f.each) n.stands;
-}
+pub follows_more : {V : Type 0} (vault : Ghosts V) (o o' : Office V) (es : List Event) (ss ss' : List Step) (e : Event) (T : Trace)
+    → Follows vault.holds es ss T o → Enters vault e ss ss' o o' (followed T es ss) → Follows vault.holds (es ++ e ∷ []) ss' T o'
+follows_more vault o o' es ss ss' e T f n =
+    let is : IsStep vault.holds (followed T es ss) (event_seen e) n.step = record { office = o; stood = f.stands; outcome = n.done.outcome; octets = n.octets } in
+    record {
+      each = rw n.entered (steps_more vault.holds T es ss e n.step f.each is);
+      stands = rw (n.entered, followed_more vault.holds T es ss e n.step f.each) n.done.stands;
+    }
 
 -- ---- causes
 
@@ -67,33 +70,22 @@ stop_more H M T (d ∷ es) (q ∷ ss) e s are h = stop_next H M T d q es ss e s 
 
 -- ---- a run
 
-pub ran_more : {V : Type 0} (H : V → Contents → Type 0) (faults : V → ℕ) (IsUp : V → Type 0) (MayLeave : V → Contents → Type 0)
-    (first o o' : Office V) (es : List Event) (ss ss' : List Step) (e : Event) (T : Trace) → Ran H faults IsUp MayLeave es ss T first o
-    → EntersSo H faults IsUp MayLeave e ss ss' (followed T es ss) o o' → faults (vault_of o) ≤ faults (vault_of o') → Ran H faults IsUp MayLeave (es ++ e ∷ []) ss' T first o'
-ran_more H faults IsUp MayLeave first o o' es ss ss' e T r n le =
-    let s = n.enters.step in
-    let before = faults (vault_of first) in
-    let now = faults (vault_of o') in
-    let back : ss ++ s ∷ [] ≡ ss' = sym n.enters.entered in
+pub ran_more : {V : Type 0} (vault : Ghosts V) (first o o' : Office V) (es : List Event) (ss ss' : List Step) (e : Event) (T : Trace)
+    → Ran vault.holds vault.faults vault.is_up vault.may_leave es ss T first o → Enters vault e ss ss' o o' (followed T es ss) → vault.faults (vault_of o) ≤ vault.faults (vault_of o')
+    → Ran vault.holds vault.faults vault.is_up vault.may_leave (es ++ e ∷ []) ss' T first o'
+ran_more vault first o o' es ss ss' e T r n le =
+    let s = n.step in
+    let before = vault.faults (vault_of first) in
+    let now = vault.faults (vault_of o') in
+    let back : ss ++ s ∷ [] ≡ ss' = sym n.entered in
+    let follows = follows_more vault o o' es ss ss' e T r.follows n in
     record {
-      follows = follows_more H o o' es ss ss' e T r.follows n.enters;
-      admitted = steps_admitted H T (es ++ e ∷ []) ss' (follows_more H o o' es ss ss' e T r.follows n.enters).each;
-      causes = subst (HaveCauses before now) back (causes_more before (faults (vault_of o)) now ss s r.causes le n.cause);
-      up = λ up a. let all = answered_all ss s (subst AreAnswered n.enters.entered a) in n.up (r.up up all.0) all.1;
-      stop = λ up. subst (StopLeavesRun (MayLeave (vault_of o')) T (es ++ e ∷ [])) back (stop_more H (MayLeave (vault_of o')) T es ss e s r.follows.each (λ a. n.stop (r.up up a)));
+      follows = follows;
+      admitted = steps_admitted vault.holds T (es ++ e ∷ []) ss' follows.each;
+      causes = subst (HaveCauses before now) back (causes_more before (vault.faults (vault_of o)) now ss s r.causes le n.done.cause);
+      up = λ up a. let all = answered_all ss s (subst AreAnswered n.entered a) in n.done.up (r.up up all.0) all.1;
+      stop = λ up. subst (StopLeavesRun (vault.may_leave (vault_of o')) T (es ++ e ∷ [])) back (stop_more vault.holds (vault.may_leave (vault_of o')) T es ss e s r.follows.each (λ a. n.done.stop (r.up up a)));
     }
-
--- one event's step, by its outcome
-pub enters_so : {V : Type 0} (H : V → Contents → Type 0) (faults : V → ℕ) (IsUp : V → Type 0) (MayLeave : V → Contents → Type 0) (e : Event) (before after : List Step) (T : Trace)
-    (old new : Office V) (n : Enters H e before after T new) (o : Outcome) → n.step.outcome ≡ o → HasCause (faults (vault_of old)) (faults (vault_of new)) (outcome_seen o)
-    → (IsUp (vault_of old) → IsAnswered (outcome_seen o) → IsUp (vault_of new)) → (IsUp (vault_of old) → StopLeaves (MayLeave (vault_of new)) T (event_seen e) (outcome_seen o))
-    → EntersSo H faults IsUp MayLeave e before after T old new
-enters_so H faults IsUp MayLeave e before after T old new n o same cause up stop = record {
-  enters = n;
-  cause = subst (λ (w : Outcome). HasCause (faults (vault_of old)) (faults (vault_of new)) (outcome_seen w)) (sym same) cause;
-  up = subst (λ (w : Outcome). IsUp (vault_of old) → IsAnswered (outcome_seen w) → IsUp (vault_of new)) (sym same) up;
-  stop = subst (λ (w : Outcome). IsUp (vault_of old) → StopLeaves (MayLeave (vault_of new)) T (event_seen e) (outcome_seen w)) (sym same) stop;
-}
 
 -- ---- how many failed
 

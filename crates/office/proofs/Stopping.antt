@@ -108,18 +108,6 @@ pub put_mark : (there : Answer) (x : Bool) → mark_of (by_vault.put there (Ok x
 put_mark there true = refl
 put_mark there false = refl
 
--- an event that asks no store, or none before it is refused memory
-pub unasked_stops : {Holds MayLeave : Contents → Type 0} (T : Trace) (e : Event) (w : Outcome) → Keeps Holds T → Keeps Holds (given T e (mark_of w))
-    → ((c : Contents) → Holds c → (left : Contents) → MayLeave left → SaySame left c) → StopLeaves MayLeave T e w
-unasked_stops T e w before after settled =
-    stop_leaves T e w (λ left may. inl (settled_leaves T before settled left may)) (λ answered. settled_leaves (given T e (mark_of w)) after settled)
-
--- ---- an event that was read
-
-pub event_read : {A : Type 0} {MayLeave : Contents → Type 0} (T : Trace) (o : Outcome) (see : A → Event) {a b : A} → a ≡ b
-    → StopLeaves MayLeave T (see b) o → StopLeaves MayLeave T (see a) o
-event_read {A} {MayLeave} T o see e h = subst (λ (x : A). StopLeaves MayLeave T (see x) o) (sym e) h
-
 -- ---- a line
 
 -- a call that asked for a removal

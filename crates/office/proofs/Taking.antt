@@ -1,23 +1,20 @@
 -- A taking of what is lent: what is owed then, and what is kept.
-use Rattle.std.proofs.Common.{◌≡◌, ℕ, ◌<◌, ◌≤◌, Bool, true, false, List, [], ◌∷◌, drop, length, refl, sym, ◌∙◌, ap, subst, arith, true≢false, inl, length-drop}
+use Rattle.std.proofs.Common.{◌≡◌, ℕ, ◌<◌, ◌≤◌, Bool, true, false, List, [], ◌∷◌, drop, length, refl, sym, ◌∙◌, ap, subst, arith, true≢false, length-drop}
 use Rattle.std.proofs.lemmas.List.{length-take}
 use Rattle.vault.specs.Changes.{Contents}
 use Rattle.std.proofs.lemmas.Bool.Decides.{nat_tests}
 use Rattle.vault.specs.Calls.{has_grown}
 use Rattle.office.specs.History.{Failed, NoMemory}
-use Rattle.office.specs.Connections.{serving}
-use Rattle.office.specs.Events.{Trace, Took, given}
+use Rattle.office.specs.Connections.{serving, closing}
+use Rattle.office.specs.Events.{Trace}
 use Rattle.office.specs.Replying.{is_empty}
-use Rattle.office.specs.Trace.{act_of_part, gone_act, most_lent}
+use Rattle.office.specs.Trace.{history, is_left, act_of_part, gone_act, most_lent}
 use Rattle.office.specs.Output.{Output, nothing_owed, is_feeding, reads_text, lent_of, Owes}
 use Rattle.office.specs.Kept.{Kept}
-use Rattle.office.specs.Stopping.{IsAnswered, LeavesHeld, LeavesTrace, StopLeaves}
-use Rattle.office.specs.Stands.{Seen, Matches, Keeps, untaken_of}
-use Rattle.office.specs.Outcomes as outcome
+use Rattle.office.specs.Stands.{Seen, seen, Matches, untaken_of}
 use Rattle.office.proofs.Hearing.{Awaits, took}
 use Rattle.office.proofs.Owing.{owes_more, owes_within, some_owed, none_owed}
-use Rattle.office.proofs.Events.{part_took, awaits_took}
-use Rattle.office.proofs.Stopping.{stop_leaves, says_kept}
+use Rattle.office.proofs.Events.{part_took, awaits_took, all_over}
 
 -- ---- numbers of octets
 
@@ -71,11 +68,23 @@ lacking_ends false c = refl
 pub refused_ends : (serving : Bool) (c : ℕ) → serving ≡ true → act_of_part serving c Failed ≡ gone_act c
 refused_ends serving c e = rw e refl
 
--- what a stop leaves where only pages were read
-pub paged_stops : {Holds MayLeave : Contents → Type 0} (T : Trace) (c n : ℕ) (w : outcome.Outcome) (k : Keeps Holds T) → LeavesHeld MayLeave k.contents
-    → (IsAnswered w → LeavesTrace MayLeave (given T (Took c n) (outcome.mark_of w))) → StopLeaves MayLeave T (Took c n) w
-paged_stops T c n w k held answered = stop_leaves T (Took c n) w (λ left may. inl (says_kept left T k (held.says left may))) answered
-
 -- the count of faults grew in the second of two calls
 pub grown_behind : (a b c : ℕ) → a ≤ b → has_grown b c ≡ true → has_grown a c ≡ true
 grown_behind a b c h e = grind (arith, nat_tests)
+
+-- all is taken, and the connection stays open: its next line may act
+pub record TakesAll (c : Contents) (T : Trace) (x n now : ℕ) (k : Kept) : Type 0 where
+  pub over : is_left T.log (history T) x n ≡ false
+  pub open_yet : closing (history T) x ≡ false
+  pub ready : Awaits c (took (seen T x) n now) k k.pending
+
+pub takes_all : (c : Contents) (T : Trace) (x n now : ℕ) (k k1 : Kept) (m : Matches c (seen T x) k) → n ≤ length k.output.ready → k1 ≡ record k { output = k1.output; clock = now }
+    → Owes c k.session k1.output (drop n (untaken_of (seen T x))) → k1.output ≡ nothing_owed → k1.state.closing ≡ false → TakesAll c T x n now k1
+takes_all c T x n now k k1 m fits kept owes none still =
+    let s = seen T x in
+    let open_still : s.closing ≡ false = sym m.closing ∙ (sym (ap (λ (k : Kept). k.state.closing) kept) ∙ still) in
+    record {
+      over = all_over s n (took_all c s k n now m fits k1.output owes none);
+      open_yet = open_still;
+      ready = all_taken c s k n now m fits k1.output owes k1 kept none open_still;
+    }

@@ -47,3 +47,4 @@ pub mod Stopping
 pub mod Logins
 pub mod LongLine
 pub mod Accounts
+pub mod AfterEvent

@@ -3,6 +3,8 @@
 use Rattle.std.specs.Prelude.{◌≡◌, ◌<◌, ◌≤◌, ◌+◌, ℕ, false, List, [], ◌∷◌, ◌++◌, ⊤}
 use Rattle.vault.specs.Changes.{Contents}
 use Rattle.vault.specs.Calls.{greatest_count}
+use Rattle.vault.specs.declared.vault.Vault.{Ghosts}
+use Rattle.office.specs.AfterEvent.{StandsAfter}
 use Rattle.office.specs.Events.{Event, Trace}
 use Rattle.office.specs.Expected.{IsOutcome, may_show, octets_taken}
 use Rattle.office.specs.History as history
@@ -53,13 +55,13 @@ pub record Follows {V : Type 0} (Holds : V → Contents
   pub each : AreSteps Holds T events steps
   pub stands : StandsFor Holds o (followed T events steps)
 
--- one more event has its step, and the office then stands for the trace with it
-pub record Enters {V : Type 0} (Holds : V → Contents
-    → Type 0) (event : Given) (before after : List Step) (T : Trace) (o : Office V) : Type 0 where
+-- one more event has its step, and what is said of an event (`StandsAfter`) holds of it
+pub record Enters {V : Type 0} (vault : Ghosts V) (event : Given) (before after : List Step)
+    (old new : Office V) (T : Trace) : Type 0 where
   pub step : Step
   pub entered : after ≡ before ++ step ∷ []
-  pub is : IsStep Holds T (event_seen event) step
-  pub stands : StandsFor Holds o (followed_by T (event_seen event) step.outcome)
+  pub octets : step.octets ≡ octets_taken T (event_seen event) (mark_of (outcome_seen step.outcome))
+  pub done : StandsAfter vault old new (event_seen event) (outcome_seen step.outcome) T
 
 -- how many events were done before a run stopped
 abbrev pub done_before : RunFault → ℕ
@@ -129,14 +131,3 @@ pub record Ran {V : Type 0} (Holds : V → Contents → Type 0) (faults : V → 
   pub causes : HaveCauses (faults (vault_of old)) (faults (vault_of new)) steps
   pub up : IsUp (vault_of old) → AreAnswered steps → IsUp (vault_of new)
   pub stop : IsUp (vault_of old) → StopLeavesRun (MayLeave (vault_of new)) T events steps
-
--- one more event has its step, with its cause; and a stop leaves what the step's outcome tells
-pub record EntersSo {V : Type 0} (Holds : V → Contents → Type 0) (faults : V → ℕ) (IsUp : V
-    → Type 0) (MayLeave : V → Contents → Type 0)
-    (event : Given) (before after : List Step) (T : Trace) (old new : Office V) : Type 0 where
-  pub enters : Enters Holds event before after T new
-  pub cause : HasCause (faults (vault_of old)) (faults (vault_of new))
-      (outcome_seen enters.step.outcome)
-  pub up : IsUp (vault_of old) → IsAnswered (outcome_seen enters.step.outcome) → IsUp (vault_of new)
-  pub stop : IsUp (vault_of old) → StopLeaves (MayLeave (vault_of new)) T (event_seen event)
-      (outcome_seen enters.step.outcome)

@@ -1,16 +1,13 @@
 //! What an administrator asks for.
-ghost use Rattle.std.specs.Prelude.{◌≡◌, ◌≤◌, ◌⊎◌, true, length, map, IfOk};
+ghost use Rattle.std.specs.Prelude.{◌≡◌, ◌⊎◌, true, length, map, IfOk};
 ghost use Rattle.creds.specs.Names.{is_name};
 ghost use Rattle.vault.specs.Records.{is_sound_credential};
 ghost use Rattle.vault.specs.Calls.{seen_as};
 ghost use Rattle.office.specs.Events as event;
 ghost use Rattle.office.specs.Answers as asked;
-ghost use Rattle.office.specs.Shown.{outcome_seen, followed_by, command_seen, row_seen};
-ghost use Rattle.office.specs.Expected.{IsOutcome};
-ghost use Rattle.office.specs.Outcomes.{HasCause};
+ghost use Rattle.office.specs.Shown.{outcome_seen, command_seen, row_seen};
 ghost use Rattle.office.specs.Outcomes as outcomes;
-ghost use Rattle.office.specs.Stands.{OfEachTrace, StandsFor, lent_by, vault_of};
-ghost use Rattle.office.specs.Stopping.{StaysUpUnless, StopLeaves};
+ghost use Rattle.office.specs.AfterEvent.{AfterEvent};
 ghost use Rattle.office.specs.VaultAnswers as by_vault;
 
 use crate::deposits::refused;
@@ -157,68 +154,24 @@ fn clerk_dropped(answered: Result<(), VaultFault>) -> Outcome
 impl<V: Vault> Office<V> {
     /// Each maildrop, with the number of its messages and their octets.
     fn list_maildrops(&mut self) -> Outcome
-        ensures stands { OfEachTrace V.Vault self.old self.new (λ T.
-            StandsFor V.holds self.new (followed_by T (event.Admin asked.ListMaildrops) result)) }
-        ensures outcome { OfEachTrace V.Vault self.old self.new (λ T.
-            IsOutcome T (lent_by self.old) (event.Admin asked.ListMaildrops)
-            (outcome_seen result)) }
-        ensures cause { OfEachTrace V.Vault self.old self.new (λ T.
-            HasCause (V.faults (vault_of self.old)) (V.faults (vault_of self.new))
-            (outcome_seen result)) }
-        ensures counted { V.faults (vault_of self.old) ≤ V.faults (vault_of self.new) }
-        ensures clean { V.is_clean (vault_of self.new) → V.is_clean (vault_of self.old) }
-        ensures up { OfEachTrace V.Vault self.old self.new (λ T.
-            StaysUpUnless (V.is_up (vault_of self.old)) (V.is_up (vault_of self.new))
-            (outcome_seen result)) }
-        ensures stop { OfEachTrace V.Vault self.old self.new (λ T.
-            V.is_up (vault_of self.old) → StopLeaves (V.may_leave (vault_of self.new)) T
-            (event.Admin asked.ListMaildrops) (outcome_seen result)) }
+        ensures { AfterEvent V.Vault self.old self.new (event.Admin asked.ListMaildrops)
+            (outcome_seen result) }
     {
         listed(self.vault.maildrops())
     }
 
     /// A maildrop's messages.
     fn show_maildrop(&mut self, maildrop: &Name) -> Outcome
-        ensures stands { OfEachTrace V.Vault self.old self.new (λ T.
-            StandsFor V.holds self.new (followed_by T (event.Admin
-            (asked.ShowMaildrop maildrop.now)) result)) }
-        ensures outcome { OfEachTrace V.Vault self.old self.new (λ T.
-            IsOutcome T (lent_by self.old) (event.Admin (asked.ShowMaildrop maildrop.now))
-            (outcome_seen result)) }
-        ensures cause { OfEachTrace V.Vault self.old self.new (λ T.
-            HasCause (V.faults (vault_of self.old)) (V.faults (vault_of self.new))
-            (outcome_seen result)) }
-        ensures counted { V.faults (vault_of self.old) ≤ V.faults (vault_of self.new) }
-        ensures clean { V.is_clean (vault_of self.new) → V.is_clean (vault_of self.old) }
-        ensures up { OfEachTrace V.Vault self.old self.new (λ T.
-            StaysUpUnless (V.is_up (vault_of self.old)) (V.is_up (vault_of self.new))
-            (outcome_seen result)) }
-        ensures stop { OfEachTrace V.Vault self.old self.new (λ T.
-            V.is_up (vault_of self.old) → StopLeaves (V.may_leave (vault_of self.new)) T
-            (event.Admin (asked.ShowMaildrop maildrop.now)) (outcome_seen result)) }
+        ensures { AfterEvent V.Vault self.old self.new
+            (event.Admin (asked.ShowMaildrop maildrop.now)) (outcome_seen result) }
     {
         shown(self.alloc, self.vault.heads(maildrop))
     }
 
     /// Adds a maildrop.
     fn add_maildrop(&mut self, maildrop: &Name) -> Outcome
-        ensures stands { OfEachTrace V.Vault self.old self.new (λ T.
-            StandsFor V.holds self.new (followed_by T (event.Admin
-            (asked.AddMaildrop maildrop.now)) result)) }
-        ensures outcome { OfEachTrace V.Vault self.old self.new (λ T.
-            IsOutcome T (lent_by self.old) (event.Admin (asked.AddMaildrop maildrop.now))
-            (outcome_seen result)) }
-        ensures cause { OfEachTrace V.Vault self.old self.new (λ T.
-            HasCause (V.faults (vault_of self.old)) (V.faults (vault_of self.new))
-            (outcome_seen result)) }
-        ensures counted { V.faults (vault_of self.old) ≤ V.faults (vault_of self.new) }
-        ensures clean { V.is_clean (vault_of self.new) → V.is_clean (vault_of self.old) }
-        ensures up { OfEachTrace V.Vault self.old self.new (λ T.
-            StaysUpUnless (V.is_up (vault_of self.old)) (V.is_up (vault_of self.new))
-            (outcome_seen result)) }
-        ensures stop { OfEachTrace V.Vault self.old self.new (λ T.
-            V.is_up (vault_of self.old) → StopLeaves (V.may_leave (vault_of self.new)) T
-            (event.Admin (asked.AddMaildrop maildrop.now)) (outcome_seen result)) }
+        ensures { AfterEvent V.Vault self.old self.new
+            (event.Admin (asked.AddMaildrop maildrop.now)) (outcome_seen result) }
     {
         name_has_form(maildrop);
         added(self.vault.add_maildrop(maildrop))
@@ -226,23 +179,8 @@ impl<V: Vault> Office<V> {
 
     /// Drops an empty maildrop that no session holds.
     fn drop_maildrop(&mut self, maildrop: &Name) -> Outcome
-        ensures stands { OfEachTrace V.Vault self.old self.new (λ T.
-            StandsFor V.holds self.new (followed_by T (event.Admin
-            (asked.DropMaildrop maildrop.now)) result)) }
-        ensures outcome { OfEachTrace V.Vault self.old self.new (λ T.
-            IsOutcome T (lent_by self.old) (event.Admin (asked.DropMaildrop maildrop.now))
-            (outcome_seen result)) }
-        ensures cause { OfEachTrace V.Vault self.old self.new (λ T.
-            HasCause (V.faults (vault_of self.old)) (V.faults (vault_of self.new))
-            (outcome_seen result)) }
-        ensures counted { V.faults (vault_of self.old) ≤ V.faults (vault_of self.new) }
-        ensures clean { V.is_clean (vault_of self.new) → V.is_clean (vault_of self.old) }
-        ensures up { OfEachTrace V.Vault self.old self.new (λ T.
-            StaysUpUnless (V.is_up (vault_of self.old)) (V.is_up (vault_of self.new))
-            (outcome_seen result)) }
-        ensures stop { OfEachTrace V.Vault self.old self.new (λ T.
-            V.is_up (vault_of self.old) → StopLeaves (V.may_leave (vault_of self.new)) T
-            (event.Admin (asked.DropMaildrop maildrop.now)) (outcome_seen result)) }
+        ensures { AfterEvent V.Vault self.old self.new
+            (event.Admin (asked.DropMaildrop maildrop.now)) (outcome_seen result) }
     {
         if self.locks.contains_key(maildrop) {
             return Outcome::Answered(Answer::MaildropInUse);
@@ -252,46 +190,16 @@ impl<V: Vault> Office<V> {
 
     /// Which kind of credential a clerk has.
     fn show_clerk(&mut self, clerk: &Name) -> Outcome
-        ensures stands { OfEachTrace V.Vault self.old self.new (λ T.
-            StandsFor V.holds self.new (followed_by T (event.Admin
-            (asked.ShowClerk clerk.now)) result)) }
-        ensures outcome { OfEachTrace V.Vault self.old self.new (λ T.
-            IsOutcome T (lent_by self.old) (event.Admin (asked.ShowClerk clerk.now))
-            (outcome_seen result)) }
-        ensures cause { OfEachTrace V.Vault self.old self.new (λ T.
-            HasCause (V.faults (vault_of self.old)) (V.faults (vault_of self.new))
-            (outcome_seen result)) }
-        ensures counted { V.faults (vault_of self.old) ≤ V.faults (vault_of self.new) }
-        ensures clean { V.is_clean (vault_of self.new) → V.is_clean (vault_of self.old) }
-        ensures up { OfEachTrace V.Vault self.old self.new (λ T.
-            StaysUpUnless (V.is_up (vault_of self.old)) (V.is_up (vault_of self.new))
-            (outcome_seen result)) }
-        ensures stop { OfEachTrace V.Vault self.old self.new (λ T.
-            V.is_up (vault_of self.old) → StopLeaves (V.may_leave (vault_of self.new)) T
-            (event.Admin (asked.ShowClerk clerk.now)) (outcome_seen result)) }
+        ensures { AfterEvent V.Vault self.old self.new (event.Admin (asked.ShowClerk clerk.now))
+            (outcome_seen result) }
     {
         credential_told(self.vault.credential(clerk))
     }
 
     /// Puts a clerk's credential.
     fn put_clerk(&mut self, clerk: &Name, credential: &Credential) -> Outcome
-        ensures stands { OfEachTrace V.Vault self.old self.new (λ T.
-            StandsFor V.holds self.new (followed_by T (event.Admin
-            (asked.PutClerk clerk.now credential.now)) result)) }
-        ensures outcome { OfEachTrace V.Vault self.old self.new (λ T.
-            IsOutcome T (lent_by self.old) (event.Admin (asked.PutClerk clerk.now credential.now))
-            (outcome_seen result)) }
-        ensures cause { OfEachTrace V.Vault self.old self.new (λ T.
-            HasCause (V.faults (vault_of self.old)) (V.faults (vault_of self.new))
-            (outcome_seen result)) }
-        ensures counted { V.faults (vault_of self.old) ≤ V.faults (vault_of self.new) }
-        ensures clean { V.is_clean (vault_of self.new) → V.is_clean (vault_of self.old) }
-        ensures up { OfEachTrace V.Vault self.old self.new (λ T.
-            StaysUpUnless (V.is_up (vault_of self.old)) (V.is_up (vault_of self.new))
-            (outcome_seen result)) }
-        ensures stop { OfEachTrace V.Vault self.old self.new (λ T.
-            V.is_up (vault_of self.old) → StopLeaves (V.may_leave (vault_of self.new)) T
-            (event.Admin (asked.PutClerk clerk.now credential.now)) (outcome_seen result)) }
+        ensures { AfterEvent V.Vault self.old self.new
+            (event.Admin (asked.PutClerk clerk.now credential.now)) (outcome_seen result) }
     {
         name_has_form(clerk);
         credential_has_form(credential);
@@ -301,47 +209,17 @@ impl<V: Vault> Office<V> {
 
     /// Drops a clerk.
     fn drop_clerk(&mut self, clerk: &Name) -> Outcome
-        ensures stands { OfEachTrace V.Vault self.old self.new (λ T.
-            StandsFor V.holds self.new (followed_by T (event.Admin
-            (asked.DropClerk clerk.now)) result)) }
-        ensures outcome { OfEachTrace V.Vault self.old self.new (λ T.
-            IsOutcome T (lent_by self.old) (event.Admin (asked.DropClerk clerk.now))
-            (outcome_seen result)) }
-        ensures cause { OfEachTrace V.Vault self.old self.new (λ T.
-            HasCause (V.faults (vault_of self.old)) (V.faults (vault_of self.new))
-            (outcome_seen result)) }
-        ensures counted { V.faults (vault_of self.old) ≤ V.faults (vault_of self.new) }
-        ensures clean { V.is_clean (vault_of self.new) → V.is_clean (vault_of self.old) }
-        ensures up { OfEachTrace V.Vault self.old self.new (λ T.
-            StaysUpUnless (V.is_up (vault_of self.old)) (V.is_up (vault_of self.new))
-            (outcome_seen result)) }
-        ensures stop { OfEachTrace V.Vault self.old self.new (λ T.
-            V.is_up (vault_of self.old) → StopLeaves (V.may_leave (vault_of self.new)) T
-            (event.Admin (asked.DropClerk clerk.now)) (outcome_seen result)) }
+        ensures { AfterEvent V.Vault self.old self.new (event.Admin (asked.DropClerk clerk.now))
+            (outcome_seen result) }
     {
         clerk_dropped(self.vault.drop_clerk(clerk))
     }
 
     /// Whether the policy in force lets a clerk do this, and by which rule.
     fn explain(&mut self, clerk: &Name, maildrop: &Name, class: &Name, action: Action) -> Outcome
-        ensures stands { OfEachTrace V.Vault self.old self.new (λ T.
-            StandsFor V.holds self.new (followed_by T (event.Admin
-            (asked.Explain clerk.now maildrop.now class.now action)) result)) }
-        ensures outcome { OfEachTrace V.Vault self.old self.new (λ T.
-            IsOutcome T (lent_by self.old) (event.Admin
-            (asked.Explain clerk.now maildrop.now class.now action)) (outcome_seen result)) }
-        ensures cause { OfEachTrace V.Vault self.old self.new (λ T.
-            HasCause (V.faults (vault_of self.old)) (V.faults (vault_of self.new))
-            (outcome_seen result)) }
-        ensures counted { V.faults (vault_of self.old) ≤ V.faults (vault_of self.new) }
-        ensures clean { V.is_clean (vault_of self.new) → V.is_clean (vault_of self.old) }
-        ensures up { OfEachTrace V.Vault self.old self.new (λ T.
-            StaysUpUnless (V.is_up (vault_of self.old)) (V.is_up (vault_of self.new))
-            (outcome_seen result)) }
-        ensures stop { OfEachTrace V.Vault self.old self.new (λ T.
-            V.is_up (vault_of self.old) → StopLeaves (V.may_leave (vault_of self.new)) T
+        ensures { AfterEvent V.Vault self.old self.new
             (event.Admin (asked.Explain clerk.now maildrop.now class.now action))
-            (outcome_seen result)) }
+            (outcome_seen result) }
     {
         let decision = self.policy.decide(clerk, maildrop, class, action);
         Outcome::Answered(Answer::Explained(decision))
@@ -349,23 +227,8 @@ impl<V: Vault> Office<V> {
 
     /// Does an administrator's command, and answers it.
     pub(crate) fn administer(&mut self, command: &AdminCommand) -> Outcome
-        ensures stands { OfEachTrace V.Vault self.old self.new (λ T.
-            StandsFor V.holds self.new (followed_by T (event.Admin
-            (command_seen command.now)) result)) }
-        ensures outcome { OfEachTrace V.Vault self.old self.new (λ T.
-            IsOutcome T (lent_by self.old) (event.Admin (command_seen command.now))
-            (outcome_seen result)) }
-        ensures cause { OfEachTrace V.Vault self.old self.new (λ T.
-            HasCause (V.faults (vault_of self.old)) (V.faults (vault_of self.new))
-            (outcome_seen result)) }
-        ensures counted { V.faults (vault_of self.old) ≤ V.faults (vault_of self.new) }
-        ensures clean { V.is_clean (vault_of self.new) → V.is_clean (vault_of self.old) }
-        ensures up { OfEachTrace V.Vault self.old self.new (λ T.
-            StaysUpUnless (V.is_up (vault_of self.old)) (V.is_up (vault_of self.new))
-            (outcome_seen result)) }
-        ensures stop { OfEachTrace V.Vault self.old self.new (λ T.
-            V.is_up (vault_of self.old) → StopLeaves (V.may_leave (vault_of self.new)) T
-            (event.Admin (command_seen command.now)) (outcome_seen result)) }
+        ensures { AfterEvent V.Vault self.old self.new (event.Admin (command_seen command.now))
+            (outcome_seen result) }
     {
         match command {
             AdminCommand::ListMaildrops => self.list_maildrops(),

@@ -1,12 +1,9 @@
 //! Messages that are put into maildrops.
-ghost use Rattle.std.specs.Prelude.{◌≡◌, ◌≤◌, true};
+ghost use Rattle.std.specs.Prelude.{◌≡◌, true};
 ghost use Rattle.creds.specs.Names.{is_name, is_deposit_id};
 ghost use Rattle.office.specs.Events as event;
-ghost use Rattle.office.specs.Shown.{outcome_seen, followed_by};
-ghost use Rattle.office.specs.Expected.{IsOutcome};
-ghost use Rattle.office.specs.Outcomes.{HasCause};
-ghost use Rattle.office.specs.Stands.{OfEachTrace, StandsFor, lent_by, vault_of};
-ghost use Rattle.office.specs.Stopping.{StaysUpUnless, StopLeaves};
+ghost use Rattle.office.specs.Shown.{outcome_seen};
+ghost use Rattle.office.specs.AfterEvent.{AfterEvent};
 ghost use Rattle.office.specs.VaultAnswers.{refused as refused_of, not_kept as not_kept_of};
 ghost use Rattle.office.specs.VaultAnswers.{deposited as deposited_of};
 
@@ -70,23 +67,8 @@ impl<V: Vault> Office<V> {
         id: &DepositId,
         text: &[u8],
     ) -> Outcome
-        ensures stands { OfEachTrace V.Vault self.old self.new (λ T.
-            StandsFor V.holds self.new (followed_by T
-            (event.Deposit maildrop.now class.now id.now text.now) result)) }
-        ensures outcome { OfEachTrace V.Vault self.old self.new (λ T.
-            IsOutcome T (lent_by self.old) (event.Deposit maildrop.now class.now id.now text.now)
-            (outcome_seen result)) }
-        ensures cause { OfEachTrace V.Vault self.old self.new (λ T.
-            HasCause (V.faults (vault_of self.old)) (V.faults (vault_of self.new))
-            (outcome_seen result)) }
-        ensures counted { V.faults (vault_of self.old) ≤ V.faults (vault_of self.new) }
-        ensures clean { V.is_clean (vault_of self.new) → V.is_clean (vault_of self.old) }
-        ensures up { OfEachTrace V.Vault self.old self.new (λ T.
-            StaysUpUnless (V.is_up (vault_of self.old)) (V.is_up (vault_of self.new))
-            (outcome_seen result)) }
-        ensures stop { OfEachTrace V.Vault self.old self.new (λ T.
-            V.is_up (vault_of self.old) → StopLeaves (V.may_leave (vault_of self.new)) T
-            (event.Deposit maildrop.now class.now id.now text.now) (outcome_seen result)) }
+        ensures { AfterEvent V.Vault self.old self.new
+            (event.Deposit maildrop.now class.now id.now text.now) (outcome_seen result) }
     {
         have_form(maildrop, class, id);
         match canon(self.alloc, text) {

@@ -16,6 +16,7 @@ ghost use Rattle.office.specs.Stands.{OfEachTrace, StandsFor, Keeps, lent_by, va
 ghost use Rattle.office.specs.Taken.{IsAdmitted, AreAdmitted, IsSentExactly};
 ghost use Rattle.office.specs.Input.{input_kept, most_input};
 ghost use Rattle.office.specs.Stopping.{LeavesHeld, StaysUpUnless, StopLeaves};
+ghost use Rattle.office.specs.AfterEvent.{AfterEvent};
 ghost use Rattle.std.specs.Ordering.{nat_cmp};
 ghost use Rattle.std.specs.BTreeMap.{Updates};
 ghost use Rattle.office.specs.Locks.{Released};
@@ -23,7 +24,7 @@ ghost use Rattle.office.specs.Buffered.{output_kept};
 ghost use Rattle.office.specs.Output.{most_output};
 ghost use Rattle.office.specs.Answered.{shown_of};
 ghost use Rattle.office.specs.Accounts.{IsAccount};
-ghost use Rattle.office.specs.Runs.{Step as Shown, followed, Follows, Enters, EntersSo, Ran};
+ghost use Rattle.office.specs.Runs.{Step as Shown, followed, Follows, Enters, Ran};
 ghost use Rattle.office.specs.Runs.{HaveCauses, HaveMemory, AreAnswered, StopLeavesRun};
 ghost use Rattle.office.specs.Runs.{done_before};
 
@@ -165,21 +166,7 @@ impl<V: Vault> Office<V> {
     }
 
     fn connect(&mut self) -> Outcome
-        ensures stands { OfEachTrace V.Vault self.old self.new (λ T.
-            StandsFor V.holds self.new (followed_by T event.Connect result)) }
-        ensures outcome { OfEachTrace V.Vault self.old self.new (λ T.
-            IsOutcome T (lent_by self.old) event.Connect (outcome_seen result)) }
-        ensures cause { OfEachTrace V.Vault self.old self.new (λ T.
-            HasCause (V.faults (vault_of self.old)) (V.faults (vault_of self.new))
-            (outcome_seen result)) }
-        ensures counted { V.faults (vault_of self.old) ≤ V.faults (vault_of self.new) }
-        ensures clean { V.is_clean (vault_of self.new) → V.is_clean (vault_of self.old) }
-        ensures up { OfEachTrace V.Vault self.old self.new (λ T.
-            StaysUpUnless (V.is_up (vault_of self.old)) (V.is_up (vault_of self.new))
-            (outcome_seen result)) }
-        ensures stop { OfEachTrace V.Vault self.old self.new (λ T.
-            V.is_up (vault_of self.old) → StopLeaves (V.may_leave
-            (vault_of self.new)) T event.Connect (outcome_seen result)) }
+        ensures after { AfterEvent V.Vault self.old self.new event.Connect (outcome_seen result) }
         ensures unasked { vault_of self.new ≡ vault_of self.old }
     {
         if self.is_full() {
@@ -204,21 +191,8 @@ impl<V: Vault> Office<V> {
     }
 
     fn bytes(&mut self, c: u64, piece: &[u8], account: &mut Account) -> Outcome
-        ensures stands { OfEachTrace V.Vault self.old self.new (λ T.
-            StandsFor V.holds self.new (followed_by T (event.Bytes c piece.now) result)) }
-        ensures outcome { OfEachTrace V.Vault self.old self.new (λ T.
-            IsOutcome T (lent_by self.old) (event.Bytes c piece.now) (outcome_seen result)) }
-        ensures cause { OfEachTrace V.Vault self.old self.new (λ T.
-            HasCause (V.faults (vault_of self.old)) (V.faults (vault_of self.new))
-            (outcome_seen result)) }
-        ensures counted { V.faults (vault_of self.old) ≤ V.faults (vault_of self.new) }
-        ensures clean { V.is_clean (vault_of self.new) → V.is_clean (vault_of self.old) }
-        ensures up { OfEachTrace V.Vault self.old self.new (λ T.
-            StaysUpUnless (V.is_up (vault_of self.old)) (V.is_up (vault_of self.new))
-            (outcome_seen result)) }
-        ensures stop { OfEachTrace V.Vault self.old self.new (λ T.
-            V.is_up (vault_of self.old) → StopLeaves (V.may_leave (vault_of self.new)) T
-            (event.Bytes c piece.now) (outcome_seen result)) }
+        ensures after { AfterEvent V.Vault self.old self.new (event.Bytes c piece.now)
+            (outcome_seen result) }
         ensures unasked { (T : Trace) → StandsFor V.holds self.old T
             → V.is_clean (vault_of self.old) → may_show T (event.Bytes c piece.now) Failed ≡ false
             → vault_of self.new ≡ vault_of self.old }
@@ -255,21 +229,8 @@ impl<V: Vault> Office<V> {
     }
 
     fn took(&mut self, c: u64, octets: usize, account: &mut Account) -> Outcome
-        ensures stands { OfEachTrace V.Vault self.old self.new (λ T.
-            StandsFor V.holds self.new (followed_by T (event.Took c octets) result)) }
-        ensures outcome { OfEachTrace V.Vault self.old self.new (λ T.
-            IsOutcome T (lent_by self.old) (event.Took c octets) (outcome_seen result)) }
-        ensures cause { OfEachTrace V.Vault self.old self.new (λ T.
-            HasCause (V.faults (vault_of self.old)) (V.faults (vault_of self.new))
-            (outcome_seen result)) }
-        ensures counted { V.faults (vault_of self.old) ≤ V.faults (vault_of self.new) }
-        ensures clean { V.is_clean (vault_of self.new) → V.is_clean (vault_of self.old) }
-        ensures up { OfEachTrace V.Vault self.old self.new (λ T.
-            StaysUpUnless (V.is_up (vault_of self.old)) (V.is_up (vault_of self.new))
-            (outcome_seen result)) }
-        ensures stop { OfEachTrace V.Vault self.old self.new (λ T.
-            V.is_up (vault_of self.old) → StopLeaves (V.may_leave (vault_of self.new)) T
-            (event.Took c octets) (outcome_seen result)) }
+        ensures after { AfterEvent V.Vault self.old self.new (event.Took c octets)
+            (outcome_seen result) }
         ensures unasked { (T : Trace) → StandsFor V.holds self.old T
             → V.is_clean (vault_of self.old) → may_show T (event.Took c octets) Failed ≡ false
             → vault_of self.new ≡ vault_of self.old }
@@ -319,21 +280,7 @@ impl<V: Vault> Office<V> {
     }
 
     fn gone(&mut self, c: u64) -> Outcome
-        ensures stands { OfEachTrace V.Vault self.old self.new (λ T.
-            StandsFor V.holds self.new (followed_by T (event.Gone c) result)) }
-        ensures outcome { OfEachTrace V.Vault self.old self.new (λ T.
-            IsOutcome T (lent_by self.old) (event.Gone c) (outcome_seen result)) }
-        ensures cause { OfEachTrace V.Vault self.old self.new (λ T.
-            HasCause (V.faults (vault_of self.old)) (V.faults (vault_of self.new))
-            (outcome_seen result)) }
-        ensures counted { V.faults (vault_of self.old) ≤ V.faults (vault_of self.new) }
-        ensures clean { V.is_clean (vault_of self.new) → V.is_clean (vault_of self.old) }
-        ensures up { OfEachTrace V.Vault self.old self.new (λ T.
-            StaysUpUnless (V.is_up (vault_of self.old)) (V.is_up (vault_of self.new))
-            (outcome_seen result)) }
-        ensures stop { OfEachTrace V.Vault self.old self.new (λ T.
-            V.is_up (vault_of self.old) → StopLeaves (V.may_leave (vault_of self.new)) T
-            (event.Gone c) (outcome_seen result)) }
+        ensures after { AfterEvent V.Vault self.old self.new (event.Gone c) (outcome_seen result) }
         ensures unasked { vault_of self.new ≡ vault_of self.old }
         ensures done { (result ≡ Outcome.Done) ⊎ (result
             ≡ Outcome.Ignored Reason.NoSuchConnection) }
@@ -344,6 +291,32 @@ impl<V: Vault> Office<V> {
                 release(&mut self.locks, connection.maildrop());
                 Outcome::Done
             }
+        }
+    }
+
+    /// Does one event. What it judged becomes the account, which tells nothing before.
+    fn handle(&mut self, event: Event<'_>, account: &mut Account) -> Outcome
+        ensures after { AfterEvent V.Vault self.old self.new (event_seen event.entry)
+            (outcome_seen result) }
+        ensures unasked { asks_no_store (event_seen event.entry) ≡ true
+            → vault_of self.new ≡ vault_of self.old }
+        ensures unasked_line { (T : Trace) → StandsFor V.holds self.old T
+            → V.is_clean (vault_of self.old) → may_show T (event_seen event.entry) Failed ≡ false
+            → vault_of self.new ≡ vault_of self.old }
+        ensures succeeds { Succeeds (event_seen event.entry) (outcome_seen result) }
+        ensures account { account.old ≡ Account.Nothing
+            → OfEachTrace V.Vault self.old self.new (λ T. IsAccount T (event_seen event.entry)
+            (outcome_seen result) account.new) }
+    {
+        match event {
+            Event::Connect => self.connect(),
+            Event::Bytes(c, piece) => self.bytes(c, piece, account),
+            Event::Took(c, octets) => self.took(c, octets, account),
+            Event::Gone(c) => self.gone(c),
+            Event::Tick(now) => self.tick(now),
+            Event::Deposit(maildrop, class, id, text) => self.deposit(maildrop, class, id, text),
+            Event::Admin(command) => self.administer(command),
+            Event::Restart(boot) => self.restart(boot),
         }
     }
 
@@ -431,16 +404,7 @@ impl<V: Vault> Office<V> {
             (outcome_seen result) account.new) }
     {
         *account = Account::Nothing;
-        match event {
-            Event::Connect => self.connect(),
-            Event::Bytes(c, piece) => self.bytes(c, piece, account),
-            Event::Took(c, octets) => self.took(c, octets, account),
-            Event::Gone(c) => self.gone(c),
-            Event::Tick(now) => self.tick(now),
-            Event::Deposit(maildrop, class, id, text) => self.deposit(maildrop, class, id, text),
-            Event::Admin(command) => self.administer(command),
-            Event::Restart(boot) => self.restart(boot),
-        }
+        self.handle(event, account)
     }
 
     /// Does events in order. The transcript has a step for each: its outcome, and the octets that
@@ -489,10 +453,7 @@ impl<V: Vault> Office<V> {
     /// Does one event and enters its step into the transcript; at want of memory neither.
     fn enter(&mut self, event: Event<'_>, steps: &mut Vec<Step>) -> Result<(), AllocError>
         ensures ok { OnOk result (OfEachTrace V.Vault self.old self.new (λ T.
-            Enters V.holds event.entry steps.old.items steps.new.items T self.new)) }
-        ensures ok_so { OnOk result (OfEachTrace V.Vault self.old self.new (λ T.
-            EntersSo V.holds V.faults V.is_up V.may_leave event.entry steps.old.items
-            steps.new.items T self.old self.new)) }
+            Enters V.Vault event.entry steps.old.items steps.new.items self.old self.new T)) }
         ensures err { OnErr result (self.new ≡ self.old) }
         ensures err_steps { OnErr result (steps.new.items ≡ steps.old.items) }
         ensures counted { V.faults (vault_of self.old) ≤ V.faults (vault_of self.new) }

@@ -1,15 +1,13 @@
 //! What an administrator asks about sessions.
-ghost use Rattle.std.specs.Prelude.{◌≡◌, ◌≤◌, ◌∷◌, ◌++◌, [], map, IfOk, OnOk};
+ghost use Rattle.std.specs.Prelude.{◌≡◌, ◌∷◌, ◌++◌, [], map, IfOk, OnOk};
 ghost use Rattle.std.specs.List.{filter_map};
 ghost use Rattle.std.specs.Ordering.{nat_cmp};
 ghost use Rattle.std.specs.BTreeMap.{get, IsOrdered};
 ghost use Rattle.office.specs.Events as event;
 ghost use Rattle.office.specs.Answers as asked;
-ghost use Rattle.office.specs.Shown.{outcome_seen, followed_by, session_seen};
-ghost use Rattle.office.specs.Expected.{IsOutcome};
-ghost use Rattle.office.specs.Outcomes.{HasCause};
-ghost use Rattle.office.specs.Stands.{OfEachTrace, StandsFor, lent_by, vault_of};
-ghost use Rattle.office.specs.Stopping.{StaysUpUnless, StopLeaves};
+ghost use Rattle.office.specs.Shown.{outcome_seen, session_seen};
+ghost use Rattle.office.specs.Stands.{vault_of};
+ghost use Rattle.office.specs.AfterEvent.{AfterEvent};
 ghost use Rattle.office.specs.InSession.{name_at, kept_row};
 
 use crate::connection::Connection;
@@ -64,21 +62,8 @@ impl<V: Vault> Office<V> {
 
     /// The sessions, by their connections' numbers.
     pub(crate) fn list_sessions(&mut self) -> Outcome
-        ensures stands { OfEachTrace V.Vault self.old self.new (λ T.
-            StandsFor V.holds self.new (followed_by T (event.Admin asked.ListSessions) result)) }
-        ensures outcome { OfEachTrace V.Vault self.old self.new (λ T.
-            IsOutcome T (lent_by self.old) (event.Admin asked.ListSessions) (outcome_seen result)) }
-        ensures cause { OfEachTrace V.Vault self.old self.new (λ T.
-            HasCause (V.faults (vault_of self.old)) (V.faults (vault_of self.new))
-            (outcome_seen result)) }
-        ensures counted { V.faults (vault_of self.old) ≤ V.faults (vault_of self.new) }
-        ensures clean { V.is_clean (vault_of self.new) → V.is_clean (vault_of self.old) }
-        ensures up { OfEachTrace V.Vault self.old self.new (λ T.
-            StaysUpUnless (V.is_up (vault_of self.old)) (V.is_up (vault_of self.new))
-            (outcome_seen result)) }
-        ensures stop { OfEachTrace V.Vault self.old self.new (λ T.
-            V.is_up (vault_of self.old) → StopLeaves (V.may_leave (vault_of self.new)) T
-            (event.Admin asked.ListSessions) (outcome_seen result)) }
+        ensures after { AfterEvent V.Vault self.old self.new (event.Admin asked.ListSessions)
+            (outcome_seen result) }
         ensures unasked { vault_of self.new ≡ vault_of self.old }
     {
         match sessions_of(self.alloc, &self.connections) {
@@ -90,22 +75,8 @@ impl<V: Vault> Office<V> {
     /// Ends a connection's session and the connection, with nothing removed, and lets its maildrop
     /// go.
     pub(crate) fn end_session(&mut self, c: u64) -> Outcome
-        ensures stands { OfEachTrace V.Vault self.old self.new (λ T.
-            StandsFor V.holds self.new (followed_by T (event.Admin (asked.EndSession c)) result)) }
-        ensures outcome { OfEachTrace V.Vault self.old self.new (λ T.
-            IsOutcome T (lent_by self.old) (event.Admin (asked.EndSession c))
-            (outcome_seen result)) }
-        ensures cause { OfEachTrace V.Vault self.old self.new (λ T.
-            HasCause (V.faults (vault_of self.old)) (V.faults (vault_of self.new))
-            (outcome_seen result)) }
-        ensures counted { V.faults (vault_of self.old) ≤ V.faults (vault_of self.new) }
-        ensures clean { V.is_clean (vault_of self.new) → V.is_clean (vault_of self.old) }
-        ensures up { OfEachTrace V.Vault self.old self.new (λ T.
-            StaysUpUnless (V.is_up (vault_of self.old)) (V.is_up (vault_of self.new))
-            (outcome_seen result)) }
-        ensures stop { OfEachTrace V.Vault self.old self.new (λ T.
-            V.is_up (vault_of self.old) → StopLeaves (V.may_leave (vault_of self.new)) T
-            (event.Admin (asked.EndSession c)) (outcome_seen result)) }
+        ensures after { AfterEvent V.Vault self.old self.new (event.Admin (asked.EndSession c))
+            (outcome_seen result) }
         ensures unasked { vault_of self.new ≡ vault_of self.old }
     {
         match self.login_at(c) {

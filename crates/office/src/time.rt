@@ -1,15 +1,13 @@
 //! The present moment, and restarts.
-ghost use Rattle.std.specs.Prelude.{◌≡◌, ◌≤◌, ℕ, List};
+ghost use Rattle.std.specs.Prelude.{◌≡◌, ℕ, List};
 ghost use Rattle.std.specs.Ordering.{nat_cmp};
 ghost use Rattle.std.specs.BTreeMap.{get};
 ghost use Rattle.office.specs.Answered.{name_cmp};
 ghost use Rattle.office.specs.Idle.{unless_idle, lock_of_kept};
 ghost use Rattle.office.specs.Events as event;
-ghost use Rattle.office.specs.Shown.{outcome_seen, followed_by};
-ghost use Rattle.office.specs.Expected.{IsOutcome};
-ghost use Rattle.office.specs.Outcomes.{HasCause};
-ghost use Rattle.office.specs.Stands.{OfEachTrace, StandsFor, lent_by, vault_of};
-ghost use Rattle.office.specs.Stopping.{StaysUpUnless, StopLeaves};
+ghost use Rattle.office.specs.Shown.{outcome_seen};
+ghost use Rattle.office.specs.Stands.{vault_of};
+ghost use Rattle.office.specs.AfterEvent.{AfterEvent};
 
 use crate::connection::Connection;
 use crate::locks::Locks;
@@ -37,21 +35,8 @@ impl<V: Vault> Office<V> {
     /// Sets the moment, and ends each connection that has done nothing for the idle seconds. It
     /// takes no memory.
     pub(crate) fn tick(&mut self, now: u64) -> Outcome
-        ensures stands { OfEachTrace V.Vault self.old self.new (λ T.
-            StandsFor V.holds self.new (followed_by T (event.Tick now) result)) }
-        ensures outcome { OfEachTrace V.Vault self.old self.new (λ T.
-            IsOutcome T (lent_by self.old) (event.Tick now) (outcome_seen result)) }
-        ensures cause { OfEachTrace V.Vault self.old self.new (λ T.
-            HasCause (V.faults (vault_of self.old)) (V.faults (vault_of self.new))
-            (outcome_seen result)) }
-        ensures counted { V.faults (vault_of self.old) ≤ V.faults (vault_of self.new) }
-        ensures clean { V.is_clean (vault_of self.new) → V.is_clean (vault_of self.old) }
-        ensures up { OfEachTrace V.Vault self.old self.new (λ T.
-            StaysUpUnless (V.is_up (vault_of self.old)) (V.is_up (vault_of self.new))
-            (outcome_seen result)) }
-        ensures stop { OfEachTrace V.Vault self.old self.new (λ T.
-            V.is_up (vault_of self.old) → StopLeaves (V.may_leave (vault_of self.new)) T
-            (event.Tick now) (outcome_seen result)) }
+        ensures after { AfterEvent V.Vault self.old self.new (event.Tick now)
+            (outcome_seen result) }
         ensures unasked { vault_of self.new ≡ vault_of self.old }
         ensures done { result ≡ Outcome.Done }
     {
@@ -64,21 +49,8 @@ impl<V: Vault> Office<V> {
     /// Ends every connection, and counts connections from 1 again, under a new boot number. It
     /// takes no memory.
     pub(crate) fn restart(&mut self, boot: u64) -> Outcome
-        ensures stands { OfEachTrace V.Vault self.old self.new (λ T.
-            StandsFor V.holds self.new (followed_by T (event.Restart boot) result)) }
-        ensures outcome { OfEachTrace V.Vault self.old self.new (λ T.
-            IsOutcome T (lent_by self.old) (event.Restart boot) (outcome_seen result)) }
-        ensures cause { OfEachTrace V.Vault self.old self.new (λ T.
-            HasCause (V.faults (vault_of self.old)) (V.faults (vault_of self.new))
-            (outcome_seen result)) }
-        ensures counted { V.faults (vault_of self.old) ≤ V.faults (vault_of self.new) }
-        ensures clean { V.is_clean (vault_of self.new) → V.is_clean (vault_of self.old) }
-        ensures up { OfEachTrace V.Vault self.old self.new (λ T.
-            StaysUpUnless (V.is_up (vault_of self.old)) (V.is_up (vault_of self.new))
-            (outcome_seen result)) }
-        ensures stop { OfEachTrace V.Vault self.old self.new (λ T.
-            V.is_up (vault_of self.old) → StopLeaves (V.may_leave (vault_of self.new)) T
-            (event.Restart boot) (outcome_seen result)) }
+        ensures after { AfterEvent V.Vault self.old self.new (event.Restart boot)
+            (outcome_seen result) }
         ensures unasked { vault_of self.new ≡ vault_of self.old }
         ensures done { result ≡ Outcome.Done }
     {

@@ -1,28 +1,21 @@
-use Rattle.std.proofs.Common.{◌≡◌, ◌∙◌, ap, false, refl}
+use Rattle.std.proofs.Common.{◌≡◌, ◌∙◌, ap}
 use Rattle.policy.specs.Policy.{Policy, decide}
 use Rattle.office.specs.Answers.{Explain}
+use Rattle.office.specs.Answers as answer
 use Rattle.office.specs.Events.{Admin}
 use Rattle.office.specs.History.{in_force}
 use Rattle.office.specs.Trace.{history}
-use Rattle.office.specs.Stands.{lent_by}
-use Rattle.office.proofs.Quiet.{became-stands, became-outcome}
+use Rattle.office.proofs.AfterEvents.{answered_after}
 use Rattle.office.proofs.VaultCalls.{explained}
-use Rattle.office.proofs.Stopping.{unasked_stops}
-use Rattle.office.specs.Outcomes as outcome
-use Rattle.office.specs.Answers as answer
 use Rattle.office.proofs.office.Office.explain.Goals as goal
 
-pub returns-clause-stands : goal.returns-clause-stands
-returns-clause-stands g c T st clean =
-    became-stands _ c.args.self.now _ T (Admin (Explain c.args.clerk.now c.args.maildrop.now c.args.class.now c.args.action)) _ _ tt st
-    (explained T st.keeps false c.args.clerk.now c.args.maildrop.now c.args.class.now c.args.action)
-    refl refl refl refl refl (λ q. refl) (λ d. refl)
-
-pub returns-clause-outcome : goal.returns-clause-outcome
-returns-clause-outcome g c T st clean =
-    let e : c.decide-decision.result ≡ decide (in_force T.base (history T)) c.args.clerk.now c.args.maildrop.now c.args.class.now c.args.action =
-    c.decide-decision.ensures ∙ ap (λ (p : Policy). decide p c.args.clerk.now c.args.maildrop.now c.args.class.now c.args.action) st.policy in
-    rw e (became-outcome T (Admin (Explain c.args.clerk.now c.args.maildrop.now c.args.class.now c.args.action)) _ _ tt (explained T st.keeps false c.args.clerk.now c.args.maildrop.now c.args.class.now c.args.action) (lent_by c.args.self.now))
-
-pub returns-clause-stop : goal.returns-clause-stop
-returns-clause-stop g c T st clean up = unasked_stops T (Admin (Explain c.args.clerk.now c.args.maildrop.now c.args.class.now c.args.action)) (outcome.Answered (answer.Explained c.decide-decision.result)) st.keeps (returns-clause-stands g c T st clean).keeps (λ d. g.met.V.Vault.settled _ d clean up)
+pub returns : goal.returns
+returns g c =
+    let clerk = c.args.clerk.now in
+    let d = c.args.maildrop.now in
+    let class = c.args.class.now in
+    answered_after g.V.Vault c.args.self.now (Admin (Explain clerk d class c.args.action)) _ tt (g.met.V.Vault.settled _)
+    (λ T st.
+    let e : c.decide-decision.result ≡ decide (in_force T.base (history T)) clerk d class c.args.action =
+    c.decide-decision.ensures ∙ ap (λ (p : Policy). decide p clerk d class c.args.action) st.policy in
+    rw e (explained T st.keeps _ clerk d class c.args.action))

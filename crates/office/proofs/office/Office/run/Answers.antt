@@ -33,9 +33,9 @@ loop-done-preserved g c =
       ran = λ T st clean.
           let before = c.loop-done.invariant.ran T st (c.enter.ensures.clean clean) in
           rw (take_more es i event c.loop-done-test.true)
-          (ran_more g.V.Vault.holds g.V.Vault.faults g.V.Vault.is_up g.V.Vault.may_leave c.args.self.now c.loop-done.self c.enter.new.self (take i es) ss c.enter.new.steps.items
+          (ran_more g.V.Vault c.args.self.now c.loop-done.self c.enter.new.self (take i es) ss c.enter.new.steps.items
           (get_or es i event) T before
-          (rw (sym c.index-events-done.is) (c.in-Ok.ensures.ok_so (followed T (take i es) ss) before.follows.stands clean)) c.enter.ensures.counted);
+          (rw (sym c.index-events-done.is) (c.in-Ok.ensures.ok (followed T (take i es) ss) before.follows.stands clean)) c.enter.ensures.counted);
       counted = omega (arith, c.loop-done.invariant.counted, c.enter.ensures.counted);
       clean = λ clean. c.loop-done.invariant.clean (c.enter.ensures.clean clean);
     }

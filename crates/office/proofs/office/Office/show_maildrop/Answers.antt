@@ -1,34 +1,19 @@
-use Rattle.std.proofs.Common.{false, refl, ⊎_elim, rules}
+use Rattle.std.proofs.Common.{refl, ⊎_elim}
+use Rattle.vault.specs.Calls.{seen_as}
 use Rattle.office.specs.Answers.{ShowMaildrop}
 use Rattle.office.specs.Events.{Admin}
-use Rattle.office.specs.Stands.{lent_by}
-use Rattle.office.proofs.Quiet.{became-stands, became-outcome, became-cause}
+use Rattle.office.specs.VaultAnswers as by_vault
+use Rattle.office.proofs.AfterEvents.{looked_after}
+use Rattle.office.proofs.Stopping.{own}
 use Rattle.office.proofs.VaultCalls.{maildrop_shown, maildrop_show_lacked, store_seen}
-use Rattle.office.proofs.Stopping.{stop_leaves, before_left, settled_leaves}
 use Rattle.office.proofs.office.Office.show_maildrop.Goals as goal
 
-pub returns-clause-stands : goal.returns-clause-stands
-returns-clause-stands g c T st clean = ⊎_elim
-    (λ e. rw e (became-stands _ c.args.self.now _ T (Admin (ShowMaildrop c.args.maildrop.now)) _ _ tt st (maildrop_shown _ T st.keeps _ c.args.maildrop.now _ (c.heads.ensures.done st.keeps.contents st.keeps.held clean) (λ x. c.heads.ensures.looks.counted.cause (store_seen _ _ x))) refl refl refl refl refl (λ q. refl) (λ d. refl)))
-    (λ e. rw e (became-stands _ c.args.self.now _ T (Admin (ShowMaildrop c.args.maildrop.now)) _ _ tt st (maildrop_show_lacked _ T st.keeps false c.args.maildrop.now _ (c.heads.ensures.done st.keeps.contents st.keeps.held clean)) refl refl refl refl refl (λ q. refl) (λ d. refl)))
+pub returns : goal.returns
+returns g c =
+    let d = c.args.maildrop.now in
+    ⊎_elim
+    (λ e. rw e (looked_after g.V.Vault c.args.self.now _ (Admin (ShowMaildrop d)) _ tt c.heads.ensures.looks (own (λ r. by_vault.shown (seen_as r (λ v. v.items))) c.heads.result refl refl) (g.met.V.Vault.settled _)
+    (λ T st clean. maildrop_shown _ T st.keeps _ d _ (c.heads.ensures.done st.keeps.contents st.keeps.held clean) (λ x. c.heads.ensures.looks.counted.cause (store_seen _ _ x)))))
+    (λ e. rw e (looked_after g.V.Vault c.args.self.now _ (Admin (ShowMaildrop d)) _ tt c.heads.ensures.looks (λ answered. absurd answered) (g.met.V.Vault.settled _)
+    (λ T st clean. maildrop_show_lacked _ T st.keeps _ d _ (c.heads.ensures.done st.keeps.contents st.keeps.held clean))))
     c.shown.ensures
-
-pub returns-clause-outcome : goal.returns-clause-outcome
-returns-clause-outcome g c T st clean = ⊎_elim
-    (λ e. rw e (became-outcome T (Admin (ShowMaildrop c.args.maildrop.now)) _ _ tt (maildrop_shown _ T st.keeps _ c.args.maildrop.now _ (c.heads.ensures.done st.keeps.contents st.keeps.held clean) (λ x. c.heads.ensures.looks.counted.cause (store_seen _ _ x))) (lent_by c.args.self.now)))
-    (λ e. rw e (became-outcome T (Admin (ShowMaildrop c.args.maildrop.now)) _ _ tt (maildrop_show_lacked _ T st.keeps false c.args.maildrop.now _ (c.heads.ensures.done st.keeps.contents st.keeps.held clean)) (lent_by c.args.self.now)))
-    c.shown.ensures
-
-pub returns-clause-cause : goal.returns-clause-cause
-returns-clause-cause g c T st clean = ⊎_elim
-    (λ e. rw e (became-cause T (Admin (ShowMaildrop c.args.maildrop.now)) _ tt c.heads.ensures.looks.counted (maildrop_shown _ T st.keeps _ c.args.maildrop.now _ (c.heads.ensures.done st.keeps.contents st.keeps.held clean) (λ x. c.heads.ensures.looks.counted.cause (store_seen _ _ x)))))
-    (λ e. rw e tt)
-    c.shown.ensures
-
-pub returns-clause-up : goal.returns-clause-up
-returns-clause-up g c = search rules
-
-pub returns-clause-stop : goal.returns-clause-stop
-returns-clause-stop g c T st clean up =
-    stop_leaves T (Admin (ShowMaildrop c.args.maildrop.now)) _ (before_left T (Admin (ShowMaildrop c.args.maildrop.now)) st.keeps (c.heads.ensures.looks.stop st.keeps.contents clean up st.keeps.held))
-    (λ answered. settled_leaves _ (returns-clause-stands g c T st clean).keeps (λ d. g.met.V.Vault.settled _ d clean (returns-clause-up g c T st clean up answered)))

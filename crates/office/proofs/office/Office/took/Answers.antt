@@ -1,4 +1,4 @@
-use Rattle.std.proofs.Common.{◌≡◌, ◌≤◌, [], false, true, Option, Some, sym, ◌∙◌, ap, nat_cmp, subst, rules, refl}
+use Rattle.std.proofs.Common.{◌≡◌, ◌≤◌, [], false, true, Option, Some, None, sym, ◌∙◌, ap, nat_cmp, subst, rules, refl, arith}
 use Rattle.std.specs.BTreeMap.{get}
 use Rattle.vault.specs.Changes.{AreSound}
 use Rattle.office.specs.Events.{Took, Tagged, given}
@@ -12,495 +12,289 @@ use Rattle.office.specs.Output.{nothing_owed}
 use Rattle.office.specs.Kept.{Kept, line_after, maildrop_of}
 use Rattle.office.specs.Locks.{Released}
 use Rattle.office.specs.Answered.{tag_of, judged_at}
-use Rattle.office.specs.Stands.{Matches, IsKeptFor, IsSession, seen, untaken_of, lent_by, length_of_lent}
+use Rattle.office.specs.Stands.{Matches, IsOver, IsKeptFor, IsSession, seen, untaken_of, lent_by, length_of_lent}
 use Rattle.office.specs.declared.login_state.LineOutcome.TheVariants as line_outcome
 use Rattle.office.proofs.Events.{moved, marked, seen-took_other, seen-took_part, records-took_part, seen-took_closing, records-took_closing, records-took_lacking, whole-took, over-took, next_there, next_kept, is_apart, left_over, all_over, closed_took, took_goes, line_cause, same_part, same_closing, records-took_line, records-took_none}
 use Rattle.office.proofs.Hearing.{Awaits, took}
 use Rattle.office.proofs.Locking.{holds_by}
-use Rattle.office.proofs.Coming.{released, nothing_stands, ignored_event, put_back}
+use Rattle.office.proofs.Coming.{released, put_back}
 use Rattle.office.proofs.Ending.{ended_by, took_ends}
-use Rattle.office.proofs.Taking.{lent_ready, took_more, took_less, took_all, some_taken, all_taken, grown_behind, lacking_ends, refused_ends, paged_stops}
+use Rattle.office.proofs.Taking.{lent_ready, took_more, took_less, took_all, some_taken, all_taken, grown_behind, lacking_ends, refused_ends, takes_all}
 use Rattle.office.proofs.Owing.{text_feeds}
 use Rattle.office.proofs.Memory.{more_than_lent}
 use Rattle.office.proofs.TakingDone.{judged, taking_moves, taking_answered, taking_told}
 use Rattle.office.specs.Outcomes as outcome
-use Rattle.office.proofs.Stopping.{stop_leaves, settled_leaves, unasked_stops, looked_left}
+use Rattle.office.proofs.AfterEvents.{kept_at, closed_at, unasked_after, stands_after, ignored_after}
+use Rattle.office.proofs.Stopping.{before_left}
 use Rattle.office.proofs.StoppingLines.{line_left, line_answered}
 use Rattle.office.proofs.Unasked.{taking_asks_none, taking_reads_none}
 use Rattle.office.proofs.office.Office.took.Goals as goal
 
-pub returns-in_default-clause-stands : goal.returns-in_default-clause-stands
-returns-in_default-clause-stands g c T st clean =
-    nothing_stands g.V.Vault.holds c.args.self.now _ T _ _ st (ignored_event T (Took c.args.c c.args.octets) st.keeps.formed) (λ k h. h) refl refl refl refl refl
-    (λ q. ap (λ connections. get nat_cmp connections q) c.get_mut.follows.holds-at-none) (λ d. refl)
-
-pub returns-then-not-lends-clause-stands : goal.returns-then-not-lends-clause-stands
-returns-then-not-lends-clause-stands g c T st clean =
+pub returns-in_default-clause-after : goal.returns-in_default-clause-after
+returns-in_default-clause-after g c =
     let o = c.args.self.now in
+    let none : get nat_cmp o.connections c.args.c ≡ None = search rules in
+    ignored_after g.V.Vault o _ (Took c.args.c c.args.octets) outcome.NoSuchConnection (g.met.V.Vault.settled _) (λ q. ap (λ connections. get nat_cmp connections q) c.get_mut.follows.holds-at-none)
+    (λ T st. let closed = closed_at T c.args.c st none in rw closed refl)
+
+pub returns-then-not-lends-clause-after : goal.returns-then-not-lends-clause-after
+returns-then-not-lends-clause-after g c =
+    let o = c.args.self.now in
+    let x = c.args.c in
     let k : Kept = c.in-Some.connection.now in
-    let found : get nat_cmp o.connections c.args.c ≡ Some k = sym c.in-Some.ensures.value in
+    let found : get nat_cmp o.connections x ≡ Some k = sym c.in-Some.ensures.value in
     let updates = (c.get_mut.follows.holds k).3 (search rules) in
-    nothing_stands g.V.Vault.holds o _ T _ _ st (ignored_event T (Took c.args.c c.args.octets) st.keeps.formed) (λ k h. h) refl refl refl refl refl
-    (put_back c.args.c k o.connections (c.get_mut.follows.lender k) found updates) (λ d. refl)
+    ignored_after g.V.Vault o _ (Took x c.args.octets) outcome.NotReady (g.met.V.Vault.settled _) (put_back x k o.connections (c.get_mut.follows.lender k) found updates)
+    (λ T st. search rules)
 
-pub returns-then-not-owes_nothing-clause-stands : goal.returns-then-not-owes_nothing-clause-stands
-returns-then-not-owes_nothing-clause-stands g c T st clean =
-    let o = c.args.self.now in
-    let x = c.args.c in
-    let n = c.args.octets in
-    let k : Kept = c.in-Some.connection.now in
-    let s = seen T x in
-    let ct = st.keeps.contents in
-    let k1 : Kept = c.take.new.self in
-    let found : get nat_cmp o.connections x ≡ Some k = sym c.in-Some.ensures.value in
-    let m : Matches ct s k = subst (IsKeptFor ct s) found (st.connections x) in
-    let lends = c.lends.ensures.some c.if-not-lends.false in
-    let fits = lent_ready k.output n lends.1 in
-    let does = c.in-Ok.ensures in
-    let yes : c.in-Ok.taken ≡ true = c.if-not-taken.false in
-    let owes = does.owes yes ct (untaken_of s) st.keeps.held clean m.owed in
-    let some : is_empty k1.output.ready ≡ false = sym c.owes_nothing.ensures.value ∙ c.if-not-owes_nothing.true in
-    let less = took_less ct s k n o.moment m fits k1.output owes some in
-    let change = (c.get_mut.follows.holds k1).3 (search rules) in
-    let left = left_over s n less in
-    let here : Matches ct (seen (given T (Took x n) (Tagged Done)) x) k1 =
-    subst (λ y. Matches ct y k1) (sym (seen-took_part T x n o.moment st.moment left)) (some_taken ct s k n o.moment m fits k1.output owes k1 c.take.ensures.kept some does.kind) in
-    moved g.V.Vault.holds o _ T (Took x n) _ Done x refl st refl refl refl refl refl refl (whole-took T x n Done) refl refl (rw found refl)
-    (λ q e. seen-took_other T x n q Done e) (λ q ne. change.2 q (is_apart x q ne)) (record {
-      contents = ct;
-      held = c.take.ensures.looks.held ct st.keeps.held clean;
-      agree = rw (records-took_part T x n left) st.keeps.agree;
-      here = rw change.1 here;
-      carried = λ q e i. i;
-      locks = λ d. st.locks d ∙ sym (same_part T x n left d);
-    })
+pub returns-in-Err-clause-after : goal.returns-in-Err-clause-after
+returns-in-Err-clause-after g c = record {
+  counted = c.take.ensures.looks.counted;
+  clean = c.take.ensures.looks.clean;
+  each = λ T st clean.
+      let o = c.args.self.now in
+      let x = c.args.c in
+      let n = c.args.octets in
+      let k : Kept = c.in-Some.connection.now in
+      let s = seen T x in
+      let ct = st.keeps.contents in
+      let k1 : Kept = c.take.new.self in
+      let found : get nat_cmp o.connections x ≡ Some k = sym c.in-Some.ensures.value in
+      let m : Matches ct s k = kept_at T x st k found in
+      let lends = c.lends.ensures.some c.if-not-lends.false in
+      let fits = lent_ready k.output n lends.1 in
+      let lent : n ≤ lent_by o x = subst (λ (e : Option Kept). n ≤ length_of_lent e) (sym found) lends.1 in
+      let goes = took_goes T (lent_by o) x n m.opened lends.0 lent in
+      let left : is_left T.log (history T) x n ≡ true = left_over s n (took_more ct s k n o.moment m fits c.in-Err.ensures.err) in
+      let more = more_than_lent ct T x k m c.in-Err.ensures.err in
+      let first = (c.get_mut.follows.holds k1).3 (search rules) in
+      let second = c.cut_off.ensures.connections in
+      stands_after g.V.Vault o _ T (Took x n) outcome.NoMemory
+      (ended_by g.V.Vault.holds o _ T (Took x n) NoMemory x (took_ends T x n NoMemory left (lacking_ends (serving (history T) x) x)) st k found
+      (λ d h. c.take.ensures.looks.held d h clean) refl refl refl refl refl second.1 (λ q e. second.2 q e ∙ first.2 q e)
+      (subst (λ h. Released h o.locks c.cut_off.new.locks) c.maildrop-held.ensures c.cut_off.ensures.locks))
+      (record { tag = NoMemory; may = rw (left, more) refl; is = rw goes refl }) tt (λ up answered. absurd answered)
+      (λ up. before_left T (Took x n) st.keeps (c.take.ensures.looks.stop ct st.keeps.held clean up)) (g.met.V.Vault.settled _) clean;
+}
 
-pub returns-then-not-owes_nothing-clause-outcome : goal.returns-then-not-owes_nothing-clause-outcome
-returns-then-not-owes_nothing-clause-outcome g c T st clean =
-    let o = c.args.self.now in
-    let x = c.args.c in
-    let n = c.args.octets in
-    let k : Kept = c.in-Some.connection.now in
-    let s = seen T x in
-    let ct = st.keeps.contents in
-    let k1 : Kept = c.take.new.self in
-    let found : get nat_cmp o.connections x ≡ Some k = sym c.in-Some.ensures.value in
-    let m : Matches ct s k = subst (IsKeptFor ct s) found (st.connections x) in
-    let lends = c.lends.ensures.some c.if-not-lends.false in
-    let fits = lent_ready k.output n lends.1 in
-    let lent : n ≤ lent_by o x = subst (λ (e : Option Kept). n ≤ length_of_lent e) (sym found) lends.1 in
-    let goes = took_goes T (lent_by o) x n m.opened lends.0 lent in
-    record { tag = Done; may = refl; is = rw goes refl }
+pub returns-then-not-taken-clause-after : goal.returns-then-not-taken-clause-after
+returns-then-not-taken-clause-after g c = record {
+  counted = c.take.ensures.looks.counted;
+  clean = c.take.ensures.looks.clean;
+  each = λ T st clean.
+      let o = c.args.self.now in
+      let x = c.args.c in
+      let n = c.args.octets in
+      let k : Kept = c.in-Some.connection.now in
+      let s = seen T x in
+      let ct = st.keeps.contents in
+      let k1 : Kept = c.take.new.self in
+      let found : get nat_cmp o.connections x ≡ Some k = sym c.in-Some.ensures.value in
+      let m : Matches ct s k = kept_at T x st k found in
+      let lends = c.lends.ensures.some c.if-not-lends.false in
+      let fits = lent_ready k.output n lends.1 in
+      let lent : n ≤ lent_by o x = subst (λ (e : Option Kept). n ≤ length_of_lent e) (sym found) lends.1 in
+      let goes = took_goes T (lent_by o) x n m.opened lends.0 lent in
+      let reads = c.in-Ok.ensures.refused c.if-not-taken.true in
+      let left : is_left T.log (history T) x n ≡ true = left_over s n (took_more ct s k n o.moment m fits (text_feeds k.output.source reads)) in
+      let serves : serving (history T) x ≡ true = m.serving reads in
+      let first = (c.get_mut.follows.holds k1).3 (search rules) in
+      let second = c.cut_off-then-not-taken.ensures.connections in
+      stands_after g.V.Vault o _ T (Took x n) outcome.Failed
+      (ended_by g.V.Vault.holds o _ T (Took x n) Failed x (took_ends T x n Failed left (refused_ends (serving (history T) x) x serves)) st k found
+      (λ d h. c.take.ensures.looks.held d h clean) refl refl refl refl refl second.1 (λ q e. second.2 q e ∙ first.2 q e)
+      (subst (λ h. Released h o.locks c.cut_off-then-not-taken.new.locks) c.maildrop-held.ensures c.cut_off-then-not-taken.ensures.locks))
+      (record { tag = Failed; may = rw (left, serves) refl; is = rw goes refl }) (c.in-Ok.ensures.cause c.if-not-taken.true ct (untaken_of s) st.keeps.held clean m.owed) (λ up answered. absurd answered)
+      (λ up. before_left T (Took x n) st.keeps (c.take.ensures.looks.stop ct st.keeps.held clean up)) (g.met.V.Vault.settled _) clean;
+}
 
-pub returns-then-not-taken-clause-stands : goal.returns-then-not-taken-clause-stands
-returns-then-not-taken-clause-stands g c T st clean =
-    let o = c.args.self.now in
-    let x = c.args.c in
-    let n = c.args.octets in
-    let k : Kept = c.in-Some.connection.now in
-    let s = seen T x in
-    let ct = st.keeps.contents in
-    let k1 : Kept = c.take.new.self in
-    let found : get nat_cmp o.connections x ≡ Some k = sym c.in-Some.ensures.value in
-    let m : Matches ct s k = subst (IsKeptFor ct s) found (st.connections x) in
-    let lends = c.lends.ensures.some c.if-not-lends.false in
-    let fits = lent_ready k.output n lends.1 in
-    let reads = c.in-Ok.ensures.refused c.if-not-taken.true in
-    let left = left_over s n (took_more ct s k n o.moment m fits (text_feeds k.output.source reads)) in
-    let first = (c.get_mut.follows.holds k1).3 (search rules) in
-    let second = c.cut_off-then-not-taken.ensures.connections in
-    ended_by g.V.Vault.holds o _ T (Took x n) Failed x (took_ends T x n Failed left (refused_ends (serving (history T) x) x (m.serving reads))) st k found
-    (λ d h. c.take.ensures.looks.held d h clean) refl refl refl refl refl second.1 (λ q e. second.2 q e ∙ first.2 q e)
-    (subst (λ h. Released h o.locks c.cut_off-then-not-taken.new.locks) c.maildrop-held.ensures c.cut_off-then-not-taken.ensures.locks)
+pub returns-then-not-owes_nothing-clause-after : goal.returns-then-not-owes_nothing-clause-after
+returns-then-not-owes_nothing-clause-after g c = record {
+  counted = c.take.ensures.looks.counted;
+  clean = c.take.ensures.looks.clean;
+  each = λ T st clean.
+      let o = c.args.self.now in
+      let x = c.args.c in
+      let n = c.args.octets in
+      let k : Kept = c.in-Some.connection.now in
+      let s = seen T x in
+      let ct = st.keeps.contents in
+      let k1 : Kept = c.take.new.self in
+      let found : get nat_cmp o.connections x ≡ Some k = sym c.in-Some.ensures.value in
+      let m : Matches ct s k = kept_at T x st k found in
+      let lends = c.lends.ensures.some c.if-not-lends.false in
+      let fits = lent_ready k.output n lends.1 in
+      let lent : n ≤ lent_by o x = subst (λ (e : Option Kept). n ≤ length_of_lent e) (sym found) lends.1 in
+      let goes = took_goes T (lent_by o) x n m.opened lends.0 lent in
+      let does = c.in-Ok.ensures in
+      let yes : c.in-Ok.taken ≡ true = c.if-not-taken.false in
+      let owes = does.owes yes ct (untaken_of s) st.keeps.held clean m.owed in
+      let some : is_empty k1.output.ready ≡ false = sym c.owes_nothing.ensures.value ∙ c.if-not-owes_nothing.true in
+      let left = left_over s n (took_less ct s k n o.moment m fits k1.output owes some) in
+      let change = (c.get_mut.follows.holds k1).3 (search rules) in
+      let here : Matches ct (seen (given T (Took x n) (Tagged Done)) x) k1 =
+      subst (λ y. Matches ct y k1) (sym (seen-took_part T x n o.moment st.moment left)) (some_taken ct s k n o.moment m fits k1.output owes k1 c.take.ensures.kept some does.kind) in
+      stands_after g.V.Vault o _ T (Took x n) outcome.Done
+      (moved g.V.Vault.holds o _ T (Took x n) _ Done x refl st refl refl refl refl refl refl (whole-took T x n Done) refl refl (rw found refl)
+      (λ q e. seen-took_other T x n q Done e) (λ q ne. change.2 q (is_apart x q ne)) (record {
+        contents = ct;
+        held = c.take.ensures.looks.held ct st.keeps.held clean;
+        agree = rw (records-took_part T x n left) st.keeps.agree;
+        here = subst (IsKeptFor ct (seen (given T (Took x n) (Tagged Done)) x)) (sym change.1) here;
+        carried = λ q e i. i;
+        locks = λ d. st.locks d ∙ sym (same_part T x n left d);
+      }))
+      (record { tag = Done; may = refl; is = rw goes refl }) tt (λ up answered. does.looks.up ct st.keeps.held clean up yes)
+      (λ up. before_left T (Took x n) st.keeps (c.take.ensures.looks.stop ct st.keeps.held clean up)) (g.met.V.Vault.settled _) clean;
+}
 
-pub returns-then-not-taken-clause-outcome : goal.returns-then-not-taken-clause-outcome
-returns-then-not-taken-clause-outcome g c T st clean =
-    let o = c.args.self.now in
-    let x = c.args.c in
-    let n = c.args.octets in
-    let k : Kept = c.in-Some.connection.now in
-    let s = seen T x in
-    let ct = st.keeps.contents in
-    let k1 : Kept = c.take.new.self in
-    let found : get nat_cmp o.connections x ≡ Some k = sym c.in-Some.ensures.value in
-    let m : Matches ct s k = subst (IsKeptFor ct s) found (st.connections x) in
-    let lends = c.lends.ensures.some c.if-not-lends.false in
-    let fits = lent_ready k.output n lends.1 in
-    let lent : n ≤ lent_by o x = subst (λ (e : Option Kept). n ≤ length_of_lent e) (sym found) lends.1 in
-    let goes = took_goes T (lent_by o) x n m.opened lends.0 lent in
-    let reads = c.in-Ok.ensures.refused c.if-not-taken.true in
-    let left : is_left T.log (history T) x n ≡ true = left_over s n (took_more ct s k n o.moment m fits (text_feeds k.output.source reads)) in
-    let serves : serving (history T) x ≡ true = m.serving reads in
-    record { tag = Failed; may = rw (left, serves) refl; is = rw goes refl }
+pub returns-then-is_closing-clause-after : goal.returns-then-is_closing-clause-after
+returns-then-is_closing-clause-after g c = record {
+  counted = c.take.ensures.looks.counted;
+  clean = c.take.ensures.looks.clean;
+  each = λ T st clean.
+      let o = c.args.self.now in
+      let x = c.args.c in
+      let n = c.args.octets in
+      let k : Kept = c.in-Some.connection.now in
+      let s = seen T x in
+      let ct = st.keeps.contents in
+      let k1 : Kept = c.take.new.self in
+      let found : get nat_cmp o.connections x ≡ Some k = sym c.in-Some.ensures.value in
+      let m : Matches ct s k = kept_at T x st k found in
+      let lends = c.lends.ensures.some c.if-not-lends.false in
+      let fits = lent_ready k.output n lends.1 in
+      let lent : n ≤ lent_by o x = subst (λ (e : Option Kept). n ≤ length_of_lent e) (sym found) lends.1 in
+      let goes = took_goes T (lent_by o) x n m.opened lends.0 lent in
+      let does = c.in-Ok.ensures in
+      let yes : c.in-Ok.taken ≡ true = c.if-not-taken.false in
+      let owes = does.owes yes ct (untaken_of s) st.keeps.held clean m.owed in
+      let none : k1.output ≡ nothing_owed = c.owes_nothing.ensures.nothing c.if-not-owes_nothing.false in
+      let all = took_all ct s k n o.moment m fits k1.output owes none in
+      let over = all_over s n all in
+      let closed : s.closing ≡ true = sym m.closing ∙ (sym (ap (λ (k : Kept). k.state.closing) c.take.ensures.kept) ∙ (sym c.is_closing.ensures ∙ c.if-is_closing.true)) in
+      let gone : IsOver (seen (given T (Took x n) (Tagged Done)) x) =
+      rw (seen-took_closing T x n o.moment st.moment over closed) (record { closed = closed_took s n o.moment all closed; authorization = m.parted closed }) in
+      let first = (c.get_mut.follows.holds k1).3 (search rules) in
+      let second = c.remove.ensures.updates in
+      stands_after g.V.Vault o _ T (Took x n) outcome.Done
+      (moved g.V.Vault.holds o _ T (Took x n) _ Done x refl st refl refl refl refl refl refl (whole-took T x n Done) refl refl (rw found refl) (λ q e. seen-took_other T x n q Done e)
+      (λ q ne. second.2 q (is_apart x q ne) ∙ first.2 q (is_apart x q ne)) (record {
+        contents = ct;
+        held = c.take.ensures.looks.held ct st.keeps.held clean;
+        agree = rw (records-took_closing T x n over closed) st.keeps.agree;
+        here = subst (IsKeptFor ct (seen (given T (Took x n) (Tagged Done)) x)) (sym second.1) gone;
+        carried = λ q e i. i;
+        locks = λ d. st.locks d ∙ sym (same_closing T x n over closed d);
+      }))
+      (record { tag = Done; may = refl; is = rw goes refl }) tt (λ up answered. does.looks.up ct st.keeps.held clean up yes)
+      (λ up. before_left T (Took x n) st.keeps (c.take.ensures.looks.stop ct st.keeps.held clean up)) (g.met.V.Vault.settled _) clean;
+}
 
-pub returns-then-not-taken-clause-cause : goal.returns-then-not-taken-clause-cause
-returns-then-not-taken-clause-cause g c T st clean =
-    let o = c.args.self.now in
-    let x = c.args.c in
-    let n = c.args.octets in
-    let k : Kept = c.in-Some.connection.now in
-    let s = seen T x in
-    let ct = st.keeps.contents in
-    let k1 : Kept = c.take.new.self in
-    let found : get nat_cmp o.connections x ≡ Some k = sym c.in-Some.ensures.value in
-    let m : Matches ct s k = subst (IsKeptFor ct s) found (st.connections x) in
-    let lends = c.lends.ensures.some c.if-not-lends.false in
-    let fits = lent_ready k.output n lends.1 in
-    c.in-Ok.ensures.cause c.if-not-taken.true ct (untaken_of s) st.keeps.held clean m.owed
+pub returns-in-Ok-resume-clause-after : goal.returns-in-Ok-resume-clause-after
+returns-in-Ok-resume-clause-after g c = record {
+  counted = omega (arith, c.take.ensures.looks.counted, c.resume.ensures.acts.counted);
+  clean = λ clean. c.take.ensures.looks.clean (c.resume.ensures.acts.clean clean);
+  each = λ T st clean.
+      let before = c.resume.ensures.acts.clean clean in
+      let o = c.args.self.now in
+      let x = c.args.c in
+      let n = c.args.octets in
+      let k : Kept = c.in-Some.connection.now in
+      let s = seen T x in
+      let ct = st.keeps.contents in
+      let k1 : Kept = c.take.new.self in
+      let found : get nat_cmp o.connections x ≡ Some k = sym c.in-Some.ensures.value in
+      let m : Matches ct s k = kept_at T x st k found in
+      let lends = c.lends.ensures.some c.if-not-lends.false in
+      let fits = lent_ready k.output n lends.1 in
+      let lent : n ≤ lent_by o x = subst (λ (e : Option Kept). n ≤ length_of_lent e) (sym found) lends.1 in
+      let goes = took_goes T (lent_by o) x n m.opened lends.0 lent in
+      let does = c.in-Ok.ensures in
+      let yes : c.in-Ok.taken ≡ true = c.if-not-taken.false in
+      let a = takes_all ct T x n o.moment k k1 m fits c.take.ensures.kept (does.owes yes ct (untaken_of s) st.keeps.held before m.owed) (c.owes_nothing.ensures.nothing c.if-not-owes_nothing.false)
+      (sym c.is_closing.ensures ∙ c.if-is_closing.false) in
+      let ready = a.ready in
+      let over = a.over in
+      let open_yet = a.open_yet in
+      let held = c.take.ensures.looks.held ct st.keeps.held before in
+      let sound : AreSound ct = g.met.V.Vault.sound o.vault ct st.keeps.held (c.take.ensures.looks.clean before) in
+      let j = judged T x n st.keeps sound o.policy st.policy o.locks st.locks o.moment st.moment k1 ready over open_yet in
+      let w = c.in-Ok-resume.line_outcome in
+      let line = c.in-Ok-resume.ensures in
+      let k' : Kept = c.resume.new.self in
+      let change = (c.get_mut.follows.holds k').3 (search rules) in
+      let may = λ (f : w ≡ line_outcome.Failed). line.may f ct j.transaction held clean j.has_transaction in
+      let is = line.ok ct j.transaction held clean j.has_transaction in
+      stands_after g.V.Vault o _ T (Took x n) _
+      (moved g.V.Vault.holds o _ T (Took x n) _ (tag_of w) x (marked w _ c.shown.ensures) st refl refl refl refl refl refl (whole-took T x n (tag_of w)) refl refl
+      (rw found refl) (λ q e. seen-took_other T x n q (tag_of w) e) (λ q ne. change.2 q (is_apart x q ne))
+      (taking_moves T x n st.keeps sound o.policy st.policy o.locks st.locks o.moment st.moment k1 ready over open_yet w k' _ may is line.lines (line.session ct j.transaction held clean j.has_transaction) line.locks
+      (line.owes ct j.transaction held clean j.has_transaction) g.V.Vault.holds o _ change.1 refl (line.held ct j.transaction held clean j.has_transaction)))
+      (taking_answered T x n st.keeps sound o.policy st.policy o.locks st.locks o.moment st.moment k1 ready over open_yet w c.resume.new.self o.locks may is line.lines (lent_by o) _ goes c.shown.ensures)
+      (line_cause (g.V.Vault.faults o.vault) (g.V.Vault.faults c.resume.new.vault) w _ c.shown.ensures
+      (λ f. grown_behind (g.V.Vault.faults o.vault) (g.V.Vault.faults c.take.new.vault) (g.V.Vault.faults c.resume.new.vault) c.take.ensures.looks.counted (line.cause f ct j.transaction held clean j.has_transaction)))
+      (λ up answered. line.acts.up ct held clean (does.looks.up ct st.keeps.held before up yes) (line_answered w _ c.shown.ensures answered))
+      (λ up. line_left T x st.keeps sound (took s n o.moment) k1 k1.pending (judged_at ct o.policy k1.stamp o.locks) k1.state ready j (Took x n)
+      (λ h nx. records-took_line T x n line_outcome.Done (line_after k1 k1.pending) over open_yet (next_kept T x ∙ nx)) (λ h nx. records-took_none T x n over open_yet (next_kept T x ∙ nx))
+      (c.resume.ensures.acts.stop ct held clean (does.looks.up ct st.keeps.held before up yes)))
+      (g.met.V.Vault.settled _) clean;
+}
 
-pub returns-then-not-taken-clause-stop : goal.returns-then-not-taken-clause-stop
-returns-then-not-taken-clause-stop g c T st clean up =
-    paged_stops T c.args.c c.args.octets outcome.Failed st.keeps (looked_left (c.take.ensures.looks.stop st.keeps.contents st.keeps.held clean up)) (λ answered. absurd answered)
-
-pub returns-in-Err-clause-stands : goal.returns-in-Err-clause-stands
-returns-in-Err-clause-stands g c T st clean =
-    let o = c.args.self.now in
-    let x = c.args.c in
-    let n = c.args.octets in
-    let k : Kept = c.in-Some.connection.now in
-    let s = seen T x in
-    let ct = st.keeps.contents in
-    let k1 : Kept = c.take.new.self in
-    let found : get nat_cmp o.connections x ≡ Some k = sym c.in-Some.ensures.value in
-    let m : Matches ct s k = subst (IsKeptFor ct s) found (st.connections x) in
-    let lends = c.lends.ensures.some c.if-not-lends.false in
-    let fits = lent_ready k.output n lends.1 in
-    let left = left_over s n (took_more ct s k n o.moment m fits c.in-Err.ensures.err) in
-    let first = (c.get_mut.follows.holds k1).3 (search rules) in
-    let second = c.cut_off.ensures.connections in
-    ended_by g.V.Vault.holds o _ T (Took x n) NoMemory x (took_ends T x n NoMemory left (lacking_ends (serving (history T) x) x)) st k found
-    (λ d h. c.take.ensures.looks.held d h clean) refl refl refl refl refl second.1 (λ q e. second.2 q e ∙ first.2 q e)
-    (subst (λ h. Released h o.locks c.cut_off.new.locks) c.maildrop-held.ensures c.cut_off.ensures.locks)
-
-pub returns-in-Err-clause-outcome : goal.returns-in-Err-clause-outcome
-returns-in-Err-clause-outcome g c T st clean =
-    let o = c.args.self.now in
-    let x = c.args.c in
-    let n = c.args.octets in
-    let k : Kept = c.in-Some.connection.now in
-    let s = seen T x in
-    let ct = st.keeps.contents in
-    let k1 : Kept = c.take.new.self in
-    let found : get nat_cmp o.connections x ≡ Some k = sym c.in-Some.ensures.value in
-    let m : Matches ct s k = subst (IsKeptFor ct s) found (st.connections x) in
-    let lends = c.lends.ensures.some c.if-not-lends.false in
-    let fits = lent_ready k.output n lends.1 in
-    let lent : n ≤ lent_by o x = subst (λ (e : Option Kept). n ≤ length_of_lent e) (sym found) lends.1 in
-    let goes = took_goes T (lent_by o) x n m.opened lends.0 lent in
-    let left : is_left T.log (history T) x n ≡ true = left_over s n (took_more ct s k n o.moment m fits c.in-Err.ensures.err) in
-    let more = more_than_lent ct T x k m c.in-Err.ensures.err in
-    record { tag = NoMemory; may = rw (left, more) refl; is = rw goes refl }
-
-pub returns-in-Err-clause-stop : goal.returns-in-Err-clause-stop
-returns-in-Err-clause-stop g c T st clean up =
-    paged_stops T c.args.c c.args.octets outcome.NoMemory st.keeps (looked_left (c.take.ensures.looks.stop st.keeps.contents st.keeps.held clean up)) (λ answered. absurd answered)
-
-pub returns-then-is_closing-clause-stands : goal.returns-then-is_closing-clause-stands
-returns-then-is_closing-clause-stands g c T st clean =
-    let o = c.args.self.now in
-    let x = c.args.c in
-    let n = c.args.octets in
-    let k : Kept = c.in-Some.connection.now in
-    let s = seen T x in
-    let ct = st.keeps.contents in
-    let k1 : Kept = c.take.new.self in
-    let found : get nat_cmp o.connections x ≡ Some k = sym c.in-Some.ensures.value in
-    let m : Matches ct s k = subst (IsKeptFor ct s) found (st.connections x) in
-    let lends = c.lends.ensures.some c.if-not-lends.false in
-    let fits = lent_ready k.output n lends.1 in
-    let does = c.in-Ok.ensures in
-    let yes : c.in-Ok.taken ≡ true = c.if-not-taken.false in
-    let owes = does.owes yes ct (untaken_of s) st.keeps.held clean m.owed in
-    let none : k1.output ≡ nothing_owed = c.owes_nothing.ensures.nothing c.if-not-owes_nothing.false in
-    let all = took_all ct s k n o.moment m fits k1.output owes none in
-    let closed : s.closing ≡ true = sym m.closing ∙ (sym (ap (λ (k : Kept). k.state.closing) c.take.ensures.kept) ∙ (sym c.is_closing.ensures ∙ c.if-is_closing.true)) in
-    let first = (c.get_mut.follows.holds k1).3 (search rules) in
-    let second = c.remove.ensures.updates in
-    moved g.V.Vault.holds o _ T (Took x n) _ Done x refl st refl refl refl refl refl refl (whole-took T x n Done) refl refl (rw found refl) (λ q e. seen-took_other T x n q Done e)
-    (λ q ne. second.2 q (is_apart x q ne) ∙ first.2 q (is_apart x q ne)) (record {
-      contents = ct;
-      held = c.take.ensures.looks.held ct st.keeps.held clean;
-      agree = rw (records-took_closing T x n (all_over s n all) closed) st.keeps.agree;
-      here = rw (second.1, seen-took_closing T x n o.moment st.moment (all_over s n all) closed) (record { closed = closed_took s n o.moment all closed; authorization = m.parted closed });
-      carried = λ q e i. i;
-      locks = λ d. st.locks d ∙ sym (same_closing T x n (all_over s n all) closed d);
-    })
-
-pub returns-then-is_closing-clause-outcome : goal.returns-then-is_closing-clause-outcome
-returns-then-is_closing-clause-outcome g c T st clean =
-    let o = c.args.self.now in
-    let x = c.args.c in
-    let n = c.args.octets in
-    let k : Kept = c.in-Some.connection.now in
-    let s = seen T x in
-    let ct = st.keeps.contents in
-    let k1 : Kept = c.take.new.self in
-    let found : get nat_cmp o.connections x ≡ Some k = sym c.in-Some.ensures.value in
-    let m : Matches ct s k = subst (IsKeptFor ct s) found (st.connections x) in
-    let lends = c.lends.ensures.some c.if-not-lends.false in
-    let fits = lent_ready k.output n lends.1 in
-    let lent : n ≤ lent_by o x = subst (λ (e : Option Kept). n ≤ length_of_lent e) (sym found) lends.1 in
-    let goes = took_goes T (lent_by o) x n m.opened lends.0 lent in
-    record { tag = Done; may = refl; is = rw goes refl }
-
-pub returns-in-Ok-resume-clause-stands : goal.returns-in-Ok-resume-clause-stands
-returns-in-Ok-resume-clause-stands g c T st clean =
-    let before = c.resume.ensures.acts.clean clean in
-    let o = c.args.self.now in
-    let x = c.args.c in
-    let n = c.args.octets in
-    let k : Kept = c.in-Some.connection.now in
-    let s = seen T x in
-    let ct = st.keeps.contents in
-    let k1 : Kept = c.take.new.self in
-    let found : get nat_cmp o.connections x ≡ Some k = sym c.in-Some.ensures.value in
-    let m : Matches ct s k = subst (IsKeptFor ct s) found (st.connections x) in
-    let lends = c.lends.ensures.some c.if-not-lends.false in
-    let fits = lent_ready k.output n lends.1 in
-    let does = c.in-Ok.ensures in
-    let yes : c.in-Ok.taken ≡ true = c.if-not-taken.false in
-    let owes = does.owes yes ct (untaken_of s) st.keeps.held before m.owed in
-    let none : k1.output ≡ nothing_owed = c.owes_nothing.ensures.nothing c.if-not-owes_nothing.false in
-    let all = took_all ct s k n o.moment m fits k1.output owes none in
-    let open_yet : s.closing ≡ false = sym m.closing ∙ (sym (ap (λ (k : Kept). k.state.closing) c.take.ensures.kept) ∙ (sym c.is_closing.ensures ∙ c.if-is_closing.false)) in
-    let ready : Awaits ct (took s n o.moment) k1 k1.pending = all_taken ct s k n o.moment m fits k1.output owes k1 c.take.ensures.kept none open_yet in
-    let held = c.take.ensures.looks.held ct st.keeps.held before in
-    let sound : AreSound ct = g.met.V.Vault.sound o.vault ct st.keeps.held (c.take.ensures.looks.clean before) in
-    let over = all_over s n all in
-    let w = c.in-Ok-resume.line_outcome in
-    let j = judged T x n st.keeps sound o.policy st.policy o.locks st.locks o.moment st.moment k1 ready over open_yet in
-    let line = c.in-Ok-resume.ensures in
-    let k' : Kept = c.resume.new.self in
-    let change = (c.get_mut.follows.holds k').3 (search rules) in
-    moved g.V.Vault.holds o _ T (Took x n) _ (tag_of w) x (marked w _ c.shown.ensures) st refl refl refl refl refl refl (whole-took T x n (tag_of w)) refl refl
-    (rw found refl) (λ q e. seen-took_other T x n q (tag_of w) e) (λ q ne. change.2 q (is_apart x q ne))
-    (taking_moves T x n st.keeps sound o.policy st.policy o.locks st.locks o.moment st.moment k1 ready over open_yet w k' _ (λ (f : w ≡ line_outcome.Failed). line.may f ct j.transaction held clean j.has_transaction)
-    (line.ok ct j.transaction held clean j.has_transaction) line.lines (line.session ct j.transaction held clean j.has_transaction) line.locks (line.owes ct j.transaction held clean j.has_transaction) g.V.Vault.holds o _ change.1 refl
-    (line.held ct j.transaction held clean j.has_transaction))
-
-pub returns-in-Ok-resume-clause-cause : goal.returns-in-Ok-resume-clause-cause
-returns-in-Ok-resume-clause-cause g c T st clean =
-    let before = c.resume.ensures.acts.clean clean in
-    let o = c.args.self.now in
-    let x = c.args.c in
-    let n = c.args.octets in
-    let k : Kept = c.in-Some.connection.now in
-    let s = seen T x in
-    let ct = st.keeps.contents in
-    let k1 : Kept = c.take.new.self in
-    let found : get nat_cmp o.connections x ≡ Some k = sym c.in-Some.ensures.value in
-    let m : Matches ct s k = subst (IsKeptFor ct s) found (st.connections x) in
-    let lends = c.lends.ensures.some c.if-not-lends.false in
-    let fits = lent_ready k.output n lends.1 in
-    let does = c.in-Ok.ensures in
-    let yes : c.in-Ok.taken ≡ true = c.if-not-taken.false in
-    let owes = does.owes yes ct (untaken_of s) st.keeps.held before m.owed in
-    let none : k1.output ≡ nothing_owed = c.owes_nothing.ensures.nothing c.if-not-owes_nothing.false in
-    let all = took_all ct s k n o.moment m fits k1.output owes none in
-    let open_yet : s.closing ≡ false = sym m.closing ∙ (sym (ap (λ (k : Kept). k.state.closing) c.take.ensures.kept) ∙ (sym c.is_closing.ensures ∙ c.if-is_closing.false)) in
-    let ready : Awaits ct (took s n o.moment) k1 k1.pending = all_taken ct s k n o.moment m fits k1.output owes k1 c.take.ensures.kept none open_yet in
-    let held = c.take.ensures.looks.held ct st.keeps.held before in
-    let sound : AreSound ct = g.met.V.Vault.sound o.vault ct st.keeps.held (c.take.ensures.looks.clean before) in
-    let over = all_over s n all in
-    let w = c.in-Ok-resume.line_outcome in
-    let j = judged T x n st.keeps sound o.policy st.policy o.locks st.locks o.moment st.moment k1 ready over open_yet in
-    let line = c.in-Ok-resume.ensures in
-    line_cause (g.V.Vault.faults o.vault) (g.V.Vault.faults c.resume.new.vault) w _ c.shown.ensures
-    (λ f. grown_behind (g.V.Vault.faults o.vault) (g.V.Vault.faults c.take.new.vault) (g.V.Vault.faults c.resume.new.vault) c.take.ensures.looks.counted (line.cause f ct j.transaction held clean j.has_transaction))
-
-pub returns-in-Ok-resume-clause-outcome : goal.returns-in-Ok-resume-clause-outcome
-returns-in-Ok-resume-clause-outcome g c T st clean =
-    let before = c.resume.ensures.acts.clean clean in
-    let o = c.args.self.now in
-    let x = c.args.c in
-    let n = c.args.octets in
-    let k : Kept = c.in-Some.connection.now in
-    let s = seen T x in
-    let ct = st.keeps.contents in
-    let k1 : Kept = c.take.new.self in
-    let found : get nat_cmp o.connections x ≡ Some k = sym c.in-Some.ensures.value in
-    let m : Matches ct s k = subst (IsKeptFor ct s) found (st.connections x) in
-    let lends = c.lends.ensures.some c.if-not-lends.false in
-    let fits = lent_ready k.output n lends.1 in
-    let does = c.in-Ok.ensures in
-    let yes : c.in-Ok.taken ≡ true = c.if-not-taken.false in
-    let owes = does.owes yes ct (untaken_of s) st.keeps.held before m.owed in
-    let none : k1.output ≡ nothing_owed = c.owes_nothing.ensures.nothing c.if-not-owes_nothing.false in
-    let all = took_all ct s k n o.moment m fits k1.output owes none in
-    let open_yet : s.closing ≡ false = sym m.closing ∙ (sym (ap (λ (k : Kept). k.state.closing) c.take.ensures.kept) ∙ (sym c.is_closing.ensures ∙ c.if-is_closing.false)) in
-    let ready : Awaits ct (took s n o.moment) k1 k1.pending = all_taken ct s k n o.moment m fits k1.output owes k1 c.take.ensures.kept none open_yet in
-    let held = c.take.ensures.looks.held ct st.keeps.held before in
-    let sound : AreSound ct = g.met.V.Vault.sound o.vault ct st.keeps.held (c.take.ensures.looks.clean before) in
-    let over = all_over s n all in
-    let w = c.in-Ok-resume.line_outcome in
-    let j = judged T x n st.keeps sound o.policy st.policy o.locks st.locks o.moment st.moment k1 ready over open_yet in
-    let line = c.in-Ok-resume.ensures in
-    let lent : n ≤ lent_by o x = subst (λ (e : Option Kept). n ≤ length_of_lent e) (sym found) lends.1 in
-    let goes = took_goes T (lent_by o) x n m.opened lends.0 lent in
-    taking_answered T x n st.keeps sound o.policy st.policy o.locks st.locks o.moment st.moment k1 ready over open_yet w c.resume.new.self o.locks (λ (f : w ≡ line_outcome.Failed). line.may f ct j.transaction held clean j.has_transaction)
-    (line.ok ct j.transaction held clean j.has_transaction) line.lines (lent_by o) _ goes c.shown.ensures
-
-pub returns-in-Err-resume-clause-stands : goal.returns-in-Err-resume-clause-stands
-returns-in-Err-resume-clause-stands g c T st clean =
-    let before = c.resume.ensures.acts.clean clean in
-    let o = c.args.self.now in
-    let x = c.args.c in
-    let n = c.args.octets in
-    let k : Kept = c.in-Some.connection.now in
-    let s = seen T x in
-    let ct = st.keeps.contents in
-    let k1 : Kept = c.take.new.self in
-    let found : get nat_cmp o.connections x ≡ Some k = sym c.in-Some.ensures.value in
-    let m : Matches ct s k = subst (IsKeptFor ct s) found (st.connections x) in
-    let lends = c.lends.ensures.some c.if-not-lends.false in
-    let fits = lent_ready k.output n lends.1 in
-    let does = c.in-Ok.ensures in
-    let yes : c.in-Ok.taken ≡ true = c.if-not-taken.false in
-    let owes = does.owes yes ct (untaken_of s) st.keeps.held before m.owed in
-    let none : k1.output ≡ nothing_owed = c.owes_nothing.ensures.nothing c.if-not-owes_nothing.false in
-    let all = took_all ct s k n o.moment m fits k1.output owes none in
-    let open_yet : s.closing ≡ false = sym m.closing ∙ (sym (ap (λ (k : Kept). k.state.closing) c.take.ensures.kept) ∙ (sym c.is_closing.ensures ∙ c.if-is_closing.false)) in
-    let ready : Awaits ct (took s n o.moment) k1 k1.pending = all_taken ct s k n o.moment m fits k1.output owes k1 c.take.ensures.kept none open_yet in
-    let held = c.take.ensures.looks.held ct st.keeps.held before in
-    let sound : AreSound ct = g.met.V.Vault.sound o.vault ct st.keeps.held (c.take.ensures.looks.clean before) in
-    let over = all_over s n all in
-    let next = next_there ct (took s n o.moment) k1 k1.pending ready c.in-Err-resume.ensures.err in
-    let first = (c.get_mut.follows.holds c.resume.new.self).3 (search rules) in
-    let second = c.cut_off-in-Err-resume.ensures.connections in
-    let gone = over-took T x n next.0 over open_yet (next_kept T x ∙ next.1) in
-    let sits : k1.session ≡ k.session = ap (λ (k : Kept). k.session) c.take.ensures.kept in
-    moved g.V.Vault.holds o _ T (Took x n) _ NoMemory x refl st refl refl refl refl refl refl (whole-took T x n NoMemory) refl refl (rw found refl) (λ q e. seen-took_other T x n q NoMemory e)
-    (λ q ne. second.2 q (is_apart x q ne) ∙ first.2 q (is_apart x q ne)) (record {
-      contents = ct;
-      held = c.in-Err-resume.ensures.held_err ct held clean;
-      agree = rw (records-took_lacking T x n next.0 over open_yet (next_kept T x ∙ next.1)) st.keeps.agree;
-      here = rw second.1 gone;
-      carried = λ q e i. i;
-      locks = released T.base (acts T) (acts (given T (Took x n) (Tagged NoMemory))) x (λ d q e. ap (λ s. holds_by s d) (seen-took_other T x n q NoMemory e))
-          (λ d. let out = gone.authorization in rw out refl) ct s k1.session c.resume.new.locks _ (subst (IsSession ct s) (sym sits) m.session) refl refl
-          (λ d. c.in-Err-resume.ensures.locks_err d ∙ st.locks d)
-          (subst (λ h. Released h c.resume.new.locks c.cut_off-in-Err-resume.new.locks) (c.maildrop-held.ensures ∙ ap maildrop_of (sym sits)) c.cut_off-in-Err-resume.ensures.locks);
-    })
-
-pub returns-in-Err-resume-clause-outcome : goal.returns-in-Err-resume-clause-outcome
-returns-in-Err-resume-clause-outcome g c T st clean =
-    let before = c.resume.ensures.acts.clean clean in
-    let o = c.args.self.now in
-    let x = c.args.c in
-    let n = c.args.octets in
-    let k : Kept = c.in-Some.connection.now in
-    let s = seen T x in
-    let ct = st.keeps.contents in
-    let k1 : Kept = c.take.new.self in
-    let found : get nat_cmp o.connections x ≡ Some k = sym c.in-Some.ensures.value in
-    let m : Matches ct s k = subst (IsKeptFor ct s) found (st.connections x) in
-    let lends = c.lends.ensures.some c.if-not-lends.false in
-    let fits = lent_ready k.output n lends.1 in
-    let does = c.in-Ok.ensures in
-    let yes : c.in-Ok.taken ≡ true = c.if-not-taken.false in
-    let owes = does.owes yes ct (untaken_of s) st.keeps.held before m.owed in
-    let none : k1.output ≡ nothing_owed = c.owes_nothing.ensures.nothing c.if-not-owes_nothing.false in
-    let all = took_all ct s k n o.moment m fits k1.output owes none in
-    let open_yet : s.closing ≡ false = sym m.closing ∙ (sym (ap (λ (k : Kept). k.state.closing) c.take.ensures.kept) ∙ (sym c.is_closing.ensures ∙ c.if-is_closing.false)) in
-    let ready : Awaits ct (took s n o.moment) k1 k1.pending = all_taken ct s k n o.moment m fits k1.output owes k1 c.take.ensures.kept none open_yet in
-    let held = c.take.ensures.looks.held ct st.keeps.held before in
-    let sound : AreSound ct = g.met.V.Vault.sound o.vault ct st.keeps.held (c.take.ensures.looks.clean before) in
-    let over = all_over s n all in
-    let next = next_there ct (took s n o.moment) k1 k1.pending ready c.in-Err-resume.ensures.err in
-    let lent : n ≤ lent_by o x = subst (λ (e : Option Kept). n ≤ length_of_lent e) (sym found) lends.1 in
-    let goes = took_goes T (lent_by o) x n m.opened lends.0 lent in
-    let line = next_kept T x ∙ next.1 in
-    record { tag = NoMemory; may = rw (over, open_yet, line) refl; is = rw goes refl }
-
-pub returns-then-not-owes_nothing-clause-up : goal.returns-then-not-owes_nothing-clause-up
-returns-then-not-owes_nothing-clause-up g c T st clean up answered = c.in-Ok.ensures.looks.up st.keeps.contents st.keeps.held clean up c.if-not-taken.false
-
-pub returns-then-not-owes_nothing-clause-stop : goal.returns-then-not-owes_nothing-clause-stop
-returns-then-not-owes_nothing-clause-stop g c T st clean up =
-    paged_stops T c.args.c c.args.octets outcome.Done st.keeps (looked_left (c.take.ensures.looks.stop st.keeps.contents st.keeps.held clean up))
-    (λ answered. settled_leaves _ (returns-then-not-owes_nothing-clause-stands g c T st clean).keeps (λ d. g.met.V.Vault.settled _ d clean (returns-then-not-owes_nothing-clause-up g c T st clean up answered)))
-
-pub returns-then-is_closing-clause-up : goal.returns-then-is_closing-clause-up
-returns-then-is_closing-clause-up g c T st clean up answered = c.in-Ok.ensures.looks.up st.keeps.contents st.keeps.held clean up c.if-not-taken.false
-
-pub returns-then-is_closing-clause-stop : goal.returns-then-is_closing-clause-stop
-returns-then-is_closing-clause-stop g c T st clean up =
-    paged_stops T c.args.c c.args.octets outcome.Done st.keeps (looked_left (c.take.ensures.looks.stop st.keeps.contents st.keeps.held clean up))
-    (λ answered. settled_leaves _ (returns-then-is_closing-clause-stands g c T st clean).keeps (λ d. g.met.V.Vault.settled _ d clean (returns-then-is_closing-clause-up g c T st clean up answered)))
-
-pub returns-in_default-clause-stop : goal.returns-in_default-clause-stop
-returns-in_default-clause-stop g c T st clean up = unasked_stops T (Took c.args.c c.args.octets) (outcome.Ignored outcome.NoSuchConnection) st.keeps (returns-in_default-clause-stands g c T st clean).keeps (λ d. g.met.V.Vault.settled _ d clean up)
-
-pub returns-then-not-lends-clause-stop : goal.returns-then-not-lends-clause-stop
-returns-then-not-lends-clause-stop g c T st clean up = unasked_stops T (Took c.args.c c.args.octets) (outcome.Ignored outcome.NotReady) st.keeps (returns-then-not-lends-clause-stands g c T st clean).keeps (λ d. g.met.V.Vault.settled _ d clean up)
-
-pub returns-in-Ok-resume-clause-up : goal.returns-in-Ok-resume-clause-up
-returns-in-Ok-resume-clause-up g c T st clean up answered =
-    let up1 = c.in-Ok.ensures.looks.up st.keeps.contents st.keeps.held (c.resume.ensures.acts.clean clean) up c.if-not-taken.false in
-    let held = c.take.ensures.looks.held st.keeps.contents st.keeps.held (c.resume.ensures.acts.clean clean) in
-    c.in-Ok-resume.ensures.acts.up st.keeps.contents held clean up1 (line_answered c.in-Ok-resume.line_outcome _ c.shown.ensures answered)
-
-pub returns-in-Ok-resume-clause-stop : goal.returns-in-Ok-resume-clause-stop
-returns-in-Ok-resume-clause-stop g c T st clean up =
-    let before = c.resume.ensures.acts.clean clean in
-    let o = c.args.self.now in
-    let x = c.args.c in
-    let n = c.args.octets in
-    let k : Kept = c.in-Some.connection.now in
-    let s = seen T x in
-    let ct = st.keeps.contents in
-    let k1 : Kept = c.take.new.self in
-    let found : get nat_cmp o.connections x ≡ Some k = sym c.in-Some.ensures.value in
-    let m : Matches ct s k = subst (IsKeptFor ct s) found (st.connections x) in
-    let lends = c.lends.ensures.some c.if-not-lends.false in
-    let fits = lent_ready k.output n lends.1 in
-    let does = c.in-Ok.ensures in
-    let yes : c.in-Ok.taken ≡ true = c.if-not-taken.false in
-    let owes = does.owes yes ct (untaken_of s) st.keeps.held before m.owed in
-    let none : k1.output ≡ nothing_owed = c.owes_nothing.ensures.nothing c.if-not-owes_nothing.false in
-    let all = took_all ct s k n o.moment m fits k1.output owes none in
-    let open_yet : s.closing ≡ false = sym m.closing ∙ (sym (ap (λ (k : Kept). k.state.closing) c.take.ensures.kept) ∙ (sym c.is_closing.ensures ∙ c.if-is_closing.false)) in
-    let ready : Awaits ct (took s n o.moment) k1 k1.pending = all_taken ct s k n o.moment m fits k1.output owes k1 c.take.ensures.kept none open_yet in
-    let held = c.take.ensures.looks.held ct st.keeps.held before in
-    let sound : AreSound ct = g.met.V.Vault.sound o.vault ct st.keeps.held (c.take.ensures.looks.clean before) in
-    let over = all_over s n all in
-    let up1 = c.in-Ok.ensures.looks.up st.keeps.contents st.keeps.held (c.resume.ensures.acts.clean clean) up c.if-not-taken.false in
-    let j = judged T x n st.keeps sound o.policy st.policy o.locks st.locks o.moment st.moment k1 ready over open_yet in
-    let left = line_left T x st.keeps sound (took s n o.moment) k1 k1.pending (judged_at ct o.policy k1.stamp o.locks) k1.state ready j (Took x n)
-    (λ h nx. records-took_line T x n line_outcome.Done (line_after k1 k1.pending) over open_yet (next_kept T x ∙ nx)) (λ h nx. records-took_none T x n over open_yet (next_kept T x ∙ nx))
-    (c.resume.ensures.acts.stop ct held clean up1) in
-    stop_leaves T (Took x n) _ left (λ answered. settled_leaves _ (returns-in-Ok-resume-clause-stands g c T st clean).keeps (λ d. g.met.V.Vault.settled _ d clean (returns-in-Ok-resume-clause-up g c T st clean up answered)))
-
-pub returns-in-Err-resume-clause-stop : goal.returns-in-Err-resume-clause-stop
-returns-in-Err-resume-clause-stop g c T st clean up =
-    let before = c.resume.ensures.acts.clean clean in
-    let o = c.args.self.now in
-    let x = c.args.c in
-    let n = c.args.octets in
-    let k : Kept = c.in-Some.connection.now in
-    let s = seen T x in
-    let ct = st.keeps.contents in
-    let k1 : Kept = c.take.new.self in
-    let found : get nat_cmp o.connections x ≡ Some k = sym c.in-Some.ensures.value in
-    let m : Matches ct s k = subst (IsKeptFor ct s) found (st.connections x) in
-    let lends = c.lends.ensures.some c.if-not-lends.false in
-    let fits = lent_ready k.output n lends.1 in
-    let does = c.in-Ok.ensures in
-    let yes : c.in-Ok.taken ≡ true = c.if-not-taken.false in
-    let owes = does.owes yes ct (untaken_of s) st.keeps.held before m.owed in
-    let none : k1.output ≡ nothing_owed = c.owes_nothing.ensures.nothing c.if-not-owes_nothing.false in
-    let all = took_all ct s k n o.moment m fits k1.output owes none in
-    let open_yet : s.closing ≡ false = sym m.closing ∙ (sym (ap (λ (k : Kept). k.state.closing) c.take.ensures.kept) ∙ (sym c.is_closing.ensures ∙ c.if-is_closing.false)) in
-    let ready : Awaits ct (took s n o.moment) k1 k1.pending = all_taken ct s k n o.moment m fits k1.output owes k1 c.take.ensures.kept none open_yet in
-    let held = c.take.ensures.looks.held ct st.keeps.held before in
-    let sound : AreSound ct = g.met.V.Vault.sound o.vault ct st.keeps.held (c.take.ensures.looks.clean before) in
-    let over = all_over s n all in
-    let up1 = c.in-Ok.ensures.looks.up st.keeps.contents st.keeps.held (c.resume.ensures.acts.clean clean) up c.if-not-taken.false in
-    let j = judged T x n st.keeps sound o.policy st.policy o.locks st.locks o.moment st.moment k1 ready over open_yet in
-    let left = line_left T x st.keeps sound (took s n o.moment) k1 k1.pending (judged_at ct o.policy k1.stamp o.locks) k1.state ready j (Took x n)
-    (λ h nx. records-took_line T x n line_outcome.Done (line_after k1 k1.pending) over open_yet (next_kept T x ∙ nx)) (λ h nx. records-took_none T x n over open_yet (next_kept T x ∙ nx))
-    (c.resume.ensures.acts.stop ct held clean up1) in
-    stop_leaves T (Took x n) outcome.NoMemory left (λ answered. absurd answered)
+pub returns-in-Err-resume-clause-after : goal.returns-in-Err-resume-clause-after
+returns-in-Err-resume-clause-after g c = record {
+  counted = omega (arith, c.take.ensures.looks.counted, c.resume.ensures.acts.counted);
+  clean = λ clean. c.take.ensures.looks.clean (c.resume.ensures.acts.clean clean);
+  each = λ T st clean.
+      let before = c.resume.ensures.acts.clean clean in
+      let o = c.args.self.now in
+      let x = c.args.c in
+      let n = c.args.octets in
+      let k : Kept = c.in-Some.connection.now in
+      let s = seen T x in
+      let ct = st.keeps.contents in
+      let k1 : Kept = c.take.new.self in
+      let found : get nat_cmp o.connections x ≡ Some k = sym c.in-Some.ensures.value in
+      let m : Matches ct s k = kept_at T x st k found in
+      let lends = c.lends.ensures.some c.if-not-lends.false in
+      let fits = lent_ready k.output n lends.1 in
+      let lent : n ≤ lent_by o x = subst (λ (e : Option Kept). n ≤ length_of_lent e) (sym found) lends.1 in
+      let goes = took_goes T (lent_by o) x n m.opened lends.0 lent in
+      let does = c.in-Ok.ensures in
+      let yes : c.in-Ok.taken ≡ true = c.if-not-taken.false in
+      let a = takes_all ct T x n o.moment k k1 m fits c.take.ensures.kept (does.owes yes ct (untaken_of s) st.keeps.held before m.owed) (c.owes_nothing.ensures.nothing c.if-not-owes_nothing.false)
+      (sym c.is_closing.ensures ∙ c.if-is_closing.false) in
+      let ready = a.ready in
+      let over = a.over in
+      let open_yet = a.open_yet in
+      let held = c.take.ensures.looks.held ct st.keeps.held before in
+      let sound : AreSound ct = g.met.V.Vault.sound o.vault ct st.keeps.held (c.take.ensures.looks.clean before) in
+      let j = judged T x n st.keeps sound o.policy st.policy o.locks st.locks o.moment st.moment k1 ready over open_yet in
+      let next = next_there ct (took s n o.moment) k1 k1.pending ready c.in-Err-resume.ensures.err in
+      let line = next_kept T x ∙ next.1 in
+      let first = (c.get_mut.follows.holds c.resume.new.self).3 (search rules) in
+      let second = c.cut_off-in-Err-resume.ensures.connections in
+      let gone = over-took T x n next.0 over open_yet line in
+      let sits : k1.session ≡ k.session = ap (λ (k : Kept). k.session) c.take.ensures.kept in
+      stands_after g.V.Vault o _ T (Took x n) outcome.NoMemory
+      (moved g.V.Vault.holds o _ T (Took x n) _ NoMemory x refl st refl refl refl refl refl refl (whole-took T x n NoMemory) refl refl (rw found refl) (λ q e. seen-took_other T x n q NoMemory e)
+      (λ q ne. second.2 q (is_apart x q ne) ∙ first.2 q (is_apart x q ne)) (record {
+        contents = ct;
+        held = c.in-Err-resume.ensures.held_err ct held clean;
+        agree = rw (records-took_lacking T x n next.0 over open_yet line) st.keeps.agree;
+        here = subst (IsKeptFor ct (seen (given T (Took x n) (Tagged NoMemory)) x)) (sym second.1) gone;
+        carried = λ q e i. i;
+        locks = released T.base (acts T) (acts (given T (Took x n) (Tagged NoMemory))) x (λ d q e. ap (λ s. holds_by s d) (seen-took_other T x n q NoMemory e))
+            (λ d. let out = gone.authorization in rw out refl) ct s k1.session c.resume.new.locks _ (subst (IsSession ct s) (sym sits) m.session) refl refl
+            (λ d. c.in-Err-resume.ensures.locks_err d ∙ st.locks d)
+            (subst (λ h. Released h c.resume.new.locks c.cut_off-in-Err-resume.new.locks) (c.maildrop-held.ensures ∙ ap maildrop_of (sym sits)) c.cut_off-in-Err-resume.ensures.locks);
+      }))
+      (record { tag = NoMemory; may = rw (over, open_yet, line) refl; is = rw goes refl }) tt (λ up answered. absurd answered)
+      (λ up. line_left T x st.keeps sound (took s n o.moment) k1 k1.pending (judged_at ct o.policy k1.stamp o.locks) k1.state ready j (Took x n)
+      (λ h nx. records-took_line T x n line_outcome.Done (line_after k1 k1.pending) over open_yet (next_kept T x ∙ nx)) (λ h nx. records-took_none T x n over open_yet (next_kept T x ∙ nx))
+      (c.resume.ensures.acts.stop ct held clean (does.looks.up ct st.keeps.held before up yes)))
+      (g.met.V.Vault.settled _) clean;
+}
 
 pub resume-requires : goal.resume-requires
 resume-requires g c = c.owes_nothing.ensures.nothing c.if-not-owes_nothing.false
@@ -510,59 +304,27 @@ take-requires g c = lent_ready c.in-Some.connection.now.output c.args.octets (c.
 
 pub returns-in-Err-clause-unasked : goal.returns-in-Err-clause-unasked
 returns-in-Err-clause-unasked g c T st clean none =
-    let o = c.args.self.now in
-    let x = c.args.c in
-    let n = c.args.octets in
     let k : Kept = c.in-Some.connection.now in
-    let s = seen T x in
-    let ct = st.keeps.contents in
-    let found : get nat_cmp o.connections x ≡ Some k = sym c.in-Some.ensures.value in
-    let m : Matches ct s k = subst (IsKeptFor ct s) found (st.connections x) in
-    let lends = c.lends.ensures.some c.if-not-lends.false in
-    let fits = lent_ready k.output n lends.1 in
-    c.take.ensures.unasked (taking_reads_none T x n ct k o.moment m fits none)
+    let m = kept_at T c.args.c st k (sym c.in-Some.ensures.value) in
+    c.take.ensures.unasked (taking_reads_none T c.args.c c.args.octets st.keeps.contents k c.args.self.now.moment m (lent_ready k.output c.args.octets (c.lends.ensures.some c.if-not-lends.false).1) none)
 
 pub returns-then-not-taken-clause-unasked : goal.returns-then-not-taken-clause-unasked
 returns-then-not-taken-clause-unasked g c T st clean none =
-    let o = c.args.self.now in
-    let x = c.args.c in
-    let n = c.args.octets in
     let k : Kept = c.in-Some.connection.now in
-    let s = seen T x in
-    let ct = st.keeps.contents in
-    let found : get nat_cmp o.connections x ≡ Some k = sym c.in-Some.ensures.value in
-    let m : Matches ct s k = subst (IsKeptFor ct s) found (st.connections x) in
-    let lends = c.lends.ensures.some c.if-not-lends.false in
-    let fits = lent_ready k.output n lends.1 in
-    c.take.ensures.unasked (taking_reads_none T x n ct k o.moment m fits none)
+    let m = kept_at T c.args.c st k (sym c.in-Some.ensures.value) in
+    c.take.ensures.unasked (taking_reads_none T c.args.c c.args.octets st.keeps.contents k c.args.self.now.moment m (lent_ready k.output c.args.octets (c.lends.ensures.some c.if-not-lends.false).1) none)
 
 pub returns-then-not-owes_nothing-clause-unasked : goal.returns-then-not-owes_nothing-clause-unasked
 returns-then-not-owes_nothing-clause-unasked g c T st clean none =
-    let o = c.args.self.now in
-    let x = c.args.c in
-    let n = c.args.octets in
     let k : Kept = c.in-Some.connection.now in
-    let s = seen T x in
-    let ct = st.keeps.contents in
-    let found : get nat_cmp o.connections x ≡ Some k = sym c.in-Some.ensures.value in
-    let m : Matches ct s k = subst (IsKeptFor ct s) found (st.connections x) in
-    let lends = c.lends.ensures.some c.if-not-lends.false in
-    let fits = lent_ready k.output n lends.1 in
-    c.take.ensures.unasked (taking_reads_none T x n ct k o.moment m fits none)
+    let m = kept_at T c.args.c st k (sym c.in-Some.ensures.value) in
+    c.take.ensures.unasked (taking_reads_none T c.args.c c.args.octets st.keeps.contents k c.args.self.now.moment m (lent_ready k.output c.args.octets (c.lends.ensures.some c.if-not-lends.false).1) none)
 
 pub returns-then-is_closing-clause-unasked : goal.returns-then-is_closing-clause-unasked
 returns-then-is_closing-clause-unasked g c T st clean none =
-    let o = c.args.self.now in
-    let x = c.args.c in
-    let n = c.args.octets in
     let k : Kept = c.in-Some.connection.now in
-    let s = seen T x in
-    let ct = st.keeps.contents in
-    let found : get nat_cmp o.connections x ≡ Some k = sym c.in-Some.ensures.value in
-    let m : Matches ct s k = subst (IsKeptFor ct s) found (st.connections x) in
-    let lends = c.lends.ensures.some c.if-not-lends.false in
-    let fits = lent_ready k.output n lends.1 in
-    c.take.ensures.unasked (taking_reads_none T x n ct k o.moment m fits none)
+    let m = kept_at T c.args.c st k (sym c.in-Some.ensures.value) in
+    c.take.ensures.unasked (taking_reads_none T c.args.c c.args.octets st.keeps.contents k c.args.self.now.moment m (lent_ready k.output c.args.octets (c.lends.ensures.some c.if-not-lends.false).1) none)
 
 pub returns-in-Ok-resume-clause-unasked : goal.returns-in-Ok-resume-clause-unasked
 returns-in-Ok-resume-clause-unasked g c T st clean none =
@@ -572,24 +334,16 @@ returns-in-Ok-resume-clause-unasked g c T st clean none =
     let k : Kept = c.in-Some.connection.now in
     let s = seen T x in
     let ct = st.keeps.contents in
-    let found : get nat_cmp o.connections x ≡ Some k = sym c.in-Some.ensures.value in
-    let m : Matches ct s k = subst (IsKeptFor ct s) found (st.connections x) in
-    let lends = c.lends.ensures.some c.if-not-lends.false in
-    let fits = lent_ready k.output n lends.1 in
+    let m : Matches ct s k = kept_at T x st k (sym c.in-Some.ensures.value) in
+    let fits = lent_ready k.output n (c.lends.ensures.some c.if-not-lends.false).1 in
     let k1 : Kept = c.take.new.self in
     let same = c.take.ensures.unasked (taking_reads_none T x n ct k o.moment m fits none) in
     let before = subst g.V.Vault.is_clean (sym same) clean in
-    let does = c.in-Ok.ensures in
-    let yes : c.in-Ok.taken ≡ true = c.if-not-taken.false in
-    let owes = does.owes yes ct (untaken_of s) st.keeps.held before m.owed in
-    let nothing : k1.output ≡ nothing_owed = c.owes_nothing.ensures.nothing c.if-not-owes_nothing.false in
-    let all = took_all ct s k n o.moment m fits k1.output owes nothing in
-    let open_yet : s.closing ≡ false = sym m.closing ∙ (sym (ap (λ (k : Kept). k.state.closing) c.take.ensures.kept) ∙ (sym c.is_closing.ensures ∙ c.if-is_closing.false)) in
-    let ready : Awaits ct (took s n o.moment) k1 k1.pending = all_taken ct s k n o.moment m fits k1.output owes k1 c.take.ensures.kept nothing open_yet in
+    let a = takes_all ct T x n o.moment k k1 m fits c.take.ensures.kept (c.in-Ok.ensures.owes c.if-not-taken.false ct (untaken_of s) st.keeps.held before m.owed) (c.owes_nothing.ensures.nothing c.if-not-owes_nothing.false)
+    (sym c.is_closing.ensures ∙ c.if-is_closing.false) in
     let sound : AreSound ct = g.met.V.Vault.sound o.vault ct st.keeps.held clean in
-    let over = all_over s n all in
-    let j = judged T x n st.keeps sound o.policy st.policy o.locks st.locks o.moment st.moment k1 ready over open_yet in
-    c.resume.ensures.unasked ct j.transaction j.has_transaction (taking_asks_none T x ct k1 (judged_at ct o.policy k1.stamp o.locks) k1.state k1.session j n o.moment ready over open_yet none) ∙ same
+    let j = judged T x n st.keeps sound o.policy st.policy o.locks st.locks o.moment st.moment k1 a.ready a.over a.open_yet in
+    c.resume.ensures.unasked ct j.transaction j.has_transaction (taking_asks_none T x ct k1 (judged_at ct o.policy k1.stamp o.locks) k1.state k1.session j n o.moment a.ready a.over a.open_yet none) ∙ same
 
 pub returns-in-Err-resume-clause-unasked : goal.returns-in-Err-resume-clause-unasked
 returns-in-Err-resume-clause-unasked g c T st clean none =
@@ -599,24 +353,16 @@ returns-in-Err-resume-clause-unasked g c T st clean none =
     let k : Kept = c.in-Some.connection.now in
     let s = seen T x in
     let ct = st.keeps.contents in
-    let found : get nat_cmp o.connections x ≡ Some k = sym c.in-Some.ensures.value in
-    let m : Matches ct s k = subst (IsKeptFor ct s) found (st.connections x) in
-    let lends = c.lends.ensures.some c.if-not-lends.false in
-    let fits = lent_ready k.output n lends.1 in
+    let m : Matches ct s k = kept_at T x st k (sym c.in-Some.ensures.value) in
+    let fits = lent_ready k.output n (c.lends.ensures.some c.if-not-lends.false).1 in
     let k1 : Kept = c.take.new.self in
     let same = c.take.ensures.unasked (taking_reads_none T x n ct k o.moment m fits none) in
     let before = subst g.V.Vault.is_clean (sym same) clean in
-    let does = c.in-Ok.ensures in
-    let yes : c.in-Ok.taken ≡ true = c.if-not-taken.false in
-    let owes = does.owes yes ct (untaken_of s) st.keeps.held before m.owed in
-    let nothing : k1.output ≡ nothing_owed = c.owes_nothing.ensures.nothing c.if-not-owes_nothing.false in
-    let all = took_all ct s k n o.moment m fits k1.output owes nothing in
-    let open_yet : s.closing ≡ false = sym m.closing ∙ (sym (ap (λ (k : Kept). k.state.closing) c.take.ensures.kept) ∙ (sym c.is_closing.ensures ∙ c.if-is_closing.false)) in
-    let ready : Awaits ct (took s n o.moment) k1 k1.pending = all_taken ct s k n o.moment m fits k1.output owes k1 c.take.ensures.kept nothing open_yet in
+    let a = takes_all ct T x n o.moment k k1 m fits c.take.ensures.kept (c.in-Ok.ensures.owes c.if-not-taken.false ct (untaken_of s) st.keeps.held before m.owed) (c.owes_nothing.ensures.nothing c.if-not-owes_nothing.false)
+    (sym c.is_closing.ensures ∙ c.if-is_closing.false) in
     let sound : AreSound ct = g.met.V.Vault.sound o.vault ct st.keeps.held clean in
-    let over = all_over s n all in
-    let j = judged T x n st.keeps sound o.policy st.policy o.locks st.locks o.moment st.moment k1 ready over open_yet in
-    c.resume.ensures.unasked ct j.transaction j.has_transaction (taking_asks_none T x ct k1 (judged_at ct o.policy k1.stamp o.locks) k1.state k1.session j n o.moment ready over open_yet none) ∙ same
+    let j = judged T x n st.keeps sound o.policy st.policy o.locks st.locks o.moment st.moment k1 a.ready a.over a.open_yet in
+    c.resume.ensures.unasked ct j.transaction j.has_transaction (taking_asks_none T x ct k1 (judged_at ct o.policy k1.stamp o.locks) k1.state k1.session j n o.moment a.ready a.over a.open_yet none) ∙ same
 
 pub returns-in-Ok-resume-clause-account : goal.returns-in-Ok-resume-clause-account
 returns-in-Ok-resume-clause-account g c fresh T st clean =
