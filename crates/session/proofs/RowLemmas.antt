@@ -107,26 +107,31 @@ module _ (policy : Policy) (name : LoginName) where
   abbrev heads_in : List (ℕ × Row) → List Head
   heads_in rows = map (λ (row : ℕ × Head). row.1) (map head_with rows)
 
-  abbrev row_key : Row → ℕ
-  row_key row = row.head.key
+  -- what is asked of the heads that are removed is asked of their rows
+  module _ {B : Type 0} (f : Head → B) where
+    abbrev of_row : Row → B
+    of_row row = f row.head
 
-  allowed_at : (row : Row) (heads : List Head) (rows : List Row) → map key_of heads ≡ map row_key rows → (c : Bool) →
-      map key_of (cond c (row.head ∷ heads) heads) ≡ map row_key (cond c (row ∷ rows) rows)
-  allowed_at row heads rows e true = ap (λ (keys : List ℕ). row.head.key ∷ keys) e
-  allowed_at row heads rows e false = e
+    allowed_at : (row : Row) (heads : List Head) (rows : List Row) → map f heads ≡ map of_row rows → (c : Bool) →
+        map f (cond c (row.head ∷ heads) heads) ≡ map of_row (cond c (row ∷ rows) rows)
+    allowed_at row heads rows e true = ap (λ (bs : List B). f row.head ∷ bs) e
+    allowed_at row heads rows e false = e
 
-  removed_at : (row : Row) (n : ℕ) (rest : List (ℕ × Row)) (rows : List Row) → map key_of (filter allowed (heads_in rest)) ≡ map row_key rows → (b : Bool) →
-      map key_of (filter allowed (heads_in (cond b ((n, row) ∷ rest) rest))) ≡ map row_key (cond (b && allowed row.head) (row ∷ rows) rows)
-  removed_at row n rest rows e true = allowed_at row (filter allowed (heads_in rest)) rows e (allowed row.head)
-  removed_at row n rest rows e false = e
+    removed_at : (row : Row) (n : ℕ) (rest : List (ℕ × Row)) (rows : List Row) → map f (filter allowed (heads_in rest)) ≡ map of_row rows → (b : Bool) →
+        map f (filter allowed (heads_in (cond b ((n, row) ∷ rest) rest))) ≡ map of_row (cond (b && allowed row.head) (row ∷ rows) rows)
+    removed_at row n rest rows e true = allowed_at row (filter allowed (heads_in rest)) rows e (allowed row.head)
+    removed_at row n rest rows e false = e
 
-  removed_from : (rows : List Row) (n : ℕ) → map key_of (filter allowed (heads_in (flagged n rows))) ≡ removable_keys policy name rows
-  removed_from [] n = refl
-  removed_from (row ∷ rows) n = removed_at row n (flagged (n + 1) rows) (filter (is_removable policy name) rows) (removed_from rows (n + 1)) row.is_marked
+    removed_from : (rows : List Row) (n : ℕ) → map f (filter allowed (heads_in (flagged n rows))) ≡ map of_row (filter (is_removable policy name) rows)
+    removed_from [] n = refl
+    removed_from (row ∷ rows) n = removed_at row n (flagged (n + 1) rows) (filter (is_removable policy name) rows) (removed_from rows (n + 1)) row.is_marked
+
+    pub removed-rows : (rows : List Row) → map f (to_remove class_of policy name (marks_of rows) (heads_of rows)) ≡ map of_row (filter (is_removable policy name) rows)
+    removed-rows rows =
+        ap (λ (ms : List (ℕ × Head)). map f (filter allowed (map (λ (row : ℕ × Head). row.1) ms))) (marked-rows rows) ∙ removed_from rows 1
 
   pub to_remove-rows : (rows : List Row) → map key_of (to_remove class_of policy name (marks_of rows) (heads_of rows)) ≡ removable_keys policy name rows
-  to_remove-rows rows =
-      ap (λ (ms : List (ℕ × Head)). map key_of (filter allowed (map (λ (row : ℕ × Head). row.1) ms))) (marked-rows rows) ∙ removed_from rows 1
+  to_remove-rows rows = removed-rows key_of rows
 
   -- ---- what is denied
 

@@ -4,6 +4,7 @@ use Rattle.std.specs.Prelude.{ℕ, Bool, false, not, ◌&&◌, List, filter, map
 use Rattle.std.specs.List.{find}
 use Rattle.std.specs.Option.{option_map}
 use Rattle.creds.specs.declared.login_name.LoginName.{LoginName}
+use Rattle.creds.specs.declared.uid.Uid.{Uid}
 use Rattle.policy.specs.Lane.{Lane}
 use Rattle.policy.specs.Policy.{Policy}
 use Rattle.vault.specs.declared.answer.Head.{Head}
@@ -11,7 +12,7 @@ use Rattle.session.specs.declared.pick.Pick.{Pick}
 use Rattle.session.specs.declared.pick.Pick.TheVariants.{NoSuch, Deleted}
 use Rattle.session.specs.declared.row.Row.{Row}
 use Rattle.session.specs.declared.removals.Removals.{Removals}
-use Rattle.session.specs.Session.{Session}
+use Rattle.session.specs.Session.{Session, uid_of}
 use Rattle.session.specs.View.{numbered_from, at_number, referred, removal, may_remove}
 
 -- the clerk and the maildrop of a lane, as a login's name
@@ -21,6 +22,10 @@ login_of lane = record { clerk = lane.clerk; maildrop = lane.maildrop }
 -- the heads, in order
 abbrev pub heads_of : List Row → List Head
 heads_of rows = map (λ (row : Row). row.head) rows
+
+-- the unique-ids, in order
+abbrev pub uids_of_rows : List Row → List Uid
+uids_of_rows rows = map (λ (row : Row). uid_of row.head) rows
 
 -- the numbers of the marked rows, the first row being number n
 abbrev pub marked_from : ℕ → List Row → List ℕ

@@ -6,6 +6,7 @@ mod laws;
 mod listing;
 mod pick;
 mod removals;
+mod removed;
 mod row;
 mod session;
 
@@ -13,4 +14,5 @@ pub use laws::marks_are_asked_by_number;
 pub use listing::{Sizes, Uids};
 pub use pick::Pick;
 pub use removals::Removals;
+pub use removed::Removed;
 pub use session::Session;

@@ -1,11 +1,12 @@
 //! The messages of a view, each with its mark.
 ghost use Rattle.std.specs.Prelude.{◌≡◌, ◌<◌, ◌≤◌, not, length, map, count_by, sum_by, find, min};
-ghost use Rattle.std.specs.Prelude.{IfOk, OnOk};
+ghost use Rattle.std.specs.Prelude.{filter, IfOk, OnOk};
 ghost use Rattle.std.specs.Option.{option_copied};
 ghost use Rattle.session.specs.declared.row.Row.{Row};
 ghost use Rattle.session.specs.Session.{class_of, mark_answer};
 ghost use Rattle.session.specs.Rows.{login_of, heads_of, unmarked_row, octets_unless_marked};
-ghost use Rattle.session.specs.Rows.{row_picked, is_denied, removable_keys, denying_rule};
+ghost use Rattle.session.specs.Rows.{row_picked, is_removable, is_denied, removable_keys};
+ghost use Rattle.session.specs.Rows.{denying_rule};
 ghost use Rattle.session.specs.View.{visible, retrieval, removal};
 
 use crate::pick::Pick;
@@ -125,6 +126,14 @@ pub(crate) fn removable_keys(
         .filter(|row| row.is_marked && removal(lane, &row.head.class).allowed)
         .map(|row| row.head.key)
         .collect(alloc)
+}
+
+/// Keeps the rows of the marked messages that the policy lets the clerk remove.
+pub(crate) fn keep_removable(lane: &Lane<'_>, rows: &mut Vec<Row>)
+    ensures { rows.new.items
+        ≡ filter (is_removable lane.now.policy (login_of lane.now)) rows.old.items }
+{
+    rows.retain(|row| row.is_marked && removal(lane, &row.head.class).allowed);
 }
 
 /// The first marked message whose removal the policy denies.

@@ -9,9 +9,10 @@ ghost use Rattle.session.specs.View.{total_of, to_remove, denying};
 use crate::listing::{Sizes, Uids};
 use crate::pick::Pick;
 use crate::removals::Removals;
+use crate::removed::Removed;
 use crate::row::{
-    Row, denying_rule, head_at, judge_mark, marked_count, removable_keys, retrieval, totals,
-    unmark_all, visible_rows,
+    Row, denying_rule, head_at, judge_mark, keep_removable, marked_count, removable_keys,
+    retrieval, totals, unmark_all, visible_rows,
 };
 use creds::{LoginName, Name};
 use policy::Policy;
@@ -188,5 +189,31 @@ impl Session {
         let keys = removable_keys(alloc, &lane, &self.rows)?;
         let rule = denying_rule(&lane, &self.rows);
         Ok((keys, rule))
+    }
+
+    /// The name of the rule that denies the removal of the lowest numbered marked message that this
+    /// policy keeps, if it keeps one. It allocates nothing.
+    pub fn denying(&self, policy: &Policy) -> Option<Name>
+        ensures { result ≡ denying class_of policy.now self.now.name self.now.marks self.now.view }
+    {
+        let lane = policy.lane(&self.name.clerk, &self.name.maildrop);
+        denying_rule(&lane, &self.rows)
+    }
+
+    /// Ends the session, and tells what its QUIT removes under this policy, by unique-ids in order.
+    /// It allocates nothing.
+    pub fn into_removed(self, policy: &Policy) -> Removed
+        ensures { result ≡ map uid_of (to_remove class_of policy.now self.name self.marks
+            self.view) }
+    {
+        let Session {
+            name,
+            removals: _,
+            rows,
+        } = self;
+        let mut rows = rows;
+        let lane = policy.lane(&name.clerk, &name.maildrop);
+        keep_removable(&lane, &mut rows);
+        Removed::new(rows)
     }
 }
