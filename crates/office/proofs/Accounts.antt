@@ -17,13 +17,12 @@ use Rattle.office.specs.History.{Act, Line, Idle, Tag, Done, Failed, NoMemory, S
 use Rattle.office.specs.Connections.{is_quit, reading, user}
 use Rattle.office.specs.Sessions.{in_session}
 use Rattle.office.specs.Replying.{said_to_line, reply_to_cut}
-use Rattle.office.specs.Events.{Event, Mark, Ignored, Tagged, Trace}
+use Rattle.office.specs.Events.{Mark, Ignored, Tagged, Trace}
 use Rattle.office.specs.Events as event
 use Rattle.office.specs.Answers.{AdminCommand}
 use Rattle.office.specs.Trace.{history, idle_acts, idle_numbers, acts_of_piece, acts_of_took, line_act}
 use Rattle.office.specs.Kept.{LineContext, asks}
 use Rattle.office.specs.Transaction.{Transaction, LiesIn, transaction_of, transaction_said, transaction_answered, refused_reading, transaction_asks, transaction_reply}
-use Rattle.office.specs.Telling.{is_told}
 use Rattle.office.specs.Answered.{reply_of, tag_of, HasTransaction}
 use Rattle.office.specs.Accounts.{command_account, fault_told, line_account, transaction_account, quit_or, quit_account, removal_by, line_told, acts_account, account_of, removal_told, removal_seen, state_account}
 use Rattle.office.specs.declared.account.Account.{Account}
@@ -32,7 +31,7 @@ use Rattle.office.specs.declared.account.Removal.{Removal}
 use Rattle.office.specs.declared.login_state.LoginState.{LoginState}
 use Rattle.office.specs.declared.login_state.LineOutcome.{LineOutcome}
 use Rattle.office.specs.declared.login_state.LineOutcome.TheVariants as outcome
-use Rattle.office.proofs.Quitting.{counted_alike, denying_alike, marks_counted}
+use Rattle.office.proofs.Quitting.{removed_alike, denying_alike, marks_counted}
 use Rattle.office.proofs.Judging.{Judges}
 
 -- ---- a session's lines
@@ -70,15 +69,19 @@ transaction_fault p v (Syntax keyword.Apop) = refl
 transaction_fault p v (Syntax _) = refl
 
 -- a command whose reply is made without the store
-no_quit : (w : LineOutcome) (p : Policy) (s : Session) (command : Command) (said : Said) → is_told command ≡ true → transaction_account w p s (Ok command) said ≡ command_account command said None
-no_quit w p s Quit said is = absurd (true≢false (sym is))
-no_quit w p s _ said is = refl
-
-pub told_so : (p : Policy) (s : Session) (v : Transaction) (w : LineOutcome) (command : Command) (reply : Reply) (told : Account) → is_told command ≡ true → w ≡ outcome.Done
+pub told_so : (p : Policy) (v : Transaction) (w : LineOutcome) (command : Command) (reply : Reply) (told : Account) → w ≡ outcome.Done
     → reply ≡ transaction_said p v (Ok command) → told ≡ command_account command (Says reply) None
-    → told ≡ transaction_account w p s (Ok command) (Says (transaction_answered w p v (Ok command)))
-told_so p s v w command reply told is e said so =
-    rw e (so ∙ (ap (λ (r : Reply). command_account command (Says r) None) said ∙ sym (no_quit outcome.Done p s command (Says (transaction_said p v (Ok command))) is)))
+    → told ≡ command_account command (Says (transaction_answered w p v (Ok command))) None
+told_so p v w command reply told e said so = rw e (so ∙ ap (λ (r : Reply). command_account command (Says r) None) said)
+
+-- a session's line that is no QUIT, and one that is
+pub not_quitting : (w : LineOutcome) (p : Policy) (s : Session) (r : Result Command LineFault) (said : Said) → is_quit r ≡ false
+    → transaction_account w p s r said ≡ line_account r said None
+not_quitting w p s r said e = ap (λ (b : Bool). quit_or b (account.Quit (removal_told w p s)) (line_account r said None)) e
+
+pub quitting : (w : LineOutcome) (p : Policy) (s : Session) (r : Result Command LineFault) (said : Said) → is_quit r ≡ true
+    → transaction_account w p s r said ≡ account.Quit (removal_told w p s)
+quitting w p s r said e = ap (λ (b : Bool). quit_or b (account.Quit (removal_told w p s)) (line_account r said None)) e
 
 -- a QUIT before a login
 quits_told : (r : Result Command LineFault) (said : Said) (u : Option LoginName) → is_quit r ≡ true → line_account r said u ≡ account.QuitBeforeLogin
@@ -88,10 +91,10 @@ quits_told _ said u e = absurd (true≢false (sym e))
 -- what is kept of a session removes what the store's messages say
 removal_alike : (c : Contents) (p : Policy) (s : Session) (kept : List Keyed) → LiesIn c s kept → (w : LineOutcome) → removal_told w p s ≡ removal_seen w p (transaction_of s kept)
 removal_alike c p s kept lies w =
-    let counted = counted_alike c p s kept lies in
+    let removed = removed_alike c p s kept lies in
     let denied = denying_alike c p s kept lies in
     let marks = marks_counted c p s kept lies in
-    rw (counted, denied, marks) refl
+    rw (removed, denied, marks) refl
 
 -- a line before a login is told by its reply
 pub authorization_told : (w : LineOutcome) (p : Policy) (r : Result Command LineFault) (said : Said) (u : Option LoginName) → line_account r said u ≡ state_account w p None r said u

@@ -1,8 +1,9 @@
 -- What a QUIT asks of the store, and what it leaves.
-use Rattle.std.proofs.Common.{◌≡◌, ℕ, suc, ◌==◌, length, arith, Bool, true, false, not, ◌&&◌, List, [], ◌∷◌, Option, Some, None, Ok, refl, sym, ◌∙◌, ap, subst}
+use Rattle.std.proofs.Common.{◌≡◌, ℕ, ◌==◌, length, arith, Bool, true, false, not, ◌&&◌, List, [], ◌∷◌, Option, Some, None, Ok, refl, sym, ◌∙◌, ap, subst}
 use Rattle.std.proofs.lemmas.Bool.Decides.{nat_tests}
 use Rattle.std.specs.Prelude.{map}
 use Rattle.std.specs.Str.{bytes_eq}
+use Rattle.creds.specs.declared.uid.Uid.{Uid}
 use Rattle.popline.specs.Commands.{Quit}
 use Rattle.popline.specs.Replies.{RemovalFailed}
 use Rattle.policy.specs.Policy.{Policy}
@@ -56,9 +57,9 @@ store_refused fault.NoClerk r n = cc
 
 -- ---- the marked messages
 
-same_length : {A B : Type 0} (f : A → B) (xs : List A) → length (map f xs) ≡ length xs
-same_length f [] = refl
-same_length f (x ∷ xs) = ap suc (same_length f xs)
+same_uids : (xs : List Keyed) → map head.uid_of (map head_of xs) ≡ map records.uid_of (map message_of xs)
+same_uids [] = refl
+same_uids (x ∷ xs) = ap (λ (uids : List Uid). head.uid_of (head_of x) ∷ uids) (same_uids xs)
 
 quit_keeps : (o : Option (List ℕ)) (marks : List ℕ) → marks_after_line (Says (quit_says o)) marks ≡ marks
 quit_keeps None marks = refl
@@ -99,11 +100,12 @@ module _ (c : Contents) (p : Policy) (s : Session) (kept : List Keyed) (lies : L
       ap (λ (view : List Head). length (marked s.marks view)) lies.heads
       ∙ (length_marked-map head_of s.marks kept ∙ sym (length_marked-map message_of s.marks kept))
 
-  pub counted_alike : length (keys_to_remove p s) ≡ length (to_remove records.class_of p s.name s.marks (map message_of kept))
-  counted_alike =
-      ap length keys_chosen
-      ∙ (same_length head.key_of (map head_of chosen) ∙ (same_length head_of chosen
-      ∙ sym (ap length (to_remove-map message_of records.class_of p s.name s.marks kept) ∙ same_length message_of chosen)))
+  -- what it tells as removed
+  pub removed_alike : map head.uid_of (to_remove head.class_of p s.name s.marks s.view) ≡ map records.uid_of (to_remove records.class_of p s.name s.marks (map message_of kept))
+  removed_alike =
+      ap (λ (view : List Head). map head.uid_of (to_remove head.class_of p s.name s.marks view)) lies.heads
+      ∙ (ap (map head.uid_of) (to_remove-map head_of head.class_of p s.name s.marks kept)
+      ∙ (same_uids chosen ∙ sym (ap (map records.uid_of) (to_remove-map message_of records.class_of p s.name s.marks kept))))
 
   module _ (After : Contents → Type 0) (grown : Bool) (after : Output) where
     pub quit_done : (denied : Option (List ℕ)) → denied ≡ denying head.class_of p s.name s.marks s.view → OwesReply c None after (quit_says denied)

@@ -5,6 +5,7 @@ use Rattle.policy.specs.Policy.{Policy}
 use Rattle.vault.specs.Changes.{Contents}
 use Rattle.session.specs.Session.{Session}
 use Rattle.office.specs.Transaction.{held_after_line}
+use Rattle.office.specs.Connections.{is_quit}
 use Rattle.office.specs.Telling.{is_told}
 use Rattle.office.specs.declared.login_state.LineOutcome.TheVariants as outcome
 
@@ -24,3 +25,8 @@ stays_held p s c (Top n k) e = refl
 stays_held p s c (Dele n) e = refl
 stays_held p s c Rset e = refl
 stays_held p s c Noop e = refl
+
+-- it is no QUIT
+pub told_not_quit : (command : Command) → is_told command ≡ true → is_quit (Ok command) ≡ true → ⊥
+told_not_quit Quit e q = cc
+told_not_quit _ e q = cc

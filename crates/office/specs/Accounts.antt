@@ -1,7 +1,7 @@
 -- What an office judged in an event: the account of the line that acted in it, by the history
 -- before it.
 use Rattle.std.specs.Prelude.{◌≡◌, ℕ, Bool, true, false, List, []}
-use Rattle.std.specs.Prelude.{◌∷◌, length, Option, Some, None, Result, Ok, Err}
+use Rattle.std.specs.Prelude.{◌∷◌, length, map, Option, Some, None, Result, Ok, Err}
 use Rattle.creds.specs.declared.login_name.LoginName.{LoginName}
 use Rattle.popline.specs.Commands.{Command, Pass, Apop, Dele, Rset, Quit}
 use Rattle.popline.specs.declared.command.LineFault.{LineFault}
@@ -11,7 +11,7 @@ use Rattle.popline.specs.Replies.{MaildropHas, LoginFailed, LoginFailedClosing, 
 use Rattle.popline.specs.Replies.{DeniedBy, NoSuchMaildrop, InUse, StoreFailed, BadArguments}
 use Rattle.policy.specs.Policy.{Policy}
 use Rattle.popline.specs.Cutting.{Cut}
-use Rattle.vault.specs.Records.{Records, class_of}
+use Rattle.vault.specs.Records.{Records, class_of, uid_of}
 use Rattle.session.specs.Session.{Session}
 use Rattle.session.specs.Session as head
 use Rattle.session.specs.View.{marked as rows_marked, to_remove, denying}
@@ -22,7 +22,7 @@ use Rattle.office.specs.Replying.{said_to_line}
 use Rattle.office.specs.Events.{Event, Mark, Trace}
 use Rattle.office.specs.Outcomes.{Outcome, mark_of}
 use Rattle.office.specs.Trace.{history, acts_at}
-use Rattle.office.specs.Transaction.{Transaction, keys_to_remove}
+use Rattle.office.specs.Transaction.{Transaction}
 use Rattle.office.specs.declared.login_state.LineOutcome.{LineOutcome}
 use Rattle.office.specs.declared.login_state.LineOutcome.TheVariants as outcome
 use Rattle.office.specs.declared.account.Account.{Account}
@@ -91,7 +91,7 @@ abbrev pub removal_by : Records → List Entry → ℕ → Tag → LoginName →
 removal_by B G c t name = record {
   name = name;
   marked = length (rows_marked (marks G c) (view B G c));
-  messages = length (to_remove class_of (in_force B G) name (marks G c) (view B G c));
+  removed = map uid_of (to_remove class_of (in_force B G) name (marks G c) (view B G c));
   denied = denying class_of (in_force B G) name (marks G c) (view B G c);
   is_done = is_done t;
 }
@@ -137,7 +137,7 @@ abbrev pub removal_told : LineOutcome → Policy → Session → Removal
 removal_told w p s = record {
   name = s.name;
   marked = length (rows_marked s.marks s.view);
-  messages = length (keys_to_remove p s);
+  removed = map head.uid_of (to_remove head.class_of p s.name s.marks s.view);
   denied = denying head.class_of p s.name s.marks s.view;
   is_done = was_done w;
 }
@@ -147,7 +147,7 @@ abbrev pub removal_seen : LineOutcome → Policy → Transaction → Removal
 removal_seen w p v = record {
   name = v.name;
   marked = length (rows_marked v.marks v.view);
-  messages = length (to_remove class_of p v.name v.marks v.view);
+  removed = map uid_of (to_remove class_of p v.name v.marks v.view);
   denied = denying class_of p v.name v.marks v.view;
   is_done = was_done w;
 }

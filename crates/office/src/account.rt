@@ -5,10 +5,14 @@ ghost use Rattle.office.specs.History.{Says};
 ghost use Rattle.office.specs.Connections.{reading};
 ghost use Rattle.office.specs.Accounts.{verdict as verdict_of, login_told, mark_told, reset_told};
 ghost use Rattle.office.specs.Accounts.{command_account, fault_told, line_account};
+ghost use Rattle.office.specs.Accounts.{removal_told, was_done as was_done_so};
 
 use crate::command_line::CommandLine;
+use crate::login_state::LineOutcome;
 use creds::{LoginName, Name};
+use policy::Policy;
 use popline::{Command, Keyword, LineFault, Reply};
+use session::{Removed, Session};
 
 /// By which command a login gives its credential (RFC 1939, 7).
 #[derive(Clone, Copy)]
@@ -36,22 +40,23 @@ pub enum Verdict {
 }
 
 /// What a session's QUIT removed.
-#[derive(Clone, Copy)]
+#[derive(Drop)]
 pub struct Removal {
     /// Whose session it was, in which maildrop.
     pub name: LoginName,
     /// How many messages were marked.
     pub marked: usize,
-    /// How many of the marked messages the policy let the clerk remove.
-    pub messages: usize,
+    /// The marked messages that the policy let the clerk remove, by their unique-ids.
+    pub removed: Removed,
     /// The rule that kept the lowest numbered of the other marked messages, where one did.
     pub denied: Option<Name>,
     /// Whether they were removed: all of them; or none, where the store failed.
     pub is_done: bool,
 }
 
-/// What an office judged in an event. It takes no memory, and holds no password and no digest.
-#[derive(Clone, Copy)]
+/// What an office judged in an event. It takes no memory but that of a session which quit, and
+/// holds no password and no digest.
+#[derive(Drop)]
 pub enum Account {
     /// Nothing of what follows.
     Nothing,
@@ -83,6 +88,16 @@ fn judgement(reply: &Reply<'_>) -> Option<Verdict>
         Reply::InUse => Some(Verdict::InUse),
         Reply::StoreFailed => Some(Verdict::StoreFailed),
         _ => None,
+    }
+}
+
+/// Whether a line that was answered so was done.
+fn was_done(outcome: LineOutcome) -> bool
+    ensures { result ≡ was_done_so outcome }
+{
+    match outcome {
+        LineOutcome::Done => true,
+        LineOutcome::Failed => false,
     }
 }
 
@@ -166,5 +181,25 @@ impl Account {
             Ok(command) => Account::of_command(command, reply, user),
             Err(why) => of_fault(*why, reply),
         }
+    }
+
+    /// The account of a session's QUIT, which ends it. `outcome` says whether what the policy lets
+    /// the clerk remove was removed. It takes no memory.
+    pub(crate) fn of_quit(session: Session, policy: &Policy, outcome: LineOutcome) -> Account
+        ensures { result ≡ Account.Quit (removal_told outcome policy.now session) }
+    {
+        let name = LoginName {
+            clerk: session.clerk(),
+            maildrop: session.maildrop(),
+        };
+        let marked = session.marked();
+        let denied = session.denying(policy);
+        Account::Quit(Removal {
+            name,
+            marked,
+            removed: session.into_removed(policy),
+            denied,
+            is_done: was_done(outcome),
+        })
     }
 }

@@ -236,8 +236,8 @@ fn authorization_answer<V: Vault>(
 }
 
 /// Answers a line of a session, and returns the session. A QUIT ends it, and lets its maildrop's
-/// lock go. `account`, which tells nothing yet, becomes what the line did to the marks, or a QUIT's
-/// account.
+/// lock go. `account`, which tells nothing yet, becomes what the line did to the marks, or what the
+/// QUIT removed.
 fn transaction_answer<V: Vault>(
     alloc: Global,
     vault: &mut V,
@@ -309,6 +309,7 @@ fn transaction_answer<V: Vault>(
     *state = transaction::next_login_state(line, outcome, *state);
     if line.is_quit() {
         release(locks, Some(maildrop));
+        *account = Account::of_quit(session, context.policy, outcome);
         return Ok((outcome, None));
     }
     Ok((outcome, Some(session)))

@@ -1,21 +1,18 @@
 //! The end of a session: what its QUIT removes, and the farewell (RFC 1939, 6).
-ghost use Rattle.std.specs.Prelude.{◌≡◌, List, [], length, Ok, OnErr, IfOk, IsOkAnd};
+ghost use Rattle.std.specs.Prelude.{◌≡◌, List, [], Ok, OnErr, IfOk, IsOkAnd};
 ghost use Rattle.popline.specs.Commands.{Quit};
 ghost use Rattle.popline.specs.Seen.{reply_seen};
 ghost use Rattle.vault.specs.Changes.{Contents};
 ghost use Rattle.vault.specs.Calls.{has_grown};
 ghost use Rattle.vault.specs.declared.record.Keyed.{Keyed};
-ghost use Rattle.session.specs.View.{marked as rows_marked};
 ghost use Rattle.office.specs.Replying.{quit_says};
 ghost use Rattle.office.specs.Output.{nothing_owed};
 ghost use Rattle.office.specs.Transaction.{LiesIn, IsAnswered, keys_to_remove, without_marked};
-ghost use Rattle.office.specs.Accounts.{removal_told};
 ghost use Rattle.office.specs.Stopping.{ActsOnce, WasDone};
 
-use crate::account::{Account, Removal};
 use crate::login_state::LineOutcome;
 use crate::output::Output;
-use creds::{LoginName, Name};
+use creds::Name;
 use policy::Policy;
 use popline::Reply;
 use session::Session;
@@ -35,41 +32,15 @@ fn farewell(denied: &Option<Name>) -> Reply<'static>
     }
 }
 
-/// The account of a session's QUIT.
-fn quitting(session: &Session, messages: usize, denied: &Option<Name>, is_done: bool) -> Account
-    ensures { result ≡ Account.Quit
-        (record {
-          name = session.now.name;
-          marked = length (rows_marked session.now.marks session.now.view);
-          messages = messages;
-          denied = denied.now;
-          is_done =
-              is_done;
-        }) }
-{
-    let name = LoginName {
-        clerk: session.clerk(),
-        maildrop: session.maildrop(),
-    };
-    Account::Quit(Removal {
-        name,
-        marked: session.marked(),
-        messages,
-        denied: *denied,
-        is_done,
-    })
-}
-
 /// Removes the marked messages that the policy lets the clerk remove, all or none, and says
-/// farewell. The removal comes last: whatever else may fail is done before it. `account` becomes
-/// what was removed.
+/// farewell. The removal comes last: whatever else may fail is done before it. The session stays as
+/// it is: the caller ends it.
 pub(crate) fn quit<V: Vault>(
     alloc: Global,
     vault: &mut V,
     policy: &Policy,
     output: &mut Output,
     session: &Session,
-    account: &mut Account,
 ) -> Result<LineOutcome, AllocError>
     requires { output.old ≡ nothing_owed }
     ensures done { IfOk result (λ outcome. (c : Contents) (kept : List Keyed)
@@ -81,9 +52,6 @@ pub(crate) fn quit<V: Vault>(
         → V.holds vault.new c) }
     ensures acts { ActsOnce V.Vault vault.old vault.new (IsOkAnd result WasDone)
         (without_marked policy.now session.now) }
-    ensures account { IfOk result (λ outcome. account.new ≡ Account.Quit
-        (removal_told outcome policy.now session.now)) }
-    ensures account_err { OnErr result (account.new ≡ account.old) }
     // Where nothing is to be removed, no store is asked.
     ensures unasked { keys_to_remove policy.now session.now ≡ [] → vault.new ≡ vault.old }
 {
@@ -91,19 +59,14 @@ pub(crate) fn quit<V: Vault>(
     output.reserve(REFUSAL_OCTETS)?;
     output.say(alloc, &farewell(&denied))?;
     if keys.is_empty() {
-        *account = quitting(session, keys.len(), &denied, true);
         return Ok(LineOutcome::Done);
     }
     match vault.remove(&session.maildrop(), &keys) {
-        Ok(()) => {
-            *account = quitting(session, keys.len(), &denied, true);
-            Ok(LineOutcome::Done)
-        }
+        Ok(()) => Ok(LineOutcome::Done),
         Err(VaultFault::NoMemory) => Err(AllocError),
         Err(_) => {
             output.clear();
             output.say(alloc, &Reply::RemovalFailed)?;
-            *account = quitting(session, keys.len(), &denied, false);
             Ok(LineOutcome::Failed)
         }
     }

@@ -12,7 +12,7 @@ ghost use Rattle.session.specs.Session.{Session as State};
 ghost use Rattle.office.specs.History.{Says};
 ghost use Rattle.office.specs.Connections.{reading, is_quit};
 ghost use Rattle.office.specs.Kept.{login_state_after};
-ghost use Rattle.office.specs.Accounts.{command_account, transaction_account};
+ghost use Rattle.office.specs.Accounts.{command_account, line_account};
 ghost use Rattle.office.specs.Telling.{is_told};
 ghost use Rattle.office.specs.Stopping.{WasDone, ActsOnce};
 ghost use Rattle.office.specs.Output.{nothing_owed, OwesReply};
@@ -95,7 +95,7 @@ fn put(
 }
 
 /// Does what a command says, and puts the reply. `account`, which tells nothing yet, becomes what
-/// it did to the marks, or a QUIT's account.
+/// it did to the marks. A QUIT leaves the session and `account` to the caller.
 fn answer_command<V: Vault>(
     alloc: Global,
     vault: &mut V,
@@ -116,21 +116,22 @@ fn answer_command<V: Vault>(
         → V.holds vault.new c) }
     ensures acts { ActsOnce V.Vault vault.old vault.new (IsOkAnd result WasDone)
         (held_after_line LineOutcome.Done policy.now session.old (Ok (command_seen command.now))) }
-    ensures account { account.old ≡ Account.Nothing
+    ensures account { is_quit (Ok (command_seen command.now)) ≡ false
+        → account.old ≡ Account.Nothing
         → IfOk result (λ outcome. (c : Contents) (kept : List Keyed)
         → LiesIn c session.old kept
-        → account.new ≡ transaction_account outcome policy.now session.old
-        (Ok (command_seen command.now))
+        → account.new ≡ command_account (command_seen command.now)
         (Says (transaction_answered outcome policy.now (transaction_of session.old kept)
-        (Ok (command_seen command.now))))) }
+        (Ok (command_seen command.now)))) None) }
     ensures account_err { OnErr result (account.new ≡ account.old) }
+    ensures quits { is_quit (Ok (command_seen command.now)) ≡ true → session.new ≡ session.old }
     ensures unasked { (c : Contents) (kept : List Keyed) → LiesIn c session.old kept
         → transaction_asks policy.now (transaction_of session.old kept)
         (Ok (command_seen command.now))
         ≡ false → vault.new ≡ vault.old }
 {
     match command {
-        Command::Quit => quit(alloc, vault, policy, output, session, account),
+        Command::Quit => quit(alloc, vault, policy, output, session),
         Command::List(None) => list(alloc, session, output),
         Command::Uidl(None) => list_uids(alloc, session, output),
         Command::Retr(n) => retrieve(alloc, vault, output, session, policy, *n),
@@ -143,7 +144,7 @@ fn answer_command<V: Vault>(
 }
 
 /// Does what a line says, and puts the reply. `account`, which tells nothing yet, becomes what it
-/// did to the marks, or a QUIT's account.
+/// did to the marks. A QUIT leaves the session and `account` to the caller.
 fn answer_reading<V: Vault>(
     alloc: Global,
     vault: &mut V,
@@ -163,13 +164,14 @@ fn answer_reading<V: Vault>(
         → V.holds vault.new c) }
     ensures acts { ActsOnce V.Vault vault.old vault.new (IsOkAnd result WasDone)
         (held_after_line LineOutcome.Done policy.now session.old (reading line.now)) }
-    ensures account { account.old ≡ Account.Nothing
+    ensures account { is_quit (reading line.now) ≡ false → account.old ≡ Account.Nothing
         → IfOk result (λ outcome. (c : Contents) (kept : List Keyed)
         → LiesIn c session.old kept
-        → account.new ≡ transaction_account outcome policy.now session.old (reading line.now)
+        → account.new ≡ line_account (reading line.now)
         (Says (transaction_answered outcome policy.now (transaction_of session.old kept)
-        (reading line.now)))) }
+        (reading line.now))) None) }
     ensures account_err { OnErr result (account.new ≡ account.old) }
+    ensures quits { is_quit (reading line.now) ≡ true → session.new ≡ session.old }
     ensures unasked { (c : Contents) (kept : List Keyed) → LiesIn c session.old kept
         → transaction_asks policy.now (transaction_of session.old kept) (reading line.now) ≡ false
         → vault.new ≡ vault.old }
@@ -180,9 +182,9 @@ fn answer_reading<V: Vault>(
     }
 }
 
-/// Answers a line of a session: puts its reply, and sets or takes away marks. A QUIT removes the
-/// marked messages; the caller then ends the session. `account`, which tells nothing yet, becomes
-/// what the line did to the marks, or a QUIT's account.
+/// Answers a line of a session: puts its reply, and sets or takes away marks. `account`, which
+/// tells nothing yet, becomes what the line did to the marks. A QUIT removes the marked messages;
+/// the caller then ends the session, which stays as it is, and gives its account.
 pub(crate) fn answer<V: Vault>(
     alloc: Global,
     vault: &mut V,
@@ -221,13 +223,13 @@ pub(crate) fn answer<V: Vault>(
         → has_grown (V.faults vault.old) (V.faults vault.new) ≡ true) }
     ensures acts { ActsOnce V.Vault vault.old vault.new (IsOkAnd result WasDone)
         (held_after_line LineOutcome.Done policy.now session.old (reading line.now)) }
-    ensures account { account.old ≡ Account.Nothing
+    ensures account { is_quit (reading line.now) ≡ false → account.old ≡ Account.Nothing
         → IfOk result (λ outcome. (c : Contents) (kept : List Keyed)
         → LiesIn c session.old kept
-        → account.new ≡ transaction_account outcome policy.now session.old (reading line.now)
-        (Says (transaction_reply outcome policy.now
-        (transaction_of session.old kept) line.now))) }
+        → account.new ≡ line_account (reading line.now) (Says (transaction_reply outcome policy.now
+        (transaction_of session.old kept) line.now)) None) }
     ensures account_err { OnErr result (account.new ≡ account.old) }
+    ensures quits { is_quit (reading line.now) ≡ true → session.new ≡ session.old }
     ensures unasked { (c : Contents) (kept : List Keyed) → LiesIn c session.old kept
         → transaction_asks policy.now (transaction_of session.old kept) (reading line.now) ≡ false
         → vault.new ≡ vault.old }

@@ -1,7 +1,10 @@
-use Rattle.std.proofs.Common.{◌≡◌, true, false, sym, ◌∙◌, subst, rules}
+use Rattle.std.proofs.Common.{◌≡◌, true, false, sym, ◌∙◌, ap, subst, rules}
+use Rattle.session.specs.Session.{Session}
 use Rattle.office.specs.History.{Says}
 use Rattle.office.specs.Connections.{reading, is_quit}
-use Rattle.office.specs.Accounts.{transaction_account}
+use Rattle.office.specs.Accounts.{transaction_account, removal_told}
+use Rattle.office.specs.declared.account.Account.TheVariants as account
+use Rattle.office.proofs.Accounts.{quitting, not_quitting}
 use Rattle.office.specs.Output.{OwesReply}
 use Rattle.office.specs.Transaction.{Transaction, transaction_of, session_if, transaction_reply, transaction_asks}
 use Rattle.office.proofs.lines.transaction_answer.Goals as goal
@@ -120,14 +123,16 @@ pub returns-then-is_quit-clause-account : goal.returns-then-is_quit-clause-accou
 returns-then-is_quit-clause-account g c fresh d v sits =
     let w = c.in_ok-outcome.outcome in
     let p = c.args.context.policy.now in
-    let x = c.args.line.now in
-    subst (λ (v : Transaction). c.answer.new.account ≡ transaction_account w p c.args.session (reading x) (Says (transaction_reply w p v x))) (sym sits.2)
-    (c.in_ok-outcome.ensures.account fresh d sits.0 sits.1)
+    let r = reading c.args.line.now in
+    let q : is_quit r ≡ true = sym c.is_quit.ensures ∙ c.if-is_quit.true in
+    c.of_quit.ensures ∙ (ap (λ (s : Session). account.Quit (removal_told w p s)) (c.answer.ensures.quits q)
+    ∙ sym (quitting w p c.args.session r _ q))
 
 pub returns-clause-account : goal.returns-clause-account
 returns-clause-account g c fresh d v sits =
     let w = c.in_ok-outcome.outcome in
     let p = c.args.context.policy.now in
     let x = c.args.line.now in
+    let q : is_quit (reading x) ≡ false = sym c.is_quit.ensures ∙ c.if-is_quit.false in
     subst (λ (v : Transaction). c.answer.new.account ≡ transaction_account w p c.args.session (reading x) (Says (transaction_reply w p v x))) (sym sits.2)
-    (c.in_ok-outcome.ensures.account fresh d sits.0 sits.1)
+    (c.in_ok-outcome.ensures.account q fresh d sits.0 sits.1 ∙ sym (not_quitting w p c.args.session (reading x) _ q))

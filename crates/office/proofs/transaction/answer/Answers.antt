@@ -1,11 +1,11 @@
-use Rattle.std.proofs.Common.{◌≡◌, false, sym, ◌∙◌, subst}
+use Rattle.std.proofs.Common.{◌≡◌, false, None, sym, ◌∙◌, subst}
 use Rattle.popline.specs.Cutting.{Cut}
 use Rattle.popline.specs.Replies.{Reply}
 use Rattle.office.specs.Connections.{reading}
 use Rattle.office.specs.LongLine.{is_too_long}
 use Rattle.office.specs.Output.{OwesReply}
 use Rattle.office.specs.History.{Says}
-use Rattle.office.specs.Accounts.{transaction_account}
+use Rattle.office.specs.Accounts.{line_account}
 use Rattle.office.specs.Transaction.{GoesOn, session_left, transaction_of}
 use Rattle.office.proofs.Obeying.{if_ok_so, if_ok_both, answered_alike, is_the_long}
 use Rattle.office.proofs.transaction.answer.Goals as goal
@@ -42,15 +42,18 @@ returns-then-is_too_long-clause-owed g c = if_ok_both _ c.say.result c.say.ensur
     rw (e, long) (said d _))
 
 pub returns-clause-account : goal.returns-clause-account
-returns-clause-account g c fresh =
+returns-clause-account g c other fresh =
     let x : Cut = c.args.line.now in
     let p = c.args.policy.now in
     let s = c.args.session.now in
     let fits : is_too_long x ≡ false = sym c.is_too_long.ensures ∙ c.if-is_too_long.false in
-    if_ok_so _ c.answer_reading.result (c.answer_reading.ensures.account fresh) (λ w h d kept lies.
-    subst (λ (r : Reply). c.answer_reading.new.account ≡ transaction_account w p s (reading x) (Says r)) (answered_alike w p (transaction_of s kept) x fits) (h d kept lies))
+    if_ok_so _ c.answer_reading.result (c.answer_reading.ensures.account other fresh) (λ w h d kept lies.
+    subst (λ (r : Reply). c.answer_reading.new.account ≡ line_account (reading x) (Says r) None) (answered_alike w p (transaction_of s kept) x fits) (h d kept lies))
 
 pub returns-then-is_too_long-clause-account : goal.returns-then-is_too_long-clause-account
-returns-then-is_too_long-clause-account g c fresh = if_ok_so _ c.say.result c.say.ensures.outcome (λ w e d kept lies.
+returns-then-is_too_long-clause-account g c other fresh = if_ok_so _ c.say.result c.say.ensures.outcome (λ w e d kept lies.
     let long = is_the_long c.args.line.now (sym c.is_too_long.ensures ∙ c.if-is_too_long.true) in
     rw (e, long) fresh)
+
+pub returns-clause-quits : goal.returns-clause-quits
+returns-clause-quits g c quits = c.answer_reading.ensures.quits quits

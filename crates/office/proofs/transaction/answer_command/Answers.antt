@@ -1,10 +1,10 @@
-use Rattle.std.proofs.Common.{◌≡◌, true, Ok, rules}
+use Rattle.std.proofs.Common.{◌≡◌, true, Ok, rules, true≢false}
 use Rattle.popline.specs.Seen.{command_seen, reply_seen}
 use Rattle.office.specs.Transaction.{transaction_of}
 use Rattle.office.specs.Telling.{is_told}
 use Rattle.office.proofs.Accounts.{told_so}
 use Rattle.office.proofs.Obeying.{if_ok_so, if_ok_both, said_so, listed, identified}
-use Rattle.office.proofs.Telling.{stays_held}
+use Rattle.office.proofs.Telling.{stays_held, told_not_quit}
 use Rattle.office.proofs.Quitting.{none_asked}
 use Rattle.office.proofs.transaction.answer_command.Goals as goal
 
@@ -51,30 +51,35 @@ pub returns-in-Top-clause-unasked : goal.returns-in-Top-clause-unasked
 returns-in-Top-clause-unasked g c = rw c.in-Top.is (λ d kept lies none. c.top.ensures.unasked d kept lies none)
 
 pub returns-in-Quit-clause-account : goal.returns-in-Quit-clause-account
-returns-in-Quit-clause-account g c fresh = rw c.in-Quit.is (if_ok_so _ c.quit.result c.quit.ensures.account (λ w plain_reply d kept lies. plain_reply))
+returns-in-Quit-clause-account g c = rw c.in-Quit.is (λ no. absurd (true≢false no))
 
 pub returns-in-Retr-clause-account : goal.returns-in-Retr-clause-account
-returns-in-Retr-clause-account g c fresh = rw c.in-Retr.is (if_ok_so _ c.retrieve.result c.retrieve.ensures.done (λ w h d kept lies. fresh))
+returns-in-Retr-clause-account g c other fresh = rw c.in-Retr.is (if_ok_so _ c.retrieve.result c.retrieve.ensures.done (λ w h d kept lies. fresh))
 
 pub returns-in-Top-clause-account : goal.returns-in-Top-clause-account
-returns-in-Top-clause-account g c fresh = rw c.in-Top.is (if_ok_so _ c.top.result c.top.ensures.done (λ w h d kept lies. fresh))
+returns-in-Top-clause-account g c other fresh = rw c.in-Top.is (if_ok_so _ c.top.result c.top.ensures.done (λ w h d kept lies. fresh))
 
 pub returns-in-List-None-clause-account : goal.returns-in-List-None-clause-account
-returns-in-List-None-clause-account g c fresh =
+returns-in-List-None-clause-account g c other fresh =
     let none = rw c.in-List-None.is at c.in-List-None.field-0-is in
     rw (c.in-List-None.is, none) (if_ok_so _ c.list.result c.list.ensures.outcome (λ w e d kept lies. fresh))
 
 pub returns-in-Uidl-None-clause-account : goal.returns-in-Uidl-None-clause-account
-returns-in-Uidl-None-clause-account g c fresh =
+returns-in-Uidl-None-clause-account g c other fresh =
     let none = rw c.in-Uidl-None.is at c.in-Uidl-None.field-0-is in
     rw (c.in-Uidl-None.is, none) (if_ok_so _ c.list_uids.result c.list_uids.ensures.outcome (λ w e d kept lies. fresh))
 
 pub returns-in_default-clause-account : goal.returns-in_default-clause-account
-returns-in_default-clause-account g c fresh = if_ok_both _ c.put.result c.put.ensures.outcome c.put.ensures.account (λ w e so d kept lies.
+returns-in_default-clause-account g c other fresh = if_ok_both _ c.put.result c.put.ensures.outcome c.put.ensures.account (λ w e so d kept lies.
     let p = c.args.policy.now in
     let s = c.args.session.now in
     let is : is_told (command_seen c.args.command.now) ≡ true = search rules in
-    told_so p s (transaction_of s kept) w (command_seen c.args.command.now) (reply_seen c.plain_reply-reply.result) c.put.new.account is e (c.plain_reply-reply.ensures.said d kept lies is) so)
+    told_so p (transaction_of s kept) w (command_seen c.args.command.now) (reply_seen c.plain_reply-reply.result) c.put.new.account e (c.plain_reply-reply.ensures.said d kept lies is) so)
 
 pub returns-in-Quit-clause-acts : goal.returns-in-Quit-clause-acts
 returns-in-Quit-clause-acts g c = rw c.in-Quit.is c.quit.ensures.acts
+
+pub returns-in_default-clause-quits : goal.returns-in_default-clause-quits
+returns-in_default-clause-quits g c quits =
+    let is : is_told (command_seen c.args.command.now) ≡ true = search rules in
+    absurd (told_not_quit (command_seen c.args.command.now) is quits)

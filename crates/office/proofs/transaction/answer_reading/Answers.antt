@@ -1,10 +1,10 @@
-use Rattle.std.proofs.Common.{◌≡◌, ap, sym, subst, Result, Err, ◌∙◌}
+use Rattle.std.proofs.Common.{◌≡◌, ap, sym, subst, None, Result, ◌∙◌}
 use Rattle.popline.specs.Commands.{Command}
 use Rattle.popline.specs.declared.command.LineFault.{LineFault}
 use Rattle.popline.specs.Seen.{reply_seen}
-use Rattle.office.specs.Connections.{reading}
+use Rattle.office.specs.Connections.{reading, is_quit}
 use Rattle.office.specs.History.{Says}
-use Rattle.office.specs.Accounts.{transaction_account}
+use Rattle.office.specs.Accounts.{line_account}
 use Rattle.office.specs.Transaction.{transaction_of, transaction_answered, transaction_asks}
 use Rattle.office.specs.declared.login_state.LineOutcome.TheVariants as outcome
 use Rattle.office.proofs.Accounts.{transaction_fault}
@@ -32,18 +32,23 @@ returns-in-Ok-clause-unasked g c d kept lies none =
     c.answer_command.ensures.unasked d kept lies (ap (transaction_asks c.args.policy.now (transaction_of c.args.session.now kept)) read ∙ none)
 
 pub returns-in-Ok-clause-account : goal.returns-in-Ok-clause-account
-returns-in-Ok-clause-account g c fresh =
+returns-in-Ok-clause-account g c other fresh =
     let read = rw c.in-Ok.is at c.reading.ensures in
     let p = c.args.policy.now in
     let s = c.args.session.now in
-    if_ok_so _ c.answer_command.result (c.answer_command.ensures.account fresh) (λ w h d kept lies.
-    subst (λ (r : Result Command LineFault). c.answer_command.new.account ≡ transaction_account w p s r (Says (transaction_answered w p (transaction_of s kept) r))) read (h d kept lies))
+    if_ok_so _ c.answer_command.result (c.answer_command.ensures.account (ap is_quit read ∙ other) fresh) (λ w h d kept lies.
+    subst (λ (r : Result Command LineFault). c.answer_command.new.account ≡ line_account r (Says (transaction_answered w p (transaction_of s kept) r)) None) read (h d kept lies))
 
 pub returns-in-Err-clause-account : goal.returns-in-Err-clause-account
-returns-in-Err-clause-account g c fresh =
+returns-in-Err-clause-account g c other fresh =
     let read = rw c.in-Err.is at c.reading.ensures in
     let p = c.args.policy.now in
     let s = c.args.session.now in
     if_ok_so _ c.say.result c.say.ensures.outcome (λ w e d kept lies.
-    rw e (subst (λ (r : Result Command LineFault). c.args.account.now ≡ transaction_account outcome.Done p s r (Says (transaction_answered outcome.Done p (transaction_of s kept) r))) read
+    rw e (subst (λ (r : Result Command LineFault). c.args.account.now ≡ line_account r (Says (transaction_answered outcome.Done p (transaction_of s kept) r)) None) read
     (fresh ∙ sym (transaction_fault p (transaction_of s kept) _))))
+
+pub returns-in-Ok-clause-quits : goal.returns-in-Ok-clause-quits
+returns-in-Ok-clause-quits g c quits =
+    let read = rw c.in-Ok.is at c.reading.ensures in
+    c.answer_command.ensures.quits (ap is_quit read ∙ quits)
