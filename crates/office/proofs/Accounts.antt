@@ -17,7 +17,7 @@ use Rattle.office.specs.History.{Act, Line, Idle, Tag, Done, Failed, NoMemory, S
 use Rattle.office.specs.Connections.{is_quit, reading, user}
 use Rattle.office.specs.Sessions.{in_session}
 use Rattle.office.specs.Replying.{said_to_line, reply_to_cut}
-use Rattle.office.specs.Events.{Event, Mark, Ignored, Tagged, Trace}
+use Rattle.office.specs.Events.{Mark, Ignored, Tagged, Trace}
 use Rattle.office.specs.Events as event
 use Rattle.office.specs.Answers.{AdminCommand}
 use Rattle.office.specs.Trace.{history, idle_acts, idle_numbers, acts_of_piece, acts_of_took, line_act}
