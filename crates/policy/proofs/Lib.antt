@@ -1,5 +1,6 @@
 pub mod SoundRules
 pub mod Views
+mod Placed
 mod Documents
 pub mod Written
 pub mod FirstFaults

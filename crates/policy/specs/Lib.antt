@@ -4,3 +4,4 @@ pub mod Policy
 pub mod WrittenText
 pub mod PolicyText
 pub mod FirstFault
+pub mod Places

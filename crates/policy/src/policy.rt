@@ -3,6 +3,7 @@ ghost use Rattle.std.specs.Prelude.{◌≡◌, ◌≢◌, ◌==◌, ◌++◌, []
 ghost use Rattle.std.specs.Prelude.{OnOk, OnErr};
 ghost use Rattle.policy.specs.Policy.{decide, is_sound_policy, policy_of, policy_with};
 ghost use Rattle.policy.specs.PolicyText.{rules_of};
+ghost use Rattle.policy.specs.Places.{place_of};
 ghost use Rattle.policy.specs.WrittenText.{policy_text};
 
 use crate::decide::Decision;
@@ -11,6 +12,7 @@ use crate::group::{Group, copies_of};
 use crate::group_starts::group_starts_of;
 use crate::index::{Index, index_of, no_index, starts_of};
 use crate::lane::Lane;
+use crate::place::{Place, PlacedFault};
 use crate::read::read_text;
 use crate::rule::{Action, Rule};
 use crate::sound::are_sound;
@@ -91,10 +93,25 @@ impl Policy {
         ensures fault { IfErr result (λ e. e ≢ PolicyFault.NoMemory → rules_of text.now ≡ Err e) }
         ensures sound { IfOk result (λ policy. IsTrue (is_sound_policy policy)) }
     {
+        match Policy::read_placed(alloc, text) {
+            Ok(policy) => Ok(policy),
+            Err(placed) => Err(placed.fault),
+        }
+    }
+
+    /// Reads a policy's text as `read` does, and tells where its first fault lies too.
+    pub fn read_placed(alloc: Global, text: &str) -> Result<Policy, PlacedFault>
+        ensures ok { IfOk result (λ policy. rules_of text.now ≡ Ok policy) }
+        ensures fault { IfErr result (λ e. e.fault ≢ PolicyFault.NoMemory
+            → rules_of text.now ≡ Err e.fault) }
+        ensures place { IfErr result (λ e. e.fault ≢ PolicyFault.NoMemory
+            → place_of text.now e.fault ≡ e.place) }
+        ensures sound { IfOk result (λ policy. IsTrue (is_sound_policy policy)) }
+    {
         let parts = read_text(alloc, text)?;
         match indexed(parts.groups, parts.rules) {
             Ok(policy) => Ok(policy),
-            Err(_) => Err(PolicyFault::NoMemory),
+            Err(_) => Err(PolicyFault::NoMemory.at(Place::Text)),
         }
     }
 

@@ -8,6 +8,7 @@ ghost use Rattle.policy.specs.Policy.{has_group, is_any, is_pattern, is_sound_gr
 ghost use Rattle.policy.specs.Policy.{is_sound_policy, know_groups, lists_any, is_sound_rule};
 ghost use Rattle.policy.specs.Policy.{are_distinct, same_group, same_name, are_sound_rules};
 ghost use Rattle.policy.specs.PolicyText.{has_name};
+ghost use Rattle.policy.specs.Places.{single_before as singles_of};
 
 use crate::group::Group;
 use crate::policy::{MAX_GROUPS, MAX_MEMBERS, MAX_RULES};
@@ -126,6 +127,18 @@ fn are_apart(names: &[Name]) -> bool
         }
     }
     true
+}
+
+/// How many names stand before the first that stands again.
+pub(crate) fn single_before(names: &[Name]) -> usize
+    ensures { result ≡ singles_of names.now }
+{
+    for (i, name) in names.iter().enumerate() {
+        if is_among(name, &names[i + 1..]) {
+            return i;
+        }
+    }
+    names.len()
 }
 
 /// Whether the names can be a group's members: 1 to 200 of them, all different.

@@ -16,6 +16,6 @@ returns-clause-sound c sound =
     elim c.else-actions.branch [ else-actions-via-then-actions+else-not-is_any_pattern w ↦ grind arith | else-actions-via-else-actions w ↦ grind arith ] in
     is_sound_rule-by subject rule refl refl refl refl sound actions general
 
-pub returns-in_err-actions-clause-value : goal.returns-in_err-actions-clause-value
+pub returns-in_err-actions-clause-fault : goal.returns-in_err-actions-clause-fault
 unfolding decided
-returns-in_err-actions-clause-value c = search rules
+returns-in_err-actions-clause-fault c = search rules

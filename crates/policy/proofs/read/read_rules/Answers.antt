@@ -1,9 +1,13 @@
-use Rattle.std.proofs.Common.{◌≡◌, [], ◌∷◌, ◌++◌, length, true, false, Ok, Err, ◌+◌, ◌∙◌, sym, arith, rules}
+use Rattle.std.proofs.Common.{◌≡◌, [], ◌∷◌, ◌++◌, length, true, false, Ok, Err, ◌+◌, ◌∙◌, ap, arith, rules}
 use Rattle.std.proofs.lemmas.Grind.{common_steps}
 use Rattle.std.specs.Prelude.{nat_le}
 use Rattle.std.proofs.lemmas.List.{length-append}
 use Rattle.std.proofs.lemmas.Bool.Decides.{nat_tests}
+use Rattle.toml.specs.Data.{as_table}
 use Rattle.toml.specs.View.{view, items_view}
+use Rattle.toml.specs.declared.value.Value.{Value}
+use Rattle.policy.specs.Places.{LiesInRules}
+use Rattle.policy.proofs.Placed.{rule_lies, table_there}
 use Rattle.policy.specs.PolicyText.{has_name, rule_at, rules_from}
 use Rattle.policy.specs.declared.rule.Rule.{Rule}
 use Rattle.policy.specs.Policy.{are_known, is_sound_rule, most_rules}
@@ -13,15 +17,23 @@ use Rattle.policy.proofs.read.read_rules.Goals as goal
 
 pub returns-in_err-rule-clause-fault : goal.returns-in_err-rule-clause-fault
 returns-in_err-rule-clause-fault c =
-    let read : rule_at c.args.groups.now (c.loop-i.i + 1) c.deref.result.now (view c.index-values-i.result) ≡ Err c.in_err-rule.field-0.0 = sym c.read_one.ensures.value ∙ c.in_err-rule.was in
+    let read : rule_at c.args.groups.now (c.loop-i.i + 1) c.deref.result.now (view c.index-values-i.result) ≡ Err c.in_err-rule.field-0.0.fault = c.in_err-rule.ensures.fault in
     let at = rw (c.deref.ensures.value, c.index-values-i.is) at read in
-    let stop : rules_from c.args.groups.now 1 [] (items_view c.args.values.now) ≡ Err c.in_err-rule.field-0.0 =
-    c.loop-i.invariant.owed ∙ rules_from-stop c.args.groups.now (c.loop-i.i + 1) c.loop-i.rules.items c.in_err-rule.field-0.0 c.args.values.now c.loop-i.i c.index-values-i.result (omega arith) at in
+    let stop : rules_from c.args.groups.now 1 [] (items_view c.args.values.now) ≡ Err c.in_err-rule.field-0.0.fault =
+    c.loop-i.invariant.owed ∙ rules_from-stop c.args.groups.now (c.loop-i.i + 1) c.loop-i.rules.items c.in_err-rule.field-0.0.fault c.args.values.now c.loop-i.i c.index-values-i.result (omega arith) at in
+    search rules
+
+pub returns-in_err-rule-clause-place : goal.returns-in_err-rule-clause-place
+returns-in_err-rule-clause-place c = λ tables.
+    let table = table_there c.args.values.now c.loop-i.i c.index-values-i.result (omega arith) tables in
+    let at = c.in_err-rule.ensures.place table.0 (ap (λ (v : Value). as_table (view v)) c.index-values-i.is ∙ table.1) in
+    let lies : LiesInRules (items_view c.args.values.now) c.in_err-rule.field-0.0 =
+    rule_lies c.args.values.now c.loop-i.i c.index-values-i.result table.0 c.in_err-rule.field-0.0 (omega arith) table.1 at in
     search rules
 
 pub loop-i-preserved : goal.loop-i-preserved
 loop-i-preserved c =
-    let read : rule_at c.args.groups.now (c.loop-i.i + 1) c.deref.result.now (view c.index-values-i.result) ≡ Ok c.in_ok-rule.rule = sym c.read_one.ensures.value ∙ c.in_ok-rule.was in
+    let read : rule_at c.args.groups.now (c.loop-i.i + 1) c.deref.result.now (view c.index-values-i.result) ≡ Ok c.in_ok-rule.rule = c.in_ok-rule.ensures.ok in
     let at = rw (c.deref.ensures.value, c.index-values-i.is) at read in
     let pushed : c.push.new.self.items ≡ c.loop-i.rules.items ++ c.in_ok-rule.rule ∷ [] = grind (arith, common_steps) in
     let owed = c.loop-i.invariant.owed ∙ rules_from-next c.args.groups.now (c.loop-i.i + 1) c.loop-i.rules.items c.in_ok-rule.rule c.args.values.now c.loop-i.i c.index-values-i.result (omega arith) at in

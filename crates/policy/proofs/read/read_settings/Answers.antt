@@ -2,6 +2,6 @@ use Rattle.std.proofs.Common.{rules}
 use Rattle.policy.specs.PolicyText.{settings_of}
 use Rattle.policy.proofs.read.read_settings.Goals as goal
 
-pub returns-then-not-knows_all_keys-clause-fault : goal.returns-then-not-knows_all_keys-clause-fault
+pub returns-in-Some-clause-fault : goal.returns-in-Some-clause-fault
 unfolding settings_of
-returns-then-not-knows_all_keys-clause-fault c = search rules
+returns-in-Some-clause-fault c = search rules
