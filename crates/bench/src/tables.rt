@@ -1,7 +1,7 @@
 //! The statements that the measures run, as a trait without clauses, so that their proofs need not
 //! carry the clauses of the statements.
 
-use mailsql::{clerks, counts, deposits, groups, mail, maildrops, mode, rules, sheets};
+use mailsql::{clerks, counts, deposits, groups, mail, maildrops, rules, sheets, transaction};
 use sqlite::{Alter, Connection, Error};
 use std::alloc::Global;
 
@@ -20,11 +20,11 @@ pub trait Tables {
 
 impl<S: Alter> Tables for Connection<S> {
     fn write_message(&mut self, text: &[u8], octets: u32) -> Result<i64, Error> {
-        mode::begin(self)?;
+        transaction::begin(self)?;
         maildrops::add_maildrop(self, b"orders")?;
         let key = mail::add_message(self, b"orders", b"note", 1, i64::from(octets))?;
         sheets::add_sheets(self, key, text)?;
-        mode::commit(self)?;
+        transaction::commit(self)?;
         Ok(key)
     }
 

@@ -17,16 +17,6 @@ unfolding understood everything
 find_maildrop_plain false = (refl, refl)
 find_maildrop_plain true = (refl, refl)
 
-pub maildrops_is : (c : Bool) → (command_of (understood (schema_of c) s.maildrops_text) ≡ s.select_of s.maildrops_query (codes "name" ∷ [])) × (reads_listing (schema_of c) s.maildrops_text ≡ false)
-unfolding understood everything
-maildrops_is false = (refl, refl)
-maildrops_is true = (refl, refl)
-
-pub maildrops_plain : (c : Bool) → IsPlain (understood (schema_of c) s.maildrops_text)
-unfolding understood everything
-maildrops_plain false = (refl, refl)
-maildrops_plain true = (refl, refl)
-
 pub add_message_is : (c : Bool) → command_of (understood (schema_of c) s.add_message_text) ≡ s.add_message_command c
 unfolding understood everything
 add_message_is false = refl

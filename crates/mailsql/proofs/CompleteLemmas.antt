@@ -16,7 +16,7 @@ use Rattle.mailsql.specs.Rows.{AreEmpty, AreKeyed, AreKept, IsBegunOn, GoesOn, C
 use Rattle.mailsql.proofs.Texts as x
 use Rattle.mailsql.proofs.CreateLemmas.{Makes, grows, one_more, keyed_none}
 use Rattle.mailsql.proofs.ListedLemmas.{carried_is}
-use Rattle.mailsql.proofs.ModeLemmas.{commits_as}
+use Rattle.mailsql.proofs.TransactionLemmas.{commits_as}
 
 -- ---- the tables of one list behind those of another
 

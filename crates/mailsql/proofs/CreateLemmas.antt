@@ -18,7 +18,7 @@ use Rattle.mailsql.specs.Rows.{is_carried, AreEmpty, AreKeyed, AreKept, IsBare, 
 use Rattle.mailsql.proofs.Texts as x
 use Rattle.mailsql.proofs.WriteLemmas.{went, same_value}
 use Rattle.mailsql.proofs.ListedLemmas.{carried_is}
-use Rattle.mailsql.proofs.ModeLemmas.{commits_as}
+use Rattle.mailsql.proofs.TransactionLemmas.{commits_as}
 
 -- an empty table more
 pub one_more : (tables : List Table) (table : Table) (old new : Trees) → new table.tree ≡ [] → KeepsRows tables old new → AreEmpty tables old → AreEmpty (tables ++ table ∷ []) new

@@ -22,7 +22,7 @@ pub mod RemoveLemmas
 pub mod WithoutLemmas
 pub mod KeptLemmas
 pub mod CascadeLemmas
-pub mod ModeLemmas
+pub mod TransactionLemmas
 pub mod CreateLemmas
 pub mod OrderLemmas
 pub mod EqualLemmas
@@ -33,7 +33,6 @@ pub mod SheetLemmas
 pub mod RemoveMessageLemmas
 pub mod ReadLemmas
 pub mod TallyLemmas
-pub mod NameLemmas
 pub mod UsesLemmas
 pub mod ChainLemmas
 pub mod CutLemmas

@@ -139,17 +139,6 @@ module _ (old new : State) (rows : List Row) (tables : m.HasTables old) (h : Sho
       let ours = kept _ _ _ _ _ all_marks_asks (λ c db. refl) old new _ rows tables h in
       everything_listed _ _ _ _ _ all_marks_asks (λ c db. refl) old new _ rows tables h m.mark_of (λ r. m.mark_of (Null ∷ r)) ours.1.0 (λ r. refl) (λ r. refl)
 
-pub all_sequences_asks : (c : Bool) → Asks (schema_of c) st.all_sequences_text 12 [] st.sequence_columns st.sequence_names
-unfolding understood everything
-all_sequences_asks false = record { is = (refl, refl); plain = (refl, refl) }
-all_sequences_asks true = record { is = (refl, refl); plain = (refl, refl) }
-
-module _ (old new : State) (rows : List Row) (tables : m.HasTables old) (h : Shown st.all_sequences_text ([]) old new rows) where
-  pub all_sequences_shows : map (λ r. m.mark_of (Null ∷ r)) rows ≡ m.sequences_in old.now.trees
-  all_sequences_shows =
-      let ours = kept _ _ _ _ _ all_sequences_asks (λ c db. refl) old new _ rows tables h in
-      everything_listed _ _ _ _ _ all_sequences_asks (λ c db. refl) old new _ rows tables h m.mark_of (λ r. m.mark_of (Null ∷ r)) ours.1.1.1.1.1.1.1.0 (λ r. refl) (λ r. refl)
-
 -- ---- an older store
 
 pub find_old_mark_asks : (c : Bool) → Asks (old_schema c) st.find_mark_text 0 st.find_mark_terms st.mark_columns st.mark_names

@@ -78,6 +78,3 @@ module _ (sql : List ℕ) (at : (carried : Bool) → ℕ) (terms project : List 
   pub everything_listed : {X : Type 0} (f read : Row → X) → AreKeyed (old.now.trees (at c)) → ((r : Row) → read (eval_all project (params ∷ r ∷ [])) ≡ f r) → ((r : Row) → passes params terms r ≡ true)
       → map read rows ≡ map f (old.now.trees (at c))
   everything_listed = everything_of (schema_of c) sql (at c) terms project names (asks c) (placed c) old new params rows kept.0 h
-
-  pub each_shown : (Holds : Row → Type 0) → AreKeyed (old.now.trees (at c)) → ((r : Row) → Has (old.now.trees (at c)) r → Holds (eval_all project (params ∷ r ∷ []))) → AllByRecursion Holds rows
-  each_shown = each_of (schema_of c) sql (at c) terms project names (asks c) (placed c) old new params rows kept.0 h

@@ -95,14 +95,3 @@ module _ (old new : State) (mail from end : ℤ) (rows : List Row) (tables : m.H
       let ty = typed.sheets_typed old.now ours.0 (sound _ _ _ _ _ sheets_between_asks (λ c db. refl) old new _ rows tables h live) in
       listed _ _ _ _ _ sheets_between_asks (λ c db. refl) old new _ rows tables h m.sheet_of (λ r. m.sheet_of (Null ∷ r)) (m.is_sheet_between mail from end) ours.1.1.1.1.1.1.1.1.1.0 (λ r. refl)
       (λ r has. let it = ty r has in ap₂ ◌&&◌ (column_int (column r 1) mail it.0) (ap₂ ◌&&◌ (column_test Ge (column r 2) from it.1) (and_true _ ∙ column_test Lt (column r 2) end it.1)))
-
-pub all_sheets_asks : (c : Bool) → Asks (schema_of c) st.all_sheets_text 15 [] st.sheet_columns st.sheet_names
-unfolding understood everything
-all_sheets_asks false = record { is = (refl, refl); plain = (refl, refl) }
-all_sheets_asks true = record { is = (refl, refl); plain = (refl, refl) }
-
-module _ (old new : State) (rows : List Row) (tables : m.HasTables old) (h : Shown st.all_sheets_text ([]) old new rows) where
-  pub all_sheets_shows : map (λ r. m.sheet_of (Null ∷ r)) rows ≡ (rows_in old.now.trees).sheets
-  all_sheets_shows =
-      let ours = kept _ _ _ _ _ all_sheets_asks (λ c db. refl) old new _ rows tables h in
-      everything_listed _ _ _ _ _ all_sheets_asks (λ c db. refl) old new _ rows tables h m.sheet_of (λ r. m.sheet_of (Null ∷ r)) ours.1.1.1.1.1.1.1.1.1.0 (λ r. refl) (λ r. refl)

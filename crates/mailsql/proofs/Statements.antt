@@ -14,7 +14,7 @@ use Rattle.sqlite_schema.specs.declared.command.Command.{Command}
 use Rattle.sqlite_schema.specs.declared.command.Command.TheVariants.{Select, Insert}
 use Rattle.sqlite_schema.specs.declared.command.Source.TheVariants.{Values}
 use Rattle.mailsql.specs.Tables.{mail_tree, mail_place}
-pub use Rattle.mailsql.specs.Statements.{add_mark_text, drop_mark_text, find_mark_text, all_marks_text, add_clerk_text, drop_clerk_text, find_clerk_text, all_clerks_text, clerk_count_text, add_maildrop_text, drop_maildrop_text, find_maildrop_text, all_maildrops_text, maildrops_text, maildrop_count_text, add_count_text, clear_count_text, find_count_text, all_counts_text, add_deposit_text, find_deposit_text, all_deposits_text, add_message_text, add_keyed_text, remove_message_text, heads_text, all_messages_text, message_count_text, add_sheet_text, find_sheet_text, sheets_between_text, all_sheets_text, sheet_count_text, add_rule_text, clear_rules_text, all_rules_text, add_group_text, clear_groups_text, all_groups_text, add_member_text, members_text, all_members_text, old_messages_text, find_body_text, clear_bodies_text, all_sequences_text}
+pub use Rattle.mailsql.specs.Statements.{add_mark_text, drop_mark_text, find_mark_text, all_marks_text, add_clerk_text, drop_clerk_text, find_clerk_text, all_clerks_text, clerk_count_text, add_maildrop_text, drop_maildrop_text, find_maildrop_text, all_maildrops_text, maildrop_count_text, add_count_text, clear_count_text, find_count_text, all_counts_text, add_deposit_text, find_deposit_text, all_deposits_text, add_message_text, add_keyed_text, remove_message_text, heads_text, all_messages_text, message_count_text, add_sheet_text, find_sheet_text, sheets_between_text, sheet_count_text, add_rule_text, clear_rules_text, all_rules_text, add_group_text, clear_groups_text, all_groups_text, add_member_text, members_text, all_members_text, old_messages_text, find_body_text, clear_bodies_text}
 
 abbrev pub query_of : Join → List Term → List Term → List (Term × Key) → Query
 query_of from filter project order = record {
@@ -101,12 +101,6 @@ maildrop_columns = col 1 1 ∷ []
 
 abbrev pub maildrop_names : List (List ℕ)
 maildrop_names = codes "name" ∷ []
-
-abbrev pub by_name : List (Term × Key)
-by_name = (col 1 1, ascending Binary) ∷ []
-
-abbrev pub maildrops_query : Query
-maildrops_query = query_of (inner 4 end) [] (col 1 1 ∷ []) by_name
 
 abbrev pub maildrop_count_terms : List Term
 maildrop_count_terms = []
@@ -270,14 +264,6 @@ clear_bodies_terms = []
 
 abbrev pub clear_bodies_query : Query
 clear_bodies_query = query_of (inner 10 end) clear_bodies_terms (col 1 0 ∷ []) []
-
--- ---- sqlite_sequence
-
-abbrev pub sequence_columns : List Term
-sequence_columns = col 1 1 ∷ col 1 2 ∷ []
-
-abbrev pub sequence_names : List (List ℕ)
-sequence_names = codes "name" ∷ codes "seq" ∷ []
 
 -- ---- counting
 

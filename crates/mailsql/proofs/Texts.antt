@@ -48,7 +48,3 @@ members_is = refl
 pub sequence_is : table_defined_by sequence_text ≡ Ok (sequence_at 0)
 unfolding everything
 sequence_is = refl
-
-pub messages_is : table_defined_by messages_text ≡ Ok (messages_at 0)
-unfolding everything
-messages_is = refl

@@ -5,7 +5,7 @@ use Rattle.sqlite.specs.State.{State, Shows, IsUnchanged}
 use Rattle.sqlite.specs.Steps.{IsEmpty}
 use Rattle.mailsql.specs.Rows.{Rows, Mark, rows_in, no_rows, IsKept, IsReady, IsBegun, MakesTables, Changes, is_in, is_sheet}
 use Rattle.mailsql.specs.Changes.{AddsMark}
-use Rattle.mailsql.specs.Uses.{Stands, orders, marked, sample_message, page_of, arrived, paged, left_of}
+use Rattle.mailsql.specs.Uses.{Stands, orders, marked, sample_message, sheet_at_place, arrived, with_sheets, left_of}
 use Rattle.mailsql.proofs.EqualLemmas.{same_itself}
 
 pub begun : (old new : State) → IsEmpty old → Shows old new old.now old.committed true → IsBegun new
@@ -45,15 +45,15 @@ at_rest s rows stands = ((stands.is_open, stands.kept), stands.autocommit)
 
 module _ (key version : ℤ) (first second : List ℕ) where
   abbrev pub full : Rows
-  full = paged key first second (arrived key (marked version))
+  full = with_sheets key first second (arrived key (marked version))
 
   pub full_heads : filter (is_in orders) full.messages ≡ sample_message key ∷ []
   full_heads = refl
 
-  pub full_first : find (is_sheet key (pos 0)) full.sheets ≡ Some (page_of key (pos 0) first)
+  pub full_first : find (is_sheet key (pos 0)) full.sheets ≡ Some (sheet_at_place key (pos 0) first)
   full_first = rw (same_itself key) refl
 
-  pub full_second : find (is_sheet key (pos 1)) full.sheets ≡ Some (page_of key (pos 1) second)
+  pub full_second : find (is_sheet key (pos 1)) full.sheets ≡ Some (sheet_at_place key (pos 1) second)
   full_second = rw (same_itself key) refl
 
   pub left_none : (left_of key full).sheets ≡ []

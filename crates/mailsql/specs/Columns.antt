@@ -41,7 +41,7 @@ HoldsOctets row at = (octets : List ℕ) × ((column row at ≡ Text octets) ⊎
 abbrev pub HoldsNumber : Row → ℕ → Type 0
 HoldsNumber row at = IsInt (column row at)
 
--- a row of meta, and of sqlite_sequence
+-- a row of meta
 abbrev pub mark_of : Row → Mark
 mark_of row = record { name = text_at row 1; value = number_at row 2 }
 
@@ -175,7 +175,3 @@ rows_in db = rows_at (is_carried db) db
 -- no table has a row
 abbrev pub no_rows : Rows
 no_rows = record { marks = []; clerks = []; maildrops = []; counts = []; deposits = []; messages = []; rules = []; sheets = []; groups = []; members = []; bodies = [] }
-
--- the greatest key that AUTOINCREMENT gave, for each table that has it
-abbrev pub sequences_in : Trees → List Mark
-sequences_in db = map mark_of (db 12)

@@ -1,8 +1,7 @@
 -- What a statement does to the typed rows of a store, what an error leaves of them, and what a stop
 -- may leave.
 use Rattle.std.specs.Prelude.{◌≡◌, ◌⊎◌, ℤ, Bool, true, false, List, [], if◌then◌else◌, IsTrue, bytes_eq, ◌&&◌}
-use Rattle.std.specs.Ordering.{is_eq, is_lt, is_ge, int_cmp, nat_cmp, on}
-use Rattle.std.specs.Cmp.Lexicographic.{slice_cmp}
+use Rattle.std.specs.Ordering.{is_eq, is_lt, is_ge, int_cmp, on}
 use Rattle.std.specs.List.{list_any, AllByRecursion}
 use Rattle.std.specs.List.Sorted.{IsPermutation, IsSorted}
 use Rattle.sqlite_trees.specs.View.{is_int}
@@ -13,7 +12,7 @@ use Rattle.sqlite_value.specs.Order.{Row}
 use Rattle.sqlite.specs.Effect.{Database}
 use Rattle.sqlite.specs.State.{State, Shows, IsUnchanged, IsRolledBack}
 use Rattle.mailsql.specs.Tables.{schema_of, old_schema, no_schema}
-pub use Rattle.mailsql.specs.Columns.{Mark, Clerk, Count, Deposit, Message, Sheet, Rule, Group, Member, Body, Name, text_at, number_at, mark_of, clerk_of, maildrop_of, count_of, deposit_of, message_of, sheet_of, rule_of, group_of, member_of, body_of, HoldsOctets, HoldsNumber, HoldsMark, HoldsClerk, HoldsName, HoldsCount, HoldsDeposit, HoldsMessage, HoldsSheet, HoldsRule, HoldsGroup, HoldsMember, HoldsBody, Rows, rows_at, bodies_at, is_carried, rows_in, no_rows, sequences_in}
+pub use Rattle.mailsql.specs.Columns.{Mark, Clerk, Count, Deposit, Message, Sheet, Rule, Group, Member, Body, Name, text_at, number_at, mark_of, clerk_of, maildrop_of, count_of, deposit_of, message_of, sheet_of, rule_of, group_of, member_of, body_of, HoldsOctets, HoldsNumber, HoldsMark, HoldsClerk, HoldsName, HoldsCount, HoldsDeposit, HoldsMessage, HoldsSheet, HoldsRule, HoldsGroup, HoldsMember, HoldsBody, Rows, rows_at, bodies_at, is_carried, rows_in, no_rows}
 
 -- ---- a store of ours
 
@@ -188,8 +187,3 @@ is_member_of group m = same_int m.group group
 pub record IsByPlace (members sorted : List Member) : Type 0 where
   pub same : IsPermutation members sorted
   pub rise : IsSorted (on (λ (m : Member). m.place) int_cmp) sorted
-
--- the names, in the order of their octets
-pub record IsByName (names sorted : List Name) : Type 0 where
-  pub same : IsPermutation names sorted
-  pub rise : IsSorted (slice_cmp nat_cmp) sorted

@@ -73,10 +73,6 @@ find_maildrop_text = codes "SELECT name FROM maildrops WHERE name = ?1"
 abbrev pub all_maildrops_text : List ℕ
 all_maildrops_text = codes "SELECT name FROM maildrops ORDER BY rowid"
 
--- reads every name, in the order of the octets
-abbrev pub maildrops_text : List ℕ
-maildrops_text = codes "SELECT name FROM maildrops ORDER BY name"
-
 -- reads how many names there are
 abbrev pub maildrop_count_text : List ℕ
 maildrop_count_text = codes "SELECT count(*) FROM maildrops"
@@ -154,10 +150,6 @@ abbrev pub sheets_between_text : List ℕ
 sheets_between_text =
     codes "SELECT mail, place, octets FROM sheets WHERE mail = ?1 AND place >= ?2 AND place < ?3 ORDER BY rowid"
 
--- reads every sheet
-abbrev pub all_sheets_text : List ℕ
-all_sheets_text = codes "SELECT mail, place, octets FROM sheets ORDER BY rowid"
-
 -- reads how many sheets there are
 abbrev pub sheet_count_text : List ℕ
 sheet_count_text = codes "SELECT count(*) FROM sheets"
@@ -217,9 +209,3 @@ find_body_text = codes "SELECT key, maildrop, class, k, octets, body FROM messag
 -- drops every message
 abbrev pub clear_bodies_text : List ℕ
 clear_bodies_text = codes "DELETE FROM messages"
-
--- ---- sqlite_sequence
-
--- reads the greatest key given in each table with AUTOINCREMENT
-abbrev pub all_sequences_text : List ℕ
-all_sequences_text = codes "SELECT name, seq FROM sqlite_sequence ORDER BY rowid"

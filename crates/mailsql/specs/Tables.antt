@@ -100,7 +100,7 @@ mail_at tree = table_of (codes "mail") tree
     (column_of (codes "key") kind.Integer false ∷ column_of (codes "maildrop") kind.Text true ∷ column_of (codes "class") kind.Text true ∷ column_of (codes "k") kind.Integer true ∷ column_of (codes "octets") kind.Integer true ∷ [])
     (Some 0) (0 ∷ []) ((2 ∷ 3 ∷ 4 ∷ []) ∷ []) (plain_order ∷ []) (to_maildrops ∷ []) true
 
--- the pages of the messages; removing a message removes its pages
+-- the sheets of the messages; removing a message removes its sheets
 abbrev pub sheets_text : List ℕ
 sheets_text = codes "CREATE TABLE sheets (mail INTEGER REFERENCES mail ON DELETE CASCADE, place INTEGER, octets BLOB NOT NULL, PRIMARY KEY (mail, place)) STRICT"
 

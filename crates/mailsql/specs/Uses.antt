@@ -35,30 +35,30 @@ sample_message key = record { key = key; maildrop = orders; class = codes "note"
 abbrev pub sample_deposit : Deposit
 sample_deposit = record { maildrop = orders; id = codes "d1"; class = codes "note"; k = pos 1; digest = codes "digest" }
 
--- a page of a message
-abbrev pub page_of : ℤ → ℤ → List ℕ → Sheet
-page_of key place octets = record { mail = key; place = place; octets = octets }
+-- a sheet of a message
+abbrev pub sheet_at_place : ℤ → ℤ → List ℕ → Sheet
+sheet_at_place key place octets = record { mail = key; place = place; octets = octets }
 
 -- the maildrop, the deposit and the message have come
 abbrev pub arrived : ℤ → Rows → Rows
 arrived key rows = record rows { maildrops = rows.maildrops ++ orders ∷ []; deposits = rows.deposits ++ sample_deposit ∷ []; messages = rows.messages ++ sample_message key ∷ [] }
 
--- the two pages have come too
-abbrev pub paged : ℤ → List ℕ → List ℕ → Rows → Rows
-paged key first second rows = record rows { sheets = (rows.sheets ++ page_of key (pos 0) first ∷ []) ++ page_of key (pos 1) second ∷ [] }
+-- the two sheets have come too
+abbrev pub with_sheets : ℤ → List ℕ → List ℕ → Rows → Rows
+with_sheets key first second rows = record rows { sheets = (rows.sheets ++ sheet_at_place key (pos 0) first ∷ []) ++ sheet_at_place key (pos 1) second ∷ [] }
 
--- the message is gone, with its pages
+-- the message is gone, with its sheets
 abbrev pub left_of : ℤ → Rows → Rows
 left_of key rows = record rows {
   messages = filter (λ m. not (is_message key orders m)) rows.messages;
   sheets = filter (λ s. not (is_sheet_of key orders rows.messages s)) rows.sheets;
 }
 
--- the head and the pages were there, and the pages went with the message
+-- the head and the sheets were there, and the sheets went with the message
 pub record Saw (first second : List ℕ) (seen : Seen) : Type 0 where
   pub heads : seen.heads.items ≡ sample_message seen.key ∷ []
-  pub first_before : seen.before.first ≡ Some (page_of seen.key (pos 0) first)
-  pub second_before : seen.before.second ≡ Some (page_of seen.key (pos 1) second)
+  pub first_before : seen.before.first ≡ Some (sheet_at_place seen.key (pos 0) first)
+  pub second_before : seen.before.second ≡ Some (sheet_at_place seen.key (pos 1) second)
   pub first_after : seen.after.first ≡ None
   pub second_after : seen.after.second ≡ None
 
@@ -92,20 +92,20 @@ FailsToArrive e =
     ⊎ (IsMetAtRest (FailsToRun add_deposit_text (Text orders ∷ Text (codes "d1") ∷ Text (codes "note") ∷ Int (pos 1) ∷ Blob (codes "digest") ∷ [])) e
     ⊎ IsMetAtRest (FailsToRun add_message_text (Text orders ∷ Text (codes "note") ∷ Int (pos 1) ∷ Int (pos 4097) ∷ [])) e)
 
--- adding a page met this error
-abbrev pub FailsToAddPages : ℤ → List ℕ → List ℕ → Error → Type 0
-FailsToAddPages key first second e = IsMetAtRest (FailsToRun add_sheet_text (Int key ∷ Int (pos 0) ∷ Blob first ∷ [])) e ⊎ IsMetAtRest (FailsToRun add_sheet_text (Int key ∷ Int (pos 1) ∷ Blob second ∷ [])) e
+-- adding a sheet met this error
+abbrev pub FailsToPutSheets : ℤ → List ℕ → List ℕ → Error → Type 0
+FailsToPutSheets key first second e = IsMetAtRest (FailsToRun add_sheet_text (Int key ∷ Int (pos 0) ∷ Blob first ∷ [])) e ⊎ IsMetAtRest (FailsToRun add_sheet_text (Int key ∷ Int (pos 1) ∷ Blob second ∷ [])) e
 
--- reading a page met this error
-abbrev pub FailsToReadPages : ℤ → Error → Type 0
-FailsToReadPages key e = IsMetAtRest (FailsToRead find_sheet_text (Int key ∷ Int (pos 0) ∷ [])) e ⊎ IsMetAtRest (FailsToRead find_sheet_text (Int key ∷ Int (pos 1) ∷ [])) e
+-- reading a sheet met this error
+abbrev pub FailsToReadSheets : ℤ → Error → Type 0
+FailsToReadSheets key e = IsMetAtRest (FailsToRead find_sheet_text (Int key ∷ Int (pos 0) ∷ [])) e ⊎ IsMetAtRest (FailsToRead find_sheet_text (Int key ∷ Int (pos 1) ∷ [])) e
 
 -- one of the sample's steps met this error
 abbrev pub FailsToSample : List ℕ → List ℕ → Error → Type 0
 FailsToSample first second e =
     FailsToOpenNew (pos 2) e
     ⊎ (FailsToArrive e
-    ⊎ ((key : ℤ) × (FailsToAddPages key first second e
+    ⊎ ((key : ℤ) × (FailsToPutSheets key first second e
     ⊎ (IsMetAtRest (FailsToRead heads_text (Text orders ∷ [])) e
-    ⊎ (FailsToReadPages key e
+    ⊎ (FailsToReadSheets key e
     ⊎ IsMetAtRest (FailsToRun remove_message_text (Int key ∷ Text orders ∷ [])) e)))))

@@ -1,4 +1,4 @@
-//! The messages, without their pages.
+//! The messages, without their sheets.
 
 ghost use Rattle.std.specs.Prelude.{◌≡◌, min, length, filter, IfOk, IfErr, OnOk, OnErr, [], ◌∷◌};
 ghost use Rattle.sqlite.specs.Held.{state};
@@ -97,7 +97,7 @@ pub fn add_keyed<'x, S: Alter>(
     )
 }
 
-/// Removes the message of this key with its pages, if it lies in the maildrop.
+/// Removes the message of this key with its sheets, if it lies in the maildrop.
 pub fn remove_message<'x, S: Alter>(
     conn: &mut Connection<S>,
     key: i64,

@@ -10,10 +10,9 @@ ghost use Rattle.mailsql.specs.Rows.{rows_in};
 ghost use Rattle.sqlite_value.specs.declared.value.Value.TheVariants.{Text};
 ghost use Rattle.mailsql.specs.Errors.{FailsToRun, FailsToRead, FailsToCount};
 ghost use Rattle.mailsql.specs.Statements.{add_maildrop_text, drop_maildrop_text};
-ghost use Rattle.mailsql.specs.Statements.{all_maildrops_text, maildrops_text, maildrop_count_text};
+ghost use Rattle.mailsql.specs.Statements.{all_maildrops_text, maildrop_count_text};
 ghost use Rattle.mailsql.specs.Statements.{find_maildrop_text};
 
-use crate::decode::read_all;
 use crate::run::{count, list, run};
 use sqlite::{Alter, Connection, Error};
 use sqlite_value::value::{Bytes, ValueRef};
@@ -100,31 +99,6 @@ pub fn maildrop_count<S: Alter>(conn: &mut Connection<S>) -> Result<u64, Error>
         (λ _. ¬ IsOurs (state S.Store conn.old).now) }
 {
     count(conn, "SELECT count(*) FROM maildrops", &[])
-}
-
-/// Every name, sorted by its octets.
-pub fn maildrops_by_name<S: Alter>(
-    alloc: Global,
-    conn: &mut Connection<S>,
-) -> Result<Vec<Bytes>, Error>
-    ensures ok { HasCleanDisk (state S.Store conn.new) → HasTables (state S.Store conn.old)
-        → IfOk result (λ all. rows.IsByName (rows_in (state S.Store conn.old).now.trees).maildrops
-        all.items) }
-    ensures same { HasCleanDisk (state S.Store conn.new) → HasTables (state S.Store conn.old)
-        → OnOk result (IsUnchanged (state S.Store conn.old) (state S.Store conn.new)) }
-    ensures err { HasCleanDisk (state S.Store conn.new) → HasTables (state S.Store conn.old)
-        → OnErr result (IsUndone (state S.Store conn.old) (state S.Store conn.new)) }
-    ensures cause { HasCleanDisk (state S.Store conn.new) → HasTables (state S.Store conn.old)
-        → IfErr result (FailsToRead maildrops_text [] (state S.Store conn.old)
-        (state S.Store conn.new)) }
-    ensures survives { Survives (state S.Store conn.old) (state S.Store conn.new)
-        (λ _. ¬ IsOurs (state S.Store conn.old).now) }
-{
-    let _schema = conn.schema();
-    match conn.query_all("SELECT name FROM maildrops ORDER BY name", &[]) {
-        Ok(rows) => read_all(alloc, rows.as_slice()),
-        Err(error) => Err(error),
-    }
 }
 
 /// Every name, in the order of adding.

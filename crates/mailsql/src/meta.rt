@@ -7,12 +7,12 @@ ghost use Rattle.sqlite.specs.State.{HasCleanDisk, IsUnchanged, Survives};
 ghost use Rattle.mailsql.specs.Changes as changes;
 ghost use Rattle.mailsql.specs.Rows as rows;
 ghost use Rattle.mailsql.specs.Rows.{IsOurs, IsReady, HasTables, HasOldTables, IsOldSchema};
-ghost use Rattle.mailsql.specs.Rows.{MayLeave, Changes, IsUndone, IsHalted, rows_in, HoldsMark};
-ghost use Rattle.sqlite_value.specs.declared.value.Value.TheVariants.{Null, Int, Text};
+ghost use Rattle.mailsql.specs.Rows.{MayLeave, Changes, IsUndone, IsHalted, rows_in};
+ghost use Rattle.sqlite_value.specs.declared.value.Value.TheVariants.{Int, Text};
 ghost use Rattle.mailsql.specs.Marked.{HasMarks};
-ghost use Rattle.mailsql.specs.Errors.{FailsToRun, FailsAfter, FailsToRead, FailsToReadAs};
+ghost use Rattle.mailsql.specs.Errors.{FailsToRun, FailsAfter, FailsToRead};
 ghost use Rattle.mailsql.specs.Statements.{add_mark_text, drop_mark_text, find_mark_text};
-ghost use Rattle.mailsql.specs.Statements.{all_marks_text, all_sequences_text};
+ghost use Rattle.mailsql.specs.Statements.{all_marks_text};
 
 use crate::rows::Mark;
 use crate::run::{first, list, run};
@@ -160,29 +160,6 @@ pub fn all_marks<S: Alter>(alloc: Global, conn: &mut Connection<S>) -> Result<Ve
         alloc,
         conn,
         "SELECT name, value FROM meta ORDER BY rowid",
-        &[],
-    )
-}
-
-/// The greatest key that SQLite gave in each table with AUTOINCREMENT, in the order of rowids. A
-/// new message's key is above that of `mail`.
-pub fn all_sequences<S: Alter>(alloc: Global, conn: &mut Connection<S>) -> Result<Vec<Mark>, Error>
-    ensures ok { HasCleanDisk (state S.Store conn.new) → HasTables (state S.Store conn.old)
-        → IfOk result (λ all. all.items ≡ rows.sequences_in (state S.Store conn.old).now.trees) }
-    ensures same { HasCleanDisk (state S.Store conn.new) → HasTables (state S.Store conn.old)
-        → OnOk result (IsUnchanged (state S.Store conn.old) (state S.Store conn.new)) }
-    ensures err { HasCleanDisk (state S.Store conn.new) → HasTables (state S.Store conn.old)
-        → OnErr result (IsUndone (state S.Store conn.old) (state S.Store conn.new)) }
-    ensures cause { HasCleanDisk (state S.Store conn.new)
-        → IfErr result (FailsToReadAs (λ row. HoldsMark (Null ∷ row)) all_sequences_text []
-        (state S.Store conn.old) (state S.Store conn.new)) }
-    ensures survives { Survives (state S.Store conn.old) (state S.Store conn.new)
-        (λ _. ¬ IsOurs (state S.Store conn.old).now) }
-{
-    list(
-        alloc,
-        conn,
-        "SELECT name, seq FROM sqlite_sequence ORDER BY rowid",
         &[],
     )
 }

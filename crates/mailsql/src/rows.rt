@@ -48,7 +48,7 @@ pub struct Message {
     pub octets: i64,
 }
 
-/// A row of `sheets`: a page of the message whose key is `mail`, at `place`, counted from 0.
+/// A row of `sheets`: a sheet of the message whose key is `mail`, at `place`, counted from 0.
 #[derive(Drop)]
 pub struct Sheet {
     pub mail: i64,

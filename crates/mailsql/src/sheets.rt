@@ -1,4 +1,4 @@
-//! The pages of the messages, each of 1 to 4,096 octets.
+//! The sheets of the messages, each of 1 to 4,096 octets.
 
 ghost use Rattle.std.specs.Prelude.{◌≡◌, ◌<◌, pos, IsTrue, min, length, filter, IfOk, IfErr, OnOk};
 ghost use Rattle.std.specs.Prelude.{OnErr, [], ◌∷◌};
@@ -14,7 +14,7 @@ ghost use Rattle.mailsql.specs.Sheets.{SheetsAreTheText};
 ghost use Rattle.sqlite_value.specs.declared.value.Value.TheVariants.{Int, Blob};
 ghost use Rattle.mailsql.specs.Errors.{FailsToRun, FailsToAddSheets, FailsToRead, FailsToCount};
 ghost use Rattle.mailsql.specs.Statements.{add_sheet_text, find_sheet_text, sheets_between_text};
-ghost use Rattle.mailsql.specs.Statements.{all_sheets_text, sheet_count_text};
+ghost use Rattle.mailsql.specs.Statements.{sheet_count_text};
 
 use crate::rows::Sheet;
 use crate::run::{count, first, list, run};
@@ -25,7 +25,7 @@ use std::alloc::Global;
 /// The octets of a whole sheet. Only the last sheet of a message may have fewer.
 pub const SHEET_OCTETS: usize = 4096;
 
-/// Adds a page of a message, at this place. The tables refuse a message that isn't there, and a
+/// Adds a sheet of a message, at this place. The tables refuse a message that isn't there, and a
 /// place that it has.
 pub fn add_sheet<S: Alter>(
     conn: &mut Connection<S>,
@@ -115,7 +115,7 @@ pub fn add_sheets<S: Alter>(conn: &mut Connection<S>, mail: i64, text: &[u8]) ->
     Ok(())
 }
 
-/// The page of the message at this place, if there is one.
+/// The sheet of the message at this place, if there is one.
 pub fn find_sheet<S: Alter>(
     alloc: Global,
     conn: &mut Connection<S>,
@@ -143,7 +143,7 @@ pub fn find_sheet<S: Alter>(
     )
 }
 
-/// The pages of the message at the places from `from` on that are below `end`, in the order of
+/// The sheets of the message at the places from `from` on that are below `end`, in the order of
 /// adding.
 pub fn sheets_between<S: Alter>(
     alloc: Global,
@@ -173,7 +173,7 @@ pub fn sheets_between<S: Alter>(
     )
 }
 
-/// How many pages all messages have together.
+/// How many sheets all messages have together.
 pub fn sheet_count<S: Alter>(conn: &mut Connection<S>) -> Result<u64, Error>
     ensures ok { HasCleanDisk (state S.Store conn.new) → HasTables (state S.Store conn.old)
         → IfOk result (λ count. count ≡ min (length
@@ -189,28 +189,6 @@ pub fn sheet_count<S: Alter>(conn: &mut Connection<S>) -> Result<u64, Error>
         (λ _. ¬ IsOurs (state S.Store conn.old).now) }
 {
     count(conn, "SELECT count(*) FROM sheets", &[])
-}
-
-/// Every page of every message, in the order of adding. It takes memory for the octets of all.
-pub fn all_sheets<S: Alter>(alloc: Global, conn: &mut Connection<S>) -> Result<Vec<Sheet>, Error>
-    ensures ok { HasCleanDisk (state S.Store conn.new) → HasTables (state S.Store conn.old)
-        → IfOk result (λ all. all.items ≡ (rows_in (state S.Store conn.old).now.trees).sheets) }
-    ensures same { HasCleanDisk (state S.Store conn.new) → HasTables (state S.Store conn.old)
-        → OnOk result (IsUnchanged (state S.Store conn.old) (state S.Store conn.new)) }
-    ensures err { HasCleanDisk (state S.Store conn.new) → HasTables (state S.Store conn.old)
-        → OnErr result (IsUndone (state S.Store conn.old) (state S.Store conn.new)) }
-    ensures cause { HasCleanDisk (state S.Store conn.new) → HasTables (state S.Store conn.old)
-        → IfErr result (FailsToRead all_sheets_text [] (state S.Store conn.old)
-        (state S.Store conn.new)) }
-    ensures survives { Survives (state S.Store conn.old) (state S.Store conn.new)
-        (λ _. ¬ IsOurs (state S.Store conn.old).now) }
-{
-    list(
-        alloc,
-        conn,
-        "SELECT mail, place, octets FROM sheets ORDER BY rowid",
-        &[],
-    )
 }
 
 /// The sheets of a text, joined, are the text; each but the last has `SHEET_OCTETS` octets, and

@@ -60,20 +60,20 @@ pub fn create_tables<S: Alter>(conn: &mut Connection<S>) -> Result<(), Error>
     Ok(())
 }
 
-/// How many tables an older store lacks: four over version 1 (`carried`), two over version 2.
-fn lacked(carried: bool) -> usize
-    ensures { result ≡ length (lacked_texts carried) }
+/// How many tables an older store lacks: four over version 1 (`is_first`), two over version 2.
+fn lacked(is_first: bool) -> usize
+    ensures { result ≡ length (lacked_texts is_first) }
 {
-    if carried { 4 } else { 2 }
+    if is_first { 4 } else { 2 }
 }
 
 /// The number, among all the tables, of lacked table number `at`; both count from 0.
-fn lacked_place(carried: bool, at: usize) -> usize
-    requires { at < length (lacked_texts carried) }
+fn lacked_place(is_first: bool, at: usize) -> usize
+    requires { at < length (lacked_texts is_first) }
     ensures low { result < TABLES }
-    ensures text { text_at result ≡ lacked_text carried at }
+    ensures text { text_at result ≡ lacked_text is_first at }
 {
-    if carried {
+    if is_first {
         match at {
             0 => 7,
             1 => 8,
@@ -89,26 +89,26 @@ fn lacked_place(carried: bool, at: usize) -> usize
 }
 
 /// Makes the tables that an older store lacks: `groups` and `members`, and over version 1, where
-/// `carried` must be true, `sheets` and `mail` too. Call it inside a transaction. The other tables
+/// `is_first` must be true, `sheets` and `mail` too. Call it inside a transaction. The other tables
 /// stay as they are. After an error the transaction is still under way, or gone with all that it
 /// wrote.
-pub fn complete_tables<S: Alter>(conn: &mut Connection<S>, carried: bool) -> Result<(), Error>
+pub fn complete_tables<S: Alter>(conn: &mut Connection<S>, is_first: bool) -> Result<(), Error>
     ensures ok { HasCleanDisk (state S.Store conn.new) → IsBegunOn (state S.Store conn.old)
-        → is_carried (state S.Store conn.old).now.trees ≡ carried
+        → is_carried (state S.Store conn.old).now.trees ≡ is_first
         → OnOk result (CompletesTables (state S.Store conn.old) (state S.Store conn.new)) }
     ensures err { HasCleanDisk (state S.Store conn.new) → IsBegunOn (state S.Store conn.old)
-        → is_carried (state S.Store conn.old).now.trees ≡ carried
+        → is_carried (state S.Store conn.old).now.trees ≡ is_first
         → OnErr result (IsHalted (state S.Store conn.old) (state S.Store conn.new)) }
     ensures cause { HasCleanDisk (state S.Store conn.new) → IsBegunOn (state S.Store conn.old)
-        → is_carried (state S.Store conn.old).now.trees ≡ carried
-        → IfErr result (FailsToComplete S.Store carried conn.old conn.new) }
+        → is_carried (state S.Store conn.old).now.trees ≡ is_first
+        → IfErr result (FailsToComplete S.Store is_first conn.old conn.new) }
     ensures survives { Survives (state S.Store conn.old) (state S.Store conn.new)
         (λ _. IsBegunOn (state S.Store conn.old)
-        → is_carried (state S.Store conn.old).now.trees ≡ carried → ⊥) }
+        → is_carried (state S.Store conn.old).now.trees ≡ is_first → ⊥) }
 {
-    let count = lacked(carried);
+    let count = lacked(is_first);
     for at in 0..count {
-        match conn.execute(create_text(lacked_place(carried, at)), &[]) {
+        match conn.execute(create_text(lacked_place(is_first, at)), &[]) {
             Ok(_) => {}
             Err(error) => return Err(error),
         }

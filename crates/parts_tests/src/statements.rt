@@ -2,7 +2,7 @@
 
 use mailsql::rows::Sheet;
 use mailsql::uses::Seen;
-use mailsql::{clerks, counts, deposits, mail, maildrops, meta, mode, rules, sheets, uses};
+use mailsql::{clerks, counts, deposits, mail, maildrops, meta, rules, sheets, transaction, uses};
 use sqlite::{Connection, Error, ErrorCode, MemStore};
 use std::alloc::Global;
 use std::test::Fail;
@@ -70,21 +70,10 @@ fn is_taken_once(store: &mut Store) -> Result<bool, Error> {
     Ok(is_refused && maildrops::maildrop_count(store)? == 2)
 }
 
-// Whether these are the first maildrop in order of the names, and the first in order of arrival.
-fn starts_with(
-    alloc: Global,
-    store: &mut Store,
-    by_name: &[u8],
-    in_order: &[u8],
-) -> Result<bool, Error> {
-    let sorted = maildrops::maildrops_by_name(alloc, store)?;
+// Whether the maildrops are these two, in order of arrival.
+fn are_maildrops(alloc: Global, store: &mut Store) -> Result<bool, Error> {
     let all = maildrops::all_maildrops(alloc, store)?;
-    Ok(
-        !sorted.is_empty()
-            && !all.is_empty()
-            && sorted[0].as_slice() == by_name
-            && all[0].as_slice() == in_order,
-    )
+    Ok(all.len() == 2 && all[0].as_slice() == b"orders" && all[1].as_slice() == b"Books")
 }
 
 // Drops the first maildrop. Whether it alone is gone.
@@ -98,14 +87,14 @@ fn is_dropped(store: &mut Store) -> Result<bool, Error> {
 fn a_name_taken_twice(rt: HostRuntime) -> Result<(), Fail> {
     let mut store = new_store(rt.alloc())?;
     assert!(rt; is_taken_once(&mut store)?);
-    assert!(rt; starts_with(rt.alloc(), &mut store, b"Books", b"orders")?);
+    assert!(rt; are_maildrops(rt.alloc(), &mut store)?);
     assert!(rt; is_dropped(&mut store)?);
     Ok(())
 }
 
-fn has_octets(page: &Option<Sheet>, octets: &[u8]) -> bool {
-    match page {
-        Some(page) => page.octets.as_slice() == octets,
+fn has_octets(sheet: &Option<Sheet>, octets: &[u8]) -> bool {
+    match sheet {
+        Some(sheet) => sheet.octets.as_slice() == octets,
         None => false,
     }
 }
@@ -121,7 +110,7 @@ fn are_seen(seen: &Seen, first: &[u8], second: &[u8]) -> bool {
 }
 
 #[test]
-fn pages_of_any_octets(rt: HostRuntime) -> Result<(), Fail> {
+fn sheets_of_any_octets(rt: HostRuntime) -> Result<(), Fail> {
     let seen = uses::sample(rt.alloc(), &[0; 4096], &[255])?;
     assert!(rt; are_seen(&seen, &[0; 4096], &[255]));
     Ok(())
@@ -135,16 +124,11 @@ fn add_text(store: &mut Store, text: &[u8]) -> Result<i64, Error> {
     Ok(key)
 }
 
-fn sheet_numbers(alloc: Global, store: &mut Store) -> Result<(u64, usize), Error> {
-    let count = sheets::sheet_count(store)?;
-    Ok((count, sheets::all_sheets(alloc, store)?.len()))
-}
-
 // Whether a message has a sheet of 4,096 zeros and one of one octet, and there are no other sheets.
 fn has_sheets(alloc: Global, store: &mut Store, key: i64) -> Result<bool, Error> {
     let first = has_octets(&sheets::find_sheet(alloc, store, key, 0)?, &[0; 4096]);
     let second = has_octets(&sheets::find_sheet(alloc, store, key, 1)?, &[255]);
-    Ok(first && second && sheet_numbers(alloc, store)? == (2, 2))
+    Ok(first && second && sheets::sheet_count(store)? == 2)
 }
 
 // Whether the sheets at the places from `from` on that are below `end` have these lengths.
@@ -211,13 +195,15 @@ fn has_mail(alloc: Global, store: &mut Store, messages: u64) -> Result<bool, Err
     let there = mail::message_count(store, b"books")?;
     let all = mail::all_messages(alloc, store)?.len();
     let are_counted = here == messages && there == 0 && all as u64 == messages;
-    Ok(are_counted && sheet_numbers(alloc, store)? == (messages, all))
+    Ok(are_counted && sheets::sheet_count(store)? == messages)
 }
 
-// Whether this is the last key that AUTOINCREMENT gave.
+// Whether the last message of `orders` has this key.
 fn is_last_key(alloc: Global, store: &mut Store, key: i64) -> Result<bool, Error> {
-    let sequences = meta::all_sequences(alloc, store)?;
-    Ok(!sequences.is_empty() && sequences[0].value == key)
+    match mail::heads(alloc, store, b"orders")?.last() {
+        Some(message) => Ok(message.key == key),
+        None => Ok(false),
+    }
 }
 
 // Whether a maildrop with a message isn't dropped, and a removed message's sheets go with it.
@@ -259,9 +245,9 @@ fn add_rules(alloc: Global, store: &mut Store) -> Result<(), Fail> {
 }
 
 fn clear_and_roll_back(store: &mut Store) -> Result<(), Error> {
-    mode::begin(store)?;
+    transaction::begin(store)?;
     rules::clear_rules(store)?;
-    mode::rollback(store)
+    transaction::rollback(store)
 }
 
 // Whether there are a thousand rules, in the order in which they were added.

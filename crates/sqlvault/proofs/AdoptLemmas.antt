@@ -22,8 +22,16 @@ use Rattle.sqlvault.specs.Keeps.{Keeps, our_mark, version}
 use Rattle.sqlvault.specs.Parts.{Finds, ClerksAre, MaildropsAre, PolicyIs, DepositsAre, MessagesAre, records_with, messages_of}
 use Rattle.vault.specs.declared.fault.VaultFault.{VaultFault}
 use Rattle.vault.specs.declared.fault.VaultFault.TheVariants as fault
+use Rattle.mailsql.specs.Names.{is_taken, has_marks}
+use Rattle.mailsql.specs.Rows.{IsReady}
+use Rattle.mailsql.proofs.ResultLemmas.{on_err_then}
+use Rattle.std.specs.Prelude.{OnErr}
+use Rattle.sqlvault.specs.declared.refusal.Refusal.{Refusal}
+use Rattle.sqlvault.specs.declared.refusal.Refusal.TheVariants.{Answered}
 use Rattle.sqlvault.specs.Adopts.{StaysAs, IsBlank, IsKnown, IsRefused, IsAdoptFault, JudgesMarks}
-use Rattle.sqlvault.specs.Refusals.{is_memory, fault_of}
+use Rattle.sqlvault.specs.Adopts.{Adopts, IsForeign, Settles}
+use Rattle.sqlvault.specs.Refusals.{is_memory, fault_of, answer_of, told}
+use Rattle.sqlvault.specs.Stands.{LeavesNoMore}
 
 -- ---- queries
 
@@ -243,6 +251,46 @@ blank_of s taken ours is (inr kept) = absurd (true≢false (sym (ours kept.0) �
 pub kept_of : (s : State) (taken : Bool) → (s.now.schema ≡ no_schema → taken ≡ false) → taken ≡ true → IsKnown s → IsKept s.now
 kept_of s taken none is (inl blank) = absurd (true≢false (sym is ∙ none blank.0))
 kept_of s taken none is (inr kept) = kept
+
+-- ---- a store that isn't ours
+
+pub own_untaken : (s : State) → s.in_transaction ≡ false → is_taken s.now.schema ≡ false → IsForeign s → ⊥
+own_untaken s out none (inl inside) = true≢false (sym inside ∙ out)
+own_untaken s out none (inr it) = true≢false (sym it.1 ∙ none)
+
+pub own_marked : (s : State) → s.in_transaction ≡ false → has_marks s.now.schema.tables ≡ true → IsForeign s → ⊥
+own_marked s out marks (inl inside) = true≢false (sym inside ∙ out)
+own_marked s out marks (inr it) = true≢false (sym marks ∙ it.2)
+
+-- it is given back
+pub given_back : {A C : Type 0} {now conn : C} (refusal : Refusal) (f : VaultFault) → (let r : Result (Unit {0}) Refusal = Err refusal in r ≡ Err (Answered fault.NotOurs)) → f ≡ told refusal → now ≡ conn
+    → (let r : Result A (VaultFault × C) = Err (f, now) in r ≡ Err (fault.NotOurs, conn))
+given_back refusal f e is same =
+    let answered : refusal ≡ Answered fault.NotOurs = cc in
+    rw (is, answered, same) refl
+
+pub not_given : {u : Unit {0}} → (let r : Result (Unit {0}) Refusal = Ok u in r ≡ Err (Answered fault.NotOurs)) → ⊥
+not_given e = cc
+
+-- in a transaction it stays as it is
+pub left_inside : (s : State) → s.in_transaction ≡ true → Settles s s (Err (Answered fault.NotOurs))
+left_inside s inside = record {
+  adopts = record {
+    outside = λ out. absurd (true≢false (sym inside ∙ out));
+    version = λ out. absurd (true≢false (sym inside ∙ out));
+  };
+  stays = λ up. (up, (refl, refl), refl);
+  stop = λ up db may. inl may;
+}
+
+-- what was judged
+pub settled_so : (s0 s1 : State) (r : Result (Unit {0}) Refusal) → s0.in_transaction ≡ false → IsSettled s0 → IsKept s0.now → Adopts s0 s1 (answer_of r) → OnErr r (IsUndone s0 s1)
+    → (IsReady s0 → LeavesNoMore s0 s1) → Settles s0 s1 r
+settled_so s0 s1 r out settled kept adopts err stop = record {
+  adopts = adopts;
+  stays = on_err_then r {Q = StaysAs s0 s1} (stays_undone s0 s1 out settled) err;
+  stop = λ up db may. inl (stop (up, kept) db may);
+}
 
 -- an error behind a step of the transaction
 pub halted_after : (first mid new : State) → GoesOn first mid → IsUndone mid new → IsHalted first new

@@ -1,5 +1,5 @@
 -- Statements of one transaction that carries a store over, and what is left where one is refused.
-use Rattle.std.proofs.Common.{◌≡◌, ◌≢◌, inl, inr, IsTrue, Bool, true, false, cond, not, ℤ, List, [], ◌∷◌, ◌++◌, map, filter, refl, sym, ap, subst, ◌∙◌, true≢false, arith}
+use Rattle.std.proofs.Common.{◌≡◌, ◌≢◌, ◌⊎◌, inl, inr, IsTrue, Bool, true, false, cond, not, ℤ, List, [], ◌∷◌, ◌++◌, map, filter, refl, sym, ap, subst, ◌∙◌, true≢false, arith}
 use Rattle.std.specs.Prelude.{codes, flat_map, find, Some, None, pos, length, Result, Ok, Err, OnErr}
 use Rattle.sqlite_trees.specs.Tree.{Trees}
 use Rattle.sqlite.specs.declared.error.Error.{Error}
@@ -126,21 +126,17 @@ pub left_here : (d : Database) (rows : Rows) (db : Trees) → db ≡ d.trees →
 left_here d rows db here listed kept is = record { found = d; trees = sym here; listed = listed; kept = kept; rows_are = ap rows_in here ∙ is }
 
 -- a stop in the commit
-pub left_at : (s0 s3 s4 : State) → IsDatabase s3.now → IsKept s3.now → rows_in s3.now.trees ≡ brought_in s0.now.trees → (c : Contents) × KeepsOlder s0 c → LeavesNoMore s0 s3 → HasCleanDisk s4 → Survives s3 s4 (λ db. db ≡ s3.now.trees) → LeavesEither s0 s4
-left_at s0 s3 s4 listed kept is held first clean s db may = elim (s.crash clean db may) [ inl was ↦ inl (first db was) | inr here ↦ inr (left_here s3.now (brought_in s0.now.trees) db here listed kept is, held) ]
+pub left_at : (s0 s3 s4 : State) → IsDatabase s3.now → IsKept s3.now → rows_in s3.now.trees ≡ brought_in s0.now.trees → (c : Contents) × KeepsOlder s0 c → LeavesNoMore s0 s3
+    → ((db : Trees) → s4.may_leave db → s3.may_leave db ⊎ (db ≡ s3.now.trees)) → LeavesEither s0 s4
+left_at s0 s3 s4 listed kept is held first stop db may = elim (stop db may) [ inl was ↦ inl (first db was) | inr here ↦ inr (left_here s3.now (brought_in s0.now.trees) db here listed kept is, held) ]
 
 -- so is a new store
-pub made_at : (s0 s2 s3 : State) → IsBlank s0 → IsDatabase s2.now → IsKept s2.now → rows_in s2.now.trees ≡ marked version → LeavesNoMore s0 s2 → HasCleanDisk s3 → Survives s2 s3 (λ db. db ≡ s2.now.trees) → LeavesEmptyToo s0 s3
-made_at s0 s2 s3 blank listed kept is first clean s db may = elim (s.crash clean db may) [ inl was ↦ inl (first db was) | inr here ↦ inr (blank, left_here s2.now (marked version) db here listed kept is) ]
-
-pub empty_then : (a b c : State) → LeavesEmptyToo a b → LeavesNoMore b c → LeavesEmptyToo a c
-empty_then a b c p q db may = p db (q db may)
+pub made_at : (s0 s2 s3 : State) → IsBlank s0 → IsDatabase s2.now → IsKept s2.now → rows_in s2.now.trees ≡ marked version → LeavesNoMore s0 s2
+    → ((db : Trees) → s3.may_leave db → s2.may_leave db ⊎ (db ≡ s2.now.trees)) → LeavesEmptyToo s0 s3
+made_at s0 s2 s3 blank listed kept is first stop db may = elim (stop db may) [ inl was ↦ inl (first db was) | inr here ↦ inr (blank, left_here s2.now (marked version) db here listed kept is) ]
 
 pub either : (a b : State) → LeavesNoMore a b → LeavesEither a b
 either a b none db may = inl (none db may)
-
-pub either_then : (a b c : State) → LeavesEither a b → LeavesNoMore b c → LeavesEither a c
-either_then a b c p q db may = p db (q db may)
 
 -- ---- why it is not carried over
 

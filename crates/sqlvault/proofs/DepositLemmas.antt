@@ -1,6 +1,6 @@
 -- What a deposit is answered of the rows, and what it leaves of them.
 use Rattle.std.proofs.Common.{◌≡◌, ℕ, ℤ, pos, SFits, w64, to_z, of_z, to_z-of_z, subst, ◌+◌, ◌<◌, ◌≤◌, Bool, ◌||◌, true, false, cond, List, [], ◌∷◌, length, min, Option, Some, None, Ok, Err, Result, refl, sym, ap, ◌∙◌, arith}
-use Rattle.std.specs.Prelude.{IfOk, filter, map, nat_le, nat_lt}
+use Rattle.std.specs.Prelude.{IfOk, map, nat_le, nat_lt}
 use Rattle.std.specs.List.{find}
 use Rattle.std.specs.Option.{option_map}
 use Rattle.std.specs.Str.{bytes_eq}
@@ -12,28 +12,19 @@ use Rattle.vault.specs.declared.fault.VaultFault.{VaultFault}
 use Rattle.vault.specs.declared.fault.VaultFault.TheVariants as fault
 use Rattle.vault.specs.declared.record.Receipt.{Receipt}
 use Rattle.vault.specs.Records.{is_one_of, receipts_of, receipt_of, class_count}
-use Rattle.vault.specs.Changes.{Contents, deposit_answered, known_or_conflict, is_full, kept_in}
+use Rattle.vault.specs.Changes.{Contents, deposit_answered, known_or_conflict, is_full}
 use Rattle.vault.specs.Calls.{IsAnswer, IsRefusal, deposit_result, deposit_answer_in, present_in}
-use Rattle.vault.proofs.ListLemmas.{filter-map, length-map, find-filter}
-use Rattle.vault.proofs.TotalLemmas.{present_is}
+use Rattle.vault.proofs.ListLemmas.{find-filter}
 use Rattle.sqlite.specs.declared.error.Error.{Error}
 use Rattle.mailsql.specs.declared.rows.Count.{Count}
 use Rattle.mailsql.specs.declared.rows.Deposit.{Deposit}
 use Rattle.mailsql.specs.declared.rows.Message.{Message}
-use Rattle.mailsql.specs.Rows.{Rows, is_in, has_name, is_deposit, is_count}
+use Rattle.mailsql.specs.Rows.{Rows, is_deposit, is_count}
 use Rattle.mailsql.specs.Changes.{AddsMessage, AddsSheets, SetsCount, AddsDeposit}
 use Rattle.creds.specs.declared.uid.Uid.{Uid}
 use Rattle.sqlvault.specs.declared.refusal.Refusal.{Refusal}
-use Rattle.sqlvault.specs.Keeps.{Keeps, number_in, deposit_row, message_row}
+use Rattle.sqlvault.specs.Keeps.{Keeps, number_in, deposit_row}
 use Rattle.sqlvault.specs.Deposits.{PutsMessage, PutsReceipt, count_row, message_of}
-
--- the messages of a maildrop are counted in their rows
-pub present_seen : (rows : Rows) (c : Contents) (d : List ℕ) → Keeps rows c → length (filter (is_in d) rows.messages) ≡ present_in d c
-present_seen rows c d k =
-    ap (λ (ms : List Message). length (filter (is_in d) ms)) k.messages
-    ∙ ap (λ (ms : List Message). length ms) (filter-map message_row (is_in d) c.messages)
-    ∙ length-map message_row (kept_in d c.messages)
-    ∙ present_is d c
 
 -- the count of a class is how many deposits it had
 pub count_seen : (rows : Rows) (c : Contents) (asked d named class : List ℕ) (found : Option Count) → Keeps rows c → asked ≡ d → named ≡ class → found ≡ find (is_count asked named) rows.counts
@@ -69,9 +60,6 @@ accepted_next class text present seen there cap before count most_messages most_
 -- ---- an id that was used, or not
 
 -- the maildrop has a row
-pub is_there : (rows : Rows) (c : Contents) (asked d : List ℕ) (there : Bool) → Keeps rows c → asked ≡ d → there ≡ has_name asked rows.maildrops → there ≡ true → is_one_of d c.maildrops ≡ true
-is_there rows c asked d there k is e t = ap (λ x. is_one_of x c.maildrops) (sym is) ∙ ap (λ names. has_name asked names) (sym k.maildrops) ∙ sym e ∙ t
-
 find-map : {A B : Type 0} (f : A → B) (p : B → Bool) (xs : List A) → find p (map f xs) ≡ option_map f (find (λ x. p (f x)) xs)
 find-map f p [] = refl
 find-map f p (x ∷ xs) = at f x (p (f x)) (find p (map f xs)) (find (λ x. p (f x)) xs) (find-map f p xs)
@@ -123,6 +111,9 @@ same_answer {A} (Err e) = same_refusal A e
 pub judged_known : (c : Contents) (d class id text : List ℕ) (r : Receipt) (a : Result Deposited VaultFault) → is_one_of d c.maildrops ≡ true
     → receipt_of id (receipts_of d c.deposits) ≡ Some r → a ≡ deposit_result (known_or_conflict class text r) → IsAnswer (deposit_result (deposit_answer_in c d class id text)) a
 judged_known c d class id text r a there found e = rw (there, found, ← e) (same_answer a)
+
+pub judged_missing : (c : Contents) (d class id text : List ℕ) → is_one_of d c.maildrops ≡ false → (let r : Result Deposited VaultFault = Err fault.NoMaildrop in IsAnswer (deposit_result (deposit_answer_in c d class id text)) r)
+judged_missing c d class id text none = rw none refl
 
 pub judged_unknown : (c : Contents) (d class id text : List ℕ) (a : Result Deposited VaultFault) → is_one_of d c.maildrops ≡ true → receipt_of id (receipts_of d c.deposits) ≡ None
     → IsAnswer (deposit_result (deposit_answered None class text (is_full (present_in d c) (receipts_of d c.deposits) class) (class_count class (receipts_of d c.deposits) + 1))) a

@@ -1,11 +1,11 @@
 -- The words of specs/Frame: of a statement, of two parts, and of a call whole.
-use Rattle.std.specs.Prelude.{◌≡◌, ◌⊎◌, true, false, IsTrue, ⊤, OnOk, OnErr, IsErrAnd}
-use Rattle.std.proofs.Common.{inl, inr, Result, Ok, Err, refl, subst, sym}
+use Rattle.std.specs.Prelude.{◌≡◌, ◌⊎◌, IsTrue, ⊤, OnOk, OnErr, IfOk, IsErrAnd}
+use Rattle.std.proofs.Common.{inl, inr, Result, Ok, Err, refl, subst, sym, ap, ◌∙◌}
 use Rattle.sqlite_trees.specs.Tree.{Trees}
 use Rattle.sqlite_trees.specs.declared.store.Store.{Ghosts}
 use Rattle.sqlite.specs.Held.{Held, state}
 use Rattle.sqlite.specs.declared.error.Error.{Error}
-use Rattle.sqlite.specs.State.{State, HasCleanDisk, IsUnchanged, Shows, Survives}
+use Rattle.sqlite.specs.State.{State, HasCleanDisk, IsUnchanged, Survives}
 use Rattle.vault.specs.declared.fault.VaultFault.{VaultFault}
 use Rattle.vault.specs.Changes.{Contents}
 use Rattle.vault.specs.Calls.{IsDone}
@@ -16,14 +16,16 @@ use Rattle.sqlvault.specs.declared.refusal.Refusal.{Refusal}
 use Rattle.sqlvault.specs.declared.refusal.Refusal.TheVariants.{Answered, Met}
 use Rattle.sqlvault.specs.Refusals.{answer_of, fault_of}
 use Rattle.sqlvault.specs.Keeps.{Keeps}
-use Rattle.sqlvault.specs.Stands.{Holds, Leaves, Within, Halted, Ends}
-use Rattle.sqlvault.specs.Stops.{LeavesLast, LeavesHeld, LeavesOr}
-use Rattle.sqlvault.specs.Frame.{IsOk, IsMet, MadeOr, Rests, Looks, Turns, Acts, Writes}
+use Rattle.sqlvault.specs.Stands.{Holds, Leaves, Within, IsEnded}
+use Rattle.sqlvault.specs.Transactions.{Begins, Undoes, Ends}
+use Rattle.sqlvault.specs.Stops.{LeavesHeld, LeavesOr}
+use Rattle.sqlvault.specs.Frame.{IsOk, IsMet, MadeOr, Rests, Looks, Learns, Turns, Acts, Writes}
 use Rattle.sqlvault.proofs.HoldsLemmas.{holds_unchanged, holds_undone, holds_changed, refused}
 use Rattle.sqlvault.proofs.StayLemmas.{clean_before}
 use Rattle.sqlvault.proofs.StopLemmas.{not_own, or_said}
 use Rattle.sqlvault.proofs.WithinLemmas.{begun, leaves_on, makes, makes_after, step_ok, step_err}
-use Rattle.sqlvault.proofs.WithinLemmas.{part_err, ready, makes_none}
+use Rattle.sqlvault.proofs.WithinLemmas.{part_err, ready, makes_none, committed, gone_held}
+use Rattle.sqlvault.proofs.WithinLemmas.{goes_still}
 
 -- the connection was clean before a statement
 pub was_clean : {S : Type 0} (store : Ghosts S) (old new : Held S) {P : Trees → Type 0}
@@ -108,6 +110,44 @@ own_met (Ok x) own = tt
 own_met (Err (Answered f)) own = tt
 own_met {A} (Err (Met e)) own = absurd (not_own A e own)
 
+-- a query that tells of what was held what it tells of the rows
+pub learnt : {S A : Type 0} (store : Ghosts S) (old new : Held S) (r : Result A Error)
+    (Seen : Rows → A → Type 0) (Told : Contents → A → Type 0)
+    → (HasCleanDisk (state store new) → HasTables (state store old)
+    → OnOk r (IsUnchanged (state store old) (state store new)))
+    → (HasCleanDisk (state store new) → HasTables (state store old)
+    → OnErr r (IsUndone (state store old) (state store new)))
+    → Survives (state store old) (state store new) (λ _. IsOurs (state store old).now → ⊥)
+    → (HasCleanDisk (state store new) → HasTables (state store old)
+    → IfOk r (Seen (rows_in (state store old).now.trees)))
+    → ((rows : Rows) (c : Contents) (x : A) → Keeps rows c → Seen rows x → Told c x)
+    → Learns store old new (IsOk r) (λ c. IfOk r (Told c))
+learnt store old new (Ok x) Seen Told same err s seen tell = record {
+  looks = asked store old new same s;
+  told = λ clean c h own.
+      let here : IsUnchanged (state store old) (state store new) = same clean h.tables in (
+        here.0.is_open,
+        tell (rows_in (state store old).now.trees) c x (h.rows here.0.was_open) (seen clean h.tables),
+      );
+}
+learnt store old new (Err e) Seen Told same err s seen tell = record {
+  looks = failed store old new err s;
+  told = λ clean c h own. absurd own;
+}
+
+-- two such parts, of which the first has its answer
+pub learns_then : {S : Type 0} {Own : Type 0} {store : Ghosts S} {old mid new : Held S}
+    {Told More : Contents → Type 0} → Learns store old mid ⊤ Told → Learns store mid new Own More
+    → Learns store old new Own (λ c. Told c × More c)
+learns_then a b = record {
+  looks = looks_then a.looks b.looks;
+  told = λ clean c h own.
+      let before = b.looks.clean clean in
+      let first = a.told before c h tt in
+      let second = b.told clean c (a.looks.rests before c h).held own in
+      (second.0, (first.1, second.1));
+}
+
 -- ---- a call
 
 -- one that changed nothing
@@ -126,6 +166,15 @@ looks_whole Done answered a own done = record {
     stop = λ up left db may. inl (it.stop up left db may);
   };
 }
+
+-- one that learnt its answer
+pub learns_whole : {S A : Type 0} {store : Ghosts S} {old new : Held S} {Told : Contents → Type 0}
+    (Done : Contents → (Contents → Type 0) → Result A VaultFault → Type 0)
+    (answered : Result A VaultFault) → Learns store old new ⊤ Told
+    → ((c : Contents) → Told c → Holds (state store new) c → Done c (Holds (state store new)) answered)
+    → Acts store old new Done answered
+learns_whole Done answered l done = looks_whole Done answered l.looks (λ _. tt)
+    (λ clean c h held. done c (l.told clean c h tt).1 held)
 
 -- the same call over another connection that is as this one, as a vault answers it
 pub acts_told : {S A : Type 0} (store : Ghosts S)
@@ -292,6 +341,43 @@ met_once {S} {A} {store = store} {old = old} {mid = mid} {new = new} Change afte
       stop = changed_stops store mid new Change c (after c) (expected c) x s it clean held;
     })
 
+-- what is known of it comes of what was learnt
+may_change : {S A : Type 0} {store : Ghosts S} {old mid : Held S} {Told : Contents → Type 0}
+    (Change : Rows → Rows → Type 0) (after : Contents → Contents)
+    (expected : Contents → Result A VaultFault) (x : A) → Learns store old mid ⊤ Told
+    → ((c : Contents) → Told c → (expected c ≡ Ok x)
+    × ((from to : Rows) → Change from to → Keeps from c → Keeps to (after c)))
+    → HasCleanDisk (state store mid) → (c : Contents) → Holds (state store old) c
+    → MayChange store mid Change c (after c) (expected c) x
+may_change Change after expected x l may clean c h =
+    let told = l.told clean c h tt in
+    let it = may c told.1 in
+    (told.0, it.0, it.1)
+
+pub learns_done : {S A : Type 0} {store : Ghosts S} {old mid new : Held S}
+    {Told : Contents → Type 0} (Change : Rows → Rows → Type 0) (after : Contents → Contents)
+    (expected : Contents → Result A VaultFault) (x : A) → Learns store old mid ⊤ Told
+    → Survives (state store mid) (state store new) (MayLeave Change (state store mid))
+    → ((c : Contents) → Told c → (expected c ≡ Ok x)
+    × ((from to : Rows) → Change from to → Keeps from c → Keeps to (after c)))
+    → (HasCleanDisk (state store new) → IsReady (state store mid)
+    → Changes Change (state store mid) (state store new))
+    → Acts store old new (λ c Held answered. IsDone Held c (after c) (expected c) answered) (Ok x)
+learns_done Change after expected x l s may ok = done_once Change after expected x l.looks ok s
+    (may_change Change after expected x l may)
+
+pub learns_met : {S A : Type 0} {store : Ghosts S} {old mid new : Held S}
+    {Told : Contents → Type 0} (Change : Rows → Rows → Type 0) (after : Contents → Contents)
+    (expected : Contents → Result A VaultFault) (x : A) → Learns store old mid ⊤ Told
+    → Survives (state store mid) (state store new) (MayLeave Change (state store mid))
+    → ((c : Contents) → Told c → (expected c ≡ Ok x)
+    × ((from to : Rows) → Change from to → Keeps from c → Keeps to (after c))) → (e : Error)
+    → (HasCleanDisk (state store new) → IsUndone (state store mid) (state store new))
+    → Acts store old new (λ c Held answered. IsDone Held c (after c) (expected c) answered)
+    (Err (fault_of e))
+learns_met Change after expected x l s may e err = met_once Change after expected x e l.looks err s
+    (may_change Change after expected x l may)
+
 -- ---- a part of a transaction
 
 -- one statement that was done
@@ -412,17 +498,28 @@ writes_halted First x a b = record {
 
 -- ---- a transaction
 
+-- the connection was clean before its beginning, and before it was undone
+pub begins_clean : {S : Type 0} {store : Ghosts S} {old new : Held S}
+    {r : Result (Unit {0}) Error} → Begins store old new r → HasCleanDisk (state store new)
+    → HasCleanDisk (state store old)
+begins_clean {store = store} {old = old} {new = new} it clean =
+    was_clean store old new it.survives clean
+
+pub undoes_clean : {S : Type 0} {store : Ghosts S} {old new : Held S} → Undoes store old new
+    → HasCleanDisk (state store new) → HasCleanDisk (state store old)
+undoes_clean {store = store} {old = old} {new = new} it clean =
+    was_clean store old new it.survives clean
+
 -- that wasn't begun
-pub unbegun : {S : Type 0} (store : Ghosts S) (old new : Held S)
-    → (HasCleanDisk (state store new) → IsUndone (state store old) (state store new))
-    → Survives (state store old) (state store new) (λ _. ⊥) → Looks store old new ⊥
-unbegun store old new undone s = record {
-  clean = was_clean store old new s;
+pub unbegun : {S : Type 0} {store : Ghosts S} {old new : Held S} {e : Error}
+    → Begins store old new (Err e) → Looks store old new ⊥
+unbegun {store = store} {old = old} {new = new} begins = record {
+  clean = was_clean store old new begins.survives;
   rests = λ clean c h. record {
-    held = holds_undone (state store old) (state store new) c (undone clean) h;
+    held = holds_undone (state store old) (state store new) c (begins.err clean) h;
     up = λ _ none. absurd none;
     stop = λ up left. leaves_on
-        (λ rows. Keeps rows c) (state store old) (state store new) clean s left;
+        (λ rows. Keeps rows c) (state store old) (state store new) clean begins.survives left;
   };
 }
 
@@ -435,89 +532,94 @@ rest it = record {
   stop = λ up left db may. inl (it.stop up left db may);
 }
 
--- that was begun: how BEGIN answers, and what is known of the store
-pub record Begins {S : Type 0} (store : Ghosts S) (old new : Held S) : Type 0 where
-  pub law : LeavesLast (state store old)
-  pub ok : HasCleanDisk (state store new) → ((state store old).in_transaction ≡ false)
-      × Shows (state store old) (state store new) (state store old).now (state store old).committed
-      true
-  pub survives : Survives (state store old) (state store new) (λ _. ⊥)
-
 -- a part met an error, and the transaction was undone
 pub undone_whole : {S A : Type 0} {store : Ghosts S} {old first last new : Held S}
-    {Change : A → Rows → Rows → Type 0} {e : Error} (c : Contents) → Begins store old first
-    → Writes store first last Change (Err e)
-    → ((base : Contents) → HasCleanDisk (state store new) → Halted (state store last) base
-    → Holds (state store new) base) → Survives (state store last) (state store new) (λ _. ⊥)
-    → HasCleanDisk (state store new) → Holds (state store old) c → Rests store old new ⊥ c
+    {Change : A → Rows → Rows → Type 0} {x : Unit {0}} {e : Error} (c : Contents)
+    → Begins store old first (Ok x) → Writes store first last Change (Err e)
+    → Undoes store last new → HasCleanDisk (state store new) → Holds (state store old) c
+    → Rests store old new ⊥ c
 undone_whole {store = store} {old = old} {first = first} {last = last} {new = new} c begins part
-    back s clean h =
-    let clean2 = was_clean store last new s clean in
+    back clean h =
+    let clean2 = was_clean store last new back.survives clean in
     let clean1 = part.clean clean2 in
     let b = begun (state store old) (state store first) c clean1 begins.law (begins.ok clean1).1
     begins.survives h in
     let halted = part.made clean2 c b.0 b.2 in
     record {
-      held = back c clean halted.0;
+      held = back.holds c clean halted.0;
       up = λ _ none. absurd none;
-      stop = λ _ _. leaves_on
-          (λ rows. Keeps rows c) (state store last) (state store new) clean s halted.1;
+      stop = λ _ _. leaves_on (λ rows. Keeps rows c) (state store last) (state store new) clean
+          back.survives halted.1;
     }
 
 -- so the whole changed nothing
 pub looks_undone : {S A : Type 0} {store : Ghosts S} {old first last new : Held S}
-    {Change : A → Rows → Rows → Type 0} {e : Error} → Begins store old first
-    → Writes store first last Change (Err e)
-    → ((base : Contents) → HasCleanDisk (state store new) → Halted (state store last) base
-    → Holds (state store new) base) → Survives (state store last) (state store new) (λ _. ⊥)
-    → Looks store old new ⊥
-looks_undone {store = store} {old = old} {first = first} {last = last} {new = new} begins part back
-    s = record {
+    {Change : A → Rows → Rows → Type 0} {x : Unit {0}} {e : Error}
+    → Begins store old first (Ok x) → Writes store first last Change (Err e)
+    → Undoes store last new → Looks store old new ⊥
+looks_undone {store = store} {old = old} {first = first} {last = last} {new = new} begins part
+    back = record {
       clean = λ clean. was_clean store old first begins.survives
-          (part.clean (was_clean store last new s clean));
-      rests = λ clean c h. undone_whole c begins part back s clean h;
+          (part.clean (was_clean store last new back.survives clean));
+      rests = λ clean c h. undone_whole c begins part back clean h;
     }
+
+-- the end of one that shows the rows of these contents: it was committed, or an error came
+ends_held : {S : Type 0} {store : Ghosts S} {last new : Held S} (r : Result (Unit {0}) Error)
+    → Ends store last new r → (base after : Contents) (rows : Rows) → HasCleanDisk (state store new)
+    → Within (state store last) base rows → Keeps rows after
+    → IsEnded base after (state store new) r
+ends_held {store = store} {last = last} {new = new} (Ok x) ends base after rows clean w keeps =
+    committed (state store last) (state store new) base after rows (ends.ok clean) w keeps
+ends_held {store = store} {last = last} {new = new} (Err e) ends base after rows clean w keeps =
+    gone_held (state store last) (state store new) base rows
+    (ends.err last clean (goes_still (state store last) base rows w)) w
+
+-- a stop in it leaves the one or the other
+ends_leaves : {S : Type 0} {store : Ghosts S} {last new : Held S} {r : Result (Unit {0}) Error}
+    → Ends store last new r → (base after : Contents) (rows : Rows) → HasCleanDisk (state store new)
+    → Within (state store last) base rows → Keeps rows after
+    → Leaves (state store new) (λ left. Keeps left base ⊎ Keeps left after)
+ends_leaves ends base after rows clean w keeps db may = elim (ends.stop clean db may) [
+  | inl was ↦ inl (w.stop db was)
+  | inr made ↦ inr (subst (λ r. Keeps r after) (sym (ap rows_in made ∙ w.rows_are)) keeps)
+]
+
+ends_up : {S : Type 0} {store : Ghosts S} {last new : Held S} (r : Result (Unit {0}) Error)
+    → Ends store last new r → HasCleanDisk (state store new) → IsOk r
+    → IsTrue (state store new).is_open
+ends_up (Ok x) ends clean own = (ends.ok clean).is_open
+ends_up (Err e) ends clean own = absurd own
 
 made_or : (Made : (Contents → Type 0) → Type 0) (s : State) (c after : Contents)
     (r : Result (Unit {0}) Error) → ((Held : Contents → Type 0) → Held after → Made Held)
-    → Ends c after s r → MadeOr r Made c (Holds s)
+    → IsEnded c after s r → MadeOr r Made c (Holds s)
 made_or Made s c after (Ok x) say held = say (Holds s) held
 made_or Made s c after (Err e) say held = held
 
-is_up : (P : Type 0) (r : Result (Unit {0}) Error) → IsOk r → OnOk r P → P
-is_up P (Ok x) own p = p
-is_up P (Err e) own p = absurd own
-
 -- it was ended, and what it made of the contents is committed, or nothing is
 pub ended_whole : {S A : Type 0} {store : Ghosts S} {old first last new : Held S}
-    {Change : A → Rows → Rows → Type 0} {x : A} (Made : (Contents → Type 0) → Type 0)
+    {Change : A → Rows → Rows → Type 0} {u : Unit {0}} {x : A} (Made : (Contents → Type 0) → Type 0)
     (r : Result (Unit {0}) Error) (c : Contents)
-    → Begins store old first → Writes store first last Change (Ok x)
+    → Begins store old first (Ok u) → Writes store first last Change (Ok x)
     → ((from to : Rows) → Keeps from c → Change x from to → (after : Contents) × Keeps to after
     × ((Held : Contents → Type 0) → Held after → Made Held))
-    → (HasCleanDisk (state store new) → HasCleanDisk (state store last))
-    → ((base after : Contents) (rows : Rows) → HasCleanDisk (state store new)
-    → Within (state store last) base rows → Keeps rows after
-    → Ends base after (state store new) r)
-    → ((base after : Contents) (rows : Rows) → HasCleanDisk (state store new)
-    → Within (state store last) base rows → Keeps rows after → Leaves (state store new)
-    (λ left. Keeps left base ⊎ Keeps left after))
-    → (HasCleanDisk (state store new) → OnOk r (IsTrue (state store new).is_open))
-    → HasCleanDisk (state store new) → Holds (state store old) c
+    → Ends store last new r → HasCleanDisk (state store new) → Holds (state store old) c
     → Turns store old new (IsOk r) (MadeOr r Made c) Made c
-ended_whole {store = store} {old = old} {first = first} {last = last} {new = new} Made r c begins
-    part keeps was ended stop up clean h =
-    let clean2 = was clean in
+ended_whole {store = store} {old = old} {first = first} {new = new} Made r c begins part keeps ends
+    clean h =
+    let clean2 = ends.clean clean in
     let clean1 = part.clean clean2 in
     let b = begun (state store old) (state store first) c clean1 begins.law (begins.ok clean1).1
     begins.survives h in
     let made = part.made clean2 c b.0 b.2 in
     let k = keeps b.0 made.0 b.1 made.1 in
     record {
-      done = made_or Made (state store new) c k.0 r k.2 (ended c k.0 made.0 clean made.2 k.1);
-      up = λ _ own. is_up (IsTrue (state store new).is_open) r own (up clean);
-      stop = λ _ _. or_said
-          (λ Held. Held k.0) Made (state store new) c k.2 (stop c k.0 made.0 clean made.2 k.1);
+      done = made_or Made (state store new) c k.0 r k.2
+          (ends_held r ends c k.0 made.0 clean made.2 k.1);
+      up = λ _ own. ends_up r ends clean own;
+      stop = λ _ _. or_said (λ Held. Held k.0) Made (state store new) c k.2
+          (ends_leaves ends c k.0 made.0 clean made.2 k.1);
     }
 
 -- the answer of a call by what its last part is answered
@@ -536,26 +638,19 @@ met_done Held c after (Err e) held = refused Held c after (Ok tt) e held
 
 -- a call that is one transaction, of which one part made the change
 pub commits_whole : {S A : Type 0} {store : Ghosts S} {old first last new : Held S}
-    {Change : A → Rows → Rows → Type 0} {x : A} (after : Contents → Contents)
+    {Change : A → Rows → Rows → Type 0} {u : Unit {0}} {x : A} (after : Contents → Contents)
     (r : Result (Unit {0}) Error)
-    → Begins store old first → Writes store first last Change (Ok x)
+    → Begins store old first (Ok u) → Writes store first last Change (Ok x)
     → ((c : Contents) (from to : Rows) → Keeps from c → Change x from to → Keeps to (after c))
-    → (HasCleanDisk (state store new) → HasCleanDisk (state store last))
-    → ((base after : Contents) (rows : Rows) → HasCleanDisk (state store new)
-    → Within (state store last) base rows → Keeps rows after
-    → Ends base after (state store new) r)
-    → ((base after : Contents) (rows : Rows) → HasCleanDisk (state store new)
-    → Within (state store last) base rows → Keeps rows after → Leaves (state store new)
-    (λ left. Keeps left base ⊎ Keeps left after))
-    → (HasCleanDisk (state store new) → OnOk r (IsTrue (state store new).is_open))
+    → Ends store last new r
     → Acts store old new (λ c Held answered. IsDone Held c (after c) (Ok tt) answered) (met_as r)
-commits_whole {store = store} {old = old} {first = first} {new = new} after r begins part keeps was
-    ended stop up = record {
-      clean = λ clean. was_clean store old first begins.survives (part.clean (was clean));
+commits_whole {store = store} {old = old} {first = first} {new = new} after r begins part keeps
+    ends = record {
+      clean = λ clean. was_clean store old first begins.survives (part.clean (ends.clean clean));
       turns = λ clean c h.
           let it = ended_whole {new = new} (λ Held. Held (after c)) r c begins part
           (λ from to kept change. (after c, keeps c from to kept change, λ Held held. held))
-          was ended stop up clean h in
+          ends clean h in
           record {
             done = met_done (Holds (state store new)) c (after c) r it.done;
             up = λ up own. it.up up (own_ok r own);

@@ -22,7 +22,7 @@ use Rattle.vault.specs.Records.{is_sound_message, is_sound_receipt, is_receipt_f
 use Rattle.vault.specs.Changes.{Contents, AreSound, records_of, head_of, heads, kept_in}
 use Rattle.vault.specs.Calls.{IsRefusal, AreHeads, heads_result, seen_as}
 use Rattle.vault.proofs.ListLemmas.{In, length-map, map-append, filter-map, all_in, all_of, all_filter, in_filter, map_in, found, bytes_are}
-use Rattle.mailsql.specs.Rows.{Rows, is_in, has_name}
+use Rattle.mailsql.specs.Rows.{Rows, is_in}
 use Rattle.mailsql.specs.declared.rows.Message.{Message}
 use Rattle.sqlvault.specs.declared.refusal.Refusal.{Refusal}
 use Rattle.sqlvault.specs.declared.refusal.Refusal.TheVariants.{Met}
@@ -95,9 +95,6 @@ have_rows d c rows shown keeps is = record {
       (map_in (λ (y : Keyed). y.message) c.messages x (in_filter (λ (y : Keyed). bytes_eq y.message.maildrop d) c.messages x i).0));
   keys = all_filter (λ (x : Keyed). nat_lt x.key (2 ^ 64)) (λ (x : Keyed). bytes_eq x.message.maildrop d) c.messages keeps.keys;
 }
-
-pub name_there : (d : List ℕ) (c : Contents) (rows : Rows) (b : Bool) → Keeps rows c → b ≡ has_name d rows.maildrops → is_one_of d c.maildrops ≡ b
-name_there d c rows b keeps is = sym (is ∙ ap (has_name d) keeps.maildrops)
 
 -- ---- the answer
 

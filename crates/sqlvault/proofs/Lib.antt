@@ -24,6 +24,7 @@ pub mod AgreeLemmas
 pub mod AskLemmas
 pub mod BehindLemmas
 pub mod StopLemmas
+pub mod MakeLemmas
 pub mod StayLemmas
 pub mod PieceLemmas
 pub mod StoredLemmas

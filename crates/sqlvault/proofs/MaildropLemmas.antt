@@ -13,13 +13,10 @@ use Rattle.vault.specs.Changes.{put_maildrop_answer, drop_answer}
 use Rattle.vault.specs.Calls.{IsMaildropAdded, IsMaildropDropped, put_result, drop_result, present_in}
 use Rattle.vault.proofs.ListLemmas.{all_last, all_weaker, all_filter, distinct_last, distinct_filter, filter_fits, filter_in, found, any_of, any_in, any_front, none_kept, not_false, bytes_are, In, filter-map, length-map}
 use Rattle.vault.proofs.TotalLemmas.{present_is}
-use Rattle.sqlite.specs.State.{State, IsUnchanged}
-use Rattle.mailsql.specs.Rows.{Rows, rows_in, has_name, is_in}
+use Rattle.mailsql.specs.Rows.{Rows, has_name, is_in}
 use Rattle.mailsql.specs.declared.rows.Message as row
 use Rattle.mailsql.specs.Changes.{AddsMaildrop, DropsMaildrop}
 use Rattle.sqlvault.specs.Keeps.{Keeps, message_row}
-use Rattle.sqlvault.specs.Stands.{Holds}
-use Rattle.sqlvault.proofs.HoldsLemmas.{seen}
 
 -- ---- sound contents with other maildrops
 
@@ -154,29 +151,7 @@ not_empty Held c name e some h = let f = some_left (present_in name c) some in r
     some_left : (n : ℕ) → 0 < n → (n == 0) ≡ false
     some_left n h = grind (arith, nat_tests)
 
--- ---- what queries told, by the name's text
-
-pub told_there : (old new : State) (c : Contents) (text name : List ℕ) (b is : Bool)
-    → text ≡ name → Holds old c → IsUnchanged old new
-    → b ≡ has_name text (rows_in old.now.trees).maildrops → b ≡ is
-    → is_one_of name c.maildrops ≡ is
-told_there old new c text name b is same h unchanged ok test =
-    subst (λ n. is_one_of n c.maildrops ≡ is) same
-    (sym (there_is (rows_in old.now.trees) c text (seen old new c unchanged h)) ∙ sym ok ∙ test)
-
-pub told_count : (old new : State) (c : Contents) (n most : ℕ) → Holds old c
-    → IsUnchanged old new → n ≡ min (length (rows_in old.now.trees).maildrops) most
-    → n ≡ min (length c.maildrops) most
-told_count old new c n most h unchanged ok =
-    count_is (rows_in old.now.trees) c n most (seen old new c unchanged h) ok
-
-pub told_present : (old new : State) (c : Contents) (text name : List ℕ) (n most : ℕ)
-    → text ≡ name → Holds old c → IsUnchanged old new
-    → n ≡ min (length (filter (is_in text) (rows_in old.now.trees).messages)) most
-    → n ≡ min (present_in name c) most
-told_present old new c text name n most same h unchanged ok =
-    subst (λ d. n ≡ min (present_in d c) most) same
-    (present_rows (rows_in old.now.trees) c text n most (seen old new c unchanged h) ok)
+-- ---- the changes
 
 -- a new name with room for it can be added
 pub may_add : (c : Contents) (text name : List ℕ) → text ≡ name → is_name name ≡ true

@@ -17,7 +17,7 @@ use Rattle.mailsql.specs.declared.rows.Body.{Body}
 use Rattle.mailsql.specs.Changes.{AddsMessage, AddsKeyed, AddsSheets, AddsSomeSheets, ClearsBodies}
 use Rattle.mailsql.specs.Rows.{Rows, rows_in, bodies_at, is_carried, is_body, completed, IsOurs, IsKept, IsHalted, IsUndone, GoesOn, Changes, MayLeave, CompletesTables}
 use Rattle.mailsql.proofs.EqualLemmas.{same_itself}
-use Rattle.sqlvault.specs.Moves.{Moves, MovesAll, MovesOld, body_head, body_sheets, IsInside, DoesPart, HaltsPart, Part}
+use Rattle.sqlvault.specs.Moves.{Moves, MovesBody, MovesKey, MovesAll, MovesOld, AreBelow, body_head, body_sheets, IsInside, IsUnmoved, HasHeads, DoesPart, HaltsPart, Part}
 use Rattle.sqlvault.specs.Stands.{LeavesNoMore}
 use Rattle.sqlvault.proofs.AdoptLemmas.{halted_after}
 use Rattle.sqlvault.proofs.CarryLemmas.{goes_then, halted_then, more_then, changed_on, looked_on, no_more_in}
@@ -93,24 +93,27 @@ pub same_head : (m : Message) (key : ℤ) (maildrop class : List ℕ) (k octets 
     → (let h : Message = record { key = key; maildrop = maildrop; class = class; k = k; octets = octets } in h) ≡ m
 same_head m key maildrop class k octets a b c d e = rw (a, b, c, d, e) refl
 
-pub row_put : (m : Message) (a b : State) → HasCleanDisk b → IsInside a → AllByRecursion (λ (x : Message). x.key <ℤ m.key) (rows_in a.now.trees).messages → Changes (AddsKeyed m) a b → Survives a b (MayLeave (AddsKeyed m) a) → DoesPart (AddsMessage m) a b
-row_put m a b clean i above ch s = record { on = changed_on (AddsKeyed m) a b i.inside ch; tables = ch.kept; change = ch.change above; stop = no_more_in (AddsKeyed m) a b i.inside (i.is_open, i.tables) clean s }
-
-pub body_put : (body : Body) (a b c : State) (r : Result (Unit {0}) Error) → HasCleanDisk c → DoesPart (AddsMessage body.head) a b → OnOk r (Changes (AddsSheets body.head.key body.body) b c) → OnErr r (IsHalted b c) → Survives b c (MayLeave (AddsSomeSheets body.head.key body.body) b)
-    → Part (Moves (body ∷ [])) a c r
+pub body_put : (body : Body) (a b c : State) (r : Result (Unit {0}) Error) → HasCleanDisk c → DoesPart (AddsKeyed body.head) a b → OnOk r (Changes (AddsSheets body.head.key body.body) b c) → OnErr r (IsHalted b c) → Survives b c (MayLeave (AddsSomeSheets body.head.key body.body) b)
+    → Part (MovesBody body) a c r
 body_put body a b c r clean row ok err s =
-    then_part (AddsMessage body.head) (AddsSheets body.head.key body.body) (Moves (body ∷ [])) a b c r (one_moved body) row
-    (parts_of (AddsSheets body.head.key body.body) (AddsSomeSheets body.head.key body.body) b c r clean (inside_on (AddsMessage body.head) a b row) ok err s)
+    then_part (AddsKeyed body.head) (AddsSheets body.head.key body.body) (MovesBody body) a b c r (λ from mid to adds sheets above. one_moved body from mid to (adds above) sheets) row
+    (parts_of (AddsSheets body.head.key body.body) (AddsSomeSheets body.head.key body.body) b c r clean (inside_on (AddsKeyed body.head) a b row) ok err s)
 
 -- the one that was found
-pub found_put : (asked found : Body) (a b c : State) (r : Result (Unit {0}) Error) → found ≡ asked → DoesPart (λ old new. new ≡ old) a b → Part (Moves (found ∷ [])) b c r → Part (Moves (asked ∷ [])) a c r
-found_put asked found a b c r is looked put =
-    then_part (λ old new. new ≡ old) (Moves (found ∷ [])) (Moves (asked ∷ [])) a b c r
-    (λ from mid to same moves. subst (λ (x : Rows). Moves (asked ∷ []) x to) same (subst (λ (x : Body). Moves (x ∷ []) mid to) is moves)) looked put
+abbrev SeesBody : ℤ → Body → Rows → Rows → Type 0
+SeesBody key found old new = (new ≡ old) × (find (is_body key) old.bodies ≡ Some found)
 
-pub above_found : (asked found : Body) (from mid : Rows) → found ≡ asked → mid ≡ from → AllByRecursion (λ (m : Message). m.key <ℤ asked.head.key) from.messages → AllByRecursion (λ (m : Message). m.key <ℤ found.head.key) mid.messages
-above_found asked found from mid is same above =
-    subst (λ (x : Body). AllByRecursion (λ (m : Message). m.key <ℤ x.head.key) mid.messages) (sym is) (subst (λ (x : Rows). AllByRecursion (λ (m : Message). m.key <ℤ asked.head.key) x.messages) (sym same) above)
+sees_moves : (key : ℤ) (found : Body) (from mid to : Rows) → SeesBody key found from mid → MovesBody found mid to → MovesKey key from to
+sees_moves key found from mid to sees moves asked here above =
+    let one : Some found ≡ Some asked = sym sees.1 ∙ here in
+    let is : found ≡ asked = cc in
+    let low = subst (λ (x : Body). AreBelow x.head.key mid) (sym is) (subst (λ (x : Rows). AreBelow asked.head.key x) (sym sees.0) above) in
+    subst (λ (x : Rows). Moves (asked ∷ []) x to) sees.0 (subst (λ (x : Body). Moves (x ∷ []) mid to) is (moves low))
+
+pub found_put : (key : ℤ) (found : Body) (a b c : State) (r : Result (Unit {0}) Error) → DoesPart (λ old new. new ≡ old) a b → find (is_body key) (rows_in a.now.trees).bodies ≡ Some found → Part (MovesBody found) b c r → Part (MovesKey key) a c r
+found_put key found a b c r looked is put =
+    then_part (SeesBody key found) (MovesBody found) (MovesKey key) a b c r (sees_moves key found)
+    (record { on = looked.on; tables = looked.tables; change = (looked.change, is); stop = looked.stop }) put
 
 none_moved : (rows : Rows) → Moves [] rows rows
 none_moved rows = ap₂ (λ ms ss. let w : Rows = record rows { messages = ms; sheets = ss } in w) (sym (append-nil rows.messages)) (sym (append-nil rows.sheets))
@@ -206,15 +209,17 @@ module _ (s0 s1 : State) (i : ℕ) (head : Message) (n : IsNext (rows_in s0.now.
   abbrev from : Rows
   from = rows_in s0.now.trees
 
-  pub found_next : find (is_body head.key) (rows_in s1.now.trees).bodies ≡ Some n.body
+  found_next : find (is_body head.key) (rows_in s1.now.trees).bodies ≡ Some n.body
   found_next = ap (find (is_body head.key)) (same_bodies (take i from.bodies) from (rows_in s1.now.trees) first.0.change) ∙ ap (λ (m : Message). find (is_body m.key) from.bodies) n.is ∙ n.found
 
-  pub above_next : from.messages ≡ [] → AllByRecursion (λ (m : Message). m.key <ℤ n.body.head.key) (rows_in s1.now.trees).messages
+  above_next : from.messages ≡ [] → AllByRecursion (λ (m : Message). m.key <ℤ n.body.head.key) (rows_in s1.now.trees).messages
   above_next none = subst (AllByRecursion (λ (m : Message). m.key <ℤ n.body.head.key)) (sym (ap (λ (r : Rows). r.messages) first.0.change ∙ ap (λ ms. ms ++ map body_head (take i from.bodies)) none)) n.above
 
-  pub moved_next : (s2 : State) → DoesPart (Moves (n.body ∷ [])) s1 s2 → MovesFirst (i + 1) s0 s2
-  moved_next s2 one =
+  pub moved_next : (s2 : State) (key : ℤ) → key ≡ head.key → from.messages ≡ [] → DoesPart (MovesKey key) s1 s2 → MovesFirst (i + 1) s0 s2
+  moved_next s2 key same none one =
       let p = first.0 in
+      let moves : Moves (n.body ∷ []) (rows_in s1.now.trees) (rows_in s2.now.trees) =
+      one.change n.body (ap (λ z. find (is_body z) (rows_in s1.now.trees).bodies) same ∙ found_next) (above_next none) in
       let on : i + 1 ≡ suc i = omega arith in
       let taken : take (i + 1) from.bodies ≡ take i from.bodies ++ n.body ∷ [] = ap (λ k. take k from.bodies) on ∙ n.taken in
       let mid = rows_in s1.now.trees in
@@ -222,10 +227,10 @@ module _ (s0 s1 : State) (i : ℕ) (head : Message) (n : IsNext (rows_in s0.now.
         record {
           on = goes_then s0 s1 s2 p.on one.on;
           tables = one.tables;
-          change = subst (λ l. Moves l from to) (sym taken) (more_moved (take i from.bodies) n.body from mid to p.change one.change);
+          change = subst (λ l. Moves l from to) (sym taken) (more_moved (take i from.bodies) n.body from mid to p.change moves);
           stop = more_then s0 s1 s2 p.stop one.stop;
         },
-        carried_by s2.now.trees head.key n.body (ap (find (is_body head.key)) (same_bodies (n.body ∷ []) mid to one.change) ∙ found_next),
+        carried_by s2.now.trees head.key n.body (ap (find (is_body head.key)) (same_bodies (n.body ∷ []) mid to moves) ∙ found_next),
       )
 
 -- all of them are
@@ -233,6 +238,19 @@ pub moved_whole : (s0 s1 : State) (i : ℕ) → length (rows_in s0.now.trees).bo
 moved_whole s0 s1 i all first =
     let from = rows_in s0.now.trees in
     record { on = first.0.on; tables = first.0.tables; change = subst (λ l. Moves l from (rows_in s1.now.trees)) (take_all i from.bodies all) first.0.change; stop = first.0.stop }
+
+-- the heads were read, and nothing was changed
+pub looked_heads : (heads : List Message) (a b : State) → IsUnmoved true a → IsUnchanged a b → DoesPart (λ old new. new ≡ old) a b → AreRising (rows_in b.now.trees).bodies → heads ≡ map body_head (rows_in a.now.trees).bodies → HasHeads heads b
+looked_heads heads a b u same looked rising are =
+    let rows = looked.change in
+    record {
+      unmoved = record {
+        of = record { under = inside_on (λ old new. new ≡ old) a b looked; order = ap (λ (d : Database). is_carried d.trees) same.0.now_is ∙ u.of.order };
+        none = λ is. ap (λ (r : Rows). r.messages) rows ∙ u.none is;
+      };
+      rising = rising;
+      are = are ∙ ap (λ (r : Rows). map body_head r.bodies) (sym rows);
+    }
 
 -- the tables that were made have no message
 pub none_made : (carried : Bool) (old made : Rows) → made ≡ completed carried old → IsTrue carried → made.messages ≡ []

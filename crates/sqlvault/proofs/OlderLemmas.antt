@@ -1,6 +1,7 @@
 -- The words of specs/Older: queries of an older store, and the transaction that carries it over.
-use Rattle.std.proofs.Common.{◌≡◌, inl, Bool, true, false, [], ◌∷◌, sym, ap, subst, ◌∙◌}
+use Rattle.std.proofs.Common.{◌≡◌, ◌⊎◌, inl, Bool, true, false, [], ◌∷◌, sym, ap, subst, ◌∙◌}
 use Rattle.std.specs.Prelude.{Result, Ok, Err, OnOk, OnErr}
+use Rattle.sqlite_trees.specs.Tree.{Trees}
 use Rattle.sqlite_trees.specs.declared.store.Store.{Ghosts}
 use Rattle.sqlite.specs.Held.{Held, state}
 use Rattle.sqlite.specs.declared.error.Error.{Error}
@@ -17,18 +18,19 @@ use Rattle.sqlvault.specs.Carries.{IsOlder, IsOfRows, KeepsOlder, CarriesOver}
 use Rattle.sqlvault.specs.Carries.{brought_in, old_mark}
 use Rattle.sqlvault.specs.Adopts.{StaysAs}
 use Rattle.sqlvault.specs.Keeps.{Keeps, our_mark}
-use Rattle.sqlvault.specs.Moves.{MovesOld, DoesPart, HaltsPart, Part}
+use Rattle.sqlvault.specs.Moves.{MovesOld, DoesPart, HaltsPart, Part, Builds}
 use Rattle.sqlvault.specs.Older.{IsBegunOlder, Brings, AsksOlder, CarriesOlder}
 use Rattle.sqlvault.specs.Parts.{Finds}
 use Rattle.sqlvault.specs.Refusals.{answer_of, told}
 use Rattle.sqlvault.specs.Stands.{LeavesNoMore}
+use Rattle.sqlvault.specs.Transactions.{Begins, Undoes}
 use Rattle.sqlvault.proofs.AdoptLemmas.{unchanged_on, undone_on, rows_on, stays_gone}
 use Rattle.sqlvault.proofs.CarryLemmas.{asked_old, old_on, more_then, nothing_more, looked_on}
 use Rattle.sqlvault.proofs.CarryLemmas.{begun_on, order_on, marked_on, brought_on, brought_is}
-use Rattle.sqlvault.proofs.CarryLemmas.{our_marks, carried_at, left_at, either, either_then}
+use Rattle.sqlvault.proofs.CarryLemmas.{our_marks, carried_at, left_at, either}
 use Rattle.sqlvault.proofs.CarryLemmas.{either_on, met_uncarried, rows_uncarried, carried_on}
 use Rattle.sqlvault.proofs.CarryLemmas.{uncarried_from, stays_result}
-use Rattle.sqlvault.proofs.FrameLemmas.{was_clean}
+use Rattle.sqlvault.proofs.FrameLemmas.{was_clean, undoes_clean}
 use Rattle.sqlvault.proofs.MoveLemmas.{then_part, part_then, parts_of, halts_behind, inside_on}
 
 -- ---- queries
@@ -158,7 +160,7 @@ pub record Midway (carried : Bool) (s0 s1 s2 : State) : Type 0 where
   pub rows : rows_in s2.now.trees ≡ brought_in s0.now.trees
   pub stop : LeavesNoMore s0 s2
 
-pub begun_so : (carried : Bool) (s0 s1 : State) → Shows s0 s1 s0.now s0.committed true
+begun_so : (carried : Bool) (s0 s1 : State) → Shows s0 s1 s0.now s0.committed true
     → HasCleanDisk s1 → Survives s0 s1 (λ _. ⊥) → IsOlder carried s0 → Begun carried s0 s1
 begun_so carried s0 s1 shows clean s older =
     record { older = older; shows = shows; stop = nothing_more s0 s1 clean s }
@@ -232,26 +234,61 @@ module _ (carried : Bool) (s0 s1 s2 : State) (m : Midway carried s0 s1 s2) where
 
   module _ (listed : IsDatabase s2.now) (held : (c : Contents) × KeepsOlder s0 c) where
     -- it was committed
-    pub committed_older : (s3 : State) → Shows s2 s3 s2.now s2.now false → HasCleanDisk s3
-        → Survives s2 s3 (λ db. db ≡ s2.now.trees) → CarriesOlder s0 s3 (Ok tt)
-    committed_older s3 shows clean s = record {
+    pub committed_older : (s3 : State) → Shows s2 s3 s2.now s2.now false
+        → ((db : Trees) → s3.may_leave db → s2.may_leave db ⊎ (db ≡ s2.now.trees))
+        → CarriesOlder s0 s3 (Ok tt)
+    committed_older s3 shows stop = record {
       carried = carried_at carried s0 s2 s3 m.begun.older m.kept m.rows shows
           (held.0, subst (λ r. Keeps r held.0) (sym m.rows) held.1);
       stays = tt;
-      stop = left_at s0 s2 s3 listed m.kept m.rows held m.stop clean s;
+      stop = left_at s0 s2 s3 listed m.kept m.rows held m.stop stop;
     }
 
     -- the commit met an error, and it was undone
-    pub uncommitted_older : (s3 s4 : State) (e : Error) → HasCleanDisk s3
-        → Survives s2 s3 (λ db. db ≡ s2.now.trees) → IsGone s1 s4 → HasCleanDisk s4
-        → Survives s3 s4 (λ _. ⊥) → CarriesOlder s0 s4 (Err (Met e))
-    uncommitted_older s3 s4 e clean3 commits gone clean s = record {
+    pub uncommitted_older : (s3 : State) (e : Error) → IsGone s1 s3
+        → ((db : Trees) → s3.may_leave db → s2.may_leave db ⊎ (db ≡ s2.now.trees))
+        → CarriesOlder s0 s3 (Err (Met e))
+    uncommitted_older s3 e gone stop = record {
       carried = met_uncarried s0 e;
-      stays = gone_stays carried s0 s1 m.begun s4 gone;
-      stop = either_then s0 s3 s4
-          (left_at s0 s2 s3 listed m.kept m.rows held m.stop clean3 commits)
-          (nothing_more s3 s4 clean s);
+      stays = gone_stays carried s0 s1 m.begun s3 gone;
+      stop = left_at s0 s2 s3 listed m.kept m.rows held m.stop stop;
     }
+
+-- ---- over a connection
+
+module _ {S : Type 0} {store : Ghosts S} {first mid : Held S} {x : Unit {0}} (carried : Bool)
+    (begins : Begins store first mid (Ok x)) (older : IsOlder carried (state store first)) where
+  pub begun_at : HasCleanDisk (state store mid)
+      → Begun carried (state store first) (state store mid)
+  begun_at clean = begun_so carried (state store first) (state store mid) (begins.ok clean).1 clean
+      begins.survives older
+
+  -- a part met an error, and it was undone
+  pub halted_at : {e : Error} {last new : Held S} (said : Error)
+      → (let r : Result (Unit {0}) Error = Err e in
+      Builds store mid last (IsBegunOlder carried) (Brings carried) r)
+      → Undoes store last new → HasCleanDisk (state store new)
+      → CarriesOlder (state store first) (state store new) (Err (Met said))
+  halted_at {last = last} {new = new} said part back clean =
+      let s0 = state store first in
+      let s1 = state store mid in
+      let s2 = state store last in
+      let clean2 = undoes_clean back clean in
+      let b = begun_at (part.clean clean2) in
+      let halts = part.part clean2 (begun_older carried s0 s1 b) in
+      undone_older carried s0 s1 b s2 (state store new) said (more_then s0 s1 s2 b.stop halts.stop)
+      (back.gone mid clean halts.halted) clean back.survives
+
+  -- the rows were brought to our version
+  pub brought_at : {y : Unit {0}} {last : Held S}
+      → (let r : Result (Unit {0}) Error = Ok y in
+      Builds store mid last (IsBegunOlder carried) (Brings carried) r)
+      → HasCleanDisk (state store last)
+      → Midway carried (state store first) (state store mid) (state store last)
+  brought_at {last = last} part clean =
+      let b = begun_at (part.clean clean) in
+      midway carried (state store first) (state store mid) b (state store last)
+      (part.part clean (begun_older carried (state store first) (state store mid) b))
 
 -- ---- behind queries that changed nothing
 

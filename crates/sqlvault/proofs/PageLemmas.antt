@@ -182,6 +182,3 @@ page_of text from start rest size n octets buffer at inside octets_are count cop
 pub pages_at : (text : List ℕ) (from n m : ℕ) (run buffer : List ℕ) → 0 < m → run ≡ take (m * 4096) (drop (from / 4096 * 4096) text)
     → n ≡ min (length run - from % 4096) (length buffer) → take n buffer ≡ take n (drop (from % 4096) run) → (n ≤ length buffer) × IsPage text from (length buffer) (take n buffer)
 pages_at text from n m run buffer some = page_of text from (from / 4096 * 4096) (from % 4096) (m * 4096) n run buffer (omega arith) (omega (arith, some))
-
-pub low_place : (from : ℕ) → from < 2 ^ 64 → from / 4096 < 2 ^ 63
-low_place from low = omega (arith, low)

@@ -1,9 +1,9 @@
--- What a stop leaves after each statement of a call, and after the call.
-use Rattle.std.proofs.Common.{◌≡◌, ◌⊎◌, inl, inr, ℕ, List, Bool, true, false, cond, IsTrue, Result, Ok, Err, sym, subst}
+-- What a stop leaves after a call.
+use Rattle.std.proofs.Common.{◌≡◌, ◌⊎◌, inl, inr, ℕ, List, Bool, true, false, cond, Result, Ok, Err, sym, subst}
 use Rattle.sqlite_trees.specs.declared.store.Store.{Ghosts}
 use Rattle.sqlite.specs.Held.{Held as Conn, state}
 use Rattle.sqlite.specs.declared.error.Error.{Error}
-use Rattle.sqlite.specs.State.{State, HasCleanDisk, Survives}
+use Rattle.sqlite.specs.State.{State, HasCleanDisk}
 use Rattle.vault.specs.declared.answer.Deposited.{Deposited}
 use Rattle.vault.specs.declared.answer.Deposited.TheVariants as stored
 use Rattle.vault.specs.declared.fault.VaultFault.{VaultFault}
@@ -11,32 +11,15 @@ use Rattle.vault.specs.declared.fault.VaultFault.TheVariants as fault
 use Rattle.vault.specs.Changes.{Contents}
 use Rattle.vault.specs.Calls.{IsDone, IsDeposited}
 use Rattle.vault.specs.Stops.{SaySame, IsOwn}
-use Rattle.mailsql.specs.Rows.{Rows, rows_in, IsOurs, MayLeave}
+use Rattle.mailsql.specs.Rows.{rows_in}
 use Rattle.sqlvault.specs.Keeps.{Keeps}
 use Rattle.sqlvault.specs.Stands.{Holds}
 use Rattle.sqlvault.specs.Refusals.{is_memory, fault_of}
-use Rattle.sqlvault.specs.Stops.{MayHold, LeavesLast, LeavesHeld, LeavesOr, StopsBefore, leaves_last}
-use Rattle.sqlvault.proofs.WithinLemmas.{leaves_on}
+use Rattle.sqlvault.specs.Stops.{MayHold, LeavesHeld, LeavesOr}
 
--- ---- a statement outside a transaction
+-- ---- what comes of a call
 
--- a query commits nothing
-pub looked : (old new : State) (c : Contents) → LeavesLast old → HasCleanDisk new → Survives old new (λ _. IsOurs old.now → ⊥) → IsTrue old.is_open → Holds old c → LeavesHeld new c
-looked old new c law clean s up h db may = elim (s.crash clean db may) [ inl was ↦ leaves_last old c law up h db was | inr none ↦ absurd (none (h.tables up).0) ]
-
--- nor does the beginning of a transaction
-pub begins : (old new : State) (c : Contents) → LeavesLast old → HasCleanDisk new → Survives old new (λ _. ⊥) → IsTrue old.is_open → Holds old c → LeavesHeld new c
-begins old new c law clean s up h = leaves_on (λ rows. Keeps rows c) old new clean s (leaves_last old c law up h)
-
--- a change is committed, or it is not
-pub changed : (Change : Rows → Rows → Type 0) (After : (Contents → Type 0) → Type 0) (old new : State) (c : Contents) → LeavesLast old → HasCleanDisk new → Survives old new (MayLeave Change old)
-    → IsTrue old.is_open → ((from to : Rows) → Change from to → Keeps from c → After (Keeps to)) → Holds old c → LeavesOr new c After
-changed Change After old new c law clean s up keeps h db may = elim (s.crash clean db may) [
-  | inl was ↦ inl (leaves_last old c law up h db was)
-  | inr made ↦ inr (keeps (rows_in old.now.trees) (rows_in db) (made (up, h.tables up)).1 (h.rows up))
-]
-
--- and what comes of a call may be said in other words
+-- what comes of a call may be said in other words
 pub or_said : (After Said : (Contents → Type 0) → Type 0) (s : State) (c : Contents) → ((Held : Contents → Type 0) → After Held → Said Held) → LeavesOr s c After → LeavesOr s c Said
 or_said After Said s c say left db may = elim (left db may) [ inl was ↦ inl was | inr made ↦ inr (say (Keeps (rows_in db)) made) ]
 
@@ -75,21 +58,11 @@ left_deposited s c left d class id text leaves may = elim (leaves may.0 may.1) [
 
 -- ---- a call of a vault, over the connection inside it
 
-pub looked_as : {S : Type 0} (g : Ghosts S) (old was new now : Conn S) (c left : Contents) → was ≡ old → new ≡ now → StopsBefore (state g was) (state g now) → HasCleanDisk (state g new)
-    → IsTrue (state g old).is_open → Holds (state g old) c → MayHold (state g new) left → SaySame left c
-looked_as {S} g old was new now c left e f stop clean up h may =
-    left_as (state g now) c left
-    (stop c (subst (λ (x : Conn S). HasCleanDisk (state g x)) f clean) (subst (λ (x : Conn S). IsTrue (state g x).is_open) (sym e) up) (subst (λ (x : Conn S). Holds (state g x) c) (sym e) h))
-    (subst (λ (x : Conn S). MayHold (state g x) left) f may)
-
 pub done_told : {A S : Type 0} (g : Ghosts S) (expected : Result A VaultFault) (old was new now : Conn S) (c after : Contents) (r said : Result A VaultFault) → was ≡ old → new ≡ now → r ≡ said
     → (HasCleanDisk (state g now) → Holds (state g was) c → IsDone (Holds (state g now)) c after expected said) → Holds (state g old) c → HasCleanDisk (state g new) → IsDone (Holds (state g new)) c after expected r
 done_told {A} {S} g expected old was new now c after r said e f same done h clean =
     let it = done (subst (λ (x : Conn S). HasCleanDisk (state g x)) f clean) (subst (λ (x : Conn S). Holds (state g x) c) (sym e) h) in
     subst (λ (a : Result A VaultFault). IsDone (Holds (state g new)) c after expected a) (sym same) (subst (λ (x : Conn S). IsDone (Holds (state g x)) c after expected said) (sym f) it)
-
-pub clean_told : {S : Type 0} (g : Ghosts S) (old was new now : Conn S) → was ≡ old → new ≡ now → (HasCleanDisk (state g now) → HasCleanDisk (state g was)) → HasCleanDisk (state g new) → HasCleanDisk (state g old)
-clean_told {S} g old was new now e f before clean = subst (λ (x : Conn S). HasCleanDisk (state g x)) e (before (subst (λ (x : Conn S). HasCleanDisk (state g x)) f clean))
 
 -- a call whose relation is this one
 pub done_by : {A S : Type 0} (g : Ghosts S) (Done : (Contents → Type 0) → Result A VaultFault → Type 0) (old was new now : Conn S) (c : Contents) (r said : Result A VaultFault) → was ≡ old → new ≡ now → r ≡ said

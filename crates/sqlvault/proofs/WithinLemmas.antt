@@ -1,10 +1,10 @@
 -- The steps of a transaction.
-use Rattle.std.proofs.Common.{◌≡◌, ◌⊎◌, inl, inr, true, false, cond, IsTrue, refl, sym, ap, subst, ◌∙◌, true≢false, Bool, not}
+use Rattle.std.proofs.Common.{◌≡◌, inl, inr, true, false, cond, IsTrue, refl, sym, ap, subst, ◌∙◌, true≢false, Bool, not}
 use Rattle.sqlite_trees.specs.Tree.{Trees}
 use Rattle.sqlite.specs.Effect.{Database}
 use Rattle.sqlite.specs.State.{State, HasCleanDisk, Shows, IsRolledBack, Survives}
 use Rattle.vault.specs.Changes.{Contents}
-use Rattle.mailsql.specs.Rows.{Rows, rows_in, IsKept, IsReady, MayLeave, Changes, IsUndone, IsHalted, IsGone}
+use Rattle.mailsql.specs.Rows.{Rows, rows_in, IsKept, IsReady, MayLeave, Changes, IsUndone, IsHalted, IsGone, GoesOn}
 use Rattle.sqlvault.specs.Keeps.{Keeps}
 use Rattle.sqlvault.specs.Stands.{Holds, Leaves, Within, Under, Halted, Makes}
 use Rattle.sqlvault.specs.Stops.{LeavesLast}
@@ -48,6 +48,16 @@ rolled_back old new base rows back w = record {
   sound = w.base_is.sound;
 }
 
+-- the transaction is gone
+pub gone_held : (old new : State) (base : Contents) (rows : Rows) → IsGone old new → Within old base rows → Holds new base
+gone_held old new base rows gone w = record {
+  autocommit = gone.autocommit;
+  tables = λ o. subst IsKept (sym (gone.undone o).0) w.under;
+  settled = λ o. (gone.undone o).1 ∙ sym (gone.undone o).0;
+  rows = λ o. subst (λ (d : Database). Keeps (rows_in d.trees) base) (sym (gone.undone o).0) w.base_is;
+  sound = w.base_is.sound;
+}
+
 -- after an error of a part of several statements
 pub halted : (old new : State) (base : Contents) (rows : Rows) → IsHalted old new → Within old base rows → Halted new base
 halted old new base rows (inl on) w = inl (record {
@@ -55,13 +65,7 @@ halted old new base rows (inl on) w = inl (record {
   under = subst IsKept (sym on.committed_is) w.under;
   base_is = subst (λ (d : Database). Keeps (rows_in d.trees) base) (sym on.committed_is) w.base_is;
 })
-halted old new base rows (inr gone) w = inr (record {
-  autocommit = gone.autocommit;
-  tables = λ o. subst IsKept (sym (gone.undone o).0) w.under;
-  settled = λ o. (gone.undone o).1 ∙ sym (gone.undone o).0;
-  rows = λ o. subst (λ (d : Database). Keeps (rows_in d.trees) base) (sym (gone.undone o).0) w.base_is;
-  sound = w.base_is.sound;
-})
+halted old new base rows (inr gone) w = inr (gone_held old new base rows gone w)
 
 -- after an error of one statement
 pub undone : (old new : State) (base : Contents) (rows : Rows) → IsUndone old new → Within old base rows → Halted new base
@@ -140,13 +144,9 @@ committed old new base after rows shows w keeps = record {
   sound = keeps.sound;
 }
 
--- a stop in COMMIT leaves the one or the other
-pub commit_stops : (old new : State) (base after : Contents) (rows : Rows) → HasCleanDisk new → Survives old new (λ db. db ≡ old.now.trees) → Within old base rows → Keeps rows after
-    → Leaves new (λ left. Keeps left base ⊎ Keeps left after)
-commit_stops old new base after rows clean s w keeps db may = elim (s.crash clean db may) [
-  | inl was ↦ inl (w.stop db was)
-  | inr made ↦ inr (subst (λ r. Keeps r after) (sym (ap rows_in made ∙ w.rows_are)) keeps)
-]
+-- the transaction is still under way
+pub goes_still : (s : State) (base : Contents) (rows : Rows) → Within s base rows → GoesOn s s
+goes_still s base rows w = record { was_open = w.is_open; is_open = w.is_open; now_is = refl; committed_is = refl; mode = w.inside }
 
 pub undone_holds : (old new : State) (base : Contents) → IsRolledBack old new → Under old base → Holds new base
 undone_holds old new base back u = record {

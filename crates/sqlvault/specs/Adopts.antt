@@ -1,6 +1,7 @@
 -- What adopting a connection does: the store then holds what its tables held, or nothing where it
 -- had no table.
-use Rattle.std.specs.Prelude.{◌≡◌, ◌≢◌, ◌⊎◌, false, IsTrue, ⊤, Result, Ok, Err, Some, [], ◌∷◌, codes}
+use Rattle.std.specs.Prelude.{◌≡◌, ◌≢◌, ◌⊎◌, true, false, IsTrue, ⊤, Result, Ok, Err, OnErr, Some, []}
+use Rattle.std.specs.Prelude.{◌∷◌, codes}
 use Rattle.std.specs.List.{find}
 use Rattle.sqlite_disk.specs.declared.Disk.{Ghosts}
 use Rattle.sqlite_wal.specs.Recovery.{Image}
@@ -21,10 +22,12 @@ use Rattle.mailsql.specs.Uses.{marked}
 use Rattle.mailsql.specs.Tables.{no_schema}
 use Rattle.mailsql.specs.Rows.{Rows, rows_in, IsKept, IsBare, is_mark}
 use Rattle.mailsql.specs.Marked.{HasMarks}
+use Rattle.mailsql.specs.Names.{is_taken, has_marks}
 use Rattle.sqlvault.specs.Keeps.{Keeps, our_mark, version}
 use Rattle.sqlvault.specs.Carries.{HasOlder, IsCarried, IsUncarried, IsOfNoVersion, IsStoreOf, LeavesEither}
 use Rattle.sqlvault.specs.Opened.{Opened}
-use Rattle.sqlvault.specs.Refusals.{open_fault}
+use Rattle.sqlvault.specs.declared.refusal.Refusal.{Refusal}
+use Rattle.sqlvault.specs.Refusals.{open_fault, answer_of}
 use Rattle.sqlvault.specs.Stands.{Holds, LeavesNoMore}
 
 -- the store has no table, index or view
@@ -90,6 +93,20 @@ LeavesEmptyToo old new = (db : Trees) → new.may_leave db → old.may_leave db 
 -- under way just if one was
 abbrev pub StaysAs : State → State → Type 0
 StaysAs old new = IsTrue new.is_open → IsTrue old.is_open × ((new.now ≡ old.now) × (new.committed ≡ old.committed)) × (new.in_transaction ≡ old.in_transaction)
+
+-- A store that is known is adopted, or it stays as it was. A stop leaves what it left before, or a
+-- new store.
+pub record Settles (old new : State) (result : Result (Unit {0}) Refusal) : Type 0 where
+  pub adopts : Adopts old new (answer_of result)
+  pub stays : OnErr result (StaysAs old new)
+  pub stop : IsTrue old.is_open → LeavesEmptyToo old new
+
+-- a transaction is under way, or one of our names is taken and the table of marks isn't ours
+abbrev pub IsForeign : State → Type 0
+IsForeign s =
+    IsTrue s.in_transaction
+    ⊎ ((s.in_transaction ≡ false) × (is_taken s.now.schema ≡ true)
+    × (has_marks s.now.schema.tables ≡ false))
 
 -- A store of an unknown version: no transaction is under way, the table of marks is there, whatever
 -- the other tables are, and our mark has none of the versions 1, 2 and 3.

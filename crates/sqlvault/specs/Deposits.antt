@@ -38,6 +38,11 @@ PutsMessage m old new = (key : ℕ) × (nat_lt key 18446744073709551616 ≡ true
 abbrev pub message_of : Receipt → List ℕ → Message
 message_of r text = message_for r.maildrop r.class text r.k
 
+-- the receipt and its message are added
+abbrev pub PutsDeposit : Receipt → List ℕ → Rows → Rows → Type 0
+PutsDeposit r text old new =
+    (between : Rows) × PutsReceipt r old between × PutsMessage (message_of r text) between new
+
 -- the contents accept a deposit of this text, which gets this receipt
 pub record Accepts (c : Contents) (r : Receipt) (text : List ℕ) : Type 0 where
   pub maildrop : is_name r.maildrop ≡ true

@@ -1,8 +1,8 @@
 -- What a part of a call does to the connection, whatever it answers, in one word: it only looks
--- (`Looks`), it changes records once, as a whole call (`Acts`) or as a part of one (`Turns`), or it
--- is a part of a transaction (`Writes`). Two parts compose: `looks_then`, `rests_turns` and
--- `writes_then` of proofs/FrameLemmas. Of rows that may be no contents there are
--- `Asks` and `Reads`.
+-- (`Looks`, and `Learns` with what it tells), it changes records once, as a whole call (`Acts`) or
+-- as a part of one (`Turns`), or it is a part of a transaction (`Writes`). Two parts compose:
+-- `looks_then`, `learns_then`, `rests_turns` and `writes_then` of proofs/FrameLemmas. Of rows that
+-- may be no contents there are `Asks` and `Reads`.
 use Rattle.std.specs.Prelude.{IsTrue, ⊤, Result, Ok, Err, OnOk, OnErr}
 use Rattle.sqlite_trees.specs.declared.store.Store.{Ghosts}
 use Rattle.sqlite.specs.Held.{Held, state}
@@ -51,6 +51,12 @@ module _ {S : Type 0} (store : Ghosts S) (old new : Held S) where
     pub rests : HasCleanDisk (state store new) → (c : Contents) → Holds (state store old) c
         → Rests Own c
 
+  -- A part only looks, and tells this of what was held; the connection is then open.
+  pub record Learns (Own : Type 0) (Told : Contents → Type 0) : Type 0 where
+    pub looks : Looks Own
+    pub told : HasCleanDisk (state store new) → (c : Contents) → Holds (state store old) c → Own
+        → IsTrue (state store new).is_open × Told c
+
   -- `Done` says what is held. A connection that was open is still open after an answer of the
   -- call's own, and a stop leaves these contents, or such as `Made` says.
   pub record Turns (Own : Type 0) (Done Made : (Contents → Type 0) → Type 0)
@@ -78,8 +84,8 @@ module _ {S : Type 0} (store : Ghosts S) (old new : Held S) where
         → Makes Change (state store old) (state store new) result
 
   -- Queries of rows that may be no contents. A connection that is clean at their end was clean
-  -- before. Where our tables are there, it is as it was; after an error its transaction may be gone.
-  -- A stop leaves no more than before.
+  -- before. Where our tables are there, it is as it was; after an error its transaction may be
+  -- gone. A stop leaves no more than before.
   pub record Asks {A E : Type 0} (result : Result A E) : Type 0 where
     pub clean : WasClean (state store old) (state store new)
     pub same : HasCleanDisk (state store new) → HasTables (state store old)
@@ -90,8 +96,8 @@ module _ {S : Type 0} (store : Ghosts S) (old new : Held S) where
         → LeavesNoMore (state store old) (state store new)
 
   -- A part of such queries, which may be none. A connection that is clean at its end was clean
-  -- before; where our tables are there it sees what it saw, or after an error its transaction may be
-  -- gone. A stop leaves no more than before.
+  -- before; where our tables are there it sees what it saw, or after an error its transaction may
+  -- be gone. A stop leaves no more than before.
   pub record Reads {A : Type 0} (result : Result A Error) : Type 0 where
     pub clean : WasClean (state store old) (state store new)
     pub goes : HasCleanDisk (state store new) → HasTables (state store old)

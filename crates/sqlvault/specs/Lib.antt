@@ -5,6 +5,7 @@ pub mod Parts
 pub mod Adopts
 pub mod Stands
 pub mod Stops
+pub mod Transactions
 pub mod Refusals
 pub mod Rules
 pub mod Opened

@@ -57,6 +57,6 @@ Makes Change old new (Ok x) = (base : Contents) (rows : Rows) → Within old bas
 Makes Change old new (Err e) = (base : Contents) (rows : Rows) → Within old base rows → Halted new base × Leaves new (λ left. Keeps left base)
 
 -- after `Ok` the store holds what was committed, after `Err` what it held before the transaction
-abbrev pub Ends : Contents → Contents → State → Result (Unit {0}) Error → Type 0
-Ends base after new (Ok _) = Holds new after
-Ends base after new (Err e) = Holds new base
+abbrev pub IsEnded : Contents → Contents → State → Result (Unit {0}) Error → Type 0
+IsEnded base after new (Ok _) = Holds new after
+IsEnded base after new (Err e) = Holds new base

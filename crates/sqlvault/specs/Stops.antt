@@ -1,12 +1,11 @@
--- What a stop may leave of a store over tables, after a call and after a part of one.
-use Rattle.std.specs.Prelude.{◌≡◌, ◌⊎◌, IsTrue, Result}
+-- What a stop may leave of a store over tables.
+use Rattle.std.specs.Prelude.{◌≡◌, ◌⊎◌, IsTrue}
 use Rattle.std.proofs.Common.{sym, ap, subst, ◌∙◌}
 use Rattle.sqlite_trees.specs.Tree.{Trees}
 use Rattle.sqlite.specs.Effect.{Database}
-use Rattle.sqlite.specs.State.{State, HasCleanDisk}
-use Rattle.vault.specs.declared.fault.VaultFault.{VaultFault}
+use Rattle.sqlite.specs.State.{State}
 use Rattle.vault.specs.Changes.{Contents}
-use Rattle.vault.specs.Stops.{SaySame, IsOwn}
+use Rattle.vault.specs.Stops.{SaySame}
 use Rattle.mailsql.specs.Rows.{rows_in}
 use Rattle.sqlvault.specs.Keeps.{Keeps}
 use Rattle.sqlvault.specs.Stands.{Holds, Leaves}
@@ -23,14 +22,6 @@ LeavesHeld s c = Leaves s (λ rows. Keeps rows c)
 -- a stop now leaves the rows of these contents, or of contents with `After`
 abbrev pub LeavesOr : State → Contents → ((Contents → Type 0) → Type 0) → Type 0
 LeavesOr s c After = Leaves s (λ rows. Keeps rows c ⊎ After (Keeps rows))
-
--- a part that only looks: a stop leaves what was held
-abbrev pub StopsBefore : State → State → Type 0
-StopsBefore old new = (c : Contents) → HasCleanDisk new → IsTrue old.is_open → Holds old c → LeavesHeld new c
-
--- the connection stays open after an answer of the call's own
-abbrev pub StaysOpen : {A : Type 0} → State → State → Result A VaultFault → Type 0
-StaysOpen old new answered = (c : Contents) → HasCleanDisk new → IsTrue old.is_open → Holds old c → IsOwn answered → IsTrue new.is_open
 
 -- ---- between two calls
 

@@ -1,24 +1,23 @@
 //! Adopting a connection: its tables are made, carried over or checked.
-ghost use Rattle.std.specs.Prelude.{◌≡◌, true, false, IsTrue, IfOk, IfErr, OnOk, OnErr, Err, []};
+ghost use Rattle.std.specs.Prelude.{◌≡◌, false, IfOk, IfErr, Err, []};
 ghost use Rattle.std.specs.Prelude.{◌∷◌};
 ghost use Rattle.sqlite.specs.Held.{state};
 ghost use Rattle.sqlite.specs.State.{HasCleanDisk};
-ghost use Rattle.vault.specs.Plain.{no_contents};
 ghost use Rattle.mailsql.specs.Uses.{marked};
-ghost use Rattle.mailsql.specs.Rows.{HasTables, IsHalted, IsBegun, GoesOn, rows_in, IsKept};
+ghost use Rattle.mailsql.specs.Rows.{HasTables, IsBegun, rows_in, IsKept};
 ghost use Rattle.sqlvault.specs.Frame.{Asks};
 ghost use Rattle.sqlvault.specs.Keeps.{Keeps, our_mark, version};
 ghost use Rattle.sqlvault.specs.Parts.{Finds};
-ghost use Rattle.sqlvault.specs.Adopts.{Adopts, IsBlank, IsKnown, StaysAs, LeavesEmptyToo};
-ghost use Rattle.sqlvault.specs.Adopts.{IsAdoptFault, IsMarked, IsOfUnknownVersion};
+ghost use Rattle.sqlvault.specs.Adopts.{Adopts, Settles, IsBlank, IsKnown};
+ghost use Rattle.sqlvault.specs.Moves.{Builds};
+ghost use Rattle.sqlvault.specs.Adopts.{IsAdoptFault, IsForeign, IsMarked, IsOfUnknownVersion};
 ghost use Rattle.sqlvault.specs.Adopts.{IsVersionRefused};
 ghost use Rattle.vault.specs.declared.fault.VaultFault.TheVariants.{NotOurs};
-ghost use Rattle.mailsql.specs.Names.{is_taken, has_marks};
 ghost use Rattle.sqlvault.specs.declared.refusal.Refusal.TheVariants.{Answered};
 ghost use Rattle.sqlvault.specs.Carries.{HasOlder};
 ghost use Rattle.sqlvault.specs.Older.{IsAllCommitted, CarriesOlder};
 ghost use Rattle.sqlvault.specs.Refusals.{answer_of, told};
-ghost use Rattle.sqlvault.specs.Stands.{Holds, WasClean, LeavesNoMore};
+ghost use Rattle.sqlvault.specs.Stands.{WasClean};
 
 use crate::carry::carry_marked;
 use crate::refusal::Refusal;
@@ -26,9 +25,9 @@ use crate::sound_clerks::{are_clerks_sound, are_maildrops_sound};
 use crate::sound_deposits::are_deposits_sound;
 use crate::sound_messages::are_messages_sound;
 use crate::sound_rules::are_rules_sound;
-use crate::transaction::{tables_are_listed, undo};
+use crate::transaction::{begin, end, undo};
 use mailsql::schema::{has_columns, has_marks, is_taken, keys_hold};
-use mailsql::{meta, mode, tables};
+use mailsql::{meta, tables};
 use sqlite::{Alter, Connection, Error};
 use std::alloc::Global;
 use vault::VaultFault;
@@ -38,15 +37,7 @@ pub(crate) const VERSION: i64 = 3;
 
 /// Makes the tables and the mark, inside a transaction.
 fn fill<S: Alter>(conn: &mut Connection<S>) -> Result<(), Error>
-    ensures filled { HasCleanDisk (state S.Store conn.new) → IsBegun (state S.Store conn.old)
-        → OnOk result ((IsKept (state S.Store conn.new).now
-        × (rows_in (state S.Store conn.new).now.trees ≡ marked version))
-        × GoesOn (state S.Store conn.old) (state S.Store conn.new)) }
-    ensures err { HasCleanDisk (state S.Store conn.new) → IsBegun (state S.Store conn.old)
-        → OnErr result (IsHalted (state S.Store conn.old) (state S.Store conn.new)) }
-    ensures stop { HasCleanDisk (state S.Store conn.new) → IsBegun (state S.Store conn.old)
-        → LeavesNoMore (state S.Store conn.old) (state S.Store conn.new) }
-    ensures clean { WasClean (state S.Store conn.old) (state S.Store conn.new) }
+    ensures { Builds S.Store conn.old conn.new IsBegun (λ _ rows. rows ≡ marked version) result }
 {
     match tables::create_tables(conn) {
         Ok(()) => meta::add_mark(conn, b"popbox", VERSION),
@@ -55,31 +46,25 @@ fn fill<S: Alter>(conn: &mut Connection<S>) -> Result<(), Error>
 }
 
 /// Makes a store of a connection without tables, in one transaction.
-fn make<S: Alter>(conn: &mut Connection<S>) -> Result<(), Error>
-    ensures made { HasCleanDisk (state S.Store conn.new) → IsBlank (state S.Store conn.old)
-        → OnOk result (IsTrue (state S.Store conn.new).is_open
-        × Holds (state S.Store conn.new) no_contents) }
-    ensures stays { HasCleanDisk (state S.Store conn.new) → IsBlank (state S.Store conn.old)
+fn make<S: Alter>(conn: &mut Connection<S>) -> Result<(), Refusal>
+    ensures settles { HasCleanDisk (state S.Store conn.new) → IsBlank (state S.Store conn.old)
         → (state S.Store conn.old).in_transaction ≡ false
-        → (IsTrue (state S.Store conn.old).is_open
-        → (state S.Store conn.old).now ≡ (state S.Store conn.old).committed)
-        → OnErr result (StaysAs (state S.Store conn.old) (state S.Store conn.new)) }
-    ensures stop { HasCleanDisk (state S.Store conn.new) → IsBlank (state S.Store conn.old)
-        → LeavesEmptyToo (state S.Store conn.old) (state S.Store conn.new) }
+        → IsAllCommitted (state S.Store conn.old)
+        → Settles (state S.Store conn.old) (state S.Store conn.new) result }
+    ensures kinds { IfErr result (λ refusal. IsAdoptFault (told refusal)) }
     ensures clean { WasClean (state S.Store conn.old) (state S.Store conn.new) }
 {
-    match mode::begin(conn) {
+    match begin(conn) {
         Ok(()) => {}
-        Err(error) => return Err(error),
+        Err(error) => return Err(Refusal::Met(error)),
     }
     match fill(conn) {
         Ok(()) => {}
-        Err(error) => return Err(undo(conn, error)),
+        Err(error) => return Err(Refusal::Met(undo(conn, error))),
     }
-    tables_are_listed(conn);
-    match mode::commit(conn) {
+    match end(conn) {
         Ok(()) => Ok(()),
-        Err(error) => Err(undo(conn, error)),
+        Err(error) => Err(Refusal::Met(error)),
     }
 }
 
@@ -179,18 +164,9 @@ fn judge<S: Alter>(alloc: Global, conn: &mut Connection<S>) -> Result<(), Refusa
 /// checks a store that has our tables. `NotOurs` inside a transaction, and where a name of ours is
 /// taken but there is no table of marks.
 pub(crate) fn settle<S: Alter>(alloc: Global, conn: &mut Connection<S>) -> Result<(), Refusal>
-    ensures adopted { HasCleanDisk (state S.Store conn.new) → IsKnown (state S.Store conn.old)
-        → Adopts (state S.Store conn.old) (state S.Store conn.new) (answer_of result) }
-    ensures stays { HasCleanDisk (state S.Store conn.new) → IsKnown (state S.Store conn.old)
-        → OnErr result (StaysAs (state S.Store conn.old) (state S.Store conn.new)) }
-    ensures stop { HasCleanDisk (state S.Store conn.new) → IsKnown (state S.Store conn.old)
-        → IsTrue (state S.Store conn.old).is_open
-        → LeavesEmptyToo (state S.Store conn.old) (state S.Store conn.new) }
-    ensures inside { IsTrue (state S.Store conn.old).in_transaction
-        → (result ≡ Err (Answered NotOurs)) × (conn.new ≡ conn.old) }
-    ensures taken { (state S.Store conn.old).in_transaction ≡ false
-        → is_taken (state S.Store conn.old).now.schema ≡ true
-        → has_marks (state S.Store conn.old).now.schema.tables ≡ false
+    ensures known { HasCleanDisk (state S.Store conn.new) → IsKnown (state S.Store conn.old)
+        → Settles (state S.Store conn.old) (state S.Store conn.new) result }
+    ensures foreign { IsForeign (state S.Store conn.old)
         → (result ≡ Err (Answered NotOurs)) × (conn.new ≡ conn.old) }
     ensures kinds { IfErr result (λ refusal. IsAdoptFault (told refusal)) }
     ensures clean { WasClean (state S.Store conn.old) (state S.Store conn.new) }
@@ -205,10 +181,7 @@ pub(crate) fn settle<S: Alter>(alloc: Global, conn: &mut Connection<S>) -> Resul
         return Err(Refusal::Answered(VaultFault::NotOurs));
     }
     if !is_taken(conn) {
-        return match make(conn) {
-            Ok(()) => Ok(()),
-            Err(error) => Err(Refusal::Met(error)),
-        };
+        return make(conn);
     }
     if !has_marks(conn) {
         return Err(Refusal::Answered(VaultFault::NotOurs));

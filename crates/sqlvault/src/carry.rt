@@ -1,24 +1,25 @@
 //! Carrying an older store over.
 ghost use Rattle.std.specs.Prelude.{◌≡◌, true, false, Bool, IfOk, IfErr};
-ghost use Rattle.sqlite.specs.Held.{Held, state};
-ghost use Rattle.sqlite.specs.State.{HasCleanDisk, Survives};
+ghost use Rattle.sqlite.specs.Held.{state};
+ghost use Rattle.sqlite.specs.State.{HasCleanDisk};
 ghost use Rattle.mailsql.specs.Tables.{old_schema};
-ghost use Rattle.mailsql.specs.Rows.{HasOldTables, IsGone, GoesOn, rows_in};
+ghost use Rattle.mailsql.specs.Rows.{HasOldTables, rows_in};
 ghost use Rattle.sqlvault.specs.Adopts.{IsAdoptFault, IsOfUnknownVersion, IsVersionRefused};
 ghost use Rattle.sqlvault.specs.Carries.{HasOlder, IsOlder, IsOfRows, IsNoOlder, IsMarkedOlder};
 ghost use Rattle.sqlvault.specs.Carries.{old_version};
-ghost use Rattle.sqlvault.specs.Moves.{Part};
+ghost use Rattle.sqlvault.specs.Moves.{Builds};
 ghost use Rattle.sqlvault.specs.Older.{IsAllCommitted, IsBegunOlder, Brings};
 ghost use Rattle.sqlvault.specs.Older.{AsksOlder, CarriesOlder};
 ghost use Rattle.sqlvault.specs.Refusals.{answer_of, told};
 ghost use Rattle.sqlvault.specs.Stands.{WasClean};
+ghost use Rattle.sqlvault.specs.Transactions.{Undoes};
 
 use crate::adopt::{VERSION, are_rows_sound};
 use crate::moves::move_old;
 use crate::refusal::Refusal;
-use crate::transaction::{tables_are_listed, undo};
+use crate::transaction::{begin, end, roll_back, undo};
 use mailsql::schema::{has_first_columns, has_second_columns};
-use mailsql::{meta, mode, tables};
+use mailsql::{meta, tables};
 use sqlite::{Alter, Connection, Error};
 use std::alloc::Global;
 use vault::VaultFault;
@@ -29,44 +30,41 @@ const FIRST: i64 = 1;
 /// Version 2 of the layout: there are no groups.
 const SECOND: i64 = 2;
 
-/// Brings a store of version 1 (`carried`) or 2 (not `carried`) to our version, inside a
+/// Brings a store of version 1 (`is_first`) or 2 (not `is_first`) to our version, inside a
 /// transaction: makes the tables that it lacks, moves the messages of version 1, and puts our mark
 /// in place of its own.
-fn bring<S: Alter>(alloc: Global, conn: &mut Connection<S>, carried: bool) -> Result<(), Error>
-    ensures part { HasCleanDisk (state S.Store conn.new)
-        → IsBegunOlder carried (state S.Store conn.old)
-        → Part (Brings carried) (state S.Store conn.old) (state S.Store conn.new) result }
-    ensures clean { WasClean (state S.Store conn.old) (state S.Store conn.new) }
+fn bring<S: Alter>(alloc: Global, conn: &mut Connection<S>, is_first: bool) -> Result<(), Error>
+    ensures { Builds S.Store conn.old conn.new (IsBegunOlder is_first) (Brings is_first) result }
 {
-    match tables::complete_tables(conn, carried) {
+    match tables::complete_tables(conn, is_first) {
         Ok(()) => {}
         Err(error) => return Err(error),
     }
-    match move_old(alloc, conn, carried) {
+    match move_old(alloc, conn, is_first) {
         Ok(()) => meta::put_mark(conn, b"popbox", VERSION),
         Err(error) => Err(error),
     }
 }
 
-/// Carries a store of version 1 (`carried`) or 2 (not `carried`) over, in one transaction. Its
+/// Carries a store of version 1 (`is_first`) or 2 (not `is_first`) over, in one transaction. Its
 /// contents stay, and all its rows are read once: `NotOurs` where they aren't sound records. After
 /// any refusal the store is as it was.
 pub(crate) fn carry<S: Alter>(
     alloc: Global,
     conn: &mut Connection<S>,
-    carried: bool,
+    is_first: bool,
 ) -> Result<(), Refusal>
     ensures turns { HasCleanDisk (state S.Store conn.new)
-        → IsOlder carried (state S.Store conn.old)
+        → IsOlder is_first (state S.Store conn.old)
         → CarriesOlder (state S.Store conn.old) (state S.Store conn.new) result }
     ensures kinds { IfErr result (λ refusal. IsAdoptFault (told refusal)) }
     ensures clean { WasClean (state S.Store conn.old) (state S.Store conn.new) }
 {
-    match mode::begin(conn) {
+    match begin(conn) {
         Ok(()) => {}
         Err(error) => return Err(Refusal::Met(error)),
     }
-    match bring(alloc, conn, carried) {
+    match bring(alloc, conn, is_first) {
         Ok(()) => {}
         Err(error) => return Err(Refusal::Met(undo(conn, error))),
     }
@@ -75,22 +73,18 @@ pub(crate) fn carry<S: Alter>(
         Ok(false) => return Err(unsound(conn)),
         Err(error) => return Err(Refusal::Met(undo(conn, error))),
     }
-    tables_are_listed(conn);
-    match mode::commit(conn) {
+    match end(conn) {
         Ok(()) => Ok(()),
-        Err(error) => Err(Refusal::Met(undo(conn, error))),
+        Err(error) => Err(Refusal::Met(error)),
     }
 }
 
 /// Rolls back a transaction whose rows aren't sound records. `NotOurs`, or the rollback's error.
 fn unsound<S: Alter>(conn: &mut Connection<S>) -> Refusal
-    ensures gone { (first : Held _) → HasCleanDisk (state S.Store conn.new)
-        → GoesOn (state S.Store first) (state S.Store conn.old)
-        → IsGone (state S.Store first) (state S.Store conn.new) }
-    ensures survives { Survives (state S.Store conn.old) (state S.Store conn.new) (λ _. ⊥) }
+    ensures undoes { Undoes S.Store conn.old conn.new }
     ensures kinds { IsOfRows (told result) }
 {
-    match mode::rollback(conn) {
+    match roll_back(conn) {
         Ok(()) => Refusal::Answered(VaultFault::NotOurs),
         Err(error) => Refusal::Met(error),
     }
@@ -98,7 +92,7 @@ fn unsound<S: Alter>(conn: &mut Connection<S>) -> Refusal
 
 /// True for version 1, false for version 2. `NotOurs` for our version, `OldVersion` for any other.
 fn version_of(value: i64) -> Result<bool, VaultFault>
-    ensures older { IfOk result (λ carried. value ≡ old_version carried) }
+    ensures older { IfOk result (λ is_first. value ≡ old_version is_first) }
     ensures fault { IfErr result (IsNoOlder value) }
 {
     if value == FIRST {
@@ -124,9 +118,9 @@ fn find_older<S: Alter>(alloc: Global, conn: &mut Connection<S>) -> Result<bool,
         → IsOfUnknownVersion (state S.Store conn.old) → IsAllCommitted (state S.Store conn.old)
         → IsVersionRefused (state S.Store conn.old) (state S.Store conn.new) (answer_of result) }
 {
-    let carried = match meta::find_mark(alloc, conn, b"popbox") {
+    let is_first = match meta::find_mark(alloc, conn, b"popbox") {
         Ok(Some(mark)) => match version_of(mark.value) {
-            Ok(carried) => carried,
+            Ok(is_first) => is_first,
             Err(fault) => return Err(Refusal::Answered(fault)),
         },
         Ok(None) => return Err(Refusal::Answered(VaultFault::NotOurs)),
@@ -135,7 +129,7 @@ fn find_older<S: Alter>(alloc: Global, conn: &mut Connection<S>) -> Result<bool,
     match meta::all_marks(alloc, conn) {
         Ok(marks) => {
             if marks.len() == 1 {
-                Ok(carried)
+                Ok(is_first)
             } else {
                 Err(Refusal::Answered(VaultFault::NotOurs))
             }
@@ -144,13 +138,13 @@ fn find_older<S: Alter>(alloc: Global, conn: &mut Connection<S>) -> Result<bool,
     }
 }
 
-/// Whether the store has the tables of version 1 (`carried`) or of version 2 (not `carried`).
-fn has_older_columns<S: Alter>(conn: &Connection<S>, carried: bool) -> bool
-    ensures fits { (state S.Store conn.now).now.schema ≡ old_schema carried → result ≡ true }
+/// Whether the store has the tables of version 1 (`is_first`) or of version 2 (not `is_first`).
+fn has_older_columns<S: Alter>(conn: &Connection<S>, is_first: bool) -> bool
+    ensures fits { (state S.Store conn.now).now.schema ≡ old_schema is_first → result ≡ true }
     ensures order { (c : Bool) → (state S.Store conn.now).now.schema ≡ old_schema c
-        → result ≡ true → c ≡ carried }
+        → result ≡ true → c ≡ is_first }
 {
-    if carried {
+    if is_first {
         has_first_columns(conn)
     } else {
         has_second_columns(conn)
@@ -170,12 +164,12 @@ pub(crate) fn carry_marked<S: Alter>(alloc: Global, conn: &mut Connection<S>) ->
         → IsOfUnknownVersion (state S.Store conn.old) → IsAllCommitted (state S.Store conn.old)
         → IsVersionRefused (state S.Store conn.old) (state S.Store conn.new) (answer_of result) }
 {
-    let carried = match find_older(alloc, conn) {
-        Ok(carried) => carried,
+    let is_first = match find_older(alloc, conn) {
+        Ok(is_first) => is_first,
         Err(refusal) => return Err(refusal),
     };
-    if !has_older_columns(conn, carried) {
+    if !has_older_columns(conn, is_first) {
         return Err(Refusal::Answered(VaultFault::NotOurs));
     }
-    carry(alloc, conn, carried)
+    carry(alloc, conn, is_first)
 }

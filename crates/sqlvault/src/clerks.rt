@@ -1,5 +1,5 @@
 //! The clerks.
-ghost use Rattle.std.specs.Prelude.{◌≡◌, length, map, true, is_some, Some, IfOk, OnOk, IsTrue};
+ghost use Rattle.std.specs.Prelude.{◌≡◌, length, map, min, true, is_some, Some, IfOk};
 ghost use Rattle.std.specs.List.{list_all};
 ghost use Rattle.sqlite.specs.Held.{state};
 ghost use Rattle.sqlite.specs.State.{HasCleanDisk};
@@ -15,15 +15,15 @@ ghost use Rattle.sqlvault.specs.Clerks.{row_name, row_of, AreClerks};
 ghost use Rattle.sqlvault.specs.Keeps.{Keeps, kind_of, secret_of, clerk_row};
 ghost use Rattle.sqlvault.specs.Refusals.{answer_of};
 ghost use Rattle.sqlvault.specs.RowForms.{is_credential_row};
-ghost use Rattle.sqlvault.specs.Frame.{IsOk, IsMet, Looks, Acts, Becomes};
+ghost use Rattle.sqlvault.specs.Frame.{IsOk, IsMet, Looks, Learns, Acts, Becomes};
 ghost use Rattle.sqlvault.specs.Stands.{Holds, WasClean};
 
 use crate::refusal::{Refusal, unreadable};
 use crate::totals::push_name;
-use crate::transaction::{end, undo};
+use crate::transaction::{begin, end, undo};
 use creds::{Credential, Name, Secret};
+use mailsql::clerks;
 use mailsql::rows::Clerk;
-use mailsql::{clerks, mode};
 use sqlite::{Alter, Connection, Error};
 use std::alloc::Global;
 use vault::{VaultFault, in_order};
@@ -160,17 +160,21 @@ pub(crate) fn clerk_names<S: Alter>(
 
 /// Whether there is a clerk of that name.
 fn has_clerk<S: Alter>(alloc: Global, conn: &mut Connection<S>, clerk: &Name) -> Result<bool, Error>
-    ensures there { (c : Contents) → HasCleanDisk (state S.Store conn.new)
-        → Holds (state S.Store conn.old) c → IfOk result
-        (λ there. there ≡ is_some (credential_in clerk.now c.clerks)) }
-    ensures open { (c : Contents) → HasCleanDisk (state S.Store conn.new)
-        → Holds (state S.Store conn.old) c → OnOk result (IsTrue (state S.Store conn.new).is_open) }
-    ensures looks { Looks S.Store conn.old conn.new (IsOk result) }
+    ensures { Learns S.Store conn.old conn.new (IsOk result)
+        (λ c. IfOk result (λ there. there ≡ is_some (credential_in clerk.now c.clerks))) }
 {
     match clerks::find_clerk(alloc, conn, clerk.as_bytes()) {
         Ok(found) => Ok(found.is_some()),
         Err(error) => Err(error),
     }
+}
+
+/// How many clerks there are.
+fn clerk_count<S: Alter>(conn: &mut Connection<S>) -> Result<u64, Error>
+    ensures { Learns S.Store conn.old conn.new (IsOk result)
+        (λ c. IfOk result (λ count. count ≡ min (length c.clerks) 9223372036854775807)) }
+{
+    clerks::clerk_count(conn)
 }
 
 /// Puts the clerk's row in place of the one of that name, if there is one, in a transaction of its
@@ -191,7 +195,7 @@ fn write_clerk<S: Alter>(
 {
     let name = clerk.as_bytes();
     let secret = secret_of(credential);
-    match mode::begin(conn) {
+    match begin(conn) {
         Ok(()) => {}
         Err(error) => return Err(error),
     }
@@ -219,7 +223,7 @@ fn judge_clerk<S: Alter>(
         Ok(false) => {}
         Err(error) => return Err(Refusal::Met(error)),
     }
-    match clerks::clerk_count(conn) {
+    match clerk_count(conn) {
         Ok(count) => {
             if count >= MAX_CLERKS {
                 Err(Refusal::Answered(VaultFault::Full))

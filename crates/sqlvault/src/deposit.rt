@@ -15,15 +15,17 @@ ghost use Rattle.vault.specs.Changes.{Contents, deposit_answered, is_full, known
 ghost use Rattle.vault.specs.Calls.{IsAnswer, IsDeposited, deposit_result, deposit_answer_in};
 ghost use Rattle.vault.specs.Calls.{present_in};
 ghost use Rattle.sqlvault.specs.Keeps.{deposit_row, number_in};
-ghost use Rattle.sqlvault.specs.Deposits.{PutsReceipt, PutsMessage, Accepts, Stores, message_of};
+ghost use Rattle.sqlvault.specs.Deposits.{PutsReceipt, PutsMessage, PutsDeposit, Accepts, Stores};
+ghost use Rattle.sqlvault.specs.Deposits.{message_of};
 ghost use Rattle.sqlvault.specs.Refusals.{answer_of};
 ghost use Rattle.sqlvault.specs.Frame.{IsOk, IsMet, Looks, Acts, Writes};
 ghost use Rattle.sqlvault.specs.Stands.{Holds, WasClean};
 
+use crate::maildrops::{has_maildrop, message_count};
 use crate::refusal::{Refusal, unreadable};
-use crate::transaction::{end, undo};
+use crate::transaction::{begin, end, undo};
 use creds::{DepositId, Name, Uid};
-use mailsql::{counts, deposits, mail, maildrops, mode, rows, sheets};
+use mailsql::{counts, deposits, mail, rows, sheets};
 use mailtext::MailText;
 use sqlite::{Alter, Connection, Error};
 use std::alloc::Global;
@@ -116,7 +118,7 @@ fn judge_new<S: Alter>(
     ensures looks { Looks S.Store conn.old conn.new (IsMet result) }
     ensures within { (u : uid.Uid) → result ≡ Ok (stored.New u) → u.k ≤ most_deposits }
 {
-    let present = match mail::message_count(conn, maildrop.as_bytes()) {
+    let present = match message_count(conn, maildrop) {
         Ok(present) => present,
         Err(error) => return Err(Refusal::Met(error)),
     };
@@ -152,7 +154,7 @@ fn judge<S: Alter>(
     ensures looks { Looks S.Store conn.old conn.new (IsMet result) }
     ensures within { (u : uid.Uid) → result ≡ Ok (stored.New u) → u.k ≤ most_deposits }
 {
-    match maildrops::has_maildrop(conn, maildrop.as_bytes()) {
+    match has_maildrop(conn, maildrop) {
         Ok(true) => {}
         Ok(false) => return Err(Refusal::Answered(VaultFault::NoMaildrop)),
         Err(error) => return Err(Refusal::Met(error)),
@@ -216,6 +218,21 @@ fn put_message<S: Alter>(
     }
 }
 
+/// Sets the count, and adds the receipt, the message and its sheets, inside a transaction.
+fn put_deposit<S: Alter>(
+    conn: &mut Connection<S>,
+    receipt: &Receipt,
+    text: &MailText,
+) -> Result<(), Error>
+    requires { receipt.now.k ≤ most_deposits }
+    ensures { Writes S.Store conn.old conn.new (λ _. PutsDeposit receipt.now text.now) result }
+{
+    match put_receipt(conn, receipt) {
+        Ok(()) => put_message(conn, receipt, text),
+        Err(error) => Err(error),
+    }
+}
+
 /// Keeps a deposit that was judged new, in one transaction.
 fn store<S: Alter>(
     conn: &mut Connection<S>,
@@ -228,19 +245,12 @@ fn store<S: Alter>(
         → Holds (state S.Store conn.old) c → Accepts c receipt.now text.now
         → Stores S.Store conn.old conn.new receipt.now text.now c result }
 {
-    match mode::begin(conn) {
+    match begin(conn) {
         Ok(()) => {}
         Err(error) => return Err(error),
     }
-    match put_receipt(conn, receipt) {
-        Ok(()) => {}
-        Err(error) => return Err(undo(conn, error)),
-    }
-    match put_message(conn, receipt, text) {
-        Ok(()) => match end(conn) {
-            Ok(()) => Ok(()),
-            Err(error) => Err(error),
-        },
+    match put_deposit(conn, receipt, text) {
+        Ok(()) => end(conn),
         Err(error) => Err(undo(conn, error)),
     }
 }

@@ -13,11 +13,12 @@ ghost use Rattle.sqlvault.specs.Refusals.{answer_of};
 ghost use Rattle.sqlvault.specs.Frame.{IsMet, Looks, Acts, Writes};
 ghost use Rattle.sqlvault.specs.Stands.{Holds};
 
+use crate::maildrops::has_maildrop;
 use crate::refusal::{Refusal, unreadable};
-use crate::transaction::{end, undo};
+use crate::transaction::{begin, end, undo};
 use creds::Name;
+use mailsql::mail;
 use mailsql::rows::Message;
-use mailsql::{mail, maildrops, mode};
 use sqlite::{Alter, Connection, Error};
 use std::alloc::Global;
 use vault::{Head, MessageKey, VaultFault};
@@ -73,7 +74,7 @@ pub(crate) fn heads<S: Alter>(
         maildrop.now (seen_as (answer_of result) (λ v. v.items)) }
     ensures looks { Looks S.Store conn.old conn.new (IsMet result) }
 {
-    match maildrops::has_maildrop(conn, maildrop.as_bytes()) {
+    match has_maildrop(conn, maildrop) {
         Ok(true) => {}
         Ok(false) => return Err(Refusal::Answered(VaultFault::NoMaildrop)),
         Err(error) => return Err(Refusal::Met(error)),
@@ -115,7 +116,7 @@ pub(crate) fn remove<S: Alter>(
     ensures { Acts S.Store conn.old conn.new
         (λ c Held answered. AreRemoved Held c maildrop.now keys.now answered) (answer_of result) }
 {
-    match mode::begin(conn) {
+    match begin(conn) {
         Ok(()) => {}
         Err(error) => return Err(Refusal::Met(error)),
     }

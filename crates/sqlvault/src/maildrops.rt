@@ -1,16 +1,42 @@
 //! Adding and dropping maildrops.
-ghost use Rattle.vault.specs.Calls.{IsMaildropAdded, IsMaildropDropped};
-ghost use Rattle.sqlvault.specs.Frame.{Acts};
+ghost use Rattle.std.specs.Prelude.{◌≡◌, IfOk, min, length};
+ghost use Rattle.vault.specs.Records.{is_one_of};
+ghost use Rattle.vault.specs.Calls.{IsMaildropAdded, IsMaildropDropped, present_in};
+ghost use Rattle.sqlvault.specs.Frame.{IsOk, Learns, Acts};
 ghost use Rattle.sqlvault.specs.Refusals.{answer_of};
 
 use crate::refusal::Refusal;
 use creds::Name;
 use mailsql::{mail, maildrops};
-use sqlite::{Alter, Connection};
+use sqlite::{Alter, Connection, Error};
 use vault::VaultFault;
 
 /// The greatest number of maildrops.
 pub(crate) const MAX_MAILDROPS: u64 = 1000;
+
+/// Whether there is a maildrop of this name.
+pub(crate) fn has_maildrop<S: Alter>(conn: &mut Connection<S>, name: &Name) -> Result<bool, Error>
+    ensures { Learns S.Store conn.old conn.new (IsOk result)
+        (λ c. IfOk result (λ there. there ≡ is_one_of name.now c.maildrops)) }
+{
+    maildrops::has_maildrop(conn, name.as_bytes())
+}
+
+/// How many maildrops there are.
+fn maildrop_count<S: Alter>(conn: &mut Connection<S>) -> Result<u64, Error>
+    ensures { Learns S.Store conn.old conn.new (IsOk result)
+        (λ c. IfOk result (λ count. count ≡ min (length c.maildrops) 9223372036854775807)) }
+{
+    maildrops::maildrop_count(conn)
+}
+
+/// How many messages lie in the maildrop of this name.
+pub(crate) fn message_count<S: Alter>(conn: &mut Connection<S>, name: &Name) -> Result<u64, Error>
+    ensures { Learns S.Store conn.old conn.new (IsOk result)
+        (λ c. IfOk result (λ count. count ≡ min (present_in name.now c) 9223372036854775807)) }
+{
+    mail::message_count(conn, name.as_bytes())
+}
 
 /// Adds a maildrop of this name. Answers whether it was new.
 ///
@@ -20,13 +46,12 @@ pub(crate) fn add_maildrop<S: Alter>(conn: &mut Connection<S>, name: &Name) -> R
     ensures { Acts S.Store conn.old conn.new
         (λ c Held answered. IsMaildropAdded Held c name.now answered) (answer_of result) }
 {
-    let text = name.as_bytes();
-    match maildrops::has_maildrop(conn, text) {
+    match has_maildrop(conn, name) {
         Ok(true) => return Ok(false),
         Ok(false) => {}
         Err(error) => return Err(Refusal::Met(error)),
     }
-    match maildrops::maildrop_count(conn) {
+    match maildrop_count(conn) {
         Ok(count) => {
             if count >= MAX_MAILDROPS {
                 return Err(Refusal::Answered(VaultFault::Full));
@@ -34,7 +59,7 @@ pub(crate) fn add_maildrop<S: Alter>(conn: &mut Connection<S>, name: &Name) -> R
         }
         Err(error) => return Err(Refusal::Met(error)),
     }
-    match maildrops::add_maildrop(conn, text) {
+    match maildrops::add_maildrop(conn, name.as_bytes()) {
         Ok(()) => Ok(true),
         Err(error) => Err(Refusal::Met(error)),
     }
@@ -48,13 +73,12 @@ pub(crate) fn drop_maildrop<S: Alter>(conn: &mut Connection<S>, name: &Name) -> 
     ensures { Acts S.Store conn.old conn.new
         (λ c Held answered. IsMaildropDropped Held c name.now answered) (answer_of result) }
 {
-    let text = name.as_bytes();
-    match maildrops::has_maildrop(conn, text) {
+    match has_maildrop(conn, name) {
         Ok(true) => {}
         Ok(false) => return Err(Refusal::Answered(VaultFault::NoMaildrop)),
         Err(error) => return Err(Refusal::Met(error)),
     }
-    match mail::message_count(conn, text) {
+    match message_count(conn, name) {
         Ok(count) => {
             if count > 0 {
                 return Err(Refusal::Answered(VaultFault::NotEmpty));
@@ -62,7 +86,7 @@ pub(crate) fn drop_maildrop<S: Alter>(conn: &mut Connection<S>, name: &Name) -> 
         }
         Err(error) => return Err(Refusal::Met(error)),
     }
-    match maildrops::drop_maildrop(conn, text) {
+    match maildrops::drop_maildrop(conn, name.as_bytes()) {
         Ok(()) => Ok(()),
         Err(error) => Err(Refusal::Met(error)),
     }

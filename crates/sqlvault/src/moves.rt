@@ -1,15 +1,10 @@
 //! Moving the messages of version 1 into our tables.
-ghost use Rattle.std.specs.Prelude.{◌≡◌, true, Some, map, [], ◌∷◌, IsTrue, OnOk};
-ghost use Rattle.std.specs.List.{find, AllByRecursion};
-ghost use Rattle.std.specs.Prelude.{◌<ℤ◌};
+ghost use Rattle.std.specs.Prelude.{◌≡◌, true, OnOk};
 ghost use Rattle.sqlite.specs.Held.{state};
 ghost use Rattle.sqlite.specs.State.{HasCleanDisk};
-ghost use Rattle.mailsql.specs.Apart.{AreRising};
-ghost use Rattle.mailsql.specs.declared.rows.Body as rows;
-ghost use Rattle.mailsql.specs.declared.rows.Message as heads;
-ghost use Rattle.mailsql.specs.Rows.{is_body, is_carried, rows_in};
-ghost use Rattle.sqlvault.specs.Moves.{Moves, MovesAll, MovesOld, IsInside, Part, body_head};
-ghost use Rattle.sqlvault.specs.Stands.{WasClean};
+ghost use Rattle.mailsql.specs.Rows.{is_carried};
+ghost use Rattle.sqlvault.specs.Moves.{MovesBody, MovesKey, MovesEach, MovesAll, MovesOld};
+ghost use Rattle.sqlvault.specs.Moves.{IsInside, IsInsideOf, IsUnmoved, HasHeads, Builds};
 
 use crate::refusal::unreadable;
 use mailsql::rows::{Body, Message};
@@ -20,11 +15,7 @@ use std::alloc::Global;
 
 /// Puts a message of version 1 into our tables, under its key, inside a transaction.
 fn put_body<S: Alter>(conn: &mut Connection<S>, body: &Body) -> Result<(), Error>
-    ensures part { HasCleanDisk (state S.Store conn.new) → IsInside (state S.Store conn.old)
-        → AllByRecursion (λ (m : heads.Message). m.key <ℤ body.now.head.key)
-        (rows_in (state S.Store conn.old).now.trees).messages
-        → Part (Moves (body.now ∷ [])) (state S.Store conn.old) (state S.Store conn.new) result }
-    ensures clean { WasClean (state S.Store conn.old) (state S.Store conn.new) }
+    ensures { Builds S.Store conn.old conn.new IsInside (MovesBody body.now) result }
 {
     let head = &body.head;
     match mail::add_keyed(
@@ -42,13 +33,7 @@ fn put_body<S: Alter>(conn: &mut Connection<S>, body: &Body) -> Result<(), Error
 
 /// Puts the message that version 1 has under a key into our tables, inside a transaction.
 fn move_one<S: Alter>(alloc: Global, conn: &mut Connection<S>, key: i64) -> Result<(), Error>
-    ensures part { (body : rows.Body) → HasCleanDisk (state S.Store conn.new)
-        → IsInside (state S.Store conn.old) → is_carried (state S.Store conn.old).now.trees ≡ true
-        → find (is_body key) (rows_in (state S.Store conn.old).now.trees).bodies ≡ Some body
-        → AllByRecursion (λ (m : heads.Message). m.key <ℤ body.head.key)
-        (rows_in (state S.Store conn.old).now.trees).messages
-        → Part (Moves (body ∷ [])) (state S.Store conn.old) (state S.Store conn.new) result }
-    ensures clean { WasClean (state S.Store conn.old) (state S.Store conn.new) }
+    ensures { Builds S.Store conn.old conn.new (IsInsideOf true) (MovesKey key) result }
 {
     match bodies::find_body(alloc, conn, key) {
         Ok(Some(body)) => put_body(conn, &body),
@@ -64,20 +49,10 @@ fn move_all<S: Alter>(
     conn: &mut Connection<S>,
     heads: &[Message],
 ) -> Result<(), Error>
-    ensures part { HasCleanDisk (state S.Store conn.new) → IsInside (state S.Store conn.old)
-        → is_carried (state S.Store conn.old).now.trees ≡ true
-        → (rows_in (state S.Store conn.old).now.trees).messages ≡ []
-        → AreRising (rows_in (state S.Store conn.old).now.trees).bodies
-        → heads.now ≡ map body_head (rows_in (state S.Store conn.old).now.trees).bodies
-        → Part (λ before after. Moves before.bodies before after) (state S.Store conn.old)
-        (state S.Store conn.new) result }
-    ensures carried { HasCleanDisk (state S.Store conn.new) → IsInside (state S.Store conn.old)
-        → is_carried (state S.Store conn.old).now.trees ≡ true
-        → (rows_in (state S.Store conn.old).now.trees).messages ≡ []
-        → AreRising (rows_in (state S.Store conn.old).now.trees).bodies
-        → heads.now ≡ map body_head (rows_in (state S.Store conn.old).now.trees).bodies
+    ensures part { Builds S.Store conn.old conn.new (HasHeads heads.now) MovesEach result }
+    ensures carried { HasCleanDisk (state S.Store conn.new)
+        → HasHeads heads.now (state S.Store conn.old)
         → OnOk result (is_carried (state S.Store conn.new).now.trees ≡ true) }
-    ensures clean { WasClean (state S.Store conn.old) (state S.Store conn.new) }
 {
     for head in heads {
         match move_one(alloc, conn, head.key) {
@@ -91,11 +66,7 @@ fn move_all<S: Alter>(
 /// Moves every message of version 1 into our tables, which have no message yet, and empties the old
 /// table, inside a transaction.
 fn move_messages<S: Alter>(alloc: Global, conn: &mut Connection<S>) -> Result<(), Error>
-    ensures part { HasCleanDisk (state S.Store conn.new) → IsInside (state S.Store conn.old)
-        → is_carried (state S.Store conn.old).now.trees ≡ true
-        → (rows_in (state S.Store conn.old).now.trees).messages ≡ []
-        → Part MovesAll (state S.Store conn.old) (state S.Store conn.new) result }
-    ensures clean { WasClean (state S.Store conn.old) (state S.Store conn.new) }
+    ensures { Builds S.Store conn.old conn.new (IsUnmoved true) MovesAll result }
 {
     let heads = match bodies::old_messages(alloc, conn) {
         Ok(heads) => heads,
@@ -108,20 +79,16 @@ fn move_messages<S: Alter>(alloc: Global, conn: &mut Connection<S>) -> Result<()
     }
 }
 
-/// Moves the messages of a store of version 1 (`carried`), inside a transaction. A store of version
-/// 2 (not `carried`) has them in our tables already.
+/// Moves the messages of a store of version 1 (`is_first`), inside a transaction. A store of
+/// version 2 (not `is_first`) has them in our tables already.
 pub(crate) fn move_old<S: Alter>(
     alloc: Global,
     conn: &mut Connection<S>,
-    carried: bool,
+    is_first: bool,
 ) -> Result<(), Error>
-    ensures part { HasCleanDisk (state S.Store conn.new) → IsInside (state S.Store conn.old)
-        → is_carried (state S.Store conn.old).now.trees ≡ carried
-        → (IsTrue carried → (rows_in (state S.Store conn.old).now.trees).messages ≡ [])
-        → Part (MovesOld carried) (state S.Store conn.old) (state S.Store conn.new) result }
-    ensures clean { WasClean (state S.Store conn.old) (state S.Store conn.new) }
+    ensures { Builds S.Store conn.old conn.new (IsUnmoved is_first) (MovesOld is_first) result }
 {
-    if carried {
+    if is_first {
         return move_messages(alloc, conn);
     }
     Ok(())

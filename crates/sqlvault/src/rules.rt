@@ -21,9 +21,9 @@ ghost use Rattle.sqlvault.specs.Stands.{Holds};
 
 use crate::groups::{read_groups, replace_groups};
 use crate::refusal::{Refusal, unreadable};
-use crate::transaction::{end, undo};
+use crate::transaction::{begin, end, undo};
 use creds::Name;
-use mailsql::{mode, rows, rules};
+use mailsql::{rows, rules};
 use policy::{Actions, Clerks, Effect, Group, Pattern, Policy, Rule};
 use sqlite::{Alter, Connection, Error};
 use std::alloc::{AllocError, Global};
@@ -286,7 +286,7 @@ pub(crate) fn set_policy<S: Alter>(
     ensures { Acts S.Store conn.old conn.new
         (λ c Held answered. IsPolicySet Held c policy.now answered) (answer_of result) }
 {
-    match mode::begin(conn) {
+    match begin(conn) {
         Ok(()) => {}
         Err(error) => return Err(Refusal::Met(error)),
     }

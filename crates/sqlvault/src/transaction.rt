@@ -1,39 +1,45 @@
-//! The end of a transaction.
-ghost use Rattle.std.specs.Prelude.{◌≡◌, ◌⊎◌, IsTrue, OnOk};
-ghost use Rattle.sqlite.specs.Held.{Held, state};
-ghost use Rattle.sqlite.specs.State.{HasCleanDisk, IsLive, Survives};
-ghost use Rattle.vault.specs.Changes.{Contents};
-ghost use Rattle.mailsql.specs.Rows.{Rows, IsHalted, IsGone};
-ghost use Rattle.sqlvault.specs.Keeps.{Keeps};
+//! The beginning and the end of a transaction.
+ghost use Rattle.std.specs.Prelude.{◌≡◌, ◌⊎◌, IsTrue};
+ghost use Rattle.sqlite.specs.Held.{state};
+ghost use Rattle.sqlite.specs.State.{IsLive};
 ghost use Rattle.sqlvault.specs.Refusals.{is_memory};
-ghost use Rattle.sqlvault.specs.Stands.{Holds, Leaves, WasClean, Within, Halted, Ends};
+ghost use Rattle.sqlvault.specs.Transactions.{Begins, Undoes, Ends};
 
 use crate::refusal::is_memory;
-use mailsql::mode;
+use mailsql::transaction;
 use sqlite::{Alter, Connection, Error};
+
+/// Begins a transaction. Refused where one is under way.
+pub(crate) fn begin<S: Alter>(conn: &mut Connection<S>) -> Result<(), Error>
+    ensures { Begins S.Store conn.old conn.new result }
+{
+    transaction::begin(conn)
+}
+
+/// Rolls the transaction back after an error, if it is still under way.
+pub(crate) fn roll_back<S: Alter>(conn: &mut Connection<S>) -> Result<(), Error>
+    ensures { Undoes S.Store conn.old conn.new }
+{
+    if conn.is_autocommit() {
+        return Ok(());
+    }
+    transaction::rollback(conn)
+}
 
 /// Rolls the transaction back after an error, if it is still under way. Answers that error; where
 /// it is want of memory and the rollback fails too, the rollback's error.
 pub(crate) fn undo<S: Alter>(conn: &mut Connection<S>, error: Error) -> Error
-    ensures holds { (base : Contents) → HasCleanDisk (state S.Store conn.new)
-        → Halted (state S.Store conn.old) base → Holds (state S.Store conn.new) base }
-    ensures gone { (first : Held _) → HasCleanDisk (state S.Store conn.new)
-        → IsHalted (state S.Store first) (state S.Store conn.old)
-        → IsGone (state S.Store first) (state S.Store conn.new) }
+    ensures undoes { Undoes S.Store conn.old conn.new }
     ensures told { (result ≡ error) ⊎ IsTrue (is_memory error) }
-    ensures survives { Survives (state S.Store conn.old) (state S.Store conn.new) (λ _. ⊥) }
 {
-    if conn.is_autocommit() {
-        return error;
-    }
-    match mode::rollback(conn) {
+    match roll_back(conn) {
         Ok(()) => error,
         Err(other) => { if is_memory(&error) { other } else { error } }
     }
 }
 
 /// For the proof: an open connection's database, now and as last committed, lists its tables.
-pub(crate) fn tables_are_listed<S: Alter>(conn: &Connection<S>)
+fn tables_are_listed<S: Alter>(conn: &Connection<S>)
     ensures live { IsLive (state S.Store conn.now) }
 {
     let _schema = conn.schema();
@@ -41,17 +47,10 @@ pub(crate) fn tables_are_listed<S: Alter>(conn: &Connection<S>)
 
 /// Commits the transaction, or rolls it back and answers the error.
 pub(crate) fn end<S: Alter>(conn: &mut Connection<S>) -> Result<(), Error>
-    ensures ended { (base after : Contents) (rows : Rows) → HasCleanDisk (state S.Store conn.new)
-        → Within (state S.Store conn.old) base rows → Keeps rows after
-        → Ends base after (state S.Store conn.new) result }
-    ensures stop { (base after : Contents) (rows : Rows) → HasCleanDisk (state S.Store conn.new)
-        → Within (state S.Store conn.old) base rows → Keeps rows after
-        → Leaves (state S.Store conn.new) (λ left. Keeps left base ⊎ Keeps left after) }
-    ensures up { HasCleanDisk (state S.Store conn.new)
-        → OnOk result (IsTrue (state S.Store conn.new).is_open) }
-    ensures clean { WasClean (state S.Store conn.old) (state S.Store conn.new) }
+    ensures { Ends S.Store conn.old conn.new result }
 {
-    match mode::commit(conn) {
+    tables_are_listed(conn);
+    match transaction::commit(conn) {
         Ok(()) => Ok(()),
         Err(error) => Err(undo(conn, error)),
     }

@@ -126,29 +126,3 @@ kept_without_clerk name c h =
           (omega (arith, filter_fits others c.clerks, b.clerks_fit));
       keys = h.keys;
     }
-
--- the policy alone is changed
-pub kept_with_policy : (policy : Policy) (c : Contents) → IsKept c → is_sound_policy policy ≡ true → IsKept (with_policy policy c)
-kept_with_policy policy c h p =
-    let b = h.sound.records in
-    record {
-      sound = record {
-        records = record {
-          clerks = b.clerks;
-          clerks_apart = b.clerks_apart;
-          clerks_fit = b.clerks_fit;
-          maildrops = b.maildrops;
-          maildrops_apart = b.maildrops_apart;
-          maildrops_fit = b.maildrops_fit;
-          messages = b.messages;
-          messages_apart = b.messages_apart;
-          messages_fit = b.messages_fit;
-          deposits = b.deposits;
-          ids_apart = b.ids_apart;
-          uids_apart = b.uids_apart;
-          policy = p;
-        };
-        keys = h.sound.keys;
-      };
-      keys = h.keys;
-    }

@@ -337,14 +337,6 @@ deposit_refused d class id text k v c e s h j = record {
   held = h;
 }
 
-pub deposit_known : (d class id text : List ℕ) (k v c : Contents) (uid : Uid) → k ≡ v → HoldsKept v c
-    → Ok (stored.Known uid) ≡ deposit_result (deposit_answer (is_one_of d k.maildrops) (length (kept_in d k.messages)) (receipts_of d k.deposits) class id text)
-    → IsDeposited (HoldsKept v) c d class id text (Ok (stored.Known uid))
-deposit_known d class id text k v c uid s h j = record {
-  answer = answer_is (deposit_result (deposit_answer_in c d class id text)) (Ok (stored.Known uid)) (judged_in d class id text k c (Ok (stored.Known uid)) (s ∙ sym h.same) j);
-  held = h;
-}
-
 -- a deposit that is new
 pub deposit_accepted : (d class id text : List ℕ) (k v c next : Contents) (uid : Uid) → k ≡ v → HoldsKept v c → HaveForms d class id text
     → Ok (stored.New uid) ≡ deposit_result (deposit_answer (is_one_of d k.maildrops) (length (kept_in d k.messages)) (receipts_of d k.deposits) class id text)

@@ -17,12 +17,12 @@ returns-clause-saw c =
     let first = c.args.first.now in
     let second = c.args.second.now in
     let rows : Rows = full key two first second in
-    let s2 = state over_memory c.add_pages.new.conn in
+    let s2 = state over_memory c.put_sheets.new.conn in
     let s3 = state over_memory c.heads.new.conn in
-    let s4 = state over_memory c.read_pages.new.conn in
+    let s4 = state over_memory c.read_sheets.new.conn in
     let s5 = state over_memory c.remove_message.new.conn in
     let a = c.in_ok-key.ensures.stands (marked two) c.in_ok-conn.ensures.stands in
-    let p = simp (to_z-of_z, fits) at (c.in_ok-add_pages.ensures.stands (arrived key (marked two)) a) in
+    let p = simp (to_z-of_z, fits) at (c.in_ok-put_sheets.ensures.stands (arrived key (marked two)) a) in
     let heads = c.in_ok-heads.ensures.ok (memory_is_clean c.heads.new.conn) (λ _. p.kept) in
     let h = still s2 s3 rows (c.in_ok-heads.ensures.same (memory_is_clean c.heads.new.conn) (λ _. p.kept)) p in
     let before = simp (to_z-of_z, fits) at (c.in_ok-before.ensures.found rows h) in
@@ -45,14 +45,14 @@ pub returns-in_err-key-clause-cause : goal.returns-in_err-key-clause-cause
 returns-in_err-key-clause-cause c =
     if_passed_on c.from_residual-in_err-key.result c.in_err-key.field-0.0 (FailsToSample c.args.first.now c.args.second.now) c.from_residual-in_err-key.ensures.1 (inr (inl (c.in_err-key.ensures.cause (marked (pos 2)) c.in_ok-conn.ensures.stands)))
 
-pub returns-in_err-add_pages-clause-cause : goal.returns-in_err-add_pages-clause-cause
-returns-in_err-add_pages-clause-cause c =
+pub returns-in_err-put_sheets-clause-cause : goal.returns-in_err-put_sheets-clause-cause
+returns-in_err-put_sheets-clause-cause c =
     let key = c.in_ok-key.key in
     let fits : SFits w64 key = search rules in
     let two = pos 2 in
     let a = c.in_ok-key.ensures.stands (marked two) c.in_ok-conn.ensures.stands in
-    let cause = simp (to_z-of_z, fits) at (c.in_err-add_pages.ensures.cause (arrived key (marked two)) a) in
-    if_passed_on c.from_residual-in_err-add_pages.result c.in_err-add_pages.field-0.0 (FailsToSample c.args.first.now c.args.second.now) c.from_residual-in_err-add_pages.ensures.1 (inr (inr (key, inl cause)))
+    let cause = simp (to_z-of_z, fits) at (c.in_err-put_sheets.ensures.cause (arrived key (marked two)) a) in
+    if_passed_on c.from_residual-in_err-put_sheets.result c.in_err-put_sheets.field-0.0 (FailsToSample c.args.first.now c.args.second.now) c.from_residual-in_err-put_sheets.ensures.1 (inr (inr (key, inl cause)))
 
 pub returns-in_err-heads-clause-cause : goal.returns-in_err-heads-clause-cause
 returns-in_err-heads-clause-cause c =
@@ -63,9 +63,9 @@ returns-in_err-heads-clause-cause c =
     let first = c.args.first.now in
     let second = c.args.second.now in
     let rows : Rows = full key two first second in
-    let s2 = state over_memory c.add_pages.new.conn in
-    let p = simp (to_z-of_z, fits) at (c.in_ok-add_pages.ensures.stands (arrived key (marked two)) a) in
-    if_passed_on c.from_residual-in_err-heads.result c.in_err-heads.field-0.0 (FailsToSample c.args.first.now c.args.second.now) c.from_residual-in_err-heads.ensures.1 (inr (inr (key, inr (inl (c.add_pages.new.conn, c.heads.new.conn, at_rest _ _ p, (c.in_err-heads.ensures.cause (memory_is_clean c.heads.new.conn) (λ _. p.kept)))))))
+    let s2 = state over_memory c.put_sheets.new.conn in
+    let p = simp (to_z-of_z, fits) at (c.in_ok-put_sheets.ensures.stands (arrived key (marked two)) a) in
+    if_passed_on c.from_residual-in_err-heads.result c.in_err-heads.field-0.0 (FailsToSample c.args.first.now c.args.second.now) c.from_residual-in_err-heads.ensures.1 (inr (inr (key, inr (inl (c.put_sheets.new.conn, c.heads.new.conn, at_rest _ _ p, (c.in_err-heads.ensures.cause (memory_is_clean c.heads.new.conn) (λ _. p.kept)))))))
 
 pub returns-in_err-before-clause-cause : goal.returns-in_err-before-clause-cause
 returns-in_err-before-clause-cause c =
@@ -76,8 +76,8 @@ returns-in_err-before-clause-cause c =
     let first = c.args.first.now in
     let second = c.args.second.now in
     let rows : Rows = full key two first second in
-    let s2 = state over_memory c.add_pages.new.conn in
-    let p = simp (to_z-of_z, fits) at (c.in_ok-add_pages.ensures.stands (arrived key (marked two)) a) in
+    let s2 = state over_memory c.put_sheets.new.conn in
+    let p = simp (to_z-of_z, fits) at (c.in_ok-put_sheets.ensures.stands (arrived key (marked two)) a) in
     let s3 = state over_memory c.heads.new.conn in
     let h = still s2 s3 rows (c.in_ok-heads.ensures.same (memory_is_clean c.heads.new.conn) (λ _. p.kept)) p in
     let cause = simp (to_z-of_z, fits) at (c.in_err-before.ensures.cause rows h) in
@@ -92,14 +92,14 @@ returns-in_err-remove_message-clause-cause c =
     let first = c.args.first.now in
     let second = c.args.second.now in
     let rows : Rows = full key two first second in
-    let s2 = state over_memory c.add_pages.new.conn in
-    let p = simp (to_z-of_z, fits) at (c.in_ok-add_pages.ensures.stands (arrived key (marked two)) a) in
+    let s2 = state over_memory c.put_sheets.new.conn in
+    let p = simp (to_z-of_z, fits) at (c.in_ok-put_sheets.ensures.stands (arrived key (marked two)) a) in
     let s3 = state over_memory c.heads.new.conn in
     let h = still s2 s3 rows (c.in_ok-heads.ensures.same (memory_is_clean c.heads.new.conn) (λ _. p.kept)) p in
-    let s4 = state over_memory c.read_pages.new.conn in
+    let s4 = state over_memory c.read_sheets.new.conn in
     let b = c.in_ok-before.ensures.same rows h in
     let cause = simp (to_z-of_z, fits) at (c.in_err-remove_message.ensures.cause (memory_is_clean c.remove_message.new.conn)) in
-    if_passed_on c.from_residual-in_err-remove_message.result c.in_err-remove_message.field-0.0 (FailsToSample c.args.first.now c.args.second.now) c.from_residual-in_err-remove_message.ensures.1 (inr (inr (key, inr (inr (inr (c.read_pages.new.conn, c.remove_message.new.conn, at_rest _ _ b, cause))))))
+    if_passed_on c.from_residual-in_err-remove_message.result c.in_err-remove_message.field-0.0 (FailsToSample c.args.first.now c.args.second.now) c.from_residual-in_err-remove_message.ensures.1 (inr (inr (key, inr (inr (inr (c.read_sheets.new.conn, c.remove_message.new.conn, at_rest _ _ b, cause))))))
 
 pub returns-in_err-after-clause-cause : goal.returns-in_err-after-clause-cause
 returns-in_err-after-clause-cause c =
@@ -110,11 +110,11 @@ returns-in_err-after-clause-cause c =
     let first = c.args.first.now in
     let second = c.args.second.now in
     let rows : Rows = full key two first second in
-    let s2 = state over_memory c.add_pages.new.conn in
-    let p = simp (to_z-of_z, fits) at (c.in_ok-add_pages.ensures.stands (arrived key (marked two)) a) in
+    let s2 = state over_memory c.put_sheets.new.conn in
+    let p = simp (to_z-of_z, fits) at (c.in_ok-put_sheets.ensures.stands (arrived key (marked two)) a) in
     let s3 = state over_memory c.heads.new.conn in
     let h = still s2 s3 rows (c.in_ok-heads.ensures.same (memory_is_clean c.heads.new.conn) (λ _. p.kept)) p in
-    let s4 = state over_memory c.read_pages.new.conn in
+    let s4 = state over_memory c.read_sheets.new.conn in
     let b = c.in_ok-before.ensures.same rows h in
     let s5 = state over_memory c.remove_message.new.conn in
     let gone = step (RemovesMessage key orders) s4 s5 rows (left_of key rows) (λ ready. simp (to_z-of_z, fits) at (c.in_ok-remove_message.ensures.ok (memory_is_clean c.remove_message.new.conn) ready)) (λ e. e) b in

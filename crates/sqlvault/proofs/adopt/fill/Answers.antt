@@ -1,11 +1,32 @@
-use Rattle.sqlvault.proofs.StayLemmas.{clean_before}
 use Rattle.sqlite.specs.Held.{state}
+use Rattle.sqlvault.proofs.FrameLemmas.{was_clean}
+use Rattle.sqlvault.proofs.MakeLemmas.{creates_no_more, filled}
 use Rattle.sqlvault.proofs.adopt.fill.Goals as goal
 
-pub returns-in-Ok-clause-clean : goal.returns-in-Ok-clause-clean
-returns-in-Ok-clause-clean g c clean2 =
+pub returns-in-Ok : goal.returns-in-Ok
+returns-in-Ok g c =
     let s0 = state g.S.Store c.args.conn.now in
     let s1 = state g.S.Store c.create_tables.new.conn in
-    let s2 = state g.S.Store c.add_mark.new.conn in
-    let clean1 = clean_before s1 s2 c.add_mark.ensures.survives.clean clean2 in
-    clean_before s0 s1 c.create_tables.ensures.survives.clean clean1
+    let before = was_clean g.S.Store c.create_tables.new.conn c.add_mark.new.conn
+    c.add_mark.ensures.survives in
+    record {
+      clean = λ clean. was_clean g.S.Store c.args.conn.now c.create_tables.new.conn
+          c.create_tables.ensures.survives (before clean);
+      part = λ clean begun.
+          let made = c.in-Ok.ensures.ok (before clean) begun in
+          filled s0 s1 (state g.S.Store c.add_mark.new.conn) c.add_mark.result begun (before clean)
+          made c.create_tables.ensures.survives clean
+          (c.add_mark.ensures.ok clean (made.on.is_open, made.kept)) (c.add_mark.ensures.err clean)
+          c.add_mark.ensures.survives;
+    }
+
+pub returns-in-Err : goal.returns-in-Err
+returns-in-Err g c = record {
+  clean = was_clean g.S.Store c.args.conn.now c.create_tables.new.conn
+      c.create_tables.ensures.survives;
+  part = λ clean begun. record {
+    halted = c.in-Err.ensures.err clean begun;
+    stop = creates_no_more (state g.S.Store c.args.conn.now)
+        (state g.S.Store c.create_tables.new.conn) begun clean c.create_tables.ensures.survives;
+  };
+}

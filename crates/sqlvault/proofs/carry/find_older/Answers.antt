@@ -84,7 +84,7 @@ returns-then-len-eq1-clause-judged g c clean2 tables =
     let found = sym (c.in-Ok-Some.ensures.old_ok clean1 tables) ∙ c.in-Ok-Some.field-0-is in
     let value = (let f : SFits w64 c.in-Ok-Some.mark.value = search rules in to_z-of_z f) in
     let count : length c.in-Ok-all_marks.marks.items ≡ 1 = search rules in
-    one_older c.in-Ok.carried (rows_in s0.now.trees).marks c.in-Ok-Some.mark found
+    one_older c.in-Ok.is_first (rows_in s0.now.trees).marks c.in-Ok-Some.mark found
     (sym value ∙ c.in-Ok.ensures.older) (sym (ap length all) ∙ count)
 
 pub returns-in-Ok-all_marks-clause-judged : goal.returns-in-Ok-all_marks-clause-judged
@@ -99,7 +99,7 @@ returns-in-Ok-all_marks-clause-judged g c clean2 tables =
     let found = sym (c.in-Ok-Some.ensures.old_ok clean1 tables) ∙ c.in-Ok-Some.field-0-is in
     let value = (let f : SFits w64 c.in-Ok-Some.mark.value = search rules in to_z-of_z f) in
     let count : length c.in-Ok-all_marks.marks.items ≢ 1 = search rules in
-    judged_more c.in-Ok.carried (rows_in s0.now.trees) c.in-Ok-Some.mark found
+    judged_more c.in-Ok.is_first (rows_in s0.now.trees) c.in-Ok-Some.mark found
     (sym value ∙ c.in-Ok.ensures.older) (λ one. count (ap length all ∙ one))
 
 pub returns-clause-judged : goal.returns-clause-judged
@@ -147,7 +147,7 @@ returns-then-len-eq1-clause-unknown g c clean2 it settled =
     let clean1 : HasCleanDisk (state g.S.Store c.find_mark.new.conn) = was_clean g.S.Store
     c.find_mark.new.conn c.all_marks.new.conn c.all_marks.ensures.survives clean2 in
     let value = (let f : SFits w64 c.in-Ok-Some.mark.value = search rules in to_z-of_z f) in
-    absurd (not_older (rows_in (state g.S.Store c.args.conn.now).now.trees) it.mark c.in-Ok.carried
+    absurd (not_older (rows_in (state g.S.Store c.args.conn.now).now.trees) it.mark c.in-Ok.is_first
     c.in-Ok-Some.mark
     (sym (c.in-Ok-Some.ensures.marked_ok clean1 it.table) ∙ c.in-Ok-Some.field-0-is)
     (sym value ∙ c.in-Ok.ensures.older))
@@ -157,7 +157,7 @@ returns-in-Ok-all_marks-clause-unknown g c clean2 it settled =
     let clean1 : HasCleanDisk (state g.S.Store c.find_mark.new.conn) = was_clean g.S.Store
     c.find_mark.new.conn c.all_marks.new.conn c.all_marks.ensures.survives clean2 in
     let value = (let f : SFits w64 c.in-Ok-Some.mark.value = search rules in to_z-of_z f) in
-    absurd (not_older (rows_in (state g.S.Store c.args.conn.now).now.trees) it.mark c.in-Ok.carried
+    absurd (not_older (rows_in (state g.S.Store c.args.conn.now).now.trees) it.mark c.in-Ok.is_first
     c.in-Ok-Some.mark
     (sym (c.in-Ok-Some.ensures.marked_ok clean1 it.table) ∙ c.in-Ok-Some.field-0-is)
     (sym value ∙ c.in-Ok.ensures.older))
@@ -167,7 +167,7 @@ returns-clause-unknown g c clean2 it settled =
     let clean1 : HasCleanDisk (state g.S.Store c.find_mark.new.conn) = was_clean g.S.Store
     c.find_mark.new.conn c.all_marks.new.conn c.all_marks.ensures.survives clean2 in
     let value = (let f : SFits w64 c.in-Ok-Some.mark.value = search rules in to_z-of_z f) in
-    absurd (not_older (rows_in (state g.S.Store c.args.conn.now).now.trees) it.mark c.in-Ok.carried
+    absurd (not_older (rows_in (state g.S.Store c.args.conn.now).now.trees) it.mark c.in-Ok.is_first
     c.in-Ok-Some.mark
     (sym (c.in-Ok-Some.ensures.marked_ok clean1 it.table) ∙ c.in-Ok-Some.field-0-is)
     (sym value ∙ c.in-Ok.ensures.older))

@@ -3,13 +3,12 @@ use Rattle.mailsql.specs.declared.rows.Clerk.{Clerk}
 use Rattle.mailsql.specs.Changes.{PutsClerk, DropsClerk}
 use Rattle.sqlvault.proofs.ClerkLemmas.{row_made}
 use Rattle.sqlvault.proofs.FrameLemmas.{was_clean, unbegun, rest, wrote, halted_in, undone_whole}
-use Rattle.sqlvault.proofs.FrameLemmas.{ended_whole}
+use Rattle.sqlvault.proofs.FrameLemmas.{ended_whole, begins_clean, undoes_clean}
 use Rattle.sqlvault.proofs.clerks.write_clerk.Goals as goal
 
 pub returns-in-Err-clause-written : goal.returns-in-Err-clause-written
 returns-in-Err-clause-written g c k after clean h keep =
-    rest ((unbegun g.S.Store c.args.conn.now c.begin.new.conn c.in-Err.ensures.err
-    c.begin.ensures.survives).rests clean k h)
+    rest ((unbegun c.in-Err.ensures).rests clean k h)
 
 pub returns-in-Ok-put_clerk-clause-written : goal.returns-in-Ok-put_clerk-clause-written
 returns-in-Ok-put_clerk-clause-written g c k after clean h keep =
@@ -21,12 +20,7 @@ returns-in-Ok-put_clerk-clause-written g c k after clean h keep =
     let row_is = row_made c.args.clerk.now text secret kind c.args.credential.now
     c.as_bytes-name.ensures.value (to_z-of_z fits ∙ c.kind_of.ensures)
     c.secret_of-secret.ensures.value in
-    ended_whole (λ Held. Held after) c.end.result k
-    (record {
-      law = λ d o m. g.met.S.Store.settled c.args.conn.now.store d o m;
-      ok = c.in-Ok.ensures.ok;
-      survives = c.begin.ensures.survives;
-    })
+    ended_whole (λ Held. Held after) c.end.result k c.in-Ok.ensures
     (wrote {A = Unit {0}} g.S.Store c.begin.new.conn c.put_clerk.new.conn (λ _. PutsClerk row)
     (λ from to. DropsClerk text from to ⊎ PutsClerk row from to) tt
     c.in-Ok-put_clerk.ensures.ok c.put_clerk.ensures.survives)
@@ -35,7 +29,7 @@ returns-in-Ok-put_clerk-clause-written g c k after clean h keep =
       keep from to (subst (λ (x : Clerk). PutsClerk x from to) row_is change) kept,
       λ Held held. held,
     ))
-    c.end.ensures.clean c.end.ensures.ended c.end.ensures.stop c.end.ensures.up clean h
+    c.end.ensures clean h
 
 pub returns-in-Err-put_clerk-clause-written : goal.returns-in-Err-put_clerk-clause-written
 returns-in-Err-put_clerk-clause-written g c k after clean h keep =
@@ -45,28 +39,21 @@ returns-in-Err-put_clerk-clause-written g c k after clean h keep =
       kind = to_z w64 (of_z w64 c.kind_of.result);
       secret = c.secret_of-secret.result.now;
     } in
-    rest (undone_whole k (record {
-      law = λ d o m. g.met.S.Store.settled c.args.conn.now.store d o m;
-      ok = c.in-Ok.ensures.ok;
-      survives = c.begin.ensures.survives;
-    })
+    rest (undone_whole k c.in-Ok.ensures
     (halted_in {A = Unit {0}} g.S.Store c.begin.new.conn c.put_clerk.new.conn (λ _. PutsClerk row)
     (λ from to. DropsClerk text from to ⊎ PutsClerk row from to) c.in-Err-put_clerk.error
     c.in-Err-put_clerk.ensures.err c.put_clerk.ensures.survives)
-    c.undo.ensures.holds c.undo.ensures.survives clean h)
+    c.undo.ensures.undoes clean h)
 
 pub returns-in-Err-clause-clean : goal.returns-in-Err-clause-clean
-returns-in-Err-clause-clean g c clean =
-    was_clean g.S.Store c.args.conn.now c.begin.new.conn c.begin.ensures.survives clean
+returns-in-Err-clause-clean g c clean = begins_clean c.begin.ensures clean
 
 pub returns-in-Ok-put_clerk-clause-clean : goal.returns-in-Ok-put_clerk-clause-clean
-returns-in-Ok-put_clerk-clause-clean g c clean =
-    was_clean g.S.Store c.args.conn.now c.begin.new.conn c.begin.ensures.survives
+returns-in-Ok-put_clerk-clause-clean g c clean = begins_clean c.begin.ensures
     (was_clean g.S.Store c.begin.new.conn c.put_clerk.new.conn c.put_clerk.ensures.survives
     (c.end.ensures.clean clean))
 
 pub returns-in-Err-put_clerk-clause-clean : goal.returns-in-Err-put_clerk-clause-clean
-returns-in-Err-put_clerk-clause-clean g c clean =
-    was_clean g.S.Store c.args.conn.now c.begin.new.conn c.begin.ensures.survives
+returns-in-Err-put_clerk-clause-clean g c clean = begins_clean c.begin.ensures
     (was_clean g.S.Store c.begin.new.conn c.put_clerk.new.conn c.put_clerk.ensures.survives
-    (was_clean g.S.Store c.put_clerk.new.conn c.undo.new.conn c.undo.ensures.survives clean))
+    (undoes_clean c.undo.ensures.undoes clean))

@@ -1,13 +1,17 @@
-use Rattle.std.proofs.Common.{sym, subst, ◌∙◌}
+use Rattle.std.proofs.Common.{sym, subst}
 use Rattle.sqlite.specs.Held.{state}
-use Rattle.sqlvault.specs.Moves.{MovesOld, Part}
+use Rattle.sqlvault.specs.Moves.{MovesOld, IsUnmoved, Builds}
 use Rattle.sqlvault.proofs.MoveLemmas.{part_old}
 use Rattle.sqlvault.proofs.moves.move_old.Goals as goal
 
-pub returns-then-carried-clause-part : goal.returns-then-carried-clause-part
-returns-then-carried-clause-part g c clean i order none =
-    let is = c.if-carried.true in
-    subst (λ b. Part (MovesOld b) (state g.S.Store c.args.conn.now) (state g.S.Store c.move_messages.new.conn) c.move_messages.result) (sym is) (c.move_messages.ensures.part clean i (order ∙ is) (none is))
+pub returns-then-is_first : goal.returns-then-is_first
+returns-then-is_first g c =
+    subst (λ b. Builds g.S.Store c.args.conn.now c.move_messages.new.conn (IsUnmoved b)
+    (MovesOld b) c.move_messages.result) (sym c.if-is_first.true) c.move_messages.ensures
 
-pub returns-clause-part : goal.returns-clause-part
-returns-clause-part g c clean i order none = part_old c.args.carried (state g.S.Store c.args.conn.now) i c.if-carried.false
+pub returns : goal.returns
+returns g c = record {
+  clean = λ clean. clean;
+  part = λ clean u. part_old c.args.is_first (state g.S.Store c.args.conn.now) u.of.under
+      c.if-is_first.false;
+}

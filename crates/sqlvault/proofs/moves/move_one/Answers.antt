@@ -1,42 +1,48 @@
-use Rattle.std.proofs.Common.{◌≡◌, Some, None, sym, ◌∙◌, to_z-of_z}
+use Rattle.std.proofs.Common.{◌≡◌, inl, sym, ◌∙◌, to_z-of_z}
 use Rattle.sqlite.specs.Held.{state}
-use Rattle.sqlite.specs.State.{HasCleanDisk, IsUnchanged}
-use Rattle.mailsql.specs.Rows.{HasTables, rows_in}
-use Rattle.sqlvault.proofs.AdoptLemmas.{rows_on}
-use Rattle.sqlvault.proofs.MoveLemmas.{part_looked, part_refused, asked_carried, inside_on, found_put, above_found}
-use Rattle.sqlvault.proofs.StayLemmas.{clean_before}
+use Rattle.sqlite.specs.State.{IsUnchanged}
+use Rattle.sqlvault.proofs.FrameLemmas.{was_clean}
+use Rattle.sqlvault.proofs.MoveLemmas.{part_looked, part_refused, asked_carried, inside_on}
+use Rattle.sqlvault.proofs.MoveLemmas.{found_put}
 use Rattle.sqlvault.proofs.moves.move_one.Goals as goal
 
-pub returns-in-Ok-Some-clause-part : goal.returns-in-Ok-Some-clause-part
-returns-in-Ok-Some-clause-part g c asked clean2 i carried found above =
-    let s0 = state g.S.Store c.args.conn.now in
-    let s1 = state g.S.Store c.find_body.new.conn in
-    let s2 = state g.S.Store c.put_body.new.conn in
-    let clean1 : HasCleanDisk s1 = c.put_body.ensures.clean clean2 in
-    let tables : HasTables s0 = λ _. i.tables in
-    let same : IsUnchanged s0 s1 = c.in-Ok-Some.ensures.same clean1 tables carried in
-    let some : Some c.in-Ok-Some.body ≡ Some asked = sym c.in-Ok-Some.field-0-is ∙ (simp (to_z-of_z, c.ranges.key) at (c.in-Ok-Some.ensures.ok clean1 tables carried)) ∙ found in
-    let is : c.in-Ok-Some.body ≡ asked = cc in
-    let looked = part_looked s0 s1 i same (asked_carried s0 s1 i carried clean1 c.find_body.ensures.survives) in
-    let over = above_found asked c.in-Ok-Some.body (rows_in s0.now.trees) (rows_in s1.now.trees) is (rows_on s0 s1 same) above in
-    found_put asked c.in-Ok-Some.body s0 s1 s2 c.put_body.result is looked (c.put_body.ensures.part clean2 (inside_on _ s0 s1 looked) over)
+pub returns-in-Ok-Some : goal.returns-in-Ok-Some
+returns-in-Ok-Some g c = record {
+  clean = λ clean. was_clean g.S.Store c.args.conn.now c.find_body.new.conn
+      c.find_body.ensures.survives (c.put_body.ensures.clean clean);
+  part = λ clean2 of.
+      let s0 = state g.S.Store c.args.conn.now in
+      let s1 = state g.S.Store c.find_body.new.conn in
+      let clean1 = c.put_body.ensures.clean clean2 in
+      let same : IsUnchanged s0 s1 = c.in-Ok-Some.ensures.same clean1 (λ _. of.under.tables)
+      of.order in
+      let some = sym c.in-Ok-Some.field-0-is ∙ (simp (to_z-of_z, c.ranges.key) at
+      (c.in-Ok-Some.ensures.ok clean1 (λ _. of.under.tables) of.order)) in
+      let looked = part_looked s0 s1 of.under same
+      (asked_carried s0 s1 of.under of.order clean1 c.find_body.ensures.survives) in
+      found_put c.args.key c.in-Ok-Some.body s0 s1 (state g.S.Store c.put_body.new.conn)
+      c.put_body.result looked (sym some)
+      (c.put_body.ensures.part clean2 (inside_on (λ old new. new ≡ old) s0 s1 looked));
+}
 
-pub returns-in-Ok-None-clause-part : goal.returns-in-Ok-None-clause-part
-returns-in-Ok-None-clause-part g c asked clean1 i carried found above =
-    let s0 = state g.S.Store c.args.conn.now in
-    let tables : HasTables s0 = λ _. i.tables in
-    let none : None ≡ Some asked = sym c.in-Ok-None.field-0-is ∙ (simp (to_z-of_z, c.ranges.key) at (c.in-Ok-None.ensures.ok clean1 tables carried)) ∙ found in
-    cc
+pub returns-in-Ok-None : goal.returns-in-Ok-None
+returns-in-Ok-None g c = record {
+  clean = was_clean g.S.Store c.args.conn.now c.find_body.new.conn c.find_body.ensures.survives;
+  part = λ clean1 of.
+      let s0 = state g.S.Store c.args.conn.now in
+      let s1 = state g.S.Store c.find_body.new.conn in
+      part_refused s0 s1 of.under
+      (inl (c.in-Ok-None.ensures.same clean1 (λ _. of.under.tables) of.order))
+      (asked_carried s0 s1 of.under of.order clean1 c.find_body.ensures.survives);
+}
 
-pub returns-in-Err-clause-part : goal.returns-in-Err-clause-part
-returns-in-Err-clause-part g c asked clean1 i carried found above =
-    let s0 = state g.S.Store c.args.conn.now in
-    let s1 = state g.S.Store c.find_body.new.conn in
-    let tables : HasTables s0 = λ _. i.tables in
-    part_refused s0 s1 i (c.in-Err.ensures.err clean1 tables carried) (asked_carried s0 s1 i carried clean1 c.find_body.ensures.survives)
-
-pub returns-in-Ok-Some-clause-clean : goal.returns-in-Ok-Some-clause-clean
-returns-in-Ok-Some-clause-clean g c clean2 =
-    let s0 = state g.S.Store c.args.conn.now in
-    let s1 = state g.S.Store c.find_body.new.conn in
-    clean_before s0 s1 c.find_body.ensures.survives.clean (c.put_body.ensures.clean clean2)
+pub returns-in-Err : goal.returns-in-Err
+returns-in-Err g c = record {
+  clean = was_clean g.S.Store c.args.conn.now c.find_body.new.conn c.find_body.ensures.survives;
+  part = λ clean1 of.
+      let s0 = state g.S.Store c.args.conn.now in
+      let s1 = state g.S.Store c.find_body.new.conn in
+      part_refused s0 s1 of.under
+      (c.in-Err.ensures.err clean1 (λ _. of.under.tables) of.order)
+      (asked_carried s0 s1 of.under of.order clean1 c.find_body.ensures.survives);
+}

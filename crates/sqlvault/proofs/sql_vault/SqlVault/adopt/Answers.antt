@@ -1,10 +1,47 @@
-use Rattle.std.proofs.Common.{rules, sym, subst}
+use Rattle.std.proofs.Common.{inl, inr, sym, subst}
 use Rattle.sqlite.specs.Held.{state}
+use Rattle.sqlvault.specs.Adopts.{IsRefused}
 use Rattle.sqlvault.specs.Carries.{IsUncarried}
+use Rattle.sqlvault.proofs.AdoptLemmas.{given_back, not_given}
 use Rattle.sqlvault.proofs.sql_vault.SqlVault.adopt.Goals as goal
 
+-- ---- a store that is known
+
+pub returns-in-Ok-clause-adopted : goal.returns-in-Ok-clause-adopted
+returns-in-Ok-clause-adopted g c clean known = (c.in-Ok.ensures.known clean known).adopts
+
+pub returns-in-Err-clause-adopted : goal.returns-in-Err-clause-adopted
+returns-in-Err-clause-adopted g c clean known =
+    subst (λ f. IsRefused (state g.S.Store c.args.conn) f) (sym c.fault_of.ensures)
+    (c.in-Err.ensures.known clean known).adopts
+
+pub returns-in-Err-clause-stays : goal.returns-in-Err-clause-stays
+returns-in-Err-clause-stays g c clean known = (c.in-Err.ensures.known clean known).stays
+
+pub returns-in-Ok-clause-stop : goal.returns-in-Ok-clause-stop
+returns-in-Ok-clause-stop g c clean known = (c.in-Ok.ensures.known clean known).stop
+
+pub returns-in-Err-clause-stop : goal.returns-in-Err-clause-stop
+returns-in-Err-clause-stop g c clean known = (c.in-Err.ensures.known clean known).stop
+
+-- ---- a store that isn't ours
+
+pub returns-in-Ok-clause-inside : goal.returns-in-Ok-clause-inside
+returns-in-Ok-clause-inside g c inside = absurd (not_given (c.in-Ok.ensures.foreign (inl inside)).0)
+
 pub returns-in-Err-clause-inside : goal.returns-in-Err-clause-inside
-returns-in-Err-clause-inside g c = search rules
+returns-in-Err-clause-inside g c inside =
+    let it = c.in-Err.ensures.foreign (inl inside) in
+    given_back c.in-Err.refusal c.fault_of.result it.0 c.fault_of.ensures it.1
+
+pub returns-in-Ok-clause-taken : goal.returns-in-Ok-clause-taken
+returns-in-Ok-clause-taken g c out taken marks =
+    absurd (not_given (c.in-Ok.ensures.foreign (inr (out, taken, marks))).0)
+
+pub returns-in-Err-clause-taken : goal.returns-in-Err-clause-taken
+returns-in-Err-clause-taken g c out taken marks =
+    let it = c.in-Err.ensures.foreign (inr (out, taken, marks)) in
+    given_back c.in-Err.refusal c.fault_of.result it.0 c.fault_of.ensures it.1
 
 -- ---- an older store
 

@@ -4,32 +4,32 @@ use Rattle.sqlite.specs.Steps.{over_memory}
 use Rattle.sqlite.proofs.Callers.{memory_is_clean}
 use Rattle.mailsql.specs.Rows.{Rows}
 use Rattle.mailsql.specs.Changes.{AddsSheet}
-use Rattle.mailsql.specs.Uses.{page_of, paged, FailsToAddPages}
+use Rattle.mailsql.specs.Uses.{sheet_at_place, with_sheets, FailsToPutSheets}
 use Rattle.mailsql.proofs.ResultLemmas.{on_ok_then, if_err, if_passed_on}
 use Rattle.mailsql.proofs.UsesLemmas.{step, at_rest}
-use Rattle.mailsql.proofs.uses.add_pages.Goals as goal
+use Rattle.mailsql.proofs.uses.put_sheets.Goals as goal
 
 pub returns-clause-stands : goal.returns-clause-stands
 returns-clause-stands c rows s =
     let s0 = state over_memory c.args.conn.now in
     let s1 = state over_memory c.add_sheet.new.conn in
     let s2 = state over_memory c.add_sheet-2.new.conn in
-    let r1 : Rows = record rows { sheets = rows.sheets ++ page_of c.args.key (pos 0) c.args.first.now ∷ [] } in
-    let w1 = step (AddsSheet (page_of c.args.key (pos 0) c.args.first.now)) s0 s1 rows r1 (λ ready. simp (to_z-of_z, c.ranges.key) at (c.in_ok-add_sheet.ensures.ok (memory_is_clean c.add_sheet.new.conn) ready)) (λ e. e) s in
-    on_ok_then _ (λ does. step (AddsSheet (page_of c.args.key (pos 1) c.args.second.now)) s1 s2 r1 (paged c.args.key c.args.first.now c.args.second.now rows) (λ _. does) (λ e. e) w1)
+    let r1 : Rows = record rows { sheets = rows.sheets ++ sheet_at_place c.args.key (pos 0) c.args.first.now ∷ [] } in
+    let w1 = step (AddsSheet (sheet_at_place c.args.key (pos 0) c.args.first.now)) s0 s1 rows r1 (λ ready. simp (to_z-of_z, c.ranges.key) at (c.in_ok-add_sheet.ensures.ok (memory_is_clean c.add_sheet.new.conn) ready)) (λ e. e) s in
+    on_ok_then _ (λ does. step (AddsSheet (sheet_at_place c.args.key (pos 1) c.args.second.now)) s1 s2 r1 (with_sheets c.args.key c.args.first.now c.args.second.now rows) (λ _. does) (λ e. e) w1)
     (simp (to_z-of_z, c.ranges.key) at (c.add_sheet-2.ensures.ok (memory_is_clean c.add_sheet-2.new.conn) (w1.is_open, w1.kept)))
 
 pub returns-in_err-add_sheet-clause-cause : goal.returns-in_err-add_sheet-clause-cause
 returns-in_err-add_sheet-clause-cause c rows s =
     let e = c.in_err-add_sheet.field-0.0 in
     let cause = simp (to_z-of_z, c.ranges.key) at (c.in_err-add_sheet.ensures.cause (memory_is_clean c.add_sheet.new.conn)) in
-    if_passed_on c.from_residual.result e (FailsToAddPages c.args.key c.args.first.now c.args.second.now) c.from_residual.ensures.1 (inl (c.args.conn.now, c.add_sheet.new.conn, at_rest _ _ s, cause))
+    if_passed_on c.from_residual.result e (FailsToPutSheets c.args.key c.args.first.now c.args.second.now) c.from_residual.ensures.1 (inl (c.args.conn.now, c.add_sheet.new.conn, at_rest _ _ s, cause))
 
 pub returns-clause-cause : goal.returns-clause-cause
 returns-clause-cause c rows s =
     let s0 = state over_memory c.args.conn.now in
     let s1 = state over_memory c.add_sheet.new.conn in
-    let r1 : Rows = record rows { sheets = rows.sheets ++ page_of c.args.key (pos 0) c.args.first.now ∷ [] } in
-    let w1 = step (AddsSheet (page_of c.args.key (pos 0) c.args.first.now)) s0 s1 rows r1 (λ ready. simp (to_z-of_z, c.ranges.key) at (c.in_ok-add_sheet.ensures.ok (memory_is_clean c.add_sheet.new.conn) ready)) (λ e. e) s in
-    if_err _ _ (FailsToAddPages c.args.key c.args.first.now c.args.second.now) (λ e cause. inr (c.add_sheet.new.conn, c.add_sheet-2.new.conn, at_rest _ _ w1, cause))
+    let r1 : Rows = record rows { sheets = rows.sheets ++ sheet_at_place c.args.key (pos 0) c.args.first.now ∷ [] } in
+    let w1 = step (AddsSheet (sheet_at_place c.args.key (pos 0) c.args.first.now)) s0 s1 rows r1 (λ ready. simp (to_z-of_z, c.ranges.key) at (c.in_ok-add_sheet.ensures.ok (memory_is_clean c.add_sheet.new.conn) ready)) (λ e. e) s in
+    if_err _ _ (FailsToPutSheets c.args.key c.args.first.now c.args.second.now) (λ e cause. inr (c.add_sheet.new.conn, c.add_sheet-2.new.conn, at_rest _ _ w1, cause))
     (simp (to_z-of_z, c.ranges.key) at (c.add_sheet-2.ensures.cause (memory_is_clean c.add_sheet-2.new.conn)))

@@ -3,10 +3,10 @@ use Rattle.sqlite.specs.Held.{state}
 use Rattle.sqlite.specs.Steps.{over_memory}
 use Rattle.sqlite.proofs.Callers.{memory_is_clean}
 use Rattle.mailsql.specs.Rows.{Rows, is_sheet}
-use Rattle.mailsql.specs.Uses.{FailsToReadPages}
+use Rattle.mailsql.specs.Uses.{FailsToReadSheets}
 use Rattle.mailsql.proofs.ResultLemmas.{if_passed_on}
 use Rattle.mailsql.proofs.UsesLemmas.{still, at_rest}
-use Rattle.mailsql.proofs.uses.read_pages.Goals as goal
+use Rattle.mailsql.proofs.uses.read_sheets.Goals as goal
 
 pub returns-clause-found : goal.returns-clause-found
 returns-clause-found c rows s =
@@ -29,7 +29,7 @@ pub returns-in_err-first-clause-cause : goal.returns-in_err-first-clause-cause
 returns-in_err-first-clause-cause c rows s =
     let e = c.in_err-first.field-0.0 in
     let cause = simp (to_z-of_z, c.ranges.key) at (c.in_err-first.ensures.cause (memory_is_clean c.find_sheet.new.conn) (λ _. s.kept)) in
-    if_passed_on c.from_residual.result e (FailsToReadPages c.args.key) c.from_residual.ensures.1 (inl (c.args.conn.now, c.find_sheet.new.conn, at_rest _ _ s, cause))
+    if_passed_on c.from_residual.result e (FailsToReadSheets c.args.key) c.from_residual.ensures.1 (inl (c.args.conn.now, c.find_sheet.new.conn, at_rest _ _ s, cause))
 
 pub returns-in_err-second-clause-cause : goal.returns-in_err-second-clause-cause
 returns-in_err-second-clause-cause c rows s =
@@ -38,4 +38,4 @@ returns-in_err-second-clause-cause c rows s =
     let w1 = still s0 s1 rows (c.in_ok-first.ensures.same (memory_is_clean c.find_sheet.new.conn) (λ _. s.kept)) s in
     let e = c.in_err-second.field-0.0 in
     let cause = simp (to_z-of_z, c.ranges.key) at (c.in_err-second.ensures.cause (memory_is_clean c.find_sheet-2.new.conn) (λ _. w1.kept)) in
-    if_passed_on c.from_residual-in_err-second.result e (FailsToReadPages c.args.key) c.from_residual-in_err-second.ensures.1 (inr (c.find_sheet.new.conn, c.find_sheet-2.new.conn, at_rest _ _ w1, cause))
+    if_passed_on c.from_residual-in_err-second.result e (FailsToReadSheets c.args.key) c.from_residual-in_err-second.ensures.1 (inr (c.find_sheet.new.conn, c.find_sheet-2.new.conn, at_rest _ _ w1, cause))
