@@ -1,5 +1,5 @@
 -- What an event makes of an office, in one word: an event that asks no store, one that asks a call which only looks, and one that asks a call which changes records once.
-use Rattle.std.proofs.Common.{◌≡◌, ◌≤◌, ◌⊎◌, inl, ℕ, Bool, true, false, true≢false, List, Some, None, Result, Ok, Err, refl, sym, ◌∙◌, subst, arith, nat_cmp}
+use Rattle.std.proofs.Common.{◌≡◌, ◌≤◌, ◌⊎◌, inl, ℕ, Bool, true, false, Some, None, Result, Ok, Err, refl, sym, ◌∙◌, subst, arith, nat_cmp}
 use Rattle.std.specs.Prelude.{⊤}
 use Rattle.std.specs.BTreeMap.{BTreeMap, get}
 use Rattle.policy.specs.Policy.{Policy}

@@ -22,7 +22,7 @@ use Rattle.office.specs.declared.login_state.LineOutcome.TheVariants as line_out
 use Rattle.office.proofs.Owing.{none_owed, some_owed}
 use Rattle.office.proofs.PieceDone.{judged, piece_moves, piece_answered, piece_told}
 use Rattle.office.specs.Outcomes as outcome
-use Rattle.office.proofs.AfterEvents.{kept_at, open_at, closed_at, stands_after, ignored_after}
+use Rattle.office.proofs.AfterEvents.{kept_at, closed_at, stands_after, ignored_after}
 use Rattle.office.proofs.StoppingLines.{line_left, line_answered}
 use Rattle.office.proofs.Unasked.{piece_asks_none}
 use Rattle.office.proofs.office.Office.bytes.Goals as goal

@@ -1,7 +1,6 @@
 use Rattle.std.proofs.Common.{◌≡◌, ◌∙◌, ap}
 use Rattle.policy.specs.Policy.{Policy, decide}
 use Rattle.office.specs.Answers.{Explain}
-use Rattle.office.specs.Answers as answer
 use Rattle.office.specs.Events.{Admin}
 use Rattle.office.specs.History.{in_force}
 use Rattle.office.specs.Trace.{history}

@@ -1,4 +1,4 @@
-use Rattle.std.proofs.Common.{◌∙◌, sym, true≢false}
+use Rattle.std.proofs.Common.{◌∙◌, sym, true≢false, rules}
 use Rattle.office.proofs.Accounts.{opening_told, going_told, tick_told, deposit_told, command_told, restart_told}
 use Rattle.office.proofs.office.Office.handle.Goals as goal
 
@@ -6,7 +6,7 @@ pub returns-in-Connect-clause-after : goal.returns-in-Connect-clause-after
 returns-in-Connect-clause-after g c = rw c.in-Connect.is c.connect.ensures.after
 
 pub returns-in-Bytes-clause-after : goal.returns-in-Bytes-clause-after
-returns-in-Bytes-clause-after g c = rw c.in-Bytes.is c.bytes.ensures.after
+returns-in-Bytes-clause-after g c = search rules
 
 pub returns-in-Took-clause-after : goal.returns-in-Took-clause-after
 returns-in-Took-clause-after g c = rw c.in-Took.is c.took.ensures.after

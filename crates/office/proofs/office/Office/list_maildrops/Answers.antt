@@ -1,4 +1,4 @@
-use Rattle.std.proofs.Common.{map, refl}
+use Rattle.std.proofs.Common.{refl}
 use Rattle.vault.specs.Calls.{seen_as}
 use Rattle.office.specs.Answers.{ListMaildrops}
 use Rattle.office.specs.Events.{Admin}

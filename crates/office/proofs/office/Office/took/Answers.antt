@@ -24,7 +24,7 @@ use Rattle.office.proofs.Owing.{text_feeds}
 use Rattle.office.proofs.Memory.{more_than_lent}
 use Rattle.office.proofs.TakingDone.{judged, taking_moves, taking_answered, taking_told}
 use Rattle.office.specs.Outcomes as outcome
-use Rattle.office.proofs.AfterEvents.{kept_at, closed_at, unasked_after, stands_after, ignored_after}
+use Rattle.office.proofs.AfterEvents.{kept_at, closed_at, stands_after, ignored_after}
 use Rattle.office.proofs.Stopping.{before_left}
 use Rattle.office.proofs.StoppingLines.{line_left, line_answered}
 use Rattle.office.proofs.Unasked.{taking_asks_none, taking_reads_none}
