@@ -7,3 +7,5 @@ pub mod RefusalTexts
 pub mod Routing
 pub mod Laws
 mod RequestRows
+pub mod RequestLineLemmas
+pub mod ContentLemmas

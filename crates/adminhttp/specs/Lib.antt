@@ -7,4 +7,6 @@ pub mod Fields
 pub mod Bodies
 pub mod Request
 pub mod Responses
+pub mod RequestLines
+pub mod Contents
 pub mod Laws

@@ -29,7 +29,8 @@ fn has_name(text: &[u8], header: &HeaderSpan, word: &[u8]) -> bool
 /// Whether a header is named Transfer-Encoding.
 fn is_coded(text: &[u8], headers: &[HeaderSpan]) -> bool
     requires { All (IsHeaderWithin (length text.now)) headers.now }
-    ensures { result ≡ list_any (is_named (codes "transfer-encoding")) (map (header_bytes text.now) headers.now) }
+    ensures { result ≡ list_any (is_named (codes "transfer-encoding"))
+        (map (header_bytes text.now) headers.now) }
 {
     for header in headers {
         if has_name(text, header, b"transfer-encoding") {

@@ -1,10 +1,11 @@
 //! The reader of a head.
 
-ghost use Rattle.std.specs.Prelude.{◌≡◌, length, Err, IfSome, IfNone, IfOk, IfErr};
+ghost use Rattle.std.specs.Prelude.{◌≡◌, length, Err, None, IfSome, IfNone, IfOk, IfErr};
 ghost use Rattle.httparse.specs.Grammar.{RequestHead};
 ghost use Rattle.httparse.specs.Spans.{IsRequestAt, IsRequestWithin};
 ghost use Rattle.adminhttp.specs.Head.{IsHead, IsNoHead, IsLent, most_headers};
 ghost use Rattle.adminhttp.specs.Request.{IsRequest};
+ghost use Rattle.adminhttp.specs.RequestLines.{IsLine};
 
 use super::{Head, MAX_HEAD, front_of, locate};
 use crate::refusal::Refusal;
@@ -35,6 +36,7 @@ pub fn read_head<'b>(octets: &'b [u8], headers: &mut [HeaderSpan]) -> Result<Hea
     requires { length headers.old ≡ most_headers }
     ensures ok { IfOk result (IsLent octets.now headers.new) }
     ensures stop { IfErr result (λ stop. IsRequest octets.now (Err stop)) }
+    ensures none { IfErr result (λ _. IsLine octets.now None) }
 {
     let Some((start, len)) = locate(front_of(octets)) else {
         if octets.len() <= MAX_HEAD {
