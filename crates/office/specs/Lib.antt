@@ -32,6 +32,7 @@ pub mod Laws
 pub mod Served
 pub mod Shown
 pub mod Output
+pub mod PutPages
 pub mod Kept
 pub mod Answered
 pub mod Runs

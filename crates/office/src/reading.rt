@@ -6,11 +6,11 @@ ghost use Rattle.mailtext.specs.Text.{kept_form, lines_of, stuffed_lines, top_pa
 ghost use Rattle.mailtext.specs.Streams.{stuffed_from, nothing_come};
 ghost use Rattle.vault.specs.Changes.{Contents};
 ghost use Rattle.vault.specs.Calls.{has_grown, text_under};
-ghost use Rattle.office.specs.Output.{most_output, cut_from, text_coming, last_line, IsBegun};
-ghost use Rattle.office.specs.Output.{IsPut};
+ghost use Rattle.office.specs.Output.{most_output, cut_from, text_coming, last_line};
+ghost use Rattle.office.specs.PutPages.{PutsPages};
 ghost use Rattle.office.specs.Trace.{most_lent};
 ghost use Rattle.vault.specs.Parts.{OnlyLooks};
-ghost use Rattle.office.specs.Stopping.{HasRead, WasPut};
+ghost use Rattle.office.specs.Stopping.{HasRead};
 
 use mailtext::{Stuffer, TopCut};
 use popline::end_lines;
@@ -175,20 +175,10 @@ impl Reading {
         vault: &mut V,
         ready: &mut Vec<u8>,
     ) -> Result<PutPage, AllocError>
-        ensures put { IfOk result (λ page. (c : Contents) → V.holds vault.old c
-            → V.is_clean vault.new → IsBegun self.old (text_under self.old.key c.messages)
-            → IsPut page ready.old.items ready.new.items
-            (text_coming self.old (text_under self.old.key c.messages))
-            (text_coming self.new (text_under self.old.key c.messages))) }
+        ensures puts { PutsPages V.Vault vault.old vault.new self.old self.new ready.old.items
+            ready.new.items result }
         ensures left { IfOk result (λ page. page ≡ PutPage.More → (self.new.place < self.new.octets)
             × (self.old.place < self.new.place)) }
-        ensures cause { IfOk result (λ page. page ≡ PutPage.Refused → (c : Contents)
-            → V.holds vault.old c → V.is_clean vault.new
-            → IsBegun self.old (text_under self.old.key c.messages)
-            → has_grown (V.faults vault.old) (V.faults vault.new) ≡ true) }
-        ensures key { self.new.key ≡ self.old.key }
-        ensures octets { self.new.octets ≡ self.old.octets }
-        ensures looks { OnlyLooks V.Vault vault.old vault.new (IsOkAnd result WasPut) }
         ensures most { length ready.new.items ≤ length ready.old.items + STUFFED_OCTETS + 3 }
     {
         let mut page = [0u8; PAGE_OCTETS];
@@ -210,22 +200,12 @@ impl Reading {
         ready: &mut Vec<u8>,
     ) -> Result<PutPage, AllocError>
         requires { length ready.old.items ≤ most_output }
-        ensures put { IfOk result (λ page. (c : Contents) → V.holds vault.old c
-            → V.is_clean vault.new → IsBegun self.old (text_under self.old.key c.messages)
-            → IsPut page ready.old.items ready.new.items
-            (text_coming self.old (text_under self.old.key c.messages))
-            (text_coming self.new (text_under self.old.key c.messages))) }
+        ensures puts { PutsPages V.Vault vault.old vault.new self.old self.new ready.old.items
+            ready.new.items result }
         ensures more { IfOk result (λ page. page ≡ PutPage.More → (self.old.place < self.old.octets)
             → self.new.place < self.new.octets) }
         ensures full { IfOk result (λ page. page ≡ PutPage.More
             → most_lent ≤ length ready.new.items) }
-        ensures cause { IfOk result (λ page. page ≡ PutPage.Refused → (c : Contents)
-            → V.holds vault.old c → V.is_clean vault.new
-            → IsBegun self.old (text_under self.old.key c.messages)
-            → has_grown (V.faults vault.old) (V.faults vault.new) ≡ true) }
-        ensures key { self.new.key ≡ self.old.key }
-        ensures octets { self.new.octets ≡ self.old.octets }
-        ensures looks { OnlyLooks V.Vault vault.old vault.new (IsOkAnd result WasPut) }
         // Whatever the store does.
         ensures most { length ready.new.items ≤ most_output }
     {

@@ -1,6 +1,8 @@
 use Rattle.std.proofs.Common.{arith, refl, sym, take, take_all, subst, get_or}
 use Rattle.std.proofs.lemmas.Grind.{common_steps}
 use Rattle.std.proofs.lemmas.List.{take_more}
+use Rattle.office.specs.Events.{Trace}
+use Rattle.office.specs.Stands.{StandsFor, vault_of}
 use Rattle.office.specs.Runs.{Follows, Ran, followed}
 use Rattle.office.proofs.Running.{ran_more}
 use Rattle.office.proofs.Memory.{steps_have_memory}
@@ -38,50 +40,26 @@ loop-done-preserved g c =
       clean = λ clean. c.loop-done.invariant.clean (c.enter.ensures.clean clean);
     }
 
-pub returns-clause-ok : goal.returns-clause-ok
-returns-clause-ok g c = λ T st clean.
-    let ran =
-    subst (λ es. Ran g.V.Vault.holds g.V.Vault.faults g.V.Vault.is_up g.V.Vault.may_leave es c.loop-done.steps.items T c.args.self.now c.loop-done.self)
+pub returns : goal.returns
+returns g c =
+    let ran : (T : Trace) → StandsFor g.V.Vault.holds c.args.self.now T → g.V.Vault.is_clean (vault_of c.loop-done.self)
+    → Ran g.V.Vault.holds g.V.Vault.faults g.V.Vault.is_up g.V.Vault.may_leave c.args.events.now c.loop-done.steps.items T c.args.self.now c.loop-done.self =
+    λ T st clean. subst (λ es. Ran g.V.Vault.holds g.V.Vault.faults g.V.Vault.is_up g.V.Vault.may_leave es c.loop-done.steps.items T c.args.self.now c.loop-done.self)
     (take_all c.loop-done.done c.args.events.now c.loop-done-test.false) (c.loop-done.invariant.ran T st clean) in
-    rw c.new.ensures (ran.follows)
-
-pub returns-clause-memory : goal.returns-clause-memory
-returns-clause-memory g c = λ T st clean. steps_have_memory g.V.Vault.holds T _ _ (returns-clause-ok g c T st clean).each
-
-pub returns-clause-admitted : goal.returns-clause-admitted
-returns-clause-admitted g c = λ T st clean a.
-    let ran =
-    subst (λ es. Ran g.V.Vault.holds g.V.Vault.faults g.V.Vault.is_up g.V.Vault.may_leave es c.loop-done.steps.items T c.args.self.now c.loop-done.self)
-    (take_all c.loop-done.done c.args.events.now c.loop-done-test.false) (c.loop-done.invariant.ran T st clean) in
-    rw c.new.ensures (ran.admitted a)
-
-pub returns-clause-sent : goal.returns-clause-sent
-returns-clause-sent g c = λ T st clean a d.
-    let ran =
-    subst (λ es. Ran g.V.Vault.holds g.V.Vault.faults g.V.Vault.is_up g.V.Vault.may_leave es c.loop-done.steps.items T c.args.self.now c.loop-done.self)
-    (take_all c.loop-done.done c.args.events.now c.loop-done-test.false) (c.loop-done.invariant.ran T st clean) in
-    rw c.new.ensures (taken_is_sent _ (ran.admitted a) d)
-
-pub returns-clause-cause : goal.returns-clause-cause
-returns-clause-cause g c = λ T st clean.
-    let ran =
-    subst (λ es. Ran g.V.Vault.holds g.V.Vault.faults g.V.Vault.is_up g.V.Vault.may_leave es c.loop-done.steps.items T c.args.self.now c.loop-done.self)
-    (take_all c.loop-done.done c.args.events.now c.loop-done-test.false) (c.loop-done.invariant.ran T st clean) in
-    rw c.new.ensures (ran.causes)
-
-pub returns-clause-up : goal.returns-clause-up
-returns-clause-up g c = λ T st clean up.
-    let ran =
-    subst (λ es. Ran g.V.Vault.holds g.V.Vault.faults g.V.Vault.is_up g.V.Vault.may_leave es c.loop-done.steps.items T c.args.self.now c.loop-done.self)
-    (take_all c.loop-done.done c.args.events.now c.loop-done-test.false) (c.loop-done.invariant.ran T st clean) in
-    rw c.new.ensures (ran.up up)
-
-pub returns-clause-stop : goal.returns-clause-stop
-returns-clause-stop g c = λ T st clean up.
-    let ran =
-    subst (λ es. Ran g.V.Vault.holds g.V.Vault.faults g.V.Vault.is_up g.V.Vault.may_leave es c.loop-done.steps.items T c.args.self.now c.loop-done.self)
-    (take_all c.loop-done.done c.args.events.now c.loop-done-test.false) (c.loop-done.invariant.ran T st clean) in
-    rw c.new.ensures (ran.stop up)
+    record {
+      ok = λ T st clean. rw c.new.ensures (ran T st clean).follows;
+      err_before_the_end = tt;
+      err = tt;
+      cause = λ T st clean. rw c.new.ensures (ran T st clean).causes;
+      up = λ T st clean up. rw c.new.ensures ((ran T st clean).up up);
+      stop = λ T st clean up. rw c.new.ensures ((ran T st clean).stop up);
+      admitted = λ T st clean a. rw c.new.ensures ((ran T st clean).admitted a);
+      sent = λ T st clean a d. rw c.new.ensures (taken_is_sent _ ((ran T st clean).admitted a) d);
+      memory = λ T st clean. rw c.new.ensures (steps_have_memory g.V.Vault.holds T _ _ (ran T st clean).follows.each);
+      err_ran = tt;
+      counted = c.loop-done.invariant.counted;
+      clean = c.loop-done.invariant.clean;
+    }
 
 pub returns-in-Err-clause-err : goal.returns-in-Err-clause-err
 returns-in-Err-clause-err g c = (

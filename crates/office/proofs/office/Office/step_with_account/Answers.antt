@@ -4,35 +4,24 @@ use Rattle.office.proofs.Lending.{admitted, sent_so}
 use Rattle.office.proofs.Memory.{has_memory}
 use Rattle.office.proofs.office.Office.step_with_account.Goals as goal
 
-pub returns-clause-stands : goal.returns-clause-stands
-returns-clause-stands g c T st clean = (c.handle.ensures.after.each T st clean).stands
-
-pub returns-clause-outcome : goal.returns-clause-outcome
-returns-clause-outcome g c T st clean = (c.handle.ensures.after.each T st clean).outcome
-
-pub returns-clause-cause : goal.returns-clause-cause
-returns-clause-cause g c T st clean = (c.handle.ensures.after.each T st clean).cause
-
-pub returns-clause-up : goal.returns-clause-up
-returns-clause-up g c T st clean = (c.handle.ensures.after.each T st clean).up
-
-pub returns-clause-stop : goal.returns-clause-stop
-returns-clause-stop g c T st clean = (c.handle.ensures.after.each T st clean).stop
-
-pub returns-clause-counted : goal.returns-clause-counted
-returns-clause-counted g c = c.handle.ensures.after.counted
-
-pub returns-clause-clean : goal.returns-clause-clean
-returns-clause-clean g c = c.handle.ensures.after.clean
-
-pub returns-clause-admitted : goal.returns-clause-admitted
-returns-clause-admitted g c T st clean = admitted c.args.self.now T _ (outcome_seen c.handle.result) st (c.handle.ensures.after.each T st clean).outcome
-
-pub returns-clause-sent : goal.returns-clause-sent
-returns-clause-sent g c T st clean = sent_so c.args.self.now T _ (outcome_seen c.handle.result) st (c.handle.ensures.after.each T st clean).outcome
-
-pub returns-clause-memory : goal.returns-clause-memory
-returns-clause-memory g c T st clean = has_memory T _ _ (outcome_seen c.handle.result) (c.handle.ensures.after.each T st clean).outcome
-
-pub returns-clause-account : goal.returns-clause-account
-returns-clause-account g c = c.handle.ensures.account refl
+pub returns : goal.returns
+returns g c =
+    let does = c.handle.ensures in
+    let o = c.args.self.now in
+    let w = outcome_seen c.handle.result in
+    record {
+      stands = λ T st clean. (does.after.each T st clean).stands;
+      outcome = λ T st clean. (does.after.each T st clean).outcome;
+      cause = λ T st clean. (does.after.each T st clean).cause;
+      counted = does.after.counted;
+      clean = does.after.clean;
+      up = λ T st clean. (does.after.each T st clean).up;
+      stop = λ T st clean. (does.after.each T st clean).stop;
+      admitted = λ T st clean. admitted o T _ w st (does.after.each T st clean).outcome;
+      sent = λ T st clean. sent_so o T _ w st (does.after.each T st clean).outcome;
+      unasked = does.unasked;
+      unasked_line = does.unasked_line;
+      succeeds = does.succeeds;
+      memory = λ T st clean. has_memory T _ _ w (does.after.each T st clean).outcome;
+      account = does.account refl;
+    }

@@ -22,22 +22,43 @@ loop-self-preserved g c = record {
   key = search rules;
   octets = search rules;
   looks = looks_then c.loop-self.invariant.looks
-      ((rw c.in-More.is at c.in_ok-put_page.ensures.looks));
+      ((rw c.in-More.is at c.in_ok-put_page.ensures.puts).looks);
   room = search rules;
 }
 
-pub returns-in_err-put_page-clause-looks : goal.returns-in_err-put_page-clause-looks
-returns-in_err-put_page-clause-looks g c =
-    looks_less (not_ok c.from_residual.result _ WasPut c.from_residual.ensures.1)
-    (looks_then c.loop-self.invariant.looks c.in_err-put_page.ensures.looks)
+pub returns-in_err-put_page-clause-puts : goal.returns-in_err-put_page-clause-puts
+returns-in_err-put_page-clause-puts g c = record {
+  key = search rules;
+  octets = search rules;
+  put = search rules;
+  cause = search rules;
+  looks = looks_less (not_ok c.from_residual.result _ WasPut c.from_residual.ensures.1)
+      (looks_then c.loop-self.invariant.looks c.in_err-put_page.ensures.puts.looks);
+}
 
-pub returns-in-Last-clause-looks : goal.returns-in-Last-clause-looks
-returns-in-Last-clause-looks g c =
-    looks_then c.loop-self.invariant.looks (rw c.in-Last.is at c.in_ok-put_page.ensures.looks)
+pub returns-in-Last-clause-puts : goal.returns-in-Last-clause-puts
+returns-in-Last-clause-puts g c = record {
+  key = search rules;
+  octets = search rules;
+  put = search rules;
+  cause = search rules;
+  looks = looks_then c.loop-self.invariant.looks (rw c.in-Last.is at c.in_ok-put_page.ensures.puts).looks;
+}
 
-pub returns-in-Refused-clause-looks : goal.returns-in-Refused-clause-looks
-returns-in-Refused-clause-looks g c =
-    looks_then c.loop-self.invariant.looks (rw c.in-Refused.is at c.in_ok-put_page.ensures.looks)
+pub returns-in-Refused-clause-puts : goal.returns-in-Refused-clause-puts
+returns-in-Refused-clause-puts g c = record {
+  key = search rules;
+  octets = search rules;
+  put = search rules;
+  cause = search rules;
+  looks = looks_then c.loop-self.invariant.looks (rw c.in-Refused.is at c.in_ok-put_page.ensures.puts).looks;
+}
 
-pub returns-clause-looks : goal.returns-clause-looks
-returns-clause-looks g c = c.loop-self.invariant.looks
+pub returns-clause-puts : goal.returns-clause-puts
+returns-clause-puts g c = record {
+  key = search rules;
+  octets = search rules;
+  put = search rules;
+  cause = search rules;
+  looks = c.loop-self.invariant.looks;
+}
