@@ -22,7 +22,7 @@ use Rattle.office.specs.Events as event
 use Rattle.office.specs.Answers.{AdminCommand}
 use Rattle.office.specs.Trace.{history, idle_acts, idle_numbers, acts_of_piece, acts_of_took, line_act}
 use Rattle.office.specs.Kept.{LineContext, asks}
-use Rattle.office.specs.Transaction.{Transaction, LiesIn, transaction_of, transaction_said, transaction_answered, refused_reading, transaction_asks, transaction_reply}
+use Rattle.office.specs.Transaction.{Transaction, LiesIn, transaction_of, transaction_said, transaction_answered, transaction_asks, transaction_reply}
 use Rattle.office.specs.Answered.{reply_of, tag_of, HasTransaction}
 use Rattle.office.specs.Accounts.{command_account, fault_told, line_account, transaction_account, quit_or, quit_account, removal_by, line_told, acts_account, account_of, removal_told, removal_seen, state_account}
 use Rattle.office.specs.declared.account.Account.{Account}
@@ -59,7 +59,7 @@ module _ (p : Policy) (v : Transaction) (u : Option LoginName) where
       → line_account (reading x) (Says (transaction_reply w p v x)) None ≡ line_account (reading x) (Says (transaction_reply w p v x)) u
   transaction_told outcome.Done TooLong may = refl
   transaction_told outcome.Done (cutting.Line l) may = told_read (command_of l)
-  transaction_told outcome.Failed x may = nobody_named (reading x) (Says (refused_reading (reading x))) u (asks_no_pass (reading x) (may refl))
+  transaction_told outcome.Failed x may = nobody_named (reading x) (Says (transaction_reply outcome.Failed p v x)) u (asks_no_pass (reading x) (may refl))
 
 -- a misread line of a session names nobody
 pub transaction_fault : (p : Policy) (v : Transaction) (f : LineFault) → fault_told f (Says (transaction_said p v (Err f))) ≡ account.Nothing

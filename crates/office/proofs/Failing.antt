@@ -1,16 +1,31 @@
--- No session begins where the store failed.
-use Rattle.std.proofs.Common.{◌≡◌, Bool, true, false, Option, Some, None, Result, Ok, Err, refl}
+-- Before a login: the reply where the store failed, and that no session begins.
+use Rattle.std.proofs.Common.{◌≡◌, Bool, true, false, Option, Some, None, Result, Ok, Err, refl, sym, true≢false}
 use Rattle.creds.specs.declared.login_name.LoginName.{LoginName}
 use Rattle.policy.specs.Policy.{Policy}
-use Rattle.popline.specs.Commands.{Command, Pass, Apop}
+use Rattle.popline.specs.Cutting.{Cut, TooLong}
+use Rattle.popline.specs.Cutting as cutting
+use Rattle.popline.specs.Commands.{Command, Pass, Apop, command_of}
 use Rattle.popline.specs.declared.command.LineFault.{LineFault}
 use Rattle.popline.specs.Replies.{StoreFailed}
 use Rattle.session.specs.declared.removals.Removals.{Removals}
 use Rattle.vault.specs.Changes.{Contents}
-use Rattle.office.specs.History.{Says}
-use Rattle.office.specs.Connections.{is_quit}
+use Rattle.office.specs.History.{Says, Failed}
+use Rattle.office.specs.Connections.{is_quit, reading}
 use Rattle.office.specs.Sessions.{logs_in}
-use Rattle.office.specs.Answered.{SessionAfter}
+use Rattle.office.specs.Replying.{reply_to_reading}
+use Rattle.office.specs.Kept.{LineContext, state_of, authorization_asks}
+use Rattle.office.specs.Answered.{SessionAfter, reply_of}
+use Rattle.office.specs.declared.login_state.LoginState.{LoginState}
+use Rattle.office.specs.declared.login_state.LineOutcome.TheVariants as outcome
+
+refused_reading : (d : LineContext) (t : LoginState) (r : Result Command LineFault) → authorization_asks t r ≡ true → reply_to_reading (state_of d t None) r Failed ≡ StoreFailed
+refused_reading d t (Ok (Pass password)) h = rw h refl
+refused_reading d t (Ok (Apop name digest)) h = refl
+refused_reading d t _ h = absurd (true≢false (sym h))
+
+pub refused_login : (d : LineContext) (t : LoginState) (x : Cut) → authorization_asks t (reading x) ≡ true → reply_of outcome.Failed d t None x ≡ StoreFailed
+refused_login d t TooLong h = absurd (true≢false (sym h))
+refused_login d t (cutting.Line l) h = refused_reading d t (command_of l) h
 
 lets_none_in : (r : Result Command LineFault) (user : Option LoginName) → logs_in r (Says StoreFailed) user ≡ None
 lets_none_in (Ok (Pass password)) user = refl

@@ -1,5 +1,6 @@
 -- How what is kept of a connection follows the trace as a piece comes or is resumed.
 use Rattle.std.proofs.Common.{◌≡◌, ℕ, zero, suc, ◌+◌, ◌≤◌, Bool, true, false, not, ◌||◌, ◌&&◌, cond, List, [], ◌∷◌, ◌++◌, drop, length, map, refl, sym, ◌∙◌, ap, arith, Some, None, is_some, slice_get, append-nil, ◌==◌, length-append, add-one, length-drop, min, subst, true≢false}
+use Rattle.std.proofs.lemmas.Bool.Decides.{nat_tests}
 use Rattle.std.proofs.lemmas.List.{drop-append-le, length-take}
 use Rattle.std.specs.Bool.{if◌then◌else◌}
 use Rattle.popline.specs.Cutting.{Cut, cut_of, cut, pieces, onto_first, begun, prefixed, fed, shown, coming, through_newline, has_newline, before_newline}
@@ -13,11 +14,20 @@ use Rattle.office.specs.Sessions.{logs_in, login_after, marks_after_line, view_a
 use Rattle.office.specs.Replying.{is_empty}
 use Rattle.office.specs.Expected.{most_in_a_piece}
 use Rattle.office.specs.Output.{Output, nothing_owed, reads_text, Owes, OwesReply}
-use Rattle.office.specs.Kept.{Kept, answered, line_after, login_state_after, most_failures}
+use Rattle.office.specs.Kept.{Kept, answered, line_after, login_state_after, one_more_failure, most_failures}
 use Rattle.office.specs.Stands.{Seen, Matches, IsSession, is_seen_open, untaken_of, most_in_a_line}
 use Rattle.office.specs.declared.login_state.LoginState.{LoginState}
-use Rattle.office.proofs.Authorization.{failures_counted}
 use Rattle.office.proofs.Owing.{owes_none}
+
+-- failures, counted to the most
+one_more_counted : (f g : ℕ) → f ≡ min g most_failures
+    → one_more_failure f ≡ min (g + 1) most_failures
+one_more_counted f g e = grind (arith, nat_tests, e)
+
+failures_counted : (b : Bool) (f g : ℕ) → f ≡ min g most_failures
+    → (if b then one_more_failure f else f) ≡ min (if b then g + 1 else g) most_failures
+failures_counted true f g e = one_more_counted f g e
+failures_counted false f g e = e
 
 -- what stands at a place, and what follows it
 pub at_drop : {A : Type 0} (n : ℕ) (xs : List A) (x : A) (ys : List A) → drop n xs ≡ x ∷ ys → (slice_get xs n ≡ Some x) × (drop (n + 1) xs ≡ ys)

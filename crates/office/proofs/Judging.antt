@@ -14,9 +14,9 @@ use Rattle.session.specs.View.{to_remove}
 use Rattle.office.specs.History.{Act, Line, Tag, Entry, Said, Says, is_done, in_force}
 use Rattle.office.specs.Connections.{reading, is_quit, closes}
 use Rattle.office.specs.Sessions.{live, marks, view, logs_in, in_session, records, removed, removed_after, removed_by, quits_if}
-use Rattle.office.specs.Replying.{reply_to_cut, line_may_fail}
+use Rattle.office.specs.Replying.{reply_to_cut, line_may_fail, may_fail, state_at}
 use Rattle.office.specs.Accounts.{quit_account, removal_by, quit_seen}
-use Rattle.office.specs.Kept.{LineContext, asks}
+use Rattle.office.specs.Kept.{LineContext, asks, state_of}
 use Rattle.office.specs.Transaction.{Transaction, LiesIn, transaction_of}
 use Rattle.office.specs.Answered.{reply_of, tag_of, HasTransaction, held_after}
 use Rattle.office.specs.Stands.{Seen}
@@ -24,8 +24,9 @@ use Rattle.office.specs.declared.login_state.LoginState.{LoginState}
 use Rattle.office.specs.declared.login_state.LineOutcome.{LineOutcome}
 use Rattle.office.specs.declared.login_state.LineOutcome.TheVariants as outcome
 use Rattle.office.proofs.Hearing.{lined}
-use Rattle.office.proofs.Authorization.{AgreesInAuthorization, authorization_reply, authorization_fails}
-use Rattle.office.proofs.SessionLines.{AgreesInTransaction, transaction_removal, transaction_reply_said, transaction_fails, transaction_no_login, transaction_closes}
+use Rattle.office.proofs.SameReply.{SameState, same_reply, same_may_fail}
+use Rattle.office.proofs.Agreeing.{AgreesInAuthorization, AgreesInTransaction, same_authorization, same_transaction, transaction_removal}
+use Rattle.office.proofs.Remembering.{transaction_no_login, transaction_closes}
 use Rattle.office.proofs.LineRecords.{agree_line}
 
 -- A line is answered, may be refused, and leaves the records, as the history says.
@@ -42,6 +43,18 @@ pub record Judges (B : Records) (G : List Entry) (c : ℕ) (k : Contents) (d : L
   -- what closes a connection ends its session
   pub parts : (s : Seen) → s.live ≡ live G c → (found : LoginName → List store.Message) (x : Cut) (w : LineOutcome)
       → closes (reading x) (Says (reply_of w d t transaction x)) ≡ true → (lined s x (reply_of w d t transaction x) found).live ≡ false
+
+-- what is kept is the state that the history says
+module _ (B : Records) (G : List Entry) (c : ℕ) (d : LineContext) (t : LoginState) (v : Option Transaction) (same : SameState (state_at B G c) (state_of d t v)) where
+  replied : (x : Cut) (w : LineOutcome) → reply_to_cut B G c x (tag_of w) ≡ reply_of w d t v x
+  replied x w = same_reply (state_at B G c) (state_of d t v) same x (tag_of w)
+
+  asked : (o : Option Transaction) (r : Result Command LineFault) → may_fail (state_of d t o) r ≡ asks d.policy t o r
+  asked None r = refl
+  asked (Some v) r = refl
+
+  fails : (x : Cut) → asks d.policy t v (reading x) ≡ true → line_may_fail B G c x ≡ true
+  fails x h = same_may_fail (state_at B G c) (state_of d t v) same (reading x) ∙ (asked v (reading x) ∙ h)
 
 -- ---- before a login
 
@@ -71,9 +84,9 @@ pub authorization_judges : (B : Records) (G : List Entry) (c : ℕ) (k : Content
 authorization_judges B G c k d t a = record {
   transaction = None;
   has_transaction = tt;
-  reply = authorization_reply B G c d t a;
+  reply = λ x w may. replied B G c d t None (same_authorization B G c d t a) x w;
   quits = λ w. let l = a.authorization in rw l refl;
-  fails = authorization_fails B G c d t a;
+  fails = fails B G c d t None (same_authorization B G c d t a);
   agrees = λ sound g w x said. rw (authorization_records B G c x (tag_of w) said a.authorization) g;
   stays = λ o e x w u. absurd (nobody o e);
   parts = λ s l found x w h. authorization_closed (reading x) (reply_of w d t None x) s.user s.live (l ∙ a.authorization) h;
@@ -91,10 +104,10 @@ transaction_judges B G c k d t o kept lies a =
     record {
       transaction = Some v;
       has_transaction = (kept, lies, refl);
-      reply = transaction_reply_said B G c d.policy v a;
+      reply = λ x w may. replied B G c d t (Some v) (same_transaction B G c d.policy v a) x w;
       quits = transaction_removal B G c d.policy v a;
-      fails = transaction_fails B G c d.policy v a;
+      fails = fails B G c d t (Some v) (same_transaction B G c d.policy v a);
       agrees = λ sound g w x said. agree_line B G c d.policy o kept a k sound lies g w x said;
-      stays = λ o' e x w u. transaction_no_login w d.policy v x u;
-      parts = λ s l found x w h. let q = sym (transaction_closes w d.policy v x) ∙ h in rw q refl;
+      stays = λ o' e x w u. transaction_no_login d.policy v w x u;
+      parts = λ s l found x w h. let q = sym (transaction_closes d.policy v w x) ∙ h in rw q refl;
     }

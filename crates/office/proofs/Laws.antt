@@ -18,7 +18,7 @@ use Rattle.office.specs.History.{Entry, Act, Tag, Done, Failed, NoMemory, Said, 
 use Rattle.office.specs.Sessions.{live, login, login_after, login_by, logs_in, ends_session, present, holds, holder, is_login_to}
 use Rattle.office.specs.Connections.{user, opens, reading, heard, heard_after, put_number, failures}
 use Rattle.office.specs.Told.{told, said_to}
-use Rattle.office.specs.Replying.{opening, logging_in, login_failed, maildrop_has, reply_to_reading, said_to_line, is_permitted, name_or_nobody, when_permitted, stamp}
+use Rattle.office.specs.Replying.{LineState, InAuthorization, InTransaction, authorization_says, session_says, obeyed, transaction_at, state_at, opening, logging_in, login_failed, maildrop_has, reply_to_reading, said_to_line, is_permitted, name_or_nobody, when_permitted, stamp}
 
 pub live_side : (ends : Bool) (o : Option LoginName) (before : Bool) → (not ends && (is_some o || before)) ≡ true → (ends ≡ false) × ((o ≡ None) → before ≡ true)
 live_side true o before h = absurd (true≢false (sym h))
@@ -106,30 +106,39 @@ unfolding has_counts
 refused_counts true e = true≢false (sym e)
 refused_counts false e = true≢false (sym e)
 
-lock_done : (B : Records) (G : List Entry) (n : ℕ) (r : Result Command LineFault) (name : LoginName) → logs_in r (Says (reply_to_reading B G n r Done)) (user G n) ≡ Some name → holder G name.maildrop ≡ None
+-- no session accepts a login
+judged_so : (B : Records) (G : List Entry) (n : ℕ) (command : Command) (live : Bool) → has_counts (session_says (in_force B G) (transaction_at B G n) command) ≡ false
+    → has_counts (obeyed (if live then InTransaction (in_force B G) (transaction_at B G n) else InAuthorization (user G n) (logging_in B G n)) command) ≡ true
+    → has_counts (authorization_says (user G n) (logging_in B G n) command) ≡ true
+unfolding has_counts
+judged_so B G n command true h e = absurd (true≢false (sym e ∙ h))
+judged_so B G n command false h e = e
+
+lock_done : (B : Records) (G : List Entry) (n : ℕ) (r : Result Command LineFault) (name : LoginName) → logs_in r (Says (reply_to_reading (state_at B G n) r Done)) (user G n) ≡ Some name → holder G name.maildrop ≡ None
+unfolding has_counts
 lock_done B G n (Ok (Pass p)) name e =
-    let h = accepted_pass (reply_to_reading B G n (Ok (Pass p)) Done) p (user G n) name e in
-    let f = free B G n (name_or_nobody (user G n)) (ByPass p) (permitted_counts (is_permitted G n keyword.Pass) (logging_in B G n (name_or_nobody (user G n)) (ByPass p)) h.0) in
+    let s = state_at B G n in
+    let h = accepted_pass (reply_to_reading s (Ok (Pass p)) Done) p (user G n) name e in
+    let f = free B G n (name_or_nobody (user G n)) (ByPass p) (judged_so B G n (Pass p) (live G n) refl (permitted_counts (is_permitted s keyword.Pass) (obeyed s (Pass p)) h.0)) in
     subst (λ (u : Option LoginName). holder G (name_or_nobody u).maildrop ≡ None) h.1 f
 lock_done B G n (Ok (Apop who d)) name e =
-    let h = accepted_apop (reply_to_reading B G n (Ok (Apop who d)) Done) who d (user G n) name e in
-    let f = free B G n who (ByApop d) (permitted_counts (is_permitted G n keyword.Apop) (logging_in B G n who (ByApop d)) h.0) in
+    let s = state_at B G n in
+    let h = accepted_apop (reply_to_reading s (Ok (Apop who d)) Done) who d (user G n) name e in
+    let f = free B G n who (ByApop d) (judged_so B G n (Apop who d) (live G n) refl (permitted_counts (is_permitted s keyword.Apop) (obeyed s (Apop who d)) h.0)) in
     subst (λ (w : LoginName). holder G w.maildrop ≡ None) h.1 f
 lock_done B G n _ name e = absurd (no_some name e)
 
-lock_failed : (B : Records) (G : List Entry) (n : ℕ) (r : Result Command LineFault) (name : LoginName) → logs_in r (Says (reply_to_reading B G n r Failed)) (user G n) ≡ Some name → ⊥
-lock_failed B G n (Ok (Pass p)) name e =
-    refused_counts (is_permitted G n keyword.Pass) (accepted_pass (reply_to_reading B G n (Ok (Pass p)) Failed) p (user G n) name e).0
-lock_failed B G n (Ok (Apop who d)) name e =
-    refused_counts (is_permitted G n keyword.Apop) (accepted_apop (reply_to_reading B G n (Ok (Apop who d)) Failed) who d (user G n) name e).0
-lock_failed B G n _ name e = no_some name e
+lock_failed : (s : LineState) (r : Result Command LineFault) (u : Option LoginName) (name : LoginName) → logs_in r (Says (reply_to_reading s r Failed)) u ≡ Some name → ⊥
+lock_failed s (Ok (Pass p)) u name e = refused_counts (is_permitted s keyword.Pass) (accepted_pass (reply_to_reading s (Ok (Pass p)) Failed) p u name e).0
+lock_failed s (Ok (Apop who d)) u name e = refused_counts (is_permitted s keyword.Apop) (accepted_apop (reply_to_reading s (Ok (Apop who d)) Failed) who d u name e).0
+lock_failed s _ u name e = no_some name e
 
 lock_line : (B : Records) (G : List Entry) (n : ℕ) (x : Cut) (t : Tag) (name : LoginName) → logs_in (reading x) (said_to_line B G n x t) (user G n) ≡ Some name → holder G name.maildrop ≡ None
 lock_line B G n x NoMemory name e = absurd (no_some name (sym (silent (reading x) (user G n)) ∙ e))
 lock_line B G n TooLong Done name e = absurd (no_some name e)
 lock_line B G n TooLong Failed name e = absurd (no_some name e)
 lock_line B G n (cutting.Line l) Done name e = lock_done B G n (command_of l) name e
-lock_line B G n (cutting.Line l) Failed name e = absurd (lock_failed B G n (command_of l) name e)
+lock_line B G n (cutting.Line l) Failed name e = absurd (lock_failed (state_at B G n) (command_of l) (user G n) name e)
 
 line_number : Act → Option ℕ
 line_number (Line n x) = Some n

@@ -19,7 +19,7 @@ pub mod Bounds
 pub mod RepliesForm
 pub mod UniqueIdTexts
 mod Keeping
-mod Authorization
+mod SameReply
 mod Hearing
 mod Events
 mod Counting
@@ -45,7 +45,7 @@ pub mod Lying
 pub mod Removing
 mod Entering
 mod Failing
-pub mod SessionLines
+pub mod Agreeing
 pub mod Locked
 pub mod LineRecords
 pub mod GoingOn

@@ -38,7 +38,7 @@ use Rattle.office.proofs.Locked.{lock_found, holder_is}
 use Rattle.office.proofs.Locking.{holds_by, locks_follow}
 use Rattle.office.proofs.Acting.{finds, session_after, held_same}
 use Rattle.office.proofs.Owing.{StayFor, owes_on}
-use Rattle.office.proofs.Authorization.{AgreesInAuthorization}
+use Rattle.office.proofs.Agreeing.{AgreesInAuthorization}
 use Rattle.office.proofs.Judging.{Judges, authorization_judges, transaction_judges}
 use Rattle.office.proofs.Events.{finds_by, line_entry, same_session}
 use Rattle.office.proofs.Hearing.{lined, Awaits, part_heard, line_heard, acts_next}

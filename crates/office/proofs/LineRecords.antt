@@ -3,7 +3,7 @@ use Rattle.std.proofs.Common.{◌≡◌, ℕ, Bool, true, false, ◌&&◌, List,
 use Rattle.std.specs.Prelude.{map}
 use Rattle.creds.specs.declared.login_name.LoginName.{LoginName}
 use Rattle.popline.specs.Cutting.{Cut}
-use Rattle.popline.specs.Commands.{Command, Capa, User, Pass, Apop, Quit, Stat, ListAll, ListOne, UidlAll, UidlOne, Top, Retr, Dele, Rset, Noop}
+use Rattle.popline.specs.Commands.{Command, Quit}
 use Rattle.popline.specs.declared.command.LineFault.{LineFault}
 use Rattle.policy.specs.Policy.{Policy}
 use Rattle.vault.specs.declared.record.Keyed.{Keyed}
@@ -21,7 +21,7 @@ use Rattle.office.specs.declared.login_state.LineOutcome.{LineOutcome}
 use Rattle.office.specs.declared.login_state.LineOutcome.TheVariants as outcome
 use Rattle.office.proofs.Bounds.{without_more}
 use Rattle.office.proofs.Removing.{agree_removed}
-use Rattle.office.proofs.SessionLines.{AgreesInTransaction, chosen_alike, transaction_name}
+use Rattle.office.proofs.Agreeing.{AgreesInTransaction, chosen_alike, transaction_name}
 
 and_false : (b : Bool) → (b && false) ≡ false
 and_false true = refl
@@ -59,20 +59,7 @@ module _ (B : Records) (G : List Entry) (c : ℕ) (p : Policy) (s : Session) (ke
     after_reading outcome.Failed r = let f = and_false (is_quit r) in rw f g
     after_reading outcome.Done (Err e) = g
     after_reading outcome.Done (Ok Quit) = after_quit
-    after_reading outcome.Done (Ok Capa) = g
-    after_reading outcome.Done (Ok (User name)) = g
-    after_reading outcome.Done (Ok (Pass password)) = g
-    after_reading outcome.Done (Ok (Apop name digest)) = g
-    after_reading outcome.Done (Ok Stat) = g
-    after_reading outcome.Done (Ok ListAll) = g
-    after_reading outcome.Done (Ok (ListOne n)) = g
-    after_reading outcome.Done (Ok UidlAll) = g
-    after_reading outcome.Done (Ok (UidlOne n)) = g
-    after_reading outcome.Done (Ok (Retr n)) = g
-    after_reading outcome.Done (Ok (Top n m)) = g
-    after_reading outcome.Done (Ok (Dele n)) = g
-    after_reading outcome.Done (Ok Rset) = g
-    after_reading outcome.Done (Ok Noop) = g
+    after_reading outcome.Done (Ok _) = g
 
     -- whatever was said
     pub agree_line : (w : LineOutcome) (x : Cut) (said : Said)

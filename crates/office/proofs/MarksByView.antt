@@ -22,7 +22,7 @@ use Rattle.office.specs.History.{Entry, Act, Tag, Done, Failed, NoMemory, Said, 
 use Rattle.office.specs.Sessions.{live, login, login_by, logs_in, view, marks, marks_after, marks_after_line, ends_session}
 use Rattle.office.specs.Connections.{user, reading, judging}
 use Rattle.office.specs.Told.{told, said_to}
-use Rattle.office.specs.Replying.{said_to_line, reply_to_reading, is_permitted, when_permitted, obeyed, refusal, deleted_if, served_if, quit_says, name_or_nobody}
+use Rattle.office.specs.Replying.{LineState, InTransaction, transaction_at, state_at, said_to_line, reply_to_reading, is_allowed, is_permitted, when_permitted, refusal, deleted_if, served_if, quit_says, name_or_nobody}
 use Rattle.office.specs.Laws.{MarksAreByView, marks_by_view, marks_by_act, marks_by_line, marks_unless_login, is_markable}
 use Rattle.office.proofs.Laws.{live_side, no_some}
 
@@ -61,43 +61,35 @@ dele_marks j (Some m) true n policy name ms = refl
 dele_marks JudgedAtQuit (Some m) false n policy name ms = refl
 dele_marks JudgedAtDele (Some m) false n policy name ms = decided (removal policy name m.class).allowed (removal policy name m.class).rule n ms
 
-by_command : (B : Records) (G : List Entry) (c : ℕ) (command : Command) → live G c ≡ true
-    → marks_after_line (Says (when_permitted (is_permitted G c (keyword_of command)) (obeyed B G c command))) (marks G c) ≡ marks_by_line B G c (Ok command) (marks G c)
-by_command B G c Capa l = refl
-by_command B G c (User name) l = rw l refl
-by_command B G c (Pass password) l = rw l refl
-by_command B G c (Apop name digest) l = rw l refl
-by_command B G c Quit l = rw l (quit_keeps (denying class_of (in_force B G) (name_or_nobody (login G c)) (marks G c) (view B G c)) (marks G c))
-by_command B G c Stat l = rw l refl
-by_command B G c ListAll l = rw l refl
-by_command B G c (ListOne n) l = rw l (picked_keeps (at_number (view B G c) n) (is_marked (marks G c) n) n (λ m. ScanLine n (octets_of m)) (marks G c) (λ m. refl))
-by_command B G c UidlAll l = rw l refl
-by_command B G c (UidlOne n) l = rw l (picked_keeps (at_number (view B G c) n) (is_marked (marks G c) n) n (λ m. UidLine n (uid_of m)) (marks G c) (λ m. refl))
-by_command B G c (Retr n) l = rw l (served_keeps B G c n (λ (m : Message). MessageReply (octets_of m) (stuffed_lines (lines_of m.text))) (λ m. refl))
-by_command B G c (Top n k) l = rw l (served_keeps B G c n (λ (m : Message). TopPart (stuffed_lines (top_part (lines_of m.text) k))) (λ m. refl))
-by_command B G c (Dele n) l = rw l (dele_marks (judging G) (at_number (view B G c) n) (is_marked (marks G c) n) n (in_force B G) (name_or_nobody (login G c)) (marks G c))
-by_command B G c Rset l = rw l refl
-by_command B G c Noop l = rw l refl
+by_command : (B : Records) (G : List Entry) (c : ℕ) (command : Command)
+    → marks_after_line (Says (reply_to_reading (InTransaction (in_force B G) (transaction_at B G c)) (Ok command) Done)) (marks G c) ≡ marks_by_line B G c (Ok command) (marks G c)
+by_command B G c Quit = quit_keeps (denying class_of (in_force B G) (name_or_nobody (login G c)) (marks G c) (view B G c)) (marks G c)
+by_command B G c (ListOne n) = picked_keeps (at_number (view B G c) n) (is_marked (marks G c) n) n (λ m. ScanLine n (octets_of m)) (marks G c) (λ m. refl)
+by_command B G c (UidlOne n) = picked_keeps (at_number (view B G c) n) (is_marked (marks G c) n) n (λ m. UidLine n (uid_of m)) (marks G c) (λ m. refl)
+by_command B G c (Retr n) = served_keeps B G c n (λ (m : Message). MessageReply (octets_of m) (stuffed_lines (lines_of m.text))) (λ m. refl)
+by_command B G c (Top n k) = served_keeps B G c n (λ (m : Message). TopPart (stuffed_lines (top_part (lines_of m.text) k))) (λ m. refl)
+by_command B G c (Dele n) = dele_marks (judging G) (at_number (view B G c) n) (is_marked (marks G c) n) n (in_force B G) (name_or_nobody (login G c)) (marks G c)
+by_command B G c _ = refl
 
 syntax_keeps : (b : Bool) (ms : List ℕ) → marks_after_line (Says (when_permitted b BadArguments)) ms ≡ ms
 syntax_keeps true ms = refl
 syntax_keeps false ms = refl
 
-by_reading : (B : Records) (G : List Entry) (c : ℕ) (r : Result Command LineFault) → live G c ≡ true
-    → marks_after_line (Says (reply_to_reading B G c r Done)) (marks G c) ≡ marks_by_line B G c r (marks G c)
-by_reading B G c (Ok command) l = by_command B G c command l
-by_reading B G c (Err Unknown) l = refl
-by_reading B G c (Err (Syntax k)) l = syntax_keeps (is_permitted G c k) (marks G c)
+by_reading : (B : Records) (G : List Entry) (c : ℕ) (r : Result Command LineFault)
+    → marks_after_line (Says (reply_to_reading (InTransaction (in_force B G) (transaction_at B G c)) r Done)) (marks G c) ≡ marks_by_line B G c r (marks G c)
+by_reading B G c (Ok command) = by_command B G c command
+by_reading B G c (Err Unknown) = refl
+by_reading B G c (Err (Syntax k)) = syntax_keeps (is_allowed k true false) (marks G c)
 
 refusal_keeps : (b : Bool) (k : Keyword) (ms : List ℕ) → marks_after_line (Says (when_permitted b (refusal k))) ms ≡ ms
 refusal_keeps true keyword.Quit ms = refl
 refusal_keeps true _ ms = refl
 refusal_keeps false k ms = refl
 
-failed_keeps : (B : Records) (G : List Entry) (c : ℕ) (r : Result Command LineFault) (ms : List ℕ) → marks_after_line (Says (reply_to_reading B G c r Failed)) ms ≡ ms
-failed_keeps B G c (Ok command) ms = refusal_keeps (is_permitted G c (keyword_of command)) (keyword_of command) ms
-failed_keeps B G c (Err Unknown) ms = refl
-failed_keeps B G c (Err (Syntax k)) ms = syntax_keeps (is_permitted G c k) ms
+failed_keeps : (s : LineState) (r : Result Command LineFault) (ms : List ℕ) → marks_after_line (Says (reply_to_reading s r Failed)) ms ≡ ms
+failed_keeps s (Ok command) ms = refusal_keeps (is_permitted s (keyword_of command)) (keyword_of command) ms
+failed_keeps s (Err Unknown) ms = refl
+failed_keeps s (Err (Syntax k)) ms = syntax_keeps (is_permitted s k) ms
 
 same_if : (b : Bool) (xs ys : List ℕ) (zs : List ℕ) → (b ≡ true → xs ≡ ys) → cond b xs zs ≡ cond b ys zs
 same_if true xs ys zs h = h refl
@@ -109,11 +101,11 @@ kept_if false xs zs h = refl
 
 by_cut : (B : Records) (G : List Entry) (c : ℕ) (x : Cut) → live G c ≡ true → marks_after_line (said_to_line B G c x Done) (marks G c) ≡ marks_by_line B G c (reading x) (marks G c)
 by_cut B G c TooLong l = refl
-by_cut B G c (cutting.Line octets) l = by_reading B G c (command_of octets) l
+by_cut B G c (cutting.Line octets) l = rw l (by_reading B G c (command_of octets))
 
 failed_cut : (B : Records) (G : List Entry) (n : ℕ) (x : Cut) (ms : List ℕ) → marks_after_line (said_to_line B G n x Failed) ms ≡ ms
 failed_cut B G n TooLong ms = refl
-failed_cut B G n (cutting.Line octets) ms = failed_keeps B G n (command_of octets) ms
+failed_cut B G n (cutting.Line octets) ms = failed_keeps (state_at B G n) (command_of octets) ms
 
 by_act : (B : Records) (G : List Entry) (c : ℕ) (a : Act) (t : Tag) → live G c ≡ true
     → marks_after a (said_to B G a t) c (marks G c) ≡ marks_by_act B G c a t (marks G c)

@@ -14,7 +14,8 @@ use Rattle.session.specs.Session as head
 use Rattle.session.specs.View.{unmarked, sizes_of, uids_of}
 use Rattle.office.specs.Connections.{reading}
 use Rattle.office.specs.LongLine.{is_too_long}
-use Rattle.office.specs.Kept.{LineContext, authorization_said, authorization_line}
+use Rattle.office.specs.History.{Tag}
+use Rattle.office.specs.Replying.{LineState, reply_to_reading, reply_to}
 use Rattle.office.specs.Output.{Output, OwesReply}
 use Rattle.office.specs.Transaction.{LiesIn, GoesOn, IsAnswered, session_left, transaction_answered, transaction_reply, held_after_line, transaction_of, Transaction}
 use Rattle.office.specs.declared.login_state.LineOutcome.{LineOutcome}
@@ -66,12 +67,6 @@ pub is_the_long : (x : Cut) → is_too_long x ≡ true → x ≡ TooLong
 is_the_long TooLong e = refl
 is_the_long (cutting.Line l) e = absurd (true≢false (sym e))
 
-pub answered_alike : (w : LineOutcome) (p : Policy) (v : Transaction) (x : Cut) → is_too_long x ≡ false → transaction_answered w p v (reading x) ≡ transaction_reply w p v x
-answered_alike outcome.Done p v (cutting.Line l) e = refl
-answered_alike outcome.Done p v TooLong e = absurd (true≢false e)
-answered_alike outcome.Failed p v x e = refl
-
--- before a login
-pub said_alike : (d : LineContext) (t : LoginState) (x : Cut) → is_too_long x ≡ false → authorization_said d t (reading x) ≡ authorization_line d t x
-said_alike d t (cutting.Line l) e = refl
-said_alike d t TooLong e = absurd (true≢false e)
+pub reads_so : (s : LineState) (x : Cut) (t : Tag) → is_too_long x ≡ false → reply_to_reading s (reading x) t ≡ reply_to s x t
+reads_so s (cutting.Line l) t e = refl
+reads_so s TooLong t e = absurd (true≢false e)

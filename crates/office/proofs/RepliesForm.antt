@@ -36,7 +36,7 @@ use Rattle.session.specs.declared.removals.Removals.{Removals}
 use Rattle.office.specs.History.{Entry, Act, Open, Line, Gone, Idle, Deposit, Administer, Restart, Tag, Done, Failed, NoMemory, in_force, credential, exists}
 use Rattle.office.specs.Connections.{setting, judging, user, failures, serving, closing}
 use Rattle.office.specs.Sessions.{present, view, marks, login, live, holder}
-use Rattle.office.specs.Replying.{stamp, login_failed, maildrop_has, opening, logging_in, deleted_if, served_if, quit_says, session_says, is_permitted, when_permitted, refusal, name_or_nobody, bye_unless, obeyed, reply_to_reading, reply_to_cut, said_to_line}
+use Rattle.office.specs.Replying.{Transaction, LineState, InAuthorization, InTransaction, transaction_at, state_at, stamp, login_failed, maildrop_has, opening, logging_in, deleted_if, served_if, quit_says, authorization_says, session_says, is_permitted, when_permitted, refusal, name_or_nobody, obeyed, reply_to_command, reply_to_reading, reply_to, reply_to_cut, said_to_line}
 use Rattle.office.specs.Told.{told, said_to, answers_if_done, deposited, administered}
 use Rattle.office.specs.Answers.{Answer}
 use Rattle.office.specs.Events.{Event, Mark, Ignored, Tagged, Log, Trace}
@@ -176,32 +176,65 @@ denied_short : (policy : Policy) (name : LoginName) (o : Option (ℕ × Message)
 denied_short policy name None h = tt
 denied_short policy name (Some row) h = short_rule policy name.clerk name.maildrop row.1.class to.Remove h
 
-sized_session : (policy : Policy) (judged : Removals) (name : LoginName) (marks : List ℕ) (view : List Message) (command : Command) → is_sound_policy policy ≡ true → IsSmallView view
-    → IsSized (session_says policy judged name marks view command)
-sized_session policy judged name marks view Stat p s = unmarked_small marks view s
-sized_session policy judged name marks view ListAll p s = tt
-sized_session policy judged name marks view (ListOne n) p s = sized_referred (at_number view n) (is_marked marks n) n (λ m. ScanLine n (octets_of m))
-    (λ m e. let f = found_small view n m s e in (f.number, (f.number, f.octets)))
-sized_session policy judged name marks view UidlAll p s = tt
-sized_session policy judged name marks view (UidlOne n) p s = sized_referred (at_number view n) (is_marked marks n) n (λ m. UidLine n (uid_of m))
-    (λ m e. let f = found_small view n m s e in (f.number, (f.number, f.k, f.class)))
-sized_session policy judged name marks view (Retr n) p s =
-    sized_referred (at_number view n) (is_marked marks n) n (λ (m : Message). served_if (retrieval policy name m.class) (MessageReply (octets_of m) (stuffed_lines (lines_of m.text))))
-    (λ m e. let f = found_small view n m s e in
-    (f.number, sized_served (retrieval policy name m.class) (MessageReply (octets_of m) (stuffed_lines (lines_of m.text))) f.octets (short_rule policy name.clerk name.maildrop m.class to.Read p)))
-sized_session policy judged name marks view (Top n k) p s =
-    sized_referred (at_number view n) (is_marked marks n) n (λ (m : Message). served_if (retrieval policy name m.class) (TopPart (stuffed_lines (top_part (lines_of m.text) k))))
-    (λ m e. let f = found_small view n m s e in
-    (f.number, sized_served (retrieval policy name m.class) (TopPart (stuffed_lines (top_part (lines_of m.text) k))) tt (short_rule policy name.clerk name.maildrop m.class to.Read p)))
-sized_session policy judged name marks view (Dele n) p s =
-    sized_referred (at_number view n) (is_marked marks n) n (λ (m : Message). deleted_if judged (removal policy name m.class) n)
-    (λ m e. let f = found_small view n m s e in
-    (f.number, sized_deleted judged (removal policy name m.class) n f.number (short_rule policy name.clerk name.maildrop m.class to.Remove p)))
-sized_session policy judged name marks view Rset p s = sized_has view s
-sized_session policy judged name marks view Noop p s = tt
-sized_session policy judged name marks view Quit p s =
-    denied_short policy name (find (λ (row : ℕ × Message). not (may_remove policy name (class_of row.1))) (marked marks view)) p
-sized_session policy judged name marks view _ p s = tt
+sized_session : (p : Policy) (v : Transaction) (command : Command) → is_sound_policy p ≡ true → IsSmallView v.view → IsSized (session_says p v command)
+sized_session p v Stat sound s = unmarked_small v.marks v.view s
+sized_session p v (ListOne n) sound s = sized_referred (at_number v.view n) (is_marked v.marks n) n (λ m. ScanLine n (octets_of m))
+    (λ m e. let f = found_small v.view n m s e in (f.number, (f.number, f.octets)))
+sized_session p v (UidlOne n) sound s = sized_referred (at_number v.view n) (is_marked v.marks n) n (λ m. UidLine n (uid_of m))
+    (λ m e. let f = found_small v.view n m s e in (f.number, (f.number, f.k, f.class)))
+sized_session p v (Retr n) sound s =
+    sized_referred (at_number v.view n) (is_marked v.marks n) n (λ (m : Message). served_if (retrieval p v.name m.class) (MessageReply (octets_of m) (stuffed_lines (lines_of m.text))))
+    (λ m e. let f = found_small v.view n m s e in
+    (f.number, sized_served (retrieval p v.name m.class) (MessageReply (octets_of m) (stuffed_lines (lines_of m.text))) f.octets (short_rule p v.name.clerk v.name.maildrop m.class to.Read sound)))
+sized_session p v (Top n k) sound s =
+    sized_referred (at_number v.view n) (is_marked v.marks n) n (λ (m : Message). served_if (retrieval p v.name m.class) (TopPart (stuffed_lines (top_part (lines_of m.text) k))))
+    (λ m e. let f = found_small v.view n m s e in
+    (f.number, sized_served (retrieval p v.name m.class) (TopPart (stuffed_lines (top_part (lines_of m.text) k))) tt (short_rule p v.name.clerk v.name.maildrop m.class to.Read sound)))
+sized_session p v (Dele n) sound s =
+    sized_referred (at_number v.view n) (is_marked v.marks n) n (λ (m : Message). deleted_if v.removals (removal p v.name m.class) n)
+    (λ m e. let f = found_small v.view n m s e in
+    (f.number, sized_deleted v.removals (removal p v.name m.class) n f.number (short_rule p v.name.clerk v.name.maildrop m.class to.Remove sound)))
+sized_session p v Rset sound s = sized_has v.view s
+sized_session p v Quit sound s =
+    denied_short p v.name (find (λ (row : ℕ × Message). not (may_remove p v.name (class_of row.1))) (marked v.marks v.view)) sound
+sized_session p v _ sound s = tt
+
+-- what a state keeps within bounds
+abbrev IsBoundedState : LineState → Type 0
+IsBoundedState (InAuthorization user login) = (name : LoginName) (proof : Shown) → IsSized (login name proof)
+IsBoundedState (InTransaction p v) = (is_sound_policy p ≡ true) × IsSmallView v.view
+
+sized_authorization : (user : Option LoginName) (login : LoginName → Shown → Reply) → ((name : LoginName) (proof : Shown) → IsSized (login name proof)) → (command : Command)
+    → IsSized (authorization_says user login command)
+sized_authorization user login h (Pass password) = h (name_or_nobody user) (ByPass password)
+sized_authorization user login h (Apop name digest) = h name (ByApop digest)
+sized_authorization user login h _ = tt
+
+sized_obeyed : (s : LineState) (command : Command) → IsBoundedState s → IsSized (obeyed s command)
+sized_obeyed (InAuthorization user login) command b = sized_authorization user login b command
+sized_obeyed (InTransaction p v) command b = sized_session p v command b.0 b.1
+
+sized_permitted : (b : Bool) (r : Reply) → IsSized r → IsSized (when_permitted b r)
+sized_permitted true r h = h
+sized_permitted false r h = tt
+
+sized_refusal : (k : Keyword) → IsSized (refusal k)
+sized_refusal keyword.Quit = tt
+sized_refusal _ = tt
+
+sized_command : (s : LineState) (command : Command) (t : Tag) → IsBoundedState s → IsSized (reply_to_command s command t)
+sized_command s command Failed b = sized_refusal (keyword_of command)
+sized_command s command Done b = sized_obeyed s command b
+sized_command s command NoMemory b = sized_obeyed s command b
+
+sized_reading : (s : LineState) (r : Result Command LineFault) (t : Tag) → IsBoundedState s → IsSized (reply_to_reading s r t)
+sized_reading s (Err Unknown) t b = tt
+sized_reading s (Err (Syntax k)) t b = sized_permitted (is_permitted s k) _ tt
+sized_reading s (Ok command) t b = sized_permitted (is_permitted s (keyword_of command)) (reply_to_command s command t) (sized_command s command t b)
+
+sized_reply : (s : LineState) (x : Cut) (t : Tag) → IsBoundedState s → IsSized (reply_to s x t)
+sized_reply s TooLong t b = tt
+sized_reply s (cutting.Line l) t b = sized_reading s (command_of l) t b
 
 -- what a front keeps within bounds
 record IsBounded (B : Records) (G : List Entry) : Type 0 where
@@ -217,45 +250,15 @@ sized_login B G c name proof b =
     (sized_if (not (exists B G name.maildrop)) _ _ tt
     (sized_if (is_some (holder G name.maildrop)) _ _ tt (sized_has (visible class_of (in_force B G) name (present B G name.maildrop)) (b.found name)))))
 
-sized_command : (B : Records) (G : List Entry) (c : ℕ) (command : Command) → IsBounded B G → IsSized (obeyed B G c command)
-sized_command B G c Capa b = tt
-sized_command B G c (User name) b = tt
-sized_command B G c (Pass password) b = sized_login B G c (name_or_nobody (user G c)) (ByPass password) b
-sized_command B G c (Apop name digest) b = sized_login B G c name (ByApop digest) b
-sized_command B G c Quit b = at (live G c)
+bounded_state : (B : Records) (G : List Entry) (c : ℕ) → IsBounded B G → IsBoundedState (state_at B G c)
+bounded_state B G c b = at (live G c)
   where
-    at : (l : Bool) → IsSized (bye_unless l (session_says (in_force B G) (judging G) (name_or_nobody (login G c)) (marks G c) (view B G c) Quit))
-    at true = sized_session (in_force B G) (judging G) (name_or_nobody (login G c)) (marks G c) (view B G c) Quit b.policy (b.views c)
-    at false = tt
-sized_command B G c Stat b = sized_session (in_force B G) (judging G) (name_or_nobody (login G c)) (marks G c) (view B G c) Stat b.policy (b.views c)
-sized_command B G c ListAll b = tt
-sized_command B G c (ListOne n) b = sized_session (in_force B G) (judging G) (name_or_nobody (login G c)) (marks G c) (view B G c) (ListOne n) b.policy (b.views c)
-sized_command B G c UidlAll b = tt
-sized_command B G c (UidlOne n) b = sized_session (in_force B G) (judging G) (name_or_nobody (login G c)) (marks G c) (view B G c) (UidlOne n) b.policy (b.views c)
-sized_command B G c (Top n k) b = sized_session (in_force B G) (judging G) (name_or_nobody (login G c)) (marks G c) (view B G c) (Top n k) b.policy (b.views c)
-sized_command B G c (Retr n) b = sized_session (in_force B G) (judging G) (name_or_nobody (login G c)) (marks G c) (view B G c) (Retr n) b.policy (b.views c)
-sized_command B G c (Dele n) b = sized_session (in_force B G) (judging G) (name_or_nobody (login G c)) (marks G c) (view B G c) (Dele n) b.policy (b.views c)
-sized_command B G c Rset b = sized_session (in_force B G) (judging G) (name_or_nobody (login G c)) (marks G c) (view B G c) Rset b.policy (b.views c)
-sized_command B G c Noop b = tt
-
-sized_permitted : (b : Bool) (r : Reply) → IsSized r → IsSized (when_permitted b r)
-sized_permitted true r h = h
-sized_permitted false r h = tt
-
-sized_refusal : (k : Keyword) → IsSized (refusal k)
-sized_refusal keyword.Quit = tt
-sized_refusal _ = tt
-
-sized_reading : (B : Records) (G : List Entry) (c : ℕ) (r : Result Command LineFault) (t : Tag) → IsBounded B G → IsSized (reply_to_reading B G c r t)
-sized_reading B G c (Err Unknown) t b = tt
-sized_reading B G c (Err (Syntax k)) t b = sized_permitted (is_permitted G c k) _ tt
-sized_reading B G c (Ok command) Done b = sized_permitted (is_permitted G c (keyword_of command)) (obeyed B G c command) (sized_command B G c command b)
-sized_reading B G c (Ok command) Failed b = sized_permitted (is_permitted G c (keyword_of command)) (refusal (keyword_of command)) (sized_refusal (keyword_of command))
-sized_reading B G c (Ok command) NoMemory b = sized_permitted (is_permitted G c (keyword_of command)) (obeyed B G c command) (sized_command B G c command b)
+    at : (l : Bool) → IsBoundedState (if l then InTransaction (in_force B G) (transaction_at B G c) else InAuthorization (user G c) (logging_in B G c))
+    at true = (b.policy, b.views c)
+    at false = λ name proof. sized_login B G c name proof b
 
 sized_cut : (B : Records) (G : List Entry) (c : ℕ) (x : Cut) (t : Tag) → IsBounded B G → IsSized (reply_to_cut B G c x t)
-sized_cut B G c TooLong t b = tt
-sized_cut B G c (cutting.Line l) t b = sized_reading B G c (command_of l) t b
+sized_cut B G c x t b = sized_reply (state_at B G c) x t (bounded_state B G c b)
 
 -- ---- what is said
 

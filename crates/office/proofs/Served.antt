@@ -23,7 +23,8 @@ use Rattle.office.specs.Sessions.{live, login, login_after, login_by, ends_sessi
 use Rattle.office.specs.Connections.{judging, user, opens, failures, has_message}
 use Rattle.office.specs.Told.{told, said_to, answers_if_done, deposited, administered}
 use Rattle.office.specs.Answers.{Answer}
-use Rattle.office.specs.Replying.{said_to_line, reply_to_reading, is_permitted, when_permitted, obeyed, refusal, deleted_if, served_if, quit_says, bye_unless, name_or_nobody, logging_in, login_failed, opening, stamp, maildrop_has}
+use Rattle.policy.specs.Policy.{Policy}
+use Rattle.office.specs.Replying.{LineState, InAuthorization, InTransaction, transaction_at, state_at, authorization_says, session_says, said_to_line, reply_to_reading, is_allowed, is_permitted, when_permitted, obeyed, refusal, deleted_if, served_if, quit_says, name_or_nobody, logging_in, login_failed, opening, stamp, maildrop_has}
 use Rattle.office.specs.Served.{IsReplyWith, IsServed, IsServedTo, ServedIsAllowed}
 use Rattle.office.proofs.Laws.{live_side, no_opening}
 
@@ -76,10 +77,15 @@ refusal_is_plain : (k : Keyword) → Plain (refusal k)
 refusal_is_plain keyword.Quit = refl
 refusal_is_plain _ = refl
 
-quit_is_plain : (b : Bool) (o : Option (List ℕ)) → Plain (bye_unless b (quit_says o))
-quit_is_plain false o = refl
-quit_is_plain true None = refl
-quit_is_plain true (Some rule) = refl
+quit_is_plain : (o : Option (List ℕ)) → Plain (quit_says o)
+quit_is_plain None = refl
+quit_is_plain (Some rule) = refl
+
+authorization_is_plain : (user : Option LoginName) (login : LoginName → Shown → Reply) → ((name : LoginName) (proof : Shown) → Plain (login name proof)) → (command : Command)
+    → Plain (authorization_says user login command)
+authorization_is_plain user login h (Pass password) = h (name_or_nobody user) (ByPass password)
+authorization_is_plain user login h (Apop name digest) = h name (ByApop digest)
+authorization_is_plain user login h _ = refl
 
 permitted_is_plain : (b : Bool) (reply : Reply) → Plain reply → Plain (when_permitted b reply)
 permitted_is_plain true reply h = h
@@ -119,26 +125,6 @@ picked_so B G c n r name reply session is (Some m) seen false marked h =
     let d = retrieval (in_force B G) name m.class in
     served_so B G c n r name m (reply m) session seen marked (is m) d refl d.allowed refl h
 
--- a command that may stand in a session alone
-in_session_so : (B : Records) (H : List (Act × Tag)) (c : ℕ) (r : Result Command LineFault) (reply : Reply)
-    → (in_session (told B H) c ≡ Some (name_or_nobody (login (told B H) c)) → has_message (Says reply) ≡ true → IsServed B (told B H) c r reply)
-    → (b : Bool) → live (told B H) c ≡ b
-    → has_message (Says (when_permitted b reply)) ≡ true → IsServed B (told B H) c r (when_permitted b reply)
-in_session_so B H c r reply f true e h = f (ap (λ b. when_live b (login (told B H) c)) e ∙ live_is_named B H c e) h
-in_session_so B H c r reply f false e h = not_plain WrongState refl h
-
-by_number : (B : Records) (H : List (Act × Tag)) (c n : ℕ) (r : Result Command LineFault) (reply : Message → Reply) → ((m : Message) → IsReplyWith r n m (reply m))
-    → has_message (Says (when_permitted (live (told B H) c) (referred (at_number (view B (told B H) c) n) (is_marked (marks (told B H) c) n) NoSuchMessage (AlreadyMarked n)
-    (λ (m : Message). served_if (retrieval (in_force B (told B H)) (name_or_nobody (login (told B H) c)) m.class) (reply m))))) ≡ true
-    → IsServed B (told B H) c r (when_permitted (live (told B H) c) (referred (at_number (view B (told B H) c) n) (is_marked (marks (told B H) c) n) NoSuchMessage (AlreadyMarked n)
-    (λ (m : Message). served_if (retrieval (in_force B (told B H)) (name_or_nobody (login (told B H) c)) m.class) (reply m))))
-by_number B H c n r reply is h =
-    let G = told B H in
-    let name = name_or_nobody (login G c) in
-    in_session_so B H c r (referred (at_number (view B G c) n) (is_marked (marks G c) n) NoSuchMessage (AlreadyMarked n) (λ (m : Message). served_if (retrieval (in_force B G) name m.class) (reply m)))
-    (λ session some. picked_so B G c n r name reply session is (at_number (view B G c) n) refl (is_marked (marks G c) n) refl some)
-    (live G c) refl h
-
 -- ---- a line
 
 -- a command whose reply has no message
@@ -146,52 +132,58 @@ plainly : (B : Records) (G : List Entry) (c : ℕ) (r : Result Command LineFault
     → has_message (Says (when_permitted b reply)) ≡ true → IsServed B G c r (when_permitted b reply)
 plainly B G c r b reply none h = not_plain (when_permitted b reply) (permitted_is_plain b reply none) h
 
-by_command : (B : Records) (H : List (Act × Tag)) (c : ℕ) (command : Command)
-    → has_message (Says (when_permitted (is_permitted (told B H) c (keyword_of command)) (obeyed B (told B H) c command))) ≡ true
-    → IsServed B (told B H) c (Ok command) (when_permitted (is_permitted (told B H) c (keyword_of command)) (obeyed B (told B H) c command))
-by_command B H c Capa h = not_plain Capabilities refl h
-by_command B H c (User name) h = plainly B (told B H) c (Ok (User name)) (is_permitted (told B H) c keyword.User) SendPass refl h
-by_command B H c (Pass password) h =
-    let G = told B H in let name = name_or_nobody (user G c) in
-    plainly B G c (Ok (Pass password)) (is_permitted G c keyword.Pass) (logging_in B G c name (ByPass password)) (entering_is_plain B G c name (ByPass password)) h
-by_command B H c (Apop name digest) h =
-    let G = told B H in
-    plainly B G c (Ok (Apop name digest)) (is_permitted G c keyword.Apop) (logging_in B G c name (ByApop digest)) (entering_is_plain B G c name (ByApop digest)) h
-by_command B H c Quit h =
-    let G = told B H in
-    let why = denying class_of (in_force B G) (name_or_nobody (login G c)) (marks G c) (view B G c) in
-    not_plain (bye_unless (live G c) (quit_says why)) (quit_is_plain (live G c) why) h
-by_command B H c Stat h = plainly B (told B H) c (Ok Stat) (live (told B H) c) (obeyed B (told B H) c Stat) refl h
-by_command B H c ListAll h = plainly B (told B H) c (Ok ListAll) (live (told B H) c) (obeyed B (told B H) c ListAll) refl h
-by_command B H c (ListOne n) h =
-    let G = told B H in
-    plainly B G c (Ok (ListOne n)) (live G c) (obeyed B G c (ListOne n)) (picked_is_plain (at_number (view B G c) n) (is_marked (marks G c) n) n (λ m. ScanLine n (octets_of m)) (λ m. refl)) h
-by_command B H c UidlAll h = plainly B (told B H) c (Ok UidlAll) (live (told B H) c) (obeyed B (told B H) c UidlAll) refl h
-by_command B H c (UidlOne n) h =
-    let G = told B H in
-    plainly B G c (Ok (UidlOne n)) (live G c) (obeyed B G c (UidlOne n)) (picked_is_plain (at_number (view B G c) n) (is_marked (marks G c) n) n (λ m. UidLine n (uid_of m)) (λ m. refl)) h
-by_command B H c (Retr n) h = by_number B H c n (Ok (Retr n)) (λ (m : Message). MessageReply (octets_of m) (stuffed_lines (lines_of m.text))) (λ m. (refl, refl)) h
-by_command B H c (Top n k) h = by_number B H c n (Ok (Top n k)) (λ (m : Message). TopPart (stuffed_lines (top_part (lines_of m.text) k))) (λ m. (refl, refl)) h
-by_command B H c (Dele n) h =
-    let G = told B H in
-    let name = name_or_nobody (login G c) in
-    plainly B G c (Ok (Dele n)) (live G c) (obeyed B G c (Dele n)) (picked_is_plain (at_number (view B G c) n) (is_marked (marks G c) n) n
-    (λ (m : Message). deleted_if (judging G) (removal (in_force B G) name m.class) n) (λ m. deleted_is_plain (judging G) (removal (in_force B G) name m.class) n)) h
-by_command B H c Rset h = plainly B (told B H) c (Ok Rset) (live (told B H) c) (obeyed B (told B H) c Rset) refl h
-by_command B H c Noop h = plainly B (told B H) c (Ok Noop) (live (told B H) c) (obeyed B (told B H) c Noop) refl h
+-- a session's command
+module _ (B : Records) (G : List Entry) (c : ℕ) (session : in_session G c ≡ Some (name_or_nobody (login G c))) where
+  abbrev policy : Policy
+  policy = in_force B G
 
-by_reading : (B : Records) (H : List (Act × Tag)) (c : ℕ) (r : Result Command LineFault)
-    → has_message (Says (reply_to_reading B (told B H) c r Done)) ≡ true → IsServed B (told B H) c r (reply_to_reading B (told B H) c r Done)
-by_reading B H c (Ok command) h = by_command B H c command h
-by_reading B H c (Err Unknown) h = not_plain UnknownCommand refl h
-by_reading B H c (Err (Syntax k)) h = plainly B (told B H) c (Err (Syntax k)) (is_permitted (told B H) c k) BadArguments refl h
+  abbrev who : LoginName
+  who = name_or_nobody (login G c)
 
--- where the store refused
-by_refusal : (B : Records) (H : List (Act × Tag)) (c : ℕ) (r : Result Command LineFault)
-    → has_message (Says (reply_to_reading B (told B H) c r Failed)) ≡ true → IsServed B (told B H) c r (reply_to_reading B (told B H) c r Failed)
-by_refusal B H c (Ok command) h = plainly B (told B H) c (Ok command) (is_permitted (told B H) c (keyword_of command)) (refusal (keyword_of command)) (refusal_is_plain (keyword_of command)) h
-by_refusal B H c (Err Unknown) h = not_plain UnknownCommand refl h
-by_refusal B H c (Err (Syntax k)) h = plainly B (told B H) c (Err (Syntax k)) (is_permitted (told B H) c k) BadArguments refl h
+  abbrev Serves : Command → Type 0
+  Serves command = has_message (Says (when_permitted (is_allowed (keyword_of command) true false) (session_says policy (transaction_at B G c) command))) ≡ true
+      → IsServed B G c (Ok command) (when_permitted (is_allowed (keyword_of command) true false) (session_says policy (transaction_at B G c) command))
+
+  picked : (n : ℕ) (r : Result Command LineFault) (reply : Message → Reply) → ((m : Message) → IsReplyWith r n m (reply m))
+      → has_message (Says (referred (at_number (view B G c) n) (is_marked (marks G c) n) NoSuchMessage (AlreadyMarked n) (λ (m : Message). served_if (retrieval policy who m.class) (reply m)))) ≡ true
+      → IsServed B G c r (referred (at_number (view B G c) n) (is_marked (marks G c) n) NoSuchMessage (AlreadyMarked n) (λ (m : Message). served_if (retrieval policy who m.class) (reply m)))
+  picked n r reply is h = picked_so B G c n r who reply session is (at_number (view B G c) n) refl (is_marked (marks G c) n) refl h
+
+  none_picked : (command : Command) (n : ℕ) (reply : Message → Reply) → ((m : Message) → Plain (reply m))
+      → has_message (Says (referred (at_number (view B G c) n) (is_marked (marks G c) n) NoSuchMessage (AlreadyMarked n) reply)) ≡ true
+      → IsServed B G c (Ok command) (referred (at_number (view B G c) n) (is_marked (marks G c) n) NoSuchMessage (AlreadyMarked n) reply)
+  none_picked command n reply none h = not_plain _ (picked_is_plain (at_number (view B G c) n) (is_marked (marks G c) n) n reply none) h
+
+  by_command : (command : Command) → Serves command
+  by_command (Retr n) h = picked n (Ok (Retr n)) (λ (m : Message). MessageReply (octets_of m) (stuffed_lines (lines_of m.text))) (λ m. (refl, refl)) h
+  by_command (Top n k) h = picked n (Ok (Top n k)) (λ (m : Message). TopPart (stuffed_lines (top_part (lines_of m.text) k))) (λ m. (refl, refl)) h
+  by_command (ListOne n) h = none_picked (ListOne n) n (λ m. ScanLine n (octets_of m)) (λ m. refl) h
+  by_command (UidlOne n) h = none_picked (UidlOne n) n (λ m. UidLine n (uid_of m)) (λ m. refl) h
+  by_command (Dele n) h = none_picked (Dele n) n (λ (m : Message). deleted_if (judging G) (removal policy who m.class) n) (λ m. deleted_is_plain (judging G) (removal policy who m.class) n) h
+  by_command Quit h = not_plain _ (quit_is_plain (denying class_of policy who (marks G c) (view B G c))) h
+  by_command _ h = absurd (true≢false (sym h))
+
+module _ (B : Records) (H : List (Act × Tag)) (c : ℕ) where
+  abbrev G : List Entry
+  G = told B H
+
+  in_state : (command : Command) (b : Bool) → live G c ≡ b → (s : LineState) → s ≡ (if b then InTransaction (in_force B G) (transaction_at B G c) else InAuthorization (user G c) (logging_in B G c))
+      → has_message (Says (when_permitted (is_permitted s (keyword_of command)) (obeyed s command))) ≡ true
+      → IsServed B G c (Ok command) (when_permitted (is_permitted s (keyword_of command)) (obeyed s command))
+  in_state command true e s is = rw is (by_command B G c (ap (λ b. when_live b (login G c)) e ∙ live_is_named B H c e) command)
+  in_state command false e s is = rw is (plainly B G c (Ok command) (is_allowed (keyword_of command) false (is_some (user G c))) (authorization_says (user G c) (logging_in B G c) command)
+      (authorization_is_plain (user G c) (logging_in B G c) (entering_is_plain B G c) command))
+
+  by_reading : (r : Result Command LineFault) → has_message (Says (reply_to_reading (state_at B G c) r Done)) ≡ true → IsServed B G c r (reply_to_reading (state_at B G c) r Done)
+  by_reading (Ok command) h = in_state command (live G c) refl (state_at B G c) refl h
+  by_reading (Err Unknown) h = not_plain UnknownCommand refl h
+  by_reading (Err (Syntax k)) h = plainly B G c (Err (Syntax k)) (is_permitted (state_at B G c) k) BadArguments refl h
+
+  -- where the store refused
+  by_refusal : (r : Result Command LineFault) → has_message (Says (reply_to_reading (state_at B G c) r Failed)) ≡ true → IsServed B G c r (reply_to_reading (state_at B G c) r Failed)
+  by_refusal (Ok command) h = plainly B G c (Ok command) (is_permitted (state_at B G c) (keyword_of command)) (refusal (keyword_of command)) (refusal_is_plain (keyword_of command)) h
+  by_refusal (Err Unknown) h = not_plain UnknownCommand refl h
+  by_refusal (Err (Syntax k)) h = plainly B G c (Err (Syntax k)) (is_permitted (state_at B G c) k) BadArguments refl h
 
 by_line : (B : Records) (H : List (Act × Tag)) (c : ℕ) (x : Cut) (t : Tag) → IsServedTo B (told B H) (Line c x) (said_to_line B (told B H) c x t)
 by_line B H c x NoMemory = refl

@@ -1,6 +1,6 @@
 -- A command that is told a reply at once leaves the store as it is.
 use Rattle.std.proofs.Common.{◌≡◌, true, Ok, refl}
-use Rattle.popline.specs.Commands.{Command, Capa, User, Pass, Apop, Quit, Stat, ListAll, ListOne, UidlAll, UidlOne, Retr, Top, Dele, Rset, Noop}
+use Rattle.popline.specs.Commands.{Command, Quit}
 use Rattle.policy.specs.Policy.{Policy}
 use Rattle.vault.specs.Changes.{Contents}
 use Rattle.session.specs.Session.{Session}
@@ -11,20 +11,7 @@ use Rattle.office.specs.declared.login_state.LineOutcome.TheVariants as outcome
 
 pub stays_held : (p : Policy) (s : Session) (c : Contents) (command : Command) → is_told command ≡ true → held_after_line outcome.Done p s (Ok command) c ≡ c
 stays_held p s c Quit e = cc
-stays_held p s c Capa e = refl
-stays_held p s c (User name) e = refl
-stays_held p s c (Pass password) e = refl
-stays_held p s c (Apop name digest) e = refl
-stays_held p s c Stat e = refl
-stays_held p s c ListAll e = refl
-stays_held p s c (ListOne n) e = refl
-stays_held p s c UidlAll e = refl
-stays_held p s c (UidlOne n) e = refl
-stays_held p s c (Retr n) e = refl
-stays_held p s c (Top n k) e = refl
-stays_held p s c (Dele n) e = refl
-stays_held p s c Rset e = refl
-stays_held p s c Noop e = refl
+stays_held p s c _ e = refl
 
 -- it is no QUIT
 pub told_not_quit : (command : Command) → is_told command ≡ true → is_quit (Ok command) ≡ true → ⊥

@@ -13,18 +13,18 @@ use Rattle.popline.specs.declared.command.LineFault.{LineFault}
 use Rattle.vault.specs.Changes.{Contents, records_of, heads}
 use Rattle.popline.specs.Cutting.{Cut}
 use Rattle.vault.specs.declared.record.Keyed.{Keyed}
-use Rattle.popline.specs.Replies.{Reply, StoreFailed}
+use Rattle.popline.specs.Replies.{Reply}
 use Rattle.session.specs.Session.{Session, started}
 use Rattle.session.specs.declared.removals.Removals.{Removals}
-use Rattle.office.specs.History as history
-use Rattle.office.specs.History.{Tag, Says}
+use Rattle.office.specs.History.{Says}
 use Rattle.office.specs.Outcomes as outcomes
 use Rattle.office.specs.Outcomes.{Outcome}
 use Rattle.office.specs.Connections.{reading, is_quit}
 use Rattle.office.specs.Sessions.{logs_in}
-use Rattle.office.specs.Transaction.{Transaction, transaction_of, LiesIn, GoesOn, transaction_reply}
-use Rattle.office.specs.Transaction.{held_after_line}
-use Rattle.office.specs.Kept.{LineContext as Judged, authorization_line}
+use Rattle.office.specs.Replying.{reply_to}
+use Rattle.office.specs.Transaction.{Transaction, transaction_of, LiesIn, GoesOn, held_after_line}
+pub use Rattle.office.specs.Transaction.{tag_of}
+use Rattle.office.specs.Kept.{LineContext as Judged, state_of}
 use Rattle.office.specs.declared.login_state.LoginState.{LoginState}
 use Rattle.office.specs.declared.login_state.LineContext.{LineContext}
 use Rattle.office.specs.declared.login_state.LineOutcome.{LineOutcome}
@@ -58,16 +58,9 @@ HasTransaction c _ _ = ⊥
 
 -- ---- the reply
 
--- the reply to a line: its answer, or that the store failed
+-- the reply to a line, where the store fails or not
 abbrev pub reply_of : LineOutcome → Judged → LoginState → Option Transaction → Cut → Reply
-reply_of w d t (Some v) x = transaction_reply w d.policy v x
-reply_of outcome.Done d t None x = authorization_line d t x
-reply_of outcome.Failed d t None x = StoreFailed
-
--- the tag of the event in which a line acted
-abbrev pub tag_of : LineOutcome → Tag
-tag_of outcome.Done = history.Done
-tag_of outcome.Failed = history.Failed
+reply_of w d t v x = reply_to (state_of d t v) x (tag_of w)
 
 -- the outcome of that event
 abbrev pub shown_of : LineOutcome → Outcome

@@ -1,26 +1,24 @@
 -- What an office keeps of a connection, and what it keeps after the next line.
 use Rattle.std.specs.Prelude.{ℕ, Bool, true, false, ◌||◌, ◌+◌, nat_lt, List, [], drop, Option, Some}
-use Rattle.std.specs.Prelude.{None, Result, Ok, Err, is_some, if◌then◌else◌}
+use Rattle.std.specs.Prelude.{None, Result, if◌then◌else◌, is_some}
 use Rattle.creds.specs.declared.login_name.LoginName.{LoginName}
-use Rattle.creds.specs.Credential.{Shown, ByApop, ByPass, is_admitted}
-use Rattle.popline.specs.Cutting.{Cut, TooLong, cut_of, Held, fed, through_newline, has_newline}
-use Rattle.popline.specs.Cutting as cutting
-use Rattle.popline.specs.Commands.{Command, Capa, User, Pass, Apop, Quit, command_of, keyword_of}
+use Rattle.creds.specs.Credential.{Shown, is_admitted}
+use Rattle.popline.specs.Cutting.{Cut, cut_of, Held, fed, through_newline, has_newline}
+use Rattle.popline.specs.Commands.{Command}
 use Rattle.popline.specs.declared.command.LineFault.{LineFault}
-use Rattle.popline.specs.declared.command.LineFault.TheVariants.{Unknown, Syntax}
-use Rattle.popline.specs.Replies.{Reply, LineTooLong, UnknownCommand, WrongState, BadArguments}
-use Rattle.popline.specs.Replies.{Capabilities, SendPass, Bye}
+use Rattle.popline.specs.Replies.{Reply}
 use Rattle.policy.specs.Policy.{Policy, decide}
 use Rattle.policy.specs.declared.rule.Action.TheVariants as to
 use Rattle.vault.specs.Records.{Records, credential_in, is_one_of, in_maildrop, class_of}
 use Rattle.session.specs.View.{visible}
 use Rattle.session.specs.Session.{Session}
 use Rattle.session.specs.declared.removals.Removals.{Removals}
-use Rattle.office.specs.History.{Says}
+use Rattle.office.specs.History.{Says, Done}
 use Rattle.office.specs.Connections.{reading, closes, user_after_line, is_failure}
-use Rattle.office.specs.Replying.{is_allowed, when_permitted, login_reply, name_or_nobody}
+use Rattle.office.specs.Replying.{Transaction, LineState, InAuthorization, InTransaction}
+use Rattle.office.specs.Replying.{login_reply, login_asked, transaction_asks, reply_to}
+use Rattle.office.specs.Replying.{reply_to_reading}
 use Rattle.office.specs.Output.{Output}
-use Rattle.office.specs.Transaction.{Transaction, transaction_asks}
 use Rattle.office.specs.declared.login_state.LoginState.{LoginState}
 
 -- What a line is judged by, beside what its connection remembers: the store's records, the policy,
@@ -39,34 +37,22 @@ judged d failures name proof = login_reply
     (is_one_of name.maildrop d.store.maildrops) (d.is_locked name.maildrop)
     (visible class_of d.policy name (in_maildrop name.maildrop d.store.messages))
 
--- the reply to a command before a login
-abbrev pub authorization_obeyed : LineContext → LoginState → Command → Reply
-authorization_obeyed d t Capa = Capabilities
-authorization_obeyed d t (User name) = SendPass
-authorization_obeyed d t (Pass password) =
-    judged d t.failures (name_or_nobody t.user) (ByPass password)
-authorization_obeyed d t (Apop name digest) = judged d t.failures name (ByApop digest)
-authorization_obeyed d t Quit = Bye
-authorization_obeyed d t _ = WrongState
+-- the state that a line meets
+abbrev pub state_of : LineContext → LoginState → Option Transaction → LineState
+state_of d t None = InAuthorization t.user (judged d t.failures)
+state_of d t (Some v) = InTransaction d.policy v
 
--- the reply to what a line reads as
+-- the reply to what a line reads as before a login, where the store doesn't fail
 abbrev pub authorization_said : LineContext → LoginState → Result Command LineFault → Reply
-authorization_said d t (Err Unknown) = UnknownCommand
-authorization_said d t (Err (Syntax k)) =
-    when_permitted (is_allowed k false (is_some t.user)) BadArguments
-authorization_said d t (Ok command) = when_permitted
-    (is_allowed (keyword_of command) false (is_some t.user)) (authorization_obeyed d t command)
+authorization_said d t r = reply_to_reading (state_of d t None) r Done
 
--- the reply to a line before a login
+-- the reply to a line before a login, where the store doesn't fail
 abbrev pub authorization_line : LineContext → LoginState → Cut → Reply
-authorization_line d t TooLong = LineTooLong
-authorization_line d t (cutting.Line l) = authorization_said d t (command_of l)
+authorization_line d t x = reply_to (state_of d t None) x Done
 
--- a line that asks the store for a credential
+-- a line before a login that asks the store
 abbrev pub authorization_asks : LoginState → Result Command LineFault → Bool
-authorization_asks t (Ok (Pass password)) = is_some t.user
-authorization_asks t (Ok (Apop name digest)) = true
-authorization_asks t _ = false
+authorization_asks t r = is_some (login_asked r t.user)
 
 -- a line that asks the store, in a session or before one
 abbrev pub asks : Policy → LoginState → Option Transaction → Result Command LineFault → Bool

@@ -1,5 +1,5 @@
--- The reply to a command line, by the history before it, its front (RFC 1939, 4 to 7; RFC 2449, 5
--- and 8).
+-- The reply to a command line, by the state that it meets (RFC 1939, 3 to 7; RFC 2449, 5 and 8);
+-- and which state that is, by the history before the line, its front.
 use Rattle.std.specs.Prelude.{ℕ, Bool, true, false, not, ◌&&◌, nat_le, List, [], ◌∷◌, length}
 use Rattle.std.specs.Prelude.{Option, Some, None, Result, Ok, Err, if◌then◌else◌, is_some}
 use Rattle.mailtext.specs.Text.{lines_of, top_part, stuffed_lines}
@@ -34,12 +34,23 @@ use Rattle.office.specs.Sessions.{login, live, holder, marks, view, present}
 use Rattle.popline.specs.Cutting as cutting
 use Rattle.vault.specs.declared.record.Message as store
 
--- ---- logging in
+-- ---- the state
 
--- the timestamp of a connection's greeting; its boot number and host are the last restart's, since
--- a restart ends every connection
-abbrev pub stamp : List Entry → ℕ → List ℕ
-stamp G c = timestamp c (setting G).0 (setting G).1
+-- a session: who is logged in to which maildrop, when removals are judged, the marked numbers, and
+-- the messages of the view
+pub record Transaction : Type 0 where
+  pub name : LoginName
+  pub removals : Removals
+  pub marks : List ℕ
+  pub view : List store.Message
+
+-- The state that a line meets: AUTHORIZATION, with the login name in force and what a login is
+-- answered; or TRANSACTION, with the policy in force and the session.
+pub data LineState : Type 0 where
+  InAuthorization : (user : Option LoginName) (login : LoginName → Shown → Reply) → LineState
+  InTransaction : Policy → Transaction → LineState
+
+-- ---- AUTHORIZATION
 
 -- the third failure closes
 abbrev pub login_failed : ℕ → Reply
@@ -48,10 +59,6 @@ login_failed failures = if nat_le 2 failures then LoginFailedClosing else LoginF
 -- how many messages a view has, and their octets
 abbrev pub maildrop_has : List store.Message → Reply
 maildrop_has view = MaildropHas (length view) (octets_of_all view)
-
--- whether the policy lets a clerk open a maildrop; the class is empty, since no message is meant
-abbrev pub opening : Records → List Entry → LoginName → Decision
-opening B G name = decide (in_force B G) name.clerk name.maildrop [] to.Open
 
 -- The reply to a login, by the credential, the policy, the maildrop and the lock: the first that
 -- fails gives it. `found` are the messages that the clerk may read.
@@ -64,15 +71,31 @@ login_reply admitted failures opening there locked found =
     else if locked then InUse
     else maildrop_has found
 
--- the reply to a login
-abbrev pub logging_in : Records → List Entry → ℕ → LoginName → Shown → Reply
-logging_in B G c name proof = login_reply
-    (is_admitted (credential B G name.clerk) name.clerk (stamp G c) proof) (failures G c)
-    (opening B G name)
-    (exists B G name.maildrop) (is_some (holder G name.maildrop))
-    (visible class_of (in_force B G) name (present B G name.maildrop))
+-- a login name that nobody has
+abbrev pub nobody : LoginName
+nobody = record { clerk = []; maildrop = [] }
 
--- ---- commands of a session
+-- the login name, where there is one
+abbrev pub name_or_nobody : Option LoginName → LoginName
+name_or_nobody None = nobody
+name_or_nobody (Some name) = name
+
+-- the reply to a command before a login, by the name in force and what a login is answered
+abbrev pub authorization_says : Option LoginName → (LoginName → Shown → Reply) → Command → Reply
+authorization_says user login Capa = Capabilities
+authorization_says user login (User name) = SendPass
+authorization_says user login (Pass password) = login (name_or_nobody user) (ByPass password)
+authorization_says user login (Apop name digest) = login name (ByApop digest)
+authorization_says user login Quit = Bye
+authorization_says user login _ = WrongState
+
+-- whom a line would log in: for a PASS that is the name in force, for an APOP its own
+abbrev pub login_asked : Result Command LineFault → (user : Option LoginName) → Option LoginName
+login_asked (Ok (Pass password)) user = user
+login_asked (Ok (Apop name digest)) user = Some name
+login_asked _ user = None
+
+-- ---- TRANSACTION
 
 -- the reply to a number: what `reply` gives for the unmarked message that it names, or a refusal
 abbrev pub pick : List ℕ → List store.Message → ℕ → (store.Message → Reply) → Reply
@@ -93,35 +116,47 @@ abbrev pub quit_says : Option (List ℕ) → Reply
 quit_says None = Bye
 quit_says (Some rule) = RemovalDenied rule
 
--- the reply to a command of a session, by the policy in force, when removals are judged, the login,
--- the marks and the view
-abbrev pub session_says : Policy → Removals → LoginName → List ℕ → List store.Message → Command
-    → Reply
-session_says policy judged name marks view Stat =
-    DropListing (length (unmarked marks view)) (total_of octets_of (unmarked marks view))
-session_says policy judged name marks view ListAll =
-    ScanListing (sizes_of octets_of (unmarked marks view))
-session_says policy judged name marks view (ListOne n) =
-    pick marks view n (λ m. ScanLine n (octets_of m))
-session_says policy judged name marks view UidlAll =
-    UidListing (uids_of uid_of (unmarked marks view))
-session_says policy judged name marks view (UidlOne n) =
-    pick marks view n (λ m. UidLine n (uid_of m))
-session_says policy judged name marks view (Retr n) =
-    pick marks view n (λ (m : store.Message). served_if (retrieval policy name m.class)
+-- the reply to a command of a session; USER, PASS and APOP aren't for one
+abbrev pub session_says : Policy → Transaction → Command → Reply
+session_says p v Capa = Capabilities
+session_says p v Stat =
+    DropListing (length (unmarked v.marks v.view)) (total_of octets_of (unmarked v.marks v.view))
+session_says p v ListAll = ScanListing (sizes_of octets_of (unmarked v.marks v.view))
+session_says p v (ListOne n) = pick v.marks v.view n (λ m. ScanLine n (octets_of m))
+session_says p v UidlAll = UidListing (uids_of uid_of (unmarked v.marks v.view))
+session_says p v (UidlOne n) = pick v.marks v.view n (λ m. UidLine n (uid_of m))
+session_says p v (Retr n) =
+    pick v.marks v.view n (λ (m : store.Message). served_if (retrieval p v.name m.class)
     (Message (octets_of m) (stuffed_lines (lines_of m.text))))
-session_says policy judged name marks view (Top n k) =
-    pick marks view n (λ (m : store.Message). served_if (retrieval policy name m.class)
+session_says p v (Top n k) =
+    pick v.marks v.view n (λ (m : store.Message). served_if (retrieval p v.name m.class)
     (TopPart (stuffed_lines (top_part (lines_of m.text) k))))
-session_says policy judged name marks view (Dele n) =
-    pick marks view n (λ (m : store.Message). deleted_if judged (removal policy name m.class) n)
-session_says policy judged name marks view Rset = maildrop_has view
-session_says policy judged name marks view Noop = Okay
-session_says policy judged name marks view Quit =
-    quit_says (denying class_of policy name marks view)
-session_says policy judged name marks view _ = WrongState
+session_says p v (Dele n) = pick v.marks v.view n
+    (λ (m : store.Message). deleted_if v.removals (removal p v.name m.class) n)
+session_says p v Rset = maildrop_has v.view
+session_says p v Noop = Okay
+session_says p v Quit = quit_says (denying class_of p v.name v.marks v.view)
+session_says p v _ = WrongState
 
--- ---- the reply to a line
+-- a message of the view isn't marked, and the policy lets the clerk read it
+abbrev pub is_readable : Policy → LoginName → Option store.Message → (is_marked : Bool) → Bool
+is_readable policy name None is_marked = false
+is_readable policy name (Some m) is_marked = not is_marked && may_read policy name m.class
+
+-- a list without elements
+abbrev pub is_empty : {A : Type 0} → List A → Bool
+is_empty [] = true
+is_empty (x ∷ xs) = false
+
+-- a session's lines that ask the store: for a message's text, or for a removal
+abbrev pub transaction_asks : Policy → Transaction → Result Command LineFault → Bool
+transaction_asks p v (Ok (Retr n)) = is_readable p v.name (at_number v.view n) (is_marked v.marks n)
+transaction_asks p v (Ok (Top n k)) =
+    is_readable p v.name (at_number v.view n) (is_marked v.marks n)
+transaction_asks p v (Ok Quit) = not (is_empty (to_remove class_of p v.name v.marks v.view))
+transaction_asks p v _ = false
+
+-- ---- a line
 
 -- whether a keyword may be given: before a login, after it, or in both
 abbrev pub is_allowed : Keyword → (live has_user : Bool) → Bool
@@ -132,9 +167,10 @@ is_allowed keyword.Apop live has_user = not live
 is_allowed keyword.Pass live has_user = not live && has_user
 is_allowed _ live has_user = live
 
--- a keyword may be given after this front
-abbrev pub is_permitted : List Entry → ℕ → Keyword → Bool
-is_permitted G c k = is_allowed k (live G c) (is_some (user G c))
+-- a keyword may be given in this state
+abbrev pub is_permitted : LineState → Keyword → Bool
+is_permitted (InAuthorization user login) k = is_allowed k false (is_some user)
+is_permitted (InTransaction p v) k = is_allowed k true false
 
 -- the reply, or that the command isn't for this state
 abbrev pub when_permitted : Bool → Reply → Reply
@@ -146,90 +182,75 @@ abbrev pub refusal : Keyword → Reply
 refusal keyword.Quit = RemovalFailed
 refusal _ = StoreFailed
 
--- a login name that nobody has
-abbrev pub nobody : LoginName
-nobody = record { clerk = []; maildrop = [] }
-
--- the login name, where there is one
-abbrev pub name_or_nobody : Option LoginName → LoginName
-name_or_nobody None = nobody
-name_or_nobody (Some name) = name
-
--- a QUIT before login removes nothing
-abbrev pub bye_unless : (live : Bool) → Reply → Reply
-bye_unless true reply = reply
-bye_unless false reply = Bye
-
--- the reply to a command of a session, after a front
-abbrev pub reply_in_session : Records → List Entry → ℕ → Command → Reply
-reply_in_session B G c command = session_says (in_force B G) (judging G)
-    (name_or_nobody (login G c)) (marks G c) (view B G c) command
-
 -- the reply to a command that may be given, where the store doesn't fail
-abbrev pub obeyed : Records → List Entry → ℕ → Command → Reply
-obeyed B G c Capa = Capabilities
-obeyed B G c (User name) = SendPass
-obeyed B G c (Pass password) = logging_in B G c (name_or_nobody (user G c)) (ByPass password)
-obeyed B G c (Apop name digest) = logging_in B G c name (ByApop digest)
-obeyed B G c Quit = bye_unless (live G c) (reply_in_session B G c Quit)
-obeyed B G c other = reply_in_session B G c other
+abbrev pub obeyed : LineState → Command → Reply
+obeyed (InAuthorization user login) command = authorization_says user login command
+obeyed (InTransaction p v) command = session_says p v command
 
 -- the reply to a command that may be given
-abbrev pub reply_to_command : Records → List Entry → ℕ → Command → Tag → Reply
-reply_to_command B G c command Failed = refusal (keyword_of command)
-reply_to_command B G c command _ = obeyed B G c command
+abbrev pub reply_to_command : LineState → Command → Tag → Reply
+reply_to_command s command Failed = refusal (keyword_of command)
+reply_to_command s command _ = obeyed s command
 
 -- an unknown keyword, a wrong state, bad arguments: the first that holds
-abbrev pub reply_to_reading : Records → List Entry → ℕ → Result Command LineFault → Tag → Reply
-reply_to_reading B G c (Err Unknown) t = UnknownCommand
-reply_to_reading B G c (Err (Syntax k)) t = when_permitted (is_permitted G c k) BadArguments
-reply_to_reading B G c (Ok command) t =
-    when_permitted (is_permitted G c (keyword_of command)) (reply_to_command B G c command t)
+abbrev pub reply_to_reading : LineState → Result Command LineFault → Tag → Reply
+reply_to_reading s (Err Unknown) t = UnknownCommand
+reply_to_reading s (Err (Syntax k)) t = when_permitted (is_permitted s k) BadArguments
+reply_to_reading s (Ok command) t =
+    when_permitted (is_permitted s (keyword_of command)) (reply_to_command s command t)
 
 -- the reply to a line; it may be too long
+abbrev pub reply_to : LineState → Cut → Tag → Reply
+reply_to s TooLong t = LineTooLong
+reply_to s (cutting.Line l) t = reply_to_reading s (command_of l) t
+
+-- the store may fail at a line that reads so: before a login, at one that is judged
+abbrev pub may_fail : LineState → Result Command LineFault → Bool
+may_fail (InAuthorization user login) r = is_some (login_asked r user)
+may_fail (InTransaction p v) r = transaction_asks p v r
+
+-- ---- by the history
+
+-- the timestamp of a connection's greeting; its boot number and host are the last restart's, since
+-- a restart ends every connection
+abbrev pub stamp : List Entry → ℕ → List ℕ
+stamp G c = timestamp c (setting G).0 (setting G).1
+
+-- whether the policy lets a clerk open a maildrop; the class is empty, since no message is meant
+abbrev pub opening : Records → List Entry → LoginName → Decision
+opening B G name = decide (in_force B G) name.clerk name.maildrop [] to.Open
+
+-- the reply to a login, after a front
+abbrev pub logging_in : Records → List Entry → ℕ → LoginName → Shown → Reply
+logging_in B G c name proof = login_reply
+    (is_admitted (credential B G name.clerk) name.clerk (stamp G c) proof) (failures G c)
+    (opening B G name)
+    (exists B G name.maildrop) (is_some (holder G name.maildrop))
+    (visible class_of (in_force B G) name (present B G name.maildrop))
+
+-- the session of a connection, after a front
+abbrev pub transaction_at : Records → List Entry → ℕ → Transaction
+transaction_at B G c = record {
+  name = name_or_nobody (login G c);
+  removals = judging G;
+  marks = marks G c;
+  view = view B G c;
+}
+
+-- the state that a connection's line meets after a front
+abbrev pub state_at : Records → List Entry → ℕ → LineState
+state_at B G c = if live G c then InTransaction (in_force B G) (transaction_at B G c)
+    else InAuthorization (user G c) (logging_in B G c)
+
+-- the reply to a line after a front
 abbrev pub reply_to_cut : Records → List Entry → ℕ → Cut → Tag → Reply
-reply_to_cut B G c TooLong t = LineTooLong
-reply_to_cut B G c (cutting.Line l) t = reply_to_reading B G c (command_of l) t
+reply_to_cut B G c x t = reply_to (state_at B G c) x t
 
 -- what is said to a line: nothing at want of memory
 abbrev pub said_to_line : Records → List Entry → ℕ → Cut → Tag → Said
 said_to_line B G c x NoMemory = Silence
 said_to_line B G c x t = Says (reply_to_cut B G c x t)
 
--- ---- the lines at which the store may fail
-
--- a message of the view isn't marked, and the policy lets the clerk read it
-abbrev pub is_readable : Policy → LoginName → Option store.Message → (is_marked : Bool) → Bool
-is_readable policy name None is_marked = false
-is_readable policy name (Some m) is_marked = not is_marked && may_read policy name m.class
-
--- the same of a number of a session's view, after a front
-abbrev pub may_serve : Records → List Entry → ℕ → ℕ → Bool
-may_serve B G c n = is_readable (in_force B G) (name_or_nobody (login G c))
-    (at_number (view B G c) n) (is_marked (marks G c) n)
-
--- a list without elements
-abbrev pub is_empty : {A : Type 0} → List A → Bool
-is_empty [] = true
-is_empty (x ∷ xs) = false
-
--- the commands that ask the store: a login, one for a message's text, a QUIT that would remove some
-abbrev pub asks_store : Records → List Entry → ℕ → Command → Bool
-asks_store B G c (Pass password) = true
-asks_store B G c (Apop name digest) = true
-asks_store B G c (Retr n) = may_serve B G c n
-asks_store B G c (Top n k) = may_serve B G c n
-asks_store B G c Quit = live G c && not
-    (is_empty (to_remove class_of (in_force B G) (name_or_nobody (login G c)) (marks G c)
-    (view B G c)))
-asks_store B G c _ = false
-
--- the store may fail at a line that reads so
-abbrev pub reading_may_fail : Records → List Entry → ℕ → Result Command LineFault → Bool
-reading_may_fail B G c (Err fault) = false
-reading_may_fail B G c (Ok command) =
-    is_permitted G c (keyword_of command) && asks_store B G c command
-
--- the store may fail at a line
+-- the store may fail at a line after a front
 abbrev pub line_may_fail : Records → List Entry → ℕ → Cut → Bool
-line_may_fail B G c x = reading_may_fail B G c (reading x)
+line_may_fail B G c x = may_fail (state_at B G c) (reading x)

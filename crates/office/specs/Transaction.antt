@@ -1,47 +1,34 @@
 -- A session over a store: the reply to a line, the session after it, and what the store then holds
 -- (RFC 1939, 5 and 6).
-use Rattle.std.specs.Prelude.{◌≡◌, ℕ, Bool, true, false, not, ◌<◌, ◌^◌, List, length, take, map}
+use Rattle.std.specs.Prelude.{◌≡◌, ℕ, Bool, true, false, ◌<◌, ◌^◌, List, length, take, map}
 use Rattle.std.specs.Prelude.{sum_by, Option, Some, None, Result, Ok, Err}
 use Rattle.mailtext.specs.MailText.{IsMailText}
 use Rattle.creds.specs.declared.login_name.LoginName.{LoginName}
-use Rattle.popline.specs.Cutting.{Cut, TooLong}
-use Rattle.popline.specs.Cutting as cutting
-use Rattle.popline.specs.Commands.{Command, Capa, Quit, Retr, Top, command_of, keyword_of}
+use Rattle.popline.specs.Cutting.{Cut}
+use Rattle.popline.specs.Commands.{Command, Capa, Quit}
 use Rattle.popline.specs.declared.command.LineFault.{LineFault}
-use Rattle.popline.specs.declared.command.LineFault.TheVariants.{Unknown, Syntax}
-use Rattle.popline.specs.Replies.{Reply, LineTooLong, UnknownCommand, BadArguments, Capabilities}
-use Rattle.popline.specs.Replies.{NoSuchMessage, AlreadyMarked, DeniedBy, StoreFailed}
+use Rattle.popline.specs.Replies.{Reply, NoSuchMessage, AlreadyMarked, DeniedBy, StoreFailed}
 use Rattle.policy.specs.Policy.{Policy}
 use Rattle.vault.specs.Changes.{Contents, head_of, with_messages, without_keys}
 use Rattle.vault.specs.Calls.{text_under}
-use Rattle.vault.specs.Records as records
 use Rattle.vault.specs.declared.record.Keyed.{Keyed}
-use Rattle.vault.specs.declared.record.Message as store
 use Rattle.session.specs.declared.pick.Pick.{Pick}
 use Rattle.session.specs.declared.pick.Pick.TheVariants.{NoSuch, Deleted, Denied}
 use Rattle.session.specs.Session.{Session}
 use Rattle.session.specs.Session as head
-use Rattle.session.specs.View.{is_marked, at_number, to_remove}
-use Rattle.session.specs.declared.removals.Removals.{Removals}
-use Rattle.office.specs.History.{Says}
-use Rattle.office.specs.Connections.{reading, is_quit}
+use Rattle.session.specs.View.{is_marked, to_remove}
+use Rattle.office.specs.History.{Says, Tag}
+use Rattle.office.specs.History as history
+use Rattle.office.specs.Connections.{is_quit}
 use Rattle.office.specs.Sessions.{marks_after_line}
-use Rattle.office.specs.Replying.{session_says, is_allowed, when_permitted, refusal, is_readable}
-use Rattle.office.specs.Replying.{is_empty}
+use Rattle.office.specs.Replying.{InTransaction, session_says, reply_to, reply_to_reading}
 use Rattle.office.specs.Laws.{In}
 use Rattle.office.specs.Output.{Output, Owes, OwesReply}
 use Rattle.office.specs.declared.login_state.LineOutcome.{LineOutcome}
 use Rattle.office.specs.declared.login_state.LineOutcome.TheVariants as outcome
+pub use Rattle.office.specs.Replying.{Transaction, transaction_asks}
 
 -- ---- a session's messages
-
--- who is logged in to which maildrop, when removals are judged, the marked numbers, and the
--- messages of the view
-pub record Transaction : Type 0 where
-  pub name : LoginName
-  pub removals : Removals
-  pub marks : List ℕ
-  pub view : List store.Message
 
 -- a session's heads are those of messages that its maildrop in the store has, and the sum of their
 -- octets is below 2^64
@@ -63,8 +50,7 @@ transaction_of s kept = record {
 
 -- the reply of a session with these messages to a command
 abbrev pub transaction_told : Policy → Session → List Keyed → Command → Reply
-transaction_told p s kept command =
-    session_says p s.removals s.name s.marks (map (λ (x : Keyed). x.message) kept) command
+transaction_told p s kept command = session_says p (transaction_of s kept) command
 
 -- under a key lies a message text of so many octets
 pub record HasText (c : Contents) (key octets : ℕ) : Type 0 where
@@ -83,35 +69,23 @@ refused_pick n (Denied rule) = DeniedBy rule
 
 -- ---- a line of a session
 
--- the reply to a command; USER, PASS and APOP aren't for a session
-abbrev pub transaction_obeyed : Policy → Transaction → Command → Reply
-transaction_obeyed p v Capa = Capabilities
-transaction_obeyed p v command = session_says p v.removals v.name v.marks v.view command
+-- the tag of the event in which a line acted
+abbrev pub tag_of : LineOutcome → Tag
+tag_of outcome.Done = history.Done
+tag_of outcome.Failed = history.Failed
 
--- the reply to what a line reads as
+-- the reply to what a line reads as, where the store fails or not
+abbrev pub transaction_answered : LineOutcome → Policy → Transaction → Result Command LineFault
+    → Reply
+transaction_answered w p v r = reply_to_reading (InTransaction p v) r (tag_of w)
+
+-- the same, where it doesn't
 abbrev pub transaction_said : Policy → Transaction → Result Command LineFault → Reply
-transaction_said p v (Err Unknown) = UnknownCommand
-transaction_said p v (Err (Syntax k)) = when_permitted (is_allowed k true false) BadArguments
-transaction_said p v (Ok command) =
-    when_permitted (is_allowed (keyword_of command) true false) (transaction_obeyed p v command)
+transaction_said p v r = transaction_answered outcome.Done p v r
 
--- the reply to a line where the store doesn't fail
-abbrev pub transaction_line : Policy → Transaction → Cut → Reply
-transaction_line p v TooLong = LineTooLong
-transaction_line p v (cutting.Line l) = transaction_said p v (command_of l)
-
--- the reply to a line at which the store failed
-abbrev pub refused_reading : Result Command LineFault → Reply
-refused_reading (Ok command) = refusal (keyword_of command)
-refused_reading (Err fault) = StoreFailed
-
--- the lines that ask the store: for a message's text, or for a removal
-abbrev pub transaction_asks : Policy → Transaction → Result Command LineFault → Bool
-transaction_asks p v (Ok (Retr n)) = is_readable p v.name (at_number v.view n) (is_marked v.marks n)
-transaction_asks p v (Ok (Top n k)) =
-    is_readable p v.name (at_number v.view n) (is_marked v.marks n)
-transaction_asks p v (Ok Quit) = not (is_empty (to_remove records.class_of p v.name v.marks v.view))
-transaction_asks p v _ = false
+-- the reply to a line
+abbrev pub transaction_reply : LineOutcome → Policy → Transaction → Cut → Reply
+transaction_reply w p v x = reply_to (InTransaction p v) x (tag_of w)
 
 -- ---- after it
 
@@ -142,17 +116,6 @@ abbrev pub held_after_line : LineOutcome → Policy → Session → Result Comma
     → Contents
 held_after_line outcome.Done p s (Ok Quit) c = without_marked p s c
 held_after_line _ p s r c = c
-
--- the reply to what a line reads as, where the store fails or not
-abbrev pub transaction_answered : LineOutcome → Policy → Transaction → Result Command LineFault
-    → Reply
-transaction_answered outcome.Done p v r = transaction_said p v r
-transaction_answered outcome.Failed p v r = refused_reading r
-
--- the reply to a line of a session, where the store fails or not
-abbrev pub transaction_reply : LineOutcome → Policy → Transaction → Cut → Reply
-transaction_reply outcome.Done p v x = transaction_line p v x
-transaction_reply outcome.Failed p v x = refused_reading (reading x)
 
 -- the session that is left after a line: a QUIT ends it
 abbrev pub session_if : (quits : Bool) → Session → Option Session

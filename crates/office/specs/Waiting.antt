@@ -1,13 +1,12 @@
 -- Logins that wait for a lock: whether a connection's next line is a login to a maildrop that
 -- another session holds, and for how long it may wait.
 use Rattle.std.specs.Prelude.{ℕ, Bool, true, false, not, ◌&&◌, ◌+◌, nat_le, List, if◌then◌else◌}
-use Rattle.std.specs.Prelude.{Option, Some, None, is_some, Result, Ok}
+use Rattle.std.specs.Prelude.{Option, Some, None, is_some}
 use Rattle.creds.specs.declared.login_name.LoginName.{LoginName}
 use Rattle.popline.specs.Cutting.{Cut, has_newline}
-use Rattle.popline.specs.Commands.{Command, Pass, Apop}
-use Rattle.popline.specs.declared.command.LineFault.{LineFault}
 use Rattle.office.specs.Connections.{reading, user}
 use Rattle.office.specs.Sessions.{live, holder}
+pub use Rattle.office.specs.Replying.{login_asked}
 use Rattle.office.specs.Events.{Trace}
 use Rattle.office.specs.Log.{clock, moment}
 use Rattle.office.specs.Trace.{history, is_ready, next_line}
@@ -15,12 +14,6 @@ use Rattle.office.specs.Idle.{is_idle}
 use Rattle.office.specs.Kept.{Kept, line_after}
 
 -- ---- a line
-
--- whom a line would log in: for a PASS that is the name in force, for an APOP its own
-abbrev pub login_asked : Result Command LineFault → (user : Option LoginName) → Option LoginName
-login_asked (Ok (Pass password)) user = user
-login_asked (Ok (Apop name digest)) user = Some name
-login_asked _ user = None
 
 -- a login is to a maildrop that is held; None, no login, never is
 abbrev pub is_held_for : (is_held : List ℕ → Bool) → Option LoginName → Bool

@@ -1,12 +1,14 @@
 use Rattle.std.proofs.Common.{◌≡◌, ◌∙◌, Option, Some, None, sym, subst, rules}
 use Rattle.office.specs.Connections.{reading}
 use Rattle.office.proofs.Unasked.{authorization_asks_none, transaction_asks_none}
+use Rattle.popline.specs.Cutting.{Cut}
 use Rattle.popline.specs.Seen.{cut_seen}
 use Rattle.office.specs.History.{Says}
 use Rattle.office.specs.Accounts.{state_account}
 use Rattle.office.specs.Output.{OwesReply}
 use Rattle.office.specs.Transaction.{Transaction}
-use Rattle.office.specs.Answered.{HasTransaction, reply_of, context_over}
+use Rattle.office.specs.Kept.{login_state_after}
+use Rattle.office.specs.Answered.{HasTransaction, Becomes, reply_of, context_over}
 use Rattle.office.proofs.Accounts.{authorization_told, state_told}
 use Rattle.office.proofs.Entering.{has_transaction, state_case, unseated_case}
 use Rattle.office.proofs.Owing.{owes_put}
@@ -24,6 +26,24 @@ returns-in_ok-outcome-in-None-clause-owed g c d v held clean sits =
     let P : Option Transaction → Type 0 =
     λ v. OwesReply d c.in_ok-outcome-in-None.begun c.authorization_answer.new.output (reply_of c.in_ok-outcome-in-None.outcome (context_over d c.args.context c.args.locks.now) c.args.state.now v (cut_seen c.args.cut)) in
     unseated_case d v P (owes_put d c.in_ok-outcome-in-None.begun c.args.output.now c.authorization_answer.new.output _ c.requires (rw c.read-line.ensures at c.in_ok-outcome-in-None.ensures.owed d held clean)) (subst (λ o. HasTransaction d o v) (sym c.in-None.ensures.value) sits)
+
+pub returns-in_ok-outcome-in-Some-clause-state : goal.returns-in_ok-outcome-in-Some-clause-state
+returns-in_ok-outcome-in-Some-clause-state g c d v held clean sits =
+    let e : c.args.session.now ≡ Some c.in-Some.current = sym c.in-Some.ensures.value in
+    let x = cut_seen c.args.cut in
+    let P : Option Transaction → Type 0 =
+    λ v. c.transaction_answer.new.state ≡ login_state_after x (reply_of c.in_ok-outcome-in-Some.outcome (context_over d c.args.context c.args.locks.now) c.args.state.now v x) c.args.state.now in
+    state_case d c.in-Some.current v P (λ w seat.
+    subst (λ (y : Cut). c.transaction_answer.new.state ≡ login_state_after y (reply_of c.in_ok-outcome-in-Some.outcome (context_over d c.args.context c.args.locks.now) c.args.state.now (Some w) y) c.args.state.now) c.read-line.ensures (c.in_ok-outcome-in-Some.ensures.state d w held clean seat))
+    (subst (λ o. HasTransaction d o v) e sits)
+
+pub returns-in_ok-outcome-in-Some-clause-session : goal.returns-in_ok-outcome-in-Some-clause-session
+returns-in_ok-outcome-in-Some-clause-session g c d v held clean sits =
+    let e : c.args.session.now ≡ Some c.in-Some.current = sym c.in-Some.ensures.value in
+    let x = cut_seen c.args.cut in
+    let P : Option Transaction → Type 0 =
+    λ v. Becomes d c.args.context.policy.now c.args.state.now x (reply_of c.in_ok-outcome-in-Some.outcome (context_over d c.args.context c.args.locks.now) c.args.state.now v x) c.args.session.now c.in_ok-outcome-in-Some.after in
+    state_case d c.in-Some.current v P (λ w seat. rw e (rw c.read-line.ensures at c.in_ok-outcome-in-Some.ensures.session d w held clean seat)) (subst (λ o. HasTransaction d o v) e sits)
 
 pub returns-in_ok-outcome-in-Some-clause-held : goal.returns-in_ok-outcome-in-Some-clause-held
 returns-in_ok-outcome-in-Some-clause-held g c d v held clean sits =

@@ -5,6 +5,7 @@ use Rattle.popline.specs.Seen.{cut_seen}
 use Rattle.office.specs.History.{Says}
 use Rattle.office.specs.Connections.{reading}
 use Rattle.office.specs.Accounts.{account_if, state_account}
+use Rattle.office.specs.declared.login_state.LoginState.{LoginState}
 use Rattle.office.specs.Kept.{Kept, LineContext, login_state_after, asks, line_after}
 use Rattle.office.specs.Answered.{judged_at, reply_of, HasTransaction, Becomes, BecomesIf}
 use Rattle.office.specs.declared.login_state.LineOutcome.TheVariants as outcome
@@ -25,7 +26,8 @@ returns-clause-ok g c d s held clean sits =
     let over : judged_at d c.args.policy.now c.as_bytes.result.now c.args.locks.now ≡ context = ap (λ s. judged_at d c.args.policy.now s c.args.locks.now) stamped in
     let seat : HasTransaction d c.self.inside.session s = subst (λ o. HasTransaction d o s) (sym (ap (λ (k : Kept). k.session) v)) sits in
     let after = c.in_ok-outcome.ensures.state d s held clean seat in
-    let next : c.answer.new.state ≡ login_state_after x (reply_of w context k.state s x) k.state = rw (over, talking) at after in
+    let here = subst (λ (j : LineContext). c.answer.new.state ≡ login_state_after x (reply_of w j c.self.inside.state s x) c.self.inside.state) over after in
+    let next = subst (λ (t : LoginState). c.answer.new.state ≡ login_state_after x (reply_of w context t s x) t) talking here in
     let cut = c.self.inside.cut in
     let octets = c.self.inside.pending.items in
     let left : drop cut octets ≡ p = ap (λ (k : Kept). k.pending) v in
