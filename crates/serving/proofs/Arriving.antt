@@ -1,7 +1,8 @@
 -- Links that come, one after the other, and those that are closed.
-use Rattle.std.proofs.Common.{◌≡◌, ℕ, zero, suc, ◌+◌, ◌<◌, ◌≤◌, Bool, true, false, not, List, [], ◌∷◌, ◌++◌, length, take, drop, map, get_or, refl, sym, ◌∙◌, ap, arith, Some, None, Option, ⊎_elim, ◌⊎◌, inl, inr, subst, append_assoc, length-append}
+use Rattle.std.proofs.Common.{◌≡◌, ℕ, zero, suc, ◌+◌, ◌<◌, ◌≤◌, Bool, true, false, not, ◌||◌, List, [], ◌∷◌, ◌++◌, length, take, drop, map, get_or, refl, sym, ◌∙◌, ap, arith, Some, None, Option, ⊎_elim, ◌⊎◌, inl, inr, subst, append_assoc, length-append}
 use Rattle.std.specs.Bool.{⊤, if◌then◌else◌}
 use Rattle.std.specs.List.{All, list_any, filter, filter_map, remove}
+use Rattle.std.proofs.lemmas.Bool.{cases_Bool}
 use Rattle.std.proofs.lemmas.List.{append-nil, map-append}
 use Rattle.std.proofs.lemmas.List.Elements.{All-nil, All-cons, filter_map-append}
 use Rattle.vault.specs.Records.{Records}
@@ -20,7 +21,7 @@ use Rattle.serving.specs.declared.wire.Port.TheVariants.{Pop}
 use Rattle.serving.specs.Calls.{Call, Accepted, Closed}
 use Rattle.serving.specs.declared.links.Seat.{Seat}
 use Rattle.serving.specs.Wires.{opened_by}
-use Rattle.serving.specs.Works.{is_beside, waits, wait_of, arrivals, arrival_of, closings, closing_of, none_waited, tells_none, moments, moment_of, openings, is_opening, refusals, is_refusal, HasCause, AreCaused, WasGiven, Came, seat_of, unseated_of, link_of, HaveCome, HasAccepted, AreAccepted, is_open_seat, is_shut_seat, closing, IsClosed, AreClosed}
+use Rattle.serving.specs.Works.{is_beside, waits, wait_of, arrivals, arrival_of, closings, closing_of, none_waited, tells_none, moments, moment_of, openings, is_opening, refusals, is_refusal, HasCause, AreCaused, WasGiven, Came, seat_of, unseated_of, link_of, HaveCome, HasAccepted, AreAccepted, is_open_seat, is_shut_seat, closing, IsClosed, AreClosed, has_moved}
 use Rattle.serving.proofs.Accepting.{IsRefusal}
 use Rattle.serving.proofs.Working.{none_joined, count_joined, any_right, none_of, caused_then}
 
@@ -238,6 +239,18 @@ closes_more T seats now now2 place d false c1 c2 h a b =
           ∙ (sym (append_assoc c1 (closing s ∷ []) (map closing (filter (is_shut_seat T) rest)))
           ∙ joined _ _ _ _ (ap (λ ys. c1 ++ ys) (sym b.calls_are)) (ap (λ xs. map closing (filter (is_shut_seat T) xs)) (sym (drop_remove now place))))));
     })
+
+-- a link that is closed moves
+pub shut_moved : (T : Trace) (xs : List Seat) → list_any (is_shut_seat T) xs ≡ true → has_moved (map closing (filter (is_shut_seat T) xs)) ≡ true
+shut_moved T [] e = cc
+shut_moved T (x ∷ xs) e =
+    ⊎_elim
+    (λ (o : is_open_seat T x ≡ true).
+    (let k : is_shut_seat T x ≡ false = ap not o in
+    let later : list_any (is_shut_seat T) xs ≡ true = sym (ap (λ b. b || list_any (is_shut_seat T) xs) k) ∙ e in
+    ap (λ ys. has_moved (map closing ys)) (shut_not T x xs o) ∙ shut_moved T xs later))
+    (λ (o : is_open_seat T x ≡ false). ap (λ ys. has_moved (map closing ys)) (shut_first T x xs o))
+    (cases_Bool (is_open_seat T x))
 
 take_whole : (xs : List Seat) (n : ℕ) → length xs ≤ n → take n xs ≡ xs
 take_whole [] zero h = refl

@@ -27,7 +27,7 @@ use Rattle.serving.specs.declared.requests.Response.{Response}
 use Rattle.serving.specs.declared.requests.Exchange.{Exchange}
 use Rattle.serving.specs.declared.links.Links.{Links}
 use Rattle.serving.specs.Requests.{octets_of, HasOneMore, IsGiven, NotYet, NoCommand, GivenOne}
-use Rattle.serving.specs.HttpWorks.{IsShort, AreShort, HaveComeBeside, NoMore, IsKept, IsTurnedAway, ComesTo, HasHeard, IsOver, HasResponse, GaveNothing, GaveItsEnd, GaveAPiece, HasHttpTurn, IsLate, IsServed, HadHttpTurns, NoneHeld, IsHeldOn, IsClosed, HttpWorks}
+use Rattle.serving.specs.HttpWorks.{IsShort, AreShort, HaveComeBeside, NoMore, IsKept, IsTurnedAway, WantsMemory, ComesTo, HasHeard, IsOver, HasResponse, GaveNothing, GaveItsEnd, GaveAPiece, HasHttpTurn, IsLate, IsServed, HadHttpTurns, NoneHeld, IsHeldOn, IsClosed, HttpWorks}
 use Rattle.adminhttp.specs.Head.{behind_head, head_text}
 use Rattle.adminhttp.specs.declared.target.Target.{Target}
 use Rattle.adminhttp.specs.declared.target.Target.TheVariants as target
@@ -269,7 +269,8 @@ module _ (now : ℕ) (B : Records) where
   pub short_come : (held held_then : List Exchange) (n : ℕ) (calls : List Call) → HaveComeBeside now held held_then n calls → All IsShort held → All IsShort held_then
   short_come _ _ _ _ (NoMore held) a = a
   short_come _ _ _ _ (IsKept link held more held_then came calls one rest) a = short_come more held_then came calls rest (short_new link held more one a)
-  short_come _ _ _ _ (IsTurnedAway link held held_then came calls rest) a = short_come held held_then came calls rest a
+  short_come _ _ _ _ (IsTurnedAway link held held_then came calls full rest) a = short_come held held_then came calls rest a
+  short_come _ _ _ _ (WantsMemory link held held_then came calls rest) a = short_come held held_then came calls rest a
 
   -- a request of which a piece came, and to which there is no response yet
   given_short : (L M : Log) (whole : List ℕ) (place : Option ℕ) (r : Option (List ℕ)) → IsGiven B L whole M place r → r ≡ None → length whole < 1056768
@@ -286,7 +287,7 @@ module _ (now : ℕ) (B : Records) where
   heard_short L e e_then _ _ (HasResponse some same) live a = subst IsShort (sym same) a
   heard_short L e e_then _ _ (GaveNothing none same) live a = subst IsShort (sym same) a
   heard_short L e e_then _ _ (GaveItsEnd io none fault over) live a = absurd (true≢false (sym over ∙ live))
-  heard_short L e e_then _ _ (GaveAPiece n piece given none goes comes reads) live a = piece_short L given (e.read.items ++ piece) e_then.read.items e_then.response comes reads
+  heard_short L e e_then _ _ (GaveAPiece n piece given none goes comes reads link written) live a = piece_short L given (e.read.items ++ piece) e_then.read.items e_then.response comes reads
 
   live_before : (x q y : Bool) → y ≡ (x || q) → y ≡ false → x ≡ false
   live_before true q y a e = absurd (true≢false (sym a ∙ e))

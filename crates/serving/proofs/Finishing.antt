@@ -1,5 +1,5 @@
 -- What the parts of a turn do together.
-use Rattle.std.proofs.Common.{◌≡◌, ◌||◌, ℕ, zero, suc, ◌+◌, ◌<◌, ◌≤◌, Bool, true, false, not, List, [], ◌∷◌, ◌++◌, length, map, refl, sym, ◌∙◌, ap, arith, Some, None, Option, ⊎_elim, ◌⊎◌, inl, inr, subst, append_assoc, true≢false}
+use Rattle.std.proofs.Common.{◌≡◌, ◌||◌, ◌==◌, ℕ, zero, suc, ◌+◌, ◌<◌, ◌≤◌, Bool, true, false, not, List, [], ◌∷◌, ◌++◌, length, map, refl, sym, ◌∙◌, ap, arith, Some, None, Option, ⊎_elim, ◌⊎◌, inl, inr, subst, append_assoc, true≢false}
 use Rattle.std.specs.Bool.{⊤}
 use Rattle.std.specs.List.{All, Contains, list_any, filter, filter_map}
 use Rattle.std.proofs.lemmas.List.{append-nil}
@@ -17,7 +17,7 @@ use Rattle.serving.specs.Calls.{Call, Waited}
 use Rattle.serving.specs.declared.links.Seat.{Seat}
 use Rattle.serving.specs.declared.links.Links.{Links}
 use Rattle.serving.specs.declared.newcomers.Newcomer.{Newcomer}
-use Rattle.serving.specs.Works.{is_beside, waits, wait_of, arrivals, arrival_of, closings, closing_of, none_waited, tells_none, is_cut_of, is_cut, moments, moment_of, openings, is_opening, refusals, is_refusal, HasCause, AreCaused, WasGiven, WasAsked, Part, Asking, Giving, IsQuiet, IsQuietFor, IsPassed, Came, seat_of, unseated_of, link_of, HasAccepted, AreAccepted, most_links, HadTurn, WereServed, AreDeposits, is_open_seat, is_shut_seat, closing, AreClosed, link_of_seat, IsLateGone, AreLateGone, Also, PressedBy, has_moved, is_moving}
+use Rattle.serving.specs.Works.{is_beside, waits, wait_of, arrivals, arrival_of, closings, closing_of, none_waited, tells_none, is_cut_of, is_cut, moments, moment_of, openings, is_opening, refusals, is_refusal, HasCause, AreCaused, WasGiven, WasAsked, Part, Asking, Giving, IsQuiet, IsQuietFor, IsPassed, Came, seat_of, unseated_of, link_of, HasAccepted, AreAccepted, most_links, HadTurn, WereServed, AreDeposits, is_open_seat, is_shut_seat, closing, AreClosed, link_of_seat, IsLateGone, AreLateGone, Also, HurriesBy, Releases, way_by, has_moved, is_moving}
 use Rattle.serving.specs.Spools.{FileCall}
 use Rattle.serving.specs.HttpWorks.{AskedApart, DidApart, HasAcceptedBeside, HadHttpTurns}
 use Rattle.serving.specs.declared.requests.Exchange.{Exchange}
@@ -25,10 +25,12 @@ use Rattle.serving.specs.Settings.{settings, last_tried}
 use Rattle.serving.specs.SpoolTurns.{IsSpoolTurn, has_dealt, SpoolPart}
 use Rattle.serving.specs.Turns.{way_of, millis_of, HasCauseInTurn, IsTurn, Works}
 use Rattle.serving.proofs.Staying.{Fewer, deposit_same}
-use Rattle.serving.proofs.Resting.{rests_so, waits_then, not_true}
+use Rattle.serving.proofs.Resting.{rests_so, waits_then, not_true, is_left}
+use Rattle.serving.proofs.Arriving.{shut_moved}
+use Rattle.serving.proofs.Turns.{served_so}
 use Rattle.serving.proofs.Freeing.{freed_left, freed_right}
-use Rattle.serving.specs.Newcomers.{newcomer}
-use Rattle.serving.specs.Late.{HasLived, IsInTime, HasEndedLate}
+use Rattle.serving.specs.Newcomers.{newcomer, AllHaveSeats, IsNewlyNoted}
+use Rattle.serving.specs.Late.{HasLived, IsInTime, IsNotedSince, HasEndedLate}
 use Rattle.serving.proofs.Timely.{late_kept, lived_left, lived_right}
 use Rattle.serving.proofs.Working.{or_true, given_then, asked_then, none_of, count_joined, any_left, any_right, quiet_none, caused_more, fewer_quiet, fewer_gone, none_joined, turned_left, turned_right}
 
@@ -140,32 +142,34 @@ accepted_so Holds IsClean Faults o o1 seats seats1 false g c all more a =
     (λ (full : length seats1 ≡ 128). inl (inr full))
     (a.all refl)
 
--- where the clients' links press, the next turn doesn't wait
-no_wait : (links : Links) → links.clients.presses ≡ true → millis_of links ≡ 0
+-- where the clients' links hurry, the next turn doesn't wait
+no_wait : (links : Links) → links.clients.hurries ≡ true → millis_of links ≡ 0
 no_wait links e = rw e refl
 
 -- ---- the turn
 
 module _ {V W S : Type 0} (Holds : V → Contents → Type 0) (IsClean : V → Type 0) (Faults : V → ℕ) (Asked : W → List Call → Type 0) (AskedFiles : S → List FileCall → Type 0) where
-  pub turn_done : (T : Trace) (now : ℕ) (links links_then : Links) (o o1 o2 o3 o4 o5 o6 : Office V) (w w1 w2 w3 w4 w5 w6 : W) (f f1 : S) (seats2 : List Seat) (goes : Bool) (held : List Exchange) (more freed pressing pressed : Bool) (n1 n2 : List Newcomer)
+  pub turn_done : (T : Trace) (now : ℕ) (links links_then : Links) (o o1 o2 o3 o4 o5 o6 : Office V) (w w1 w2 w3 w4 w5 w6 : W) (f f1 : S) (seats2 : List Seat) (goes : Bool) (held : List Exchange) (more freed hurrying hurried : Bool) (n1 n2 : List Newcomer)
       → Part Holds IsClean Faults Asked o w o1 w1 (IsPassed (millis_of links) now)
-      → Part Holds IsClean Faults Asked o1 w1 o2 w2 (AreAccepted Holds IsClean o1 o2 links.clients.seats.items seats2 64 goes)
+      → (acc : Part Holds IsClean Faults Asked o1 w1 o2 w2 (AreAccepted Holds IsClean o1 o2 links.clients.seats.items seats2 64 goes))
       → Asking Asked w2 w3 (AskedApart (HasAcceptedBeside now 64 more links.requests.exchanges.items held))
-      → Part Holds IsClean Faults Asked o2 w3 o3 w4 (Also (WereServed Holds IsClean o2 o3 (settings links) freed seats2 seats2) (PressedBy freed pressing))
-      → Part Holds IsClean Faults Asked o3 w4 o4 w5 (Also (DidApart Holds IsClean o3 o4 (λ B L. HadHttpTurns now B L held links_then.requests.exchanges.items)) (PressedBy false links_then.requests.presses))
+      → Part Holds IsClean Faults Asked o2 w3 o3 w4 (Also (WereServed Holds IsClean o2 o3 (settings links) freed hurrying seats2 seats2) (HurriesBy freed hurrying))
+      → (freed ≡ true → hurrying ≡ true) → (hurrying ≡ true → hurried ≡ true)
+      → Part Holds IsClean Faults Asked o3 w4 o4 w5 (Also (DidApart Holds IsClean o3 o4 (λ B L. HadHttpTurns now B L held links_then.requests.exchanges.items)) (HurriesBy false links_then.requests.hurries))
       → ((c : ℕ) (n : Newcomer) → newcomer c links.clients.newcomers.newcomers.items ≡ Some n → newcomer c n1 ≡ Some n)
+      → (AllHaveSeats links → (links.clients.newcomers.seconds == 0) ≡ false → All (IsNewlyNoted now links.clients.newcomers.newcomers.items n1) (filter_map seat_of acc.facts.came))
       → Giving Holds IsClean Faults o4 o5 (λ g. AreLateGone now links.clients.newcomers.seconds links.clients.newcomers.newcomers.items g × HasEndedLate Holds IsClean o4 o5 now links.clients.newcomers.seconds n1 n2 seats2 g)
       → ((U : Trace) → StandsFor Holds o5 U → (c : ℕ) → is_open U c ≡ true → newcomer c links_then.clients.newcomers.newcomers.items ≡ newcomer c n2)
-      → ((U : Trace) → StandsFor Holds o5 U → Asking Asked w5 w6 (λ calls. AreClosed U seats2 links_then.clients.seats.items calls × PressedBy pressing pressed calls))
-      → SpoolPart Holds IsClean Faults AskedFiles o5 f o6 f1 (λ U given calls. IsSpoolTurn (last_tried links) (last_tried links_then) U given calls × (links_then.clients.presses ≡ (pressed || has_dealt calls)))
+      → ((U : Trace) → StandsFor Holds o5 U → Asking Asked w5 w6 (λ calls. AreClosed U seats2 links_then.clients.seats.items calls × HurriesBy hurrying hurried calls × Releases links.clients.wait hurried calls))
+      → SpoolPart Holds IsClean Faults AskedFiles o5 f o6 f1 (λ U given calls. IsSpoolTurn (last_tried links) (last_tried links_then) U given calls × (links_then.clients.hurries ≡ (hurried || has_dealt calls)))
       → StandsFor Holds o T → IsClean (vault_of o6) → Works Holds Faults Asked AskedFiles T now links o w f o6 links_then w6 f1
-  turn_done T now links links_then o o1 o2 o3 o4 o5 o6 w w1 w2 w3 w4 w5 w6 f f1 seats2 goes held more freed pressing pressed n1 n2 pass acc asked served reqs keeps late forgets close spool s k6 =
+  turn_done T now links links_then o o1 o2 o3 o4 o5 o6 w w1 w2 w3 w4 w5 w6 f f1 seats2 goes held more freed hurrying hurried n1 n2 pass acc asked served freeing still reqs keeps comers late forgets close spool s k6 =
       let B = T.base in
       let L = T.log in
       let seconds = links.clients.newcomers.seconds in
       let newcomers = links.clients.newcomers.newcomers.items in
       let millis = millis_of links in
-      let way = way_of links (length seats2) freed in
+      let way = way_of links links_then (length seats2) freed in
       let gp = pass.given in
       let ga = acc.given in
       let gl = served.given in
@@ -203,6 +207,8 @@ module _ {V W S : Type 0} (Holds : V → Contents → Type 0) (IsClean : V → T
       let cx = x.calls in
       let C5 : List Call = ((((cp ++ ca) ++ cq) ++ cl) ++ cr) ++ cx in
       let filed = spool.facts (trace_of B ((gz ++ G3) ++ L)) (subst (λ l. StandsFor Holds o5 (trace_of B l)) (sym (append_assoc gz G3 L)) s5) k6 in
+      let sleeps_not : hurried ≡ true → millis_of links_then ≡ 0 = λ e. no_wait links_then (filed.1 ∙ is_left hurried (has_dealt spool.calls) e) in
+      let had = served_so Holds IsClean Faults o2 o3 (way_by (settings links) (length seats2) freed hurrying) way seats2 seats2 gl cl refl refl (λ e. e) (λ e. ap (λ n. n == 0) (sleeps_not (still e))) served.facts.0.turns in
       let come = acc.facts.come in
       let came = acc.facts.came in
       let quiet = deposits_quiet gs spool.deposits in
@@ -261,10 +267,12 @@ module _ {V W S : Type 0} (Holds : V → Contents → Type 0) (IsClean : V → T
           is = append_assoc gs gz G3;
           tries = filed.0;
         };
-        rests = λ m f d. waits_then links_then (filed.1 ∙ rests_so pressing freed pressed (has_dealt spool.calls) (has_moved cl) (has_moved cx) (has_moved C5) served.facts.1 x.facts.1
+        rests = λ m f d. waits_then links_then (filed.1 ∙ rests_so hurrying freed hurried (has_dealt spool.calls) (has_moved cl) (has_moved cx) (has_moved C5) served.facts.1 x.facts.1
             (λ q. seen_fourth cp ca cq cl cr cx is_moving q) (λ q. any_right is_moving ((((cp ++ ca) ++ cq) ++ cl) ++ cr) cx q) m f d)
-            (not_true links_then.requests.presses (λ e. true≢false (sym (seen_fifth cp ca cq cl cr cx is_moving (reqs.facts.1 e)) ∙ m)));
-        dealt = λ e. no_wait links_then (filed.1 ∙ (ap (λ b. pressed || b) e ∙ or_true pressed));
+            (not_true links_then.requests.hurries (λ e. true≢false (sym (seen_fifth cp ca cq cl cr cx is_moving (reqs.facts.1 e)) ∙ m)));
+        frees = λ e. sleeps_not (still (freeing e));
+        releases = λ on e. sleeps_not (x.facts.2 on (ap has_moved (x.facts.0.calls_are ∙ ap (map closing) shut_same) ∙ shut_moved after seats2 e));
+        dealt = λ e. no_wait links_then (filed.1 ∙ (ap (λ b. hurried || b) e ∙ or_true hurried));
         http = record {
           held = held;
           before = cp ++ ca;
@@ -335,7 +343,7 @@ module _ {V W S : Type 0} (Holds : V → Contents → Type 0) (IsClean : V → T
               (λ q h here.
               turned_left way B L G3 gx ((((cp ++ ca) ++ cq) ++ cl) ++ cr) cx q
               (turned_left way B L G2 gr (((cp ++ ca) ++ cq) ++ cl) cr q (turned_right way B L G1 gl ((cp ++ ca) ++ cq) cl q (h (to_links q.connection here)))))
-              seats2 (served.facts.0.turns.turns B (G1 ++ L) s2 k3);
+              seats2 (had.turns B (G1 ++ L) s2 k3);
           caused = All-append Q gx G3 (All-append Q gs gz (by_cause gs caused_s) caused_z)
               (All-append Q gr G2 (by_cause gr caused_r) (All-append Q gl G1 (by_cause gl caused_l) (All-append Q ga gp (by_cause ga caused_a) (by_cause gp caused_p))));
           closed = filter_map-append closing_of ((((cp ++ ca) ++ cq) ++ cl) ++ cr) cx
@@ -351,6 +359,15 @@ module _ {V W S : Type 0} (Holds : V → Contents → Type 0) (IsClean : V → T
               (λ (e : newcomer c n2 ≡ newcomer c n1). inl (forgets trace4 s5 c (sym (same c) ∙ here) ∙ (e ∙ keeps c n is)))
               (λ (u : HasLived B (G3 ++ L) gz c). inr (lived_right B L G3 gx c (lived_left B (G3 ++ L) gz gs c u)))
               (late.facts.1.noted B (G3 ++ L) s4 k5 c);
+          newly = λ h on.
+              All-weaker (IsNewlyNoted now newcomers n1) (IsNotedSince now newcomers links_then.clients.newcomers.newcomers.items B L G4 after)
+              (λ q k none_before here.
+              (let c = q.connection in
+              ⊎_elim
+              (λ (e : newcomer c n2 ≡ newcomer c n1). inl (forgets trace4 s5 c (sym (same c) ∙ here) ∙ (e ∙ k none_before)))
+              (λ (u : HasLived B (G3 ++ L) gz c). inr (lived_right B L G3 gx c (lived_left B (G3 ++ L) gz gs c u)))
+              (late.facts.1.noted B (G3 ++ L) s4 k5 c)))
+              (filter_map seat_of came) (comers h on);
           left = x.facts.0.left ∙ open_same;
         };
       }

@@ -18,9 +18,10 @@ use Rattle.serving.specs.declared.wire.Io.TheVariants.{Count, Later, End, Broken
 use Rattle.serving.specs.declared.requests.Response.{Response}
 use Rattle.serving.specs.declared.requests.Exchange.{Exchange}
 use Rattle.serving.specs.HttpTurns.{is_late_at}
+use Rattle.serving.specs.Works.{most_at_once}
 use Rattle.serving.proofs.Turns.{not_zero}
 use Rattle.serving.proofs.Working.{any_right}
-use Rattle.serving.specs.HttpWorks.{HaveComeBeside, NoMore, IsKept, IsTurnedAway, HasAcceptedBeside, response_of, ComesTo, HasHeard, GaveAPiece, AreWrites, AreWritesOf, told_its_end, took_nothing, is_whole, IsToldOf, HasToldAll, HasTold, Tells, HasHttpTurn, IsServed, HadHttpTurns, NoneHeld, IsHeldOn, IsClosed}
+use Rattle.serving.specs.HttpWorks.{HaveComeBeside, NoMore, IsKept, IsTurnedAway, WantsMemory, HasAcceptedBeside, response_of, ComesTo, HasHeard, GaveAPiece, AreWrites, AreWritesOf, told_its_end, took_nothing, is_whole, IsToldOf, HasToldAll, HasTold, Tells, HasHttpTurn, IsServed, HadHttpTurns, NoneHeld, IsHeldOn, IsClosed}
 
 or_true : (b : Bool) → (b || true) ≡ true
 or_true true = refl
@@ -34,9 +35,12 @@ module _ (now : ℕ) where
   come_then _ _ h3 _ m _ c2 (IsKept link held more held_then came calls one rest) b =
       let e : suc (came + m) ≡ suc came + m = omega arith in
       subst (λ k. HaveComeBeside now held h3 k (Accepted Admin (Some link) ∷ (calls ++ c2))) e (IsKept link held more h3 (came + m) (calls ++ c2) one (come_then more held_then h3 came m calls c2 rest b))
-  come_then _ _ h3 _ m _ c2 (IsTurnedAway link held held_then came calls rest) b =
+  come_then _ _ h3 _ m _ c2 (IsTurnedAway link held held_then came calls full rest) b =
       let e : suc (came + m) ≡ suc came + m = omega arith in
-      subst (λ k. HaveComeBeside now held h3 k (Accepted Admin (Some link) ∷ Closed Admin link ∷ (calls ++ c2))) e (IsTurnedAway link held h3 (came + m) (calls ++ c2) (come_then held held_then h3 came m calls c2 rest b))
+      subst (λ k. HaveComeBeside now held h3 k (Accepted Admin (Some link) ∷ Closed Admin link ∷ (calls ++ c2))) e (IsTurnedAway link held h3 (came + m) (calls ++ c2) full (come_then held held_then h3 came m calls c2 rest b))
+  come_then _ _ h3 _ m _ c2 (WantsMemory link held held_then came calls rest) b =
+      let e : suc (came + m) ≡ suc came + m = omega arith in
+      subst (λ k. HaveComeBeside now held h3 k (Accepted Admin (Some link) ∷ Closed Admin link ∷ (calls ++ c2))) e (WantsMemory link held h3 (came + m) (calls ++ c2) (come_then held held_then h3 came m calls c2 rest b))
 
   pub accepted_none : (held : List Exchange) → HasAcceptedBeside now 0 true held held []
   accepted_none held = record { came = 0; arrivals = []; come = NoMore held; calls_are = refl; enough = λ e. omega arith }
@@ -60,13 +64,13 @@ module _ (now : ℕ) where
 
 module _ (B : Records) (L : Log) (e e2 : Exchange) where
   pub heard_piece : (n : ℕ) (piece : List ℕ) (g1 g2 : Log) (c1 c2 : List Call) → e.response ≡ None → e2.is_over ≡ false → IfNone e2.response (e2.read.items ≡ e.read.items ++ piece)
-      → g1 ≡ [] → c1 ≡ Read Admin e.link (Count n) piece ∷ [] → (c2 ≡ []) × ComesTo B (g1 ++ L) (e.read.items ++ piece) g2 (response_of e2) → HasHeard B L e e2 (g2 ++ g1) (c1 ++ c2)
-  heard_piece n piece g1 g2 c1 c2 none live reads none_given one_call q =
-      let call = Read Admin e.link (Count n) piece in
+      → e2.link ≡ e.link → e2.written ≡ e.written → g1 ≡ [] → c1 ≡ Read Admin e.link most_at_once (Count n) piece ∷ [] → (c2 ≡ []) × ComesTo B (g1 ++ L) (e.read.items ++ piece) g2 (response_of e2) → HasHeard B L e e2 (g2 ++ g1) (c1 ++ c2)
+  heard_piece n piece g1 g2 c1 c2 none live reads link written none_given one_call q =
+      let call = Read Admin e.link most_at_once (Count n) piece in
       let comes = subst (λ g. ComesTo B (g ++ L) (e.read.items ++ piece) g2 (response_of e2)) none_given q.1 in
       let given_is : g2 ++ g1 ≡ g2 = ap (λ g. g2 ++ g) none_given ∙ append-nil g2 in
       let calls_are : c1 ++ c2 ≡ call ∷ [] = ap (λ c. c ++ c2) one_call ∙ ap (λ c. call ∷ c) q.0 in
-      subst (λ g. HasHeard B L e e2 g (c1 ++ c2)) (sym given_is) (subst (HasHeard B L e e2 g2) (sym calls_are) (GaveAPiece n piece g2 none live comes reads))
+      subst (λ g. HasHeard B L e e2 g (c1 ++ c2)) (sym given_is) (subst (HasHeard B L e e2 g2) (sym calls_are) (GaveAPiece n piece g2 none live comes reads link written))
 
 -- ---- what is written of a response
 
@@ -80,7 +84,7 @@ writes_then l r w w1 w2 (Wrote Pop k io octets ∷ c1) c2 a b = absurd a
 writes_then l r w w1 w2 (Waited millis ∷ c1) c2 a b = absurd a
 writes_then l r w w1 w2 (Accepted port link ∷ c1) c2 a b = absurd a
 writes_then l r w w1 w2 (Looked port link io octets ∷ c1) c2 a b = absurd a
-writes_then l r w w1 w2 (Read port link io octets ∷ c1) c2 a b = absurd a
+writes_then l r w w1 w2 (Read port link room io octets ∷ c1) c2 a b = absurd a
 writes_then l r w w1 w2 (Closed port link ∷ c1) c2 a b = absurd a
 
 writes_of_then : (l : Link) (r : Option Response) (w w1 w2 : ℕ) (c1 c2 : List Call) → AreWritesOf l r w c1 w1 → AreWritesOf l r w1 c2 w2 → AreWritesOf l r w (c1 ++ c2) w2

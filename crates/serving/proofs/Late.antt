@@ -16,10 +16,10 @@ found_here c x xs e = rw e refl
 pub found_later : (c : ℕ) (x : Newcomer) (xs : List Newcomer) → (x.connection == c) ≡ false → newcomer c (x ∷ xs) ≡ newcomer c xs
 found_later c x xs e = rw e refl
 
-others_gone : (d : ℕ) (x : Newcomer) (xs : List Newcomer) → (x.connection == d) ≡ true → others d (x ∷ xs) ≡ others d xs
+pub others_gone : (d : ℕ) (x : Newcomer) (xs : List Newcomer) → (x.connection == d) ≡ true → others d (x ∷ xs) ≡ others d xs
 others_gone d x xs e = rw e refl
 
-others_kept : (d : ℕ) (x : Newcomer) (xs : List Newcomer) → (x.connection == d) ≡ false → others d (x ∷ xs) ≡ x ∷ others d xs
+pub others_kept : (d : ℕ) (x : Newcomer) (xs : List Newcomer) → (x.connection == d) ≡ false → others d (x ∷ xs) ≡ x ∷ others d xs
 others_kept d x xs e = rw e refl
 
 none_of : (d : ℕ) (xs : List Newcomer) → newcomer d (others d xs) ≡ None
@@ -50,7 +50,7 @@ others_of c d (x ∷ xs) ne =
     (cases_Bool (x.connection == d))
 
 -- one more is found where nobody was, or isn't
-one_more : (c : ℕ) (n : Newcomer) (xs : List Newcomer) → (newcomer c (xs ++ n ∷ []) ≡ newcomer c xs) ⊎ (newcomer c (xs ++ n ∷ []) ≡ Some n)
+pub one_more : (c : ℕ) (n : Newcomer) (xs : List Newcomer) → (newcomer c (xs ++ n ∷ []) ≡ newcomer c xs) ⊎ (newcomer c (xs ++ n ∷ []) ≡ Some n)
 one_more c n [] =
     ⊎_elim
     (λ (e : (n.connection == c) ≡ true). inr (found_here c n [] e))

@@ -25,4 +25,5 @@ pub mod Noting
 pub mod Going
 pub mod Freeing
 pub mod Timely
+pub mod Newly
 pub mod Resting

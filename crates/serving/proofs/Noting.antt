@@ -37,10 +37,10 @@ still_counted counts Pop change t keeps h = (h.0 ∙ sym (keeps t.pop), h.1)
 still_counted counts Admin change t keeps h = (h.0, h.1 ∙ sym (keeps t.admin))
 
 -- a read
-pub tells_read : (counts : Counts) (calls calls_then : List Call) (p : Port) (link : Link) (io : Io) (octets : List ℕ) (t : ToldOfPorts)
-    → calls_then ≡ calls ++ Read p link io octets ∷ [] → AreTold counts calls t → AreTold counts calls_then (at_port p (λ of. has_read of link.number io octets) t)
-tells_read counts calls calls_then p link io octets t more h =
-    tells_on counts calls calls_then (Read p link io octets) t more h
+pub tells_read : (counts : Counts) (calls calls_then : List Call) (p : Port) (link : Link) (room : ℕ) (io : Io) (octets : List ℕ) (t : ToldOfPorts)
+    → calls_then ≡ calls ++ Read p link room io octets ∷ [] → AreTold counts calls t → AreTold counts calls_then (at_port p (λ of. has_read of link.number io octets) t)
+tells_read counts calls calls_then p link room io octets t more h =
+    tells_on counts calls calls_then (Read p link room io octets) t more h
     (still_counted counts p (λ of. has_read of link.number io octets) t (λ u. refl) h.1)
 
 -- a write

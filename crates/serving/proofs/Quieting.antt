@@ -23,8 +23,8 @@ use Rattle.serving.proofs.Working.{given_none, asked_none, asked_one, asked_then
 pub quiet_accepted : (came : Option Link) → IsQuiet [] (Accepted Admin came ∷ [])
 quiet_accepted came = record { no_moments = refl; no_openings = refl; no_refusals = refl; no_waits = refl; no_arrivals = refl; no_closings = refl }
 
-pub quiet_read : (link : Link) (io : Io) (octets : List ℕ) → IsQuiet [] (Read Admin link io octets ∷ [])
-quiet_read link io octets = record { no_moments = refl; no_openings = refl; no_refusals = refl; no_waits = refl; no_arrivals = refl; no_closings = refl }
+pub quiet_read : (link : Link) (room : ℕ) (io : Io) (octets : List ℕ) → IsQuiet [] (Read Admin link room io octets ∷ [])
+quiet_read link room io octets = record { no_moments = refl; no_openings = refl; no_refusals = refl; no_waits = refl; no_arrivals = refl; no_closings = refl }
 
 pub quiet_wrote : (link : Link) (io : Io) (octets : List ℕ) → IsQuiet [] (Wrote Admin link io octets ∷ [])
 quiet_wrote link io octets = record { no_moments = refl; no_openings = refl; no_refusals = refl; no_waits = refl; no_arrivals = refl; no_closings = refl }

@@ -1,8 +1,9 @@
--- Why the next turn doesn't wait: what pressed before, or what moved.
-use Rattle.std.proofs.Common.{◌≡◌, ◌≤◌, ◌<◌, ℕ, zero, suc, Bool, true, false, ◌||◌, List, [], ◌∷◌, ◌++◌, length, refl, sym, ◌∙◌, ap, arith, Some, None, Option, ◌==◌, ◌⊎◌, ⊎_elim, true≢false}
+-- Why the next turn doesn't wait: what hurried before, or what moved.
+use Rattle.std.proofs.Common.{◌≡◌, ◌≤◌, ◌<◌, ℕ, zero, suc, Bool, true, false, ◌||◌, List, [], ◌∷◌, ◌++◌, length, refl, sym, ◌∙◌, ap, arith, Some, None, Option, ◌==◌, ◌⊎◌, ⊎_elim, true≢false, nat_lt}
 use Rattle.std.specs.Bool.{if◌then◌else◌}
 use Rattle.std.specs.List.{filter}
-use Rattle.std.proofs.lemmas.Bool.{or_cases}
+use Rattle.std.proofs.lemmas.Bool.{or_cases, lt-ltb}
+use Rattle.std.proofs.lemmas.List.Folds.{list_any-append}
 use Rattle.serving.specs.declared.wire.Link.{Link}
 use Rattle.serving.specs.declared.wire.Port.TheVariants.{Pop, Admin}
 use Rattle.serving.specs.declared.wire.Io.TheVariants.{Count, Later, End, Broken}
@@ -14,7 +15,7 @@ use Rattle.serving.specs.HttpWorks.{AreWrites, AreWritesOf, IsToldOf}
 use Rattle.serving.specs.Turns.{millis_of}
 use Rattle.serving.proofs.HttpWorking.{ToldSoFar}
 use Rattle.serving.specs.Calls.{Call, Waited, Accepted, Looked, Read, Wrote, Closed}
-use Rattle.serving.specs.Works.{is_moving, has_moved, PressedBy, is_taking_of, octets_taken, share_by}
+use Rattle.serving.specs.Works.{is_moving, has_moved, HurriesBy, Releases, is_taking_of, octets_taken, share_by}
 use Rattle.serving.proofs.Working.{or_true, any_left, any_right}
 
 pub is_left : (a b : Bool) → a ≡ true → (a || b) ≡ true
@@ -31,41 +32,54 @@ pub not_true : (b : Bool) → (b ≡ true → ⊥) → b ≡ false
 not_true true h = absurd (h refl)
 not_true false h = refl
 
--- ---- what pressed before
+-- ---- what hurried before
 
-pub pressed_same : (p : Bool) (calls : List Call) → PressedBy p p calls
-pressed_same p calls e = is_left p (has_moved calls) e
+pub hurried_same : (p : Bool) (calls : List Call) → HurriesBy p p calls
+hurried_same p calls e = is_left p (has_moved calls) e
 
-pub pressed_quiet : (p : Bool) (calls : List Call) → PressedBy p (p || false) calls
-pressed_quiet p calls e = either p false (p || has_moved calls) (λ x. is_left p (has_moved calls) x) (λ x. absurd (true≢false (sym x))) e
+pub hurried_quiet : (p : Bool) (calls : List Call) → HurriesBy p (p || false) calls
+hurried_quiet p calls e = either p false (p || has_moved calls) (λ x. is_left p (has_moved calls) x) (λ x. absurd (true≢false (sym x))) e
 
-pub pressed_moved : (p q : Bool) (calls : List Call) → has_moved calls ≡ true → PressedBy p q calls
-pressed_moved p q calls h e = is_right p (has_moved calls) h
+pub hurried_moved : (p q : Bool) (calls : List Call) → has_moved calls ≡ true → HurriesBy p q calls
+hurried_moved p q calls h e = is_right p (has_moved calls) h
 
-pub pressed_then : (p q r : Bool) (c1 c2 : List Call) → PressedBy p q c1 → PressedBy q r c2 → PressedBy p r (c1 ++ c2)
-pressed_then p q r c1 c2 a b e =
+pub hurried_then : (p q r : Bool) (c1 c2 : List Call) → HurriesBy p q c1 → HurriesBy q r c2 → HurriesBy p r (c1 ++ c2)
+hurried_then p q r c1 c2 a b e =
     let m = has_moved (c1 ++ c2) in
     either q (has_moved c2) (p || m)
     (λ x. either p (has_moved c1) (p || m) (λ y. is_left p m y) (λ y. is_right p m (any_left is_moving c1 c2 y)) (a x))
     (λ x. is_right p m (any_right is_moving c1 c2 x))
     (b e)
 
-pub pressed_behind : (p q r : Bool) (c1 c2 : List Call) → (r ≡ true → q ≡ true) → PressedBy p q c2 → PressedBy p r (c1 ++ c2)
-pressed_behind p q r c1 c2 h b e = pressed_then p p q c1 c2 (pressed_same p c1) b (h e)
+pub hurried_behind : (p q r : Bool) (c1 c2 : List Call) → (r ≡ true → q ≡ true) → HurriesBy p q c2 → HurriesBy p r (c1 ++ c2)
+hurried_behind p q r c1 c2 h b e = hurried_then p p q c1 c2 (hurried_same p c1) b (h e)
+
+-- ---- where logins wait for locks
+
+pub releases_then : (wait : ℕ) (p q : Bool) (c1 c2 : List Call) → (p ≡ true → q ≡ true) → Releases wait p c1 → Releases wait q c2 → Releases wait q (c1 ++ c2)
+releases_then wait p q c1 c2 still a b = λ on e.
+    ⊎_elim
+    (λ (x : has_moved c1 ≡ true). still (a on x))
+    (λ (x : has_moved c2 ≡ true). b on x)
+    (or_cases (has_moved c1) (has_moved c2) (sym (list_any-append is_moving c1 c2) ∙ e))
+
+pub some_wait : (n : ℕ) → (n == 0) ≡ false → nat_lt 0 n ≡ true
+some_wait zero h = absurd (true≢false h)
+some_wait (suc n) h = lt-ltb 0 (suc n) (omega arith)
 
 -- ---- a session that ended
 
--- a client pressed, or its session ended
-pub client_pressed : (p q f r : Bool) (calls : List Call) → PressedBy p q calls → (r ≡ true → (q || f) ≡ true) → PressedBy (p || f) r calls
-client_pressed p q f r calls a h e =
+-- a client hurried, or its session ended
+pub client_hurried : (p q f r : Bool) (calls : List Call) → HurriesBy p q calls → (r ≡ true → (q || f) ≡ true) → HurriesBy (p || f) r calls
+client_hurried p q f r calls a h e =
     let m = has_moved calls in
     either q f ((p || f) || m)
     (λ x. either p m ((p || f) || m) (λ y. is_left (p || f) m (is_left p f y)) (λ y. is_right (p || f) m y) (a x))
     (λ x. is_left (p || f) m (is_right p f x))
     (h e)
 
-pub clients_pressed : (p q r f1 f2 : Bool) (c1 c2 : List Call) → (f1 ≡ true → f2 ≡ true) → PressedBy (p || f1) q c1 → PressedBy (q || f2) r c2 → PressedBy (p || f2) r (c1 ++ c2)
-clients_pressed p q r f1 f2 c1 c2 still a b e =
+pub clients_hurried : (p q r f1 f2 : Bool) (c1 c2 : List Call) → (f1 ≡ true → f2 ≡ true) → HurriesBy (p || f1) q c1 → HurriesBy (q || f2) r c2 → HurriesBy (p || f2) r (c1 ++ c2)
+clients_hurried p q r f1 f2 c1 c2 still a b e =
     let m = has_moved (c1 ++ c2) in
     let t = (p || f2) || m in
     either (q || f2) (has_moved c2) t
@@ -87,10 +101,10 @@ any_taken l (Waited n ∷ calls) h = any_taken l calls (omega (arith, h))
 any_taken l (Accepted port None ∷ calls) h = any_taken l calls (omega (arith, h))
 any_taken l (Accepted port (Some k) ∷ calls) h = refl
 any_taken l (Looked port k io xs ∷ calls) h = any_taken l calls (omega (arith, h))
-any_taken l (Read port k (Count n) xs ∷ calls) h = refl
-any_taken l (Read port k Later xs ∷ calls) h = any_taken l calls (omega (arith, h))
-any_taken l (Read port k End xs ∷ calls) h = any_taken l calls (omega (arith, h))
-any_taken l (Read port k Broken xs ∷ calls) h = any_taken l calls (omega (arith, h))
+any_taken l (Read port k room (Count n) xs ∷ calls) h = refl
+any_taken l (Read port k room Later xs ∷ calls) h = any_taken l calls (omega (arith, h))
+any_taken l (Read port k room End xs ∷ calls) h = any_taken l calls (omega (arith, h))
+any_taken l (Read port k room Broken xs ∷ calls) h = any_taken l calls (omega (arith, h))
 any_taken l (Wrote port k (Count n) xs ∷ calls) h = refl
 any_taken l (Wrote Pop k Later xs ∷ calls) h = any_taken l calls (omega (arith, h))
 any_taken l (Wrote Pop k End xs ∷ calls) h = any_taken l calls (omega (arith, h))
@@ -106,10 +120,10 @@ any_taking l (Waited n ∷ calls) h = any_taking l calls h
 any_taking l (Accepted port None ∷ calls) h = any_taking l calls h
 any_taking l (Accepted port (Some k) ∷ calls) h = refl
 any_taking l (Looked port k io xs ∷ calls) h = any_taking l calls h
-any_taking l (Read port k (Count n) xs ∷ calls) h = refl
-any_taking l (Read port k Later xs ∷ calls) h = any_taking l calls h
-any_taking l (Read port k End xs ∷ calls) h = any_taking l calls h
-any_taking l (Read port k Broken xs ∷ calls) h = any_taking l calls h
+any_taking l (Read port k room (Count n) xs ∷ calls) h = refl
+any_taking l (Read port k room Later xs ∷ calls) h = any_taking l calls h
+any_taking l (Read port k room End xs ∷ calls) h = any_taking l calls h
+any_taking l (Read port k room Broken xs ∷ calls) h = any_taking l calls h
 any_taking l (Wrote port k (Count n) xs ∷ calls) h = refl
 any_taking l (Wrote Pop k Later xs ∷ calls) h = any_taking l calls h
 any_taking l (Wrote Pop k End xs ∷ calls) h = any_taking l calls h
@@ -144,7 +158,7 @@ writes_moved l r w w1 (Wrote Pop k io octets ∷ calls) a h = absurd a
 writes_moved l r w w1 (Waited millis ∷ calls) a h = absurd a
 writes_moved l r w w1 (Accepted port link ∷ calls) a h = absurd a
 writes_moved l r w w1 (Looked port link io octets ∷ calls) a h = absurd a
-writes_moved l r w w1 (Read port link io octets ∷ calls) a h = absurd a
+writes_moved l r w w1 (Read port link room io octets ∷ calls) a h = absurd a
 writes_moved l r w w1 (Closed port link ∷ calls) a h = absurd a
 
 response_moved : (l : Link) (r : Option Response) (w w1 : ℕ) (calls : List Call) → AreWritesOf l r w calls w1 → w < w1 → has_moved calls ≡ true
@@ -166,26 +180,26 @@ told_moved e e1 times octets calls some a =
 abbrev pub TellsSoFar : (e e1 : Exchange) (times octets : ℕ) (calls : List Call) → Type 0
 TellsSoFar e e1 times octets calls = ToldSoFar e e1 times octets calls × (0 < times → has_moved calls ≡ true)
 
--- a link of the administration pressed, or one before it did
-pub beside_pressed : (p q : Bool) (calls : List Call) → PressedBy false q calls → PressedBy p (p || q) calls
-beside_pressed p q calls a e = either p q (p || has_moved calls) (λ x. is_left p (has_moved calls) x) (λ x. is_right p (has_moved calls) (a x)) e
+-- a link of the administration hurried, or one before it did
+pub beside_hurried : (p q : Bool) (calls : List Call) → HurriesBy false q calls → HurriesBy p (p || q) calls
+beside_hurried p q calls a e = either p q (p || has_moved calls) (λ x. is_left p (has_moved calls) x) (λ x. is_right p (has_moved calls) (a x)) e
 
-pub closed_pressed : (p q : Bool) (c1 c2 : List Call) → PressedBy false q c1 → PressedBy p (p || q) (c1 ++ c2)
-closed_pressed p q c1 c2 a e = either p q (p || has_moved (c1 ++ c2)) (λ x. is_left p (has_moved (c1 ++ c2)) x) (λ x. is_right p (has_moved (c1 ++ c2)) (any_left is_moving c1 c2 (a x))) e
+pub closed_hurried : (p q : Bool) (c1 c2 : List Call) → HurriesBy false q c1 → HurriesBy p (p || q) (c1 ++ c2)
+closed_hurried p q c1 c2 a e = either p q (p || has_moved (c1 ++ c2)) (λ x. is_left p (has_moved (c1 ++ c2)) x) (λ x. is_right p (has_moved (c1 ++ c2)) (any_left is_moving c1 c2 (a x))) e
 
 -- ---- the whole turn
 
--- where the links of neither port press, the next turn waits
-pub waits_then : (links : Links) → links.clients.presses ≡ false → links.requests.presses ≡ false → millis_of links ≡ 1000
+-- where the links of neither port hurry, the next turn waits
+pub waits_then : (links : Links) → links.clients.hurries ≡ false → links.requests.hurries ≡ false → millis_of links ≡ 1000
 waits_then links a b = rw a (rw b refl)
 
--- it presses for one of these
-pub rests_so : (pl freed pressed dealt ml mx m : Bool) → (pl ≡ true → (freed || ml) ≡ true) → (pressed ≡ true → (pl || mx) ≡ true) → (ml ≡ true → m ≡ true) → (mx ≡ true → m ≡ true)
-    → m ≡ false → freed ≡ false → dealt ≡ false → (pressed || dealt) ≡ false
-rests_so pl freed pressed dealt ml mx m hl hx tl tx none_m none_f none_d =
-    not_true (pressed || dealt) (λ e.
+-- it hurries for one of these
+pub rests_so : (pl freed hurried dealt ml mx m : Bool) → (pl ≡ true → (freed || ml) ≡ true) → (hurried ≡ true → (pl || mx) ≡ true) → (ml ≡ true → m ≡ true) → (mx ≡ true → m ≡ true)
+    → m ≡ false → freed ≡ false → dealt ≡ false → (hurried || dealt) ≡ false
+rests_so pl freed hurried dealt ml mx m hl hx tl tx none_m none_f none_d =
+    not_true (hurried || dealt) (λ e.
     (let moved : m ≡ true → m ≡ true = λ q. q in
-    true≢false (sym (either pressed dealt m
+    true≢false (sym (either hurried dealt m
     (λ x. either pl mx m (λ y. either freed ml m (λ z. absurd (true≢false (sym z ∙ none_f))) tl (hl y)) tx (hx x))
     (λ x. absurd (true≢false (sym x ∙ none_d)))
     e) ∙ none_m)))

@@ -3,7 +3,7 @@ use Rattle.std.proofs.Common.{◌≡◌, ℕ, zero, suc, ◌+◌, ◌<◌, ◌�
 use Rattle.std.specs.Bool.{⊤, if◌then◌else◌}
 use Rattle.std.specs.List.{All, Contains, list_any, filter, filter_map, remove}
 use Rattle.std.proofs.lemmas.Bool.{cases_Bool}
-use Rattle.std.proofs.lemmas.List.{append-nil, map-append}
+use Rattle.std.proofs.lemmas.List.{append-nil, map-append, length-take}
 use Rattle.std.proofs.lemmas.List.Elements.{All-nil, All-cons, All-head, All-append, All-weaker, All-more, filter_map-append, filter-append, Contains-append_left, Contains-append_right}
 use Rattle.vault.specs.Records.{Records}
 use Rattle.vault.specs.Changes.{Contents}
@@ -23,12 +23,14 @@ use Rattle.serving.specs.declared.wire.Io.TheVariants.{Count, Later}
 use Rattle.serving.specs.Calls.{Call, Waited, Looked, Accepted, Read, Wrote, Closed}
 use Rattle.serving.specs.declared.links.Seat.{Seat}
 use Rattle.serving.specs.Wires.{is_fault, opened_by}
-use Rattle.serving.specs.Works.{Also, waits, arrivals, arrival_of, closings, closing_of, none_waited, tells_none, is_read_of, is_later_of, is_taking_of, is_cut_of, is_cut, most_writes, octets_taken, had_its_turn, moments, openings, is_opening, refusals, is_refusal, AreNewlyAdmitted, HasCause, AreCaused, WasGiven, WasAsked, Part, Asking, Giving, IsQuiet, IsQuietFor, Came, seat_of, unseated_of, link_of, HaveCome, HasAccepted, AreAccepted, OwesNothing, IsWritten, IsWrittenOut, IsNotReady, IsUnread, IsHeard, IsKeptBack, StaysUnread, Way, HadTurn, HadTurns}
+use Rattle.serving.specs.Works.{Also, waits, arrivals, arrival_of, closings, closing_of, none_waited, tells_none, is_read_of, is_later_of, is_taking_of, is_cut_of, is_cut, most_writes, octets_taken, had_its_turn, moments, openings, is_opening, refusals, is_refusal, AreNewlyAdmitted, HasCause, AreCaused, WasGiven, WasAsked, Part, Asking, Giving, IsQuiet, IsQuietFor, Came, seat_of, unseated_of, link_of, HaveCome, HasAccepted, AreAccepted, OwesNothing, IsWritten, IsWrittenOut, IsNotReady, IsUnread, IsHeard, IsReadOnce, NotReady, WasRead, HasLooked, Unlooked, NothingCame, PieceCame, IsReadByLine, IsHeldBack, most_at_once, IsKeptBack, Way, HadTurn, HadTurns}
+use Rattle.serving.specs.Paces.{is_free, first_line, part_by}
+use Rattle.serving.specs.declared.pace.Pace.{Pace}
 use Rattle.office.specs.Waiting as waiting
 use Rattle.office.specs.Logins.{brings_login}
 use Rattle.serving.proofs.Staying.{Fewer}
 use Rattle.serving.proofs.Seating.{any_default, contained, whole_front}
-use Rattle.serving.proofs.Working.{given_none, asked_then, given_then, count_joined, any_left, any_right, quiet_then, quiet_none, caused_more, caused_then, of_then, of_more, of_none, turn_read, turn_later, turn_full, turn_shared, turn_left, turn_right, taken_joined, turned_right, fewer_quiet, turns_later, shut_by}
+use Rattle.serving.proofs.Working.{given_none, asked_then, given_then, count_joined, any_left, any_right, quiet_then, quiet_none, caused_more, caused_then, of_then, of_more, of_none, turn_read, turn_later, turn_full, turn_shared, turn_left, turn_right, turn_hurried, line_right, taken_joined, turned_right, fewer_quiet, turns_later, shut_by}
 
 -- ---- one call
 
@@ -112,69 +114,91 @@ module _ {V : Type 0} (Holds : V → Contents → Type 0) (IsClean : V → Type 
   pub wrote_none : (o : Office V) (seat : Seat) → OwesNothing Holds IsClean o o seat.connection [] → IsWritten Holds IsClean o o seat 0 0 false [] []
   wrote_none o seat owes = record { of_seat = of_none (seat ∷ []); taken = omega arith; octets_are = omega arith; ends = λ e. inr owes }
 
+  -- one read
+  module _ (o : Office V) (seat : Seat) (room : ℕ) where
+    pub read_some : (io : Io) (octets piece : List ℕ) (m : Mark) → IsReadOnce Holds o seat room ((event.Bytes seat.connection piece, m) ∷ []) (Read Pop seat.link room io octets ∷ [])
+    read_some io octets piece m = WasRead io octets ((event.Bytes seat.connection piece, m) ∷ []) (record {
+      quiet = record { no_moments = refl; no_openings = refl; no_refusals = refl; no_waits = refl; no_arrivals = refl; no_closings = refl };
+      apart = refl;
+      caused = All-cons (HasCause (seat ∷ []) (Read Pop seat.link room io octets ∷ [])) (event.Bytes seat.connection piece, m) [] tt (All-nil (HasCause (seat ∷ []) (Read Pop seat.link room io octets ∷ [])));
+    })
+
+    pub read_later : (io : Io) (octets : List ℕ) → IsReadOnce Holds o seat room [] (Read Pop seat.link room io octets ∷ [])
+    read_later io octets = WasRead io octets [] (record {
+      quiet = record { no_moments = refl; no_openings = refl; no_refusals = refl; no_waits = refl; no_arrivals = refl; no_closings = refl };
+      apart = refl;
+      caused = All-nil (HasCause (seat ∷ []) (Read Pop seat.link room io octets ∷ []));
+    })
+
+    pub read_cut : (io : Io) (octets : List ℕ) (m : Mark) → is_fault io ≡ true → IsReadOnce Holds o seat room ((event.Gone seat.connection, m) ∷ []) (Read Pop seat.link room io octets ∷ [])
+    read_cut io octets m fault = WasRead io octets ((event.Gone seat.connection, m) ∷ []) (record {
+      quiet = record { no_moments = refl; no_openings = refl; no_refusals = refl; no_waits = refl; no_arrivals = refl; no_closings = refl };
+      apart = refl;
+      caused = All-cons (HasCause (seat ∷ []) (Read Pop seat.link room io octets ∷ [])) (event.Gone seat.connection, m) []
+          (seat, first_seat seat, refl, or_none ((seat.link.number == seat.link.number) && is_fault io) (cut_so seat.link.number io fault))
+          (All-nil (HasCause (seat ∷ []) (Read Pop seat.link room io octets ∷ [])));
+    })
+
   module _ (wait : ℕ) (may : Bool) where
-    pub heard_some : (o : Office V) (seat : Seat) (io : Io) (octets piece : List ℕ) (m : Mark) → IsHeard Holds o seat wait may ((event.Bytes seat.connection piece, m) ∷ []) (Read Pop seat.link io octets ∷ [])
-    heard_some o seat io octets piece m = record {
-      of_seat = record {
-        quiet = record { no_moments = refl; no_openings = refl; no_refusals = refl; no_waits = refl; no_arrivals = refl; no_closings = refl };
-        apart = refl;
-        caused = All-cons (HasCause (seat ∷ []) (Read Pop seat.link io octets ∷ [])) (event.Bytes seat.connection piece, m) [] tt (All-nil (HasCause (seat ∷ []) (Read Pop seat.link io octets ∷ [])));
-      };
-      heard = inl (or_none (seat.link.number == seat.link.number) (same_number seat.link.number));
-    }
-
-    pub heard_later : (o : Office V) (seat : Seat) (io : Io) (octets : List ℕ) → IsHeard Holds o seat wait may [] (Read Pop seat.link io octets ∷ [])
-    heard_later o seat io octets = record {
-      of_seat = record {
-        quiet = record { no_moments = refl; no_openings = refl; no_refusals = refl; no_waits = refl; no_arrivals = refl; no_closings = refl };
-        apart = refl;
-        caused = All-nil (HasCause (seat ∷ []) (Read Pop seat.link io octets ∷ []));
-      };
-      heard = inl (or_none (seat.link.number == seat.link.number) (same_number seat.link.number));
-    }
-
-    pub heard_cut : (o : Office V) (seat : Seat) (io : Io) (octets : List ℕ) (m : Mark) → is_fault io ≡ true → IsHeard Holds o seat wait may ((event.Gone seat.connection, m) ∷ []) (Read Pop seat.link io octets ∷ [])
-    heard_cut o seat io octets m fault = record {
-      of_seat = record {
-        quiet = record { no_moments = refl; no_openings = refl; no_refusals = refl; no_waits = refl; no_arrivals = refl; no_closings = refl };
-        apart = refl;
-        caused = All-cons (HasCause (seat ∷ []) (Read Pop seat.link io octets ∷ [])) (event.Gone seat.connection, m) []
-            (seat, first_seat seat, refl, or_none ((seat.link.number == seat.link.number) && is_fault io) (cut_so seat.link.number io fault))
-            (All-nil (HasCause (seat ∷ []) (Read Pop seat.link io octets ∷ [])));
-      };
-      heard = inl (or_none (seat.link.number == seat.link.number) (same_number seat.link.number));
-    }
-
     pub heard_none : (o : Office V) (seat : Seat) → IsNotReady Holds o seat.connection → IsHeard Holds o seat wait may [] []
-    heard_none o seat idle = record { of_seat = of_none (seat ∷ []); heard = inr (refl, inl idle) }
+    heard_none o seat idle = record { of_seat = of_none (seat ∷ []); heard = inr (inr (refl, inl idle)) }
 
     -- what was looked at stays unread
     pub heard_unread : (o : Office V) (seat : Seat) (calls : List Call) → IsQuietFor (seat ∷ []) [] calls → IsUnread Holds o seat wait may calls → IsHeard Holds o seat wait may [] calls
-    heard_unread o seat calls quiet u = record { of_seat = quiet; heard = inr (refl, inr u) }
+    heard_unread o seat calls quiet u = record { of_seat = quiet; heard = inr (inr (refl, inr u)) }
+
+    -- a read that asked for all
+    whole_read : (seat : Seat) (room : ℕ) (io : Io) (octets : List ℕ) → room ≡ most_at_once → list_any (is_read_of seat.link) (Read Pop seat.link room io octets ∷ []) ≡ true
+    whole_read seat room io octets e =
+        let n = same_number seat.link.number in
+        let k : (room == most_at_once) ≡ true = eq-eqb room most_at_once e in
+        rw (n, k) refl
+
+    piece_by : (room : ℕ) (free : Bool) (piece : List ℕ) → room ≡ part_by false free 4096 piece → (free ≡ true → room ≡ most_at_once) × (free ≡ false → room ≡ first_line piece)
+    piece_by room true piece e = (λ f. e, λ f. absurd (true≢false f))
+    piece_by room false piece e = (λ f. absurd (true≢false (sym f)), λ f. e)
+
+    -- what was looked at was read, all or by its line
+    heard_so : (o : Office V) (seat : Seat) (pace : Pace) (room : ℕ) (io : Io) (octets : List ℕ) (looks : List Call) → (room == 0) ≡ false → (is_free pace ≡ false → may ≡ true) → HasLooked Holds o seat wait pace room looks
+        → (list_any (is_read_of seat.link) (looks ++ Read Pop seat.link room io octets ∷ []) ≡ true) ⊎ IsReadByLine (looks ++ Read Pop seat.link room io octets ∷ []) may seat
+    heard_so o seat pace room io octets looks some line (Unlooked e f) = inl (any_right (is_read_of seat.link) [] (Read Pop seat.link 4096 io octets ∷ []) (whole_read seat 4096 io octets refl))
+    heard_so o seat pace room io octets looks some line (NothingCame i e) =
+        inl (any_right (is_read_of seat.link) (Looked Pop seat.link i [] ∷ []) (Read Pop seat.link 4096 io octets ∷ []) (whole_read seat 4096 io octets refl))
+    heard_so o seat pace room io octets looks some line (PieceCame n piece count lies is part) =
+        let k = piece_by count (is_free pace) piece (part some) in
+        let call = Read Pop seat.link count io octets in
+        let look = Looked Pop seat.link (Count n) piece in
+        ⊎_elim
+        (λ (f : is_free pace ≡ true). inl (any_right (is_read_of seat.link) (look ∷ []) (call ∷ []) (whole_read seat count io octets (k.0 f))))
+        (λ (f : is_free pace ≡ false).
+        inr (record {
+          piece = piece;
+          io = Count n;
+          io_then = io;
+          octets = octets;
+          held = line f;
+          shown = (0, omega arith, refl);
+          read = subst (λ r. Contains (look ∷ call ∷ []) (Read Pop seat.link r io octets)) (k.1 f) (1, omega arith, refl);
+        }))
+        (cases_Bool (is_free pace))
 
     -- it was looked at first
-    pub heard_behind : (o : Office V) (seat : Seat) (given : Log) (looks calls : List Call) → IsQuietFor (seat ∷ []) [] looks → IsHeard Holds o seat wait may given calls → IsHeard Holds o seat wait may given (looks ++ calls)
-    heard_behind o seat given looks calls quiet a = record {
-      of_seat = subst (λ g. IsQuietFor (seat ∷ []) g (looks ++ calls)) (append-nil given)
-          (of_then (seat ∷ []) [] given looks calls quiet a.of_seat);
-      heard =
-          ⊎_elim
-          (λ (r : list_any (is_read_of seat.link) calls ≡ true). inl (any_right (is_read_of seat.link) looks calls r))
-          (λ (n : (given ≡ []) × (IsNotReady Holds o seat.connection ⊎ IsUnread Holds o seat wait may calls)).
-          inr (
-            n.0,
-            ⊎_elim
-                (λ (idle : IsNotReady Holds o seat.connection). inl idle)
-                (λ (u : IsUnread Holds o seat wait may calls). inr (record {
-                  piece = u.piece;
-                  io = u.io;
-                  shown = Contains-append_right looks calls (Looked Pop seat.link u.io u.piece) u.shown;
-                  kept = u.kept;
-                }))
-                n.1,
-          ))
-          a.heard;
+    pub heard_behind : (o : Office V) (seat : Seat) (pace : Pace) (room : ℕ) (given : Log) (looks calls : List Call) → IsQuietFor (seat ∷ []) [] looks → HasLooked Holds o seat wait pace room looks
+        → (room == 0) ≡ false → (is_free pace ≡ false → may ≡ true) → IsReadOnce Holds o seat room given calls → IsHeard Holds o seat wait may given (looks ++ calls)
+    heard_behind o seat pace room _ looks _ quiet looked some line (NotReady idle) = record {
+      of_seat = of_then (seat ∷ []) [] [] looks [] quiet (of_none (seat ∷ []));
+      heard = inr (inr (refl, inl idle));
     }
+    heard_behind o seat pace room _ looks _ quiet looked some line (WasRead io octets given q) =
+        let call = Read Pop seat.link room io octets in
+        record {
+          of_seat = subst (λ g. IsQuietFor (seat ∷ []) g (looks ++ call ∷ [])) (append-nil given)
+              (of_then (seat ∷ []) [] given looks (call ∷ []) quiet q);
+          heard = ⊎_elim
+              (λ (all : list_any (is_read_of seat.link) (looks ++ call ∷ []) ≡ true). inl all)
+              (λ (u : IsReadByLine (looks ++ call ∷ []) may seat). inr (inl u))
+              (heard_so o seat pace room io octets looks some line looked);
+        }
 
   -- ---- a link
 
@@ -218,47 +242,46 @@ module _ {V : Type 0} (Holds : V → Contents → Type 0) (IsClean : V → Type 
   written_all o o1 seat n k share goes g c h a = record { of_seat = a.of_seat; goes_on = λ e. inl (let p = a.taken in omega (arith, p, h)); ends = λ e. cc }
 
   -- a link that was written its share had its turn
-  turn_written : (o o1 : Office V) (way : Way) (seat : Seat) (g : Log) (c : List Call) → IsWrittenOut Holds IsClean o o1 seat way.share true g c → had_its_turn way.share seat.link c ≡ true
-  turn_written o o1 way seat g c a =
+  turn_written : (o o1 : Office V) (way : Way) (seat : Seat) (g : Log) (c : List Call) → way.hurries ≡ true → IsWrittenOut Holds IsClean o o1 seat way.share true g c → had_its_turn way.share way.hurries seat.link c ≡ true
+  turn_written o o1 way seat g c e a =
       ⊎_elim
-      (λ (full : most_writes ≤ length (filter (is_taking_of seat.link) c)). turn_full way.share seat.link c full)
-      (λ (taken : way.share ≤ octets_taken seat.link c). turn_shared way.share seat.link c taken)
+      (λ (full : most_writes ≤ length (filter (is_taking_of seat.link) c)). turn_full way.share way.hurries seat.link c e full)
+      (λ (taken : way.share ≤ octets_taken seat.link c). turn_shared way.share way.hurries seat.link c e taken)
       (a.goes_on refl)
 
-  pub served_written : (o o1 : Office V) (way : Way) (seat : Seat) (g : Log) (c : List Call) → IsWrittenOut Holds IsClean o o1 seat way.share true g c → HadTurns Holds IsClean o o1 way (seat ∷ []) (seat ∷ []) g c
-  served_written o o1 way seat g c a = record {
+  pub served_written : (o o1 : Office V) (way : Way) (seat : Seat) (g : Log) (c : List Call) → way.hurries ≡ true → IsWrittenOut Holds IsClean o o1 seat way.share true g c → HadTurns Holds IsClean o o1 way (seat ∷ []) (seat ∷ []) g c
+  served_written o o1 way seat g c e a = record {
     of_seats = a.of_seat;
     turns = λ B L s k.
-        All-cons (HadTurn way B L g (trace_of B (g ++ L)) c) seat [] (λ here. inl (turn_written o o1 way seat g c a)) (All-nil (HadTurn way B L g (trace_of B (g ++ L)) c));
+        All-cons (HadTurn way B L g (trace_of B (g ++ L)) c) seat [] (λ here. inl (turn_written o o1 way seat g c e a)) (All-nil (HadTurn way B L g (trace_of B (g ++ L)) c));
   }
 
-  served_unless : (o o1 o2 : Office V) (way : Way) (seat : Seat) (goes : Bool) (g1 : Log) (c1 c2 : List Call) → WasGiven Holds IsClean Faults o o1 g1 → (IsClean (vault_of o2) → IsClean (vault_of o1))
-      → IsWrittenOut Holds IsClean o o1 seat way.share goes g1 c1 → IsNotReady Holds o1 seat.connection
-      → (B : Records) (L : Log) → StandsFor Holds o (trace_of B L) → IsClean (vault_of o2) → is_open (trace_of B (g1 ++ L)) seat.connection ≡ true → had_its_turn way.share seat.link (c1 ++ c2) ≡ true
-  served_unless o o1 o2 way seat true g1 c1 c2 wa clean a idle B L s k here = turn_left way.share seat.link c1 c2 (turn_written o o1 way seat g1 c1 a)
-  served_unless o o1 o2 way seat false g1 c1 c2 wa clean a idle B L s k here =
+  served_unless : (o o1 o2 : Office V) (way : Way) (seat : Seat) (g1 : Log) (c1 c2 : List Call) → WasGiven Holds IsClean Faults o o1 g1 → (IsClean (vault_of o2) → IsClean (vault_of o1))
+      → IsWrittenOut Holds IsClean o o1 seat way.share false g1 c1 → IsNotReady Holds o1 seat.connection
+      → (B : Records) (L : Log) → StandsFor Holds o (trace_of B L) → IsClean (vault_of o2) → is_open (trace_of B (g1 ++ L)) seat.connection ≡ true → had_its_turn way.share way.hurries seat.link (c1 ++ c2) ≡ true
+  served_unless o o1 o2 way seat g1 c1 c2 wa clean a idle B L s k here =
       ⊎_elim
-      (λ (later : list_any (is_later_of seat.link) c1 ≡ true). turn_left way.share seat.link c1 c2 (turn_later way.share seat.link c1 later))
+      (λ (later : list_any (is_later_of seat.link) c1 ≡ true). turn_left way.share way.hurries seat.link c1 c2 (turn_later way.share way.hurries seat.link c1 later))
       (λ (owes : OwesNothing Holds IsClean o o1 seat.connection g1).
       (let T = trace_of B (g1 ++ L) in
       absurd (shut_by (is_open T seat.connection) (untaken T.log (history T) seat.connection) (owes B L s (clean k)) (idle B (g1 ++ L) (wa.stands B L s (clean k))) here)))
       (a.ends refl)
 
-  pub served_one : (o o1 o2 : Office V) (way : Way) (seat : Seat) (goes : Bool) (g1 g2 : Log) (c1 c2 : List Call) → WasGiven Holds IsClean Faults o o1 g1 → WasGiven Holds IsClean Faults o1 o2 g2
-      → IsWrittenOut Holds IsClean o o1 seat way.share goes g1 c1 → IsHeard Holds o1 seat way.wait way.may g2 c2 → HadTurns Holds IsClean o o2 way (seat ∷ []) (seat ∷ []) (g2 ++ g1) (c1 ++ c2)
-  served_one o o1 o2 way seat goes g1 g2 c1 c2 wa wb a b = record {
+  pub served_one : (o o1 o2 : Office V) (way : Way) (seat : Seat) (g1 g2 : Log) (c1 c2 : List Call) → WasGiven Holds IsClean Faults o o1 g1 → WasGiven Holds IsClean Faults o1 o2 g2
+      → IsWrittenOut Holds IsClean o o1 seat way.share false g1 c1 → IsHeard Holds o1 seat way.wait way.may g2 c2 → HadTurns Holds IsClean o o2 way (seat ∷ []) (seat ∷ []) (g2 ++ g1) (c1 ++ c2)
+  served_one o o1 o2 way seat g1 g2 c1 c2 wa wb a b = record {
     of_seats = of_then (seat ∷ []) g1 g2 c1 c2 a.of_seat b.of_seat;
-    turns = λ B L s k.
-        All-cons (HadTurn way B L (g2 ++ g1) (trace_of B ((g2 ++ g1) ++ L)) (c1 ++ c2)) seat []
-        (λ here.
-        ⊎_elim
-        (λ (r : list_any (is_read_of seat.link) c2 ≡ true). inl (turn_right way.share seat.link c1 c2 (turn_read way.share seat.link c2 r)))
-        (λ (n : (g2 ≡ []) × (IsNotReady Holds o1 seat.connection ⊎ IsUnread Holds o1 seat way.wait way.may c2)).
-        ⊎_elim
-        (λ (idle : IsNotReady Holds o1 seat.connection).
-        inl (served_unless o o1 o2 way seat goes g1 c1 c2 wa wb.clean a idle B L s k (subst (λ g. is_open (trace_of B ((g ++ g1) ++ L)) seat.connection ≡ true) n.0 here)))
-        (λ (u : IsUnread Holds o1 seat way.wait way.may c2).
-        inr (record {
+    turns = λ B L s k. All-cons (HadTurn way B L (g2 ++ g1) (trace_of B ((g2 ++ g1) ++ L)) (c1 ++ c2)) seat [] (by B L s k b.heard) (All-nil (HadTurn way B L (g2 ++ g1) (trace_of B ((g2 ++ g1) ++ L)) (c1 ++ c2)));
+  } where
+    by : (B : Records) (L : Log) → StandsFor Holds o (trace_of B L) → IsClean (vault_of o2)
+        → (list_any (is_read_of seat.link) c2 ≡ true) ⊎ (IsReadByLine c2 way.may seat ⊎ ((g2 ≡ []) × (IsNotReady Holds o1 seat.connection ⊎ IsUnread Holds o1 seat way.wait way.may c2)))
+        → HadTurn way B L (g2 ++ g1) (trace_of B ((g2 ++ g1) ++ L)) (c1 ++ c2) seat
+    by B L s k (inl r) here = inl (turn_right way.share way.hurries seat.link c1 c2 (turn_read way.share way.hurries seat.link c2 r))
+    by B L s k (inr (inl u)) here = inr (inl (line_right way.may seat c1 c2 u))
+    by B L s k (inr (inr (none, inl idle))) here =
+        inl (served_unless o o1 o2 way seat g1 c1 c2 wa wb.clean a idle B L s k (subst (λ g. is_open (trace_of B ((g ++ g1) ++ L)) seat.connection ≡ true) none here))
+    by B L s k (inr (inr (none, inr u))) here =
+        inr (inr (record {
           piece = u.piece;
           io = u.io;
           shown = Contains-append_right c1 c2 (Looked Pop seat.link u.io u.piece) u.shown;
@@ -267,10 +290,6 @@ module _ {V : Type 0} (Holds : V → Contents → Type 0) (IsClean : V → Type 
           is = refl;
           kept = u.kept B (g1 ++ L) (wa.stands B L s (wb.clean k));
         }))
-        n.1)
-        b.heard)
-        (All-nil (HadTurn way B L (g2 ++ g1) (trace_of B ((g2 ++ g1) ++ L)) (c1 ++ c2)));
-  }
 
   -- more is done for the same link
   pub served_then : (o o1 o2 : Office V) (way : Way) (seat : Seat) (g1 g2 : Log) (c1 c2 : List Call) → WasGiven Holds IsClean Faults o o1 g1 → WasGiven Holds IsClean Faults o1 o2 g2
@@ -285,18 +304,19 @@ module _ {V : Type 0} (Holds : V → Contents → Type 0) (IsClean : V → Type 
 
   -- ---- all links
 
-  -- served in another way: the same share, the same wait, and more logins may be kept back
-  pub served_so : (o o1 : Office V) (way way2 : Way) (seats these : List Seat) (g : Log) (c : List Call) → way2.share ≡ way.share → way2.wait ≡ way.wait → (way.may ≡ true → way2.may ≡ true)
+  -- served in another way: the same share, the same wait, more logins may be kept back, and the next turn doesn't wait for another cause
+  pub served_so : (o o1 : Office V) (way way2 : Way) (seats these : List Seat) (g : Log) (c : List Call) → way2.share ≡ way.share → way2.wait ≡ way.wait → (way.may ≡ true → way2.may ≡ true) → (way.hurries ≡ true → way2.hurries ≡ true)
       → HadTurns Holds IsClean o o1 way seats these g c → HadTurns Holds IsClean o o1 way2 seats these g c
-  served_so o o1 way way2 seats these g c share wait may a = record {
+  served_so o o1 way way2 seats these g c share wait may still a = record {
     of_seats = a.of_seats;
     turns = λ B L s k.
-        All-weaker (HadTurn way B L g (trace_of B (g ++ L)) c) (HadTurn way2 B L g (trace_of B (g ++ L)) c)
-        (λ q h here.
-        ⊎_elim
-        (λ (t : had_its_turn way.share q.link c ≡ true). inl (subst (λ n. had_its_turn n q.link c ≡ true) (sym share) t))
-        (λ (u : StaysUnread B L g c way.wait way.may q).
-        inr (record {
+        All-weaker (HadTurn way B L g (trace_of B (g ++ L)) c) (HadTurn way2 B L g (trace_of B (g ++ L)) c) (λ q h here. by B L q (h here)) these (a.turns B L s k);
+  } where
+    by : (B : Records) (L : Log) (q : Seat) → (had_its_turn way.share way.hurries q.link c ≡ true) ⊎ IsHeldBack B L g c way.wait way.may q → (had_its_turn way2.share way2.hurries q.link c ≡ true) ⊎ IsHeldBack B L g c way2.wait way2.may q
+    by B L q (inl t) = inl (subst (λ n. had_its_turn n way2.hurries q.link c ≡ true) (sym share) (turn_hurried way.share way.hurries way2.hurries q.link c still t))
+    by B L q (inr (inl u)) = inr (inl (record { piece = u.piece; io = u.io; io_then = u.io_then; octets = u.octets; held = may u.held; shown = u.shown; read = u.read }))
+    by B L q (inr (inr u)) =
+        inr (inr (record {
           piece = u.piece;
           io = u.io;
           shown = u.shown;
@@ -305,9 +325,6 @@ module _ {V : Type 0} (Holds : V → Contents → Type 0) (IsClean : V → Type 
           is = u.is;
           kept = subst (λ n. IsKeptBack (trace_of B (u.front ++ L)) q.connection u.piece n way2.may) (sym wait) (kept_more (trace_of B (u.front ++ L)) q.connection u.piece way.wait way.may way2.may may u.kept);
         }))
-        (h here))
-        these (a.turns B L s k);
-  }
 
   pub served_among : (o o1 : Office V) (way : Way) (seats : List Seat) (seat : Seat) (g : Log) (c : List Call) → Contains seats seat → HadTurns Holds IsClean o o1 way (seat ∷ []) (seat ∷ []) g c → HadTurns Holds IsClean o o1 way seats (seat ∷ []) g c
   served_among o o1 way seats seat g c has a = record {
@@ -355,12 +372,20 @@ module _ {V W : Type 0} (Holds : V → Contents → Type 0) (IsClean : V → Typ
       → Part Holds IsClean Faults Asked o w o w1 (Also (IsHeard Holds o seat wait may) N)
   heard_asked o w w1 seat wait may N calls asked a n = record { given = []; calls = calls; was_given = given_none Holds IsClean Faults o; was_asked = asked; facts = (a, n) }
 
-  pub heard_after : (o o1 : Office V) (w w1 w2 : W) (seat : Seat) (wait : ℕ) (may : Bool) (M N : List Call → Type 0) (looks : List Call) → ((c : List Call) → M c → N (looks ++ c)) → IsQuietFor (seat ∷ []) [] looks → WasAsked Asked w w1 looks
-      → Part Holds IsClean Faults Asked o w1 o1 w2 (Also (IsHeard Holds o seat wait may) M) → Part Holds IsClean Faults Asked o w o1 w2 (Also (IsHeard Holds o seat wait may) N)
-  heard_after o o1 w w1 w2 seat wait may M N looks more quiet asked a = record {
+  pub heard_after : (o o1 : Office V) (w w1 w2 : W) (seat : Seat) (wait : ℕ) (may : Bool) (pace : Pace) (room : ℕ) (M N : List Call → Type 0) (looks : List Call) → ((c : List Call) → M c → N (looks ++ c))
+      → IsQuietFor (seat ∷ []) [] looks → HasLooked Holds o seat wait pace room looks → (room == 0) ≡ false → (is_free pace ≡ false → may ≡ true) → WasAsked Asked w w1 looks
+      → Part Holds IsClean Faults Asked o w1 o1 w2 (Also (IsReadOnce Holds o seat room) M) → Part Holds IsClean Faults Asked o w o1 w2 (Also (IsHeard Holds o seat wait may) N)
+  heard_after o o1 w w1 w2 seat wait may pace room M N looks more quiet looked some line asked a = record {
     given = a.given;
     calls = looks ++ a.calls;
     was_given = a.was_given;
     was_asked = asked_then Asked w w1 w2 looks a.calls asked a.was_asked;
-    facts = (heard_behind Holds IsClean Faults wait may o seat a.given looks a.calls quiet a.facts.0, more a.calls a.facts.1);
+    facts = (heard_behind Holds IsClean Faults wait may o seat pace room a.given looks a.calls quiet looked some line a.facts.0, more a.calls a.facts.1);
   }
+
+  -- a read that had room for so many octets of a buffer
+  pub read_part : (o o1 : Office V) (w w1 : W) (seat : Seat) (n : ℕ) (xs : List ℕ) (M : List Call → Type 0) → Part Holds IsClean Faults Asked o w o1 w1 (Also (IsReadOnce Holds o seat (length (take n xs))) M) → n ≤ length xs
+      → Part Holds IsClean Faults Asked o w o1 w1 (Also (IsReadOnce Holds o seat n) M)
+  read_part o o1 w w1 seat n xs M a h =
+      let e : length (take n xs) ≡ n = (let k = length-take n xs in omega (arith, k, h)) in
+      subst (λ m. Part Holds IsClean Faults Asked o w o1 w1 (Also (IsReadOnce Holds o seat m) M)) e a

@@ -55,16 +55,25 @@ shut_so false logged false now guesses origin pace is fast h =
     let e : pace ≡ Free = is ∙ ap (λ o. pace_behind false logged (pace_by now guesses o)) (fast refl) in
     absurd (true≢false (sym h ∙ ap is_shut e))
 
+-- lines are read one by one only where logins may be kept back
+pub line_so : (freed logged slow : Bool) (now : ℕ) (guesses : Guesses) (origin : Option ℕ) (pace : Pace) → pace ≡ pace_behind freed logged (pace_by now guesses origin) → (slow ≡ false → origin ≡ None)
+    → is_free pace ≡ false → (slow || freed) ≡ true
+line_so freed logged true now guesses origin pace is fast h = refl
+line_so true logged false now guesses origin pace is fast h = refl
+line_so false logged false now guesses origin pace is fast h =
+    let e : pace ≡ Free = is ∙ ap (λ o. pace_behind false logged (pace_by now guesses o)) (fast refl) in
+    absurd (true≢false (sym (ap is_free e) ∙ h))
+
 module _ {V : Type 0} (Holds : V → Contents → Type 0) (o : Office V) (seat : Seat) (wait : ℕ) (pace : Pace) where
   pub looked_quiet : (n : ℕ) (calls : List Call) → HasLooked Holds o seat wait pace n calls → IsQuietFor (seat ∷ []) [] calls
   looked_quiet n calls (Unlooked e f) = record { quiet = record { no_moments = refl; no_openings = refl; no_refusals = refl; no_waits = refl; no_arrivals = refl; no_closings = refl }; apart = refl; caused = All-nil (HasCause (seat ∷ []) []) }
   looked_quiet n calls (NothingCame io e) = record { quiet = record { no_moments = refl; no_openings = refl; no_refusals = refl; no_waits = refl; no_arrivals = refl; no_closings = refl }; apart = refl; caused = All-nil (HasCause (seat ∷ []) (Looked Pop seat.link io [] ∷ [])) }
-  looked_quiet n calls (PieceCame k piece count some is) = record { quiet = record { no_moments = refl; no_openings = refl; no_refusals = refl; no_waits = refl; no_arrivals = refl; no_closings = refl }; apart = refl; caused = All-nil (HasCause (seat ∷ []) (Looked Pop seat.link (Count k) piece ∷ [])) }
+  looked_quiet n calls (PieceCame k piece count some is part) = record { quiet = record { no_moments = refl; no_openings = refl; no_refusals = refl; no_waits = refl; no_arrivals = refl; no_closings = refl }; apart = refl; caused = All-nil (HasCause (seat ∷ []) (Looked Pop seat.link (Count k) piece ∷ [])) }
 
   pub unread_so : (may : Bool) (n : ℕ) (calls : List Call) → (is_shut pace ≡ true → may ≡ true) → n ≡ 0 → HasLooked Holds o seat wait pace n calls → IsUnread Holds o seat wait may calls
   unread_so may n calls shut z (Unlooked e f) = absurd (omega (arith, z))
   unread_so may n calls shut z (NothingCame io e) = absurd (omega (arith, z))
-  unread_so may n calls shut z (PieceCame k piece count some is) = record {
+  unread_so may n calls shut z (PieceCame k piece count some is part) = record {
     piece = piece;
     io = Count k;
     shown = (0, omega arith, refl);

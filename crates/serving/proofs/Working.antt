@@ -21,11 +21,12 @@ use Rattle.office.specs.Taken.{trace_of, IsAdmitted}
 use Rattle.office.specs.Stands.{StandsFor, vault_of}
 use Rattle.office.specs.declared.office.Office.{Office}
 use Rattle.serving.specs.declared.wire.Link.{Link}
-use Rattle.serving.specs.Calls.{Call, Looked}
+use Rattle.serving.specs.Paces.{first_line}
+use Rattle.serving.specs.Calls.{Call, Looked, Read}
 use Rattle.serving.specs.declared.wire.Port.TheVariants.{Pop}
 use Rattle.serving.specs.declared.links.Seat.{Seat}
 use Rattle.serving.specs.declared.newcomers.Newcomer.{Newcomer}
-use Rattle.serving.specs.Works.{waits, arrivals, closings, is_beside, is_read_of, is_later_of, is_taking_of, is_cut_of, is_cut, most_writes, octets_taken, had_its_turn, moments, moment_of, openings, is_opening, refusals, is_refusal, AreNewlyAdmitted, is_failed, IsLateGone, AreLateGone, HasCause, AreCaused, WasGiven, WasAsked, Part, Asking, Giving, IsQuiet, IsQuietFor, IsKeptBack, StaysUnread, Way, HadTurn}
+use Rattle.serving.specs.Works.{waits, arrivals, closings, is_beside, is_read_of, is_later_of, is_taking_of, is_cut_of, is_cut, most_writes, octets_taken, is_written_out, had_its_turn, moments, moment_of, openings, is_opening, refusals, is_refusal, AreNewlyAdmitted, is_failed, IsLateGone, AreLateGone, HasCause, AreCaused, WasGiven, WasAsked, Part, Asking, Giving, IsQuiet, IsQuietFor, IsKeptBack, StaysUnread, IsReadByLine, IsHeldBack, Way, HadTurn}
 use Rattle.serving.proofs.Staying.{Fewer, fewer_framed, frame_read, frame_took, frame_gone, fewer_tick, deposit_same, fewer_command}
 
 -- ---- one after the other
@@ -217,64 +218,81 @@ pub taken_joined : (link : Link) (c1 c2 : List Call) → octets_taken link (c1 +
 taken_joined link [] c2 = let e : 0 + octets_taken link c2 ≡ octets_taken link c2 = omega arith in sym e
 taken_joined link (x ∷ c1) c2 = let e = taken_joined link c1 c2 in omega (arith, e)
 
-pub turn_read : (share : ℕ) (link : Link) (calls : List Call) → list_any (is_read_of link) calls ≡ true → had_its_turn share link calls ≡ true
-turn_read share link calls h = rw h refl
+pub turn_read : (share : ℕ) (hurries : Bool) (link : Link) (calls : List Call) → list_any (is_read_of link) calls ≡ true → had_its_turn share hurries link calls ≡ true
+turn_read share hurries link calls h = rw h refl
 
-pub turn_later : (share : ℕ) (link : Link) (calls : List Call) → list_any (is_later_of link) calls ≡ true → had_its_turn share link calls ≡ true
-turn_later share link calls h =
+pub turn_later : (share : ℕ) (hurries : Bool) (link : Link) (calls : List Call) → list_any (is_later_of link) calls ≡ true → had_its_turn share hurries link calls ≡ true
+turn_later share hurries link calls h =
     let r = list_any (is_read_of link) calls in
-    let n = nat_le most_writes (length (filter (is_taking_of link) calls)) in
-    let s = nat_le share (octets_taken link calls) in
-    ap (λ b. ((r || b) || n) || s) h ∙ ap (λ b. (b || n) || s) (or_true r)
+    let x = hurries && is_written_out share link calls in
+    ap (λ b. (r || b) || x) h ∙ ap (λ b. b || x) (or_true r)
 
-pub turn_full : (share : ℕ) (link : Link) (calls : List Call) → most_writes ≤ length (filter (is_taking_of link) calls) → had_its_turn share link calls ≡ true
-turn_full share link calls h =
-    let k = le-leb most_writes (length (filter (is_taking_of link) calls)) h in
+turn_out : (share : ℕ) (hurries : Bool) (link : Link) (calls : List Call) → hurries ≡ true → is_written_out share link calls ≡ true → had_its_turn share hurries link calls ≡ true
+turn_out share hurries link calls e h =
     let x = list_any (is_read_of link) calls || list_any (is_later_of link) calls in
+    ap (λ b. x || (b && is_written_out share link calls)) e ∙ (ap (λ b. x || b) h ∙ or_true x)
+
+pub turn_full : (share : ℕ) (hurries : Bool) (link : Link) (calls : List Call) → hurries ≡ true → most_writes ≤ length (filter (is_taking_of link) calls) → had_its_turn share hurries link calls ≡ true
+turn_full share hurries link calls e h =
+    let k = le-leb most_writes (length (filter (is_taking_of link) calls)) h in
     let s = nat_le share (octets_taken link calls) in
-    ap (λ b. (x || b) || s) k ∙ ap (λ b. b || s) (or_true x)
+    turn_out share hurries link calls e (ap (λ b. b || s) k)
 
-pub turn_shared : (share : ℕ) (link : Link) (calls : List Call) → share ≤ octets_taken link calls → had_its_turn share link calls ≡ true
-turn_shared share link calls h =
+pub turn_shared : (share : ℕ) (hurries : Bool) (link : Link) (calls : List Call) → hurries ≡ true → share ≤ octets_taken link calls → had_its_turn share hurries link calls ≡ true
+turn_shared share hurries link calls e h =
     let k = le-leb share (octets_taken link calls) h in
-    let x = (list_any (is_read_of link) calls || list_any (is_later_of link) calls) || nat_le most_writes (length (filter (is_taking_of link) calls)) in
-    ap (λ b. x || b) k ∙ or_true x
+    let n = nat_le most_writes (length (filter (is_taking_of link) calls)) in
+    turn_out share hurries link calls e (ap (λ b. n || b) k ∙ or_true n)
 
-turn_joined : (share : ℕ) (link : Link) (c c' : List Call) → (list_any (is_read_of link) c ≡ true → list_any (is_read_of link) c' ≡ true) → (list_any (is_later_of link) c ≡ true → list_any (is_later_of link) c' ≡ true)
-    → length (filter (is_taking_of link) c) ≤ length (filter (is_taking_of link) c') → octets_taken link c ≤ octets_taken link c' → had_its_turn share link c ≡ true → had_its_turn share link c' ≡ true
-turn_joined share link c c' read later full taken h =
+both_first : (a b : Bool) → (a && b) ≡ true → a ≡ true
+both_first true b e = refl
+both_first false b e = cc
+
+both_second : (a b : Bool) → (a && b) ≡ true → b ≡ true
+both_second true b e = e
+both_second false b e = cc
+
+turn_joined : (share : ℕ) (hurries hurries2 : Bool) (link : Link) (c c' : List Call) → (hurries ≡ true → hurries2 ≡ true) → (list_any (is_read_of link) c ≡ true → list_any (is_read_of link) c' ≡ true)
+    → (list_any (is_later_of link) c ≡ true → list_any (is_later_of link) c' ≡ true)
+    → length (filter (is_taking_of link) c) ≤ length (filter (is_taking_of link) c') → octets_taken link c ≤ octets_taken link c' → had_its_turn share hurries link c ≡ true → had_its_turn share hurries2 link c' ≡ true
+turn_joined share hurries hurries2 link c c' still read later full taken h =
     let r = list_any (is_read_of link) c in
     let l = list_any (is_later_of link) c in
     let n = nat_le most_writes (length (filter (is_taking_of link) c)) in
     let s = nat_le share (octets_taken link c) in
     ⊎_elim
-    (λ (k : ((r || l) || n) ≡ true).
+    (λ (k : (r || l) ≡ true).
     ⊎_elim
-    (λ (k2 : (r || l) ≡ true).
+    (λ (a : r ≡ true). turn_read share hurries2 link c' (read a))
+    (λ (b : l ≡ true). turn_later share hurries2 link c' (later b))
+    (or_cases r l k))
+    (λ (k : (hurries && (n || s)) ≡ true).
+    (let e : hurries2 ≡ true = still (both_first hurries (n || s) k) in
     ⊎_elim
-    (λ (a : r ≡ true). turn_read share link c' (read a))
-    (λ (b : l ≡ true). turn_later share link c' (later b))
-    (or_cases r l k2))
     (λ (k2 : n ≡ true).
     (let m : most_writes ≤ length (filter (is_taking_of link) c) = leb-true most_writes (length (filter (is_taking_of link) c)) k2 in
-    turn_full share link c' (omega (arith, m, full))))
-    (or_cases (r || l) n k))
-    (λ (k : s ≡ true).
-    (let m : share ≤ octets_taken link c = leb-true share (octets_taken link c) k in
-    turn_shared share link c' (omega (arith, m, taken))))
-    (or_cases ((r || l) || n) s h)
+    turn_full share hurries2 link c' e (omega (arith, m, full))))
+    (λ (k2 : s ≡ true).
+    (let m : share ≤ octets_taken link c = leb-true share (octets_taken link c) k2 in
+    turn_shared share hurries2 link c' e (omega (arith, m, taken))))
+    (or_cases n s (both_second hurries (n || s) k))))
+    (or_cases (r || l) (hurries && (n || s)) h)
 
-pub turn_left : (share : ℕ) (link : Link) (c1 c2 : List Call) → had_its_turn share link c1 ≡ true → had_its_turn share link (c1 ++ c2) ≡ true
-turn_left share link c1 c2 h =
+pub turn_left : (share : ℕ) (hurries : Bool) (link : Link) (c1 c2 : List Call) → had_its_turn share hurries link c1 ≡ true → had_its_turn share hurries link (c1 ++ c2) ≡ true
+turn_left share hurries link c1 c2 h =
     let e = count_joined (is_taking_of link) c1 c2 in
     let t = taken_joined link c1 c2 in
-    turn_joined share link c1 (c1 ++ c2) (any_left (is_read_of link) c1 c2) (any_left (is_later_of link) c1 c2) (omega (arith, e)) (omega (arith, t)) h
+    turn_joined share hurries hurries link c1 (c1 ++ c2) (λ k. k) (any_left (is_read_of link) c1 c2) (any_left (is_later_of link) c1 c2) (omega (arith, e)) (omega (arith, t)) h
 
-pub turn_right : (share : ℕ) (link : Link) (c1 c2 : List Call) → had_its_turn share link c2 ≡ true → had_its_turn share link (c1 ++ c2) ≡ true
-turn_right share link c1 c2 h =
+pub turn_right : (share : ℕ) (hurries : Bool) (link : Link) (c1 c2 : List Call) → had_its_turn share hurries link c2 ≡ true → had_its_turn share hurries link (c1 ++ c2) ≡ true
+turn_right share hurries link c1 c2 h =
     let e = count_joined (is_taking_of link) c1 c2 in
     let t = taken_joined link c1 c2 in
-    turn_joined share link c2 (c1 ++ c2) (any_right (is_read_of link) c1 c2) (any_right (is_later_of link) c1 c2) (omega (arith, e)) (omega (arith, t)) h
+    turn_joined share hurries hurries link c2 (c1 ++ c2) (λ k. k) (any_right (is_read_of link) c1 c2) (any_right (is_later_of link) c1 c2) (omega (arith, e)) (omega (arith, t)) h
+
+-- the next turn doesn't wait for another cause
+pub turn_hurried : (share : ℕ) (hurries hurries2 : Bool) (link : Link) (c : List Call) → (hurries ≡ true → hurries2 ≡ true) → had_its_turn share hurries link c ≡ true → had_its_turn share hurries2 link c ≡ true
+turn_hurried share hurries hurries2 link c still h = turn_joined share hurries hurries2 link c c still (λ k. k) (λ k. k) (omega arith) (omega arith) h
 
 -- ---- links that stay unread
 
@@ -301,22 +319,42 @@ module _ (B : Records) (L : Log) (wait : ℕ) (may : Bool) (s : Seat) where
     kept = subst (λ l. IsKeptBack (trace_of B l) s.connection u.piece wait may) (sym (append_assoc u.front g1 L)) u.kept;
   }
 
+-- ---- links that are read by lines
+
+line_left : (may : Bool) (s : Seat) (c1 c2 : List Call) → IsReadByLine c1 may s → IsReadByLine (c1 ++ c2) may s
+line_left may s c1 c2 u = record {
+  piece = u.piece;
+  io = u.io;
+  io_then = u.io_then;
+  octets = u.octets;
+  held = u.held;
+  shown = Contains-append_left c1 c2 (Looked Pop s.link u.io u.piece) u.shown;
+  read = Contains-append_left c1 c2 (Read Pop s.link (first_line u.piece) u.io_then u.octets) u.read;
+}
+
+pub line_right : (may : Bool) (s : Seat) (c1 c2 : List Call) → IsReadByLine c2 may s → IsReadByLine (c1 ++ c2) may s
+line_right may s c1 c2 u = record {
+  piece = u.piece;
+  io = u.io;
+  io_then = u.io_then;
+  octets = u.octets;
+  held = u.held;
+  shown = Contains-append_right c1 c2 (Looked Pop s.link u.io u.piece) u.shown;
+  read = Contains-append_right c1 c2 (Read Pop s.link (first_line u.piece) u.io_then u.octets) u.read;
+}
+
 -- in a turn that goes on
 pub turned_left : (way : Way) (B : Records) (L g1 g2 : Log) (c1 c2 : List Call) (s : Seat)
-    → (had_its_turn way.share s.link c1 ≡ true) ⊎ StaysUnread B L g1 c1 way.wait way.may s → (had_its_turn way.share s.link (c1 ++ c2) ≡ true) ⊎ StaysUnread B L (g2 ++ g1) (c1 ++ c2) way.wait way.may s
-turned_left way B L g1 g2 c1 c2 s h =
-    ⊎_elim
-    (λ (t : had_its_turn way.share s.link c1 ≡ true). inl (turn_left way.share s.link c1 c2 t))
-    (λ (u : StaysUnread B L g1 c1 way.wait way.may s). inr (unread_left B L way.wait way.may s g1 g2 c1 c2 u))
-    h
+    → (had_its_turn way.share way.hurries s.link c1 ≡ true) ⊎ IsHeldBack B L g1 c1 way.wait way.may s → (had_its_turn way.share way.hurries s.link (c1 ++ c2) ≡ true) ⊎ IsHeldBack B L (g2 ++ g1) (c1 ++ c2) way.wait way.may s
+turned_left way B L g1 g2 c1 c2 s (inl t) = inl (turn_left way.share way.hurries s.link c1 c2 t)
+turned_left way B L g1 g2 c1 c2 s (inr (inl u)) = inr (inl (line_left way.may s c1 c2 u))
+turned_left way B L g1 g2 c1 c2 s (inr (inr u)) = inr (inr (unread_left B L way.wait way.may s g1 g2 c1 c2 u))
 
 pub turned_right : (way : Way) (B : Records) (L g1 g2 : Log) (c1 c2 : List Call) (s : Seat)
-    → (had_its_turn way.share s.link c2 ≡ true) ⊎ StaysUnread B (g1 ++ L) g2 c2 way.wait way.may s → (had_its_turn way.share s.link (c1 ++ c2) ≡ true) ⊎ StaysUnread B L (g2 ++ g1) (c1 ++ c2) way.wait way.may s
-turned_right way B L g1 g2 c1 c2 s h =
-    ⊎_elim
-    (λ (t : had_its_turn way.share s.link c2 ≡ true). inl (turn_right way.share s.link c1 c2 t))
-    (λ (u : StaysUnread B (g1 ++ L) g2 c2 way.wait way.may s). inr (unread_right B L way.wait way.may s g1 g2 c1 c2 u))
-    h
+    → (had_its_turn way.share way.hurries s.link c2 ≡ true) ⊎ IsHeldBack B (g1 ++ L) g2 c2 way.wait way.may s → (had_its_turn way.share way.hurries s.link (c1 ++ c2) ≡ true) ⊎ IsHeldBack B L (g2 ++ g1) (c1 ++ c2) way.wait way.may s
+turned_right way B L g1 g2 c1 c2 s (inl t) = inl (turn_right way.share way.hurries s.link c1 c2 t)
+turned_right way B L g1 g2 c1 c2 s (inr (inl u)) = inr (inl (line_right way.may s c1 c2 u))
+turned_right way B L g1 g2 c1 c2 s (inr (inr u)) = inr (inr (unread_right B L way.wait way.may s g1 g2 c1 c2 u))
 
 -- ---- what is open
 

@@ -11,8 +11,8 @@ pub data Call : Type 0 where
   Accepted : Port → Option Link → Call
   -- to show what comes next on a link, and these octets were shown
   Looked : Port → Link → Io → (octets : List ℕ) → Call
-  -- to read from a link, and these octets were read
-  Read : Port → Link → Io → (octets : List ℕ) → Call
+  -- to read from a link, so many octets at most, and these were read
+  Read : Port → Link → (room : ℕ) → Io → (octets : List ℕ) → Call
   -- to write on a link, and these octets were counted
   Wrote : Port → Link → Io → (octets : List ℕ) → Call
   -- to close a link

@@ -1,6 +1,8 @@
 -- Logins that were refused, and those that are kept back behind them: an address counts by a number,
 -- its origin, and a list has the last refusal of each origin, the oldest refusal first.
-use Rattle.std.specs.Prelude.{◌≡◌, ◌⊎◌, ℕ, Bool, true, false, not, ◌+◌, ◌-◌, ◌*◌, ◌==◌, nat_lt, nat_le, min, List, [], ◌∷◌, ◌++◌, length, drop, filter, find, slice_index, Option, Some, None, if◌then◌else◌}
+use Rattle.std.specs.Prelude.{◌≡◌, ℕ, Bool, true, false, not, ◌+◌, ◌-◌, ◌*◌, ◌==◌, nat_lt, nat_le}
+use Rattle.std.specs.Prelude.{min, List, [], ◌∷◌, ◌++◌, length, drop, filter, find, slice_index}
+use Rattle.std.specs.Prelude.{Option, Some, None, if◌then◌else◌}
 use Rattle.std.specs.Net.Addr.{ipv4_bits, ipv6_segments}
 use Rattle.std.specs.declared.net.ip_addr.IpAddr.{IpAddr}
 use Rattle.std.specs.declared.net.ip_addr.IpAddr.TheVariants.{V4, V6}
@@ -50,12 +52,10 @@ one_more now origin refusals =
     record { origin = origin; at = now; seconds = next_seconds now (refusal_of origin refusals) }
 
 -- What becomes of the refusals behind a line of a client that counts by an origin: where it was
--- refused, one more, or none of its origin where memory was short; where it is logged in, none of
--- its origin. Else they stay.
+-- refused, one more; where it is logged in, none of its origin. Else they stay.
 abbrev pub AreNotedSo : (now : ℕ) (origin : Option ℕ) (was_refused is_logged_in : Bool) (refusals refusals_then : List Refusal) → Type 0
 AreNotedSo now None was_refused is_logged_in refusals refusals_then = refusals_then ≡ refusals
 AreNotedSo now (Some origin) true is_logged_in refusals refusals_then =
-    (refusals_then ≡ with_room (without origin refusals) ++ one_more now origin refusals ∷ [])
-    ⊎ (refusals_then ≡ with_room (without origin refusals) ++ [])
+    refusals_then ≡ with_room (without origin refusals) ++ one_more now origin refusals ∷ []
 AreNotedSo now (Some origin) false true refusals refusals_then = refusals_then ≡ without origin refusals
 AreNotedSo now (Some origin) false false refusals refusals_then = refusals_then ≡ refusals

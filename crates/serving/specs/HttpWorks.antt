@@ -14,7 +14,7 @@ use Rattle.office.specs.declared.office.Office.{Office}
 use Rattle.serving.specs.Wires.{is_fault}
 use Rattle.serving.specs.Calls.{Call, Accepted, Read, Wrote, Closed}
 use Rattle.serving.specs.Requests.{octets_of, HasOneMore, IsGiven}
-use Rattle.serving.specs.Works.{IsQuiet, AreCaused, is_beside, Part, Giving, Asking}
+use Rattle.serving.specs.Works.{IsQuiet, AreCaused, is_beside, Part, Giving, Asking, most_at_once}
 use Rattle.serving.specs.HttpTurns.{is_late_at, most_exchanges}
 use Rattle.serving.specs.declared.wire.Link.{Link}
 use Rattle.serving.specs.declared.wire.Port.TheVariants.{Pop, Admin}
@@ -26,7 +26,8 @@ use Rattle.serving.specs.declared.links.Links.{Links}
 
 -- ---- links that come
 
--- So many links came, one after the other: each is held behind the others, or closed at once.
+-- So many links came, one after the other: each is held behind the others, or closed at once, where
+-- as many are held as may be, or memory for it was refused.
 pub data HaveComeBeside (now : ℕ) : (held held_then : List Exchange) → (came : ℕ) → List Call
     → Type 0 where
   NoMore : (held : List Exchange) → HaveComeBeside now held held 0 []
@@ -34,6 +35,10 @@ pub data HaveComeBeside (now : ℕ) : (held held_then : List Exchange) → (came
       → HasOneMore now link held more → HaveComeBeside now more held_then came calls
       → HaveComeBeside now held held_then (suc came) (Accepted Admin (Some link) ∷ calls)
   IsTurnedAway : (link : Link) (held held_then : List Exchange) (came : ℕ) (calls : List Call)
+      → most_exchanges ≤ length held → HaveComeBeside now held held_then came calls
+      → HaveComeBeside now held held_then (suc came)
+      (Accepted Admin (Some link) ∷ Closed Admin link ∷ calls)
+  WantsMemory : (link : Link) (held held_then : List Exchange) (came : ℕ) (calls : List Call)
       → HaveComeBeside now held held_then came calls
       → HaveComeBeside now held held_then (suc came)
       (Accepted Admin (Some link) ∷ Closed Admin link ∷ calls)
@@ -59,19 +64,21 @@ pub record ComesTo (B : Records) (L : Log) (read : List ℕ) (given : Log)
   pub place : Option ℕ
   pub is : IsGiven B L read (given ++ L) place response
 
--- A link was read from once, unless its response is there, or it is over: it gave its end, or
--- nothing for now, or a piece.
+-- A link was read from once, as many octets as are asked for at once, unless its response is there,
+-- or it is over: it gave its end, or nothing for now, or a piece.
 pub data HasHeard (B : Records) (L : Log) (e e_then : Exchange) : Log → List Call → Type 0 where
   IsOver : e.is_over ≡ true → e_then ≡ e → HasHeard B L e e_then [] []
   HasResponse : is_some e.response ≡ true → e_then ≡ e → HasHeard B L e e_then [] []
   GaveNothing : e.response ≡ None → e_then ≡ e
-      → HasHeard B L e e_then [] (Read Admin e.link Later [] ∷ [])
+      → HasHeard B L e e_then [] (Read Admin e.link most_at_once Later [] ∷ [])
   GaveItsEnd : (io : Io) → e.response ≡ None → is_fault io ≡ true → e_then.is_over ≡ true
-      → HasHeard B L e e_then [] (Read Admin e.link io [] ∷ [])
+      → HasHeard B L e e_then [] (Read Admin e.link most_at_once io [] ∷ [])
   GaveAPiece : (n : ℕ) (piece : List ℕ) (given : Log) → e.response ≡ None → e_then.is_over ≡ false
       → ComesTo B L (e.read.items ++ piece) given (response_of e_then)
       → IfNone e_then.response (e_then.read.items ≡ e.read.items ++ piece)
-      → HasHeard B L e e_then given (Read Admin e.link (Count n) piece ∷ [])
+      → e_then.link ≡ e.link → e_then.written ≡ e.written
+      → HasHeard B L e e_then given (Read Admin e.link most_at_once (Count n) piece
+      ∷ [])
 
 -- ---- what is written of a response
 

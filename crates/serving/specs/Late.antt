@@ -1,6 +1,6 @@
 -- Clients that took too long for their login: each is ended, and nobody is forgotten but who logged
 -- in or is gone.
-use Rattle.std.specs.Prelude.{◌≡◌, ◌⊎◌, ℕ, Bool, true, false, List, ◌++◌}
+use Rattle.std.specs.Prelude.{◌≡◌, ◌⊎◌, ℕ, Bool, true, false, List, ◌++◌, Some, None}
 use Rattle.std.specs.List.{All}
 use Rattle.vault.specs.Records.{Records}
 use Rattle.vault.specs.Changes.{Contents}
@@ -28,6 +28,16 @@ abbrev pub IsInTime : (now seconds : ℕ) → List Newcomer → (B : Records) (o
 IsInTime now seconds newcomers B older given after s =
     is_late now seconds newcomers s.connection ≡ true → is_open after s.connection ≡ true
     → HasLived B older given s.connection
+
+-- a seat's connection is noted with this moment, unless it was noted before, isn't open by then, or
+-- logged in meanwhile
+abbrev pub IsNotedSince : (now : ℕ) → (newcomers newcomers_then : List Newcomer) → (B : Records)
+    (older given : Log) → (after : Trace) → Seat → Type 0
+IsNotedSince now newcomers newcomers_then B older given after s =
+    newcomer s.connection newcomers ≡ None → is_open after s.connection ≡ true
+    → (newcomer s.connection newcomers_then
+    ≡ Some (record { connection = s.connection; since = now }))
+    ⊎ HasLived B older given s.connection
 
 -- nothing is open on a connection behind these events
 abbrev pub IsShutBy : {V : Type 0} (Holds : V → Contents → Type 0) (IsClean : V → Type 0)

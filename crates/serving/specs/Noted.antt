@@ -12,7 +12,8 @@ nothing = record { accepted = 0; read = λ k. []; written = λ k. []; over = λ 
 -- behind a call
 abbrev pub told_behind : Call → ToldOfPorts → ToldOfPorts
 told_behind (Accepted port (Some link)) t = at_port port has_accepted t
-told_behind (Read port link io octets) t = at_port port (λ of. has_read of link.number io octets) t
+told_behind (Read port link room io octets) t =
+    at_port port (λ of. has_read of link.number io octets) t
 told_behind (Wrote port link io octets) t = at_port port (λ of. has_written of link.number io octets) t
 told_behind (Closed port link) t = at_port port (λ of. has_closed of link.number) t
 told_behind _ t = t
@@ -31,6 +32,6 @@ abbrev pub call_of : Asked → List ℕ → Call
 call_of (asked.Wait millis) octets = Waited millis
 call_of (asked.Accept port link) octets = Accepted port link
 call_of (asked.Look port link io) octets = Looked port link io (counted io octets)
-call_of (asked.Read port link io) octets = Read port link io (counted io octets)
+call_of (asked.Read port link room io) octets = Read port link room io (counted io octets)
 call_of (asked.Write port link io) octets = Wrote port link io (counted io octets)
 call_of (asked.Close port link) octets = Closed port link

@@ -22,18 +22,19 @@ use Rattle.serving.specs.Works.{HadTurn, HasFreed, is_open_seat, is_shut_seat, l
 use Rattle.serving.specs.Works.{has_moved}
 use Rattle.serving.specs.SpoolTurns.{IsSpoolTurn, has_dealt}
 use Rattle.serving.specs.HttpWorks.{HttpWorks}
-use Rattle.serving.specs.Newcomers.{newcomer}
+use Rattle.serving.specs.Newcomers.{newcomer, AllHaveSeats}
 use Rattle.serving.specs.declared.newcomers.Newcomer.{Newcomer}
-use Rattle.serving.specs.Late.{HasLived, IsInTime}
+use Rattle.serving.specs.Late.{HasLived, IsInTime, IsNotedSince}
 use Rattle.office.specs.Trace.{is_open}
 
 -- how long a turn waits: not at all where more can be done at once
 abbrev pub millis_of : Links → ℕ
-millis_of links = if links.clients.presses || links.requests.presses then 0 else 1000
+millis_of links = if links.clients.hurries || links.requests.hurries then 0 else 1000
 
--- how it serves so many links
-abbrev pub way_of : Links → (count : ℕ) → (freed : Bool) → Way
-way_of links count freed = way_by (settings links) count freed
+-- how it serves so many links, with these behind it
+abbrev pub way_of : Links → (links_then : Links) → (count : ℕ) → (freed : Bool) → Way
+way_of links links_then count freed =
+    way_by (settings links) count freed (millis_of links_then == 0)
 
 -- an event has a cause: no connection goes but by its link's end, or because its client is late
 abbrev pub HasCauseInTurn : (now : ℕ) → Links → (seats : List Seat) → List Call → Event × Mark → Type 0
@@ -63,7 +64,8 @@ pub record IsTurn (T after : Trace) (now : ℕ) (links links_then : Links) (came
   pub freed : Bool
   pub ended : freed ≡ true → ((links.clients.wait == 0) ≡ false) × HasFreed T.base T.log given seats
   -- each link whose connection is open had its turn, or stays unread for a cause
-  pub turns : All (HadTurn (way_of links (length seats) freed) T.base T.log given after calls) seats
+  pub turns : All (HadTurn (way_of links links_then (length seats) freed) T.base T.log given after
+      calls) seats
   -- no connection went but by its link's end, or because its client is late
   pub caused : All (HasCauseInTurn now links seats calls) given
   -- exactly those links were closed that got no seat, and those whose connections aren't open
@@ -76,6 +78,11 @@ pub record IsTurn (T after : Trace) (now : ℕ) (links links_then : Links) (came
       → is_open after c ≡ true
       → (newcomer c links_then.clients.newcomers.newcomers.items ≡ Some n)
       ⊎ HasLived T.base T.log given c
+  -- each that came and got a seat is noted with this moment, where clients have login seconds
+  pub newly : AllHaveSeats links → (links.clients.newcomers.seconds == 0) ≡ false
+      → All (IsNotedSince now links.clients.newcomers.newcomers.items
+      links_then.clients.newcomers.newcomers.items T.base T.log given after)
+      (filter_map seat_of came)
   -- the others stay
   pub left : links_then.clients.seats.items ≡ filter (is_open_seat after) seats
 
@@ -104,6 +111,11 @@ pub record Works {V W S : Type 0} (Holds : V → Contents → Type 0) (Faults : 
   pub files : IsFileTurn T links links_then given file_calls
   -- behind a file that was removed or renamed the next turn doesn't wait
   pub dealt : has_dealt file_calls ≡ true → millis_of links_then ≡ 0
+  -- nor, where logins wait for locks, behind a session that ended, or a link whose connection did
+  pub frees : is.freed ≡ true → millis_of links_then ≡ 0
+  pub releases : (links.clients.wait == 0) ≡ false
+      → list_any (is_shut_seat (trace_of T.base (given ++ T.log))) seats ≡ true
+      → millis_of links_then ≡ 0
   -- where nothing moved, no session ended and no file was dealt with, the next turn waits
   pub rests : has_moved calls ≡ false → is.freed ≡ false → has_dealt file_calls ≡ false
       → millis_of links_then ≡ 1000

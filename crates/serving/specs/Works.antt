@@ -24,7 +24,7 @@ use Rattle.serving.specs.declared.links.Clients.{Clients}
 use Rattle.serving.specs.declared.newcomers.Newcomer.{Newcomer}
 use Rattle.serving.specs.Settings.{Settings}
 use Rattle.serving.specs.Newcomers.{newcomer, is_late_by}
-use Rattle.serving.specs.Paces.{is_held, is_free, part_by}
+use Rattle.serving.specs.Paces.{is_held, is_free, first_line, part_by}
 use Rattle.serving.specs.declared.pace.Pace.{Pace}
 use Rattle.office.specs.Waiting as waiting
 use Rattle.office.specs.Logins.{brings_login}
@@ -67,14 +67,19 @@ closings calls = filter_map closing_of calls
 abbrev pub is_beside : Call → Bool
 is_beside (Accepted Admin link) = true
 is_beside (Looked Admin link io octets) = true
-is_beside (Read Admin link io octets) = true
+is_beside (Read Admin link room io octets) = true
 is_beside (Wrote Admin link io octets) = true
 is_beside (Closed Admin link) = true
 is_beside _ = false
 
--- a client's link was read from, whatever that gave
+-- how many octets are asked for at once at most
+abbrev pub most_at_once : ℕ
+most_at_once = 4096
+
+-- a client's link was read from, whatever that gave, and as many octets were asked for as may be at
+-- once
 abbrev pub is_read_of : Link → Call → Bool
-is_read_of link (Read Pop l io octets) = l.number == link.number
+is_read_of link (Read Pop l room io octets) = l.number == link.number && room == most_at_once
 is_read_of link _ = false
 
 -- it took nothing for now
@@ -89,7 +94,7 @@ is_taking_of link _ = false
 
 -- a read from it or a write on it told its end, or that it is broken
 abbrev pub is_cut_of : Link → Call → Bool
-is_cut_of link (Read Pop l io octets) = l.number == link.number && is_fault io
+is_cut_of link (Read Pop l room io octets) = l.number == link.number && is_fault io
 is_cut_of link (Wrote Pop l io octets) = l.number == link.number && is_fault io
 is_cut_of link _ = false
 
@@ -113,16 +118,22 @@ most_writes = 64
 abbrev pub share_by : (links : ℕ) → ℕ
 share_by links = if nat_le links 1 then 1048576 else 16384
 
--- a client's link had its turn: it was read from, or it took nothing more for now, or so many writes were made on it, or its share was written
-abbrev pub had_its_turn : (share : ℕ) → Link → List Call → Bool
-had_its_turn share link calls =
-    ((list_any (is_read_of link) calls || list_any (is_later_of link) calls) || nat_le most_writes (length (filter (is_taking_of link) calls)))
+-- so many writes were made on a client's link, or its share was written
+abbrev pub is_written_out : (share : ℕ) → Link → List Call → Bool
+is_written_out share link calls = nat_le most_writes (length (filter (is_taking_of link) calls))
     || nat_le share (octets_taken link calls)
+
+-- it had its turn: it was read from, or it took nothing more for now, or it was written out, and then
+-- the next turn doesn't wait
+abbrev pub had_its_turn : (share : ℕ) (hurries : Bool) → Link → List Call → Bool
+had_its_turn share hurries link calls =
+    (list_any (is_read_of link) calls || list_any (is_later_of link) calls)
+    || (hurries && is_written_out share link calls)
 
 -- a link came or was closed, or octets were read from it or taken by it
 abbrev pub is_moving : Call → Bool
 is_moving (Accepted port (Some link)) = true
-is_moving (Read port link (Count n) octets) = true
+is_moving (Read port link room (Count n) octets) = true
 is_moving (Wrote port link (Count n) octets) = true
 is_moving (Closed port link) = true
 is_moving _ = false
@@ -130,10 +141,14 @@ is_moving _ = false
 abbrev pub has_moved : List Call → Bool
 has_moved calls = list_any is_moving calls
 
--- where it presses behind these calls, it did before, or something moved
-abbrev pub PressedBy : (pressed pressed_then : Bool) → List Call → Type 0
-PressedBy pressed pressed_then calls =
-    pressed_then ≡ true → (pressed || has_moved calls) ≡ true
+-- where the next turn doesn't wait by these calls, it didn't before, or something moved
+abbrev pub HurriesBy : (hurried hurried_then : Bool) → List Call → Type 0
+HurriesBy hurried hurried_then calls =
+    hurried_then ≡ true → (hurried || has_moved calls) ≡ true
+
+-- it doesn't wait where these calls moved something, if logins wait for locks
+abbrev pub Releases : (wait : ℕ) (hurries : Bool) → List Call → Type 0
+Releases wait hurries calls = (wait == 0) ≡ false → has_moved calls ≡ true → hurries ≡ true
 
 -- of the calls of a part this holds too
 abbrev pub Also : (Log → List Call → Type 0) → (List Call → Type 0) → Log → List Call
@@ -221,6 +236,22 @@ pub record StaysUnread (B : Records) (older given : Log) (calls : List Call) (wa
   pub front : Log
   pub is : given ≡ later ++ front
   pub kept : IsKeptBack (trace_of B (front ++ older)) s.connection piece wait may
+
+-- what a link showed was read by its first line, where logins may be kept back
+pub record IsReadByLine (calls : List Call) (may : Bool) (s : Seat) : Type 0 where
+  pub piece : List ℕ
+  pub io : Io
+  pub io_then : Io
+  pub octets : List ℕ
+  pub held : may ≡ true
+  pub shown : Contains calls (Looked Pop s.link io piece)
+  pub read : Contains calls (Read Pop s.link (first_line piece) io_then octets)
+
+-- so much of a link is kept back: all of it, or what is behind its first line
+abbrev pub IsHeldBack : (B : Records) (older given : Log) (calls : List Call) (wait : ℕ)
+    (may : Bool) → Seat → Type 0
+IsHeldBack B older given calls wait may s =
+    IsReadByLine calls may s ⊎ StaysUnread B older given calls wait may s
 
 -- ---- what an office was given and a wire was asked, and nothing else
 
@@ -378,39 +409,58 @@ pub data HasLooked {V : Type 0} (Holds : V → Contents → Type 0) (office : Of
   NothingCame : (io : Io) → is_count io ≡ false → HasLooked Holds office seat wait pace 4096 (Looked Pop seat.link io [] ∷ [])
   PieceCame : (n : ℕ) (piece : List ℕ) (count : ℕ) → 0 < length piece
       → ((T : Trace) → StandsFor Holds office T → count ≡ part_by (is_held T seat.connection piece wait pace) (is_free pace) 4096 piece)
+      → ((count == 0) ≡ false → count ≡ part_by false (is_free pace) 4096 piece)
       → HasLooked Holds office seat wait pace count (Looked Pop seat.link (Count n) piece ∷ [])
+
+-- A link was read from once, so many octets at most, where its connection waits for them.
+pub data IsReadOnce {V : Type 0} (Holds : V → Contents → Type 0) (office : Office V) (seat : Seat)
+    (room : ℕ) : Log → List Call → Type 0 where
+  NotReady : IsNotReady Holds office seat.connection → IsReadOnce Holds office seat room [] []
+  WasRead : (io : Io) (octets : List ℕ) (given : Log)
+      → IsQuietFor (seat ∷ []) given (Read Pop seat.link room io octets ∷ [])
+      → IsReadOnce Holds office seat room given (Read Pop seat.link room io octets ∷ [])
 
 -- A link was read from, where its connection waits for octets and nothing is kept back.
 pub record IsHeard {V : Type 0} (Holds : V → Contents → Type 0) (office : Office V) (seat : Seat) (wait : ℕ) (may : Bool) (given : Log) (calls : List Call) : Type 0 where
   pub of_seat : IsQuietFor (seat ∷ []) given calls
-  pub heard : (list_any (is_read_of seat.link) calls ≡ true)
-      ⊎ ((given ≡ []) × (IsNotReady Holds office seat.connection ⊎ IsUnread Holds office seat wait may calls))
+  pub heard : (list_any (is_read_of seat.link) calls ≡ true) ⊎ (IsReadByLine calls may seat
+      ⊎ ((given ≡ [])
+      × (IsNotReady Holds office seat.connection ⊎ IsUnread Holds office seat wait may calls)))
 
--- how links are served in a turn: the share of each, for how many seconds a login waits for a lock, and whether logins may be kept back
+-- how links are served in a turn: the share of each, for how many seconds a login waits for a lock,
+-- whether logins may be kept back, and whether the next turn doesn't wait
 pub record Way : Type 0 where
   pub share : ℕ
   pub wait : ℕ
   pub may : Bool
+  pub hurries : Bool
 
 -- a link is served: logins are kept back behind refusals, where guesses are slow, and behind a session that ended in this turn
 abbrev pub may_keep : Clients → Bool
 may_keep links = links.guesses.are_slow || links.is_freed
 
-abbrev pub way_at : Clients → Way
-way_at links = record { share = share_by (length links.seats.items); wait = links.wait; may = may_keep links }
+abbrev pub way_at : Clients → (hurries : Bool) → Way
+way_at links hurries = record {
+  share = share_by (length links.seats.items);
+  wait = links.wait;
+  may = may_keep links;
+  hurries = hurries;
+}
 
 -- so many links are served, by these settings, and whether a session ended meanwhile
-abbrev pub way_by : Settings → (count : ℕ) → (freed : Bool) → Way
-way_by set count freed = record {
+abbrev pub way_by : Settings → (count : ℕ) → (freed hurries : Bool) → Way
+way_by set count freed hurries = record {
   share = share_by count;
   wait = set.wait;
   may = set.slow_guesses || freed;
+  hurries = hurries;
 }
 
 -- a seat's link had its turn, or stays unread for a cause, where its connection is open by then
 abbrev pub HadTurn : Way → (B : Records) (older given : Log) → (after : Trace) → List Call → Seat → Type 0
 HadTurn way B older given after calls s = is_open after s.connection ≡ true
-    → (had_its_turn way.share s.link calls ≡ true) ⊎ StaysUnread B older given calls way.wait way.may s
+    → (had_its_turn way.share way.hurries s.link calls ≡ true)
+    ⊎ IsHeldBack B older given calls way.wait way.may s
 
 -- the links of these seats had their turns
 pub record HadTurns {V : Type 0} (Holds : V → Contents → Type 0) (IsClean : V → Type 0) (office office_then : Office V) (way : Way) (seats these : List Seat)
@@ -450,10 +500,10 @@ IsFreedBy Holds IsClean office office_then wait freed seats given =
 -- the links of these seats had their turns, by these settings, and what was kept back behind a
 -- session that ended was so for that
 pub record WereServed {V : Type 0} (Holds : V → Contents → Type 0) (IsClean : V → Type 0)
-    (office office_then : Office V) (set : Settings) (freed : Bool) (seats these : List Seat)
-    (given : Log) (calls : List Call) : Type 0 where
-  pub turns : HadTurns Holds IsClean office office_then (way_by set (length seats) freed) seats
-      these given calls
+    (office office_then : Office V) (set : Settings) (freed hurries : Bool)
+    (seats these : List Seat) (given : Log) (calls : List Call) : Type 0 where
+  pub turns : HadTurns Holds IsClean office office_then
+      (way_by set (length seats) freed hurries) seats these given calls
   pub freed_by : IsFreedBy Holds IsClean office office_then set.wait freed seats given
 
 -- deposits, and no other event

@@ -68,7 +68,7 @@ pub(crate) fn serve_spool<V: Vault, S: Spool>(
 )
     ensures works { SpoolPart V.holds V.is_clean V.faults S.asked office.old spool.old office.new
         spool.new (λ T given calls. IsSpoolTurn links.old.last links.new.last T given calls ×
-        (links.new.presses ≡ (links.old.presses || has_dealt calls))) }
+        (links.new.hurries ≡ (links.old.hurries || has_dealt calls))) }
     ensures tried { (T : Trace) (acts : List FileAct) → StandsFor V.holds office.old T
         → S.tells spool.old acts → V.is_clean (vault_of office.new)
         → IsTried V.holds S.tells T acts office.new spool.new }
@@ -81,6 +81,6 @@ pub(crate) fn serve_spool<V: Vault, S: Spool>(
         return;
     };
     let is_dealt = try_file(office, spool, &name);
-    links.presses |= is_dealt;
+    links.hurries |= is_dealt;
     links.last = Some(name);
 }

@@ -1,14 +1,14 @@
 //! Logins that were refused: which addresses they came from, and until when the next login from
 //! there is kept back.
-ghost use Rattle.std.specs.Prelude.{◌≡◌, option_copied, ◌++◌, ◌∷◌, [], is_ok, false, ⊤};
-ghost use Rattle.std.specs.Prelude.{if◌then◌else◌};
+ghost use Rattle.std.specs.Prelude.{◌≡◌, ◌<◌, option_copied, ◌++◌, ◌∷◌, [], false, ⊤};
+ghost use Rattle.arrayvec.specs.ArrayVec.{array_vec_len};
 ghost use Rattle.std.specs.Net.Addr.{MatchIp, ipv4_bits, ipv6_segments, IsCanonicalOf};
 ghost use Rattle.std.specs.declared.net.ip_addr.IpAddr as declared;
 ghost use Rattle.serving.specs.Guesses.{network, origin as origin_by, refusal_of, without};
 ghost use Rattle.serving.specs.Guesses.{holds_back, next_seconds as seconds_behind, with_room};
 ghost use Rattle.serving.specs.Guesses.{one_more};
 
-use std::alloc::{AllocError, Global};
+use arrayvec::ArrayVec;
 use std::net::{IpAddr, Ipv6Addr};
 
 /// Of how many origins the last refusal is known at most.
@@ -24,7 +24,7 @@ const MOST_SECONDS: u64 = 15;
 const OLD_SECONDS: u64 = 600;
 
 /// The last refusal of an origin.
-#[derive(Clone, Copy, PartialEq, Eq, Debug)]
+#[derive(Clone, Copy, PartialEq, Eq, Default, Debug)]
 pub(crate) struct Refusal {
     pub(crate) origin: u64,
     /// When it was, in seconds.
@@ -91,18 +91,18 @@ fn first_of(refusals: &[Refusal], origin: u64) -> Option<&Refusal>
 pub(crate) struct Guesses {
     /// Logins are kept back behind a refusal.
     pub(crate) are_slow: bool,
-    pub(crate) refusals: Vec<Refusal>,
+    pub(crate) refusals: ArrayVec<Refusal, MOST_ORIGINS>,
 }
 
 impl Guesses {
     /// None was refused, and none is kept back.
-    pub(crate) fn new(alloc: Global) -> Guesses
+    pub(crate) fn new() -> Guesses
         ensures slow { result.are_slow ≡ false }
         ensures refusals { result.refusals.items ≡ [] }
     {
         Guesses {
             are_slow: false,
-            refusals: Vec::new(alloc),
+            refusals: ArrayVec::new(),
         }
     }
 
@@ -135,19 +135,19 @@ impl Guesses {
     fn make_room(&mut self)
         ensures slow { self.new.are_slow ≡ self.old.are_slow }
         ensures refusals { self.new.refusals.items ≡ with_room self.old.refusals.items }
+        ensures room { array_vec_len self.new.refusals < MOST_ORIGINS }
     {
         if self.refusals.len() >= MOST_ORIGINS {
             self.refusals.remove(0);
         }
     }
 
-    /// A login of an origin was refused at this moment. Its error is [`AllocError`]: the origin is
-    /// forgotten then.
-    pub(crate) fn refuse(&mut self, origin: u64, now: u64) -> Result<(), AllocError>
+    /// A login of an origin was refused at this moment.
+    pub(crate) fn refuse(&mut self, origin: u64, now: u64)
         ensures slow { self.new.are_slow ≡ self.old.are_slow }
         ensures refusals { self.new.refusals.items
             ≡ with_room (without origin self.old.refusals.items)
-            ++ (if is_ok result then one_more now origin self.old.refusals.items ∷ [] else []) }
+            ++ one_more now origin self.old.refusals.items ∷ [] }
     {
         let seconds = next_seconds(self.last(origin), now);
         self.forget(origin);
@@ -156,7 +156,6 @@ impl Guesses {
             origin,
             at: now,
             seconds,
-        })?;
-        Ok(())
+        });
     }
 }

@@ -30,7 +30,7 @@ const MOST_LOGIN_SECONDS: u64 = 600;
 
 /// How many seats there are: 64 for open connections, and 64 for connections that a Tick ended in
 /// this turn, whose links are closed later in it.
-const PLACES: usize = 2 * MOST_LINKS;
+pub(crate) const PLACES: usize = 2 * MOST_LINKS;
 
 /// What serving keeps between turns: the open links, and which spool file was tried last.
 #[derive(Drop)]
@@ -44,10 +44,11 @@ impl Links {
     pub fn new(alloc: Global) -> Links
         ensures settings { settings result ≡ none_set }
         ensures seats { result.clients.seats.items ≡ [] }
+        ensures newcomers { result.clients.newcomers.newcomers.items ≡ [] }
         ensures requests { result.requests.exchanges.items ≡ [] }
     {
         Links {
-            clients: Clients::new(alloc),
+            clients: Clients::new(),
             requests: Requests::new(alloc),
         }
     }
@@ -120,10 +121,10 @@ impl Links {
     }
 
     /// Whether more can be done at once.
-    pub(crate) fn presses(&self) -> bool
-        ensures { result ≡ (self.now.clients.presses || self.now.requests.presses) }
+    pub(crate) fn hurries(&self) -> bool
+        ensures { result ≡ (self.now.clients.hurries || self.now.requests.hurries) }
     {
-        self.clients.presses || self.requests.presses
+        self.clients.hurries || self.requests.hurries
     }
 
     /// How many links of the administration are open.
@@ -140,7 +141,7 @@ pub(crate) struct Clients {
     /// The spool file that was tried last.
     pub(crate) last: Option<FileName>,
     /// More can be done at once: the next turn doesn't wait.
-    pub(crate) presses: bool,
+    pub(crate) hurries: bool,
     /// For how many seconds a login waits for its maildrop's lock.
     pub(crate) wait: u64,
     /// Where logins wait: a session ended while this turn served the links. No further login is
@@ -154,18 +155,19 @@ pub(crate) struct Clients {
 
 impl Clients {
     /// No link is open, and no spool file was tried.
-    fn new(alloc: Global) -> Clients
+    fn new() -> Clients
         ensures settings { settings_of result ≡ none_set }
         ensures seats { result.seats.items ≡ [] }
+        ensures newcomers { result.newcomers.newcomers.items ≡ [] }
     {
         Clients {
             seats: ArrayVec::new(),
             last: None,
-            presses: false,
+            hurries: false,
             wait: 0,
             is_freed: false,
-            newcomers: Newcomers::new(alloc),
-            guesses: Guesses::new(alloc),
+            newcomers: Newcomers::new(),
+            guesses: Guesses::new(),
         }
     }
 }

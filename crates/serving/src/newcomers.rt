@@ -1,11 +1,13 @@
 //! Clients that haven't logged in since they were accepted.
-ghost use Rattle.std.specs.Prelude.{◌≡◌, option_copied, [], ◌==◌, not, ◌&&◌, is_ok};
+ghost use Rattle.std.specs.Prelude.{◌≡◌, ◌<◌, option_copied, [], ◌==◌, not, ◌&&◌};
+ghost use Rattle.std.specs.Prelude.{length, true};
 ghost use Rattle.serving.specs.Newcomers.{newcomer, others, is_late_by, noted};
 
-use std::alloc::{AllocError, Global};
+use crate::links::PLACES;
+use arrayvec::ArrayVec;
 
 /// A client that hasn't logged in.
-#[derive(Clone, Copy, PartialEq, Eq, Debug)]
+#[derive(Clone, Copy, PartialEq, Eq, Default, Debug)]
 pub(crate) struct Newcomer {
     /// Its connection's number.
     pub(crate) connection: u64,
@@ -20,42 +22,47 @@ fn first_of(newcomers: &[Newcomer], connection: u64) -> Option<&Newcomer>
     newcomers.iter().find(|it| it.connection == connection)
 }
 
-/// The clients that haven't logged in, in the order in which they were accepted.
+/// The clients that haven't logged in, in the order in which they were accepted: as many as there
+/// are seats at most, so that to note one takes no memory.
 #[derive(Drop)]
 pub(crate) struct Newcomers {
     /// How many seconds each has for its login; none is noted where it is 0.
     pub(crate) seconds: u64,
-    pub(crate) newcomers: Vec<Newcomer>,
+    pub(crate) newcomers: ArrayVec<Newcomer, PLACES>,
 }
 
 impl Newcomers {
     /// None came, and none is noted.
-    pub(crate) fn new(alloc: Global) -> Newcomers
+    pub(crate) fn new() -> Newcomers
         ensures seconds { result.seconds ≡ 0 }
         ensures newcomers { result.newcomers.items ≡ [] }
     {
         Newcomers {
             seconds: 0,
-            newcomers: Vec::new(alloc),
+            newcomers: ArrayVec::new(),
         }
     }
 
-    /// Notes a connection whose link was accepted at this moment. Its error is [`AllocError`]: the
-    /// connection isn't noted then, and has all the time that the office gives.
-    pub(crate) fn note(&mut self, connection: u64, now: u64) -> Result<(), AllocError>
+    /// Notes a connection whose link was accepted at this moment. Whether there was room: there is
+    /// where each that is noted has a seat, and a seat is free.
+    pub(crate) fn note(&mut self, connection: u64, now: u64) -> bool
         ensures seconds { self.new.seconds ≡ self.old.seconds }
         ensures newcomers { self.new.newcomers.items
-            ≡ noted (is_ok result && not (self.old.seconds == 0)) connection now
+            ≡ noted (result && not (self.old.seconds == 0)) connection now
             self.old.newcomers.items }
+        ensures room { length self.old.newcomers.items < 128 → result ≡ true }
     {
         if self.seconds == 0 {
-            return Ok(());
+            return true;
+        }
+        if self.newcomers.is_full() {
+            return false;
         }
         self.newcomers.push(Newcomer {
             connection,
             since: now,
-        })?;
-        Ok(())
+        });
+        true
     }
 
     /// Forgets a connection: it logged in, or ended.

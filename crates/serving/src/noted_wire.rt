@@ -108,13 +108,14 @@ impl<W: Wire> Wire for NotedWire<W> {
             → AreTold self.new.counts self.new.notes.calls
             (at_port port (λ of. has_read of link.number result (counted result buffer.new)) t) }
         ensures called { (a : List Call) → a ≡ self.old.notes.calls
-            → a ++ call.Read port link result (counted result buffer.new) ∷ []
+            → a ++ call.Read port link (length buffer.old) result (counted result buffer.new) ∷ []
             ≡ self.new.notes.calls }
         ensures inside { WasAsked W.tells W.asked self.old.wire self.new.wire
-            (call.Read port link result (counted result buffer.new)) }
+            (call.Read port link (length buffer.old) result (counted result buffer.new)) }
     {
+        let room = buffer.len();
         let io = self.wire.read(port, link, buffer);
-        self.notes.note(&Asked::Read(port, link, io), buffer);
+        self.notes.note(&Asked::Read(port, link, room, io), buffer);
         io
     }
 

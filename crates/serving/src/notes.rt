@@ -13,7 +13,8 @@ pub(crate) enum Asked {
     Wait(u32),
     Accept(Port, Option<Link>),
     Look(Port, Link, Io),
-    Read(Port, Link, Io),
+    /// How many octets there was room for stands in it.
+    Read(Port, Link, usize, Io),
     Write(Port, Link, Io),
     Close(Port, Link),
 }

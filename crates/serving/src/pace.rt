@@ -145,6 +145,7 @@ fn part_of_piece<V: Vault>(
     ensures part { (T : Trace) → StandsFor V.holds office.now T
         → result ≡ part_by (is_held T connection piece.now wait pace) (is_free_by pace) 4096
         piece.now }
+    ensures some { (result == 0) ≡ false → result ≡ part_by false (is_free_by pace) 4096 piece.now }
     ensures held { result ≡ 0 → 0 < length piece.now → (T : Trace) → StandsFor V.holds office.now T
         → is_held T connection piece.now wait pace ≡ true }
     ensures most { result ≤ 4096 }

@@ -1,7 +1,7 @@
 //! The links of the administration: one request over HTTP each, and its response.
 ghost use Rattle.std.specs.Prelude.{◌≡◌, ◌+◌, ◌<◌, ◌≤◌, ◌==◌, ◌++◌, ℕ, Bool, List, [], Some, Ok};
 ghost use Rattle.std.specs.Prelude.{length, take, drop, option_map, IfNone, IfOk, ◌⊎◌, true, false};
-ghost use Rattle.std.specs.Prelude.{not, if◌then◌else◌};
+ghost use Rattle.std.specs.Prelude.{not, if◌then◌else◌, OnErr};
 ghost use Rattle.vault.specs.Records.{Records};
 ghost use Rattle.office.specs.Events.{Log};
 ghost use Rattle.office.specs.Taken.{trace_of};
@@ -14,7 +14,7 @@ ghost use Rattle.serving.specs.HttpTurns.{is_late_at, most_exchanges, GoesOnAt, 
 ghost use Rattle.serving.specs.HttpWorks.{ComeTo, GivesApart, DoesApart, AsksApart, HadTurnAt};
 ghost use Rattle.serving.specs.HttpWorks.{HasAcceptedBeside, HasHeard, Tells, HasTold, HasHttpTurn};
 ghost use Rattle.serving.specs.HttpWorks.{HadHttpTurns, DidApart, response_of};
-ghost use Rattle.serving.specs.Works.{Part, Also, PressedBy};
+ghost use Rattle.serving.specs.Works.{Part, Also, HurriesBy};
 ghost use Rattle.serving.specs.Requests.{octets_of, IsToldBy, HasAsked, HasOneMore, StillAnswers};
 ghost use Rattle.serving.specs.Requests.{StillAsked, AllStillAnswer, AllStillAsked};
 
@@ -93,7 +93,7 @@ pub(crate) struct Requests {
     alloc: Global,
     pub(crate) exchanges: Vec<Exchange>,
     /// More can be written at once: the next turn doesn't wait.
-    pub(crate) presses: bool,
+    pub(crate) hurries: bool,
 }
 
 impl Requests {
@@ -104,7 +104,7 @@ impl Requests {
         Requests {
             alloc,
             exchanges: Vec::new(alloc),
-            presses: false,
+            hurries: false,
         }
     }
 
@@ -113,17 +113,21 @@ impl Requests {
         self.exchanges.len()
     }
 
-    /// Keeps a link that was accepted, unless eight are open or memory is short. Whether it is
-    /// kept.
-    fn keep(&mut self, link: Link, now: u64) -> bool
-        ensures kept { result ≡ true → HasOneMore now link self.old.exchanges.items
-            self.new.exchanges.items }
-        ensures refused { result ≡ false → self.new.exchanges.items ≡ self.old.exchanges.items }
+    /// Keeps a link that was accepted, unless eight are open. Whether it is kept. Its error is
+    /// [`AllocError`]: memory for it was refused.
+    fn keep(&mut self, link: Link, now: u64) -> Result<bool, AllocError>
+        ensures kept { IfOk result (λ kept. kept ≡ true → HasOneMore now link
+            self.old.exchanges.items self.new.exchanges.items) }
+        ensures full { IfOk result (λ kept. kept ≡ false
+            → most_exchanges ≤ length self.old.exchanges.items) }
+        ensures turned_away { IfOk result (λ kept. kept ≡ false
+            → self.new.exchanges.items ≡ self.old.exchanges.items) }
+        ensures refused { OnErr result (self.new.exchanges.items ≡ self.old.exchanges.items) }
         ensures few { length self.old.exchanges.items ≤ most_exchanges
             → length self.new.exchanges.items ≤ most_exchanges }
     {
         if self.exchanges.len() >= MOST_REQUESTS {
-            return false;
+            return Ok(false);
         }
         let exchange = Exchange {
             link,
@@ -133,7 +137,8 @@ impl Requests {
             written: 0,
             is_over: false,
         };
-        self.exchanges.push(exchange).is_ok()
+        self.exchanges.push(exchange)?;
+        Ok(true)
     }
 }
 
@@ -292,7 +297,7 @@ fn tell_once<W: Wire>(wire: &mut W, exchange: &mut Exchange) -> usize
 /// once.
 fn tell<W: Wire>(wire: &mut W, exchange: &mut Exchange) -> bool
     ensures works { AsksApart W.asked wire.old wire.new
-        (λ calls. HasTold exchange.old exchange.new calls × PressedBy false result calls) }
+        (λ calls. HasTold exchange.old exchange.new calls × HurriesBy false result calls) }
     ensures since { exchange.new.since ≡ exchange.old.since }
     ensures answers { StillAnswers W.tells wire.old exchange.old wire.new exchange.new }
     ensures link { exchange.new.link ≡ exchange.old.link }
@@ -323,7 +328,7 @@ fn serve_exchange<V: Vault, W: Wire>(
     ensures works { Part V.holds V.is_clean V.faults W.asked
         office.old wire.old office.new wire.new
         (Also (DidApart V.holds V.is_clean office.old office.new
-        (λ B L. HasHttpTurn now B L exchange.old exchange.new)) (PressedBy false result)) }
+        (λ B L. HasHttpTurn now B L exchange.old exchange.new)) (HurriesBy false result)) }
     ensures asked { StillAsked V.holds V.is_clean W.tells office.old wire.old exchange.old
         office.new wire.new exchange.new }
     ensures clean { V.is_clean (vault_of office.new) → V.is_clean (vault_of office.old) }
@@ -352,7 +357,7 @@ fn serve_place<V: Vault, W: Wire>(
         office.old wire.old office.new wire.new
         (Also (DidApart V.holds V.is_clean office.old office.new
         (HadTurnAt now place result requests.old.exchanges.items requests.new.exchanges.items))
-        (PressedBy requests.old.presses requests.new.presses)) }
+        (HurriesBy requests.old.hurries requests.new.hurries)) }
     ensures asked { AllStillAsked V.holds V.is_clean W.tells office.old wire.old
         requests.old.exchanges.items office.new wire.new requests.new.exchanges.items }
     ensures clean { V.is_clean (vault_of office.new) → V.is_clean (vault_of office.old) }
@@ -365,7 +370,7 @@ fn serve_place<V: Vault, W: Wire>(
     ensures stays { result ≡ true → GoesOnAt now requests.new.exchanges.items place }
 {
     let exchange = &mut requests.exchanges[place];
-    requests.presses |= serve_exchange(requests.alloc, office, wire, exchange, now);
+    requests.hurries |= serve_exchange(requests.alloc, office, wire, exchange, now);
     if !exchange.is_over {
         return true;
     }
@@ -386,14 +391,14 @@ pub(crate) fn serve_requests<V: Vault, W: Wire>(
         office.old wire.old office.new wire.new
         (Also (DidApart V.holds V.is_clean office.old office.new
         (λ B L. HadHttpTurns now B L requests.old.exchanges.items requests.new.exchanges.items))
-        (PressedBy false requests.new.presses)) }
+        (HurriesBy false requests.new.hurries)) }
     ensures asked { AllStillAsked V.holds V.is_clean W.tells office.old wire.old
         requests.old.exchanges.items office.new wire.new requests.new.exchanges.items }
     ensures clean { V.is_clean (vault_of office.new) → V.is_clean (vault_of office.old) }
     ensures stay { TheseGoOn now requests.new.exchanges.items }
     ensures no_more { length requests.new.exchanges.items ≤ length requests.old.exchanges.items }
 {
-    requests.presses = false;
+    requests.hurries = false;
     let mut place = 0;
     while place < requests.exchanges.len() {
         if serve_place(office, wire, requests, place, now) {
@@ -402,7 +407,8 @@ pub(crate) fn serve_requests<V: Vault, W: Wire>(
     }
 }
 
-/// Accepts a link of the administration; or closes it, where eight are open or memory is short.
+/// Accepts a link of the administration; or closes it, where eight are open or memory for it was
+/// refused.
 /// Whether one came.
 fn accept_request<W: Wire>(wire: &mut W, requests: &mut Requests, now: u64) -> bool
     ensures few { length requests.old.exchanges.items ≤ most_exchanges
@@ -415,10 +421,11 @@ fn accept_request<W: Wire>(wire: &mut W, requests: &mut Requests, now: u64) -> b
     let Some(link) = wire.accept(Port::Admin) else {
         return false;
     };
-    if requests.keep(link, now) {
-        return true;
+    match requests.keep(link, now) {
+        Ok(true) => {}
+        Ok(false) => wire.close(Port::Admin, link),
+        Err(_) => wire.close(Port::Admin, link),
     }
-    wire.close(Port::Admin, link);
     true
 }
 

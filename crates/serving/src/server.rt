@@ -7,6 +7,7 @@ ghost use Rattle.office.specs.Stands.{StandsFor};
 ghost use Rattle.serving.specs.Served.{Serves};
 ghost use Rattle.serving.specs.HttpTurns.{AreFew};
 ghost use Rattle.serving.specs.HttpWorks.{AreShort};
+ghost use Rattle.serving.specs.Newcomers.{AllHaveSeats};
 ghost use Rattle.serving.specs.Settings.{settings, none_set};
 
 use crate::links::Links;
@@ -41,6 +42,7 @@ pub fn begin_noted<V: Vault, W: Wire, S: Spool>(
         ⟦<NotedSpool<S> as Spool>⟧.tells T office.now result.wire result.spool
         result.links.clients.seats.items result.links.requests.exchanges.items }
     ensures few { AreFew result.links }
+    ensures seated { AllHaveSeats result.links }
     ensures short { AreShort result.links }
     ensures settings { settings result.links ≡ none_set }
 {

@@ -12,14 +12,15 @@ ghost use Rattle.serving.specs.Wires.{ToldOfPorts, AreFresh, opened_by};
 ghost use Rattle.serving.specs.Served.{StillServes, StillServesOne, Serves};
 ghost use Rattle.office.specs.Logins.{refusals};
 ghost use Rattle.serving.specs.Guesses.{AreNotedSo};
-ghost use Rattle.serving.specs.Newcomers.{others, newcomer};
+ghost use Rattle.serving.specs.Newcomers.{others, newcomer, AreNoted, AreSeatedAt, AllHaveSeats};
 ghost use Rattle.serving.specs.Paces.{has_freed, KeepsAside, LeavesSettings};
 ghost use Rattle.serving.specs.Settings.{settings, settings_of, none_set};
 ghost use Rattle.serving.specs.Works.{Part, Asking, Giving, IsPassed, AreAccepted, IsWritten};
-ghost use Rattle.serving.specs.Works.{IsWrittenOut, IsHeard, HadTurns, WereServed, AreClosed};
+ghost use Rattle.serving.specs.Works.{IsWrittenOut, IsReadOnce, IsHeard, HadTurns, WereServed};
+ghost use Rattle.serving.specs.Works.{AreClosed};
 ghost use Rattle.serving.specs.Works.{IsClosed};
 ghost use Rattle.serving.specs.Works.{share_by, may_keep, way_at, is_late, AreNoMoreLate};
-ghost use Rattle.serving.specs.Works.{AreLateGone, Also, PressedBy};
+ghost use Rattle.serving.specs.Works.{AreLateGone, Also, HurriesBy, Releases};
 ghost use Rattle.serving.specs.Late.{IsShutBy, HasEndedLate};
 ghost use Rattle.serving.specs.Turns.{Works, millis_of};
 ghost use Rattle.serving.specs.HttpTurns.{AllGoOn, AreFew};
@@ -127,10 +128,8 @@ fn read_once<V: Vault, W: Wire, L: Listener>(
     ensures serves { StillServesOne V.holds V.is_clean W.tells seat office.old wire.old office.new
         wire.new }
     ensures clean { V.is_clean (vault_of office.new) → V.is_clean (vault_of office.old) }
-    ensures works { (wait : ℕ) (may : Bool) → Part V.holds V.is_clean V.faults W.asked
-        office.old wire.old office.new wire.new
-        (Also (IsHeard V.holds office.old seat wait may)
-        (PressedBy false result)) }
+    ensures works { Part V.holds V.is_clean V.faults W.asked office.old wire.old office.new wire.new
+        (Also (IsReadOnce V.holds office.old seat (length buffer.old)) (HurriesBy false result)) }
 {
     let connection = seat.connection;
     if !office.ready(connection) {
@@ -165,6 +164,7 @@ fn note_guess<V: Vault>(
 )
     ensures seats { links.new.seats ≡ links.old.seats }
     ensures aside { KeepsAside links.old links.new }
+    ensures hurried { links.old.hurries ≡ true → links.new.hurries ≡ true }
     ensures noted { (T : Trace) → StandsFor V.holds office.now T
         → AreNotedSo now origin (nat_lt before (refusals T connection))
         (live (history T) connection) links.old.guesses.refusals.items
@@ -173,9 +173,9 @@ fn note_guess<V: Vault>(
     let Some(origin) = origin else {
         return;
     };
-    links.presses = true;
+    links.hurries = true;
     if office.refusals(connection) > before {
-        let _ = links.guesses.refuse(origin, now);
+        links.guesses.refuse(origin, now);
         return;
     }
     if office.is_logged_in(connection) {
@@ -198,10 +198,11 @@ fn read_piece<V: Vault, W: Wire, L: Listener>(
     ensures clean { V.is_clean (vault_of office.new) → V.is_clean (vault_of office.old) }
     ensures seats { links.new.seats ≡ links.old.seats }
     ensures aside { KeepsAside links.old links.new }
+    ensures hurried { links.old.hurries ≡ true → links.new.hurries ≡ true }
     ensures works { Part V.holds V.is_clean V.faults W.asked
         office.old wire.old office.new wire.new
         (Also (IsHeard V.holds office.old seat links.old.wait (may_keep links.old))
-        (PressedBy links.old.presses (links.new.presses || result))) }
+        (HurriesBy links.old.hurries (links.new.hurries || result))) }
 {
     if !office.ready(seat.connection) {
         return false;
@@ -237,11 +238,12 @@ fn serve_link<V: Vault, W: Wire, L: Listener>(
     ensures clean { V.is_clean (vault_of office.new) → V.is_clean (vault_of office.old) }
     ensures seats { links.new.seats ≡ links.old.seats }
     ensures aside { KeepsAside links.old links.new }
+    ensures hurried { links.old.hurries ≡ true → links.new.hurries ≡ true }
     ensures works { Part V.holds V.is_clean V.faults W.asked
         office.old wire.old office.new wire.new
-        (Also (HadTurns V.holds V.is_clean office.old office.new (way_at links.old)
-        (seat ∷ []) (seat ∷ []))
-        (PressedBy links.old.presses (links.new.presses || result))) }
+        (Also (HadTurns V.holds V.is_clean office.old office.new
+        (way_at links.old (links.new.hurries || result)) (seat ∷ []) (seat ∷ []))
+        (HurriesBy links.old.hurries (links.new.hurries || result))) }
 {
     let share = share_of(links);
     if write_owed(office, wire, listener, seat, share) {
@@ -280,9 +282,12 @@ fn note_freed<V: Vault>(
         || has_freed links.old.wait was_logged_in (live (history T) connection)) }
     ensures waits { links.new.is_freed ≡ true → (links.old.is_freed ≡ true)
         ⊎ ((links.old.wait == 0) ≡ false) }
-    ensures presses { links.new.presses ≡ true
-        → (links.old.presses || links.new.is_freed) ≡ true }
+    ensures hurries { links.new.hurries ≡ true
+        → (links.old.hurries || links.new.is_freed) ≡ true }
     ensures still { links.old.is_freed ≡ true → links.new.is_freed ≡ true }
+    ensures frees { links.new.is_freed ≡ true → (links.old.is_freed ≡ true)
+        ⊎ (links.new.hurries ≡ true) }
+    ensures hurried { links.old.hurries ≡ true → links.new.hurries ≡ true }
     ensures aside { LeavesSettings links.old links.new }
 {
     if links.wait == 0 {
@@ -295,7 +300,7 @@ fn note_freed<V: Vault>(
         return;
     }
     links.is_freed = true;
-    links.presses = true;
+    links.hurries = true;
 }
 
 /// Serves a client's link, and notes whether its session ended.
@@ -318,16 +323,19 @@ fn serve_client<V: Vault, W: Wire, L: Listener>(
     ensures waits { links.new.is_freed ≡ true → (links.old.is_freed ≡ true)
         ⊎ ((links.old.wait == 0) ≡ false) }
     ensures still { links.old.is_freed ≡ true → links.new.is_freed ≡ true }
+    ensures frees { links.new.is_freed ≡ true → (links.old.is_freed ≡ true)
+        ⊎ (links.new.hurries ≡ true) }
+    ensures hurried { links.old.hurries ≡ true → links.new.hurries ≡ true }
     ensures aside { LeavesSettings links.old links.new }
     ensures works { Part V.holds V.is_clean V.faults W.asked
         office.old wire.old office.new wire.new
-        (Also (HadTurns V.holds V.is_clean office.old office.new (way_at links.old)
-        (seat ∷ []) (seat ∷ []))
-        (PressedBy (links.old.presses || links.new.is_freed) links.new.presses)) }
+        (Also (HadTurns V.holds V.is_clean office.old office.new
+        (way_at links.old links.new.hurries) (seat ∷ []) (seat ∷ []))
+        (HurriesBy (links.old.hurries || links.new.is_freed) links.new.hurries)) }
 {
     let was_logged_in = office.is_logged_in(seat.connection);
     let more = serve_link(office, wire, listener, links, seat, now);
-    links.presses |= more;
+    links.hurries |= more;
     note_freed(office, links, seat.connection, was_logged_in);
 }
 
@@ -352,13 +360,16 @@ fn serve_seat<V: Vault, W: Wire, L: Listener>(
     ensures waits { links.new.is_freed ≡ true → (links.old.is_freed ≡ true)
         ⊎ ((links.old.wait == 0) ≡ false) }
     ensures still { links.old.is_freed ≡ true → links.new.is_freed ≡ true }
+    ensures frees { links.new.is_freed ≡ true → (links.old.is_freed ≡ true)
+        ⊎ (links.new.hurries ≡ true) }
+    ensures hurried { links.old.hurries ≡ true → links.new.hurries ≡ true }
     ensures aside { LeavesSettings links.old links.new }
     ensures works { Part V.holds V.is_clean V.faults W.asked
         office.old wire.old office.new wire.new
         (Also (λ given calls. (d : declared.Seat) → HadTurns V.holds V.is_clean
-        office.old office.new (way_at links.old) links.old.seats.items
+        office.old office.new (way_at links.old links.new.hurries) links.old.seats.items
         (slice_index_or links.old.seats.items place d ∷ []) given calls)
-        (PressedBy (links.old.presses || links.new.is_freed) links.new.presses)) }
+        (HurriesBy (links.old.hurries || links.new.is_freed) links.new.hurries)) }
 {
     let seat = links.seats[place];
     serve_client(office, wire, listener, links, seat, now);
@@ -377,11 +388,12 @@ fn serve_links<V: Vault, W: Wire, L: Listener>(
     ensures clean { V.is_clean (vault_of office.new) → V.is_clean (vault_of office.old) }
     ensures seats { links.new.seats ≡ links.old.seats }
     ensures aside { LeavesSettings links.old links.new }
+    ensures frees { links.new.is_freed ≡ true → links.new.hurries ≡ true }
     ensures works { Part V.holds V.is_clean V.faults W.asked
         office.old wire.old office.new wire.new
         (Also (WereServed V.holds V.is_clean office.old office.new (settings_of links.old)
-        links.new.is_freed links.old.seats.items links.old.seats.items)
-        (PressedBy (links.old.presses || links.new.is_freed) links.new.presses)) }
+        links.new.is_freed links.new.hurries links.old.seats.items links.old.seats.items)
+        (HurriesBy (links.old.hurries || links.new.is_freed) links.new.hurries)) }
 {
     links.is_freed = false;
     let mut place = 0;
@@ -421,10 +433,11 @@ fn end_late<V: Vault, W: Wire>(
     ensures clean { V.is_clean (vault_of office.new) → V.is_clean (vault_of office.old) }
     ensures seats { links.new.seats ≡ links.old.seats }
     ensures set { settings_of links.new ≡ settings_of links.old }
-    ensures presses { links.new.presses ≡ links.old.presses }
+    ensures hurries { links.new.hurries ≡ links.old.hurries }
     ensures last { links.new.last ≡ links.old.last }
     ensures late { AreNoMoreLate now links.old.newcomers.seconds links.old.newcomers.newcomers.items
         links.new.newcomers.newcomers.items }
+    ensures seated { AreSeatedAt links.old → AreSeatedAt links.new }
     ensures works { (links.old.newcomers.seconds == 0) ≡ false
         → Giving V.holds V.is_clean V.faults office.old office.new (λ given. (d : declared.Seat) →
         HasEndedLate V.holds V.is_clean office.old office.new now links.old.newcomers.seconds
@@ -448,9 +461,10 @@ fn end_late_ones<V: Vault, W: Wire>(office: &mut Office<V>, wire: &W, links: &mu
         links.old.seats.items [] office.new wire.now links.new.seats.items [] }
     ensures clean { V.is_clean (vault_of office.new) → V.is_clean (vault_of office.old) }
     ensures off { links.old.newcomers.seconds ≡ 0 → office.new ≡ office.old }
+    ensures seated { AreSeatedAt links.old → AreSeatedAt links.new }
     ensures seats { links.new.seats ≡ links.old.seats }
     ensures set { settings_of links.new ≡ settings_of links.old }
-    ensures presses { links.new.presses ≡ links.old.presses }
+    ensures hurries { links.new.hurries ≡ links.old.hurries }
     ensures last { links.new.last ≡ links.old.last }
     ensures works { Giving V.holds V.is_clean V.faults office.old office.new (HasEndedLate V.holds
         V.is_clean office.old office.new now links.old.newcomers.seconds
@@ -481,6 +495,7 @@ fn close_seat<V: Vault, W: Wire>(
         links.new.seats.items (take (if result then place + 1 else place) links.new.seats.items) }
     ensures left { array_vec_len links.new.seats + (if result then 0 else 1)
         ≡ array_vec_len links.old.seats }
+    ensures seated { AreSeatedAt links.old → AreSeatedAt links.new }
     ensures set { settings_of links.new ≡ settings_of links.old }
     ensures last { links.new.last ≡ links.old.last }
     ensures newcomers { (d : declared.Seat)
@@ -491,7 +506,9 @@ fn close_seat<V: Vault, W: Wire>(
         → Asking W.asked wire.old wire.new
         (λ calls. IsClosed T links.old.seats.items links.new.seats.items place
         (slice_index_or links.old.seats.items place d) result calls
-        × PressedBy links.old.presses links.new.presses calls) }
+        × HurriesBy links.old.hurries links.new.hurries calls
+        × Releases links.old.wait links.new.hurries calls) }
+    ensures hurried { links.old.hurries ≡ true → links.new.hurries ≡ true }
 {
     let seat = links.seats[place];
     if !office.ended(seat.connection) {
@@ -502,7 +519,7 @@ fn close_seat<V: Vault, W: Wire>(
     let gone = seat.connection;
     links.newcomers.forget(gone);
     // A login may have waited for what this connection held.
-    links.presses |= links.wait > 0;
+    links.hurries |= links.wait > 0;
     false
 }
 
@@ -512,13 +529,16 @@ fn close_links<V: Vault, W: Wire>(office: &Office<V>, wire: &mut W, links: &mut 
         links.old.seats.items [] office.now wire.new links.new.seats.items links.new.seats.items }
     ensures set { settings_of links.new ≡ settings_of links.old }
     ensures last { links.new.last ≡ links.old.last }
+    ensures seated { AreSeatedAt links.old → AreSeatedAt links.new }
     ensures newcomers { (T : Trace) → StandsFor V.holds office.now T → (c : ℕ)
         → is_open T c ≡ true → newcomer c links.new.newcomers.newcomers.items ≡ newcomer c
         links.old.newcomers.newcomers.items }
     ensures works { (T : Trace) → StandsFor V.holds office.now T
         → Asking W.asked wire.old wire.new
         (λ calls. AreClosed T links.old.seats.items links.new.seats.items calls
-        × PressedBy links.old.presses links.new.presses calls) }
+        × HurriesBy links.old.hurries links.new.hurries calls
+        × Releases links.old.wait links.new.hurries calls) }
+    ensures hurried { links.old.hurries ≡ true → links.new.hurries ≡ true }
 {
     let mut place = 0;
     while place < links.seats.len() {
@@ -564,12 +584,13 @@ fn accept_link<V: Vault, W: Wire, L: Listener>(
         links.old.seats.items [] office.new wire.new links.new.seats.items [] }
     ensures clean { V.is_clean (vault_of office.new) → V.is_clean (vault_of office.old) }
     ensures set { settings_of links.new ≡ settings_of links.old }
-    ensures presses { links.new.presses ≡ links.old.presses }
+    ensures hurries { links.new.hurries ≡ links.old.hurries }
     ensures last { links.new.last ≡ links.old.last }
     ensures late { AreNoMoreLate now links.old.newcomers.seconds links.old.newcomers.newcomers.items
         links.new.newcomers.newcomers.items }
     ensures noted { (c : ℕ) (n : Newcomer) → newcomer c links.old.newcomers.newcomers.items ≡ Some n
         → newcomer c links.new.newcomers.newcomers.items ≡ Some n }
+    ensures comers { AreNoted now links.old links.new }
     ensures works { Part V.holds V.is_clean V.faults W.asked office.old wire.old office.new wire.new
         (AreAccepted V.holds V.is_clean office.old office.new links.old.seats.items
         links.new.seats.items 1 result) }
@@ -604,12 +625,13 @@ fn accept_links<V: Vault, W: Wire, L: Listener>(
         links.old.seats.items [] office.new wire.new links.new.seats.items [] }
     ensures clean { V.is_clean (vault_of office.new) → V.is_clean (vault_of office.old) }
     ensures set { settings_of links.new ≡ settings_of links.old }
-    ensures presses { links.new.presses ≡ links.old.presses }
+    ensures hurries { links.new.hurries ≡ links.old.hurries }
     ensures last { links.new.last ≡ links.old.last }
     ensures late { AreNoMoreLate now links.old.newcomers.seconds links.old.newcomers.newcomers.items
         links.new.newcomers.newcomers.items }
     ensures noted { (c : ℕ) (n : Newcomer) → newcomer c links.old.newcomers.newcomers.items ≡ Some n
         → newcomer c links.new.newcomers.newcomers.items ≡ Some n }
+    ensures comers { AreNoted now links.old links.new }
     ensures works { (goes : Bool) × Part V.holds V.is_clean V.faults W.asked office.old wire.old
         office.new wire.new (AreAccepted V.holds V.is_clean office.old office.new
         links.old.seats.items links.new.seats.items 64 goes) }
@@ -625,7 +647,7 @@ fn accept_links<V: Vault, W: Wire, L: Listener>(
 fn millis_for(links: &Links) -> u32
     ensures { result ≡ millis_of links.now }
 {
-    if links.presses() { 0 } else { MOST_MILLIS }
+    if links.hurries() { 0 } else { MOST_MILLIS }
 }
 
 /// One turn: waits for at most a second, and not at all where more can be done at once; tells the
@@ -651,12 +673,13 @@ pub fn serve_turn<V: Vault, W: Wire, S: Spool, L: Listener>(
         office.new links.new wire.new spool.new }
     ensures ongoing { AllGoOn now links.new }
     ensures few { AreFew links.old → AreFew links.new }
+    ensures seated { AllHaveSeats links.old → AllHaveSeats links.new }
     ensures short { (T : Trace) → StandsFor V.holds office.old T → V.is_clean (vault_of office.new)
         → AreShort links.old → AreShort links.new }
     ensures settings { settings links.new ≡ settings links.old }
 {
     let millis = millis_for(links);
-    links.clients.presses = false;
+    links.clients.hurries = false;
     pass_time(office, wire, millis, now);
     accept_links(office, wire, listener, &mut links.clients, now);
     accept_requests(wire, &mut links.requests, MOST_LINKS, now);
@@ -680,6 +703,7 @@ pub fn begin<V: Vault, W: Wire, S: Spool>(
         → Serves V.holds W.tells S.tells T _office.now _wire.now _spool.now
         result.clients.seats.items result.requests.exchanges.items }
     ensures few { AreFew result }
+    ensures seated { AllHaveSeats result }
     ensures short { AreShort result }
     ensures settings { settings result ≡ none_set }
 {

@@ -77,7 +77,8 @@ pub trait Wire {
             → tells self.new (at_port port (λ of. has_read of link.number result
             (counted result buffer.new)) t) }
         ensures called { (a : List Call) → asked self.old a
-            → asked self.new (a ++ Read port link result (counted result buffer.new) ∷ []) };
+            → asked self.new (a ++ Read port link (length buffer.old) result
+            (counted result buffer.new) ∷ []) };
 
     /// Writes octets on a link, from the first on.
     fn write(&mut self, port: Port, link: Link, octets: &[u8]) -> Io

@@ -26,7 +26,7 @@ returns-in-Count-clause-works g c =
     record {
       calls = Looked Pop c.args.seat.link (Count n) (take n buffer) ∷ [];
       was_asked = asked_one g.W.Wire.asked c.args.wire.now c.look.new.self (Looked Pop c.args.seat.link (Count n) (take n buffer)) c.in-Count.ensures.called;
-      facts = PieceCame n (take n buffer) c.part_of_piece.result some c.part_of_piece.ensures.part;
+      facts = PieceCame n (take n buffer) c.part_of_piece.result some c.part_of_piece.ensures.part c.part_of_piece.ensures.some;
     }
 
 pub returns-in_default-clause-works : goal.returns-in_default-clause-works

@@ -6,14 +6,13 @@ use Rattle.serving.proofs.Quieting.{quiet_accepted, quiet_closed, asks_one, asks
 use Rattle.std.proofs.Common.{None, Some, [], ◌∷◌, arith}
 use Rattle.serving.specs.declared.wire.Port.TheVariants.{Admin}
 use Rattle.serving.specs.Calls.{Accepted, Closed}
-use Rattle.serving.specs.HttpWorks.{NoMore, IsKept, IsTurnedAway, HasAcceptedBeside}
+use Rattle.serving.specs.HttpWorks.{NoMore, IsKept, IsTurnedAway, WantsMemory, HasAcceptedBeside}
 use Rattle.serving.proofs.requests.accept_request.Goals as goal
 
-pub returns-then-keep-clause-answers : goal.returns-then-keep-clause-answers
-returns-then-keep-clause-answers g c = λ x B start L pop s.
+pub returns-in-Ok-true-clause-answers : goal.returns-in-Ok-true-clause-answers
+returns-in-Ok-true-clause-answers g c = λ x B start L pop s.
     (let accepted = c.in-Some.ensures.told (record { pop = pop; admin = s.told }) s.tells in
-    let is_so : c.keep.result ≡ true = search rules in
-    let more = c.keep.ensures.kept is_so in
+    let more = c.in-Ok-true.ensures.kept (search rules) in
     let xs = c.args.requests.now.exchanges.items in
     record {
       told = has_accepted s.told;
@@ -23,10 +22,9 @@ returns-then-keep-clause-answers g c = λ x B start L pop s.
           (held_new s.told x xs B start L more.last (ap (λ k. k.number) more.link_is ∙ accepted.0) more.read more.response more.written s.exchanged s.held);
     })
 
-pub returns-clause-answers : goal.returns-clause-answers
-returns-clause-answers g c = λ x B start L pop s.
+pub returns-in-Ok-false-clause-answers : goal.returns-in-Ok-false-clause-answers
+returns-in-Ok-false-clause-answers g c = λ x B start L pop s.
     (let accepted = c.in-Some.ensures.told (record { pop = pop; admin = s.told }) s.tells in
-    let is_so : c.keep.result ≡ false = search rules in
     let xs = c.args.requests.now.exchanges.items in
     let n = c.in-Some.link.number in
     let told2 = has_closed (has_accepted s.told) n in
@@ -34,7 +32,20 @@ returns-clause-answers g c = λ x B start L pop s.
       told = told2;
       tells = c.close.ensures.told (record { pop = pop; admin = has_accepted s.told }) accepted.1;
       exchanged = exchanged_same (has_accepted s.told) told2 x B start L (exchanged_accepted s.told x xs B start L s.exchanged) refl (λ k. refl) (λ k. refl) s.exchanged.straight;
-      held = subst (AreHeld told2 x) (sym (c.keep.ensures.refused is_so)) (held_refused s.told x xs n accepted.0 s.held);
+      held = subst (AreHeld told2 x) (sym (c.in-Ok-false.ensures.turned_away (search rules))) (held_refused s.told x xs n accepted.0 s.held);
+    })
+
+pub returns-in-Err-clause-answers : goal.returns-in-Err-clause-answers
+returns-in-Err-clause-answers g c = λ x B start L pop s.
+    (let accepted = c.in-Some.ensures.told (record { pop = pop; admin = s.told }) s.tells in
+    let xs = c.args.requests.now.exchanges.items in
+    let n = c.in-Some.link.number in
+    let told2 = has_closed (has_accepted s.told) n in
+    record {
+      told = told2;
+      tells = c.close-in-Err.ensures.told (record { pop = pop; admin = has_accepted s.told }) accepted.1;
+      exchanged = exchanged_same (has_accepted s.told) told2 x B start L (exchanged_accepted s.told x xs B start L s.exchanged) refl (λ k. refl) (λ k. refl) s.exchanged.straight;
+      held = subst (AreHeld told2 x) (sym c.in-Err.ensures.refused) (held_refused s.told x xs n accepted.0 s.held);
     })
 
 pub returns-in_default-clause-works : goal.returns-in_default-clause-works
@@ -43,23 +54,32 @@ returns-in_default-clause-works g c =
     asks_one g.W.Wire.asked c.args.wire.now c.accept.new.self (Accepted Admin None) (HasAcceptedBeside c.args.now 1 false xs xs) (quiet_accepted None)
     (record { came = 0; arrivals = []; come = NoMore xs; calls_are = refl; enough = λ e. cc }) c.in_default.ensures.called
 
-pub returns-then-keep-clause-works : goal.returns-then-keep-clause-works
-returns-then-keep-clause-works g c =
-    let is_so : c.keep.result ≡ true = search rules in
+pub returns-in-Ok-true-clause-works : goal.returns-in-Ok-true-clause-works
+returns-in-Ok-true-clause-works g c =
     let link = c.in-Some.link in
     let xs = c.args.requests.now.exchanges.items in
     let ys = c.keep.new.self.exchanges.items in
     asks_one g.W.Wire.asked c.args.wire.now c.accept.new.self (Accepted Admin (Some link)) (HasAcceptedBeside c.args.now 1 true xs ys) (quiet_accepted (Some link))
-    (record { came = 1; arrivals = Accepted Admin (Some link) ∷ []; come = IsKept link xs ys ys 0 [] (c.keep.ensures.kept is_so) (NoMore ys); calls_are = refl; enough = λ e. omega arith }) c.in-Some.ensures.called
+    (record { came = 1; arrivals = Accepted Admin (Some link) ∷ []; come = IsKept link xs ys ys 0 [] (c.in-Ok-true.ensures.kept (search rules)) (NoMore ys); calls_are = refl; enough = λ e. omega arith }) c.in-Some.ensures.called
 
-pub returns-clause-works : goal.returns-clause-works
-returns-clause-works g c =
-    let is_so : c.keep.result ≡ false = search rules in
+pub returns-in-Ok-false-clause-works : goal.returns-in-Ok-false-clause-works
+returns-in-Ok-false-clause-works g c =
     let link = c.in-Some.link in
     let xs = c.args.requests.now.exchanges.items in
     let ys = c.keep.new.self.exchanges.items in
     let calls = Accepted Admin (Some link) ∷ Closed Admin link ∷ [] in
     asks_two g.W.Wire.asked c.args.wire.now c.accept.new.self c.close.new.self (Accepted Admin (Some link)) (Closed Admin link) (HasAcceptedBeside c.args.now 1 true xs ys) (quiet_accepted (Some link)) (quiet_closed link)
-    (subst (λ l. HasAcceptedBeside c.args.now 1 true xs l calls) (sym (c.keep.ensures.refused is_so))
-    (record { came = 1; arrivals = calls; come = IsTurnedAway link xs xs 0 [] (NoMore xs); calls_are = refl; enough = λ e. omega arith }))
+    (subst (λ l. HasAcceptedBeside c.args.now 1 true xs l calls) (sym (c.in-Ok-false.ensures.turned_away (search rules)))
+    (record { came = 1; arrivals = calls; come = IsTurnedAway link xs xs 0 [] (c.in-Ok-false.ensures.full (search rules)) (NoMore xs); calls_are = refl; enough = λ e. omega arith }))
     c.in-Some.ensures.called c.close.ensures.called
+
+pub returns-in-Err-clause-works : goal.returns-in-Err-clause-works
+returns-in-Err-clause-works g c =
+    let link = c.in-Some.link in
+    let xs = c.args.requests.now.exchanges.items in
+    let ys = c.keep.new.self.exchanges.items in
+    let calls = Accepted Admin (Some link) ∷ Closed Admin link ∷ [] in
+    asks_two g.W.Wire.asked c.args.wire.now c.accept.new.self c.close-in-Err.new.self (Accepted Admin (Some link)) (Closed Admin link) (HasAcceptedBeside c.args.now 1 true xs ys) (quiet_accepted (Some link)) (quiet_closed link)
+    (subst (λ l. HasAcceptedBeside c.args.now 1 true xs l calls) (sym c.in-Err.ensures.refused)
+    (record { came = 1; arrivals = calls; come = WantsMemory link xs xs 0 [] (NoMore xs); calls_are = refl; enough = λ e. omega arith }))
+    c.in-Some.ensures.called c.close-in-Err.ensures.called

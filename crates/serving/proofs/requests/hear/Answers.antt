@@ -73,13 +73,13 @@ returns-in-Count-clause-works g c =
     let e2 = c.take_piece.new.exchange in
     let n = c.in-Count.count in
     let piece = take n c.read.new.buffer in
-    let call = Read Admin e.link (Count n) piece in
+    let call = Read Admin e.link 4096 (Count n) piece in
     let none : e.response ≡ None = search rules in
     let goes : e.is_over ≡ false = search rules in
     did_then g.V.Vault.holds g.V.Vault.is_clean g.V.Vault.faults g.W.Wire.asked o o o1 w w1 w1 (NoEvent (IsOne call)) (λ B L given calls. (calls ≡ []) × ComesTo B L (e.read.items ++ piece) given (response_of e2)) (λ B L. HasHeard B L e e2)
-    (λ B L g1 g2 c1 c2 p q. heard_piece B L e e2 n piece g1 g2 c1 c2 none (c.take_piece.ensures.over ∙ goes) c.take_piece.ensures.read p.0 p.1 q)
+    (λ B L g1 g2 c1 c2 p q. heard_piece B L e e2 n piece g1 g2 c1 c2 none (c.take_piece.ensures.over ∙ goes) c.take_piece.ensures.read c.take_piece.ensures.link c.take_piece.ensures.written p.0 p.1 q)
     (did_asked g.V.Vault.holds g.V.Vault.is_clean g.V.Vault.faults g.W.Wire.asked o w w1 (IsOne call) (NoEvent (IsOne call)) (λ B L cs is. (refl, is))
-    (asks_one g.W.Wire.asked w w1 call (IsOne call) (quiet_read e.link (Count n) piece) refl c.in-Count.ensures.called))
+    (asks_one g.W.Wire.asked w w1 call (IsOne call) (quiet_read e.link 4096 (Count n) piece) refl c.in-Count.ensures.called))
     (did_given g.V.Vault.holds g.V.Vault.is_clean g.V.Vault.faults g.W.Wire.asked o o1 w1 (ComeTo (e.read.items ++ piece) (response_of e2)) c.take_piece.ensures.works)
 
 pub returns-in-Later-clause-works : goal.returns-in-Later-clause-works
@@ -87,10 +87,10 @@ returns-in-Later-clause-works g c =
     let e = c.args.exchange.now in
     let w = c.args.wire.now in
     let w1 = c.read.new.self in
-    let call = Read Admin e.link Later [] in
+    let call = Read Admin e.link 4096 Later [] in
     let none : e.response ≡ None = search rules in
     did_asked g.V.Vault.holds g.V.Vault.is_clean g.V.Vault.faults g.W.Wire.asked c.args.office.now w w1 (IsOne call) (λ B L. HasHeard B L e e) (λ B L cs is. subst (HasHeard B L e e []) (sym is) (GaveNothing none refl))
-    (asks_one g.W.Wire.asked w w1 call (IsOne call) (quiet_read e.link Later []) refl c.in-Later.ensures.called)
+    (asks_one g.W.Wire.asked w w1 call (IsOne call) (quiet_read e.link 4096 Later []) refl c.in-Later.ensures.called)
 
 pub returns-in-End-clause-works : goal.returns-in-End-clause-works
 returns-in-End-clause-works g c =
@@ -99,11 +99,11 @@ returns-in-End-clause-works g c =
     let w1 = c.read.new.self in
     let io = c.read.result in
     let octets = counted io c.read.new.buffer in
-    let call = Read Admin e.link io octets in
+    let call = Read Admin e.link 4096 io octets in
     let none : e.response ≡ None = search rules in
     let fault : is_fault io ≡ true = search rules in
     let empty : octets ≡ [] = search rules in
     let e2 : Exchange = record { link = e.link; since = e.since; read = e.read; response = e.response; written = e.written; is_over = true } in
     did_asked g.V.Vault.holds g.V.Vault.is_clean g.V.Vault.faults g.W.Wire.asked c.args.office.now w w1 (IsOne call) (λ B L. HasHeard B L e e2)
-    (λ B L cs is. subst (HasHeard B L e e2 []) (sym is) (subst (λ xs. HasHeard B L e e2 [] (Read Admin e.link io xs ∷ [])) (sym empty) (GaveItsEnd io none fault refl)))
-    (asks_one g.W.Wire.asked w w1 call (IsOne call) (quiet_read e.link io octets) refl c.read.ensures.called)
+    (λ B L cs is. subst (HasHeard B L e e2 []) (sym is) (subst (λ xs. HasHeard B L e e2 [] (Read Admin e.link 4096 io xs ∷ [])) (sym empty) (GaveItsEnd io none fault refl)))
+    (asks_one g.W.Wire.asked w w1 call (IsOne call) (quiet_read e.link 4096 io octets) refl c.read.ensures.called)

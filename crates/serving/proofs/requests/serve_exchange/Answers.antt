@@ -6,8 +6,8 @@ use Rattle.serving.proofs.HttpWorking.{turn_served}
 use Rattle.serving.specs.HttpWorks.{HasHeard, HasTold, HasHttpTurn, IsLate}
 use Rattle.std.proofs.Common.{rules, ◌≡◌, true, false, [], ◌∙◌, sym}
 use Rattle.serving.proofs.Ongoing.{still_timely}
-use Rattle.serving.specs.Works.{PressedBy}
-use Rattle.serving.proofs.Resting.{pressed_same, pressed_then}
+use Rattle.serving.specs.Works.{HurriesBy}
+use Rattle.serving.proofs.Resting.{hurried_same, hurried_then}
 use Rattle.serving.proofs.requests.serve_exchange.Goals as goal
 
 pub returns-then-is_late-clause-asked : goal.returns-then-is_late-clause-asked
@@ -34,7 +34,7 @@ returns-clause-timely g c =
 pub returns-then-is_late-clause-works : goal.returns-then-is_late-clause-works
 returns-then-is_late-clause-works g c =
     let yes : c.is_late.result ≡ true = search rules in
-    also_from g.V.Vault.holds g.V.Vault.is_clean g.V.Vault.faults g.W.Wire.asked c.args.office.now c.args.office.now c.args.wire.now c.args.wire.now _ (PressedBy false false) (pressed_same false)
+    also_from g.V.Vault.holds g.V.Vault.is_clean g.V.Vault.faults g.W.Wire.asked c.args.office.now c.args.office.now c.args.wire.now c.args.wire.now _ (HurriesBy false false) (hurried_same false)
     (did_none g.V.Vault.holds g.V.Vault.is_clean g.V.Vault.faults g.W.Wire.asked c.args.office.now c.args.wire.now (λ B L. HasHttpTurn c.args.now B L c.args.exchange.now _) (λ B L. IsLate (sym c.is_late.ensures ∙ yes) refl))
 
 pub returns-clause-works : goal.returns-clause-works
@@ -44,7 +44,7 @@ returns-clause-works g c =
     let e1 = c.hear.new.exchange in
     let e2 = c.tell.new.exchange in
     also_then g.V.Vault.holds g.V.Vault.is_clean g.V.Vault.faults g.W.Wire.asked c.args.office.now c.hear.new.office c.hear.new.office c.args.wire.now c.hear.new.wire c.tell.new.wire
-    (λ B L. HasHeard B L e e1) (NoEvent (HasTold e1 e2)) (λ B L. HasHttpTurn c.args.now B L e e2) (PressedBy false false) (PressedBy false c.tell.result) (PressedBy false c.tell.result)
-    (λ B L g1 g2 c1 c2 p q. turn_served c.args.now B L e e1 e2 g1 g2 c1 c2 (sym c.is_late.ensures ∙ no) p q.0 q.1) (λ c1 c2 m n. pressed_then false false c.tell.result c1 c2 m n)
-    (also_from g.V.Vault.holds g.V.Vault.is_clean g.V.Vault.faults g.W.Wire.asked c.args.office.now c.hear.new.office c.args.wire.now c.hear.new.wire _ (PressedBy false false) (pressed_same false) c.hear.ensures.works)
-    (also_asked g.V.Vault.holds g.V.Vault.is_clean g.V.Vault.faults g.W.Wire.asked c.hear.new.office c.hear.new.wire c.tell.new.wire (HasTold e1 e2) (PressedBy false c.tell.result) c.tell.ensures.works)
+    (λ B L. HasHeard B L e e1) (NoEvent (HasTold e1 e2)) (λ B L. HasHttpTurn c.args.now B L e e2) (HurriesBy false false) (HurriesBy false c.tell.result) (HurriesBy false c.tell.result)
+    (λ B L g1 g2 c1 c2 p q. turn_served c.args.now B L e e1 e2 g1 g2 c1 c2 (sym c.is_late.ensures ∙ no) p q.0 q.1) (λ c1 c2 m n. hurried_then false false c.tell.result c1 c2 m n)
+    (also_from g.V.Vault.holds g.V.Vault.is_clean g.V.Vault.faults g.W.Wire.asked c.args.office.now c.hear.new.office c.args.wire.now c.hear.new.wire _ (HurriesBy false false) (hurried_same false) c.hear.ensures.works)
+    (also_asked g.V.Vault.holds g.V.Vault.is_clean g.V.Vault.faults g.W.Wire.asked c.hear.new.office c.hear.new.wire c.tell.new.wire (HasTold e1 e2) (HurriesBy false c.tell.result) c.tell.ensures.works)

@@ -10,8 +10,8 @@ use Rattle.serving.specs.Calls.{Closed}
 use Rattle.serving.specs.declared.wire.Port.TheVariants.{Admin}
 use Rattle.std.proofs.Common.{rules, ◌≡◌, true, false, [], ◌∷◌, ◌++◌, take, drop, ◌||◌}
 use Rattle.serving.proofs.Ongoing.{front_stays, front_left, goes_on_there}
-use Rattle.serving.specs.Works.{PressedBy}
-use Rattle.serving.proofs.Resting.{pressed_same, beside_pressed, closed_pressed}
+use Rattle.serving.specs.Works.{HurriesBy}
+use Rattle.serving.proofs.Resting.{hurried_same, beside_hurried, closed_hurried}
 use Rattle.serving.proofs.requests.serve_place.Goals as goal
 
 pub returns-then-not-exchange-clause-asked : goal.returns-then-not-exchange-clause-asked
@@ -74,16 +74,16 @@ returns-then-not-exchange-clause-works g c =
     let now = c.args.now in
     let e = c.index_mut-exchange.result.now in
     let e2 = c.serve_exchange.new.exchange in
-    let before = c.args.requests.now.presses in
-    let pressed = c.serve_exchange.result in
+    let before = c.args.requests.now.hurries in
+    let hurried = c.serve_exchange.result in
     let live : e2.is_over ≡ false = search rules in
     let is : take 1 (drop place xs) ≡ e ∷ [] = one_at xs place e c.requires ∙ ap (λ y. y ∷ []) (sym c.index_mut-exchange.ensures.value) in
     let left = one_set xs place e2 c.requires in
     also_so g.V.Vault.holds g.V.Vault.is_clean g.V.Vault.faults g.W.Wire.asked c.args.office.now c.serve_exchange.new.office c.args.wire.now c.serve_exchange.new.wire
-    (λ B L. HasHttpTurn now B L e e2) (λ B L. HadHttpTurns now B L (take 1 (drop place xs)) (take 1 (drop place (set xs place e2)))) (PressedBy false pressed) (PressedBy before (before || pressed))
+    (λ B L. HasHttpTurn now B L e e2) (λ B L. HadHttpTurns now B L (take 1 (drop place xs)) (take 1 (drop place (set xs place e2)))) (HurriesBy false hurried) (HurriesBy before (before || hurried))
     (λ B L given calls turn.
     subst (λ l. HadHttpTurns now B L l (take 1 (drop place (set xs place e2))) given calls) (sym is) (subst (λ l. HadHttpTurns now B L (e ∷ []) l given calls) (sym left) (held_on now B L e e2 given calls turn live c.serve_exchange.ensures.since)))
-    (beside_pressed before pressed)
+    (beside_hurried before hurried)
     c.serve_exchange.ensures.works
 
 pub returns-clause-works : goal.returns-clause-works
@@ -97,18 +97,18 @@ returns-clause-works g c =
     let w1 = c.serve_exchange.new.wire in
     let w2 = c.close.new.self in
     let call = Closed Admin e2.link in
-    let before = c.args.requests.now.presses in
-    let pressed = c.serve_exchange.result in
+    let before = c.args.requests.now.hurries in
+    let hurried = c.serve_exchange.result in
     let over : e2.is_over ≡ true = search rules in
     let is : take 1 (drop place xs) ≡ e ∷ [] = one_at xs place e c.requires ∙ ap (λ y. y ∷ []) (sym c.index_mut-exchange.ensures.value) in
     also_then g.V.Vault.holds g.V.Vault.is_clean g.V.Vault.faults g.W.Wire.asked c.args.office.now o1 o1 c.args.wire.now w1 w2
     (λ B L. HasHttpTurn now B L e e2) (NoEvent (IsOne call)) (λ B L. HadHttpTurns now B L (take 1 (drop place xs)) [])
-    (PressedBy false pressed) (PressedBy false false) (PressedBy before (before || pressed))
+    (HurriesBy false hurried) (HurriesBy false false) (HurriesBy before (before || hurried))
     (λ B L g1 g2 c1 c2 turn q.
     subst (λ l. HadHttpTurns now B L l [] (g2 ++ g1) (c1 ++ c2)) (sym is) (closed_so now B L e e2 g1 g2 c1 c2 turn over e2.link c.serve_exchange.ensures.link q.0 q.1))
-    (λ c1 c2 m n. closed_pressed before pressed c1 c2 m)
+    (λ c1 c2 m n. closed_hurried before hurried c1 c2 m)
     c.serve_exchange.ensures.works
-    (also_from g.V.Vault.holds g.V.Vault.is_clean g.V.Vault.faults g.W.Wire.asked o1 o1 w1 w2 _ (PressedBy false false) (pressed_same false)
+    (also_from g.V.Vault.holds g.V.Vault.is_clean g.V.Vault.faults g.W.Wire.asked o1 o1 w1 w2 _ (HurriesBy false false) (hurried_same false)
     (did_asked g.V.Vault.holds g.V.Vault.is_clean g.V.Vault.faults g.W.Wire.asked o1 w1 w2 (IsOne call) (NoEvent (IsOne call)) (λ B L cs at. (refl, at))
     (asks_one g.W.Wire.asked w1 w2 call (IsOne call) (quiet_closed e2.link) refl c.close.ensures.called)))
 

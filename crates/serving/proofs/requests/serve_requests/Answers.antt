@@ -1,12 +1,12 @@
 use Rattle.serving.proofs.Quieting.{did_none, also_from, also_then, also_so}
 use Rattle.serving.proofs.HttpWorking.{HadSome, had_none, had_held, had_closed, had_all}
-use Rattle.serving.specs.Works.{Part, Also, PressedBy}
+use Rattle.serving.specs.Works.{Part, Also, HurriesBy}
 use Rattle.serving.specs.HttpWorks.{DidApart, HadHttpTurns}
 use Rattle.std.proofs.Common.{◌≡◌, ◌+◌, true, false, [], take, drop, subst}
 use Rattle.std.specs.Bool.{if◌then◌else◌}
 use Rattle.std.proofs.Common.{rules, arith, ◌≤◌, length}
 use Rattle.serving.proofs.Ongoing.{none_yet, one_more, as_many, all_go_on}
-use Rattle.serving.proofs.Resting.{pressed_same, pressed_then}
+use Rattle.serving.proofs.Resting.{hurried_same, hurried_then}
 use Rattle.serving.proofs.requests.serve_requests.Goals as goal
 
 pub loop-place-init : goal.loop-place-init
@@ -15,7 +15,7 @@ loop-place-init g c = record {
   clean = λ k. k;
   stay = none_yet c.args.now c.args.requests.now.exchanges.items;
   no_more = omega arith;
-  works = also_from g.V.Vault.holds g.V.Vault.is_clean g.V.Vault.faults g.W.Wire.asked c.args.office.now c.args.office.now c.args.wire.now c.args.wire.now _ (PressedBy false false) (pressed_same false)
+  works = also_from g.V.Vault.holds g.V.Vault.is_clean g.V.Vault.faults g.W.Wire.asked c.args.office.now c.args.office.now c.args.wire.now c.args.wire.now _ (HurriesBy false false) (hurried_same false)
       (did_none g.V.Vault.holds g.V.Vault.is_clean g.V.Vault.faults g.W.Wire.asked c.args.office.now c.args.wire.now (HadSome c.args.now 0 c.args.requests.now.exchanges.items c.args.requests.now.exchanges.items) (had_none c.args.now c.args.requests.now.exchanges.items));
 }
 
@@ -35,11 +35,11 @@ loop-place-preserved-then-serve_place g c =
       no_more = (let a = x.ensures.left in let b = k.invariant.no_more in omega (arith, a, b));
       works =
           (let one = subst (λ b. Part g.V.Vault.holds g.V.Vault.is_clean g.V.Vault.faults g.W.Wire.asked k.office k.wire x.new.office x.new.wire
-          (Also (DidApart g.V.Vault.holds g.V.Vault.is_clean k.office x.new.office (λ B L. HadHttpTurns now B L (take 1 (drop k.place ys)) (take (if b then 1 else 0) (drop k.place zs)))) (PressedBy k.requests.presses x.new.requests.presses))) so x.ensures.works in
+          (Also (DidApart g.V.Vault.holds g.V.Vault.is_clean k.office x.new.office (λ B L. HadHttpTurns now B L (take 1 (drop k.place ys)) (take (if b then 1 else 0) (drop k.place zs)))) (HurriesBy k.requests.hurries x.new.requests.hurries))) so x.ensures.works in
           also_then g.V.Vault.holds g.V.Vault.is_clean g.V.Vault.faults g.W.Wire.asked c.args.office.now k.office x.new.office c.args.wire.now k.wire x.new.wire
-          (HadSome now k.place xs ys) (λ B L. HadHttpTurns now B L (take 1 (drop k.place ys)) (take 1 (drop k.place zs))) (HadSome now (k.place + 1) xs zs) (PressedBy false k.requests.presses) (PressedBy k.requests.presses x.new.requests.presses) (PressedBy false x.new.requests.presses)
+          (HadSome now k.place xs ys) (λ B L. HadHttpTurns now B L (take 1 (drop k.place ys)) (take 1 (drop k.place zs))) (HadSome now (k.place + 1) xs zs) (HurriesBy false k.requests.hurries) (HurriesBy k.requests.hurries x.new.requests.hurries) (HurriesBy false x.new.requests.hurries)
           (λ B L g1 g2 c1 c2 a turn. had_held now k.place xs ys zs B L g1 g2 c1 c2 a turn x.ensures.before (subst (λ b. drop (if b then k.place + 1 else k.place) zs ≡ drop (k.place + 1) ys) so x.ensures.behind))
-          (pressed_then false k.requests.presses x.new.requests.presses)
+          (hurried_then false k.requests.hurries x.new.requests.hurries)
           k.invariant.works one);
     }
 
@@ -59,11 +59,11 @@ loop-place-preserved g c =
       no_more = (let a = x.ensures.left in let b = k.invariant.no_more in omega (arith, a, b));
       works =
           (let one = subst (λ b. Part g.V.Vault.holds g.V.Vault.is_clean g.V.Vault.faults g.W.Wire.asked k.office k.wire x.new.office x.new.wire
-          (Also (DidApart g.V.Vault.holds g.V.Vault.is_clean k.office x.new.office (λ B L. HadHttpTurns now B L (take 1 (drop k.place ys)) (take (if b then 1 else 0) (drop k.place zs)))) (PressedBy k.requests.presses x.new.requests.presses))) so x.ensures.works in
+          (Also (DidApart g.V.Vault.holds g.V.Vault.is_clean k.office x.new.office (λ B L. HadHttpTurns now B L (take 1 (drop k.place ys)) (take (if b then 1 else 0) (drop k.place zs)))) (HurriesBy k.requests.hurries x.new.requests.hurries))) so x.ensures.works in
           also_then g.V.Vault.holds g.V.Vault.is_clean g.V.Vault.faults g.W.Wire.asked c.args.office.now k.office x.new.office c.args.wire.now k.wire x.new.wire
-          (HadSome now k.place xs ys) (λ B L. HadHttpTurns now B L (take 1 (drop k.place ys)) []) (HadSome now k.place xs zs) (PressedBy false k.requests.presses) (PressedBy k.requests.presses x.new.requests.presses) (PressedBy false x.new.requests.presses)
+          (HadSome now k.place xs ys) (λ B L. HadHttpTurns now B L (take 1 (drop k.place ys)) []) (HadSome now k.place xs zs) (HurriesBy false k.requests.hurries) (HurriesBy k.requests.hurries x.new.requests.hurries) (HurriesBy false x.new.requests.hurries)
           (λ B L g1 g2 c1 c2 a turn. had_closed now k.place xs ys zs B L g1 g2 c1 c2 a turn x.ensures.before (subst (λ b. drop (if b then k.place + 1 else k.place) zs ≡ drop (k.place + 1) ys) so x.ensures.behind))
-          (pressed_then false k.requests.presses x.new.requests.presses)
+          (hurried_then false k.requests.hurries x.new.requests.hurries)
           k.invariant.works one);
     }
 
@@ -80,5 +80,5 @@ returns-clause-works g c =
     let xs = c.args.requests.now.exchanges.items in
     let ys = k.requests.exchanges.items in
     let done : length ys ≤ k.place = search rules in
-    also_so g.V.Vault.holds g.V.Vault.is_clean g.V.Vault.faults g.W.Wire.asked c.args.office.now k.office c.args.wire.now k.wire (HadSome now k.place xs ys) (λ B L. HadHttpTurns now B L xs ys) (PressedBy false k.requests.presses) (PressedBy false k.requests.presses)
+    also_so g.V.Vault.holds g.V.Vault.is_clean g.V.Vault.faults g.W.Wire.asked c.args.office.now k.office c.args.wire.now k.wire (HadSome now k.place xs ys) (λ B L. HadHttpTurns now B L xs ys) (HurriesBy false k.requests.hurries) (HurriesBy false k.requests.hurries)
     (λ B L given calls a. had_all now k.place xs ys B L given calls done a) (λ cs m. m) k.invariant.works

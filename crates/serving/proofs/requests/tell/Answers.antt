@@ -1,11 +1,11 @@
 use Rattle.std.proofs.Common.{rules, ◌≡◌, ◌≤◌, ◌==◌, ◌+◌, ◌++◌, not, true, false, refl, ◌∙◌, ap, subst, inl, inr, arith}
 use Rattle.std.specs.Bool.{if◌then◌else◌}
-use Rattle.serving.specs.Works.{Asking, PressedBy, is_moving}
+use Rattle.serving.specs.Works.{Asking, HurriesBy, is_moving}
 use Rattle.serving.specs.HttpWorks.{AskedApart, Tells, HasTold}
 use Rattle.serving.proofs.Quieting.{asks_none, asks_then, asks_so}
 use Rattle.serving.proofs.HttpWorking.{told_more, told_ended, told_share, told_often, written_once}
 use Rattle.serving.proofs.Working.{any_right}
-use Rattle.serving.proofs.Resting.{TellsSoFar, told_moved, pressed_same, pressed_moved}
+use Rattle.serving.proofs.Resting.{TellsSoFar, told_moved, hurried_same, hurried_moved}
 use Rattle.serving.proofs.requests.tell.Goals as goal
 
 pub loop-times-init : goal.loop-times-init
@@ -45,8 +45,8 @@ returns-then-count-eq0-clause-works g c =
     let e1 = k.exchange in
     let e2 = x.new.exchange in
     let none : (n == 0) ≡ true = search rules in
-    asks_then g.W.Wire.asked c.args.wire.now k.wire x.new.wire (TellsSoFar e e1 k._times k.written) (Tells e1 e2 (if n == 0 then 0 else 1) n (not (n == 0))) (λ cs. HasTold e e2 cs × PressedBy false false cs)
-    (λ c1 c2 a b. (told_ended e e1 e2 k._times (if n == 0 then 0 else 1) k.written n c1 c2 a.0 b.is (b.ends (ap not none)), pressed_same false (c1 ++ c2))) k.invariant.works x.ensures.works
+    asks_then g.W.Wire.asked c.args.wire.now k.wire x.new.wire (TellsSoFar e e1 k._times k.written) (Tells e1 e2 (if n == 0 then 0 else 1) n (not (n == 0))) (λ cs. HasTold e e2 cs × HurriesBy false false cs)
+    (λ c1 c2 a b. (told_ended e e1 e2 k._times (if n == 0 then 0 else 1) k.written n c1 c2 a.0 b.is (b.ends (ap not none)), hurried_same false (c1 ++ c2))) k.invariant.works x.ensures.works
 
 pub returns-then-written-ge-SHARE-clause-works : goal.returns-then-written-ge-SHARE-clause-works
 returns-then-written-ge-SHARE-clause-works g c =
@@ -60,10 +60,10 @@ returns-then-written-ge-SHARE-clause-works g c =
     let fits : sum ≤ k.written + n = search rules in
     let enough : 16384 ≤ sum = search rules in
     let some : (n == 0) ≡ false = search rules in
-    asks_then g.W.Wire.asked c.args.wire.now k.wire x.new.wire (TellsSoFar e e1 k._times k.written) (Tells e1 e2 (if n == 0 then 0 else 1) n (not (n == 0))) (λ cs. HasTold e e2 cs × PressedBy false true cs)
+    asks_then g.W.Wire.asked c.args.wire.now k.wire x.new.wire (TellsSoFar e e1 k._times k.written) (Tells e1 e2 (if n == 0 then 0 else 1) n (not (n == 0))) (λ cs. HasTold e e2 cs × HurriesBy false true cs)
     (λ c1 c2 a b. (
       told_share e e1 e2 k._times (if n == 0 then 0 else 1) k.written n c1 c2 (omega (arith, fits, enough)) a.0 b.is,
-      pressed_moved false true (c1 ++ c2) (any_right is_moving c1 c2 (told_moved e1 e2 (if n == 0 then 0 else 1) n c2 some b.is)),
+      hurried_moved false true (c1 ++ c2) (any_right is_moving c1 c2 (told_moved e1 e2 (if n == 0 then 0 else 1) n c2 some b.is)),
     )) k.invariant.works x.ensures.works
 
 pub returns-clause-works : goal.returns-clause-works
@@ -71,5 +71,5 @@ returns-clause-works g c =
     let k = c.loop-times in
     let e = c.args.exchange.now in
     let h : 64 ≤ k._times = search rules in
-    asks_so g.W.Wire.asked c.args.wire.now k.wire (TellsSoFar e k.exchange k._times k.written) (λ cs. HasTold e k.exchange cs × PressedBy false true cs)
-    (λ cs a. (told_often e k.exchange k._times k.written cs h a.0, pressed_moved false true cs (a.1 (omega (arith, h))))) k.invariant.works
+    asks_so g.W.Wire.asked c.args.wire.now k.wire (TellsSoFar e k.exchange k._times k.written) (λ cs. HasTold e k.exchange cs × HurriesBy false true cs)
+    (λ cs a. (told_often e k.exchange k._times k.written cs h a.0, hurried_moved false true cs (a.1 (omega (arith, h))))) k.invariant.works

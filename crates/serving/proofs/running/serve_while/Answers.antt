@@ -13,6 +13,7 @@ loop-turn-init g c = record {
     turned_none g.V.Vault.holds g.V.Vault.is_clean g.V.Vault.faults g.W.Wire.asked g.S.Spool.asked g.C.Clock.gave c.args.links.now c.args.office.now c.args.wire.now c.args.spool.now c.args.clock.now,
   );
   few = λ a. a;
+  seated = λ h. h;
   short = λ T s clean a. a;
   settings = refl;
 }
@@ -34,6 +35,7 @@ loop-turn-preserved g c =
             c.in-Some.ensures.called x.ensures.clean x.ensures.works x.ensures.ongoing,
       );
       few = λ a. x.ensures.few (k.invariant.few a);
+      seated = λ h. x.ensures.seated (k.invariant.seated h);
       short = λ T s clean a.
           (let before = x.ensures.clean clean in
           let gone = m.2.each T s before in

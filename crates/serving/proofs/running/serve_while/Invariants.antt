@@ -5,6 +5,7 @@ use Rattle.serving.specs.Served.{Serves}
 use Rattle.serving.specs.Settings.{settings}
 use Rattle.serving.specs.HttpTurns.{AreFew}
 use Rattle.serving.specs.HttpWorks.{AreShort}
+use Rattle.serving.specs.Newcomers.{AllHaveSeats}
 use Rattle.serving.specs.Running.{HasTurned}
 use Rattle.serving.proofs.running.serve_while.Given as goal
 
@@ -18,6 +19,7 @@ invariant-loop-turn g l = record {
       × HasTurned g.V.Vault.holds g.V.Vault.is_clean g.V.Vault.faults g.W.Wire.asked g.S.Spool.asked g.C.Clock.gave false moments
       l.fn.links l.fn.office l.fn.wire l.fn.spool l.fn.clock l.links l.office l.wire l.spool l.clock;
   few : AreFew l.fn.links → AreFew l.links;
+  seated : AllHaveSeats l.fn.links → AllHaveSeats l.links;
   short : (T : Trace) → StandsFor g.V.Vault.holds l.fn.office T → g.V.Vault.is_clean (vault_of l.office) → AreShort l.fn.links → AreShort l.links;
   settings : settings l.links ≡ settings l.fn.links;
 }

@@ -1,4 +1,4 @@
-use Rattle.std.proofs.Common.{rules, ◌≡◌, true, length, eqb-true, ◌∷◌, [], Some, None, refl, sym, ◌∙◌, ap, subst}
+use Rattle.std.proofs.Common.{rules, ◌≡◌, ◌<◌, true, length, eqb-true, ◌∷◌, [], Some, None, refl, sym, ◌∙◌, ap, subst}
 use Rattle.office.specs.History.{Done}
 use Rattle.office.specs.Events.{Tagged}
 use Rattle.office.specs.Events as event
@@ -19,6 +19,7 @@ use Rattle.serving.proofs.Working.{given_one, given_none, asked_one, asked_then,
 use Rattle.serving.proofs.Arriving.{done_mark, refusal_so, accepted_full, accepted_none, accepted_seated, accepted_unseated}
 use Rattle.serving.proofs.Late.{late_noted_so}
 use Rattle.serving.proofs.Timely.{found_noted}
+use Rattle.serving.proofs.Newly.{noted_none, noted_one}
 use Rattle.serving.proofs.turn.accept_link.Goals as goal
 
 pub returns-in-Some-number-clause-serves : goal.returns-in-Some-number-clause-serves
@@ -126,6 +127,20 @@ returns-in-None-clause-works g c =
 pub returns-in-Some-number-clause-late : goal.returns-in-Some-number-clause-late
 returns-in-Some-number-clause-late g c =
     late_noted_so c.args.now c.args.links.now.newcomers.seconds c.in-Some-number.connection _ c.args.links.now.newcomers.newcomers.items _ c.note.ensures.newcomers
+
+pub returns-then-is_full-clause-comers : goal.returns-then-is_full-clause-comers
+returns-then-is_full-clause-comers g c = noted_none c.args.now c.args.links.now
+
+pub returns-in_default-clause-comers : goal.returns-in_default-clause-comers
+returns-in_default-clause-comers g c = noted_none c.args.now c.args.links.now
+
+pub returns-in-None-clause-comers : goal.returns-in-None-clause-comers
+returns-in-None-clause-comers g c = noted_none c.args.now c.args.links.now
+
+pub returns-in-Some-number-clause-comers : goal.returns-in-Some-number-clause-comers
+returns-in-Some-number-clause-comers g c =
+    let free : length c.args.links.now.seats.items < 128 = search rules in
+    noted_one c.args.now c.args.links.now _ c.in-Some.link c.in-Some-number.connection c.note.result c.push.ensures.items c.note.ensures.seconds c.note.ensures.newcomers c.note.ensures.room free
 
 pub returns-in-Some-number-clause-noted : goal.returns-in-Some-number-clause-noted
 returns-in-Some-number-clause-noted g c = found_noted _ c.in-Some-number.connection c.args.now c.args.links.now.newcomers.newcomers.items _ c.note.ensures.newcomers

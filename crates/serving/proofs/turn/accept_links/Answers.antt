@@ -5,6 +5,7 @@ use Rattle.serving.proofs.Arriving.{accepting_none, accepted_then, accepted_ende
 use Rattle.std.proofs.Common.{ap}
 use Rattle.serving.specs.Settings.{Settings}
 use Rattle.serving.proofs.Late.{late_same, late_next}
+use Rattle.serving.proofs.Newly.{noted_none, noted_then}
 use Rattle.serving.proofs.turn.accept_links.Goals as goal
 
 pub loop-times-init : goal.loop-times-init
@@ -12,10 +13,11 @@ loop-times-init g c = record {
   serves = λ T beside s clean. s;
   clean = λ k. k;
   set = refl;
-  presses = refl;
+  hurries = refl;
   last = refl;
   late = late_same c.args.now c.args.links.now.newcomers.seconds c.args.links.now.newcomers.newcomers.items;
   noted = λ q n h. h;
+  comers = noted_none c.args.now c.args.links.now;
   works = part_none g.V.Vault.holds g.V.Vault.is_clean g.V.Vault.faults g.W.Wire.asked c.args.office.now c.args.wire.now _ (accepting_none g.V.Vault.holds g.V.Vault.is_clean g.V.Vault.faults c.args.office.now c.args.links.now.seats.items);
 }
 
@@ -34,11 +36,12 @@ loop-times-preserved g c =
       serves = λ T beside s clean. x.ensures.serves T beside (k.invariant.serves T beside s (x.ensures.clean clean)) clean;
       clean = λ clean. k.invariant.clean (x.ensures.clean clean);
       set = x.ensures.set ∙ k.invariant.set;
-      presses = x.ensures.presses ∙ k.invariant.presses;
+      hurries = x.ensures.hurries ∙ k.invariant.hurries;
       last = x.ensures.last ∙ k.invariant.last;
       late = late_next c.args.now k.links.newcomers.seconds c.args.links.now.newcomers.seconds c.args.links.now.newcomers.newcomers.items k.links.newcomers.newcomers.items x.new.links.newcomers.newcomers.items
           (ap (λ (s : Settings). s.login_seconds) k.invariant.set) k.invariant.late x.ensures.late;
       noted = λ q n h. x.ensures.noted q n (k.invariant.noted q n h);
+      comers = noted_then c.args.now c.args.links.now k.links x.new.links k.invariant.comers x.ensures.comers;
       works = part_then Holds IsClean g.V.Vault.faults g.W.Wire.asked c.args.office.now k.office x.new.office c.args.wire.now k.wire x.new.wire _ _ _
           (λ g1 g2 c1 c2 wa wb a b. accepted_then Holds IsClean g.V.Vault.faults c.args.office.now k.office x.new.office seats seats1 seats2 k._times true g1 g2 c1 c2 wa wb a b) k.invariant.works once;
     }
@@ -80,3 +83,6 @@ returns-then-not-accept_link-clause-late g c =
 
 pub returns-then-not-accept_link-clause-noted : goal.returns-then-not-accept_link-clause-noted
 returns-then-not-accept_link-clause-noted g c = λ q n h. c.accept_link.ensures.noted q n (c.loop-times.invariant.noted q n h)
+
+pub returns-then-not-accept_link-clause-comers : goal.returns-then-not-accept_link-clause-comers
+returns-then-not-accept_link-clause-comers g c = noted_then c.args.now c.args.links.now c.loop-times.links c.accept_link.new.links c.loop-times.invariant.comers c.accept_link.ensures.comers

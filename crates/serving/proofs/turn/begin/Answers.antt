@@ -8,6 +8,7 @@ use Rattle.serving.proofs.Requesting.{none_newer}
 use Rattle.std.proofs.Common.{◌≤◌, length}
 use Rattle.std.specs.List.{All}
 use Rattle.serving.specs.HttpWorks.{IsShort}
+use Rattle.serving.specs.Newcomers.{HaveSeats, NoSeat}
 use Rattle.serving.proofs.turn.begin.Goals as goal
 
 pub returns-clause-serves : goal.returns-clause-serves
@@ -53,3 +54,6 @@ returns-clause-few g c = subst (λ held. length held ≤ 8) (sym c.new.ensures.r
 
 pub returns-clause-short : goal.returns-clause-short
 returns-clause-short g c = subst (All IsShort) (sym c.new.ensures.requests) (All-nil IsShort)
+
+pub returns-clause-seated : goal.returns-clause-seated
+returns-clause-seated g c = subst (λ ns. HaveSeats ns c.new.result.clients.seats.items) (sym c.new.ensures.newcomers) (subst (HaveSeats []) (sym c.new.ensures.seats) NoSeat)

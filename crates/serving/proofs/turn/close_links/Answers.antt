@@ -1,4 +1,4 @@
-use Rattle.std.proofs.Common.{rules, ◌≡◌, ℕ, List, ◌∙◌, ◌<◌, ◌≤◌, length, get_or, true, false, [], refl, sym, ap, true≢false}
+use Rattle.std.proofs.Common.{rules, ◌≡◌, ℕ, List, ◌∙◌, ◌<◌, ◌≤◌, length, get_or, true, false, [], refl, sym, ap, subst, true≢false}
 use Rattle.office.specs.Events.{Trace}
 use Rattle.office.specs.Trace.{is_open}
 use Rattle.serving.specs.declared.newcomers.Newcomer.{Newcomer}
@@ -9,7 +9,9 @@ use Rattle.serving.proofs.Seating.{seated_whole}
 use Rattle.serving.specs.declared.links.Seat.{Seat}
 use Rattle.serving.proofs.Working.{asking_then, asked_none}
 use Rattle.serving.proofs.Arriving.{closes_none, closes_more, closes_all}
-use Rattle.serving.proofs.Resting.{pressed_same, pressed_then}
+use Rattle.serving.specs.Settings.{Settings}
+use Rattle.serving.specs.Works.{Releases}
+use Rattle.serving.proofs.Resting.{hurried_same, hurried_then, releases_then}
 use Rattle.serving.proofs.turn.close_links.Goals as goal
 
 -- any seat
@@ -25,11 +27,13 @@ loop-place-init g c = record {
   serves = λ T beside s clean. s;
   set = refl;
   last = refl;
+  seated = λ h. h;
+  hurried = λ e. e;
   newcomers = λ T s q here. refl;
   works = λ T s. record {
     calls = [];
     was_asked = asked_none g.W.Wire.asked c.args.wire.now;
-    facts = (closes_none T c.args.links.now.seats.items, pressed_same c.args.links.now.presses []);
+    facts = (closes_none T c.args.links.now.seats.items, hurried_same c.args.links.now.hurries [], λ on e. cc);
   };
 }
 
@@ -38,16 +42,20 @@ loop-place-preserved-then-close_seat g c =
     let k = c.loop-place in
     let x = c.close_seat in
     let within : k.place < length k.links.seats.items = search rules in
+    let waits : k.links.wait ≡ c.args.links.now.wait = ap (λ (s : Settings). s.wait) k.invariant.set in
     record {
       serves = λ T beside s clean. c.if-close_seat.ensures.serves T beside (k.invariant.serves T beside s clean) clean;
       set = x.ensures.set ∙ k.invariant.set;
       last = x.ensures.last ∙ k.invariant.last;
+      seated = λ h. x.ensures.seated (k.invariant.seated h);
+      hurried = λ e. x.ensures.hurried (k.invariant.hurried e);
       newcomers = λ T s q here. ap (λ v. newcomer q v) (c.if-close_seat.ensures.newcomers no_seat) ∙ k.invariant.newcomers T s q here;
       works = λ T s.
           asking_then g.W.Wire.asked c.args.wire.now k.wire x.new.wire _ _ _
           (λ c1 c2 a b. (
             closes_more T c.args.links.now.seats.items k.links.seats.items x.new.links.seats.items k.place no_seat true c1 c2 within a.0 b.0,
-            pressed_then c.args.links.now.presses k.links.presses x.new.links.presses c1 c2 a.1 b.1,
+            hurried_then c.args.links.now.hurries k.links.hurries x.new.links.hurries c1 c2 a.1 b.1,
+            releases_then c.args.links.now.wait k.links.hurries x.new.links.hurries c1 c2 x.ensures.hurried a.2 (subst (λ n. Releases n x.new.links.hurries c2) waits b.2),
           )) (k.invariant.works T s) (c.if-close_seat.ensures.works T no_seat s);
     }
 
@@ -56,10 +64,13 @@ loop-place-preserved g c =
     let k = c.loop-place in
     let x = c.close_seat in
     let within : k.place < length k.links.seats.items = search rules in
+    let waits : k.links.wait ≡ c.args.links.now.wait = ap (λ (s : Settings). s.wait) k.invariant.set in
     record {
       serves = λ T beside s clean. c.if-close_seat.ensures.serves T beside (k.invariant.serves T beside s clean) clean;
       set = x.ensures.set ∙ k.invariant.set;
       last = x.ensures.last ∙ k.invariant.last;
+      seated = λ h. x.ensures.seated (k.invariant.seated h);
+      hurried = λ e. x.ensures.hurried (k.invariant.hurried e);
       newcomers = λ T s q here.
           (let seat = get_or k.links.seats.items k.place no_seat in
           let shut : is_open T seat.connection ≡ false = sym (c.if-close_seat.ensures.works T no_seat s).facts.0.stays_if in
@@ -68,7 +79,8 @@ loop-place-preserved g c =
           asking_then g.W.Wire.asked c.args.wire.now k.wire x.new.wire _ _ _
           (λ c1 c2 a b. (
             closes_more T c.args.links.now.seats.items k.links.seats.items x.new.links.seats.items k.place no_seat false c1 c2 within a.0 b.0,
-            pressed_then c.args.links.now.presses k.links.presses x.new.links.presses c1 c2 a.1 b.1,
+            hurried_then c.args.links.now.hurries k.links.hurries x.new.links.hurries c1 c2 a.1 b.1,
+            releases_then c.args.links.now.wait k.links.hurries x.new.links.hurries c1 c2 x.ensures.hurried a.2 (subst (λ n. Releases n x.new.links.hurries c2) waits b.2),
           )) (k.invariant.works T s) (c.if-close_seat.ensures.works T no_seat s);
     }
 
@@ -78,7 +90,7 @@ returns-clause-works g c = λ T s.
     let seats = k.links.seats.items in
     let done : length seats ≤ k.place = search rules in
     let w = k.invariant.works T s in
-    record { calls = w.calls; was_asked = w.was_asked; facts = (closes_all T c.args.links.now.seats.items seats k.place w.calls done w.facts.0, w.facts.1) })
+    record { calls = w.calls; was_asked = w.was_asked; facts = (closes_all T c.args.links.now.seats.items seats k.place w.calls done w.facts.0, w.facts.1, w.facts.2) })
 
 pub returns-clause-serves : goal.returns-clause-serves
 returns-clause-serves g c = λ T beside s clean.

@@ -1,12 +1,12 @@
 use Rattle.std.proofs.Common.{◌≡◌, ◌-◌, [], take, ℕ, true}
 use Rattle.office.specs.Trace.{is_open}
-use Rattle.serving.specs.Newcomers.{newcomer}
+use Rattle.serving.specs.Newcomers.{newcomer, AreSeatedAt}
 use Rattle.arrayvec.specs.ArrayVec.{array_vec_len}
 use Rattle.office.specs.Events.{Trace}
 use Rattle.office.specs.Stands.{StandsFor}
 use Rattle.serving.specs.Served.{StillServes}
 use Rattle.serving.specs.Settings.{settings_of}
-use Rattle.serving.specs.Works.{Asking, PressedBy}
+use Rattle.serving.specs.Works.{Asking, HurriesBy, Releases}
 use Rattle.serving.proofs.Arriving.{ClosesSoFar}
 use Rattle.serving.proofs.turn.close_links.Given as goal
 
@@ -15,9 +15,11 @@ invariant-loop-place g l = record {
   serves : StillServes g.V.Vault.holds g.V.Vault.is_clean g.W.Wire.tells l.fn.office l.fn.wire l.fn.links.seats.items [] l.fn.office l.wire l.links.seats.items (take l.place l.links.seats.items);
   set : settings_of l.links ≡ settings_of l.fn.links;
   last : l.links.last ≡ l.fn.links.last;
+  seated : AreSeatedAt l.fn.links → AreSeatedAt l.links;
+  hurried : l.fn.links.hurries ≡ true → l.links.hurries ≡ true;
   newcomers : (T : Trace) → StandsFor g.V.Vault.holds l.fn.office T → (c : ℕ) → is_open T c ≡ true → newcomer c l.links.newcomers.newcomers.items ≡ newcomer c l.fn.links.newcomers.newcomers.items;
   works : (T : Trace) → StandsFor g.V.Vault.holds l.fn.office T → Asking g.W.Wire.asked l.fn.wire l.wire
-      (λ calls. ClosesSoFar T l.fn.links.seats.items l.links.seats.items l.place calls × PressedBy l.fn.links.presses l.links.presses calls);
+      (λ calls. ClosesSoFar T l.fn.links.seats.items l.links.seats.items l.place calls × HurriesBy l.fn.links.hurries l.links.hurries calls × Releases l.fn.links.wait l.links.hurries calls);
 }
 
 abbrev pub decreases-loop-place : goal.decreases-loop-place

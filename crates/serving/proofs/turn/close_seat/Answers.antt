@@ -1,4 +1,4 @@
-use Rattle.std.proofs.Common.{rules, ◌≡◌, ◌<◌, ℕ, List, [], ◌∷◌, length, get_or, true, false, refl, sym, ◌∙◌, Some, ap, subst}
+use Rattle.std.proofs.Common.{rules, ◌≡◌, ◌<◌, ℕ, List, [], ◌∷◌, length, get_or, true, false, refl, sym, ◌∙◌, Some, ap, subst, nat_lt}
 use Rattle.office.specs.Trace.{is_open}
 use Rattle.office.specs.Taken.{trace_of}
 use Rattle.serving.specs.Wires.{has_closed}
@@ -10,9 +10,14 @@ use Rattle.serving.specs.Calls.{Closed}
 use Rattle.serving.specs.declared.links.Seat.{Seat}
 use Rattle.serving.proofs.Working.{asked_none, asked_one, or_true}
 use Rattle.serving.proofs.Seating.{any_default}
-use Rattle.serving.specs.Newcomers.{others}
-use Rattle.serving.proofs.Resting.{pressed_same}
+use Rattle.serving.specs.Newcomers.{others, HaveSeats}
+use Rattle.serving.proofs.Newly.{seats_without}
+use Rattle.serving.proofs.Resting.{hurried_same, is_left, is_right, some_wait}
 use Rattle.serving.proofs.turn.close_seat.Goals as goal
+
+-- any seat
+no_seat : Seat
+no_seat = record { link = record { number = 0 }; connection = 0 }
 
 -- what is read at a place
 at_place : (xs ys : List Seat) (i : ℕ) (e d : Seat) → ys ≡ xs → i < length xs → get_or ys i e ≡ get_or xs i d
@@ -75,7 +80,8 @@ returns-then-not-ended-clause-works g c = λ T d s.
           left = refl;
           calls_are = refl;
         },
-        pressed_same c.args.links.now.presses [],
+        hurried_same c.args.links.now.hurries [],
+        λ on e. cc,
       );
     })
 
@@ -95,12 +101,27 @@ returns-clause-works g c = λ T d s.
           left = c.remove.ensures.items;
           calls_are = ap (λ q. Closed Pop q.link ∷ []) at;
         },
-        λ e. or_true c.args.links.now.presses,
+        λ e. or_true c.args.links.now.hurries,
+        λ on e. is_right c.args.links.now.hurries (nat_lt 0 c.args.links.now.wait) (some_wait c.args.links.now.wait on),
       );
     })
+
+pub returns-clause-hurried : goal.returns-clause-hurried
+returns-clause-hurried g c = λ e. is_left c.args.links.now.hurries (nat_lt 0 c.args.links.now.wait) e
 
 pub returns-clause-newcomers : goal.returns-clause-newcomers
 returns-clause-newcomers g c = λ d.
     (let seats = c.args.links.now.seats.items in
     let at = at_place seats c.deref.result.now c.args.place _ d c.deref.ensures.0 c.requires in
     c.forget.ensures.newcomers ∙ ap (λ q. others q.connection c.args.links.now.newcomers.newcomers.items) at)
+
+pub returns-clause-seated : goal.returns-clause-seated
+returns-clause-seated g c = λ h.
+    (let links = c.args.links.now in
+    let seats = links.seats.items in
+    let ns = links.newcomers.newcomers.items in
+    let at = at_place seats c.deref.result.now c.args.place _ no_seat c.deref.ensures.0 c.requires in
+    let s = get_or seats c.args.place no_seat in
+    let gone = c.forget.ensures.newcomers ∙ ap (λ q. others q.connection ns) at in
+    subst (λ l. HaveSeats l c.remove.new.self.items) (sym gone)
+    (subst (HaveSeats (others s.connection ns)) (sym c.remove.ensures.items) (seats_without s.connection ns seats c.args.place no_seat c.requires refl h)))

@@ -1,6 +1,6 @@
 use Rattle.std.proofs.Common.{[], ◌∷◌, arith}
 use Rattle.serving.proofs.Seating.{contained}
-use Rattle.std.proofs.Common.{rules, ◌≡◌, ◌&&◌, ◌==◌, true, false, not, sym, refl, ap, ◌∙◌}
+use Rattle.std.proofs.Common.{rules, ◌≡◌, ◌&&◌, ◌==◌, true, false, not, sym, refl, ap, subst, ◌∙◌}
 use Rattle.std.proofs.lemmas.Bool.{and_from}
 use Rattle.std.proofs.lemmas.List.Elements.{All-nil}
 use Rattle.serving.specs.Works.{IsLateGone, is_late}
@@ -9,6 +9,8 @@ use Rattle.serving.proofs.Late.{late_same, late_forgotten, late_so}
 use Rattle.serving.specs.Late.{HasEndedLate}
 use Rattle.serving.proofs.Freeing.{at_place}
 use Rattle.serving.proofs.Timely.{late_lived, late_prompt, late_shut, prompt_so}
+use Rattle.serving.proofs.Newly.{seated_others}
+use Rattle.serving.specs.Newcomers.{HaveSeats}
 use Rattle.serving.proofs.turn.end_late.Goals as goal
 
 pub returns-clause-serves : goal.returns-clause-serves
@@ -68,3 +70,8 @@ returns-clause-works g c = λ on.
           (λ q. HasEndedLate g.V.Vault.holds g.V.Vault.is_clean o o1 c.args.now n.seconds n.newcomers.items n.newcomers.items (q ∷ []) w.given) c.deref.ensures.0 c.requires
           (late_shut g.V.Vault.holds g.V.Vault.is_clean g.V.Vault.faults c.args.now n.seconds o o1 n.newcomers.items _ w.given w.facts.0 w.facts.1) d;
     })
+
+pub returns-then-is_logged_in-clause-seated : goal.returns-then-is_logged_in-clause-seated
+returns-then-is_logged_in-clause-seated g c = λ h.
+    (let links = c.args.links.now in
+    subst (λ l. HaveSeats l links.seats.items) (sym c.forget.ensures.newcomers) (seated_others _ links.newcomers.newcomers.items links.seats.items h))

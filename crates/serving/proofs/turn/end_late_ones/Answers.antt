@@ -28,8 +28,9 @@ loop-place-init g c = record {
   clean = λ k. k;
   seats = refl;
   set = refl;
-  presses = refl;
+  hurries = refl;
   last = refl;
+  seated = λ h. h;
   late = late_same c.args.now c.args.links.now.newcomers.seconds c.args.links.now.newcomers.newcomers.items;
   works = record { given = []; was_given = given_none g.V.Vault.holds g.V.Vault.is_clean g.V.Vault.faults c.args.office.now; facts = late_none g.V.Vault.holds g.V.Vault.is_clean g.V.Vault.faults c.args.now c.args.links.now.newcomers.seconds c.args.office.now c.args.links.now.newcomers.newcomers.items };
 }
@@ -53,8 +54,9 @@ loop-place-preserved g c =
       clean = λ clean. k.invariant.clean (x.ensures.clean clean);
       seats = x.ensures.seats ∙ k.invariant.seats;
       set = x.ensures.set ∙ k.invariant.set;
-      presses = x.ensures.presses ∙ k.invariant.presses;
+      hurries = x.ensures.hurries ∙ k.invariant.hurries;
       last = x.ensures.last ∙ k.invariant.last;
+      seated = λ h. x.ensures.seated (k.invariant.seated h);
       late = late_then now n.seconds n.newcomers.items k.links.newcomers.newcomers.items x.new.links.newcomers.newcomers.items k.invariant.late late;
       works = late_step g.V.Vault.holds g.V.Vault.is_clean g.V.Vault.faults now n.seconds c.args.office.now k.office x.new.office n.newcomers.items k.links.newcomers.newcomers.items x.new.links.newcomers.newcomers.items c.args.links.now.seats.items k.links.seats.items k.place no_seat
           (ap (λ v. v.items) k.invariant.seats) within k.invariant.late k.invariant.works one;

@@ -5,6 +5,7 @@ use Rattle.serving.specs.Served.{StillServes}
 use Rattle.serving.specs.Settings.{settings_of}
 use Rattle.serving.specs.Works.{Giving, AreNoMoreLate}
 use Rattle.serving.specs.Late.{HasEndedLate}
+use Rattle.serving.specs.Newcomers.{AreSeatedAt}
 use Rattle.serving.proofs.turn.end_late_ones.Given as goal
 
 abbrev pub invariant-loop-place : goal.invariant-loop-place
@@ -13,8 +14,9 @@ invariant-loop-place g l = record {
   clean : g.V.Vault.is_clean (vault_of l.office) → g.V.Vault.is_clean (vault_of l.fn.office);
   seats : l.links.seats ≡ l.fn.links.seats;
   set : settings_of l.links ≡ settings_of l.fn.links;
-  presses : l.links.presses ≡ l.fn.links.presses;
+  hurries : l.links.hurries ≡ l.fn.links.hurries;
   last : l.links.last ≡ l.fn.links.last;
+  seated : AreSeatedAt l.fn.links → AreSeatedAt l.links;
   late : AreNoMoreLate l.fn.now l.fn.links.newcomers.seconds l.fn.links.newcomers.newcomers.items l.links.newcomers.newcomers.items;
   works : Giving g.V.Vault.holds g.V.Vault.is_clean g.V.Vault.faults l.fn.office l.office
       (HasEndedLate g.V.Vault.holds g.V.Vault.is_clean l.fn.office l.office l.fn.now l.fn.links.newcomers.seconds l.fn.links.newcomers.newcomers.items l.links.newcomers.newcomers.items (take l.place l.fn.links.seats.items));

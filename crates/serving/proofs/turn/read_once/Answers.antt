@@ -1,4 +1,4 @@
-use Rattle.std.proofs.Common.{rules, arith, ◌≡◌, ◌∷◌, [], true, false, take, sym, ◌∙◌, refl, subst}
+use Rattle.std.proofs.Common.{rules, arith, ◌≡◌, ◌∷◌, [], true, false, length, take, sym, ◌∙◌, refl, subst}
 use Rattle.office.specs.Events.{Tagged}
 use Rattle.office.specs.Events as event
 use Rattle.office.specs.Shown.{outcome_seen}
@@ -17,8 +17,9 @@ use Rattle.office.specs.Trace.{is_ready}
 use Rattle.serving.specs.declared.wire.Port.TheVariants.{Pop}
 use Rattle.serving.specs.Calls.{Read}
 use Rattle.serving.proofs.Working.{given_one, given_none, asked_one, part_none}
-use Rattle.serving.proofs.Turns.{heard_some, heard_later, heard_cut, heard_none}
-use Rattle.serving.proofs.Resting.{pressed_quiet}
+use Rattle.serving.specs.Works.{NotReady}
+use Rattle.serving.proofs.Turns.{read_some, read_later, read_cut}
+use Rattle.serving.proofs.Resting.{hurried_quiet}
 use Rattle.serving.proofs.turn.read_once.Goals as goal
 
 pub returns-in-Count-clause-serves : goal.returns-in-Count-clause-serves
@@ -99,46 +100,49 @@ returns-in-End-clause-serves g c = λ seats these has before T beside s clean.
     })
 
 pub returns-then-not-ready-clause-works : goal.returns-then-not-ready-clause-works
-returns-then-not-ready-clause-works g c = λ wait may.
-    (let o = c.args.office.now in
+returns-then-not-ready-clause-works g c =
+    let o = c.args.office.now in
     let seat = c.args.seat in
     let no : c.ready.result ≡ false = search rules in
     part_none g.V.Vault.holds g.V.Vault.is_clean g.V.Vault.faults g.W.Wire.asked o c.args.wire.now _
-    (heard_none g.V.Vault.holds g.V.Vault.is_clean g.V.Vault.faults wait may o seat (λ B L s. sym (c.ready.ensures (trace_of B L) s) ∙ no), λ e. e))
+    (NotReady (λ B L s. sym (c.ready.ensures (trace_of B L) s) ∙ no), λ e. e)
 
 pub returns-in-Count-clause-works : goal.returns-in-Count-clause-works
-returns-in-Count-clause-works g c = λ wait may.
-    (let Holds = g.V.Vault.holds in
+returns-in-Count-clause-works g c =
+    let Holds = g.V.Vault.holds in
     let o = c.args.office.now in
     let seat = c.args.seat in
+    let room = length c.args.buffer.now in
     let n = c.in-Count.count in
     let piece = take n c.read.new.buffer in
     let m = mark_of (outcome_seen c.step_with_account.result) in
     record {
       given = (event.Bytes seat.connection piece, m) ∷ [];
-      calls = Read Pop seat.link (Count n) piece ∷ [];
+      calls = Read Pop seat.link room (Count n) piece ∷ [];
       was_given = given_one Holds g.V.Vault.is_clean g.V.Vault.faults o c.step_with_account.new.self (event.Bytes seat.connection piece) (outcome_seen c.step_with_account.result) c.step_with_account.ensures.clean c.step_with_account.ensures.stands c.step_with_account.ensures.admitted c.step_with_account.ensures.counted c.step_with_account.ensures.cause;
-      was_asked = asked_one g.W.Wire.asked c.args.wire.now c.read.new.self (Read Pop seat.link (Count n) piece) c.in-Count.ensures.called;
-      facts = (heard_some Holds g.V.Vault.is_clean g.V.Vault.faults wait may o seat (Count n) piece piece m, λ e. refl);
-    })
+      was_asked = asked_one g.W.Wire.asked c.args.wire.now c.read.new.self (Read Pop seat.link room (Count n) piece) c.in-Count.ensures.called;
+      facts = (read_some Holds g.V.Vault.is_clean g.V.Vault.faults o seat room (Count n) piece piece m, λ e. refl);
+    }
 
 pub returns-in-Later-clause-works : goal.returns-in-Later-clause-works
-returns-in-Later-clause-works g c = λ wait may.
-    (let o = c.args.office.now in
+returns-in-Later-clause-works g c =
+    let o = c.args.office.now in
     let seat = c.args.seat in
+    let room = length c.args.buffer.now in
     record {
       given = [];
-      calls = Read Pop seat.link Later [] ∷ [];
+      calls = Read Pop seat.link room Later [] ∷ [];
       was_given = given_none g.V.Vault.holds g.V.Vault.is_clean g.V.Vault.faults o;
-      was_asked = asked_one g.W.Wire.asked c.args.wire.now c.read.new.self (Read Pop seat.link Later []) c.in-Later.ensures.called;
-      facts = (heard_later g.V.Vault.holds g.V.Vault.is_clean g.V.Vault.faults wait may o seat Later [], λ e. e);
-    })
+      was_asked = asked_one g.W.Wire.asked c.args.wire.now c.read.new.self (Read Pop seat.link room Later []) c.in-Later.ensures.called;
+      facts = (read_later g.V.Vault.holds g.V.Vault.is_clean g.V.Vault.faults o seat room Later [], λ e. e);
+    }
 
 pub returns-in-End-clause-works : goal.returns-in-End-clause-works
-returns-in-End-clause-works g c = λ wait may.
-    (let Holds = g.V.Vault.holds in
+returns-in-End-clause-works g c =
+    let Holds = g.V.Vault.holds in
     let office = c.args.office.now in
     let seat = c.args.seat in
+    let room = length c.args.buffer.now in
     let connection = seat.connection in
     let m = mark_of (outcome_seen c.step.result) in
     let io = c.read.result in
@@ -146,8 +150,8 @@ returns-in-End-clause-works g c = λ wait may.
     let fault : is_fault io ≡ true = search rules in
     record {
       given = (event.Gone connection, m) ∷ [];
-      calls = Read Pop seat.link io octets ∷ [];
+      calls = Read Pop seat.link room io octets ∷ [];
       was_given = given_one Holds g.V.Vault.is_clean g.V.Vault.faults office c.step.new.self (event.Gone connection) (outcome_seen c.step.result) c.step.ensures.clean c.step.ensures.stands c.step.ensures.admitted c.step.ensures.counted c.step.ensures.cause;
-      was_asked = asked_one g.W.Wire.asked c.args.wire.now c.read.new.self (Read Pop seat.link io octets) c.read.ensures.called;
-      facts = (heard_cut Holds g.V.Vault.is_clean g.V.Vault.faults wait may office seat io octets m fault, pressed_quiet false (Read Pop seat.link io octets ∷ []));
-    })
+      was_asked = asked_one g.W.Wire.asked c.args.wire.now c.read.new.self (Read Pop seat.link room io octets) c.read.ensures.called;
+      facts = (read_cut Holds g.V.Vault.is_clean g.V.Vault.faults office seat room io octets m fault, hurried_quiet false (Read Pop seat.link room io octets ∷ []));
+    }

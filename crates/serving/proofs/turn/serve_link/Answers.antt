@@ -1,8 +1,8 @@
 use Rattle.std.proofs.Common.{rules, ◌≡◌, ◌∷◌, [], true, false, ◌||◌, ◌∙◌, length, refl, ap, subst}
-use Rattle.serving.specs.Works.{Part, IsWrittenOut, HadTurns, way_at, Also, PressedBy}
-use Rattle.serving.proofs.Working.{part_so, part_then}
+use Rattle.serving.specs.Works.{Part, IsWrittenOut, HadTurns, way_at, Also, HurriesBy}
+use Rattle.serving.proofs.Working.{part_so, part_then, or_true}
 use Rattle.serving.proofs.Turns.{served_written, served_one, served_then}
-use Rattle.serving.proofs.Resting.{pressed_moved, pressed_behind, pressed_then, shared_moved, is_right}
+use Rattle.serving.proofs.Resting.{hurried_moved, hurried_behind, hurried_then, shared_moved, is_right}
 use Rattle.serving.proofs.turn.serve_link.Goals as goal
 
 pub returns-then-write_owed-clause-works : goal.returns-then-write_owed-clause-works
@@ -12,13 +12,13 @@ returns-then-write_owed-clause-works g c =
     let o = c.args.office.now in
     let x = c.write_owed in
     let links = c.args.links.now in
-    let way = way_at links in
+    let way = way_at links (links.hurries || true) in
     let goes : x.result ≡ true = search rules in
     let out = subst (λ b. Part Holds IsClean g.V.Vault.faults g.W.Wire.asked o c.args.wire.now x.new.office x.new.wire (IsWrittenOut Holds IsClean o x.new.office c.args.seat way.share b)) goes
     (subst (λ n. Part Holds IsClean g.V.Vault.faults g.W.Wire.asked o c.args.wire.now x.new.office x.new.wire (IsWrittenOut Holds IsClean o x.new.office c.args.seat n x.result)) c.share_of-share.ensures.value x.ensures.works) in
     part_so Holds IsClean g.V.Vault.faults g.W.Wire.asked o x.new.office c.args.wire.now x.new.wire _ _ (λ gv cl wa a. (
-      served_written Holds IsClean g.V.Vault.faults o x.new.office way c.args.seat gv cl a,
-      pressed_moved links.presses (links.presses || true) cl (shared_moved c.args.seat.link (length links.seats.items) cl (a.goes_on refl)),
+      served_written Holds IsClean g.V.Vault.faults o x.new.office way c.args.seat gv cl (or_true links.hurries) a,
+      hurried_moved links.hurries (links.hurries || true) cl (shared_moved c.args.seat.link (length links.seats.items) cl (a.goes_on refl)),
     )) out
 
 pub returns-then-not-read_piece-clause-works : goal.returns-then-not-read_piece-clause-works
@@ -29,13 +29,15 @@ returns-then-not-read_piece-clause-works g c =
     let x = c.write_owed in
     let y = c.read_piece in
     let none : y.result ≡ false = search rules in
+    let ends : x.result ≡ false = search rules in
     let links = c.args.links.now in
-    let way = way_at links in
-    let out = subst (λ n. Part Holds IsClean g.V.Vault.faults g.W.Wire.asked o c.args.wire.now x.new.office x.new.wire (IsWrittenOut Holds IsClean o x.new.office c.args.seat n x.result)) c.share_of-share.ensures.value x.ensures.works in
+    let way = way_at links (y.new.links.hurries || false) in
+    let out = subst (λ b. Part Holds IsClean g.V.Vault.faults g.W.Wire.asked o c.args.wire.now x.new.office x.new.wire (IsWrittenOut Holds IsClean o x.new.office c.args.seat way.share b)) ends
+    (subst (λ n. Part Holds IsClean g.V.Vault.faults g.W.Wire.asked o c.args.wire.now x.new.office x.new.wire (IsWrittenOut Holds IsClean o x.new.office c.args.seat n x.result)) c.share_of-share.ensures.value x.ensures.works) in
     part_then Holds IsClean g.V.Vault.faults g.W.Wire.asked o x.new.office y.new.office c.args.wire.now x.new.wire y.new.wire _ _ _
     (λ g1 g2 c1 c2 wa wb a b. (
-      served_one Holds IsClean g.V.Vault.faults o x.new.office y.new.office way c.args.seat x.result g1 g2 c1 c2 wa wb a b.0,
-      pressed_behind links.presses (y.new.links.presses || y.result) (y.new.links.presses || false) c1 c2 (λ e. ap (λ b. y.new.links.presses || b) none ∙ e) b.1,
+      served_one Holds IsClean g.V.Vault.faults o x.new.office y.new.office way c.args.seat g1 g2 c1 c2 wa wb a b.0,
+      hurried_behind links.hurries (y.new.links.hurries || y.result) (y.new.links.hurries || false) c1 c2 (λ e. ap (λ b. y.new.links.hurries || b) none ∙ e) b.1,
     )) out y.ensures.works
 
 pub returns-clause-works : goal.returns-clause-works
@@ -47,17 +49,19 @@ returns-clause-works g c =
     let y = c.read_piece in
     let z = c.write_owed-2 in
     let came : y.result ≡ true = search rules in
+    let ends : x.result ≡ false = search rules in
     let links = c.args.links.now in
-    let way = way_at links in
-    let out = subst (λ n. Part Holds IsClean g.V.Vault.faults g.W.Wire.asked o c.args.wire.now x.new.office x.new.wire (IsWrittenOut Holds IsClean o x.new.office c.args.seat n x.result)) c.share_of-share.ensures.value x.ensures.works in
-    let first : Part Holds IsClean g.V.Vault.faults g.W.Wire.asked o c.args.wire.now y.new.office y.new.wire (Also (HadTurns Holds IsClean o y.new.office way (c.args.seat ∷ []) (c.args.seat ∷ [])) (PressedBy links.presses true)) =
+    let way = way_at links (y.new.links.hurries || z.result) in
+    let out = subst (λ b. Part Holds IsClean g.V.Vault.faults g.W.Wire.asked o c.args.wire.now x.new.office x.new.wire (IsWrittenOut Holds IsClean o x.new.office c.args.seat way.share b)) ends
+    (subst (λ n. Part Holds IsClean g.V.Vault.faults g.W.Wire.asked o c.args.wire.now x.new.office x.new.wire (IsWrittenOut Holds IsClean o x.new.office c.args.seat n x.result)) c.share_of-share.ensures.value x.ensures.works) in
+    let first : Part Holds IsClean g.V.Vault.faults g.W.Wire.asked o c.args.wire.now y.new.office y.new.wire (Also (HadTurns Holds IsClean o y.new.office way (c.args.seat ∷ []) (c.args.seat ∷ [])) (HurriesBy links.hurries true)) =
     part_then Holds IsClean g.V.Vault.faults g.W.Wire.asked o x.new.office y.new.office c.args.wire.now x.new.wire y.new.wire _ _ _
     (λ g1 g2 c1 c2 wa wb a b. (
-      served_one Holds IsClean g.V.Vault.faults o x.new.office y.new.office way c.args.seat x.result g1 g2 c1 c2 wa wb a b.0,
-      pressed_behind links.presses (y.new.links.presses || y.result) true c1 c2 (λ e. is_right y.new.links.presses y.result came) b.1,
+      served_one Holds IsClean g.V.Vault.faults o x.new.office y.new.office way c.args.seat g1 g2 c1 c2 wa wb a b.0,
+      hurried_behind links.hurries (y.new.links.hurries || y.result) true c1 c2 (λ e. is_right y.new.links.hurries y.result came) b.1,
     )) out y.ensures.works in
     part_then Holds IsClean g.V.Vault.faults g.W.Wire.asked o y.new.office z.new.office c.args.wire.now y.new.wire z.new.wire _ _ _
     (λ g1 g2 c1 c2 wa wb a b. (
       served_then Holds IsClean g.V.Vault.faults o y.new.office z.new.office way c.args.seat g1 g2 c1 c2 wa wb a.0 b.of_seat,
-      pressed_then links.presses true (y.new.links.presses || z.result) c1 c2 a.1 (λ e. refl),
+      hurried_then links.hurries true (y.new.links.hurries || z.result) c1 c2 a.1 (λ e. refl),
     )) first z.ensures.works

@@ -1,10 +1,10 @@
-use Rattle.std.proofs.Common.{◌≡◌, ◌-◌, ◌||◌, [], take}
+use Rattle.std.proofs.Common.{◌≡◌, ◌-◌, ◌||◌, [], take, true}
 use Rattle.arrayvec.specs.ArrayVec.{array_vec_len}
 use Rattle.office.specs.Stands.{vault_of}
 use Rattle.serving.specs.Served.{StillServes}
 use Rattle.serving.specs.Paces.{LeavesSettings}
 use Rattle.serving.specs.Settings.{settings_of}
-use Rattle.serving.specs.Works.{Part, WereServed, Also, PressedBy}
+use Rattle.serving.specs.Works.{Part, WereServed, Also, HurriesBy}
 use Rattle.serving.proofs.turn.serve_links.Given as goal
 
 abbrev pub invariant-loop-place : goal.invariant-loop-place
@@ -13,9 +13,10 @@ invariant-loop-place g l = record {
   clean : g.V.Vault.is_clean (vault_of l.office) → g.V.Vault.is_clean (vault_of l.fn.office);
   seats : l.links.seats ≡ l.fn.links.seats;
   aside : LeavesSettings l.fn.links l.links;
+  frees : l.links.is_freed ≡ true → l.links.hurries ≡ true;
   works : Part g.V.Vault.holds g.V.Vault.is_clean g.V.Vault.faults g.W.Wire.asked l.fn.office l.fn.wire l.office l.wire
-      (Also (WereServed g.V.Vault.holds g.V.Vault.is_clean l.fn.office l.office (settings_of l.fn.links) l.links.is_freed l.fn.links.seats.items (take l.place l.fn.links.seats.items))
-      (PressedBy (l.fn.links.presses || l.links.is_freed) l.links.presses));
+      (Also (WereServed g.V.Vault.holds g.V.Vault.is_clean l.fn.office l.office (settings_of l.fn.links) l.links.is_freed l.links.hurries l.fn.links.seats.items (take l.place l.fn.links.seats.items))
+      (HurriesBy (l.fn.links.hurries || l.links.is_freed) l.links.hurries));
 }
 
 abbrev pub decreases-loop-place : goal.decreases-loop-place

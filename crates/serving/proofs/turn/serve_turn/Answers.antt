@@ -3,16 +3,20 @@ use Rattle.office.specs.Taken.{trace_of}
 use Rattle.serving.specs.Served.{Beside, Serves}
 use Rattle.serving.specs.Requests.{AreHeld, AsksNone}
 use Rattle.serving.proofs.Depositing.{serves_tried, serves_asked, serves_answering}
-use Rattle.std.proofs.Common.{◌≡◌, ◌||◌, ap, ◌∙◌}
+use Rattle.std.proofs.Common.{◌≡◌, ◌||◌, ◌==◌, false, ap, ◌∙◌}
+use Rattle.std.specs.List.{filter_map}
 use Rattle.serving.specs.Settings.{Settings, settings_of}
-use Rattle.serving.specs.Works.{Part, Asking, IsPassed, AreClosed, AreNoMoreLate, WereServed, Also, PressedBy}
+use Rattle.serving.specs.Works.{Part, Asking, IsPassed, AreClosed, AreNoMoreLate, WereServed, Also, HurriesBy, Releases}
 use Rattle.serving.specs.SpoolTurns.{SpoolPart, IsSpoolTurn, has_dealt}
 use Rattle.std.proofs.Common.{ℕ, Some, true}
 use Rattle.office.specs.Events.{Trace}
 use Rattle.office.specs.Trace.{is_open}
 use Rattle.office.specs.Stands.{StandsFor}
 use Rattle.serving.specs.declared.newcomers.Newcomer.{Newcomer}
-use Rattle.serving.specs.Newcomers.{newcomer}
+use Rattle.serving.specs.Newcomers.{newcomer, HaveSeats, IsNewlyNoted, AllHaveSeats}
+use Rattle.std.specs.List.{All}
+use Rattle.serving.proofs.Newly.{more_is}
+use Rattle.serving.specs.Works.{seat_of}
 use Rattle.serving.specs.Works.{Giving}
 use Rattle.serving.specs.Late.{HasEndedLate}
 use Rattle.serving.proofs.Timely.{late_both}
@@ -81,8 +85,8 @@ returns-clause-works g c = λ T s clean.
     let w6 = c.close_links.new.wire in
     let a = c.accept_links.ensures.works in
     let passed = subst (λ n. Part Holds IsClean g.V.Vault.faults Asked c.args.office.now c.args.wire.now o1 w1 (IsPassed n now)) c.millis_for-millis.ensures c.pass_time.ensures.works in
-    let turned = subst (λ set. Part Holds IsClean g.V.Vault.faults Asked o2 w3 o3 w4 (Also (WereServed Holds IsClean o2 o3 set served.is_freed seats2 seats2) (PressedBy served.is_freed served.presses))) c.accept_links.ensures.set
-    (subst (λ b. Part Holds IsClean g.V.Vault.faults Asked o2 w3 o3 w4 (Also (WereServed Holds IsClean o2 o3 (settings_of came) served.is_freed seats2 seats2) (PressedBy (b || served.is_freed) served.presses))) c.accept_links.ensures.presses c.serve_links.ensures.works) in
+    let turned = subst (λ set. Part Holds IsClean g.V.Vault.faults Asked o2 w3 o3 w4 (Also (WereServed Holds IsClean o2 o3 set served.is_freed served.hurries seats2 seats2) (HurriesBy served.is_freed served.hurries))) c.accept_links.ensures.set
+    (subst (λ b. Part Holds IsClean g.V.Vault.faults Asked o2 w3 o3 w4 (Also (WereServed Holds IsClean o2 o3 (settings_of came) served.is_freed served.hurries seats2 seats2) (HurriesBy (b || served.is_freed) served.hurries))) c.accept_links.ensures.hurries c.serve_links.ensures.works) in
     let same = c.serve_links.ensures.aside.newcomers in
     let seconds = ap (λ n. n.seconds) same ∙ ap (λ (s : Settings). s.login_seconds) c.accept_links.ensures.set in
     let less = subst (λ n. AreNoMoreLate now old.newcomers.seconds old.newcomers.newcomers.items n.newcomers.items) (sym same) c.accept_links.ensures.late in
@@ -90,19 +94,26 @@ returns-clause-works g c = λ T s clean.
     (subst (λ v. Giving Holds IsClean g.V.Vault.faults o4 o5 (HasEndedLate Holds IsClean o4 o5 now served.newcomers.seconds served.newcomers.newcomers.items ended.newcomers.newcomers.items v.items)) c.serve_links.ensures.seats c.end_late_ones.ensures.works) in
     let keeps : (n : ℕ) (x : Newcomer) → newcomer n old.newcomers.newcomers.items ≡ Some x → newcomer n served.newcomers.newcomers.items ≡ Some x =
     λ n x h. ap (λ v. newcomer n v.newcomers.items) same ∙ c.accept_links.ensures.noted n x h in
+    let comers = c.accept_links.ensures.comers in
+    let newly : AllHaveSeats links → (old.newcomers.seconds == 0) ≡ false → All (IsNewlyNoted now old.newcomers.newcomers.items served.newcomers.newcomers.items) (filter_map seat_of a.1.facts.came) =
+    λ h on. subst (λ n. All (IsNewlyNoted now old.newcomers.newcomers.items n.newcomers.items) (filter_map seat_of a.1.facts.came)) (sym same)
+    (subst (All (IsNewlyNoted now old.newcomers.newcomers.items came.newcomers.newcomers.items)) (more_is old.seats.items comers.more (filter_map seat_of a.1.facts.came) seats2 comers.is a.1.facts.come.seated) (comers.newly h on)) in
     let forgets : (U : Trace) → StandsFor Holds o5 U → (n : ℕ) → is_open U n ≡ true → newcomer n c.serve_spool.new.links.newcomers.newcomers.items ≡ newcomer n ended.newcomers.newcomers.items =
     λ U su n here. ap (λ v. newcomer n v.newcomers.items) c.serve_spool.ensures.newcomers ∙ c.close_links.ensures.newcomers U su n here in
     let last = c.close_links.ensures.last ∙ (c.end_late_ones.ensures.last ∙ (c.serve_links.ensures.aside.last ∙ c.accept_links.ensures.last)) in
-    let tried = subst (λ l. SpoolPart Holds IsClean g.V.Vault.faults g.S.Spool.asked o5 c.args.spool.now c.serve_spool.new.office c.serve_spool.new.spool (λ U given calls. IsSpoolTurn l c.serve_spool.new.links.last U given calls × (c.serve_spool.new.links.presses ≡ (c.close_links.new.links.presses || has_dealt calls)))) last c.serve_spool.ensures.works in
+    let tried = subst (λ l. SpoolPart Holds IsClean g.V.Vault.faults g.S.Spool.asked o5 c.args.spool.now c.serve_spool.new.office c.serve_spool.new.spool (λ U given calls. IsSpoolTurn l c.serve_spool.new.links.last U given calls × (c.serve_spool.new.links.hurries ≡ (c.close_links.new.links.hurries || has_dealt calls)))) last c.serve_spool.ensures.works in
+    let waits : ended.wait ≡ old.wait = ap (λ (s : Settings). s.wait) (c.end_late_ones.ensures.set ∙ (c.serve_links.ensures.aside.set ∙ c.accept_links.ensures.set)) in
     let seats_same = c.end_late_ones.ensures.seats ∙ c.serve_links.ensures.seats in
     turn_done Holds IsClean g.V.Vault.faults Asked g.S.Spool.asked T now links (record { clients = c.serve_spool.new.links; requests = c.serve_requests.new.requests })
     c.args.office.now o1 o2 o3 o4 o5 c.serve_spool.new.office
     c.args.wire.now w1 c.accept_links.new.wire w3 w4 w5 w6 c.args.spool.now c.serve_spool.new.spool
-    seats2 a.0 c.accept_requests.new.requests.exchanges.items c.accept_requests.ensures.works.0 served.is_freed served.presses c.close_links.new.links.presses served.newcomers.newcomers.items ended.newcomers.newcomers.items passed a.1 c.accept_requests.ensures.works.1 turned c.serve_requests.ensures.works keeps late forgets
+    seats2 a.0 c.accept_requests.new.requests.exchanges.items c.accept_requests.ensures.works.0 served.is_freed served.hurries c.close_links.new.links.hurries served.newcomers.newcomers.items ended.newcomers.newcomers.items passed a.1 c.accept_requests.ensures.works.1 turned c.serve_links.ensures.frees
+    (λ e. c.close_links.ensures.hurried (c.end_late_ones.ensures.hurries ∙ e)) c.serve_requests.ensures.works keeps newly late forgets
     (λ U su.
-    subst (λ v. Asking Asked w5 w6 (λ calls. AreClosed U v.items c.serve_spool.new.links.seats.items calls × PressedBy served.presses c.close_links.new.links.presses calls)) seats_same
-    (subst (λ v. Asking Asked w5 w6 (λ calls. AreClosed U ended.seats.items v.items calls × PressedBy served.presses c.close_links.new.links.presses calls)) (sym c.serve_spool.ensures.seats)
-    (subst (λ b. Asking Asked w5 w6 (λ calls. AreClosed U ended.seats.items c.close_links.new.links.seats.items calls × PressedBy b c.close_links.new.links.presses calls)) c.end_late_ones.ensures.presses (c.close_links.ensures.works U su))))
+    subst (λ v. Asking Asked w5 w6 (λ calls. AreClosed U v.items c.serve_spool.new.links.seats.items calls × HurriesBy served.hurries c.close_links.new.links.hurries calls × Releases old.wait c.close_links.new.links.hurries calls)) seats_same
+    (subst (λ v. Asking Asked w5 w6 (λ calls. AreClosed U ended.seats.items v.items calls × HurriesBy served.hurries c.close_links.new.links.hurries calls × Releases old.wait c.close_links.new.links.hurries calls)) (sym c.serve_spool.ensures.seats)
+    (subst (λ n. Asking Asked w5 w6 (λ calls. AreClosed U ended.seats.items c.close_links.new.links.seats.items calls × HurriesBy served.hurries c.close_links.new.links.hurries calls × Releases n c.close_links.new.links.hurries calls)) waits
+    (subst (λ b. Asking Asked w5 w6 (λ calls. AreClosed U ended.seats.items c.close_links.new.links.seats.items calls × HurriesBy b c.close_links.new.links.hurries calls × Releases ended.wait c.close_links.new.links.hurries calls)) c.end_late_ones.ensures.hurries (c.close_links.ensures.works U su)))))
     tried s clean)
 
 pub returns-clause-ongoing : goal.returns-clause-ongoing
@@ -118,3 +129,12 @@ pub returns-clause-short : goal.returns-clause-short
 returns-clause-short g c = λ T s clean short.
     (let w = returns-clause-works g c T s clean in
     all_short T c.args.now c.args.links.now (record { clients = c.serve_spool.new.links; requests = c.serve_requests.new.requests }) w.given w.calls w.http short)
+
+pub returns-clause-seated : goal.returns-clause-seated
+returns-clause-seated g c = λ h.
+    (let came = c.accept_links.ensures.comers.seated h in
+    let served = subst (λ n. HaveSeats n.newcomers.items c.serve_links.new.links.seats.items) (sym c.serve_links.ensures.aside.newcomers)
+    (subst (λ v. HaveSeats c.accept_links.new.links.newcomers.newcomers.items v.items) (sym c.serve_links.ensures.seats) came) in
+    let closed = c.close_links.ensures.seated (c.end_late_ones.ensures.seated served) in
+    subst (λ n. HaveSeats n.newcomers.items c.serve_spool.new.links.seats.items) (sym c.serve_spool.ensures.newcomers)
+    (subst (λ v. HaveSeats c.close_links.new.links.newcomers.newcomers.items v.items) (sym c.serve_spool.ensures.seats) closed))
