@@ -446,7 +446,7 @@ nothing_came Tells wire k io line t h = record {
 }
 
 -- the front of a list of one
-one_front : (n x : ℕ) (xs : List ℕ) → 0 < n → n ≤ 1 → length xs ≡ 1 → x ≡ get_or xs 0 x → take n xs ≡ x ∷ []
+pub one_front : (n x : ℕ) (xs : List ℕ) → 0 < n → n ≤ 1 → length xs ≡ 1 → x ≡ get_or xs 0 x → take n xs ≡ x ∷ []
 one_front n x [] lt le e is = absurd (let q : ◌≡◌ {A = ℕ} 0 1 = e in omega arith)
 one_front n x (y ∷ []) lt le e is = let one : n ≡ 1 = omega arith in subst (λ m. take m (y ∷ []) ≡ x ∷ []) (sym one) (ap (λ z. z ∷ []) (sym is))
 one_front n x (y ∷ z ∷ xs) lt le e is = absurd (let q : suc (suc (length xs)) ≡ 1 = e in omega arith)

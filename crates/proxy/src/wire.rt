@@ -1,17 +1,22 @@
 //! A wire whose clients come through a proxy on the same machine.
-ghost use Rattle.std.specs.Prelude.{◌≡◌, ◌<◌, ◌++◌, ◌⊎◌, ℕ, List, [], Option, Some, None, length};
-ghost use Rattle.std.specs.Prelude.{false, IfSome};
+ghost use Rattle.std.specs.Prelude.{◌≡◌, ◌<◌, ◌++◌, ◌∷◌, ◌⊎◌, ℕ, List, [], Option, Some, None};
+ghost use Rattle.std.specs.Prelude.{false, length, IfSome, if◌then◌else◌};
 ghost use Rattle.std.specs.Ordering.{nat_cmp};
 ghost use Rattle.std.specs.declared.net.ip_addr.IpAddr.{IpAddr as Address};
 ghost use Rattle.std.specs.BTreeMap.{get};
 ghost use Rattle.arrayvec.specs.ArrayVec.{array_vec_len};
 ghost use Rattle.serving.specs.Wires.{ToldOfPorts, AreFresh, at_port, has_read, has_accepted};
-ghost use Rattle.serving.specs.Wires.{counted, IsWithin};
+ghost use Rattle.serving.specs.Wires.{counted, is_fault, IsWithin};
+ghost use Rattle.serving.specs.Calls.{Call};
+ghost use Rattle.serving.specs.Calls as call;
+ghost use Rattle.serving.specs.declared.wire.Io.{Io as AnIo};
 ghost use Rattle.serving.specs.declared.wire.Port.TheVariants.{Pop as ThePop};
 ghost use Rattle.serving.specs.declared.wire.Io.TheVariants.{Later as TheLater};
 ghost use Rattle.serving.specs.declared.wire.Io.TheVariants.{Broken as TheBroken};
 ghost use Rattle.proxy.specs.Proxied.{TellsProxy, TellsProxied, proxy_once, IsLineRead, IsAmid};
 ghost use Rattle.proxy.specs.Proxied.{IsAsFarAs, has_line};
+ghost use Rattle.proxy.specs.Behind.{TakesLine, AskedAmid, AskedBehind};
+ghost use Rattle.proxy.specs.declared.wire.Progress.{Progress as HowFar};
 
 use crate::line::{MOST_OCTETS, ProxyLine};
 use arrayvec::ArrayVec;
@@ -53,7 +58,8 @@ pub(crate) enum Progress {
 /// acceptance, or where memory for it is wanting. Links of the administration have no such line.
 ///
 /// Contracts see what the wire inside tells, but of what was read from a client's link only the
-/// octets behind its first line; and that these are behind a PROXY line.
+/// octets behind its first line; and that these are behind a PROXY line. They see too what it was
+/// asked, and that the wire inside was asked the same, but for what reads on first lines.
 #[derive(Drop)]
 pub struct ProxiedWire<W: Wire, C: Clock> {
     pub wire: W,
@@ -66,12 +72,21 @@ pub struct ProxiedWire<W: Wire, C: Clock> {
     presses: bool,
 }
 
+/// How long a wait is: no time where a line was read whole, and more may lie behind it.
+fn wait_of(presses: bool, millis: u32) -> u32
+    ensures { result ≡ (if presses then 0 else millis) }
+{
+    if presses { 0 } else { millis }
+}
+
 /// Reads the next octet of a line.
 fn read_octet<W: Wire>(wire: &mut W, link: Link, line: &mut Line) -> Progress
     requires { array_vec_len line.old < 107 }
     ensures told { (t : ToldOfPorts) → W.tells wire.old t
         → IsLineRead W.tells wire.new link.number line.old.items line.new.items result t }
     ensures so_far { has_line line.old.items ≡ false → IsAsFarAs result line.new.items }
+    ensures called { (a : List Call) → W.asked wire.old a
+        → TakesLine W.asked wire.new link result a }
 {
     let mut one = [0u8; 1];
     match wire.read(Port::Pop, link, &mut one) {
@@ -95,6 +110,8 @@ fn read_octets<W: Wire>(wire: &mut W, link: Link, line: &mut Line, left: usize) 
     ensures told { (t : ToldOfPorts) → W.tells wire.old t
         → IsLineRead W.tells wire.new link.number line.old.items line.new.items result t }
     ensures so_far { has_line line.old.items ≡ false → IsAsFarAs result line.new.items }
+    ensures called { (a : List Call) → W.asked wire.old a
+        → TakesLine W.asked wire.new link result a }
 {
     match read_octet(wire, link, line) {
         Progress::Open(Io::Count(count)) => {
@@ -121,6 +138,8 @@ impl<W: Wire, C: Clock> ProxiedWire<W, C> {
         ensures tells { (t : ToldOfPorts) → W.tells wire t → AreFresh t
             → TellsProxy W.tells result.wire (get nat_cmp result.begun) (get nat_cmp result.known)
             t }
+        ensures asked { W.asked wire [] → AskedBehind W.asked result.wire
+            (get nat_cmp result.known) result.presses [] }
     {
         ProxiedWire {
             wire,
@@ -148,6 +167,11 @@ impl<W: Wire, C: Clock> ProxiedWire<W, C> {
             (get nat_cmp self.new.known) (at_port ThePop (λ of. has_read of link.number result [])
             u) }
         ensures broken { result ≡ TheBroken }
+        ensures called { (far : HowFar) (a : List Call)
+            → AskedAmid W.asked self.old.wire (get nat_cmp self.old.known)
+            self.old.presses link far a
+            → AskedBehind W.asked self.new.wire (get nat_cmp self.new.known)
+            self.new.presses (a ++ call.Read ThePop link result [] ∷ []) }
     {
         self.wire.close(Port::Pop, link);
         Io::Broken
@@ -162,6 +186,11 @@ impl<W: Wire, C: Clock> ProxiedWire<W, C> {
             (get nat_cmp self.new.known) (at_port ThePop (λ of. has_read of link.number result [])
             u) }
         ensures within { IsWithin 0 result }
+        ensures called { (a : List Call) → get nat_cmp self.old.known link.number ≡ None
+            → AskedBehind W.asked self.old.wire (get nat_cmp self.old.known)
+            self.old.presses a
+            → AskedBehind W.asked self.new.wire (get nat_cmp self.new.known)
+            self.new.presses (a ++ call.Read ThePop link result [] ∷ []) }
     {
         let mut none = [0u8; 0];
         match self.wire.read(Port::Pop, link, &mut none) {
@@ -180,6 +209,11 @@ impl<W: Wire, C: Clock> ProxiedWire<W, C> {
             (get nat_cmp self.new.begun) (get nat_cmp self.new.known)
             (at_port ThePop (λ of. has_read of link.number result []) u) }
         ensures within { IsWithin 0 result }
+        ensures called { (io : AnIo) (a : List Call) → is_fault io ≡ false
+            → AskedAmid W.asked self.old.wire (get nat_cmp self.old.known)
+            self.old.presses link (Progress.Open io) a
+            → AskedBehind W.asked self.new.wire (get nat_cmp self.new.known)
+            self.new.presses (a ++ call.Read ThePop link result [] ∷ []) }
     {
         if begun.line.is_full() {
             return self.break_off(link);
@@ -201,6 +235,11 @@ impl<W: Wire, C: Clock> ProxiedWire<W, C> {
             (get nat_cmp self.new.known) (at_port ThePop (λ of. has_read of link.number result [])
             u) }
         ensures within { IsWithin 0 result }
+        ensures called { (a : List Call)
+            → AskedAmid W.asked self.old.wire (get nat_cmp self.old.known)
+            self.old.presses link Progress.Whole a
+            → AskedBehind W.asked self.new.wire (get nat_cmp self.new.known)
+            self.new.presses (a ++ call.Read ThePop link result [] ∷ []) }
     {
         let Some(read) = ProxyLine::read(line) else {
             return self.break_off(link);
@@ -222,6 +261,11 @@ impl<W: Wire, C: Clock> ProxiedWire<W, C> {
             (get nat_cmp self.new.known) (at_port ThePop (λ of. has_read of link.number result [])
             u) }
         ensures within { IsWithin 0 result }
+        ensures called { (a : List Call) → get nat_cmp self.old.known link.number ≡ None
+            → AskedBehind W.asked self.old.wire (get nat_cmp self.old.known)
+            self.old.presses a
+            → AskedBehind W.asked self.new.wire (get nat_cmp self.new.known)
+            self.new.presses (a ++ call.Read ThePop link result [] ∷ []) }
     {
         let Some(mut begun) = self.begun.remove(&link.number) else {
             return self.refuse(link);
@@ -249,6 +293,11 @@ impl<W: Wire, C: Clock> ProxiedWire<W, C> {
             → TellsProxy W.tells self.new.wire (get nat_cmp self.new.begun)
             (get nat_cmp self.new.known) (at_port ThePop
             (λ of. has_read of link.number result (counted result buffer.new)) u) }
+        ensures called { (a : List Call)
+            → AskedBehind W.asked self.old.wire (get nat_cmp self.old.known) self.old.presses a
+            → AskedBehind W.asked self.new.wire (get nat_cmp self.new.known)
+            self.new.presses
+            (a ++ call.Read ThePop link result (counted result buffer.new) ∷ []) }
     {
         if self.known.contains_key(&link.number) {
             return self.wire.read(Port::Pop, link, buffer);
@@ -259,11 +308,15 @@ impl<W: Wire, C: Clock> ProxiedWire<W, C> {
     /// Begins to read the first line of a link that was accepted. Where memory is wanting the link
     /// has none, and its first read closes it.
     fn begin(&mut self, link: Link)
-        ensures { (t u : ToldOfPorts) → link.number ≡ t.pop.accepted
+        ensures told { (t u : ToldOfPorts) → link.number ≡ t.pop.accepted
             → W.tells self.old.wire (at_port ThePop has_accepted t)
             → TellsProxied (get nat_cmp self.old.begun) (get nat_cmp self.old.known) t u
             → TellsProxy W.tells self.new.wire (get nat_cmp self.new.begun)
             (get nat_cmp self.new.known) (at_port ThePop has_accepted u) }
+        ensures called { (a : List Call)
+            → AskedBehind W.asked self.old.wire (get nat_cmp self.old.known) self.old.presses a
+            → AskedBehind W.asked self.new.wire (get nat_cmp self.new.known)
+            self.new.presses a }
     {
         let begun = Begun {
             line: ArrayVec::new(),
@@ -277,15 +330,15 @@ impl<W: Wire, C: Clock> Wire for ProxiedWire<W, C> {
     ghost tells = { λ r u. TellsProxy W.tells r.wire (get nat_cmp r.begun) (get nat_cmp r.known)
         u };
 
-    ghost asked = { λ _ _. ⊥ };
+    ghost asked = { λ r calls. AskedBehind W.asked r.wire (get nat_cmp r.known) r.presses calls };
 
     ghost tells_once = { λ r u v a b. proxy_once W.tells W.tells_once r.wire (get nat_cmp r.begun)
         (get nat_cmp r.known) u v a b };
 
     fn wait(&mut self, millis: u32) {
-        let millis = if self.presses { 0 } else { millis };
+        let wait = wait_of(self.presses, millis);
         self.presses = false;
-        self.wire.wait(millis);
+        self.wire.wait(wait);
     }
 
     fn accept(&mut self, port: Port) -> Option<Link> {

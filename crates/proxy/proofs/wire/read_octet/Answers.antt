@@ -1,7 +1,8 @@
-use Rattle.std.proofs.Common.{rules, [], ◌∷◌, ◌++◌, ◌≡◌, refl}
+use Rattle.std.proofs.Common.{rules, slice_index, arith, [], ◌∷◌, ◌++◌, ◌≡◌, refl}
 use Rattle.serving.specs.declared.wire.Io.TheVariants.{Later, End, Broken, Count}
 use Rattle.proxy.specs.declared.wire.Progress.TheVariants.{Whole, Open}
 use Rattle.proxy.proofs.Telling.{nothing_came, octet_came, still_open}
+use Rattle.proxy.proofs.HandingOn.{one_read, octet_read}
 use Rattle.proxy.proofs.wire.read_octet.Goals as goal
 
 pub returns-in-Later-clause-told : goal.returns-in-Later-clause-told
@@ -37,3 +38,22 @@ returns-clause-told g c t h =
 
 pub returns-clause-so_far : goal.returns-clause-so_far
 returns-clause-so_far g c h = rw c.push.ensures.items (still_open c.args.line.now.items _ h (search rules))
+
+pub returns-in-Later-clause-called : goal.returns-in-Later-clause-called
+returns-in-Later-clause-called g c a h = one_read g.W.Wire.asked c.read.new.self c.args.link Later [] (Open Later) a (c.in-Later.ensures.called a h) (omega arith) refl refl
+
+pub returns-in-End-clause-called : goal.returns-in-End-clause-called
+returns-in-End-clause-called g c a h = one_read g.W.Wire.asked c.read.new.self c.args.link End [] (Open End) a (c.in-End.ensures.called a h) (omega arith) refl refl
+
+pub returns-in-Broken-clause-called : goal.returns-in-Broken-clause-called
+returns-in-Broken-clause-called g c a h = one_read g.W.Wire.asked c.read.new.self c.args.link Broken [] (Open Broken) a (c.in-Broken.ensures.called a h) (omega arith) refl refl
+
+pub returns-then-octet-eq10-clause-called : goal.returns-then-octet-eq10-clause-called
+returns-then-octet-eq10-clause-called g c a h =
+    octet_read g.W.Wire.asked c.read.new.self c.args.link c.in-Count.field-0 10 c.read.new.buffer Whole a (c.in-Count.ensures.called a h) c.in-Count.ensures.within.0 c.in-Count.ensures.within.1 (search rules) (search rules)
+    ([], refl, refl) refl
+
+pub returns-clause-called : goal.returns-clause-called
+returns-clause-called g c a h =
+    octet_read g.W.Wire.asked c.read.new.self c.args.link c.in-Count.field-0 (slice_index c.read.new.buffer 0) c.read.new.buffer (Open (Count 1)) a (c.in-Count.ensures.called a h) c.in-Count.ensures.within.0 c.in-Count.ensures.within.1 (search rules) (search rules)
+    (still_open [] (slice_index c.read.new.buffer 0) refl (search rules)) refl

@@ -7,6 +7,10 @@ use Rattle.serving.specs.declared.wire.Io.TheVariants.{Later}
 use Rattle.proxy.specs.Lines.{IsProxyLine}
 use Rattle.proxy.specs.Proxied.{first_line, has_line}
 use Rattle.proxy.proofs.Telling.{learns, updated_put, whole_has, whole_first}
+use Rattle.std.proofs.Common.{rules}
+use Rattle.proxy.proofs.Telling.{entries_same}
+use Rattle.proxy.proofs.HandingOn.{line_whole, same_known}
+use Rattle.proxy.specs.declared.wire.Progress.TheVariants.{Whole}
 use Rattle.proxy.proofs.wire.ProxiedWire.learn.Goals as goal
 
 pub returns-in-Ok-clause-told : goal.returns-in-Ok-clause-told
@@ -21,3 +25,19 @@ returns-in-Ok-clause-told g c u (t, h, a, came, is) (front, e, open_yet) =
           (updated_put known c.insert.new.self k (Some source) c.in-Ok.ensures.updates)
           (record { came = came; whole = ap has_line (is ∙ e) ∙ whole_has front; says = subst (λ xs. IsProxyLine xs source) (sym first) c.in-Some.ensures }),
     )
+
+pub returns-in-Ok-clause-called : goal.returns-in-Ok-clause-called
+returns-in-Ok-clause-called g c a h =
+    let k = c.args.link.number in
+    let source = c.in-Some.read.source in
+    let known = c.args.self.now.known in
+    line_whole g.W.Wire.asked c.args.self.now.wire (get nat_cmp known) (get nat_cmp c.insert.new.self) c.args.self.now.presses c.args.link source a (updated_put known c.insert.new.self k (Some source) c.in-Ok.ensures.updates) h
+
+pub returns-in_default-clause-called : goal.returns-in_default-clause-called
+returns-in_default-clause-called g c a h = c.break_off.ensures.called Whole a h
+
+pub returns-in-Err-clause-called : goal.returns-in-Err-clause-called
+returns-in-Err-clause-called g c a h =
+    let known = c.args.self.now.known in
+    c.break_off-in-Err.ensures.called Whole a
+    (same_known g.W.Wire.asked c.args.self.now.wire (get nat_cmp known) (get nat_cmp c.insert.new.self) c.args.self.now.presses c.args.link Whole a (entries_same known c.insert.new.self (search rules)) h)

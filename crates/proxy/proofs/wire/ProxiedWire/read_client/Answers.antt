@@ -5,6 +5,10 @@ use Rattle.serving.specs.Wires.{at_port, has_read, counted}
 use Rattle.serving.specs.declared.wire.Port.TheVariants.{Pop}
 use Rattle.proxy.specs.Proxied.{IsKnown, TellsProxy}
 use Rattle.proxy.proofs.Telling.{known_read, some_there, counted_none, within_any}
+use Rattle.std.proofs.Common.{◌∷◌, ◌++◌, false, refl}
+use Rattle.serving.specs.Calls.{Read}
+use Rattle.proxy.specs.Behind.{AskedBehind}
+use Rattle.proxy.proofs.HandingOn.{hands_on, known_whole, none_known}
 use Rattle.proxy.proofs.wire.ProxiedWire.read_client.Goals as goal
 
 pub returns-then-contains_key-clause-told : goal.returns-then-contains_key-clause-told
@@ -26,3 +30,21 @@ returns-clause-told g c u h =
     let k = c.args.link.number in
     let io = c.read_line.result in
     subst (λ xs. TellsProxy g.W.Wire.tells r.wire (get nat_cmp r.begun) (get nat_cmp r.known) (at_port Pop (λ of. has_read of k io xs) u)) (sym (counted_none io c.args.buffer.now c.read_line.ensures.within)) (c.read_line.ensures.told u h)
+
+pub returns-then-contains_key-clause-called : goal.returns-then-contains_key-clause-called
+returns-then-contains_key-clause-called g c a h =
+    let k = c.args.link.number in
+    let known = get nat_cmp c.args.self.now.known in
+    let octets = counted c.read.result c.read.new.buffer in
+    let there : is_some (known k) ≡ true = sym c.contains_key.ensures ∙ c.if-contains_key.true in
+    hands_on g.W.Wire.asked c.args.self.now.wire c.read.new.self known c.args.self.now.presses a (Read Pop c.args.link c.read.result octets) refl
+    (λ inside so. known_whole (known k) k inside there (so k)) c.read.ensures.called h
+
+pub returns-clause-called : goal.returns-clause-called
+returns-clause-called g c a h =
+    let r = c.read_line.new.self in
+    let k = c.args.link.number in
+    let io = c.read_line.result in
+    let away : is_some (get nat_cmp c.args.self.now.known k) ≡ false = sym c.contains_key.ensures ∙ c.if-contains_key.false in
+    subst (λ xs. AskedBehind g.W.Wire.asked r.wire (get nat_cmp r.known) r.presses (a ++ Read Pop c.args.link io xs ∷ [])) (sym (counted_none io c.args.buffer.now c.read_line.ensures.within))
+    (c.read_line.ensures.called a (none_known _ away) h)

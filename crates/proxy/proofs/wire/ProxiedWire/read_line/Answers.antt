@@ -1,4 +1,4 @@
-use Rattle.std.proofs.Common.{◌≡◌, ◌∙◌, sym, ap, subst, IfSome, Some, None, false}
+use Rattle.std.proofs.Common.{◌≡◌, ◌∙◌, refl, sym, ap, subst, IfSome, Some, None, false}
 use Rattle.std.specs.Ordering.{nat_cmp}
 use Rattle.std.specs.BTreeMap.{get}
 use Rattle.serving.specs.Wires.{is_fault}
@@ -6,6 +6,9 @@ use Rattle.serving.specs.declared.wire.Io.TheVariants.{End, Broken}
 use Rattle.proxy.specs.declared.wire.Progress.TheVariants.{Whole, Open}
 use Rattle.proxy.specs.Proxied.{IsBegun, IsAsFarAs}
 use Rattle.proxy.proofs.Telling.{reads_on, updated_put, as_later}
+use Rattle.serving.specs.Wires.{counted}
+use Rattle.proxy.specs.Behind.{AskedAmid}
+use Rattle.proxy.proofs.HandingOn.{amid, looked_first, line_open}
 use Rattle.proxy.proofs.wire.ProxiedWire.read_line.Goals as goal
 
 pub returns-in-Whole-clause-told : goal.returns-in-Whole-clause-told
@@ -80,3 +83,53 @@ returns-in-Open-Count-clause-told g c u (t, h, a) =
     let x = reads_on g.W.Wire.tells c.read_octets.new.wire b b' known k c.in-Some.begun.line.items now c.read_octets.result (Open c.in-Open-Count.field-0) t u c.in-Open-Count.is a so put (c.read_octets.ensures.told t (c.look.ensures.told t h)) far in
     let fine : is_fault c.in-Open-Count.field-0 ≡ false = ap is_fault c.in-Open-Count.field-0-is in
     c.keep-in-Open-Count.ensures.told u (x.0, x.1, as_later b' known x.0 u k c.in-Open-Count.field-0 fine x.2, x.3, x.4) (subst (λ p. IsAsFarAs p now) c.in-Open-Count.is far)
+
+pub returns-in-Whole-clause-called : goal.returns-in-Whole-clause-called
+returns-in-Whole-clause-called g c a none h =
+    let known = get nat_cmp c.args.self.now.known in
+    let presses = c.args.self.now.presses in
+    let w = c.read_octets.new.wire in
+    let p = c.read_octets.result in
+    let m = amid g.W.Wire.asked c.args.self.now.wire w known presses c.args.link p a h none
+    (λ b k. looked_first g.W.Wire.asked w c.args.link c.look.result (counted c.look.result c.look.new.buffer) p b (c.read_octets.ensures.called _ (c.look.ensures.called b k))) in
+    c.learn.ensures.called a (subst (λ q. AskedAmid g.W.Wire.asked w known presses c.args.link q a) c.in-Whole.is m)
+
+pub returns-in-Open-End-clause-called : goal.returns-in-Open-End-clause-called
+returns-in-Open-End-clause-called g c a none h =
+    let known = get nat_cmp c.args.self.now.known in
+    let presses = c.args.self.now.presses in
+    let w = c.read_octets.new.wire in
+    let p = c.read_octets.result in
+    let m = amid g.W.Wire.asked c.args.self.now.wire w known presses c.args.link p a h none
+    (λ b k. looked_first g.W.Wire.asked w c.args.link c.look.result (counted c.look.result c.look.new.buffer) p b (c.read_octets.ensures.called _ (c.look.ensures.called b k))) in
+    line_open g.W.Wire.asked w known presses c.args.link End End a refl (subst (λ q. AskedAmid g.W.Wire.asked w known presses c.args.link q a) (c.in-Open-End.is ∙ ap Open c.in-Open-End.field-0-is) m)
+
+pub returns-in-Open-Broken-clause-called : goal.returns-in-Open-Broken-clause-called
+returns-in-Open-Broken-clause-called g c a none h =
+    let known = get nat_cmp c.args.self.now.known in
+    let presses = c.args.self.now.presses in
+    let w = c.read_octets.new.wire in
+    let p = c.read_octets.result in
+    let m = amid g.W.Wire.asked c.args.self.now.wire w known presses c.args.link p a h none
+    (λ b k. looked_first g.W.Wire.asked w c.args.link c.look.result (counted c.look.result c.look.new.buffer) p b (c.read_octets.ensures.called _ (c.look.ensures.called b k))) in
+    line_open g.W.Wire.asked w known presses c.args.link Broken Broken a refl (subst (λ q. AskedAmid g.W.Wire.asked w known presses c.args.link q a) (c.in-Open-Broken.is ∙ ap Open c.in-Open-Broken.field-0-is) m)
+
+pub returns-in-Open-Later-clause-called : goal.returns-in-Open-Later-clause-called
+returns-in-Open-Later-clause-called g c a none h =
+    let known = get nat_cmp c.args.self.now.known in
+    let presses = c.args.self.now.presses in
+    let w = c.read_octets.new.wire in
+    let p = c.read_octets.result in
+    let m = amid g.W.Wire.asked c.args.self.now.wire w known presses c.args.link p a h none
+    (λ b k. looked_first g.W.Wire.asked w c.args.link c.look.result (counted c.look.result c.look.new.buffer) p b (c.read_octets.ensures.called _ (c.look.ensures.called b k))) in
+    c.keep.ensures.called c.in-Open-Later.field-0 a (ap is_fault c.in-Open-Later.field-0-is) (subst (λ q. AskedAmid g.W.Wire.asked w known presses c.args.link q a) c.in-Open-Later.is m)
+
+pub returns-in-Open-Count-clause-called : goal.returns-in-Open-Count-clause-called
+returns-in-Open-Count-clause-called g c a none h =
+    let known = get nat_cmp c.args.self.now.known in
+    let presses = c.args.self.now.presses in
+    let w = c.read_octets.new.wire in
+    let p = c.read_octets.result in
+    let m = amid g.W.Wire.asked c.args.self.now.wire w known presses c.args.link p a h none
+    (λ b k. looked_first g.W.Wire.asked w c.args.link c.look.result (counted c.look.result c.look.new.buffer) p b (c.read_octets.ensures.called _ (c.look.ensures.called b k))) in
+    c.keep-in-Open-Count.ensures.called c.in-Open-Count.field-0 a (ap is_fault c.in-Open-Count.field-0-is) (subst (λ q. AskedAmid g.W.Wire.asked w known presses c.args.link q a) c.in-Open-Count.is m)

@@ -1,9 +1,12 @@
-use Rattle.std.proofs.Common.{◌≡◌, [], false, subst, ap, ⊎_elim}
+use Rattle.std.proofs.Common.{◌≡◌, [], false, refl, subst, ap, ⊎_elim}
 use Rattle.std.specs.Ordering.{nat_cmp}
 use Rattle.std.specs.BTreeMap.{get}
 use Rattle.serving.specs.Wires.{at_port, has_read, is_fault}
 use Rattle.serving.specs.declared.wire.Port.TheVariants.{Pop}
 use Rattle.proxy.proofs.Telling.{none_read, counted_none, as_later}
+use Rattle.serving.specs.declared.wire.Io.TheVariants.{End, Broken}
+use Rattle.proxy.specs.declared.wire.Progress.TheVariants.{Open}
+use Rattle.proxy.proofs.HandingOn.{none_taken, amid, line_open}
 use Rattle.proxy.proofs.wire.ProxiedWire.refuse.Goals as goal
 
 pub returns-in-Later-clause-told : goal.returns-in-Later-clause-told
@@ -21,3 +24,25 @@ returns-in-Later-clause-told g c u (t, h, a) =
       told,
       as_later begun known (at_port Pop (λ of. has_read of k io []) t) u k io fine (none_read begun known t u k io a),
     )
+
+pub returns-in-End-clause-called : goal.returns-in-End-clause-called
+returns-in-End-clause-called g c a none h =
+    let known = get nat_cmp c.args.self.now.known in
+    let presses = c.args.self.now.presses in
+    line_open g.W.Wire.asked c.read.new.self known presses c.args.link End End a refl
+    (amid g.W.Wire.asked c.args.self.now.wire c.read.new.self known presses c.args.link (Open End) a h none (λ b k. none_taken g.W.Wire.asked c.read.new.self c.args.link End c.read.new.buffer b c.in-End.ensures.within (c.in-End.ensures.called b k)))
+
+pub returns-in-Broken-clause-called : goal.returns-in-Broken-clause-called
+returns-in-Broken-clause-called g c a none h =
+    let known = get nat_cmp c.args.self.now.known in
+    let presses = c.args.self.now.presses in
+    line_open g.W.Wire.asked c.read.new.self known presses c.args.link Broken Broken a refl
+    (amid g.W.Wire.asked c.args.self.now.wire c.read.new.self known presses c.args.link (Open Broken) a h none (λ b k. none_taken g.W.Wire.asked c.read.new.self c.args.link Broken c.read.new.buffer b c.in-Broken.ensures.within (c.in-Broken.ensures.called b k)))
+
+pub returns-in-Later-clause-called : goal.returns-in-Later-clause-called
+returns-in-Later-clause-called g c a none h =
+    let known = get nat_cmp c.args.self.now.known in
+    let presses = c.args.self.now.presses in
+    let io = c.read.result in
+    c.break_off.ensures.called (Open io) a
+    (amid g.W.Wire.asked c.args.self.now.wire c.read.new.self known presses c.args.link (Open io) a h none (λ b k. none_taken g.W.Wire.asked c.read.new.self c.args.link io c.read.new.buffer b c.read.ensures.within (c.read.ensures.called b k)))

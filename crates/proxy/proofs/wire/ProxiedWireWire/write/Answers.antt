@@ -1,0 +1,13 @@
+use Rattle.std.proofs.Common.{refl}
+use Rattle.std.specs.Ordering.{nat_cmp}
+use Rattle.std.specs.BTreeMap.{get}
+use Rattle.serving.specs.Calls.{Call, Waited, Accepted, Looked, Read, Wrote, Closed}
+use Rattle.serving.specs.Wires.{counted}
+use Rattle.proxy.proofs.HandingOn.{hands_on}
+use Rattle.proxy.proofs.wire.ProxiedWireWire.write.Goals as goal
+
+pub returns-clause-called : goal.returns-clause-called
+returns-clause-called g c a h =
+    let known = get nat_cmp c.args.self.now.known in
+    let presses = c.args.self.now.presses in
+    hands_on g.W.Wire.asked c.args.self.now.wire c.write.new.self known presses a (Wrote c.args.port c.args.link c.write.result (counted c.write.result c.args.octets.now)) refl (λ inside so. tt) c.write.ensures.called h
