@@ -29,7 +29,7 @@ use Rattle.mailsql.proofs.TypedLemmas as typed
 use Rattle.mailsql.proofs.EqualLemmas.{column_int, column_test}
 use Rattle.sqlite_sql.specs.declared.ops.CompareOp.TheVariants.{Ge, Lt}
 use Rattle.mailsql.proofs.FindLemmas.{and_true}
-use Rattle.mailsql.proofs.ReadLemmas.{Asks, kept, sound, listed, everything_listed}
+use Rattle.mailsql.proofs.ReadLemmas.{Asks, kept, sound, listed}
 
 pub add_sheet_is : (c : Bool) → command_of (understood (schema_of c) st.add_sheet_text) ≡ st.add_sheet_command
 unfolding understood everything

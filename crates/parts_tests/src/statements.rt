@@ -73,7 +73,11 @@ fn is_taken_once(store: &mut Store) -> Result<bool, Error> {
 // Whether the maildrops are these two, in order of arrival.
 fn are_maildrops(alloc: Global, store: &mut Store) -> Result<bool, Error> {
     let all = maildrops::all_maildrops(alloc, store)?;
-    Ok(all.len() == 2 && all[0].as_slice() == b"orders" && all[1].as_slice() == b"Books")
+    Ok(
+        all.len() == 2
+            && all[0].as_slice() == b"orders".as_slice()
+            && all[1].as_slice() == b"Books".as_slice(),
+    )
 }
 
 // Drops the first maildrop. Whether it alone is gone.

@@ -8,11 +8,11 @@ use Rattle.std.proofs.lemmas.Bool.{cases_Bool, and_parts}
 use Rattle.std.proofs.lemmas.List.Folds.{list_all-map}
 use Rattle.creds.specs.Names.{is_name}
 use Rattle.creds.specs.declared.credential.Credential.{Credential}
-use Rattle.policy.specs.Policy.{are_distinct, Policy, is_sound_policy}
+use Rattle.policy.specs.Policy.{are_distinct}
 use Rattle.vault.specs.declared.fault.VaultFault.{VaultFault}
 use Rattle.vault.specs.declared.record.Clerk.{Clerk}
 use Rattle.vault.specs.Records.{credential_in, is_sound_clerk, is_sound_credential, most_clerks}
-use Rattle.vault.specs.Changes.{Contents, AreSound, with_credential, with_clerk, without_clerk, with_clerks, with_policy, put_clerk_answer}
+use Rattle.vault.specs.Changes.{Contents, AreSound, with_credential, with_clerk, without_clerk, with_clerks, put_clerk_answer}
 use Rattle.vault.specs.Calls.{IsAnswer, put_result}
 use Rattle.vault.proofs.ListLemmas.{all_last, all_weaker, all_filter, distinct_last, distinct_filter, distinct-map, distinct_alike, filter_fits, length-map, any_in, found_none}
 use Rattle.vault.proofs.MaildropLemmas.{had_room}

@@ -1,4 +1,4 @@
-use Rattle.std.proofs.Common.{false, not, sym, ap, ◌∙◌, true≢false}
+use Rattle.std.proofs.Common.{not, sym, ap, ◌∙◌, true≢false}
 use Rattle.sqlite.specs.Held.{state}
 use Rattle.sqlvault.proofs.AdoptLemmas.{unknown, outside, blank_of, kept_of, settled_so}
 use Rattle.sqlvault.proofs.AdoptLemmas.{own_untaken, own_marked, left_inside}
