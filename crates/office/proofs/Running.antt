@@ -9,7 +9,7 @@ use Rattle.office.specs.Outcomes.{HasCause}
 use Rattle.office.specs.Outcomes as outcomes
 use Rattle.office.specs.Stands.{vault_of}
 use Rattle.office.specs.Stopping.{IsAnswered, StopLeaves}
-use Rattle.office.specs.Runs.{Step, IsStep, AreSteps, followed, Follows, Enters, EntersSo, Ran, HaveCauses, AreAnswered, StopLeavesRun, one_if_failed, failures_in, FailuresAreCounted}
+use Rattle.office.specs.Runs.{Step, IsStep, AreSteps, followed, Follows, Enters, EntersSo, Ran, HaveCauses, AreAnswered, StopLeavesRun, one_if_failed, FailuresAreCounted}
 use Rattle.office.specs.declared.event.Event.{Event}
 use Rattle.office.specs.declared.event.Outcome.{Outcome}
 use Rattle.office.specs.declared.office.Office.{Office}

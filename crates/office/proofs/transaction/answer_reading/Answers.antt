@@ -1,4 +1,4 @@
-use Rattle.std.proofs.Common.{◌≡◌, ap, sym, subst, Result, Err, ◌∙◌}
+use Rattle.std.proofs.Common.{◌≡◌, ap, sym, subst, Result, ◌∙◌}
 use Rattle.popline.specs.Commands.{Command}
 use Rattle.popline.specs.declared.command.LineFault.{LineFault}
 use Rattle.popline.specs.Seen.{reply_seen}
