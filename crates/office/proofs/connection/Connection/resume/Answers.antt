@@ -1,4 +1,4 @@
-use Rattle.std.proofs.Common.{◌≡◌, ◌+◌, ◌-◌, ◌≤◌, ◌++◌, true, drop, drop-drop, take, take_all, length, length-drop, arith, sym, ◌∙◌, ap, string_bytes, subst, rules, false}
+use Rattle.std.proofs.Common.{◌≡◌, ◌+◌, ◌-◌, ◌≤◌, true, drop, drop-drop, take, take_all, length, length-drop, arith, sym, ◌∙◌, ap, string_bytes, subst, rules, false}
 use Rattle.popline.specs.Cutting.{fed, through_newline}
 use Rattle.office.specs.Output.{OwesIf, OwesReply}
 use Rattle.popline.specs.Seen.{cut_seen}
