@@ -5,7 +5,7 @@ use Rattle.std.proofs.lemmas.List.Splits.{slice_split_first, slice_split_none}
 use Rattle.std.proofs.lemmas.List.Sums.{fails_before_first}
 use Rattle.std.proofs.lemmas.Str.{is_utf8-from_IsUtf8, IsUtf8-from_is_utf8}
 use Rattle.std.specs.List.{slice_split, position_or_len}
-use Rattle.std.specs.Prelude.{option_map, IsOkAnd, IsErrAnd}
+use Rattle.std.specs.Prelude.{option_map, ok_or, IfOk, IfErr, IsOkAnd, IsErrAnd}
 use Rattle.std.specs.Str.{IsUtf8, is_utf8}
 use Rattle.policy.specs.Policy.{Policy}
 use Rattle.policy.specs.PolicyText.{rules_of}
@@ -14,7 +14,29 @@ use Rattle.policy.specs.declared.fault.PolicyFault.TheVariants.{NotToml}
 use Rattle.office.specs.Answers.{SetPolicy}
 use Rattle.office.specs.Events.{Admin}
 use Rattle.converse.specs.PolicyFile.{IsPolicyText, IsFaultOf}
-use Rattle.converse.specs.Script.{ScriptLine, Does, NoPolicy, set_or_fault, policy_line, cut_at, line_asks, asks_then, lines_ask}
+use Rattle.converse.specs.declared.script.Line.{Line}
+use Rattle.converse.specs.LinePlaces.{read_seen}
+use Rattle.converse.specs.Script.{line_seen, ScriptLine, Does, NoPolicy, set_or_fault, policy_line, cut_at, line_asks, asks_then, lines_ask}
+
+-- ---- a part of a line, or the place of the word at fault
+
+pub asked_of : {A : Type 0} (o : Option A) (n : ℕ) (x : A) → Ok x ≡ ok_or o n → o ≡ Some x
+asked_of (Some y) n x h = let e : x ≡ y = cc in ap Some (sym e)
+asked_of None n x h = absurd (cc)
+
+pub none_of : {A : Type 0} (o : Option A) (n m : ℕ) → Err m ≡ ok_or o n → (o ≡ None) × (m ≡ n)
+none_of None n m h = let e : m ≡ n = cc in (refl, e)
+none_of (Some y) n m h = absurd (cc)
+
+pub read_ok : {E : Type 0} (r : Result (Result Line ℕ) E) (o : Option ScriptLine) (n : ℕ) → IfOk r (λ read. read_seen read ≡ ok_or o n) → IfOk r (λ read. IfOk read (λ asks. o ≡ Some (line_seen asks)))
+read_ok (Err e) o n h = tt
+read_ok (Ok (Ok line)) o n h = asked_of o n (line_seen line) h
+read_ok (Ok (Err at)) o n h = tt
+
+pub read_fault : {E : Type 0} (r : Result (Result Line ℕ) E) (o : Option ScriptLine) (n : ℕ) → IfOk r (λ read. read_seen read ≡ ok_or o n) → IfOk r (λ read. IfErr read (λ at. (o ≡ None) × (n ≡ at)))
+read_fault (Err e) o n h = tt
+read_fault (Ok (Ok line)) o n h = tt
+read_fault (Ok (Err at)) o n h = let p = none_of o n at h in (p.0, sym p.1)
 
 -- ---- a policy's text
 

@@ -9,6 +9,7 @@ pub mod PolicyFile
 pub mod Told
 pub mod Escapes
 pub mod Script
+pub mod LinePlaces
 pub mod Runs
 pub mod Played
 pub mod Reviewed

@@ -2,10 +2,12 @@
 //! at the end.
 
 ghost use Rattle.std.specs.Prelude.{◌≡◌, ◌==◌, ◌+◌, ◌*◌, ◌<◌, ◌≤◌, ◌≢◌, MatchOption, length};
-ghost use Rattle.std.specs.Prelude.{vec_len, IfOk, IfSome, SomeIff, option_map, option_copied, []};
+ghost use Rattle.std.specs.Prelude.{vec_len, IfOk, IfErr, IfSome, SomeIff, Some, None, []};
+ghost use Rattle.std.specs.Prelude.{option_map, option_copied};
 ghost use Rattle.std.specs.Char.{digit_value};
 ghost use Rattle.std.specs.List.{position};
 ghost use Rattle.converse.specs.Escapes.{behind_backslash, led, unescaped};
+ghost use Rattle.converse.specs.LinePlaces.{lacks_from};
 ghost use Rattle.converse.specs.Script.{cut_at as parts_at, two_fields, four_fields};
 
 use std::alloc::{AllocError, Global};
@@ -42,14 +44,18 @@ pub fn take_field(line: &[u8]) -> Option<(&[u8], &[u8])>
     }
 }
 
-/// Three fields, and what stands behind the space after the third.
-pub fn take_fields(line: &[u8]) -> Option<(&[u8], &[u8], &[u8], &[u8])>
-    ensures { option_map (λ r. (r.0.now, r.1.now, r.2.now, r.3.now)) result ≡ four_fields line.now }
+/// Three fields, and what stands behind the space after the third; or the number, from 1, of the
+/// first that isn't there.
+pub fn take_fields(line: &[u8]) -> Result<(&[u8], &[u8], &[u8], &[u8]), usize>
+    ensures ok { IfOk result (λ r. four_fields line.now
+        ≡ Some (r.0.now, r.1.now, r.2.now, r.3.now)) }
+    ensures missing { IfErr result (λ n. (four_fields line.now ≡ None)
+        × (lacks_from line.now ≡ n)) }
 {
-    let (first, rest) = take_field(line)?;
-    let (second, rest) = take_field(rest)?;
-    let (third, rest) = take_field(rest)?;
-    Some((first, second, third, rest))
+    let (first, rest) = take_field(line).ok_or(2usize)?;
+    let (second, rest) = take_field(rest).ok_or(3usize)?;
+    let (third, rest) = take_field(rest).ok_or(4usize)?;
+    Ok((first, second, third, rest))
 }
 
 /// The octets that a TEXT stands for. `None` where a `\` begins no escape.

@@ -3,10 +3,15 @@
 //! Lines end at LF; empty lines and lines that begin with `#` are skipped, and counted.
 
 ghost use Rattle.std.specs.Prelude.{◌≡◌, ◌+◌, ◌<◌, ◌≤◌, ◌∷◌, ◌++◌, ℕ, length, map, IfOk, OnOk};
-ghost use Rattle.std.specs.Prelude.{IsOkAnd, option_map};
+ghost use Rattle.std.specs.Prelude.{IsOkAnd, IfErr, Some, None, option_copied, option_map, ok_or};
 ghost use Rattle.office.specs.Events.{Admin};
 ghost use Rattle.converse.specs.Escapes.{unescaped};
-ghost use Rattle.converse.specs.Script.{Does, script_of, line_asks, line_seen, line_of, word_line};
+ghost use Rattle.converse.specs.LinePlaces.{clerk_place, command_place, deposit_place};
+ghost use Rattle.converse.specs.LinePlaces.{explain_place, maildrop_place, number_first};
+ghost use Rattle.converse.specs.LinePlaces.{number_place, place_by, place_of, read_seen};
+ghost use Rattle.converse.specs.LinePlaces.{secret_place, text_place};
+ghost use Rattle.converse.specs.Script.{Does, script_of, line_asks, line_by, line_seen, line_of};
+ghost use Rattle.converse.specs.Script.{word_line};
 ghost use Rattle.converse.specs.Script.{text_line, number_line, bytes_line, took_line};
 ghost use Rattle.converse.specs.Script.{deposit_line, clerk_command, secret_of_clerk, policy_line};
 ghost use Rattle.converse.specs.Script.{command_of, maildrop_command, explain_command};
@@ -120,11 +125,11 @@ fn read_into(
         return Ok(());
     }
     match read_line(alloc, line)? {
-        Some(line) => {
+        Ok(line) => {
             lines.push(line)?;
             Ok(())
         }
-        None => Err(ScriptFault::BadEvent(number)),
+        Err(_) => Err(ScriptFault::BadEvent(number)),
     }
 }
 
@@ -135,11 +140,30 @@ fn is_skipped(line: &[u8]) -> bool
     line.is_empty() || line.starts_with(b"#")
 }
 
-/// Reads a line without its LF. `None` where it is of no form.
-fn read_line(alloc: Global, line: &[u8]) -> Result<Option<Line>, AllocError>
-    ensures { IfOk result (λ read. option_map line_seen read ≡ line_of line.now) }
+/// Reads a line without its LF, which isn't skipped. An inner `Err` says that it is of no form, and
+/// which of its words is at fault: the first that isn't there, or else the first that hasn't its
+/// form. Words are counted from 0, with one space between them; the last field of a form is all
+/// that is left of the line. A word alone that is no event lacks the next one.
+pub fn read_line(alloc: Global, line: &[u8]) -> Result<Result<Line, usize>, AllocError>
+    ensures ok { IfOk result (λ read. IfOk read (λ asks. line_of line.now
+        ≡ Some (line_seen asks))) }
+    ensures fault { IfOk result (λ read. IfErr read (λ at. (line_of line.now ≡ None)
+        × (place_of line.now ≡ at))) }
 {
     let (keyword, rest) = cut_at(line, SPACE);
+    read_parts(alloc, keyword, rest)
+}
+
+/// Reads a line by its keyword and what stands behind that, if something does.
+fn read_parts(
+    alloc: Global,
+    keyword: &[u8],
+    rest: Option<&[u8]>,
+) -> Result<Result<Line, usize>, AllocError>
+    ensures { IfOk result (λ read. read_seen read
+        ≡ ok_or (line_by (keyword.now, option_copied rest.entry))
+        (place_by (keyword.now, option_copied rest.entry))) }
+{
     match rest {
         Some(rest) => read_with_text(alloc, keyword, rest),
         None => Ok(read_word(keyword)),
@@ -147,27 +171,32 @@ fn read_line(alloc: Global, line: &[u8]) -> Result<Option<Line>, AllocError>
 }
 
 /// Reads a line that is a keyword alone.
-fn read_word(keyword: &[u8]) -> Option<Line>
-    ensures { option_map line_seen result ≡ word_line keyword.now }
+fn read_word(keyword: &[u8]) -> Result<Line, usize>
+    ensures { read_seen result ≡ ok_or (word_line keyword.now) 1 }
 {
     if keyword == b"connect".as_slice() {
-        Some(Line::Connect)
+        Ok(Line::Connect)
     } else if keyword == b"maildrops".as_slice() {
-        Some(Line::Admin(AdminCommand::ListMaildrops))
+        Ok(Line::Admin(AdminCommand::ListMaildrops))
     } else if keyword == b"policy".as_slice() {
-        Some(Line::Admin(AdminCommand::ShowPolicy))
+        Ok(Line::Admin(AdminCommand::ShowPolicy))
     } else if keyword == b"groups".as_slice() {
-        Some(Line::Admin(AdminCommand::ListGroups))
+        Ok(Line::Admin(AdminCommand::ListGroups))
     } else if keyword == b"sessions".as_slice() {
-        Some(Line::Admin(AdminCommand::ListSessions))
+        Ok(Line::Admin(AdminCommand::ListSessions))
     } else {
-        None
+        Err(1)
     }
 }
 
 /// Reads a line by its keyword and what stands behind that, which can end with a TEXT.
-fn read_with_text(alloc: Global, keyword: &[u8], rest: &[u8]) -> Result<Option<Line>, AllocError>
-    ensures { IfOk result (λ read. option_map line_seen read ≡ text_line keyword.now rest.now) }
+fn read_with_text(
+    alloc: Global,
+    keyword: &[u8],
+    rest: &[u8],
+) -> Result<Result<Line, usize>, AllocError>
+    ensures { IfOk result (λ read. read_seen read
+        ≡ ok_or (text_line keyword.now rest.now) (text_place keyword.now rest.now)) }
 {
     if keyword == b"bytes".as_slice() {
         read_bytes(alloc, rest)
@@ -183,70 +212,74 @@ fn read_with_text(alloc: Global, keyword: &[u8], rest: &[u8]) -> Result<Option<L
 }
 
 /// Reads a line that has no TEXT.
-fn read_numbers(keyword: &[u8], rest: &[u8]) -> Option<Line>
-    ensures { option_map line_seen result ≡ number_line keyword.now rest.now }
+fn read_numbers(keyword: &[u8], rest: &[u8]) -> Result<Line, usize>
+    ensures { read_seen result
+        ≡ ok_or (number_line keyword.now rest.now) (number_place keyword.now rest.now) }
 {
     if keyword == b"took".as_slice() {
         read_took(rest)
     } else if keyword == b"drain".as_slice() {
-        Some(Line::Drain(read_number(rest)?))
+        Ok(Line::Drain(read_number(rest).ok_or(1usize)?))
     } else if keyword == b"gone".as_slice() {
-        Some(Line::Gone(read_number(rest)?))
+        Ok(Line::Gone(read_number(rest).ok_or(1usize)?))
     } else if keyword == b"tick".as_slice() {
-        Some(Line::Tick(read_number(rest)?))
+        Ok(Line::Tick(read_number(rest).ok_or(1usize)?))
     } else if keyword == b"restart".as_slice() {
-        Some(Line::Restart(read_number(rest)?))
+        Ok(Line::Restart(read_number(rest).ok_or(1usize)?))
     } else {
         read_command(keyword, rest)
     }
 }
 
 /// `C TEXT`, behind `bytes`.
-fn read_bytes(alloc: Global, rest: &[u8]) -> Result<Option<Line>, AllocError>
-    ensures { IfOk result (λ read. option_map line_seen read ≡ bytes_line rest.now) }
+fn read_bytes(alloc: Global, rest: &[u8]) -> Result<Result<Line, usize>, AllocError>
+    ensures { IfOk result (λ read. read_seen read
+        ≡ ok_or (bytes_line rest.now) (number_first rest.now)) }
 {
     let Some((number, text)) = take_field(rest) else {
-        return Ok(None);
+        return Ok(Err(2));
     };
     let Some(number) = read_number(number) else {
-        return Ok(None);
+        return Ok(Err(1));
     };
     let Some(octets) = unescape(alloc, text)? else {
-        return Ok(None);
+        return Ok(Err(2));
     };
-    Ok(Some(Line::Bytes(number, octets)))
+    Ok(Ok(Line::Bytes(number, octets)))
 }
 
 /// `C N`, behind `took`.
-fn read_took(rest: &[u8]) -> Option<Line>
-    ensures { option_map line_seen result ≡ took_line rest.now }
+fn read_took(rest: &[u8]) -> Result<Line, usize>
+    ensures { read_seen result ≡ ok_or (took_line rest.now) (number_first rest.now) }
 {
-    let (number, count) = take_field(rest)?;
-    let number = read_number(number)?;
-    let count = read_number(count)?;
-    Some(Line::Took(number, count as usize))
+    let (number, count) = take_field(rest).ok_or(2usize)?;
+    let number = read_number(number).ok_or(1usize)?;
+    let count = read_number(count).ok_or(2usize)?;
+    Ok(Line::Took(number, count as usize))
 }
 
 /// `MAILDROP CLASS ID TEXT`, behind `deposit`.
-fn read_deposit(alloc: Global, rest: &[u8]) -> Result<Option<Line>, AllocError>
-    ensures { IfOk result (λ read. option_map line_seen read ≡ deposit_line rest.now) }
+fn read_deposit(alloc: Global, rest: &[u8]) -> Result<Result<Line, usize>, AllocError>
+    ensures { IfOk result (λ read. read_seen read
+        ≡ ok_or (deposit_line rest.now) (deposit_place rest.now)) }
 {
-    let Some((maildrop, class, id, text)) = take_fields(rest) else {
-        return Ok(None);
+    let (maildrop, class, id, text) = match take_fields(rest) {
+        Ok(fields) => fields,
+        Err(place) => return Ok(Err(place)),
     };
     let Some(maildrop) = Name::read(maildrop) else {
-        return Ok(None);
+        return Ok(Err(1));
     };
     let Some(class) = Name::read(class) else {
-        return Ok(None);
+        return Ok(Err(2));
     };
     let Some(id) = DepositId::read(id) else {
-        return Ok(None);
+        return Ok(Err(3));
     };
     let Some(text) = unescape(alloc, text)? else {
-        return Ok(None);
+        return Ok(Err(4));
     };
-    Ok(Some(Line::Deposit {
+    Ok(Ok(Line::Deposit {
         maildrop,
         class,
         id,
@@ -255,116 +288,131 @@ fn read_deposit(alloc: Global, rest: &[u8]) -> Result<Option<Line>, AllocError>
 }
 
 /// `apop NAME TEXT`, `pass NAME TEXT`, `drop NAME` or `show NAME`, behind `clerk`.
-fn read_clerk(alloc: Global, rest: &[u8]) -> Result<Option<Line>, AllocError>
-    ensures { IfOk result (λ read. option_map line_seen read
-        ≡ option_map (λ command. Does (Admin command)) (clerk_command rest.now)) }
+fn read_clerk(alloc: Global, rest: &[u8]) -> Result<Result<Line, usize>, AllocError>
+    ensures { IfOk result (λ read. read_seen read
+        ≡ ok_or (option_map (λ command. Does (Admin command)) (clerk_command rest.now))
+        (clerk_place rest.now)) }
 {
     let Some((word, rest)) = take_field(rest) else {
-        return Ok(None);
+        return Ok(Err(2));
     };
     if word == b"apop".as_slice() {
-        let Some((clerk, secret)) = read_secret(alloc, rest)? else {
-            return Ok(None);
-        };
-        Ok(Some(Line::Admin(AdminCommand::PutClerk(clerk, Credential::Apop(secret)))))
+        match read_secret(alloc, rest)? {
+            Ok((clerk, secret)) => {
+                Ok(Ok(Line::Admin(AdminCommand::PutClerk(clerk, Credential::Apop(secret)))))
+            }
+            Err(place) => Ok(Err(place)),
+        }
     } else if word == b"pass".as_slice() {
-        let Some((clerk, password)) = read_secret(alloc, rest)? else {
-            return Ok(None);
-        };
-        let digest = pass_digest(&clerk, password.as_bytes());
-        Ok(Some(Line::Admin(AdminCommand::PutClerk(clerk, Credential::Pass(digest)))))
+        match read_secret(alloc, rest)? {
+            Ok((clerk, password)) => {
+                let digest = pass_digest(&clerk, password.as_bytes());
+                Ok(Ok(Line::Admin(AdminCommand::PutClerk(clerk, Credential::Pass(digest)))))
+            }
+            Err(place) => Ok(Err(place)),
+        }
     } else if word == b"drop".as_slice() {
         let Some(clerk) = Name::read(rest) else {
-            return Ok(None);
+            return Ok(Err(2));
         };
-        Ok(Some(Line::Admin(AdminCommand::DropClerk(clerk))))
+        Ok(Ok(Line::Admin(AdminCommand::DropClerk(clerk))))
     } else if word == b"show".as_slice() {
         let Some(clerk) = Name::read(rest) else {
-            return Ok(None);
+            return Ok(Err(2));
         };
-        Ok(Some(Line::Admin(AdminCommand::ShowClerk(clerk))))
+        Ok(Ok(Line::Admin(AdminCommand::ShowClerk(clerk))))
     } else {
-        Ok(None)
+        Ok(Err(1))
     }
 }
 
 /// `NAME TEXT`, behind `clerk apop` or `clerk pass`: a clerk's name, and a secret or a password.
-fn read_secret(alloc: Global, rest: &[u8]) -> Result<Option<(Name, Secret)>, AllocError>
-    ensures { IfOk result (λ read. read ≡ secret_of_clerk rest.now) }
+fn read_secret(alloc: Global, rest: &[u8]) -> Result<Result<(Name, Secret), usize>, AllocError>
+    ensures ok { IfOk result (λ read. IfOk read (λ pair. secret_of_clerk rest.now ≡ Some pair)) }
+    ensures fault { IfOk result (λ read. IfErr read (λ at. (secret_of_clerk rest.now ≡ None)
+        × (secret_place rest.now ≡ at))) }
 {
     let Some((clerk, text)) = take_field(rest) else {
-        return Ok(None);
+        return Ok(Err(3));
     };
     let Some(secret) = unescape(alloc, text)? else {
-        return Ok(None);
+        return Ok(Err(3));
     };
     let Some(clerk) = Name::read(clerk) else {
-        return Ok(None);
+        return Ok(Err(2));
     };
     let Some(secret) = Secret::read(secret.as_slice()) else {
-        return Ok(None);
+        return Ok(Err(3));
     };
-    Ok(Some((clerk, secret)))
+    Ok(Ok((clerk, secret)))
 }
 
 /// `TEXT`, behind `policy`: a policy's text, or one with a fault.
-fn read_policy(alloc: Global, text: &[u8]) -> Result<Option<Line>, AllocError>
-    ensures { IfOk result (λ read. option_map line_seen read
-        ≡ option_map policy_line (unescaped text.now)) }
+fn read_policy(alloc: Global, text: &[u8]) -> Result<Result<Line, usize>, AllocError>
+    ensures { IfOk result (λ read. read_seen read
+        ≡ ok_or (option_map policy_line (unescaped text.now)) 1) }
 {
     let Some(octets) = unescape(alloc, text)? else {
-        return Ok(None);
+        return Ok(Err(1));
     };
     match read_octets(alloc, octets.as_slice()) {
-        Ok(policy) => Ok(Some(Line::Admin(AdminCommand::SetPolicy(policy)))),
-        Err(Fault::NoPolicy(fault)) => Ok(Some(Line::NoPolicy(fault))),
+        Ok(policy) => Ok(Ok(Line::Admin(AdminCommand::SetPolicy(policy)))),
+        Err(Fault::NoPolicy(fault)) => Ok(Ok(Line::NoPolicy(fault))),
         Err(_) => Err(AllocError),
     }
 }
 
 /// A command whose line has no TEXT, by its keyword and what stands behind that.
-fn read_command(keyword: &[u8], rest: &[u8]) -> Option<Line>
-    ensures { option_map line_seen result ≡ option_map (λ command. Does (Admin command))
-        (command_of keyword.now rest.now) }
+fn read_command(keyword: &[u8], rest: &[u8]) -> Result<Line, usize>
+    ensures { read_seen result ≡ ok_or (option_map (λ command. Does (Admin command))
+        (command_of keyword.now rest.now)) (command_place keyword.now rest.now) }
 {
     if keyword == b"maildrop".as_slice() {
         read_maildrop(rest)
     } else if keyword == b"list".as_slice() {
-        Some(Line::Admin(AdminCommand::ShowMaildrop(Name::read(rest)?)))
+        let maildrop = Name::read(rest).ok_or(1usize)?;
+        Ok(Line::Admin(AdminCommand::ShowMaildrop(maildrop)))
     } else if keyword == b"end".as_slice() {
-        Some(Line::Admin(AdminCommand::EndSession(read_number(rest)?)))
+        let number = read_number(rest).ok_or(1usize)?;
+        Ok(Line::Admin(AdminCommand::EndSession(number)))
     } else if keyword == b"explain".as_slice() {
         read_explain(rest)
     } else {
-        None
+        Err(0)
     }
 }
 
 /// `add NAME` or `drop NAME`, behind `maildrop`.
-fn read_maildrop(rest: &[u8]) -> Option<Line>
-    ensures { option_map line_seen result ≡ option_map (λ command. Does (Admin command))
-        (maildrop_command rest.now) }
+fn read_maildrop(rest: &[u8]) -> Result<Line, usize>
+    ensures { read_seen result ≡ ok_or (option_map (λ command. Does (Admin command))
+        (maildrop_command rest.now)) (maildrop_place rest.now) }
 {
-    let (word, name) = take_field(rest)?;
+    let (word, name) = take_field(rest).ok_or(2usize)?;
     if word == b"add".as_slice() {
-        Some(Line::Admin(AdminCommand::AddMaildrop(Name::read(name)?)))
+        let maildrop = Name::read(name).ok_or(2usize)?;
+        Ok(Line::Admin(AdminCommand::AddMaildrop(maildrop)))
     } else if word == b"drop".as_slice() {
-        Some(Line::Admin(AdminCommand::DropMaildrop(Name::read(name)?)))
+        let maildrop = Name::read(name).ok_or(2usize)?;
+        Ok(Line::Admin(AdminCommand::DropMaildrop(maildrop)))
     } else {
-        None
+        Err(1)
     }
 }
 
 /// `CLERK MAILDROP CLASS ACTION`, behind `explain`.
-fn read_explain(rest: &[u8]) -> Option<Line>
-    ensures { option_map line_seen result ≡ option_map (λ command. Does (Admin command))
-        (explain_command rest.now) }
+fn read_explain(rest: &[u8]) -> Result<Line, usize>
+    ensures { read_seen result ≡ ok_or (option_map (λ command. Does (Admin command))
+        (explain_command rest.now)) (explain_place rest.now) }
 {
     let (clerk, maildrop, class, action) = take_fields(rest)?;
-    Some(Line::Admin(AdminCommand::Explain {
-        clerk: Name::read(clerk)?,
-        maildrop: Name::read(maildrop)?,
-        class: Name::read(class)?,
-        action: Action::read(action)?,
+    let clerk = Name::read(clerk).ok_or(1usize)?;
+    let maildrop = Name::read(maildrop).ok_or(2usize)?;
+    let class = Name::read(class).ok_or(3usize)?;
+    let action = Action::read(action).ok_or(4usize)?;
+    Ok(Line::Admin(AdminCommand::Explain {
+        clerk,
+        maildrop,
+        class,
+        action,
     }))
 }
