@@ -189,10 +189,10 @@ module _ {W : Type 0} (Asked : W → List Call → Type 0) where
     pressed = λ e. absurd (true≢false (sym e));
   }
 
-  pub hands_on : (w w' : W) (known : ℕ → Option (Option IpAddr)) (presses : Bool) (calls : List Call) (call : Call) → is_wait call ≡ false
+  pub hands_on : (w w' : W) (known : ℕ → Option (Option IpAddr)) (hurries : Bool) (calls : List Call) (call : Call) → is_wait call ≡ false
       → ((inside : List Call) → ((k : ℕ) → IsSo (known k) k inside) → IsBehindLine inside call) → ((before : List Call) → Asked w before → Asked w' (before ++ call ∷ []))
-      → AskedBehind Asked w known presses calls → AskedBehind Asked w' known presses (calls ++ call ∷ [])
-  hands_on w w' known presses calls call wait free called a =
+      → AskedBehind Asked w known hurries calls → AskedBehind Asked w' known hurries (calls ++ call ∷ [])
+  hands_on w w' known hurries calls call wait free called a =
       let b = free a.inside a.known_so in
       record {
         inside = a.inside ++ call ∷ [];
@@ -202,9 +202,9 @@ module _ {W : Type 0} (Asked : W → List Call → Type 0) where
         pressed = λ e. pressed_on a.inside call wait (a.pressed e);
       }
 
-  pub hands_wait : (w w' : W) (known : ℕ → Option (Option IpAddr)) (presses : Bool) (calls : List Call) (millis : ℕ)
-      → ((before : List Call) → Asked w before → Asked w' (before ++ Waited (if presses then 0 else millis) ∷ []))
-      → AskedBehind Asked w known presses calls → AskedBehind Asked w' known false (calls ++ Waited millis ∷ [])
+  pub hands_wait : (w w' : W) (known : ℕ → Option (Option IpAddr)) (hurries : Bool) (calls : List Call) (millis : ℕ)
+      → ((before : List Call) → Asked w before → Asked w' (before ++ Waited (if hurries then 0 else millis) ∷ []))
+      → AskedBehind Asked w known hurries calls → AskedBehind Asked w' known false (calls ++ Waited millis ∷ [])
   hands_wait w w' known true calls millis called a = record {
     inside = a.inside ++ Waited 0 ∷ [];
     asked = called a.inside a.asked;
@@ -220,10 +220,10 @@ module _ {W : Type 0} (Asked : W → List Call → Type 0) where
     pressed = λ e. absurd (true≢false (sym e));
   }
 
-  pub hands_close : (w w' : W) (known known' : ℕ → Option (Option IpAddr)) (presses : Bool) (calls : List Call) (link : Link) → IsPut known link.number None known'
+  pub hands_close : (w w' : W) (known known' : ℕ → Option (Option IpAddr)) (hurries : Bool) (calls : List Call) (link : Link) → IsPut known link.number None known'
       → ((before : List Call) → Asked w before → Asked w' (before ++ Closed Pop link ∷ []))
-      → AskedBehind Asked w known presses calls → AskedBehind Asked w' known' presses (calls ++ Closed Pop link ∷ [])
-  hands_close w w' known known' presses calls link put called a = record {
+      → AskedBehind Asked w known hurries calls → AskedBehind Asked w' known' hurries (calls ++ Closed Pop link ∷ [])
+  hands_close w w' known known' hurries calls link put called a = record {
     inside = a.inside ++ Closed Pop link ∷ [];
     asked = called a.inside a.asked;
     behind = IsHandedOn a.inside calls (Closed Pop link) tt a.behind;
@@ -238,9 +238,9 @@ module _ {W : Type 0} (Asked : W → List Call → Type 0) where
       closes_it : (link : Link) → list_any (ends_on link.number) (Closed Pop link ∷ []) ≡ true
       closes_it link = ap (λ b. b || false) (eq-eqb link.number link.number refl)
 
-  pub keeps_back : (w : W) (known : ℕ → Option (Option IpAddr)) (presses : Bool) (calls : List Call) (link : Link) → known link.number ≡ None
-      → AskedBehind Asked w known presses calls → AskedBehind Asked w known presses (calls ++ Looked Pop link Later [] ∷ [])
-  keeps_back w known presses calls link none a = record {
+  pub keeps_back : (w : W) (known : ℕ → Option (Option IpAddr)) (hurries : Bool) (calls : List Call) (link : Link) → known link.number ≡ None
+      → AskedBehind Asked w known hurries calls → AskedBehind Asked w known hurries (calls ++ Looked Pop link Later [] ∷ [])
+  keeps_back w known hurries calls link none a = record {
     inside = a.inside;
     asked = a.asked;
     behind = IsKeptBack a.inside calls link (subst (λ o. IsSo o link.number a.inside) none (a.known_so link.number)) a.behind;
@@ -316,9 +316,9 @@ module _ {W : Type 0} (Asked : W → List Call → Type 0) where
     are = record { own = (refl, a.are.own); reads = a.are.reads; far = a.are.far; over = a.are.over };
   }
 
-  pub amid : (w w' : W) (known : ℕ → Option (Option IpAddr)) (presses : Bool) (link : Link) (p : Progress) (calls : List Call) → AskedBehind Asked w known presses calls → known link.number ≡ None
-      → ((before : List Call) → Asked w before → TakesLine Asked w' link p before) → AskedAmid Asked w' known presses link p calls
-  amid w w' known presses link p calls a none takes = record {
+  pub amid : (w w' : W) (known : ℕ → Option (Option IpAddr)) (hurries : Bool) (link : Link) (p : Progress) (calls : List Call) → AskedBehind Asked w known hurries calls → known link.number ≡ None
+      → ((before : List Call) → Asked w before → TakesLine Asked w' link p before) → AskedAmid Asked w' known hurries link p calls
+  amid w w' known hurries link p calls a none takes = record {
     inside = a.inside;
     takes = takes a.inside a.asked;
     behind = a.behind;
@@ -328,9 +328,9 @@ module _ {W : Type 0} (Asked : W → List Call → Type 0) where
   }
 
   -- sources are known as before
-  pub same_known : (w : W) (known known' : ℕ → Option (Option IpAddr)) (presses : Bool) (link : Link) (p : Progress) (calls : List Call) → ((j : ℕ) → known' j ≡ known j)
-      → AskedAmid Asked w known presses link p calls → AskedAmid Asked w known' presses link p calls
-  same_known w known known' presses link p calls same a = record {
+  pub same_known : (w : W) (known known' : ℕ → Option (Option IpAddr)) (hurries : Bool) (link : Link) (p : Progress) (calls : List Call) → ((j : ℕ) → known' j ≡ known j)
+      → AskedAmid Asked w known hurries link p calls → AskedAmid Asked w known' hurries link p calls
+  same_known w known known' hurries link p calls same a = record {
     inside = a.inside;
     takes = a.takes;
     behind = a.behind;
@@ -346,20 +346,20 @@ module _ {W : Type 0} (Asked : W → List Call → Type 0) where
   pressed_still : (link : Link) (inside taken : List Call) → AreOnLine link taken → ends_line false inside ≡ true → ends_line false (inside ++ taken) ≡ true
   pressed_still link inside taken own e = ends_append false inside taken ∙ (ap (λ b. ends_line b taken) e ∙ ends_still link taken own)
 
-  awaits : (w : W) (known : ℕ → Option (Option IpAddr)) (presses : Bool) (link : Link) (p : Progress) (calls : List Call) (a : AskedAmid Asked w known presses link p calls) → IsLineAwaited link.number a.inside
-  awaits w known presses link p calls a = subst (λ o. IsSo o link.number a.inside) a.unknown (a.known_so link.number)
+  awaits : (w : W) (known : ℕ → Option (Option IpAddr)) (hurries : Bool) (link : Link) (p : Progress) (calls : List Call) (a : AskedAmid Asked w known hurries link p calls) → IsLineAwaited link.number a.inside
+  awaits w known hurries link p calls a = subst (λ o. IsSo o link.number a.inside) a.unknown (a.known_so link.number)
 
   -- a line that isn't whole yet
-  pub line_open : (w : W) (known : ℕ → Option (Option IpAddr)) (presses : Bool) (link : Link) (was io : Io) (calls : List Call) → is_fault was ≡ is_fault io → AskedAmid Asked w known presses link (Open was) calls
-      → AskedBehind Asked w known presses (calls ++ Read Pop link io [] ∷ [])
-  line_open w known presses link was io calls same a =
+  pub line_open : (w : W) (known : ℕ → Option (Option IpAddr)) (hurries : Bool) (link : Link) (was io : Io) (calls : List Call) → is_fault was ≡ is_fault io → AskedAmid Asked w known hurries link (Open was) calls
+      → AskedBehind Asked w known hurries (calls ++ Read Pop link io [] ∷ [])
+  line_open w known hurries link was io calls same a =
       let k = link.number in
       let t = a.takes in
       record {
         inside = a.inside ++ t.taken;
         asked = t.asked;
         behind = IsOfLine a.inside t.taken calls link io
-            (record { awaited = awaits w known presses link (Open was) calls a; own = t.are.own; reads = t.are.reads; line = nothing_behind_so_far (Open was) (read_on k t.taken) t.are.far; over = t.are.over ∙ same }) a.behind;
+            (record { awaited = awaits w known hurries link (Open was) calls a; own = t.are.own; reads = t.are.reads; line = nothing_behind_so_far (Open was) (read_on k t.taken) t.are.far; over = t.are.over ∙ same }) a.behind;
         known_so = λ j. ⊎_elim
             (λ (e : j ≡ k). so_still (known j) j a.inside t.taken (λ n. subst (λ i. has_line (read_on i t.taken) ≡ false) (sym e) t.are.far) (a.known_so j))
             (λ (ne : j ≡ k → ⊥). others_so link (known j) j a.inside t.taken t.are.own ne (a.known_so j))
@@ -368,9 +368,9 @@ module _ {W : Type 0} (Asked : W → List Call → Type 0) where
       }
 
   -- one that is, and tells a source
-  pub line_whole : (w : W) (known known' : ℕ → Option (Option IpAddr)) (presses : Bool) (link : Link) (source : Option IpAddr) (calls : List Call) → IsPut known link.number (Some source) known'
-      → AskedAmid Asked w known presses link Whole calls → AskedBehind Asked w known' true (calls ++ Read Pop link Later [] ∷ [])
-  line_whole w known known' presses link source calls put a =
+  pub line_whole : (w : W) (known known' : ℕ → Option (Option IpAddr)) (hurries : Bool) (link : Link) (source : Option IpAddr) (calls : List Call) → IsPut known link.number (Some source) known'
+      → AskedAmid Asked w known hurries link Whole calls → AskedBehind Asked w known' true (calls ++ Read Pop link Later [] ∷ [])
+  line_whole w known known' hurries link source calls put a =
       let k = link.number in
       let t = a.takes in
       let has : has_line (read_on k t.taken) ≡ true = ap has_line t.are.far.1 ∙ whole_has t.are.far.0 in
@@ -378,7 +378,7 @@ module _ {W : Type 0} (Asked : W → List Call → Type 0) where
         inside = a.inside ++ t.taken;
         asked = t.asked;
         behind = IsOfLine a.inside t.taken calls link Later
-            (record { awaited = awaits w known presses link Whole calls a; own = t.are.own; reads = t.are.reads; line = nothing_behind_so_far Whole (read_on k t.taken) t.are.far; over = t.are.over }) a.behind;
+            (record { awaited = awaits w known hurries link Whole calls a; own = t.are.own; reads = t.are.reads; line = nothing_behind_so_far Whole (read_on k t.taken) t.are.far; over = t.are.over }) a.behind;
         known_so = λ j. ⊎_elim
             (λ (e : j ≡ k). subst (λ i. IsSo (known' i) i (a.inside ++ t.taken)) (sym e) (subst (λ o. IsSo o k (a.inside ++ t.taken)) (sym put.there) (whole_now k a.inside t.taken has)))
             (λ (ne : j ≡ k → ⊥). subst (λ o. IsSo o j (a.inside ++ t.taken)) (sym (put.others j ne)) (others_so link (known j) j a.inside t.taken t.are.own ne (a.known_so j)))
@@ -387,9 +387,9 @@ module _ {W : Type 0} (Asked : W → List Call → Type 0) where
       }
 
   -- its link is closed
-  pub line_broken : (w w' : W) (known : ℕ → Option (Option IpAddr)) (presses : Bool) (link : Link) (p : Progress) (calls : List Call) → ((before : List Call) → Asked w before → Asked w' (before ++ Closed Pop link ∷ []))
-      → AskedAmid Asked w known presses link p calls → AskedBehind Asked w' known presses (calls ++ Read Pop link Broken [] ∷ [])
-  line_broken w w' known presses link p calls called a =
+  pub line_broken : (w w' : W) (known : ℕ → Option (Option IpAddr)) (hurries : Bool) (link : Link) (p : Progress) (calls : List Call) → ((before : List Call) → Asked w before → Asked w' (before ++ Closed Pop link ∷ []))
+      → AskedAmid Asked w known hurries link p calls → AskedBehind Asked w' known hurries (calls ++ Read Pop link Broken [] ∷ [])
+  line_broken w w' known hurries link p calls called a =
       let k = link.number in
       let t = a.takes in
       let taken = t.taken ++ Closed Pop link ∷ [] in
@@ -402,7 +402,7 @@ module _ {W : Type 0} (Asked : W → List Call → Type 0) where
         asked = subst (Asked w') (append_assoc a.inside t.taken (Closed Pop link ∷ [])) (called (a.inside ++ t.taken) t.asked);
         behind = IsOfLine a.inside taken calls link Broken
             (record {
-              awaited = awaits w known presses link p calls a;
+              awaited = awaits w known hurries link p calls a;
               own = own;
               reads = list_any-append is_read t.taken (Closed Pop link ∷ []) ∙ ap (λ b. b || false) t.are.reads;
               line = ap behind_line same ∙ nothing_behind_so_far p (read_on k t.taken) t.are.far;

@@ -108,12 +108,12 @@ IsSo None k calls = IsLineAwaited k calls
 
 -- the calls inside were so, where these sources are known, and a line perhaps came to its end
 pub record AskedBehind {W : Type 0} (Asked : W → List Call → Type 0) (wire : W)
-    (known : ℕ → Option (Option IpAddr)) (presses : Bool) (calls : List Call) : Type 0 where
+    (known : ℕ → Option (Option IpAddr)) (hurries : Bool) (calls : List Call) : Type 0 where
   pub inside : List Call
   pub asked : Asked wire inside
   pub behind : AreBehindLines inside calls
   pub known_so : (k : ℕ) → IsSo (known k) k inside
-  pub pressed : presses ≡ true → ends_line false inside ≡ true
+  pub pressed : hurries ≡ true → ends_line false inside ≡ true
 
 -- ---- a line that is read
 
@@ -133,11 +133,11 @@ pub record TakesLine {W : Type 0} (Asked : W → List Call → Type 0) (wire : W
 
 -- so it is within a read of which nothing is told yet
 pub record AskedAmid {W : Type 0} (Asked : W → List Call → Type 0) (wire : W)
-    (known : ℕ → Option (Option IpAddr)) (presses : Bool) (link : Link) (progress : Progress)
+    (known : ℕ → Option (Option IpAddr)) (hurries : Bool) (link : Link) (progress : Progress)
     (calls : List Call) : Type 0 where
   pub inside : List Call
   pub takes : TakesLine Asked wire link progress inside
   pub behind : AreBehindLines inside calls
   pub known_so : (k : ℕ) → IsSo (known k) k inside
-  pub pressed : presses ≡ true → ends_line false inside ≡ true
+  pub pressed : hurries ≡ true → ends_line false inside ≡ true
   pub unknown : known link.number ≡ None

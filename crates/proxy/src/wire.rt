@@ -69,14 +69,14 @@ pub struct ProxiedWire<W: Wire, C: Clock> {
     /// The sources that lines told, by the numbers of their links.
     known: BTreeMap<u64, Option<IpAddr>>,
     /// A line was read whole since the last wait, and more may lie behind it.
-    presses: bool,
+    hurries: bool,
 }
 
 /// How long a wait is: no time where a line was read whole, and more may lie behind it.
-fn wait_of(presses: bool, millis: u32) -> u32
-    ensures { result ≡ (if presses then 0 else millis) }
+fn wait_of(hurries: bool, millis: u32) -> u32
+    ensures { result ≡ (if hurries then 0 else millis) }
 {
-    if presses { 0 } else { millis }
+    if hurries { 0 } else { millis }
 }
 
 /// Reads the next octet of a line.
@@ -139,14 +139,14 @@ impl<W: Wire, C: Clock> ProxiedWire<W, C> {
             → TellsProxy W.tells result.wire (get nat_cmp result.begun) (get nat_cmp result.known)
             t }
         ensures asked { W.asked wire [] → AskedBehind W.asked result.wire
-            (get nat_cmp result.known) result.presses [] }
+            (get nat_cmp result.known) result.hurries [] }
     {
         ProxiedWire {
             wire,
             clock,
             begun: BTreeMap::new(alloc),
             known: BTreeMap::new(alloc),
-            presses: false,
+            hurries: false,
         }
     }
 
@@ -169,9 +169,9 @@ impl<W: Wire, C: Clock> ProxiedWire<W, C> {
         ensures broken { result ≡ TheBroken }
         ensures called { (far : HowFar) (a : List Call)
             → AskedAmid W.asked self.old.wire (get nat_cmp self.old.known)
-            self.old.presses link far a
+            self.old.hurries link far a
             → AskedBehind W.asked self.new.wire (get nat_cmp self.new.known)
-            self.new.presses (a ++ call.Read ThePop link result [] ∷ []) }
+            self.new.hurries (a ++ call.Read ThePop link result [] ∷ []) }
     {
         self.wire.close(Port::Pop, link);
         Io::Broken
@@ -188,9 +188,9 @@ impl<W: Wire, C: Clock> ProxiedWire<W, C> {
         ensures within { IsWithin 0 result }
         ensures called { (a : List Call) → get nat_cmp self.old.known link.number ≡ None
             → AskedBehind W.asked self.old.wire (get nat_cmp self.old.known)
-            self.old.presses a
+            self.old.hurries a
             → AskedBehind W.asked self.new.wire (get nat_cmp self.new.known)
-            self.new.presses (a ++ call.Read ThePop link result [] ∷ []) }
+            self.new.hurries (a ++ call.Read ThePop link result [] ∷ []) }
     {
         let mut none = [0u8; 0];
         match self.wire.read(Port::Pop, link, &mut none) {
@@ -211,9 +211,9 @@ impl<W: Wire, C: Clock> ProxiedWire<W, C> {
         ensures within { IsWithin 0 result }
         ensures called { (io : AnIo) (a : List Call) → is_fault io ≡ false
             → AskedAmid W.asked self.old.wire (get nat_cmp self.old.known)
-            self.old.presses link (Progress.Open io) a
+            self.old.hurries link (Progress.Open io) a
             → AskedBehind W.asked self.new.wire (get nat_cmp self.new.known)
-            self.new.presses (a ++ call.Read ThePop link result [] ∷ []) }
+            self.new.hurries (a ++ call.Read ThePop link result [] ∷ []) }
     {
         if begun.line.is_full() {
             return self.break_off(link);
@@ -237,16 +237,16 @@ impl<W: Wire, C: Clock> ProxiedWire<W, C> {
         ensures within { IsWithin 0 result }
         ensures called { (a : List Call)
             → AskedAmid W.asked self.old.wire (get nat_cmp self.old.known)
-            self.old.presses link Progress.Whole a
+            self.old.hurries link Progress.Whole a
             → AskedBehind W.asked self.new.wire (get nat_cmp self.new.known)
-            self.new.presses (a ++ call.Read ThePop link result [] ∷ []) }
+            self.new.hurries (a ++ call.Read ThePop link result [] ∷ []) }
     {
         let Some(read) = ProxyLine::read(line) else {
             return self.break_off(link);
         };
         match self.known.insert(link.number, read.source) {
             Ok(_) => {
-                self.presses = true;
+                self.hurries = true;
                 Io::Later
             }
             Err(_) => self.break_off(link),
@@ -263,9 +263,9 @@ impl<W: Wire, C: Clock> ProxiedWire<W, C> {
         ensures within { IsWithin 0 result }
         ensures called { (a : List Call) → get nat_cmp self.old.known link.number ≡ None
             → AskedBehind W.asked self.old.wire (get nat_cmp self.old.known)
-            self.old.presses a
+            self.old.hurries a
             → AskedBehind W.asked self.new.wire (get nat_cmp self.new.known)
-            self.new.presses (a ++ call.Read ThePop link result [] ∷ []) }
+            self.new.hurries (a ++ call.Read ThePop link result [] ∷ []) }
     {
         let Some(mut begun) = self.begun.remove(&link.number) else {
             return self.refuse(link);
@@ -294,9 +294,9 @@ impl<W: Wire, C: Clock> ProxiedWire<W, C> {
             (get nat_cmp self.new.known) (at_port ThePop
             (λ of. has_read of link.number result (counted result buffer.new)) u) }
         ensures called { (a : List Call)
-            → AskedBehind W.asked self.old.wire (get nat_cmp self.old.known) self.old.presses a
+            → AskedBehind W.asked self.old.wire (get nat_cmp self.old.known) self.old.hurries a
             → AskedBehind W.asked self.new.wire (get nat_cmp self.new.known)
-            self.new.presses
+            self.new.hurries
             (a ++ call.Read ThePop link result (counted result buffer.new) ∷ []) }
     {
         if self.known.contains_key(&link.number) {
@@ -314,9 +314,9 @@ impl<W: Wire, C: Clock> ProxiedWire<W, C> {
             → TellsProxy W.tells self.new.wire (get nat_cmp self.new.begun)
             (get nat_cmp self.new.known) (at_port ThePop has_accepted u) }
         ensures called { (a : List Call)
-            → AskedBehind W.asked self.old.wire (get nat_cmp self.old.known) self.old.presses a
+            → AskedBehind W.asked self.old.wire (get nat_cmp self.old.known) self.old.hurries a
             → AskedBehind W.asked self.new.wire (get nat_cmp self.new.known)
-            self.new.presses a }
+            self.new.hurries a }
     {
         let begun = Begun {
             line: ArrayVec::new(),
@@ -330,14 +330,14 @@ impl<W: Wire, C: Clock> Wire for ProxiedWire<W, C> {
     ghost tells = { λ r u. TellsProxy W.tells r.wire (get nat_cmp r.begun) (get nat_cmp r.known)
         u };
 
-    ghost asked = { λ r calls. AskedBehind W.asked r.wire (get nat_cmp r.known) r.presses calls };
+    ghost asked = { λ r calls. AskedBehind W.asked r.wire (get nat_cmp r.known) r.hurries calls };
 
     ghost tells_once = { λ r u v a b. proxy_once W.tells W.tells_once r.wire (get nat_cmp r.begun)
         (get nat_cmp r.known) u v a b };
 
     fn wait(&mut self, millis: u32) {
-        let wait = wait_of(self.presses, millis);
-        self.presses = false;
+        let wait = wait_of(self.hurries, millis);
+        self.hurries = false;
         self.wire.wait(wait);
     }
 

@@ -39,7 +39,7 @@ pub use file_name::{FileName, names_read_back};
 pub use file_notes::FileNotes;
 pub use folder_spool::FolderSpool;
 pub use links::{Links, MOST_LINKS, Seat};
-pub use listener::{Listener, NoListener};
+pub use listener::{Asked, Listener, NoListener};
 pub use noted_spool::NotedSpool;
 pub use noted_wire::NotedWire;
 pub use notes::Notes;

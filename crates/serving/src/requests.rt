@@ -5,10 +5,11 @@ ghost use Rattle.std.specs.Prelude.{not, if◌then◌else◌, OnErr};
 ghost use Rattle.vault.specs.Records.{Records};
 ghost use Rattle.office.specs.Events.{Log};
 ghost use Rattle.office.specs.Taken.{trace_of};
-ghost use Rattle.office.specs.Shown.{command_seen, outcome_seen};
+ghost use Rattle.office.specs.Shown.{answer_seen, command_seen, outcome_seen};
 ghost use Rattle.office.specs.Stands.{StandsFor, vault_of};
 ghost use Rattle.adminhttp.specs.Request.{IsRequest};
-ghost use Rattle.adminhttp.specs.Responses.{refusal_response};
+ghost use Rattle.adminhttp.specs.Responses.{answer_response, refusal_response, fault_response};
+ghost use Rattle.adminhttp.specs.Contents.{response_of as response_of_content};
 ghost use Rattle.adminhttp.specs.declared.refusal.Refusal.TheVariants.{OutOfMemory};
 ghost use Rattle.serving.specs.HttpTurns.{is_late_at, most_exchanges, GoesOnAt, TheseGoOn};
 ghost use Rattle.serving.specs.HttpWorks.{ComeTo, GivesApart, DoesApart, AsksApart, HadTurnAt};
@@ -18,11 +19,15 @@ ghost use Rattle.serving.specs.Works.{Part, Also, HurriesBy};
 ghost use Rattle.serving.specs.Requests.{octets_of, IsToldBy, HasAsked, HasOneMore, StillAnswers};
 ghost use Rattle.serving.specs.Requests.{StillAsked, AllStillAnswer, AllStillAsked};
 
+use crate::listener::{Asked, Listener};
 use crate::octets::part_of;
 use crate::wire::{Io, Link, Port, Wire};
-use adminhttp::{Got, Refusal, Request, policy_response, response};
-use office::{AdminCommand, Event, Office, Outcome};
-use std::alloc::{AllocError, Global};
+use adminhttp::{
+    Content, Got, Method, Refusal, Request, RequestLine, Target, policy_response, response,
+};
+use office::{AdminCommand, Answer, Event, Office, Outcome};
+use policy::PolicyFault;
+use std::alloc::Global;
 use vault::Vault;
 
 /// How many links of the administration may be open at once.
@@ -142,30 +147,46 @@ impl Requests {
     }
 }
 
-/// The response of these octets; where there was no memory for them, the one for want of memory.
-fn made(octets: Result<Vec<u8>, AllocError>) -> Response
-    ensures { (wanted : List ℕ) → IfOk octets (λ made. made.items ≡ wanted)
-        → (octets_of result ≡ wanted) ⊎ (octets_of result ≡ refusal_response OutOfMemory) }
+/// The fixed response of a refusal, and what it tells.
+fn fixed<'a>(refusal: Refusal) -> (Response, Content<'a>)
+    ensures response { octets_of result.0 ≡ refusal_response refusal }
+    ensures content { octets_of result.0 ≡ response_of_content result.1 }
 {
-    match octets {
-        Ok(octets) => Response::Made(octets),
-        Err(_) => Response::Fixed(Refusal::OutOfMemory),
+    (Response::Fixed(refusal), Content::Refusal(refusal))
+}
+
+/// The response to an answer, and what it tells.
+fn response_to_answer<'a>(alloc: Global, answer: &'a Answer) -> (Response, Content<'a>)
+    ensures told { (octets_of result.0 ≡ answer_response (answer_seen answer.now))
+        ⊎ (octets_of result.0 ≡ refusal_response OutOfMemory) }
+    ensures content { octets_of result.0 ≡ response_of_content result.1 }
+{
+    match response(alloc, answer) {
+        Ok(octets) => (Response::Made(octets), Content::Answer(answer)),
+        Err(_) => fixed(Refusal::OutOfMemory),
     }
 }
 
-/// The response to a command that had this outcome.
-fn response_to(alloc: Global, outcome: &Outcome) -> Response
-    ensures { IsToldBy (outcome_seen outcome.now) (octets_of result) }
+/// The response to a command that had this outcome, and what it tells.
+fn response_to<'a>(alloc: Global, outcome: &'a Outcome) -> (Response, Content<'a>)
+    ensures told { IsToldBy (outcome_seen outcome.now) (octets_of result.0) }
+    ensures content { octets_of result.0 ≡ response_of_content result.1 }
 {
     match outcome {
-        Outcome::Answered(answer) => made(response(alloc, answer)),
-        Outcome::NoMemory => Response::Fixed(Refusal::OutOfMemory),
-        _ => Response::Fixed(Refusal::StoreFailed),
+        Outcome::Answered(answer) => response_to_answer(alloc, answer),
+        Outcome::NoMemory => fixed(Refusal::OutOfMemory),
+        _ => fixed(Refusal::StoreFailed),
     }
 }
 
-/// Gives a command to the office, and makes the response.
-fn command<V: Vault>(alloc: Global, office: &mut Office<V>, command: &AdminCommand) -> Response
+/// Gives a command to the office, makes the response, and tells the listener.
+fn command<V: Vault, L: Listener>(
+    alloc: Global,
+    office: &mut Office<V>,
+    listener: &mut L,
+    link: Link,
+    command: &AdminCommand,
+) -> Response
     ensures works { (read : List ℕ) → IsRequest read (Ok (command_seen command.now))
         → GivesApart V.holds V.is_clean V.faults office.old office.new
         (ComeTo read (Some (octets_of result))) }
@@ -176,12 +197,68 @@ fn command<V: Vault>(alloc: Global, office: &mut Office<V>, command: &AdminComma
     ensures clean { V.is_clean (vault_of office.new) → V.is_clean (vault_of office.old) }
 {
     let outcome = office.step(Event::Admin(command));
-    response_to(alloc, &outcome)
+    let (response, content) = response_to(alloc, &outcome);
+    let line = Some(RequestLine::of(command));
+    listener.asked(link, &Asked { line, content });
+    response
+}
+
+/// The response to a request that is refused. Tells the listener.
+fn refuse<L: Listener>(
+    alloc: Global,
+    listener: &mut L,
+    link: Link,
+    read: &[u8],
+    refusal: Refusal,
+) -> Response
+    ensures { octets_of result ≡ refusal_response refusal }
+{
+    let line = RequestLine::read(alloc, read).unwrap_or(None);
+    let content = Content::Refusal(refusal);
+    listener.asked(link, &Asked { line, content });
+    Response::Fixed(refusal)
+}
+
+/// The response to a body that is no policy, and what it tells.
+fn response_to_fault<'a>(alloc: Global, fault: &PolicyFault) -> (Response, Content<'a>)
+    ensures told { (octets_of result.0 ≡ fault_response fault.now)
+        ⊎ (octets_of result.0 ≡ refusal_response OutOfMemory) }
+    ensures content { octets_of result.0 ≡ response_of_content result.1 }
+{
+    match policy_response(alloc, fault) {
+        Ok(octets) => (Response::Made(octets), Content::Fault(*fault)),
+        Err(_) => fixed(Refusal::OutOfMemory),
+    }
+}
+
+/// The response to a body that is no policy. Tells the listener.
+fn refuse_policy<L: Listener>(
+    alloc: Global,
+    listener: &mut L,
+    link: Link,
+    fault: &PolicyFault,
+) -> Response
+    ensures { (octets_of result ≡ fault_response fault.now)
+        ⊎ (octets_of result ≡ refusal_response OutOfMemory) }
+{
+    let (response, content) = response_to_fault(alloc, fault);
+    let line = Some(RequestLine {
+        method: Method::Put,
+        target: Target::Policy,
+    });
+    listener.asked(link, &Asked { line, content });
+    response
 }
 
 /// The response to what was read of a request; `None` while the request isn't whole. A command is
 /// given to the office.
-fn ask<V: Vault>(alloc: Global, office: &mut Office<V>, read: &[u8]) -> Option<Response>
+fn ask<V: Vault, L: Listener>(
+    alloc: Global,
+    office: &mut Office<V>,
+    listener: &mut L,
+    link: Link,
+    read: &[u8],
+) -> Option<Response>
     ensures works { GivesApart V.holds V.is_clean V.faults office.old office.new
         (ComeTo read.now (option_map octets_of result)) }
     ensures asked { (B : Records) (L : Log) → StandsFor V.holds office.old (trace_of B L)
@@ -191,17 +268,18 @@ fn ask<V: Vault>(alloc: Global, office: &mut Office<V>, read: &[u8]) -> Option<R
 {
     match Request::read(alloc, read) {
         Got::More => None,
-        Got::Bad(refusal) => Some(Response::Fixed(refusal)),
-        Got::BadPolicy(fault) => Some(made(policy_response(alloc, &fault))),
-        Got::Command(asked) => Some(command(alloc, office, &asked)),
-        Got::NoMemory => Some(Response::Fixed(Refusal::OutOfMemory)),
+        Got::Bad(refusal) => Some(refuse(alloc, listener, link, read, refusal)),
+        Got::BadPolicy(fault) => Some(refuse_policy(alloc, listener, link, &fault)),
+        Got::Command(asked) => Some(command(alloc, office, listener, link, &asked)),
+        Got::NoMemory => Some(refuse(alloc, listener, link, read, Refusal::OutOfMemory)),
     }
 }
 
 /// Takes a piece of a request, and makes the response once the request is whole or refused.
-fn take_piece<V: Vault>(
+fn take_piece<V: Vault, L: Listener>(
     alloc: Global,
     office: &mut Office<V>,
+    listener: &mut L,
     exchange: &mut Exchange,
     piece: &[u8],
 )
@@ -219,19 +297,23 @@ fn take_piece<V: Vault>(
     ensures written { exchange.new.written ≡ exchange.old.written }
     ensures over { exchange.new.is_over ≡ exchange.old.is_over }
 {
+    let link = exchange.link;
     if exchange.read.extend_from_slice(piece).is_err() {
-        exchange.response = Some(Response::Fixed(Refusal::OutOfMemory));
+        let read = exchange.read.as_slice();
+        let response = refuse(alloc, listener, link, read, Refusal::OutOfMemory);
+        exchange.response = Some(response);
         return;
     }
-    exchange.response = ask(alloc, office, exchange.read.as_slice());
+    exchange.response = ask(alloc, office, listener, link, exchange.read.as_slice());
 }
 
 /// Reads a piece of a request that isn't whole. The exchange is over where the link is at its end
 /// or broken.
-fn hear<V: Vault, W: Wire>(
+fn hear<V: Vault, W: Wire, L: Listener>(
     alloc: Global,
     office: &mut Office<V>,
     wire: &mut W,
+    listener: &mut L,
     exchange: &mut Exchange,
 )
     ensures works { DoesApart V.holds V.is_clean V.faults W.asked office.old wire.old office.new
@@ -250,7 +332,7 @@ fn hear<V: Vault, W: Wire>(
     }
     let mut room = [0; MOST_AT_ONCE];
     match wire.read(Port::Admin, exchange.link, &mut room) {
-        Io::Count(count) => take_piece(alloc, office, exchange, &room[..count]),
+        Io::Count(count) => take_piece(alloc, office, listener, exchange, &room[..count]),
         Io::Later => {}
         Io::End | Io::Broken => exchange.is_over = true,
     }
@@ -318,10 +400,11 @@ fn tell<W: Wire>(wire: &mut W, exchange: &mut Exchange) -> bool
 
 /// Reads of a request, and writes of its response. Whether more can be written at once. The
 /// exchange is over where its link was accepted 60 seconds ago or more.
-fn serve_exchange<V: Vault, W: Wire>(
+fn serve_exchange<V: Vault, W: Wire, L: Listener>(
     alloc: Global,
     office: &mut Office<V>,
     wire: &mut W,
+    listener: &mut L,
     exchange: &mut Exchange,
     now: u64,
 ) -> bool
@@ -340,14 +423,15 @@ fn serve_exchange<V: Vault, W: Wire>(
         exchange.is_over = true;
         return false;
     }
-    hear(alloc, office, wire, exchange);
+    hear(alloc, office, wire, listener, exchange);
     tell(wire, exchange)
 }
 
 /// Serves the link at one place, and closes it where its exchange is over. Whether it stays.
-fn serve_place<V: Vault, W: Wire>(
+fn serve_place<V: Vault, W: Wire, L: Listener>(
     office: &mut Office<V>,
     wire: &mut W,
+    listener: &mut L,
     requests: &mut Requests,
     place: usize,
     now: u64,
@@ -370,7 +454,7 @@ fn serve_place<V: Vault, W: Wire>(
     ensures stays { result ≡ true → GoesOnAt now requests.new.exchanges.items place }
 {
     let exchange = &mut requests.exchanges[place];
-    requests.hurries |= serve_exchange(requests.alloc, office, wire, exchange, now);
+    requests.hurries |= serve_exchange(requests.alloc, office, wire, listener, exchange, now);
     if !exchange.is_over {
         return true;
     }
@@ -381,9 +465,10 @@ fn serve_place<V: Vault, W: Wire>(
 
 /// Serves each link of the administration, in the order in which they were accepted, and closes
 /// those that are over.
-pub(crate) fn serve_requests<V: Vault, W: Wire>(
+pub(crate) fn serve_requests<V: Vault, W: Wire, L: Listener>(
     office: &mut Office<V>,
     wire: &mut W,
+    listener: &mut L,
     requests: &mut Requests,
     now: u64,
 )
@@ -401,7 +486,7 @@ pub(crate) fn serve_requests<V: Vault, W: Wire>(
     requests.hurries = false;
     let mut place = 0;
     while place < requests.exchanges.len() {
-        if serve_place(office, wire, requests, place, now) {
+        if serve_place(office, wire, listener, requests, place, now) {
             place += 1;
         }
     }

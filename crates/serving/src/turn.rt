@@ -654,7 +654,8 @@ fn millis_for(links: &Links) -> u32
 /// office the moment, in seconds; accepts the links that came, at most 64 at each port; serves each
 /// client's link, and then each link of the administration; ends the clients that took too long to
 /// log in; closes the links whose connections ended; and tries one file of the spool. The listener
-/// hears of each connection that is opened, and what was judged of what came on it.
+/// hears of each connection that is opened, what was judged of what came on it, and what the
+/// administration was asked.
 pub fn serve_turn<V: Vault, W: Wire, S: Spool, L: Listener>(
     links: &mut Links,
     wire: &mut W,
@@ -684,7 +685,7 @@ pub fn serve_turn<V: Vault, W: Wire, S: Spool, L: Listener>(
     accept_links(office, wire, listener, &mut links.clients, now);
     accept_requests(wire, &mut links.requests, MOST_LINKS, now);
     serve_links(office, wire, listener, &mut links.clients, now);
-    serve_requests(office, wire, &mut links.requests, now);
+    serve_requests(office, wire, listener, &mut links.requests, now);
     end_late_ones(office, wire, &mut links.clients, now);
     close_links(office, wire, &mut links.clients);
     serve_spool(office, spool, &mut links.clients);

@@ -1,7 +1,7 @@
-use Rattle.std.proofs.Common.{None, Some}
+use Rattle.std.proofs.Common.{◌≡◌, ℕ, List, None, Some, sym, subst}
 use Rattle.adminhttp.specs.Responses.{refusal_response}
 use Rattle.adminhttp.specs.declared.refusal.Refusal.TheVariants.{OutOfMemory}
-use Rattle.serving.specs.Requests.{octets_of, ToRefusal, ForMemory, NotYet, NoCommand}
+use Rattle.serving.specs.Requests.{octets_of, IsResponse, ToRefusal, ForMemory, NotYet, NoCommand}
 use Rattle.serving.proofs.Requesting.{asked_none, to_fault}
 use Rattle.serving.proofs.Quieting.{gives_none}
 use Rattle.serving.specs.HttpWorks.{ComeTo}
@@ -12,17 +12,21 @@ returns-in-More-clause-asked g c = λ B L stands clean. asked_none g.V.Vault.hol
 
 pub returns-in-Bad-clause-asked : goal.returns-in-Bad-clause-asked
 returns-in-Bad-clause-asked g c = λ B L stands clean.
-    asked_none g.V.Vault.holds B L c.args.read.now c.args.office.now (Some (refusal_response c.in-Bad.refusal)) stands
-    (NoCommand (refusal_response c.in-Bad.refusal) (ToRefusal c.in-Bad.refusal c.in-Bad.ensures))
+    (let response = octets_of c.refuse.result in
+    asked_none g.V.Vault.holds B L c.args.read.now c.args.office.now (Some response) stands
+    (NoCommand response (subst (λ (r : List ℕ). IsResponse B L c.args.read.now None r) (sym c.refuse.ensures) (ToRefusal c.in-Bad.refusal c.in-Bad.ensures))))
 
 pub returns-in-BadPolicy-clause-asked : goal.returns-in-BadPolicy-clause-asked
 returns-in-BadPolicy-clause-asked g c = λ B L stands clean.
-    asked_none g.V.Vault.holds B L c.args.read.now c.args.office.now (Some (octets_of c.made.result)) stands
-    (NoCommand (octets_of c.made.result) (to_fault B L c.args.read.now (octets_of c.made.result) c.in-BadPolicy.fault c.in-BadPolicy.ensures (c.made.ensures _ c.policy_response.ensures)))
+    (let response = octets_of c.refuse_policy.result in
+    asked_none g.V.Vault.holds B L c.args.read.now c.args.office.now (Some response) stands
+    (NoCommand response (to_fault B L c.args.read.now response c.in-BadPolicy.fault c.in-BadPolicy.ensures c.refuse_policy.ensures)))
 
 pub returns-in-NoMemory-clause-asked : goal.returns-in-NoMemory-clause-asked
 returns-in-NoMemory-clause-asked g c = λ B L stands clean.
-    asked_none g.V.Vault.holds B L c.args.read.now c.args.office.now (Some (refusal_response OutOfMemory)) stands (NoCommand (refusal_response OutOfMemory) ForMemory)
+    (let response = octets_of c.refuse-in-NoMemory.result in
+    asked_none g.V.Vault.holds B L c.args.read.now c.args.office.now (Some response) stands
+    (NoCommand response (subst (λ (r : List ℕ). IsResponse B L c.args.read.now None r) (sym c.refuse-in-NoMemory.ensures) ForMemory)))
 
 pub returns-in-More-clause-works : goal.returns-in-More-clause-works
 returns-in-More-clause-works g c =
@@ -30,16 +34,18 @@ returns-in-More-clause-works g c =
 
 pub returns-in-Bad-clause-works : goal.returns-in-Bad-clause-works
 returns-in-Bad-clause-works g c =
-    let response = refusal_response c.in-Bad.refusal in
-    gives_none g.V.Vault.holds g.V.Vault.is_clean g.V.Vault.faults c.args.office.now (ComeTo c.args.read.now (Some response)) (λ B L. record { place = None; is = NoCommand response (ToRefusal c.in-Bad.refusal c.in-Bad.ensures) })
+    let response = octets_of c.refuse.result in
+    gives_none g.V.Vault.holds g.V.Vault.is_clean g.V.Vault.faults c.args.office.now (ComeTo c.args.read.now (Some response))
+    (λ B L. record { place = None; is = NoCommand response (subst (λ (r : List ℕ). IsResponse B L c.args.read.now None r) (sym c.refuse.ensures) (ToRefusal c.in-Bad.refusal c.in-Bad.ensures)) })
 
 pub returns-in-BadPolicy-clause-works : goal.returns-in-BadPolicy-clause-works
 returns-in-BadPolicy-clause-works g c =
-    let response = octets_of c.made.result in
+    let response = octets_of c.refuse_policy.result in
     gives_none g.V.Vault.holds g.V.Vault.is_clean g.V.Vault.faults c.args.office.now (ComeTo c.args.read.now (Some response))
-    (λ B L. record { place = None; is = NoCommand response (to_fault B L c.args.read.now response c.in-BadPolicy.fault c.in-BadPolicy.ensures (c.made.ensures _ c.policy_response.ensures)) })
+    (λ B L. record { place = None; is = NoCommand response (to_fault B L c.args.read.now response c.in-BadPolicy.fault c.in-BadPolicy.ensures c.refuse_policy.ensures) })
 
 pub returns-in-NoMemory-clause-works : goal.returns-in-NoMemory-clause-works
 returns-in-NoMemory-clause-works g c =
-    let response = refusal_response OutOfMemory in
-    gives_none g.V.Vault.holds g.V.Vault.is_clean g.V.Vault.faults c.args.office.now (ComeTo c.args.read.now (Some response)) (λ B L. record { place = None; is = NoCommand response ForMemory })
+    let response = octets_of c.refuse-in-NoMemory.result in
+    gives_none g.V.Vault.holds g.V.Vault.is_clean g.V.Vault.faults c.args.office.now (ComeTo c.args.read.now (Some response))
+    (λ B L. record { place = None; is = NoCommand response (subst (λ (r : List ℕ). IsResponse B L c.args.read.now None r) (sym c.refuse-in-NoMemory.ensures) ForMemory) })

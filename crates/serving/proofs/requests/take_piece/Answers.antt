@@ -1,7 +1,5 @@
-use Rattle.std.proofs.Common.{rules, ◌≡◌, ◌++◌, Some, option_map, subst}
-use Rattle.adminhttp.specs.Responses.{refusal_response}
-use Rattle.adminhttp.specs.declared.refusal.Refusal.TheVariants.{OutOfMemory}
-use Rattle.serving.specs.Requests.{octets_of, HasAsked, ForMemory, NoCommand}
+use Rattle.std.proofs.Common.{rules, ◌≡◌, ℕ, List, ◌++◌, Some, option_map, sym, subst}
+use Rattle.serving.specs.Requests.{octets_of, HasAsked, IsResponse, ForMemory, NoCommand}
 use Rattle.serving.proofs.Requesting.{asked_none}
 use Rattle.serving.proofs.Quieting.{gives_none}
 use Rattle.serving.specs.Works.{Giving}
@@ -11,7 +9,9 @@ use Rattle.serving.proofs.requests.take_piece.Goals as goal
 
 pub returns-then-is_err-clause-asked : goal.returns-then-is_err-clause-asked
 returns-then-is_err-clause-asked g c = λ B L stands clean.
-    asked_none g.V.Vault.holds B L (c.args.exchange.now.read.items ++ c.args.piece.now) c.args.office.now (Some (refusal_response OutOfMemory)) stands (NoCommand (refusal_response OutOfMemory) ForMemory)
+    (let response = octets_of c.refuse-response.result in
+    let read = c.args.exchange.now.read.items ++ c.args.piece.now in
+    asked_none g.V.Vault.holds B L read c.args.office.now (Some response) stands (NoCommand response (subst (λ (r : List ℕ). IsResponse B L read None r) (sym c.refuse-response.ensures) ForMemory)))
 
 pub returns-clause-asked : goal.returns-clause-asked
 returns-clause-asked g c = λ B L stands clean.
@@ -20,8 +20,10 @@ returns-clause-asked g c = λ B L stands clean.
 
 pub returns-then-is_err-clause-works : goal.returns-then-is_err-clause-works
 returns-then-is_err-clause-works g c =
-    let response = refusal_response OutOfMemory in
-    gives_none g.V.Vault.holds g.V.Vault.is_clean g.V.Vault.faults c.args.office.now (ComeTo (c.args.exchange.now.read.items ++ c.args.piece.now) (Some response)) (λ B L. record { place = None; is = NoCommand response ForMemory })
+    let response = octets_of c.refuse-response.result in
+    let read = c.args.exchange.now.read.items ++ c.args.piece.now in
+    gives_none g.V.Vault.holds g.V.Vault.is_clean g.V.Vault.faults c.args.office.now (ComeTo read (Some response))
+    (λ B L. record { place = None; is = NoCommand response (subst (λ (r : List ℕ). IsResponse B L read None r) (sym c.refuse-response.ensures) ForMemory) })
 
 pub returns-clause-works : goal.returns-clause-works
 returns-clause-works g c =

@@ -6,5 +6,5 @@ use Rattle.proxy.proofs.wire.ProxiedWire.break_off.Goals as goal
 pub returns-clause-called : goal.returns-clause-called
 returns-clause-called g c far a h =
     let known = get nat_cmp c.args.self.now.known in
-    let presses = c.args.self.now.presses in
-    line_broken g.W.Wire.asked c.args.self.now.wire c.close.new.self known presses c.args.link far a c.close.ensures.called h
+    let hurries = c.args.self.now.hurries in
+    line_broken g.W.Wire.asked c.args.self.now.wire c.close.new.self known hurries c.args.link far a c.close.ensures.called h

@@ -14,8 +14,8 @@ returns-then-saturating_sub-ge-MOST_SECONDS-clause-called g c io a fine h = c.br
 pub returns-in-Ok-clause-called : goal.returns-in-Ok-clause-called
 returns-in-Ok-clause-called g c io a fine h =
     let known = get nat_cmp c.args.self.now.known in
-    let presses = c.args.self.now.presses in
-    line_open g.W.Wire.asked c.args.self.now.wire known presses c.args.link io Later a fine h
+    let hurries = c.args.self.now.hurries in
+    line_open g.W.Wire.asked c.args.self.now.wire known hurries c.args.link io Later a fine h
 
 pub returns-in-Err-clause-called : goal.returns-in-Err-clause-called
 returns-in-Err-clause-called g c io a fine h = c.break_off-in-Err.ensures.called (Open io) a h

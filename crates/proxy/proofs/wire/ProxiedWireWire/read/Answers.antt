@@ -18,7 +18,7 @@ returns-in-Pop-clause-told g c u h =
 pub returns-in-Admin-clause-called : goal.returns-in-Admin-clause-called
 returns-in-Admin-clause-called g c a h =
     let known = get nat_cmp c.args.self.now.known in
-    let presses = c.args.self.now.presses in
+    let hurries = c.args.self.now.hurries in
     let octets = counted c.read.result c.read.new.buffer in
-    hands_on g.W.Wire.asked c.args.self.now.wire c.read.new.self known presses a (Read c.args.port c.args.link c.read.result octets) refl
+    hands_on g.W.Wire.asked c.args.self.now.wire c.read.new.self known hurries a (Read c.args.port c.args.link c.read.result octets) refl
     (λ inside so. subst (λ p. IsBehindLine inside (Read p c.args.link c.read.result octets)) (sym c.in-Admin.is) tt) c.read.ensures.called h

@@ -9,5 +9,5 @@ use Rattle.proxy.proofs.wire.ProxiedWireWire.write.Goals as goal
 pub returns-clause-called : goal.returns-clause-called
 returns-clause-called g c a h =
     let known = get nat_cmp c.args.self.now.known in
-    let presses = c.args.self.now.presses in
-    hands_on g.W.Wire.asked c.args.self.now.wire c.write.new.self known presses a (Wrote c.args.port c.args.link c.write.result (counted c.write.result c.args.octets.now)) refl (λ inside so. tt) c.write.ensures.called h
+    let hurries = c.args.self.now.hurries in
+    hands_on g.W.Wire.asked c.args.self.now.wire c.write.new.self known hurries a (Wrote c.args.port c.args.link c.write.result (counted c.write.result c.args.octets.now)) refl (λ inside so. tt) c.write.ensures.called h
