@@ -1,7 +1,11 @@
--- The text of the log's line that tells an account: what the office judged of a client's line.
+-- The text of the log's lines that tell an account: what the office judged of a client's line.
 -- `who` are the connection and the client's address, as each line has them.
-use Rattle.std.specs.Prelude.{ℕ, Bool, true, false, List, [], ◌++◌, Option, Some, None, codes}
+use Rattle.std.specs.Prelude.{ℕ, Bool, true, false, ◌==◌, List, [], ◌∷◌, ◌++◌}
+use Rattle.std.specs.Prelude.{Option, Some, None, codes, if◌then◌else◌}
+use Rattle.std.specs.List.{flat_map}
 use Rattle.std.specs.Fmt.{decimal}
+use Rattle.creds.specs.Uid.{uid_text}
+use Rattle.creds.specs.declared.uid.Uid.{Uid}
 use Rattle.creds.specs.declared.login_name.LoginName.{LoginName}
 use Rattle.office.specs.declared.account.Account.{Account}
 use Rattle.office.specs.declared.account.Account.TheVariants as account
@@ -66,3 +70,33 @@ is_told account.Nothing = false
 is_told account.Marked = false
 is_told account.Unmarked = false
 is_told _ = true
+
+-- ---- what a QUIT removed
+
+-- how many unique-ids are on a line at most
+abbrev pub most_on_a_line : ℕ
+most_on_a_line = 32
+
+-- a unique-id behind a comma
+abbrev pub behind_comma : Uid → List ℕ
+behind_comma uid = codes "," ++ uid_text uid
+
+-- unique-ids, with commas between them
+abbrev pub uids_text : List Uid → List ℕ
+uids_text [] = []
+uids_text (uid ∷ uids) = uid_text uid ++ flat_map behind_comma uids
+
+-- what stands before the unique-id at a place of a line
+abbrev pub comma_at : ℕ → List ℕ
+comma_at n = if n == 0 then [] else codes ","
+
+-- the unique-id at a place of a line, where there is one
+abbrev pub uid_words : ℕ → Option Uid → List ℕ
+uid_words n None = []
+uid_words n (Some uid) = comma_at n ++ uid_text uid
+
+-- the line of messages that a session's QUIT removed
+abbrev pub removed_text : (connection : ℕ) → LoginName → List Uid → List ℕ
+removed_text connection name uids =
+    codes "event=removed connection=" ++ decimal connection ++ codes " " ++ name_text name
+    ++ codes " uids=" ++ uids_text uids

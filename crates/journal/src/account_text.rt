@@ -19,7 +19,7 @@ fn way_word(by: Way) -> &'static str
 }
 
 /// The values of a login name.
-fn name_text(alloc: Global, name: LoginName) -> Result<String, AllocError>
+pub(crate) fn name_text(alloc: Global, name: LoginName) -> Result<String, AllocError>
     ensures { IfOk result (λ text. string_bytes text ≡ name_words name) }
 {
     let text = format!(in alloc; "clerk={} maildrop={}", name.clerk, name.maildrop)?;

@@ -1,9 +1,10 @@
 //! Where the lines of a log go.
 use super::client::Clients;
 use super::pipe::takes_a_line;
+use super::removed_text::{MOST_ON_A_LINE, removed_line};
 use creds::Name;
 use jiff::Timestamp;
-use office::Account;
+use office::{Account, Removal};
 use serving::{Link, Listener};
 use std::alloc::{AllocError, Global};
 use std::cell::{Cell, RefCell};
@@ -102,6 +103,18 @@ impl<'a> Journal<'a> {
         self.note_some(text);
     }
 
+    /// Notes the unique-ids of what a QUIT removed, 32 on a line.
+    fn note_removed(&self, connection: u64, removal: &Removal) {
+        if !removal.is_done {
+            return;
+        }
+        for place in 0..removal.removed.len() {
+            if place % MOST_ON_A_LINE == 0 {
+                self.note(removed_line(self.alloc(), connection, removal, place));
+            }
+        }
+    }
+
     /// Who is in a maildrop, as values of a line; empty where that isn't known.
     pub fn holder(&self, maildrop: &Name) -> Result<String, AllocError> {
         match self.shared.clients.try_borrow() {
@@ -153,6 +166,9 @@ impl Listener for Journal<'_> {
     fn hear(&mut self, connection: u64, account: &Account) {
         if !self.is_on || matches!(account, Account::Nothing) {
             return;
+        }
+        if let Account::Quit(removal) = account {
+            self.note_removed(connection, removal);
         }
         let text = match self.shared.clients.try_borrow_mut() {
             Ok(mut clients) => clients.hear(self.alloc(), connection, account),

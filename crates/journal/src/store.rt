@@ -2,7 +2,6 @@
 ghost use Rattle.std.specs.Prelude.{◌≡◌};
 
 use super::journal::{Journal, Told};
-use super::seen::Seen;
 use creds::{Credential, DepositId, Name};
 use mailtext::MailText;
 use policy::Policy;
@@ -16,7 +15,6 @@ pub struct LoggedVault<'a, V: Vault> {
     pub vault: V,
     pub journal: Journal<'a>,
     pub told: Told,
-    pub seen: Seen,
 }
 
 /// Whether a fault says that the store or memory refused, and isn't an answer to the call.
@@ -118,12 +116,11 @@ fn note_deposit(
     }
 }
 
-/// Notes a removal, with who asked for it, and the unique-ids of what was removed.
+/// Notes a removal, with who asked for it.
 fn note_removal(
     journal: Journal<'_>,
-    seen: &Seen,
     maildrop: &Name,
-    keys: &[MessageKey],
+    messages: usize,
     answer: &Result<(), VaultFault>,
 ) {
     if !journal.is_on() {
@@ -136,13 +133,10 @@ fn note_removal(
         journal.alloc(),
         session.as_str(),
         maildrop,
-        keys.len(),
+        messages,
         answer,
     );
     journal.note(text);
-    if answer.is_ok() {
-        seen.note_removed(&journal, session.as_str(), maildrop, keys);
-    }
 }
 
 impl<'a, V: Vault> LoggedVault<'a, V> {
@@ -152,7 +146,6 @@ impl<'a, V: Vault> LoggedVault<'a, V> {
             vault,
             journal,
             told: Told::new(journal.alloc()),
-            seen: Seen::new(journal.alloc()),
         }
     }
 
@@ -162,7 +155,6 @@ impl<'a, V: Vault> LoggedVault<'a, V> {
             vault,
             journal: _,
             told: _,
-            seen: _,
         } = self;
         vault
     }
@@ -198,7 +190,7 @@ impl<V: Vault> Vault for LoggedVault<'_, V> {
 
     fn remove(&mut self, maildrop: &Name, keys: &[MessageKey]) -> Result<(), VaultFault> {
         let answer = self.vault.remove(maildrop, keys);
-        note_removal(self.journal, &self.seen, maildrop, keys, &answer);
+        note_removal(self.journal, maildrop, keys.len(), &answer);
         answer
     }
 
@@ -209,7 +201,6 @@ impl<V: Vault> Vault for LoggedVault<'_, V> {
 
     fn heads(&mut self, maildrop: &Name) -> Result<Vec<Head>, VaultFault> {
         let answer = self.vault.heads(maildrop);
-        self.seen.remember(self.journal, maildrop, &answer);
         told(&self.journal, "heads", answer)
     }
 
