@@ -7,10 +7,10 @@ use Rattle.policy.specs.Policy.{Policy}
 use Rattle.policy.specs.PolicyText.{rules_of}
 use Rattle.policy.specs.declared.fault.PolicyFault.{PolicyFault}
 use Rattle.policy.specs.declared.fault.PolicyFault.TheVariants.{NotToml, NoMemory}
-use Rattle.adminhttp.specs.Bodies.{policy_of, or_fault, stop_of}
-use Rattle.adminhttp.specs.declared.stop.Stop.{Stop}
-use Rattle.adminhttp.specs.declared.stop.Stop.TheVariants.{BadPolicy}
-use Rattle.adminhttp.specs.declared.stop.Stop.TheVariants as stop
+use Rattle.adminhttp.specs.Bodies.{policy_of, or_fault, no_command_of}
+use Rattle.adminhttp.specs.declared.no_command.NoCommand.{NoCommand}
+use Rattle.adminhttp.specs.declared.no_command.NoCommand.TheVariants.{BadPolicy}
+use Rattle.adminhttp.specs.declared.no_command.NoCommand.TheVariants as stop
 
 pub not_text : (body : List ℕ) → ¬ IsUtf8 body → policy_of body ≡ Err (BadPolicy NotToml)
 unfolding policy_of
@@ -29,12 +29,12 @@ text_of body text read same utf8 is =
 pub policy_read : (body text : List ℕ) (policy : Policy) → text ≡ body → IsUtf8 body → rules_of text ≡ Ok policy → policy_of body ≡ Ok policy
 policy_read body text policy same utf8 is = text_of body text (Ok policy) same utf8 is
 
-told : (fault : PolicyFault) → stop_of fault ≢ stop.NoMemory → (fault ≢ NoMemory) × (stop_of fault ≡ BadPolicy fault)
+told : (fault : PolicyFault) → no_command_of fault ≢ stop.NoMemory → (fault ≢ NoMemory) × (no_command_of fault ≡ BadPolicy fault)
 told NoMemory h = absurd (h refl)
 told _ h = (λ e. cc e, refl)
 
 pub policy_fault : (body text : List ℕ) (fault : PolicyFault) → text ≡ body → IsUtf8 body → (fault ≢ NoMemory → rules_of text ≡ Err fault)
-    → stop_of fault ≢ stop.NoMemory → policy_of body ≡ Err (stop_of fault)
+    → no_command_of fault ≢ stop.NoMemory → policy_of body ≡ Err (no_command_of fault)
 policy_fault body text fault same utf8 is h =
     let t = told fault h in
     text_of body text (Err fault) same utf8 (is t.0) ∙ ap Err (sym t.1)

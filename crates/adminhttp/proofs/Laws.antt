@@ -6,7 +6,7 @@ use Rattle.httparse.proofs.GrammarLemmas.{request_unique}
 use Rattle.adminhttp.specs.Lines.{head_at}
 use Rattle.adminhttp.specs.Head.{IsHead, IsNoHead, most_headers, head_text, behind_head}
 use Rattle.adminhttp.specs.Request.{Asked, unended, asked_by, HeadComesTo, ComesTo}
-use Rattle.adminhttp.specs.declared.stop.Stop.TheVariants.{Bad}
+use Rattle.adminhttp.specs.declared.no_command.NoCommand.TheVariants.{Bad}
 use Rattle.adminhttp.specs.declared.refusal.Refusal.TheVariants.{BadRequest}
 use Rattle.std.proofs.lemmas.Bool.{cases_lt}
 use Rattle.httparse.specs.Grammar.{ReadsRequest}

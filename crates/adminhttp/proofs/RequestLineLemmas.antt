@@ -17,7 +17,7 @@ use Rattle.adminhttp.specs.Targets.{target_of}
 use Rattle.adminhttp.specs.Request.{Asked, asked_by, asked_of, clerk_put, policy_put, maildrop_asked, clerk_asked, policy_asked, session_asked, ComesTo, HeadComesTo}
 use Rattle.adminhttp.specs.RequestLines.{by, line_of, method_of, line_in, IsLineAt}
 use Rattle.adminhttp.specs.Laws.{CommandHasItsLine}
-use Rattle.adminhttp.specs.declared.stop.Stop.{Stop}
+use Rattle.adminhttp.specs.declared.no_command.NoCommand.{NoCommand}
 use Rattle.adminhttp.specs.declared.refusal.Refusal.TheVariants.{NotFound, BadRequest}
 use Rattle.adminhttp.specs.declared.target.Target.{Target}
 use Rattle.adminhttp.specs.declared.target.Target.TheVariants as target
@@ -35,12 +35,12 @@ line_by p q r t = option_map (λ asked. by asked t) (cond p (Some Get) (cond q (
 is_it : (c x : AdminCommand) (line : RequestLine) → ◌≡◌ {A = Asked} (Ok c) (Ok x) → line_of x ≡ line → Some (line_of c) ≡ Some line
 is_it c x line h e = let same : c ≡ x = cc h in ap (λ y. Some (line_of y)) same ∙ ap Some e
 
-by_get_line : (p q r : Bool) (t : Target) (x c : AdminCommand) (s : Stop) → line_of x ≡ by Get t → Ok c ≡ cond p (Ok x) (Err s) → Some (line_of c) ≡ line_by p q r t
+by_get_line : (p q r : Bool) (t : Target) (x c : AdminCommand) (s : NoCommand) → line_of x ≡ by Get t → Ok c ≡ cond p (Ok x) (Err s) → Some (line_of c) ≡ line_by p q r t
 by_get_line true q r t x c s e h = is_it c x (by Get t) h e
 by_get_line false q r t x c s e h = absurd (cc h)
 
 -- GET and PUT and DELETE, where PUT may be refused
-by_three : (p q r : Bool) (t : Target) (x z c : AdminCommand) (put : Asked) (s : Stop) → line_of x ≡ by Get t → (Ok c ≡ put → line_of c ≡ by Put t) → line_of z ≡ by Delete t
+by_three : (p q r : Bool) (t : Target) (x z c : AdminCommand) (put : Asked) (s : NoCommand) → line_of x ≡ by Get t → (Ok c ≡ put → line_of c ≡ by Put t) → line_of z ≡ by Delete t
     → Ok c ≡ cond p (Ok x) (cond q put (cond r (Ok z) (Err s))) → Some (line_of c) ≡ line_by p q r t
 by_three true q r t x z c put s e f g h = is_it c x (by Get t) h e
 by_three false true r t x z c put s e f g h = ap Some (f h)
@@ -48,7 +48,7 @@ by_three false false true t x z c put s e f g h = is_it c z (by Delete t) h g
 by_three false false false t x z c put s e f g h = absurd (cc h)
 
 -- GET and PUT
-by_two : (p q r : Bool) (t : Target) (x c : AdminCommand) (put : Asked) (s : Stop) → line_of x ≡ by Get t → (Ok c ≡ put → line_of c ≡ by Put t)
+by_two : (p q r : Bool) (t : Target) (x c : AdminCommand) (put : Asked) (s : NoCommand) → line_of x ≡ by Get t → (Ok c ≡ put → line_of c ≡ by Put t)
     → Ok c ≡ cond p (Ok x) (cond q put (Err s)) → Some (line_of c) ≡ line_by p q r t
 by_two true q r t x c put s e f h = is_it c x (by Get t) h e
 by_two false true r t x c put s e f h = ap Some (f h)
@@ -61,7 +61,7 @@ put_credential : (clerk : List ℕ) (c : AdminCommand) (o : Option Credential) �
 put_credential clerk c (Some credential) h = put_of c (office.PutClerk clerk credential) (by Put (Clerk clerk)) refl h
 put_credential clerk c None h = absurd (cc h)
 
-put_body : (clerk : List ℕ) (c : AdminCommand) (body : Result (List ℕ) Stop)
+put_body : (clerk : List ℕ) (c : AdminCommand) (body : Result (List ℕ) NoCommand)
     → Ok c ≡ (body >>= λ text. value_or (credential_of clerk (without_line_end text)) BadRequest >>= λ credential. Ok (office.PutClerk clerk credential)) → line_of c ≡ by Put (Clerk clerk)
 put_body clerk c (Ok text) h = put_credential clerk c (credential_of clerk (without_line_end text)) h
 put_body clerk c (Err s) h = absurd (cc h)
@@ -70,11 +70,11 @@ put_clerk : (clerk : List ℕ) (headers : List Header) (behind : List ℕ) (c : 
 unfolding clerk_put
 put_clerk clerk headers behind c h = put_body clerk c (body_of headers behind) h
 
-put_rules : (c : AdminCommand) (policy : Result Policy Stop) → Ok c ≡ (policy >>= λ p. Ok (office.SetPolicy p)) → line_of c ≡ by Put target.Policy
+put_rules : (c : AdminCommand) (policy : Result Policy NoCommand) → Ok c ≡ (policy >>= λ p. Ok (office.SetPolicy p)) → line_of c ≡ by Put target.Policy
 put_rules c (Ok policy) h = put_of c (office.SetPolicy policy) (by Put target.Policy) refl h
 put_rules c (Err s) h = absurd (cc h)
 
-put_text : (c : AdminCommand) (body : Result (List ℕ) Stop) → Ok c ≡ (body >>= λ text. policy_of text >>= λ p. Ok (office.SetPolicy p)) → line_of c ≡ by Put target.Policy
+put_text : (c : AdminCommand) (body : Result (List ℕ) NoCommand) → Ok c ≡ (body >>= λ text. policy_of text >>= λ p. Ok (office.SetPolicy p)) → line_of c ≡ by Put target.Policy
 put_text c (Ok text) h = put_rules c (policy_of text) h
 put_text c (Err s) h = absurd (cc h)
 
@@ -82,7 +82,7 @@ put_policy : (headers : List Header) (behind : List ℕ) (c : AdminCommand) → 
 unfolding policy_put
 put_policy headers behind c h = put_text c (body_of headers behind) h
 
-session_line : (m : List ℕ) (t : Target) (x c : AdminCommand) (s : Stop) (r : Bool) → bytes_eq m (codes "DELETE") ≡ r → line_of x ≡ by Delete t → Ok c ≡ cond r (Ok x) (Err s)
+session_line : (m : List ℕ) (t : Target) (x c : AdminCommand) (s : NoCommand) (r : Bool) → bytes_eq m (codes "DELETE") ≡ r → line_of x ≡ by Delete t → Ok c ≡ cond r (Ok x) (Err s)
     → Some (line_of c) ≡ option_map (λ asked. by asked t) (method_of m)
 session_line m t x c s true e g h =
     let is : m ≡ codes "DELETE" = (bytes_eq-Decides m (codes "DELETE")).0 e in

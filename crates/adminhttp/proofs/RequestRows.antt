@@ -15,7 +15,7 @@ use Rattle.httparse.specs.Grammar.{RequestHead, IsRequestHead, IsField, crlf, is
 use Rattle.office.specs.Answers.{ListMaildrops, ShowMaildrop, DropMaildrop, PutClerk, EndSession, Explain}
 use Rattle.adminhttp.specs.declared.route.Route.TheVariants as route
 use Rattle.adminhttp.specs.declared.refusal.Refusal.TheVariants.{BadRequest, NotFound, NotAllowed, LengthRequired, TooLarge}
-use Rattle.adminhttp.specs.declared.stop.Stop.TheVariants.{More, Bad}
+use Rattle.adminhttp.specs.declared.no_command.NoCommand.TheVariants.{More, Bad}
 use Rattle.adminhttp.specs.Lines.{empty_lines, through_empty_line, head_at}
 use Rattle.adminhttp.specs.Targets.{target_of}
 use Rattle.adminhttp.specs.Fields.{Header, body_length}

@@ -12,16 +12,16 @@ use Rattle.policy.specs.declared.fault.PolicyFault.{PolicyFault}
 use Rattle.policy.specs.declared.fault.PolicyFault.TheVariants.{NotToml, NoMemory}
 use Rattle.adminhttp.specs.Steps.{◌>>=◌}
 use Rattle.adminhttp.specs.Fields.{Header, body_length}
-use Rattle.adminhttp.specs.declared.stop.Stop.{Stop}
-use Rattle.adminhttp.specs.declared.stop.Stop.TheVariants as stop
-use Rattle.adminhttp.specs.declared.stop.Stop.TheVariants.{More, BadPolicy}
+use Rattle.adminhttp.specs.declared.no_command.NoCommand.{NoCommand}
+use Rattle.adminhttp.specs.declared.no_command.NoCommand.TheVariants as stop
+use Rattle.adminhttp.specs.declared.no_command.NoCommand.TheVariants.{More, BadPolicy}
 
 -- the first n octets; until they have come, more is to come
-abbrev pub first_octets : (n : ℕ) → List ℕ → Result (List ℕ) Stop
+abbrev pub first_octets : (n : ℕ) → List ℕ → Result (List ℕ) NoCommand
 first_octets n octets = if nat_le n (length octets) then Ok (take n octets) else Err More
 
 -- the body: as many of the octets behind the head as its length says
-unfoldable pub body_of : List Header → (behind : List ℕ) → Result (List ℕ) Stop
+unfoldable pub body_of : List Header → (behind : List ℕ) → Result (List ℕ) NoCommand
 body_of headers behind = do
   n ← body_length headers
   first_octets n behind
@@ -41,15 +41,15 @@ credential_of clerk text =
     else None
 
 -- a policy, or the stop for its first fault
-abbrev pub or_fault : Result Policy PolicyFault → Result Policy Stop
+abbrev pub or_fault : Result Policy PolicyFault → Result Policy NoCommand
 or_fault (Ok policy) = Ok policy
 or_fault (Err fault) = Err (BadPolicy fault)
 
 -- the policy that a body spells; a body that isn't UTF-8 is no TOML
-unfoldable pub policy_of : List ℕ → Result Policy Stop
+unfoldable pub policy_of : List ℕ → Result Policy NoCommand
 policy_of body = if is_utf8 body then or_fault (rules_of body) else Err (BadPolicy NotToml)
 
 -- the stop for a policy's fault; want of memory is told as that
-abbrev pub stop_of : PolicyFault → Stop
-stop_of NoMemory = stop.NoMemory
-stop_of fault = BadPolicy fault
+abbrev pub no_command_of : PolicyFault → NoCommand
+no_command_of NoMemory = stop.NoMemory
+no_command_of fault = BadPolicy fault

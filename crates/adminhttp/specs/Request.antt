@@ -17,14 +17,14 @@ use Rattle.adminhttp.specs.declared.route.Route.TheVariants as route
 use Rattle.adminhttp.specs.declared.target.Target.{Target}
 use Rattle.adminhttp.specs.declared.target.Target.TheVariants as target
 use Rattle.adminhttp.specs.declared.refusal.Refusal.TheVariants.{BadRequest, NotFound, NotAllowed}
-use Rattle.adminhttp.specs.declared.stop.Stop.{Stop}
-use Rattle.adminhttp.specs.declared.stop.Stop.TheVariants.{More, Bad, BadPolicy}
+use Rattle.adminhttp.specs.declared.no_command.NoCommand.{NoCommand}
+use Rattle.adminhttp.specs.declared.no_command.NoCommand.TheVariants.{More, Bad, BadPolicy}
 use Rattle.adminhttp.specs.declared.request.Got.{Got}
 use Rattle.adminhttp.specs.declared.request.Got.TheVariants as got
 
 -- what a request gives: a command, or why there is none
 abbrev pub Asked : Type 0
-Asked = Result AdminCommand Stop
+Asked = Result AdminCommand NoCommand
 
 -- this command, where the method is GET, which is the route's only one
 abbrev pub by_get : Route → (method : List ℕ) → AdminCommand → Asked
@@ -92,7 +92,7 @@ asked_by method target headers behind = do
   asked_of found method headers behind
 
 -- a head that hasn't ended: more may come, up to 8,192 octets
-abbrev pub unended : List ℕ → Stop
+abbrev pub unended : List ℕ → NoCommand
 unended b = if nat_le (length b) most_in_head then More else Bad BadRequest
 
 -- the text of a head and the octets behind it give this

@@ -1,8 +1,8 @@
 -- Steps of which the first that fails ends the reading.
 use Rattle.std.specs.Prelude.{Option, Some, None, Result, Ok, Err}
 use Rattle.adminhttp.specs.declared.refusal.Refusal.{Refusal}
-use Rattle.adminhttp.specs.declared.stop.Stop.{Stop}
-use Rattle.adminhttp.specs.declared.stop.Stop.TheVariants.{Bad}
+use Rattle.adminhttp.specs.declared.no_command.NoCommand.{NoCommand}
+use Rattle.adminhttp.specs.declared.no_command.NoCommand.TheVariants.{Bad}
 
 -- `?` on a `Result`
 infixl 10 ◌>>=◌
@@ -16,6 +16,6 @@ map_ok f (Ok x) = Ok (f x)
 map_ok f (Err e) = Err e
 
 -- the value, or this refusal where there is none
-abbrev pub value_or : {A : Type 0} → Option A → Refusal → Result A Stop
+abbrev pub value_or : {A : Type 0} → Option A → Refusal → Result A NoCommand
 value_or (Some value) refusal = Ok value
 value_or None refusal = Err (Bad refusal)

@@ -4,11 +4,11 @@ ghost use Rattle.std.specs.Prelude.{◌≡◌, ◌≢◌, IfOk, IfErr, Ok, Err};
 ghost use Rattle.adminhttp.specs.Head.{headers_of, LieIn};
 ghost use Rattle.adminhttp.specs.Steps.{map_ok};
 ghost use Rattle.adminhttp.specs.Bodies.{body_of, without_line_end as text_of, credential_of};
-ghost use Rattle.adminhttp.specs.Bodies.{policy_of, stop_of as stop_told};
+ghost use Rattle.adminhttp.specs.Bodies.{policy_of, no_command_of as no_command_told};
 
 use crate::fields::body_len;
 use crate::head::Head;
-use crate::stop::Stop;
+use crate::no_command::NoCommand;
 use creds::{Credential, Name, Secret, pass_digest};
 use httparse::spans::HeaderSpan;
 use policy::{Policy, PolicyFault};
@@ -18,14 +18,14 @@ use std::str;
 /// The body that follows a head, or why there is none: its length isn't told, is too great or
 /// isn't of its form, or more octets are to come.
 #[tactic(auto, unfolding(crate::specs::Bodies::body_of))]
-pub fn read_body<'b>(head: &Head<'b>, headers: &[HeaderSpan]) -> Result<&'b [u8], Stop>
+pub fn read_body<'b>(head: &Head<'b>, headers: &[HeaderSpan]) -> Result<&'b [u8], NoCommand>
     requires { LieIn head.now headers.now }
     ensures { map_ok (λ v. v.now) result ≡ body_of (headers_of head.now headers.now)
         head.now.behind.now }
 {
     let len = body_len(head.text, headers)?;
     if head.behind.len() < len {
-        return Err(Stop::More);
+        return Err(NoCommand::More);
     }
     Ok(&head.behind[..len])
 }
@@ -63,25 +63,26 @@ pub fn read_credential(clerk: &Name, text: &[u8]) -> Option<Credential>
 
 /// The policy that a body spells, or its first fault. A body that isn't UTF-8 is
 /// [`PolicyFault::NotToml`].
-pub fn read_policy(alloc: Global, body: &[u8]) -> Result<Policy, Stop>
+pub fn read_policy(alloc: Global, body: &[u8]) -> Result<Policy, NoCommand>
     ensures ok { IfOk result (λ policy. policy_of body.now ≡ Ok policy) }
-    ensures fault { IfErr result (λ stop. stop ≢ Stop.NoMemory → policy_of body.now ≡ Err stop) }
+    ensures fault { IfErr result (λ stop. stop ≢ NoCommand.NoMemory
+        → policy_of body.now ≡ Err stop) }
 {
     let Ok(text) = str::from_utf8(body) else {
-        return Err(Stop::BadPolicy(PolicyFault::NotToml));
+        return Err(NoCommand::BadPolicy(PolicyFault::NotToml));
     };
     match Policy::read(alloc, text) {
         Ok(policy) => Ok(policy),
-        Err(fault) => Err(stop_of(fault)),
+        Err(fault) => Err(no_command_of(fault)),
     }
 }
 
 /// Why a request whose body is no policy gives no command.
-fn stop_of(fault: PolicyFault) -> Stop
-    ensures { result ≡ stop_told fault }
+fn no_command_of(fault: PolicyFault) -> NoCommand
+    ensures { result ≡ no_command_told fault }
 {
     match fault {
-        PolicyFault::NoMemory => Stop::NoMemory,
-        _ => Stop::BadPolicy(fault),
+        PolicyFault::NoMemory => NoCommand::NoMemory,
+        _ => NoCommand::BadPolicy(fault),
     }
 }

@@ -9,9 +9,9 @@ ghost use Rattle.adminhttp.specs.Request.{policy_asked, policy_put, session_aske
 
 use crate::body::{read_body, read_credential, read_policy, without_line_end};
 use crate::head::Head;
+use crate::no_command::NoCommand;
 use crate::refusal::Refusal;
 use crate::route::Route;
-use crate::stop::Stop;
 use crate::target::Target;
 use creds::Name;
 use httparse::spans::HeaderSpan;
@@ -27,11 +27,11 @@ pub fn read_command(
     target: &Target,
     head: &Head<'_>,
     headers: &[HeaderSpan],
-) -> Result<AdminCommand, Stop>
+) -> Result<AdminCommand, NoCommand>
     requires { LieIn head.now headers.now }
     ensures ok { IfOk result (λ command. asked_of target.now head.now.method.now
         (headers_of head.now headers.now) head.now.behind.now ≡ Ok (command_seen command)) }
-    ensures fault { IfErr result (λ stop. stop ≢ Stop.NoMemory
+    ensures fault { IfErr result (λ stop. stop ≢ NoCommand.NoMemory
         → asked_of target.now head.now.method.now (headers_of head.now headers.now)
         head.now.behind.now ≡ Err stop) }
 {
@@ -61,19 +61,19 @@ pub fn read_command(
 }
 
 /// The command, where the method is GET, which is the route's only one.
-fn by_get(route: Route, method: &[u8], command: AdminCommand) -> Result<AdminCommand, Stop>
+fn by_get(route: Route, method: &[u8], command: AdminCommand) -> Result<AdminCommand, NoCommand>
     ensures { map_ok command_seen result ≡ by_get route method.now (command_seen command) }
 {
     if method == b"GET".as_slice() {
         Ok(command)
     } else {
-        Err(Stop::Bad(Refusal::NotAllowed(route)))
+        Err(NoCommand::Bad(Refusal::NotAllowed(route)))
     }
 }
 
 /// The command that a method gives on a maildrop. A body isn't read.
 #[tactic(auto, unfolding(crate::specs::Request::maildrop_asked))]
-fn maildrop_command(maildrop: &Name, method: &[u8]) -> Result<AdminCommand, Stop>
+fn maildrop_command(maildrop: &Name, method: &[u8]) -> Result<AdminCommand, NoCommand>
     ensures { map_ok command_seen result ≡ maildrop_asked maildrop.now method.now }
 {
     if method == b"GET".as_slice() {
@@ -83,7 +83,7 @@ fn maildrop_command(maildrop: &Name, method: &[u8]) -> Result<AdminCommand, Stop
     } else if method == b"DELETE".as_slice() {
         Ok(AdminCommand::DropMaildrop(*maildrop))
     } else {
-        Err(Stop::Bad(Refusal::NotAllowed(Route::Maildrop)))
+        Err(NoCommand::Bad(Refusal::NotAllowed(Route::Maildrop)))
     }
 }
 
@@ -93,7 +93,7 @@ fn clerk_command(
     clerk: &Name,
     head: &Head<'_>,
     headers: &[HeaderSpan],
-) -> Result<AdminCommand, Stop>
+) -> Result<AdminCommand, NoCommand>
     requires { LieIn head.now headers.now }
     ensures { map_ok command_seen result ≡ clerk_asked clerk.now head.now.method.now
         (headers_of head.now headers.now) head.now.behind.now }
@@ -105,13 +105,17 @@ fn clerk_command(
     } else if head.method == b"DELETE".as_slice() {
         Ok(AdminCommand::DropClerk(*clerk))
     } else {
-        Err(Stop::Bad(Refusal::NotAllowed(Route::Clerk)))
+        Err(NoCommand::Bad(Refusal::NotAllowed(Route::Clerk)))
     }
 }
 
 /// The command that puts a clerk's credential.
 #[tactic(auto, unfolding(crate::specs::Request::clerk_put))]
-fn put_clerk(clerk: &Name, head: &Head<'_>, headers: &[HeaderSpan]) -> Result<AdminCommand, Stop>
+fn put_clerk(
+    clerk: &Name,
+    head: &Head<'_>,
+    headers: &[HeaderSpan],
+) -> Result<AdminCommand, NoCommand>
     requires { LieIn head.now headers.now }
     ensures { map_ok command_seen result ≡ clerk_put clerk.now (headers_of head.now headers.now)
         head.now.behind.now }
@@ -119,7 +123,7 @@ fn put_clerk(clerk: &Name, head: &Head<'_>, headers: &[HeaderSpan]) -> Result<Ad
     let body = read_body(head, headers)?;
     match read_credential(clerk, without_line_end(body)) {
         Some(credential) => Ok(AdminCommand::PutClerk(*clerk, credential)),
-        None => Err(Stop::Bad(Refusal::BadRequest)),
+        None => Err(NoCommand::Bad(Refusal::BadRequest)),
     }
 }
 
@@ -129,11 +133,11 @@ fn policy_command(
     alloc: Global,
     head: &Head<'_>,
     headers: &[HeaderSpan],
-) -> Result<AdminCommand, Stop>
+) -> Result<AdminCommand, NoCommand>
     requires { LieIn head.now headers.now }
     ensures ok { IfOk result (λ command. policy_asked head.now.method.now
         (headers_of head.now headers.now) head.now.behind.now ≡ Ok (command_seen command)) }
-    ensures fault { IfErr result (λ stop. stop ≢ Stop.NoMemory
+    ensures fault { IfErr result (λ stop. stop ≢ NoCommand.NoMemory
         → policy_asked head.now.method.now (headers_of head.now headers.now) head.now.behind.now
         ≡ Err stop) }
 {
@@ -142,17 +146,21 @@ fn policy_command(
     } else if head.method == b"PUT".as_slice() {
         put_policy(alloc, head, headers)
     } else {
-        Err(Stop::Bad(Refusal::NotAllowed(Route::Policy)))
+        Err(NoCommand::Bad(Refusal::NotAllowed(Route::Policy)))
     }
 }
 
 /// The command that sets the policy.
 #[tactic(auto, unfolding(crate::specs::Request::policy_put))]
-fn put_policy(alloc: Global, head: &Head<'_>, headers: &[HeaderSpan]) -> Result<AdminCommand, Stop>
+fn put_policy(
+    alloc: Global,
+    head: &Head<'_>,
+    headers: &[HeaderSpan],
+) -> Result<AdminCommand, NoCommand>
     requires { LieIn head.now headers.now }
     ensures ok { IfOk result (λ command. policy_put (headers_of head.now headers.now)
         head.now.behind.now ≡ Ok (command_seen command)) }
-    ensures fault { IfErr result (λ stop. stop ≢ Stop.NoMemory
+    ensures fault { IfErr result (λ stop. stop ≢ NoCommand.NoMemory
         → policy_put (headers_of head.now headers.now) head.now.behind.now ≡ Err stop) }
 {
     let body = read_body(head, headers)?;
@@ -162,12 +170,12 @@ fn put_policy(alloc: Global, head: &Head<'_>, headers: &[HeaderSpan]) -> Result<
 
 /// The command that a method gives on a session.
 #[tactic(auto, unfolding(crate::specs::Request::session_asked))]
-fn session_command(number: u64, method: &[u8]) -> Result<AdminCommand, Stop>
+fn session_command(number: u64, method: &[u8]) -> Result<AdminCommand, NoCommand>
     ensures { map_ok command_seen result ≡ session_asked number method.now }
 {
     if method == b"DELETE".as_slice() {
         Ok(AdminCommand::EndSession(number))
     } else {
-        Err(Stop::Bad(Refusal::NotAllowed(Route::Session)))
+        Err(NoCommand::Bad(Refusal::NotAllowed(Route::Session)))
     }
 }

@@ -10,8 +10,8 @@ ghost use Rattle.adminhttp.specs.Steps.{map_ok};
 ghost use Rattle.adminhttp.specs.Fields.{is_named, length_text, length_of, body_length, only};
 ghost use Rattle.adminhttp.specs.Fields.{values_of};
 
+use crate::no_command::NoCommand;
 use crate::refusal::Refusal;
-use crate::stop::Stop;
 use httparse::spans::HeaderSpan;
 
 /// A body has at most so many octets.
@@ -42,7 +42,7 @@ fn is_coded(text: &[u8], headers: &[HeaderSpan]) -> bool
 
 /// The value of the one header named Content-Length. None is [`Refusal::LengthRequired`], two are
 /// [`Refusal::BadRequest`].
-fn only_length<'t>(text: &'t [u8], headers: &[HeaderSpan]) -> Result<&'t [u8], Stop>
+fn only_length<'t>(text: &'t [u8], headers: &[HeaderSpan]) -> Result<&'t [u8], NoCommand>
     requires { All (IsHeaderWithin (length text.now)) headers.now }
     ensures { map_ok (λ v. v.now) result ≡ only (values_of (codes "content-length") (map (header_bytes text.now) headers.now)) }
 {
@@ -50,25 +50,25 @@ fn only_length<'t>(text: &'t [u8], headers: &[HeaderSpan]) -> Result<&'t [u8], S
     for header in headers {
         if has_name(text, header, b"content-length") {
             if found.is_some() {
-                return Err(Stop::Bad(Refusal::BadRequest));
+                return Err(NoCommand::Bad(Refusal::BadRequest));
             }
             found = Some(header.value.of(text));
         }
     }
     match found {
         Some(value) => Ok(value),
-        None => Err(Stop::Bad(Refusal::LengthRequired)),
+        None => Err(NoCommand::Bad(Refusal::LengthRequired)),
     }
 }
 
 /// The value of the one Content-Length. With a Transfer-Encoding the length isn't known:
 /// [`Refusal::LengthRequired`].
-fn length_field<'t>(text: &'t [u8], headers: &[HeaderSpan]) -> Result<&'t [u8], Stop>
+fn length_field<'t>(text: &'t [u8], headers: &[HeaderSpan]) -> Result<&'t [u8], NoCommand>
     requires { All (IsHeaderWithin (length text.now)) headers.now }
     ensures { map_ok (λ v. v.now) result ≡ length_text (map (header_bytes text.now) headers.now) }
 {
     if is_coded(text, headers) {
-        return Err(Stop::Bad(Refusal::LengthRequired));
+        return Err(NoCommand::Bad(Refusal::LengthRequired));
     }
     only_length(text, headers)
 }
@@ -98,22 +98,22 @@ fn read_digits(digits: &[u8]) -> Option<usize>
 
 /// The length of a body, in octets, by the value of Content-Length: digits alone, at most
 /// 1,048,576.
-fn read_length(value: &[u8]) -> Result<usize, Stop>
+fn read_length(value: &[u8]) -> Result<usize, NoCommand>
     ensures { result ≡ length_of value.now }
 {
     if value.is_empty() || !are_digits(value) {
-        Err(Stop::Bad(Refusal::BadRequest))
+        Err(NoCommand::Bad(Refusal::BadRequest))
     } else {
         match read_digits(value) {
             Some(length) => Ok(length),
-            None => Err(Stop::Bad(Refusal::TooLarge)),
+            None => Err(NoCommand::Bad(Refusal::TooLarge)),
         }
     }
 }
 
 /// The length of the body that follows a head, in octets.
 #[tactic(auto, unfolding(crate::specs::Fields::body_length))]
-pub fn body_len(text: &[u8], headers: &[HeaderSpan]) -> Result<usize, Stop>
+pub fn body_len(text: &[u8], headers: &[HeaderSpan]) -> Result<usize, NoCommand>
     requires { All (IsHeaderWithin (length text.now)) headers.now }
     ensures { result ≡ body_length (map (header_bytes text.now) headers.now) }
 {

@@ -6,7 +6,7 @@ ghost use Rattle.adminhttp.specs.RequestLines.{method_text, path_of, line_of, me
 ghost use Rattle.adminhttp.specs.RequestLines.{action_text};
 
 use crate::head::{MAX_HEADERS, read_head};
-use crate::stop::Stop;
+use crate::no_command::NoCommand;
 use crate::target::{Target, read_target};
 use creds::Name;
 use httparse::spans::EMPTY_HEADER_SPAN;
@@ -106,7 +106,7 @@ impl RequestLine {
         };
         let target = match read_target(alloc, head.target) {
             Ok(target) => target,
-            Err(Stop::NoMemory) => return Err(AllocError),
+            Err(NoCommand::NoMemory) => return Err(AllocError),
             Err(_) => return Ok(None),
         };
         match Method::read(head.method) {

@@ -26,7 +26,7 @@ use Rattle.office.specs.declared.office.Office.{Office}
 use Rattle.adminhttp.specs.Request.{IsRequest}
 use Rattle.adminhttp.specs.Responses.{fault_response, refusal_response}
 use Rattle.adminhttp.specs.declared.refusal.Refusal.TheVariants.{OutOfMemory}
-use Rattle.adminhttp.specs.declared.stop.Stop.TheVariants.{BadPolicy}
+use Rattle.adminhttp.specs.declared.no_command.NoCommand.TheVariants.{BadPolicy}
 use Rattle.serving.specs.declared.requests.Response.{Response}
 use Rattle.serving.specs.declared.requests.Exchange.{Exchange}
 use Rattle.serving.specs.declared.wire.Io.{Io}

@@ -20,7 +20,7 @@ use Rattle.adminhttp.specs.Request.{IsRequest}
 use Rattle.adminhttp.specs.Responses.{answer_response, fault_response, refusal_response}
 use Rattle.adminhttp.specs.declared.refusal.Refusal.{Refusal}
 use Rattle.adminhttp.specs.declared.refusal.Refusal.TheVariants.{StoreFailed, OutOfMemory}
-use Rattle.adminhttp.specs.declared.stop.Stop.TheVariants.{More, Bad, BadPolicy}
+use Rattle.adminhttp.specs.declared.no_command.NoCommand.TheVariants.{More, Bad, BadPolicy}
 use Rattle.serving.specs.Wires.{Told, ToldOfPorts}
 use Rattle.serving.specs.declared.wire.Link.{Link}
 use Rattle.serving.specs.declared.requests.Response.{Response}

@@ -8,8 +8,8 @@ ghost use Rattle.adminhttp.specs.Request.{IsRequest};
 ghost use Rattle.adminhttp.specs.RequestLines.{IsLine};
 
 use super::{Head, MAX_HEAD, front_of, locate};
+use crate::no_command::NoCommand;
 use crate::refusal::Refusal;
-use crate::stop::Stop;
 use httparse::Status;
 use httparse::spans::{HeaderSpan, RequestSpans, parse_request};
 
@@ -30,9 +30,9 @@ fn parse_head(text: &[u8], headers: &mut [HeaderSpan]) -> Option<RequestSpans>
 
 /// The head of a request, whose headers' spans are put into `headers`.
 ///
-/// [`Stop::More`] where it hasn't ended in at most 8,192 octets; [`Refusal::BadRequest`] where it
-/// hasn't in more, or is no head of at most 64 headers.
-pub fn read_head<'b>(octets: &'b [u8], headers: &mut [HeaderSpan]) -> Result<Head<'b>, Stop>
+/// [`NoCommand::More`] where it hasn't ended in at most 8,192 octets; [`Refusal::BadRequest`] where
+/// it hasn't in more, or is no head of at most 64 headers.
+pub fn read_head<'b>(octets: &'b [u8], headers: &mut [HeaderSpan]) -> Result<Head<'b>, NoCommand>
     requires { length headers.old ≡ most_headers }
     ensures ok { IfOk result (IsLent octets.now headers.new) }
     ensures stop { IfErr result (λ stop. IsRequest octets.now (Err stop)) }
@@ -40,13 +40,13 @@ pub fn read_head<'b>(octets: &'b [u8], headers: &mut [HeaderSpan]) -> Result<Hea
 {
     let Some((start, len)) = locate(front_of(octets)) else {
         if octets.len() <= MAX_HEAD {
-            return Err(Stop::More);
+            return Err(NoCommand::More);
         }
-        return Err(Stop::Bad(Refusal::BadRequest));
+        return Err(NoCommand::Bad(Refusal::BadRequest));
     };
     let text = &octets[start..start + len];
     let Some(spans) = parse_head(text, headers) else {
-        return Err(Stop::Bad(Refusal::BadRequest));
+        return Err(NoCommand::Bad(Refusal::BadRequest));
     };
     Ok(Head {
         text,

@@ -9,7 +9,7 @@ ghost use Rattle.adminhttp.specs.Request.{IsRequest, asked_in, asked_by};
 use super::{Got, Request};
 use crate::command::read_command;
 use crate::head::{Head, MAX_HEADERS, read_head};
-use crate::stop::Stop;
+use crate::no_command::NoCommand;
 use crate::target::read_target;
 use httparse::spans::{EMPTY_HEADER_SPAN, HeaderSpan};
 use office::AdminCommand;
@@ -28,18 +28,19 @@ impl Request {
     {
         match ask(alloc, octets) {
             Ok(command) => Got::Command(command),
-            Err(Stop::More) => Got::More,
-            Err(Stop::Bad(refusal)) => Got::Bad(refusal),
-            Err(Stop::BadPolicy(fault)) => Got::BadPolicy(fault),
-            Err(Stop::NoMemory) => Got::NoMemory,
+            Err(NoCommand::More) => Got::More,
+            Err(NoCommand::Bad(refusal)) => Got::Bad(refusal),
+            Err(NoCommand::BadPolicy(fault)) => Got::BadPolicy(fault),
+            Err(NoCommand::NoMemory) => Got::NoMemory,
         }
     }
 }
 
 /// The command that octets ask, or why there is none.
-fn ask(alloc: Global, octets: &[u8]) -> Result<AdminCommand, Stop>
+fn ask(alloc: Global, octets: &[u8]) -> Result<AdminCommand, NoCommand>
     ensures ok { IfOk result (λ command. IsRequest octets.now (Ok (command_seen command))) }
-    ensures fault { IfErr result (λ stop. stop ≢ Stop.NoMemory → IsRequest octets.now (Err stop)) }
+    ensures fault { IfErr result (λ stop. stop ≢ NoCommand.NoMemory
+        → IsRequest octets.now (Err stop)) }
 {
     let mut headers = [EMPTY_HEADER_SPAN; MAX_HEADERS];
     let head = read_head(octets, &mut headers)?;
@@ -48,12 +49,12 @@ fn ask(alloc: Global, octets: &[u8]) -> Result<AdminCommand, Stop>
 
 /// The command that a head and what is behind it ask.
 #[tactic(auto, unfolding(crate::specs::Request::asked_by))]
-fn ask_by(alloc: Global, head: &Head<'_>, headers: &[HeaderSpan]) -> Result<AdminCommand, Stop>
+fn ask_by(alloc: Global, head: &Head<'_>, headers: &[HeaderSpan]) -> Result<AdminCommand, NoCommand>
     requires within { LieIn head.now headers.now }
     requires utf8 { IsUtf8 head.now.target.now }
     ensures ok { IfOk result (λ command. asked_by head.now.method.now head.now.target.now
         (headers_of head.now headers.now) head.now.behind.now ≡ Ok (command_seen command)) }
-    ensures fault { IfErr result (λ stop. stop ≢ Stop.NoMemory
+    ensures fault { IfErr result (λ stop. stop ≢ NoCommand.NoMemory
         → asked_by head.now.method.now head.now.target.now (headers_of head.now headers.now)
         head.now.behind.now ≡ Err stop) }
 {

@@ -10,10 +10,10 @@ ghost use Rattle.adminhttp.specs.Steps.{value_or};
 ghost use Rattle.adminhttp.specs.declared.refusal.Refusal.TheVariants.{NotFound};
 
 use super::Target;
+use crate::no_command::NoCommand;
 use crate::refusal::Refusal;
 use crate::route::Route;
 use crate::router::find_route;
-use crate::stop::Stop;
 use creds::Name;
 use office::read_number;
 use policy::Action;
@@ -22,10 +22,10 @@ use std::str;
 
 /// What a target names; [`Refusal::NotFound`] where it is of no route, or a part of it has not its
 /// form.
-pub fn read_target(alloc: Global, target: &[u8]) -> Result<Target, Stop>
+pub fn read_target(alloc: Global, target: &[u8]) -> Result<Target, NoCommand>
     requires { IsUtf8 target.now }
     ensures ok { IfOk result (λ found. value_or (target_of target.now) NotFound ≡ Ok found) }
-    ensures fault { IfErr result (λ stop. stop ≢ Stop.NoMemory
+    ensures fault { IfErr result (λ stop. stop ≢ NoCommand.NoMemory
         → value_or (target_of target.now) NotFound ≡ Err stop) }
 {
     let Ok(path) = str::from_utf8(target) else {
@@ -33,7 +33,7 @@ pub fn read_target(alloc: Global, target: &[u8]) -> Result<Target, Stop>
     };
     match read_found(find_route(alloc, path)?, target) {
         Some(found) => Ok(found),
-        None => Err(Stop::Bad(Refusal::NotFound)),
+        None => Err(NoCommand::Bad(Refusal::NotFound)),
     }
 }
 

@@ -11,5 +11,5 @@ returns-in-Ok-read-clause-ok c =
 
 pub returns-in-Err-clause-fault : goal.returns-in-Err-clause-fault
 returns-in-Err-clause-fault c = λ h.
-    let fault = policy_fault c.args.body.now c.in-Ok.text.now c.in-Err.fault c.in-Ok.ensures.cases.0 c.in-Ok.ensures.cases.1 c.in-Err.ensures.fault (λ e. h (c.stop_of.ensures ∙ e)) in
-    rw c.stop_of.ensures fault
+    let fault = policy_fault c.args.body.now c.in-Ok.text.now c.in-Err.fault c.in-Ok.ensures.cases.0 c.in-Ok.ensures.cases.1 c.in-Err.ensures.fault (λ e. h (c.no_command_of.ensures ∙ e)) in
+    rw c.no_command_of.ensures fault

@@ -6,7 +6,7 @@ use policy::PolicyFault;
 
 /// Why a request gives no command.
 #[derive(Clone, Copy, PartialEq, Eq)]
-pub enum Stop {
+pub enum NoCommand {
     /// More octets are to come.
     More,
     /// The request is refused.
@@ -17,13 +17,13 @@ pub enum Stop {
     NoMemory,
 }
 
-impl From<InsertError> for Stop {
+impl From<InsertError> for NoCommand {
     ghost use Rattle.std.specs.Prelude.{◌≡◌};
-    ghost use Rattle.adminhttp.specs.declared.stop.Stop.TheVariants.{NoMemory};
+    ghost use Rattle.adminhttp.specs.declared.no_command.NoCommand.TheVariants.{NoMemory};
 
     ghost from_gives = { λ _ stop. stop ≡ NoMemory };
 
-    fn from(_: InsertError) -> Stop {
-        Stop::NoMemory
+    fn from(_: InsertError) -> NoCommand {
+        NoCommand::NoMemory
     }
 }
