@@ -129,6 +129,7 @@ pub fn members<S: Alter>(
     ensures survives { Survives (state S.Store conn.old) (state S.Store conn.new)
         (λ _. ¬ IsOurs (state S.Store conn.old).now) }
 {
+    // For the proof: while a connection is open, its database lists its tables.
     let _schema = conn.schema();
     match conn.query_all(
         "SELECT grp, place, clerk FROM members WHERE grp = ?1 ORDER BY place",

@@ -40,6 +40,7 @@ pub fn add_message<'x, S: Alter>(
     ensures survives { Survives (state S.Store conn.old) (state S.Store conn.new)
         (MayLeave (changes.Arrives maildrop.now class.now k octets) (state S.Store conn.old)) }
 {
+    // For the proof: while a connection is open, its database lists its tables.
     let _schema = conn.schema();
     match conn.execute(
         "INSERT INTO mail (maildrop, class, k, octets) VALUES (?1, ?2, ?3, ?4)",

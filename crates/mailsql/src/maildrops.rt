@@ -73,6 +73,7 @@ pub fn has_maildrop<S: Alter>(conn: &mut Connection<S>, name: &[u8]) -> Result<b
     ensures survives { Survives (state S.Store conn.old) (state S.Store conn.new)
         (λ _. ¬ IsOurs (state S.Store conn.old).now) }
 {
+    // For the proof: while a connection is open, its database lists its tables.
     let _schema = conn.schema();
     match conn.query_all(
         "SELECT name FROM maildrops WHERE name = ?1",

@@ -36,6 +36,7 @@ pub(crate) fn run<S: Alter>(
     ensures survives { Survives (state S.Store conn.old) (state S.Store conn.new)
         (CommitsBy text.now (bound params.now) (state S.Store conn.old)) }
 {
+    // For the proof: while a connection is open, its database lists its tables.
     let _schema = conn.schema();
     match conn.execute(text, params) {
         Ok(_) => Ok(()),
@@ -61,6 +62,7 @@ pub(crate) fn list<T: Stored, S: Alter>(
     ensures survives { Survives (state S.Store conn.old) (state S.Store conn.new)
         (CommitsShowing text.now (bound params.now) (state S.Store conn.old)) }
 {
+    // For the proof: while a connection is open, its database lists its tables.
     let _schema = conn.schema();
     match conn.query_all(text, params) {
         Ok(rows) => read_all(alloc, rows.as_slice()),
@@ -86,6 +88,7 @@ pub(crate) fn first<T: Stored, S: Alter>(
     ensures survives { Survives (state S.Store conn.old) (state S.Store conn.new)
         (CommitsShowing text.now (bound params.now) (state S.Store conn.old)) }
 {
+    // For the proof: while a connection is open, its database lists its tables.
     let _schema = conn.schema();
     match conn.query_all(text, params) {
         Ok(rows) => read_first(alloc, rows.as_slice()),
@@ -110,6 +113,7 @@ pub(crate) fn count<S: Alter>(
     ensures survives { Survives (state S.Store conn.old) (state S.Store conn.new)
         (CommitsShowing text.now (bound params.now) (state S.Store conn.old)) }
 {
+    // For the proof: while a connection is open, its database lists its tables.
     let _schema = conn.schema();
     match conn.query_row(text, params) {
         Ok(row) => read_count(&row),

@@ -324,5 +324,6 @@ pub fn keys_hold<S: Alter>(conn: &Connection<S>)
     ensures apart { IsReady (state S.Store conn.now)
         → AreApart (rows_in (state S.Store conn.now).now.trees) }
 {
+    // For the proof: while a connection is open, its database lists its tables.
     let _schema = conn.schema();
 }

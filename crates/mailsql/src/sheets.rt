@@ -105,6 +105,7 @@ pub fn add_sheets<S: Alter>(conn: &mut Connection<S>, mail: i64, text: &[u8]) ->
     ensures survives { Survives (state S.Store conn.old) (state S.Store conn.new)
         (MayLeave (changes.AddsSomeSheets mail text.now) (state S.Store conn.old)) }
 {
+    // For the proof: whether a transaction is open is known.
     let _settled = conn.is_autocommit();
     for place in 0..count_sheets(text) {
         match add_sheet_at(conn, mail, text, place) {

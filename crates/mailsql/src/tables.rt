@@ -56,6 +56,7 @@ pub fn create_tables<S: Alter>(conn: &mut Connection<S>) -> Result<(), Error>
             Err(error) => return Err(error),
         }
     }
+    // For the proof: while a connection is open, its database lists its tables.
     let _schema = conn.schema();
     Ok(())
 }
@@ -113,6 +114,7 @@ pub fn complete_tables<S: Alter>(conn: &mut Connection<S>, is_first: bool) -> Re
             Err(error) => return Err(error),
         }
     }
+    // For the proof: while a connection is open, its database lists its tables.
     let _schema = conn.schema();
     Ok(())
 }
