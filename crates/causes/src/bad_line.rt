@@ -1,15 +1,13 @@
 //! Why a line of a script isn't an event: which of its fields hasn't the form that it must have.
+//! The script's reader says which word that is; here it is worded.
 
 use converse::replay::write_escaped;
-use converse::script::read_script;
-use creds::{DepositId, Name};
-use office::read_number;
-use policy::Action;
-use std::alloc::{AllocError, Global};
+use converse::script::read_line;
+use std::alloc::Global;
 use std::io;
 use std::io::Write;
 
-/// What a field of a line may be.
+/// What a field of a line is, by which the form that it must have is told.
 #[derive(Clone, Copy)]
 enum Kind {
     Number,
@@ -133,7 +131,7 @@ static FORMS: [Form; 21] = [
     },
 ];
 
-/// Tells why a script's line isn't an event. Lines are counted from 1.
+/// Tells why a script's line isn't an event; nothing where it is one. Lines are counted from 1.
 pub fn tell_bad_line<E: Write>(
     alloc: Global,
     err: &mut E,
@@ -141,13 +139,16 @@ pub fn tell_bad_line<E: Write>(
     number: u64,
     line: &[u8],
 ) -> io::Result<()> {
+    let Ok(Err(place)) = read_line(alloc, line) else {
+        return Ok(());
+    };
     write!(err, "why: {name}, line {number}: ")?;
     if line.ends_with(b"\r") {
         return writeln!(err, "it ends with CR LF, and LF alone ends a line");
     }
     for form in &FORMS {
-        if let Some(rest) = behind(line, form.words.as_bytes()) {
-            return tell_fields(alloc, err, form, rest);
+        if begins_with(line, form.words.as_bytes()) {
+            return tell_word(err, form, line, place);
         }
     }
     write!(err, "no event begins with ")?;
@@ -155,12 +156,11 @@ pub fn tell_bad_line<E: Write>(
     writeln!(err)
 }
 
-/// The rest of a line behind the words that it begins with: nothing, or a space and more.
-fn behind<'a>(line: &'a [u8], words: &[u8]) -> Option<&'a [u8]> {
-    let rest = line.strip_prefix(words)?;
-    match rest {
-        [] | [b' ', ..] => Some(rest),
-        _ => None,
+/// Whether a line is of these words, or begins with them and a space.
+fn begins_with(line: &[u8], words: &[u8]) -> bool {
+    match line.strip_prefix(words) {
+        Some(rest) => rest.is_empty() || rest.starts_with(b" "),
+        None => false,
     }
 }
 
@@ -178,59 +178,47 @@ fn first_words(line: &[u8]) -> &[u8] {
     &line[..count.min(line.len())]
 }
 
-/// Tells the first field that hasn't the form that it must have.
-fn tell_fields<E: Write>(alloc: Global, err: &mut E, form: &Form, rest: &[u8]) -> io::Result<()> {
-    let mut rest = rest;
-    let mut left = form.fields.len();
-    for (field, kind) in form.fields {
-        left = left.saturating_sub(1);
-        let Some((value, after)) = take(rest, left == 0) else {
-            tell_form(err, form)?;
-            return writeln!(err, "{field} is missing");
-        };
-        if !takes(alloc, *kind, value) {
-            tell_form(err, form)?;
-            return tell_field(err, field, *kind, value);
-        }
-        rest = after;
-    }
+/// Tells the word of this place, counted from 0, by the field of the form that it is.
+fn tell_word<E: Write>(err: &mut E, form: &Form, line: &[u8], place: usize) -> io::Result<()> {
     tell_form(err, form)?;
-    writeln!(err, "nothing stands behind it")
-}
-
-/// The value of the next field, and the rest of the line behind it. The last field takes all that
-/// is left.
-fn take(rest: &[u8], is_last: bool) -> Option<(&[u8], &[u8])> {
-    let [b' ', rest @ ..] = rest else {
-        return None;
+    let words = count_of(form.words);
+    let at = place.saturating_sub(words);
+    let Some((field, kind)) = form.fields.get(at) else {
+        return writeln!(err, "nothing stands behind it");
     };
+    let is_last = at.saturating_add(1) == form.fields.len();
+    match word_at(line, words.saturating_add(at), is_last) {
+        Some(value) => tell_field(err, field, *kind, value),
+        None => writeln!(err, "{field} is missing"),
+    }
+}
+
+/// How many words these are: one, or two with a space between them.
+fn count_of(words: &str) -> usize {
+    if words.as_bytes().iter().any(|octet| *octet == b' ') {
+        2
+    } else {
+        1
+    }
+}
+
+/// The word of a line at this place, if it has so many; with what stands behind it, where it is the
+/// last of its form.
+fn word_at(line: &[u8], place: usize, is_last: bool) -> Option<&[u8]> {
+    let mut rest = line;
+    for _ in 0..place {
+        rest = behind_space(rest)?;
+    }
     if is_last {
-        return Some((rest, b""));
+        return Some(rest);
     }
-    match rest.iter().position(|octet| *octet == b' ') {
-        Some(at) => Some((&rest[..at], &rest[at..])),
-        None => Some((rest, b"")),
-    }
+    rest.split(|octet| *octet == b' ').next()
 }
 
-/// Whether a value is of a kind.
-fn takes(alloc: Global, kind: Kind, value: &[u8]) -> bool {
-    match kind {
-        Kind::Number => read_number(value).is_some(),
-        Kind::Name => Name::read(value).is_some(),
-        Kind::Id => DepositId::read(value).is_some(),
-        Kind::Action => Action::read(value).is_some(),
-        Kind::Text => is_event(alloc, b"bytes 1 ", value).unwrap_or(true),
-        Kind::Secret => is_event(alloc, b"clerk pass a ", value).unwrap_or(true),
-    }
-}
-
-/// Whether a line of these words and this rest is an event.
-fn is_event(alloc: Global, start: &[u8], rest: &[u8]) -> Result<bool, AllocError> {
-    let mut line = Vec::new(alloc);
-    line.extend_from_slice(start)?;
-    line.extend_from_slice(rest)?;
-    Ok(read_script(alloc, line.as_slice()).is_ok())
+/// What stands behind the first space.
+fn behind_space(text: &[u8]) -> Option<&[u8]> {
+    let at = text.iter().position(|octet| *octet == b' ')?;
+    text.get(at.saturating_add(1)..)
 }
 
 /// Tells the form that a line must have.

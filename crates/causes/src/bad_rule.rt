@@ -1,16 +1,12 @@
-//! Why a text isn't a policy: the line that isn't TOML, or the group or rule and its key.
+//! Why a text isn't a policy: the line that isn't TOML, or the group or rule and its key. The
+//! policy's reader says which key that is; here it is worded.
 
-use super::bad_group::tell_group_fault;
 use super::bad_line::tell_value;
-use creds::Name;
-use policy::{Policy, PolicyFault};
+use policy::{Place, PlacedFault, Policy, PolicyFault};
 use std::alloc::Global;
 use std::io::Write;
 use std::{io, str};
 use toml::{Table, Value};
-
-/// The keys of a rule.
-const KEYS: [&str; 6] = ["name", "effect", "clerk", "maildrop", "class", "actions"];
 
 /// Tells why octets aren't a policy; nothing where they are one.
 pub fn tell_bad_policy<E: Write>(
@@ -26,11 +22,11 @@ pub fn tell_bad_policy<E: Write>(
             return writeln!(err, "why: {name}, line {line}: it isn't UTF-8");
         }
     };
-    let Err(fault) = Policy::read(alloc, text) else {
+    let Err(placed) = Policy::read_placed(alloc, text) else {
         return Ok(());
     };
     match toml::table_from_str(alloc, text) {
-        Ok(table) => tell_fault_in(err, name, &table, fault),
+        Ok(table) => tell_fault_in(err, name, &table, placed),
         Err(error) => match error.span() {
             Some(span) => {
                 let line = line_at(octets, span.start);
@@ -58,15 +54,19 @@ fn tell_fault_in<E: Write>(
     err: &mut E,
     name: &str,
     table: &Table,
-    fault: PolicyFault,
+    placed: PlacedFault,
 ) -> io::Result<()> {
-    if let Some(number) = fault.group_number() {
-        return tell_group_fault(err, name, table, number, fault);
+    if let Some(number) = placed.fault.group_number() {
+        write!(err, "why: {name}, group {number}: ")?;
+        return match table_at(table, "group", number) {
+            Some(group) => tell_in(err, table, group, placed),
+            None => writeln!(err, "{}", placed.fault.name()),
+        };
     }
-    match fault.rule_number() {
+    match placed.fault.rule_number() {
         Some(0) => {
             write!(err, "why: {name}: the key ")?;
-            tell_stray(err, table, &["group", "rule"])?;
+            tell_stray(err, table, placed.place)?;
             writeln!(
                 err,
                 " stands at the top, where `group` and `rule` alone may"
@@ -75,28 +75,19 @@ fn tell_fault_in<E: Write>(
         Some(number) => {
             write!(err, "why: {name}, rule {number}: ")?;
             match table_at(table, "rule", number) {
-                Some(rule) => tell_key(err, table, rule, fault),
-                None => writeln!(err, "{}", fault.name()),
+                Some(rule) => tell_in(err, table, rule, placed),
+                None => writeln!(err, "{}", placed.fault.name()),
             }
         }
-        None => tell_whole(err, name, table, fault),
+        None => tell_whole(err, name, placed),
     }
 }
 
 /// Tells a fault of the policy as a whole.
-fn tell_whole<E: Write>(
-    err: &mut E,
-    name: &str,
-    table: &Table,
-    fault: PolicyFault,
-) -> io::Result<()> {
-    match fault {
+fn tell_whole<E: Write>(err: &mut E, name: &str, placed: PlacedFault) -> io::Result<()> {
+    match placed.fault {
         PolicyFault::NotToml => {
-            let key = if is_array_of_tables(table.get("group")) {
-                "rule"
-            } else {
-                "group"
-            };
+            let key = key_at(placed.place);
             writeln!(
                 err,
                 "why: {name}: `{key}` is no array of tables, each under [[{key}]]"
@@ -108,141 +99,133 @@ fn tell_whole<E: Write>(
     }
 }
 
-/// Whether a value is an array of tables alone, or isn't there.
-fn is_array_of_tables(value: Option<&Value>) -> bool {
-    match value {
-        Some(value) => match value.as_array() {
-            Some(values) => values.iter().all(|value| value.is_table()),
-            None => false,
-        },
-        None => true,
-    }
-}
-
 /// The table of the group or rule of this number, counted from 1.
-pub(super) fn table_at<'a>(table: &'a Table, list: &str, number: usize) -> Option<&'a Table> {
+fn table_at<'a>(table: &'a Table, list: &str, number: usize) -> Option<&'a Table> {
     let values = table.get(list)?.as_array()?;
     values.get(number.checked_sub(1)?)?.as_table()
 }
 
-/// Tells the key of a rule that has a fault.
-fn tell_key<E: Write>(
+/// The key that a place is; empty where it is none by its name.
+fn key_at(place: Place) -> &'static str {
+    match place {
+        Place::Groups => "group",
+        Place::Rules => "rule",
+        Place::Name => "name",
+        Place::Members | Place::Member(_) | Place::Again(_) => "members",
+        Place::Effect => "effect",
+        Place::Clerk => "clerk",
+        Place::Maildrop => "maildrop",
+        Place::Class => "class",
+        Place::Actions => "actions",
+        Place::Text | Place::Stray(_) => "",
+    }
+}
+
+/// Tells the key of a group's or a rule's table that has a fault.
+fn tell_in<E: Write>(
     err: &mut E,
     table: &Table,
-    rule: &Table,
-    fault: PolicyFault,
+    one: &Table,
+    placed: PlacedFault,
 ) -> io::Result<()> {
-    match fault {
-        PolicyFault::MissingKey(_) => match missing_key(rule, &KEYS) {
-            Some(key) => writeln!(err, "the key `{key}` is missing"),
-            None => Ok(()),
-        },
-        PolicyFault::UnknownKey(_) => {
-            write!(err, "the key ")?;
-            tell_stray(err, rule, &KEYS)?;
-            writeln!(
-                err,
-                " is none of name, effect, clerk, maildrop, class and actions"
-            )
-        }
-        PolicyFault::BadName(_) => tell_name(err, rule),
-        PolicyFault::UnknownGroup(_) => {
-            tell_of_key(err, rule, "clerk", "and no group has this name")
-        }
-        PolicyFault::DoubleName(_) => tell_double(err, table, "rule", rule),
-        PolicyFault::BadEffect(_) => tell_of_key(err, rule, "effect", "and not allow or deny"),
+    match placed.fault {
+        PolicyFault::GroupKeys(_) => tell_keys(err, one, placed.place, "name and members"),
+        PolicyFault::MissingKey(_) | PolicyFault::UnknownKey(_) => tell_keys(
+            err,
+            one,
+            placed.place,
+            "name, effect, clerk, maildrop, class and actions",
+        ),
+        PolicyFault::GroupDouble(_) => tell_double(err, table, "group", one),
+        PolicyFault::DoubleName(_) => tell_double(err, table, "rule", one),
+        PolicyFault::GroupMembers(_) => tell_members(err, one, placed.place),
         PolicyFault::BadActions(_) => writeln!(
             err,
             "`actions` is no array of at least one of open, read and remove, each at most once"
         ),
-        PolicyFault::OpenWithClass(_) => {
-            tell_of_key(
-                err,
-                rule,
-                "class",
-                "and a rule with the action open has `*`",
-            )
-        }
-        _ => Ok(()),
-    }
-}
-
-/// The first of these keys that a table lacks.
-pub(super) fn missing_key(table: &Table, keys: &[&'static str]) -> Option<&'static str> {
-    for key in keys {
-        if table.get(*key).is_none() {
-            return Some(*key);
+        _ => {
+            let form = form_at(placed);
+            tell_of_key(err, one, key_at(placed.place), form)
         }
     }
-    None
 }
 
-/// Tells the first key of a table that isn't one of these keys.
-pub(super) fn tell_stray<E: Write>(err: &mut E, table: &Table, keys: &[&str]) -> io::Result<()> {
-    for key in table.keys() {
-        if !keys.iter().any(|known| *known == key.as_str()) {
-            return tell_value(err, key.as_bytes());
+/// The form that a value of this place must have, where it has this fault.
+fn form_at(placed: PlacedFault) -> &'static str {
+    match (placed.fault, placed.place) {
+        (PolicyFault::UnknownGroup(_), _) => "and no group has this name",
+        (PolicyFault::BadEffect(_), _) => "and not allow or deny",
+        (PolicyFault::OpenWithClass(_), _) => "and a rule with the action open has `*`",
+        (PolicyFault::GroupName(_), _) => "and not 1 to 32 of a-z, 0-9 and -",
+        (_, Place::Name) => "and not 1 to 32 of a-z, 0-9 and -, other than `default`",
+        (_, Place::Clerk) => "and not `*`, 1 to 32 of a-z, 0-9 and -, or `@` and such a name",
+        _ => "and not `*` or 1 to 32 of a-z, 0-9 and -",
+    }
+}
+
+/// Tells the key that a table lacks, or the one that none of its kind has.
+fn tell_keys<E: Write>(err: &mut E, one: &Table, place: Place, keys: &str) -> io::Result<()> {
+    match place {
+        Place::Stray(_) => {
+            write!(err, "the key ")?;
+            tell_stray(err, one, place)?;
+            writeln!(err, " is none of {keys}")
         }
+        _ => writeln!(err, "the key `{}` is missing", key_at(place)),
     }
-    Ok(())
 }
 
-/// Tells which of a rule's names isn't of its form.
-fn tell_name<E: Write>(err: &mut E, rule: &Table) -> io::Result<()> {
-    if !is_clerks(rule.get("clerk")) {
-        let form = "and not `*`, 1 to 32 of a-z, 0-9 and -, or `@` and such a name";
-        return tell_of_key(err, rule, "clerk", form);
+/// Tells the key of this place in a table.
+fn tell_stray<E: Write>(err: &mut E, table: &Table, place: Place) -> io::Result<()> {
+    let Place::Stray(at) = place else {
+        return Ok(());
+    };
+    match table.keys().nth(at) {
+        Some(key) => tell_value(err, key.as_bytes()),
+        None => Ok(()),
     }
-    for key in ["maildrop", "class"] {
-        if !is_pattern(rule.get(key)) {
-            return tell_of_key(err, rule, key, "and not `*` or 1 to 32 of a-z, 0-9 and -");
+}
+
+/// Tells what is wrong with a group's members.
+fn tell_members<E: Write>(err: &mut E, group: &Table, place: Place) -> io::Result<()> {
+    let Some(members) = members_of(group) else {
+        let form = "and not an array of 1 to 200 names";
+        return tell_of_key(err, group, "members", form);
+    };
+    match place {
+        Place::Member(at) => {
+            write!(err, "a member is ")?;
+            tell_item(err, members, at)?;
+            writeln!(err, ", and not 1 to 32 of a-z, 0-9 and -")
         }
-    }
-    tell_of_key(
-        err,
-        rule,
-        "name",
-        "and not 1 to 32 of a-z, 0-9 and -, other than `default`",
-    )
-}
-
-/// Whether a text is `*` or a name.
-fn is_pattern_text(text: &str) -> bool {
-    text == "*" || Name::read(text.as_bytes()).is_some()
-}
-
-/// Whether a value is `*` or a name.
-fn is_pattern(value: Option<&Value>) -> bool {
-    match value {
-        Some(value) => match value.as_str() {
-            Some(text) => is_pattern_text(text),
-            None => false,
-        },
-        None => false,
+        Place::Again(at) => {
+            write!(err, "the member ")?;
+            tell_item(err, members, at)?;
+            writeln!(err, " stands twice")
+        }
+        _ => writeln!(
+            err,
+            "`members` has {} items, and not 1 to 200",
+            members.len()
+        ),
     }
 }
 
-/// Whether a value is `*`, a name, or `@` and a name.
-fn is_clerks(value: Option<&Value>) -> bool {
-    match value {
-        Some(value) => match value.as_str() {
-            Some(text) => match text.strip_prefix("@") {
-                Some(group) => Name::read(group.as_bytes()).is_some(),
-                None => is_pattern_text(text),
-            },
-            None => false,
-        },
-        None => false,
+/// The array at the key `members`.
+fn members_of(group: &Table) -> Option<&[Value]> {
+    Some(group.get("members")?.as_array()?)
+}
+
+/// Tells the item of this place.
+fn tell_item<E: Write>(err: &mut E, items: &[Value], at: usize) -> io::Result<()> {
+    match items.get(at) {
+        Some(item) => tell_setting(err, item),
+        None => Ok(()),
     }
 }
 
 /// Tells which earlier group or rule has the name of this one.
-pub(super) fn tell_double<E: Write>(
-    err: &mut E,
-    table: &Table,
-    list: &str,
-    one: &Table,
-) -> io::Result<()> {
+fn tell_double<E: Write>(err: &mut E, table: &Table, list: &str, one: &Table) -> io::Result<()> {
     let text = text_at(one, "name");
     write!(err, "`name` is ")?;
     tell_value(err, text.as_bytes())?;
@@ -276,12 +259,7 @@ fn text_at<'a>(table: &'a Table, key: &str) -> &'a str {
 }
 
 /// Tells the value at a key of a group or rule, and the form that it must have.
-pub(super) fn tell_of_key<E: Write>(
-    err: &mut E,
-    table: &Table,
-    key: &str,
-    form: &str,
-) -> io::Result<()> {
+fn tell_of_key<E: Write>(err: &mut E, table: &Table, key: &str, form: &str) -> io::Result<()> {
     write!(err, "`{key}` is ")?;
     if let Some(value) = table.get(key) {
         tell_setting(err, value)?;
@@ -290,7 +268,7 @@ pub(super) fn tell_of_key<E: Write>(
 }
 
 /// Tells a value: a text itself, of any other value its type.
-pub(super) fn tell_setting<E: Write>(err: &mut E, value: &Value) -> io::Result<()> {
+fn tell_setting<E: Write>(err: &mut E, value: &Value) -> io::Result<()> {
     match value {
         Value::String(text) => tell_value(err, text.as_bytes()),
         other => write!(err, "of type {}", other.type_str()),

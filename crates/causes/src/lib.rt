@@ -4,7 +4,6 @@
 
 ghost use Rattle.std.specs.Prelude.{◌≡◌};
 
-mod bad_group;
 mod bad_line;
 mod bad_rule;
 mod closed_store;
