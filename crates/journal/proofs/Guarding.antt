@@ -1,5 +1,5 @@
 -- What a guard hands on, one call after the other.
-use Rattle.std.proofs.Common.{◌≡◌, ℕ, Bool, true, List, [], ◌∷◌, ◌++◌, refl, ap, sym, ◌∙◌, subst, Option, Some, None}
+use Rattle.std.proofs.Common.{◌≡◌, ℕ, Bool, true, false, List, [], ◌∷◌, ◌++◌, refl, ap, sym, ◌∙◌, subst, Option, Some, None}
 use Rattle.serving.specs.Wires.{counted}
 use Rattle.serving.specs.Calls.{Call, Read, Wrote}
 use Rattle.serving.specs.declared.wire.Link.{Link}
@@ -7,32 +7,62 @@ use Rattle.serving.specs.declared.wire.Port.{Port}
 use Rattle.serving.specs.declared.wire.Io.{Io}
 use Rattle.serving.specs.Spools.{FileCall, Next}
 use Rattle.serving.specs.declared.file_name.FileName.{FileName}
-use Rattle.journal.specs.Guards.{gives_nothing, IsHandedOn, IsKeptBack, IsGuarded, IsFileHandedOn, IsNameKeptBack, AreGuarded}
+use Rattle.journal.specs.Guards.{gives_nothing, is_unguarded, IsUnguarded, IsHandedOn, GaveNothing, IsKeptBack, IsGuarded, names_a_file, IsFileHandedOn, IsNameHandedOn, IsNameKeptBack, AreGuarded}
 
-module _ {W : Type 0} (Asked : W → List Call → Type 0) where
-  pub handed_on : (w w1 : W) (call : Call) → ((before : List Call) → Asked w before → Asked w1 (before ++ call ∷ [])) → (a : List Call) → IsGuarded Asked w a → IsGuarded Asked w1 (a ++ call ∷ [])
-  handed_on w w1 call called a g = record { inside = g.inside ++ call ∷ []; asked = called g.inside g.asked; handed = IsHandedOn g.inside a call g.handed }
+module _ {W X : Type 0} (Asked : W → List Call → Type 0) (Answered : X → List Bool → Type 0) where
+  pub unguarded : (w w1 : W) (x x1 : X) (call : Call) → is_unguarded call ≡ true → ((before : List Call) → Asked w before → Asked w1 (before ++ call ∷ []))
+      → ((said : List Bool) → Answered x said → Answered x1 said) → (a : List Call) → IsGuarded Asked Answered w x a → IsGuarded Asked Answered w1 x1 (a ++ call ∷ [])
+  unguarded w w1 x x1 call free called still a g =
+      record { inside = g.inside ++ call ∷ []; said = g.said; asked = called g.inside g.asked; answered = still g.said g.answered; handed = IsUnguarded g.inside g.said a call free g.handed }
 
-  pub kept_back : (w : W) (call : Call) → gives_nothing call ≡ true → (a : List Call) → IsGuarded Asked w a → IsGuarded Asked w (a ++ call ∷ [])
-  kept_back w call nothing a g = record { inside = g.inside; asked = g.asked; handed = IsKeptBack g.inside a call nothing g.handed }
+  pub handed_on : (w w1 : W) (x x1 : X) (call : Call) (lost : Bool) → lost ≡ false → ((before : List Call) → Asked w before → Asked w1 (before ++ call ∷ []))
+      → ((said : List Bool) → Answered x said → Answered x1 (said ++ lost ∷ [])) → (a : List Call) → IsGuarded Asked Answered w x a → IsGuarded Asked Answered w1 x1 (a ++ call ∷ [])
+  handed_on w w1 x x1 call lost there called told a g =
+      record { inside = g.inside ++ call ∷ []; said = g.said ++ false ∷ []; asked = called g.inside g.asked; answered = subst (λ b. Answered x1 (g.said ++ b ∷ [])) there (told g.said g.answered); handed = IsHandedOn g.inside g.said a call g.handed }
 
-  -- a read or a write without room is the same call inside
-  pub read_on : (w w1 : W) (port : Port) (link : Link) (io io1 : Io) (xs ys : List ℕ) → io1 ≡ io → ((octets : List ℕ) → counted io1 octets ≡ [])
-      → ((before : List Call) → Asked w before → Asked w1 (before ++ Read port link io (counted io xs) ∷ [])) → (a : List Call) → IsGuarded Asked w a → IsGuarded Asked w1 (a ++ Read port link io1 (counted io1 ys) ∷ [])
-  read_on w w1 port link io io1 xs ys same none called a g =
-      let is : Read port link io (counted io xs) ≡ Read port link io1 (counted io1 ys) = ap (λ i. Read port link i (counted i xs)) (sym same) ∙ ap (λ o. Read port link io1 o) (none xs ∙ sym (none ys)) in
-      subst (λ call. IsGuarded Asked w1 (a ++ call ∷ [])) is (handed_on w w1 (Read port link io (counted io xs)) called a g)
+  pub kept_back : (w : W) (x x1 : X) (call : Call) (lost : Bool) → lost ≡ true → gives_nothing call ≡ true
+      → ((said : List Bool) → Answered x said → Answered x1 (said ++ lost ∷ [])) → (a : List Call) → IsGuarded Asked Answered w x a → IsGuarded Asked Answered w x1 (a ++ call ∷ [])
+  kept_back w x x1 call lost gone nothing told a g =
+      record { inside = g.inside; said = g.said ++ true ∷ []; asked = g.asked; answered = subst (λ b. Answered x1 (g.said ++ b ∷ [])) gone (told g.said g.answered); handed = IsKeptBack g.inside g.said a call nothing g.handed }
 
-  pub wrote_on : (w w1 : W) (port : Port) (link : Link) (io io1 : Io) (xs ys : List ℕ) → io1 ≡ io → ((octets : List ℕ) → counted io1 octets ≡ [])
-      → ((before : List Call) → Asked w before → Asked w1 (before ++ Wrote port link io (counted io xs) ∷ [])) → (a : List Call) → IsGuarded Asked w a → IsGuarded Asked w1 (a ++ Wrote port link io1 (counted io1 ys) ∷ [])
-  wrote_on w w1 port link io io1 xs ys same none called a g =
-      let is : Wrote port link io (counted io xs) ≡ Wrote port link io1 (counted io1 ys) = ap (λ i. Wrote port link i (counted i xs)) (sym same) ∙ ap (λ o. Wrote port link io1 o) (none xs ∙ sym (none ys)) in
-      subst (λ call. IsGuarded Asked w1 (a ++ call ∷ [])) is (handed_on w w1 (Wrote port link io (counted io xs)) called a g)
+  gave_nothing : (w w1 : W) (x x1 : X) (call : Call) (lost : Bool) → lost ≡ true → gives_nothing call ≡ true → ((before : List Call) → Asked w before → Asked w1 (before ++ call ∷ []))
+      → ((said : List Bool) → Answered x said → Answered x1 (said ++ lost ∷ [])) → (a : List Call) → IsGuarded Asked Answered w x a → IsGuarded Asked Answered w1 x1 (a ++ call ∷ [])
+  gave_nothing w w1 x x1 call lost gone nothing called told a g =
+      record { inside = g.inside ++ call ∷ []; said = g.said ++ true ∷ []; asked = called g.inside g.asked; answered = subst (λ b. Answered x1 (g.said ++ b ∷ [])) gone (told g.said g.answered); handed = GaveNothing g.inside g.said a call nothing g.handed }
 
-module _ {S : Type 0} (Asked : S → List FileCall → Type 0) where
-  pub file_on : (s s1 : S) (call : FileCall) → ((before : List FileCall) → Asked s before → Asked s1 (before ++ call ∷ [])) → (a : List FileCall) → AreGuarded Asked s a → AreGuarded Asked s1 (a ++ call ∷ [])
-  file_on s s1 call called a g = record { inside = g.inside ++ call ∷ []; asked = called g.inside g.asked; handed = IsFileHandedOn g.inside a call g.handed }
+  -- a read or a write without room is the same call inside, of no octet
+  pub read_on : (w w1 : W) (x x1 : X) (port : Port) (link : Link) (io io1 : Io) (xs ys : List ℕ) (lost : Bool) → lost ≡ true → io1 ≡ io → ((octets : List ℕ) → counted io1 octets ≡ [])
+      → ((before : List Call) → Asked w before → Asked w1 (before ++ Read port link io (counted io xs) ∷ [])) → ((said : List Bool) → Answered x said → Answered x1 (said ++ lost ∷ []))
+      → (a : List Call) → IsGuarded Asked Answered w x a → IsGuarded Asked Answered w1 x1 (a ++ Read port link io1 (counted io1 ys) ∷ [])
+  read_on w w1 x x1 port link io io1 xs ys lost gone same none called told a g =
+      let inside : Read port link io (counted io xs) ≡ Read port link io1 [] = ap (λ i. Read port link i (counted i xs)) (sym same) ∙ ap (λ o. Read port link io1 o) (none xs) in
+      let here : Read port link io1 [] ≡ Read port link io1 (counted io1 ys) = ap (λ o. Read port link io1 o) (sym (none ys)) in
+      subst (λ call. IsGuarded Asked Answered w1 x1 (a ++ call ∷ [])) here
+      (gave_nothing w w1 x x1 (Read port link io1 []) lost gone refl (λ before q. subst (λ call. Asked w1 (before ++ call ∷ [])) inside (called before q)) told a g)
 
-  pub name_back : (s s1 : S) (last : Option FileName) (name : FileName) → ((before : List FileCall) → Asked s before → Asked s1 (before ++ Next last (Some name) ∷ []))
-      → (a : List FileCall) → AreGuarded Asked s a → AreGuarded Asked s1 (a ++ Next last None ∷ [])
-  name_back s s1 last name called a g = record { inside = g.inside ++ Next last (Some name) ∷ []; asked = called g.inside g.asked; handed = IsNameKeptBack g.inside a last name g.handed }
+  pub wrote_on : (w w1 : W) (x x1 : X) (port : Port) (link : Link) (io io1 : Io) (xs ys : List ℕ) (lost : Bool) → lost ≡ true → io1 ≡ io → ((octets : List ℕ) → counted io1 octets ≡ [])
+      → ((before : List Call) → Asked w before → Asked w1 (before ++ Wrote port link io (counted io xs) ∷ [])) → ((said : List Bool) → Answered x said → Answered x1 (said ++ lost ∷ []))
+      → (a : List Call) → IsGuarded Asked Answered w x a → IsGuarded Asked Answered w1 x1 (a ++ Wrote port link io1 (counted io1 ys) ∷ [])
+  wrote_on w w1 x x1 port link io io1 xs ys lost gone same none called told a g =
+      let inside : Wrote port link io (counted io xs) ≡ Wrote port link io1 [] = ap (λ i. Wrote port link i (counted i xs)) (sym same) ∙ ap (λ o. Wrote port link io1 o) (none xs) in
+      let here : Wrote port link io1 [] ≡ Wrote port link io1 (counted io1 ys) = ap (λ o. Wrote port link io1 o) (sym (none ys)) in
+      subst (λ call. IsGuarded Asked Answered w1 x1 (a ++ call ∷ [])) here
+      (gave_nothing w w1 x x1 (Wrote port link io1 []) lost gone refl (λ before q. subst (λ call. Asked w1 (before ++ call ∷ [])) inside (called before q)) told a g)
+
+module _ {S X : Type 0} (Asked : S → List FileCall → Type 0) (Answered : X → List Bool → Type 0) where
+  pub file_on : (s s1 : S) (x : X) (call : FileCall) → names_a_file call ≡ false → ((before : List FileCall) → Asked s before → Asked s1 (before ++ call ∷ []))
+      → (a : List FileCall) → AreGuarded Asked Answered s x a → AreGuarded Asked Answered s1 x (a ++ call ∷ [])
+  file_on s s1 x call none called a g =
+      record { inside = g.inside ++ call ∷ []; said = g.said; asked = called g.inside g.asked; answered = g.answered; handed = IsFileHandedOn g.inside g.said a call none g.handed }
+
+  pub name_on : (s s1 : S) (x x1 x2 : X) (last : Option FileName) (name : FileName) (lost : Bool) → lost ≡ false → ((before : List FileCall) → Asked s before → Asked s1 (before ++ Next last (Some name) ∷ []))
+      → ((said : List Bool) → Answered x said → Answered x1 said) → ((said : List Bool) → Answered x1 said → Answered x2 (said ++ lost ∷ []))
+      → (a : List FileCall) → AreGuarded Asked Answered s x a → AreGuarded Asked Answered s1 x2 (a ++ Next last (Some name) ∷ [])
+  name_on s s1 x x1 x2 last name lost there called still told a g =
+      record { inside = g.inside ++ Next last (Some name) ∷ []; said = g.said ++ false ∷ []; asked = called g.inside g.asked; answered = subst (λ b. Answered x2 (g.said ++ b ∷ [])) there (told g.said (still g.said g.answered)); handed = IsNameHandedOn g.inside g.said a last name g.handed }
+
+  pub name_back : (s s1 : S) (x x1 x2 : X) (last : Option FileName) (name : FileName) (lost : Bool) → lost ≡ true → ((before : List FileCall) → Asked s before → Asked s1 (before ++ Next last (Some name) ∷ []))
+      → ((said : List Bool) → Answered x said → Answered x1 said) → ((said : List Bool) → Answered x1 said → Answered x2 (said ++ lost ∷ []))
+      → (a : List FileCall) → AreGuarded Asked Answered s x a → AreGuarded Asked Answered s1 x2 (a ++ Next last None ∷ [])
+  name_back s s1 x x1 x2 last name lost gone called still told a g =
+      record { inside = g.inside ++ Next last (Some name) ∷ []; said = g.said ++ true ∷ []; asked = called g.inside g.asked; answered = subst (λ b. Answered x2 (g.said ++ b ∷ [])) gone (told g.said (still g.said g.answered)); handed = IsNameKeptBack g.inside g.said a last name g.handed }

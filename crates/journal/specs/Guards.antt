@@ -1,44 +1,79 @@
--- What a guard asks of the wire or the spool inside.
+-- What a guard asks of the wire or the spool inside, by what its watch answers.
 use Rattle.std.specs.Prelude.{◌≡◌, Bool, true, false, List, [], ◌∷◌, ◌++◌, Option, Some, None}
-use Rattle.serving.specs.Calls.{Call, Accepted, Looked}
+use Rattle.serving.specs.Calls.{Call, Waited, Accepted, Looked, Read, Wrote, Closed}
 use Rattle.serving.specs.Spools.{FileCall, Next}
 use Rattle.serving.specs.declared.file_name.FileName.{FileName}
 use Rattle.serving.specs.declared.wire.Io.TheVariants.{Later}
 
--- no link came, or no octet was shown
+-- no link came, or no octet was shown, read or written
 abbrev pub gives_nothing : Call → Bool
 gives_nothing (Accepted port None) = true
 gives_nothing (Looked port link Later []) = true
+gives_nothing (Read port link io []) = true
+gives_nothing (Wrote port link io []) = true
 gives_nothing _ = false
 
--- These calls were handed on, each as it is, the newest last, and answered so; but for some no
--- call was made, and they gave nothing.
-pub data AreHandedOn : (inside calls : List Call) → Type 0 where
-  NoCall : AreHandedOn [] []
-  IsHandedOn : (inside calls : List Call) (call : Call) → AreHandedOn inside calls
-      → AreHandedOn (inside ++ call ∷ []) (calls ++ call ∷ [])
-  IsKeptBack : (inside calls : List Call) (call : Call) → gives_nothing call ≡ true
-      → AreHandedOn inside calls → AreHandedOn inside (calls ++ call ∷ [])
+-- a wait and a close are handed on without asking the watch
+abbrev pub is_unguarded : Call → Bool
+is_unguarded (Waited millis) = true
+is_unguarded (Closed port link) = true
+is_unguarded _ = false
 
--- so it is of a wire inside
-pub record IsGuarded {W : Type 0} (Asked : W → List Call → Type 0) (wire : W) (calls : List Call)
-    : Type 0 where
+-- These calls were handed on, each as it is, the newest last, and answered so. For each but a wait
+-- or a close the watch was asked whether the store is lost, and said so: where it is there the call
+-- was handed on; where it is lost the call gave nothing, and may not have been handed on.
+pub data AreHandedOn : (inside : List Call) (said : List Bool) (calls : List Call) → Type 0 where
+  NoCall : AreHandedOn [] [] []
+  IsUnguarded : (inside : List Call) (said : List Bool) (calls : List Call) (call : Call)
+      → is_unguarded call ≡ true → AreHandedOn inside said calls
+      → AreHandedOn (inside ++ call ∷ []) said (calls ++ call ∷ [])
+  IsHandedOn : (inside : List Call) (said : List Bool) (calls : List Call) (call : Call)
+      → AreHandedOn inside said calls
+      → AreHandedOn (inside ++ call ∷ []) (said ++ false ∷ []) (calls ++ call ∷ [])
+  GaveNothing : (inside : List Call) (said : List Bool) (calls : List Call) (call : Call)
+      → gives_nothing call ≡ true → AreHandedOn inside said calls
+      → AreHandedOn (inside ++ call ∷ []) (said ++ true ∷ []) (calls ++ call ∷ [])
+  IsKeptBack : (inside : List Call) (said : List Bool) (calls : List Call) (call : Call)
+      → gives_nothing call ≡ true → AreHandedOn inside said calls
+      → AreHandedOn inside (said ++ true ∷ []) (calls ++ call ∷ [])
+
+-- so it is of a wire inside, and a watch
+pub record IsGuarded {W X : Type 0} (Asked : W → List Call → Type 0)
+    (Answered : X → List Bool → Type 0) (wire : W) (watch : X) (calls : List Call) : Type 0 where
   pub inside : List Call
+  pub said : List Bool
   pub asked : Asked wire inside
-  pub handed : AreHandedOn inside calls
+  pub answered : Answered watch said
+  pub handed : AreHandedOn inside said calls
 
--- These calls were handed on, each as it is; but some names of files were kept back.
-pub data AreFilesHandedOn : (inside calls : List FileCall) → Type 0 where
-  NoFileCall : AreFilesHandedOn [] []
-  IsFileHandedOn : (inside calls : List FileCall) (call : FileCall) → AreFilesHandedOn inside calls
-      → AreFilesHandedOn (inside ++ call ∷ []) (calls ++ call ∷ [])
-  IsNameKeptBack : (inside calls : List FileCall) (last : Option FileName) (name : FileName)
-      → AreFilesHandedOn inside calls
-      → AreFilesHandedOn (inside ++ Next last (Some name) ∷ []) (calls ++ Next last None ∷ [])
+-- a spool gave the name of a file
+abbrev pub names_a_file : FileCall → Bool
+names_a_file (Next last (Some name)) = true
+names_a_file _ = false
 
--- so it is of a spool inside
-pub record AreGuarded {S : Type 0} (Asked : S → List FileCall → Type 0) (spool : S)
-    (calls : List FileCall) : Type 0 where
+-- These calls were handed on, each as it is. For each name of a file the watch was asked whether
+-- the store is lost, and said so: where it is lost the name was kept back.
+pub data AreFilesHandedOn : (inside : List FileCall) (said : List Bool) (calls : List FileCall)
+    → Type 0 where
+  NoFileCall : AreFilesHandedOn [] [] []
+  IsFileHandedOn : (inside : List FileCall) (said : List Bool) (calls : List FileCall)
+      (call : FileCall) → names_a_file call ≡ false → AreFilesHandedOn inside said calls
+      → AreFilesHandedOn (inside ++ call ∷ []) said (calls ++ call ∷ [])
+  IsNameHandedOn : (inside : List FileCall) (said : List Bool) (calls : List FileCall)
+      (last : Option FileName) (name : FileName) → AreFilesHandedOn inside said calls
+      → AreFilesHandedOn (inside ++ Next last (Some name) ∷ []) (said ++ false ∷ [])
+      (calls ++ Next last (Some name) ∷ [])
+  IsNameKeptBack : (inside : List FileCall) (said : List Bool) (calls : List FileCall)
+      (last : Option FileName) (name : FileName) → AreFilesHandedOn inside said calls
+      → AreFilesHandedOn (inside ++ Next last (Some name) ∷ []) (said ++ true ∷ [])
+      (calls ++ Next last None ∷ [])
+
+-- so it is of a spool inside, and a watch
+pub record AreGuarded {S X : Type 0} (Asked : S → List FileCall → Type 0)
+    (Answered : X → List Bool → Type 0) (spool : S) (watch : X) (calls : List FileCall)
+    : Type 0 where
   pub inside : List FileCall
+  pub said : List Bool
   pub asked : Asked spool inside
-  pub handed : AreFilesHandedOn inside calls
+  pub answered : Answered watch said
+  pub handed : AreFilesHandedOn inside said calls

@@ -1,2 +1,3 @@
+pub mod AdminLines
 pub mod Guards
 pub mod Lines

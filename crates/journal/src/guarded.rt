@@ -3,23 +3,26 @@ ghost use Rattle.std.specs.Prelude.{◌≡◌, ℕ, List, []};
 ghost use Rattle.serving.specs.Wires.{IsWithin, counted};
 ghost use Rattle.journal.specs.Guards.{IsGuarded, AreGuarded};
 
-use super::watch::StoreWatch;
+use super::watch::Watch;
 use serving::{FileName, Io, Link, Port, Spool, Wire};
 use std::net::IpAddr;
 
-/// A wire or a spool that does what the one inside does, until the store's files are seen to be
-/// others than those that are open. From then on it accepts no link, reads and writes no octet, by
-/// which open links end, and takes no file. A wire looks at them behind each wait, and a spool
-/// before each file.
+/// A wire or a spool that does what the one inside does, until its watch says that the store is
+/// lost: that its files are seen to be others than those that are open. From then on it accepts no
+/// link, reads and writes no octet, by which open links end, and takes no file. A wire has the
+/// watch look behind each wait, and a spool before each file.
 #[derive(Drop)]
-pub struct Guarded<'a, T> {
+pub struct Guarded<T, X: Watch> {
     pub inner: T,
-    pub watch: &'a StoreWatch<'a>,
+    pub watch: X,
 }
 
-impl<'a, T> Guarded<'a, T> {
+impl<T, X: Watch> Guarded<T, X> {
     /// Guards a wire or a spool.
-    pub fn new(inner: T, watch: &'a StoreWatch<'a>) -> Guarded<'a, T> {
+    pub fn new(inner: T, watch: X) -> Guarded<T, X>
+        ensures inner { result.inner ≡ inner }
+        ensures watch { result.watch ≡ watch }
+    {
         Guarded { inner, watch }
     }
 }
@@ -37,10 +40,10 @@ fn without_octets(io: Io) -> Io
 }
 
 /// Each call as in the wire inside, while the store is there.
-impl<W: Wire> Wire for Guarded<'_, W> {
+impl<W: Wire, X: Watch> Wire for Guarded<W, X> {
     ghost tells = { λ r. W.tells r.inner };
 
-    ghost asked = { λ r calls. IsGuarded W.asked r.inner calls };
+    ghost asked = { λ r calls. IsGuarded W.asked X.answered r.inner r.watch calls };
 
     ghost tells_once = { λ r. W.tells_once r.inner };
 
@@ -87,10 +90,10 @@ impl<W: Wire> Wire for Guarded<'_, W> {
 }
 
 /// Each call as in the spool inside, while the store is there.
-impl<S: Spool> Spool for Guarded<'_, S> {
+impl<S: Spool, X: Watch> Spool for Guarded<S, X> {
     ghost tells = { λ r. S.tells r.inner };
 
-    ghost asked = { λ r calls. AreGuarded S.asked r.inner calls };
+    ghost asked = { λ r calls. AreGuarded S.asked X.answered r.inner r.watch calls };
 
     ghost tells_once = { λ r. S.tells_once r.inner };
 

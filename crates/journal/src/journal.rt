@@ -1,22 +1,25 @@
 //! Where the lines of a log go.
+use super::administrators::Administrators;
 use super::client::Clients;
 use super::pipe::takes_a_line;
 use super::removed_text::{MOST_ON_A_LINE, removed_line};
 use creds::Name;
 use jiff::Timestamp;
 use office::{Account, Removal};
-use serving::{Link, Listener};
+use serving::{Asked, Link, Listener};
 use std::alloc::{AllocError, Global};
 use std::cell::{Cell, RefCell};
 use std::io::Write;
 use std::net::{IpAddr, SocketAddr};
 use std::time::Clock;
 
-/// What the parts of a log share: how many lines were lost, and the mail programs' connections.
+/// What the parts of a log share: how many lines were lost, and the connections of mail programs
+/// and of the administration.
 #[derive(Drop)]
 pub struct Shared {
     lost: Cell<u64>,
     clients: RefCell<Clients>,
+    administrators: RefCell<Administrators>,
 }
 
 impl Shared {
@@ -25,6 +28,7 @@ impl Shared {
         Shared {
             lost: Cell::new(0),
             clients: RefCell::new(Clients::new(alloc)),
+            administrators: RefCell::new(Administrators::new(alloc)),
         }
     }
 }
@@ -115,6 +119,31 @@ impl<'a> Journal<'a> {
         }
     }
 
+    /// Keeps that a link of the administration came.
+    pub fn come_asking(&self, link: Link, address: Option<SocketAddr>) {
+        if let Ok(text) = address_text(self.alloc(), address)
+            && let Ok(mut administrators) = self.shared.administrators.try_borrow_mut()
+        {
+            let _ = administrators.come(self.alloc(), link, text.as_str());
+        }
+    }
+
+    /// Keeps that an octet of a response went out on a link of the administration.
+    pub fn send(&self, link: Link) {
+        if let Ok(mut administrators) = self.shared.administrators.try_borrow_mut() {
+            administrators.send(link);
+        }
+    }
+
+    /// Notes that a link of the administration is closed, and what was asked over it.
+    pub fn close_asking(&self, link: Link) {
+        let text = match self.shared.administrators.try_borrow_mut() {
+            Ok(mut administrators) => administrators.close(self.alloc(), link),
+            Err(_) => None,
+        };
+        self.note_some(text);
+    }
+
     /// Who is in a maildrop, as values of a line; empty where that isn't known.
     pub fn holder(&self, maildrop: &Name) -> Result<String, AllocError> {
         match self.shared.clients.try_borrow() {
@@ -150,7 +179,8 @@ impl<'a> Journal<'a> {
     }
 }
 
-/// Notes each connection that is opened, and what the office judged of what came on it.
+/// Notes each connection that is opened, what the office judged of what came on it, and what the
+/// administration was asked.
 impl Listener for Journal<'_> {
     fn open(&mut self, link: Link, connection: u64) {
         if !self.is_on {
@@ -175,6 +205,14 @@ impl Listener for Journal<'_> {
             Err(_) => None,
         };
         self.note_some(text);
+    }
+
+    fn asked(&mut self, link: Link, asked: &Asked<'_>) {
+        if self.is_on
+            && let Ok(mut administrators) = self.shared.administrators.try_borrow_mut()
+        {
+            administrators.ask(self.alloc(), link, asked);
+        }
     }
 }
 

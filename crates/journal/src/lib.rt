@@ -3,19 +3,19 @@
 //! A [`Journal`] writes the lines. [`LoggedVault`], [`LoggedWire`] and [`LoggedSpool`] stand around
 //! a server's vault, wire and spool: each does what the one inside does, and notes what came of it.
 //! As the server's listener a [`Journal`] notes connections, logins and QUITs as the office judged
-//! them.
+//! them, and what the administration was asked and answered.
 //! [`Guarded`] ends all that once a [`StoreWatch`] sees that the store's files are others.
 #![tactic(auto)]
 
 mod account_text;
+mod administrators;
+mod asked_text;
 mod client;
 mod guarded;
 mod journal;
 mod left;
-mod line;
 mod pipe;
 mod removed_text;
-mod request;
 mod server;
 mod spool;
 mod store;
@@ -28,5 +28,5 @@ pub use left::Folder;
 pub use server::{note_end, note_loss, note_opening, note_start};
 pub use spool::LoggedSpool;
 pub use store::LoggedVault;
-pub use watch::{FileId, Loss, StoreWatch};
+pub use watch::{FileId, Loss, StoreWatch, Watch};
 pub use wire::{LoggedWire, Peers};

@@ -1,4 +1,6 @@
 //! Whether the store's files are still those that a server has open.
+ghost use Rattle.std.specs.Prelude.{◌++◌, ◌∷◌, [], Bool, List, ⊤};
+
 use std::cell::Cell;
 use std::fmt::{Display, Formatter, Write};
 use std::fs::Metadata;
@@ -176,5 +178,43 @@ impl<'a> StoreWatch<'a> {
             Found::Other => Some(Loss::LogReplaced),
             Found::Same => None,
         }
+    }
+}
+
+/// Says whether a server's store is lost.
+///
+/// `answered w said`: `said` is a true record of what w answered. Of a watch over files nothing is
+/// known.
+pub trait Watch {
+    /// `answered w said`: w answered so, the newest last.
+    ghost answered: { Self → List Bool → Type 0 };
+
+    /// Looks, unless it did so just before.
+    fn look(&mut self)
+        ensures { (said : List Bool) → answered self.old said → answered self.new said };
+
+    /// Looks.
+    fn look_now(&mut self)
+        ensures { (said : List Bool) → answered self.old said → answered self.new said };
+
+    /// Whether the store is lost, as far as it was seen.
+    fn is_lost(&mut self) -> bool
+        ensures { (said : List Bool) → answered self.old said
+            → answered self.new (said ++ result ∷ []) };
+}
+
+impl Watch for &StoreWatch<'_> {
+    ghost answered = { λ _ _. ⊤ };
+
+    fn look(&mut self) {
+        StoreWatch::look(self);
+    }
+
+    fn look_now(&mut self) {
+        StoreWatch::look_now(self);
+    }
+
+    fn is_lost(&mut self) -> bool {
+        StoreWatch::is_lost(self)
     }
 }

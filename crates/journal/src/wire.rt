@@ -1,10 +1,8 @@
 //! A wire whose links are noted.
 
-use super::journal::{Journal, address_text};
-use super::request::Asking;
+use super::journal::Journal;
 use proxy::ProxiedWire;
 use serving::{Io, Link, NotedWire, Port, SocketWire, Wire};
-use std::alloc::{AllocError, Global};
 use std::net::{IpAddr, SocketAddr};
 use std::time::Clock;
 
@@ -33,100 +31,42 @@ impl<W: Wire + Peers, C: Clock> Peers for ProxiedWire<W, C> {
     }
 }
 
-/// The open links of the administration, of each what the log needs of it.
-#[derive(Drop)]
-pub struct Followed<'a> {
-    journal: Journal<'a>,
-    askings: Vec<Asking>,
-}
-
-impl<'a> Followed<'a> {
-    /// No link is followed.
-    fn new(journal: Journal<'a>) -> Followed<'a> {
-        Followed {
-            journal,
-            askings: Vec::new(journal.alloc()),
-        }
-    }
-
-    /// Follows a new link. Without memory the log doesn't tell of this link.
-    fn follow(&mut self, port: Port, link: Link, address: Option<SocketAddr>) {
-        match port {
-            Port::Pop => self.journal.come(link, address),
-            Port::Admin => {
-                let _ = self.follow_asking(link, address);
-            }
-        }
-    }
-
-    /// Follows a new link of the administration.
-    fn follow_asking(&mut self, link: Link, address: Option<SocketAddr>) -> Result<(), AllocError> {
-        let alloc = self.journal.alloc();
-        let text = address_text(alloc, address)?;
-        self.askings.push(Asking::new(alloc, link, text.as_str())?)?;
-        Ok(())
-    }
-
-    /// The administrator at a link.
-    fn asking(&mut self, link: Link) -> Option<&mut Asking> {
-        self.askings.iter_mut().find(|asking| asking.link == link)
-    }
-
-    /// Takes octets that came on a link of the administration.
-    fn hear(&mut self, link: Link, octets: &[u8]) {
-        if let Some(asking) = self.asking(link) {
-            asking.hear(octets);
-        }
-    }
-
-    /// Takes octets that were sent on a link of the administration.
-    fn say(&mut self, link: Link, octets: &[u8]) {
-        let alloc = self.journal.alloc();
-        if let Some(asking) = self.asking(link) {
-            asking.say(alloc, octets);
-        }
-    }
-
-    /// Notes the end of a link, and forgets it.
-    fn close(&mut self, port: Port, link: Link) {
-        match port {
-            Port::Pop => self.journal.close(link),
-            Port::Admin => self.close_asking(link),
-        }
-    }
-
-    /// Notes the end of a link of the administration, and forgets it.
-    fn close_asking(&mut self, link: Link) {
-        if let Some(at) = self.askings.iter().position(|asking| asking.link == link) {
-            let asking = self.askings.swap_remove(at);
-            asking.close(&self.journal);
-        }
-    }
-}
-
-/// A wire that does what the one inside does, keeps from where clients came, and notes their ends
-/// and the requests of the administration.
+/// A wire that does what the one inside does, keeps from where links came, and notes their ends.
 #[derive(Drop)]
 pub struct LoggedWire<'a, W: Wire> {
     pub wire: W,
-    pub followed: Followed<'a>,
+    pub journal: Journal<'a>,
 }
 
 impl<'a, W: Wire> LoggedWire<'a, W> {
     /// A wire around this one.
     pub fn new(wire: W, journal: Journal<'a>) -> LoggedWire<'a, W> {
-        LoggedWire {
-            wire,
-            followed: Followed::new(journal),
-        }
+        LoggedWire { wire, journal }
     }
 }
 
 impl<W: Wire + Peers> LoggedWire<'_, W> {
+    /// Keeps a new link. Without memory the log doesn't tell of this link.
+    fn follow(&self, port: Port, link: Link) {
+        let address = self.wire.peer(port, link);
+        match port {
+            Port::Pop => self.journal.come(link, address),
+            Port::Admin => self.journal.come_asking(link, address),
+        }
+    }
+
     /// Keeps the address of a client's link, which a proxy may have told since.
     fn locate(&self, link: Link) {
         if let Some(ip) = self.wire.address(Port::Pop, link) {
-            self.followed.journal.locate(link, ip);
+            self.journal.locate(link, ip);
+        }
+    }
+
+    /// Notes the end of a link, and forgets it.
+    fn note_end(&self, port: Port, link: Link) {
+        match port {
+            Port::Pop => self.journal.close(link),
+            Port::Admin => self.journal.close_asking(link),
         }
     }
 }
@@ -145,8 +85,8 @@ impl<W: Wire + Peers> Wire for LoggedWire<'_, W> {
 
     fn accept(&mut self, port: Port) -> Option<Link> {
         let link = self.wire.accept(port)?;
-        if self.followed.journal.is_on() {
-            self.followed.follow(port, link, self.wire.peer(port, link));
+        if self.journal.is_on() {
+            self.follow(port, link);
         }
         Some(link)
     }
@@ -157,24 +97,22 @@ impl<W: Wire + Peers> Wire for LoggedWire<'_, W> {
 
     fn read(&mut self, port: Port, link: Link, buffer: &mut [u8]) -> Io {
         let came = self.wire.read(port, link, buffer);
-        if let Io::Count(count) = came
-            && self.followed.journal.is_on()
+        if let Io::Count(_) = came
+            && self.journal.is_on()
+            && port == Port::Pop
         {
-            match port {
-                Port::Pop => self.locate(link),
-                Port::Admin => self.followed.hear(link, &buffer[..count]),
-            }
+            self.locate(link);
         }
         came
     }
 
     fn write(&mut self, port: Port, link: Link, octets: &[u8]) -> Io {
         let went = self.wire.write(port, link, octets);
-        if let Io::Count(count) = went
-            && self.followed.journal.is_on()
+        if let Io::Count(_) = went
+            && self.journal.is_on()
             && port == Port::Admin
         {
-            self.followed.say(link, &octets[..count]);
+            self.journal.send(link);
         }
         went
     }
@@ -184,8 +122,8 @@ impl<W: Wire + Peers> Wire for LoggedWire<'_, W> {
     }
 
     fn close(&mut self, port: Port, link: Link) {
-        if self.followed.journal.is_on() {
-            self.followed.close(port, link);
+        if self.journal.is_on() {
+            self.note_end(port, link);
         }
         self.wire.close(port, link);
     }

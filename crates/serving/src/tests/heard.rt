@@ -1,6 +1,6 @@
 //! What was judged, line by line: as a server's listener heard it, and as the office that reckons
 //! told it.
-use crate::listener::Listener;
+use crate::listener::{Asked, Listener};
 use crate::wire::Link;
 use creds::LoginName;
 use office::{Account, Removal, Verdict, Way};
@@ -134,4 +134,6 @@ impl Listener for Heard {
     fn hear(&mut self, connection: u64, account: &Account) {
         self.is_short |= self.keep(connection, account).is_err();
     }
+
+    fn asked(&mut self, _link: Link, _asked: &Asked<'_>) {}
 }

@@ -1,6 +1,8 @@
+use Rattle.std.proofs.Common.{refl}
 use Rattle.serving.specs.Calls.{Closed}
-use Rattle.journal.proofs.Guarding.{handed_on}
+use Rattle.journal.proofs.Guarding.{unguarded}
 use Rattle.journal.proofs.guarded.GuardedWire.close.Goals as goal
 
 pub returns-clause-called : goal.returns-clause-called
-returns-clause-called g c = handed_on g.W.Wire.asked c.args.self.now.inner c.close.new.self (Closed c.args.port c.args.link) c.close.ensures.called
+returns-clause-called g c =
+    unguarded g.W.Wire.asked g.X.Watch.answered c.args.self.now.inner c.close.new.self c.args.self.now.watch c.args.self.now.watch (Closed c.args.port c.args.link) refl c.close.ensures.called (λ said q. q)

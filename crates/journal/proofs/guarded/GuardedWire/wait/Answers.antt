@@ -1,6 +1,8 @@
+use Rattle.std.proofs.Common.{refl}
 use Rattle.serving.specs.Calls.{Waited}
-use Rattle.journal.proofs.Guarding.{handed_on}
+use Rattle.journal.proofs.Guarding.{unguarded}
 use Rattle.journal.proofs.guarded.GuardedWire.wait.Goals as goal
 
 pub returns-clause-called : goal.returns-clause-called
-returns-clause-called g c = handed_on g.W.Wire.asked c.args.self.now.inner c.wait.new.self (Waited c.args.millis) c.wait.ensures.called
+returns-clause-called g c =
+    unguarded g.W.Wire.asked g.X.Watch.answered c.args.self.now.inner c.wait.new.self c.args.self.now.watch c.look.new.self (Waited c.args.millis) refl c.wait.ensures.called c.look.ensures
