@@ -1,6 +1,9 @@
 -- What a guard asks of the wire or the spool inside.
-use Rattle.std.specs.Prelude.{◌≡◌, Bool, true, false, List, [], ◌∷◌, ◌++◌, Option, Some, None}
-use Rattle.serving.specs.Calls.{Call, Accepted, Looked}
+use Rattle.std.specs.Prelude.{◌≡◌, ℕ, Bool, true, false, List, [], ◌∷◌, ◌++◌, Option, Some, None}
+use Rattle.serving.specs.Calls.{Call, Accepted, Looked, Read}
+use Rattle.serving.specs.declared.wire.Link.{Link}
+use Rattle.serving.specs.declared.wire.Port.{Port}
+use Rattle.serving.specs.declared.wire.Io.{Io}
 use Rattle.serving.specs.Spools.{FileCall, Next}
 use Rattle.serving.specs.declared.file_name.FileName.{FileName}
 use Rattle.serving.specs.declared.wire.Io.TheVariants.{Later}
@@ -12,13 +15,17 @@ gives_nothing (Looked port link Later []) = true
 gives_nothing _ = false
 
 -- These calls were handed on, each as it is, the newest last, and answered so; but for some no
--- call was made, and they gave nothing.
+-- call was made, and they gave nothing, and some reads had no room inside, and gave nothing.
 pub data AreHandedOn : (inside calls : List Call) → Type 0 where
   NoCall : AreHandedOn [] []
   IsHandedOn : (inside calls : List Call) (call : Call) → AreHandedOn inside calls
       → AreHandedOn (inside ++ call ∷ []) (calls ++ call ∷ [])
   IsKeptBack : (inside calls : List Call) (call : Call) → gives_nothing call ≡ true
       → AreHandedOn inside calls → AreHandedOn inside (calls ++ call ∷ [])
+  HasNoRoom : (inside calls : List Call) (port : Port) (link : Link) (room : ℕ) (io : Io)
+      → AreHandedOn inside calls
+      → AreHandedOn (inside ++ Read port link 0 io [] ∷ [])
+      (calls ++ Read port link room io [] ∷ [])
 
 -- so it is of a wire inside
 pub record IsGuarded {W : Type 0} (Asked : W → List Call → Type 0) (wire : W) (calls : List Call)
