@@ -1,6 +1,9 @@
 -- What a guard asks of the wire or the spool inside, by what its watch answers.
-use Rattle.std.specs.Prelude.{◌≡◌, Bool, true, false, List, [], ◌∷◌, ◌++◌, Option, Some, None}
+use Rattle.std.specs.Prelude.{◌≡◌, ℕ, Bool, true, false, List, [], ◌∷◌, ◌++◌, Option, Some, None}
 use Rattle.serving.specs.Calls.{Call, Waited, Accepted, Looked, Read, Wrote, Closed}
+use Rattle.serving.specs.declared.wire.Link.{Link}
+use Rattle.serving.specs.declared.wire.Port.{Port}
+use Rattle.serving.specs.declared.wire.Io.{Io}
 use Rattle.serving.specs.Spools.{FileCall, Next}
 use Rattle.serving.specs.declared.file_name.FileName.{FileName}
 use Rattle.serving.specs.declared.wire.Io.TheVariants.{Later}
@@ -9,7 +12,6 @@ use Rattle.serving.specs.declared.wire.Io.TheVariants.{Later}
 abbrev pub gives_nothing : Call → Bool
 gives_nothing (Accepted port None) = true
 gives_nothing (Looked port link Later []) = true
-gives_nothing (Read port link io []) = true
 gives_nothing (Wrote port link io []) = true
 gives_nothing _ = false
 
@@ -21,7 +23,8 @@ is_unguarded _ = false
 
 -- These calls were handed on, each as it is, the newest last, and answered so. For each but a wait
 -- or a close the watch was asked whether the store is lost, and said so: where it is there the call
--- was handed on; where it is lost the call gave nothing, and may not have been handed on.
+-- was handed on; where it is lost the call gave nothing, and may not have been handed on, but for a
+-- read, which was, without room.
 pub data AreHandedOn : (inside : List Call) (said : List Bool) (calls : List Call) → Type 0 where
   NoCall : AreHandedOn [] [] []
   IsUnguarded : (inside : List Call) (said : List Bool) (calls : List Call) (call : Call)
@@ -36,6 +39,10 @@ pub data AreHandedOn : (inside : List Call) (said : List Bool) (calls : List Cal
   IsKeptBack : (inside : List Call) (said : List Bool) (calls : List Call) (call : Call)
       → gives_nothing call ≡ true → AreHandedOn inside said calls
       → AreHandedOn inside (said ++ true ∷ []) (calls ++ call ∷ [])
+  HasNoRoom : (inside : List Call) (said : List Bool) (calls : List Call) (port : Port)
+      (link : Link) (room : ℕ) (io : Io) → AreHandedOn inside said calls
+      → AreHandedOn (inside ++ Read port link 0 io [] ∷ []) (said ++ true ∷ [])
+      (calls ++ Read port link room io [] ∷ [])
 
 -- so it is of a wire inside, and a watch
 pub record IsGuarded {W X : Type 0} (Asked : W → List Call → Type 0)
