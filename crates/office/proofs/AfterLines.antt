@@ -23,20 +23,7 @@ use Rattle.office.specs.declared.account.Account.TheVariants as account
 use Rattle.office.specs.declared.login_state.LoginState.{LoginState}
 use Rattle.office.specs.declared.login_state.LineOutcome.{LineOutcome}
 use Rattle.office.specs.declared.login_state.LineOutcome.TheVariants as outcome
-
--- ---- whether a line is shown
-
-shown_whole : (b : Bool) (x y : Cut) → x ∷ [] ≡ cond b (y ∷ []) [] → b ≡ true
-shown_whole true x y e = refl
-shown_whole false x y e = cc
-
-shown_line : (b : Bool) (x y : Cut) → b ≡ true → x ∷ [] ≡ cond b (y ∷ []) [] → x ≡ y
-shown_line true x y t e = cc
-shown_line false x y t e = cc
-
-none_shown : (b : Bool) (y : Cut) → [] ≡ cond b (y ∷ []) [] → b ≡ false
-none_shown true y e = cc
-none_shown false y e = refl
+use Rattle.office.proofs.Keeping.{shown_whole, shown_line, none_shown}
 
 -- ---- how the octets are cut
 
@@ -52,16 +39,6 @@ rest_cut k0 k v w cut n octets piece given left e taken =
     let rest : drop (cut + n) octets ≡ drop (through_newline k0.pending) k0.pending = sym (drop-drop n cut octets) ∙ (ap (drop n) (sym left) ∙ ap (λ m. drop m k0.pending) (taken ∙ ap through_newline given)) in
     let fed_is : w ≡ fed k0.held k0.pending = e ∙ ap (fed k0.held) given in
     subst (λ (k : Kept). record k0 { held = w; pending = drop (cut + n) octets } ≡ cut_through k.pending k) v (rw (fed_is, rest) refl)
-
--- a line is whole where the octets have an LF
-module _ (k : Kept) (w : Held) (p : List ℕ) where
-  pub has_line : (x : Cut) → w ≡ fed k.held p → x ∷ [] ≡ shown w → has_newline p ≡ true
-  has_line x e there = sym (ap (λ (w : Held). w.whole) e) ∙ shown_whole w.whole x (cut_of w.octets) there
-
-  pub has_none : w ≡ fed k.held p → [] ≡ shown w → (w.whole ≡ false) × (has_newline p ≡ false)
-  has_none e none =
-      let part = none_shown w.whole (cut_of w.octets) none in
-      (part, sym (ap (λ (w : Held). w.whole) e) ∙ part)
 
 -- the lines to come, where a line was answered
 pub lines_go : (k new : Kept) (p : List ℕ) (reply : Reply) (session : Option Session) (output : Output) → new ≡ replied (cut_through p k) reply session output

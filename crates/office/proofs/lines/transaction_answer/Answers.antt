@@ -1,13 +1,16 @@
-use Rattle.std.proofs.Common.{◌≡◌, true, false, sym, ◌∙◌, ap, subst, refl, rules, Some, None}
+use Rattle.std.proofs.Common.{◌≡◌, true, false, sym, ◌∙◌, ap, subst, refl, rules, Option, Some, None}
 use Rattle.session.specs.Session.{Session}
 use Rattle.office.specs.History.{Says}
 use Rattle.office.specs.Connections.{reading, is_quit}
 use Rattle.office.specs.Accounts.{transaction_account, removal_told}
 use Rattle.office.specs.declared.account.Account.TheVariants as account
-use Rattle.office.specs.Kept.{asks}
+use Rattle.creds.specs.declared.login_name.LoginName.{LoginName}
+use Rattle.office.specs.Sessions.{logs_in}
+use Rattle.office.specs.Answered.{SessionAfter}
+use Rattle.office.proofs.Remembering.{transaction_no_login}
 use Rattle.office.proofs.Accounts.{quitting, not_quitting, state_told}
 use Rattle.office.specs.Output.{OwesReply}
-use Rattle.office.specs.Transaction.{Transaction, transaction_of, session_if, transaction_reply, transaction_asks}
+use Rattle.office.specs.Transaction.{Transaction, transaction_of, GoesOn, session_if, transaction_reply, transaction_asks}
 use Rattle.office.proofs.AfterLines.{err_or_not}
 use Rattle.office.proofs.lines.transaction_answer.Goals as goal
 
@@ -22,18 +25,18 @@ returns-then-is_quit-clause-answered g c d v held clean sits =
     let x = c.args.line.now in
     let s = c.args.session in
     let q : is_quit (reading x) ≡ true = sym c.is_quit.ensures ∙ c.if-is_quit.true in
-    let base = did.owed d sits.0 held clean sits.1 in
+    let so = did.answered d sits.0 held clean sits.1 in
     let told : account.Quit (removal_told w p c.answer.new.session) ≡ transaction_account w p s (reading x) (Says (transaction_reply w p v x)) =
     ap (λ (s : Session). account.Quit (removal_told w p s)) (c.answer.ensures.quits q) ∙ sym (quitting w p s (reading x) _ q) in
     record {
       owed = subst (λ (v : Transaction). OwesReply d (session_if true c.answer.new.session) c.answer.new.output (transaction_reply w p v x)) (sym sits.2)
-          (subst (λ b. OwesReply d (session_if b c.answer.new.session) c.answer.new.output (transaction_reply w p (transaction_of s sits.0) x)) q base);
+          (subst (λ b. OwesReply d (session_if b c.answer.new.session) c.answer.new.output (transaction_reply w p (transaction_of s sits.0) x)) q so.owed);
       state = search rules;
-      session = search rules;
-      held = search rules;
-      may = search rules;
-      cause = search rules;
-      account = λ fresh. state_told d p s v w c.args.state.now.user x _ sits (λ failed. search rules) (c.of_quit.ensures ∙ told);
+      session = subst (λ b. SessionAfter b (logs_in (reading x) (Says (transaction_reply w p v x)) c.args.state.now.user) d p c.args.state.now.removals (transaction_reply w p v x) (Some s) None) (sym q) refl;
+      held = so.held;
+      may = λ failed. subst (λ (v : Transaction). transaction_asks p v (reading x) ≡ true) (sym sits.2) (so.may failed);
+      cause = so.cause;
+      account = λ fresh. state_told d p s v w c.args.state.now.user x _ sits (λ failed. subst (λ (v : Transaction). transaction_asks p v (reading x) ≡ true) (sym sits.2) (so.may failed)) (c.of_quit.ensures ∙ told);
     }
 
 pub returns-clause-answered : goal.returns-clause-answered
@@ -44,16 +47,18 @@ returns-clause-answered g c d v held clean sits =
     let x = c.args.line.now in
     let s = c.args.session in
     let q : is_quit (reading x) ≡ false = sym c.is_quit.ensures ∙ c.if-is_quit.false in
-    let base = did.owed d sits.0 held clean sits.1 in
+    let so = did.answered d sits.0 held clean sits.1 in
     record {
       owed = subst (λ (v : Transaction). OwesReply d (session_if false c.answer.new.session) c.answer.new.output (transaction_reply w p v x)) (sym sits.2)
-          (subst (λ b. OwesReply d (session_if b c.answer.new.session) c.answer.new.output (transaction_reply w p (transaction_of s sits.0) x)) q base);
+          (subst (λ b. OwesReply d (session_if b c.answer.new.session) c.answer.new.output (transaction_reply w p (transaction_of s sits.0) x)) q so.owed);
       state = search rules;
-      session = search rules;
-      held = search rules;
-      may = search rules;
-      cause = search rules;
-      account = λ fresh. state_told d p s v w c.args.state.now.user x _ sits (λ failed. search rules)
+      session = subst (λ (name : Option LoginName). SessionAfter (is_quit (reading x)) name d p c.args.state.now.removals (transaction_reply w p v x) (Some s) (Some c.answer.new.session)) (sym (transaction_no_login p v w x c.args.state.now.user))
+          (subst (λ b. SessionAfter b None d p c.args.state.now.removals (transaction_reply w p v x) (Some s) (Some c.answer.new.session)) (sym q)
+          (subst (λ (v : Transaction). GoesOn (transaction_reply w p v x) s c.answer.new.session) (sym sits.2) so.session));
+      held = so.held;
+      may = λ failed. subst (λ (v : Transaction). transaction_asks p v (reading x) ≡ true) (sym sits.2) (so.may failed);
+      cause = so.cause;
+      account = λ fresh. state_told d p s v w c.args.state.now.user x _ sits (λ failed. subst (λ (v : Transaction). transaction_asks p v (reading x) ≡ true) (sym sits.2) (so.may failed))
           (subst (λ (v : Transaction). c.answer.new.account ≡ transaction_account w p s (reading x) (Says (transaction_reply w p v x))) (sym sits.2)
           (did.account q fresh d sits.0 sits.1 ∙ sym (not_quitting w p s (reading x) _ q)));
     }

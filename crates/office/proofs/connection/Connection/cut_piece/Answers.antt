@@ -1,8 +1,8 @@
 use Rattle.std.proofs.Common.{◌≡◌, ◌-◌, [], cond, drop, take, take_all, length, length-drop, string_bytes, arith, sym, ◌∙◌, ap, rules}
 use Rattle.popline.specs.Cutting.{through_newline}
 use Rattle.office.specs.Kept.{Kept}
-use Rattle.office.proofs.Keeping.{none_left}
-use Rattle.office.proofs.AfterLines.{piece_cut, has_line, has_none, err_or_not}
+use Rattle.office.proofs.Keeping.{has_line, none_whole, no_line, none_left}
+use Rattle.office.proofs.AfterLines.{piece_cut, err_or_not}
 use Rattle.office.proofs.connection.Connection.cut_piece.Goals as goal
 
 pub returns-in_default-clause-cut : goal.returns-in_default-clause-cut
@@ -12,10 +12,9 @@ returns-in_default-clause-cut c =
     let p = c.args.piece.now in
     let k : Kept = record { held = s.cutter; pending = drop s.cut s.pending.items; output = s.output; state = s.state; stamp = string_bytes s.stamp; session = s.session; clock = s.clock } in
     let n = c.feed-n.result in
-    let part = has_none k c.feed-n.new.self p f.held c.in_default.ensures in
-    let none : drop n p ≡ [] = none_left n p (f.all part.0) in
+    let none : drop n p ≡ [] = none_left n p (f.all (none_whole k c.feed-n.new.self p f.held c.in_default.ensures)) in
     let rest = c.clear.ensures.items ∙ (sym none ∙ ap (λ m. drop m p) f.taken) in
-    piece_cut k c.args.self.now c.self.view_is c.feed-n.new.self p c.clear.new.self.items c.args.now s.clock f.held rest (ap (λ b. cond b c.args.now s.clock) (sym part.1))
+    piece_cut k c.args.self.now c.self.view_is c.feed-n.new.self p c.clear.new.self.items c.args.now s.clock f.held rest (ap (λ b. cond b c.args.now s.clock) (sym (no_line k c.feed-n.new.self p f.held c.in_default.ensures)))
 
 pub returns-clause-cut : goal.returns-clause-cut
 returns-clause-cut c =
