@@ -1,8 +1,8 @@
 -- What a line makes of its connection, in one word: for the line that is whole, if one is, by how the octets were cut.
-use Rattle.std.proofs.Common.{◌≡◌, ℕ, Bool, true, false, cond, List, [], ◌∷◌, ◌++◌, ◌+◌, drop, drop-drop, Option, refl, sym, ◌∙◌, ap, subst, true≢false, Result, Ok, Err}
+use Rattle.std.proofs.Common.{◌≡◌, ℕ, Bool, true, false, cond, List, [], ◌∷◌, ◌++◌, ◌+◌, drop, drop-drop, Option, refl, sym, ◌∙◌, ap, subst, Result, Ok, Err}
 use Rattle.std.specs.Result.{OnErr}
 use Rattle.std.specs.BTreeMap.{BTreeMap}
-use Rattle.popline.specs.Cutting.{Cut, cut_of, Held, fed, shown, coming, through_newline, has_newline}
+use Rattle.popline.specs.Cutting.{Cut, Held, fed, shown, coming, through_newline, has_newline}
 use Rattle.popline.specs.Replies.{Reply}
 use Rattle.popline.proofs.Cuts.{coming-fed}
 use Rattle.policy.specs.Policy.{Policy}
@@ -15,7 +15,7 @@ use Rattle.office.specs.Output.{Output, OwesIf, nothing_owed}
 use Rattle.office.specs.Transaction.{Transaction}
 use Rattle.office.specs.Accounts.{state_account, account_if}
 use Rattle.office.specs.Kept.{Kept, LineContext, login_state_after, asks, clocked}
-use Rattle.office.specs.Answered.{judged_at, reply_of, BecomesIf, held_after, held_if}
+use Rattle.office.specs.Answered.{judged_at, BecomesIf, held_after, held_if}
 use Rattle.office.specs.Stopping.{ActsOnce}
 use Rattle.office.specs.AfterLine.{AfterLine, AfterNext, cut_through, line_of, replied, reply_next}
 use Rattle.office.specs.declared.account.Account.{Account}

@@ -1,5 +1,5 @@
 -- What is kept of a connection is the state that the history says.
-use Rattle.std.proofs.Common.{◌≡◌, ℕ, Bool, true, false, List, Option, Some, None, refl, sym, ap, arith, is_some, min, nat_le}
+use Rattle.std.proofs.Common.{◌≡◌, ℕ, true, false, List, Some, None, refl, sym, ap, arith, is_some, min, nat_le}
 use Rattle.std.proofs.lemmas.Bool.Decides.{nat_tests}
 use Rattle.creds.specs.Credential.{Shown}
 use Rattle.creds.specs.declared.login_name.LoginName.{LoginName}

@@ -1,6 +1,5 @@
 -- A log that begins with an opening, one event on.
 use Rattle.std.proofs.Common.{◌≡◌, ◌⊎◌, inl, inr, ⊎_elim, ℕ, List, [], ◌∷◌, refl}
-use Rattle.std.specs.Bool.{⊤}
 use Rattle.office.specs.History.{Tag}
 use Rattle.office.specs.Events.{Limits, Event, Mark, Ignored, Tagged, Log}
 use Rattle.office.specs.Events as event

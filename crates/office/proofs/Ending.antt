@@ -1,5 +1,5 @@
 -- An act that ends one connection, and one that changes nothing.
-use Rattle.std.proofs.Common.{◌≡◌, ℕ, ◌≤◌, ◌&&◌, Bool, true, false, List, [], ◌∷◌, ◌++◌, Option, Some, None, IsSome, refl, sym, ◌∙◌, ap, subst, true≢false, eqb, eqb-true, eq-eqb, ⊎_elim, string_bytes, nat_cmp}
+use Rattle.std.proofs.Common.{◌≡◌, ℕ, ◌≤◌, ◌&&◌, Bool, true, false, List, ◌∷◌, ◌++◌, Option, Some, None, IsSome, refl, sym, ◌∙◌, ap, subst, true≢false, eqb, eqb-true, eq-eqb, ⊎_elim, string_bytes, nat_cmp}
 use Rattle.std.proofs.lemmas.Bool.{cases_Bool}
 use Rattle.std.specs.BTreeMap.{get, is_at, Updates}
 use Rattle.creds.specs.declared.login_name.LoginName.{LoginName}

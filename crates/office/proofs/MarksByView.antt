@@ -4,7 +4,7 @@ use Rattle.std.proofs.Common.{refl, sym, ◌∙◌, ap, eqb-true, subst, true≢
 use Rattle.creds.specs.declared.login_name.LoginName.{LoginName}
 use Rattle.popline.specs.Cutting.{Cut, TooLong}
 use Rattle.popline.specs.Cutting as cutting
-use Rattle.popline.specs.Commands.{Command, Capa, User, Pass, Apop, Quit, Stat, ListAll, ListOne, UidlAll, UidlOne, Top, Retr, Dele, Rset, Noop, command_of, keyword_of}
+use Rattle.popline.specs.Commands.{Command, Pass, Apop, Quit, ListOne, UidlOne, Top, Retr, Dele, command_of, keyword_of}
 use Rattle.popline.specs.declared.command.LineFault.{LineFault}
 use Rattle.popline.specs.declared.command.LineFault.TheVariants.{Unknown, Syntax}
 use Rattle.popline.specs.declared.command.Keyword.{Keyword}

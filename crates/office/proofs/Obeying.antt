@@ -1,5 +1,5 @@
 -- What becomes of a line of a session by the reply that was put, and by what the store did.
-use Rattle.std.proofs.Common.{◌≡◌, ℕ, Bool, true, false, List, Some, Result, Ok, Err, refl, sym, subst, true≢false}
+use Rattle.std.proofs.Common.{◌≡◌, Bool, true, false, List, Some, Result, Ok, Err, refl, sym, subst, true≢false}
 use Rattle.std.specs.Prelude.{IfOk}
 use Rattle.popline.specs.Commands.{Command, ListAll, UidlAll}
 use Rattle.popline.specs.Cutting.{Cut, TooLong}
@@ -17,10 +17,9 @@ use Rattle.office.specs.LongLine.{is_too_long}
 use Rattle.office.specs.History.{Tag}
 use Rattle.office.specs.Replying.{LineState, reply_to_reading, reply_to}
 use Rattle.office.specs.Output.{Output, OwesReply}
-use Rattle.office.specs.Transaction.{LiesIn, GoesOn, IsAnswered, session_left, transaction_answered, transaction_reply, held_after_line, transaction_of, Transaction}
+use Rattle.office.specs.Transaction.{LiesIn, GoesOn, IsAnswered, session_left, transaction_answered, held_after_line, transaction_of}
 use Rattle.office.specs.declared.login_state.LineOutcome.{LineOutcome}
 use Rattle.office.specs.declared.login_state.LineOutcome.TheVariants as outcome
-use Rattle.office.specs.declared.login_state.LoginState.{LoginState}
 use Rattle.office.proofs.Listed.{list_said, uidl_said}
 
 -- ---- calls that end a function

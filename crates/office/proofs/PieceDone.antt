@@ -1,5 +1,5 @@
 -- A piece of octets on a trace: what it leaves, and what its event is answered.
-use Rattle.std.proofs.Common.{◌≡◌, ℕ, ◌≤◌, Bool, true, false, List, [], ◌++◌, length, Option, Some, refl, sym, ◌∙◌, ap, nat_cmp, eqb}
+use Rattle.std.proofs.Common.{◌≡◌, ℕ, ◌≤◌, Bool, true, false, List, ◌++◌, length, Option, Some, refl, ◌∙◌, ap, nat_cmp, eqb}
 use Rattle.std.specs.BTreeMap.{BTreeMap, get}
 use Rattle.popline.specs.Cutting.{coming, shown, has_newline}
 use Rattle.popline.specs.Replies.{Reply}
@@ -13,9 +13,9 @@ use Rattle.office.specs.Log.{moment}
 use Rattle.office.specs.Trace.{history, acts_of_piece, next_line}
 use Rattle.office.specs.Expected.{most_in_a_piece, IsOutcome}
 use Rattle.office.specs.Outcomes.{Outcome}
-use Rattle.office.specs.Output.{nothing_owed, OwesIf}
+use Rattle.office.specs.Output.{nothing_owed}
 use Rattle.office.specs.Kept.{Kept, clocked, answered, line_after, asks}
-use Rattle.office.specs.Answered.{name_cmp, judged_at, reply_of, tag_of, shown_of, held_if, BecomesIf, LocksFollow}
+use Rattle.office.specs.Answered.{name_cmp, judged_at, reply_of, tag_of, shown_of, held_if, LocksFollow}
 use Rattle.vault.specs.Records.{Agree}
 use Rattle.office.specs.Stands.{seen, untaken_of, Matches, IsKeptFor, Keeps}
 use Rattle.office.specs.declared.office.Office.{Office}

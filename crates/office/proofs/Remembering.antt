@@ -6,7 +6,7 @@ use Rattle.policy.specs.Policy.{Policy}
 use Rattle.policy.specs.declared.decide.Decision.{Decision}
 use Rattle.popline.specs.Cutting.{Cut, TooLong}
 use Rattle.popline.specs.Cutting as cutting
-use Rattle.popline.specs.Commands.{Command, Capa, User, Pass, Apop, Quit, Stat, ListAll, ListOne, UidlAll, UidlOne, Retr, Top, Dele, Rset, Noop, command_of, keyword_of}
+use Rattle.popline.specs.Commands.{Command, Capa, Pass, Apop, Quit, ListOne, UidlOne, Retr, Top, Dele, command_of, keyword_of}
 use Rattle.popline.specs.declared.command.Keyword.{Keyword}
 use Rattle.popline.specs.declared.command.Keyword.TheVariants as keyword
 use Rattle.popline.specs.declared.command.LineFault.{LineFault}

@@ -20,7 +20,7 @@ use Rattle.policy.specs.declared.rule.Action.{Action}
 use Rattle.policy.specs.declared.rule.Action.TheVariants as to
 use Rattle.popline.specs.Cutting.{Cut, TooLong, has_newline}
 use Rattle.popline.specs.Cutting as cutting
-use Rattle.popline.specs.Commands.{Command, Capa, User, Pass, Apop, Quit, Stat, ListAll, ListOne, UidlAll, UidlOne, Top, Retr, Dele, Rset, Noop, command_of, keyword_of}
+use Rattle.popline.specs.Commands.{Command, Pass, Apop, Quit, Stat, ListOne, UidlOne, Top, Retr, Dele, Rset, command_of, keyword_of}
 use Rattle.popline.specs.declared.command.Keyword.{Keyword}
 use Rattle.popline.specs.declared.command.Keyword.TheVariants as keyword
 use Rattle.popline.specs.declared.command.LineFault.{LineFault}
@@ -34,7 +34,7 @@ use Rattle.session.specs.View.{visible, numbered, numbered_from, at_number, is_m
 use Rattle.session.specs.declared.removals.Removals.TheVariants.{JudgedAtDele, JudgedAtQuit}
 use Rattle.session.specs.declared.removals.Removals.{Removals}
 use Rattle.office.specs.History.{Entry, Act, Open, Line, Gone, Idle, Deposit, Administer, Restart, Tag, Done, Failed, NoMemory, in_force, credential, exists}
-use Rattle.office.specs.Connections.{setting, judging, user, failures, serving, closing}
+use Rattle.office.specs.Connections.{setting, user, failures, serving, closing}
 use Rattle.office.specs.Sessions.{present, view, marks, login, live, holder}
 use Rattle.office.specs.Replying.{Transaction, LineState, InAuthorization, InTransaction, transaction_at, state_at, stamp, login_failed, maildrop_has, opening, logging_in, deleted_if, served_if, quit_says, authorization_says, session_says, is_permitted, when_permitted, refusal, name_or_nobody, obeyed, reply_to_command, reply_to_reading, reply_to, reply_to_cut, said_to_line}
 use Rattle.office.specs.Told.{told, said_to, answers_if_done, deposited, administered}

@@ -1,5 +1,5 @@
 -- Two states that differ only in how marks are listed get the same replies.
-use Rattle.std.proofs.Common.{◌≡◌, ℕ, Bool, true, false, not, List, Option, Some, None, Result, Ok, Err, refl, sym, ◌∙◌, ap, is_some}
+use Rattle.std.proofs.Common.{◌≡◌, ℕ, false, not, List, Option, Result, Ok, Err, refl, ◌∙◌, ap, is_some}
 use Rattle.std.proofs.lemmas.List.Elements.{filter_agree}
 use Rattle.std.specs.Prelude.{length, map, filter}
 use Rattle.std.specs.List.{find}

@@ -1,12 +1,11 @@
 -- What a connection took is a beginning of what it was sent.
-use Rattle.std.proofs.Common.{◌≡◌, ℕ, ◌+◌, ◌<◌, ◌≤◌, Bool, true, false, not, ◌&&◌, ◌||◌, ◌==◌, nat_lt, List, [], ◌∷◌, ◌++◌, length, take, drop, max, refl, sym, ◌∙◌, ap, arith, None, Some, Option, eq-eqb, ne_eqb, ⊎_elim, ◌⊎◌, subst, true≢false, append-nil, append_assoc, length-append}
+use Rattle.std.proofs.Common.{◌≡◌, ℕ, ◌+◌, ◌≤◌, Bool, true, false, not, ◌&&◌, ◌||◌, ◌==◌, nat_lt, List, [], ◌∷◌, ◌++◌, length, take, drop, max, refl, sym, ◌∙◌, ap, arith, None, Some, Option, eq-eqb, ne_eqb, ⊎_elim, subst, true≢false, append-nil, append_assoc, length-append}
 use Rattle.std.proofs.Math.Seq.{take-add}
-use Rattle.std.proofs.lemmas.List.{length-take, length-drop, take-append-le, take-append-drop}
+use Rattle.std.proofs.lemmas.List.{length-drop, take-append-le, take-append-drop}
 use Rattle.std.proofs.lemmas.Bool.{cases_eq, ltb-false}
 use Rattle.std.specs.Bool.{⊤, if◌then◌else◌}
 use Rattle.popline.specs.Cutting.{Cut, has_newline}
 use Rattle.vault.specs.Records.{Records}
-use Rattle.vault.specs.Changes.{Contents}
 use Rattle.office.specs.History.{Act, Open, Line, Gone, Idle, Deposit, Administer, Restart, Tag, Done, Failed, NoMemory, Entry, Said}
 use Rattle.office.specs.Connections.{opens, connected, sent, sent_after, octets_said, closing, closing_after, serving}
 use Rattle.office.specs.Replying.{is_empty}
@@ -15,11 +14,10 @@ use Rattle.office.specs.Told.{told, said_to}
 use Rattle.office.specs.Events.{Limits, Event, Mark, Tagged, Ignored, Log, Trace, given}
 use Rattle.office.specs.Events as event
 use Rattle.office.specs.Outcomes.{Outcome, Reason, NoSuchConnection, NotReady, PieceTooLong, mark_of}
-use Rattle.office.specs.Outcomes as outcome
 use Rattle.office.specs.Log.{next_number, taken, moment}
 use Rattle.office.specs.Trace.{acts_from, acts_at, acts_of_piece, acts_of_took, act_of_part, act_of_all, line_act, idle_acts, idle_numbers, history, rest, rest_if, is_open, is_open_by, is_left, untaken, next_line}
-use Rattle.office.specs.Expected.{IsOutcome, ignored, shown_at, or_ignored, reason_if, most_in_a_piece}
-use Rattle.office.specs.Taken.{trace_of, all_taken, all_taken_by, closes_at, closed_after, has_closed_by, IsAdmitted, AreAdmitted, AreAdmittedBy, IsSentExactly}
+use Rattle.office.specs.Expected.{ignored, shown_at, or_ignored, reason_if, most_in_a_piece}
+use Rattle.office.specs.Taken.{trace_of, all_taken, all_taken_by, closes_at, has_closed_by, IsAdmitted, AreAdmittedBy}
 use Rattle.office.specs.Laws.{TakenIsSent}
 
 -- ---- acts that open no connection of this number

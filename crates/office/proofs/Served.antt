@@ -5,12 +5,12 @@ use Rattle.creds.specs.declared.login_name.LoginName.{LoginName}
 use Rattle.creds.specs.Credential.{Shown, ByPass, ByApop, is_admitted}
 use Rattle.popline.specs.Cutting.{Cut, TooLong}
 use Rattle.popline.specs.Cutting as cutting
-use Rattle.popline.specs.Commands.{Command, Capa, User, Pass, Apop, Quit, Stat, ListAll, ListOne, UidlAll, UidlOne, Top, Retr, Dele, Rset, Noop, command_of, keyword_of}
+use Rattle.popline.specs.Commands.{Command, Pass, Apop, Quit, ListOne, UidlOne, Top, Retr, Dele, command_of, keyword_of}
 use Rattle.popline.specs.declared.command.LineFault.{LineFault}
 use Rattle.popline.specs.declared.command.LineFault.TheVariants.{Unknown, Syntax}
 use Rattle.popline.specs.declared.command.Keyword.{Keyword}
 use Rattle.popline.specs.declared.command.Keyword.TheVariants as keyword
-use Rattle.popline.specs.Replies.{Reply, LineTooLong, UnknownCommand, WrongState, Capabilities, SendPass, LoginFailed, LoginFailedClosing, NoSuchMaildrop, InUse, NoSuchMessage, AlreadyMarked, DeniedBy, Marked, BadArguments, ScanLine, UidLine, Message as MessageReply, TopPart}
+use Rattle.popline.specs.Replies.{Reply, LineTooLong, UnknownCommand, LoginFailed, LoginFailedClosing, NoSuchMaildrop, InUse, NoSuchMessage, AlreadyMarked, DeniedBy, Marked, BadArguments, ScanLine, UidLine, Message as MessageReply, TopPart}
 use Rattle.mailtext.specs.Text.{lines_of, stuffed_lines, top_part}
 use Rattle.policy.specs.declared.decide.Decision.{Decision}
 use Rattle.vault.specs.Records.{Records, class_of, octets_of, uid_of}

@@ -13,9 +13,8 @@ use Rattle.office.specs.Log.{moment}
 use Rattle.office.specs.Trace.{history, is_left, next_line, acts_of_took}
 use Rattle.office.specs.Expected.{ignored, IsOutcome}
 use Rattle.office.specs.Outcomes.{Outcome}
-use Rattle.office.specs.Output.{OwesIf}
 use Rattle.office.specs.Kept.{Kept, answered, line_after, asks}
-use Rattle.office.specs.Answered.{name_cmp, judged_at, reply_of, tag_of, shown_of, held_if, BecomesIf, LocksFollow}
+use Rattle.office.specs.Answered.{name_cmp, judged_at, reply_of, tag_of, shown_of, held_if, LocksFollow}
 use Rattle.vault.specs.Records.{Agree}
 use Rattle.office.specs.Stands.{seen, Matches, IsKeptFor, Keeps}
 use Rattle.office.specs.declared.office.Office.{Office}

@@ -1,5 +1,5 @@
 -- The message under a number of a session, and its text under its key.
-use Rattle.std.proofs.Common.{◌≡◌, ◌<◌, ◌≤◌, ℕ, zero, suc, Bool, true, false, not, ◌&&◌, ◌==◌, cond, List, [], ◌∷◌, ◌++◌, length, Option, Some, None, Result, Ok, Err, slice_get, refl, sym, ◌∙◌, ap, ap₂, subst, ⊎_elim, inl, inr, true≢false, arith}
+use Rattle.std.proofs.Common.{◌≡◌, ◌<◌, ◌≤◌, ℕ, zero, suc, Bool, true, false, not, ◌&&◌, ◌==◌, cond, List, [], ◌∷◌, length, Option, Some, None, Result, Ok, Err, slice_get, refl, sym, ◌∙◌, ap, ap₂, subst, ⊎_elim, inl, inr, true≢false, arith}
 use Rattle.std.proofs.lemmas.Bool.{and_parts, or_parts, eq-eqb}
 use Rattle.std.proofs.lemmas.Bool.Decides.{nat_tests}
 use Rattle.std.proofs.lemmas.Slice.Eq.{bytes_eq-Decides}
@@ -26,7 +26,7 @@ use Rattle.session.specs.Session.{Session, picked_for, read_answer}
 use Rattle.session.specs.View.{at_number, is_marked, refer, referred, retrieval, may_read}
 use Rattle.office.specs.Laws.{In}
 use Rattle.office.specs.Replying.{is_readable, served_if}
-use Rattle.office.specs.Output.{Output, Owes, OwesReply, Reads, IsBegun, text_coming}
+use Rattle.office.specs.Output.{Output, Owes, OwesReply, Reads, text_coming}
 use Rattle.office.specs.Transaction.{LiesIn, GoesOn, IsAnswered, HasText, IsServed, transaction_told, refused_pick}
 use Rattle.office.specs.declared.reading.Reading.{Reading}
 use Rattle.office.specs.declared.login_state.LineOutcome.{LineOutcome}

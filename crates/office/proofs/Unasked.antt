@@ -1,5 +1,5 @@
 -- An event that may not fail asks no store.
-use Rattle.std.proofs.Common.{◌≡◌, ◌⊎◌, ⊎_elim, ℕ, Bool, true, false, true≢false, ◌≤◌, List, length, Option, Some, None, Result, slice_get, refl, sym, ◌∙◌}
+use Rattle.std.proofs.Common.{◌≡◌, ℕ, Bool, true, false, true≢false, ◌≤◌, List, length, Option, Some, None, Result, slice_get, refl, sym, ◌∙◌}
 use Rattle.popline.specs.Cutting.{cut, has_newline, through_newline}
 use Rattle.popline.specs.Commands.{Command}
 use Rattle.popline.specs.declared.command.LineFault.{LineFault}
@@ -19,7 +19,7 @@ use Rattle.office.specs.Answered.{HasTransaction}
 use Rattle.office.specs.Stands.{Seen, seen, Matches}
 use Rattle.office.specs.declared.login_state.LoginState.{LoginState}
 use Rattle.office.proofs.Hearing.{Awaits, acts_next, streamed, took}
-use Rattle.office.specs.Output.{Output, reads_text}
+use Rattle.office.specs.Output.{reads_text}
 use Rattle.office.proofs.Events.{next_kept, left_over}
 use Rattle.office.proofs.Owing.{text_feeds}
 use Rattle.office.proofs.Taking.{took_more}

@@ -1,5 +1,5 @@
 -- What an office keeps of a connection, and what it keeps after the next line.
-use Rattle.std.specs.Prelude.{ℕ, Bool, true, false, ◌||◌, ◌+◌, nat_lt, List, [], drop, Option, Some}
+use Rattle.std.specs.Prelude.{ℕ, Bool, false, ◌||◌, ◌+◌, nat_lt, List, [], drop, Option, Some}
 use Rattle.std.specs.Prelude.{None, Result, if◌then◌else◌, is_some}
 use Rattle.creds.specs.declared.login_name.LoginName.{LoginName}
 use Rattle.creds.specs.Credential.{Shown, is_admitted}

@@ -1,6 +1,6 @@
 -- What a stop of the device in an event (a crash, the power gone) leaves: what the store says when
 -- it is opened again.
-use Rattle.std.specs.Prelude.{◌≡◌, ◌≤◌, ◌⊎◌, ⊤, ℕ, Option, Some, None}
+use Rattle.std.specs.Prelude.{◌≤◌, ◌⊎◌, ⊤, ℕ, Option, Some, None}
 use Rattle.vault.specs.Records.{Agree}
 use Rattle.vault.specs.Changes.{Contents, records_of}
 use Rattle.vault.specs.Stops.{SaySame}

@@ -1,7 +1,7 @@
 -- A session over a store: the reply to a line, the session after it, and what the store then holds
 -- (RFC 1939, 5 and 6).
 use Rattle.std.specs.Prelude.{◌≡◌, ℕ, Bool, true, false, ◌<◌, ◌^◌, List, length, take, map}
-use Rattle.std.specs.Prelude.{sum_by, Option, Some, None, Result, Ok, Err}
+use Rattle.std.specs.Prelude.{sum_by, Option, Some, None, Result, Ok}
 use Rattle.mailtext.specs.MailText.{IsMailText}
 use Rattle.creds.specs.declared.login_name.LoginName.{LoginName}
 use Rattle.popline.specs.Cutting.{Cut}

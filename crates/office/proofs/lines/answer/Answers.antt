@@ -1,10 +1,7 @@
-use Rattle.std.proofs.Common.{◌≡◌, Option, Some, None, sym, subst, rules}
-use Rattle.popline.specs.Cutting.{Cut}
+use Rattle.std.proofs.Common.{◌≡◌, Option, Some, None, sym, subst}
 use Rattle.popline.specs.Seen.{cut_seen}
 use Rattle.vault.specs.Calls.{has_grown}
-use Rattle.session.specs.Session.{Session}
 use Rattle.office.specs.Connections.{reading}
-use Rattle.office.specs.declared.account.Account.TheVariants as account
 use Rattle.office.specs.Transaction.{Transaction}
 use Rattle.office.specs.Answered.{HasTransaction, context_over}
 use Rattle.office.specs.AfterLine.{AfterLine}

@@ -3,14 +3,12 @@ use Rattle.popline.specs.Replies.{bytes_of}
 use Rattle.office.specs.History.{Says}
 use Rattle.office.specs.Connections.{reading}
 use Rattle.office.specs.Accounts.{line_account}
-use Rattle.office.specs.Output.{Output}
 use Rattle.office.specs.declared.login_state.LineOutcome.TheVariants as outcome
 use Rattle.office.specs.Kept.{LineContext, authorization_asks}
 use Rattle.office.specs.Answered.{context_over, reply_of}
 use Rattle.office.proofs.Accounts.{authorization_told}
 use Rattle.office.proofs.Failing.{begins_none, refused_login}
 use Rattle.office.proofs.Owing.{owes_put}
-use Rattle.vault.specs.Parts.{OnlyLooks}
 use Rattle.vault.proofs.CallLemmas.{looks_once}
 use Rattle.office.specs.Stopping.{WasDone}
 use Rattle.office.proofs.Frames.{not_ok}

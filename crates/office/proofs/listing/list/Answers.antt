@@ -1,11 +1,10 @@
-use Rattle.std.proofs.Common.{◌≡◌, ◌++◌, List, [], ℕ, Some, sym, ◌∙◌, ap, subst, true, true≢false}
+use Rattle.std.proofs.Common.{◌≡◌, ◌++◌, [], Some, sym, ◌∙◌, ap, subst, true≢false}
 use Rattle.std.specs.Prelude.{codes}
 use Rattle.std.specs.List.{flat_map}
-use Rattle.creds.specs.declared.uid.Uid.{Uid}
-use Rattle.popline.specs.Replies.{one_line, scan_text, ScanListing, bytes_of}
+use Rattle.popline.specs.Replies.{one_line, scan_text}
 use Rattle.session.specs.Session.{octets_of}
 use Rattle.session.specs.View.{unmarked, sizes_of}
-use Rattle.office.specs.Output.{Output, Owes, sizes_coming}
+use Rattle.office.specs.Output.{Output, Owes}
 use Rattle.office.proofs.ListedRows.{begun_whole}
 use Rattle.office.proofs.listing.list.Goals as goal
 

@@ -1,11 +1,10 @@
-use Rattle.std.proofs.Common.{◌≡◌, ◌++◌, List, [], ℕ, Some, sym, ◌∙◌, ap, subst, true, true≢false}
+use Rattle.std.proofs.Common.{◌≡◌, ◌++◌, [], Some, sym, ◌∙◌, ap, subst, true≢false}
 use Rattle.std.specs.Prelude.{codes}
 use Rattle.std.specs.List.{flat_map}
-use Rattle.creds.specs.declared.uid.Uid.{Uid}
-use Rattle.popline.specs.Replies.{one_line, uid_row_text, UidListing, bytes_of}
+use Rattle.popline.specs.Replies.{one_line, uid_row_text}
 use Rattle.session.specs.Session.{uid_of}
 use Rattle.session.specs.View.{unmarked, uids_of}
-use Rattle.office.specs.Output.{Output, Owes, uids_coming}
+use Rattle.office.specs.Output.{Output, Owes}
 use Rattle.office.proofs.ListedRows.{begun_whole}
 use Rattle.office.proofs.listing.list_uids.Goals as goal
 

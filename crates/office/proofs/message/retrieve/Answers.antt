@@ -1,9 +1,9 @@
 use Rattle.std.proofs.Common.{◌≡◌, ◌++◌, ℕ, List, length, sym, ◌∙◌, ap, ap₂, subst, append_assoc, Ok, Some}
 use Rattle.std.specs.Prelude.{codes}
 use Rattle.std.specs.Fmt.{decimal}
-use Rattle.mailtext.specs.Text.{lines_of, stuffed_lines, top_part}
-use Rattle.popline.specs.Commands.{Retr, Top}
-use Rattle.popline.specs.Replies.{Message, TopPart, one_line, bytes_of}
+use Rattle.mailtext.specs.Text.{lines_of, stuffed_lines}
+use Rattle.popline.specs.Commands.{Retr}
+use Rattle.popline.specs.Replies.{Message, one_line, bytes_of}
 use Rattle.office.specs.Output.{Output, text_coming, last_line}
 use Rattle.office.specs.declared.reading.Reading.{Reading}
 use Rattle.office.specs.Output.{OwesReply}

@@ -1,15 +1,14 @@
-use Rattle.std.proofs.Common.{◌≡◌, ◌++◌, ℕ, List, length, sym, ◌∙◌, ap, ap₂, subst, append_assoc, Ok, Some}
+use Rattle.std.proofs.Common.{◌≡◌, ◌++◌, ℕ, List, sym, ◌∙◌, ap, ap₂, subst, append_assoc, Ok, Some}
 use Rattle.std.specs.Prelude.{codes}
-use Rattle.std.specs.Fmt.{decimal}
 use Rattle.mailtext.specs.Text.{lines_of, stuffed_lines, top_part}
-use Rattle.popline.specs.Commands.{Retr, Top}
-use Rattle.popline.specs.Replies.{Message, TopPart, one_line, bytes_of}
+use Rattle.popline.specs.Commands.{Top}
+use Rattle.popline.specs.Replies.{TopPart, one_line, bytes_of}
 use Rattle.office.specs.Output.{Output, text_coming, last_line}
 use Rattle.office.specs.declared.reading.Reading.{Reading}
 use Rattle.office.specs.Output.{OwesReply}
 use Rattle.popline.specs.Replies.{Reply}
 use Rattle.office.specs.Transaction.{refused_pick}
-use Rattle.office.proofs.Texts.{found, form, size, begins, topped, top_refused, refused_goes_on, asks_for}
+use Rattle.office.proofs.Texts.{found, form, begins, topped, top_refused, refused_goes_on, asks_for}
 use Rattle.office.proofs.Obeying.{if_ok_so, if_ok_both, said_so}
 use Rattle.vault.proofs.CallLemmas.{looks_none}
 use Rattle.office.proofs.message.top.Goals as goal

@@ -7,7 +7,7 @@ use Rattle.office.specs.Stopping.{ActsOnce, WasDone}
 use Rattle.office.specs.Transaction.{Transaction}
 use Rattle.office.specs.Kept.{Kept, asks}
 use Rattle.office.specs.Answered.{HasTransaction, LocksFollow, held_if}
-use Rattle.office.specs.AfterLine.{AfterNext, NothingDone, cut_through, line_of}
+use Rattle.office.specs.AfterLine.{AfterNext, NothingDone, line_of}
 use Rattle.office.specs.declared.login_state.LineOutcome.TheVariants as outcome
 use Rattle.office.proofs.AfterLines.{rest_cut}
 use Rattle.office.proofs.connection.Connection.resume.Goals as goal

@@ -1,7 +1,7 @@
 use Rattle.std.proofs.Common.{◌≡◌, drop, sym, ◌∙◌, ap, ⊎_elim, true≢false}
-use Rattle.office.specs.Output.{Output, Owes, reads_text}
+use Rattle.office.specs.Output.{Output, reads_text}
 use Rattle.office.specs.Kept.{Kept}
-use Rattle.office.specs.declared.output.Source.TheVariants.{Nothing, Text}
+use Rattle.office.specs.declared.output.Source.TheVariants.{Text}
 use Rattle.office.proofs.Obeying.{if_ok_so}
 use Rattle.office.proofs.Sending.{not_nothing, owes_text}
 use Rattle.vault.proofs.CallLemmas.{looks_none}

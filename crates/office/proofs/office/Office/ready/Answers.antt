@@ -1,4 +1,4 @@
-use Rattle.std.proofs.Common.{◌≡◌, true, Some, sym, ◌∙◌, subst, refl, nat_cmp}
+use Rattle.std.proofs.Common.{◌≡◌, true, Some, sym, subst, nat_cmp}
 use Rattle.std.specs.BTreeMap.{get}
 use Rattle.office.specs.Replying.{is_empty}
 use Rattle.office.specs.Kept.{Kept}

@@ -1,6 +1,5 @@
-use Rattle.std.proofs.Common.{◌≡◌, ◌<◌, ◌++◌, ℕ, List, [], drop, length, sym, ◌∙◌, ap, subst, refl, Some}
-use Rattle.vault.specs.Changes.{Contents, AreSound}
-use Rattle.vault.specs.Calls.{text_under}
+use Rattle.std.proofs.Common.{◌≡◌, ◌++◌, sym, ◌∙◌, ap, subst, refl, Some}
+use Rattle.vault.specs.Changes.{AreSound}
 use Rattle.office.specs.Output.{Output, Owes}
 use Rattle.office.specs.declared.reading.Reading.{Reading}
 use Rattle.office.specs.declared.output.Source.{Source}

@@ -1,4 +1,4 @@
-use Rattle.std.proofs.Common.{◌≡◌, ◌+◌, ◌<◌, ◌≤◌, ◌++◌, ℕ, List, take, drop, length, sym, ◌∙◌, ap, subst, arith, append-nil, rules}
+use Rattle.std.proofs.Common.{◌≡◌, ◌+◌, ◌++◌, ℕ, List, take, drop, length, sym, ◌∙◌, ap, arith, append-nil, rules}
 use Rattle.mailtext.specs.Streams.{stuffed_from}
 use Rattle.office.specs.Output.{cut_from, last_line}
 use Rattle.office.specs.declared.reading.Reading.{Reading}

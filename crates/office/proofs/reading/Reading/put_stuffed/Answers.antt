@@ -1,4 +1,4 @@
-use Rattle.std.proofs.Common.{◌≡◌, ◌*◌, ◌≤◌, ◌++◌, take, length, sym, ◌∙◌, ap, arith, append_assoc, rules}
+use Rattle.std.proofs.Common.{◌*◌, ◌≤◌, ◌++◌, take, length, sym, ◌∙◌, ap, arith, append_assoc, rules}
 use Rattle.mailtext.specs.Streams.{stuffed_from}
 use Rattle.std.proofs.lemmas.List.{length-take}
 use Rattle.office.proofs.Paging.{on_extended, all_stuffed, length_extended}

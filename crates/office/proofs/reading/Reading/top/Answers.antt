@@ -1,6 +1,6 @@
-use Rattle.std.proofs.Common.{◌≡◌, ◌++◌, true, ap, ◌∙◌, sym}
+use Rattle.std.proofs.Common.{◌++◌, ap, ◌∙◌}
 use Rattle.mailtext.specs.Text.{stuffed_lines}
-use Rattle.mailtext.specs.Streams.{stuffed_from, top_from}
+use Rattle.mailtext.specs.Streams.{top_from}
 use Rattle.office.specs.Output.{last_line}
 use Rattle.office.proofs.reading.Reading.top.Goals as goal
 

@@ -1,5 +1,4 @@
-use Rattle.std.proofs.Common.{◌≡◌, ◌++◌, true, ap, ◌∙◌, sym}
-use Rattle.mailtext.specs.Streams.{stuffed_from}
+use Rattle.std.proofs.Common.{◌++◌, ap}
 use Rattle.office.specs.Output.{last_line}
 use Rattle.office.proofs.reading.Reading.whole.Goals as goal
 
