@@ -53,6 +53,7 @@ mod Acting
 mod Locking
 mod Judging
 mod Accounts
+mod AfterLines
 mod LineDone
 mod PieceDone
 mod TakingDone

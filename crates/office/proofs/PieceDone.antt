@@ -13,9 +13,9 @@ use Rattle.office.specs.Log.{moment}
 use Rattle.office.specs.Trace.{history, acts_of_piece, next_line}
 use Rattle.office.specs.Expected.{most_in_a_piece, IsOutcome}
 use Rattle.office.specs.Outcomes.{Outcome}
-use Rattle.office.specs.Output.{nothing_owed, OwesIf}
+use Rattle.office.specs.Output.{nothing_owed}
 use Rattle.office.specs.Kept.{Kept, clocked, answered, line_after, asks}
-use Rattle.office.specs.Answered.{name_cmp, judged_at, reply_of, tag_of, shown_of, held_if, BecomesIf, LocksFollow}
+use Rattle.office.specs.Answered.{name_cmp, judged_at, reply_of, tag_of, shown_of, held_if, LocksFollow}
 use Rattle.vault.specs.Records.{Agree}
 use Rattle.office.specs.Stands.{seen, untaken_of, Matches, IsKeptFor, Keeps}
 use Rattle.office.specs.declared.office.Office.{Office}
@@ -25,6 +25,9 @@ use Rattle.office.proofs.Judging.{Judges}
 use Rattle.office.proofs.Hearing.{streamed, Awaits, acts_next}
 use Rattle.office.proofs.Events.{Moves, awaits_bytes, bytes_goes, seen-bytes_line, records-bytes_line, seen-bytes_part, records-bytes_part, seen-bytes_other}
 use Rattle.office.proofs.Owing.{none_owed}
+use Rattle.office.specs.AfterLine.{AfterNext, cut_through}
+use Rattle.office.specs.declared.account.Account.{Account}
+use Rattle.office.proofs.AfterLines.{lines_go}
 use Rattle.office.specs.Accounts.{account_if, state_account, acts_account}
 use Rattle.office.proofs.Accounts.{line_so}
 use Rattle.office.proofs.LineDone.{judges, here, agrees, carried, locked}
@@ -45,32 +48,32 @@ module _ {Before : Contents → Type 0} (T : Trace) (n : ℕ) (p : List ℕ) (ke
   abbrev replied : LineOutcome → Reply
   replied w = reply_of w (judged_at keeps.contents policy k.stamp locks) k.state judged.transaction (line_after k p)
 
-  module _ (w : LineOutcome) (k' : Kept) (locks' : BTreeMap (List ℕ) ℕ)
-      (may : w ≡ outcome.Failed → (has_newline p ≡ true) × (asks policy k.state judged.transaction (reading (line_after k p)) ≡ true))
-      (is : k' ≡ answered set p (replied w) k'.session k'.output)
-      (law : (more : List ℕ) → coming k.held (p ++ more) ≡ shown k'.held ++ coming k'.held (k'.pending ++ more)) where
-    module _ (became : BecomesIf (has_newline p) keeps.contents policy k.state (line_after k p) (replied w) k.session k'.session)
-        (follow : LocksFollow n k.session k'.session locks locks') (owes : OwesIf (has_newline p) keeps.contents k'.session k'.output (replied w)) where
+  module _ {After : Contents → Type 0} {grown : Bool} {was told : Account} (w : LineOutcome) (k' : Kept)
+      (did : AfterNext After grown keeps.contents policy locks judged.transaction (cut_through p set) k' w was told) where
+    law : (more : List ℕ) → coming k.held (p ++ more) ≡ shown k'.held ++ coming k'.held (k'.pending ++ more)
+    law = lines_go set k' p (replied w) k'.session k'.output did.kept
+
+    module _ (locks' : BTreeMap (List ℕ) ℕ) (follow : LocksFollow n k.session k'.session locks locks') where
       abbrev left : Contents
       left = held_if (has_newline p) w policy k.session (reading (line_after k p)) keeps.contents
 
       piece_here : Matches left (seen (given T (Bytes n p) (Tagged (tag_of w))) n) k'
-      piece_here = here T n keeps sound policy rules locks held (streamed (seen T n) p now) set p ready refl refl refl refl refl refl refl refl (Bytes n p) w k' locks' may is law became follow owes refl
+      piece_here = here T n keeps sound policy rules locks held (streamed (seen T n) p now) set p ready refl refl refl refl refl refl refl refl (Bytes n p) w k' locks' did.may did.kept law did.session follow did.owes refl
           (λ h nx. seen-bytes_line T n p now moment_is w (line_after k p) h nx) (λ h nx. records-bytes_line T n p w (line_after k p) h nx)
           (λ h d. rw d (seen-bytes_part T n p h now)) (λ h d. records-bytes_part T n p (tag_of w) h) (λ q e. seen-bytes_other T n p q (tag_of w) e)
 
       piece_agrees : Agree (records_of left) (records T.base (history (given T (Bytes n p) (Tagged (tag_of w)))))
-      piece_agrees = agrees T n keeps sound policy rules locks held (streamed (seen T n) p now) set p ready refl refl refl refl refl refl refl refl (Bytes n p) w k' locks' may is law became follow owes refl
+      piece_agrees = agrees T n keeps sound policy rules locks held (streamed (seen T n) p now) set p ready refl refl refl refl refl refl refl refl (Bytes n p) w k' locks' did.may did.kept law did.session follow did.owes refl
           (λ h nx. seen-bytes_line T n p now moment_is w (line_after k p) h nx) (λ h nx. records-bytes_line T n p w (line_after k p) h nx)
           (λ h d. rw d (seen-bytes_part T n p h now)) (λ h d. records-bytes_part T n p (tag_of w) h) (λ q e. seen-bytes_other T n p q (tag_of w) e)
 
       piece_carried : (q : ℕ) → eqb n q ≡ false → (o : Option Kept) → IsKeptFor keeps.contents (seen T q) o → IsKeptFor left (seen T q) o
-      piece_carried = carried T n keeps sound policy rules locks held (streamed (seen T n) p now) set p ready refl refl refl refl refl refl refl refl (Bytes n p) w k' locks' may is law became follow owes refl
+      piece_carried = carried T n keeps sound policy rules locks held (streamed (seen T n) p now) set p ready refl refl refl refl refl refl refl refl (Bytes n p) w k' locks' did.may did.kept law did.session follow did.owes refl
           (λ h nx. seen-bytes_line T n p now moment_is w (line_after k p) h nx) (λ h nx. records-bytes_line T n p w (line_after k p) h nx)
           (λ h d. rw d (seen-bytes_part T n p h now)) (λ h d. records-bytes_part T n p (tag_of w) h) (λ q e. seen-bytes_other T n p q (tag_of w) e)
 
       piece_locked : (d : List ℕ) → get name_cmp locks' d ≡ holder (history (given T (Bytes n p) (Tagged (tag_of w)))) d
-      piece_locked = locked T n keeps sound policy rules locks held (streamed (seen T n) p now) set p ready refl refl refl refl refl refl refl refl (Bytes n p) w k' locks' may is law became follow owes refl
+      piece_locked = locked T n keeps sound policy rules locks held (streamed (seen T n) p now) set p ready refl refl refl refl refl refl refl refl (Bytes n p) w k' locks' did.may did.kept law did.session follow did.owes refl
           (λ h nx. seen-bytes_line T n p now moment_is w (line_after k p) h nx) (λ h nx. records-bytes_line T n p w (line_after k p) h nx)
           (λ h d. rw d (seen-bytes_part T n p h now)) (λ h d. records-bytes_part T n p (tag_of w) h) (λ q e. seen-bytes_other T n p q (tag_of w) e)
 
@@ -87,7 +90,7 @@ module _ {Before : Contents → Type 0} (T : Trace) (n : ℕ) (p : List ℕ) (ke
 
     -- a piece that isn't ignored is answered what became of its line
     pub piece_answered : (lent : ℕ → ℕ) (o : Outcome) → o ≡ shown_of w → IsOutcome T lent (Bytes n p) o
-    piece_answered lent o e = at w may is e
+    piece_answered lent o e = at w did.may did.kept e
       where
         at : (w : LineOutcome) → (w ≡ outcome.Failed → (has_newline p ≡ true) × (asks policy k.state judged.transaction (reading (line_after k p)) ≡ true))
             → k' ≡ answered set p (replied w) k'.session k'.output → o ≡ shown_of w → IsOutcome T lent (Bytes n p) o
@@ -111,5 +114,5 @@ module _ {Before : Contents → Type 0} (T : Trace) (n : ℕ) (p : List ℕ) (ke
             ≡ acts_account T.base (history T) (acts_of_piece b n (tag_of w) (next_line T.log (history T) n p))
         at false h = refl
         at true h =
-            let next = acts_next keeps.contents (streamed (seen T n) p now) set k' p (replied w) ready is law h in
-            rw next (line_so T.base (history T) n keeps.contents (judged_at keeps.contents policy k.stamp locks) k.state k.session judged m.user (line_after k p) w (λ g. (may g).1))
+            let next = acts_next keeps.contents (streamed (seen T n) p now) set k' p (replied w) ready did.kept law h in
+            rw next (line_so T.base (history T) n keeps.contents (judged_at keeps.contents policy k.stamp locks) k.state k.session judged m.user (line_after k p) w (λ g. (did.may g).1))

@@ -13,9 +13,8 @@ use Rattle.office.specs.Log.{moment}
 use Rattle.office.specs.Trace.{history, is_left, next_line, acts_of_took}
 use Rattle.office.specs.Expected.{ignored, IsOutcome}
 use Rattle.office.specs.Outcomes.{Outcome}
-use Rattle.office.specs.Output.{OwesIf}
 use Rattle.office.specs.Kept.{Kept, answered, line_after, asks}
-use Rattle.office.specs.Answered.{name_cmp, judged_at, reply_of, tag_of, shown_of, held_if, BecomesIf, LocksFollow}
+use Rattle.office.specs.Answered.{name_cmp, judged_at, reply_of, tag_of, shown_of, held_if, LocksFollow}
 use Rattle.vault.specs.Records.{Agree}
 use Rattle.office.specs.Stands.{seen, Matches, IsKeptFor, Keeps}
 use Rattle.office.specs.declared.office.Office.{Office}
@@ -24,6 +23,9 @@ use Rattle.office.specs.declared.login_state.LineOutcome.TheVariants as outcome
 use Rattle.office.proofs.Judging.{Judges}
 use Rattle.office.proofs.Hearing.{took, Awaits, acts_next, none_next}
 use Rattle.office.proofs.Events.{Moves, next_kept, seen-took_line, records-took_line, seen-took_none, records-took_none, seen-took_other}
+use Rattle.office.specs.AfterLine.{AfterNext, cut_through}
+use Rattle.office.specs.declared.account.Account.{Account}
+use Rattle.office.proofs.AfterLines.{lines_go}
 use Rattle.office.specs.Accounts.{account_if, state_account, acts_account}
 use Rattle.office.proofs.Accounts.{line_so, all_taken}
 use Rattle.office.proofs.LineDone.{judges, here, agrees, carried, locked}
@@ -40,35 +42,35 @@ module _ {Before : Contents → Type 0} (T : Trace) (n octets : ℕ) (keeps : Ke
   abbrev replied : LineOutcome → Reply
   replied w = reply_of w (judged_at keeps.contents policy k.stamp locks) k.state judged.transaction (line_after k p)
 
-  module _ (w : LineOutcome) (k' : Kept) (locks' : BTreeMap (List ℕ) ℕ)
-      (may : w ≡ outcome.Failed → (has_newline p ≡ true) × (asks policy k.state judged.transaction (reading (line_after k p)) ≡ true))
-      (is : k' ≡ answered k p (replied w) k'.session k'.output)
-      (law : (more : List ℕ) → coming k.held (p ++ more) ≡ shown k'.held ++ coming k'.held (k'.pending ++ more)) where
-    none : has_newline p ≡ false → next_line T.log (history T) n [] ≡ None
-    none h = next_kept T n ∙ none_next keeps.contents (took (seen T n) octets now) k k' p (replied w) ready is law h
+  module _ {After : Contents → Type 0} {grown : Bool} {was told : Account} (w : LineOutcome) (k' : Kept)
+      (did : AfterNext After grown keeps.contents policy locks judged.transaction (cut_through p k) k' w was told) where
+    law : (more : List ℕ) → coming k.held (p ++ more) ≡ shown k'.held ++ coming k'.held (k'.pending ++ more)
+    law = lines_go k k' p (replied w) k'.session k'.output did.kept
 
-    module _ (became : BecomesIf (has_newline p) keeps.contents policy k.state (line_after k p) (replied w) k.session k'.session)
-        (follow : LocksFollow n k.session k'.session locks locks') (owes : OwesIf (has_newline p) keeps.contents k'.session k'.output (replied w)) where
+    none : has_newline p ≡ false → next_line T.log (history T) n [] ≡ None
+    none h = next_kept T n ∙ none_next keeps.contents (took (seen T n) octets now) k k' p (replied w) ready did.kept law h
+
+    module _ (locks' : BTreeMap (List ℕ) ℕ) (follow : LocksFollow n k.session k'.session locks locks') where
       abbrev left : Contents
       left = held_if (has_newline p) w policy k.session (reading (line_after k p)) keeps.contents
 
       taking_here : Matches left (seen (given T (Took n octets) (Tagged (tag_of w))) n) k'
-      taking_here = here T n keeps sound policy rules locks held (took (seen T n) octets now) k p ready refl refl refl refl refl refl refl refl (Took n octets) w k' locks' may is law became follow owes refl
+      taking_here = here T n keeps sound policy rules locks held (took (seen T n) octets now) k p ready refl refl refl refl refl refl refl refl (Took n octets) w k' locks' did.may did.kept law did.session follow did.owes refl
           (λ h nx. seen-took_line T n octets now moment_is w (line_after k p) all open_yet (next_kept T n ∙ nx)) (λ h nx. records-took_line T n octets w (line_after k p) all open_yet (next_kept T n ∙ nx))
           (λ h d. rw d (seen-took_none T n octets now moment_is all open_yet (none h))) (λ h d. rw d (records-took_none T n octets all open_yet (none h))) (λ q e. seen-took_other T n octets q (tag_of w) e)
 
       taking_agrees : Agree (records_of left) (records T.base (history (given T (Took n octets) (Tagged (tag_of w)))))
-      taking_agrees = agrees T n keeps sound policy rules locks held (took (seen T n) octets now) k p ready refl refl refl refl refl refl refl refl (Took n octets) w k' locks' may is law became follow owes refl
+      taking_agrees = agrees T n keeps sound policy rules locks held (took (seen T n) octets now) k p ready refl refl refl refl refl refl refl refl (Took n octets) w k' locks' did.may did.kept law did.session follow did.owes refl
           (λ h nx. seen-took_line T n octets now moment_is w (line_after k p) all open_yet (next_kept T n ∙ nx)) (λ h nx. records-took_line T n octets w (line_after k p) all open_yet (next_kept T n ∙ nx))
           (λ h d. rw d (seen-took_none T n octets now moment_is all open_yet (none h))) (λ h d. rw d (records-took_none T n octets all open_yet (none h))) (λ q e. seen-took_other T n octets q (tag_of w) e)
 
       taking_carried : (q : ℕ) → eqb n q ≡ false → (o : Option Kept) → IsKeptFor keeps.contents (seen T q) o → IsKeptFor left (seen T q) o
-      taking_carried = carried T n keeps sound policy rules locks held (took (seen T n) octets now) k p ready refl refl refl refl refl refl refl refl (Took n octets) w k' locks' may is law became follow owes refl
+      taking_carried = carried T n keeps sound policy rules locks held (took (seen T n) octets now) k p ready refl refl refl refl refl refl refl refl (Took n octets) w k' locks' did.may did.kept law did.session follow did.owes refl
           (λ h nx. seen-took_line T n octets now moment_is w (line_after k p) all open_yet (next_kept T n ∙ nx)) (λ h nx. records-took_line T n octets w (line_after k p) all open_yet (next_kept T n ∙ nx))
           (λ h d. rw d (seen-took_none T n octets now moment_is all open_yet (none h))) (λ h d. rw d (records-took_none T n octets all open_yet (none h))) (λ q e. seen-took_other T n octets q (tag_of w) e)
 
       taking_locked : (d : List ℕ) → get name_cmp locks' d ≡ holder (history (given T (Took n octets) (Tagged (tag_of w)))) d
-      taking_locked = locked T n keeps sound policy rules locks held (took (seen T n) octets now) k p ready refl refl refl refl refl refl refl refl (Took n octets) w k' locks' may is law became follow owes refl
+      taking_locked = locked T n keeps sound policy rules locks held (took (seen T n) octets now) k p ready refl refl refl refl refl refl refl refl (Took n octets) w k' locks' did.may did.kept law did.session follow did.owes refl
           (λ h nx. seen-took_line T n octets now moment_is w (line_after k p) all open_yet (next_kept T n ∙ nx)) (λ h nx. records-took_line T n octets w (line_after k p) all open_yet (next_kept T n ∙ nx))
           (λ h d. rw d (seen-took_none T n octets now moment_is all open_yet (none h))) (λ h d. rw d (records-took_none T n octets all open_yet (none h))) (λ q e. seen-took_other T n octets q (tag_of w) e)
 
@@ -85,7 +87,7 @@ module _ {Before : Contents → Type 0} (T : Trace) (n octets : ℕ) (keeps : Ke
 
     -- a taking after which a line acts is answered what became of it
     pub taking_answered : (lent : ℕ → ℕ) (o : Outcome) → ignored T lent (Took n octets) ≡ None → o ≡ shown_of w → IsOutcome T lent (Took n octets) o
-    taking_answered lent o goes e = at w may is e
+    taking_answered lent o goes e = at w did.may did.kept e
       where
         at : (w : LineOutcome) → (w ≡ outcome.Failed → (has_newline p ≡ true) × (asks policy k.state judged.transaction (reading (line_after k p)) ≡ true))
             → k' ≡ answered k p (replied w) k'.session k'.output → o ≡ shown_of w → IsOutcome T lent (Took n octets) o
@@ -105,6 +107,6 @@ module _ {Before : Contents → Type 0} (T : Trace) (n octets : ℕ) (keeps : Ke
             ≡ acts_account T.base (history T) (acts_of_took (is_left T.log (history T) n octets) (serving (history T) n) (closing (history T) n) n (tag_of w) (next_line T.log (history T) n []))
         at false h = sym (all_taken T.base (history T) (is_left T.log (history T) n octets) (serving (history T) n) (closing (history T) n) n (tag_of w) (next_line T.log (history T) n []) None all open_yet (none h))
         at true h =
-            let next = next_kept T n ∙ acts_next keeps.contents (took (seen T n) octets now) k k' p (replied w) ready is law h in
-            line_so T.base (history T) n keeps.contents (judged_at keeps.contents policy k.stamp locks) k.state k.session judged named (line_after k p) w (λ g. (may g).1)
+            let next = next_kept T n ∙ acts_next keeps.contents (took (seen T n) octets now) k k' p (replied w) ready did.kept law h in
+            line_so T.base (history T) n keeps.contents (judged_at keeps.contents policy k.stamp locks) k.state k.session judged named (line_after k p) w (λ g. (did.may g).1)
             ∙ sym (all_taken T.base (history T) (is_left T.log (history T) n octets) (serving (history T) n) (closing (history T) n) n (tag_of w) (next_line T.log (history T) n []) (Some (line_after k p)) all open_yet next)

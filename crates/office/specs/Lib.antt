@@ -49,3 +49,4 @@ pub mod Logins
 pub mod LongLine
 pub mod Accounts
 pub mod AfterEvent
+pub mod AfterLine

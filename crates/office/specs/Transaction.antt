@@ -126,18 +126,23 @@ session_if false s = Some s
 abbrev pub session_left : Result Command LineFault → Session → Option Session
 session_left r s = session_if (is_quit r) s
 
--- What came of a line that reads so: its reply is owed, the session goes on, and the store holds
--- what the line leaves. Where the store failed, the line is one that asks it, and the fault was
--- counted.
-pub record IsAnswered (After : Contents
+-- What came of a line that reads so and got this reply: the reply is owed, the session goes on, and
+-- the store holds what the line leaves. Where the store failed, the line is one that asks it, and
+-- the fault was counted.
+pub record IsAnsweredBy (After : Contents
     → Type 0) (grown : Bool) (c : Contents) (p : Policy) (s new : Session) (kept : List Keyed)
-    (after : Output) (r : Result Command LineFault) (w : LineOutcome) : Type 0 where
-  pub owed : OwesReply c (session_left r new) after
-      (transaction_answered w p (transaction_of s kept) r)
-  pub session : GoesOn (transaction_answered w p (transaction_of s kept) r) s new
+    (after : Output) (r : Result Command LineFault) (w : LineOutcome) (reply : Reply) : Type 0 where
+  pub owed : OwesReply c (session_left r new) after reply
+  pub session : GoesOn reply s new
   pub held : After (held_after_line w p s r c)
   pub may : w ≡ outcome.Failed → transaction_asks p (transaction_of s kept) r ≡ true
   pub cause : w ≡ outcome.Failed → grown ≡ true
+
+-- the same, of what isn't too long: the reply is that to what it reads as
+abbrev pub IsAnswered : (After : Contents → Type 0) → (grown : Bool) → Contents → Policy
+    → (s new : Session) → List Keyed → Output → Result Command LineFault → LineOutcome → Type 0
+IsAnswered After grown c p s new kept after r w = IsAnsweredBy After grown c p s new kept after r w
+    (transaction_answered w p (transaction_of s kept) r)
 
 -- What came of a message that was to be sent: it is owed; or the reply that the store failed is,
 -- and the fault was counted.

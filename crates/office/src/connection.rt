@@ -1,29 +1,25 @@
 //! One connection: the input that isn't cut yet, and the octets that it is owed.
-ghost use Rattle.std.specs.Prelude.{◌≡◌, ◌++◌, ◌+◌, ◌≤◌, ◌<◌, ◌==◌, ◌||◌, nat_lt, ℕ, List, []};
-ghost use Rattle.std.specs.Prelude.{Option, None, true, false, is_some, OnOk, OnErr, IfOk, IsOkAnd};
-ghost use Rattle.std.specs.Prelude.{IsTrue, drop, length, string_bytes};
-ghost use Rattle.std.specs.BTreeMap.{get};
+ghost use Rattle.std.specs.Prelude.{◌≡◌, ◌+◌, ◌≤◌, ◌<◌, ◌==◌, ◌||◌, nat_lt, ℕ, List, []};
+ghost use Rattle.std.specs.Prelude.{Option, None, true, false, is_some, OnOk, OnErr, IfOk};
+ghost use Rattle.std.specs.Prelude.{IsOkAnd, IsTrue, drop, length, string_bytes};
 ghost use Rattle.popline.specs.Replies.{Greeting, bytes_of, timestamp};
-ghost use Rattle.popline.specs.Cutting.{has_newline, coming, shown, nothing_held};
+ghost use Rattle.popline.specs.Cutting.{has_newline, nothing_held};
 ghost use Rattle.vault.specs.Changes.{Contents};
 ghost use Rattle.vault.specs.Calls.{has_grown};
 ghost use Rattle.vault.specs.Parts.{OnlyLooks};
 ghost use Rattle.office.specs.Stopping.{WasDone, ActsOnce};
 ghost use Rattle.office.specs.Replying.{is_empty};
 ghost use Rattle.office.specs.Output.{nothing_owed, most_output, lent_of, is_feeding, reads_text};
-ghost use Rattle.office.specs.Output.{Owes, OwesIf};
+ghost use Rattle.office.specs.Output.{Owes};
 ghost use Rattle.office.specs.Transaction.{Transaction};
-ghost use Rattle.office.specs.History.{Says};
-ghost use Rattle.office.specs.Accounts.{account_if, state_account};
-ghost use Rattle.office.specs.Kept.{answered, clocked, line_after, asks, nothing_said, maildrop_of};
+ghost use Rattle.office.specs.Kept.{clocked, line_after, asks, nothing_said, maildrop_of};
 ghost use Rattle.office.specs.Idle.{is_idle};
 ghost use Rattle.office.specs.InSession.{name_of};
 ghost use Rattle.office.specs.Input.{most_input};
 ghost use Rattle.office.specs.Connections.{reading};
 ghost use Rattle.office.specs.Expected.{most_in_a_piece};
-ghost use Rattle.office.specs.Answered.{judged_at, reply_of, name_cmp, is_locked_by};
-ghost use Rattle.office.specs.Answered.{HasTransaction};
-ghost use Rattle.office.specs.Answered.{BecomesIf, LocksFollow, held_if};
+ghost use Rattle.office.specs.Answered.{is_locked_by, HasTransaction, LocksFollow, held_if};
+ghost use Rattle.office.specs.AfterLine.{AfterNext, NothingDone, cut_through, line_of};
 ghost use Rattle.office.specs.Waiting.{is_held_for, coming_login, line_with};
 
 use crate::account::Account;
@@ -299,96 +295,26 @@ impl Connection {
         now: u64,
         account: &mut Account,
     ) -> Result<LineOutcome, AllocError>
-        requires { (self.old.output ≡ nothing_owed) × (length piece.now ≤ most_in_a_piece) }
-        ensures ok { IfOk result (λ outcome. (c : Contents) (v : Option Transaction)
-            → V.holds vault.old c
-            → V.is_clean vault.new → HasTransaction c self.old.session v
-            → self.new ≡ answered (clocked now piece.now self.old) piece.now
-            (reply_of outcome (judged_at c policy.now self.old.stamp locks.old)
-            self.old.state v
-            (line_after self.old piece.now)) self.new.session self.new.output) }
-        ensures owes { IfOk result (λ outcome. (c : Contents) (v : Option Transaction)
+        requires { length piece.now ≤ most_in_a_piece }
+        ensures answered { IfOk result (λ outcome. (c : Contents) (v : Option Transaction)
             → V.holds vault.old c → V.is_clean vault.new → HasTransaction c self.old.session v
-            → OwesIf (has_newline piece.now) c self.new.session self.new.output
-            (reply_of outcome (judged_at c policy.now self.old.stamp locks.old)
-            self.old.state v
-            (line_after self.old piece.now))) }
-        ensures session { IfOk result (λ outcome. (c : Contents) (v : Option Transaction)
-            → V.holds vault.old c → V.is_clean vault.new → HasTransaction c self.old.session v
-            → BecomesIf (has_newline piece.now) c policy.now self.old.state
-            (line_after self.old piece.now) (reply_of outcome
-            (judged_at c policy.now self.old.stamp locks.old) self.old.state v
-            (line_after self.old piece.now)) self.old.session self.new.session) }
-        ensures lines { IfOk result (λ _. (more : List ℕ)
-            → coming self.old.held (piece.now ++ more) ≡ shown self.new.held
-            ++ coming self.new.held (self.new.pending ++ more)) }
-        // Only a line takes memory.
-        ensures err { OnErr result (has_newline piece.now ≡ true) }
+            → AfterNext (V.holds vault.new) (has_grown (V.faults vault.old) (V.faults vault.new)) c
+            policy.now locks.old v (cut_through piece.now (clocked now piece.now self.old)) self.new
+            outcome account.old account.new) }
         ensures locks { OnOk result (LocksFollow number self.old.session self.new.session locks.old
             locks.new) }
-        ensures locks_err { OnErr result ((d : List ℕ)
-            → get name_cmp locks.new d ≡ get name_cmp locks.old d) }
-        ensures held { IfOk result (λ outcome. (c : Contents) (v : Option Transaction)
-            → V.holds vault.old c → V.is_clean vault.new → HasTransaction c self.old.session v
-            → V.holds vault.new (held_if (has_newline piece.now) outcome policy.now
-            self.old.session
-            (reading (line_after self.old piece.now)) c)) }
-        ensures held_err { OnErr result ((c : Contents) → V.holds vault.old c → V.is_clean vault.new
-            → V.holds vault.new c) }
-        ensures may { IfOk result (λ outcome. outcome ≡ LineOutcome.Failed
-            → (c : Contents) (v : Option Transaction) → V.holds vault.old c → V.is_clean vault.new
-            → HasTransaction c self.old.session v → (has_newline piece.now ≡ true)
-            × (asks policy.now self.old.state v (reading (line_after self.old piece.now))
-            ≡ true)) }
-        ensures cause { IfOk result (λ outcome. outcome ≡ LineOutcome.Failed
-            → (c : Contents) (v : Option Transaction) → V.holds vault.old c → V.is_clean vault.new
-            → HasTransaction c self.old.session v
-            → has_grown (V.faults vault.old) (V.faults vault.new)
-            ≡ true) }
+        ensures err { OnErr result ((has_newline piece.now ≡ true) × NothingDone V.Vault vault.old
+            vault.new locks.old locks.new account.old account.new) }
         ensures acts { ActsOnce V.Vault vault.old vault.new (IsOkAnd result WasDone)
             (held_if (has_newline piece.now) LineOutcome.Done policy.now self.old.session
             (reading (line_after self.old piece.now))) }
-        ensures account { account.old ≡ Account.Nothing
-            → IfOk result (λ outcome. (c : Contents) (v : Option Transaction)
-            → V.holds vault.old c
-            → V.is_clean vault.new → HasTransaction c self.old.session v
-            → account.new ≡ account_if (has_newline piece.now)
-            (state_account outcome policy.now v
-            (reading (line_after self.old piece.now)) (Says (reply_of outcome
-            (judged_at c policy.now self.old.stamp locks.old) self.old.state v
-            (line_after self.old piece.now))) self.old.state.user)) }
-        ensures account_err { OnErr result (account.new ≡ account.old) }
         ensures unasked { (c : Contents) (v : Option Transaction)
             → HasTransaction c self.old.session v
             → (has_newline piece.now ≡ true → asks policy.now self.old.state v
             (reading (line_after self.old piece.now)) ≡ false) → vault.new ≡ vault.old }
     {
-        self.output.clear();
-        self.pending.clear();
-        self.cut = 0;
-        let n = self.cutter.feed(piece);
-        let Some(cut) = self.cutter.line() else {
-            return Ok(LineOutcome::Done);
-        };
-        self.clock = now;
-        self.pending.extend_from_slice(&piece[n..])?;
-        let context = LineContext {
-            policy,
-            stamp: self.stamp.as_bytes(),
-            number,
-        };
-        let outcome = lines::answer(
-            alloc,
-            vault,
-            context,
-            locks,
-            cut,
-            &mut self.output,
-            &mut self.state,
-            &mut self.session,
-            account,
-        )?;
-        Ok(outcome)
+        self.cut_piece(piece, now)?;
+        self.answer_next(alloc, vault, policy, locks, number, account)
     }
 
     /// Answers the next whole line of the octets that were kept, if there is one. `account`, which
@@ -402,72 +328,74 @@ impl Connection {
         number: u64,
         account: &mut Account,
     ) -> Result<LineOutcome, AllocError>
-        requires { self.old.output ≡ nothing_owed }
-        ensures ok { IfOk result (λ outcome. (c : Contents) (v : Option Transaction)
-            → V.holds vault.old c
-            → V.is_clean vault.new → HasTransaction c self.old.session v
-            → self.new ≡ answered self.old self.old.pending
-            (reply_of outcome (judged_at c policy.now self.old.stamp locks.old)
-            self.old.state v
-            (line_after self.old self.old.pending)) self.new.session self.new.output) }
-        ensures owes { IfOk result (λ outcome. (c : Contents) (v : Option Transaction)
+        ensures answered { IfOk result (λ outcome. (c : Contents) (v : Option Transaction)
             → V.holds vault.old c → V.is_clean vault.new → HasTransaction c self.old.session v
-            → OwesIf (has_newline self.old.pending) c self.new.session self.new.output
-            (reply_of outcome (judged_at c policy.now self.old.stamp locks.old)
-            self.old.state v
-            (line_after self.old self.old.pending))) }
-        ensures session { IfOk result (λ outcome. (c : Contents) (v : Option Transaction)
-            → V.holds vault.old c → V.is_clean vault.new → HasTransaction c self.old.session v
-            → BecomesIf (has_newline self.old.pending) c policy.now self.old.state
-            (line_after self.old self.old.pending) (reply_of outcome
-            (judged_at c policy.now self.old.stamp locks.old) self.old.state v
-            (line_after self.old self.old.pending)) self.old.session self.new.session) }
-        ensures lines { IfOk result (λ _. (more : List ℕ)
-            → coming self.old.held (self.old.pending ++ more) ≡ shown self.new.held
-            ++ coming self.new.held (self.new.pending ++ more)) }
-        ensures err { OnErr result (has_newline self.old.pending ≡ true) }
+            → AfterNext (V.holds vault.new) (has_grown (V.faults vault.old) (V.faults vault.new)) c
+            policy.now locks.old v (cut_through self.old.pending self.old) self.new outcome
+            account.old account.new) }
         ensures locks { OnOk result (LocksFollow number self.old.session self.new.session locks.old
             locks.new) }
-        ensures locks_err { OnErr result ((d : List ℕ)
-            → get name_cmp locks.new d ≡ get name_cmp locks.old d) }
-        ensures held { IfOk result (λ outcome. (c : Contents) (v : Option Transaction)
-            → V.holds vault.old c → V.is_clean vault.new → HasTransaction c self.old.session v
-            → V.holds vault.new (held_if (has_newline self.old.pending) outcome policy.now
-            self.old.session (reading (line_after self.old self.old.pending)) c)) }
-        ensures held_err { OnErr result ((c : Contents) → V.holds vault.old c → V.is_clean vault.new
-            → V.holds vault.new c) }
-        ensures may { IfOk result (λ outcome. outcome ≡ LineOutcome.Failed
-            → (c : Contents) (v : Option Transaction) → V.holds vault.old c → V.is_clean vault.new
-            → HasTransaction c self.old.session v → (has_newline self.old.pending ≡ true)
-            × (asks policy.now self.old.state v
-            (reading (line_after self.old self.old.pending))
-            ≡ true)) }
-        ensures cause { IfOk result (λ outcome. outcome ≡ LineOutcome.Failed
-            → (c : Contents) (v : Option Transaction) → V.holds vault.old c → V.is_clean vault.new
-            → HasTransaction c self.old.session v
-            → has_grown (V.faults vault.old) (V.faults vault.new)
-            ≡ true) }
+        ensures err { OnErr result ((has_newline self.old.pending ≡ true) × NothingDone V.Vault
+            vault.old vault.new locks.old locks.new account.old account.new) }
         ensures acts { ActsOnce V.Vault vault.old vault.new (IsOkAnd result WasDone)
             (held_if (has_newline self.old.pending) LineOutcome.Done policy.now self.old.session
             (reading (line_after self.old self.old.pending))) }
-        ensures account { account.old ≡ Account.Nothing
-            → IfOk result (λ outcome. (c : Contents) (v : Option Transaction)
-            → V.holds vault.old c
-            → V.is_clean vault.new → HasTransaction c self.old.session v
-            → account.new ≡ account_if (has_newline self.old.pending)
-            (state_account outcome policy.now v
-            (reading (line_after self.old self.old.pending))
-            (Says (reply_of outcome (judged_at c policy.now self.old.stamp locks.old)
-            self.old.state v
-            (line_after self.old self.old.pending))) self.old.state.user)) }
-        ensures account_err { OnErr result (account.new ≡ account.old) }
         ensures unasked { (c : Contents) (v : Option Transaction)
             → HasTransaction c self.old.session v
             → (has_newline self.old.pending ≡ true → asks policy.now self.old.state v
             (reading (line_after self.old self.old.pending)) ≡ false) → vault.new ≡ vault.old }
     {
-        self.output.clear();
         self.cut += self.cutter.feed(&self.pending[self.cut..]);
+        self.answer_next(alloc, vault, policy, locks, number, account)
+    }
+
+    /// Cuts a piece that came at this moment up to its first LF, and keeps what is behind it. Only
+    /// a piece with LF sets the clock, and takes memory.
+    fn cut_piece(&mut self, piece: &[u8], now: u64) -> Result<(), AllocError>
+        requires { length piece.now ≤ most_in_a_piece }
+        ensures cut { OnOk result (self.new ≡ cut_through piece.now
+            (clocked now piece.now self.old)) }
+        ensures err { OnErr result (has_newline piece.now ≡ true) }
+    {
+        self.pending.clear();
+        self.cut = 0;
+        let n = self.cutter.feed(piece);
+        let Some(_) = self.cutter.line() else {
+            return Ok(());
+        };
+        self.clock = now;
+        self.pending.extend_from_slice(&piece[n..])?;
+        Ok(())
+    }
+
+    /// Answers the line that is whole, if one is; what was owed is taken. `account`, which tells
+    /// nothing yet, becomes what was judged.
+    fn answer_next<V: Vault>(
+        &mut self,
+        alloc: Global,
+        vault: &mut V,
+        policy: &Policy,
+        locks: &mut Locks,
+        number: u64,
+        account: &mut Account,
+    ) -> Result<LineOutcome, AllocError>
+        ensures answered { IfOk result (λ outcome. (c : Contents) (v : Option Transaction)
+            → V.holds vault.old c → V.is_clean vault.new → HasTransaction c self.old.session v
+            → AfterNext (V.holds vault.new) (has_grown (V.faults vault.old) (V.faults vault.new)) c
+            policy.now locks.old v self.old self.new outcome account.old account.new) }
+        ensures locks { OnOk result (LocksFollow number self.old.session self.new.session locks.old
+            locks.new) }
+        ensures err { OnErr result ((self.old.held.whole ≡ true) × NothingDone V.Vault vault.old
+            vault.new locks.old locks.new account.old account.new) }
+        ensures acts { ActsOnce V.Vault vault.old vault.new (IsOkAnd result WasDone)
+            (held_if self.old.held.whole LineOutcome.Done policy.now self.old.session
+            (reading (line_of self.old))) }
+        ensures unasked { (c : Contents) (v : Option Transaction)
+            → HasTransaction c self.old.session v
+            → (self.old.held.whole ≡ true → asks policy.now self.old.state v
+            (reading (line_of self.old)) ≡ false) → vault.new ≡ vault.old }
+    {
+        self.output.clear();
         let Some(cut) = self.cutter.line() else {
             return Ok(LineOutcome::Done);
         };
@@ -476,7 +404,7 @@ impl Connection {
             stamp: self.stamp.as_bytes(),
             number,
         };
-        let outcome = lines::answer(
+        lines::answer(
             alloc,
             vault,
             context,
@@ -486,8 +414,7 @@ impl Connection {
             &mut self.state,
             &mut self.session,
             account,
-        )?;
-        Ok(outcome)
+        )
     }
 }
 

@@ -1,26 +1,23 @@
 //! The reply to a line, and what is remembered after it.
-ghost use Rattle.std.specs.Prelude.{◌≡◌, ◌≤◌, ◌++◌, ℕ, List, Option, None, Some, true, false, Ok};
-ghost use Rattle.std.specs.Prelude.{OnOk, OnErr, IfOk, IsOkAnd};
-ghost use Rattle.std.specs.BTreeMap.{get};
-ghost use Rattle.popline.specs.Replies.{bytes_of};
+ghost use Rattle.std.specs.Prelude.{◌≡◌, Option, None, Some, true, false, Ok, OnOk, OnErr, IfOk};
+ghost use Rattle.std.specs.Prelude.{IsOkAnd};
 ghost use Rattle.popline.specs.Seen.{cut_seen, command_seen, reading_seen, reply_seen};
 ghost use Rattle.vault.specs.Changes.{Contents};
 ghost use Rattle.vault.specs.Calls.{IsDone, seen_as, has_grown};
 ghost use Rattle.vault.specs.Call.{Looks};
+ghost use Rattle.vault.specs.Parts.{OnlyLooks};
 ghost use Rattle.office.specs.History.{Says};
 ghost use Rattle.office.specs.Connections.{reading, is_quit, user_after_line, closes, is_failure};
 ghost use Rattle.office.specs.Sessions.{logs_in};
 ghost use Rattle.office.specs.Replying.{is_allowed as is_allowed_of};
-ghost use Rattle.vault.specs.Parts.{OnlyLooks};
 ghost use Rattle.office.specs.Stopping.{WasDone, ActsOnce};
-ghost use Rattle.office.specs.Output.{nothing_owed, OwesReply};
-ghost use Rattle.office.specs.Transaction.{Transaction, transaction_reply};
-ghost use Rattle.office.specs.Accounts.{line_account, state_account, transaction_account};
+ghost use Rattle.office.specs.Output.{nothing_owed};
+ghost use Rattle.office.specs.Transaction.{Transaction};
 ghost use Rattle.office.specs.Kept.{authorization_said, authorization_line, authorization_asks};
 ghost use Rattle.office.specs.Kept.{asks, login_state_after};
-ghost use Rattle.office.specs.Answered.{context_over, reply_of, name_cmp, HasTransaction};
-ghost use Rattle.office.specs.Answered.{SessionAfter};
+ghost use Rattle.office.specs.Answered.{context_over, HasTransaction, SessionAfter};
 ghost use Rattle.office.specs.Answered.{Becomes, LocksFollow, held_after};
+ghost use Rattle.office.specs.AfterLine.{AfterLine, NothingDone};
 
 use crate::account::Account;
 use crate::command_line::CommandLine;
@@ -191,35 +188,16 @@ fn authorization_answer<V: Vault>(
     account: &mut Account,
 ) -> Result<(LineOutcome, Option<Session>), AllocError>
     requires { output.old ≡ nothing_owed }
-    ensures owed { IfOk result (λ r. (c : Contents) → V.holds vault.old c → V.is_clean vault.new
-        → output.new ≡ record output.old {
-          ready = output.old.ready
-              ++ bytes_of (reply_of r.0 (context_over c context.entry locks.old) state.old
-              None line.now);
-        }) }
-    ensures state { IfOk result (λ r. (c : Contents) → V.holds vault.old c
+    ensures answered { IfOk result (λ r. (c : Contents) → V.holds vault.old c
         → V.is_clean vault.new
-        → state.new ≡ login_state_after line.now
-        (reply_of r.0 (context_over c context.entry locks.old) state.old
-        None line.now) state.old) }
-    ensures session { IfOk result (λ r. (c : Contents) → V.holds vault.old c → V.is_clean vault.new
-        → Becomes c context.entry.policy.now state.old line.now
-        (reply_of r.0 (context_over c context.entry locks.old) state.old None line.now) None
-        r.1) }
-    ensures locks { IfOk result (λ r. LocksFollow context.entry.number None r.1 locks.old locks.new) }
-    ensures locks_err { OnErr result ((d : List ℕ)
-        → get name_cmp locks.new d ≡ get name_cmp locks.old d) }
-    ensures may { IfOk result (λ r. r.0 ≡ LineOutcome.Failed
-        → authorization_asks state.old (reading line.now) ≡ true) }
-    ensures cause { IfOk result (λ r. r.0 ≡ LineOutcome.Failed → (c : Contents)
-        → V.holds vault.old c
-        → V.is_clean vault.new → has_grown (V.faults vault.old) (V.faults vault.new) ≡ true) }
+        → AfterLine (V.holds vault.new) (has_grown (V.faults vault.old) (V.faults vault.new)) c
+        (context_over c context.entry locks.old) line.now r.0 None None r.1 state.old state.new
+        output.new Account.Nothing account.new) }
+    ensures locks { IfOk result (λ r. LocksFollow context.entry.number None r.1 locks.old
+        locks.new) }
+    ensures err { OnErr result (NothingDone V.Vault vault.old vault.new locks.old locks.new
+        account.old account.new) }
     ensures looks { OnlyLooks V.Vault vault.old vault.new (IsOkAnd result (λ r. WasDone r.0)) }
-    ensures account { IfOk result (λ r. (c : Contents) → V.holds vault.old c → V.is_clean vault.new
-        → account.new ≡ line_account (reading line.now) (Says (reply_of r.0
-        (context_over c context.entry locks.old) state.old None line.now))
-        state.old.user) }
-    ensures account_err { OnErr result (account.new ≡ account.old) }
     ensures unasked { authorization_asks state.old (reading line.now) ≡ false
         → vault.new ≡ vault.old }
 {
@@ -250,47 +228,17 @@ fn transaction_answer<V: Vault>(
     account: &mut Account,
 ) -> Result<(LineOutcome, Option<Session>), AllocError>
     requires { output.old ≡ nothing_owed }
-    ensures owed { IfOk result (λ r. (c : Contents) (v : Transaction) → V.holds vault.old c
+    ensures answered { IfOk result (λ r. (c : Contents) (v : Transaction) → V.holds vault.old c
         → V.is_clean vault.new → HasTransaction c (Some session) (Some v)
-        → OwesReply c r.1 output.new (reply_of r.0
-        (context_over c context.entry locks.old) state.old
-        (Some v) line.now)) }
-    ensures state { IfOk result (λ r. (c : Contents) (v : Transaction) → V.holds vault.old c
-        → V.is_clean vault.new → HasTransaction c (Some session) (Some v)
-        → state.new ≡ login_state_after line.now
-        (reply_of r.0 (context_over c context.entry locks.old) state.old
-        (Some v) line.now) state.old) }
-    ensures session { IfOk result (λ r. (c : Contents) (v : Transaction) → V.holds vault.old c
-        → V.is_clean vault.new → HasTransaction c (Some session) (Some v)
-        → Becomes c context.entry.policy.now state.old line.now
-        (reply_of r.0 (context_over c context.entry locks.old) state.old (Some v) line.now)
-        (Some session)
-        r.1) }
+        → AfterLine (V.holds vault.new) (has_grown (V.faults vault.old) (V.faults vault.new)) c
+        (context_over c context.entry locks.old) line.now r.0 (Some v) (Some session) r.1
+        state.old state.new output.new account.old account.new) }
     ensures locks { IfOk result (λ r. LocksFollow context.entry.number (Some session) r.1 locks.old
         locks.new) }
-    ensures locks_err { OnErr result ((d : List ℕ)
-        → get name_cmp locks.new d ≡ get name_cmp locks.old d) }
-    ensures held { IfOk result (λ r. (c : Contents) (v : Transaction) → V.holds vault.old c
-        → V.is_clean vault.new → HasTransaction c (Some session) (Some v)
-        → V.holds vault.new (held_after r.0 context.entry.policy.now (Some session)
-        (reading line.now)
-        c)) }
-    ensures err { OnErr result ((c : Contents) → V.holds vault.old c → V.is_clean vault.new
-        → V.holds vault.new c) }
-    ensures may { IfOk result (λ r. r.0 ≡ LineOutcome.Failed → (c : Contents) (v : Transaction)
-        → V.holds vault.old c → V.is_clean vault.new → HasTransaction c (Some session) (Some v)
-        → asks context.entry.policy.now state.old (Some v) (reading line.now) ≡ true) }
-    ensures cause { IfOk result (λ r. r.0 ≡ LineOutcome.Failed → (c : Contents) (v : Transaction)
-        → V.holds vault.old c → V.is_clean vault.new → HasTransaction c (Some session) (Some v)
-        → has_grown (V.faults vault.old) (V.faults vault.new) ≡ true) }
+    ensures err { OnErr result (NothingDone V.Vault vault.old vault.new locks.old locks.new
+        account.old account.new) }
     ensures acts { ActsOnce V.Vault vault.old vault.new (IsOkAnd result (λ r. WasDone r.0))
         (held_after LineOutcome.Done context.entry.policy.now (Some session) (reading line.now)) }
-    ensures account { account.old ≡ Account.Nothing
-        → IfOk result (λ r. (c : Contents) (v : Transaction)
-        → HasTransaction c (Some session) (Some v)
-        → account.new ≡ transaction_account r.0 context.entry.policy.now session (reading line.now)
-        (Says (transaction_reply r.0 context.entry.policy.now v line.now))) }
-    ensures account_err { OnErr result (account.new ≡ account.old) }
     ensures unasked { (c : Contents) (v : Transaction) → HasTransaction c (Some session) (Some v)
         → asks context.entry.policy.now state.old (Some v) (reading line.now) ≡ false
         → vault.new ≡ vault.old }
@@ -330,55 +278,18 @@ pub fn answer<V: Vault>(
     account: &mut Account,
 ) -> Result<LineOutcome, AllocError>
     requires { output.old ≡ nothing_owed }
-    ensures owed { IfOk result (λ outcome. (c : Contents) (v : Option Transaction)
-        → V.holds vault.old c
-        → V.is_clean vault.new → HasTransaction c session.old v
-        → OwesReply c session.new output.new
-        (reply_of outcome (context_over c context.entry locks.old)
-        state.old v (cut_seen cut.entry))) }
-    ensures state { IfOk result (λ outcome. (c : Contents) (v : Option Transaction)
-        → V.holds vault.old c
-        → V.is_clean vault.new → HasTransaction c session.old v
-        → state.new ≡ login_state_after (cut_seen cut.entry)
-        (reply_of outcome (context_over c context.entry locks.old) state.old v
-        (cut_seen cut.entry))
-        state.old) }
-    ensures session { IfOk result (λ outcome. (c : Contents) (v : Option Transaction)
+    ensures answered { IfOk result (λ outcome. (c : Contents) (v : Option Transaction)
         → V.holds vault.old c → V.is_clean vault.new → HasTransaction c session.old v
-        → Becomes c context.entry.policy.now state.old (cut_seen cut.entry)
-        (reply_of outcome (context_over c context.entry locks.old) state.old v
-        (cut_seen cut.entry))
-        session.old session.new) }
+        → AfterLine (V.holds vault.new) (has_grown (V.faults vault.old) (V.faults vault.new)) c
+        (context_over c context.entry locks.old) (cut_seen cut.entry) outcome v session.old
+        session.new state.old state.new output.new account.old account.new) }
     ensures locks { OnOk result (LocksFollow context.entry.number session.old session.new locks.old
         locks.new) }
-    ensures locks_err { OnErr result ((d : List ℕ)
-        → get name_cmp locks.new d ≡ get name_cmp locks.old d) }
-    ensures held { IfOk result (λ outcome. (c : Contents) (v : Option Transaction)
-        → V.holds vault.old c
-        → V.is_clean vault.new → HasTransaction c session.old v
-        → V.holds vault.new (held_after outcome context.entry.policy.now session.old
-        (reading (cut_seen cut.entry)) c)) }
-    ensures err { OnErr result ((c : Contents) → V.holds vault.old c → V.is_clean vault.new
-        → V.holds vault.new c) }
-    ensures may { IfOk result (λ outcome. outcome ≡ LineOutcome.Failed
-        → (c : Contents) (v : Option Transaction)
-        → V.holds vault.old c → V.is_clean vault.new → HasTransaction c session.old v
-        → asks context.entry.policy.now state.old v (reading (cut_seen cut.entry)) ≡ true) }
-    ensures cause { IfOk result (λ outcome. outcome ≡ LineOutcome.Failed
-        → (c : Contents) (v : Option Transaction)
-        → V.holds vault.old c → V.is_clean vault.new → HasTransaction c session.old v
-        → has_grown (V.faults vault.old) (V.faults vault.new) ≡ true) }
+    ensures err { OnErr result (NothingDone V.Vault vault.old vault.new locks.old locks.new
+        account.old account.new) }
     ensures acts { ActsOnce V.Vault vault.old vault.new (IsOkAnd result WasDone)
         (held_after LineOutcome.Done context.entry.policy.now session.old
         (reading (cut_seen cut.entry))) }
-    ensures account { account.old ≡ Account.Nothing
-        → IfOk result (λ outcome. (c : Contents) (v : Option Transaction) → V.holds vault.old c
-        → V.is_clean vault.new → HasTransaction c session.old v
-        → account.new ≡ state_account outcome context.entry.policy.now v
-        (reading (cut_seen cut.entry))
-        (Says (reply_of outcome (context_over c context.entry locks.old) state.old v
-        (cut_seen cut.entry))) state.old.user) }
-    ensures account_err { OnErr result (account.new ≡ account.old) }
     ensures unasked { (c : Contents) (v : Option Transaction) → HasTransaction c session.old v
         → asks context.entry.policy.now state.old v (reading (cut_seen cut.entry)) ≡ false
         → vault.new ≡ vault.old }

@@ -16,8 +16,8 @@ ghost use Rattle.office.specs.Accounts.{command_account, line_account};
 ghost use Rattle.office.specs.Telling.{is_told};
 ghost use Rattle.office.specs.Stopping.{WasDone, ActsOnce};
 ghost use Rattle.office.specs.Output.{nothing_owed, OwesReply};
-ghost use Rattle.office.specs.Transaction.{Transaction, transaction_of, session_left, LiesIn};
-ghost use Rattle.office.specs.Transaction.{GoesOn, IsAnswered};
+ghost use Rattle.office.specs.Transaction.{Transaction, transaction_of, LiesIn};
+ghost use Rattle.office.specs.Transaction.{GoesOn, IsAnswered, IsAnsweredBy};
 ghost use Rattle.office.specs.Transaction.{transaction_said, transaction_reply, transaction_asks};
 ghost use Rattle.office.specs.Transaction.{held_after_line};
 ghost use Rattle.office.specs.Transaction.{transaction_user};
@@ -195,32 +195,14 @@ pub(crate) fn answer<V: Vault>(
     account: &mut Account,
 ) -> Result<LineOutcome, AllocError>
     requires { output.old ≡ nothing_owed }
-    ensures owed { IfOk result (λ outcome. (c : Contents) (kept : List Keyed)
+    ensures answered { IfOk result (λ outcome. (c : Contents) (kept : List Keyed)
         → V.holds vault.old c
         → V.is_clean vault.new → LiesIn c session.old kept
-        → OwesReply c (session_left (reading line.now) session.new) output.new
+        → IsAnsweredBy (V.holds vault.new) (has_grown (V.faults vault.old) (V.faults vault.new)) c
+        policy.now session.old session.new kept output.new (reading line.now) outcome
         (transaction_reply outcome policy.now (transaction_of session.old kept) line.now)) }
-    ensures session { IfOk result (λ outcome. (c : Contents) (kept : List Keyed)
-        → V.holds vault.old c
-        → V.is_clean vault.new → LiesIn c session.old kept
-        → GoesOn (transaction_reply outcome policy.now
-        (transaction_of session.old kept) line.now) session.old
-        session.new) }
-    ensures held { IfOk result (λ outcome. (c : Contents) (kept : List Keyed)
-        → V.holds vault.old c
-        → V.is_clean vault.new → LiesIn c session.old kept
-        → V.holds vault.new (held_after_line outcome policy.now session.old
-        (reading line.now) c)) }
     ensures err { OnErr result ((c : Contents) → V.holds vault.old c → V.is_clean vault.new
         → V.holds vault.new c) }
-    ensures may { IfOk result (λ outcome. outcome ≡ LineOutcome.Failed
-        → (c : Contents) (kept : List Keyed)
-        → V.holds vault.old c → V.is_clean vault.new → LiesIn c session.old kept
-        → transaction_asks policy.now (transaction_of session.old kept) (reading line.now) ≡ true) }
-    ensures cause { IfOk result (λ outcome. outcome ≡ LineOutcome.Failed
-        → (c : Contents) (kept : List Keyed)
-        → V.holds vault.old c → V.is_clean vault.new → LiesIn c session.old kept
-        → has_grown (V.faults vault.old) (V.faults vault.new) ≡ true) }
     ensures acts { ActsOnce V.Vault vault.old vault.new (IsOkAnd result WasDone)
         (held_after_line LineOutcome.Done policy.now session.old (reading line.now)) }
     ensures account { is_quit (reading line.now) ≡ false → account.old ≡ Account.Nothing

@@ -1,262 +1,40 @@
-use Rattle.std.proofs.Common.{◌≡◌, true, refl, ◌-◌, [], drop, take, take_all, length, length-drop, arith, sym, ◌∙◌, ap, rules, string_bytes, subst, false}
-use Rattle.popline.specs.Cutting.{fed, through_newline}
-use Rattle.office.specs.Output.{OwesIf, OwesReply}
-use Rattle.popline.specs.Seen.{cut_seen}
-use Rattle.office.specs.History.{Says}
+use Rattle.std.proofs.Common.{◌≡◌, IfOk, true, false, subst, Option}
+use Rattle.std.specs.Prelude.{IsOkAnd, OnOk, OnErr}
+use Rattle.vault.specs.Changes.{Contents}
+use Rattle.vault.specs.Calls.{has_grown}
 use Rattle.office.specs.Connections.{reading}
-use Rattle.office.specs.Accounts.{account_if, state_account}
-use Rattle.office.specs.declared.login_state.LoginState.{LoginState}
-use Rattle.office.specs.Kept.{Kept, LineContext, login_state_after, asks, line_after}
-use Rattle.office.specs.Answered.{judged_at, reply_of, HasTransaction, Becomes, BecomesIf}
+use Rattle.office.specs.Stopping.{ActsOnce, WasDone}
+use Rattle.office.specs.Transaction.{Transaction}
+use Rattle.office.specs.Kept.{Kept, asks}
+use Rattle.office.specs.Answered.{HasTransaction, LocksFollow, held_if}
+use Rattle.office.specs.AfterLine.{AfterNext, NothingDone, line_of}
 use Rattle.office.specs.declared.login_state.LineOutcome.TheVariants as outcome
-use Rattle.office.proofs.Keeping.{line_clocked, has_line, is_line, none_whole, none_clocked, none_left, no_line, lines_stay}
 use Rattle.office.proofs.connection.Connection.hear.Goals as goal
 
-pub returns-clause-ok : goal.returns-clause-ok
-returns-clause-ok g c d s held clean sits =
-    let f = c.feed-n.ensures in
-    let v = c.self.view_is in
-    let p = c.args.piece in
-    let k : Kept = c.args.self.now in
-    let x = cut_seen c.in-Some.cut in
-    let w = c.in_ok-outcome.outcome in
-    let fed_is = f.held ∙ ap (λ (k : Kept). fed k.held p.now) v in
-    let context : LineContext = judged_at d c.args.policy.now k.stamp c.args.locks.now in
-    let stamped : c.as_bytes.result.now ≡ k.stamp = c.as_bytes.ensures.value ∙ ap (λ (k : Kept). k.stamp) v in
-    let talking : c.self.inside.state ≡ k.state = ap (λ (k : Kept). k.state) v in
-    let over : judged_at d c.args.policy.now c.as_bytes.result.now c.args.locks.now ≡ context = ap (λ s. judged_at d c.args.policy.now s c.args.locks.now) stamped in
-    let seat : HasTransaction d c.self.inside.session s = subst (λ o. HasTransaction d o s) (sym (ap (λ (k : Kept). k.session) v)) sits in
-    let after = c.in_ok-outcome.ensures.state d s held clean seat in
-    let here = subst (λ (j : LineContext). c.answer.new.state ≡ login_state_after x (reply_of w j c.self.inside.state s x) c.self.inside.state) over after in
-    let next = subst (λ (t : LoginState). c.answer.new.state ≡ login_state_after x (reply_of w context t s x) t) talking here in
-    let n = c.feed-n.result in
-    let slice : take (length p.now - n) (drop n p.now) ≡ drop n p.now = take_all (length p.now - n) (drop n p.now) (omega (arith, length-drop n p.now)) in
-    let grown : c.extend_from_slice.new.self.items ≡ take (length p.now - n) (drop n p.now) = search rules in
-    let behind : c.extend_from_slice.new.self.items ≡ drop n p.now = grown ∙ slice in
-    let rest : c.extend_from_slice.new.self.items ≡ drop (through_newline p.now) p.now = rw (sym f.taken) behind in
-    line_clocked k c.feed-n.new.self p.now x fed_is c.in-Some.ensures c.args.now (λ y. reply_of w context k.state s y) c.extend_from_slice.new.self.items c.answer.new.output c.answer.new.state (string_bytes c.self.inside.stamp) c.answer.new.session (ap (λ (k : Kept). k.stamp) v) rest next
+pub returns-clause-answered : goal.returns-clause-answered
+returns-clause-answered g c =
+    let before = c.args in
+    let new = c.answer_next.new in
+    subst (λ (k : Kept). IfOk c.answer_next.result (λ w. (d : Contents) (v : Option Transaction) → g.V.Vault.holds before.vault.now d → g.V.Vault.is_clean new.vault → HasTransaction d k.session v
+    → AfterNext (g.V.Vault.holds new.vault) (has_grown (g.V.Vault.faults before.vault.now) (g.V.Vault.faults new.vault)) d before.policy.now before.locks.now v k new.self w before.account.now new.account))
+    c.in_ok-cut_piece.ensures.cut c.answer_next.ensures.answered
 
-pub returns-clause-owes : goal.returns-clause-owes
-returns-clause-owes g c d s held clean sits =
-    let f = c.feed-n.ensures in
-    let v = c.self.view_is in
-    let p = c.args.piece.now in
-    let k : Kept = c.args.self.now in
-    let x = cut_seen c.in-Some.cut in
-    let w = c.in_ok-outcome.outcome in
-    let fed_is = f.held ∙ ap (λ (k : Kept). fed k.held p) v in
-    let context : LineContext = judged_at d c.args.policy.now k.stamp c.args.locks.now in
-    let stamped : c.as_bytes.result.now ≡ k.stamp = c.as_bytes.ensures.value ∙ ap (λ (k : Kept). k.stamp) v in
-    let talking : c.self.inside.state ≡ k.state = ap (λ (k : Kept). k.state) v in
-    let over : judged_at d c.args.policy.now c.as_bytes.result.now c.args.locks.now ≡ context = ap (λ s. judged_at d c.args.policy.now s c.args.locks.now) stamped in
-    let seat : HasTransaction d c.self.inside.session s = subst (λ o. HasTransaction d o s) (sym (ap (λ (k : Kept). k.session) v)) sits in
-    let said = c.in_ok-outcome.ensures.owed d s held clean seat in
-    let so : OwesReply d c.answer.new.session c.answer.new.output (reply_of w context k.state s x) = rw (over, talking) at said in
-    let there = has_line k c.feed-n.new.self p x fed_is c.in-Some.ensures in
-    let same = is_line k c.feed-n.new.self p x fed_is c.in-Some.ensures in
-    subst (λ b. OwesIf b d c.answer.new.session c.answer.new.output (reply_of w context k.state s (line_after k p))) (sym there)
-    (subst (λ y. OwesReply d c.answer.new.session c.answer.new.output (reply_of w context k.state s y)) same so)
+pub returns-clause-locks : goal.returns-clause-locks
+returns-clause-locks g c =
+    subst (λ (k : Kept). OnOk c.answer_next.result (LocksFollow c.args.number k.session c.answer_next.new.self.session c.args.locks.now c.answer_next.new.locks)) c.in_ok-cut_piece.ensures.cut c.answer_next.ensures.locks
 
-pub returns-clause-session : goal.returns-clause-session
-returns-clause-session g c d s held clean sits =
-    let f = c.feed-n.ensures in
-    let v = c.self.view_is in
-    let p = c.args.piece.now in
-    let k : Kept = c.args.self.now in
-    let x = cut_seen c.in-Some.cut in
-    let w = c.in_ok-outcome.outcome in
-    let fed_is = f.held ∙ ap (λ (k : Kept). fed k.held p) v in
-    let context : LineContext = judged_at d c.args.policy.now k.stamp c.args.locks.now in
-    let stamped : c.as_bytes.result.now ≡ k.stamp = c.as_bytes.ensures.value ∙ ap (λ (k : Kept). k.stamp) v in
-    let talking : c.self.inside.state ≡ k.state = ap (λ (k : Kept). k.state) v in
-    let transaction : c.self.inside.session ≡ k.session = ap (λ (k : Kept). k.session) v in
-    let over : judged_at d c.args.policy.now c.as_bytes.result.now c.args.locks.now ≡ context = ap (λ s. judged_at d c.args.policy.now s c.args.locks.now) stamped in
-    let seat : HasTransaction d c.self.inside.session s = subst (λ o. HasTransaction d o s) (sym transaction) sits in
-    let became = c.in_ok-outcome.ensures.session d s held clean seat in
-    let so : Becomes d c.args.policy.now k.state x (reply_of w context k.state s x) k.session c.answer.new.session = rw (over, talking, transaction) at became in
-    let there = has_line k c.feed-n.new.self p x fed_is c.in-Some.ensures in
-    let same = is_line k c.feed-n.new.self p x fed_is c.in-Some.ensures in
-    subst (λ b. BecomesIf b d c.args.policy.now k.state (line_after k p) (reply_of w context k.state s (line_after k p)) k.session c.answer.new.session) (sym there)
-    (subst (λ y. Becomes d c.args.policy.now k.state y (reply_of w context k.state s y) k.session c.answer.new.session) same so)
+pub returns-clause-err : goal.returns-clause-err
+returns-clause-err g c =
+    let before = c.args in
+    let new = c.answer_next.new in
+    subst (λ (k : Kept). OnErr c.answer_next.result ((k.held.whole ≡ true) × NothingDone g.V.Vault before.vault.now new.vault before.locks.now new.locks before.account.now new.account)) c.in_ok-cut_piece.ensures.cut c.answer_next.ensures.err
 
-pub returns-clause-may : goal.returns-clause-may
-returns-clause-may g c failed d s held clean sits =
-    let f = c.feed-n.ensures in
-    let v = c.self.view_is in
-    let p = c.args.piece.now in
-    let k : Kept = c.args.self.now in
-    let x = cut_seen c.in-Some.cut in
-    let fed_is = f.held ∙ ap (λ (k : Kept). fed k.held p) v in
-    let talking : c.self.inside.state ≡ k.state = ap (λ (k : Kept). k.state) v in
-    let seat : HasTransaction d c.self.inside.session s = subst (λ o. HasTransaction d o s) (sym (ap (λ (k : Kept). k.session) v)) sits in
-    let asked = c.in_ok-outcome.ensures.may failed d s held clean seat in
-    let so : asks c.args.policy.now k.state s (reading x) ≡ true = subst (λ t. asks c.args.policy.now t s (reading x) ≡ true) talking asked in
-    (has_line k c.feed-n.new.self p x fed_is c.in-Some.ensures, subst (λ y. asks c.args.policy.now k.state s (reading y) ≡ true) (is_line k c.feed-n.new.self p x fed_is c.in-Some.ensures) so)
-
-pub returns-in_default-clause-ok : goal.returns-in_default-clause-ok
-returns-in_default-clause-ok g c d s held clean sits =
-    let f = c.feed-n.ensures in
-    let v = c.self.view_is in
-    let p = c.args.piece.now in
-    let k : Kept = c.args.self.now in
-    let n = c.feed-n.result in
-    let fed_is = f.held ∙ ap (λ (k : Kept). fed k.held p) v in
-    let none : drop n p ≡ [] = none_left n p (f.all (none_whole k c.feed-n.new.self p fed_is c.in_default.ensures)) in
-    let rest = c.clear-2.ensures.items ∙ (sym none ∙ ap (λ m. drop m p) f.taken) in
-    none_clocked k c.feed-n.new.self p fed_is c.in_default.ensures c.args.now (reply_of outcome.Done (judged_at d c.args.policy.now k.stamp c.args.locks.now) k.state s (line_after k p)) c.clear-2.new.self.items c.clear.new.self c.self.inside.state (string_bytes c.self.inside.stamp) c.self.inside.session c.self.inside.clock (ap (λ (k : Kept). k.stamp) v) (ap (λ (k : Kept). k.clock) v) rest (ap (λ (k : Kept). k.state) v)
-
-pub returns-in_default-clause-owes : goal.returns-in_default-clause-owes
-returns-in_default-clause-owes g c d s held clean sits =
-    let f = c.feed-n.ensures in
-    let v = c.self.view_is in
-    let p = c.args.piece.now in
-    let k : Kept = c.args.self.now in
-    let n = c.feed-n.result in
-    let fed_is = f.held ∙ ap (λ (k : Kept). fed k.held p) v in
-    subst (λ b. OwesIf b d c.self.inside.session c.clear.new.self (reply_of outcome.Done (judged_at d c.args.policy.now k.stamp c.args.locks.now) k.state s (line_after k p))) (sym (no_line k c.feed-n.new.self p fed_is c.in_default.ensures)) c.clear.ensures
-
-pub returns-in_default-clause-lines : goal.returns-in_default-clause-lines
-returns-in_default-clause-lines g c more =
-    let f = c.feed-n.ensures in
-    let v = c.self.view_is in
-    let p = c.args.piece.now in
-    let k : Kept = c.args.self.now in
-    let n = c.feed-n.result in
-    let fed_is = f.held ∙ ap (λ (k : Kept). fed k.held p) v in
-    let none : drop n p ≡ [] = none_left n p (f.all (none_whole k c.feed-n.new.self p fed_is c.in_default.ensures)) in
-    lines_stay k c.self.inside.cutter c.feed-n.new.self p p n c.clear-2.new.self.items (ap (λ (k : Kept). k.held) v) refl (c.clear-2.ensures.items ∙ sym none) more (f.stream more)
-
-pub returns-clause-lines : goal.returns-clause-lines
-returns-clause-lines g c more =
-    let f = c.feed-n.ensures in
-    let v = c.self.view_is in
-    let p = c.args.piece.now in
-    let k : Kept = c.args.self.now in
-    let n = c.feed-n.result in
-    let slice : take (length p - n) (drop n p) ≡ drop n p = take_all (length p - n) (drop n p) (omega (arith, length-drop n p)) in
-    let grown : c.extend_from_slice.new.self.items ≡ take (length p - n) (drop n p) = search rules in
-    lines_stay k c.self.inside.cutter c.feed-n.new.self p p n c.extend_from_slice.new.self.items (ap (λ (k : Kept). k.held) v) refl (grown ∙ slice) more (f.stream more)
-
-pub returns-in_err-extend_from_slice-clause-ok : goal.returns-in_err-extend_from_slice-clause-ok
-returns-in_err-extend_from_slice-clause-ok g c = search rules
-
-pub returns-in_err-extend_from_slice-clause-session : goal.returns-in_err-extend_from_slice-clause-session
-returns-in_err-extend_from_slice-clause-session g c = search rules
-
-pub returns-in_err-extend_from_slice-clause-lines : goal.returns-in_err-extend_from_slice-clause-lines
-returns-in_err-extend_from_slice-clause-lines g c = search rules
-
-pub returns-in_err-extend_from_slice-clause-err : goal.returns-in_err-extend_from_slice-clause-err
-returns-in_err-extend_from_slice-clause-err g c = search rules
-
-pub returns-in_err-extend_from_slice-clause-locks : goal.returns-in_err-extend_from_slice-clause-locks
-returns-in_err-extend_from_slice-clause-locks g c = search rules
-
-pub returns-in_err-extend_from_slice-clause-locks_err : goal.returns-in_err-extend_from_slice-clause-locks_err
-returns-in_err-extend_from_slice-clause-locks_err g c = search rules
-
-pub returns-in_err-extend_from_slice-clause-held : goal.returns-in_err-extend_from_slice-clause-held
-returns-in_err-extend_from_slice-clause-held g c = search rules
-
-pub returns-in_err-extend_from_slice-clause-held_err : goal.returns-in_err-extend_from_slice-clause-held_err
-returns-in_err-extend_from_slice-clause-held_err g c = search rules
-
-pub returns-in_err-extend_from_slice-clause-may : goal.returns-in_err-extend_from_slice-clause-may
-returns-in_err-extend_from_slice-clause-may g c = search rules
-
-pub returns-in_err-extend_from_slice-clause-cause : goal.returns-in_err-extend_from_slice-clause-cause
-returns-in_err-extend_from_slice-clause-cause g c = search rules
-
-pub returns-in_err-outcome-clause-ok : goal.returns-in_err-outcome-clause-ok
-returns-in_err-outcome-clause-ok g c = search rules
-
-pub returns-in_err-outcome-clause-session : goal.returns-in_err-outcome-clause-session
-returns-in_err-outcome-clause-session g c = search rules
-
-pub returns-in_err-outcome-clause-lines : goal.returns-in_err-outcome-clause-lines
-returns-in_err-outcome-clause-lines g c = search rules
-
-pub returns-in_err-outcome-clause-err : goal.returns-in_err-outcome-clause-err
-returns-in_err-outcome-clause-err g c = search rules
-
-pub returns-in_err-outcome-clause-locks : goal.returns-in_err-outcome-clause-locks
-returns-in_err-outcome-clause-locks g c = search rules
-
-pub returns-in_err-outcome-clause-locks_err : goal.returns-in_err-outcome-clause-locks_err
-returns-in_err-outcome-clause-locks_err g c = search rules
-
-pub returns-in_err-outcome-clause-held : goal.returns-in_err-outcome-clause-held
-returns-in_err-outcome-clause-held g c = search rules
-
-pub returns-in_err-outcome-clause-held_err : goal.returns-in_err-outcome-clause-held_err
-returns-in_err-outcome-clause-held_err g c = search rules
-
-pub returns-in_err-outcome-clause-may : goal.returns-in_err-outcome-clause-may
-returns-in_err-outcome-clause-may g c = search rules
-
-pub returns-in_err-outcome-clause-cause : goal.returns-in_err-outcome-clause-cause
-returns-in_err-outcome-clause-cause g c = search rules
+pub returns-clause-acts : goal.returns-clause-acts
+returns-clause-acts g c =
+    subst (λ (k : Kept). ActsOnce g.V.Vault c.args.vault.now c.answer_next.new.vault (IsOkAnd c.answer_next.result WasDone) (held_if k.held.whole outcome.Done c.args.policy.now k.session (reading (line_of k)))) c.in_ok-cut_piece.ensures.cut
+    c.answer_next.ensures.acts
 
 pub returns-clause-unasked : goal.returns-clause-unasked
-returns-clause-unasked g c d s sits none =
-    let f = c.feed-n.ensures in
-    let v = c.self.view_is in
-    let p = c.args.piece.now in
-    let k : Kept = c.args.self.now in
-    let x = cut_seen c.in-Some.cut in
-    let fed_is = f.held ∙ ap (λ (k : Kept). fed k.held p) v in
-    let talking : c.self.inside.state ≡ k.state = ap (λ (k : Kept). k.state) v in
-    let seat : HasTransaction d c.self.inside.session s = subst (λ o. HasTransaction d o s) (sym (ap (λ (k : Kept). k.session) v)) sits in
-    let there = none (has_line k c.feed-n.new.self p x fed_is c.in-Some.ensures) in
-    let so : asks c.args.policy.now k.state s (reading x) ≡ false =
-    subst (λ y. asks c.args.policy.now k.state s (reading y) ≡ false) (sym (is_line k c.feed-n.new.self p x fed_is c.in-Some.ensures)) there in
-    c.answer.ensures.unasked d s seat (subst (λ t. asks c.args.policy.now t s (reading x) ≡ false) (sym talking) so)
-
-pub returns-in_err-outcome-clause-unasked : goal.returns-in_err-outcome-clause-unasked
-returns-in_err-outcome-clause-unasked g c d s sits none =
-    let f = c.feed-n.ensures in
-    let v = c.self.view_is in
-    let p = c.args.piece.now in
-    let k : Kept = c.args.self.now in
-    let x = cut_seen c.in-Some.cut in
-    let fed_is = f.held ∙ ap (λ (k : Kept). fed k.held p) v in
-    let talking : c.self.inside.state ≡ k.state = ap (λ (k : Kept). k.state) v in
-    let seat : HasTransaction d c.self.inside.session s = subst (λ o. HasTransaction d o s) (sym (ap (λ (k : Kept). k.session) v)) sits in
-    let there = none (has_line k c.feed-n.new.self p x fed_is c.in-Some.ensures) in
-    let so : asks c.args.policy.now k.state s (reading x) ≡ false =
-    subst (λ y. asks c.args.policy.now k.state s (reading y) ≡ false) (sym (is_line k c.feed-n.new.self p x fed_is c.in-Some.ensures)) there in
-    c.answer.ensures.unasked d s seat (subst (λ t. asks c.args.policy.now t s (reading x) ≡ false) (sym talking) so)
-
-pub returns-in_err-outcome-clause-owes : goal.returns-in_err-outcome-clause-owes
-returns-in_err-outcome-clause-owes g c = search rules
-
-pub returns-clause-account : goal.returns-clause-account
-returns-clause-account g c fresh d s held clean sits =
-    let f = c.feed-n.ensures in
-    let v = c.self.view_is in
-    let p = c.args.piece.now in
-    let k : Kept = c.args.self.now in
-    let x = cut_seen c.in-Some.cut in
-    let w = c.in_ok-outcome.outcome in
-    let fed_is = f.held ∙ ap (λ (k : Kept). fed k.held p) v in
-    let context : LineContext = judged_at d c.args.policy.now k.stamp c.args.locks.now in
-    let stamped : c.as_bytes.result.now ≡ k.stamp = c.as_bytes.ensures.value ∙ ap (λ (k : Kept). k.stamp) v in
-    let talking : c.self.inside.state ≡ k.state = ap (λ (k : Kept). k.state) v in
-    let over : judged_at d c.args.policy.now c.as_bytes.result.now c.args.locks.now ≡ context = ap (λ s. judged_at d c.args.policy.now s c.args.locks.now) stamped in
-    let seat : HasTransaction d c.self.inside.session s = subst (λ o. HasTransaction d o s) (sym (ap (λ (k : Kept). k.session) v)) sits in
-    let told = c.in_ok-outcome.ensures.account fresh d s held clean seat in
-    let so : c.answer.new.account ≡ state_account w c.args.policy.now s (reading x) (Says (reply_of w context k.state s x)) k.state.user = rw (over, talking) at told in
-    let there = has_line k c.feed-n.new.self p x fed_is c.in-Some.ensures in
-    let same = is_line k c.feed-n.new.self p x fed_is c.in-Some.ensures in
-    subst (λ b. c.answer.new.account ≡ account_if b (state_account w c.args.policy.now s (reading (line_after k p)) (Says (reply_of w context k.state s (line_after k p))) k.state.user)) (sym there)
-    (subst (λ y. c.answer.new.account ≡ state_account w c.args.policy.now s (reading y) (Says (reply_of w context k.state s y)) k.state.user) same so)
-
-pub returns-in_default-clause-account : goal.returns-in_default-clause-account
-returns-in_default-clause-account g c fresh d s held clean sits =
-    let f = c.feed-n.ensures in
-    let v = c.self.view_is in
-    let p = c.args.piece.now in
-    let k : Kept = c.args.self.now in
-    let n = c.feed-n.result in
-    let fed_is = f.held ∙ ap (λ (k : Kept). fed k.held p) v in
-    subst (λ b. c.args.account.now ≡ account_if b (state_account outcome.Done c.args.policy.now s (reading (line_after k p)) (Says (reply_of outcome.Done (judged_at d c.args.policy.now k.stamp c.args.locks.now) k.state s (line_after k p))) k.state.user)) (sym (no_line k c.feed-n.new.self p fed_is c.in_default.ensures)) fresh
+returns-clause-unasked g c =
+    subst (λ (k : Kept). (d : Contents) (v : Option Transaction) → HasTransaction d k.session v → (k.held.whole ≡ true → asks c.args.policy.now k.state v (reading (line_of k)) ≡ false) → c.answer_next.new.vault ≡ c.args.vault.now)
+    c.in_ok-cut_piece.ensures.cut c.answer_next.ensures.unasked

@@ -83,16 +83,13 @@ returns-in-Ok-clause-after g c = record {
       let j = judged T n p st.keeps sound o.policy st.policy o.locks st.locks o.moment st.moment k m nothing fits in
       let ready = awaits_bytes ct (seen T n) k p o.moment m nothing fits in
       let does = c.in-Ok.ensures in
-      let may = λ (f : w ≡ line_outcome.Failed). does.may f ct j.transaction st.keeps.held clean j.has_transaction in
-      let is = does.ok ct j.transaction st.keeps.held clean j.has_transaction in
-      let became = does.session ct j.transaction st.keeps.held clean j.has_transaction in
+      let did = does.answered ct j.transaction st.keeps.held clean j.has_transaction in
       stands_after g.V.Vault o _ T (Bytes n p) _
       (moved g.V.Vault.holds o _ T (Bytes n p) _ (tag_of w) n (marked w _ c.shown.ensures) st refl refl refl refl refl refl (whole-bytes T n p (tag_of w)) refl refl
       (rw found refl) (λ q e. seen-bytes_other T n p q (tag_of w) e) (λ q ne. updates.2 q (is_apart n q ne))
-      (piece_moves T n p st.keeps sound o.policy st.policy o.locks st.locks o.moment st.moment k m nothing fits w k' _ may is does.lines became does.locks (does.owes ct j.transaction st.keeps.held clean j.has_transaction) g.V.Vault.holds o _ kept refl
-      (does.held ct j.transaction st.keeps.held clean j.has_transaction)))
-      (piece_answered T n p st.keeps sound o.policy st.policy o.locks st.locks o.moment st.moment k m nothing fits w k' o.locks may is does.lines (lent_by o) _ c.shown.ensures)
-      (line_cause (g.V.Vault.faults o.vault) (g.V.Vault.faults c.hear.new.vault) w _ c.shown.ensures (λ f. does.cause f ct j.transaction st.keeps.held clean j.has_transaction))
+      (piece_moves T n p st.keeps sound o.policy st.policy o.locks st.locks o.moment st.moment k m nothing fits w k' did _ does.locks g.V.Vault.holds o _ kept refl did.held))
+      (piece_answered T n p st.keeps sound o.policy st.policy o.locks st.locks o.moment st.moment k m nothing fits w k' did (lent_by o) _ c.shown.ensures)
+      (line_cause (g.V.Vault.faults o.vault) (g.V.Vault.faults c.hear.new.vault) w _ c.shown.ensures did.cause)
       (λ up answered. does.acts.up ct st.keeps.held clean up (line_answered w _ c.shown.ensures answered))
       (λ up. line_left T n st.keeps sound (streamed (seen T n) p o.moment) (clocked o.moment p k) p (judged_at ct o.policy k.stamp o.locks) k.state ready j (Bytes n p)
       (λ h nx. records-bytes_line T n p line_outcome.Done (line_after k p) h nx) (λ h nx. records-bytes_part T n p Done h) (c.hear.ensures.acts.stop ct st.keeps.held clean up))
@@ -117,7 +114,7 @@ returns-in-Err-clause-after g c = record {
       let sound : AreSound ct = g.met.V.Vault.sound o.vault ct st.keeps.held (c.hear.ensures.acts.clean clean) in
       let j = judged T n p st.keeps sound o.policy st.policy o.locks st.locks o.moment st.moment k m nothing fits in
       let ready = awaits_bytes ct (seen T n) k p o.moment m nothing fits in
-      let line = c.in-Err.ensures.err in
+      let line = c.in-Err.ensures.err.0 in
       let x = next_there ct (streamed (seen T n) p o.moment) (clocked o.moment p k) p ready line in
       let gone = over-bytes T n p x.0 line x.1 in
       let goes = bytes_goes T (lent_by o) n p m.opened (none_owed ct k.session k.output (untaken_of (seen T n)) m.owed nothing) fits in
@@ -127,13 +124,13 @@ returns-in-Err-clause-after g c = record {
       (moved g.V.Vault.holds o _ T (Bytes n p) _ NoMemory n refl st refl refl refl refl refl refl (whole-bytes T n p NoMemory) refl refl
       (rw found refl) (λ q e. seen-bytes_other T n p q NoMemory e) (λ q ne. second.2 q (is_apart n q ne) ∙ first.2 q (is_apart n q ne)) (record {
         contents = ct;
-        held = c.in-Err.ensures.held_err ct st.keeps.held clean;
+        held = c.in-Err.ensures.err.1.held ct st.keeps.held clean;
         agree = rw (records-bytes_lacking T n p x.0 line x.1) st.keeps.agree;
         here = subst (IsKeptFor ct (seen (given T (Bytes n p) (Tagged NoMemory)) n)) (sym second.1) gone;
         carried = λ q e i. i;
         locks = released T.base (acts T) (acts (given T (Bytes n p) (Tagged NoMemory))) n (λ d q e. ap (λ s. holds_by s d) (seen-bytes_other T n p q NoMemory e))
             (λ d. let out = gone.authorization in rw out refl) ct (seen T n) k.session c.hear.new.locks _ m.session refl refl
-            (λ d. c.in-Err.ensures.locks_err d ∙ st.locks d) (subst (λ h. Released h c.hear.new.locks c.cut_off.new.locks) c.maildrop-held.ensures c.cut_off.ensures.locks);
+            (λ d. c.in-Err.ensures.err.1.locks d ∙ st.locks d) (subst (λ h. Released h c.hear.new.locks c.cut_off.new.locks) c.maildrop-held.ensures c.cut_off.ensures.locks);
       }))
       (record { tag = NoMemory; may = line; is = rw goes refl }) tt (λ up answered. absurd answered)
       (λ up. line_left T n st.keeps sound (streamed (seen T n) p o.moment) (clocked o.moment p k) p (judged_at ct o.policy k.stamp o.locks) k.state ready j (Bytes n p)
@@ -190,11 +187,10 @@ returns-in-Ok-clause-account g c fresh T st clean =
     let sound : AreSound ct = g.met.V.Vault.sound o.vault ct st.keeps.held (c.hear.ensures.acts.clean clean) in
     let j = judged T n p st.keeps sound o.policy st.policy o.locks st.locks o.moment st.moment k m nothing fits in
     let does = c.in-Ok.ensures in
-    let told = does.account fresh ct j.transaction st.keeps.held clean j.has_transaction in
-    let is = piece_told T n p st.keeps sound o.policy st.policy o.locks st.locks o.moment st.moment k m nothing fits w k' o.locks
-    (λ f. does.may f ct j.transaction st.keeps.held clean j.has_transaction) (does.ok ct j.transaction st.keeps.held clean j.has_transaction) does.lines in
-    told ∙ (is ∙ sym (ap (account_of T (Bytes n p)) (marked w _ c.shown.ensures)))
+    let did = does.answered ct j.transaction st.keeps.held clean j.has_transaction in
+    let is = piece_told T n p st.keeps sound o.policy st.policy o.locks st.locks o.moment st.moment k m nothing fits w k' did in
+    did.account fresh ∙ (is ∙ sym (ap (account_of T (Bytes n p)) (marked w _ c.shown.ensures)))
 
 pub returns-in-Err-clause-account : goal.returns-in-Err-clause-account
 returns-in-Err-clause-account g c fresh T st clean =
-    c.in-Err.ensures.account_err ∙ (fresh ∙ sym (piece_lacking T.base (history T) c.args.c (has_newline c.args.piece.now) (next_line T.log (history T) c.args.c c.args.piece.now)))
+    c.in-Err.ensures.err.1.account ∙ (fresh ∙ sym (piece_lacking T.base (history T) c.args.c (has_newline c.args.piece.now) (next_line T.log (history T) c.args.c c.args.piece.now)))

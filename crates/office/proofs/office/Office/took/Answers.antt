@@ -224,16 +224,14 @@ returns-in-Ok-resume-clause-after g c = record {
       let line = c.in-Ok-resume.ensures in
       let k' : Kept = c.resume.new.self in
       let change = (c.get_mut.follows.holds k').3 (search rules) in
-      let may = λ (f : w ≡ line_outcome.Failed). line.may f ct j.transaction held clean j.has_transaction in
-      let is = line.ok ct j.transaction held clean j.has_transaction in
+      let did = line.answered ct j.transaction held clean j.has_transaction in
       stands_after g.V.Vault o _ T (Took x n) _
       (moved g.V.Vault.holds o _ T (Took x n) _ (tag_of w) x (marked w _ c.shown.ensures) st refl refl refl refl refl refl (whole-took T x n (tag_of w)) refl refl
       (rw found refl) (λ q e. seen-took_other T x n q (tag_of w) e) (λ q ne. change.2 q (is_apart x q ne))
-      (taking_moves T x n st.keeps sound o.policy st.policy o.locks st.locks o.moment st.moment k1 ready over open_yet w k' _ may is line.lines (line.session ct j.transaction held clean j.has_transaction) line.locks
-      (line.owes ct j.transaction held clean j.has_transaction) g.V.Vault.holds o _ change.1 refl (line.held ct j.transaction held clean j.has_transaction)))
-      (taking_answered T x n st.keeps sound o.policy st.policy o.locks st.locks o.moment st.moment k1 ready over open_yet w c.resume.new.self o.locks may is line.lines (lent_by o) _ goes c.shown.ensures)
+      (taking_moves T x n st.keeps sound o.policy st.policy o.locks st.locks o.moment st.moment k1 ready over open_yet w k' did _ line.locks g.V.Vault.holds o _ change.1 refl did.held))
+      (taking_answered T x n st.keeps sound o.policy st.policy o.locks st.locks o.moment st.moment k1 ready over open_yet w k' did (lent_by o) _ goes c.shown.ensures)
       (line_cause (g.V.Vault.faults o.vault) (g.V.Vault.faults c.resume.new.vault) w _ c.shown.ensures
-      (λ f. grown_behind (g.V.Vault.faults o.vault) (g.V.Vault.faults c.take.new.vault) (g.V.Vault.faults c.resume.new.vault) c.take.ensures.looks.counted (line.cause f ct j.transaction held clean j.has_transaction)))
+      (λ f. grown_behind (g.V.Vault.faults o.vault) (g.V.Vault.faults c.take.new.vault) (g.V.Vault.faults c.resume.new.vault) c.take.ensures.looks.counted (did.cause f)))
       (λ up answered. line.acts.up ct held clean (does.looks.up ct st.keeps.held before up yes) (line_answered w _ c.shown.ensures answered))
       (λ up. line_left T x st.keeps sound (took s n o.moment) k1 k1.pending (judged_at ct o.policy k1.stamp o.locks) k1.state ready j (Took x n)
       (λ h nx. records-took_line T x n line_outcome.Done (line_after k1 k1.pending) over open_yet (next_kept T x ∙ nx)) (λ h nx. records-took_none T x n over open_yet (next_kept T x ∙ nx))
@@ -270,7 +268,7 @@ returns-in-Err-resume-clause-after g c = record {
       let held = c.take.ensures.looks.held ct st.keeps.held before in
       let sound : AreSound ct = g.met.V.Vault.sound o.vault ct st.keeps.held (c.take.ensures.looks.clean before) in
       let j = judged T x n st.keeps sound o.policy st.policy o.locks st.locks o.moment st.moment k1 ready over open_yet in
-      let next = next_there ct (took s n o.moment) k1 k1.pending ready c.in-Err-resume.ensures.err in
+      let next = next_there ct (took s n o.moment) k1 k1.pending ready c.in-Err-resume.ensures.err.0 in
       let line = next_kept T x ∙ next.1 in
       let first = (c.get_mut.follows.holds c.resume.new.self).3 (search rules) in
       let second = c.cut_off-in-Err-resume.ensures.connections in
@@ -280,13 +278,13 @@ returns-in-Err-resume-clause-after g c = record {
       (moved g.V.Vault.holds o _ T (Took x n) _ NoMemory x refl st refl refl refl refl refl refl (whole-took T x n NoMemory) refl refl (rw found refl) (λ q e. seen-took_other T x n q NoMemory e)
       (λ q ne. second.2 q (is_apart x q ne) ∙ first.2 q (is_apart x q ne)) (record {
         contents = ct;
-        held = c.in-Err-resume.ensures.held_err ct held clean;
+        held = c.in-Err-resume.ensures.err.1.held ct held clean;
         agree = rw (records-took_lacking T x n next.0 over open_yet line) st.keeps.agree;
         here = subst (IsKeptFor ct (seen (given T (Took x n) (Tagged NoMemory)) x)) (sym second.1) gone;
         carried = λ q e i. i;
         locks = released T.base (acts T) (acts (given T (Took x n) (Tagged NoMemory))) x (λ d q e. ap (λ s. holds_by s d) (seen-took_other T x n q NoMemory e))
             (λ d. let out = gone.authorization in rw out refl) ct s k1.session c.resume.new.locks _ (subst (IsSession ct s) (sym sits) m.session) refl refl
-            (λ d. c.in-Err-resume.ensures.locks_err d ∙ st.locks d)
+            (λ d. c.in-Err-resume.ensures.err.1.locks d ∙ st.locks d)
             (subst (λ h. Released h c.resume.new.locks c.cut_off-in-Err-resume.new.locks) (c.maildrop-held.ensures ∙ ap maildrop_of (sym sits)) c.cut_off-in-Err-resume.ensures.locks);
       }))
       (record { tag = NoMemory; may = rw (over, open_yet, line) refl; is = rw goes refl }) tt (λ up answered. absurd answered)
@@ -295,9 +293,6 @@ returns-in-Err-resume-clause-after g c = record {
       (c.resume.ensures.acts.stop ct held clean (does.looks.up ct st.keeps.held before up yes)))
       (g.met.V.Vault.settled _) clean;
 }
-
-pub resume-requires : goal.resume-requires
-resume-requires g c = c.owes_nothing.ensures.nothing c.if-not-owes_nothing.false
 
 pub take-requires : goal.take-requires
 take-requires g c = lent_ready c.in-Some.connection.now.output c.args.octets (c.lends.ensures.some c.if-not-lends.false).1
@@ -391,15 +386,14 @@ returns-in-Ok-resume-clause-account g c fresh T st clean =
     let w = c.in-Ok-resume.line_outcome in
     let j = judged T x n st.keeps sound o.policy st.policy o.locks st.locks o.moment st.moment k1 ready over open_yet in
     let line = c.in-Ok-resume.ensures in
-    let told = line.account fresh ct j.transaction held clean j.has_transaction in
+    let did = line.answered ct j.transaction held clean j.has_transaction in
     let named : k1.state.user ≡ user (history T) x = ap (λ (k : Kept). k.state.user) c.take.ensures.kept ∙ m.user in
-    let is = taking_told T x n st.keeps sound o.policy st.policy o.locks st.locks o.moment st.moment k1 ready over open_yet w c.resume.new.self o.locks (λ (f : w ≡ line_outcome.Failed). line.may f ct j.transaction held clean j.has_transaction)
-    (line.ok ct j.transaction held clean j.has_transaction) line.lines named in
-    told ∙ (is ∙ sym (ap (account_of T (Took x n)) (marked w _ c.shown.ensures)))
+    let is = taking_told T x n st.keeps sound o.policy st.policy o.locks st.locks o.moment st.moment k1 ready over open_yet w c.resume.new.self did named in
+    did.account fresh ∙ (is ∙ sym (ap (account_of T (Took x n)) (marked w _ c.shown.ensures)))
 
 pub returns-in-Err-resume-clause-account : goal.returns-in-Err-resume-clause-account
 returns-in-Err-resume-clause-account g c fresh T st clean =
-    c.in-Err-resume.ensures.account_err ∙ (fresh ∙ sym (taking_lacking T.base (history T) (is_left T.log (history T) c.args.c c.args.octets) (serving (history T) c.args.c) (closing (history T) c.args.c) c.args.c (next_line T.log (history T) c.args.c [])))
+    c.in-Err-resume.ensures.err.1.account ∙ (fresh ∙ sym (taking_lacking T.base (history T) (is_left T.log (history T) c.args.c c.args.octets) (serving (history T) c.args.c) (closing (history T) c.args.c) c.args.c (next_line T.log (history T) c.args.c [])))
 
 pub returns-in-Err-clause-account : goal.returns-in-Err-clause-account
 returns-in-Err-clause-account g c fresh T st clean =
