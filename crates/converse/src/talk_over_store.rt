@@ -14,7 +14,7 @@ ghost use Rattle.converse.specs.Told.{fault_line};
 use crate::fault::{Fault, tell_fault};
 use crate::replay::open_office;
 use crate::streams::{Sink, Source};
-use crate::talk::talk;
+use crate::talk;
 use office::Office;
 use session::Removals;
 use std::alloc::Global;
