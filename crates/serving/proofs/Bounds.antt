@@ -31,7 +31,7 @@ use Rattle.serving.specs.HttpWorks.{IsShort, AreShort, HaveComeBeside, NoMore, I
 use Rattle.adminhttp.specs.Head.{behind_head, head_text}
 use Rattle.adminhttp.specs.declared.target.Target.{Target}
 use Rattle.adminhttp.specs.declared.target.Target.TheVariants as target
-use Rattle.adminhttp.specs.declared.no_command.NoCommand.{NoCommand}
+use Rattle.adminhttp.specs.declared.no_command.NoCommand.{NoCommand as Unread}
 use Rattle.adminhttp.specs.declared.no_command.NoCommand.TheVariants.{More, Bad, BadPolicy}
 use Rattle.adminhttp.specs.declared.refusal.Refusal.{Refusal}
 use Rattle.adminhttp.specs.declared.refusal.Refusal.TheVariants.{BadRequest, NotFound, LengthRequired, TooLarge}
@@ -108,11 +108,11 @@ if_more : {P : Type 0} (c : Bool) (x y : Asked) → (x ≡ Err More → P) → (
 if_more true x y f g e = f e
 if_more false x y f g e = g e
 
-abbrev value_of : Result ℕ NoCommand → ℕ
+abbrev value_of : Result ℕ Unread → ℕ
 value_of (Ok n) = n
 value_of (Err x) = 0
 
-abbrev stop_in : {A : Type 0} → Result A NoCommand → NoCommand
+abbrev stop_in : {A : Type 0} → Result A Unread → Unread
 stop_in (Ok a) = More
 stop_in (Err x) = x
 
@@ -148,7 +148,7 @@ text_no_more headers e = by (list_any (is_named (codes "transfer-encoding")) hea
   by false e = only_no_more (values_of (codes "content-length") headers) e
 
 -- a step that doesn't wait for more, and one behind it
-behind_step : {A B : Type 0} {P : Type 0} (r : Result A NoCommand) (f : A → Result B NoCommand) → (r ≡ Err More → P) → ((a : A) → r ≡ Ok a → f a ≡ Err More → P) → (r >>= f) ≡ Err More → P
+behind_step : {A B : Type 0} {P : Type 0} (r : Result A Unread) (f : A → Result B Unread) → (r ≡ Err More → P) → ((a : A) → r ≡ Ok a → f a ≡ Err More → P) → (r >>= f) ≡ Err More → P
 behind_step (Ok a) f stop go e = go a refl e
 behind_step (Err x) f stop go e = stop (ap (λ y. Err y) (ap stop_in e))
 
@@ -158,7 +158,7 @@ body_short headers behind e =
     behind_step (body_length headers) (λ n. first_octets n behind)
     (λ more. absurd (behind_step (length_text headers) length_of (text_no_more headers) (λ value is. length_no_more value) more))
     (λ n is short. few n (by_text (length_text headers) n is) (nat_le n (length behind)) refl short) e where
-      by_text : (r : Result (List ℕ) NoCommand) (n : ℕ) → (r >>= length_of) ≡ Ok n → n ≤ 1048576
+      by_text : (r : Result (List ℕ) Unread) (n : ℕ) → (r >>= length_of) ≡ Ok n → n ≤ 1048576
       by_text (Ok value) n e = of_length value n e
       by_text (Err x) n e = cc
 
