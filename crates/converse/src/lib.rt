@@ -19,14 +19,13 @@ pub mod replay;
 pub mod review_policy;
 pub mod script;
 mod streams;
-mod talk;
+pub mod talk;
 pub mod talk_over_store;
 
 pub use fault::{Fault, fault_text, put_fault, read_fault, tell_fault};
 pub use noted::Noted;
 pub use record::Record;
 pub use streams::{Sink, Source};
-pub use talk::{TalkFault, talk};
 
 /// A conversation removes what its QUIT removes, and nothing else.
 pub fn removes_by_quit_alone()

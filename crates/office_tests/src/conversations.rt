@@ -2,7 +2,8 @@
 //! the next read, and which fault it answers.
 
 use crate::offices::opened;
-use converse::{Noted, TalkFault, talk};
+use converse::Noted;
+use converse::talk::{TalkFault, talk};
 use creds::Name;
 use office::{AdminCommand, Answer, Event, Office, Outcome};
 use std::alloc::Global;
